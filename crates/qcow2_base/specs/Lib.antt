@@ -1,0 +1,4 @@
+pub mod Fault
+pub mod MemStorage
+pub mod Storage
+pub mod Types

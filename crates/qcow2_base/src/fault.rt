@@ -1,0 +1,236 @@
+//! Why a call refuses: one fault for each rule of the format or of a call, with a number and a kind.
+
+ghost use Rattle.std.specs.Prelude.{◌≡◌};
+ghost use Rattle.qcow2_base.specs.declared.fault.Fault.TheVariants.{NoMemory};
+
+use std::alloc::{AllocError, AllocFailed};
+use std::fmt;
+use thiserror::Error;
+
+/// A field of the header that two views of one image must agree on.
+#[derive(Clone, Copy, Debug, PartialEq, Eq)]
+pub enum Field {
+    Magic,
+    Version,
+    BackingOffset,
+    BackingSize,
+    ClusterBits,
+    CryptMethod,
+    NbSnapshots,
+    SnapshotsOffset,
+    Incompatible,
+    Compatible,
+    Autoclear,
+    RefcountOrder,
+    UnknownFields,
+    BackingName,
+    Extensions,
+    ExternalData,
+}
+
+/// The name that the qcow2 format has for the field.
+impl fmt::Display for Field {
+    fn fmt<W: fmt::Write>(&self, f: &mut fmt::Formatter<W>) -> fmt::Result {
+        f.write_str(match self {
+            Field::Magic => "magic",
+            Field::Version => "version",
+            Field::BackingOffset => "backing_file_offset",
+            Field::BackingSize => "backing_file_size",
+            Field::ClusterBits => "cluster_bits",
+            Field::CryptMethod => "crypt_method",
+            Field::NbSnapshots => "nb_snapshots",
+            Field::SnapshotsOffset => "snapshots_offset",
+            Field::Incompatible => "incompatible_features",
+            Field::Compatible => "compatible_features",
+            Field::Autoclear => "autoclear_features",
+            Field::RefcountOrder => "refcount_order",
+            Field::UnknownFields => "the unknown header fields",
+            Field::BackingName => "the backing file name",
+            Field::Extensions => "the header extensions",
+            Field::ExternalData => "the use of an external data file",
+        })
+    }
+}
+
+/// Why a call refused. Each fault stands for one rule; the message says what the rule expects.
+#[derive(Clone, Copy, Debug, PartialEq, Eq, Error)]
+pub enum Fault {
+    #[error("not a qcow2 image: the magic must be 0x514649fb")]
+    NotQcow2,
+    #[error("the version must be 2 or 3")]
+    Version,
+    #[error("cluster_bits must be from 9 to 21")]
+    ClusterSize,
+    #[error("header_length must be at least 104")]
+    HeaderShort,
+    #[error("the header must end within the first cluster")]
+    HeaderBig,
+    #[error("l1_table_offset must be a multiple of the cluster size")]
+    L1Unaligned,
+    #[error("refcount_table_offset must be a multiple of the cluster size")]
+    ReftableUnaligned,
+    #[error("refcount_order must be at most 6")]
+    RefcountWidth,
+    #[error("backing_file_size must be at most 1023")]
+    BackingNameLong,
+    #[error("the backing file name must end within the first cluster")]
+    BackingNamePlace,
+    #[error("the backing file name must be UTF-8")]
+    BackingNameText,
+    #[error("the header extensions must end within the first cluster")]
+    ExtensionsExceed,
+    #[error("a backing format or data file name in an extension must be UTF-8")]
+    ExtensionText,
+    #[error("a feature name entry must have at least its type and its bit")]
+    FeatureNameCut,
+    #[error("all backing format extensions must hold the same name")]
+    FormatConflict,
+    #[error("all external data file extensions must hold the same name")]
+    DataFileConflict,
+    #[error("no incompatible feature but an external data file (bit 2) may be set, found {0:#x}")]
+    Incompatible(u64),
+    #[error("the reserved bits of a table entry must be 0")]
+    EntryReserved,
+    #[error("the offset in a table entry must be a multiple of the cluster size")]
+    EntryUnaligned,
+    #[error("the table must have at most as many entries as its kind allows")]
+    TableTooBig,
+    #[error("a table or block must end at or below 2^56")]
+    TablePlace,
+    #[error("a table or block can be written only once it has a cluster")]
+    NoOffset,
+    #[error("a table or block can be referred to only once it has a cluster")]
+    NotPlaced,
+    #[error("the header with its names must fit the first cluster")]
+    HeaderTooLong,
+    #[error("a backing file name must have at most 1023 bytes")]
+    NameTooLong,
+    #[error("an image that is in use must keep {0}, found another value")]
+    FieldChanged(Field),
+    #[error("the image must have a later version for this")]
+    VersionNeeded,
+    #[error("a grown table must have at most as many entries as its kind allows")]
+    CannotGrow,
+    #[error("a count of entries or clusters must fit the 32 bits of its header field")]
+    TooMany,
+    #[error("a refcount must stay from 0 to the largest value of its width")]
+    CounterRange,
+    #[error("the buffer must have the length of the structure in it")]
+    WrongLength,
+    #[error("each edit must name an entry of the table and a cluster that it can hold, edit {0} does not")]
+    BadEdit(usize),
+    #[error("each step must name a counter of the block, step {0} does not")]
+    BadStep(usize),
+    #[error("the storage must answer each call, one failed")]
+    Storage,
+    #[error("memory must be left for the call, none was")]
+    NoMemory,
+    #[error("refcounts of data clusters must stand in the image, it has an external data file")]
+    ExternalData,
+}
+
+/// What sort of fault it is, for a caller that treats faults by their sort.
+#[derive(Clone, Copy, Debug, PartialEq, Eq)]
+pub enum FaultKind {
+    /// The image breaks a rule of the format.
+    InvalidData,
+    /// The caller asked for something that can't be done.
+    InvalidInput,
+    /// The image or a value is in a state that does not allow the call.
+    Other,
+    /// The image's version has no room for what was asked.
+    Unsupported,
+    /// The storage failed.
+    Storage,
+    /// Memory ran out.
+    NoMemory,
+}
+
+impl Fault {
+    ghost use Rattle.qcow2_base.specs.Fault.{number_of, kind_of};
+
+    /// The fault's fixed number, from 1 to 36, which `qmeta` prints.
+    pub fn number(&self) -> u32
+        ensures { result ≡ number_of self.now }
+    {
+        match self {
+            Fault::NotQcow2 => 1,
+            Fault::Version => 2,
+            Fault::ClusterSize => 3,
+            Fault::HeaderShort => 4,
+            Fault::HeaderBig => 5,
+            Fault::L1Unaligned => 6,
+            Fault::ReftableUnaligned => 7,
+            Fault::RefcountWidth => 8,
+            Fault::BackingNameLong => 9,
+            Fault::BackingNamePlace => 10,
+            Fault::BackingNameText => 11,
+            Fault::ExtensionsExceed => 12,
+            Fault::ExtensionText => 13,
+            Fault::FeatureNameCut => 14,
+            Fault::FormatConflict => 15,
+            Fault::DataFileConflict => 16,
+            Fault::Incompatible(_) => 17,
+            Fault::EntryReserved => 18,
+            Fault::EntryUnaligned => 19,
+            Fault::TableTooBig => 20,
+            Fault::TablePlace => 21,
+            Fault::NoOffset => 22,
+            Fault::NotPlaced => 23,
+            Fault::HeaderTooLong => 24,
+            Fault::NameTooLong => 25,
+            Fault::FieldChanged(_) => 26,
+            Fault::VersionNeeded => 27,
+            Fault::CannotGrow => 28,
+            Fault::TooMany => 29,
+            Fault::CounterRange => 30,
+            Fault::WrongLength => 31,
+            Fault::BadEdit(_) => 32,
+            Fault::BadStep(_) => 33,
+            Fault::Storage => 34,
+            Fault::NoMemory => 35,
+            Fault::ExternalData => 36,
+        }
+    }
+
+    /// The fault's sort.
+    pub fn kind(&self) -> FaultKind
+        ensures { result ≡ kind_of self.now }
+    {
+        match self {
+            Fault::NotPlaced
+            | Fault::NameTooLong
+            | Fault::BadEdit(_)
+            | Fault::BadStep(_)
+            | Fault::ExternalData => FaultKind::InvalidInput,
+            Fault::FormatConflict
+            | Fault::DataFileConflict
+            | Fault::NoOffset
+            | Fault::HeaderTooLong
+            | Fault::FieldChanged(_)
+            | Fault::CannotGrow => FaultKind::Other,
+            Fault::VersionNeeded => FaultKind::Unsupported,
+            Fault::Storage => FaultKind::Storage,
+            Fault::NoMemory => FaultKind::NoMemory,
+            _ => FaultKind::InvalidData,
+        }
+    }
+}
+
+/// A refused allocation, as `?` passes it on.
+impl From<AllocError> for Fault {
+    ghost from_gives = { λ _ fault. fault ≡ NoMemory };
+
+    fn from(_error: AllocError) -> Fault {
+        Fault::NoMemory
+    }
+}
+
+/// A refused allocation that hands back what it could not keep, which is dropped here.
+impl<T: Drop> From<AllocFailed<T>> for Fault {
+    ghost from_gives = { λ _ fault. fault ≡ NoMemory };
+
+    fn from(_failed: AllocFailed<T>) -> Fault {
+        Fault::NoMemory
+    }
+}
