@@ -1,0 +1,2 @@
+//! Tests over the public calls of all crates, one module for each module that is tested.
+#![tactic(auto)]
