@@ -1,1 +1,2 @@
 mod StorageLemmas
+mod TypesLemmas

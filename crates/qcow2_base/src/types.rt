@@ -1,12 +1,18 @@
 //! Offsets, clusters and counts, each a type of its own, and the conversions between them.
 //!
-//! A cluster has `2^cluster_bits` bytes, and an L2 table an eighth as many entries.
+//! A cluster has `2^cluster_bits` bytes, and an L2 table an eighth as many entries, one for each
+//! guest cluster. A refcount block has `2^rb_bits` counters, one for each host cluster. Each call
+//! asks for `cluster_bits` from 9 to 21, or `rb_bits` from 6 to 24, and for a result that fits.
 
-ghost use Rattle.std.specs.Prelude.{◌≡◌, ◌-◌, ◌*◌, ◌/◌, ◌%◌, ◌^◌, ◌<◌, Some, None, if◌then◌else◌, ◌==◌};
+ghost use Rattle.std.specs.Prelude.{◌≡◌, ◌+◌, ◌-◌, ◌*◌, ◌/◌, ◌%◌, ◌^◌, ◌<◌, ◌≤◌, ◌++◌, Some, None, if◌then◌else◌, ◌==◌, nat_lt, false, codes};
+ghost use Rattle.std.specs.Fmt.{decimal, digits};
 ghost use Rattle.std.specs.Int.{div_ceil};
-ghost use Rattle.qcow2_base.specs.Types.{IsClusterBits};
+ghost use Rattle.qcow2_base.specs.Types.{IsClusterBits, IsRefblockBits};
+ghost use Rattle.qcow2_base.specs.declared.types.GuestCluster.{GuestCluster};
+ghost use Rattle.qcow2_base.specs.declared.types.HostCluster.{HostCluster};
 
 use std::fmt;
+use std::ops::{Add, AddAssign, Sub, SubAssign};
 
 /// A byte's place on the guest's disk.
 #[derive(Clone, Copy, Debug, PartialEq, Eq, PartialOrd, Ord, Hash)]
@@ -28,28 +34,91 @@ pub struct HostCluster(pub u64);
 #[derive(Clone, Copy, Debug, PartialEq, Eq, PartialOrd, Ord)]
 pub struct ClusterCount(pub u64);
 
-/// `0x` and plain lower-case hexadecimal.
-impl fmt::Display for GuestOffset {
-    fn fmt<W: fmt::Write>(&self, f: &mut fmt::Formatter<W>) -> fmt::Result {
-        write!(f, "0x{:x}", self.0)
+impl GuestOffset {
+    /// The number of bytes from the start of the offset's cluster.
+    #[inline]
+    pub fn in_cluster_offset(self, cluster_bits: u32) -> u64
+        requires { IsClusterBits cluster_bits }
+        ensures { result ≡ self.0 % 2 ^ cluster_bits }
+    {
+        self.0 % (1 << cluster_bits)
     }
-}
 
-/// `0x` and plain lower-case hexadecimal.
-impl fmt::Display for HostOffset {
-    fn fmt<W: fmt::Write>(&self, f: &mut fmt::Formatter<W>) -> fmt::Result {
-        write!(f, "0x{:x}", self.0)
+    /// The cluster that the offset lies in.
+    #[inline]
+    pub fn cluster(self, cluster_bits: u32) -> GuestCluster
+        requires { IsClusterBits cluster_bits }
+        ensures { result.0 ≡ self.0 / 2 ^ cluster_bits }
+    {
+        GuestCluster(self.0 >> cluster_bits)
     }
-}
 
-/// Decimal.
-impl fmt::Display for ClusterCount {
-    fn fmt<W: fmt::Write>(&self, f: &mut fmt::Formatter<W>) -> fmt::Result {
-        write!(f, "{}", self.0)
+    /// The cluster that begins at the offset, if one does. A cluster's own offset gives that cluster.
+    #[inline]
+    #[tactic(auto, using(crate::proofs::TypesLemmas::multiple_quotient))]
+    pub fn checked_cluster(self, cluster_bits: u32) -> Option<GuestCluster>
+        requires { IsClusterBits cluster_bits }
+        ensures value { result ≡ (if self.0 % 2 ^ cluster_bits == 0 then Some (record { 0 = self.0 / 2 ^ cluster_bits }) else None) }
+        ensures own_offset { (c : GuestCluster) → self.0 ≡ c.0 * 2 ^ cluster_bits → result ≡ Some c }
+    {
+        if self.in_cluster_offset(cluster_bits) == 0 {
+            Some(self.cluster(cluster_bits))
+        } else {
+            None
+        }
+    }
+
+    /// The place of the offset's cluster in its L2 table.
+    #[inline]
+    pub fn l2_index(self, cluster_bits: u32) -> usize
+        requires { IsClusterBits cluster_bits }
+        ensures { result ≡ self.0 / 2 ^ cluster_bits % 2 ^ (cluster_bits - 3) }
+    {
+        self.cluster(cluster_bits).l2_index(cluster_bits)
+    }
+
+    /// The place in the L1 table of the L2 table that the offset's cluster is in.
+    #[inline]
+    pub fn l1_index(self, cluster_bits: u32) -> usize
+        requires { IsClusterBits cluster_bits }
+        ensures { result ≡ self.0 / 2 ^ cluster_bits / 2 ^ (cluster_bits - 3) }
+    {
+        self.cluster(cluster_bits).l1_index(cluster_bits)
+    }
+
+    /// How many bytes of the offset's cluster stand from the offset on.
+    #[inline]
+    pub fn remaining_in_cluster(self, cluster_bits: u32) -> u64
+        requires { IsClusterBits cluster_bits }
+        ensures { result ≡ 2 ^ cluster_bits - self.0 % 2 ^ cluster_bits }
+    {
+        (1 << cluster_bits) - self.in_cluster_offset(cluster_bits)
+    }
+
+    /// How many bytes stand from the offset on in the clusters of its L2 table.
+    #[inline]
+    pub fn remaining_in_l2_table(self, cluster_bits: u32) -> u64
+        requires { IsClusterBits cluster_bits }
+        ensures { let after = 2 ^ (cluster_bits - 3) - 1 - self.0 / 2 ^ cluster_bits % 2 ^ (cluster_bits - 3) in
+            result ≡ 2 ^ cluster_bits - self.0 % 2 ^ cluster_bits + after * 2 ^ cluster_bits }
+    {
+        let l2_entries: u64 = 1 << (cluster_bits - 3);
+        let clusters_after = l2_entries - 1 - self.l2_index(cluster_bits) as u64;
+        self.remaining_in_cluster(cluster_bits) + (clusters_after << cluster_bits)
     }
 }
 
 impl GuestCluster {
+    /// The offset of the cluster's first byte.
+    #[inline]
+    pub fn offset(self, cluster_bits: u32) -> GuestOffset
+        requires bits { IsClusterBits cluster_bits }
+        requires fits { self.0 * 2 ^ cluster_bits < 2 ^ 64 }
+        ensures { result.0 ≡ self.0 * 2 ^ cluster_bits }
+    {
+        GuestOffset(self.0 << cluster_bits)
+    }
+
     /// The place of the cluster's entry in its L2 table.
     #[inline]
     pub fn l2_index(self, cluster_bits: u32) -> usize
@@ -59,14 +128,51 @@ impl GuestCluster {
         (self.0 % (1 << (cluster_bits - 3))) as usize
     }
 
-    /// The offset of the cluster's first byte.
+    /// The place in the L1 table of the L2 table that the cluster is in.
     #[inline]
-    pub fn offset(self, cluster_bits: u32) -> GuestOffset
-        requires bits { IsClusterBits cluster_bits }
-        requires fits { self.0 * 2 ^ cluster_bits < 2 ^ 64 }
-        ensures { result.0 ≡ self.0 * 2 ^ cluster_bits }
+    pub fn l1_index(self, cluster_bits: u32) -> usize
+        requires { IsClusterBits cluster_bits }
+        ensures { result ≡ self.0 / 2 ^ (cluster_bits - 3) }
     {
-        GuestOffset(self.0 << cluster_bits)
+        (self.0 >> (cluster_bits - 3)) as usize
+    }
+
+    /// The cluster at these places. A cluster's own places give that cluster.
+    #[inline]
+    #[tactic(auto, using(crate::proofs::TypesLemmas::from_parts))]
+    pub fn from_l1_l2_indices(l1_index: usize, l2_index: usize, cluster_bits: u32) -> GuestCluster
+        requires bits { IsClusterBits cluster_bits }
+        requires fits { l1_index * 2 ^ (cluster_bits - 3) + l2_index < 2 ^ 64 }
+        ensures value { result.0 ≡ l1_index * 2 ^ (cluster_bits - 3) + l2_index }
+        ensures own_indices { (g : GuestCluster) →
+            l1_index ≡ g.0 / 2 ^ (cluster_bits - 3) → l2_index ≡ g.0 % 2 ^ (cluster_bits - 3) → result ≡ g }
+    {
+        GuestCluster(((l1_index as u64) << (cluster_bits - 3)) + l2_index as u64)
+    }
+
+    /// The next cluster, if it is in the same L2 table.
+    #[inline]
+    #[tactic(auto, using(crate::proofs::TypesLemmas::next_fits))]
+    pub fn next_in_l2(self, cluster_bits: u32) -> Option<GuestCluster>
+        requires { IsClusterBits cluster_bits }
+        ensures { result ≡ (if nat_lt (self.0 % 2 ^ (cluster_bits - 3) + 1) (2 ^ (cluster_bits - 3))
+            then Some (record { 0 = self.0 + 1 }) else None) }
+    {
+        if self.l2_index(cluster_bits) + 1 < 1 << (cluster_bits - 3) {
+            Some(GuestCluster(self.0 + 1))
+        } else {
+            None
+        }
+    }
+
+    /// The first cluster in the L2 table after the cluster's own.
+    #[inline]
+    pub fn first_in_next_l2(self, cluster_bits: u32) -> GuestCluster
+        requires bits { IsClusterBits cluster_bits }
+        requires fits { (self.0 / 2 ^ (cluster_bits - 3) + 1) * 2 ^ (cluster_bits - 3) < 2 ^ 64 }
+        ensures { result.0 ≡ (self.0 / 2 ^ (cluster_bits - 3) + 1) * 2 ^ (cluster_bits - 3) }
+    {
+        GuestCluster(((self.0 >> (cluster_bits - 3)) + 1) << (cluster_bits - 3))
     }
 }
 
@@ -89,11 +195,13 @@ impl HostOffset {
         HostCluster(self.0 >> cluster_bits)
     }
 
-    /// The cluster that begins at the offset, if one does.
+    /// The cluster that begins at the offset, if one does. A cluster's own offset gives that cluster.
     #[inline]
+    #[tactic(auto, using(crate::proofs::TypesLemmas::multiple_quotient))]
     pub fn checked_cluster(self, cluster_bits: u32) -> Option<HostCluster>
         requires { IsClusterBits cluster_bits }
-        ensures { result ≡ (if self.0 % 2 ^ cluster_bits == 0 then Some (record { 0 = self.0 / 2 ^ cluster_bits }) else None) }
+        ensures value { result ≡ (if self.0 % 2 ^ cluster_bits == 0 then Some (record { 0 = self.0 / 2 ^ cluster_bits }) else None) }
+        ensures own_offset { (c : HostCluster) → self.0 ≡ c.0 * 2 ^ cluster_bits → result ≡ Some c }
     {
         if self.in_cluster_offset(cluster_bits) == 0 {
             Some(self.cluster(cluster_bits))
@@ -113,6 +221,57 @@ impl HostCluster {
     {
         HostOffset(self.0 << cluster_bits)
     }
+
+    /// The place of the cluster's counter in its refcount block.
+    #[inline]
+    pub fn rb_index(self, rb_bits: u32) -> usize
+        requires { IsRefblockBits rb_bits }
+        ensures { result ≡ self.0 % 2 ^ rb_bits }
+    {
+        (self.0 % (1 << rb_bits)) as usize
+    }
+
+    /// The place in the refcount table of the block that the cluster's counter is in.
+    #[inline]
+    pub fn rt_index(self, rb_bits: u32) -> usize
+        requires { IsRefblockBits rb_bits }
+        ensures { result ≡ self.0 / 2 ^ rb_bits }
+    {
+        (self.0 >> rb_bits) as usize
+    }
+
+    /// Both places, that in the refcount table first.
+    #[inline]
+    pub fn rt_rb_indices(self, rb_bits: u32) -> (usize, usize)
+        requires { IsRefblockBits rb_bits }
+        ensures rt { result.0 ≡ self.0 / 2 ^ rb_bits }
+        ensures rb { result.1 ≡ self.0 % 2 ^ rb_bits }
+    {
+        (self.rt_index(rb_bits), self.rb_index(rb_bits))
+    }
+
+    /// The cluster whose counter stands at these places. A cluster's own places give that cluster.
+    #[inline]
+    #[tactic(auto, using(crate::proofs::TypesLemmas::from_parts))]
+    pub fn from_ref_indices(rt_index: usize, rb_index: usize, rb_bits: u32) -> HostCluster
+        requires bits { IsRefblockBits rb_bits }
+        requires fits { rt_index * 2 ^ rb_bits + rb_index < 2 ^ 64 }
+        ensures value { result.0 ≡ rt_index * 2 ^ rb_bits + rb_index }
+        ensures own_indices { (c : HostCluster) →
+            rt_index ≡ c.0 / 2 ^ rb_bits → rb_index ≡ c.0 % 2 ^ rb_bits → result ≡ c }
+    {
+        HostCluster(((rt_index as u64) << rb_bits) + rb_index as u64)
+    }
+
+    /// The host offset of the guest's byte, where its cluster is mapped to this one.
+    #[inline]
+    pub fn relative_offset(self, guest_offset: GuestOffset, cluster_bits: u32) -> HostOffset
+        requires bits { IsClusterBits cluster_bits }
+        requires fits { self.0 * 2 ^ cluster_bits + guest_offset.0 % 2 ^ cluster_bits < 2 ^ 64 }
+        ensures { result.0 ≡ self.0 * 2 ^ cluster_bits + guest_offset.0 % 2 ^ cluster_bits }
+    {
+        self.offset(cluster_bits) + guest_offset.in_cluster_offset(cluster_bits)
+    }
 }
 
 impl ClusterCount {
@@ -123,5 +282,319 @@ impl ClusterCount {
         ensures { result.0 ≡ div_ceil size (2 ^ cluster_bits) }
     {
         ClusterCount(size.div_ceil(1 << cluster_bits))
+    }
+
+    /// How many clusters so many bytes fill, if they fill each of them.
+    #[inline]
+    pub fn checked_from_byte_size(size: u64, cluster_bits: u32) -> Option<ClusterCount>
+        requires { IsClusterBits cluster_bits }
+        ensures { result ≡ (if size % 2 ^ cluster_bits == 0 then Some (record { 0 = size / 2 ^ cluster_bits }) else None) }
+    {
+        if size % (1 << cluster_bits) == 0 {
+            Some(ClusterCount(size >> cluster_bits))
+        } else {
+            None
+        }
+    }
+
+    /// How many bytes so many clusters have.
+    #[inline]
+    pub fn byte_size(self, cluster_bits: u32) -> u64
+        requires bits { IsClusterBits cluster_bits }
+        requires fits { self.0 * 2 ^ cluster_bits < 2 ^ 64 }
+        ensures { result ≡ self.0 * 2 ^ cluster_bits }
+    {
+        self.0 << cluster_bits
+    }
+}
+
+/// The cluster so many clusters further on.
+impl Add<ClusterCount> for GuestCluster {
+    type Output = GuestCluster;
+
+    ghost can_add = { λ cluster count. cluster.0 + count.0 < 2 ^ 64 };
+
+    ghost add_gives = { λ cluster count sum. sum.0 ≡ cluster.0 + count.0 };
+
+    #[inline]
+    fn add(self, rhs: ClusterCount) -> GuestCluster {
+        GuestCluster(self.0 + rhs.0)
+    }
+}
+
+/// Moves on by so many clusters.
+impl AddAssign<ClusterCount> for GuestCluster {
+    ghost can_add_assign = { λ cluster count. cluster.0 + count.0 < 2 ^ 64 };
+
+    ghost add_assign_gives = { λ old count new. new.0 ≡ old.0 + count.0 };
+
+    #[inline]
+    fn add_assign(&mut self, rhs: ClusterCount) {
+        self.0 += rhs.0;
+    }
+}
+
+/// The cluster so many clusters before.
+impl Sub<ClusterCount> for GuestCluster {
+    type Output = GuestCluster;
+
+    ghost can_sub = { λ cluster count. count.0 ≤ cluster.0 };
+
+    ghost sub_gives = { λ cluster count difference. difference.0 ≡ cluster.0 - count.0 };
+
+    #[inline]
+    fn sub(self, rhs: ClusterCount) -> GuestCluster {
+        GuestCluster(self.0 - rhs.0)
+    }
+}
+
+/// Moves back by so many clusters.
+impl SubAssign<ClusterCount> for GuestCluster {
+    ghost can_sub_assign = { λ cluster count. count.0 ≤ cluster.0 };
+
+    ghost sub_assign_gives = { λ old count new. new.0 ≡ old.0 - count.0 };
+
+    #[inline]
+    fn sub_assign(&mut self, rhs: ClusterCount) {
+        self.0 -= rhs.0;
+    }
+}
+
+/// How many clusters lie from the other cluster to this one.
+impl Sub<GuestCluster> for GuestCluster {
+    type Output = ClusterCount;
+
+    ghost can_sub = { λ end start. start.0 ≤ end.0 };
+
+    ghost sub_gives = { λ end start count. count.0 ≡ end.0 - start.0 };
+
+    #[inline]
+    fn sub(self, rhs: GuestCluster) -> ClusterCount {
+        ClusterCount(self.0 - rhs.0)
+    }
+}
+
+/// The cluster so many clusters further on.
+impl Add<ClusterCount> for HostCluster {
+    type Output = HostCluster;
+
+    ghost can_add = { λ cluster count. cluster.0 + count.0 < 2 ^ 64 };
+
+    ghost add_gives = { λ cluster count sum. sum.0 ≡ cluster.0 + count.0 };
+
+    #[inline]
+    fn add(self, rhs: ClusterCount) -> HostCluster {
+        HostCluster(self.0 + rhs.0)
+    }
+}
+
+/// Moves on by so many clusters.
+impl AddAssign<ClusterCount> for HostCluster {
+    ghost can_add_assign = { λ cluster count. cluster.0 + count.0 < 2 ^ 64 };
+
+    ghost add_assign_gives = { λ old count new. new.0 ≡ old.0 + count.0 };
+
+    #[inline]
+    fn add_assign(&mut self, rhs: ClusterCount) {
+        self.0 += rhs.0;
+    }
+}
+
+/// The cluster so many clusters before.
+impl Sub<ClusterCount> for HostCluster {
+    type Output = HostCluster;
+
+    ghost can_sub = { λ cluster count. count.0 ≤ cluster.0 };
+
+    ghost sub_gives = { λ cluster count difference. difference.0 ≡ cluster.0 - count.0 };
+
+    #[inline]
+    fn sub(self, rhs: ClusterCount) -> HostCluster {
+        HostCluster(self.0 - rhs.0)
+    }
+}
+
+/// Moves back by so many clusters.
+impl SubAssign<ClusterCount> for HostCluster {
+    ghost can_sub_assign = { λ cluster count. count.0 ≤ cluster.0 };
+
+    ghost sub_assign_gives = { λ old count new. new.0 ≡ old.0 - count.0 };
+
+    #[inline]
+    fn sub_assign(&mut self, rhs: ClusterCount) {
+        self.0 -= rhs.0;
+    }
+}
+
+/// How many clusters lie from the other cluster to this one.
+impl Sub<HostCluster> for HostCluster {
+    type Output = ClusterCount;
+
+    ghost can_sub = { λ end start. start.0 ≤ end.0 };
+
+    ghost sub_gives = { λ end start count. count.0 ≡ end.0 - start.0 };
+
+    #[inline]
+    fn sub(self, rhs: HostCluster) -> ClusterCount {
+        ClusterCount(self.0 - rhs.0)
+    }
+}
+
+impl Add<ClusterCount> for ClusterCount {
+    type Output = ClusterCount;
+
+    ghost can_add = { λ count more. count.0 + more.0 < 2 ^ 64 };
+
+    ghost add_gives = { λ count more sum. sum.0 ≡ count.0 + more.0 };
+
+    #[inline]
+    fn add(self, rhs: ClusterCount) -> ClusterCount {
+        ClusterCount(self.0 + rhs.0)
+    }
+}
+
+impl AddAssign<ClusterCount> for ClusterCount {
+    ghost can_add_assign = { λ count more. count.0 + more.0 < 2 ^ 64 };
+
+    ghost add_assign_gives = { λ old more new. new.0 ≡ old.0 + more.0 };
+
+    #[inline]
+    fn add_assign(&mut self, rhs: ClusterCount) {
+        self.0 += rhs.0;
+    }
+}
+
+impl Sub<ClusterCount> for ClusterCount {
+    type Output = ClusterCount;
+
+    ghost can_sub = { λ count less. less.0 ≤ count.0 };
+
+    ghost sub_gives = { λ count less difference. difference.0 ≡ count.0 - less.0 };
+
+    #[inline]
+    fn sub(self, rhs: ClusterCount) -> ClusterCount {
+        ClusterCount(self.0 - rhs.0)
+    }
+}
+
+impl SubAssign<ClusterCount> for ClusterCount {
+    ghost can_sub_assign = { λ count less. less.0 ≤ count.0 };
+
+    ghost sub_assign_gives = { λ old less new. new.0 ≡ old.0 - less.0 };
+
+    #[inline]
+    fn sub_assign(&mut self, rhs: ClusterCount) {
+        self.0 -= rhs.0;
+    }
+}
+
+/// The offset so many bytes further on.
+impl Add<u64> for GuestOffset {
+    type Output = GuestOffset;
+
+    ghost can_add = { λ offset bytes. offset.0 + bytes < 2 ^ 64 };
+
+    ghost add_gives = { λ offset bytes sum. sum.0 ≡ offset.0 + bytes };
+
+    #[inline]
+    fn add(self, rhs: u64) -> GuestOffset {
+        GuestOffset(self.0 + rhs)
+    }
+}
+
+/// The offset so many bytes before.
+impl Sub<u64> for GuestOffset {
+    type Output = GuestOffset;
+
+    ghost can_sub = { λ offset bytes. bytes ≤ offset.0 };
+
+    ghost sub_gives = { λ offset bytes difference. difference.0 ≡ offset.0 - bytes };
+
+    #[inline]
+    fn sub(self, rhs: u64) -> GuestOffset {
+        GuestOffset(self.0 - rhs)
+    }
+}
+
+/// How many bytes lie from the other offset to this one.
+impl Sub<GuestOffset> for GuestOffset {
+    type Output = u64;
+
+    ghost can_sub = { λ end start. start.0 ≤ end.0 };
+
+    ghost sub_gives = { λ end start bytes. bytes ≡ end.0 - start.0 };
+
+    #[inline]
+    fn sub(self, rhs: GuestOffset) -> u64 {
+        self.0 - rhs.0
+    }
+}
+
+/// The offset so many bytes further on.
+impl Add<u64> for HostOffset {
+    type Output = HostOffset;
+
+    ghost can_add = { λ offset bytes. offset.0 + bytes < 2 ^ 64 };
+
+    ghost add_gives = { λ offset bytes sum. sum.0 ≡ offset.0 + bytes };
+
+    #[inline]
+    fn add(self, rhs: u64) -> HostOffset {
+        HostOffset(self.0 + rhs)
+    }
+}
+
+/// The offset so many bytes before.
+impl Sub<u64> for HostOffset {
+    type Output = HostOffset;
+
+    ghost can_sub = { λ offset bytes. bytes ≤ offset.0 };
+
+    ghost sub_gives = { λ offset bytes difference. difference.0 ≡ offset.0 - bytes };
+
+    #[inline]
+    fn sub(self, rhs: u64) -> HostOffset {
+        HostOffset(self.0 - rhs)
+    }
+}
+
+/// How many bytes lie from the other offset to this one.
+impl Sub<HostOffset> for HostOffset {
+    type Output = u64;
+
+    ghost can_sub = { λ end start. start.0 ≤ end.0 };
+
+    ghost sub_gives = { λ end start bytes. bytes ≡ end.0 - start.0 };
+
+    #[inline]
+    fn sub(self, rhs: HostOffset) -> u64 {
+        self.0 - rhs.0
+    }
+}
+
+/// `0x` and plain lower-case hexadecimal.
+impl fmt::Display for GuestOffset {
+    ghost output = { λ offset. Some (codes "0x" ++ digits 16 false offset.0) };
+
+    fn fmt<W: fmt::Write>(&self, f: &mut fmt::Formatter<W>) -> fmt::Result {
+        write!(f, "0x{:x}", self.0)
+    }
+}
+
+/// `0x` and plain lower-case hexadecimal.
+impl fmt::Display for HostOffset {
+    ghost output = { λ offset. Some (codes "0x" ++ digits 16 false offset.0) };
+
+    fn fmt<W: fmt::Write>(&self, f: &mut fmt::Formatter<W>) -> fmt::Result {
+        write!(f, "0x{:x}", self.0)
+    }
+}
+
+/// Decimal.
+impl fmt::Display for ClusterCount {
+    ghost output = { λ count. Some (decimal count.0) };
+
+    fn fmt<W: fmt::Write>(&self, f: &mut fmt::Formatter<W>) -> fmt::Result {
+        write!(f, "{}", self.0)
     }
 }
