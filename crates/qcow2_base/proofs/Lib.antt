@@ -1,2 +1,3 @@
+pub mod OnDiskStructLemmas
 mod StorageLemmas
 mod TypesLemmas

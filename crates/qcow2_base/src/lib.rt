@@ -2,9 +2,14 @@
 #![tactic(auto)]
 
 mod fault;
+mod on_disk_struct;
 mod storage;
 mod types;
 
 pub use fault::{Fault, FaultKind, Field};
+pub use on_disk_struct::{
+    HeaderExtensionHeader, OnDiskSize, OnDiskStruct, V2Header, V3HeaderBase, read_be, read_le,
+    write_be, write_le,
+};
 pub use storage::{FileStorage, MemStorage, Storage, StorageFault};
 pub use types::{ClusterCount, GuestCluster, GuestOffset, HostCluster, HostOffset};
