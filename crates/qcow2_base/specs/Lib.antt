@@ -1,4 +1,5 @@
 pub mod Fault
+pub mod FileStorage
 pub mod MemStorage
 pub mod OnDiskStruct
 pub mod Storage

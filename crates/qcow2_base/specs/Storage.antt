@@ -1,5 +1,6 @@
-use Rattle.std.specs.Prelude.{◌≡◌, ℕ, zero, suc, ◌+◌, ◌*◌, ◌^◌, ◌<◌, ◌≤◌, List, length, slice_index}
+use Rattle.std.specs.Prelude.{◌≡◌, ℕ, zero, suc, ◌+◌, ◌*◌, ◌^◌, ◌<◌, ◌≤◌, List, Option, Some, length, drop, slice_index}
 use Rattle.std.proofs.Common.{arith, inl, inr}
+use Rattle.std.proofs.lemmas.List.{get_or_past}
 use Rattle.std.proofs.Props.{props}
 use Rattle.std.proofs.lemmas.Bool.{cases_lt}
 use Rattle.std.proofs.lemmas.Nat.{pow_below}
@@ -21,6 +22,20 @@ pub record Holds (image : Image) (offset : ℕ) (bytes : List ℕ) : Type 0 wher
 pub record SameOutside (offset len : ℕ) (old new : Image) : Type 0 where
   pub before : (o : ℕ) → o < offset → new o ≡ old o
   pub after : (o : ℕ) → offset + len ≤ o → new o ≡ old o
+
+-- from some end on the image is zero
+abbrev pub Ends : Image → Type 0
+Ends image = (end : ℕ) × ((o : ℕ) → end ≤ o → image o ≡ 0)
+
+-- a list of bytes is zero from its length on
+pub image_of_ends : (bytes : List ℕ) → Ends (image_of bytes)
+image_of_ends bytes = (length bytes, λ o past. get_or_past bytes o 0 past)
+
+-- a file whose type tells its bytes has a known position, and reads give the bytes from there on
+abbrev pub TellsReads : {F : Type 0} → (F → Option (List ℕ)) → (F → Option ℕ) → (F → Option (List ℕ)) → Type 0
+TellsReads {F} bytes position remaining =
+    (file : F) (xs : List ℕ) → bytes file ≡ Some xs →
+    (at : ℕ) × (position file ≡ Some at) × (remaining file ≡ Some (drop at xs))
 
 -- the big-endian number of n bytes: each byte times 256 to the power of how many follow it
 unfoldable pub be : Image → ℕ → ℕ → ℕ

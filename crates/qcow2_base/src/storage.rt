@@ -1,14 +1,17 @@
 //! Where an image's bytes lie: the trait that each layer reads and writes through, a storage in
 //! memory, and one over a file.
 
-ghost use Rattle.std.specs.Prelude.{◌≡◌, ℕ, Bool, true, false, ◌+◌, ◌^◌, ◌%◌, ◌<◌, ◌≤◌, max, length, slice_index, refl, is_ok, IsOk, IsTrue, IsOkUnless, OnOk, OnErr, MatchResult};
+ghost use Rattle.std.specs.Prelude.{◌≡◌, ℕ, Bool, true, false, ◌+◌, ◌^◌, ◌%◌, ◌<◌, ◌≤◌, ◌↔◌, max, length, slice_index, refl, is_ok, IsOk, IsErr, IsTrue, IsOkUnless, IfOk, IfSome, OnOk, OnErr, MatchResult};
+ghost use Rattle.std.specs.Fs.{new_options, with_read, with_write, IsDir, file_type};
+ghost use Rattle.std.specs.Io.KnownBytes.{Keeps};
+ghost use Rattle.std.specs.Io.Seek.{MovesTo};
 ghost use Rattle.std.proofs.Common.{rules};
-ghost use Rattle.qcow2_base.specs.Storage.{IsPowerOfTwo, power_of_two_once, Holds, SameOutside, image_of};
+ghost use Rattle.qcow2_base.specs.Storage.{IsPowerOfTwo, power_of_two_once, Holds, SameOutside, Ends, TellsReads, image_of, image_of_ends};
 ghost use Rattle.qcow2_base.specs.declared.fault.Fault.TheVariants.{Storage as storage_fault};
 
 use crate::Fault;
 use std::alloc::AllocError;
-use std::fs::{File, OpenFile, OpenOptions};
+use std::fs::{File, Metadata, OpenFile, OpenOptions};
 use std::io;
 use std::io::{Read, Seek, SeekFrom, Write};
 use std::rt::Files;
@@ -86,6 +89,8 @@ pub trait Storage {
     ghost req_align_is_power: { (s : Self) → IsPowerOfTwo (req_align s) };
 
     ghost byte_fits: { (s : Self) (offset : ℕ) → byte_at s offset < 2 ^ 8 };
+
+    ghost ends: { (s : Self) → Ends (byte_at s) };
 }
 
 /// An image in memory. It tells its bytes, and fails only where it can't grow.
@@ -184,6 +189,7 @@ impl Storage for MemStorage {
         ensures len { OnOk result (0 < length buf.now →
             length (memory_bytes self.new) ≡ max (length (memory_bytes self.old)) (offset + length buf.now)) }
         ensures in_place { offset + length buf.now ≤ length (memory_bytes self.old) → IsOk result }
+        ensures empty_ok { length buf.now ≡ 0 → IsOk result }
     {
         match overwrite(&mut self.bytes, buf, offset as usize) {
             Ok(()) => Ok(()),
@@ -199,6 +205,8 @@ impl Storage for MemStorage {
     ghost req_align_is_power = { λ m. m.aligned };
 
     ghost byte_fits = { λ m offset. m.bytes_fit offset };
+
+    ghost ends = { λ m. image_of_ends m.bytes.items };
 }
 
 // Fills the buffer with the bytes from `offset` on, and with zeros past the last one.
@@ -222,6 +230,7 @@ fn overwrite(bytes: &mut Vec<u8>, buf: &[u8], offset: usize) -> Result<(), Alloc
         length bytes.new.items ≡ max (length bytes.old.items) (offset + length buf.now)) }
     ensures in_place { offset + length buf.now ≤ length bytes.old.items → IsOk result }
     ensures empty { length buf.now ≡ 0 → bytes.new.items ≡ bytes.old.items }
+    ensures empty_ok { length buf.now ≡ 0 → IsOk result }
     ensures fit { (o : ℕ) → slice_index bytes.new.items o < 2 ^ 8 }
 {
     if buf.is_empty() {
@@ -263,14 +272,17 @@ pub struct FileStorage<F = File> {
 }
 
 impl<F: Read + Write + Seek + OpenFile + Drop> FileStorage<F> {
-    /// Opens a file that is there, for reading or for both. Answers the storage fault whatever the
-    /// cause, for a directory too.
+    ghost use Rattle.qcow2_base.specs.FileStorage.{failure_count};
+
+    /// Opens a file that is there, for reading or for both; it creates none. Answers the storage
+    /// fault whatever the cause, for a directory too.
     pub fn open<R: Files<File = F>>(
         rt: &R,
         path: &str,
         writable: bool,
     ) -> Result<FileStorage<F>, Fault>
-        ensures { IsOkUnless result Fault.Storage }
+        ensures fault { IsOkUnless result Fault.Storage }
+        ensures failures { IfOk result (λ storage. failure_count storage ≡ 0) }
     {
         match open_file(rt, path, writable) {
             Ok(file) => Ok(FileStorage { file, failures: 0 }),
@@ -280,16 +292,32 @@ impl<F: Read + Write + Seek + OpenFile + Drop> FileStorage<F> {
 }
 
 fn open_file<R: Files>(rt: &R, path: &str, writable: bool) -> io::Result<R::File> {
-    let mut options = OpenOptions::new();
-    options.read(true).write(writable);
-    let file = options.open(rt, path)?;
-    if file.metadata()?.is_dir() {
-        return Err(io::ErrorKind::IsADirectory.into());
-    }
+    let file = access(writable).open(rt, path)?;
+    refuse_directory(&file.metadata()?)?;
     Ok(file)
 }
 
+// Reading, and writing where it is asked for. Nothing is created or cut.
+fn access(writable: bool) -> OpenOptions
+    ensures { result ≡ with_write (with_read new_options true) writable }
+{
+    let mut options = OpenOptions::new();
+    options.read(true).write(writable);
+    options
+}
+
+fn refuse_directory(metadata: &Metadata) -> io::Result<()>
+    ensures { IsErr result ↔ IsDir (file_type metadata.now) }
+{
+    if metadata.is_dir() {
+        return Err(io::ErrorKind::IsADirectory.into());
+    }
+    Ok(())
+}
+
 impl<F: Read + Write + Seek> Storage for FileStorage<F> {
+    ghost use Rattle.qcow2_base.specs.FileStorage.{file_of, failure_count};
+
     ghost tells = { λ _. false };
 
     ghost byte_at = { λ _ _. 0 };
@@ -308,7 +336,15 @@ impl<F: Read + Write + Seek> Storage for FileStorage<F> {
         1
     }
 
-    fn read(&mut self, buf: &mut [u8], offset: u64) -> Result<(), StorageFault> {
+    /// Where the type of the file tells its bytes, as one in memory may, an `Ok` gives those.
+    fn read(&mut self, buf: &mut [u8], offset: u64) -> Result<(), StorageFault>
+        requires { offset + length buf.old ≤ 2 ^ 56 }
+        ensures read { TellsReads F.stream_bytes F.stream_position F.remaining →
+            IfSome (F.stream_bytes (file_of self.old)) (λ bytes. OnOk result (Holds (image_of bytes) offset buf.new)) }
+        ensures failures { MatchResult result
+            (λ _. failure_count self.new ≡ failure_count self.old)
+            (λ _. failure_count self.new ≡ (failure_count self.old + 1) % 2 ^ 64) }
+    {
         count(read_at(&mut self.file, buf, offset), &mut self.failures)
     }
 
@@ -321,6 +357,8 @@ impl<F: Read + Write + Seek> Storage for FileStorage<F> {
     ghost req_align_is_power = { λ _. (0, refl) };
 
     ghost byte_fits = { λ _ _. Prim.search rules };
+
+    ghost ends = { λ _. (0, λ _ _. refl) };
 }
 
 fn count(outcome: io::Result<()>, failures: &mut u64) -> Result<(), StorageFault>
@@ -338,23 +376,55 @@ fn count(outcome: io::Result<()>, failures: &mut u64) -> Result<(), StorageFault
     }
 }
 
-// The length is sought for at each read, so that a block device has one too.
-fn read_at<F: Read + Seek>(file: &mut F, buf: &mut [u8], offset: u64) -> io::Result<()> {
-    let end = file.seek(SeekFrom::End(0))?;
+// Fills the buffer with the bytes from `offset` on, and with zeros past the end.
+fn read_at<F: Read + Seek>(file: &mut F, buf: &mut [u8], offset: u64) -> io::Result<()>
+    ensures { TellsReads F.stream_bytes F.stream_position F.remaining →
+        IfSome (F.stream_bytes file.old) (λ bytes. OnOk result (Holds (image_of bytes) offset buf.new)) }
+{
+    let end = length_of(file)?;
     let stored = end.saturating_sub(offset).min(buf.len() as u64) as usize;
-    if stored > 0 {
-        file.seek(SeekFrom::Start(offset))?;
-        file.read_exact(&mut buf[..stored])?;
-    }
-    buf[stored..].fill(0);
+    let (stored, past) = buf.split_at_mut(stored);
+    read_stored(file, stored, offset)?;
+    past.fill(0);
     Ok(())
 }
 
+// The length is sought for at each read, so that a block device has one too.
+fn length_of<F: Read + Seek>(file: &mut F) -> io::Result<u64>
+    ensures len { TellsReads F.stream_bytes F.stream_position F.remaining →
+        IfSome (F.stream_bytes file.old) (λ bytes. IfOk result (λ len. len ≡ length bytes)) }
+    ensures bytes { Keeps (F.stream_bytes file.old) (F.stream_bytes file.new) }
+{
+    file.seek(SeekFrom::End(0))
+}
+
+// Fills the buffer with the bytes from `offset` on, all of them below the end. Asks nothing of the
+// file for an empty buffer.
+fn read_stored<F: Read + Seek>(file: &mut F, buf: &mut [u8], offset: u64) -> io::Result<()>
+    ensures { TellsReads F.stream_bytes F.stream_position F.remaining →
+        IfSome (F.stream_bytes file.old) (λ bytes. OnOk result (Holds (image_of bytes) offset buf.new)) }
+{
+    if buf.is_empty() {
+        return Ok(());
+    }
+    seek_to(file, offset)?;
+    file.read_exact(buf)
+}
+
+fn seek_to<F: Seek>(file: &mut F, offset: u64) -> io::Result<()>
+    ensures bytes { Keeps (F.stream_bytes file.old) (F.stream_bytes file.new) }
+    ensures moves { MovesTo (F.stream_position file.old) (F.stream_position file.new) offset result }
+{
+    file.seek(SeekFrom::Start(offset))?;
+    Ok(())
+}
+
+// An empty write leaves the file as it is.
 fn write_at<F: Write + Seek>(file: &mut F, buf: &[u8], offset: u64) -> io::Result<()> {
     if buf.is_empty() {
         return Ok(());
     }
-    file.seek(SeekFrom::Start(offset))?;
+    seek_to(file, offset)?;
     file.write_all(buf)?;
     file.flush()
 }
