@@ -5,7 +5,7 @@ use Rattle.std.proofs.lemmas.Bool.{cases_lt}
 use borrow.Rule.Slice.PartMut.{put_mid}
 use Rattle.byteorder.specs.Endian.{big_from, little_from, big_bytes, little_bytes}
 use Rattle.byteorder.specs.Numbers.{big_number-reads_back, little_number-reads_back}
-use Rattle.qcow2_base.specs.Storage.{Image, Holds, image_of, be}
+use Rattle.qcow2_base.specs.Storage.{Image, Holds, image_of, be, be_of_same}
 use Rattle.qcow2_base.specs.OnDiskStruct.{le, Order, Big, Little, number_in, LayoutField, HoldsLayout, IsGap, layout_end, moved, Stores}
 
 -- a list's numbers by byteorder's words
@@ -31,14 +31,6 @@ pub le_of_bytes : (n x : ℕ) (xs rest : List ℕ) → xs ≡ little_bytes n x +
 le_of_bytes n x xs rest e fits = le_of_list 0 n xs ∙ rw e (little_number-reads_back n x rest fits)
 
 -- two images that agree over n bytes have the same number there
-pub be_of_same : (f g : Image) (n o p : ℕ) → ((k : ℕ) → k < n → f (o + k) ≡ g (p + k)) → be f o n ≡ be g p n
-unfolding be
-be_of_same f g zero o p same = refl
-be_of_same f g (suc n) o p same =
-    let first : f o ≡ g p = simp add-zero at (same 0 (omega arith)) in
-    let rest = be_of_same f g n (o + 1) (p + 1) (λ k h. rw (add_assoc o 1 k, add_assoc p 1 k) (same (1 + k) (omega arith))) in
-    rw (first, rest) refl
-
 pub le_of_same : (f g : Image) (n o p : ℕ) → ((k : ℕ) → k < n → f (o + k) ≡ g (p + k)) → le f o n ≡ le g p n
 unfolding le
 le_of_same f g zero o p same = refl

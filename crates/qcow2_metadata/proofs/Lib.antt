@@ -1,0 +1,2 @@
+mod EntriesLemmas
+mod TableLemmas

@@ -1,0 +1,155 @@
+use Rattle.std.specs.Prelude.{◌≡◌, ℕ, Bool, true, false, not, ◌&&◌, ◌||◌, ◌==◌, ◌+◌, ◌-◌, ◌*◌, ◌/◌, ◌%◌, ◌^◌, ◌<◌, ◌≤◌, nat_lt, if◌then◌else◌, Option, Some, None, option_map}
+use Rattle.std.specs.Int.NonZero.{non_zero_u64_get}
+use Rattle.qcow2_base.specs.declared.fault.Fault.{Fault}
+use Rattle.qcow2_base.specs.declared.fault.Fault.TheVariants.{EntryReserved, EntryUnaligned}
+use Rattle.qcow2_base.specs.declared.types.ClusterCount.{ClusterCount}
+use Rattle.qcow2_base.specs.declared.types.HostCluster.{HostCluster}
+use Rattle.qcow2_base.specs.declared.types.HostOffset.{HostOffset}
+use Rattle.qcow2_metadata.specs.declared.entries.ClustersToFreeEntry.{ClustersToFreeEntry}
+use Rattle.qcow2_metadata.specs.declared.entries.L2Mapping.{L2Mapping}
+use Rattle.qcow2_metadata.specs.declared.entries.L2Mapping.TheVariants.{DataFile, Backing, Zero, Compressed}
+
+-- the n bits of v from bit a on, as a number
+abbrev pub field : ℕ → ℕ → ℕ → ℕ
+field v a n = v / 2 ^ a % 2 ^ n
+
+-- the fault of a number with a reserved bit, or else with an unaligned offset
+abbrev pub entry_fault : Bool → Bool → Option Fault
+entry_fault true unaligned = Some EntryReserved
+entry_fault false true = Some EntryUnaligned
+entry_fault false false = None
+
+-- bits 9 to 55: the offset in an L1 entry or a standard L2 entry
+abbrev pub offset_field : ℕ → ℕ
+offset_field v = 512 * field v 9 47
+
+-- bit 63: the refcount is exactly one
+abbrev pub is_copied : ℕ → Bool
+is_copied v = field v 63 1 == 1
+
+-- L2 entries. cb is cluster_bits; a cluster has 2 ^ cb bytes
+
+-- bit 62: a compressed entry; any other is a standard one
+abbrev pub is_compressed : ℕ → Bool
+is_compressed v = field v 62 1 == 1
+
+-- bit 0 of a standard entry: the cluster reads as zeros
+abbrev pub is_zero : ℕ → Bool
+is_zero v = field v 0 1 == 1
+
+-- the reserved bits of an entry's kind, at their places: 63, or 1 to 8 and 56 to 61
+abbrev pub l2_reserved_bits : ℕ → ℕ
+l2_reserved_bits v =
+    if is_compressed v then field v 63 1 * 2 ^ 63 else field v 1 8 * 2 ^ 1 + field v 56 6 * 2 ^ 56
+
+-- a compressed entry's offset field: the bits below bit 70 - cb
+abbrev pub compressed_offset_field : ℕ → ℕ → ℕ
+compressed_offset_field cb v = v % 2 ^ (70 - cb)
+
+-- a reserved bit is set, or a compressed entry's offset is 2 ^ 56 or more
+abbrev pub l2_has_reserved : ℕ → ℕ → Bool
+l2_has_reserved cb v =
+    not (l2_reserved_bits v == 0) || (is_compressed v && not (nat_lt (compressed_offset_field cb v) (2 ^ 56)))
+
+-- a standard entry's offset is no multiple of the cluster size
+abbrev pub l2_is_unaligned : ℕ → ℕ → Bool
+l2_is_unaligned cb v = not (is_compressed v) && not (offset_field v % 2 ^ cb == 0)
+
+-- the fault of a number that is no L2 entry, if it has one
+abbrev pub l2_fault : ℕ → ℕ → Option Fault
+l2_fault cb v = entry_fault (l2_has_reserved cb v) (l2_is_unaligned cb v)
+
+-- a standard entry refers to a cluster: its offset isn't 0, or it is that of cluster 0 of an external data file
+abbrev pub is_allocated : Bool → ℕ → Bool
+is_allocated external v = not (offset_field v == 0) || (external && is_copied v)
+
+-- the offset that a standard entry refers to
+abbrev pub host_offset : Bool → ℕ → Option HostOffset
+host_offset external v = if is_allocated external v then Some (record { 0 = offset_field v }) else None
+
+-- where a compressed entry's data begins
+abbrev pub compressed_offset : ℕ → ℕ → ℕ
+compressed_offset cb v = compressed_offset_field cb v % 2 ^ 56
+
+-- how many sectors of 512 bytes a compressed entry has beyond its first
+abbrev pub further_sectors : ℕ → ℕ → ℕ
+further_sectors cb v = field v (70 - cb) (cb - 8)
+
+-- how many bytes there are from there to the end of the last sector
+abbrev pub compressed_length : ℕ → ℕ → ℕ
+compressed_length cb v = 512 * (further_sectors cb v + 1) - compressed_offset cb v % 512
+
+-- bytes of the image or the data file, from the start to before the end
+pub record ByteRange : Type 0 where
+  pub start : ℕ
+  pub end : ℕ
+
+-- the bytes that an entry refers to
+abbrev pub byte_range : ℕ → Bool → ℕ → Option ByteRange
+byte_range cb external v =
+    if is_compressed v then Some (record { start = compressed_offset cb v; end = compressed_offset cb v + compressed_length cb v })
+    else (if is_allocated external v then Some (record { start = offset_field v; end = offset_field v + 2 ^ cb }) else None)
+
+-- some byte of the range lies in cluster c
+abbrev pub RangeMeets : ℕ → ByteRange → ℕ → Type 0
+RangeMeets cb range c = (byte : ℕ) × (range.start ≤ byte) × (byte < range.end) × (byte / 2 ^ cb ≡ c)
+
+-- the entry refers to a byte of cluster c
+abbrev pub Meets : ℕ → Bool → ℕ → ℕ → Type 0
+Meets cb external v c = (range : ByteRange) × (byte_range cb external v ≡ Some range) × RangeMeets cb range c
+
+-- the clusters from that of a range's first byte to that of its last: the first, and how many
+abbrev pub first_cluster : ℕ → ByteRange → ℕ
+first_cluster cb range = range.start / 2 ^ cb
+
+abbrev pub cluster_count : ℕ → ByteRange → ℕ
+cluster_count cb range = (range.end - 1) / 2 ^ cb - range.start / 2 ^ cb + 1
+
+-- the clusters that an entry refers to
+abbrev pub clusters_of : ℕ → ByteRange → HostCluster × ClusterCount
+clusters_of cb range = (record { 0 = first_cluster cb range }, record { 0 = cluster_count cb range })
+
+abbrev pub allocation : ℕ → Bool → ℕ → Option (HostCluster × ClusterCount)
+allocation cb external v = option_map (clusters_of cb) (byte_range cb external v)
+
+-- cluster c is one of so many from the first on
+abbrev pub IsAmongClusters : HostCluster × ClusterCount → ℕ → Type 0
+IsAmongClusters clusters c = (clusters.0.0 ≤ c) × (c < clusters.0.0 + clusters.1.0)
+
+-- what is handed back when an entry is dropped
+abbrev pub freed_clusters : HostCluster × ClusterCount → ClustersToFreeEntry
+freed_clusters clusters = record { first = clusters.0; count = clusters.1 }
+
+abbrev pub freed : ℕ → Bool → ℕ → Option ClustersToFreeEntry
+freed cb external v = option_map freed_clusters (allocation cb external v)
+
+-- what a guest cluster reads as
+pub data Mapping : Type 0 where
+  data_file : (cluster : ℕ) (copied : Bool) → Mapping
+  backing : (offset : ℕ) → Mapping
+  zeros : (cluster : Option ℕ) (copied : Bool) → Mapping
+  compressed : (offset length : ℕ) → Mapping
+
+-- what a mapping of the program says
+abbrev pub meaning : L2Mapping → Mapping
+meaning (DataFile host_cluster copied) = data_file host_cluster.0 copied
+meaning (Backing backing_offset) = backing backing_offset
+meaning (Zero host_cluster copied) = zeros (option_map (λ (c : HostCluster). c.0) host_cluster) copied
+meaning (Compressed host_offset length) = compressed host_offset.0 (non_zero_u64_get length)
+
+-- the cluster that a standard entry refers to
+abbrev pub host_cluster : ℕ → Bool → ℕ → Option ℕ
+host_cluster cb external v = if is_allocated external v then Some (offset_field v / 2 ^ cb) else None
+
+-- by the zero flag, the cluster and the copied flag, and where the backing file has the guest cluster
+abbrev pub standard_mapping : Bool → Option ℕ → Bool → ℕ → Mapping
+standard_mapping true (Some cluster) copied offset = zeros (Some cluster) copied
+standard_mapping true None copied offset = zeros None false
+standard_mapping false (Some cluster) copied offset = data_file cluster copied
+standard_mapping false None copied offset = backing offset
+
+-- what guest cluster g reads as by its entry v
+abbrev pub mapping : ℕ → Bool → ℕ → ℕ → Mapping
+mapping cb external g v =
+    if is_compressed v then compressed (compressed_offset cb v) (compressed_length cb v)
+    else standard_mapping (is_zero v) (host_cluster cb external v) (is_copied v) (g * 2 ^ cb)

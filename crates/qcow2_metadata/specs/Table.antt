@@ -1,0 +1,77 @@
+use Rattle.std.specs.Prelude.{◌≡◌, ℕ, Bool, ◌⊎◌, ◌+◌, ◌*◌, ◌^◌, ◌<◌, nat_lt, if◌then◌else◌, List, [], ◌∷◌, map, length, Option, Some, None, option_map, Result, Ok, Err, MatchResult, IfSome, IsTrue, ◌≤◌}
+use Rattle.std.specs.List.{range_with_len}
+use Rattle.std.specs.Option.{option_or}
+use Rattle.qcow2_base.specs.Storage.{Image, be}
+use Rattle.qcow2_base.specs.Types.{IsClusterBits}
+use Rattle.qcow2_base.specs.declared.fault.Fault.{Fault}
+use Rattle.qcow2_base.specs.declared.fault.Fault.TheVariants.{EntryReserved, EntryUnaligned, NoMemory, NoOffset, Storage, TableTooBig, TablePlace}
+use Rattle.qcow2_base.specs.declared.types.HostCluster.{HostCluster}
+
+-- what a table in memory says: its entries' numbers, its cluster in the image if it has one, whether
+-- it was changed since it was last read or written, and what it keeps of the header
+pub record TableState : Type 0 where
+  pub numbers : List ℕ
+  pub cluster : Option HostCluster
+  pub modified : Bool
+  pub cluster_bits : ℕ
+  pub external_data_file : Bool
+
+-- a refusal, if there is one, else the answer
+abbrev pub unless_refused : {T : Type 0} → Option Fault → Result T Fault → Result T Fault
+unless_refused None answer = answer
+unless_refused (Some fault) answer = Err fault
+
+-- the fault of the place of n entries that begin with a cluster: too many for their kind, or an end past 2 ^ 56
+abbrev pub place_fault : ℕ → ℕ → ℕ → ℕ → Option Fault
+place_fault most cb cluster n =
+    if nat_lt most n then Some TableTooBig
+    else (if nat_lt (2 ^ 56) (cluster * 2 ^ cb + 8 * n) then Some TablePlace else None)
+
+-- the n numbers of eight bytes each, big-endian, from an offset on
+abbrev pub table_numbers : Image → ℕ → ℕ → List ℕ
+table_numbers image offset n = map (λ i. be image (offset + 8 * i) 8) (range_with_len 0 n)
+
+-- the fault of the first number that is no entry, if there is one
+abbrev pub first_fault : (ℕ → Option Fault) → List ℕ → Option Fault
+first_fault fault [] = None
+first_fault fault (v ∷ vs) = option_or (fault v) (first_fault fault vs)
+
+-- the table of n entries at an offset: its numbers, or the fault of the first that is no entry
+abbrev pub decoded_table : (ℕ → Option Fault) → Image → ℕ → ℕ → Result (List ℕ) Fault
+decoded_table fault image offset n =
+    let numbers = table_numbers image offset n in unless_refused (first_fault fault numbers) (Ok numbers)
+
+-- the table of n entries that begins with a cluster: the fault of its place comes first
+abbrev pub loaded_table : ℕ → (ℕ → Option Fault) → ℕ → Image → ℕ → ℕ → Result (List ℕ) Fault
+loaded_table most fault cb image cluster n =
+    unless_refused (place_fault most cb cluster n) (decoded_table fault image (cluster * 2 ^ cb) n)
+
+-- the answer is the expected one, unless the storage failed or memory ran out
+abbrev pub Answers : {T : Type 0} → (T → List ℕ) → Result T Fault → Result (List ℕ) Fault → Type 0
+Answers numbers answer expected =
+    MatchResult answer (λ table. expected ≡ Ok (numbers table)) (λ fault. (fault ≡ Storage) ⊎ (fault ≡ NoMemory) ⊎ (expected ≡ Err fault))
+
+-- the refusals of a load, whatever the storage tells
+abbrev pub IsLoadFault : Fault → Type 0
+IsLoadFault fault =
+    (fault ≡ TableTooBig) ⊎ (fault ≡ TablePlace) ⊎ (fault ≡ EntryReserved) ⊎ (fault ≡ EntryUnaligned) ⊎ (fault ≡ NoMemory) ⊎ (fault ≡ Storage)
+
+-- the offset that a table in the image begins at
+abbrev pub place_of : TableState → Option ℕ
+place_of table = option_map (λ (cluster : HostCluster). cluster.0 * 2 ^ table.cluster_bits) table.cluster
+
+-- why a table can't be written where it is: it has no cluster, or its place isn't lawful
+abbrev pub write_fault : ℕ → TableState → Option Fault
+write_fault most table = fault_at table.cluster
+  where
+    fault_at : Option HostCluster → Option Fault
+    fault_at None = Some NoOffset
+    fault_at (Some cluster) = place_fault most table.cluster_bits cluster.0 (length table.numbers)
+
+-- what holds of every table: its cluster's offset fits 64 bits, and each number is an entry of its kind
+pub record IsLawful (fault_of : ℕ → ℕ → Option Fault) (has_lawful_count : ℕ → ℕ → Bool) (cb : ℕ) (cluster : Option HostCluster) (numbers : List ℕ) : Type 0 where
+  pub bits : IsClusterBits cb
+  pub place : IfSome cluster (λ (c : HostCluster). c.0 * 2 ^ cb < 2 ^ 64)
+  pub valid : first_fault (fault_of cb) numbers ≡ None
+  pub count : IsTrue (has_lawful_count cb (length numbers))
+  pub bound : length numbers ≤ 2 ^ 48

@@ -1,0 +1,185 @@
+//! The one struct behind all tables: a list of entries of one kind.
+
+ghost use Rattle.std.specs.Prelude.{◌≡◌, ℕ, Bool, true, false, ◌*◌, ◌^◌, ◌<◌, ◌≤◌, IsTrue, length, map, slice_get, slice_index, slice_set, Some, None};
+ghost use Rattle.std.proofs.Common.{rules};
+ghost use Rattle.qcow2_base.specs.Types.{IsClusterBits};
+ghost use Rattle.qcow2_metadata.specs.Header.{uses_external_data};
+ghost use Rattle.qcow2_metadata.specs.Table.{first_fault};
+
+use super::Table;
+use crate::{Header, TableEntry};
+use qcow2_base::{HostCluster, HostOffset};
+use std::alloc::Global;
+use std::marker::Model;
+
+/// What sets one kind of table apart from the others.
+pub trait TableKind: TableEntry + Copy {
+    /// The entry as callers get it.
+    type Entry: TableEntry + Copy;
+
+    /// What kind of table it is, for people.
+    const NAME: &'static str;
+
+    /// How many entries a table of this kind may have.
+    const MAX_ENTRIES: usize;
+
+    ghost MAX_ENTRIES: { ℕ };
+
+    /// By cluster_bits: whether a table may have so many entries in memory.
+    ghost has_lawful_count: { ℕ → ℕ → Bool };
+
+    /// The entry 0, which is lawful under each cluster size.
+    fn cleared() -> Self
+        ensures number { Self.plain result ≡ 0 }
+        ensures lawful { (cb : ℕ) → Self.fault_of cb 0 ≡ None };
+
+    /// The entry as callers get it.
+    fn entry(self) -> Self::Entry
+        ensures { Self.Entry.plain result ≡ Self.plain self };
+
+    ghost few_entries: { MAX_ENTRIES ≤ 2 ^ 48 };
+}
+
+/// A table of entries of one kind. Clauses see it as what it says.
+#[derive(Debug, Drop)]
+pub struct EntryTable<E: TableKind> {
+    entries: Vec<E>,
+    cluster: Option<HostCluster>,
+    modified: bool,
+    cluster_bits: u32,
+    external_data_file: bool,
+}
+
+impl<E: TableKind> Model for EntryTable<E> {
+    ghost use Rattle.std.specs.Prelude.{◌≡◌, ◌*◌, ◌^◌, ◌<◌, ◌≤◌, IsTrue, None, IfSome, length, map};
+    ghost use Rattle.qcow2_base.specs.Types.{IsClusterBits};
+    ghost use Rattle.qcow2_metadata.specs.Table.{TableState, IsLawful};
+
+    ghost Value = { TableState };
+
+    ghost view = { λ t. record {
+      numbers = map E.plain t.entries.items;
+      cluster = t.cluster;
+      modified = t.modified;
+      cluster_bits = t.cluster_bits;
+      external_data_file = t.external_data_file;
+    } };
+
+    ghost invariant = { λ t.
+        IsLawful E.fault_of E.has_lawful_count t.cluster_bits t.cluster (map E.plain t.entries.items) };
+}
+
+impl<E: TableKind> EntryTable<E> {
+    // Whether guest data lies in an external data file, by the header that the table was made with.
+    #[inline]
+    pub(super) fn has_external_data_file(&self) -> bool
+        ensures { result ≡ self.now.external_data_file }
+    {
+        self.external_data_file
+    }
+
+    // Puts a lawful entry in the place of another, and returns that one.
+    pub(super) fn replace_entry(&mut self, index: usize, entry: E) -> E
+        requires index { index < length self.old.numbers }
+        requires valid { E.fault_of self.old.cluster_bits (E.plain entry) ≡ None }
+        ensures before { E.plain result ≡ slice_index self.old.numbers index }
+        ensures edit { self.new ≡ record self.old { numbers = slice_set self.old.numbers index (E.plain entry); modified = true } }
+    {
+        self.modified = true;
+        std::mem::replace(&mut self.entries[index], entry)
+    }
+}
+
+impl<E: TableKind> Table for EntryTable<E> {
+    type InternalEntry = E;
+
+    type Entry = E::Entry;
+
+    const NAME: &'static str = E::NAME;
+
+    const MAX_ENTRIES: usize = E::MAX_ENTRIES;
+
+    ghost MAX_ENTRIES = { E.MAX_ENTRIES };
+
+    ghost state = { λ t. t };
+
+    ghost has_lawful_count = { E.has_lawful_count };
+
+    fn from_data(list: Vec<E>, header: &Header) -> Self
+        requires valid { first_fault (E.fault_of header.now.cluster_bits) (map E.plain list.items) ≡ None }
+        requires count { IsTrue (E.has_lawful_count header.now.cluster_bits (length list.items)) }
+        requires bound { length list.items ≤ 2 ^ 48 }
+        ensures { result ≡ record {
+          numbers = map E.plain list.items;
+          cluster = None;
+          modified = true;
+          cluster_bits = header.now.cluster_bits;
+          external_data_file = uses_external_data header.now;
+        } }
+    {
+        EntryTable {
+            entries: list,
+            cluster: None,
+            modified: true,
+            cluster_bits: header.cluster_bits(),
+            external_data_file: header.external_data_file(),
+        }
+    }
+
+    fn entries(&self) -> usize {
+        self.entries.len()
+    }
+
+    fn get_ref(&self, index: usize) -> Option<&E> {
+        self.entries.get(index)
+    }
+
+    fn get(&self, index: usize) -> E::Entry {
+        match self.get_ref(index) {
+            Some(entry) => entry.entry(),
+            None => E::cleared().entry(),
+        }
+    }
+
+    fn get_cluster(&self) -> Option<HostCluster> {
+        self.cluster
+    }
+
+    fn get_offset(&self) -> Option<HostOffset> {
+        match self.cluster {
+            Some(cluster) => Some(cluster.offset(self.cluster_bits)),
+            None => None,
+        }
+    }
+
+    fn set_cluster(&mut self, cluster: HostCluster) {
+        self.cluster = Some(cluster);
+        self.modified = true;
+    }
+
+    fn unset_cluster(&mut self) {
+        self.cluster = None;
+    }
+
+    fn cluster_bits(&self) -> u32 {
+        self.cluster_bits
+    }
+
+    fn is_modified(&self) -> bool {
+        self.modified
+    }
+
+    fn clear_modified(&mut self) {
+        self.modified = false;
+    }
+
+    fn set_modified(&mut self) {
+        self.modified = true;
+    }
+
+    fn allocator(&self) -> Global {
+        *self.entries.allocator()
+    }
+
+    ghost few_entries = { E.few_entries };
+}

@@ -1,0 +1,114 @@
+//! L2 tables: what the clusters of a part of the guest's disk read as.
+
+ghost use Rattle.std.specs.Prelude.{◌≡◌, ◌-◌, ◌*◌, ◌%◌, ◌^◌, ◌==◌, ◌<◌, None, IfOk, IsOkAnd, IsOkUnless, length, replicate, slice_index, slice_set, true};
+ghost use Rattle.std.proofs.Common.{lit≤};
+ghost use Rattle.qcow2_metadata.specs.Entries.{freed, mapping, meaning};
+ghost use Rattle.qcow2_metadata.specs.Header.{uses_external_data};
+
+use super::{EntryTable, Table, TableKind};
+use crate::{AtomicL2Entry, ClustersToFreeEntry, Header, L2Entry, L2Mapping};
+use qcow2_base::{Fault, GuestCluster};
+use std::alloc::Global;
+
+/// A table of L2 entries, one for each guest cluster of its part of the disk: it fills one cluster.
+pub type L2Table = EntryTable<AtomicL2Entry>;
+
+impl TableKind for AtomicL2Entry {
+    type Entry = L2Entry;
+
+    const NAME: &'static str = "L2 table";
+
+    const MAX_ENTRIES: usize = 262144;
+
+    ghost MAX_ENTRIES = { 262144 };
+
+    ghost has_lawful_count = { λ cb n. n == 2 ^ (cb - 3) };
+
+    fn cleared() -> Self {
+        AtomicL2Entry::new(L2Entry::UNALLOCATED)
+    }
+
+    fn entry(self) -> L2Entry {
+        self.get()
+    }
+
+    ghost few_entries = { lit≤ tt };
+}
+
+impl EntryTable<AtomicL2Entry> {
+    /// A table of an image with this header in which no cluster has data. It has no cluster, and
+    /// counts as modified. Fails only for want of memory.
+    pub fn new_cleared(alloc: Global, header: &Header) -> Result<L2Table, Fault>
+        ensures fault { IsOkUnless result Fault.NoMemory }
+        ensures table { IfOk result (λ table. table ≡ record {
+          numbers = replicate (2 ^ (header.now.cluster_bits - 3)) 0;
+          cluster = None;
+          modified = true;
+          cluster_bits = header.now.cluster_bits;
+          external_data_file = uses_external_data header.now;
+        }) }
+    {
+        let entries = vec![in alloc; AtomicL2Entry::cleared(); header.l2_entries()]?;
+        Ok(L2Table::from_data(entries, header))
+    }
+
+    /// What a guest cluster reads as by its entry in this table. The cluster's offset must fit 64 bits.
+    /// Always answers a mapping.
+    #[inline]
+    pub fn get_mapping(&self, guest_cluster: GuestCluster) -> Result<L2Mapping, Fault>
+        requires { guest_cluster.0 * 2 ^ self.now.cluster_bits < 2 ^ 64 }
+        ensures { let cb = self.now.cluster_bits in
+            let number = slice_index self.now.numbers (guest_cluster.0 % 2 ^ (cb - 3)) in
+            IsOkAnd result (λ found. meaning found ≡ mapping cb self.now.external_data_file guest_cluster.0 number) }
+    {
+        let cluster_bits = self.cluster_bits();
+        let entry = self.get(guest_cluster.l2_index(cluster_bits));
+        entry.into_mapping(guest_cluster, cluster_bits, self.has_external_data_file())
+    }
+
+    /// Leave to change the table's mappings.
+    pub fn lock_write(&mut self) -> L2TableWriteGuard<'_>
+        ensures same_reference { result.table.ghost_name ≡ self.entry.ghost_name }
+        ensures table { result.table.now ≡ self.old }
+    {
+        L2TableWriteGuard { table: self }
+    }
+}
+
+/// Leave to change an L2 table's mappings. While it is held nobody else sees the table.
+#[derive(Debug, Drop)]
+pub struct L2TableWriteGuard<'a> {
+    table: &'a mut L2Table,
+}
+
+impl L2TableWriteGuard<'_> {
+    /// What a guest cluster reads as, as `L2Table::get_mapping` says it.
+    pub fn get_mapping(&self, guest_cluster: GuestCluster) -> Result<L2Mapping, Fault>
+        requires { guest_cluster.0 * 2 ^ self.now.table.now.cluster_bits < 2 ^ 64 }
+        ensures { let table = self.now.table.now in
+            let cb = table.cluster_bits in
+            let number = slice_index table.numbers (guest_cluster.0 % 2 ^ (cb - 3)) in
+            IsOkAnd result (λ found. meaning found ≡ mapping cb table.external_data_file guest_cluster.0 number) }
+    {
+        self.table.get_mapping(guest_cluster)
+    }
+
+    /// Takes the mapping at an index away: the guest cluster has no data then. Hands back all host
+    /// clusters that the entry referred to, or nothing where it referred to none. The table then
+    /// counts as modified.
+    #[must_use]
+    pub fn discard_cluster(&mut self, index: usize) -> Option<ClustersToFreeEntry>
+        requires { index < length self.old.table.now.numbers }
+        ensures same_reference { self.new.table.ghost_name ≡ self.old.table.ghost_name }
+        ensures edit { self.new.table.now ≡ record (self.old.table.now) { numbers = slice_set self.old.table.now.numbers index 0; modified = true } }
+        ensures freed { let table = self.old.table.now in
+            result ≡ freed table.cluster_bits table.external_data_file (slice_index table.numbers index) }
+    {
+        let before = self.table.replace_entry(index, AtomicL2Entry::cleared());
+        let external_data_file = self.table.has_external_data_file();
+        let (first, count) = before
+            .get()
+            .allocation(self.table.cluster_bits(), external_data_file)?;
+        Some(ClustersToFreeEntry { first, count })
+    }
+}
