@@ -1,2 +1,5 @@
 //! Tests over the public calls of all crates, one module for each module that is tested.
 #![tactic(auto)]
+
+#[cfg(test)]
+mod types;
