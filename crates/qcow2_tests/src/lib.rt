@@ -2,4 +2,6 @@
 #![tactic(auto)]
 
 #[cfg(test)]
+mod on_disk_struct;
+#[cfg(test)]
 mod types;
