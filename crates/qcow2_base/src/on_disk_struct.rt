@@ -4,11 +4,15 @@ ghost use Rattle.std.specs.Prelude.{◌≡◌, ℕ, ◌+◌, ◌≤◌, Bool, Li
 ghost use Rattle.qcow2_base.specs.Storage.{Image, image_of};
 ghost use Rattle.qcow2_base.specs.OnDiskStruct.{Order, Big, Little, LayoutField, HoldsLayout, Stores, layout_end, moved, is_right_length};
 
-mod header_parts;
+mod header_extension_header;
 mod integers;
+mod v2_header;
+mod v3_header_base;
 
 use crate::Fault;
-pub use header_parts::{HeaderExtensionHeader, V2Header, V3HeaderBase};
+pub use header_extension_header::HeaderExtensionHeader;
+pub use v2_header::V2Header;
+pub use v3_header_base::V3HeaderBase;
 
 /// A value that has a fixed layout on the disk.
 ///
