@@ -1,8 +1,8 @@
 use Rattle.std.specs.Prelude.{◌≡◌, ℕ, zero, suc, ◌+◌, ◌*◌, ◌<◌, ◌≤◌, ◌⊎◌, Bool, List, [], ◌∷◌, ◌==◌, nat_le, if◌then◌else◌, max}
 use Rattle.qcow2_base.specs.Storage.{Image, be}
-use Rattle.qcow2_base.specs.declared.on_disk_struct.V2Header.{V2Header}
-use Rattle.qcow2_base.specs.declared.on_disk_struct.V3HeaderBase.{V3HeaderBase}
-use Rattle.qcow2_base.specs.declared.on_disk_struct.HeaderExtensionHeader.{HeaderExtensionHeader}
+use Rattle.qcow2_base.specs.declared.on_disk_struct.v2_header.V2Header.{V2Header}
+use Rattle.qcow2_base.specs.declared.on_disk_struct.v3_header_base.V3HeaderBase.{V3HeaderBase}
+use Rattle.qcow2_base.specs.declared.on_disk_struct.header_extension_header.HeaderExtensionHeader.{HeaderExtensionHeader}
 
 -- the order of a number's bytes: the most significant one first, or the least significant one
 pub data Order : Type 0 where
