@@ -231,6 +231,6 @@ impl<T: Drop> From<AllocFailed<T>> for Fault {
     ghost from_gives = { λ _ fault. fault ≡ NoMemory };
 
     fn from(_failed: AllocFailed<T>) -> Fault {
-        Fault::NoMemory
+        Fault::from(AllocError)
     }
 }
