@@ -99,6 +99,18 @@ impl<S> FailingStorage<S> {
         let passes = take_turn(&mut self.plan);
         self.calls.push(call).is_ok() && passes
     }
+
+    // Counts one more failed call.
+    fn fail(&mut self) -> Result<(), StorageFault>
+        ensures err { IsErr result }
+        ensures failures { failure_count self.new ≡ (failure_count self.old + 1) % 2 ^ 64 }
+        ensures inner { inner_of self.new ≡ inner_of self.old }
+        ensures plan { plan_of self.new ≡ plan_of self.old }
+        ensures calls { calls_of self.new ≡ calls_of self.old }
+    {
+        self.failures = self.failures.wrapping_add(1);
+        Err(StorageFault)
+    }
 }
 
 // Counts a planned failure down, and tells whether this turn passes.
@@ -159,8 +171,7 @@ impl<S: Storage> Storage for FailingStorage<S> {
         {
             return Ok(());
         }
-        self.failures = self.failures.wrapping_add(1);
-        Err(StorageFault)
+        self.fail()
     }
 
     fn write(&mut self, buf: &[u8], offset: u64) -> Result<(), StorageFault>
@@ -184,8 +195,7 @@ impl<S: Storage> Storage for FailingStorage<S> {
         {
             return Ok(());
         }
-        self.failures = self.failures.wrapping_add(1);
-        Err(StorageFault)
+        self.fail()
     }
 
     ghost mem_align_is_power = { λ f. S.mem_align_is_power f.inner };
