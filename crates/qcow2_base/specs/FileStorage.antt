@@ -1,5 +1,5 @@
 use Rattle.std.specs.Prelude.{ℕ}
-use Rattle.qcow2_base.specs.declared.storage.FileStorage.{FileStorage}
+use Rattle.qcow2_base.specs.declared.storage.file.FileStorage.{FileStorage}
 
 -- the open file
 abbrev pub file_of : {F : Type 0} → FileStorage F → F

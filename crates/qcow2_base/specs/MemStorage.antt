@@ -1,5 +1,5 @@
 use Rattle.std.specs.Prelude.{ℕ, List}
-use Rattle.qcow2_base.specs.declared.storage.MemStorage.{MemStorage}
+use Rattle.qcow2_base.specs.declared.storage.memory.MemStorage.{MemStorage}
 
 -- the bytes up to the end
 abbrev pub memory_bytes : MemStorage → List ℕ

@@ -87,7 +87,7 @@ pub enum Fault {
     FormatConflict,
     #[error("all external data file extensions must hold the same name")]
     DataFileConflict,
-    #[error("no incompatible feature but an external data file (bit 2) may be set, found {0:#x}")]
+    #[error("all incompatible features but an external data file (bit 2) must be clear, found {0:#x}")]
     Incompatible(u64),
     #[error("the reserved bits of a table entry must be 0")]
     EntryReserved,
@@ -97,9 +97,9 @@ pub enum Fault {
     TableTooBig,
     #[error("a table or block must end at or below 2^56")]
     TablePlace,
-    #[error("a table or block can be written only once it has a cluster")]
+    #[error("a table or block must have a cluster to be written")]
     NoOffset,
-    #[error("a table or block can be referred to only once it has a cluster")]
+    #[error("a table or block must have a cluster to be referred to")]
     NotPlaced,
     #[error("the header with its names must fit the first cluster")]
     HeaderTooLong,
@@ -231,6 +231,6 @@ impl<T: Drop> From<AllocFailed<T>> for Fault {
     ghost from_gives = { λ _ fault. fault ≡ NoMemory };
 
     fn from(_failed: AllocFailed<T>) -> Fault {
-        Fault::NoMemory
+        Fault::from(AllocError)
     }
 }

@@ -1,6 +1,6 @@
-use Rattle.std.proofs.Common.{ℕ, ◌≡◌, ◌+◌, ◌-◌, min, length, arith}
+use Rattle.std.proofs.Common.{◌≡◌, ◌+◌, ◌-◌, min, length, arith}
 use Rattle.qcow2_base.proofs.StorageLemmas.{known_then_zeros}
-use Rattle.qcow2_base.proofs.storage.read_at.Goals as goal
+use Rattle.qcow2_base.proofs.storage.file.read_at.Goals as goal
 
 pub returns : goal.returns
 returns g c = λ tells.

@@ -1,7 +1,7 @@
 use Rattle.std.proofs.Common.{◌≤◌, length, arith}
 use Rattle.std.proofs.lemmas.List.{take_all}
 use Rattle.qcow2_base.proofs.StorageLemmas.{image_of-padded}
-use Rattle.qcow2_base.proofs.storage.lengthen.Goals as goal
+use Rattle.qcow2_base.proofs.storage.memory.lengthen.Goals as goal
 
 pub returns-in_ok-resize-clause-same : goal.returns-in_ok-resize-clause-same
 returns-in_ok-resize-clause-same c =

@@ -1,0 +1,177 @@
+//! An image in memory.
+
+ghost use Rattle.std.specs.Prelude.{◌≡◌, ℕ, true, ◌+◌, ◌^◌, ◌%◌, ◌<◌, ◌≤◌, max, length, slice_index, IsOk, OnOk, OnErr, MatchResult};
+ghost use Rattle.qcow2_base.specs.Storage.{IsPowerOfTwo, power_of_two_once, Holds, SameOutside, image_of, image_of_ends};
+
+use super::{Storage, StorageFault};
+use std::alloc::AllocError;
+
+/// An image in memory. It tells its bytes, and fails only where it can't grow.
+#[derive(Debug, Drop)]
+pub struct MemStorage {
+    bytes: Vec<u8>,
+    align: usize,
+    failures: u64,
+    ghost bytes_fit: { (offset : ℕ) → slice_index bytes.items offset < 2 ^ 8 },
+    ghost aligned: { IsPowerOfTwo align } by { power_of_two_once align },
+}
+
+impl MemStorage {
+    ghost use Rattle.qcow2_base.specs.MemStorage.{memory_bytes, alignment, failure_count};
+
+    /// An image of these bytes, with both alignments 1. It keeps the vector's allocator.
+    pub fn new(bytes: Vec<u8>) -> MemStorage
+        ensures bytes { memory_bytes result ≡ bytes.items }
+        ensures align { alignment result ≡ 1 }
+        ensures failures { failure_count result ≡ 0 }
+    {
+        MemStorage {
+            bytes,
+            align: 1,
+            failures: 0,
+        }
+    }
+
+    /// The same image with this value for both alignments, in bytes.
+    pub fn with_align(self, align: usize) -> MemStorage
+        requires { IsPowerOfTwo align }
+        ensures bytes { memory_bytes result ≡ memory_bytes self }
+        ensures align { alignment result ≡ align }
+        ensures failures { failure_count result ≡ failure_count self }
+    {
+        MemStorage {
+            bytes: self.bytes,
+            align,
+            failures: self.failures,
+        }
+    }
+
+    /// The image's bytes, up to its end.
+    pub fn bytes(&self) -> &[u8]
+        ensures { result.now ≡ memory_bytes self.now }
+    {
+        &self.bytes
+    }
+}
+
+impl Storage for MemStorage {
+    ghost use Rattle.qcow2_base.specs.MemStorage.{memory_bytes, alignment, failure_count};
+
+    ghost tells = { λ _. true };
+
+    ghost byte_at = { λ m. image_of m.bytes.items };
+
+    ghost failures = { λ m. m.failures };
+
+    ghost mem_align = { λ m. m.align };
+
+    ghost req_align = { λ m. m.align };
+
+    fn mem_align(&self) -> usize {
+        self.align
+    }
+
+    fn req_align(&self) -> usize {
+        self.align
+    }
+
+    /// Never fails.
+    fn read(&mut self, buf: &mut [u8], offset: u64) -> Result<(), StorageFault>
+        requires { offset + length buf.old ≤ 2 ^ 56 }
+        ensures ok { IsOk result }
+        ensures read { Holds (image_of (memory_bytes self.old)) offset buf.new }
+        ensures unchanged { memory_bytes self.new ≡ memory_bytes self.old }
+        ensures failures { failure_count self.new ≡ failure_count self.old }
+        ensures align { alignment self.new ≡ alignment self.old }
+    {
+        copy_bytes(&self.bytes, buf, offset as usize);
+        Ok(())
+    }
+
+    /// Fails only where memory for a longer image is refused, and then nothing has changed.
+    fn write(&mut self, buf: &[u8], offset: u64) -> Result<(), StorageFault>
+        requires { offset + length buf.now ≤ 2 ^ 56 }
+        ensures written { OnOk result (Holds (image_of (memory_bytes self.new)) offset buf.now) }
+        ensures others { SameOutside offset (length buf.now) (image_of (memory_bytes self.old)) (image_of (memory_bytes self.new)) }
+        ensures failures { MatchResult result
+            (λ _. failure_count self.new ≡ failure_count self.old)
+            (λ _. failure_count self.new ≡ (failure_count self.old + 1) % 2 ^ 64) }
+        ensures align { alignment self.new ≡ alignment self.old }
+        ensures err { OnErr result (memory_bytes self.new ≡ memory_bytes self.old) }
+        ensures empty { length buf.now ≡ 0 → memory_bytes self.new ≡ memory_bytes self.old }
+        ensures len { OnOk result (0 < length buf.now →
+            length (memory_bytes self.new) ≡ max (length (memory_bytes self.old)) (offset + length buf.now)) }
+        ensures in_place { offset + length buf.now ≤ length (memory_bytes self.old) → IsOk result }
+        ensures empty_ok { length buf.now ≡ 0 → IsOk result }
+    {
+        match overwrite(&mut self.bytes, buf, offset as usize) {
+            Ok(()) => Ok(()),
+            Err(AllocError) => {
+                self.failures = self.failures.wrapping_add(1);
+                Err(StorageFault)
+            }
+        }
+    }
+
+    ghost mem_align_is_power = { λ m. m.aligned };
+
+    ghost req_align_is_power = { λ m. m.aligned };
+
+    ghost byte_fits = { λ m offset. m.bytes_fit offset };
+
+    ghost ends = { λ m. image_of_ends m.bytes.items };
+}
+
+// Fills the buffer with the bytes from `offset` on, and with zeros past the last one.
+fn copy_bytes(bytes: &[u8], buf: &mut [u8], offset: usize)
+    ensures { Holds (image_of bytes.now) offset buf.new }
+{
+    let start = offset.min(bytes.len());
+    let count = buf.len().min(bytes.len() - start);
+    let (stored, past) = buf.split_at_mut(count);
+    stored.copy_from_slice(&bytes[start..start + count]);
+    past.fill(0);
+}
+
+// Replaces the bytes from `offset` on, after growing the vector with zeros where it is too short.
+fn overwrite(bytes: &mut Vec<u8>, buf: &[u8], offset: usize) -> Result<(), AllocError>
+    requires { offset + length buf.now ≤ 2 ^ 56 }
+    ensures written { OnOk result (Holds (image_of bytes.new.items) offset buf.now) }
+    ensures others { SameOutside offset (length buf.now) (image_of bytes.old.items) (image_of bytes.new.items) }
+    ensures err { OnErr result (bytes.new.items ≡ bytes.old.items) }
+    ensures len { OnOk result (0 < length buf.now →
+        length bytes.new.items ≡ max (length bytes.old.items) (offset + length buf.now)) }
+    ensures in_place { offset + length buf.now ≤ length bytes.old.items → IsOk result }
+    ensures empty { length buf.now ≡ 0 → bytes.new.items ≡ bytes.old.items }
+    ensures empty_ok { length buf.now ≡ 0 → IsOk result }
+    ensures fit { (o : ℕ) → slice_index bytes.new.items o < 2 ^ 8 }
+{
+    if buf.is_empty() {
+        return Ok(());
+    }
+    lengthen(bytes, offset + buf.len())?;
+    put(bytes.as_mut_slice(), buf, offset);
+    Ok(())
+}
+
+// Adds zeros at the end until there are `len` bytes.
+fn lengthen(bytes: &mut Vec<u8>, len: usize) -> Result<(), AllocError>
+    ensures same { image_of bytes.new.items ≡ image_of bytes.old.items }
+    ensures len { OnOk result (length bytes.new.items ≡ max (length bytes.old.items) len) }
+    ensures in_place { len ≤ length bytes.old.items → IsOk result }
+    ensures err { OnErr result (bytes.new.items ≡ bytes.old.items) }
+{
+    if bytes.len() < len {
+        bytes.resize(len, 0)?;
+    }
+    Ok(())
+}
+
+// Replaces the bytes from `offset` on.
+fn put(bytes: &mut [u8], buf: &[u8], offset: usize)
+    requires { offset + length buf.now ≤ length bytes.old }
+    ensures written { Holds (image_of bytes.new) offset buf.now }
+    ensures others { SameOutside offset (length buf.now) (image_of bytes.old) (image_of bytes.new) }
+{
+    bytes[offset..offset + buf.len()].copy_from_slice(buf);
+}

@@ -1,0 +1,140 @@
+// Files that pass their calls on to real ones, a few bytes at a time, and fail where a test plans it.
+
+use crate::failing::take_turn;
+use std::alloc::Allocator;
+use std::cell::Cell;
+use std::fs::{Metadata, OpenFile, OpenOptions};
+use std::io;
+use std::io::{Error, ErrorKind, Read, Seek, SeekFrom, Write};
+use std::rt::Files;
+
+// Opens such files. Opening one is no call of it; asking for its metadata is the first.
+#[derive(Clone, Copy)]
+pub struct FaultyFiles<'a, R> {
+    pub files: &'a R,
+    // how many calls pass before the one that fails, or none that fails
+    pub plan: Option<u64>,
+    // the most bytes that one call reads or writes
+    pub step: usize,
+    // where reads end, whatever the length
+    pub end: u64,
+}
+
+#[derive(Debug, Drop)]
+pub struct FaultyFile<F> {
+    file: F,
+    plan: Cell<Option<u64>>,
+    step: usize,
+    end: u64,
+}
+
+impl<F> FaultyFile<F> {
+    fn turn(&self) -> io::Result<()> {
+        let mut plan = self.plan.get();
+        let passes = take_turn(&mut plan);
+        self.plan.set(plan);
+        if !passes {
+            return Err(Error::other("the call was planned to fail"));
+        }
+        Ok(())
+    }
+}
+
+impl<F: Read + Seek> Read for FaultyFile<F> {
+    fn read(&mut self, buf: &mut [u8]) -> io::Result<usize> {
+        self.turn()?;
+        let left = self.end.saturating_sub(self.file.stream_position()?);
+        let count = (buf.len() as u64).min(left).min(self.step as u64) as usize;
+        self.file.read(&mut buf[..count])
+    }
+}
+
+impl<F: Write> Write for FaultyFile<F> {
+    fn write(&mut self, buf: &[u8]) -> io::Result<usize> {
+        self.turn()?;
+        let count = buf.len().min(self.step);
+        self.file.write(&buf[..count])
+    }
+
+    fn flush(&mut self) -> io::Result<()> {
+        self.turn()?;
+        self.file.flush()
+    }
+}
+
+impl<F: Seek> Seek for FaultyFile<F> {
+    fn seek(&mut self, to: SeekFrom) -> io::Result<u64> {
+        self.turn()?;
+        self.file.seek(to)
+    }
+}
+
+impl<F: OpenFile> OpenFile for FaultyFile<F> {
+    fn metadata(&self) -> io::Result<Metadata> {
+        self.turn()?;
+        self.file.metadata()
+    }
+
+    fn set_len(&self, size: u64) -> io::Result<()> {
+        self.file.set_len(size)
+    }
+
+    fn sync_all(&self) -> io::Result<()> {
+        self.file.sync_all()
+    }
+
+    fn sync_data(&self) -> io::Result<()> {
+        self.file.sync_data()
+    }
+}
+
+impl<R: Files> Files for FaultyFiles<'_, R> {
+    type File = FaultyFile<R::File>;
+
+    type Dir = R::Dir;
+
+    fn open_file(&self, how: &OpenOptions, path: &str) -> io::Result<FaultyFile<R::File>> {
+        Ok(FaultyFile {
+            file: self.files.open_file(how, path)?,
+            plan: Cell::new(self.plan),
+            step: self.step,
+            end: self.end,
+        })
+    }
+
+    fn open_dir(&self, path: &str) -> io::Result<R::Dir> {
+        self.files.open_dir(path)
+    }
+
+    fn metadata(&self, path: &str) -> io::Result<Metadata> {
+        self.files.metadata(path)
+    }
+
+    fn symlink_metadata(&self, path: &str) -> io::Result<Metadata> {
+        self.files.symlink_metadata(path)
+    }
+
+    fn copy(&self, _from: &str, _to: &str) -> io::Result<u64> {
+        Err(ErrorKind::Unsupported.into())
+    }
+
+    fn rename(&self, _from: &str, _to: &str) -> io::Result<()> {
+        Err(ErrorKind::Unsupported.into())
+    }
+
+    fn remove_file(&self, _path: &str) -> io::Result<()> {
+        Err(ErrorKind::Unsupported.into())
+    }
+
+    fn create_dir(&self, _path: &str) -> io::Result<()> {
+        Err(ErrorKind::Unsupported.into())
+    }
+
+    fn remove_dir(&self, _path: &str) -> io::Result<()> {
+        Err(ErrorKind::Unsupported.into())
+    }
+
+    fn remove_dir_all<B: Allocator>(&self, _alloc: B, _path: &str) -> io::Result<()> {
+        Err(ErrorKind::Unsupported.into())
+    }
+}
