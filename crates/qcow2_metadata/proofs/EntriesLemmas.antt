@@ -72,3 +72,7 @@ allocation_count cb start length some short =
 -- the number 0 is an L2 entry
 pub l2_fault_zero : (cb : ℕ) → l2_fault cb 0 ≡ None
 l2_fault_zero cb = rw zero-mod refl
+
+-- the cluster of an offset begins at or before it
+pub cluster_begins_below : (cb offset : ℕ) → offset / 2 ^ cb * 2 ^ cb ≤ offset
+cluster_begins_below cb offset = div-mul-le_self offset (2 ^ cb)

@@ -1,4 +1,4 @@
-use Rattle.std.specs.Prelude.{◌≡◌, ℕ, Bool, true, false, not, ◌&&◌, ◌||◌, ◌==◌, ◌+◌, ◌-◌, ◌*◌, ◌/◌, ◌%◌, ◌^◌, ◌<◌, ◌≤◌, nat_lt, if◌then◌else◌, Option, Some, None, option_map}
+use Rattle.std.specs.Prelude.{◌≡◌, ℕ, Bool, true, false, not, ◌&&◌, ◌||◌, ◌==◌, ◌+◌, ◌-◌, ◌*◌, ◌/◌, ◌%◌, ◌^◌, ◌<◌, ◌≤◌, nat_lt, if◌then◌else◌, Option, Some, None, option_map, IfSome, ⊤}
 use Rattle.std.specs.Int.NonZero.{non_zero_u64_get}
 use Rattle.qcow2_base.specs.declared.fault.Fault.{Fault}
 use Rattle.qcow2_base.specs.declared.fault.Fault.TheVariants.{EntryReserved, EntryUnaligned}
@@ -136,6 +136,13 @@ meaning (DataFile host_cluster copied) = data_file host_cluster.0 copied
 meaning (Backing backing_offset) = backing backing_offset
 meaning (Zero host_cluster copied) = zeros (option_map (λ (c : HostCluster). c.0) host_cluster) copied
 meaning (Compressed host_offset length) = compressed host_offset.0 (non_zero_u64_get length)
+
+-- the cluster or the data that a mapping names begins below 2 ^ 56
+abbrev pub IsPlaced : ℕ → L2Mapping → Type 0
+IsPlaced cb (DataFile host_cluster copied) = host_cluster.0 * 2 ^ cb < 2 ^ 56
+IsPlaced cb (Backing backing_offset) = ⊤
+IsPlaced cb (Zero host_cluster copied) = IfSome host_cluster (λ (c : HostCluster). c.0 * 2 ^ cb < 2 ^ 56)
+IsPlaced cb (Compressed host_offset length) = host_offset.0 < 2 ^ 56
 
 -- the cluster that a standard entry refers to
 abbrev pub host_cluster : ℕ → Bool → ℕ → Option ℕ

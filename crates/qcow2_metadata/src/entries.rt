@@ -1,10 +1,11 @@
 //! The entries of tables: which numbers are lawful, and what they mean.
 
-ghost use Rattle.std.specs.Prelude.{◌≡◌, ℕ, ◌⊎◌, ◌+◌, ◌*◌, ◌%◌, ◌^◌, ◌<◌, ◌≤◌, ◌↔◌, false, is_some, Option, Some, None, IfSome, IfNone, IfOk, IfErr, OnOk, IsOkAnd};
+ghost use Rattle.std.specs.Prelude.{◌≡◌, ℕ, ◌⊎◌, ◌+◌, ◌*◌, ◌%◌, ◌^◌, ◌<◌, ◌≤◌, ◌↔◌, false, is_some, Option, Some, None, option_map, IfSome, IfNone, IfOk, IfErr, OnOk, IsOkAnd};
 ghost use Rattle.std.specs.Int.NonZero.{non_zero_u64_get};
 ghost use Rattle.qcow2_base.specs.Types.{IsClusterBits};
 ghost use Rattle.qcow2_base.specs.declared.fault.Fault.{Fault as AnyFault};
 ghost use Rattle.qcow2_base.specs.declared.fault.Fault.TheVariants.{EntryReserved, EntryUnaligned};
+ghost use Rattle.qcow2_base.specs.declared.types.HostCluster.{HostCluster as Cluster};
 ghost use Rattle.qcow2_metadata.specs.Entries as spec;
 
 use crate::Header;
@@ -104,7 +105,7 @@ fn field(value: u64, first: u32, count: u32) -> u64
 }
 
 impl L2Entry {
-    ghost use Rattle.qcow2_metadata.specs.Entries.{host_offset, is_compressed, is_copied, is_zero, l2_reserved_bits, l2_fault, compressed_offset, compressed_length, byte_range, allocation, IsAmongClusters, Meets, mapping, meaning};
+    ghost use Rattle.qcow2_metadata.specs.Entries.{host_cluster, host_offset, is_compressed, is_copied, is_zero, l2_reserved_bits, l2_fault, compressed_offset, compressed_length, byte_range, allocation, IsAmongClusters, IsPlaced, Meets, mapping, meaning};
 
     /// The entry 0: the guest cluster has no data here.
     pub(crate) const UNALLOCATED: L2Entry = L2Entry { value: 0 };
@@ -223,6 +224,19 @@ impl L2Entry {
         Some((offset, 1 << cluster_bits))
     }
 
+    // The host cluster that a standard entry refers to, if it refers to one.
+    #[inline]
+    #[tactic(auto, using(crate::proofs::EntriesLemmas::cluster_begins_below))]
+    fn host_cluster(&self, cluster_bits: u32, external_data_file: bool) -> Option<HostCluster>
+        requires cluster_bits { IsClusterBits cluster_bits }
+        requires standard { is_compressed self.now ≡ false }
+        ensures value { option_map (λ (c : Cluster). c.0) result ≡ host_cluster cluster_bits external_data_file self.now }
+        ensures placed { IfSome result (λ (c : Cluster). c.0 * 2 ^ cluster_bits < 2 ^ 56) }
+    {
+        let offset = self.cluster_offset(external_data_file)?;
+        Some(offset.cluster(cluster_bits))
+    }
+
     /// What a guest cluster with this entry reads as. Always answers a mapping.
     pub fn into_mapping(
         self,
@@ -233,8 +247,9 @@ impl L2Entry {
         requires cluster_bits { IsClusterBits cluster_bits }
         requires valid { l2_fault cluster_bits self ≡ None }
         requires fits { guest_cluster.0 * 2 ^ cluster_bits < 2 ^ 64 }
-        ensures { IsOkAnd result (λ found.
+        ensures mapping { IsOkAnd result (λ found.
             meaning found ≡ mapping cluster_bits external_data_file guest_cluster.0 self) }
+        ensures placed { IfOk result (IsPlaced cluster_bits) }
     {
         if let Some((host_offset, length)) = self.compressed_range(cluster_bits) {
             return Ok(L2Mapping::Compressed {
@@ -243,10 +258,7 @@ impl L2Entry {
             });
         }
         let copied = self.is_copied();
-        let host_cluster = match self.cluster_offset(external_data_file) {
-            Some(offset) => Some(offset.cluster(cluster_bits)),
-            None => None,
-        };
+        let host_cluster = self.host_cluster(cluster_bits, external_data_file);
         Ok(match (self.is_zero(), host_cluster) {
             (true, Some(_)) => L2Mapping::Zero {
                 host_cluster,

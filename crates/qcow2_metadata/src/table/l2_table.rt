@@ -2,7 +2,7 @@
 
 ghost use Rattle.std.specs.Prelude.{◌≡◌, ◌-◌, ◌*◌, ◌%◌, ◌^◌, ◌==◌, ◌<◌, None, IfOk, IsOkAnd, IsOkUnless, length, replicate, slice_index, slice_set, true};
 ghost use Rattle.std.proofs.Common.{lit≤};
-ghost use Rattle.qcow2_metadata.specs.Entries.{freed, mapping, meaning};
+ghost use Rattle.qcow2_metadata.specs.Entries.{IsPlaced, freed, mapping, meaning};
 ghost use Rattle.qcow2_metadata.specs.Header.{uses_external_data};
 
 use super::{EntryTable, Table, TableKind};
@@ -57,9 +57,10 @@ impl EntryTable<AtomicL2Entry> {
     #[inline]
     pub fn get_mapping(&self, guest_cluster: GuestCluster) -> Result<L2Mapping, Fault>
         requires { guest_cluster.0 * 2 ^ self.now.cluster_bits < 2 ^ 64 }
-        ensures { let cb = self.now.cluster_bits in
+        ensures mapping { let cb = self.now.cluster_bits in
             let number = slice_index self.now.numbers (guest_cluster.0 % 2 ^ (cb - 3)) in
             IsOkAnd result (λ found. meaning found ≡ mapping cb self.now.external_data_file guest_cluster.0 number) }
+        ensures placed { IfOk result (IsPlaced self.now.cluster_bits) }
     {
         let cluster_bits = self.cluster_bits();
         let entry = self.get(guest_cluster.l2_index(cluster_bits));
@@ -85,10 +86,11 @@ impl L2TableWriteGuard<'_> {
     /// What a guest cluster reads as, as `L2Table::get_mapping` says it.
     pub fn get_mapping(&self, guest_cluster: GuestCluster) -> Result<L2Mapping, Fault>
         requires { guest_cluster.0 * 2 ^ self.now.table.now.cluster_bits < 2 ^ 64 }
-        ensures { let table = self.now.table.now in
+        ensures mapping { let table = self.now.table.now in
             let cb = table.cluster_bits in
             let number = slice_index table.numbers (guest_cluster.0 % 2 ^ (cb - 3)) in
             IsOkAnd result (λ found. meaning found ≡ mapping cb table.external_data_file guest_cluster.0 number) }
+        ensures placed { IfOk result (IsPlaced self.now.table.now.cluster_bits) }
     {
         self.table.get_mapping(guest_cluster)
     }

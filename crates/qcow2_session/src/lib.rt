@@ -1,0 +1,6 @@
+//! Whole runs over a qcow2 image, and the commands of the program `qmeta`.
+#![tactic(auto)]
+
+mod commands;
+
+pub use commands::{list_l2_table, report_fault, run_words};
