@@ -139,7 +139,7 @@ fn a_discarded_cluster_is_handed_back_and_gone_from_the_image(rt: HostRuntime) -
         backing_offset: 1536,
     };
     assert_eq!(rt; mapping(&rt, &mut table, 3)?, nothing);
-    assert_eq!(rt; image.bytes()[1048], 0x80);
+    assert_eq!(rt; image.bytes().get(1048), Some(&0x80));
     assert_eq!(rt; table.write(&mut image), Ok(()));
     assert!(rt; !table.is_modified());
     assert_eq!(rt; image.bytes(), [0; 1536].as_slice());

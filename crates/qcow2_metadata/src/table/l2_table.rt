@@ -2,7 +2,7 @@
 
 ghost use Rattle.std.specs.Prelude.{◌≡◌, ◌-◌, ◌*◌, ◌%◌, ◌^◌, ◌==◌, ◌<◌, None, IfOk, IsOkAnd, IsOkUnless, length, replicate, slice_index, slice_set, true};
 ghost use Rattle.std.proofs.Common.{lit≤};
-ghost use Rattle.qcow2_metadata.specs.Entries.{IsPlaced, freed, mapping, meaning};
+ghost use Rattle.qcow2_metadata.specs.Entries.{IsPlaced, clusters_to_free, mapping, meaning};
 ghost use Rattle.qcow2_metadata.specs.Header.{uses_external_data};
 
 use super::{EntryTable, Table, TableKind};
@@ -104,7 +104,7 @@ impl L2TableWriteGuard<'_> {
         ensures same_reference { self.new.table.ghost_name ≡ self.old.table.ghost_name }
         ensures edit { self.new.table.now ≡ record (self.old.table.now) { numbers = slice_set self.old.table.now.numbers index 0; modified = true } }
         ensures freed { let table = self.old.table.now in
-            result ≡ freed table.cluster_bits table.external_data_file (slice_index table.numbers index) }
+            result ≡ clusters_to_free table.cluster_bits table.external_data_file (slice_index table.numbers index) }
     {
         let before = self.table.replace_entry(index, AtomicL2Entry::cleared());
         let external_data_file = self.table.has_external_data_file();
