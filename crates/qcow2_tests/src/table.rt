@@ -1,12 +1,15 @@
 //! L2 tables: from bytes into memory, edited there, and back to bytes.
 
-ghost use Rattle.std.specs.Prelude.{◌≡◌, ◌-◌, ◌^◌, IfOk, length};
+ghost use Rattle.std.specs.Prelude.{◌≡◌, ◌-◌, ◌^◌, None, IfOk, length};
+ghost use Rattle.qcow2_metadata.specs.Entries.{l2_fault};
 
 use crate::failing::{FailingStorage, StorageCall};
 use crate::header::header_with;
 use crate::types::{fits, is_cluster_bits};
 use qcow2_base::{ClusterCount, Fault, GuestCluster, HostCluster, HostOffset, MemStorage, Storage};
-use qcow2_metadata::{ClustersToFreeEntry, Header, L2Mapping, L2Table, Table, TableEntry};
+use qcow2_metadata::{
+    AtomicL2Entry, ClustersToFreeEntry, Header, L2Mapping, L2Table, Table, TableEntry,
+};
 use std::alloc::Global;
 use std::process::Abort;
 use std::test::Fail;
@@ -61,6 +64,14 @@ fn table_with(alloc: Global, header: &Header, index: u64, number: u64) -> Result
     }
     let mut image = image_with(alloc, 2 * size, &[(size as u64 + 8 * index, number)])?;
     Ok(load(alloc, &mut image, header, 1)?)
+}
+
+// A table with this entry at each index.
+fn uniform_table(alloc: Global, header: &Header, entry: AtomicL2Entry) -> Result<L2Table, Fail>
+    requires { l2_fault header.now.cluster_bits entry ≡ None }
+{
+    let entries = vec![in alloc; entry; header.l2_entries()]?;
+    Ok(L2Table::from_data(entries, header))
 }
 
 fn place(rt: &impl Abort, table: &mut L2Table, cluster: u64) {
@@ -229,6 +240,36 @@ fn a_new_table_is_empty_and_has_no_cluster(rt: HostRuntime) -> Result<(), Fail> 
         assert_eq!(rt; (table.get_cluster(), table.get_offset()), (None, None));
         assert!(rt; table.is_modified());
         assert!(rt; has_one_entry(&table, 0, 0));
+    }
+    Ok(())
+}
+
+#[test]
+fn a_table_of_given_entries_has_them_and_no_cluster(rt: HostRuntime) -> Result<(), Fail> {
+    for external in [false, true] {
+        let header = header_with(rt.alloc(), 9, external)?;
+        let entry = AtomicL2Entry::try_from_plain(0x8000_0000_0000_0000, &header)?;
+        let mut table = uniform_table(rt.alloc(), &header, entry)?;
+        assert_eq!(rt; (table.entries(), table.cluster_bits()), (64, 9));
+        assert_eq!(rt; (table.get_cluster(), table.is_modified()), (None, true));
+        for index in 0..64 {
+            assert_eq!(rt;
+                table.get(index).to_plain(),
+                0x8000_0000_0000_0000,
+                "at {index}"
+            );
+        }
+        let want = if external {
+            L2Mapping::DataFile {
+                host_cluster: HostCluster(0),
+                copied: true,
+            }
+        } else {
+            L2Mapping::Backing {
+                backing_offset: 512,
+            }
+        };
+        assert_eq!(rt; mapping(&rt, &mut table, 1)?, want);
     }
     Ok(())
 }
