@@ -45,7 +45,8 @@ pub trait Table: Sized {
     /// By cluster_bits: whether a table may have so many entries in memory.
     ghost has_lawful_count: { ℕ → ℕ → Bool };
 
-    /// A table of these entries, with no cluster, that counts as modified.
+    /// A table of these entries, with no cluster, that counts as modified. They must be lawful under
+    /// the header's cluster size, and as many as such a table may have, 2^48 at most.
     fn from_data(list: Vec<Self::InternalEntry>, header: &Header) -> Self
         requires valid { first_fault (Self.InternalEntry.fault_of header.now.cluster_bits) (map Self.InternalEntry.plain list.items) ≡ None }
         requires count { IsTrue (has_lawful_count header.now.cluster_bits (length list.items)) }
@@ -82,7 +83,8 @@ pub trait Table: Sized {
     fn get_offset(&self) -> Option<HostOffset>
         ensures { option_map (λ (offset : Offset). offset.0) result ≡ place_of (state self.now) };
 
-    /// Says where in the image the table begins. The table then counts as modified.
+    /// Says where in the image the table begins: at a cluster whose offset fits 64 bits. The table then
+    /// counts as modified.
     fn set_cluster(&mut self, cluster: HostCluster)
         requires { cluster.0 * 2 ^ (state self.old).cluster_bits < 2 ^ 64 }
         ensures { state self.new ≡ record (state self.old) { cluster = Some cluster; modified = true } };
@@ -126,7 +128,7 @@ pub trait Table: Sized {
     }
 
     /// Reads the table of so many entries that begins with a cluster of the image. It has that
-    /// cluster and doesn't count as modified.
+    /// cluster and doesn't count as modified. An L2 table has the header's `l2_entries()`.
     ///
     /// Refuses more entries than the kind allows, then an end past 2^56, then the first entry that
     /// isn't lawful. Changes no byte, whatever it answers.
