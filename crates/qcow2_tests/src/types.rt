@@ -34,8 +34,8 @@ fn fits(high: u64, low: u64, bits: u32) -> bool
 
 #[test]
 fn an_offset_lies_in_one_cluster(rt: HostRuntime) {
-    // An offset, the cluster bits, and then the bytes before it in its cluster, its cluster, and the
-    // bytes from it on.
+    // An offset, the cluster bits, and then the bytes before it in its cluster, its cluster, and
+    // the bytes from it on.
     let table = [
         (0, 9, 0, 0, 512),
         (0, 21, 0, 0, 2097152),
@@ -101,8 +101,8 @@ fn only_a_cluster_s_start_is_a_checked_cluster(rt: HostRuntime) {
 
 #[test]
 fn an_offset_has_its_cluster_s_places(rt: HostRuntime) {
-    // An offset, the cluster bits, and then its places in the L1 and the L2 table, and the bytes from
-    // it on in the clusters of the L2 table.
+    // An offset, the cluster bits, and then its places in the L1 and the L2 table, and the bytes
+    // from it on in the clusters of the L2 table.
     let table = [
         (0, 9, 0, 0, 32768),
         (0, 21, 0, 0, 549755813888),
