@@ -52,10 +52,11 @@ abbrev pub Answers : {T : Type 0} → (T → List ℕ) → Result T Fault → Re
 Answers numbers answer expected =
     MatchResult answer (λ table. expected ≡ Ok (numbers table)) (λ fault. (fault ≡ Storage) ⊎ (fault ≡ NoMemory) ⊎ (expected ≡ Err fault))
 
--- the refusals of a load, whatever the storage tells
-abbrev pub IsLoadFault : Fault → Type 0
-IsLoadFault fault =
-    (fault ≡ TableTooBig) ⊎ (fault ≡ TablePlace) ⊎ (fault ≡ EntryReserved) ⊎ (fault ≡ EntryUnaligned) ⊎ (fault ≡ NoMemory) ⊎ (fault ≡ Storage)
+-- the refusals of a load, whatever the storage tells: the fault of the table's place, if it has one, or
+-- one of an entry, want of memory or a failed storage
+abbrev pub IsLoadFault : Option Fault → Fault → Type 0
+IsLoadFault of_place fault =
+    (of_place ≡ Some fault) ⊎ (fault ≡ EntryReserved) ⊎ (fault ≡ EntryUnaligned) ⊎ (fault ≡ NoMemory) ⊎ (fault ≡ Storage)
 
 -- the offset that a table in the image begins at
 abbrev pub place_of : TableState → Option ℕ

@@ -6,7 +6,6 @@ ghost use Rattle.std.specs.Int.{div_ceil};
 ghost use Rattle.qcow2_base.specs.Storage.{Image, Holds, SameOutside, be, image_of};
 ghost use Rattle.qcow2_base.specs.Types.{IsClusterBits};
 ghost use Rattle.qcow2_base.specs.declared.fault.Fault.TheVariants.{EntryReserved, EntryUnaligned, NoMemory, Storage as StorageFailed};
-ghost use Rattle.qcow2_base.specs.declared.types.HostCluster.{HostCluster as Cluster};
 ghost use Rattle.qcow2_base.specs.declared.types.HostOffset.{HostOffset as Offset};
 ghost use Rattle.qcow2_metadata.specs.Header.{uses_external_data};
 ghost use Rattle.qcow2_metadata.specs.Table.{TableState, Answers, IsLoadFault, decoded_table, first_fault, loaded_table, place_fault, place_of, table_numbers, write_fault};
@@ -85,8 +84,7 @@ pub trait Table: Sized {
 
     /// The offset in the image that the table begins at.
     fn get_offset(&self) -> Option<HostOffset>
-        ensures { option_map (λ (offset : Offset). offset.0) result
-            ≡ option_map (λ (cluster : Cluster). cluster.0 * 2 ^ (state self.now).cluster_bits) (state self.now).cluster };
+        ensures { option_map (λ (offset : Offset). offset.0) result ≡ place_of (state self.now) };
 
     /// Says where in the image the table begins. The table then counts as modified.
     fn set_cluster(&mut self, cluster: HostCluster)
@@ -145,7 +143,7 @@ pub trait Table: Sized {
     ) -> Result<Self, Fault>
         requires { IsTrue (has_lawful_count header.now.cluster_bits entries) }
         ensures place { IfSome (place_fault MAX_ENTRIES header.now.cluster_bits cluster.0 entries) (λ fault. result ≡ Err fault) }
-        ensures faults { IfErr result IsLoadFault }
+        ensures faults { IfErr result (IsLoadFault (place_fault MAX_ENTRIES header.now.cluster_bits cluster.0 entries)) }
         ensures exact { IsTrue (S.tells image.old) → let cb = header.now.cluster_bits in
             Answers (λ table. (state table).numbers) result
             (loaded_table MAX_ENTRIES (Self.InternalEntry.fault_of cb) cb (S.byte_at image.old) cluster.0 entries) }

@@ -2,13 +2,19 @@
 //! they run on: a storage and an output that fail where a test plans it.
 #![tactic(auto)]
 
+#[cfg(test)]
+mod entries;
 mod failing;
 #[cfg(test)]
 mod fault;
 #[cfg(test)]
+mod header;
+#[cfg(test)]
 mod on_disk_struct;
 #[cfg(test)]
 mod storage;
+#[cfg(test)]
+mod table;
 #[cfg(test)]
 mod types;
 

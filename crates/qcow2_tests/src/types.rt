@@ -9,7 +9,7 @@ use std::test::Fail;
 /// The largest offset of all.
 const LAST: u64 = u64::MAX;
 
-fn is_cluster_bits(bits: u32) -> bool
+pub(crate) fn is_cluster_bits(bits: u32) -> bool
     ensures { IsTrue result ↔ IsClusterBits bits }
 {
     9 <= bits && bits <= 21
@@ -22,7 +22,7 @@ fn is_refblock_bits(bits: u32) -> bool
 }
 
 /// Whether `high * 2^bits + low` fits 64 bits.
-fn fits(high: u64, low: u64, bits: u32) -> bool
+pub(crate) fn fits(high: u64, low: u64, bits: u32) -> bool
     requires { bits < 64 }
     ensures { IsTrue result ↔ (high * 2 ^ bits + low < 2 ^ 64) }
 {
