@@ -1,6 +1,6 @@
 //! A storage and an output that fail at a planned call, to show what a caller does then.
 
-ghost use Rattle.std.specs.Prelude.{◌≡◌, ℕ, ◌+◌, ◌^◌, ◌%◌, ◌≤◌, List, [], ◌∷◌, ◌++◌, false, length, Some, IsTrue, IsErr, IfOk, OnOk, MatchResult};
+ghost use Rattle.std.specs.Prelude.{◌≡◌, ℕ, ◌+◌, ◌^◌, ◌%◌, ◌≤◌, List, [], ◌∷◌, ◌++◌, false, length, Some, IsTrue, IsOk, IsErr, IfOk, OnOk, MatchResult};
 ghost use Rattle.std.specs.Io.{WritesAtMost};
 ghost use Rattle.std.specs.Io.KnownBytes.{Keeps, WriteAppends};
 ghost use Rattle.qcow2_base.specs.Storage.{Holds, SameOutside};
@@ -263,6 +263,7 @@ impl Write for FailingOutput {
     fn flush(&mut self) -> io::Result<()>
         ensures bytes { Keeps (Some (written_bytes self.old)) (Some (written_bytes self.new)) }
         ensures plan { output_plan self.new ≡ output_plan self.old }
+        ensures ok { IsOk result }
     {
         Ok(())
     }

@@ -1,4 +1,4 @@
-// Files that pass their calls on to real ones, a few bytes at a time, and fail where a test plans it.
+//! Files that pass their calls on to real ones, a few bytes at a time, and fail where a test plans it.
 
 use crate::failing::take_turn;
 use std::alloc::Allocator;
@@ -8,18 +8,19 @@ use std::io;
 use std::io::{Error, ErrorKind, Read, Seek, SeekFrom, Write};
 use std::rt::Files;
 
-// Opens such files. Opening one is no call of it; asking for its metadata is the first.
+/// Opens such files. Opening one is no call of it; asking for its metadata is the first.
 #[derive(Clone, Copy)]
 pub struct FaultyFiles<'a, R> {
     pub files: &'a R,
-    // how many calls pass before the one that fails, or none that fails
+    /// How many calls pass before the one that fails; without it none fails.
     pub plan: Option<u64>,
-    // the most bytes that one call reads or writes
+    /// The most bytes that one call reads or writes.
     pub step: usize,
-    // where reads end, whatever the length
+    /// Where reads end, whatever the length.
     pub end: u64,
 }
 
+/// A file that fails as it was planned when it was opened.
 #[derive(Debug, Drop)]
 pub struct FaultyFile<F> {
     file: F,
