@@ -116,12 +116,13 @@ allocation cb external v = option_map (clusters_of cb) (byte_range cb external v
 abbrev pub IsAmongClusters : HostCluster × ClusterCount → ℕ → Type 0
 IsAmongClusters clusters c = (clusters.0.0 ≤ c) × (c < clusters.0.0 + clusters.1.0)
 
--- what is handed back when an entry is dropped
-abbrev pub freed_clusters : HostCluster × ClusterCount → ClustersToFreeEntry
-freed_clusters clusters = record { first = clusters.0; count = clusters.1 }
+-- these clusters, as they are handed back
+abbrev pub free_entry : HostCluster × ClusterCount → ClustersToFreeEntry
+free_entry clusters = record { first = clusters.0; count = clusters.1 }
 
-abbrev pub freed : ℕ → Bool → ℕ → Option ClustersToFreeEntry
-freed cb external v = option_map freed_clusters (allocation cb external v)
+-- what is handed back when an entry is dropped
+abbrev pub clusters_to_free : ℕ → Bool → ℕ → Option ClustersToFreeEntry
+clusters_to_free cb external v = option_map free_entry (allocation cb external v)
 
 -- what a guest cluster reads as
 pub data Mapping : Type 0 where

@@ -97,7 +97,8 @@ impl Header {
     /// The cluster size in bytes.
     #[inline]
     pub fn cluster_size(&self) -> usize
-        ensures { result ≡ 2 ^ self.now.cluster_bits }
+        ensures value { result ≡ 2 ^ self.now.cluster_bits }
+        ensures bound { result ≤ 2 ^ 21 }
     {
         1 << self.cluster_bits
     }

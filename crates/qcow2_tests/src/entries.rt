@@ -12,6 +12,60 @@ use std::alloc::Global;
 use std::num::NonZero;
 use std::test::Fail;
 
+// Compressed entries: the cluster bits, a number, and then its offset and length in bytes, its first
+// cluster and how many.
+const COMPRESSED: [(u32, u64, u64, u64, u64, u64); 23] = [
+    // one sector, from its start, from its second byte, and its last byte
+    (9, 0x4000_0000_0000_0000, 0, 512, 0, 1),
+    (9, 0x4000_0000_0000_0001, 1, 511, 0, 1),
+    (9, 0x4000_0000_0000_01ff, 511, 1, 0, 1),
+    (9, 0x4000_0000_0000_0200, 512, 512, 1, 1),
+    // two sectors
+    (9, 0x6000_0000_0000_0000, 0, 1024, 0, 2),
+    (9, 0x6000_0000_0000_0001, 1, 1023, 0, 2),
+    (9, 0x6000_0000_0000_03ff, 1023, 513, 1, 2),
+    // the last offset
+    (
+        9,
+        0x40ff_ffff_ffff_ffff,
+        0x00ff_ffff_ffff_ffff,
+        1,
+        0x7fff_ffff_ffff,
+        1,
+    ),
+    (
+        9,
+        0x60ff_ffff_ffff_ffff,
+        0x00ff_ffff_ffff_ffff,
+        513,
+        0x7fff_ffff_ffff,
+        2,
+    ),
+    // four sectors, over three clusters and over two
+    (10, 0x7000_0000_0000_0600, 0x600, 2048, 1, 3),
+    (10, 0x7000_0000_0000_0400, 0x400, 2048, 1, 2),
+    // up to the end of a sector, of a cluster, and a sector further
+    (16, 0x4040_0000_0001_0010, 0x1_0010, 1008, 1, 1),
+    (16, 0x4000_0000_0001_fe00, 0x1_fe00, 512, 1, 1),
+    (16, 0x4040_0000_0001_fe00, 0x1_fe00, 1024, 1, 2),
+    (16, 0x4040_0000_0001_fff0, 0x1_fff0, 528, 1, 2),
+    (16, 0x7fc0_0000_0000_0000, 0, 131072, 0, 2),
+    (16, 0x7fc0_0000_0000_0001, 1, 131071, 0, 2),
+    (16, 0x7fc0_0000_0000_fe00, 0xfe00, 131072, 0, 3),
+    (21, 0x4000_0000_001f_fe00, 0x1f_fe00, 512, 0, 1),
+    (21, 0x4002_0000_001f_fe00, 0x1f_fe00, 1024, 0, 2),
+    (21, 0x7ffe_0000_0000_0000, 0, 4194304, 0, 2),
+    (21, 0x7ffe_0000_001f_fe00, 0x1f_fe00, 4194304, 0, 3),
+    (
+        21,
+        0x7fff_ffff_ffff_ffff,
+        0x0001_ffff_ffff_ffff,
+        4193793,
+        268435455,
+        3,
+    ),
+];
+
 // The entry with this number.
 fn entry(alloc: Global, cluster_bits: u32, number: u64) -> Result<L2Entry, Fail>
     requires { IsClusterBits cluster_bits }
@@ -163,59 +217,7 @@ fn a_standard_entry_refers_to_its_cluster(rt: HostRuntime) -> Result<(), Fail> {
 
 #[test]
 fn a_compressed_entry_refers_to_the_clusters_of_its_sectors(rt: HostRuntime) -> Result<(), Fail> {
-    // Cluster bits, a number, and then its offset and length in bytes, its first cluster and how many.
-    let table = [
-        // one sector, from its start, from its second byte, and its last byte
-        (9, 0x4000_0000_0000_0000, 0, 512, 0, 1),
-        (9, 0x4000_0000_0000_0001, 1, 511, 0, 1),
-        (9, 0x4000_0000_0000_01ff, 511, 1, 0, 1),
-        (9, 0x4000_0000_0000_0200, 512, 512, 1, 1),
-        // two sectors
-        (9, 0x6000_0000_0000_0000, 0, 1024, 0, 2),
-        (9, 0x6000_0000_0000_0001, 1, 1023, 0, 2),
-        (9, 0x6000_0000_0000_03ff, 1023, 513, 1, 2),
-        // the last offset
-        (
-            9,
-            0x40ff_ffff_ffff_ffff,
-            0x00ff_ffff_ffff_ffff,
-            1,
-            0x7fff_ffff_ffff,
-            1,
-        ),
-        (
-            9,
-            0x60ff_ffff_ffff_ffff,
-            0x00ff_ffff_ffff_ffff,
-            513,
-            0x7fff_ffff_ffff,
-            2,
-        ),
-        // four sectors, over three clusters and over two
-        (10, 0x7000_0000_0000_0600, 0x600, 2048, 1, 3),
-        (10, 0x7000_0000_0000_0400, 0x400, 2048, 1, 2),
-        // up to the end of a sector, of a cluster, and a sector further
-        (16, 0x4040_0000_0001_0010, 0x1_0010, 1008, 1, 1),
-        (16, 0x4000_0000_0001_fe00, 0x1_fe00, 512, 1, 1),
-        (16, 0x4040_0000_0001_fe00, 0x1_fe00, 1024, 1, 2),
-        (16, 0x4040_0000_0001_fff0, 0x1_fff0, 528, 1, 2),
-        (16, 0x7fc0_0000_0000_0000, 0, 131072, 0, 2),
-        (16, 0x7fc0_0000_0000_0001, 1, 131071, 0, 2),
-        (16, 0x7fc0_0000_0000_fe00, 0xfe00, 131072, 0, 3),
-        (21, 0x4000_0000_001f_fe00, 0x1f_fe00, 512, 0, 1),
-        (21, 0x4002_0000_001f_fe00, 0x1f_fe00, 1024, 0, 2),
-        (21, 0x7ffe_0000_0000_0000, 0, 4194304, 0, 2),
-        (21, 0x7ffe_0000_001f_fe00, 0x1f_fe00, 4194304, 0, 3),
-        (
-            21,
-            0x7fff_ffff_ffff_ffff,
-            0x0001_ffff_ffff_ffff,
-            4193793,
-            268435455,
-            3,
-        ),
-    ];
-    for (bits, number, offset, length, first, count) in table {
+    for (bits, number, offset, length, first, count) in COMPRESSED {
         assert!(rt; is_cluster_bits(bits));
         let found = entry(rt.alloc(), bits, number)?;
         let range = found
@@ -233,17 +235,26 @@ fn a_compressed_entry_refers_to_the_clusters_of_its_sectors(rt: HostRuntime) -> 
     Ok(())
 }
 
-#[test]
-fn an_entry_says_what_its_guest_cluster_reads_as(rt: HostRuntime) -> Result<(), Fail> {
-    let data = |cluster, copied| L2Mapping::DataFile {
+fn data(cluster: u64, copied: bool) -> L2Mapping {
+    L2Mapping::DataFile {
         host_cluster: HostCluster(cluster),
         copied,
-    };
-    let backing = |backing_offset| L2Mapping::Backing { backing_offset };
-    let zeros = |cluster: Option<u64>, copied| L2Mapping::Zero {
+    }
+}
+
+fn backing(backing_offset: u64) -> L2Mapping {
+    L2Mapping::Backing { backing_offset }
+}
+
+fn zeros(cluster: Option<u64>, copied: bool) -> L2Mapping {
+    L2Mapping::Zero {
         host_cluster: cluster.map(HostCluster),
         copied,
-    };
+    }
+}
+
+#[test]
+fn an_entry_says_what_its_guest_cluster_reads_as(rt: HostRuntime) -> Result<(), Fail> {
     // Cluster bits, whether data is external, a guest cluster, the number of its entry, and its mapping.
     let table = [
         (9, false, 3, 0x8000_0000_0000_0a00, data(5, true)),

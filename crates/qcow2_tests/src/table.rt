@@ -1,12 +1,15 @@
 //! L2 tables: from bytes into memory, edited there, and back to bytes.
 
-ghost use Rattle.std.specs.Prelude.{◌≡◌, ◌-◌, ◌^◌, IfOk, length};
+ghost use Rattle.std.specs.Prelude.{◌≡◌, ◌-◌, ◌^◌, None, IfOk, length};
+ghost use Rattle.qcow2_metadata.specs.Entries.{l2_fault};
 
 use crate::failing::{FailingStorage, StorageCall};
 use crate::header::header_with;
 use crate::types::{fits, is_cluster_bits};
 use qcow2_base::{ClusterCount, Fault, GuestCluster, HostCluster, HostOffset, MemStorage, Storage};
-use qcow2_metadata::{ClustersToFreeEntry, Header, L2Mapping, L2Table, Table, TableEntry};
+use qcow2_metadata::{
+    AtomicL2Entry, ClustersToFreeEntry, Header, L2Mapping, L2Table, Table, TableEntry,
+};
 use std::alloc::Global;
 use std::process::Abort;
 use std::test::Fail;
@@ -65,6 +68,14 @@ fn table_with(alloc: Global, header: &Header, index: u64, number: u64) -> Result
     }
     let mut image = image_with(alloc, 2 * size, &[(size as u64 + 8 * index, number)])?;
     Ok(load(alloc, &mut image, header, 1)?)
+}
+
+// A table with this entry at each index.
+fn uniform_table(alloc: Global, header: &Header, entry: AtomicL2Entry) -> Result<L2Table, Fail>
+    requires { l2_fault header.now.cluster_bits entry ≡ None }
+{
+    let entries = vec![in alloc; entry; header.l2_entries()]?;
+    Ok(L2Table::from_data(entries, header))
 }
 
 fn place(rt: &impl Abort, table: &mut L2Table, cluster: u64) {
@@ -143,7 +154,7 @@ fn a_discarded_cluster_is_handed_back_and_gone_from_the_image(rt: HostRuntime) -
         backing_offset: 1536,
     };
     assert_eq!(rt; mapping(&rt, &mut table, 3)?, nothing);
-    assert_eq!(rt; image.bytes()[1048], 0x80);
+    assert_eq!(rt; image.bytes().get(1048), Some(&0x80));
     assert_eq!(rt; table.write(&mut image), Ok(()));
     assert!(rt; !table.is_modified());
     assert_eq!(rt; image.bytes(), [0; 1536].as_slice());
@@ -233,6 +244,36 @@ fn a_new_table_is_empty_and_has_no_cluster(rt: HostRuntime) -> Result<(), Fail> 
         assert_eq!(rt; (table.get_cluster(), table.get_offset()), (None, None));
         assert!(rt; table.is_modified());
         assert!(rt; has_one_entry(&table, 0, 0));
+    }
+    Ok(())
+}
+
+#[test]
+fn a_table_of_given_entries_has_them_and_no_cluster(rt: HostRuntime) -> Result<(), Fail> {
+    for external in [false, true] {
+        let header = header_with(rt.alloc(), 9, external)?;
+        let entry = AtomicL2Entry::try_from_plain(0x8000_0000_0000_0000, &header)?;
+        let mut table = uniform_table(rt.alloc(), &header, entry)?;
+        assert_eq!(rt; (table.entries(), table.cluster_bits()), (64, 9));
+        assert_eq!(rt; (table.get_cluster(), table.is_modified()), (None, true));
+        for index in 0..64 {
+            assert_eq!(rt;
+                table.get(index).to_plain(),
+                0x8000_0000_0000_0000,
+                "at {index}"
+            );
+        }
+        let want = if external {
+            L2Mapping::DataFile {
+                host_cluster: HostCluster(0),
+                copied: true,
+            }
+        } else {
+            L2Mapping::Backing {
+                backing_offset: 512,
+            }
+        };
+        assert_eq!(rt; mapping(&rt, &mut table, 1)?, want);
     }
     Ok(())
 }
@@ -468,50 +509,59 @@ fn each_failed_call_of_a_load_is_the_storage_fault(rt: HostRuntime) -> Result<()
 
 #[test]
 fn each_failed_call_of_a_write_leaves_the_table_modified(rt: HostRuntime) -> Result<(), Fail> {
-    let header = header_with(rt.alloc(), 9, false)?;
-    let mut table = table_with(rt.alloc(), &header, 3, 0x8000_0000_0000_0a00)?;
-    place(&rt, &mut table, 2);
-    let want = Vec::from_slice(rt.alloc(), sample_image(rt.alloc())?.bytes())?;
-    for passes in 0..9u64 {
-        for modified in [false, true] {
-            let mut image = FailingStorage::new(
-                rt.alloc(),
-                image_with(rt.alloc(), 1536, &[(1024, 0x200)])?,
-            );
-            image.fail_after(passes);
-            if modified {
-                table.set_modified();
-            } else {
-                table.clear_modified();
-            }
-            let answer = table.write(&mut image);
-            assert!(rt;
-                has_one_entry(&table, 3, 0x8000_0000_0000_0a00),
-                "plan {passes}"
-            );
-            assert_eq!(rt; table.get_cluster(), Some(HostCluster(2)), "plan {passes}");
-            if image.failures() == 0 {
-                assert_eq!(rt; answer, Ok(()), "plan {passes}");
-                assert_eq!(rt;
-                    image.calls(),
-                    [StorageCall::Write {
-                        offset: 1024,
-                        len: 512
-                    }]
-                    .as_slice()
-                );
-                assert!(rt; passes > 0 && !table.is_modified());
-                assert_eq!(rt; image.inner().bytes(), want.as_slice());
-                return Ok(());
-            }
-            assert_eq!(rt; answer, Err(Fault::Storage), "plan {passes}");
-            assert!(rt; table.is_modified(), "plan {passes}");
-            assert_eq!(rt; image.failures(), 1, "plan {passes}");
-            // The same write again succeeds.
-            assert_eq!(rt; table.write(&mut image), Ok(()), "plan {passes}");
-            assert!(rt; !table.is_modified(), "plan {passes}");
-            assert_eq!(rt; image.inner().bytes(), want.as_slice(), "plan {passes}");
+    for run in 0..18u64 {
+        let (passes, modified) = (run / 2, run % 2 == 1);
+        if !write_meets_a_failure(&rt, rt.alloc(), passes, modified)? {
+            assert!(rt; passes > 0, "the failure of the first call was not met");
+            return Ok(());
         }
     }
     Err("each write met a failure".into())
+}
+
+// Writes a table over a storage whose call after so many passes fails, and tells whether the write
+// met that failure.
+fn write_meets_a_failure(
+    rt: &impl Abort,
+    alloc: Global,
+    passes: u64,
+    modified: bool,
+) -> Result<bool, Fail> {
+    let header = header_with(alloc, 9, false)?;
+    let mut table = table_with(alloc, &header, 3, 0x8000_0000_0000_0a00)?;
+    place(rt, &mut table, 2);
+    if !modified {
+        table.clear_modified();
+    }
+    let want = sample_image(alloc)?;
+    let mut image = FailingStorage::new(alloc, image_with(alloc, 1536, &[(1024, 0x200)])?);
+    image.fail_after(passes);
+    let answer = table.write(&mut image);
+    assert!(rt;
+        has_one_entry(&table, 3, 0x8000_0000_0000_0a00),
+        "plan {passes}"
+    );
+    assert_eq!(rt; table.get_cluster(), Some(HostCluster(2)), "plan {passes}");
+    let failed = image.failures() > 0;
+    assert_eq!(rt; table.is_modified(), failed, "plan {passes}");
+    if failed {
+        assert_eq!(rt;
+            (answer, image.failures()),
+            (Err(Fault::Storage), 1),
+            "plan {passes}"
+        );
+        // The same write again succeeds.
+        image.forget_calls();
+        assert_eq!(rt; table.write(&mut image), Ok(()), "plan {passes}");
+        assert!(rt; !table.is_modified(), "plan {passes}");
+    } else {
+        assert_eq!(rt; answer, Ok(()), "plan {passes}");
+    }
+    let call = StorageCall::Write {
+        offset: 1024,
+        len: 512,
+    };
+    assert_eq!(rt; image.calls(), [call].as_slice(), "plan {passes}");
+    assert_eq!(rt; image.inner().bytes(), want.bytes(), "plan {passes}");
+    Ok(failed)
 }

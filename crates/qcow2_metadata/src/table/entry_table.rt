@@ -89,7 +89,7 @@ impl<E: TableKind> EntryTable<E> {
     pub fn in_bounds(&self, index: usize) -> bool
         ensures { IsTrue result ↔ (index < length self.now.numbers) }
     {
-        index < self.entries.len()
+        index < self.entries()
     }
 
     // A table of these entries and then zeros, for an image with this header.

@@ -1,6 +1,6 @@
 //! The command `l2`: what one L2 table maps.
 
-ghost use Rattle.std.specs.Prelude.{◌≡◌, ◌⊎◌, ◌-◌, ◌^◌, Err, IsTrue, IfSome, IfErr, OnOk, IsOkUnless, is_ok, true};
+ghost use Rattle.std.specs.Prelude.{◌≡◌, ◌≢◌, ◌⊎◌, ◌-◌, ◌^◌, Err, IsTrue, IfSome, IfErr, OnOk, IsOkUnless, is_ok, true};
 ghost use Rattle.qcow2_base.specs.declared.fault.Fault.TheVariants.{NoMemory, Storage as StorageFailed};
 ghost use Rattle.qcow2_base.specs.Types.{IsClusterBits};
 ghost use Rattle.qcow2_metadata.specs.Entries.{IsPlaced, l2_fault};
@@ -33,8 +33,15 @@ pub fn list_l2_table<S: Storage, O: Write>(
         is_ok (loaded_table 262144 (l2_fault cluster_bits) cluster_bits (S.byte_at image.old) cluster.0 (2 ^ (cluster_bits - 3))) ≡ true) }
     ensures refused { IfErr result (λ fault. IsTrue (S.tells image.old) → (fault ≡ StorageFailed) ⊎ (fault ≡ NoMemory)
         ⊎ (loaded_table 262144 (l2_fault cluster_bits) cluster_bits (S.byte_at image.old) cluster.0 (2 ^ (cluster_bits - 3)) ≡ Err fault)) }
-    ensures failures { OnOk result (S.failures image.new ≡ S.failures image.old) }
+
+    // A fault other than the storage fault comes before the first line.
+    ensures before_any_line { IfErr result (λ fault. fault ≢ StorageFailed → out.new ≡ out.old) }
+
+    // A call of the storage that failed is the storage fault, whatever was printed.
+    ensures ok { OnOk result (S.failures image.new ≡ S.failures image.old) }
+    ensures storage { S.failures image.new ≢ S.failures image.old → (result ≡ Err StorageFailed) × (out.new ≡ out.old) }
     ensures unchanged { S.byte_at image.new ≡ S.byte_at image.old }
+    ensures tells { S.tells image.new ≡ S.tells image.old }
 {
     let header = Header::new(alloc, cluster_bits, REFCOUNT_ORDER, None, None, None)?;
     let entries = header.l2_entries();
