@@ -15,36 +15,37 @@ use std::alloc::Global;
 use std::process::Abort;
 use std::test::Fail;
 
+// Cluster bits, how many entries there are, an index, and how many there are then, if it grows.
+const GROWTHS: [(u32, usize, usize, Option<usize>); 22] = [
+    (9, 0, 0, Some(64)),
+    (9, 0, 63, Some(64)),
+    (9, 0, 64, Some(128)),
+    (9, 1, 0, Some(64)),
+    (9, 1, 64, Some(128)),
+    (9, 64, 0, Some(64)),
+    (9, 65, 0, Some(128)),
+    (9, 65, 63, Some(128)),
+    (9, 1000, 64, Some(1024)),
+    (9, 1, usize::MAX, None),
+    (9, 0, usize::MAX - 1, None),
+    (9, 0, 4194303, Some(4194304)),
+    (9, 0, 4194304, None),
+    (9, 4194305, 0, None),
+    (16, 0, 0, Some(8192)),
+    (16, 0, 8192, Some(16384)),
+    (16, 1, usize::MAX, None),
+    (21, 0, 0, Some(262144)),
+    (21, 0, 262144, Some(524288)),
+    (21, 0, 4194303, Some(4194304)),
+    (21, 0, 4194304, None),
+    (21, 1, usize::MAX, None),
+];
+
 #[test]
 fn an_l1_table_grows_by_whole_clusters_and_to_the_most_entries_at_most(
     rt: HostRuntime,
 ) -> Result<(), Fail> {
-    // Cluster bits, how many entries there are, an index, and how many there are then, if it grows.
-    let table = [
-        (9, 0, 0, Some(64)),
-        (9, 0, 63, Some(64)),
-        (9, 0, 64, Some(128)),
-        (9, 1, 0, Some(64)),
-        (9, 1, 64, Some(128)),
-        (9, 64, 0, Some(64)),
-        (9, 65, 0, Some(128)),
-        (9, 65, 63, Some(128)),
-        (9, 1000, 64, Some(1024)),
-        (9, 1, usize::MAX, None),
-        (9, 0, usize::MAX - 1, None),
-        (9, 0, 4194303, Some(4194304)),
-        (9, 0, 4194304, None),
-        (9, 4194305, 0, None),
-        (16, 0, 0, Some(8192)),
-        (16, 0, 8192, Some(16384)),
-        (16, 1, usize::MAX, None),
-        (21, 0, 0, Some(262144)),
-        (21, 0, 262144, Some(524288)),
-        (21, 0, 4194303, Some(4194304)),
-        (21, 0, 4194304, None),
-        (21, 1, usize::MAX, None),
-    ];
-    for (bits, entries, index, want) in table {
+    for (bits, entries, index, want) in GROWTHS {
         assert!(rt; is_cluster_bits(bits) && entries <= 4194305usize);
         let header = header_with(rt.alloc(), bits, false)?;
         let source: L1Table = cleared_table(rt.alloc(), &header, entries)?;
