@@ -13,7 +13,9 @@ multiple_quotient n a k e = rw e (shl-shr a k)
 pub next_fits : (n k : ℕ) → k ≤ 64 → n < 2 ^ 64 → n % 2 ^ k + 1 < 2 ^ k → n + 1 < 2 ^ 64
 next_fits n k h fits low =
     let whole : (64 - k) + k ≡ 64 = omega arith in
-    let total : 2 ^ 64 ≡ 2 ^ (64 - k) * 2 ^ k = sym (ap (λ x. 2 ^ x) whole) ∙ pow-add 2 (64 - k) k in
+    let total : 2 ^ 64 ≡ 2 ^ (64 - k) * 2 ^ k =
+    sym (ap (λ x. 2 ^ x) whole) ∙ pow-add 2 (64 - k) k in
     let row : n / 2 ^ k < 2 ^ (64 - k) = shr_below n (64 - k) k (rw whole fits) in
-    let room : (n / 2 ^ k + 1) * 2 ^ k ≤ 2 ^ (64 - k) * 2 ^ k = mul-le _ _ _ _ (omega arith) (omega arith) in
+    let room : (n / 2 ^ k + 1) * 2 ^ k ≤ 2 ^ (64 - k) * 2 ^ k =
+    mul-le _ _ _ _ (omega arith) (omega arith) in
     omega (arith, shr_split n k, total, room, low)

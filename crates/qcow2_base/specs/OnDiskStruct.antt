@@ -41,7 +41,8 @@ little = field_in Little
 -- the image has each field's value at its place
 abbrev pub HoldsLayout : Image → List LayoutField → Type 0
 HoldsLayout image [] = Unit {0}
-HoldsLayout image (f ∷ fields) = (number_in f.order image f.place f.size ≡ f.value) × HoldsLayout image fields
+HoldsLayout image (f ∷ fields) =
+    (number_in f.order image f.place f.size ≡ f.value) × HoldsLayout image fields
 
 -- the offset is before or after each field
 abbrev pub IsGap : List LayoutField → ℕ → Type 0
@@ -63,8 +64,8 @@ abbrev pub layout_end : List LayoutField → ℕ
 layout_end [] = 0
 layout_end (f ∷ fields) = max (f.place + f.size) (layout_end fields)
 
--- whether a buffer of len bytes is right for a value of this size: an integer needs exactly as many, a
--- structure at least
+-- whether a buffer of len bytes is right for a value of this size: an integer needs exactly as many,
+-- a structure at least
 abbrev pub is_right_length : Bool → ℕ → ℕ → Bool
 is_right_length exact size len = if exact then len == size else nat_le size len
 

@@ -4,7 +4,7 @@ use Rattle.std.specs.Prelude.{ℕ, ◌≤◌}
 abbrev pub IsClusterBits : ℕ → Type 0
 IsClusterBits cb = (9 ≤ cb) × (cb ≤ 21)
 
--- the range of the exponents of 2 that are a refcount block's number of counters: 2^9 bytes of 64-bit
--- counters at least, 2^21 bytes of 1-bit counters at most
+-- the exponents of 2 that a refcount block's number of counters can have: 2^9 bytes of 64-bit counters
+-- at least, 2^21 bytes of 1-bit counters at most
 abbrev pub IsRefblockBits : ℕ → Type 0
 IsRefblockBits rb = (6 ≤ rb) × (rb ≤ 24)

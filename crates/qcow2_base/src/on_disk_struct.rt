@@ -16,16 +16,16 @@ pub use v3_header_base::V3HeaderBase;
 
 /// A value that has a fixed layout on the disk.
 ///
-/// An integer has no order of bytes of its own, and needs a buffer of exactly its length. A structure
-/// is stored in its own order by all calls, and needs a buffer at least as long as itself: bytes that
-/// belong to no field are neither looked at nor changed.
+/// An integer has no order of bytes of its own, and needs a buffer of exactly its length. A
+/// structure is loaded and stored in its own order by all calls, and needs a buffer at least as long
+/// as itself. Bytes that belong to no field are neither looked at nor changed.
 pub trait OnDiskStruct: Sized {
     /// The length on the disk, in bytes.
     const ON_DISK_SIZE: usize;
 
     ghost ON_DISK_SIZE: { ℕ };
 
-    /// Whether a buffer must have exactly that length, or at least.
+    /// Whether a buffer may be no longer than that.
     ghost exact: { Bool };
 
     /// The fields, where this order is asked for.
@@ -36,28 +36,33 @@ pub trait OnDiskStruct: Sized {
     fn load_from_le(bytes: &[u8]) -> Result<Self, Fault>
         ensures ok { is_ok result ≡ is_right_length exact ON_DISK_SIZE (length bytes.now) }
         ensures err { IsOkUnless result Fault.WrongLength }
-        ensures loaded { IfOk result (λ value. HoldsLayout (image_of bytes.now) (layout Little value)) };
+        ensures loaded { IfOk result (λ value.
+            HoldsLayout (image_of bytes.now) (layout Little value)) };
 
-    /// The value that stands at the start of the bytes, big-endian where it has no order of its own.
+    /// The value that stands at the start of the bytes, big-endian where it has no order of its
+    /// own.
     fn load_from_be(bytes: &[u8]) -> Result<Self, Fault>
         ensures ok { is_ok result ≡ is_right_length exact ON_DISK_SIZE (length bytes.now) }
         ensures err { IsOkUnless result Fault.WrongLength }
-        ensures loaded { IfOk result (λ value. HoldsLayout (image_of bytes.now) (layout Big value)) };
+        ensures loaded { IfOk result (λ value.
+            HoldsLayout (image_of bytes.now) (layout Big value)) };
 
     /// Writes the value to the start of the bytes, little-endian where it has no order of its own.
     /// Into a buffer of a wrong length nothing is written.
     fn store_to_le(&self, bytes: &mut [u8]) -> Result<(), Fault>
         ensures ok { is_ok result ≡ is_right_length exact ON_DISK_SIZE (length bytes.old) }
         ensures err { IsOkUnless result Fault.WrongLength }
-        ensures stored { OnOk result (Stores (layout Little self.now) (image_of bytes.old) (image_of bytes.new)) }
+        ensures stored { OnOk result
+            (Stores (layout Little self.now) (image_of bytes.old) (image_of bytes.new)) }
         ensures unchanged { OnErr result (bytes.new ≡ bytes.old) };
 
-    /// Writes the value to the start of the bytes, big-endian where it has no order of its own. Into a
-    /// buffer of a wrong length nothing is written.
+    /// Writes the value to the start of the bytes, big-endian where it has no order of its own. Into
+    /// a buffer of a wrong length nothing is written.
     fn store_to_be(&self, bytes: &mut [u8]) -> Result<(), Fault>
         ensures ok { is_ok result ≡ is_right_length exact ON_DISK_SIZE (length bytes.old) }
         ensures err { IsOkUnless result Fault.WrongLength }
-        ensures stored { OnOk result (Stores (layout Big self.now) (image_of bytes.old) (image_of bytes.new)) }
+        ensures stored { OnOk result
+            (Stores (layout Big self.now) (image_of bytes.old) (image_of bytes.new)) }
         ensures unchanged { OnErr result (bytes.new ≡ bytes.old) };
 
     /// The value that stands at the start of the bytes, in its own order, or else in that of the
@@ -66,7 +71,8 @@ pub trait OnDiskStruct: Sized {
     final fn load_from(bytes: &[u8]) -> Result<Self, Fault>
         ensures ok { is_ok result ≡ is_right_length exact ON_DISK_SIZE (length bytes.now) }
         ensures err { IsOkUnless result Fault.WrongLength }
-        ensures loaded { IfOk result (λ value. HoldsLayout (image_of bytes.now) (layout Little value)) }
+        ensures loaded { IfOk result (λ value.
+            HoldsLayout (image_of bytes.now) (layout Little value)) }
     {
         Self::load_from_le(bytes)
     }
@@ -77,14 +83,16 @@ pub trait OnDiskStruct: Sized {
     final fn store_to(&self, bytes: &mut [u8]) -> Result<(), Fault>
         ensures ok { is_ok result ≡ is_right_length exact ON_DISK_SIZE (length bytes.old) }
         ensures err { IsOkUnless result Fault.WrongLength }
-        ensures stored { OnOk result (Stores (layout Little self.now) (image_of bytes.old) (image_of bytes.new)) }
+        ensures stored { OnOk result
+            (Stores (layout Little self.now) (image_of bytes.old) (image_of bytes.new)) }
         ensures unchanged { OnErr result (bytes.new ≡ bytes.old) }
     {
         self.store_to_le(bytes)
     }
 
     /// The last field ends where the value does.
-    ghost size_is_end: { (order : Order) (value : Self) → layout_end (layout order value) ≡ ON_DISK_SIZE };
+    ghost size_is_end: { (order : Order) (value : Self) →
+        layout_end (layout order value) ≡ ON_DISK_SIZE };
 
     /// The bytes tell the value: what is loaded where a value was stored is that value.
     ghost loads_back: { (order : Order) (image : Image) (a b : Self) →
@@ -128,7 +136,8 @@ pub fn read_le<T: OnDiskStruct>(bytes: &[u8], place: usize) -> T
 #[inline]
 pub fn write_be<T: OnDiskStruct>(bytes: &mut [u8], place: usize, value: &T)
     requires { place + T.ON_DISK_SIZE ≤ length bytes.old }
-    ensures { Stores (moved place (T.layout Big value.now)) (image_of bytes.old) (image_of bytes.new) }
+    ensures { Stores (moved place (T.layout Big value.now))
+        (image_of bytes.old) (image_of bytes.new) }
 {
     value
         .store_to_be(&mut bytes[place..place + T::ON_DISK_SIZE])
@@ -139,7 +148,8 @@ pub fn write_be<T: OnDiskStruct>(bytes: &mut [u8], place: usize, value: &T)
 #[inline]
 pub fn write_le<T: OnDiskStruct>(bytes: &mut [u8], place: usize, value: &T)
     requires { place + T.ON_DISK_SIZE ≤ length bytes.old }
-    ensures { Stores (moved place (T.layout Little value.now)) (image_of bytes.old) (image_of bytes.new) }
+    ensures { Stores (moved place (T.layout Little value.now))
+        (image_of bytes.old) (image_of bytes.new) }
 {
     value
         .store_to_le(&mut bytes[place..place + T::ON_DISK_SIZE])

@@ -49,7 +49,8 @@ impl ClusterCount {
     #[inline]
     pub fn checked_from_byte_size(size: u64, cluster_bits: u32) -> Option<ClusterCount>
         requires { IsClusterBits cluster_bits }
-        ensures { result ≡ (if size % 2 ^ cluster_bits == 0 then Some (record { 0 = size / 2 ^ cluster_bits }) else None) }
+        ensures { result ≡ (if size % 2 ^ cluster_bits == 0
+            then Some (record { 0 = size / 2 ^ cluster_bits }) else None) }
     {
         if size % (1 << cluster_bits) == 0 {
             Some(ClusterCount(size >> cluster_bits))

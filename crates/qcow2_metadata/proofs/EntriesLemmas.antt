@@ -1,8 +1,8 @@
-use Rattle.std.proofs.Common.{◌≡◌, ℕ, Bool, ◌+◌, ◌-◌, ◌*◌, ◌/◌, ◌^◌, ◌<◌, ◌≤◌, ◌↔◌, Some, None, refl, inl, inr, subst, arith}
+use Rattle.std.proofs.Common.{◌≡◌, ℕ, Bool, ◌+◌, ◌-◌, ◌*◌, ◌/◌, ◌%◌, ◌^◌, ◌<◌, ◌≤◌, ◌↔◌, Some, None, refl, ap, sym, ◌∙◌, inl, inr, subst, arith}
 use Rattle.std.proofs.lemmas.Bool.{cases_lt}
 use Rattle.std.proofs.lemmas.Nat.{pow_pos, pow-add}
-use Rattle.std.proofs.Math.Nat.{le-div_iff_mul-le, div-mul-le_self, mul-div_cancel, zero-mod, add-mul-div_right}
-use Rattle.qcow2_metadata.specs.Entries.{l2_fault, ByteRange, byte_range, Meets, RangeMeets, first_cluster, cluster_count}
+use Rattle.std.proofs.Math.Nat.{mul_assoc, mul-mod_left, le-div_iff_mul-le, div-mul-le_self, mul-div_cancel, zero-mod, add-mul-div_right}
+use Rattle.qcow2_metadata.specs.Entries.{l1_entry_for, l1_fault, l1_reserved_bits, l2_fault, offset_field, ByteRange, byte_range, Meets, RangeMeets, first_cluster, cluster_count}
 
 div_rises : (a b k : ℕ) → 0 < k → a ≤ b → a / k ≤ b / k
 div_rises a b k p h = (le-div_iff_mul-le p).1 (omega (arith, div-mul-le_self a k))
@@ -76,3 +76,17 @@ l2_fault_zero cb = rw zero-mod refl
 -- the cluster of an offset begins at or before it
 pub cluster_begins_below : (cb offset : ℕ) → offset / 2 ^ cb * 2 ^ cb ≤ offset
 cluster_begins_below cb offset = div-mul-le_self offset (2 ^ cb)
+
+-- a cluster's offset below 2 ^ 56 with the copied flag is an L1 entry
+pub l1_entry_is_lawful : (cb cluster : ℕ) → 9 ≤ cb → cluster * 2 ^ cb < 2 ^ 56 → l1_fault cb (l1_entry_for (cluster * 2 ^ cb)) ≡ None
+l1_entry_is_lawful cb cluster low fits =
+    let offset = cluster * 2 ^ cb in
+    let sectors = cluster * 2 ^ (cb - 9) in
+    let power = pow-add 2 (cb - 9) 9 in
+    let whole : cb - 9 + 9 ≡ cb = omega arith in
+    let same : 2 ^ cb ≡ 2 ^ (cb - 9) * 512 = rw whole at power in
+    let in_sectors : offset ≡ sectors * 512 = ap (λ x. cluster * x) same ∙ sym (mul_assoc cluster (2 ^ (cb - 9)) 512) in
+    let reserved : l1_reserved_bits (l1_entry_for offset) ≡ 0 = omega arith in
+    let field_is : offset_field (l1_entry_for offset) ≡ offset = omega arith in
+    let aligned : offset % 2 ^ cb ≡ 0 = mul-mod_left cluster (2 ^ cb) in
+    rw (reserved, field_is, aligned) refl

@@ -1,7 +1,7 @@
 use Rattle.std.proofs.Common.{◌≡◌, ℕ, zero, suc, ◌+◌, ◌-◌, ◌*◌, ◌/◌, ◌%◌, ◌<◌, ◌≤◌, List, [], ◌∷◌, ◌++◌, map, length, get_or, replicate, set, take, Option, Some, None, IfSome, Ok, Err, refl, sym, ◌∙◌, ap, inl, inr, add-zero, add_assoc, arith}
 use Rattle.std.specs.List.{range_with_len}
 use Rattle.std.specs.Option.{option_or}
-use Rattle.std.proofs.lemmas.List.{map-append, take_more}
+use Rattle.std.proofs.lemmas.List.{length-map, map-append, take_all, take_more}
 use Rattle.std.proofs.lemmas.List.FromFn.{get_or-map-range_with_len, map-range_with_len_more, length-map-range_with_len}
 use Rattle.std.proofs.lemmas.Bool.{cases_lt}
 use Rattle.std.specs.Borrow.{Bor}
@@ -9,7 +9,7 @@ use Rattle.std.specs.Slice.{IsGetResult}
 use mathlib.Core.Path.{fun_ext}
 use Rattle.qcow2_base.specs.Storage.{Holds, Image, IsBytes, SameOutside, be, be_of_same, be_tells, image_of}
 use Rattle.qcow2_base.specs.declared.fault.Fault.{Fault}
-use Rattle.qcow2_metadata.specs.Table.{decoded_table, first_fault, table_numbers, unless_refused}
+use Rattle.qcow2_metadata.specs.Table.{decoded_table, first_fault, grown_numbers, table_numbers, unless_refused}
 
 no_fault_at_all : (first rest : Option Fault) → option_or first rest ≡ None → (first ≡ None) × (rest ≡ None)
 no_fault_at_all None rest h = (refl, h)
@@ -136,6 +136,10 @@ pub first_fault-map-replicate : {X : Type 0} (number : X → ℕ) (fault : ℕ �
 first_fault-map-replicate number fault zero x lawful = refl
 first_fault-map-replicate number fault (suc n) x lawful = rw lawful (first_fault-map-replicate number fault n x lawful)
 
+first_fault-zeros : (fault : ℕ → Option Fault) (n : ℕ) → fault 0 ≡ None → first_fault fault (replicate n 0) ≡ None
+first_fault-zeros fault zero lawful = refl
+first_fault-zeros fault (suc n) lawful = rw lawful (first_fault-zeros fault n lawful)
+
 -- an entry that is found is lawful
 no_fault_item : {X : Type 0} (number : X → ℕ) (fault : ℕ → Option Fault) (xs : List X) (i : ℕ) (d : X) → first_fault fault (map number xs) ≡ None → i < length xs → fault (number (get_or xs i d)) ≡ None
 no_fault_item number fault [] i d h below = absurd (omega arith)
@@ -147,3 +151,17 @@ pub lawful_if_found : {X : Type 0} (number : X → ℕ) (fault : ℕ → Option 
 lawful_if_found number fault xs i None h is = tt
 lawful_if_found number fault xs i (Some entry) h is =
     rw is.1 (no_fault_item number fault xs i entry.now h is.3.0)
+
+map-replicate-zero : {X : Type 0} (number : X → ℕ) (n : ℕ) (x : X) → number x ≡ 0 → map number (replicate n x) ≡ replicate n 0
+map-replicate-zero number zero x is = refl
+map-replicate-zero number (suc n) x is = rw is (ap (λ (xs : List ℕ). 0 ∷ xs) (map-replicate-zero number n x is))
+
+-- entries, and then entries 0, have the numbers of a grown table
+pub grown_items : {X : Type 0} (number : X → ℕ) (xs : List X) (n : ℕ) (x : X) → length xs ≤ n → number x ≡ 0 → map number (take n xs ++ replicate (n - length xs) x) ≡ grown_numbers (map number xs) n
+grown_items number xs n x short is =
+    rw (take_all n xs short, map-append number xs (replicate (n - length xs) x), map-replicate-zero number (n - length xs) x is, length-map xs number) refl
+
+-- a table stays one with zeros at its end
+pub first_fault-grown : (fault : ℕ → Option Fault) (numbers : List ℕ) (n : ℕ) → first_fault fault numbers ≡ None → fault 0 ≡ None → first_fault fault (grown_numbers numbers n) ≡ None
+first_fault-grown fault numbers n h lawful =
+    first_fault-append fault numbers (replicate (n - length numbers) 0) h ∙ first_fault-zeros fault (n - length numbers) lawful

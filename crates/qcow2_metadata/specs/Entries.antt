@@ -161,3 +161,36 @@ abbrev pub mapping : ℕ → Bool → ℕ → ℕ → Mapping
 mapping cb external g v =
     if is_compressed v then compressed (compressed_offset cb v) (compressed_length cb v)
     else standard_mapping (is_zero v) (host_cluster cb external v) (is_copied v) (g * 2 ^ cb)
+
+-- L1 entries: bits 0 to 8 and 56 to 62 are reserved, at their places
+
+abbrev pub l1_reserved_bits : ℕ → ℕ
+l1_reserved_bits v = field v 0 9 + field v 56 7 * 2 ^ 56
+
+-- the fault of a number that is no L1 entry, if it has one
+abbrev pub l1_fault : ℕ → ℕ → Option Fault
+l1_fault cb v = entry_fault (not (l1_reserved_bits v == 0)) (not (offset_field v % 2 ^ cb == 0))
+
+-- an offset in an entry, where 0 is none
+abbrev pub offset_unless_zero : ℕ → Option HostOffset
+offset_unless_zero offset = if offset == 0 then None else Some (record { 0 = offset })
+
+-- the entry of an L2 table that begins at an offset and has one reference: copied, and the offset
+abbrev pub l1_entry_for : ℕ → ℕ
+l1_entry_for offset = 2 ^ 63 + offset
+
+-- refcount table entries: bits 9 to 63 are the offset of the block, bits 0 to 8 are reserved
+
+abbrev pub refblock_offset_field : ℕ → ℕ
+refblock_offset_field v = 512 * field v 9 55
+
+abbrev pub ref_reserved_bits : ℕ → ℕ
+ref_reserved_bits v = field v 0 9
+
+-- the fault of a number that is no refcount table entry, if it has one
+abbrev pub ref_fault : ℕ → ℕ → Option Fault
+ref_fault cb v = entry_fault (not (ref_reserved_bits v == 0)) (not (v % 2 ^ cb == 0))
+
+-- pending clusters are a cluster alone
+abbrev pub IsOneCluster : ClustersToFreeEntry → HostCluster → Type 0
+IsOneCluster pending cluster = (pending.first ≡ cluster) × (pending.count.0 ≡ 1)

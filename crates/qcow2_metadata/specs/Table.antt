@@ -1,4 +1,5 @@
-use Rattle.std.specs.Prelude.{◌≡◌, ℕ, Bool, ◌⊎◌, ◌+◌, ◌*◌, ◌^◌, ◌<◌, nat_lt, if◌then◌else◌, List, [], ◌∷◌, map, length, Option, Some, None, option_map, Result, Ok, Err, MatchResult, IfSome, IsTrue, ◌≤◌}
+use Rattle.std.specs.Prelude.{◌≡◌, ℕ, Bool, ◌⊎◌, ◌+◌, ◌-◌, ◌*◌, ◌^◌, ◌<◌, ◌≤◌, max, nat_lt, if◌then◌else◌, List, [], ◌∷◌, ◌++◌, map, length, replicate, Option, Some, None, option_map, Result, Ok, Err, MatchResult, IfSome, IsTrue}
+use Rattle.std.specs.Int.{next_multiple_of}
 use Rattle.std.specs.List.{range_with_len}
 use Rattle.std.specs.Option.{option_or}
 use Rattle.qcow2_base.specs.Storage.{Image, be}
@@ -76,3 +77,16 @@ pub record IsLawful (fault_of : ℕ → ℕ → Option Fault) (has_lawful_count 
   pub valid : first_fault (fault_of cb) numbers ≡ None
   pub count : IsTrue (has_lawful_count cb (length numbers))
   pub bound : length numbers ≤ 2 ^ 48
+
+-- the number of entries that a table has after it has grown to hold an index: whole clusters of them
+abbrev pub grown_count : ℕ → ℕ → ℕ → ℕ
+grown_count cb len index = next_multiple_of (max (index + 1) len) (2 ^ (cb - 3))
+
+-- the entries, and then zeros up to a count
+abbrev pub grown_numbers : List ℕ → ℕ → List ℕ
+grown_numbers numbers count = numbers ++ replicate (count - length numbers) 0
+
+-- a cluster that an entry may refer to: not the header's, and with an offset that the entry can hold
+pub record IsReferable (cb : ℕ) (cluster : HostCluster) : Type 0 where
+  pub some : 0 < cluster.0
+  pub place : cluster.0 * 2 ^ cb ≤ 2 ^ 56 - 512

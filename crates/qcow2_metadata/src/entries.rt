@@ -13,6 +13,14 @@ use qcow2_base::{ClusterCount, Fault, GuestCluster, HostCluster, HostOffset};
 use std::marker::Model;
 use std::num::NonZero;
 
+mod l1_entry;
+mod pending_clusters;
+mod ref_table_entry;
+
+pub use l1_entry::L1Entry;
+pub use pending_clusters::{PendingClusters, Refused};
+pub use ref_table_entry::RefTableEntry;
+
 /// What a guest cluster reads as.
 #[derive(Clone, Copy, Debug, PartialEq, Eq)]
 pub enum L2Mapping {

@@ -5,6 +5,11 @@ mod entries;
 mod header;
 mod table;
 
-pub use entries::{AtomicL2Entry, ClustersToFreeEntry, L2Entry, L2Mapping, TableEntry};
+pub use entries::{
+    AtomicL2Entry, ClustersToFreeEntry, L1Entry, L2Entry, L2Mapping, PendingClusters,
+    RefTableEntry, Refused, TableEntry,
+};
 pub use header::Header;
-pub use table::{EntryTable, L2Table, MAX_FILE_LENGTH, Table, TableKind};
+pub use table::{
+    EntryTable, L1Table, L2Table, L2TableWriteGuard, MAX_FILE_LENGTH, RefTable, Table, TableKind,
+};

@@ -15,10 +15,14 @@ use qcow2_base::{ClusterCount, Fault, HostCluster, HostOffset, Storage, read_be,
 use std::alloc::{AllocError, Global};
 
 mod entry_table;
+mod l1_table;
 mod l2_table;
+mod ref_table;
 
 pub use entry_table::{EntryTable, TableKind};
-pub use l2_table::L2Table;
+pub use l1_table::L1Table;
+pub use l2_table::{L2Table, L2TableWriteGuard};
+pub use ref_table::RefTable;
 
 /// The greatest end of a table in an image, in bytes.
 pub const MAX_FILE_LENGTH: u64 = 1 << 56;

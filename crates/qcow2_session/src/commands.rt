@@ -1,7 +1,8 @@
 //! The commands of the program `qmeta`: reading a command line, running it over a storage, and what
 //! it prints.
 
-ghost use Rattle.std.specs.Prelude.{◌≡◌, ◌≤◌};
+ghost use Rattle.std.specs.Prelude.{◌≡◌, ◌≤◌, ◌↔◌, None, map, string_bytes};
+ghost use Rattle.qcow2_session.specs.Commands.{command_of};
 
 use qcow2_base::{Fault, FileStorage};
 use std::io::Write;
@@ -25,7 +26,8 @@ pub fn run_words<R: Files + AllocGlobal, O: Write, E: Write>(
     out: &mut O,
     err: &mut E,
 ) -> u8
-    ensures { result ≤ 2 }
+    ensures status { result ≤ 2 }
+    ensures wrong_words { (result ≡ 2) ↔ (command_of (map string_bytes words.now) ≡ None) }
 {
     let Some(command) = Command::read(words) else {
         let _ = writeln!(err, "usage: qmeta COMMAND IMAGE ARGUMENTS");

@@ -10,11 +10,21 @@ mod fault;
 #[cfg(test)]
 mod header;
 #[cfg(test)]
+mod l1_entry;
+#[cfg(test)]
+mod l1_table;
+#[cfg(test)]
 mod on_disk_struct;
+#[cfg(test)]
+mod pending_clusters;
+#[cfg(test)]
+mod ref_table_entry;
 #[cfg(test)]
 mod storage;
 #[cfg(test)]
 mod table;
+#[cfg(test)]
+mod three_tables;
 #[cfg(test)]
 mod types;
 

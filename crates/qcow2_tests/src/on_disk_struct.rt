@@ -1,6 +1,6 @@
 //! Loads and stores of integers and of structures, each by each call.
 
-ghost use Rattle.std.specs.Prelude.{false, [], ◌∷◌, refl};
+ghost use Rattle.std.specs.Prelude.{◌≡◌, false, [], ◌∷◌, refl, IfOk};
 ghost use Rattle.std.proofs.Common.{rules};
 ghost use Rattle.qcow2_base.specs.OnDiskStruct.{big, little};
 
@@ -125,7 +125,8 @@ impl OnDiskStruct for TestAtomics {
 
     ghost exact = { false };
 
-    ghost layout = { λ _ value. big 0 4 value.plain ∷ big 4 4 value.atomic32 ∷ big 8 8 value.atomic64 ∷ [] };
+    ghost layout = { λ _ value.
+        big 0 4 value.plain ∷ big 4 4 value.atomic32 ∷ big 8 8 value.atomic64 ∷ [] };
 
     fn load_from_le(bytes: &[u8]) -> Result<TestAtomics, Fault> {
         Self::load_from_be(bytes)
@@ -280,8 +281,16 @@ fn store<T: OnDiskStruct>(call: Call, value: &T, bytes: &mut [u8]) -> Result<(),
     }
 }
 
-/// That the call stores the value as these bytes into a buffer of bytes 0xff that is `len` long, and
-/// loads it from there.
+/// Stores the value and loads it again, which gives the value, whatever type it has.
+fn reload<T: OnDiskStruct + Drop>(value: &T, bytes: &mut [u8]) -> Result<T, Fault>
+    ensures { IfOk result (λ loaded. loaded ≡ value.now) }
+{
+    value.store_to_be(bytes)?;
+    T::load_from_be(bytes)
+}
+
+/// That the call stores the value as these bytes into a buffer of bytes 0xff that is `len` long,
+/// and loads it from there.
 fn expect_bytes<T: OnDiskStruct + Copy + Debug + PartialEq>(
     rt: &impl Abort,
     call: Call,
@@ -300,10 +309,11 @@ fn expect_bytes<T: OnDiskStruct + Copy + Debug + PartialEq>(
         "{call:?} of {value:?}"
     );
     assert_eq!(rt; load(call, bytes), Ok(value), "{call:?} of {value:?}");
+    assert_eq!(rt; reload(&value, bytes), Ok(value), "{value:?}");
 }
 
-/// That the call refuses to store the value into a buffer that is `len` long, leaves it, and refuses
-/// to load from it.
+/// That the call refuses to store the value into a buffer that is `len` long, leaves it, and
+/// refuses to load from it.
 fn expect_refusal<T: OnDiskStruct + Copy + Debug + PartialEq>(
     rt: &impl Abort,
     call: Call,
@@ -323,7 +333,8 @@ fn expect_refusal<T: OnDiskStruct + Copy + Debug + PartialEq>(
     assert_eq!(rt; loaded, Err(Fault::WrongLength), "{call:?} from {len}");
 }
 
-/// That each call stores the structure as these bytes, leaves what follows, and needs as many bytes.
+/// That each call stores the structure as these bytes, leaves what follows, and needs as many
+/// bytes.
 fn expect_structure<T: OnDiskStruct + Copy + Debug + PartialEq>(
     rt: &impl Abort,
     value: T,

@@ -15,12 +15,16 @@ use std::process::Abort;
 use std::test::Fail;
 
 // An image of so many bytes of 0xa5.
-fn filled_image(alloc: Global, len: usize) -> Result<MemStorage, Fail> {
+pub(crate) fn filled_image(alloc: Global, len: usize) -> Result<MemStorage, Fail> {
     Ok(MemStorage::new(vec![in alloc; 0xa5; len]?))
 }
 
 // An image of so many bytes that are zero but for these numbers at these places.
-fn image_with(alloc: Global, len: usize, numbers: &[(u64, u64)]) -> Result<MemStorage, Fail> {
+pub(crate) fn image_with(
+    alloc: Global,
+    len: usize,
+    numbers: &[(u64, u64)],
+) -> Result<MemStorage, Fail> {
     let mut image = MemStorage::new(vec![in alloc; 0; len]?);
     for (place, number) in numbers {
         if *place >= 1 << 40 {

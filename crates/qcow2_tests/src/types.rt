@@ -34,43 +34,40 @@ pub(crate) fn fits(high: u64, low: u64, bits: u32) -> bool
 
 #[test]
 fn an_offset_lies_in_one_cluster(rt: HostRuntime) {
-    // An offset, the cluster bits, and then the bytes before it in its cluster, its cluster, and the
-    // bytes from it on.
+    // An offset, the cluster bits, and then the bytes before it in its cluster, and its cluster.
     let table = [
-        (0, 9, 0, 0, 512),
-        (0, 21, 0, 0, 2097152),
-        (1543, 9, 7, 3, 505),
-        (0x20000000, 16, 0, 8192, 65536),
-        (LAST, 9, 511, 36028797018963967, 1),
-        (LAST, 21, 2097151, 8796093022207, 1),
+        (0, 9, 0, 0),
+        (0, 21, 0, 0),
+        (1543, 9, 7, 3),
+        (0x20000000, 16, 0, 8192),
+        (LAST, 9, 511, 36028797018963967),
+        (LAST, 21, 2097151, 8796093022207),
     ];
-    for (offset, bits, before, cluster, remaining) in table {
+    for (offset, bits, before, cluster) in table {
         assert!(rt; is_cluster_bits(bits));
-        assert_eq!(rt;
-            GuestOffset(offset).in_cluster_offset(bits),
-            before,
-            "at {offset}"
-        );
-        assert_eq!(rt;
-            HostOffset(offset).in_cluster_offset(bits),
-            before,
-            "at {offset}"
-        );
-        assert_eq!(rt;
-            GuestOffset(offset).cluster(bits),
-            GuestCluster(cluster),
-            "at {offset}"
-        );
-        assert_eq!(rt;
-            HostOffset(offset).cluster(bits),
-            HostCluster(cluster),
-            "at {offset}"
-        );
-        assert_eq!(rt;
-            GuestOffset(offset).remaining_in_cluster(bits),
-            remaining,
-            "at {offset}"
-        );
+        let guest = GuestOffset(offset);
+        assert_eq!(rt; guest.in_cluster_offset(bits), before, "at {offset}");
+        assert_eq!(rt; guest.cluster(bits), GuestCluster(cluster), "at {offset}");
+        let host = HostOffset(offset);
+        assert_eq!(rt; host.in_cluster_offset(bits), before, "at {offset}");
+        assert_eq!(rt; host.cluster(bits), HostCluster(cluster), "at {offset}");
+    }
+}
+
+#[test]
+fn the_rest_of_a_cluster_begins_at_an_offset(rt: HostRuntime) {
+    let table = [
+        (0, 9, 512),
+        (0, 21, 2097152),
+        (1543, 9, 505),
+        (0x20000000, 16, 65536),
+        (LAST, 9, 1),
+        (LAST, 21, 1),
+    ];
+    for (offset, bits, remaining) in table {
+        assert!(rt; is_cluster_bits(bits));
+        let found = GuestOffset(offset).remaining_in_cluster(bits);
+        assert_eq!(rt; found, remaining, "at {offset}");
     }
 }
 
@@ -101,8 +98,8 @@ fn only_a_cluster_s_start_is_a_checked_cluster(rt: HostRuntime) {
 
 #[test]
 fn an_offset_has_its_cluster_s_places(rt: HostRuntime) {
-    // An offset, the cluster bits, and then its places in the L1 and the L2 table, and the bytes from
-    // it on in the clusters of the L2 table.
+    // An offset, the cluster bits, and then its places in the L1 and the L2 table, and the bytes
+    // from it on in the clusters of the L2 table.
     let table = [
         (0, 9, 0, 0, 32768),
         (0, 21, 0, 0, 549755813888),

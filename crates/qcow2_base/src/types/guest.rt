@@ -28,13 +28,16 @@ impl GuestOffset {
         GuestCluster(self.0 >> cluster_bits)
     }
 
-    /// The cluster that begins at the offset, if one does. A cluster's own offset gives that cluster.
+    /// The cluster that begins at the offset, if one does. A cluster's own offset gives that
+    /// cluster.
     #[inline]
     #[tactic(auto, using(crate::proofs::TypesLemmas::multiple_quotient))]
     pub fn checked_cluster(self, cluster_bits: u32) -> Option<GuestCluster>
         requires { IsClusterBits cluster_bits }
-        ensures value { result ≡ (if self.0 % 2 ^ cluster_bits == 0 then Some (record { 0 = self.0 / 2 ^ cluster_bits }) else None) }
-        ensures own_offset { (c : GuestCluster) → self.0 ≡ c.0 * 2 ^ cluster_bits → result ≡ Some c }
+        ensures value { result ≡ (if self.0 % 2 ^ cluster_bits == 0
+            then Some (record { 0 = self.0 / 2 ^ cluster_bits }) else None) }
+        ensures own_offset { (c : GuestCluster) →
+            self.0 ≡ c.0 * 2 ^ cluster_bits → result ≡ Some c }
     {
         if self.in_cluster_offset(cluster_bits) == 0 {
             Some(self.cluster(cluster_bits))
@@ -74,7 +77,8 @@ impl GuestOffset {
     #[inline]
     pub fn remaining_in_l2_table(self, cluster_bits: u32) -> u64
         requires { IsClusterBits cluster_bits }
-        ensures { let after = 2 ^ (cluster_bits - 3) - 1 - self.0 / 2 ^ cluster_bits % 2 ^ (cluster_bits - 3) in
+        ensures { let index = self.0 / 2 ^ cluster_bits % 2 ^ (cluster_bits - 3) in
+            let after = 2 ^ (cluster_bits - 3) - 1 - index in
             result ≡ 2 ^ cluster_bits - self.0 % 2 ^ cluster_bits + after * 2 ^ cluster_bits }
     {
         let l2_entries: u64 = 1 << (cluster_bits - 3);
@@ -171,7 +175,8 @@ impl GuestCluster {
         requires fits { l1_index * 2 ^ (cluster_bits - 3) + l2_index < 2 ^ 64 }
         ensures value { result.0 ≡ l1_index * 2 ^ (cluster_bits - 3) + l2_index }
         ensures own_indices { (g : GuestCluster) →
-            l1_index ≡ g.0 / 2 ^ (cluster_bits - 3) → l2_index ≡ g.0 % 2 ^ (cluster_bits - 3) → result ≡ g }
+            l1_index ≡ g.0 / 2 ^ (cluster_bits - 3) →
+            l2_index ≡ g.0 % 2 ^ (cluster_bits - 3) → result ≡ g }
     {
         GuestCluster(((l1_index as u64) << (cluster_bits - 3)) + l2_index as u64)
     }

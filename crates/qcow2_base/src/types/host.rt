@@ -28,13 +28,16 @@ impl HostOffset {
         HostCluster(self.0 >> cluster_bits)
     }
 
-    /// The cluster that begins at the offset, if one does. A cluster's own offset gives that cluster.
+    /// The cluster that begins at the offset, if one does. A cluster's own offset gives that
+    /// cluster.
     #[inline]
     #[tactic(auto, using(crate::proofs::TypesLemmas::multiple_quotient))]
     pub fn checked_cluster(self, cluster_bits: u32) -> Option<HostCluster>
         requires { IsClusterBits cluster_bits }
-        ensures value { result ≡ (if self.0 % 2 ^ cluster_bits == 0 then Some (record { 0 = self.0 / 2 ^ cluster_bits }) else None) }
-        ensures own_offset { (c : HostCluster) → self.0 ≡ c.0 * 2 ^ cluster_bits → result ≡ Some c }
+        ensures value { result ≡ (if self.0 % 2 ^ cluster_bits == 0
+            then Some (record { 0 = self.0 / 2 ^ cluster_bits }) else None) }
+        ensures own_offset { (c : HostCluster) →
+            self.0 ≡ c.0 * 2 ^ cluster_bits → result ≡ Some c }
     {
         if self.in_cluster_offset(cluster_bits) == 0 {
             Some(self.cluster(cluster_bits))

@@ -1,15 +1,15 @@
 //! The one struct behind all tables: a list of entries of one kind.
 
-ghost use Rattle.std.specs.Prelude.{◌≡◌, ℕ, Bool, true, false, ◌*◌, ◌^◌, ◌<◌, ◌≤◌, IsTrue, length, map, slice_get, slice_index, slice_set, Some, None};
+ghost use Rattle.std.specs.Prelude.{◌≡◌, ℕ, Bool, true, false, ◌*◌, ◌^◌, ◌<◌, ◌≤◌, ◌↔◌, IfOk, IsOkUnless, IsTrue, length, map, slice_get, slice_index, slice_set, Some, None};
 ghost use Rattle.std.proofs.Common.{rules};
 ghost use Rattle.qcow2_base.specs.Types.{IsClusterBits};
 ghost use Rattle.qcow2_metadata.specs.Header.{uses_external_data};
-ghost use Rattle.qcow2_metadata.specs.Table.{first_fault};
+ghost use Rattle.qcow2_metadata.specs.Table.{first_fault, grown_numbers};
 
 use super::Table;
 use crate::{Header, TableEntry};
-use qcow2_base::{HostCluster, HostOffset};
-use std::alloc::Global;
+use qcow2_base::{Fault, HostCluster, HostOffset};
+use std::alloc::{AllocError, Global};
 use std::marker::Model;
 
 /// What sets one kind of table apart from the others.
@@ -69,7 +69,49 @@ impl<E: TableKind> Model for EntryTable<E> {
         IsLawful E.fault_of E.has_lawful_count t.cluster_bits t.cluster (map E.plain t.entries.items) };
 }
 
+// The entries, and then entries 0 up to a count.
+fn padded<E: TableKind>(alloc: Global, entries: &[E], count: usize) -> Result<Vec<E>, AllocError>
+    requires { length entries.now ≤ count }
+    ensures numbers { IfOk result (λ list. map E.plain list.items ≡ grown_numbers (map E.plain entries.now) count) }
+    ensures count { IfOk result (λ list. length list.items ≡ count) }
+    ensures lawful { IfOk result (λ list. (cb : ℕ) → first_fault (E.fault_of cb) (map E.plain entries.now) ≡ None →
+        first_fault (E.fault_of cb) (map E.plain list.items) ≡ None) }
+{
+    let mut list = Vec::with_capacity(alloc, count)?;
+    list.extend_from_slice(entries)?;
+    list.resize(count, E::cleared())?;
+    Ok(list)
+}
+
 impl<E: TableKind> EntryTable<E> {
+    /// Whether the table has an entry at the index.
+    #[inline]
+    pub fn in_bounds(&self, index: usize) -> bool
+        ensures { IsTrue result ↔ (index < length self.now.numbers) }
+    {
+        index < self.entries()
+    }
+
+    // A table of these entries and then zeros, for an image with this header.
+    pub(super) fn grown(&self, entries: usize, header: &Header) -> Result<Self, Fault>
+        requires cluster_bits { header.now.cluster_bits ≡ self.now.cluster_bits }
+        requires longer { length self.now.numbers ≤ entries }
+        requires bound { entries ≤ 2 ^ 48 }
+        requires count { IsTrue (E.has_lawful_count header.now.cluster_bits entries) }
+        ensures fault { IsOkUnless result Fault.NoMemory }
+        ensures table { IfOk result (λ table. table ≡ record {
+          numbers = grown_numbers self.now.numbers entries;
+          cluster = None;
+          modified = true;
+          cluster_bits = header.now.cluster_bits;
+          external_data_file = uses_external_data header.now;
+        }) }
+    {
+        let alloc = *self.entries.allocator();
+        let list = padded(alloc, self.entries.as_slice(), entries)?;
+        Ok(Self::from_data(list, header))
+    }
+
     // Whether guest data lies in an external data file, by the header that the table was made with.
     #[inline]
     pub(super) fn has_external_data_file(&self) -> bool

@@ -1,13 +1,16 @@
 //! L2 tables: what the clusters of a part of the guest's disk read as.
 
-ghost use Rattle.std.specs.Prelude.{◌≡◌, ◌-◌, ◌*◌, ◌%◌, ◌^◌, ◌==◌, ◌<◌, None, IfOk, IsOkAnd, IsOkUnless, length, replicate, slice_index, slice_set, true};
+ghost use Rattle.std.specs.Prelude.{◌≡◌, ◌≢◌, ◌⊎◌, ◌-◌, ◌*◌, ◌%◌, ◌^◌, ◌==◌, ◌<◌, ◌↔◌, Some, None, Ok, Err, IfSome, IfOk, IfErr, IsOk, IsOkAnd, IsOkUnless, IsErrOf, OnOk, IsTrue, length, replicate, slice_index, slice_set, true, false};
 ghost use Rattle.std.proofs.Common.{lit≤};
-ghost use Rattle.qcow2_metadata.specs.Entries.{IsPlaced, clusters_to_free, mapping, meaning};
+ghost use Rattle.qcow2_base.specs.Storage.{SameOutside};
+ghost use Rattle.qcow2_base.specs.declared.fault.Fault.TheVariants.{NoMemory, Storage as StorageFailed};
+ghost use Rattle.qcow2_metadata.specs.Entries.{IsPlaced, clusters_to_free, l2_fault, mapping, meaning};
 ghost use Rattle.qcow2_metadata.specs.Header.{uses_external_data};
+ghost use Rattle.qcow2_metadata.specs.Table.{decoded_table, place_of, table_numbers, write_fault};
 
 use super::{EntryTable, Table, TableKind};
 use crate::{AtomicL2Entry, ClustersToFreeEntry, Header, L2Entry, L2Mapping};
-use qcow2_base::{Fault, GuestCluster};
+use qcow2_base::{Fault, GuestCluster, HostCluster, Storage};
 use std::alloc::Global;
 
 /// A table of L2 entries, one for each guest cluster of its part of the disk: it fills one cluster.
@@ -65,6 +68,46 @@ impl EntryTable<AtomicL2Entry> {
         let cluster_bits = self.cluster_bits();
         let entry = self.get(guest_cluster.l2_index(cluster_bits));
         entry.into_mapping(guest_cluster, cluster_bits, self.has_external_data_file())
+    }
+
+    /// Writes the table to the image, as `write` does, if it counts as modified. The table must then
+    /// begin with the given cluster. A table that doesn't is left alone, and so is the image.
+    pub fn write_if_modified<S: Storage>(
+        &mut self,
+        image: &mut S,
+        cluster: HostCluster,
+    ) -> Result<(), Fault>
+        requires { self.old.modified ≡ true → self.old.cluster ≡ Some cluster }
+        ensures idle { self.old.modified ≡ false → IsOk result }
+        ensures idle_image { self.old.modified ≡ false → S.byte_at image.new ≡ S.byte_at image.old }
+        ensures idle_failures { self.old.modified ≡ false → S.failures image.new ≡ S.failures image.old }
+        ensures refused { self.old.modified ≡ true → IfSome (write_fault 262144 self.old) (λ fault. result ≡ Err fault) }
+        ensures faults { IfErr result (λ fault. (write_fault 262144 self.old ≡ Some fault) ⊎ (fault ≡ NoMemory) ⊎ (fault ≡ StorageFailed)) }
+
+        ensures ok { OnOk result (self.new ≡ record self.old { modified = false }) }
+        ensures failed { IsErrOf result Fault.Storage → self.new ≡ record self.old { modified = true } }
+        ensures err { IfErr result (λ fault. fault ≢ StorageFailed → self.new ≡ self.old) }
+
+        ensures written { self.old.modified ≡ true → IsTrue (S.tells image.old) → IfSome (place_of self.old) (λ offset.
+            OnOk result (decoded_table (l2_fault self.old.cluster_bits) (S.byte_at image.new) offset (length self.old.numbers) ≡ Ok self.old.numbers)) }
+        ensures others { IsTrue (S.tells image.old) → IfSome (place_of self.old) (λ offset.
+            SameOutside offset (8 * length self.old.numbers) (S.byte_at image.old) (S.byte_at image.new)) }
+        ensures same { IsTrue (S.tells image.old) → IfSome (place_of self.old) (λ offset.
+            table_numbers (S.byte_at image.old) offset (length self.old.numbers) ≡ self.old.numbers
+            → OnOk result (S.byte_at image.new ≡ S.byte_at image.old)) }
+        ensures unchanged { IfErr result (λ fault. fault ≢ StorageFailed → S.byte_at image.new ≡ S.byte_at image.old) }
+
+        ensures storage { IsErrOf result Fault.Storage ↔ (S.failures image.new ≢ S.failures image.old) }
+        ensures tells { S.tells image.new ≡ S.tells image.old }
+        ensures mem_align { S.mem_align image.new ≡ S.mem_align image.old }
+        ensures req_align { S.req_align image.new ≡ S.req_align image.old }
+    {
+        // The caller's word for the cluster is in the contract alone.
+        let _ = cluster;
+        if !self.is_modified() {
+            return Ok(());
+        }
+        self.write(image)
     }
 
     /// Leave to change the table's mappings.

@@ -1,7 +1,8 @@
 //! The words of a command line.
 
-ghost use Rattle.std.specs.Prelude.{◌≤◌, length, IfSome, OnSome};
+ghost use Rattle.std.specs.Prelude.{◌≡◌, IfSome, map, option_map, string_bytes};
 ghost use Rattle.qcow2_base.specs.Types.{IsClusterBits};
+ghost use Rattle.qcow2_session.specs.Commands as spec;
 
 use qcow2_base::HostCluster;
 
@@ -22,8 +23,12 @@ pub(super) struct L2Words<'a> {
 }
 
 impl<'a> Command<'a> {
+    ghost use Rattle.qcow2_session.specs.Words.{line_of};
+
     /// The command that the words ask for, if they ask for one.
-    pub(super) fn read(words: &'a [String]) -> Option<Command<'a>> {
+    pub(super) fn read(words: &'a [String]) -> Option<Command<'a>>
+        ensures { option_map line_of result ≡ spec.command_of (map string_bytes words.now) }
+    {
         let [name, image, arguments @ ..] = words else {
             return None;
         };
@@ -35,7 +40,12 @@ impl<'a> Command<'a> {
 }
 
 impl<'a> L2Words<'a> {
-    fn read(image: &'a str, arguments: &[String]) -> Option<L2Words<'a>> {
+    ghost use Rattle.qcow2_session.specs.Words.{l2_line};
+
+    // What the words after the image's name say.
+    fn read(image: &'a str, arguments: &[String]) -> Option<L2Words<'a>>
+        ensures { option_map l2_line result ≡ spec.l2_of image.now (map string_bytes arguments.now) }
+    {
         let [cluster_bits, cluster] = arguments else {
             return None;
         };
@@ -49,7 +59,8 @@ impl<'a> L2Words<'a> {
 
 // The number of cluster bits that a word says, from 9 to 21.
 fn cluster_bits_of(word: &str) -> Option<u32>
-    ensures { IfSome result IsClusterBits }
+    ensures value { result ≡ spec.cluster_bits_of word.now }
+    ensures range { IfSome result IsClusterBits }
 {
     match number(word)? {
         bits @ 9..=21 => Some(bits as u32),
@@ -59,9 +70,10 @@ fn cluster_bits_of(word: &str) -> Option<u32>
 
 // The number that 1 to 20 decimal digits say, if it fits 64 bits. There is no sign.
 fn number(word: &str) -> Option<u64>
-    ensures { OnSome result (length word.now ≤ 20) }
+    ensures { result ≡ spec.number_of word.now }
 {
-    if word.len() > 20 || !word.bytes().all(|byte| byte.is_ascii_digit()) {
+    // `parse` takes a plus in front.
+    if word.len() > 20 || word.starts_with('+') {
         return None;
     }
     word.parse().ok()

@@ -1,4 +1,4 @@
-use Rattle.std.proofs.Common.{◌≡◌, map, slice_set, None, refl, ap, ◌∙◌, rules}
+use Rattle.std.proofs.Common.{◌≡◌, map, slice_set, None, refl, ◌∙◌, rules}
 use Rattle.std.proofs.lemmas.List.{length-set, map-set}
 use Rattle.qcow2_metadata.proofs.TableLemmas.{first_fault-set}
 use Rattle.qcow2_metadata.proofs.table.entry_table.EntryTable.replace_entry.Goals as goal
@@ -9,7 +9,7 @@ invariant_of-self g c =
     let fault = g.E.TableEntry.fault_of c.self.inside.cluster_bits in
     let numbers = map plain c.self.inside.entries.items in
     let before = c.self.invariant in
-    let edit : map plain (slice_set c.self.inside.entries.items c.args.index c.replace.new.dest) ≡ slice_set numbers c.args.index (plain c.args.entry) = map-set plain c.self.inside.entries.items c.args.index c.replace.new.dest ∙ ap (λ x. slice_set numbers c.args.index (plain x)) c.replace.ensures.after in
+    let edit : map plain (slice_set c.self.inside.entries.items c.args.index c.replace.new.dest) ≡ slice_set numbers c.args.index (plain c.args.entry) = map-set plain c.self.inside.entries.items c.args.index c.replace.new.dest ∙ rw c.replace.ensures.after refl in
     let len = length-set numbers c.args.index (plain c.args.entry) in
     let lawful : fault (plain c.args.entry) ≡ None = search rules in
     rw edit (record {

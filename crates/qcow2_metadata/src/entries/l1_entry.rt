@@ -1,0 +1,99 @@
+//! Entries of L1 tables.
+
+ghost use Rattle.std.specs.Prelude.{◌≡◌, ◌*◌, ◌^◌, ◌<◌, None};
+ghost use Rattle.qcow2_base.specs.Types.{IsClusterBits};
+
+use super::{TableEntry, field};
+use crate::Header;
+use qcow2_base::{Fault, HostCluster, HostOffset};
+use std::marker::Model;
+
+/// An entry of an L1 table: where an L2 table lies, if there is one for that part of the disk.
+///
+/// Bits 9 to 55 are the offset of the L2 table, 0 for none; bit 63 is the copied flag; bits 0 to 8 and
+/// 56 to 62 are reserved.
+#[derive(Clone, Copy, Debug, PartialEq, Eq)]
+pub struct L1Entry {
+    value: u64,
+}
+
+impl Model for L1Entry {
+    ghost use Rattle.std.specs.Prelude.{ℕ};
+
+    ghost Value = { ℕ };
+
+    ghost view = { λ entry. entry.value };
+
+    ghost inverse = { λ number. record { value = number } };
+}
+
+impl L1Entry {
+    ghost use Rattle.qcow2_metadata.specs.Entries.{is_copied, l1_entry_for, l1_fault, l1_reserved_bits, offset_field, offset_unless_zero};
+
+    /// The entry 0: there is no L2 table.
+    pub(crate) const NONE: L1Entry = L1Entry { value: 0 };
+
+    // The entry of an L2 table that begins with a cluster and has exactly one reference.
+    #[tactic(auto, using(crate::proofs::EntriesLemmas::l1_entry_is_lawful))]
+    pub(crate) fn for_l2_table(cluster: HostCluster, cluster_bits: u32) -> L1Entry
+        requires cluster_bits { IsClusterBits cluster_bits }
+        requires place { cluster.0 * 2 ^ cluster_bits < 2 ^ 56 }
+        ensures number { result ≡ l1_entry_for (cluster.0 * 2 ^ cluster_bits) }
+        ensures lawful { l1_fault cluster_bits result ≡ None }
+    {
+        L1Entry {
+            value: (1 << 63) + cluster.offset(cluster_bits).0,
+        }
+    }
+
+    /// The offset of the L2 table, if there is one.
+    #[inline]
+    pub fn l2_offset(&self) -> Option<HostOffset>
+        ensures { result ≡ offset_unless_zero (offset_field self.now) }
+    {
+        match field(self.value, 9, 47) * 512 {
+            0 => None,
+            offset => Some(HostOffset(offset)),
+        }
+    }
+
+    /// Bit 63: the refcount of the L2 table's cluster is exactly one.
+    #[inline]
+    pub fn is_copied(&self) -> bool
+        ensures { result ≡ is_copied self.now }
+    {
+        field(self.value, 63, 1) == 1
+    }
+
+    /// The reserved bits that are set, at their places.
+    #[inline]
+    pub fn reserved_bits(&self) -> u64
+        ensures { result ≡ l1_reserved_bits self.now }
+    {
+        field(self.value, 0, 9) + (field(self.value, 56, 7) << 56)
+    }
+}
+
+impl TableEntry for L1Entry {
+    ghost use Rattle.qcow2_metadata.specs.Entries.{l1_fault};
+
+    ghost plain = { λ entry. entry };
+
+    ghost fault_of = { l1_fault };
+
+    fn try_from_plain(value: u64, header: &Header) -> Result<Self, Fault> {
+        let entry = L1Entry { value };
+        if entry.reserved_bits() != 0 {
+            return Err(Fault::EntryReserved);
+        }
+        let offset = HostOffset(field(value, 9, 47) * 512);
+        if offset.in_cluster_offset(header.cluster_bits()) != 0 {
+            return Err(Fault::EntryUnaligned);
+        }
+        Ok(entry)
+    }
+
+    fn to_plain(&self) -> u64 {
+        self.value
+    }
+}

@@ -1,0 +1,75 @@
+//! Entries of refcount tables.
+
+ghost use Rattle.std.specs.Prelude.{◌≡◌};
+
+use super::{TableEntry, field};
+use crate::Header;
+use qcow2_base::{Fault, HostOffset};
+use std::marker::Model;
+
+/// An entry of a refcount table: where a refcount block lies, if there is one.
+///
+/// Bits 9 to 63 are the offset of the block, 0 for none; bits 0 to 8 are reserved.
+#[derive(Clone, Copy, Debug, PartialEq, Eq)]
+pub struct RefTableEntry {
+    value: u64,
+}
+
+impl Model for RefTableEntry {
+    ghost use Rattle.std.specs.Prelude.{ℕ};
+
+    ghost Value = { ℕ };
+
+    ghost view = { λ entry. entry.value };
+
+    ghost inverse = { λ number. record { value = number } };
+}
+
+impl RefTableEntry {
+    ghost use Rattle.qcow2_metadata.specs.Entries.{offset_unless_zero, ref_reserved_bits, refblock_offset_field};
+
+    /// The entry 0: there is no refcount block.
+    pub(crate) const NONE: RefTableEntry = RefTableEntry { value: 0 };
+
+    /// The offset of the refcount block, if there is one.
+    #[inline]
+    pub fn refblock_offset(&self) -> Option<HostOffset>
+        ensures { result ≡ offset_unless_zero (refblock_offset_field self.now) }
+    {
+        match field(self.value, 9, 55) * 512 {
+            0 => None,
+            offset => Some(HostOffset(offset)),
+        }
+    }
+
+    /// The reserved bits that are set.
+    #[inline]
+    pub fn reserved_bits(&self) -> u64
+        ensures { result ≡ ref_reserved_bits self.now }
+    {
+        field(self.value, 0, 9)
+    }
+}
+
+impl TableEntry for RefTableEntry {
+    ghost use Rattle.qcow2_metadata.specs.Entries.{ref_fault};
+
+    ghost plain = { λ entry. entry };
+
+    ghost fault_of = { ref_fault };
+
+    fn try_from_plain(value: u64, header: &Header) -> Result<Self, Fault> {
+        let entry = RefTableEntry { value };
+        if entry.reserved_bits() != 0 {
+            return Err(Fault::EntryReserved);
+        }
+        if HostOffset(value).in_cluster_offset(header.cluster_bits()) != 0 {
+            return Err(Fault::EntryUnaligned);
+        }
+        Ok(entry)
+    }
+
+    fn to_plain(&self) -> u64 {
+        self.value
+    }
+}

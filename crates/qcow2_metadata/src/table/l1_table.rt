@@ -1,0 +1,105 @@
+//! L1 tables: where the L2 tables lie.
+
+ghost use Rattle.std.specs.Prelude.{◌≡◌, ◌⊎◌, ◌*◌, ◌^◌, ◌<◌, ◌↔◌, length, slice_set, true, None, Ok, Err, IfSome, IfOk, IfErr, MatchOption, IsErrOf};
+ghost use Rattle.std.proofs.Common.{lit≤};
+ghost use Rattle.qcow2_base.specs.declared.fault.Fault.TheVariants.{NoMemory, NotPlaced};
+ghost use Rattle.qcow2_metadata.specs.Entries.{IsOneCluster, l1_entry_for};
+ghost use Rattle.qcow2_metadata.specs.Header.{uses_external_data};
+ghost use Rattle.qcow2_metadata.specs.Table.{IsReferable, grown_count, grown_numbers};
+
+use super::{EntryTable, L2Table, Table, TableKind};
+use crate::{Header, L1Entry, PendingClusters, Refused};
+use qcow2_base::Fault;
+
+/// A table of L1 entries, one for each L2 table of the guest's disk.
+pub type L1Table = EntryTable<L1Entry>;
+
+impl TableKind for L1Entry {
+    type Entry = L1Entry;
+
+    const NAME: &'static str = "L1 table";
+
+    const MAX_ENTRIES: usize = 4194304;
+
+    ghost MAX_ENTRIES = { 4194304 };
+
+    ghost has_lawful_count = { λ _ _. true };
+
+    fn cleared() -> Self {
+        L1Entry::NONE
+    }
+
+    fn entry(self) -> L1Entry {
+        self
+    }
+
+    ghost few_entries = { lit≤ tt };
+}
+
+impl EntryTable<L1Entry> {
+    /// A copy of the table that holds an index: the same entries, and then zeros, in as few whole
+    /// clusters as that takes. It has no cluster, and counts as modified.
+    ///
+    /// Refuses to grow past the most entries that an L1 table may have. The table itself stays.
+    pub fn clone_and_grow(&self, at_least_index: usize, header: &Header) -> Result<L1Table, Fault>
+        requires { header.now.cluster_bits ≡ self.now.cluster_bits }
+        ensures refused { IsErrOf result Fault.CannotGrow
+            ↔ (4194304 < grown_count self.now.cluster_bits (length self.now.numbers) at_least_index) }
+        ensures faults { IfErr result (λ fault. (fault ≡ Fault.CannotGrow) ⊎ (fault ≡ NoMemory)) }
+        ensures table { IfOk result (λ table. table ≡ record {
+          numbers = grown_numbers self.now.numbers (grown_count self.now.cluster_bits (length self.now.numbers) at_least_index);
+          cluster = None;
+          modified = true;
+          cluster_bits = header.now.cluster_bits;
+          external_data_file = uses_external_data header.now;
+        }) }
+    {
+        if at_least_index >= L1Entry::MAX_ENTRIES {
+            return Err(Fault::CannotGrow);
+        }
+        let least = (at_least_index + 1).max(self.entries());
+        let entries = least.next_multiple_of(header.l2_entries());
+        if entries > L1Entry::MAX_ENTRIES {
+            return Err(Fault::CannotGrow);
+        }
+        self.grown(entries, header)
+    }
+
+    /// Enters an L2 table, which thereby has its one reference, and spends the pending value for its
+    /// cluster, if there is one. The table then counts as modified.
+    ///
+    /// An L2 table with no cluster is refused: the pending value comes back, and nothing has changed.
+    pub fn enter_l2_table(
+        &mut self,
+        index: usize,
+        l2_table: &L2Table,
+        new_allocation: Option<PendingClusters>,
+    ) -> Result<(), Refused>
+        requires index { index < length self.old.numbers }
+        requires cluster_bits { l2_table.now.cluster_bits ≡ self.old.cluster_bits }
+        requires cluster { IfSome l2_table.now.cluster (IsReferable self.old.cluster_bits) }
+        requires pending { IfSome l2_table.now.cluster (λ cluster. IfSome new_allocation (λ pending. IsOneCluster pending cluster)) }
+        ensures answer { MatchOption l2_table.now.cluster
+            (result ≡ Err (record { fault = NotPlaced; pending = new_allocation }))
+            (λ _. result ≡ Ok tt) }
+        ensures edit { MatchOption l2_table.now.cluster
+            (self.new ≡ self.old)
+            (λ cluster. self.new ≡ record self.old {
+              numbers = slice_set self.old.numbers index (l1_entry_for (cluster.0 * 2 ^ self.old.cluster_bits));
+              modified = true;
+            }) }
+    {
+        let Some(cluster) = l2_table.get_cluster() else {
+            return Err(Refused {
+                fault: Fault::NotPlaced,
+                pending: new_allocation,
+            });
+        };
+        let entry = L1Entry::for_l2_table(cluster, self.cluster_bits());
+        self.replace_entry(index, entry);
+        if let Some(pending) = new_allocation {
+            pending.make_persistent();
+        }
+        Ok(())
+    }
+}

@@ -1,0 +1,50 @@
+use Rattle.std.specs.Prelude.{ℕ, ◌-◌, ◌^◌, Bool, ◌&&◌, nat_lt, nat_le, if◌then◌else◌, List, [], ◌∷◌, length, Option, Some, None, Result, codes, bytes_eq}
+use Rattle.std.specs.Str.{all_ascii_digits}
+use Rattle.std.specs.Str.Parse.{digits_value}
+use Rattle.qcow2_base.specs.Storage.{Image}
+use Rattle.qcow2_base.specs.declared.fault.Fault.{Fault}
+use Rattle.qcow2_metadata.specs.Entries.{l2_fault}
+use Rattle.qcow2_metadata.specs.Table.{loaded_table, place_fault}
+
+-- a word is 1 to 20 decimal digits whose number fits 64 bits
+abbrev pub is_number : List ℕ → Bool
+is_number word = all_ascii_digits word && nat_lt 0 (length word) && nat_le (length word) 20 && nat_lt (digits_value 10 word) (2 ^ 64)
+
+-- the number that a word says, if it says one
+abbrev pub number_of : List ℕ → Option ℕ
+number_of word = if is_number word then Some (digits_value 10 word) else None
+
+-- the number of cluster bits that a word says, from 9 to 21
+abbrev pub cluster_bits_of : List ℕ → Option ℕ
+cluster_bits_of word = in_range (number_of word)
+  where
+    in_range : Option ℕ → Option ℕ
+    in_range None = None
+    in_range (Some bits) = if nat_le 9 bits && nat_le bits 21 then Some bits else None
+
+-- what a line of words asks for
+pub data CommandLine : Type 0 where
+  l2 : (image : List ℕ) (cluster_bits cluster : ℕ) → CommandLine
+
+-- the command `l2`, where both of its numbers are there
+abbrev pub l2_with : List ℕ → Option ℕ → Option ℕ → Option CommandLine
+l2_with image (Some cluster_bits) (Some cluster) = Some (l2 image cluster_bits cluster)
+l2_with image _ _ = None
+
+-- the command `l2` by the words after its image
+abbrev pub l2_of : List ℕ → List (List ℕ) → Option CommandLine
+l2_of image (cluster_bits ∷ cluster ∷ []) = l2_with image (cluster_bits_of cluster_bits) (number_of cluster)
+l2_of image _ = None
+
+-- the command that a line of words asks for, if it asks for one
+abbrev pub command_of : List (List ℕ) → Option CommandLine
+command_of (name ∷ image ∷ arguments) = if bytes_eq name (codes "l2") then l2_of image arguments else None
+command_of _ = None
+
+-- why no L2 table can begin with a cluster, if none can
+abbrev pub l2_place_fault : ℕ → ℕ → Option Fault
+l2_place_fault cb cluster = place_fault 262144 cb cluster (2 ^ (cb - 3))
+
+-- the numbers of the L2 table that begins with a cluster, or why it is refused
+abbrev pub l2_table : ℕ → Image → ℕ → Result (List ℕ) Fault
+l2_table cb image cluster = loaded_table 262144 (l2_fault cb) cb image cluster (2 ^ (cb - 3))

@@ -1,0 +1,239 @@
+//! L1 tables: how they grow, and how L2 tables are entered in them.
+
+ghost use Rattle.std.specs.Prelude.{◌*◌, ◌^◌, ◌-◌, ◌<◌, ◌≤◌, ◌↔◌, IsTrue};
+ghost use Rattle.qcow2_base.specs.Types.{IsClusterBits};
+
+use crate::failing::{FailingStorage, StorageCall};
+use crate::header::header_with;
+use crate::pending_clusters::refusal;
+use crate::table::image_with;
+use crate::three_tables::{NUMBER, cleared_table, has_one_entry, place, table_with};
+use crate::types::{fits, is_cluster_bits};
+use qcow2_base::{ClusterCount, Fault, HostCluster, HostOffset};
+use qcow2_metadata::{ClustersToFreeEntry, L1Table, L2Table, PendingClusters, Table};
+use std::alloc::Global;
+use std::process::Abort;
+use std::test::Fail;
+
+// Cluster bits, how many entries there are, an index, and how many there are then, if it grows.
+const GROWTHS: [(u32, usize, usize, Option<usize>); 22] = [
+    (9, 0, 0, Some(64)),
+    (9, 0, 63, Some(64)),
+    (9, 0, 64, Some(128)),
+    (9, 1, 0, Some(64)),
+    (9, 1, 64, Some(128)),
+    (9, 64, 0, Some(64)),
+    (9, 65, 0, Some(128)),
+    (9, 65, 63, Some(128)),
+    (9, 1000, 64, Some(1024)),
+    (9, 1, usize::MAX, None),
+    (9, 0, usize::MAX - 1, None),
+    (9, 0, 4194303, Some(4194304)),
+    (9, 0, 4194304, None),
+    (9, 4194305, 0, None),
+    (16, 0, 0, Some(8192)),
+    (16, 0, 8192, Some(16384)),
+    (16, 1, usize::MAX, None),
+    (21, 0, 0, Some(262144)),
+    (21, 0, 262144, Some(524288)),
+    (21, 0, 4194303, Some(4194304)),
+    (21, 0, 4194304, None),
+    (21, 1, usize::MAX, None),
+];
+
+#[test]
+fn an_l1_table_grows_by_whole_clusters_and_to_the_most_entries_at_most(
+    rt: HostRuntime,
+) -> Result<(), Fail> {
+    for (bits, entries, index, want) in GROWTHS {
+        assert!(rt; is_cluster_bits(bits) && entries <= 4194305usize);
+        let header = header_with(rt.alloc(), bits, false)?;
+        let source: L1Table = cleared_table(rt.alloc(), &header, entries)?;
+        match source.clone_and_grow(index, &header) {
+            Ok(grown) => {
+                let found = Some(grown.entries());
+                assert_eq!(rt; found, want, "{entries} to {index} with {bits}");
+                assert!(rt; has_one_entry(&grown, 0, 0), "{entries} to {index}");
+                assert!(rt; grown.in_bounds(index), "{entries} to {index}");
+            }
+            Err(fault) => {
+                assert_eq!(rt; want, None, "{entries} to {index} with {bits}");
+                assert_eq!(rt; fault, Fault::CannotGrow);
+            }
+        }
+        assert_eq!(rt; source.entries(), entries);
+        assert!(rt; has_one_entry(&source, 0, 0), "{entries} to {index}");
+    }
+    Ok(())
+}
+
+#[test]
+fn a_grown_l1_table_has_the_old_entries_and_no_cluster(rt: HostRuntime) -> Result<(), Fail> {
+    let header = header_with(rt.alloc(), 9, false)?;
+    for modified in [false, true] {
+        let mut source: L1Table = table_with(rt.alloc(), &header, 65, 64, NUMBER)?;
+        place(&rt, &mut source, Some(7), modified);
+        for (index, entries) in [(0, 128), (127, 128), (128, 192), (200, 256)] {
+            let grown = source.clone_and_grow(index, &header)?;
+            assert_eq!(rt; grown.entries(), entries);
+            assert!(rt; has_one_entry(&grown, 64, NUMBER), "to {index}");
+            assert_eq!(rt; (grown.get_cluster(), grown.get_offset()), (None, None));
+            assert!(rt; grown.is_modified());
+            assert_eq!(rt; grown.cluster_bits(), 9);
+        }
+        let refused = source.clone_and_grow(4194304, &header).err();
+        assert_eq!(rt; refused, Some(Fault::CannotGrow));
+        assert_eq!(rt; source.entries(), 65);
+        assert!(rt; has_one_entry(&source, 64, NUMBER));
+        assert_eq!(rt; source.get_cluster(), Some(HostCluster(7)));
+        assert_eq!(rt; source.is_modified(), modified);
+    }
+    Ok(())
+}
+
+// Memory runs out where a run makes an allocation fail.
+#[test]
+fn a_growth_that_memory_refused_leaves_the_l1_table(rt: HostRuntime) -> Result<(), Fail> {
+    let header = header_with(rt.alloc(), 9, false)?;
+    for modified in [false, true] {
+        let mut source: L1Table = table_with(rt.alloc(), &header, 65, 64, NUMBER)?;
+        place(&rt, &mut source, Some(7), modified);
+        let mut answer = source.clone_and_grow(128, &header);
+        assert!(rt; has_one_entry(&source, 64, NUMBER) && source.entries() == 65);
+        assert_eq!(rt; source.get_cluster(), Some(HostCluster(7)));
+        assert_eq!(rt; source.is_modified(), modified);
+        if let Err(fault) = &answer {
+            assert_eq!(rt; *fault, Fault::NoMemory);
+            answer = source.clone_and_grow(128, &header);
+        }
+        let grown = answer?;
+        assert!(rt; has_one_entry(&grown, 64, NUMBER) && grown.entries() == 192);
+    }
+    Ok(())
+}
+
+#[test]
+fn a_grown_l1_table_is_written_whole(rt: HostRuntime) -> Result<(), Fail> {
+    let header = header_with(rt.alloc(), 9, false)?;
+    let source: L1Table = table_with(rt.alloc(), &header, 1, 0, NUMBER)?;
+    let mut grown = source.clone_and_grow(64, &header)?;
+    let inner = image_with(rt.alloc(), 2048, &[(512, u64::MAX), (1528, u64::MAX)])?;
+    let mut image = FailingStorage::new(rt.alloc(), inner);
+    assert_eq!(rt; grown.write(&mut image), Err(Fault::NoOffset));
+    place(&rt, &mut grown, Some(1), true);
+    assert_eq!(rt; grown.write(&mut image), Ok(()));
+    let call = StorageCall::Write {
+        offset: 512,
+        len: 1024,
+    };
+    assert_eq!(rt; image.calls(), [call].as_slice());
+    let want = image_with(rt.alloc(), 2048, &[(512, NUMBER)])?;
+    assert_eq!(rt; image.inner().bytes(), want.bytes());
+    Ok(())
+}
+
+// Whether an L1 entry may refer to the cluster: not the header's, nor one past the last offset.
+fn is_referable(cluster: u64, bits: u32) -> bool
+    requires { IsClusterBits bits }
+    ensures { IsTrue result ↔ ((0 < cluster) × (cluster * 2 ^ bits ≤ 2 ^ 56 - 512)) }
+{
+    0 < cluster && cluster <= (72057594037927936 - 512) >> bits
+}
+
+// Enters a table that begins with the cluster, with a pending value for that cluster or with none.
+fn enter(
+    rt: &impl Abort,
+    alloc: Global,
+    l1_table: &mut L1Table,
+    index: usize,
+    cluster: u64,
+    is_pending: bool,
+) -> Result<(), Fail> {
+    let bits = l1_table.cluster_bits();
+    let mut l2_table = L2Table::new_cleared(alloc, &header_with(alloc, bits, false)?)?;
+    assert!(rt; fits(cluster, 0, bits) && is_referable(cluster, bits));
+    assert!(rt; index < l1_table.entries());
+    l2_table.set_cluster(HostCluster(cluster));
+    let new_allocation = if is_pending {
+        let count = ClusterCount(1);
+        Some(PendingClusters::new(HostCluster(cluster), count))
+    } else {
+        None
+    };
+    let answer = l1_table.enter_l2_table(index, &l2_table, new_allocation);
+    assert_eq!(rt; refusal(answer), None, "cluster {cluster}");
+    Ok(())
+}
+
+#[test]
+fn an_entered_l2_table_is_copied_and_at_its_offset(rt: HostRuntime) -> Result<(), Fail> {
+    // Cluster bits, the L2 table's cluster and its offset, and the number of its entry.
+    let table = [
+        (9, 2, 0x400, 0x8000_0000_0000_0400),
+        (9, 1, 0x200, 0x8000_0000_0000_0200),
+        (9, (1 << 47) - 1, 0xff_ffff_ffff_fe00, 0x80ff_ffff_ffff_fe00),
+        (16, 1, 0x1_0000, 0x8000_0000_0001_0000),
+        (
+            16,
+            (1 << 40) - 1,
+            0xff_ffff_ffff_0000,
+            0x80ff_ffff_ffff_0000,
+        ),
+        (21, 1, 0x20_0000, 0x8000_0000_0020_0000),
+        (
+            21,
+            (1 << 35) - 1,
+            0xff_ffff_ffe0_0000,
+            0x80ff_ffff_ffe0_0000,
+        ),
+    ];
+    for (bits, cluster, offset, number) in table {
+        assert!(rt; is_cluster_bits(bits));
+        let header = header_with(rt.alloc(), bits, false)?;
+        for (index, is_pending) in [(0, false), (0, true), (63, false), (64, true)] {
+            // The entry that was there, of another L2 table, is gone.
+            let mut l1_table = table_with(rt.alloc(), &header, 65, index as u64, NUMBER)?;
+            place(&rt, &mut l1_table, Some(5), false);
+            enter(&rt, rt.alloc(), &mut l1_table, index, cluster, is_pending)?;
+            assert!(rt; has_one_entry(&l1_table, index, number), "{number}");
+            let entry = l1_table.get(index);
+            assert_eq!(rt; entry.l2_offset(), Some(HostOffset(offset)));
+            assert!(rt; entry.is_copied() && l1_table.is_modified(), "{number}");
+            assert_eq!(rt; l1_table.get_cluster(), Some(HostCluster(5)));
+            assert_eq!(rt; l1_table.entries(), 65);
+        }
+    }
+    Ok(())
+}
+
+#[test]
+fn an_l2_table_without_a_cluster_is_refused_and_the_pending_value_comes_back(
+    rt: HostRuntime,
+) -> Result<(), Fail> {
+    let header = header_with(rt.alloc(), 9, false)?;
+    let mut l2_table = L2Table::new_cleared(rt.alloc(), &header)?;
+    l2_table.set_cluster(HostCluster(7));
+    l2_table.unset_cluster();
+    let mut l1_table: L1Table = table_with(rt.alloc(), &header, 65, 64, NUMBER)?;
+    for modified in [false, true] {
+        place(&rt, &mut l1_table, Some(5), modified);
+        // Without a cluster to be for, any pending value is taken and comes back.
+        for clusters in [None, Some((7, 1)), Some((9, 3)), Some((0, 0))] {
+            let clusters = clusters.map(|(first, count)| ClustersToFreeEntry {
+                first: HostCluster(first),
+                count: ClusterCount(count),
+            });
+            let new_allocation = match clusters {
+                Some(clusters) => Some(PendingClusters::new(clusters.first, clusters.count)),
+                None => None,
+            };
+            let answer = l1_table.enter_l2_table(64, &l2_table, new_allocation);
+            let refused = Some((Fault::NotPlaced, clusters));
+            assert_eq!(rt; refusal(answer), refused, "{clusters:?}");
+            assert_eq!(rt; l1_table.is_modified(), modified);
+            assert!(rt; has_one_entry(&l1_table, 64, NUMBER));
+            assert_eq!(rt; l1_table.get_cluster(), Some(HostCluster(5)));
+        }
+    }
+    Ok(())
+}
