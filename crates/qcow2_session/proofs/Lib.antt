@@ -1,1 +1,2 @@
 pub mod CommandsLemmas
+pub mod LinesLemmas

@@ -1,12 +1,14 @@
 //! The command `l2`: what one L2 table maps.
 
-ghost use Rattle.std.specs.Prelude.{◌≡◌, ◌≢◌, ◌⊎◌, ◌-◌, ◌^◌, Err, IsTrue, IfSome, IfErr, OnOk, IsOkUnless, is_ok, true};
+ghost use Rattle.std.specs.Prelude.{◌≡◌, ◌≢◌, ◌⊎◌, length, false, ◌-◌, ◌^◌, Err, IsTrue, IfSome, IfErr, OnOk, IsOkAnd, IsOkUnless, is_ok, true};
 ghost use Rattle.qcow2_base.specs.declared.fault.Fault.TheVariants.{NoMemory, Storage as StorageFailed};
 ghost use Rattle.qcow2_base.specs.Types.{IsClusterBits};
-ghost use Rattle.qcow2_metadata.specs.Entries.{IsPlaced, l2_fault};
-ghost use Rattle.qcow2_metadata.specs.Table.{loaded_table, place_fault};
+ghost use Rattle.std.specs.Io.KnownBytes.{Appends};
+ghost use Rattle.qcow2_metadata.specs.Entries.{IsPlaced, meaning};
+ghost use Rattle.qcow2_session.specs.Commands.{l2_place_fault, l2_table};
+ghost use Rattle.qcow2_session.specs.Lines.{copied_text, entry_line, entry_lines};
 
-use qcow2_base::{Fault, GuestCluster, HostCluster, HostOffset, Storage};
+use qcow2_base::{Fault, GuestCluster, HostCluster, Storage};
 use qcow2_metadata::{Header, L2Mapping, L2Table, Table};
 use std::alloc::Global;
 use std::io::Write;
@@ -27,34 +29,49 @@ pub fn list_l2_table<S: Storage, O: Write>(
     out: &mut O,
 ) -> Result<(), Fault>
     requires { IsClusterBits cluster_bits }
-    ensures place { IfSome (place_fault 262144 cluster_bits cluster.0 (2 ^ (cluster_bits - 3))) (λ fault.
-        (result ≡ Err fault) ⊎ (result ≡ Err NoMemory)) }
-    ensures accepted { OnOk result (IsTrue (S.tells image.old) →
-        is_ok (loaded_table 262144 (l2_fault cluster_bits) cluster_bits (S.byte_at image.old) cluster.0 (2 ^ (cluster_bits - 3))) ≡ true) }
-    ensures refused { IfErr result (λ fault. IsTrue (S.tells image.old) → (fault ≡ StorageFailed) ⊎ (fault ≡ NoMemory)
-        ⊎ (loaded_table 262144 (l2_fault cluster_bits) cluster_bits (S.byte_at image.old) cluster.0 (2 ^ (cluster_bits - 3)) ≡ Err fault)) }
+    ensures place { IfSome (l2_place_fault cluster_bits cluster.0) (λ fault. (result ≡ Err fault) ⊎ (result ≡ Err NoMemory)) }
 
-    // A fault other than the storage fault comes before the first line.
+    // An image that tells its bytes has the table then, and these are its lines.
+    ensures lines { OnOk result (IsTrue (S.tells image.old) →
+        IsOkAnd (l2_table cluster_bits (S.byte_at image.old) cluster.0) (λ numbers.
+        Appends (O.contents out.old) (O.contents out.new) (entry_lines cluster_bits false 0 numbers))) }
+
+    // The storage fault is that of the image or, where the table is lawful, of a failed write.
+    ensures refused { IfErr result (λ fault. IsTrue (S.tells image.old) →
+        let table = l2_table cluster_bits (S.byte_at image.old) cluster.0 in
+        (table ≡ Err fault) ⊎ (fault ≡ NoMemory)
+        ⊎ ((fault ≡ StorageFailed) × ((S.failures image.new ≢ S.failures image.old) ⊎ (is_ok table ≡ true)))) }
+
+    // Any other fault comes before the first line.
     ensures before_any_line { IfErr result (λ fault. fault ≢ StorageFailed → out.new ≡ out.old) }
 
-    // A call of the storage that failed is the storage fault, whatever was printed.
+    // A call of the image that failed is the storage fault, before the first line too.
     ensures ok { OnOk result (S.failures image.new ≡ S.failures image.old) }
     ensures storage { S.failures image.new ≢ S.failures image.old → (result ≡ Err StorageFailed) × (out.new ≡ out.old) }
     ensures unchanged { S.byte_at image.new ≡ S.byte_at image.old }
     ensures tells { S.tells image.new ≡ S.tells image.old }
 {
     let header = Header::new(alloc, cluster_bits, REFCOUNT_ORDER, None, None, None)?;
-    let entries = header.l2_entries();
-    let table = L2Table::load(alloc, image, &header, cluster, entries)?;
-    for index in 0..entries {
+    let table = L2Table::load(alloc, image, &header, cluster, header.l2_entries())?;
+    print_table(&table, out)
+}
+
+// Prints the line of each entry that isn't left to the backing file.
+fn print_table<O: Write>(table: &L2Table, out: &mut O) -> Result<(), Fault>
+    requires { length table.now.numbers ≡ 2 ^ (table.now.cluster_bits - 3) }
+    ensures fault { IsOkUnless result Fault.Storage }
+    ensures lines { OnOk result (Appends (O.contents out.old) (O.contents out.new)
+        (entry_lines table.now.cluster_bits table.now.external_data_file 0 table.now.numbers)) }
+{
+    let cluster_bits = table.cluster_bits();
+    for index in 0..table.entries() {
         let mapping = table.get_mapping(GuestCluster(index as u64))?;
-        if !matches!(&mapping, L2Mapping::Backing { .. }) {
-            print_entry(index, &mapping, cluster_bits, out)?;
-        }
+        print_entry(index, &mapping, cluster_bits, out)?;
     }
     Ok(())
 }
 
+// Prints the line of an entry by its mapping: none where that is left to the backing file.
 fn print_entry<O: Write>(
     index: usize,
     mapping: &L2Mapping,
@@ -63,7 +80,9 @@ fn print_entry<O: Write>(
 ) -> Result<(), Fault>
     requires bits { IsClusterBits cluster_bits }
     requires placed { IsPlaced cluster_bits mapping.now }
-    ensures { IsOkUnless result Fault.Storage }
+    ensures fault { IsOkUnless result Fault.Storage }
+    ensures line { OnOk result (Appends (O.contents out.old) (O.contents out.new)
+        (entry_line cluster_bits index (meaning mapping.now))) }
 {
     let written = match mapping {
         L2Mapping::DataFile {
@@ -88,15 +107,14 @@ fn print_entry<O: Write>(
             host_offset,
             length,
         } => writeln!(out, "{index} compressed {host_offset} {length}"),
-        L2Mapping::Backing { backing_offset } => {
-            let offset = HostOffset(*backing_offset);
-            writeln!(out, "{index} backing {offset}")
-        }
+        L2Mapping::Backing { .. } => Ok(()),
     };
     written.map_err(|_| Fault::Storage)
 }
 
 // What is printed after the offset of a cluster whose refcount is exactly one.
-fn copied_mark(copied: bool) -> &'static str {
+fn copied_mark(copied: bool) -> &'static str
+    ensures { result.now ≡ copied_text copied }
+{
     if copied { " copied" } else { "" }
 }

@@ -1,0 +1,12 @@
+use Rattle.std.proofs.Common.{arith}
+use Rattle.qcow2_session.proofs.LinesLemmas.{entry_lines_more}
+use Rattle.qcow2_metadata.specs.Entries.{meaning}
+use Rattle.qcow2_session.proofs.commands.l2.print_table.Goals as goal
+
+pub loop-index-preserved : goal.loop-index-preserved
+loop-index-preserved g c =
+    let table = c.args.table.now in
+    let line = c.in_ok-print_entry.ensures.line in
+    let bits = c.cluster_bits-cluster_bits.ensures.value in
+    entry_lines_more _ _ _ table.cluster_bits table.external_data_file table.numbers c.loop-index.index (meaning c.in_ok-mapping.mapping)
+    (omega arith) c.requires c.in_ok-mapping.ensures.mapping c.loop-index.invariant (rw bits at line)
