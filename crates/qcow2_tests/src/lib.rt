@@ -2,6 +2,8 @@
 //! they run on: a storage and an output that fail where a test plans it.
 #![tactic(auto)]
 
+#[cfg(test)]
+mod commands;
 mod failing;
 #[cfg(test)]
 mod fault;
@@ -9,6 +11,8 @@ mod fault;
 mod on_disk_struct;
 #[cfg(test)]
 mod storage;
+#[cfg(test)]
+mod temporary_file;
 #[cfg(test)]
 mod types;
 
