@@ -17,9 +17,9 @@ use words::{Command, L2Words};
 /// Runs a command line, the words after the program's name, and answers the program's status: 0 for
 /// success, 1 for a fault and 2 for words that are no command.
 ///
-/// What the command finds goes to `out`, which is flushed at the end; lines before a fault stay. A
-/// fault is the line `qmeta: fault N` on `err`, wrong words are the usage line there. A failed write
-/// to `out` is the storage fault; one to `err` changes nothing.
+/// What the command finds goes to `out`, lines before a fault stay. A fault is the line `qmeta: fault
+/// N` on `err`, wrong words are the usage line there. Both are flushed at the end. A failed write to
+/// `out` is the storage fault; one to `err` changes nothing.
 pub fn run_words<R: Files + AllocGlobal, O: Write, E: Write>(
     rt: &R,
     words: &[String],
@@ -31,6 +31,7 @@ pub fn run_words<R: Files + AllocGlobal, O: Write, E: Write>(
 {
     let Some(command) = Command::read(words) else {
         let _ = writeln!(err, "usage: qmeta COMMAND IMAGE ARGUMENTS");
+        let _ = err.flush();
         return 2;
     };
     match run(rt, &command, out) {
@@ -44,6 +45,7 @@ pub fn report_fault<E: Write>(fault: Fault, err: &mut E) -> u8
     ensures { result ≡ 1 }
 {
     let _ = writeln!(err, "qmeta: fault {}", fault.number());
+    let _ = err.flush();
     1
 }
 

@@ -3,6 +3,8 @@
 #![tactic(auto)]
 
 #[cfg(test)]
+mod commands;
+#[cfg(test)]
 mod entries;
 mod failing;
 #[cfg(test)]
@@ -23,6 +25,8 @@ mod ref_table_entry;
 mod storage;
 #[cfg(test)]
 mod table;
+#[cfg(test)]
+mod temporary_file;
 #[cfg(test)]
 mod three_tables;
 #[cfg(test)]

@@ -1,6 +1,6 @@
 ghost use Rattle.std.specs.Prelude.{◌<◌};
 
-mod faulty_file;
+pub(crate) mod faulty_file;
 mod files;
 
 use crate::failing::{FailingOutput, FailingStorage, StorageCall};

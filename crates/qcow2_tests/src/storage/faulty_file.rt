@@ -1,7 +1,7 @@
 //! Files that pass their calls on to real ones, a few bytes at a time, and fail where a test plans it.
 
 use crate::failing::take_turn;
-use std::alloc::Allocator;
+use std::alloc::{Alloc, Allocator};
 use std::cell::Cell;
 use std::fs::{Metadata, OpenFile, OpenOptions};
 use std::io;
@@ -86,6 +86,14 @@ impl<F: OpenFile> OpenFile for FaultyFile<F> {
 
     fn sync_data(&self) -> io::Result<()> {
         self.file.sync_data()
+    }
+}
+
+impl<R: Alloc> Alloc for FaultyFiles<'_, R> {
+    type A = R::A;
+
+    fn alloc(&self) -> R::A {
+        self.files.alloc()
     }
 }
 

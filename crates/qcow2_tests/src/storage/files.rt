@@ -1,39 +1,9 @@
 use super::faulty_file::FaultyFiles;
 use super::{LIMIT, has_failed};
+use crate::temporary_file::{temporary_file, temporary_path};
 use qcow2_base::{Fault, FileStorage, Storage, StorageFault};
-use std::rt::Files;
 use std::test::Fail;
-use std::{env, fs, process};
-
-// A file under a name of its own in the temporary folder. It goes when the value does.
-struct TemporaryFile<'a, R: Files> {
-    files: &'a R,
-    path: String,
-}
-
-impl<R: Files> Drop for TemporaryFile<'_, R> {
-    fn drop(self) {
-        let _ = fs::remove_file(self.files, self.path.as_str());
-        let TemporaryFile { files: _, path: _ } = self;
-    }
-}
-
-fn temporary_path(rt: &HostRuntime, name: &str) -> Result<String, Fail> {
-    let id = process::id(rt.process());
-    let name = format!(in rt.alloc(); "qcow2-storage-{id}-{name}")?;
-    let path = env::temp_dir(rt)?.join(rt.alloc(), name.as_str())?;
-    Ok(path.into_string())
-}
-
-fn temporary_file<'a>(
-    rt: &'a HostRuntime,
-    name: &str,
-    bytes: &[u8],
-) -> Result<TemporaryFile<'a, HostRuntime>, Fail> {
-    let path = temporary_path(rt, name)?;
-    fs::write(rt, path.as_str(), bytes)?;
-    Ok(TemporaryFile { files: rt, path })
-}
+use std::{env, fs};
 
 #[test]
 fn only_a_file_that_is_there_is_opened(rt: HostRuntime) -> Result<(), Fail> {
