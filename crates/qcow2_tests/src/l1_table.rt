@@ -137,7 +137,10 @@ fn is_referable(cluster: u64, bits: u32) -> bool
     requires { IsClusterBits bits }
     ensures { IsTrue result ↔ ((0 < cluster) × (cluster * 2 ^ bits ≤ 2 ^ 56 - 512)) }
 {
-    0 < cluster && cluster <= (72057594037927936 - 512) >> bits
+    match cluster.checked_mul(1 << bits) {
+        Some(offset) => 0 < cluster && offset <= 72057594037927424,
+        None => false,
+    }
 }
 
 // Enters a table that begins with the cluster, with a pending value for that cluster or with none.
