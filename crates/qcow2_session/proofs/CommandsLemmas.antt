@@ -10,19 +10,27 @@ digits : IsNumeralModel (λ word. all_ascii_digits word ≡ true) (digits_value 
 digits = numerals_by_value _ tells_all_ascii_digits
 
 -- the four tests of a number, where the third is known to hold
-all_pass : (d : Bool) (n v m : ℕ) → d ≡ true → 0 < n → n ≤ 20 → v < m → (d && nat_lt 0 n && nat_le n 20 && nat_lt v m) ≡ true
+all_pass : (d : Bool) (n v m : ℕ) → d ≡ true → 0 < n → n ≤ 20 → v < m →
+    (d && nat_lt 0 n && nat_le n 20 && nat_lt v m) ≡ true
 all_pass d n v m a b c e = grind (arith, nat_tests)
 
-one_fails : (d : Bool) (n v m : ℕ) → ((d ≡ true) × (0 < n) × (v < m) → ⊥) → (d && nat_lt 0 n && nat_le n 20 && nat_lt v m) ≡ false
+one_fails : (d : Bool) (n v m : ℕ) → ((d ≡ true) × (0 < n) × (v < m) → ⊥) →
+    (d && nat_lt 0 n && nat_le n 20 && nat_lt v m) ≡ false
 one_fails d n v m h = grind (arith, nat_tests, h)
 
--- a word of at most 20 bytes that doesn't begin with a plus is the number that `parse` finds, or none where it finds none
-pub number_of_parsed : (E : Type 0) (word : List ℕ) (r : Result ℕ E) → get_or word 0 0 ≢ 43 → length word ≤ 20 → ParsesUnsigned 64 10 word r → result_ok r ≡ number_of word
+-- a word of at most 20 bytes that doesn't begin with a plus is the number that `parse` finds, or
+-- none where it finds none
+pub number_of_parsed : (E : Type 0) (word : List ℕ) (r : Result ℕ E) → get_or word 0 0 ≢ 43 →
+    length word ≤ 20 → ParsesUnsigned 64 10 word r → result_ok r ≡ number_of word
 number_of_parsed E word (Ok n) plain short parsed =
     let found = parse_plain digits {E = E} 64 word (Ok n) parsed plain in
-    let passes = all_pass (all_ascii_digits word) (length word) (digits_value 10 word) (2 ^ 64) found.0.0 found.0.1 short found.0.2 in
-    ap Some found.1 ∙ ap (λ (b : Bool). if b then Some (digits_value 10 word) else None) (sym passes)
+    let value = digits_value 10 word in
+    let passes = all_pass (all_ascii_digits word) (length word) value (2 ^ 64)
+    found.0.0 found.0.1 short found.0.2 in
+    ap Some found.1 ∙ ap (λ (b : Bool). if b then Some value else None) (sym passes)
 number_of_parsed E word (Err e) plain short parsed =
     let refused = parse_plain digits {E = E} 64 word (Err e) parsed plain in
-    let fails = one_fails (all_ascii_digits word) (length word) (digits_value 10 word) (2 ^ 64) (λ all. refused all) in
-    ap (λ (b : Bool). if b then Some (digits_value 10 word) else None) (sym fails)
+    let value = digits_value 10 word in
+    let fails =
+    one_fails (all_ascii_digits word) (length word) value (2 ^ 64) (λ all. refused all) in
+    ap (λ (b : Bool). if b then Some value else None) (sym fails)

@@ -8,7 +8,9 @@ use Rattle.qcow2_metadata.specs.Table.{loaded_table, place_fault}
 
 -- a word is 1 to 20 decimal digits whose number fits 64 bits
 abbrev pub is_number : List ℕ → Bool
-is_number word = all_ascii_digits word && nat_lt 0 (length word) && nat_le (length word) 20 && nat_lt (digits_value 10 word) (2 ^ 64)
+is_number word =
+    all_ascii_digits word && nat_lt 0 (length word) && nat_le (length word) 20
+    && nat_lt (digits_value 10 word) (2 ^ 64)
 
 -- the number that a word says, if it says one
 abbrev pub number_of : List ℕ → Option ℕ
@@ -33,12 +35,14 @@ l2_with image _ _ = None
 
 -- the command `l2` by the words after its image
 abbrev pub l2_of : List ℕ → List (List ℕ) → Option CommandLine
-l2_of image (cluster_bits ∷ cluster ∷ []) = l2_with image (cluster_bits_of cluster_bits) (number_of cluster)
+l2_of image (cluster_bits ∷ cluster ∷ []) =
+    l2_with image (cluster_bits_of cluster_bits) (number_of cluster)
 l2_of image _ = None
 
 -- the command that a line of words asks for, if it asks for one
 abbrev pub command_of : List (List ℕ) → Option CommandLine
-command_of (name ∷ image ∷ arguments) = if bytes_eq name (codes "l2") then l2_of image arguments else None
+command_of (name ∷ image ∷ arguments) =
+    if bytes_eq name (codes "l2") then l2_of image arguments else None
 command_of _ = None
 
 -- why no L2 table can begin with a cluster, if none can

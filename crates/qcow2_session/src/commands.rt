@@ -17,9 +17,9 @@ use words::{Command, L2Words};
 /// Runs a command line, the words after the program's name, and answers the program's status: 0 for
 /// success, 1 for a fault and 2 for words that are no command.
 ///
-/// What the command finds goes to `out`, lines before a fault stay. A fault is the line `qmeta: fault
-/// N` on `err`, wrong words are the usage line there. Both are flushed at the end. A failed write to
-/// `out` is the storage fault; one to `err` changes nothing.
+/// What the command finds goes to `out`, where lines before a fault stay. A fault is the line
+/// `qmeta: fault N` on `err`, wrong words are the usage line there. Both are flushed at the end. A
+/// failed write to `out` is the storage fault; one to `err` changes nothing.
 pub fn run_words<R: Files + AllocGlobal, O: Write, E: Write>(
     rt: &R,
     words: &[String],

@@ -9,7 +9,7 @@ use std::alloc::Global;
 use std::process::Abort;
 use std::test::Fail;
 
-// The number of an L2 entry, and the mapping that is printed for it: none where the entry is left to
+// The number of an L2 entry, and what is printed of its mapping: nothing where the entry is left to
 // the backing file.
 type Case = (u64, &'static str);
 

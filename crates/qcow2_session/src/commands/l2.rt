@@ -29,25 +29,29 @@ pub fn list_l2_table<S: Storage, O: Write>(
     out: &mut O,
 ) -> Result<(), Fault>
     requires { IsClusterBits cluster_bits }
-    ensures place { IfSome (l2_place_fault cluster_bits cluster.0) (λ fault. (result ≡ Err fault) ⊎ (result ≡ Err NoMemory)) }
+    ensures place { IfSome (l2_place_fault cluster_bits cluster.0) (λ fault.
+        (result ≡ Err fault) ⊎ (result ≡ Err NoMemory)) }
 
-    // An image that tells its bytes has the table then, and these are its lines.
+    // Where an image tells its bytes, they hold the table then, and these are its lines.
     ensures lines { OnOk result (IsTrue (S.tells image.old) →
         IsOkAnd (l2_table cluster_bits (S.byte_at image.old) cluster.0) (λ numbers.
-        Appends (O.contents out.old) (O.contents out.new) (entry_lines cluster_bits false 0 numbers))) }
+        Appends (O.contents out.old) (O.contents out.new)
+        (entry_lines cluster_bits false 0 numbers))) }
 
     // The storage fault is that of the image or, where the table is lawful, of a failed write.
     ensures refused { IfErr result (λ fault. IsTrue (S.tells image.old) →
         let table = l2_table cluster_bits (S.byte_at image.old) cluster.0 in
         (table ≡ Err fault) ⊎ (fault ≡ NoMemory)
-        ⊎ ((fault ≡ StorageFailed) × ((S.failures image.new ≢ S.failures image.old) ⊎ (is_ok table ≡ true)))) }
+        ⊎ ((fault ≡ StorageFailed)
+        × ((S.failures image.new ≢ S.failures image.old) ⊎ (is_ok table ≡ true)))) }
 
     // Any other fault comes before the first line.
     ensures before_any_line { IfErr result (λ fault. fault ≢ StorageFailed → out.new ≡ out.old) }
 
     // A call of the image that failed is the storage fault, before the first line too.
     ensures ok { OnOk result (S.failures image.new ≡ S.failures image.old) }
-    ensures storage { S.failures image.new ≢ S.failures image.old → (result ≡ Err StorageFailed) × (out.new ≡ out.old) }
+    ensures storage { S.failures image.new ≢ S.failures image.old →
+        (result ≡ Err StorageFailed) × (out.new ≡ out.old) }
     ensures unchanged { S.byte_at image.new ≡ S.byte_at image.old }
     ensures tells { S.tells image.new ≡ S.tells image.old }
 {

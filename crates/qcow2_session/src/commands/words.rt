@@ -44,7 +44,8 @@ impl<'a> L2Words<'a> {
 
     // What the words after the image's name say.
     fn read(image: &'a str, arguments: &[String]) -> Option<L2Words<'a>>
-        ensures { option_map l2_line result ≡ spec.l2_of image.now (map string_bytes arguments.now) }
+        ensures { option_map l2_line result
+            ≡ spec.l2_of image.now (map string_bytes arguments.now) }
     {
         let [cluster_bits, cluster] = arguments else {
             return None;

@@ -8,5 +8,7 @@ loop-index-preserved g c =
     let table = c.args.table.now in
     let line = c.in_ok-print_entry.ensures.line in
     let bits = c.cluster_bits-cluster_bits.ensures.value in
-    entry_lines_more _ _ _ table.cluster_bits table.external_data_file table.numbers c.loop-index.index (meaning c.in_ok-mapping.mapping)
-    (omega arith) c.requires c.in_ok-mapping.ensures.mapping c.loop-index.invariant (rw bits at line)
+    let mapping = c.in_ok-mapping.ensures.mapping in
+    entry_lines_more _ _ _ table.cluster_bits table.external_data_file
+    table.numbers c.loop-index.index (meaning c.in_ok-mapping.mapping)
+    (omega arith) c.requires mapping c.loop-index.invariant (rw bits at line)

@@ -7,5 +7,6 @@ returns c =
     let word = c.args.word.now in
     let tested = c.starts_with.ensures.byte (lit< tt) (lit< tt) (λ w o h. h) in
     let plain : get_or word 0 0 ≢ 43 = λ plus. let same = eq-eqb (get_or word 0 0) 43 plus in cc in
-    let found = number_of_parsed _ word c.parse.result plain (omega arith) c.parse.ensures.value.0 in
+    let parsed = c.parse.ensures.value.0 in
+    let found = number_of_parsed _ word c.parse.result plain (omega arith) parsed in
     cc
