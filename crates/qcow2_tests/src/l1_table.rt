@@ -209,34 +209,46 @@ fn an_entered_l2_table_is_copied_and_at_its_offset(rt: HostRuntime) -> Result<()
     Ok(())
 }
 
+// Refuses a table without a cluster, and hands the pending value back.
+fn refuses_to_enter(
+    rt: &impl Abort,
+    alloc: Global,
+    l1_table: &mut L1Table,
+    pending: Option<ClustersToFreeEntry>,
+) -> Result<(), Fail> {
+    let header = header_with(alloc, l1_table.cluster_bits(), false)?;
+    let l2_table = L2Table::new_cleared(alloc, &header)?;
+    assert!(rt; 64 < l1_table.entries());
+    let new_allocation = match pending {
+        Some(clusters) => Some(PendingClusters::new(clusters.first, clusters.count)),
+        None => None,
+    };
+    let answer = l1_table.enter_l2_table(64, &l2_table, new_allocation);
+    let refused = Some((Fault::NotPlaced, pending));
+    assert_eq!(rt; refusal(answer), refused, "{pending:?}");
+    Ok(())
+}
+
 #[test]
 fn an_l2_table_without_a_cluster_is_refused_and_the_pending_value_comes_back(
     rt: HostRuntime,
 ) -> Result<(), Fail> {
     let header = header_with(rt.alloc(), 9, false)?;
-    let mut l2_table = L2Table::new_cleared(rt.alloc(), &header)?;
-    l2_table.set_cluster(HostCluster(7));
-    l2_table.unset_cluster();
     let mut l1_table: L1Table = table_with(rt.alloc(), &header, 65, 64, NUMBER)?;
     for modified in [false, true] {
         place(&rt, &mut l1_table, Some(5), modified);
         // Without a cluster to be for, any pending value is taken and comes back.
-        for clusters in [None, Some((7, 1)), Some((9, 3)), Some((0, 0))] {
-            let clusters = clusters.map(|(first, count)| ClustersToFreeEntry {
+        for (first, count) in [(7, 1), (9, 3), (0, 0)] {
+            let clusters = ClustersToFreeEntry {
                 first: HostCluster(first),
                 count: ClusterCount(count),
-            });
-            let new_allocation = match clusters {
-                Some(clusters) => Some(PendingClusters::new(clusters.first, clusters.count)),
-                None => None,
             };
-            let answer = l1_table.enter_l2_table(64, &l2_table, new_allocation);
-            let refused = Some((Fault::NotPlaced, clusters));
-            assert_eq!(rt; refusal(answer), refused, "{clusters:?}");
-            assert_eq!(rt; l1_table.is_modified(), modified);
-            assert!(rt; has_one_entry(&l1_table, 64, NUMBER));
-            assert_eq!(rt; l1_table.get_cluster(), Some(HostCluster(5)));
+            refuses_to_enter(&rt, rt.alloc(), &mut l1_table, Some(clusters))?;
         }
+        refuses_to_enter(&rt, rt.alloc(), &mut l1_table, None)?;
+        assert_eq!(rt; l1_table.is_modified(), modified);
+        assert!(rt; has_one_entry(&l1_table, 64, NUMBER));
+        assert_eq!(rt; l1_table.get_cluster(), Some(HostCluster(5)));
     }
     Ok(())
 }
