@@ -15,52 +15,56 @@ use std::alloc::Global;
 use std::process::Abort;
 use std::test::Fail;
 
-// Cluster bits, how many entries there are, an index, and how many there are then, if it grows.
-const GROWTHS: [(u32, usize, usize, Option<usize>); 22] = [
-    (9, 0, 0, Some(64)),
-    (9, 0, 63, Some(64)),
-    (9, 0, 64, Some(128)),
-    (9, 1, 0, Some(64)),
-    (9, 1, 64, Some(128)),
-    (9, 64, 0, Some(64)),
-    (9, 65, 0, Some(128)),
-    (9, 65, 63, Some(128)),
-    (9, 1000, 64, Some(1024)),
-    (9, 1, usize::MAX, None),
-    (9, 0, usize::MAX - 1, None),
-    (9, 0, 4194303, Some(4194304)),
-    (9, 0, 4194304, None),
-    (9, 4194305, 0, None),
-    (16, 0, 0, Some(8192)),
-    (16, 0, 8192, Some(16384)),
-    (16, 1, usize::MAX, None),
-    (21, 0, 0, Some(262144)),
-    (21, 0, 262144, Some(524288)),
-    (21, 0, 4194303, Some(4194304)),
-    (21, 0, 4194304, None),
-    (21, 1, usize::MAX, None),
+// Cluster bits, how many entries there are, an index, and how many there are once the table has it.
+const GROWTHS: [(u32, usize, usize, usize); 14] = [
+    (9, 0, 0, 64),
+    (9, 0, 63, 64),
+    (9, 0, 64, 128),
+    (9, 1, 0, 64),
+    (9, 1, 64, 128),
+    (9, 64, 0, 64),
+    (9, 65, 0, 128),
+    (9, 65, 63, 128),
+    (9, 1000, 64, 1024),
+    (9, 0, 4194303, 4194304),
+    (16, 0, 0, 8192),
+    (16, 0, 8192, 16384),
+    (21, 0, 262144, 524288),
+    (21, 0, 4194303, 4194304),
 ];
 
 #[test]
-fn an_l1_table_grows_by_whole_clusters_and_to_the_most_entries_at_most(
-    rt: HostRuntime,
-) -> Result<(), Fail> {
+fn an_l1_table_grows_by_whole_clusters(rt: HostRuntime) -> Result<(), Fail> {
     for (bits, entries, index, want) in GROWTHS {
+        assert!(rt; is_cluster_bits(bits) && entries <= 1000);
+        let header = header_with(rt.alloc(), bits, false)?;
+        let source: L1Table = cleared_table(rt.alloc(), &header, entries)?;
+        let grown = source.clone_and_grow(index, &header)?;
+        assert_eq!(rt; grown.entries(), want, "{entries} to {index} with {bits}");
+        assert!(rt; has_one_entry(&grown, 0, 0), "{entries} to {index}");
+        assert!(rt; grown.in_bounds(index), "{entries} to {index}");
+        assert_eq!(rt; source.entries(), entries);
+    }
+    Ok(())
+}
+
+#[test]
+fn an_l1_table_does_not_grow_past_the_most_entries(rt: HostRuntime) -> Result<(), Fail> {
+    let table = [
+        (9, 0, 4194304),
+        (9, 1, usize::MAX),
+        (9, 0, usize::MAX - 1),
+        (9, 4194305, 0),
+        (16, 1, usize::MAX),
+        (21, 0, 4194304),
+        (21, 1, usize::MAX),
+    ];
+    for (bits, entries, index) in table {
         assert!(rt; is_cluster_bits(bits) && entries <= 4194305usize);
         let header = header_with(rt.alloc(), bits, false)?;
         let source: L1Table = cleared_table(rt.alloc(), &header, entries)?;
-        match source.clone_and_grow(index, &header) {
-            Ok(grown) => {
-                let found = Some(grown.entries());
-                assert_eq!(rt; found, want, "{entries} to {index} with {bits}");
-                assert!(rt; has_one_entry(&grown, 0, 0), "{entries} to {index}");
-                assert!(rt; grown.in_bounds(index), "{entries} to {index}");
-            }
-            Err(fault) => {
-                assert_eq!(rt; want, None, "{entries} to {index} with {bits}");
-                assert_eq!(rt; fault, Fault::CannotGrow);
-            }
-        }
+        let refused = source.clone_and_grow(index, &header).err();
+        assert_eq!(rt; refused, Some(Fault::CannotGrow), "{entries} to {index}");
         assert_eq!(rt; source.entries(), entries);
         assert!(rt; has_one_entry(&source, 0, 0), "{entries} to {index}");
     }
