@@ -78,9 +78,7 @@ impl EntryTable<AtomicL2Entry> {
         cluster: HostCluster,
     ) -> Result<(), Fault>
         requires { self.old.modified ≡ true → self.old.cluster ≡ Some cluster }
-        ensures idle { self.old.modified ≡ false → IsOk result }
-        ensures idle_image { self.old.modified ≡ false → S.byte_at image.new ≡ S.byte_at image.old }
-        ensures idle_failures { self.old.modified ≡ false → S.failures image.new ≡ S.failures image.old }
+        ensures idle { self.old.modified ≡ false → IsOk result × (image.new ≡ image.old) }
         ensures refused { self.old.modified ≡ true → IfSome (write_fault 262144 self.old) (λ fault. result ≡ Err fault) }
         ensures faults { IfErr result (λ fault. (write_fault 262144 self.old ≡ Some fault) ⊎ (fault ≡ NoMemory) ⊎ (fault ≡ StorageFailed)) }
 
