@@ -1,3 +1,5 @@
+mod OnDiskStructExamples
 pub mod OnDiskStructLemmas
+mod StorageExamples
 mod StorageLemmas
-mod TypesLemmas
+pub mod TypesLemmas

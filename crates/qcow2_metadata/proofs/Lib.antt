@@ -1,2 +1,4 @@
+mod EntriesExamples
 mod EntriesLemmas
+mod TableExamples
 mod TableLemmas

@@ -1,4 +1,4 @@
-use Rattle.std.proofs.Common.{◌≡◌, ℕ, zero, suc, ◌+◌, ◌-◌, ◌*◌, ◌/◌, ◌%◌, ◌<◌, ◌≤◌, List, [], ◌∷◌, ◌++◌, map, length, get_or, replicate, set, take, Option, Some, None, IfSome, Ok, Err, refl, sym, ◌∙◌, ap, inl, inr, add-zero, add_assoc, arith}
+use Rattle.std.proofs.Common.{◌≡◌, ℕ, zero, suc, ◌+◌, ◌-◌, ◌*◌, ◌/◌, ◌%◌, ◌<◌, ◌≤◌, List, [], ◌∷◌, ◌++◌, map, length, get_or, slice_index, replicate, set, take, Option, Some, None, IfSome, Ok, Err, refl, sym, ◌∙◌, ap, inl, inr, add-zero, add_assoc, arith}
 use Rattle.std.specs.List.{range_with_len}
 use Rattle.std.specs.Option.{option_or}
 use Rattle.std.proofs.lemmas.List.{length-map, map-append, take_all, take_more}
@@ -9,11 +9,28 @@ use Rattle.std.specs.Slice.{IsGetResult}
 use mathlib.Core.Path.{fun_ext}
 use Rattle.qcow2_base.specs.Storage.{Holds, Image, IsBytes, SameOutside, be, be_of_same, be_tells, image_of}
 use Rattle.qcow2_base.specs.declared.fault.Fault.{Fault}
-use Rattle.qcow2_metadata.specs.Table.{decoded_table, first_fault, grown_numbers, table_numbers, unless_refused}
+use Rattle.qcow2_metadata.specs.Table.{IsFirstFault, decoded_table, first_fault, grown_numbers, table_numbers, unless_refused}
 
 no_fault_at_all : (first rest : Option Fault) → option_or first rest ≡ None → (first ≡ None) × (rest ≡ None)
 no_fault_at_all None rest h = (refl, h)
 no_fault_at_all (Some f) rest h = cc
+
+lawful_before : (fault : ℕ → Option Fault) (x : ℕ) (xs : List ℕ) (i : ℕ) → fault x ≡ None → ((j : ℕ) → j < i → fault (slice_index xs j) ≡ None) → (j : ℕ) → j < suc i → fault (slice_index (x ∷ xs) j) ≡ None
+lawful_before fault x xs i first rest zero below = first
+lawful_before fault x xs i first rest (suc j) below = rest j (omega arith)
+
+first_or_later : (fault : ℕ → Option Fault) (x : ℕ) (xs : List ℕ) (f : Fault) (first : Option Fault) → fault x ≡ first → option_or first (first_fault fault xs) ≡ Some f → (first_fault fault xs ≡ Some f → (i : ℕ) × IsFirstFault fault xs f i) → (i : ℕ) × IsFirstFault fault (x ∷ xs) f i
+first_or_later fault x xs f (Some g) is found later =
+    (zero, record { within = omega arith; here = is ∙ found; before = λ j below. absurd (omega arith) })
+first_or_later fault x xs f None is found later =
+    let at = later found in
+    (suc at.0, record { within = omega (arith, at.1.within); here = at.1.here; before = lawful_before fault x xs at.0 is at.1.before })
+
+-- the first fault is that of the first number that has one
+pub first_fault_is_first : (fault : ℕ → Option Fault) (xs : List ℕ) (f : Fault) → first_fault fault xs ≡ Some f → (i : ℕ) × IsFirstFault fault xs f i
+first_fault_is_first fault [] f found = cc
+first_fault_is_first fault (x ∷ xs) f found =
+    first_or_later fault x xs f (fault x) refl found (first_fault_is_first fault xs f)
 
 -- past numbers with no fault, the first fault is that of the others
 pub first_fault-append : (fault : ℕ → Option Fault) (xs ys : List ℕ) → first_fault fault xs ≡ None → first_fault fault (xs ++ ys) ≡ first_fault fault ys

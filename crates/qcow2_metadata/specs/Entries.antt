@@ -120,6 +120,10 @@ IsAmongClusters clusters c = (clusters.0.0 ≤ c) × (c < clusters.0.0 + cluster
 abbrev pub free_entry : HostCluster × ClusterCount → ClustersToFreeEntry
 free_entry clusters = record { first = clusters.0; count = clusters.1 }
 
+-- cluster c is one of those that are handed back
+abbrev pub IsFreed : ClustersToFreeEntry → ℕ → Type 0
+IsFreed freed c = (freed.first.0 ≤ c) × (c < freed.first.0 + freed.count.0)
+
 -- what is handed back when an entry is dropped
 abbrev pub clusters_to_free : ℕ → Bool → ℕ → Option ClustersToFreeEntry
 clusters_to_free cb external v = option_map free_entry (allocation cb external v)

@@ -1,4 +1,4 @@
-use Rattle.std.specs.Prelude.{◌≡◌, ℕ, Bool, ◌⊎◌, ◌+◌, ◌-◌, ◌*◌, ◌^◌, ◌<◌, ◌≤◌, max, nat_lt, if◌then◌else◌, List, [], ◌∷◌, ◌++◌, map, length, replicate, Option, Some, None, option_map, Result, Ok, Err, MatchResult, IfSome, IsTrue}
+use Rattle.std.specs.Prelude.{◌≡◌, ℕ, Bool, ◌⊎◌, ◌+◌, ◌-◌, ◌*◌, ◌^◌, ◌<◌, ◌≤◌, max, nat_lt, if◌then◌else◌, List, [], ◌∷◌, ◌++◌, map, length, slice_index, slice_set, replicate, Option, Some, None, option_map, Result, Ok, Err, MatchResult, IfSome, IsTrue}
 use Rattle.std.specs.Int.{next_multiple_of}
 use Rattle.std.specs.List.{range_with_len}
 use Rattle.std.specs.Option.{option_or}
@@ -36,6 +36,12 @@ table_numbers image offset n = map (λ i. be image (offset + 8 * i) 8) (range_wi
 abbrev pub first_fault : (ℕ → Option Fault) → List ℕ → Option Fault
 first_fault fault [] = None
 first_fault fault (v ∷ vs) = option_or (fault v) (first_fault fault vs)
+
+-- the number at i is the first that is no entry, and this is its fault
+pub record IsFirstFault (fault : ℕ → Option Fault) (numbers : List ℕ) (found : Fault) (i : ℕ) : Type 0 where
+  pub within : i < length numbers
+  pub here : fault (slice_index numbers i) ≡ Some found
+  pub before : (j : ℕ) → j < i → fault (slice_index numbers j) ≡ None
 
 -- the table of n entries at an offset: its numbers, or the fault of the first that is no entry
 abbrev pub decoded_table : (ℕ → Option Fault) → Image → ℕ → ℕ → Result (List ℕ) Fault
@@ -77,6 +83,10 @@ pub record IsLawful (fault_of : ℕ → ℕ → Option Fault) (has_lawful_count 
   pub valid : first_fault (fault_of cb) numbers ≡ None
   pub count : IsTrue (has_lawful_count cb (length numbers))
   pub bound : length numbers ≤ 2 ^ 48
+
+-- the list after a discard: 0 at the index, and the same elsewhere
+abbrev pub discarded : List ℕ → ℕ → List ℕ
+discarded numbers index = slice_set numbers index 0
 
 -- the number of entries that a table has after it has grown to hold an index: whole clusters of them
 abbrev pub grown_count : ℕ → ℕ → ℕ → ℕ

@@ -11,5 +11,6 @@ pub use entries::{
 };
 pub use header::Header;
 pub use table::{
-    EntryTable, L1Table, L2Table, L2TableWriteGuard, MAX_FILE_LENGTH, RefTable, Table, TableKind,
+    EntryTable, L1Table, L2Table, L2TableWriteGuard, MAX_FILE_LENGTH, MAX_OFFSET, RefTable, Table,
+    TableKind,
 };

@@ -27,6 +27,9 @@ pub use ref_table::RefTable;
 /// The greatest end of a table in an image, in bytes.
 pub const MAX_FILE_LENGTH: u64 = 1 << 56;
 
+/// The greatest offset that a cluster may have: a cluster of 512 bytes there ends at the greatest end.
+pub const MAX_OFFSET: HostOffset = HostOffset(MAX_FILE_LENGTH - 512);
+
 /// A table in memory. Its entries are lawful under the image's cluster size. It may have a cluster in
 /// the image, where it begins, and it knows whether it was changed since it was last read or written.
 pub trait Table: Sized {
@@ -149,6 +152,8 @@ pub trait Table: Sized {
         ensures exact { IsTrue (S.tells image.old) → let cb = header.now.cluster_bits in
             Answers (λ table. (state table).numbers) result
             (loaded_table MAX_ENTRIES (Self.InternalEntry.fault_of cb) cb (S.byte_at image.old) cluster.0 entries) }
+        ensures numbers { IsTrue (S.tells image.old) → IfOk result (λ table. (state table).numbers
+            ≡ table_numbers (S.byte_at image.old) (cluster.0 * 2 ^ header.now.cluster_bits) entries) }
         ensures entries { IfOk result (λ table. length (state table).numbers ≡ entries) }
         ensures cluster { IfOk result (λ table. (state table).cluster ≡ Some cluster) }
         ensures unmodified { IfOk result (λ table. (state table).modified ≡ false) }
@@ -283,6 +288,8 @@ fn decode<E: TableEntry + Drop>(
     ensures exact { (image : Image) (offset : ℕ) → Holds image offset bytes.now →
         Answers (λ list. map E.plain list.items) result
         (decoded_table (E.fault_of header.now.cluster_bits) image offset (length bytes.now / 8)) }
+    ensures numbers { (image : Image) (offset : ℕ) → Holds image offset bytes.now →
+        IfOk result (λ list. map E.plain list.items ≡ table_numbers image offset (length bytes.now / 8)) }
     ensures valid { IfOk result (λ list. first_fault (E.fault_of header.now.cluster_bits) (map E.plain list.items) ≡ None) }
     ensures count { IfOk result (λ list. length list.items ≡ length bytes.now / 8) }
     ensures faults { IfErr result (λ fault. (fault ≡ EntryReserved) ⊎ (fault ≡ EntryUnaligned) ⊎ (fault ≡ NoMemory)) }

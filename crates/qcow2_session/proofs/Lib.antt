@@ -1,2 +1,4 @@
+mod CommandsExamples
 pub mod CommandsLemmas
+mod LinesExamples
 pub mod LinesLemmas

@@ -1,12 +1,12 @@
 //! L2 tables: what the clusters of a part of the guest's disk read as.
 
-ghost use Rattle.std.specs.Prelude.{◌≡◌, ◌≢◌, ◌⊎◌, ◌-◌, ◌*◌, ◌%◌, ◌^◌, ◌==◌, ◌<◌, ◌↔◌, Some, None, Ok, Err, IfSome, IfOk, IfErr, IsOk, IsOkAnd, IsOkUnless, IsErrOf, OnOk, IsTrue, length, replicate, slice_index, slice_set, true, false};
+ghost use Rattle.std.specs.Prelude.{◌≡◌, ◌≢◌, ℕ, ◌⊎◌, ◌-◌, ◌*◌, ◌%◌, ◌^◌, ◌==◌, ◌<◌, ◌≤◌, ◌↔◌, Some, None, Ok, Err, IfSome, IfNone, IfOk, IfErr, IsOk, IsOkAnd, IsOkUnless, IsErrOf, OnOk, IsTrue, length, replicate, slice_index, true, false};
 ghost use Rattle.std.proofs.Common.{lit≤};
 ghost use Rattle.qcow2_base.specs.Storage.{SameOutside};
 ghost use Rattle.qcow2_base.specs.declared.fault.Fault.TheVariants.{NoMemory, Storage as StorageFailed};
-ghost use Rattle.qcow2_metadata.specs.Entries.{IsPlaced, clusters_to_free, l2_fault, mapping, meaning};
+ghost use Rattle.qcow2_metadata.specs.Entries.{IsFreed, IsPlaced, Meets, clusters_to_free, l2_fault, mapping, meaning};
 ghost use Rattle.qcow2_metadata.specs.Header.{uses_external_data};
-ghost use Rattle.qcow2_metadata.specs.Table.{decoded_table, place_of, table_numbers, write_fault};
+ghost use Rattle.qcow2_metadata.specs.Table.{decoded_table, discarded, place_of, table_numbers, write_fault};
 
 use super::{EntryTable, Table, TableKind};
 use crate::{AtomicL2Entry, ClustersToFreeEntry, Header, L2Entry, L2Mapping};
@@ -143,9 +143,17 @@ impl L2TableWriteGuard<'_> {
     pub fn discard_cluster(&mut self, index: usize) -> Option<ClustersToFreeEntry>
         requires { index < length self.old.table.now.numbers }
         ensures same_reference { self.new.table.ghost_name ≡ self.old.table.ghost_name }
-        ensures edit { self.new.table.now ≡ record (self.old.table.now) { numbers = slice_set self.old.table.now.numbers index 0; modified = true } }
+        ensures edit { self.new.table.now ≡ record (self.old.table.now) { numbers = discarded self.old.table.now.numbers index; modified = true } }
         ensures freed { let table = self.old.table.now in
             result ≡ clusters_to_free table.cluster_bits table.external_data_file (slice_index table.numbers index) }
+
+        // Just the clusters of which the entry referred to a byte.
+        ensures met { let table = self.old.table.now in
+            IfSome result (λ freed. (c : ℕ) →
+            Meets table.cluster_bits table.external_data_file (slice_index table.numbers index) c ↔ IsFreed freed c) }
+        ensures none { let table = self.old.table.now in
+            IfNone result ((c : ℕ) → Meets table.cluster_bits table.external_data_file (slice_index table.numbers index) c → ⊥) }
+        ensures count { IfSome result (λ freed. (1 ≤ freed.count.0) × (freed.count.0 ≤ 3)) }
     {
         let before = self.table.replace_entry(index, AtomicL2Entry::cleared());
         let external_data_file = self.table.has_external_data_file();

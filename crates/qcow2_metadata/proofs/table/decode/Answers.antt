@@ -2,7 +2,7 @@ use Rattle.std.proofs.Common.{◌≡◌, ◌+◌, ◌*◌, ◌/◌, ◌++◌, �
 use Rattle.std.proofs.lemmas.List.{map-append, length-map}
 use Rattle.std.proofs.lemmas.Result.{err_from_is_err_and}
 use Rattle.qcow2_base.specs.Storage.{image_of, be}
-use Rattle.qcow2_metadata.proofs.TableLemmas.{decoded_table-accepted, decoded_table-held, decoded_table-refused, first_fault_more, length-table_numbers, table_numbers_with}
+use Rattle.qcow2_metadata.proofs.TableLemmas.{decoded_table-accepted, decoded_table-held, decoded_table-refused, first_fault_more, length-table_numbers, table_numbers-held, table_numbers_with}
 use Rattle.qcow2_metadata.specs.Table.{first_fault, table_numbers}
 use Rattle.qcow2_metadata.proofs.table.decode.Goals as goal
 
@@ -44,6 +44,12 @@ returns-clause-exact g c whole offset held =
     let same = decoded_table-held fault whole offset n c.args.bytes.now held (omega arith) in
     let all : c.loop-index.index ≡ n = omega arith in
     same ∙ decoded_table-accepted fault (image_of c.args.bytes.now) 0 n numbers (rw all at c.loop-index.invariant.0) c.loop-index.invariant.1
+
+pub returns-clause-numbers : goal.returns-clause-numbers
+returns-clause-numbers g c whole offset held =
+    let n = length c.args.bytes.now / 8 in
+    let all : c.loop-index.index ≡ n = omega arith in
+    rw all at c.loop-index.invariant.0 ∙ sym (table_numbers-held whole offset n c.args.bytes.now held (omega arith))
 
 pub returns-clause-count : goal.returns-clause-count
 returns-clause-count g c =

@@ -1,0 +1,515 @@
+//! Loads and stores of integers and of structures, each by each call.
+
+ghost use Rattle.std.specs.Prelude.{◌≡◌, false, [], ◌∷◌, refl, IfOk};
+ghost use Rattle.std.proofs.Common.{rules};
+ghost use Rattle.qcow2_base.specs.OnDiskStruct.{big, little};
+
+use crate::gaps::TestGaps;
+use qcow2_base::{
+    Fault, HeaderExtensionHeader, OnDiskSize, OnDiskStruct, V2Header, V3HeaderBase, read_be,
+    read_le, write_be, write_le,
+};
+use std::fmt::Debug;
+use std::process::Abort;
+
+/// Fields one after the other, of three lengths.
+#[derive(Clone, Copy, Debug, PartialEq, Eq)]
+struct TestBE {
+    a: u32,
+    b: u64,
+    c: u16,
+}
+
+impl OnDiskStruct for TestBE {
+    const ON_DISK_SIZE: usize = 14;
+
+    ghost ON_DISK_SIZE = { 14 };
+
+    ghost exact = { false };
+
+    ghost layout = { λ _ value. big 0 4 value.a ∷ big 4 8 value.b ∷ big 12 2 value.c ∷ [] };
+
+    fn load_from_le(bytes: &[u8]) -> Result<TestBE, Fault> {
+        Self::load_from_be(bytes)
+    }
+
+    fn load_from_be(bytes: &[u8]) -> Result<TestBE, Fault> {
+        if bytes.len() < Self::ON_DISK_SIZE {
+            return Err(Fault::WrongLength);
+        }
+        Ok(TestBE {
+            a: read_be(bytes, 0),
+            b: read_be(bytes, 4),
+            c: read_be(bytes, 12),
+        })
+    }
+
+    fn store_to_le(&self, bytes: &mut [u8]) -> Result<(), Fault> {
+        self.store_to_be(bytes)
+    }
+
+    fn store_to_be(&self, bytes: &mut [u8]) -> Result<(), Fault> {
+        if bytes.len() < Self::ON_DISK_SIZE {
+            return Err(Fault::WrongLength);
+        }
+        write_be(bytes, 0, &self.a);
+        write_be(bytes, 4, &self.b);
+        write_be(bytes, 12, &self.c);
+        Ok(())
+    }
+
+    ghost size_is_end = { λ order value. refl };
+
+    ghost loads_back = { λ order image a b held_a held_b. Prim.search rules };
+}
+
+/// A structure in little-endian order.
+#[derive(Clone, Copy, Debug, PartialEq, Eq)]
+struct TestLE {
+    x: u32,
+    y: u32,
+}
+
+impl OnDiskStruct for TestLE {
+    const ON_DISK_SIZE: usize = 8;
+
+    ghost ON_DISK_SIZE = { 8 };
+
+    ghost exact = { false };
+
+    ghost layout = { λ _ value. little 0 4 value.x ∷ little 4 4 value.y ∷ [] };
+
+    fn load_from_le(bytes: &[u8]) -> Result<TestLE, Fault> {
+        if bytes.len() < Self::ON_DISK_SIZE {
+            return Err(Fault::WrongLength);
+        }
+        Ok(TestLE {
+            x: read_le(bytes, 0),
+            y: read_le(bytes, 4),
+        })
+    }
+
+    fn load_from_be(bytes: &[u8]) -> Result<TestLE, Fault> {
+        Self::load_from_le(bytes)
+    }
+
+    fn store_to_le(&self, bytes: &mut [u8]) -> Result<(), Fault> {
+        if bytes.len() < Self::ON_DISK_SIZE {
+            return Err(Fault::WrongLength);
+        }
+        write_le(bytes, 0, &self.x);
+        write_le(bytes, 4, &self.y);
+        Ok(())
+    }
+
+    fn store_to_be(&self, bytes: &mut [u8]) -> Result<(), Fault> {
+        self.store_to_le(bytes)
+    }
+
+    ghost size_is_end = { λ order value. refl };
+
+    ghost loads_back = { λ order image a b held_a held_b. Prim.search rules };
+}
+
+/// Fields of two lengths.
+#[derive(Clone, Copy, Debug, PartialEq, Eq)]
+struct TestAtomics {
+    plain: u32,
+    atomic32: u32,
+    atomic64: u64,
+}
+
+impl OnDiskStruct for TestAtomics {
+    const ON_DISK_SIZE: usize = 16;
+
+    ghost ON_DISK_SIZE = { 16 };
+
+    ghost exact = { false };
+
+    ghost layout = { λ _ value.
+        big 0 4 value.plain ∷ big 4 4 value.atomic32 ∷ big 8 8 value.atomic64 ∷ [] };
+
+    fn load_from_le(bytes: &[u8]) -> Result<TestAtomics, Fault> {
+        Self::load_from_be(bytes)
+    }
+
+    fn load_from_be(bytes: &[u8]) -> Result<TestAtomics, Fault> {
+        if bytes.len() < Self::ON_DISK_SIZE {
+            return Err(Fault::WrongLength);
+        }
+        Ok(TestAtomics {
+            plain: read_be(bytes, 0),
+            atomic32: read_be(bytes, 4),
+            atomic64: read_be(bytes, 8),
+        })
+    }
+
+    fn store_to_le(&self, bytes: &mut [u8]) -> Result<(), Fault> {
+        self.store_to_be(bytes)
+    }
+
+    fn store_to_be(&self, bytes: &mut [u8]) -> Result<(), Fault> {
+        if bytes.len() < Self::ON_DISK_SIZE {
+            return Err(Fault::WrongLength);
+        }
+        write_be(bytes, 0, &self.plain);
+        write_be(bytes, 4, &self.atomic32);
+        write_be(bytes, 8, &self.atomic64);
+        Ok(())
+    }
+
+    ghost size_is_end = { λ order value. refl };
+
+    ghost loads_back = { λ order image a b held_a held_b. Prim.search rules };
+}
+
+/// One field.
+#[derive(Clone, Copy, Debug, PartialEq, Eq)]
+struct TestSingle {
+    only: u64,
+}
+
+impl OnDiskStruct for TestSingle {
+    const ON_DISK_SIZE: usize = 8;
+
+    ghost ON_DISK_SIZE = { 8 };
+
+    ghost exact = { false };
+
+    ghost layout = { λ _ value. big 0 8 value.only ∷ [] };
+
+    fn load_from_le(bytes: &[u8]) -> Result<TestSingle, Fault> {
+        Self::load_from_be(bytes)
+    }
+
+    fn load_from_be(bytes: &[u8]) -> Result<TestSingle, Fault> {
+        if bytes.len() < Self::ON_DISK_SIZE {
+            return Err(Fault::WrongLength);
+        }
+        Ok(TestSingle {
+            only: read_be(bytes, 0),
+        })
+    }
+
+    fn store_to_le(&self, bytes: &mut [u8]) -> Result<(), Fault> {
+        self.store_to_be(bytes)
+    }
+
+    fn store_to_be(&self, bytes: &mut [u8]) -> Result<(), Fault> {
+        if bytes.len() < Self::ON_DISK_SIZE {
+            return Err(Fault::WrongLength);
+        }
+        write_be(bytes, 0, &self.only);
+        Ok(())
+    }
+
+    ghost size_is_end = { λ order value. refl };
+
+    ghost loads_back = { λ order image a b held_a held_b. Prim.search rules };
+}
+
+/// The three orders in which a value can be asked for.
+#[derive(Clone, Copy, Debug, PartialEq, Eq)]
+enum Call {
+    LittleEndian,
+    BigEndian,
+    Native,
+}
+
+const CALLS: [Call; 3] = [Call::LittleEndian, Call::BigEndian, Call::Native];
+
+fn load<T: OnDiskStruct>(call: Call, bytes: &[u8]) -> Result<T, Fault> {
+    match call {
+        Call::LittleEndian => T::load_from_le(bytes),
+        Call::BigEndian => T::load_from_be(bytes),
+        Call::Native => T::load_from(bytes),
+    }
+}
+
+fn store<T: OnDiskStruct>(call: Call, value: &T, bytes: &mut [u8]) -> Result<(), Fault> {
+    match call {
+        Call::LittleEndian => value.store_to_le(bytes),
+        Call::BigEndian => value.store_to_be(bytes),
+        Call::Native => value.store_to(bytes),
+    }
+}
+
+/// Stores the value and loads it again, which gives the value, whatever type it has.
+fn reload<T: OnDiskStruct + Drop>(value: &T, bytes: &mut [u8]) -> Result<T, Fault>
+    ensures { IfOk result (λ loaded. loaded ≡ value.now) }
+{
+    value.store_to_be(bytes)?;
+    T::load_from_be(bytes)
+}
+
+/// That the call stores the value as these bytes into a buffer of bytes 0xff that is `len` long,
+/// and loads it from there.
+fn expect_bytes<T: OnDiskStruct + Copy + Debug + PartialEq>(
+    rt: &impl Abort,
+    call: Call,
+    value: T,
+    expected: &[u8],
+    len: usize,
+) {
+    assert!(rt; expected.len() <= len && len <= 80);
+    let mut buffer = [0xff; 80];
+    let bytes = &mut buffer[..len];
+    assert_eq!(rt; store(call, &value, bytes), Ok(()), "{call:?} of {value:?}");
+    assert_eq!(rt; &bytes[..expected.len()], expected, "{call:?} of {value:?}");
+    let past = &bytes[expected.len()..];
+    assert!(rt;
+        past.iter().all(|byte| *byte == 0xff),
+        "{call:?} of {value:?}"
+    );
+    assert_eq!(rt; load(call, bytes), Ok(value), "{call:?} of {value:?}");
+    assert_eq!(rt; reload(&value, bytes), Ok(value), "{value:?}");
+}
+
+/// That the call refuses to store the value into a buffer that is `len` long, leaves it, and
+/// refuses to load from it.
+fn expect_refusal<T: OnDiskStruct + Copy + Debug + PartialEq>(
+    rt: &impl Abort,
+    call: Call,
+    value: T,
+    len: usize,
+) {
+    assert!(rt; len <= 80);
+    let mut buffer = [0xff; 80];
+    let bytes = &mut buffer[..len];
+    let refused = Err(Fault::WrongLength);
+    assert_eq!(rt; store(call, &value, bytes), refused, "{call:?} into {len}");
+    assert!(rt;
+        bytes.iter().all(|byte| *byte == 0xff),
+        "{call:?} into {len}"
+    );
+    let loaded: Result<T, Fault> = load(call, bytes);
+    assert_eq!(rt; loaded, Err(Fault::WrongLength), "{call:?} from {len}");
+}
+
+/// That each call stores the structure as these bytes, leaves what follows, and needs as many
+/// bytes.
+fn expect_structure<T: OnDiskStruct + Copy + Debug + PartialEq>(
+    rt: &impl Abort,
+    value: T,
+    expected: &[u8],
+) {
+    let size = expected.len();
+    assert!(rt; 0 < size && size < 80);
+    assert_eq!(rt; T::ON_DISK_SIZE, size);
+    assert_eq!(rt; value.on_disk_size(), size);
+    for call in CALLS {
+        expect_bytes(rt, call, value, expected, size);
+        expect_bytes(rt, call, value, expected, size + 1);
+        expect_bytes(rt, call, value, expected, 80);
+        expect_refusal(rt, call, value, size - 1);
+        expect_refusal(rt, call, value, 0);
+    }
+}
+
+/// That the calls store the integer as these bytes, and need exactly as many.
+fn expect_integer<T: OnDiskStruct + Copy + Debug + PartialEq>(
+    rt: &impl Abort,
+    value: T,
+    little: &[u8],
+    big: &[u8],
+) {
+    let size = little.len();
+    assert!(rt; 0 < size && size < 80);
+    assert_eq!(rt; T::ON_DISK_SIZE, size);
+    assert_eq!(rt; value.on_disk_size(), size);
+    expect_bytes(rt, Call::LittleEndian, value, little, size);
+    expect_bytes(rt, Call::BigEndian, value, big, size);
+    expect_bytes(rt, Call::Native, value, little, size);
+    for call in CALLS {
+        expect_refusal(rt, call, value, 0);
+        expect_refusal(rt, call, value, size - 1);
+        expect_refusal(rt, call, value, size + 1);
+    }
+}
+
+#[test]
+fn integers_stand_in_the_order_asked_for(rt: HostRuntime) {
+    expect_integer(&rt, 0x0102u16, &[0x02, 0x01], &[0x01, 0x02]);
+    expect_integer(&rt, 0u16, &[0; 2], &[0; 2]);
+    expect_integer(&rt, u16::MAX, &[0xff; 2], &[0xff; 2]);
+    let little = [0x04, 0x03, 0x02, 0x01];
+    expect_integer(&rt, 0x0102_0304u32, &little, &[0x01, 0x02, 0x03, 0x04]);
+    expect_integer(&rt, 0u32, &[0; 4], &[0; 4]);
+    expect_integer(&rt, u32::MAX, &[0xff; 4], &[0xff; 4]);
+    let little = [0x08, 0x07, 0x06, 0x05, 0x04, 0x03, 0x02, 0x01];
+    let big = [0x01, 0x02, 0x03, 0x04, 0x05, 0x06, 0x07, 0x08];
+    expect_integer(&rt, 0x0102_0304_0506_0708u64, &little, &big);
+    expect_integer(&rt, 0u64, &[0; 8], &[0; 8]);
+    expect_integer(&rt, u64::MAX, &[0xff; 8], &[0xff; 8]);
+}
+
+#[test]
+fn an_integer_needs_exactly_its_length(rt: HostRuntime) {
+    let mut short = [1, 2, 3];
+    assert_eq!(rt; 42u32.store_to_be(&mut short), Err(Fault::WrongLength));
+    assert_eq!(rt; short, [1, 2, 3]);
+    let mut long = [1, 2, 3, 4, 5];
+    assert_eq!(rt; 42u32.store_to_be(&mut long), Err(Fault::WrongLength));
+    assert_eq!(rt; long, [1, 2, 3, 4, 5]);
+    assert_eq!(rt; Fault::WrongLength.number(), 31);
+}
+
+#[test]
+fn big_endian_fields_stand_at_their_places(rt: HostRuntime) {
+    let value = TestBE {
+        a: 0x1122_3344,
+        b: 0x5566_7788_99aa_bbcc,
+        c: 0xddee,
+    };
+    let expected = [
+        0x11, 0x22, 0x33, 0x44, 0x55, 0x66, 0x77, 0x88, 0x99, 0xaa, 0xbb, 0xcc, 0xdd, 0xee,
+    ];
+    expect_structure(&rt, value, &expected);
+}
+
+#[test]
+fn little_endian_fields_stand_at_their_places(rt: HostRuntime) {
+    let value = TestLE {
+        x: 0x1122_3344,
+        y: 0x5566_7788,
+    };
+    let expected = [0x44, 0x33, 0x22, 0x11, 0x88, 0x77, 0x66, 0x55];
+    expect_structure(&rt, value, &expected);
+}
+
+#[test]
+fn fields_of_two_lengths_stand_at_their_places(rt: HostRuntime) {
+    let value = TestAtomics {
+        plain: 1,
+        atomic32: 0x0203_0405,
+        atomic64: 0x0607_0809_0a0b_0c0d,
+    };
+    let expected = [0, 0, 0, 1, 2, 3, 4, 5, 6, 7, 8, 9, 10, 11, 12, 13];
+    expect_structure(&rt, value, &expected);
+}
+
+#[test]
+fn a_gap_keeps_its_bytes(rt: HostRuntime) {
+    let value = TestGaps {
+        first: 0x1122_3344,
+        second: 0x5566,
+    };
+    let expected = [0x11, 0x22, 0x33, 0x44, 0xff, 0xff, 0xff, 0xff, 0x55, 0x66];
+    expect_structure(&rt, value, &expected);
+}
+
+#[test]
+fn a_single_field_is_a_structure(rt: HostRuntime) {
+    let value = TestSingle {
+        only: 0x1122_3344_5566_7788,
+    };
+    let expected = [0x11, 0x22, 0x33, 0x44, 0x55, 0x66, 0x77, 0x88];
+    expect_structure(&rt, value, &expected);
+    // A structure may be followed by other bytes, where an integer may not.
+    let mut longer = [0; 9];
+    assert_eq!(rt; value.store_to_be(&mut longer), Ok(()));
+    assert_eq!(rt;
+        value.only.store_to_be(&mut longer),
+        Err(Fault::WrongLength)
+    );
+}
+
+#[test]
+fn an_extension_begins_with_its_type_and_length(rt: HostRuntime) {
+    let value = HeaderExtensionHeader {
+        extension_type: 0xe279_2aca,
+        length: 5,
+    };
+    expect_structure(&rt, value, &[0xe2, 0x79, 0x2a, 0xca, 0, 0, 0, 5]);
+}
+
+#[test]
+fn the_default_base_has_no_features(rt: HostRuntime) {
+    let value = V3HeaderBase::default();
+    let expected = [
+        0, 0, 0, 0, 0, 0, 0, 0, 0, 0, 0, 0, 0, 0, 0, 0, 0, 0, 0, 0, 0, 0, 0, 0, 0, 0, 0, 4, 0, 0,
+        0, 0x68,
+    ];
+    expect_structure(&rt, value, &expected);
+}
+
+#[test]
+fn a_base_has_five_fields(rt: HostRuntime) {
+    let value = V3HeaderBase {
+        incompatible_features: 0x0102_0304_0506_0708,
+        compatible_features: 0x1112_1314_1516_1718,
+        autoclear_features: 0x2122_2324_2526_2728,
+        refcount_order: 0x3132_3334,
+        header_length: 0x4142_4344,
+    };
+    let expected = [
+        0x01, 0x02, 0x03, 0x04, 0x05, 0x06, 0x07, 0x08, 0x11, 0x12, 0x13, 0x14, 0x15, 0x16, 0x17,
+        0x18, 0x21, 0x22, 0x23, 0x24, 0x25, 0x26, 0x27, 0x28, 0x31, 0x32, 0x33, 0x34, 0x41, 0x42,
+        0x43, 0x44,
+    ];
+    expect_structure(&rt, value, &expected);
+}
+
+/// A version 2 header of which each field has bytes of its own.
+const HEADER: V2Header = V2Header {
+    magic: 0x5146_49fb,
+    version: 2,
+    backing_file_offset: 0x1112_1314_1516_1718,
+    backing_file_size: 0x2122_2324,
+    cluster_bits: 16,
+    size: 0x3132_3334_3536_3738,
+    crypt_method: 0x4142_4344,
+    l1_size: 0x5152_5354,
+    l1_table_offset: 0x6162_6364_6566_6768,
+    refcount_table_offset: 0x7172_7374_7576_7778,
+    refcount_table_clusters: 0x8182_8384,
+    nb_snapshots: 0x9192_9394,
+    snapshots_offset: 0xa1a2_a3a4_a5a6_a7a8,
+};
+
+#[test]
+fn a_version_2_header_has_thirteen_fields(rt: HostRuntime) {
+    let expected = [
+        0x51, 0x46, 0x49, 0xfb, 0, 0, 0, 2, 0x11, 0x12, 0x13, 0x14, 0x15, 0x16, 0x17, 0x18, 0x21,
+        0x22, 0x23, 0x24, 0, 0, 0, 16, 0x31, 0x32, 0x33, 0x34, 0x35, 0x36, 0x37, 0x38, 0x41, 0x42,
+        0x43, 0x44, 0x51, 0x52, 0x53, 0x54, 0x61, 0x62, 0x63, 0x64, 0x65, 0x66, 0x67, 0x68, 0x71,
+        0x72, 0x73, 0x74, 0x75, 0x76, 0x77, 0x78, 0x81, 0x82, 0x83, 0x84, 0x91, 0x92, 0x93, 0x94,
+        0xa1, 0xa2, 0xa3, 0xa4, 0xa5, 0xa6, 0xa7, 0xa8,
+    ];
+    expect_structure(&rt, HEADER, &expected);
+}
+
+#[test]
+fn a_version_2_header_needs_72_bytes(rt: HostRuntime) {
+    let mut bytes = [0xff; 71];
+    assert_eq!(rt; HEADER.store_to(&mut bytes), Err(Fault::WrongLength));
+    assert!(rt; bytes.iter().all(|byte| *byte == 0xff));
+}
+
+#[test]
+fn a_value_stands_at_any_place(rt: HostRuntime) {
+    for place in [0, 1, 5, 6] {
+        assert!(rt; place <= 6);
+        let mut bytes = [0xff; 10];
+        write_be(&mut bytes, place, &0x0102_0304u32);
+        assert_eq!(rt;
+            &bytes[place..place + 4],
+            [1, 2, 3, 4].as_slice(),
+            "at {place}"
+        );
+        let before = &bytes[..place];
+        let after = &bytes[place + 4..];
+        assert!(rt; before.iter().all(|byte| *byte == 0xff), "at {place}");
+        assert!(rt; after.iter().all(|byte| *byte == 0xff), "at {place}");
+        let number: u32 = read_be(&bytes, place);
+        assert_eq!(rt; number, 0x0102_0304, "at {place}");
+        write_le(&mut bytes, place, &0x0102_0304u32);
+        assert_eq!(rt;
+            &bytes[place..place + 4],
+            [4, 3, 2, 1].as_slice(),
+            "at {place}"
+        );
+        let number: u32 = read_le(&bytes, place);
+        assert_eq!(rt; number, 0x0102_0304, "at {place}");
+    }
+}

@@ -1,0 +1,88 @@
+use Rattle.std.proofs.Common.{◌≡◌, ◌*◌, Some, None, true, false, refl}
+use Rattle.qcow2_base.specs.declared.fault.Fault.TheVariants.{EntryReserved, EntryUnaligned}
+use Rattle.qcow2_metadata.specs.Entries.{allocation, backing, compressed, compressed_length, compressed_offset, data_file, l1_entry_for, l1_fault, l2_fault, mapping, ref_fault, zeros}
+
+-- numbers that are no entries: a reserved bit, an offset inside a cluster
+pub reserved_bit_56 : l2_fault 9 0x4100000000000000 ≡ Some EntryReserved
+reserved_bit_56 = refl
+
+pub reserved_bit_1 : l2_fault 9 2 ≡ Some EntryReserved
+reserved_bit_1 = refl
+
+pub compressed_and_copied : l2_fault 9 0xc000000000000000 ≡ Some EntryReserved
+compressed_and_copied = refl
+
+pub unaligned_data : l2_fault 16 0x200 ≡ Some EntryUnaligned
+unaligned_data = refl
+
+pub reserved_before_unaligned : l2_fault 16 0x202 ≡ Some EntryReserved
+reserved_before_unaligned = refl
+
+pub l1_bit_0 : l1_fault 9 1 ≡ Some EntryReserved
+l1_bit_0 = refl
+
+pub unaligned_l2_table : l1_fault 16 0x8000000000000200 ≡ Some EntryUnaligned
+unaligned_l2_table = refl
+
+pub unaligned_refcount_block : ref_fault 16 0x200 ≡ Some EntryUnaligned
+unaligned_refcount_block = refl
+
+-- numbers that are entries
+pub data_entry : l2_fault 9 0x8000000000000a00 ≡ None
+data_entry = refl
+
+pub l1_entry : l1_fault 9 0x8000000000000400 ≡ None
+l1_entry = refl
+
+pub highest_refcount_block : ref_fault 9 0xfffffffffffffe00 ≡ None
+highest_refcount_block = refl
+
+pub entered_cluster_2 : l1_entry_for (2 * 512) ≡ 0x8000000000000400
+entered_cluster_2 = refl
+
+-- what guest cluster 3 reads as
+pub data_in_a_cluster : mapping 9 false 3 0x8000000000000a00 ≡ data_file 5 true
+data_in_a_cluster = refl
+
+pub unallocated : mapping 9 false 3 0 ≡ backing 1536
+unallocated = refl
+
+pub copied_at_0 : mapping 9 false 3 0x8000000000000000 ≡ backing 1536
+copied_at_0 = refl
+
+pub copied_at_0_of_a_data_file : mapping 9 true 3 0x8000000000000000 ≡ data_file 0 true
+copied_at_0_of_a_data_file = refl
+
+pub zeros_without_a_cluster : mapping 9 false 3 0x8000000000000001 ≡ zeros None false
+zeros_without_a_cluster = refl
+
+pub zeros_with_a_cluster : mapping 9 false 3 0x8000000000000a01 ≡ zeros (Some 5) true
+zeros_with_a_cluster = refl
+
+pub compressed_data : mapping 16 false 3 0x4040000000010010 ≡ compressed 0x10010 1008
+compressed_data = refl
+
+-- the clusters that an entry refers to
+pub cluster_of_data : allocation 9 false 0x8000000000000a00 ≡ Some (record { 0 = 5 }, record { 0 = 1 })
+cluster_of_data = refl
+
+pub no_cluster : allocation 9 false 0x8000000000000000 ≡ None
+no_cluster = refl
+
+pub cluster_0_of_a_data_file : allocation 9 true 0x8000000000000000 ≡ Some (record { 0 = 0 }, record { 0 = 1 })
+cluster_0_of_a_data_file = refl
+
+pub compressed_within_one : allocation 16 false 0x4040000000010010 ≡ Some (record { 0 = 1 }, record { 0 = 1 })
+compressed_within_one = refl
+
+pub compressed_over_two : allocation 16 false 0x404000000001fff0 ≡ Some (record { 0 = 1 }, record { 0 = 2 })
+compressed_over_two = refl
+
+pub compressed_over_three : allocation 10 false 0x7000000000000600 ≡ Some (record { 0 = 1 }, record { 0 = 3 })
+compressed_over_three = refl
+
+pub length_to_the_end_of_the_sector : compressed_length 16 0x404000000001fff0 ≡ 528
+length_to_the_end_of_the_sector = refl
+
+pub offset_below_the_sectors : compressed_offset 10 0x7000000000000600 ≡ 0x600
+offset_below_the_sectors = refl

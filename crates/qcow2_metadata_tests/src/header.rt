@@ -1,0 +1,64 @@
+//! What headers tell of an image.
+
+ghost use Rattle.std.specs.Prelude.{◌≡◌, IfOk};
+ghost use Rattle.qcow2_base.specs.Types.{IsClusterBits};
+
+use crate::tables::text;
+use qcow2_metadata::Header;
+use qcow2_testing::is_cluster_bits;
+use std::alloc::{AllocError, Global};
+use std::test::Fail;
+
+#[test]
+fn a_new_header_tells_its_sizes(rt: HostRuntime) -> Result<(), Fail> {
+    // Cluster bits, and then the cluster size in bytes and the entries of an L2 table.
+    let table = [
+        (9, 512, 64),
+        (10, 1024, 128),
+        (15, 32768, 4096),
+        (16, 65536, 8192),
+        (20, 1048576, 131072),
+        (21, 2097152, 262144),
+    ];
+    for (bits, size, entries) in table {
+        assert!(rt; is_cluster_bits(bits));
+        for refcount_order in 0..7u32 {
+            let header = Header::new(rt.alloc(), bits, refcount_order, None, None, None)?;
+            assert_eq!(rt; header.cluster_bits(), bits);
+            assert_eq!(rt; header.cluster_size(), size, "of {bits}");
+            assert_eq!(rt; header.l2_entries(), entries, "of {bits}");
+            assert!(rt; !header.external_data_file());
+        }
+    }
+    Ok(())
+}
+
+#[test]
+fn guest_data_is_external_exactly_where_a_data_file_is_named(rt: HostRuntime) -> Result<(), Fail> {
+    // The backing file, its format and the data file, and then whether guest data is external.
+    let table = [
+        (None, None, None, false),
+        (Some("base.img"), None, None, false),
+        (Some("base.img"), Some("qcow2"), None, false),
+        (None, Some("raw"), None, false),
+        (None, None, Some("data.raw"), true),
+        (None, None, Some(""), true),
+        (Some("base.img"), Some("qcow2"), Some("data.raw"), true),
+    ];
+    for (backing, format, data, external) in table {
+        let header = Header::new(
+            rt.alloc(),
+            9,
+            4,
+            text(rt.alloc(), backing)?,
+            text(rt.alloc(), format)?,
+            text(rt.alloc(), data)?,
+        )?;
+        assert_eq!(rt;
+            header.external_data_file(),
+            external,
+            "{backing:?} {format:?} {data:?}"
+        );
+    }
+    Ok(())
+}

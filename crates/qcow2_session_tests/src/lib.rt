@@ -1,0 +1,10 @@
+//! Tests of the program's commands, and an output that fails where a test plans it.
+#![tactic(auto)]
+
+#[cfg(test)]
+mod commands;
+mod failing_output;
+#[cfg(test)]
+mod refused_memory;
+
+pub use failing_output::FailingOutput;

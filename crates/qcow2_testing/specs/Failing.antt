@@ -1,0 +1,25 @@
+use Rattle.std.specs.Prelude.{ℕ, zero, suc, List, Option, None, Some}
+use Rattle.qcow2_testing.specs.declared.failing.FailingStorage.{FailingStorage}
+use Rattle.qcow2_testing.specs.declared.failing.StorageCall.{StorageCall}
+
+-- the storage that calls are passed on to
+abbrev pub inner_of : {S : Type 0} → FailingStorage S → S
+inner_of storage = storage.inner
+
+-- how many calls pass before the one that fails, or none that fails
+abbrev pub plan_of : {S : Type 0} → FailingStorage S → Option ℕ
+plan_of storage = storage.plan
+
+-- the calls so far, in their order
+abbrev pub calls_of : {S : Type 0} → FailingStorage S → List StorageCall
+calls_of storage = storage.calls.items
+
+-- how many calls have failed, modulo 2^64
+abbrev pub failure_count : {S : Type 0} → FailingStorage S → ℕ
+failure_count storage = storage.failures
+
+-- the plan after one more call
+abbrev pub plan_after : Option ℕ → Option ℕ
+plan_after None = None
+plan_after (Some zero) = None
+plan_after (Some (suc passes)) = Some passes

@@ -1,0 +1,38 @@
+//! Files of tests in the folder for temporary files.
+
+use std::rt::Files;
+use std::test::Fail;
+use std::{env, fs, process};
+
+/// A file under a name of its own in the temporary folder. It goes when the value does.
+pub struct TemporaryFile<'a, R: Files> {
+    files: &'a R,
+    /// Where the file lies.
+    pub path: String,
+}
+
+impl<R: Files> Drop for TemporaryFile<'_, R> {
+    fn drop(self) {
+        let _ = fs::remove_file(self.files, self.path.as_str());
+        let TemporaryFile { files: _, path: _ } = self;
+    }
+}
+
+/// A path in the temporary folder where nothing lies.
+pub fn temporary_path(rt: &HostRuntime, name: &str) -> Result<String, Fail> {
+    let id = process::id(rt.process());
+    let name = format!(in rt.alloc(); "qcow2-tests-{id}-{name}")?;
+    let path = env::temp_dir(rt)?.join(rt.alloc(), name.as_str())?;
+    Ok(path.into_string())
+}
+
+/// A file of these bytes in the temporary folder.
+pub fn temporary_file<'a>(
+    rt: &'a HostRuntime,
+    name: &str,
+    bytes: &[u8],
+) -> Result<TemporaryFile<'a, HostRuntime>, Fail> {
+    let path = temporary_path(rt, name)?;
+    fs::write(rt, path.as_str(), bytes)?;
+    Ok(TemporaryFile { files: rt, path })
+}
