@@ -1,4 +1,4 @@
-use Rattle.std.proofs.Common.{◌≡◌, ℕ, ◌+◌, ◌-◌, ◌^◌, ◌==◌, ◌∷◌, [], ◌++◌, replicate, Some, None, Ok, Err, if◌then◌else◌, refl}
+use Rattle.std.proofs.Common.{◌≡◌, ℕ, ◌-◌, ◌^◌, ◌==◌, ◌∷◌, [], replicate, Some, None, Ok, Err, if◌then◌else◌, refl}
 use Rattle.qcow2_base.specs.Storage.{Image, be}
 use Rattle.qcow2_base.specs.declared.fault.Fault.TheVariants.{EntryUnaligned, TablePlace, TableTooBig}
 use Rattle.qcow2_metadata.specs.Entries.{l2_fault}
