@@ -1,12 +1,8 @@
 //! What headers tell of an image.
 
-ghost use Rattle.std.specs.Prelude.{◌≡◌, IfOk};
-ghost use Rattle.qcow2_base.specs.Types.{IsClusterBits};
-
 use crate::tables::text;
 use qcow2_metadata::Header;
 use qcow2_testing::is_cluster_bits;
-use std::alloc::{AllocError, Global};
 use std::test::Fail;
 
 #[test]

@@ -4,9 +4,8 @@ ghost use Rattle.std.specs.Prelude.{◌*◌, ◌^◌, ◌-◌, ◌<◌, ◌≤�
 ghost use Rattle.qcow2_base.specs.Types.{IsClusterBits};
 
 use crate::pending_clusters::refusal;
-use crate::tables::{
-    NUMBER, cleared_table, has_one_entry, header_with, image_with, place, table_with,
-};
+use crate::tables::{NUMBER, cleared_table, has_one_entry, header_with, image_with, table_with};
+use crate::three_tables::place;
 use qcow2_base::{ClusterCount, Fault, HostCluster, HostOffset};
 use qcow2_metadata::{
     ClustersToFreeEntry, Header, L1Table, L2Table, MAX_OFFSET, PendingClusters, Table,

@@ -22,5 +22,5 @@ mod tables;
 mod three_tables;
 
 pub use tables::{
-    NUMBER, cleared_table, filled_image, has_one_entry, header_with, image_with, place, table_with,
+    NUMBER, cleared_table, filled_image, has_one_entry, header_with, image_with, table_with,
 };

@@ -6,7 +6,8 @@
 
 ghost use Rattle.std.specs.Prelude.{IsTrue};
 
-use crate::tables::{NUMBER, has_one_entry, header_with, image_with, place, table_with};
+use crate::tables::{NUMBER, has_one_entry, header_with, image_with, table_with};
+use crate::three_tables::place;
 use qcow2_base::{Fault, HostCluster};
 use qcow2_metadata::{L1Table, L2Table, RefTable, Table};
 use std::alloc::Global;

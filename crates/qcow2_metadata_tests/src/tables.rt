@@ -5,9 +5,7 @@ ghost use Rattle.qcow2_base.specs.Types.{IsClusterBits};
 
 use qcow2_base::{HostCluster, MemStorage, Storage};
 use qcow2_metadata::{EntryTable, Header, Table, TableEntry, TableKind};
-use qcow2_testing::fits;
 use std::alloc::{AllocError, Global};
-use std::process::Abort;
 use std::test::Fail;
 
 /// A header of an image with clusters of `2^cluster_bits` bytes, whose guest data may lie in a file of
@@ -86,26 +84,6 @@ pub fn has_one_entry<T: Table>(table: &T, index: usize, number: u64) -> bool {
         }
     }
     true
-}
-
-/// Gives the table a cluster or none, and sets or clears its flag.
-pub fn place<T: Table>(rt: &impl Abort, table: &mut T, cluster: Option<u64>, modified: bool)
-    ensures cluster_bits { (T.state table.new).cluster_bits ≡ (T.state table.old).cluster_bits }
-    ensures numbers { (T.state table.new).numbers ≡ (T.state table.old).numbers }
-    ensures flag { (T.state table.new).modified ≡ modified }
-{
-    match cluster {
-        Some(cluster) => {
-            assert!(rt; fits(cluster, 0, table.cluster_bits()));
-            table.set_cluster(HostCluster(cluster));
-        }
-        None => table.unset_cluster(),
-    }
-    if modified {
-        table.set_modified();
-    } else {
-        table.clear_modified();
-    }
 }
 
 /// A table of so many entries 0.

@@ -1,19 +1,37 @@
 //! What holds of L1 tables, L2 tables and refcount tables alike, and what of one kind alone.
 
-ghost use Rattle.std.specs.Prelude.{◌≡◌, ◌≤◌, ◌^◌, IfOk, IsTrue, length};
+ghost use Rattle.std.specs.Prelude.{◌≡◌, ◌≤◌, IsTrue};
 ghost use Rattle.qcow2_base.specs.Types.{IsClusterBits};
 
 use crate::tables::{
-    NUMBER, cleared_table, filled_image, has_one_entry, header_with, image_with, place, table_with,
+    NUMBER, cleared_table, filled_image, has_one_entry, header_with, image_with, table_with,
 };
 use qcow2_base::{ClusterCount, Fault, HostCluster, HostOffset, Storage};
-use qcow2_metadata::{
-    EntryTable, Header, L1Table, L2Table, RefTable, Table, TableEntry, TableKind,
-};
+use qcow2_metadata::{L1Table, L2Table, RefTable, Table, TableEntry};
 use qcow2_testing::{FailingStorage, StorageCall, fits, is_cluster_bits};
 use std::alloc::Global;
 use std::process::Abort;
 use std::test::Fail;
+
+// Gives the table a cluster or none, and sets or clears its flag.
+pub(crate) fn place<T: Table>(rt: &impl Abort, table: &mut T, cluster: Option<u64>, modified: bool)
+    ensures cluster_bits { (T.state table.new).cluster_bits ≡ (T.state table.old).cluster_bits }
+    ensures numbers { (T.state table.new).numbers ≡ (T.state table.old).numbers }
+    ensures flag { (T.state table.new).modified ≡ modified }
+{
+    match cluster {
+        Some(cluster) => {
+            assert!(rt; fits(cluster, 0, table.cluster_bits()));
+            table.set_cluster(HostCluster(cluster));
+        }
+        None => table.unset_cluster(),
+    }
+    if modified {
+        table.set_modified();
+    } else {
+        table.clear_modified();
+    }
+}
 
 // A table that was just loaded from cluster 2 writes what was read, wherever its entry is.
 fn writes_what_was_read<T: Table + Drop, R: Abort>(

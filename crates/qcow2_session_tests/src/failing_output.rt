@@ -1,6 +1,6 @@
 //! An output that fails at a planned call, to show what a caller does then.
 
-ghost use Rattle.std.specs.Prelude.{◌≡◌, ℕ, List, [], length, None, Some, IsOk, IsErr, IfOk};
+ghost use Rattle.std.specs.Prelude.{◌≡◌, [], length, None, Some, IsOk, IsErr, IfOk};
 ghost use Rattle.std.specs.Io.{WritesAtMost};
 ghost use Rattle.std.specs.Io.KnownBytes.{Keeps, WriteAppends};
 ghost use Rattle.qcow2_testing.specs.Failing.{plan_after};
