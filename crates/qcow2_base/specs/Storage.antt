@@ -1,4 +1,6 @@
-use Rattle.std.specs.Prelude.{◌≡◌, ℕ, zero, suc, ◌+◌, ◌*◌, ◌^◌, ◌<◌, ◌≤◌, List, Option, Some, length, drop, slice_index, refl}
+use Rattle.std.specs.Prelude.{◌≡◌, ◌≢◌, ℕ, zero, suc, ◌+◌, ◌*◌, ◌^◌, ◌%◌, ◌<◌, ◌≤◌, ◌↔◌, Bool, IsTrue, List, Option, Some, IfSome, Result, MatchResult, OnOk, IfErr, IsErrOf, length, drop, slice_index, refl}
+use Rattle.qcow2_base.specs.declared.fault.Fault.{Fault}
+use Rattle.qcow2_base.specs.declared.fault.Fault.TheVariants.{Storage as StorageFailed}
 use Rattle.std.proofs.Common.{add-zero, add_assoc, arith, inl, inr, lit<}
 use Rattle.std.proofs.lemmas.List.{get_or_past}
 use Rattle.std.proofs.Props.{props}
@@ -23,6 +25,61 @@ pub record Holds (image : Image) (offset : ℕ) (bytes : List ℕ) : Type 0 wher
 pub record SameOutside (offset len : ℕ) (old new : Image) : Type 0 where
   pub before : (o : ℕ) → o < offset → new o ≡ old o
   pub after : (o : ℕ) → offset + len ≤ o → new o ≡ old o
+
+-- what a storage says: whether it tells its bytes, these bytes, how many calls have failed modulo 2^64,
+-- and its alignments
+pub record StorageState : Type 0 where
+  pub tells : Bool
+  pub byte_at : Image
+  pub failures : ℕ
+  pub mem_align : ℕ
+  pub req_align : ℕ
+
+-- one more failed call is counted exactly where the answer is an error
+abbrev pub CountsFailure : {T E : Type 0} → Result T E → StorageState → StorageState → Type 0
+CountsFailure answer old new =
+    MatchResult answer (λ _. new.failures ≡ old.failures) (λ _. new.failures ≡ (old.failures + 1) % 2 ^ 64)
+
+-- the storage tells its bytes, or doesn't, and is aligned as before
+pub record SameDevice (old new : StorageState) : Type 0 where
+  pub tells : new.tells ≡ old.tells
+  pub mem_align : new.mem_align ≡ old.mem_align
+  pub req_align : new.req_align ≡ old.req_align
+
+-- a read from an offset on that ended in this answer, and filled the buffer with these bytes
+pub record ReadsBytes {T E : Type 0} (answer : Result T E) (offset : ℕ) (bytes : List ℕ) (old new : StorageState) : Type 0 where
+  pub read : OnOk answer (IsTrue old.tells → Holds old.byte_at offset bytes)
+  pub unchanged : new.byte_at ≡ old.byte_at
+  pub failures : CountsFailure answer old new
+  pub device : SameDevice old new
+
+-- a write of these bytes from an offset on that ended in this answer: no byte outside its range changes
+pub record WritesBytes {T E : Type 0} (answer : Result T E) (offset : ℕ) (bytes : List ℕ) (old new : StorageState) : Type 0 where
+  pub written : OnOk answer (IsTrue old.tells → Holds new.byte_at offset bytes)
+  pub others : IsTrue old.tells → SameOutside offset (length bytes) old.byte_at new.byte_at
+  pub failures : CountsFailure answer old new
+  pub device : SameDevice old new
+
+-- calls that ended in this answer and only read: the storage fault is answered exactly where one of
+-- them failed, and nothing but the count of failures may differ
+pub record OnlyReads {T : Type 0} (answer : Result T Fault) (old new : StorageState) : Type 0 where
+  pub told : IsErrOf answer StorageFailed ↔ (new.failures ≢ old.failures)
+  pub bytes : new.byte_at ≡ old.byte_at
+  pub device : SameDevice old new
+
+-- calls that only read: where one failed, so much holds, and nothing but the count of failures may differ
+pub record ReadsFor (told : Type 0) (old new : StorageState) : Type 0 where
+  pub failed : new.failures ≢ old.failures → told
+  pub bytes : new.byte_at ≡ old.byte_at
+  pub device : SameDevice old new
+
+-- the same of calls that only write, and only these bytes from a place on: where no call of the storage
+-- failed, an error changed none of them
+pub record OnlyWrites {T : Type 0} (answer : Result T Fault) (place : Option ℕ) (len : ℕ) (old new : StorageState) : Type 0 where
+  pub told : IsErrOf answer StorageFailed ↔ (new.failures ≢ old.failures)
+  pub others : IsTrue old.tells → IfSome place (λ offset. SameOutside offset len old.byte_at new.byte_at)
+  pub refused : IfErr answer (λ fault. fault ≢ StorageFailed → new.byte_at ≡ old.byte_at)
+  pub device : SameDevice old new
 
 -- from some end on the image is zero
 abbrev pub Ends : Image → Type 0

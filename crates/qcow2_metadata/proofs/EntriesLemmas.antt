@@ -1,8 +1,10 @@
-use Rattle.std.proofs.Common.{◌≡◌, ℕ, Bool, ◌+◌, ◌-◌, ◌*◌, ◌/◌, ◌%◌, ◌^◌, ◌<◌, ◌≤◌, ◌↔◌, Some, None, refl, ap, sym, ◌∙◌, inl, inr, subst, arith}
+use Rattle.std.proofs.Common.{◌≡◌, ℕ, Bool, true, false, not, IsTrue, ◌&&◌, ◌||◌, nat_eq, nat_lt, if◌then◌else◌, ◌+◌, ◌-◌, ◌*◌, ◌/◌, ◌%◌, ◌^◌, ◌<◌, ◌≤◌, ◌↔◌, Some, None, refl, ap, sym, ◌∙◌, inl, inr, subst, add-zero, arith}
 use Rattle.std.proofs.lemmas.Bool.{cases_lt}
-use Rattle.std.proofs.lemmas.Nat.{pow_pos, pow-add}
+use Rattle.std.proofs.lemmas.Nat.{pow_pos, pow-add, mod-pow-add}
 use Rattle.std.proofs.Math.Nat.{mul_assoc, mul-mod_left, le-div_iff_mul-le, div-mul-le_self, mul-div_cancel, zero-mod, add-mul-div_right}
-use Rattle.qcow2_metadata.specs.Entries.{l1_entry_for, l1_fault, l1_reserved_bits, l2_fault, offset_field, ByteRange, byte_range, Meets, RangeMeets, first_cluster, cluster_count}
+use Rattle.std.proofs.Math.Pow.{pow_mono}
+use Rattle.std.proofs.lemmas.Bool.Decides.{same_from_decides, Decides-eqb, Decides-ltb}
+use Rattle.qcow2_metadata.specs.Entries.{entry_fault, is_compressed, l2_reserved_bits, l1_entry_for, l1_fault, l1_reserved_bits, l2_fault, offset_field, ByteRange, byte_range, Meets, RangeMeets, first_cluster, cluster_count}
 
 div_rises : (a b k : ℕ) → 0 < k → a ≤ b → a / k ≤ b / k
 div_rises a b k p h = (le-div_iff_mul-le p).1 (omega (arith, div-mul-le_self a k))
@@ -90,3 +92,48 @@ l1_entry_is_lawful cb cluster low fits =
     let field_is : offset_field (l1_entry_for offset) ≡ offset = omega arith in
     let aligned : offset % 2 ^ cb ≡ 0 = mul-mod_left cluster (2 ^ cb) in
     rw (reserved, field_is, aligned) refl
+
+-- the bits of a compressed entry's offset field from bit 56 on are clear just where the offset is below 2 ^ 56
+high_bits_clear : (cb v : ℕ) → 9 ≤ cb → cb ≤ 21 → (v / 2 ^ 56 * 2 ^ 56 % 2 ^ (70 - cb) ≡ 0) ↔ (v % 2 ^ (70 - cb) < 2 ^ 56)
+high_bits_clear cb v low high = elim (cases_lt 56 (70 - cb)) [
+  | inl wide ↦
+      let more = 70 - cb - 56 in
+      let whole : 70 - cb ≡ more + 56 = omega arith in
+      let kept : v / 2 ^ 56 * 2 ^ 56 / 2 ^ 56 ≡ v / 2 ^ 56 = omega arith in
+      let clear : v / 2 ^ 56 * 2 ^ 56 % 2 ^ 56 ≡ 0 = omega arith in
+      let above : v / 2 ^ 56 * 2 ^ 56 % 2 ^ (more + 56) ≡ v / 2 ^ 56 % 2 ^ more * 2 ^ 56 = rw (kept, clear) at (mod-pow-add (v / 2 ^ 56 * 2 ^ 56) more 56) ∙ add-zero _ in
+      let offset = mod-pow-add v more 56 in
+      rw whole (λ none. omega (arith, above, offset), λ low. omega (arith, above, offset))
+  | inr narrow ↦
+      let power = pow-add 2 (56 - (70 - cb)) (70 - cb) in
+      let whole : 56 - (70 - cb) + (70 - cb) ≡ 56 = omega arith in
+      let split : 2 ^ 56 ≡ 2 ^ (56 - (70 - cb)) * 2 ^ (70 - cb) = rw whole at power in
+      let none : v / 2 ^ 56 * 2 ^ 56 % 2 ^ (70 - cb) ≡ 0 =
+      ap (λ (x : ℕ). v / 2 ^ 56 * x % 2 ^ (70 - cb)) split
+      ∙ ap (λ (x : ℕ). x % 2 ^ (70 - cb)) (sym (mul_assoc (v / 2 ^ 56) (2 ^ (56 - (70 - cb))) (2 ^ (70 - cb))))
+      ∙ mul-mod_left (v / 2 ^ 56 * 2 ^ (56 - (70 - cb))) (2 ^ (70 - cb)) in
+      (λ _. omega (arith, pow_pos (70 - cb), pow_mono narrow), λ _. none)
+]
+
+same_test : (cb v : ℕ) → 9 ≤ cb → cb ≤ 21 → nat_eq (v / 2 ^ 56 * 2 ^ 56 % 2 ^ (70 - cb)) 0 ≡ nat_lt (v % 2 ^ (70 - cb)) (2 ^ 56)
+same_test cb v low high =
+    let clear = high_bits_clear cb v low high in
+    let below = Decides-ltb (v % 2 ^ (70 - cb)) (2 ^ 56) in
+    same_from_decides _ _ (Decides-eqb _ 0) (λ t. clear.1 (below.0 t), λ none. below.1 (clear.0 none))
+
+-- a number is lawful where its reserved bits are clear and its kind's offset is
+lawful_by_kind : (clear compressed low aligned : Bool) → IsTrue (clear && (if compressed then low else aligned)) ↔ (entry_fault (not clear || (compressed && not low)) (not compressed && not aligned) ≡ None)
+lawful_by_kind false compressed low aligned = (λ t. cc, λ e. cc)
+lawful_by_kind true true true aligned = (λ _. refl, λ _. refl)
+lawful_by_kind true true false aligned = (λ t. cc, λ e. cc)
+lawful_by_kind true false low true = (λ _. refl, λ _. refl)
+lawful_by_kind true false low false = (λ t. cc, λ e. cc)
+
+by_cases : (test offset low aligned : Bool) → (test ≡ true → offset ≡ low) → (test ≡ false → offset ≡ aligned) → offset ≡ (if test then low else aligned)
+by_cases true offset low aligned first second = first refl
+by_cases false offset low aligned first second = second refl
+
+pub l2_is_lawful : (cb v : ℕ) (offset : Bool) → 9 ≤ cb → cb ≤ 21 → (is_compressed v ≡ true → offset ≡ nat_eq (v / 2 ^ 56 * 2 ^ 56 % 2 ^ (70 - cb)) 0) → (is_compressed v ≡ false → offset ≡ nat_eq (offset_field v % 2 ^ cb) 0) → IsTrue (nat_eq (l2_reserved_bits v) 0 && offset) ↔ (l2_fault cb v ≡ None)
+l2_is_lawful cb v offset low high compressed standard =
+    let which = by_cases (is_compressed v) offset (nat_lt (v % 2 ^ (70 - cb)) (2 ^ 56)) (nat_eq (offset_field v % 2 ^ cb) 0) (λ e. compressed e ∙ same_test cb v low high) standard in
+    rw which (lawful_by_kind (nat_eq (l2_reserved_bits v) 0) (is_compressed v) (nat_lt (v % 2 ^ (70 - cb)) (2 ^ 56)) (nat_eq (offset_field v % 2 ^ cb) 0))

@@ -1,7 +1,7 @@
-use Rattle.std.proofs.Common.{◌≡◌, ℕ, zero, suc, ◌+◌, ◌-◌, ◌*◌, ◌/◌, ◌%◌, ◌<◌, ◌≤◌, List, [], ◌∷◌, ◌++◌, map, length, get_or, slice_index, replicate, set, take, Option, Some, None, IfSome, Ok, Err, refl, sym, ◌∙◌, ap, inl, inr, add-zero, add_assoc, arith}
+use Rattle.std.proofs.Common.{◌≡◌, ℕ, zero, suc, ◌+◌, ◌-◌, ◌*◌, ◌/◌, ◌%◌, ◌<◌, ◌≤◌, List, [], ◌∷◌, ◌++◌, map, length, get_or, slice_index, replicate, set, take, Option, Some, None, IfSome, refl, sym, ◌∙◌, ap, inl, inr, add-zero, add_assoc, arith}
 use Rattle.std.specs.List.{range_with_len}
 use Rattle.std.specs.Option.{option_or}
-use Rattle.std.proofs.lemmas.List.{length-map, map-append, take_all, take_more}
+use Rattle.std.proofs.lemmas.List.{length-map, map-append, take_all}
 use Rattle.std.proofs.lemmas.List.FromFn.{get_or-map-range_with_len, map-range_with_len_more, length-map-range_with_len}
 use Rattle.std.proofs.lemmas.Bool.{cases_lt}
 use Rattle.std.specs.Borrow.{Bor}
@@ -9,9 +9,9 @@ use Rattle.std.specs.Slice.{IsGetResult}
 use mathlib.Core.Path.{fun_ext}
 use Rattle.qcow2_base.specs.Storage.{Holds, Image, IsBytes, SameOutside, be, be_of_same, be_tells, image_of}
 use Rattle.qcow2_base.specs.declared.fault.Fault.{Fault}
-use Rattle.qcow2_metadata.specs.Table.{IsFirstFault, decoded_table, first_fault, grown_numbers, table_numbers, unless_refused}
+use Rattle.qcow2_metadata.specs.Table.{IsFirstFault, first_fault, grown_numbers, table_numbers}
 
-no_fault_at_all : (first rest : Option Fault) → option_or first rest ≡ None → (first ≡ None) × (rest ≡ None)
+pub no_fault_at_all : (first rest : Option Fault) → option_or first rest ≡ None → (first ≡ None) × (rest ≡ None)
 no_fault_at_all None rest h = (refl, h)
 no_fault_at_all (Some f) rest h = cc
 
@@ -43,9 +43,6 @@ first_fault-append fault (x ∷ xs) ys h =
 pub table_numbers_more : (image : Image) (offset i : ℕ) → table_numbers image offset (i + 1) ≡ table_numbers image offset i ++ be image (offset + 8 * i) 8 ∷ []
 table_numbers_more image offset i = map-range_with_len_more (λ j. be image (offset + 8 * j) 8) 0 i i (omega arith)
 
-pub table_numbers_with : (image : Image) (offset i v : ℕ) (before : List ℕ) → before ≡ table_numbers image offset i → v ≡ be image (offset + 8 * i) 8 → before ++ v ∷ [] ≡ table_numbers image offset (i + 1)
-table_numbers_with image offset i v before same number = rw (same, number) (sym (table_numbers_more image offset i))
-
 pub length-table_numbers : (image : Image) (offset n : ℕ) → length (table_numbers image offset n) ≡ n
 length-table_numbers image offset n = length-map-range_with_len (λ j. be image (offset + 8 * j) 8) 0 n
 
@@ -53,7 +50,7 @@ length-table_numbers image offset n = length-map-range_with_len (λ j. be image 
 pub first_fault_more : (fault : ℕ → Option Fault) (xs : List ℕ) (v : ℕ) → first_fault fault xs ≡ None → fault v ≡ None → first_fault fault (xs ++ v ∷ []) ≡ None
 first_fault_more fault xs v h none = first_fault-append fault xs (v ∷ []) h ∙ rw none refl
 
-range-append : (a n k : ℕ) → range_with_len a (n + k) ≡ range_with_len a n ++ range_with_len (a + n) k
+pub range-append : (a n k : ℕ) → range_with_len a (n + k) ≡ range_with_len a n ++ range_with_len (a + n) k
 range-append a zero k =
     let left : zero + k ≡ k = omega arith in
     let right : a + zero ≡ a = omega arith in
@@ -62,19 +59,6 @@ range-append a (suc n) k =
     let left : suc n + k ≡ suc (n + k) = omega arith in
     let right : a + 1 + n ≡ a + suc n = omega arith in
     rw left (ap (λ (xs : List ℕ). a ∷ xs) (rw right at (range-append (a + 1) n k)))
-
--- the numbers before number i, that number, and the others
-table_numbers_at : (image : Image) (offset i n : ℕ) → i < n → table_numbers image offset n ≡ table_numbers image offset i ++ (be image (offset + 8 * i) 8 ∷ map (λ j. be image (offset + 8 * j) 8) (range_with_len (i + 1) (n - suc i)))
-table_numbers_at image offset i n below =
-    let whole : n ≡ i + suc (n - suc i) = omega arith in
-    let start : 0 + i ≡ i = omega arith in
-    let split = range-append 0 i (suc (n - suc i)) in
-    ap (table_numbers image offset) whole ∙ ap (map (λ j. be image (offset + 8 * j) 8)) (rw start at split) ∙ map-append (λ j. be image (offset + 8 * j) 8) (range_with_len 0 i) (range_with_len i (suc (n - suc i)))
-
--- the first number that is no entry decides
-pub decoded_table-refused : (fault : ℕ → Option Fault) (image : Image) (offset i n : ℕ) (f : Fault) → i < n → first_fault fault (table_numbers image offset i) ≡ None → fault (be image (offset + 8 * i) 8) ≡ Some f → decoded_table fault image offset n ≡ Err f
-decoded_table-refused fault image offset i n f below none bad =
-    rw (table_numbers_at image offset i n below, first_fault-append fault (table_numbers image offset i) (be image (offset + 8 * i) 8 ∷ map (λ j. be image (offset + 8 * j) 8) (range_with_len (i + 1) (n - suc i))) none, bad) refl
 
 map_range_same : (f g : ℕ → ℕ) (a n : ℕ) → ((j : ℕ) → j < n → f (a + j) ≡ g (a + j)) → map f (range_with_len a n) ≡ map g (range_with_len a n)
 map_range_same f g a zero same = refl
@@ -118,23 +102,6 @@ same_table_same_image old new offset n small small' same outside =
         | inr after ↦ outside.after o after
       ]
     ])
-
--- the bytes that an image holds decode to the table in the image
-pub decoded_table-held : (fault : ℕ → Option Fault) (image : Image) (offset n : ℕ) (bytes : List ℕ) → Holds image offset bytes → 8 * n ≤ length bytes → decoded_table fault image offset n ≡ decoded_table fault (image_of bytes) 0 n
-decoded_table-held fault image offset n bytes held within =
-    ap (λ (xs : List ℕ). unless_refused (first_fault fault xs) (Ok xs)) (table_numbers-held image offset n bytes held within)
-
--- numbers none of which is refused are a table
-pub decoded_table-accepted : (fault : ℕ → Option Fault) (image : Image) (offset n : ℕ) (numbers : List ℕ) → numbers ≡ table_numbers image offset n → first_fault fault numbers ≡ None → decoded_table fault image offset n ≡ Ok numbers
-decoded_table-accepted fault image offset n numbers same none =
-    ap (λ (xs : List ℕ). unless_refused (first_fault fault xs) (Ok xs)) (sym same) ∙ rw none refl
-
--- one number more in an image that holds those before
-pub table_numbers_put : (old new : Image) (i v : ℕ) (numbers : List ℕ) → i < length numbers → v ≡ get_or numbers i 0 → be new (8 * i + 0) 8 ≡ v → ((o : ℕ) → o < 8 * i → new o ≡ old o) → table_numbers old 0 i ≡ take i numbers → table_numbers new 0 (i + 1) ≡ take (i + 1) numbers
-table_numbers_put old new i v numbers within number placed before so_far =
-    let place : 0 + 8 * i ≡ 8 * i + 0 = omega arith in
-    let same = table_numbers_same new old 0 0 i (λ k below. let zero_k : 0 + k ≡ k = omega arith in rw zero_k (before k below)) in
-    table_numbers_more new 0 i ∙ rw (place, placed, same, so_far, number, take_more numbers i 0 within) refl
 
 -- the same, where the table's place may be none
 pub same_table_same_image_at : (old new : Image) (place : Option ℕ) (offset : ℕ) (numbers : List ℕ) → place ≡ Some offset → IsBytes old → IsBytes new → table_numbers new offset (length numbers) ≡ numbers → SameOutside offset (8 * length numbers) old new → IfSome place (λ o. table_numbers old o (length numbers) ≡ numbers → new ≡ old)

@@ -1,4 +1,4 @@
-use Rattle.std.specs.Prelude.{◌≡◌, ℕ, Bool, true, false, not, ◌&&◌, ◌||◌, ◌==◌, ◌+◌, ◌-◌, ◌*◌, ◌/◌, ◌%◌, ◌^◌, ◌<◌, ◌≤◌, nat_lt, if◌then◌else◌, Option, Some, None, option_map, IfSome, ⊤}
+use Rattle.std.specs.Prelude.{◌≡◌, ℕ, Bool, true, false, not, ◌&&◌, ◌||◌, ◌==◌, ◌+◌, ◌-◌, ◌*◌, ◌/◌, ◌%◌, ◌^◌, ◌<◌, ◌≤◌, nat_lt, if◌then◌else◌, Option, Some, None, option_map, IfSome, MatchOption, ◌↔◌, ⊤}
 use Rattle.std.specs.Int.NonZero.{non_zero_u64_get}
 use Rattle.qcow2_base.specs.declared.fault.Fault.{Fault}
 use Rattle.qcow2_base.specs.declared.fault.Fault.TheVariants.{EntryReserved, EntryUnaligned}
@@ -127,6 +127,11 @@ IsFreed freed c = (freed.first.0 ≤ c) × (c < freed.first.0 + freed.count.0)
 -- what is handed back when an entry is dropped
 abbrev pub clusters_to_free : ℕ → Bool → ℕ → Option ClustersToFreeEntry
 clusters_to_free cb external v = option_map free_entry (allocation cb external v)
+
+-- just the clusters of which an entry refers to a byte, one to three, are handed back, or none where it refers to none
+abbrev pub HandsBack : ℕ → Bool → ℕ → Option ClustersToFreeEntry → Type 0
+HandsBack cb external v freed = MatchOption freed ((c : ℕ) → Meets cb external v c → ⊥)
+    (λ (f : ClustersToFreeEntry). ((c : ℕ) → Meets cb external v c ↔ IsFreed f c) × (1 ≤ f.count.0) × (f.count.0 ≤ 3))
 
 -- what a guest cluster reads as
 pub data Mapping : Type 0 where

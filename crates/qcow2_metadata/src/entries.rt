@@ -1,6 +1,6 @@
 //! The entries of tables: which numbers are lawful, and what they mean.
 
-ghost use Rattle.std.specs.Prelude.{◌≡◌, ℕ, ◌⊎◌, ◌+◌, ◌*◌, ◌%◌, ◌^◌, ◌<◌, ◌≤◌, ◌↔◌, false, is_some, Option, Some, None, option_map, IfSome, IfNone, IfOk, IfErr, OnOk, IsOkAnd};
+ghost use Rattle.std.specs.Prelude.{◌≡◌, ℕ, ◌⊎◌, ◌+◌, ◌*◌, ◌%◌, ◌^◌, ◌<◌, ◌≤◌, ◌↔◌, false, is_some, IsTrue, Option, Some, None, option_map, IfSome, IfNone, IfOk, IfErr, OnOk, IsOkAnd};
 ghost use Rattle.std.specs.Int.NonZero.{non_zero_u64_get};
 ghost use Rattle.qcow2_base.specs.Types.{IsClusterBits};
 ghost use Rattle.qcow2_base.specs.declared.fault.Fault.{Fault as AnyFault};
@@ -71,6 +71,15 @@ pub trait TableEntry: Sized {
         ensures number { IfOk result (λ entry. plain entry ≡ value) }
         ensures refused { IfErr result (λ fault. fault_of header.now.cluster_bits value ≡ Some fault) }
         ensures faults { IfErr result (λ fault. (fault ≡ EntryReserved) ⊎ (fault ≡ EntryUnaligned)) };
+
+    /// Whether `try_from_plain` accepts a number. It takes no branch, so that a loop over many numbers
+    /// tests several at once.
+    fn is_lawful(value: u64, header: &Header) -> bool
+        ensures { IsTrue result ↔ (fault_of header.now.cluster_bits value ≡ None) };
+
+    /// The entry with a number that was tested before.
+    fn from_tested(value: u64) -> Self
+        ensures { plain result ≡ value };
 
     /// The number that was accepted.
     fn to_plain(&self) -> u64
@@ -310,6 +319,24 @@ impl TableEntry for L2Entry {
         Ok(entry)
     }
 
+    #[inline]
+    fn is_lawful(value: u64, header: &Header) -> bool {
+        let cluster_bits = header.cluster_bits();
+        let entry = L2Entry { value };
+        let offset_is_lawful = if entry.is_compressed() {
+            (value >> 56 << 56) % (1 << (70 - cluster_bits)) == 0
+        } else {
+            HostOffset(field(value, 9, 47) * 512).in_cluster_offset(cluster_bits) == 0
+        };
+        (entry.reserved_bits() == 0) & offset_is_lawful
+    }
+
+    #[inline]
+    fn from_tested(value: u64) -> Self {
+        L2Entry { value }
+    }
+
+    #[inline]
     fn to_plain(&self) -> u64 {
         self.value
     }
@@ -369,6 +396,17 @@ impl TableEntry for AtomicL2Entry {
         Ok(AtomicL2Entry::new(L2Entry::try_from_plain(value, header)?))
     }
 
+    #[inline]
+    fn is_lawful(value: u64, header: &Header) -> bool {
+        L2Entry::is_lawful(value, header)
+    }
+
+    #[inline]
+    fn from_tested(value: u64) -> Self {
+        AtomicL2Entry::new(L2Entry { value })
+    }
+
+    #[inline]
     fn to_plain(&self) -> u64 {
         self.entry.value
     }

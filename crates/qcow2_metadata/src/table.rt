@@ -1,17 +1,17 @@
 //! Tables of entries: L1 tables, L2 tables and refcount tables differ in their entries alone, so
 //! loading and writing stand in one trait and are proved once.
 
-ghost use Rattle.std.specs.Prelude.{◌≡◌, ◌≢◌, ℕ, Bool, true, false, ◌⊎◌, ◌+◌, ◌*◌, ◌/◌, ◌^◌, ◌<◌, ◌≤◌, ◌↔◌, IsTrue, length, map, slice_index, slice_get, Option, Some, None, option_map, IfSome, MatchOption, Ok, Err, IfOk, IfErr, OnOk, IsErrOf, MatchResult};
+ghost use Rattle.std.specs.Prelude.{◌≡◌, ◌≢◌, ℕ, Bool, true, false, ◌⊎◌, ◌+◌, ◌++◌, ◌*◌, ◌/◌, ◌^◌, ◌<◌, ◌≤◌, ◌↔◌, IsTrue, length, map, slice_index, slice_get, Option, Some, None, option_map, IfSome, MatchOption, Ok, Err, IfOk, IfErr, OnOk, IsErrOf, MatchResult};
 ghost use Rattle.std.specs.Int.{div_ceil};
-ghost use Rattle.qcow2_base.specs.Storage.{Image, Holds, SameOutside, be, image_of};
+ghost use Rattle.qcow2_base.specs.Storage.{Image, OnlyReads, OnlyWrites, be, image_of};
 ghost use Rattle.qcow2_base.specs.Types.{IsClusterBits};
 ghost use Rattle.qcow2_base.specs.declared.fault.Fault.TheVariants.{EntryReserved, EntryUnaligned, NoMemory, Storage as StorageFailed};
 ghost use Rattle.qcow2_base.specs.declared.types.HostOffset.{HostOffset as Offset};
 ghost use Rattle.qcow2_metadata.specs.Header.{uses_external_data};
-ghost use Rattle.qcow2_metadata.specs.Table.{TableState, Answers, IsLoadFault, decoded_table, first_fault, loaded_table, place_fault, place_of, table_numbers, write_fault};
+ghost use Rattle.qcow2_metadata.specs.Table.{new_table, Loads, Writes, TableState, Answers, chunk_numbers, FlagTells, IsLoadFault, IsLoaded, IsWriteFault, IsWritten, WritesPieces, decoded_table, first_fault, loaded_table, place_fault, place_of, table_numbers, write_fault};
 
 use crate::{Header, TableEntry};
-use qcow2_base::{ClusterCount, Fault, HostCluster, HostOffset, Storage, read_be, write_be};
+use qcow2_base::{ClusterCount, Fault, HostCluster, HostOffset, Storage, StorageFault, write_be};
 use std::alloc::{AllocError, Global};
 
 mod entry_table;
@@ -29,6 +29,12 @@ pub const MAX_FILE_LENGTH: u64 = 1 << 56;
 
 /// The greatest offset that a cluster may have: a cluster of 512 bytes there ends at the greatest end.
 pub const MAX_OFFSET: HostOffset = HostOffset(MAX_FILE_LENGTH - 512);
+
+/// How many bytes of a table are read or written at once, at most.
+const PIECE_BYTES: usize = 4096;
+
+/// How many entries these are.
+const PIECE_ENTRIES: usize = PIECE_BYTES / 8;
 
 /// A table in memory. Its entries are lawful under the image's cluster size. It may have a cluster in
 /// the image, where it begins, and it knows whether it was changed since it was last read or written.
@@ -58,13 +64,7 @@ pub trait Table: Sized {
         requires valid { first_fault (Self.InternalEntry.fault_of header.now.cluster_bits) (map Self.InternalEntry.plain list.items) ≡ None }
         requires count { IsTrue (has_lawful_count header.now.cluster_bits (length list.items)) }
         requires bound { length list.items ≤ 2 ^ 48 }
-        ensures { state result ≡ record {
-          numbers = map Self.InternalEntry.plain list.items;
-          cluster = None;
-          modified = true;
-          cluster_bits = header.now.cluster_bits;
-          external_data_file = uses_external_data header.now;
-        } };
+        ensures { state result ≡ new_table (map Self.InternalEntry.plain list.items) header.now };
 
     /// The number of entries.
     fn entries(&self) -> usize
@@ -134,11 +134,12 @@ pub trait Table: Sized {
         ClusterCount::from_byte_size(self.byte_size() as u64, self.cluster_bits())
     }
 
-    /// Reads the table of so many entries that begins with a cluster of the image. It has that
-    /// cluster and doesn't count as modified. An L2 table has the header's `l2_entries()`.
+    /// Reads the table of so many entries that begins with a cluster of the image, in pieces of 4096
+    /// bytes. It has that cluster and doesn't count as modified. An L2 table has the header's
+    /// `l2_entries()`.
     ///
     /// Refuses more entries than the kind allows, then an end past 2^56, then the first entry that
-    /// isn't lawful. Changes no byte, whatever it answers.
+    /// isn't lawful, and reads no piece after that entry's. Changes no byte, whatever it answers.
     final fn load<S: Storage>(
         alloc: Global,
         image: &mut S,
@@ -147,63 +148,27 @@ pub trait Table: Sized {
         entries: usize,
     ) -> Result<Self, Fault>
         requires { IsTrue (has_lawful_count header.now.cluster_bits entries) }
-        ensures place { IfSome (place_fault MAX_ENTRIES header.now.cluster_bits cluster.0 entries) (λ fault. result ≡ Err fault) }
-        ensures faults { IfErr result (IsLoadFault (place_fault MAX_ENTRIES header.now.cluster_bits cluster.0 entries)) }
-        ensures exact { IsTrue (S.tells image.old) → let cb = header.now.cluster_bits in
-            Answers (λ table. (state table).numbers) result
-            (loaded_table MAX_ENTRIES (Self.InternalEntry.fault_of cb) cb (S.byte_at image.old) cluster.0 entries) }
-        ensures numbers { IsTrue (S.tells image.old) → IfOk result (λ table. (state table).numbers
-            ≡ table_numbers (S.byte_at image.old) (cluster.0 * 2 ^ header.now.cluster_bits) entries) }
-        ensures entries { IfOk result (λ table. length (state table).numbers ≡ entries) }
-        ensures cluster { IfOk result (λ table. (state table).cluster ≡ Some cluster) }
-        ensures unmodified { IfOk result (λ table. (state table).modified ≡ false) }
-        ensures cluster_bits { IfOk result (λ table. (state table).cluster_bits ≡ header.now.cluster_bits) }
-        ensures external { IfOk result (λ table. (state table).external_data_file ≡ uses_external_data header.now) }
-
-        // The storage fault comes exactly where a call of the storage failed.
-        ensures storage { IsErrOf result Fault.Storage ↔ (S.failures image.new ≢ S.failures image.old) }
-        ensures unchanged { S.byte_at image.new ≡ S.byte_at image.old }
-        ensures tells { S.tells image.new ≡ S.tells image.old }
-        ensures mem_align { S.mem_align image.new ≡ S.mem_align image.old }
-        ensures req_align { S.req_align image.new ≡ S.req_align image.old }
+        ensures { Loads MAX_ENTRIES Self.InternalEntry.fault_of state result
+            header.now cluster entries (S.state image.old) (S.state image.new) }
     {
         let offset = table_offset(cluster, header.cluster_bits(), entries, Self::MAX_ENTRIES)?;
-        let bytes = read_bytes(alloc, image, offset, 8 * entries)?;
-        let mut table = Self::from_data(decode(alloc, bytes.as_slice(), header)?, header);
+        let list = read_entries(alloc, image, header, offset, entries)?;
+        let mut table = Self::from_data(list, header);
         table.set_cluster(cluster);
         table.clear_modified();
         Ok(table)
     }
 
-    /// Writes the table to the image, from its cluster on.
+    /// Writes the table to the image, from its cluster on, in pieces of 4096 bytes.
     ///
     /// Refuses a table with no cluster, then more entries than the kind allows, then an end past 2^56.
-    /// After `Ok` the table doesn't count as modified; after a storage fault it does, and any bytes may
-    /// stand in its place; after any other refusal nothing has changed. Entries and cluster stay
-    /// whatever it answers, and no byte outside the table's place changes.
+    /// After `Ok` the table doesn't count as modified; after a storage fault it does, and some pieces
+    /// are written, then any bytes may stand in one, and those after it are as before; after any other
+    /// refusal nothing has changed. Entries and cluster stay whatever it answers, and no byte outside
+    /// the table's place changes.
     final fn write<S: Storage>(&mut self, image: &mut S) -> Result<(), Fault>
-        ensures refused { IfSome (write_fault MAX_ENTRIES (state self.old)) (λ fault. result ≡ Err fault) }
-        ensures faults { IfErr result (λ fault. (write_fault MAX_ENTRIES (state self.old) ≡ Some fault) ⊎ (fault ≡ NoMemory) ⊎ (fault ≡ StorageFailed)) }
-
-        ensures ok { OnOk result (state self.new ≡ record (state self.old) { modified = false }) }
-        ensures failed { IsErrOf result Fault.Storage → state self.new ≡ record (state self.old) { modified = true } }
-        ensures err { IfErr result (λ fault. fault ≢ StorageFailed → state self.new ≡ state self.old) }
-
-        // Then the image has the table at its place, and the same bytes elsewhere.
-        ensures written { IsTrue (S.tells image.old) → IfSome (place_of (state self.old)) (λ offset.
-            OnOk result (decoded_table (Self.InternalEntry.fault_of (state self.old).cluster_bits) (S.byte_at image.new) offset (length (state self.old).numbers)
-            ≡ Ok (state self.old).numbers)) }
-        ensures others { IsTrue (S.tells image.old) → IfSome (place_of (state self.old)) (λ offset.
-            SameOutside offset (8 * length (state self.old).numbers) (S.byte_at image.old) (S.byte_at image.new)) }
-        ensures same { IsTrue (S.tells image.old) → IfSome (place_of (state self.old)) (λ offset.
-            table_numbers (S.byte_at image.old) offset (length (state self.old).numbers) ≡ (state self.old).numbers
-            → OnOk result (S.byte_at image.new ≡ S.byte_at image.old)) }
-        ensures unchanged { IfErr result (λ fault. fault ≢ StorageFailed → S.byte_at image.new ≡ S.byte_at image.old) }
-
-        ensures storage { IsErrOf result Fault.Storage ↔ (S.failures image.new ≢ S.failures image.old) }
-        ensures tells { S.tells image.new ≡ S.tells image.old }
-        ensures mem_align { S.mem_align image.new ≡ S.mem_align image.old }
-        ensures req_align { S.req_align image.new ≡ S.req_align image.old }
+        ensures { Writes MAX_ENTRIES Self.InternalEntry.fault_of result
+            (state self.old) (state self.new) (S.state image.old) (S.state image.new) }
     {
         let Some(cluster) = self.get_cluster() else {
             return Err(Fault::NoOffset);
@@ -214,8 +179,7 @@ pub trait Table: Sized {
             self.entries(),
             Self::MAX_ENTRIES,
         )?;
-        let bytes = encoded(self)?;
-        match image.write(bytes.as_slice(), offset.0) {
+        match write_pieces(self, image, offset) {
             Ok(()) => {
                 self.clear_modified();
                 Ok(())
@@ -257,72 +221,133 @@ fn table_offset(
     Ok(cluster.offset(cluster_bits))
 }
 
-// The image's bytes from an offset on.
-fn read_bytes<S: Storage>(
+// The entries that stand in the image from an offset on, or the fault of the first that is none. Reads
+// in pieces of 4096 bytes, and none after that of such an entry.
+fn read_entries<E: TableEntry + Drop, S: Storage>(
     alloc: Global,
     image: &mut S,
-    offset: HostOffset,
-    len: usize,
-) -> Result<Vec<u8>, Fault>
-    requires { offset.0 + len ≤ 2 ^ 56 }
-    ensures held { IsTrue (S.tells image.old) → IfOk result (λ bytes. Holds (S.byte_at image.old) offset.0 bytes.items) }
-    ensures len { IfOk result (λ bytes. length bytes.items ≡ len) }
-    ensures faults { IfErr result (λ fault. (fault ≡ NoMemory) ⊎ (fault ≡ StorageFailed)) }
-    ensures storage { IsErrOf result Fault.Storage ↔ (S.failures image.new ≢ S.failures image.old) }
-    ensures unchanged { S.byte_at image.new ≡ S.byte_at image.old }
-    ensures tells { S.tells image.new ≡ S.tells image.old }
-    ensures mem_align { S.mem_align image.new ≡ S.mem_align image.old }
-    ensures req_align { S.req_align image.new ≡ S.req_align image.old }
-{
-    let mut bytes = vec![in alloc; 0u8; len]?;
-    image.read(bytes.as_mut_slice(), offset.0)?;
-    Ok(bytes)
-}
-
-// The entries whose numbers stand in the bytes, or the fault of the first that is none.
-fn decode<E: TableEntry + Drop>(
-    alloc: Global,
-    bytes: &[u8],
     header: &Header,
+    offset: HostOffset,
+    entries: usize,
 ) -> Result<Vec<E>, Fault>
-    ensures exact { (image : Image) (offset : ℕ) → Holds image offset bytes.now →
-        Answers (λ list. map E.plain list.items) result
-        (decoded_table (E.fault_of header.now.cluster_bits) image offset (length bytes.now / 8)) }
-    ensures numbers { (image : Image) (offset : ℕ) → Holds image offset bytes.now →
-        IfOk result (λ list. map E.plain list.items ≡ table_numbers image offset (length bytes.now / 8)) }
+    requires { offset.0 + 8 * entries ≤ 2 ^ 56 }
+    ensures exact { IsTrue (S.state image.old).tells → Answers (λ list. map E.plain list.items) result
+        (decoded_table (E.fault_of header.now.cluster_bits) (S.state image.old).byte_at offset.0 entries) }
+    ensures numbers { IsTrue (S.state image.old).tells → IfOk result (λ list.
+        map E.plain list.items ≡ table_numbers (S.state image.old).byte_at offset.0 entries) }
     ensures valid { IfOk result (λ list. first_fault (E.fault_of header.now.cluster_bits) (map E.plain list.items) ≡ None) }
-    ensures count { IfOk result (λ list. length list.items ≡ length bytes.now / 8) }
-    ensures faults { IfErr result (λ fault. (fault ≡ EntryReserved) ⊎ (fault ≡ EntryUnaligned) ⊎ (fault ≡ NoMemory)) }
+    ensures count { IfOk result (λ list. length list.items ≡ entries) }
+    ensures faults { IfErr result (λ fault.
+        (fault ≡ EntryReserved) ⊎ (fault ≡ EntryUnaligned) ⊎ (fault ≡ NoMemory) ⊎ (fault ≡ StorageFailed)) }
+    ensures storage { OnlyReads result (S.state image.old) (S.state image.new) }
 {
-    let entries = bytes.len() / 8;
     let mut list = Vec::with_capacity(alloc, entries)?;
-    for index in 0..entries {
-        let number = read_be::<u64>(bytes, 8 * index);
-        list.push(E::try_from_plain(number, header)?)?;
+    let mut buffer = [0u8; PIECE_BYTES];
+    for piece in 0..entries.div_ceil(PIECE_ENTRIES) {
+        let first = PIECE_ENTRIES * piece;
+        let count = (entries - first).min(PIECE_ENTRIES);
+        let bytes = &mut buffer[..8 * count];
+        image.read(bytes, offset.0 + 8 * first as u64)?;
+        decode(&mut list, bytes, header)?;
     }
     Ok(list)
 }
 
-// The table as it stands in the image.
-fn encoded<T: Table>(table: &T) -> Result<Vec<u8>, AllocError>
-    ensures len { IfOk result (λ bytes. length bytes.items ≡ 8 * length (T.state table.now).numbers) }
-    ensures written { IfOk result (λ bytes. (image : Image) (offset : ℕ) → Holds image offset bytes.items →
-        table_numbers image offset (length (T.state table.now).numbers) ≡ (T.state table.now).numbers) }
+// Puts the entries whose numbers stand in the bytes at the end of the list, or answers the fault of the
+// first that is none.
+fn decode<E: TableEntry + Drop>(
+    list: &mut Vec<E>,
+    bytes: &[u8],
+    header: &Header,
+) -> Result<(), Fault>
+    ensures numbers { OnOk result (map E.plain list.new.items
+        ≡ map E.plain list.old.items ++ table_numbers (image_of bytes.now) 0 (length bytes.now / 8)) }
+    ensures valid { OnOk result (first_fault (E.fault_of header.now.cluster_bits)
+        (table_numbers (image_of bytes.now) 0 (length bytes.now / 8)) ≡ None) }
+    ensures refused { IfErr result (λ fault. (fault ≡ NoMemory) ⊎ (first_fault (E.fault_of header.now.cluster_bits)
+        (table_numbers (image_of bytes.now) 0 (length bytes.now / 8)) ≡ Some fault)) }
+    ensures faults { IfErr result (λ fault. (fault ≡ EntryReserved) ⊎ (fault ≡ EntryUnaligned) ⊎ (fault ≡ NoMemory)) }
 {
-    let mut bytes = vec![in table.allocator(); 0u8; table.byte_size()]?;
-    encode(table, bytes.as_mut_slice());
-    Ok(bytes)
+    let (chunks, _) = bytes.as_chunks::<8>();
+    check::<E>(chunks, header)?;
+    append(list, chunks)?;
+    Ok(())
 }
 
-// Puts the table's numbers into the bytes, from their start on.
-fn encode<T: Table>(table: &T, bytes: &mut [u8])
-    requires { length bytes.old ≡ 8 * length (T.state table.now).numbers }
-    ensures written { (image : Image) (offset : ℕ) → Holds image offset bytes.new →
-        table_numbers image offset (length (T.state table.now).numbers) ≡ (T.state table.now).numbers }
+// The number that stands in eight bytes.
+#[inline]
+#[tactic(auto, unfolding(qcow2_base::specs::Storage::be))]
+fn number_of(chunk: &[u8; 8]) -> u64
+    ensures { result ≡ be (image_of chunk.now) 0 8 }
+{
+    u64::from_be_bytes(*chunk)
+}
+
+// Refuses numbers that aren't all entries, by the fault of the first that is none.
+fn check<E: TableEntry + Drop>(chunks: &[[u8; 8]], header: &Header) -> Result<(), Fault>
+    ensures valid { OnOk result (first_fault (E.fault_of header.now.cluster_bits) (chunk_numbers chunks.now) ≡ None) }
+    ensures refused { IfErr result (λ fault.
+        first_fault (E.fault_of header.now.cluster_bits) (chunk_numbers chunks.now) ≡ Some fault) }
+    ensures faults { IfErr result (λ fault. (fault ≡ EntryReserved) ⊎ (fault ≡ EntryUnaligned)) }
+{
+    if are_lawful::<E>(chunks, header) {
+        return Ok(());
+    }
+    for chunk in chunks {
+        E::try_from_plain(number_of(chunk), header)?;
+    }
+    Ok(())
+}
+
+// Whether all numbers are entries. Looks at each, so that several are tested at once.
+fn are_lawful<E: TableEntry>(chunks: &[[u8; 8]], header: &Header) -> bool
+    ensures { IsTrue result ↔ (first_fault (E.fault_of header.now.cluster_bits) (chunk_numbers chunks.now) ≡ None) }
+{
+    let mut lawful = true;
+    for chunk in chunks {
+        lawful &= E::is_lawful(number_of(chunk), header);
+    }
+    lawful
+}
+
+// Puts entries with these numbers, which were tested, at the end of the list.
+fn append<E: TableEntry + Drop>(list: &mut Vec<E>, chunks: &[[u8; 8]]) -> Result<(), AllocError>
+    ensures { OnOk result (map E.plain list.new.items ≡ map E.plain list.old.items ++ chunk_numbers chunks.now) }
+{
+    list.extend(chunks.iter().map(|chunk| E::from_tested(number_of(chunk))))
+}
+
+// Writes the table to the image from an offset on, in pieces of 4096 bytes.
+fn write_pieces<T: Table, S: Storage>(
+    table: &T,
+    image: &mut S,
+    offset: HostOffset,
+) -> Result<(), StorageFault>
+    requires { offset.0 + 8 * length (T.state table.now).numbers ≤ 2 ^ 56 }
+    ensures { WritesPieces result offset.0 (T.state table.now).numbers (S.state image.old) (S.state image.new) }
+{
+    let mut buffer = [0u8; PIECE_BYTES];
+    let entries = table.entries();
+    for piece in 0..entries.div_ceil(PIECE_ENTRIES) {
+        let first = PIECE_ENTRIES * piece;
+        let count = (entries - first).min(PIECE_ENTRIES);
+        let bytes = &mut buffer[..8 * count];
+        encode(table, first, bytes);
+        image.write(bytes, offset.0 + 8 * first as u64)?;
+    }
+    Ok(())
+}
+
+// Puts the numbers of the table's entries from an index on into the bytes, as many as these hold.
+fn encode<T: Table>(table: &T, first: usize, bytes: &mut [u8])
+    requires within { 8 * first + length bytes.old ≤ 8 * length (T.state table.now).numbers }
+    requires bound { length (T.state table.now).numbers ≤ 2 ^ 48 }
+    ensures written { (i : ℕ) → 8 * i + 8 ≤ length bytes.new →
+        be (image_of bytes.new) (8 * i) 8 ≡ slice_index (T.state table.now).numbers (first + i) }
     ensures len { length bytes.new ≡ length bytes.old }
 {
-    for index in 0..table.entries() {
-        let entry = table.get_ref(index).unwrap();
+    for index in 0..bytes.len() / 8 {
+        let entry = table.get_ref(first + index).unwrap();
         write_be(bytes, 8 * index, &entry.to_plain());
     }
 }

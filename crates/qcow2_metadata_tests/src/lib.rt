@@ -12,6 +12,8 @@ mod l1_table;
 #[cfg(test)]
 mod pending_clusters;
 #[cfg(test)]
+mod pieces;
+#[cfg(test)]
 mod ref_table_entry;
 #[cfg(test)]
 mod refused_memory;

@@ -47,22 +47,17 @@ fn assert_table<T: Table>(rt: &impl Abort, table: &T, modified: bool) {
     assert_eq!(rt; table.is_modified(), modified);
 }
 
-fn writes_again<T: Table + Drop, R: Abort>(rt: &R, alloc: Global) -> Result<(), Fail>
+// A write takes no memory, so none can be refused to it.
+fn writes<T: Table + Drop, R: Abort>(rt: &R, alloc: Global) -> Result<(), Fail>
     requires { IsTrue (T.has_lawful_count 9 64) }
 {
     let header = header_with(alloc, 9, false)?;
     let mut table = table_with::<T>(alloc, &header, 64, 3, NUMBER)?;
-    let before = image_with(alloc, 1536, &[(1024, NUMBER)])?;
     let after = image_with(alloc, 1536, &[(1048, NUMBER)])?;
     for modified in [false, true] {
         place(rt, &mut table, Some(2), modified);
         let mut image = image_with(alloc, 1536, &[(1024, NUMBER)])?;
-        if let Err(fault) = table.write(&mut image) {
-            assert_eq!(rt; fault, Fault::NoMemory);
-            assert_eq!(rt; image.bytes(), before.bytes());
-            assert_table(rt, &table, modified);
-            assert_eq!(rt; table.write(&mut image), Ok(()));
-        }
+        assert_eq!(rt; table.write(&mut image), Ok(()));
         assert_table(rt, &table, false);
         assert_eq!(rt; image.bytes(), after.bytes());
     }
@@ -70,29 +65,21 @@ fn writes_again<T: Table + Drop, R: Abort>(rt: &R, alloc: Global) -> Result<(), 
 }
 
 #[test]
-fn a_write_that_memory_refused_succeeds_the_next_time(rt: HostRuntime) -> Result<(), Fail> {
-    writes_again::<L1Table, _>(&rt, rt.alloc())?;
-    writes_again::<L2Table, _>(&rt, rt.alloc())?;
-    writes_again::<RefTable, _>(&rt, rt.alloc())
+fn a_write_takes_no_memory(rt: HostRuntime) -> Result<(), Fail> {
+    writes::<L1Table, _>(&rt, rt.alloc())?;
+    writes::<L2Table, _>(&rt, rt.alloc())?;
+    writes::<RefTable, _>(&rt, rt.alloc())
 }
 
 #[test]
-fn write_if_modified_that_memory_refused_succeeds_the_next_time(
-    rt: HostRuntime,
-) -> Result<(), Fail> {
+fn write_if_modified_takes_no_memory(rt: HostRuntime) -> Result<(), Fail> {
     let header = header_with(rt.alloc(), 9, false)?;
     let mut table: L2Table = table_with(rt.alloc(), &header, 64, 3, NUMBER)?;
-    let before = image_with(rt.alloc(), 1536, &[(1024, NUMBER)])?;
     let after = image_with(rt.alloc(), 1536, &[(1048, NUMBER)])?;
     let mut image = image_with(rt.alloc(), 1536, &[(1024, NUMBER)])?;
     let cluster = HostCluster(2);
     table.set_cluster(cluster);
-    if let Err(fault) = table.write_if_modified(&mut image, cluster) {
-        assert_eq!(rt; fault, Fault::NoMemory);
-        assert_eq!(rt; image.bytes(), before.bytes());
-        assert_table(&rt, &table, true);
-        assert_eq!(rt; table.write_if_modified(&mut image, cluster), Ok(()));
-    }
+    assert_eq!(rt; table.write_if_modified(&mut image, cluster), Ok(()));
     assert_table(&rt, &table, false);
     assert_eq!(rt; image.bytes(), after.bytes());
     Ok(())

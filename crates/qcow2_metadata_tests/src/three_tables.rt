@@ -281,7 +281,7 @@ fn writes_to_the_last_place<T: Table + Drop, R: Abort>(
     assert_eq!(rt; table.write(&mut image), Err(Fault::Storage), "{bits} bits");
     let call = StorageCall::Write {
         offset: cluster.wrapping_mul(header.cluster_size() as u64),
-        len: table.byte_size(),
+        len: table.byte_size().min(4096),
     };
     assert_eq!(rt; image.calls(), [call].as_slice());
     assert_eq!(rt; image.failures(), 1);

@@ -1,5 +1,6 @@
 use Rattle.std.specs.Prelude.{ℕ, zero, suc, List, Option, None, Some}
 use Rattle.qcow2_testing.specs.declared.failing.FailingStorage.{FailingStorage}
+use Rattle.qcow2_base.specs.Storage.{StorageState}
 use Rattle.qcow2_testing.specs.declared.failing.StorageCall.{StorageCall}
 
 -- the storage that calls are passed on to
@@ -17,6 +18,10 @@ calls_of storage = storage.calls.items
 -- how many calls have failed, modulo 2^64
 abbrev pub failure_count : {S : Type 0} → FailingStorage S → ℕ
 failure_count storage = storage.failures
+
+-- what it says as a storage: the same as the other, but for its own count of failures
+abbrev pub seen_as : {S : Type 0} → (S → StorageState) → FailingStorage S → StorageState
+seen_as state storage = record (state storage.inner) { failures = storage.failures }
 
 -- the plan after one more call
 abbrev pub plan_after : Option ℕ → Option ℕ

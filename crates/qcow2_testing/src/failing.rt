@@ -1,8 +1,8 @@
 //! A storage that fails at a planned call, to show what a caller does then.
 
 ghost use Rattle.std.specs.Prelude.{◌≡◌, ℕ, ◌+◌, ◌^◌, ◌%◌, ◌≤◌, List, [], ◌∷◌, ◌++◌, false, length, None, Some, IsTrue, IsErr, OnOk, MatchResult};
-ghost use Rattle.qcow2_base.specs.Storage.{Holds, SameOutside};
-ghost use Rattle.qcow2_testing.specs.Failing.{inner_of, plan_of, calls_of, failure_count, plan_after};
+ghost use Rattle.qcow2_base.specs.Storage.{ReadsBytes, WritesBytes};
+ghost use Rattle.qcow2_testing.specs.Failing.{inner_of, seen_as, plan_of, calls_of, failure_count, plan_after};
 
 use qcow2_base::{Storage, StorageFault};
 use std::alloc::Global;
@@ -129,15 +129,7 @@ pub fn take_turn(plan: &mut Option<u64>) -> bool
 }
 
 impl<S: Storage> Storage for FailingStorage<S> {
-    ghost tells = { λ f. S.tells f.inner };
-
-    ghost byte_at = { λ f. S.byte_at f.inner };
-
-    ghost failures = { λ f. f.failures };
-
-    ghost mem_align = { λ f. S.mem_align f.inner };
-
-    ghost req_align = { λ f. S.req_align f.inner };
+    ghost state = { λ f. record (S.state f.inner) { failures = f.failures } };
 
     fn mem_align(&self) -> usize {
         self.inner.mem_align()
@@ -149,14 +141,7 @@ impl<S: Storage> Storage for FailingStorage<S> {
 
     fn read(&mut self, buf: &mut [u8], offset: u64) -> Result<(), StorageFault>
         requires { offset + length buf.old ≤ 2 ^ 56 }
-        ensures read { OnOk result (IsTrue (S.tells (inner_of self.old)) → Holds (S.byte_at (inner_of self.old)) offset buf.new) }
-        ensures unchanged { S.byte_at (inner_of self.new) ≡ S.byte_at (inner_of self.old) }
-        ensures failures { MatchResult result
-            (λ _. failure_count self.new ≡ failure_count self.old)
-            (λ _. failure_count self.new ≡ (failure_count self.old + 1) % 2 ^ 64) }
-        ensures tells { S.tells (inner_of self.new) ≡ S.tells (inner_of self.old) }
-        ensures mem_align { S.mem_align (inner_of self.new) ≡ S.mem_align (inner_of self.old) }
-        ensures req_align { S.req_align (inner_of self.new) ≡ S.req_align (inner_of self.old) }
+        ensures bytes { ReadsBytes result offset buf.new (seen_as S.state self.old) (seen_as S.state self.new) }
         ensures planned { plan_of self.old ≡ Some 0 → IsErr result × (inner_of self.new ≡ inner_of self.old) }
         ensures plan { plan_of self.new ≡ plan_after (plan_of self.old) }
         ensures recorded { OnOk result (calls_of self.new ≡ calls_of self.old ++ StorageCall.Read offset (length buf.old) ∷ []) }
@@ -172,15 +157,7 @@ impl<S: Storage> Storage for FailingStorage<S> {
 
     fn write(&mut self, buf: &[u8], offset: u64) -> Result<(), StorageFault>
         requires { offset + length buf.now ≤ 2 ^ 56 }
-        ensures written { OnOk result (IsTrue (S.tells (inner_of self.old)) → Holds (S.byte_at (inner_of self.new)) offset buf.now) }
-        ensures others { IsTrue (S.tells (inner_of self.old)) →
-            SameOutside offset (length buf.now) (S.byte_at (inner_of self.old)) (S.byte_at (inner_of self.new)) }
-        ensures failures { MatchResult result
-            (λ _. failure_count self.new ≡ failure_count self.old)
-            (λ _. failure_count self.new ≡ (failure_count self.old + 1) % 2 ^ 64) }
-        ensures tells { S.tells (inner_of self.new) ≡ S.tells (inner_of self.old) }
-        ensures mem_align { S.mem_align (inner_of self.new) ≡ S.mem_align (inner_of self.old) }
-        ensures req_align { S.req_align (inner_of self.new) ≡ S.req_align (inner_of self.old) }
+        ensures bytes { WritesBytes result offset buf.now (seen_as S.state self.old) (seen_as S.state self.new) }
         ensures planned { plan_of self.old ≡ Some 0 → IsErr result × (inner_of self.new ≡ inner_of self.old) }
         ensures plan { plan_of self.new ≡ plan_after (plan_of self.old) }
         ensures recorded { OnOk result (calls_of self.new ≡ calls_of self.old ++ StorageCall.Write offset (length buf.now) ∷ []) }

@@ -66,15 +66,13 @@ fn refuse_directory(metadata: &Metadata) -> io::Result<()>
 }
 
 impl<F: Read + Write + Seek> Storage for FileStorage<F> {
-    ghost tells = { λ _. false };
-
-    ghost byte_at = { λ _ _. 0 };
-
-    ghost failures = { λ f. f.failures };
-
-    ghost mem_align = { λ _. 1 };
-
-    ghost req_align = { λ _. 1 };
+    ghost state = { λ f. record {
+      tells = false;
+      byte_at = λ _. 0;
+      failures = f.failures;
+      mem_align = 1;
+      req_align = 1;
+    } };
 
     fn mem_align(&self) -> usize {
         1

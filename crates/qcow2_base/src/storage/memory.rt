@@ -57,15 +57,13 @@ impl MemStorage {
 impl Storage for MemStorage {
     ghost use Rattle.qcow2_base.specs.MemStorage.{memory_bytes, alignment, failure_count};
 
-    ghost tells = { λ _. true };
-
-    ghost byte_at = { λ m. image_of m.bytes.items };
-
-    ghost failures = { λ m. m.failures };
-
-    ghost mem_align = { λ m. m.align };
-
-    ghost req_align = { λ m. m.align };
+    ghost state = { λ m. record {
+      tells = true;
+      byte_at = image_of m.bytes.items;
+      failures = m.failures;
+      mem_align = m.align;
+      req_align = m.align;
+    } };
 
     fn mem_align(&self) -> usize {
         self.align

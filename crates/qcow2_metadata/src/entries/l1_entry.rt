@@ -93,6 +93,19 @@ impl TableEntry for L1Entry {
         Ok(entry)
     }
 
+    #[inline]
+    fn is_lawful(value: u64, header: &Header) -> bool {
+        let offset = HostOffset(field(value, 9, 47) * 512);
+        let offset_is_lawful = offset.in_cluster_offset(header.cluster_bits()) == 0;
+        (L1Entry { value }.reserved_bits() == 0) & offset_is_lawful
+    }
+
+    #[inline]
+    fn from_tested(value: u64) -> Self {
+        L1Entry { value }
+    }
+
+    #[inline]
     fn to_plain(&self) -> u64 {
         self.value
     }

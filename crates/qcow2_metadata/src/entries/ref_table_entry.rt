@@ -69,6 +69,18 @@ impl TableEntry for RefTableEntry {
         Ok(entry)
     }
 
+    #[inline]
+    fn is_lawful(value: u64, header: &Header) -> bool {
+        let offset_is_lawful = HostOffset(value).in_cluster_offset(header.cluster_bits()) == 0;
+        (RefTableEntry { value }.reserved_bits() == 0) & offset_is_lawful
+    }
+
+    #[inline]
+    fn from_tested(value: u64) -> Self {
+        RefTableEntry { value }
+    }
+
+    #[inline]
     fn to_plain(&self) -> u64 {
         self.value
     }

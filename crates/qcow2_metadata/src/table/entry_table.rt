@@ -4,7 +4,7 @@ ghost use Rattle.std.specs.Prelude.{◌≡◌, ℕ, Bool, true, false, ◌*◌, 
 ghost use Rattle.std.proofs.Common.{rules};
 ghost use Rattle.qcow2_base.specs.Types.{IsClusterBits};
 ghost use Rattle.qcow2_metadata.specs.Header.{uses_external_data};
-ghost use Rattle.qcow2_metadata.specs.Table.{first_fault, grown_numbers};
+ghost use Rattle.qcow2_metadata.specs.Table.{new_table, first_fault, grown_numbers};
 
 use super::Table;
 use crate::{Header, TableEntry};
@@ -99,13 +99,7 @@ impl<E: TableKind> EntryTable<E> {
         requires bound { entries ≤ 2 ^ 48 }
         requires count { IsTrue (E.has_lawful_count header.now.cluster_bits entries) }
         ensures fault { IsOkUnless result Fault.NoMemory }
-        ensures table { IfOk result (λ table. table ≡ record {
-          numbers = grown_numbers self.now.numbers entries;
-          cluster = None;
-          modified = true;
-          cluster_bits = header.now.cluster_bits;
-          external_data_file = uses_external_data header.now;
-        }) }
+        ensures table { IfOk result (λ table. table ≡ new_table (grown_numbers self.now.numbers entries) header.now) }
     {
         let alloc = *self.entries.allocator();
         let list = padded(alloc, self.entries.as_slice(), entries)?;
@@ -151,13 +145,7 @@ impl<E: TableKind> Table for EntryTable<E> {
         requires valid { first_fault (E.fault_of header.now.cluster_bits) (map E.plain list.items) ≡ None }
         requires count { IsTrue (E.has_lawful_count header.now.cluster_bits (length list.items)) }
         requires bound { length list.items ≤ 2 ^ 48 }
-        ensures { result ≡ record {
-          numbers = map E.plain list.items;
-          cluster = None;
-          modified = true;
-          cluster_bits = header.now.cluster_bits;
-          external_data_file = uses_external_data header.now;
-        } }
+        ensures { result ≡ new_table (map E.plain list.items) header.now }
     {
         EntryTable {
             entries: list,

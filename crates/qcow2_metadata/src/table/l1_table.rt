@@ -5,7 +5,7 @@ ghost use Rattle.std.proofs.Common.{lit≤};
 ghost use Rattle.qcow2_base.specs.declared.fault.Fault.TheVariants.{NoMemory, NotPlaced};
 ghost use Rattle.qcow2_metadata.specs.Entries.{IsOneCluster, l1_entry_for};
 ghost use Rattle.qcow2_metadata.specs.Header.{uses_external_data};
-ghost use Rattle.qcow2_metadata.specs.Table.{IsReferable, grown_count, grown_numbers};
+ghost use Rattle.qcow2_metadata.specs.Table.{new_table, IsReferable, grown_count, grown_numbers};
 
 use super::{EntryTable, L2Table, Table, TableKind};
 use crate::{Header, L1Entry, PendingClusters, Refused};
@@ -46,13 +46,7 @@ impl EntryTable<L1Entry> {
         ensures refused { IsErrOf result Fault.CannotGrow
             ↔ (4194304 < grown_count self.now.cluster_bits (length self.now.numbers) at_least_index) }
         ensures faults { IfErr result (λ fault. (fault ≡ Fault.CannotGrow) ⊎ (fault ≡ NoMemory)) }
-        ensures table { IfOk result (λ table. table ≡ record {
-          numbers = grown_numbers self.now.numbers (grown_count self.now.cluster_bits (length self.now.numbers) at_least_index);
-          cluster = None;
-          modified = true;
-          cluster_bits = header.now.cluster_bits;
-          external_data_file = uses_external_data header.now;
-        }) }
+        ensures table { IfOk result (λ table. table ≡ new_table (grown_numbers self.now.numbers (grown_count self.now.cluster_bits (length self.now.numbers) at_least_index)) header.now) }
     {
         if at_least_index >= L1Entry::MAX_ENTRIES {
             return Err(Fault::CannotGrow);

@@ -2,11 +2,10 @@
 
 ghost use Rattle.std.specs.Prelude.{◌≡◌, ◌≢◌, ℕ, ◌⊎◌, ◌-◌, ◌*◌, ◌%◌, ◌^◌, ◌==◌, ◌<◌, ◌≤◌, ◌↔◌, Some, None, Ok, Err, IfSome, IfNone, IfOk, IfErr, IsOk, IsOkAnd, IsOkUnless, IsErrOf, OnOk, IsTrue, length, replicate, slice_index, true, false};
 ghost use Rattle.std.proofs.Common.{lit≤};
-ghost use Rattle.qcow2_base.specs.Storage.{SameOutside};
 ghost use Rattle.qcow2_base.specs.declared.fault.Fault.TheVariants.{NoMemory, Storage as StorageFailed};
 ghost use Rattle.qcow2_metadata.specs.Entries.{IsFreed, IsPlaced, Meets, clusters_to_free, l2_fault, mapping, meaning};
 ghost use Rattle.qcow2_metadata.specs.Header.{uses_external_data};
-ghost use Rattle.qcow2_metadata.specs.Table.{decoded_table, discarded, place_of, table_numbers, write_fault};
+ghost use Rattle.qcow2_metadata.specs.Table.{new_table, Edits, Writes, FlagTells, IsWriteFault, IsWritten, discarded, place_of, write_fault};
 
 use super::{EntryTable, Table, TableKind};
 use crate::{AtomicL2Entry, ClustersToFreeEntry, Header, L2Entry, L2Mapping};
@@ -43,13 +42,7 @@ impl EntryTable<AtomicL2Entry> {
     /// counts as modified. Fails only for want of memory.
     pub fn new_cleared(alloc: Global, header: &Header) -> Result<L2Table, Fault>
         ensures fault { IsOkUnless result Fault.NoMemory }
-        ensures table { IfOk result (λ table. table ≡ record {
-          numbers = replicate (2 ^ (header.now.cluster_bits - 3)) 0;
-          cluster = None;
-          modified = true;
-          cluster_bits = header.now.cluster_bits;
-          external_data_file = uses_external_data header.now;
-        }) }
+        ensures table { IfOk result (λ table. table ≡ new_table (replicate (2 ^ (header.now.cluster_bits - 3)) 0) header.now) }
     {
         let entries = vec![in alloc; AtomicL2Entry::cleared(); header.l2_entries()]?;
         Ok(L2Table::from_data(entries, header))
@@ -78,27 +71,9 @@ impl EntryTable<AtomicL2Entry> {
         cluster: HostCluster,
     ) -> Result<(), Fault>
         requires { self.old.modified ≡ true → self.old.cluster ≡ Some cluster }
-        ensures idle { self.old.modified ≡ false → IsOk result × (image.new ≡ image.old) }
-        ensures refused { self.old.modified ≡ true → IfSome (write_fault 262144 self.old) (λ fault. result ≡ Err fault) }
-        ensures faults { IfErr result (λ fault. (write_fault 262144 self.old ≡ Some fault) ⊎ (fault ≡ NoMemory) ⊎ (fault ≡ StorageFailed)) }
-
-        ensures ok { OnOk result (self.new ≡ record self.old { modified = false }) }
-        ensures failed { IsErrOf result Fault.Storage → self.new ≡ record self.old { modified = true } }
-        ensures err { IfErr result (λ fault. fault ≢ StorageFailed → self.new ≡ self.old) }
-
-        ensures written { self.old.modified ≡ true → IsTrue (S.tells image.old) → IfSome (place_of self.old) (λ offset.
-            OnOk result (decoded_table (l2_fault self.old.cluster_bits) (S.byte_at image.new) offset (length self.old.numbers) ≡ Ok self.old.numbers)) }
-        ensures others { IsTrue (S.tells image.old) → IfSome (place_of self.old) (λ offset.
-            SameOutside offset (8 * length self.old.numbers) (S.byte_at image.old) (S.byte_at image.new)) }
-        ensures same { IsTrue (S.tells image.old) → IfSome (place_of self.old) (λ offset.
-            table_numbers (S.byte_at image.old) offset (length self.old.numbers) ≡ self.old.numbers
-            → OnOk result (S.byte_at image.new ≡ S.byte_at image.old)) }
-        ensures unchanged { IfErr result (λ fault. fault ≢ StorageFailed → S.byte_at image.new ≡ S.byte_at image.old) }
-
-        ensures storage { IsErrOf result Fault.Storage ↔ (S.failures image.new ≢ S.failures image.old) }
-        ensures tells { S.tells image.new ≡ S.tells image.old }
-        ensures mem_align { S.mem_align image.new ≡ S.mem_align image.old }
-        ensures req_align { S.req_align image.new ≡ S.req_align image.old }
+        ensures idle { self.old.modified ≡ false → IsOk result × (self.new ≡ self.old) × (image.new ≡ image.old) }
+        ensures modified { self.old.modified ≡ true →
+            Writes 262144 l2_fault result self.old self.new (S.state image.old) (S.state image.new) }
     {
         // The caller's word for the cluster is in the contract alone.
         let _ = cluster;
@@ -143,17 +118,7 @@ impl L2TableWriteGuard<'_> {
     pub fn discard_cluster(&mut self, index: usize) -> Option<ClustersToFreeEntry>
         requires { index < length self.old.table.now.numbers }
         ensures same_reference { self.new.table.ghost_name ≡ self.old.table.ghost_name }
-        ensures edit { self.new.table.now ≡ record (self.old.table.now) { numbers = discarded self.old.table.now.numbers index; modified = true } }
-        ensures freed { let table = self.old.table.now in
-            result ≡ clusters_to_free table.cluster_bits table.external_data_file (slice_index table.numbers index) }
-
-        // Just the clusters of which the entry referred to a byte.
-        ensures met { let table = self.old.table.now in
-            IfSome result (λ freed. (c : ℕ) →
-            Meets table.cluster_bits table.external_data_file (slice_index table.numbers index) c ↔ IsFreed freed c) }
-        ensures none { let table = self.old.table.now in
-            IfNone result ((c : ℕ) → Meets table.cluster_bits table.external_data_file (slice_index table.numbers index) c → ⊥) }
-        ensures count { IfSome result (λ freed. (1 ≤ freed.count.0) × (freed.count.0 ≤ 3)) }
+        ensures edit { Edits index 0 result self.old.table.now self.new.table.now }
     {
         let before = self.table.replace_entry(index, AtomicL2Entry::cleared());
         let external_data_file = self.table.has_external_data_file();

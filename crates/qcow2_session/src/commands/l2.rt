@@ -1,14 +1,15 @@
 //! The command `l2`: what one L2 table maps.
 
-ghost use Rattle.std.specs.Prelude.{◌≡◌, ◌≢◌, ◌⊎◌, length, false, ◌-◌, ◌^◌, Err, IsTrue, IfSome, IfErr, OnOk, IsOkAnd, IsOkUnless, is_ok, true};
+ghost use Rattle.std.specs.Prelude.{◌≡◌, ◌≢◌, ◌⊎◌, length, false, ◌-◌, ◌^◌, Err, IsTrue, IfSome, IfErr, IsErrOf, OnOk, IsOkAnd, IsOkUnless, is_ok, true};
 ghost use Rattle.qcow2_base.specs.declared.fault.Fault.TheVariants.{NoMemory, Storage as StorageFailed};
 ghost use Rattle.qcow2_base.specs.Types.{IsClusterBits};
+ghost use Rattle.qcow2_base.specs.Storage.{ReadsFor};
 ghost use Rattle.std.specs.Io.KnownBytes.{Appends};
 ghost use Rattle.qcow2_metadata.specs.Entries.{IsPlaced, meaning};
 ghost use Rattle.qcow2_session.specs.Commands.{l2_place_fault, l2_table};
-ghost use Rattle.qcow2_session.specs.Lines.{copied_text, entry_line, entry_lines};
+ghost use Rattle.qcow2_session.specs.Lines.{copied_text, entry_line, entry_lines, mapping_text};
 
-use qcow2_base::{Fault, GuestCluster, HostCluster, Storage};
+use qcow2_base::{Fault, GuestCluster, HostCluster, HostOffset, Storage};
 use qcow2_metadata::{Header, L2Mapping, L2Table, Table};
 use std::alloc::Global;
 use std::io::Write;
@@ -33,27 +34,24 @@ pub fn list_l2_table<S: Storage, O: Write>(
         (result ≡ Err fault) ⊎ (result ≡ Err NoMemory)) }
 
     // Where an image tells its bytes, they hold the table then, and these are its lines.
-    ensures lines { OnOk result (IsTrue (S.tells image.old) →
-        IsOkAnd (l2_table cluster_bits (S.byte_at image.old) cluster.0) (λ numbers.
+    ensures lines { OnOk result (IsTrue (S.state image.old).tells →
+        IsOkAnd (l2_table cluster_bits (S.state image.old).byte_at cluster.0) (λ numbers.
         Appends (O.contents out.old) (O.contents out.new)
         (entry_lines cluster_bits false 0 numbers))) }
 
     // The storage fault is that of the image or, where the table is lawful, of a failed write.
-    ensures refused { IfErr result (λ fault. IsTrue (S.tells image.old) →
-        let table = l2_table cluster_bits (S.byte_at image.old) cluster.0 in
+    ensures refused { IfErr result (λ fault. IsTrue (S.state image.old).tells →
+        let table = l2_table cluster_bits (S.state image.old).byte_at cluster.0 in
         (table ≡ Err fault) ⊎ (fault ≡ NoMemory)
         ⊎ ((fault ≡ StorageFailed)
-        × ((S.failures image.new ≢ S.failures image.old) ⊎ (is_ok table ≡ true)))) }
+        × (((S.state image.new).failures ≢ (S.state image.old).failures) ⊎ (is_ok table ≡ true)))) }
 
     // Any other fault comes before the first line.
     ensures before_any_line { IfErr result (λ fault. fault ≢ StorageFailed → out.new ≡ out.old) }
 
-    // A call of the image that failed is the storage fault, before the first line too.
-    ensures ok { OnOk result (S.failures image.new ≡ S.failures image.old) }
-    ensures storage { S.failures image.new ≢ S.failures image.old →
-        (result ≡ Err StorageFailed) × (out.new ≡ out.old) }
-    ensures unchanged { S.byte_at image.new ≡ S.byte_at image.old }
-    ensures tells { S.tells image.new ≡ S.tells image.old }
+    // A call of the image that failed is the storage fault, before the first line too, and none of
+    // its bytes changes.
+    ensures storage { ReadsFor (IsErrOf result StorageFailed × (out.new ≡ out.old)) (S.state image.old) (S.state image.new) }
 {
     let header = Header::new(alloc, cluster_bits, REFCOUNT_ORDER, None, None, None)?;
     let table = L2Table::load(alloc, image, &header, cluster, header.l2_entries())?;
@@ -88,30 +86,53 @@ fn print_entry<O: Write>(
     ensures line { OnOk result (Appends (O.contents out.old) (O.contents out.new)
         (entry_line cluster_bits index (meaning mapping.now))) }
 {
+    if let L2Mapping::Backing { .. } = mapping {
+        return Ok(());
+    }
+    write!(out, "{index} ").map_err(|_| Fault::Storage)?;
+    print_mapping(mapping, cluster_bits, out)?;
+    writeln!(out).map_err(|_| Fault::Storage)
+}
+
+// Prints a mapping: what it is, its offset, and its length or whether it is copied.
+fn print_mapping<O: Write>(
+    mapping: &L2Mapping,
+    cluster_bits: u32,
+    out: &mut O,
+) -> Result<(), Fault>
+    requires bits { IsClusterBits cluster_bits }
+    requires placed { IsPlaced cluster_bits mapping.now }
+    ensures fault { IsOkUnless result Fault.Storage }
+    ensures text { OnOk result (Appends (O.contents out.old) (O.contents out.new)
+        (mapping_text cluster_bits (meaning mapping.now))) }
+{
     let written = match mapping {
         L2Mapping::DataFile {
             host_cluster,
             copied,
         } => {
             let offset = host_cluster.offset(cluster_bits);
-            writeln!(out, "{index} data {offset}{}", copied_mark(*copied))
+            write!(out, "data {offset}{}", copied_mark(*copied))
         }
         L2Mapping::Zero {
             host_cluster: Some(cluster),
             copied,
         } => {
             let offset = cluster.offset(cluster_bits);
-            writeln!(out, "{index} zero {offset}{}", copied_mark(*copied))
+            write!(out, "zero {offset}{}", copied_mark(*copied))
         }
         L2Mapping::Zero {
             host_cluster: None,
             copied: _,
-        } => writeln!(out, "{index} zero"),
+        } => write!(out, "zero"),
         L2Mapping::Compressed {
             host_offset,
             length,
-        } => writeln!(out, "{index} compressed {host_offset} {length}"),
-        L2Mapping::Backing { .. } => Ok(()),
+        } => write!(out, "compressed {host_offset} {length}"),
+        L2Mapping::Backing { backing_offset } => {
+            let offset = HostOffset(*backing_offset);
+            write!(out, "backing {offset}")
+        }
     };
     written.map_err(|_| Fault::Storage)
 }

@@ -1,10 +1,11 @@
-use Rattle.std.proofs.Common.{◌≡◌, ◌*◌, length, take}
-use Rattle.qcow2_base.specs.Storage.{image_of}
-use Rattle.qcow2_metadata.specs.Table.{table_numbers}
+use Rattle.std.proofs.Common.{◌≡◌, ℕ, ◌+◌, ◌*◌, ◌<◌, length, slice_index}
+use Rattle.qcow2_base.specs.Storage.{be, image_of}
 use Rattle.qcow2_metadata.proofs.table.encode.Given as goal
 
--- the numbers before the index stand in the bytes
+-- the numbers of the entries so far stand in the bytes
 abbrev pub invariant-loop-index : goal.invariant-loop-index
-invariant-loop-index g l =
-    let numbers = (g.T.Table.state l.table).numbers in
-    (length l.bytes ≡ 8 * length numbers) × (table_numbers (image_of l.bytes) 0 l.index ≡ take l.index numbers)
+invariant-loop-index g l = record {
+  len : length l.bytes ≡ length l.initial.bytes;
+  written : (i : ℕ) → i < l.index →
+      be (image_of l.bytes) (8 * i) 8 ≡ slice_index (g.T.Table.state l.table).numbers (l.first + i);
+}
