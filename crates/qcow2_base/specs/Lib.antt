@@ -1,3 +1,4 @@
+pub mod Bits
 pub mod Fault
 pub mod FileStorage
 pub mod MemStorage

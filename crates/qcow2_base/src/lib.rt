@@ -1,11 +1,13 @@
 //! What the layers of a qcow2 library share: faults, storages, offsets and clusters.
 #![tactic(auto)]
 
+mod bits;
 mod fault;
 mod on_disk_struct;
 mod storage;
 mod types;
 
+pub use bits::field;
 pub use fault::{Fault, FaultKind, Field};
 pub use on_disk_struct::{
     HeaderExtensionHeader, OnDiskSize, OnDiskStruct, V2Header, V3HeaderBase, read_be, read_le,

@@ -10,7 +10,7 @@ use Rattle.std.specs.Iterator.{Drains, Yields}
 use Rattle.std.specs.Result.{OnOk, MatchResult}
 use Rattle.qcow2_base.specs.Storage.{Holds, Image, be, be_of_same, image_of}
 use Rattle.qcow2_base.specs.declared.fault.Fault.{Fault}
-use Rattle.qcow2_metadata.specs.Table.{chunk_numbers, decoded_table, first_fault, table_numbers}
+use Rattle.qcow2_metadata.specs.Table.{chunk_numbers, decoded, first_fault, table_numbers}
 use Rattle.qcow2_metadata.proofs.TableLemmas.{first_fault-append, no_fault_at_all, range-append, table_numbers-held, table_numbers_same}
 
 map_range_at : (f g : ℕ → ℕ) (a b n : ℕ) → ((i : ℕ) → i < n → f (a + i) ≡ g (b + i)) → map f (range_with_len a n) ≡ map g (range_with_len b n)
@@ -88,8 +88,8 @@ first_fault-found fault (x ∷ xs) ys f found =
     found_or (fault x) (first_fault fault xs) (first_fault fault (xs ++ ys)) f found (first_fault-found fault xs ys f)
 
 -- a piece with a number that is no entry, after pieces with none, decides
-pub decoded_table-refused_piece : (fault : ℕ → Option Fault) (image : Image) (offset k m n : ℕ) (bytes : List ℕ) (f : Fault) → k + m ≤ n → Holds image (offset + 8 * k) bytes → 8 * m ≤ length bytes → first_fault fault (table_numbers image offset k) ≡ None → first_fault fault (table_numbers (image_of bytes) 0 m) ≡ Some f → decoded_table fault image offset n ≡ Err f
-decoded_table-refused_piece fault image offset k m n bytes f within held len none bad =
+pub decoded-refused_piece : (fault : ℕ → Option Fault) (image : Image) (offset k m n : ℕ) (bytes : List ℕ) (f : Fault) → k + m ≤ n → Holds image (offset + 8 * k) bytes → 8 * m ≤ length bytes → first_fault fault (table_numbers image offset k) ≡ None → first_fault fault (table_numbers (image_of bytes) 0 m) ≡ Some f → decoded fault (table_numbers image offset n) ≡ Err f
+decoded-refused_piece fault image offset k m n bytes f within held len none bad =
     let whole : n ≡ k + (m + (n - (k + m))) = omega arith in
     let here = table_numbers-held image (offset + 8 * k) m bytes held len in
     let bad_here : first_fault fault (table_numbers image (offset + 8 * k) m) ≡ Some f = ap (first_fault fault) here ∙ bad in

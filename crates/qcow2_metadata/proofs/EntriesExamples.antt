@@ -1,6 +1,8 @@
-use Rattle.std.proofs.Common.{◌≡◌, ◌*◌, Some, None, true, false, refl}
+use Rattle.std.proofs.Common.{◌≡◌, ℕ, ◌*◌, Some, None, true, false, refl}
 use Rattle.qcow2_base.specs.declared.fault.Fault.TheVariants.{EntryReserved, EntryUnaligned}
-use Rattle.qcow2_metadata.specs.Entries.{allocation, backing, compressed, compressed_length, compressed_offset, data_file, l1_entry_for, l1_fault, l2_fault, mapping, ref_fault, zeros}
+use Rattle.qcow2_metadata.specs.Header.{geometry}
+use Rattle.qcow2_metadata.specs.declared.entries.ClustersToFreeEntry.{ClustersToFreeEntry}
+use Rattle.qcow2_metadata.specs.Entries.{allocation, backing, compressed, compressed_length, compressed_offset, data_file, l1_entry_for, l1_fault, l2_fault, mapping, meets, ref_fault, zeros}
 
 -- numbers that are no entries: a reserved bit, an offset inside a cluster
 pub reserved_bit_56 : l2_fault 9 0x4100000000000000 ≡ Some EntryReserved
@@ -41,45 +43,54 @@ pub entered_cluster_2 : l1_entry_for (2 * 512) ≡ 0x8000000000000400
 entered_cluster_2 = refl
 
 -- what guest cluster 3 reads as
-pub data_in_a_cluster : mapping 9 false 3 0x8000000000000a00 ≡ data_file 5 true
+pub data_in_a_cluster : mapping (geometry 9 false) 3 0x8000000000000a00 ≡ data_file 5 true
 data_in_a_cluster = refl
 
-pub unallocated : mapping 9 false 3 0 ≡ backing 1536
+pub unallocated : mapping (geometry 9 false) 3 0 ≡ backing 1536
 unallocated = refl
 
-pub copied_at_0 : mapping 9 false 3 0x8000000000000000 ≡ backing 1536
+pub copied_at_0 : mapping (geometry 9 false) 3 0x8000000000000000 ≡ backing 1536
 copied_at_0 = refl
 
-pub copied_at_0_of_a_data_file : mapping 9 true 3 0x8000000000000000 ≡ data_file 0 true
+pub copied_at_0_of_a_data_file : mapping (geometry 9 true) 3 0x8000000000000000 ≡ data_file 0 true
 copied_at_0_of_a_data_file = refl
 
-pub zeros_without_a_cluster : mapping 9 false 3 0x8000000000000001 ≡ zeros None false
+pub zeros_without_a_cluster : mapping (geometry 9 false) 3 0x8000000000000001 ≡ zeros None false
 zeros_without_a_cluster = refl
 
-pub zeros_with_a_cluster : mapping 9 false 3 0x8000000000000a01 ≡ zeros (Some 5) true
+pub zeros_with_a_cluster : mapping (geometry 9 false) 3 0x8000000000000a01 ≡ zeros (Some 5) true
 zeros_with_a_cluster = refl
 
-pub compressed_data : mapping 16 false 3 0x4040000000010010 ≡ compressed 0x10010 1008
+pub compressed_data : mapping (geometry 16 false) 3 0x4040000000010010 ≡ compressed 0x10010 1008
 compressed_data = refl
 
 -- the clusters that an entry refers to
-pub cluster_of_data : allocation 9 false 0x8000000000000a00 ≡ Some (record { 0 = 5 }, record { 0 = 1 })
+abbrev clusters : ℕ → ℕ → ClustersToFreeEntry
+clusters first count = record { first = record { 0 = first }; count = record { 0 = count } }
+
+pub cluster_of_data : allocation (geometry 9 false) 0x8000000000000a00 ≡ Some (clusters 5 1)
 cluster_of_data = refl
 
-pub no_cluster : allocation 9 false 0x8000000000000000 ≡ None
+pub no_cluster : allocation (geometry 9 false) 0x8000000000000000 ≡ None
 no_cluster = refl
 
-pub cluster_0_of_a_data_file : allocation 9 true 0x8000000000000000 ≡ Some (record { 0 = 0 }, record { 0 = 1 })
+pub cluster_0_of_a_data_file : allocation (geometry 9 true) 0x8000000000000000 ≡ Some (clusters 0 1)
 cluster_0_of_a_data_file = refl
 
-pub compressed_within_one : allocation 16 false 0x4040000000010010 ≡ Some (record { 0 = 1 }, record { 0 = 1 })
+pub compressed_within_one : allocation (geometry 16 false) 0x4040000000010010 ≡ Some (clusters 1 1)
 compressed_within_one = refl
 
-pub compressed_over_two : allocation 16 false 0x404000000001fff0 ≡ Some (record { 0 = 1 }, record { 0 = 2 })
+pub compressed_over_two : allocation (geometry 16 false) 0x404000000001fff0 ≡ Some (clusters 1 2)
 compressed_over_two = refl
 
-pub compressed_over_three : allocation 10 false 0x7000000000000600 ≡ Some (record { 0 = 1 }, record { 0 = 3 })
+pub compressed_over_three : allocation (geometry 10 false) 0x7000000000000600 ≡ Some (clusters 1 3)
 compressed_over_three = refl
+
+pub the_third_cluster_is_met : meets (geometry 10 false) 0x7000000000000600 3 ≡ true
+the_third_cluster_is_met = refl
+
+pub the_fourth_is_not : meets (geometry 10 false) 0x7000000000000600 4 ≡ false
+the_fourth_is_not = refl
 
 pub length_to_the_end_of_the_sector : compressed_length 16 0x404000000001fff0 ≡ 528
 length_to_the_end_of_the_sector = refl

@@ -1,10 +1,11 @@
-use Rattle.std.proofs.Common.{◌≡◌, ℕ, Bool, true, false, not, IsTrue, ◌&&◌, ◌||◌, nat_eq, nat_lt, if◌then◌else◌, ◌+◌, ◌-◌, ◌*◌, ◌/◌, ◌%◌, ◌^◌, ◌<◌, ◌≤◌, ◌↔◌, Some, None, refl, ap, sym, ◌∙◌, inl, inr, subst, add-zero, arith}
+use Rattle.std.proofs.Common.{◌≡◌, ℕ, Bool, true, false, not, IsTrue, ◌&&◌, ◌||◌, nat_eq, nat_lt, if◌then◌else◌, ◌+◌, ◌-◌, ◌*◌, ◌/◌, ◌%◌, ◌^◌, ◌<◌, ◌≤◌, ◌↔◌, Option, Some, None, option_map, unwrap_or, refl, ap, sym, ◌∙◌, inl, inr, subst, add-zero, arith}
 use Rattle.std.proofs.lemmas.Bool.{cases_lt}
 use Rattle.std.proofs.lemmas.Nat.{pow_pos, pow-add, mod-pow-add}
 use Rattle.std.proofs.Math.Nat.{mul_assoc, mul-mod_left, le-div_iff_mul-le, div-mul-le_self, mul-div_cancel, zero-mod, add-mul-div_right}
 use Rattle.std.proofs.Math.Pow.{pow_mono}
-use Rattle.std.proofs.lemmas.Bool.Decides.{same_from_decides, Decides-eqb, Decides-ltb}
-use Rattle.qcow2_metadata.specs.Entries.{entry_fault, is_compressed, l2_reserved_bits, l1_entry_for, l1_fault, l1_reserved_bits, l2_fault, offset_field, ByteRange, byte_range, Meets, RangeMeets, first_cluster, cluster_count}
+use Rattle.std.proofs.lemmas.Bool.Decides.{same_from_decides, Decides-eqb, Decides-ltb, nat_tests}
+use Rattle.qcow2_metadata.specs.Header.{Geometry}
+use Rattle.qcow2_metadata.specs.Entries.{ByteRange, IsAllocation, IsAmong, Meets, RangeMeets, byte_range, cluster_count, clusters_of, compressed_length, compressed_offset, entry_fault, first_cluster, is_allocated, is_among, is_compressed, l1_entry_for, l1_fault, l1_reserved_bits, l2_fault, l2_reserved_bits, meets, offset_field}
 
 div_rises : (a b k : ℕ) → 0 < k → a ≤ b → a / k ≤ b / k
 div_rises a b k p h = (le-div_iff_mul-le p).1 (omega (arith, div-mul-le_self a k))
@@ -53,23 +54,60 @@ sectors_fill_two_clusters cb low =
     let same : cb - 8 + 9 ≡ cb + 1 = omega arith in
     omega (arith, rw same at split)
 
--- the same of an entry, by where its bytes begin and how many there are
-pub meets_among : (cb : ℕ) (external : Bool) (v start length c : ℕ) → byte_range cb external v ≡ Some (record { start = start; end = start + length }) → 1 ≤ length → Meets cb external v c ↔ ((start / 2 ^ cb ≤ c) × (c < start / 2 ^ cb + ((start + (length - 1)) / 2 ^ cb - start / 2 ^ cb + 1)))
-meets_among cb external v start length c is some =
-    let range : ByteRange = record { start = start; end = start + length } in
-    let around = met_clusters cb range c (omega arith) in
-    let last : start + length - 1 ≡ start + (length - 1) = omega arith in (
+-- the clusters of an entry's range are those that the entry meets
+met_by_entry : (g : Geometry) (v c : ℕ) (range : ByteRange) → byte_range g v ≡ Some range → range.start < range.end → Meets g v c ↔ IsAmong (clusters_of g.cluster_bits range) c
+met_by_entry g v c range is some =
+    let around = met_clusters g.cluster_bits range c some in (
       λ met. let same : met.0 ≡ range = cc in
-          let found : RangeMeets cb range c = subst (λ (r : ByteRange). RangeMeets cb r c) same met.2 in
-          rw (← last) (around.0 found),
-      λ among. (range, is, around.1 (rw last among)),
+          around.0 (subst (λ (r : ByteRange). RangeMeets g.cluster_bits r c) same met.2),
+      λ among. (range, is, around.1 among),
     )
 
-pub allocation_count : (cb start length : ℕ) → 1 ≤ length → length ≤ 2 * 2 ^ cb → (1 ≤ (start + (length - 1)) / 2 ^ cb - start / 2 ^ cb + 1) × ((start + (length - 1)) / 2 ^ cb - start / 2 ^ cb + 1 ≤ 3)
-allocation_count cb start length some short =
+-- the allocation of an entry, by where its bytes begin and how many there are
+pub allocation_of_range : (g : Geometry) (v start length : ℕ) → byte_range g v ≡ Some (record { start = start; end = start + length }) → 1 ≤ length → length ≤ 2 * 2 ^ g.cluster_bits → IsAllocation g v (Some (record { first = record { 0 = start / 2 ^ g.cluster_bits }; count = record { 0 = (start + (length - 1)) / 2 ^ g.cluster_bits - start / 2 ^ g.cluster_bits + 1 } }))
+allocation_of_range g v start length is some short =
     let range : ByteRange = record { start = start; end = start + length } in
     let last : start + length - 1 ≡ start + (length - 1) = omega arith in
-    rw (← last) (met_count cb range (omega arith) (omega arith))
+    rw (← last) (record {
+      value = rw is refl;
+      met = λ c. met_by_entry g v c range is (omega arith);
+      none = tt;
+      count = met_count g.cluster_bits range (omega arith) (omega arith);
+    })
+
+-- an entry that refers to no byte has none
+pub allocation_of_none : (g : Geometry) (v : ℕ) → byte_range g v ≡ None → IsAllocation g v None
+allocation_of_none g v is = record {
+  value = rw is refl;
+  met = tt;
+  none = λ c met. let no : None ≡ Some met.0 = cc in cc;
+  count = tt;
+}
+
+-- an entry refers to one byte at least, where it refers to any
+range_of_either : (compressed allocated : Bool) (a b range : ByteRange) → a.start < a.end → b.start < b.end → (if compressed then Some a else (if allocated then Some b else None)) ≡ Some range → range.start < range.end
+range_of_either true allocated a b range first second is = let same : a ≡ range = cc in subst (λ (r : ByteRange). r.start < r.end) same first
+range_of_either false true a b range first second is = let same : b ≡ range = cc in subst (λ (r : ByteRange). r.start < r.end) same second
+range_of_either false false a b range first second is = cc
+
+byte_range_has_bytes : (g : Geometry) (v : ℕ) (range : ByteRange) → byte_range g v ≡ Some range → range.start < range.end
+byte_range_has_bytes g v range is =
+    let cb = g.cluster_bits in
+    range_of_either (is_compressed v) (is_allocated g.external_data_file v)
+    (record { start = compressed_offset cb v; end = compressed_offset cb v + compressed_length cb v })
+    (record { start = offset_field v; end = offset_field v + 2 ^ cb })
+    range (omega arith) (omega (arith, pow_pos cb)) is
+
+meets_by_range : (g : Geometry) (v c : ℕ) (found : Option ByteRange) → byte_range g v ≡ found → IsTrue (unwrap_or (option_map (λ clusters. is_among clusters c) (option_map (clusters_of g.cluster_bits) found)) false) ↔ Meets g v c
+meets_by_range g v c None is = (λ t. cc, λ met. let no : None ≡ Some met.0 = cc in cc)
+meets_by_range g v c (Some range) is =
+    let met = met_by_entry g v c range is (byte_range_has_bytes g v range is) in
+    let clusters = clusters_of g.cluster_bits range in
+    (λ t. met.1 (grind (arith, nat_tests)), λ m. let among = met.0 m in grind (arith, nat_tests))
+
+-- the test whether an entry meets a cluster is true just where it does
+pub meets_is_met : (g : Geometry) (v c : ℕ) → IsTrue (meets g v c) ↔ Meets g v c
+meets_is_met g v c = meets_by_range g v c (byte_range g v) refl
 
 -- the number 0 is an L2 entry
 pub l2_fault_zero : (cb : ℕ) → l2_fault cb 0 ≡ None

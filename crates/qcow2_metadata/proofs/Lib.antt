@@ -1,6 +1,6 @@
 mod EntriesExamples
-mod EntriesLemmas
 mod TableExamples
-mod TableLemmas
-pub mod PieceLemmas
 pub mod ChunkLemmas
+pub mod EntriesLemmas
+pub mod PieceLemmas
+pub mod TableLemmas

@@ -1,4 +1,4 @@
-use Rattle.std.proofs.Common.{◌≡◌, ℕ, zero, suc, ◌+◌, ◌-◌, ◌*◌, ◌/◌, ◌%◌, ◌<◌, ◌≤◌, List, [], ◌∷◌, ◌++◌, map, length, get_or, slice_index, replicate, set, take, Option, Some, None, IfSome, refl, sym, ◌∙◌, ap, inl, inr, add-zero, add_assoc, arith}
+use Rattle.std.proofs.Common.{◌≡◌, ℕ, zero, suc, ◌+◌, ◌-◌, ◌*◌, ◌/◌, ◌%◌, ◌<◌, ◌≤◌, List, [], ◌∷◌, ◌++◌, map, length, get_or, slice_index, replicate, set, take, Option, Some, None, option_map, IfSome, refl, sym, ◌∙◌, ap, inl, inr, add-zero, add_assoc, arith}
 use Rattle.std.specs.List.{range_with_len}
 use Rattle.std.specs.Option.{option_or}
 use Rattle.std.proofs.lemmas.List.{length-map, map-append, take_all}
@@ -9,7 +9,7 @@ use Rattle.std.specs.Slice.{IsGetResult}
 use mathlib.Core.Path.{fun_ext}
 use Rattle.qcow2_base.specs.Storage.{Holds, Image, IsBytes, SameOutside, be, be_of_same, be_tells, image_of}
 use Rattle.qcow2_base.specs.declared.fault.Fault.{Fault}
-use Rattle.qcow2_metadata.specs.Table.{IsFirstFault, first_fault, grown_numbers, table_numbers}
+use Rattle.qcow2_metadata.specs.Table.{IsFirstFault, TablePlace, first_fault, grown_numbers, numbers_at, offset_of, table_numbers}
 
 pub no_fault_at_all : (first rest : Option Fault) → option_or first rest ≡ None → (first ≡ None) × (rest ≡ None)
 no_fault_at_all None rest h = (refl, h)
@@ -104,9 +104,11 @@ same_table_same_image old new offset n small small' same outside =
     ])
 
 -- the same, where the table's place may be none
-pub same_table_same_image_at : (old new : Image) (place : Option ℕ) (offset : ℕ) (numbers : List ℕ) → place ≡ Some offset → IsBytes old → IsBytes new → table_numbers new offset (length numbers) ≡ numbers → SameOutside offset (8 * length numbers) old new → IfSome place (λ o. table_numbers old o (length numbers) ≡ numbers → new ≡ old)
-same_table_same_image_at old new place offset numbers is small small' written outside =
-    rw is (λ stands. same_table_same_image old new offset (length numbers) small small' (stands ∙ sym written) outside)
+pub same_table_same_image_at : (old new : Image) (place : Option TablePlace) (offset : ℕ) (numbers : List ℕ) → option_map offset_of place ≡ Some offset → IfSome place (λ p. p.entries ≡ length numbers) → IsBytes old → IsBytes new → table_numbers new offset (length numbers) ≡ numbers → SameOutside offset (8 * length numbers) old new → IfSome place (λ p. numbers_at p old ≡ numbers → new ≡ old)
+same_table_same_image_at old new None offset numbers is count small small' written outside = tt
+same_table_same_image_at old new (Some place) offset numbers is count small small' written outside =
+    let at : offset_of place ≡ offset = cc in
+    rw (at, count) (λ stands. same_table_same_image old new offset (length numbers) small small' (stands ∙ sym written) outside)
 
 pub first_fault-set : (fault : ℕ → Option Fault) (xs : List ℕ) (i v : ℕ) → first_fault fault xs ≡ None → fault v ≡ None → first_fault fault (set xs i v) ≡ None
 first_fault-set fault [] i v h lawful = h

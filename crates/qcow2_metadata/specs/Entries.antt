@@ -1,17 +1,15 @@
-use Rattle.std.specs.Prelude.{◌≡◌, ℕ, Bool, true, false, not, ◌&&◌, ◌||◌, ◌==◌, ◌+◌, ◌-◌, ◌*◌, ◌/◌, ◌%◌, ◌^◌, ◌<◌, ◌≤◌, nat_lt, if◌then◌else◌, Option, Some, None, option_map, IfSome, MatchOption, ◌↔◌, ⊤}
+use Rattle.std.specs.Prelude.{◌≡◌, ℕ, Bool, true, false, not, ◌&&◌, ◌||◌, ◌==◌, ◌+◌, ◌-◌, ◌*◌, ◌/◌, ◌%◌, ◌^◌, ◌<◌, ◌≤◌, ◌↔◌, nat_le, nat_lt, if◌then◌else◌, Option, Some, None, option_map, IfSome, IfNone, unwrap_or, ⊤}
 use Rattle.std.specs.Int.NonZero.{non_zero_u64_get}
+use Rattle.qcow2_base.specs.Bits.{field}
 use Rattle.qcow2_base.specs.declared.fault.Fault.{Fault}
 use Rattle.qcow2_base.specs.declared.fault.Fault.TheVariants.{EntryReserved, EntryUnaligned}
 use Rattle.qcow2_base.specs.declared.types.ClusterCount.{ClusterCount}
 use Rattle.qcow2_base.specs.declared.types.HostCluster.{HostCluster}
 use Rattle.qcow2_base.specs.declared.types.HostOffset.{HostOffset}
+use Rattle.qcow2_metadata.specs.Header.{Geometry}
 use Rattle.qcow2_metadata.specs.declared.entries.ClustersToFreeEntry.{ClustersToFreeEntry}
 use Rattle.qcow2_metadata.specs.declared.entries.L2Mapping.{L2Mapping}
 use Rattle.qcow2_metadata.specs.declared.entries.L2Mapping.TheVariants.{DataFile, Backing, Zero, Compressed}
-
--- the n bits of v from bit a on, as a number
-abbrev pub field : ℕ → ℕ → ℕ → ℕ
-field v a n = v / 2 ^ a % 2 ^ n
 
 -- the fault of a number with a reserved bit, or else with an unaligned offset
 abbrev pub entry_fault : Bool → Bool → Option Fault
@@ -27,7 +25,7 @@ offset_field v = 512 * field v 9 47
 abbrev pub is_copied : ℕ → Bool
 is_copied v = field v 63 1 == 1
 
--- L2 entries. cb is cluster_bits; a cluster has 2 ^ cb bytes
+-- L2 entries. g is the image's geometry and cb its cluster_bits
 
 -- bit 62: a compressed entry; any other is a standard one
 abbrev pub is_compressed : ℕ → Bool
@@ -85,53 +83,58 @@ pub record ByteRange : Type 0 where
   pub end : ℕ
 
 -- the bytes that an entry refers to
-abbrev pub byte_range : ℕ → Bool → ℕ → Option ByteRange
-byte_range cb external v =
+abbrev pub byte_range : Geometry → ℕ → Option ByteRange
+byte_range g v =
+    let cb = g.cluster_bits in
     if is_compressed v then Some (record { start = compressed_offset cb v; end = compressed_offset cb v + compressed_length cb v })
-    else (if is_allocated external v then Some (record { start = offset_field v; end = offset_field v + 2 ^ cb }) else None)
+    else (if is_allocated g.external_data_file v then Some (record { start = offset_field v; end = offset_field v + 2 ^ cb }) else None)
 
 -- some byte of the range lies in cluster c
 abbrev pub RangeMeets : ℕ → ByteRange → ℕ → Type 0
 RangeMeets cb range c = (byte : ℕ) × (range.start ≤ byte) × (byte < range.end) × (byte / 2 ^ cb ≡ c)
 
 -- the entry refers to a byte of cluster c
-abbrev pub Meets : ℕ → Bool → ℕ → ℕ → Type 0
-Meets cb external v c = (range : ByteRange) × (byte_range cb external v ≡ Some range) × RangeMeets cb range c
+abbrev pub Meets : Geometry → ℕ → ℕ → Type 0
+Meets g v c = (range : ByteRange) × (byte_range g v ≡ Some range) × RangeMeets g.cluster_bits range c
 
--- the clusters from that of a range's first byte to that of its last: the first, and how many
+-- clusters one after another are a ClustersToFreeEntry: the first, and how many. Cluster c is one of them
+abbrev pub IsAmong : ClustersToFreeEntry → ℕ → Type 0
+IsAmong clusters c = (clusters.first.0 ≤ c) × (c < clusters.first.0 + clusters.count.0)
+
+-- whether it is
+abbrev pub is_among : ClustersToFreeEntry → ℕ → Bool
+is_among clusters c = nat_le clusters.first.0 c && nat_lt c (clusters.first.0 + clusters.count.0)
+
+-- the cluster of a range's first byte
 abbrev pub first_cluster : ℕ → ByteRange → ℕ
 first_cluster cb range = range.start / 2 ^ cb
 
+-- how many clusters there are from there to that of its last byte
 abbrev pub cluster_count : ℕ → ByteRange → ℕ
 cluster_count cb range = (range.end - 1) / 2 ^ cb - range.start / 2 ^ cb + 1
 
--- the clusters that an entry refers to
-abbrev pub clusters_of : ℕ → ByteRange → HostCluster × ClusterCount
-clusters_of cb range = (record { 0 = first_cluster cb range }, record { 0 = cluster_count cb range })
+-- the clusters of which a range has a byte
+abbrev pub clusters_of : ℕ → ByteRange → ClustersToFreeEntry
+clusters_of cb range = record { first = record { 0 = first_cluster cb range }; count = record { 0 = cluster_count cb range } }
 
-abbrev pub allocation : ℕ → Bool → ℕ → Option (HostCluster × ClusterCount)
-allocation cb external v = option_map (clusters_of cb) (byte_range cb external v)
+-- the clusters of which an entry refers to a byte
+abbrev pub allocation : Geometry → ℕ → Option ClustersToFreeEntry
+allocation g v = option_map (clusters_of g.cluster_bits) (byte_range g v)
 
--- cluster c is one of so many from the first on
-abbrev pub IsAmongClusters : HostCluster × ClusterCount → ℕ → Type 0
-IsAmongClusters clusters c = (clusters.0.0 ≤ c) × (c < clusters.0.0 + clusters.1.0)
+-- whether the entry refers to a byte of cluster c
+abbrev pub meets : Geometry → ℕ → ℕ → Bool
+meets g v c = unwrap_or (option_map (λ clusters. is_among clusters c) (allocation g v)) false
 
--- these clusters, as they are handed back
-abbrev pub free_entry : HostCluster × ClusterCount → ClustersToFreeEntry
-free_entry clusters = record { first = clusters.0; count = clusters.1 }
+-- these clusters are just those of which an entry refers to a byte, one to three, or there is none
+pub record IsAllocation (g : Geometry) (v : ℕ) (clusters : Option ClustersToFreeEntry) : Type 0 where
+  pub value : clusters ≡ allocation g v
+  pub met : IfSome clusters (λ some. (c : ℕ) → Meets g v c ↔ IsAmong some c)
+  pub none : IfNone clusters ((c : ℕ) → Meets g v c → ⊥)
+  pub count : IfSome clusters (λ some. (1 ≤ some.count.0) × (some.count.0 ≤ 3))
 
--- cluster c is one of those that are handed back
-abbrev pub IsFreed : ClustersToFreeEntry → ℕ → Type 0
-IsFreed freed c = (freed.first.0 ≤ c) × (c < freed.first.0 + freed.count.0)
-
--- what is handed back when an entry is dropped
-abbrev pub clusters_to_free : ℕ → Bool → ℕ → Option ClustersToFreeEntry
-clusters_to_free cb external v = option_map free_entry (allocation cb external v)
-
--- just the clusters of which an entry refers to a byte, one to three, are handed back, or none where it refers to none
-abbrev pub HandsBack : ℕ → Bool → ℕ → Option ClustersToFreeEntry → Type 0
-HandsBack cb external v freed = MatchOption freed ((c : ℕ) → Meets cb external v c → ⊥)
-    (λ (f : ClustersToFreeEntry). ((c : ℕ) → Meets cb external v c ↔ IsFreed f c) × (1 ≤ f.count.0) × (f.count.0 ≤ 3))
+-- a first cluster and a count, as clusters
+abbrev pub from_pair : HostCluster × ClusterCount → ClustersToFreeEntry
+from_pair pair = record { first = pair.0; count = pair.1 }
 
 -- what a guest cluster reads as
 pub data Mapping : Type 0 where
@@ -155,8 +158,8 @@ IsPlaced cb (Zero host_cluster copied) = IfSome host_cluster (λ (c : HostCluste
 IsPlaced cb (Compressed host_offset length) = host_offset.0 < 2 ^ 56
 
 -- the cluster that a standard entry refers to
-abbrev pub host_cluster : ℕ → Bool → ℕ → Option ℕ
-host_cluster cb external v = if is_allocated external v then Some (offset_field v / 2 ^ cb) else None
+abbrev pub host_cluster : Geometry → ℕ → Option ℕ
+host_cluster g v = if is_allocated g.external_data_file v then Some (offset_field v / 2 ^ g.cluster_bits) else None
 
 -- by the zero flag, the cluster and the copied flag, and where the backing file has the guest cluster
 abbrev pub standard_mapping : Bool → Option ℕ → Bool → ℕ → Mapping
@@ -165,11 +168,12 @@ standard_mapping true None copied offset = zeros None false
 standard_mapping false (Some cluster) copied offset = data_file cluster copied
 standard_mapping false None copied offset = backing offset
 
--- what guest cluster g reads as by its entry v
-abbrev pub mapping : ℕ → Bool → ℕ → ℕ → Mapping
-mapping cb external g v =
+-- what a guest cluster reads as by its entry v
+abbrev pub mapping : Geometry → ℕ → ℕ → Mapping
+mapping g guest_cluster v =
+    let cb = g.cluster_bits in
     if is_compressed v then compressed (compressed_offset cb v) (compressed_length cb v)
-    else standard_mapping (is_zero v) (host_cluster cb external v) (is_copied v) (g * 2 ^ cb)
+    else standard_mapping (is_zero v) (host_cluster g v) (is_copied v) (guest_cluster * 2 ^ cb)
 
 -- L1 entries: bits 0 to 8 and 56 to 62 are reserved, at their places
 

@@ -1,3 +1,5 @@
 pub mod Entries
 pub mod Header
+pub mod L2Table
+pub mod Range
 pub mod Table

@@ -1,50 +1,90 @@
-use Rattle.std.specs.Prelude.{◌≡◌, ◌≢◌, false, true, OnOk, OnErr, IfOk, IfErr, IsErrOf, ℕ, Bool, ◌⊎◌, ◌+◌, ◌-◌, ◌*◌, ◌^◌, ◌<◌, ◌≤◌, max, nat_lt, if◌then◌else◌, List, [], ◌∷◌, ◌++◌, map, length, slice_index, slice_set, take, replicate, Option, Some, None, option_map, Result, Ok, Err, MatchResult, IfSome, IsTrue}
+use Rattle.std.specs.Prelude.{◌≡◌, ◌≢◌, false, true, OnOk, OnErr, IfErr, IsErrOf, ℕ, Bool, ◌⊎◌, ◌+◌, ◌-◌, ◌*◌, ◌%◌, ◌^◌, ◌<◌, ◌≤◌, max, nat_lt, if◌then◌else◌, List, [], ◌∷◌, ◌++◌, map, length, slice_index, slice_set, take, replicate, Option, Some, None, option_map, Result, Ok, Err, MatchResult, IfSome, IsTrue}
 use Rattle.std.specs.Int.{next_multiple_of}
 use Rattle.std.specs.List.{range_with_len}
 use Rattle.std.specs.Option.{option_or}
-use Rattle.qcow2_base.specs.Storage.{CountsFailure, Image, OnlyReads, OnlyWrites, SameDevice, SameOutside, StorageState, be, image_of}
-use Rattle.qcow2_metadata.specs.Header.{HeaderRecord, uses_external_data}
-use Rattle.qcow2_metadata.specs.Entries.{HandsBack, clusters_to_free}
-use Rattle.qcow2_metadata.specs.declared.entries.ClustersToFreeEntry.{ClustersToFreeEntry}
+use Rattle.qcow2_base.specs.Storage.{CountsFailure, Image, OnlyWrites, SameDevice, SameOutside, StorageState, be, image_of}
 use Rattle.qcow2_base.specs.Types.{IsClusterBits}
 use Rattle.qcow2_base.specs.declared.fault.Fault.{Fault}
-use Rattle.qcow2_base.specs.declared.fault.Fault.TheVariants.{EntryReserved, EntryUnaligned, NoMemory, NoOffset, Storage, TableTooBig, TablePlace}
+use Rattle.qcow2_base.specs.declared.fault.Fault.TheVariants.{EntryReserved, EntryUnaligned, NoMemory, NoOffset, Storage, TableTooBig}
 use Rattle.qcow2_base.specs.declared.types.HostCluster.{HostCluster}
+use Rattle.qcow2_metadata.specs.Entries.{Mapping, l1_fault, l2_fault, mapping}
+use Rattle.qcow2_metadata.specs.Header.{Geometry, HeaderRecord, geometry_of}
+use Rattle.qcow2_metadata.specs.Range.{FlagTells, range_fault}
 
--- what a table in memory says: its entries' numbers, its cluster in the image if it has one, whether
--- it was changed since it was last read or written, and what it keeps of the header
+-- how many entries a table of each kind may have
+abbrev pub most_l1_entries : ℕ
+most_l1_entries = 4194304
+
+abbrev pub most_l2_entries : ℕ
+most_l2_entries = 262144
+
+abbrev pub most_reftable_entries : ℕ
+most_reftable_entries = 4194304
+
+-- what a table in memory says: its entries' numbers, its cluster in the image if it has one, whether it was
+-- changed since it was last read or written, and the image's geometry
 pub record TableState : Type 0 where
   pub numbers : List ℕ
   pub cluster : Option HostCluster
   pub modified : Bool
-  pub cluster_bits : ℕ
-  pub external_data_file : Bool
+  pub geometry : Geometry
 
--- a table of these numbers that was just made for an image with this header: it has no cluster, and
--- counts as modified
+-- the table with its flag set or cleared
+abbrev pub flagged : Bool → TableState → TableState
+flagged modified table = record table { modified = modified }
+
+-- a table of these numbers that was just made for an image with this header: it has no cluster, and counts
+-- as modified
 abbrev pub new_table : List ℕ → HeaderRecord → TableState
-new_table numbers header = record {
-  numbers = numbers;
-  cluster = None;
-  modified = true;
-  cluster_bits = header.cluster_bits;
-  external_data_file = uses_external_data header;
-}
+new_table numbers header = record { numbers = numbers; cluster = None; modified = true; geometry = geometry_of header }
 
--- a refusal, if there is one, else the answer
-abbrev pub unless_refused : {T : Type 0} → Option Fault → Result T Fault → Result T Fault
-unless_refused None answer = answer
-unless_refused (Some fault) answer = Err fault
+-- the table with another number at an index; it then counts as modified
+abbrev pub edited : TableState → ℕ → ℕ → TableState
+edited table index v = record table { numbers = slice_set table.numbers index v; modified = true }
 
--- the fault of the place of n entries that begin with a cluster: too many for their kind, or an end past 2 ^ 56
-abbrev pub place_fault : ℕ → ℕ → ℕ → ℕ → Option Fault
-place_fault most cb cluster n =
-    if nat_lt most n then Some TableTooBig
-    else (if nat_lt (2 ^ 56) (cluster * 2 ^ cb + 8 * n) then Some TablePlace else None)
+-- a place for a table in an image: the cluster that it begins with, and how many entries it has
+pub record TablePlace : Type 0 where
+  pub geometry : Geometry
+  pub cluster : HostCluster
+  pub entries : ℕ
+
+-- so many entries from a cluster of an image with this header on
+abbrev pub table_at : HeaderRecord → HostCluster → ℕ → TablePlace
+table_at header cluster entries = record { geometry = geometry_of header; cluster = cluster; entries = entries }
+
+-- the place of a table that has a cluster
+abbrev pub place_of : TableState → Option TablePlace
+place_of table = option_map (λ (cluster : HostCluster).
+    record { geometry = table.geometry; cluster = cluster; entries = length table.numbers }) table.cluster
+
+-- the offset that a table begins at
+abbrev pub offset_of : TablePlace → ℕ
+offset_of place = place.cluster.0 * 2 ^ place.geometry.cluster_bits
+
+-- why n entries can't lie in an image from an offset on: they are more than the most of their kind, or their
+-- bytes end past 2 ^ 56
+abbrev pub entries_fault : ℕ → ℕ → ℕ → Option Fault
+entries_fault most offset n = if nat_lt most n then Some TableTooBig else range_fault offset (8 * n)
+
+-- why no table of a kind can lie at a place
+abbrev pub place_fault : ℕ → TablePlace → Option Fault
+place_fault most place = entries_fault most (offset_of place) place.entries
+
+-- why a table can't be written where it is: it has no cluster, or its place isn't lawful
+abbrev pub write_fault : ℕ → TableState → Option Fault
+write_fault most table = fault_at (place_of table)
+  where
+    fault_at : Option TablePlace → Option Fault
+    fault_at None = Some NoOffset
+    fault_at (Some place) = place_fault most place
 
 -- the n numbers of eight bytes each, big-endian, from an offset on
 abbrev pub table_numbers : Image → ℕ → ℕ → List ℕ
 table_numbers image offset n = map (λ i. be image (offset + 8 * i) 8) (range_with_len 0 n)
+
+-- the numbers that stand at a table's place
+abbrev pub numbers_at : TablePlace → Image → List ℕ
+numbers_at place image = table_numbers image (offset_of place) place.entries
 
 -- the numbers that stand in pieces of eight bytes
 abbrev pub chunk_numbers : List (List ℕ) → List ℕ
@@ -61,15 +101,40 @@ pub record IsFirstFault (fault : ℕ → Option Fault) (numbers : List ℕ) (fou
   pub here : fault (slice_index numbers i) ≡ Some found
   pub before : (j : ℕ) → j < i → fault (slice_index numbers j) ≡ None
 
--- the table of n entries at an offset: its numbers, or the fault of the first that is no entry
-abbrev pub decoded_table : (ℕ → Option Fault) → Image → ℕ → ℕ → Result (List ℕ) Fault
-decoded_table fault image offset n =
-    let numbers = table_numbers image offset n in unless_refused (first_fault fault numbers) (Ok numbers)
+-- a refusal, if there is one, else the answer
+abbrev pub unless_refused : {T : Type 0} → Option Fault → Result T Fault → Result T Fault
+unless_refused None answer = answer
+unless_refused (Some fault) answer = Err fault
 
--- the table of n entries that begins with a cluster: the fault of its place comes first
-abbrev pub loaded_table : ℕ → (ℕ → Option Fault) → ℕ → Image → ℕ → ℕ → Result (List ℕ) Fault
-loaded_table most fault cb image cluster n =
-    unless_refused (place_fault most cb cluster n) (decoded_table fault image (cluster * 2 ^ cb) n)
+-- numbers as a table: the numbers, or the fault of the first that is no entry
+abbrev pub decoded : (ℕ → Option Fault) → List ℕ → Result (List ℕ) Fault
+decoded fault numbers = unless_refused (first_fault fault numbers) (Ok numbers)
+
+-- the table that stands at a place, where that is lawful
+abbrev pub decoded_table : (ℕ → ℕ → Option Fault) → TablePlace → Image → Result (List ℕ) Fault
+decoded_table fault_of place image = decoded (fault_of place.geometry.cluster_bits) (numbers_at place image)
+
+-- the table that stands at a place: the fault of the place comes first
+abbrev pub loaded_table : ℕ → (ℕ → ℕ → Option Fault) → TablePlace → Image → Result (List ℕ) Fault
+loaded_table most fault_of place image =
+    unless_refused (place_fault most place) (decoded_table fault_of place image)
+
+-- what a guest cluster reads as by its entry in an L2 table
+abbrev pub mapping_at : TableState → ℕ → Mapping
+mapping_at table guest_cluster =
+    mapping table.geometry guest_cluster (slice_index table.numbers (guest_cluster % 2 ^ (table.geometry.cluster_bits - 3)))
+
+-- the place of an L2 table, which fills one cluster with its entries
+abbrev pub l2_table_at : Geometry → HostCluster → TablePlace
+l2_table_at g cluster = record { geometry = g; cluster = cluster; entries = 2 ^ (g.cluster_bits - 3) }
+
+-- the L2 table that begins with a cluster
+abbrev pub loaded_l2_table : Geometry → HostCluster → Image → Result (List ℕ) Fault
+loaded_l2_table g cluster image = loaded_table most_l2_entries l2_fault (l2_table_at g cluster) image
+
+-- the L1 table that stands at a place
+abbrev pub loaded_l1_table : TablePlace → Image → Result (List ℕ) Fault
+loaded_l1_table place image = loaded_table most_l1_entries l1_fault place image
 
 -- the answer is the expected one, unless the storage failed or memory ran out
 abbrev pub Answers : {T : Type 0} → (T → List ℕ) → Result T Fault → Result (List ℕ) Fault → Type 0
@@ -82,48 +147,31 @@ abbrev pub IsLoadFault : Option Fault → Fault → Type 0
 IsLoadFault of_place fault =
     (of_place ≡ Some fault) ⊎ (fault ≡ EntryReserved) ⊎ (fault ≡ EntryUnaligned) ⊎ (fault ≡ NoMemory) ⊎ (fault ≡ Storage)
 
--- the offset that a table in the image begins at
-abbrev pub place_of : TableState → Option ℕ
-place_of table = option_map (λ (cluster : HostCluster). cluster.0 * 2 ^ table.cluster_bits) table.cluster
+-- a load that ended in this answer: the fault of the place comes before all others
+pub record LoadRefuses {T : Type 0} (of_place : Option Fault) (answer : Result T Fault) : Type 0 where
+  pub place : IfSome of_place (λ fault. answer ≡ Err fault)
+  pub faults : IfErr answer (IsLoadFault of_place)
 
--- why a table can't be written where it is: it has no cluster, or its place isn't lawful
-abbrev pub write_fault : ℕ → TableState → Option Fault
-write_fault most table = fault_at table.cluster
-  where
-    fault_at : Option HostCluster → Option Fault
-    fault_at None = Some NoOffset
-    fault_at (Some cluster) = place_fault most table.cluster_bits cluster.0 (length table.numbers)
-
--- a table that was loaded from n entries of a cluster: it has that cluster, isn't modified, keeps what the
--- header says, and has the numbers that stand there, where the storage tells them
-pub record IsLoaded (image : StorageState) (header : HeaderRecord) (first : HostCluster) (n : ℕ) (table : TableState) : Type 0 where
-  pub numbers : IsTrue image.tells → table.numbers ≡ table_numbers image.byte_at (first.0 * 2 ^ header.cluster_bits) n
-  pub entries : length table.numbers ≡ n
-  pub cluster : table.cluster ≡ Some first
+-- a table that was loaded from a place: it has its cluster, isn't modified, and has the numbers that stand
+-- there, where the storage tells them
+pub record IsLoaded (place : TablePlace) (image : StorageState) (table : TableState) : Type 0 where
+  pub numbers : IsTrue image.tells → table.numbers ≡ numbers_at place image.byte_at
+  pub entries : length table.numbers ≡ place.entries
+  pub cluster : table.cluster ≡ Some place.cluster
   pub unmodified : table.modified ≡ false
-  pub cluster_bits : table.cluster_bits ≡ header.cluster_bits
-  pub external : table.external_data_file ≡ uses_external_data header
+  pub geometry : table.geometry ≡ place.geometry
 
 -- the refusals of a write: that of the table, or a failed storage
 abbrev pub IsWriteFault : Option Fault → Fault → Type 0
 IsWriteFault of_table fault = (of_table ≡ Some fault) ⊎ (fault ≡ Storage)
 
--- after a write the modified flag is clear, after a failed storage it is set, and after any other
--- refusal it is as before; nothing else of the table changes
-pub record FlagTells {T : Type 0} (answer : Result T Fault) (old new : TableState) : Type 0 where
-  pub ok : OnOk answer (new ≡ record old { modified = false })
-  pub failed : IsErrOf answer Storage → new ≡ record old { modified = true }
-  pub err : IfErr answer (λ fault. fault ≢ Storage → new ≡ old)
-
 -- the new image has the table at its place, and is the old one where that had it there
 pub record IsWritten (fault_of : ℕ → ℕ → Option Fault) (table : TableState) (old new : Image) : Type 0 where
-  pub decoded : IfSome (place_of table) (λ offset.
-      decoded_table (fault_of table.cluster_bits) new offset (length table.numbers) ≡ Ok table.numbers)
-  pub same : IfSome (place_of table) (λ offset.
-      table_numbers old offset (length table.numbers) ≡ table.numbers → new ≡ old)
+  pub decoded : IfSome (place_of table) (λ place. decoded_table fault_of place new ≡ Ok table.numbers)
+  pub same : IfSome (place_of table) (λ place. numbers_at place old ≡ table.numbers → new ≡ old)
 
--- a write of these numbers from an offset on, in pieces of 4096 bytes, that failed at a piece: the numbers before
--- that piece are written, and after it each byte is the old one
+-- a write of these numbers from an offset on, in pieces of 4096 bytes, that failed at a piece: the numbers
+-- before that piece are written, and after it each byte is the old one
 pub record IsTornAt (piece : ℕ) (numbers : List ℕ) (offset : ℕ) (old new : Image) : Type 0 where
   pub within : 512 * piece < length numbers
   pub before : table_numbers new offset (512 * piece) ≡ take (512 * piece) numbers
@@ -141,31 +189,24 @@ pub record WritesPieces {T E : Type 0} (answer : Result T E) (offset : ℕ) (num
   pub failures : CountsFailure answer old new
   pub device : SameDevice old new
 
--- a load of n entries from a cluster that ended in this answer
-pub record Loads (most : ℕ) (fault_of : ℕ → ℕ → Option Fault) {T : Type 0} (state : T → TableState) (answer : Result T Fault) (header : HeaderRecord) (first : HostCluster) (n : ℕ) (before after : StorageState) : Type 0 where
-  pub place : IfSome (place_fault most header.cluster_bits first.0 n) (λ fault. answer ≡ Err fault)
-  pub faults : IfErr answer (IsLoadFault (place_fault most header.cluster_bits first.0 n))
-  pub exact : IsTrue before.tells → Answers (λ table. (state table).numbers) answer
-      (loaded_table most (fault_of header.cluster_bits) header.cluster_bits before.byte_at first.0 n)
-  pub loaded : IfOk answer (λ table. IsLoaded before header first n (state table))
-  pub storage : OnlyReads answer before after
+-- a table, and the storage that it is written to
+pub record TableOnStorage : Type 0 where
+  pub table : TableState
+  pub storage : StorageState
 
--- a write that ended in this answer: of the table before and after it, and of the storage before and after it
-pub record Writes (most : ℕ) (fault_of : ℕ → ℕ → Option Fault) {T : Type 0} (answer : Result T Fault) (old new : TableState) (before after : StorageState) : Type 0 where
-  pub refused : IfSome (write_fault most old) (λ fault. answer ≡ Err fault)
-  pub faults : IfErr answer (IsWriteFault (write_fault most old))
-  pub flag : FlagTells answer old new
-  pub written : IsTrue before.tells → OnOk answer (IsWritten fault_of old before.byte_at after.byte_at)
-  pub torn : IsTrue before.tells → IsErrOf answer Storage → IfSome (place_of old) (λ offset.
-      IsTorn old.numbers offset before.byte_at after.byte_at)
-  pub storage : OnlyWrites answer (place_of old) (8 * length old.numbers) before after
+-- the two together
+abbrev pub on_storage : TableState → StorageState → TableOnStorage
+on_storage table storage = record { table = table; storage = storage }
 
--- one edit of an L2 table: the entry at an index becomes v, the table counts as modified, and what the entry
--- before it referred to is handed back, as a function of its number and as just the clusters that it met
-pub record Edits (index v : ℕ) (freed : Option ClustersToFreeEntry) (old new : TableState) : Type 0 where
-  pub table : new ≡ record old { numbers = slice_set old.numbers index v; modified = true }
-  pub value : freed ≡ clusters_to_free old.cluster_bits old.external_data_file (slice_index old.numbers index)
-  pub met : HandsBack old.cluster_bits old.external_data_file (slice_index old.numbers index) freed
+-- a write of a table that ended in this answer
+pub record WritesTable (most : ℕ) (fault_of : ℕ → ℕ → Option Fault) {T : Type 0} (answer : Result T Fault) (old new : TableOnStorage) : Type 0 where
+  pub refused : IfSome (write_fault most old.table) (λ fault. answer ≡ Err fault)
+  pub faults : IfErr answer (IsWriteFault (write_fault most old.table))
+  pub flag : FlagTells flagged answer old.table new.table
+  pub written : IsTrue old.storage.tells → OnOk answer (IsWritten fault_of old.table old.storage.byte_at new.storage.byte_at)
+  pub torn : IsTrue old.storage.tells → IsErrOf answer Storage → IfSome (place_of old.table) (λ place.
+      IsTorn old.table.numbers (offset_of place) old.storage.byte_at new.storage.byte_at)
+  pub storage : OnlyWrites answer (option_map offset_of (place_of old.table)) (8 * length old.table.numbers) old.storage new.storage
 
 -- what holds of every table: its cluster's offset fits 64 bits, and each number is an entry of its kind
 pub record IsLawful (fault_of : ℕ → ℕ → Option Fault) (has_lawful_count : ℕ → ℕ → Bool) (cb : ℕ) (cluster : Option HostCluster) (numbers : List ℕ) : Type 0 where
@@ -175,13 +216,9 @@ pub record IsLawful (fault_of : ℕ → ℕ → Option Fault) (has_lawful_count 
   pub count : IsTrue (has_lawful_count cb (length numbers))
   pub bound : length numbers ≤ 2 ^ 48
 
--- the list after a discard: 0 at the index, and the same elsewhere
-abbrev pub discarded : List ℕ → ℕ → List ℕ
-discarded numbers index = slice_set numbers index 0
-
 -- the number of entries that a table has after it has grown to hold an index: whole clusters of them
-abbrev pub grown_count : ℕ → ℕ → ℕ → ℕ
-grown_count cb len index = next_multiple_of (max (index + 1) len) (2 ^ (cb - 3))
+abbrev pub grown_count : TableState → ℕ → ℕ
+grown_count table index = next_multiple_of (max (index + 1) (length table.numbers)) (2 ^ (table.geometry.cluster_bits - 3))
 
 -- the entries, and then zeros up to a count
 abbrev pub grown_numbers : List ℕ → ℕ → List ℕ

@@ -6,10 +6,10 @@ ghost use Rattle.qcow2_base.specs.Types.{IsClusterBits};
 ghost use Rattle.qcow2_base.specs.declared.fault.Fault.{Fault as AnyFault};
 ghost use Rattle.qcow2_base.specs.declared.fault.Fault.TheVariants.{EntryReserved, EntryUnaligned};
 ghost use Rattle.qcow2_base.specs.declared.types.HostCluster.{HostCluster as Cluster};
-ghost use Rattle.qcow2_metadata.specs.Entries as spec;
+ghost use Rattle.qcow2_metadata.specs.Header.{geometry};
 
 use crate::Header;
-use qcow2_base::{ClusterCount, Fault, GuestCluster, HostCluster, HostOffset};
+use qcow2_base::{ClusterCount, Fault, GuestCluster, HostCluster, HostOffset, field};
 use std::marker::Model;
 use std::num::NonZero;
 
@@ -110,19 +110,8 @@ impl Model for L2Entry {
     ghost inverse = { λ number. record { value = number } };
 }
 
-// The `count` bits of a number from bit `first` on.
-#[inline]
-fn field(value: u64, first: u32, count: u32) -> u64
-    requires first { first < 64 }
-    requires count { count < 64 }
-    ensures value { result ≡ spec.field value first count }
-    ensures below { result < 2 ^ count }
-{
-    (value >> first) % (1 << count)
-}
-
 impl L2Entry {
-    ghost use Rattle.qcow2_metadata.specs.Entries.{host_cluster, host_offset, is_compressed, is_copied, is_zero, l2_reserved_bits, l2_fault, compressed_offset, compressed_length, byte_range, allocation, IsAmongClusters, IsPlaced, Meets, mapping, meaning};
+    ghost use Rattle.qcow2_metadata.specs.Entries.{IsAllocation, IsPlaced, byte_range, compressed_length, compressed_offset, from_pair, host_cluster, host_offset, is_compressed, is_copied, is_zero, l2_fault, l2_reserved_bits, mapping, meaning};
 
     /// The entry 0: the guest cluster has no data here.
     pub(crate) const UNALLOCATED: L2Entry = L2Entry { value: 0 };
@@ -213,11 +202,7 @@ impl L2Entry {
         external_data_file: bool,
     ) -> Option<(HostCluster, ClusterCount)>
         requires { IsClusterBits cluster_bits }
-        ensures value { result ≡ allocation cluster_bits external_data_file self.now }
-        ensures none { IfNone result ((c : ℕ) → Meets cluster_bits external_data_file self.now c → ⊥) }
-        ensures met { IfSome result (λ clusters. (c : ℕ) →
-            Meets cluster_bits external_data_file self.now c ↔ IsAmongClusters clusters c) }
-        ensures count { IfSome result (λ clusters. (1 ≤ clusters.1.0) × (clusters.1.0 ≤ 3)) }
+        ensures { IsAllocation (geometry cluster_bits external_data_file) self.now (option_map from_pair result) }
     {
         let (start, length) = self.byte_range(cluster_bits, external_data_file)?;
         let first = start.cluster(cluster_bits);
@@ -228,8 +213,8 @@ impl L2Entry {
     // The bytes that the entry refers to: where they begin, and how many there are.
     fn byte_range(&self, cluster_bits: u32, external_data_file: bool) -> Option<(HostOffset, u64)>
         requires { IsClusterBits cluster_bits }
-        ensures none { IfNone result (byte_range cluster_bits external_data_file self.now ≡ None) }
-        ensures some { IfSome result (λ range. byte_range cluster_bits external_data_file self.now
+        ensures none { IfNone result (byte_range (geometry cluster_bits external_data_file) self.now ≡ None) }
+        ensures some { IfSome result (λ range. byte_range (geometry cluster_bits external_data_file) self.now
             ≡ Some (record { start = range.0.0; end = range.0.0 + range.1 })) }
         ensures length { IfSome result (λ range. (1 ≤ range.1) × (range.1 ≤ 2 * 2 ^ cluster_bits)) }
         ensures start { IfSome result (λ range. range.0.0 < 2 ^ 56) }
@@ -247,7 +232,8 @@ impl L2Entry {
     fn host_cluster(&self, cluster_bits: u32, external_data_file: bool) -> Option<HostCluster>
         requires cluster_bits { IsClusterBits cluster_bits }
         requires standard { is_compressed self.now ≡ false }
-        ensures value { option_map (λ (c : Cluster). c.0) result ≡ host_cluster cluster_bits external_data_file self.now }
+        ensures value { option_map (λ (c : Cluster). c.0) result 
+            ≡ host_cluster (geometry cluster_bits external_data_file) self.now }
         ensures placed { IfSome result (λ (c : Cluster). c.0 * 2 ^ cluster_bits < 2 ^ 56) }
     {
         let offset = self.cluster_offset(external_data_file)?;
@@ -265,7 +251,7 @@ impl L2Entry {
         requires valid { l2_fault cluster_bits self ≡ None }
         requires fits { guest_cluster.0 * 2 ^ cluster_bits < 2 ^ 64 }
         ensures mapping { IsOkAnd result (λ found.
-            meaning found ≡ mapping cluster_bits external_data_file guest_cluster.0 self) }
+            meaning found ≡ mapping (geometry cluster_bits external_data_file) guest_cluster.0 self) }
         ensures placed { IfOk result (IsPlaced cluster_bits) }
     {
         if let Some((host_offset, length)) = self.compressed_range(cluster_bits) {

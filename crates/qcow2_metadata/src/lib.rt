@@ -3,6 +3,7 @@
 
 mod entries;
 mod header;
+mod range;
 mod table;
 
 pub use entries::{
@@ -10,7 +11,5 @@ pub use entries::{
     RefTableEntry, Refused, TableEntry,
 };
 pub use header::Header;
-pub use table::{
-    EntryTable, L1Table, L2Table, L2TableWriteGuard, MAX_FILE_LENGTH, MAX_OFFSET, RefTable, Table,
-    TableKind,
-};
+pub use range::{MAX_FILE_LENGTH, MAX_OFFSET};
+pub use table::{EntryTable, L1Table, L2Table, L2TableWriteGuard, RefTable, Table, TableKind};

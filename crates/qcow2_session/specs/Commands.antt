@@ -1,10 +1,6 @@
-use Rattle.std.specs.Prelude.{ℕ, ◌-◌, ◌^◌, Bool, ◌&&◌, nat_lt, nat_le, if◌then◌else◌, List, [], ◌∷◌, length, Option, Some, None, Result, codes, bytes_eq}
+use Rattle.std.specs.Prelude.{ℕ, ◌^◌, Bool, ◌&&◌, nat_lt, nat_le, if◌then◌else◌, List, [], ◌∷◌, length, Option, Some, None, codes, bytes_eq}
 use Rattle.std.specs.Str.{all_ascii_digits}
 use Rattle.std.specs.Str.Parse.{digits_value}
-use Rattle.qcow2_base.specs.Storage.{Image}
-use Rattle.qcow2_base.specs.declared.fault.Fault.{Fault}
-use Rattle.qcow2_metadata.specs.Entries.{l2_fault}
-use Rattle.qcow2_metadata.specs.Table.{loaded_table, place_fault}
 
 -- a word is 1 to 20 decimal digits whose number fits 64 bits
 abbrev pub is_number : List ℕ → Bool
@@ -44,11 +40,3 @@ abbrev pub command_of : List (List ℕ) → Option CommandLine
 command_of (name ∷ image ∷ arguments) =
     if bytes_eq name (codes "l2") then l2_of image arguments else None
 command_of _ = None
-
--- why no L2 table can begin with a cluster, if none can
-abbrev pub l2_place_fault : ℕ → ℕ → Option Fault
-l2_place_fault cb cluster = place_fault 262144 cb cluster (2 ^ (cb - 3))
-
--- the numbers of the L2 table that begins with a cluster, or why it is refused
-abbrev pub l2_table : ℕ → Image → ℕ → Result (List ℕ) Fault
-l2_table cb image cluster = loaded_table 262144 (l2_fault cb) cb image cluster (2 ^ (cb - 3))

@@ -1,5 +1,6 @@
 use Rattle.std.specs.Prelude.{ℕ, ◌+◌, ◌*◌, ◌^◌, Bool, true, false, List, [], ◌∷◌, ◌++◌, Some, None, codes}
 use Rattle.std.specs.Fmt.{decimal, digits}
+use Rattle.qcow2_metadata.specs.Header.{Geometry}
 use Rattle.qcow2_metadata.specs.Entries.{Mapping, data_file, backing, zeros, compressed, mapping}
 
 -- an offset, in hexadecimal
@@ -37,7 +38,7 @@ entry_line cb index (compressed offset length) =
     index_line index (mapping_text cb (compressed offset length))
 
 -- the lines of the entries of an L2 table from an index on
-abbrev pub entry_lines : ℕ → Bool → ℕ → List ℕ → List ℕ
-entry_lines cb external index [] = []
-entry_lines cb external index (v ∷ vs) =
-    entry_line cb index (mapping cb external index v) ++ entry_lines cb external (index + 1) vs
+abbrev pub entry_lines : Geometry → ℕ → List ℕ → List ℕ
+entry_lines g index [] = []
+entry_lines g index (v ∷ vs) =
+    entry_line g.cluster_bits index (mapping g index v) ++ entry_lines g (index + 1) vs

@@ -3,9 +3,9 @@
 ghost use Rattle.std.specs.Prelude.{◌≡◌, ◌*◌, ◌^◌, ◌<◌, None};
 ghost use Rattle.qcow2_base.specs.Types.{IsClusterBits};
 
-use super::{TableEntry, field};
+use super::TableEntry;
 use crate::Header;
-use qcow2_base::{Fault, HostCluster, HostOffset};
+use qcow2_base::{Fault, HostCluster, HostOffset, field};
 use std::marker::Model;
 
 /// An entry of an L1 table: where an L2 table lies, if there is one for that part of the disk.

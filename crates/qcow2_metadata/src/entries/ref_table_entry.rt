@@ -2,9 +2,9 @@
 
 ghost use Rattle.std.specs.Prelude.{◌≡◌};
 
-use super::{TableEntry, field};
+use super::TableEntry;
 use crate::Header;
-use qcow2_base::{Fault, HostOffset};
+use qcow2_base::{Fault, HostOffset, field};
 use std::marker::Model;
 
 /// An entry of a refcount table: where a refcount block lies, if there is one.

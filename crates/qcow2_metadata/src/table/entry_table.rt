@@ -3,8 +3,7 @@
 ghost use Rattle.std.specs.Prelude.{◌≡◌, ℕ, Bool, true, false, ◌*◌, ◌^◌, ◌<◌, ◌≤◌, ◌↔◌, IfOk, IsOkUnless, IsTrue, length, map, slice_get, slice_index, slice_set, Some, None};
 ghost use Rattle.std.proofs.Common.{rules};
 ghost use Rattle.qcow2_base.specs.Types.{IsClusterBits};
-ghost use Rattle.qcow2_metadata.specs.Header.{uses_external_data};
-ghost use Rattle.qcow2_metadata.specs.Table.{new_table, first_fault, grown_numbers};
+ghost use Rattle.qcow2_metadata.specs.Table.{edited, first_fault, grown_numbers, new_table};
 
 use super::Table;
 use crate::{Header, TableEntry};
@@ -53,7 +52,8 @@ pub struct EntryTable<E: TableKind> {
 impl<E: TableKind> Model for EntryTable<E> {
     ghost use Rattle.std.specs.Prelude.{◌≡◌, ◌*◌, ◌^◌, ◌<◌, ◌≤◌, IsTrue, None, IfSome, length, map};
     ghost use Rattle.qcow2_base.specs.Types.{IsClusterBits};
-    ghost use Rattle.qcow2_metadata.specs.Table.{TableState, IsLawful};
+    ghost use Rattle.qcow2_metadata.specs.Header.{geometry};
+    ghost use Rattle.qcow2_metadata.specs.Table.{IsLawful, TableState};
 
     ghost Value = { TableState };
 
@@ -61,12 +61,11 @@ impl<E: TableKind> Model for EntryTable<E> {
       numbers = map E.plain t.entries.items;
       cluster = t.cluster;
       modified = t.modified;
-      cluster_bits = t.cluster_bits;
-      external_data_file = t.external_data_file;
+      geometry = geometry t.cluster_bits t.external_data_file;
     } };
 
-    ghost invariant = { λ t.
-        IsLawful E.fault_of E.has_lawful_count t.cluster_bits t.cluster (map E.plain t.entries.items) };
+    ghost invariant = { λ t. IsLawful E.fault_of E.has_lawful_count
+        t.cluster_bits t.cluster (map E.plain t.entries.items) };
 }
 
 // The entries, and then entries 0 up to a count.
@@ -94,7 +93,7 @@ impl<E: TableKind> EntryTable<E> {
 
     // A table of these entries and then zeros, for an image with this header.
     pub(super) fn grown(&self, entries: usize, header: &Header) -> Result<Self, Fault>
-        requires cluster_bits { header.now.cluster_bits ≡ self.now.cluster_bits }
+        requires cluster_bits { header.now.cluster_bits ≡ self.now.geometry.cluster_bits }
         requires longer { length self.now.numbers ≤ entries }
         requires bound { entries ≤ 2 ^ 48 }
         requires count { IsTrue (E.has_lawful_count header.now.cluster_bits entries) }
@@ -109,7 +108,7 @@ impl<E: TableKind> EntryTable<E> {
     // Whether guest data lies in an external data file, by the header that the table was made with.
     #[inline]
     pub(super) fn has_external_data_file(&self) -> bool
-        ensures { result ≡ self.now.external_data_file }
+        ensures { result ≡ self.now.geometry.external_data_file }
     {
         self.external_data_file
     }
@@ -117,9 +116,9 @@ impl<E: TableKind> EntryTable<E> {
     // Puts a lawful entry in the place of another, and returns that one.
     pub(super) fn replace_entry(&mut self, index: usize, entry: E) -> E
         requires index { index < length self.old.numbers }
-        requires valid { E.fault_of self.old.cluster_bits (E.plain entry) ≡ None }
+        requires valid { E.fault_of self.old.geometry.cluster_bits (E.plain entry) ≡ None }
         ensures before { E.plain result ≡ slice_index self.old.numbers index }
-        ensures edit { self.new ≡ record self.old { numbers = slice_set self.old.numbers index (E.plain entry); modified = true } }
+        ensures edit { self.new ≡ edited self.old index (E.plain entry) }
     {
         self.modified = true;
         std::mem::replace(&mut self.entries[index], entry)

@@ -4,8 +4,7 @@ ghost use Rattle.std.specs.Prelude.{◌≡◌, ◌⊎◌, ◌*◌, ◌^◌, ◌<
 ghost use Rattle.std.proofs.Common.{lit≤};
 ghost use Rattle.qcow2_base.specs.declared.fault.Fault.TheVariants.{NoMemory, NotPlaced};
 ghost use Rattle.qcow2_metadata.specs.Entries.{IsOneCluster, l1_entry_for};
-ghost use Rattle.qcow2_metadata.specs.Header.{uses_external_data};
-ghost use Rattle.qcow2_metadata.specs.Table.{new_table, IsReferable, grown_count, grown_numbers};
+ghost use Rattle.qcow2_metadata.specs.Table.{IsReferable, edited, grown_count, grown_numbers, most_l1_entries, new_table};
 
 use super::{EntryTable, L2Table, Table, TableKind};
 use crate::{Header, L1Entry, PendingClusters, Refused};
@@ -21,7 +20,7 @@ impl TableKind for L1Entry {
 
     const MAX_ENTRIES: usize = 4194304;
 
-    ghost MAX_ENTRIES = { 4194304 };
+    ghost MAX_ENTRIES = { most_l1_entries };
 
     ghost has_lawful_count = { λ _ _. true };
 
@@ -42,11 +41,11 @@ impl EntryTable<L1Entry> {
     ///
     /// Refuses to grow past the most entries that an L1 table may have. The table itself stays.
     pub fn clone_and_grow(&self, at_least_index: usize, header: &Header) -> Result<L1Table, Fault>
-        requires { header.now.cluster_bits ≡ self.now.cluster_bits }
-        ensures refused { IsErrOf result Fault.CannotGrow
-            ↔ (4194304 < grown_count self.now.cluster_bits (length self.now.numbers) at_least_index) }
+        requires { header.now.cluster_bits ≡ self.now.geometry.cluster_bits }
+        ensures refused { IsErrOf result Fault.CannotGrow ↔ (most_l1_entries < grown_count self.now at_least_index) }
         ensures faults { IfErr result (λ fault. (fault ≡ Fault.CannotGrow) ⊎ (fault ≡ NoMemory)) }
-        ensures table { IfOk result (λ table. table ≡ new_table (grown_numbers self.now.numbers (grown_count self.now.cluster_bits (length self.now.numbers) at_least_index)) header.now) }
+        ensures table { IfOk result (λ table.
+            table ≡ new_table (grown_numbers self.now.numbers (grown_count self.now at_least_index)) header.now) }
     {
         if at_least_index >= L1Entry::MAX_ENTRIES {
             return Err(Fault::CannotGrow);
@@ -70,18 +69,16 @@ impl EntryTable<L1Entry> {
         new_allocation: Option<PendingClusters>,
     ) -> Result<(), Refused>
         requires index { index < length self.old.numbers }
-        requires cluster_bits { l2_table.now.cluster_bits ≡ self.old.cluster_bits }
-        requires cluster { IfSome l2_table.now.cluster (IsReferable self.old.cluster_bits) }
+        requires cluster_bits { l2_table.now.geometry.cluster_bits ≡ self.old.geometry.cluster_bits }
+        requires cluster { IfSome l2_table.now.cluster (IsReferable self.old.geometry.cluster_bits) }
         requires pending { IfSome l2_table.now.cluster (λ cluster. IfSome new_allocation (λ pending. IsOneCluster pending cluster)) }
         ensures answer { MatchOption l2_table.now.cluster
             (result ≡ Err (record { fault = NotPlaced; pending = new_allocation }))
             (λ _. result ≡ Ok tt) }
         ensures edit { MatchOption l2_table.now.cluster
             (self.new ≡ self.old)
-            (λ cluster. self.new ≡ record self.old {
-              numbers = slice_set self.old.numbers index (l1_entry_for (cluster.0 * 2 ^ self.old.cluster_bits));
-              modified = true;
-            }) }
+            (λ cluster. self.new
+            ≡ edited self.old index (l1_entry_for (cluster.0 * 2 ^ self.old.geometry.cluster_bits))) }
     {
         let Some(cluster) = l2_table.get_cluster() else {
             return Err(Refused {

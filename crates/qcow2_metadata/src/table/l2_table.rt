@@ -1,11 +1,9 @@
 //! L2 tables: what the clusters of a part of the guest's disk read as.
 
-ghost use Rattle.std.specs.Prelude.{◌≡◌, ◌≢◌, ℕ, ◌⊎◌, ◌-◌, ◌*◌, ◌%◌, ◌^◌, ◌==◌, ◌<◌, ◌≤◌, ◌↔◌, Some, None, Ok, Err, IfSome, IfNone, IfOk, IfErr, IsOk, IsOkAnd, IsOkUnless, IsErrOf, OnOk, IsTrue, length, replicate, slice_index, true, false};
+ghost use Rattle.std.specs.Prelude.{◌≡◌, ℕ, ◌-◌, ◌*◌, ◌%◌, ◌^◌, ◌==◌, ◌<◌, IfOk, IsOk, IsOkAnd, IsOkUnless, length, replicate, slice_index, true, false};
 ghost use Rattle.std.proofs.Common.{lit≤};
-ghost use Rattle.qcow2_base.specs.declared.fault.Fault.TheVariants.{NoMemory, Storage as StorageFailed};
-ghost use Rattle.qcow2_metadata.specs.Entries.{IsFreed, IsPlaced, Meets, clusters_to_free, l2_fault, mapping, meaning};
-ghost use Rattle.qcow2_metadata.specs.Header.{uses_external_data};
-ghost use Rattle.qcow2_metadata.specs.Table.{new_table, Edits, Writes, FlagTells, IsWriteFault, IsWritten, discarded, place_of, write_fault};
+ghost use Rattle.qcow2_metadata.specs.Entries.{IsAllocation, IsPlaced, l2_fault, mapping, meaning};
+ghost use Rattle.qcow2_metadata.specs.Table.{WritesTable, edited, mapping_at, most_l2_entries, new_table, on_storage};
 
 use super::{EntryTable, Table, TableKind};
 use crate::{AtomicL2Entry, ClustersToFreeEntry, Header, L2Entry, L2Mapping};
@@ -22,7 +20,7 @@ impl TableKind for AtomicL2Entry {
 
     const MAX_ENTRIES: usize = 262144;
 
-    ghost MAX_ENTRIES = { 262144 };
+    ghost MAX_ENTRIES = { most_l2_entries };
 
     ghost has_lawful_count = { λ cb n. n == 2 ^ (cb - 3) };
 
@@ -38,11 +36,14 @@ impl TableKind for AtomicL2Entry {
 }
 
 impl EntryTable<AtomicL2Entry> {
+    ghost use Rattle.qcow2_metadata.specs.L2Table.{IsGuardOf};
+
     /// A table of an image with this header in which no cluster has data. It has no cluster, and
     /// counts as modified. Fails only for want of memory.
     pub fn new_cleared(alloc: Global, header: &Header) -> Result<L2Table, Fault>
         ensures fault { IsOkUnless result Fault.NoMemory }
-        ensures table { IfOk result (λ table. table ≡ new_table (replicate (2 ^ (header.now.cluster_bits - 3)) 0) header.now) }
+        ensures table { IfOk result (λ table.
+            table ≡ new_table (replicate (2 ^ (header.now.cluster_bits - 3)) 0) header.now) }
     {
         let entries = vec![in alloc; AtomicL2Entry::cleared(); header.l2_entries()]?;
         Ok(L2Table::from_data(entries, header))
@@ -52,11 +53,9 @@ impl EntryTable<AtomicL2Entry> {
     /// Always answers a mapping.
     #[inline]
     pub fn get_mapping(&self, guest_cluster: GuestCluster) -> Result<L2Mapping, Fault>
-        requires { guest_cluster.0 * 2 ^ self.now.cluster_bits < 2 ^ 64 }
-        ensures mapping { let cb = self.now.cluster_bits in
-            let number = slice_index self.now.numbers (guest_cluster.0 % 2 ^ (cb - 3)) in
-            IsOkAnd result (λ found. meaning found ≡ mapping cb self.now.external_data_file guest_cluster.0 number) }
-        ensures placed { IfOk result (IsPlaced self.now.cluster_bits) }
+        requires { guest_cluster.0 * 2 ^ self.now.geometry.cluster_bits < 2 ^ 64 }
+        ensures mapping { IsOkAnd result (λ found. meaning found ≡ mapping_at self.now guest_cluster.0) }
+        ensures placed { IfOk result (IsPlaced self.now.geometry.cluster_bits) }
     {
         let cluster_bits = self.cluster_bits();
         let entry = self.get(guest_cluster.l2_index(cluster_bits));
@@ -73,7 +72,8 @@ impl EntryTable<AtomicL2Entry> {
         requires { self.old.modified ≡ true → self.old.cluster ≡ Some cluster }
         ensures idle { self.old.modified ≡ false → IsOk result × (self.new ≡ self.old) × (image.new ≡ image.old) }
         ensures modified { self.old.modified ≡ true →
-            Writes 262144 l2_fault result self.old self.new (S.state image.old) (S.state image.new) }
+            WritesTable most_l2_entries l2_fault result
+            (on_storage self.old (S.state image.old)) (on_storage self.new (S.state image.new)) }
     {
         // The caller's word for the cluster is in the contract alone.
         let _ = cluster;
@@ -85,8 +85,7 @@ impl EntryTable<AtomicL2Entry> {
 
     /// Leave to change the table's mappings.
     pub fn lock_write(&mut self) -> L2TableWriteGuard<'_>
-        ensures same_reference { result.table.ghost_name ≡ self.entry.ghost_name }
-        ensures table { result.table.now ≡ self.old }
+        ensures table { IsGuardOf self.entry result }
     {
         L2TableWriteGuard { table: self }
     }
@@ -99,14 +98,13 @@ pub struct L2TableWriteGuard<'a> {
 }
 
 impl L2TableWriteGuard<'_> {
+    ghost use Rattle.qcow2_metadata.specs.L2Table.{IsSameTable, guarded};
+
     /// What a guest cluster reads as, as `L2Table::get_mapping` says it.
     pub fn get_mapping(&self, guest_cluster: GuestCluster) -> Result<L2Mapping, Fault>
-        requires { guest_cluster.0 * 2 ^ self.now.table.now.cluster_bits < 2 ^ 64 }
-        ensures mapping { let table = self.now.table.now in
-            let cb = table.cluster_bits in
-            let number = slice_index table.numbers (guest_cluster.0 % 2 ^ (cb - 3)) in
-            IsOkAnd result (λ found. meaning found ≡ mapping cb table.external_data_file guest_cluster.0 number) }
-        ensures placed { IfOk result (IsPlaced self.now.table.now.cluster_bits) }
+        requires { guest_cluster.0 * 2 ^ (guarded self.now).geometry.cluster_bits < 2 ^ 64 }
+        ensures mapping { IsOkAnd result (λ found. meaning found ≡ mapping_at (guarded self.now) guest_cluster.0) }
+        ensures placed { IfOk result (IsPlaced (guarded self.now).geometry.cluster_bits) }
     {
         self.table.get_mapping(guest_cluster)
     }
@@ -116,9 +114,10 @@ impl L2TableWriteGuard<'_> {
     /// counts as modified.
     #[must_use]
     pub fn discard_cluster(&mut self, index: usize) -> Option<ClustersToFreeEntry>
-        requires { index < length self.old.table.now.numbers }
-        ensures same_reference { self.new.table.ghost_name ≡ self.old.table.ghost_name }
-        ensures edit { Edits index 0 result self.old.table.now self.new.table.now }
+        requires { index < length (guarded self.old).numbers }
+        ensures same_table { IsSameTable self.old self.new }
+        ensures edit { guarded self.new ≡ edited (guarded self.old) index 0 }
+        ensures freed { IsAllocation (guarded self.old).geometry (slice_index (guarded self.old).numbers index) result }
     {
         let before = self.table.replace_entry(index, AtomicL2Entry::cleared());
         let external_data_file = self.table.has_external_data_file();

@@ -2,6 +2,7 @@
 
 ghost use Rattle.std.specs.Prelude.{◌≡◌, true};
 ghost use Rattle.std.proofs.Common.{lit≤};
+ghost use Rattle.qcow2_metadata.specs.Table.{most_reftable_entries};
 
 use super::{EntryTable, TableKind};
 use crate::RefTableEntry;
@@ -16,7 +17,7 @@ impl TableKind for RefTableEntry {
 
     const MAX_ENTRIES: usize = 4194304;
 
-    ghost MAX_ENTRIES = { 4194304 };
+    ghost MAX_ENTRIES = { most_reftable_entries };
 
     ghost has_lawful_count = { λ _ _. true };
 

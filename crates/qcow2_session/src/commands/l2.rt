@@ -6,7 +6,8 @@ ghost use Rattle.qcow2_base.specs.Types.{IsClusterBits};
 ghost use Rattle.qcow2_base.specs.Storage.{ReadsFor};
 ghost use Rattle.std.specs.Io.KnownBytes.{Appends};
 ghost use Rattle.qcow2_metadata.specs.Entries.{IsPlaced, meaning};
-ghost use Rattle.qcow2_session.specs.Commands.{l2_place_fault, l2_table};
+ghost use Rattle.qcow2_metadata.specs.Header.{geometry};
+ghost use Rattle.qcow2_metadata.specs.Table.{l2_table_at, loaded_l2_table, most_l2_entries, place_fault};
 ghost use Rattle.qcow2_session.specs.Lines.{copied_text, entry_line, entry_lines, mapping_text};
 
 use qcow2_base::{Fault, GuestCluster, HostCluster, HostOffset, Storage};
@@ -30,18 +31,18 @@ pub fn list_l2_table<S: Storage, O: Write>(
     out: &mut O,
 ) -> Result<(), Fault>
     requires { IsClusterBits cluster_bits }
-    ensures place { IfSome (l2_place_fault cluster_bits cluster.0) (λ fault.
+    ensures place { IfSome (place_fault most_l2_entries (l2_table_at (geometry cluster_bits false) cluster)) (λ fault.
         (result ≡ Err fault) ⊎ (result ≡ Err NoMemory)) }
 
     // Where an image tells its bytes, they hold the table then, and these are its lines.
     ensures lines { OnOk result (IsTrue (S.state image.old).tells →
-        IsOkAnd (l2_table cluster_bits (S.state image.old).byte_at cluster.0) (λ numbers.
+        IsOkAnd (loaded_l2_table (geometry cluster_bits false) cluster (S.state image.old).byte_at) (λ numbers.
         Appends (O.contents out.old) (O.contents out.new)
-        (entry_lines cluster_bits false 0 numbers))) }
+        (entry_lines (geometry cluster_bits false) 0 numbers))) }
 
     // The storage fault is that of the image or, where the table is lawful, of a failed write.
     ensures refused { IfErr result (λ fault. IsTrue (S.state image.old).tells →
-        let table = l2_table cluster_bits (S.state image.old).byte_at cluster.0 in
+        let table = loaded_l2_table (geometry cluster_bits false) cluster (S.state image.old).byte_at in
         (table ≡ Err fault) ⊎ (fault ≡ NoMemory)
         ⊎ ((fault ≡ StorageFailed)
         × (((S.state image.new).failures ≢ (S.state image.old).failures) ⊎ (is_ok table ≡ true)))) }
@@ -60,10 +61,10 @@ pub fn list_l2_table<S: Storage, O: Write>(
 
 // Prints the line of each entry that isn't left to the backing file.
 fn print_table<O: Write>(table: &L2Table, out: &mut O) -> Result<(), Fault>
-    requires { length table.now.numbers ≡ 2 ^ (table.now.cluster_bits - 3) }
+    requires { length table.now.numbers ≡ 2 ^ (table.now.geometry.cluster_bits - 3) }
     ensures fault { IsOkUnless result Fault.Storage }
     ensures lines { OnOk result (Appends (O.contents out.old) (O.contents out.new)
-        (entry_lines table.now.cluster_bits table.now.external_data_file 0 table.now.numbers)) }
+        (entry_lines table.now.geometry 0 table.now.numbers)) }
 {
     let cluster_bits = table.cluster_bits();
     for index in 0..table.entries() {

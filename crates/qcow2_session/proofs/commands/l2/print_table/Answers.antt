@@ -9,6 +9,6 @@ loop-index-preserved g c =
     let line = c.in_ok-print_entry.ensures.line in
     let bits = c.cluster_bits-cluster_bits.ensures.value in
     let mapping = c.in_ok-mapping.ensures.mapping in
-    entry_lines_more _ _ _ table.cluster_bits table.external_data_file
+    entry_lines_more _ _ _ table.geometry
     table.numbers c.loop-index.index (meaning c.in_ok-mapping.mapping)
     (omega arith) c.requires mapping c.loop-index.invariant (rw bits at line)

@@ -6,4 +6,4 @@ use Rattle.qcow2_session.proofs.commands.l2.print_table.Given as goal
 abbrev pub invariant-loop-index : goal.invariant-loop-index
 invariant-loop-index g l =
     Appends (g.O.Write.contents l.fn.out) (g.O.Write.contents l.out)
-    (entry_lines l.table.cluster_bits l.table.external_data_file 0 (take l.index l.table.numbers))
+    (entry_lines l.table.geometry 0 (take l.index l.table.numbers))

@@ -1,7 +1,7 @@
 use Rattle.std.proofs.Common.{◌≡◌, ◌-◌, ◌*◌, ◌<◌, ◌∙◌, length, min, arith, rules}
 use Rattle.std.proofs.lemmas.Result.{err_from_is_err_and}
 use Rattle.qcow2_metadata.proofs.PieceLemmas.{IsTorn-at, IsWrittenTo-more, all_written, others_kept}
-use Rattle.qcow2_metadata.proofs.table.write_pieces.Goals as goal
+use Rattle.qcow2_metadata.proofs.table.pieces.write_pieces.Goals as goal
 
 pub returns-in_err-write : goal.returns-in_err-write
 returns-in_err-write g c =

@@ -1,6 +1,6 @@
 use Rattle.std.proofs.Common.{◌≡◌, ◌↔◌, IsTrue, None, take}
 use Rattle.qcow2_metadata.specs.Table.{chunk_numbers, first_fault}
-use Rattle.qcow2_metadata.proofs.table.are_lawful.Given as goal
+use Rattle.qcow2_metadata.proofs.table.pieces.are_lawful.Given as goal
 
 -- whether the numbers so far are all entries
 abbrev pub invariant-loop-chunk : goal.invariant-loop-chunk

@@ -3,7 +3,7 @@ use Rattle.std.proofs.lemmas.Result.{err_from_is_err_and}
 use Rattle.qcow2_metadata.proofs.ChunkLemmas.{chunk_numbers-more, first_fault-at}
 use Rattle.qcow2_metadata.proofs.TableLemmas.{first_fault_more}
 use Rattle.qcow2_metadata.specs.Table.{chunk_numbers}
-use Rattle.qcow2_metadata.proofs.table.check.Goals as goal
+use Rattle.qcow2_metadata.proofs.table.pieces.check.Goals as goal
 
 pub returns-in_err-try_from_plain-clause-refused : goal.returns-in_err-try_from_plain-clause-refused
 returns-in_err-try_from_plain-clause-refused g c =

@@ -1,7 +1,7 @@
 use Rattle.std.proofs.Common.{◌≡◌, IsTrue}
 use Rattle.qcow2_base.specs.Storage.{SameDevice}
 use Rattle.qcow2_metadata.proofs.PieceLemmas.{IsWrittenTo}
-use Rattle.qcow2_metadata.proofs.table.write_pieces.Given as goal
+use Rattle.qcow2_metadata.proofs.table.pieces.write_pieces.Given as goal
 
 -- the pieces before this one are written, and no call has failed
 abbrev pub invariant-loop-piece : goal.invariant-loop-piece

@@ -1,7 +1,7 @@
 use Rattle.std.proofs.Common.{◌≡◌, ◌↔◌, IsTrue, None, take, [], arith}
 use Rattle.qcow2_metadata.proofs.ChunkLemmas.{chunk_numbers-more, lawful_more}
 use Rattle.qcow2_metadata.specs.Table.{chunk_numbers}
-use Rattle.qcow2_metadata.proofs.table.are_lawful.Goals as goal
+use Rattle.qcow2_metadata.proofs.table.pieces.are_lawful.Goals as goal
 
 pub loop-chunk-preserved : goal.loop-chunk-preserved
 loop-chunk-preserved g c =

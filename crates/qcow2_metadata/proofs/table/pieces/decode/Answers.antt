@@ -3,7 +3,7 @@ use Rattle.std.proofs.lemmas.Result.{err_from_is_err_and}
 use Rattle.qcow2_base.specs.Storage.{image_of}
 use Rattle.qcow2_metadata.proofs.ChunkLemmas.{chunk_numbers-first}
 use Rattle.qcow2_metadata.specs.Table.{chunk_numbers, table_numbers}
-use Rattle.qcow2_metadata.proofs.table.decode.Goals as goal
+use Rattle.qcow2_metadata.proofs.table.pieces.decode.Goals as goal
 
 pub returns-in_err-check-clause-refused : goal.returns-in_err-check-clause-refused
 returns-in_err-check-clause-refused g c =

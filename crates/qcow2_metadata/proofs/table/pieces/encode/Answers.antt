@@ -2,7 +2,7 @@ use Rattle.std.proofs.Common.{◌≡◌, ◌+◌, ◌*◌, get_or, Some, inl, sy
 use Rattle.std.specs.List.{slice_get}
 use Rattle.std.proofs.lemmas.Option.{get_or_from_slice_get}
 use Rattle.qcow2_base.specs.Storage.{be_of_same, image_of}
-use Rattle.qcow2_metadata.proofs.table.encode.Goals as goal
+use Rattle.qcow2_metadata.proofs.table.pieces.encode.Goals as goal
 
 pub loop-index-preserved : goal.loop-index-preserved
 loop-index-preserved g c =

@@ -1,7 +1,7 @@
 use Rattle.std.proofs.Common.{◌≡◌, ◌*◌, IsTrue, None, length, map, min}
 use Rattle.qcow2_base.specs.Storage.{SameDevice}
 use Rattle.qcow2_metadata.specs.Table.{first_fault, table_numbers}
-use Rattle.qcow2_metadata.proofs.table.read_entries.Given as goal
+use Rattle.qcow2_metadata.proofs.table.pieces.read_entries.Given as goal
 
 -- the list has the entries of the pieces before this one, and no call has failed
 abbrev pub invariant-loop-piece : goal.invariant-loop-piece

@@ -1,0 +1,14 @@
+use Rattle.std.specs.Prelude.{◌≡◌, ◌≢◌, ℕ, Bool, false, true, ◌+◌, ◌^◌, nat_lt, if◌then◌else◌, Option, Some, None, Result, OnOk, IfErr, IsErrOf}
+use Rattle.qcow2_base.specs.declared.fault.Fault.{Fault}
+use Rattle.qcow2_base.specs.declared.fault.Fault.TheVariants.{Storage, TablePlace}
+
+-- why so many bytes can't lie in an image from an offset on: they would end past 2 ^ 56
+abbrev pub range_fault : ℕ → ℕ → Option Fault
+range_fault offset len = if nat_lt (2 ^ 56) (offset + len) then Some TablePlace else None
+
+-- what a modified flag tells after a write that ended in this answer: it is clear after an Ok, set after a
+-- failed storage, and as before after any other refusal; nothing else changes
+pub record FlagTells {V T : Type 0} (flagged : Bool → V → V) (answer : Result T Fault) (old new : V) : Type 0 where
+  pub ok : OnOk answer (new ≡ flagged false old)
+  pub failed : IsErrOf answer Storage → new ≡ flagged true old
+  pub err : IfErr answer (λ fault. fault ≢ Storage → new ≡ old)

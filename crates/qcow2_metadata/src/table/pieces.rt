@@ -1,0 +1,149 @@
+//! Tables are read and written in pieces of 4096 bytes, through one array.
+
+ghost use Rattle.std.specs.Prelude.{◌≡◌, ℕ, ◌⊎◌, ◌+◌, ◌++◌, ◌*◌, ◌/◌, ◌^◌, ◌<◌, ◌≤◌, ◌↔◌, IsTrue, length, map, slice_index, None, Some, IfOk, IfErr, OnOk};
+ghost use Rattle.qcow2_base.specs.Storage.{OnlyReads, be, image_of};
+ghost use Rattle.qcow2_base.specs.declared.fault.Fault.TheVariants.{EntryReserved, EntryUnaligned, NoMemory, Storage as StorageFailed};
+ghost use Rattle.qcow2_metadata.specs.Table.{Answers, WritesPieces, chunk_numbers, decoded, first_fault, table_numbers};
+
+use super::Table;
+use crate::range::read_range;
+use crate::{Header, TableEntry};
+use qcow2_base::{Fault, HostOffset, Storage, StorageFault, write_be};
+use std::alloc::{AllocError, Global};
+
+/// How many bytes of a table are read or written at once, at most.
+const PIECE_BYTES: usize = 4096;
+
+/// How many entries these are.
+const PIECE_ENTRIES: usize = PIECE_BYTES / 8;
+
+// The entries that stand in the image from an offset on, or the fault of the first that is none. Reads
+// in pieces of 4096 bytes, and none after that of such an entry.
+pub(super) fn read_entries<E: TableEntry + Drop, S: Storage>(
+    alloc: Global,
+    image: &mut S,
+    header: &Header,
+    offset: HostOffset,
+    entries: usize,
+) -> Result<Vec<E>, Fault>
+    requires { offset.0 + 8 * entries ≤ 2 ^ 56 }
+    ensures exact { IsTrue (S.state image.old).tells → Answers (λ list. map E.plain list.items) result
+        (decoded (E.fault_of header.now.cluster_bits) (table_numbers (S.state image.old).byte_at offset.0 entries)) }
+    ensures numbers { IsTrue (S.state image.old).tells → IfOk result (λ list.
+        map E.plain list.items ≡ table_numbers (S.state image.old).byte_at offset.0 entries) }
+    ensures valid { IfOk result (λ list. first_fault (E.fault_of header.now.cluster_bits) (map E.plain list.items) ≡ None) }
+    ensures count { IfOk result (λ list. length list.items ≡ entries) }
+    ensures faults { IfErr result (λ fault.
+        (fault ≡ EntryReserved) ⊎ (fault ≡ EntryUnaligned) ⊎ (fault ≡ NoMemory) ⊎ (fault ≡ StorageFailed)) }
+    ensures storage { OnlyReads result (S.state image.old) (S.state image.new) }
+{
+    let mut list = Vec::with_capacity(alloc, entries)?;
+    let mut buffer = [0u8; PIECE_BYTES];
+    for piece in 0..entries.div_ceil(PIECE_ENTRIES) {
+        let first = PIECE_ENTRIES * piece;
+        let count = (entries - first).min(PIECE_ENTRIES);
+        let bytes = &mut buffer[..8 * count];
+        read_range(image, HostOffset(offset.0 + 8 * first as u64), bytes)?;
+        decode(&mut list, bytes, header)?;
+    }
+    Ok(list)
+}
+
+// Puts the entries whose numbers stand in the bytes at the end of the list, or answers the fault of the
+// first that is none.
+fn decode<E: TableEntry + Drop>(
+    list: &mut Vec<E>,
+    bytes: &[u8],
+    header: &Header,
+) -> Result<(), Fault>
+    ensures numbers { OnOk result (map E.plain list.new.items
+        ≡ map E.plain list.old.items ++ table_numbers (image_of bytes.now) 0 (length bytes.now / 8)) }
+    ensures valid { OnOk result (first_fault (E.fault_of header.now.cluster_bits)
+        (table_numbers (image_of bytes.now) 0 (length bytes.now / 8)) ≡ None) }
+    ensures refused { IfErr result (λ fault. (fault ≡ NoMemory) ⊎ (first_fault (E.fault_of header.now.cluster_bits)
+        (table_numbers (image_of bytes.now) 0 (length bytes.now / 8)) ≡ Some fault)) }
+    ensures faults { IfErr result (λ fault. (fault ≡ EntryReserved) ⊎ (fault ≡ EntryUnaligned) ⊎ (fault ≡ NoMemory)) }
+{
+    let (chunks, _) = bytes.as_chunks::<8>();
+    check::<E>(chunks, header)?;
+    append(list, chunks)?;
+    Ok(())
+}
+
+// The number that stands in eight bytes.
+#[inline]
+#[tactic(auto, unfolding(qcow2_base::specs::Storage::be))]
+fn number_of(chunk: &[u8; 8]) -> u64
+    ensures { result ≡ be (image_of chunk.now) 0 8 }
+{
+    u64::from_be_bytes(*chunk)
+}
+
+// Refuses numbers that aren't all entries, by the fault of the first that is none.
+fn check<E: TableEntry + Drop>(chunks: &[[u8; 8]], header: &Header) -> Result<(), Fault>
+    ensures valid { OnOk result (first_fault (E.fault_of header.now.cluster_bits) (chunk_numbers chunks.now) ≡ None) }
+    ensures refused { IfErr result (λ fault.
+        first_fault (E.fault_of header.now.cluster_bits) (chunk_numbers chunks.now) ≡ Some fault) }
+    ensures faults { IfErr result (λ fault. (fault ≡ EntryReserved) ⊎ (fault ≡ EntryUnaligned)) }
+{
+    if are_lawful::<E>(chunks, header) {
+        return Ok(());
+    }
+    for chunk in chunks {
+        E::try_from_plain(number_of(chunk), header)?;
+    }
+    Ok(())
+}
+
+// Whether all numbers are entries. Looks at each, so that several are tested at once.
+fn are_lawful<E: TableEntry>(chunks: &[[u8; 8]], header: &Header) -> bool
+    ensures { IsTrue result ↔ (first_fault (E.fault_of header.now.cluster_bits) (chunk_numbers chunks.now) ≡ None) }
+{
+    let mut lawful = true;
+    for chunk in chunks {
+        lawful &= E::is_lawful(number_of(chunk), header);
+    }
+    lawful
+}
+
+// Puts entries with these numbers, which were tested, at the end of the list.
+fn append<E: TableEntry + Drop>(list: &mut Vec<E>, chunks: &[[u8; 8]]) -> Result<(), AllocError>
+    ensures { OnOk result (map E.plain list.new.items ≡ map E.plain list.old.items ++ chunk_numbers chunks.now) }
+{
+    list.extend(chunks.iter().map(|chunk| E::from_tested(number_of(chunk))))
+}
+
+// Writes the table to the image from an offset on, in pieces of 4096 bytes.
+pub(super) fn write_pieces<T: Table, S: Storage>(
+    table: &T,
+    image: &mut S,
+    offset: HostOffset,
+) -> Result<(), StorageFault>
+    requires { offset.0 + 8 * length (T.state table.now).numbers ≤ 2 ^ 56 }
+    ensures { WritesPieces result offset.0 (T.state table.now).numbers (S.state image.old) (S.state image.new) }
+{
+    let mut buffer = [0u8; PIECE_BYTES];
+    let entries = table.entries();
+    for piece in 0..entries.div_ceil(PIECE_ENTRIES) {
+        let first = PIECE_ENTRIES * piece;
+        let count = (entries - first).min(PIECE_ENTRIES);
+        let bytes = &mut buffer[..8 * count];
+        encode(table, first, bytes);
+        image.write(bytes, offset.0 + 8 * first as u64)?;
+    }
+    Ok(())
+}
+
+// Puts the numbers of the table's entries from an index on into the bytes, as many as these hold.
+fn encode<T: Table>(table: &T, first: usize, bytes: &mut [u8])
+    requires within { 8 * first + length bytes.old ≤ 8 * length (T.state table.now).numbers }
+    requires bound { length (T.state table.now).numbers ≤ 2 ^ 48 }
+    ensures written { (i : ℕ) → 8 * i + 8 ≤ length bytes.new →
+        be (image_of bytes.new) (8 * i) 8 ≡ slice_index (T.state table.now).numbers (first + i) }
+    ensures len { length bytes.new ≡ length bytes.old }
+{
+    for index in 0..bytes.len() / 8 {
+        let entry = table.get_ref(first + index).unwrap();
+        write_be(bytes, 8 * index, &entry.to_plain());
+    }
+}
