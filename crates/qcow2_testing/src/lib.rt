@@ -1,12 +1,15 @@
-//! What the tests of all crates run on: a storage and files that fail where a test plans it, files in
-//! the temporary folder, and the conditions of conversions as tests ask for them.
+//! What the tests of all crates run on: comparisons that tell the row, a storage and files that fail
+//! where a test plans it, files in the temporary folder, and the conditions of conversions as tests ask
+//! for them.
 #![tactic(auto)]
 
+mod comparisons;
 mod conditions;
 mod failing;
 mod faulty_files;
 mod temporary_files;
 
+pub use comparisons::{holds, same, same_bytes};
 pub use conditions::{fits, is_cluster_bits};
 pub use failing::{FailingStorage, StorageCall, take_turn};
 pub use faulty_files::{FaultyFile, FaultyFiles};

@@ -1,0 +1,49 @@
+//! Comparisons of tests. One that fails tells the row of the table, what was found and what was
+//! expected, as far as the text of a failure reaches.
+
+use std::fmt::Debug;
+use std::test::Fail;
+
+/// Fails unless both are the same.
+pub fn same<T: PartialEq + Debug, R: Debug + Drop>(
+    found: &T,
+    expected: &T,
+    row: R,
+) -> Result<(), Fail> {
+    if found == expected {
+        return Ok(());
+    }
+    Err(Fail::new(format_args!("{row:?}: found {found:?}, expected {expected:?}")))
+}
+
+/// Fails unless both are the same bytes, and tells the first that differs and not all of them.
+pub fn same_bytes<R: Debug + Drop>(found: &[u8], expected: &[u8], row: R) -> Result<(), Fail> {
+    if found == expected {
+        return Ok(());
+    }
+    let at = first_difference(found, expected);
+    Err(Fail::new(format_args!(
+        "{row:?}: byte {at} of {} is {:?}, expected {:?} of {}",
+        found.len(),
+        found.get(at),
+        expected.get(at),
+        expected.len()
+    )))
+}
+
+/// Fails unless the condition holds.
+pub fn holds<R: Debug + Drop>(condition: bool, row: R) -> Result<(), Fail> {
+    if condition {
+        return Ok(());
+    }
+    Err(Fail::new(format_args!("{row:?}: does not hold")))
+}
+
+fn first_difference(found: &[u8], expected: &[u8]) -> usize {
+    for at in 0..found.len() {
+        if found.get(at) != expected.get(at) {
+            return at;
+        }
+    }
+    found.len()
+}
