@@ -1,5 +1,7 @@
 use Rattle.std.specs.Prelude.{ℕ, ◌+◌, ◌*◌, ◌^◌, Bool, true, false, List, [], ◌∷◌, ◌++◌, Some, None, codes}
 use Rattle.std.specs.Fmt.{decimal, digits}
+use Rattle.qcow2_base.specs.Fault.{number_of}
+use Rattle.qcow2_base.specs.declared.fault.Fault.{Fault}
 use Rattle.qcow2_metadata.specs.Header.{Geometry}
 use Rattle.qcow2_metadata.specs.Entries.{Mapping, data_file, backing, zeros, compressed, mapping}
 
@@ -33,3 +35,11 @@ abbrev pub entry_lines : (ℕ → List ℕ) → Geometry → ℕ → List ℕ �
 entry_lines label g cluster [] = []
 entry_lines label g cluster (v ∷ vs) =
     entry_line g.cluster_bits (label cluster) (mapping g cluster v) ++ entry_lines label g (cluster + 1) vs
+
+-- the line of a fault
+abbrev pub fault_line : Fault → List ℕ
+fault_line fault = codes "qmeta: fault " ++ decimal (number_of fault) ++ codes "\n"
+
+-- the line for words that are no command
+abbrev pub usage_line : List ℕ
+usage_line = codes "usage: qmeta COMMAND IMAGE ARGUMENTS\n"
