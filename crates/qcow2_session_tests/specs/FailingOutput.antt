@@ -1,5 +1,6 @@
-use Rattle.std.specs.Prelude.{ℕ, List, Option, take}
+use Rattle.std.specs.Prelude.{ℕ, List, take}
 use Rattle.qcow2_session_tests.specs.declared.failing_output.FailingOutput.{FailingOutput}
+use Rattle.qcow2_session_tests.specs.declared.failing_output.Failure.{Failure}
 
 -- what was written
 abbrev pub written_bytes : FailingOutput → List ℕ
@@ -9,6 +10,6 @@ written_bytes output = output.bytes.items
 abbrev pub flushed_bytes : FailingOutput → List ℕ
 flushed_bytes output = take output.flushed output.bytes.items
 
--- how many bytes are taken before the write that fails, or none that fails
-abbrev pub room_of : FailingOutput → Option ℕ
-room_of output = output.room
+-- where the output fails
+abbrev pub failure_of : FailingOutput → Failure
+failure_of output = output.failure

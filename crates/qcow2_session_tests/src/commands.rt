@@ -1,6 +1,6 @@
 pub(crate) mod run;
 
-use crate::FailingOutput;
+use crate::{FailingOutput, Failure};
 use qcow2_base::{Fault, HostCluster, MemStorage, Storage};
 use qcow2_session::list_l2_table;
 use qcow2_testing::{FailingStorage, holds, is_cluster_bits, same, same_bytes};
@@ -9,54 +9,62 @@ use std::fmt::Debug;
 use std::io::Write;
 use std::test::Fail;
 
-// The number of an L2 entry, and what is printed of its mapping: nothing where the entry is left to
-// the backing file.
+// The number of an L2 entry, and its line: none where the entry is left to the backing file.
 type Case = (u64, &'static str);
 
 const NINE_BITS: [Case; 15] = [
-    (0x8000_0000_0000_0a00, "data 0xa00 copied"),
+    (0x8000_0000_0000_0a00, "0 data 0xa00 copied\n"),
     (0, ""),
-    (0x0000_0000_0000_0200, "data 0x200"),
-    (0x80ff_ffff_ffff_fe00, "data 0xfffffffffffe00 copied"),
-    (0x00ff_ffff_ffff_fe00, "data 0xfffffffffffe00"),
+    (0x0000_0000_0000_0200, "2 data 0x200\n"),
+    (0x80ff_ffff_ffff_fe00, "3 data 0xfffffffffffe00 copied\n"),
+    (0x00ff_ffff_ffff_fe00, "4 data 0xfffffffffffe00\n"),
     (0x8000_0000_0000_0000, ""),
-    (0x0000_0000_0000_0001, "zero"),
-    (0x8000_0000_0000_0001, "zero"),
-    (0x0000_0000_0000_0a01, "zero 0xa00"),
-    (0x8000_0000_0000_0a01, "zero 0xa00 copied"),
-    (0x4000_0000_0000_0000, "compressed 0x0 512"),
-    (0x4000_0000_0000_0600, "compressed 0x600 512"),
-    (0x6000_0000_0000_0601, "compressed 0x601 1023"),
-    (0x40ff_ffff_ffff_ffff, "compressed 0xffffffffffffff 1"),
-    (0x60ff_ffff_ffff_ffff, "compressed 0xffffffffffffff 513"),
+    (0x0000_0000_0000_0001, "6 zero\n"),
+    (0x8000_0000_0000_0001, "7 zero\n"),
+    (0x0000_0000_0000_0a01, "8 zero 0xa00\n"),
+    (0x8000_0000_0000_0a01, "9 zero 0xa00 copied\n"),
+    (0x4000_0000_0000_0000, "10 compressed 0x0 512\n"),
+    (0x4000_0000_0000_0600, "11 compressed 0x600 512\n"),
+    (0x6000_0000_0000_0601, "12 compressed 0x601 1023\n"),
+    (0x40ff_ffff_ffff_ffff, "13 compressed 0xffffffffffffff 1\n"),
+    (
+        0x60ff_ffff_ffff_ffff,
+        "14 compressed 0xffffffffffffff 513\n",
+    ),
 ];
 
 const SIXTEEN_BITS: [Case; 12] = [
     (0x0000_0000_0000_0000, ""),
-    (0x8000_0000_0001_0000, "data 0x10000 copied"),
-    (0x0000_0000_0003_0000, "data 0x30000"),
-    (0x80ff_ffff_ffff_0000, "data 0xffffffffff0000 copied"),
-    (0x0000_0000_0000_0001, "zero"),
-    (0x8000_0000_0000_0001, "zero"),
-    (0x0000_0000_0001_0001, "zero 0x10000"),
-    (0x80ff_ffff_ffff_0001, "zero 0xffffffffff0000 copied"),
-    (0x4040_0000_0001_0010, "compressed 0x10010 1008"),
-    (0x4040_0000_0001_fff0, "compressed 0x1fff0 528"),
-    (0x7fff_ffff_ffff_ffff, "compressed 0x3fffffffffffff 130561"),
+    (0x8000_0000_0001_0000, "1 data 0x10000 copied\n"),
+    (0x0000_0000_0003_0000, "2 data 0x30000\n"),
+    (0x80ff_ffff_ffff_0000, "3 data 0xffffffffff0000 copied\n"),
+    (0x0000_0000_0000_0001, "4 zero\n"),
+    (0x8000_0000_0000_0001, "5 zero\n"),
+    (0x0000_0000_0001_0001, "6 zero 0x10000\n"),
+    (0x80ff_ffff_ffff_0001, "7 zero 0xffffffffff0000 copied\n"),
+    (0x4040_0000_0001_0010, "8 compressed 0x10010 1008\n"),
+    (0x4040_0000_0001_fff0, "9 compressed 0x1fff0 528\n"),
+    (
+        0x7fff_ffff_ffff_ffff,
+        "10 compressed 0x3fffffffffffff 130561\n",
+    ),
     (0x8000_0000_0000_0000, ""),
 ];
 
 const TWENTY_ONE_BITS: [Case; 10] = [
-    (0x8000_0000_0020_0000, "data 0x200000 copied"),
-    (0x0000_0000_0060_0000, "data 0x600000"),
-    (0x00ff_ffff_ffe0_0000, "data 0xffffffffe00000"),
+    (0x8000_0000_0020_0000, "0 data 0x200000 copied\n"),
+    (0x0000_0000_0060_0000, "1 data 0x600000\n"),
+    (0x00ff_ffff_ffe0_0000, "2 data 0xffffffffe00000\n"),
     (0x8000_0000_0000_0000, ""),
-    (0x0000_0000_0000_0001, "zero"),
-    (0x0000_0000_0040_0001, "zero 0x400000"),
-    (0x8000_0000_0040_0001, "zero 0x400000 copied"),
-    (0x4002_0000_0000_0000, "compressed 0x0 1024"),
-    (0x4000_0000_0000_0001, "compressed 0x1 511"),
-    (0x7fff_ffff_ffff_ffff, "compressed 0x1ffffffffffff 4193793"),
+    (0x0000_0000_0000_0001, "4 zero\n"),
+    (0x0000_0000_0040_0001, "5 zero 0x400000\n"),
+    (0x8000_0000_0040_0001, "6 zero 0x400000 copied\n"),
+    (0x4002_0000_0000_0000, "7 compressed 0x0 1024\n"),
+    (0x4000_0000_0000_0001, "8 compressed 0x1 511\n"),
+    (
+        0x7fff_ffff_ffff_ffff,
+        "9 compressed 0x1ffffffffffff 4193793\n",
+    ),
 ];
 
 // An image that begins with these entries of an L2 table, and ends after the last of them.
@@ -68,55 +76,62 @@ pub(crate) fn table_of(alloc: Global, numbers: &[u64]) -> Result<Vec<u8>, Fail> 
     Ok(bytes)
 }
 
-// Lists the table that begins with a cluster of the image.
-fn list<S: Storage>(
-    alloc: Global,
-    image: &mut S,
-    cluster_bits: u32,
-    cluster: HostCluster,
-) -> Result<(Option<Fault>, Vec<u8>), Fail> {
-    if !is_cluster_bits(cluster_bits) {
-        return Err(Fail::new("these are no cluster bits"));
-    }
-    let mut out = Vec::new(alloc);
-    let answer = list_l2_table(alloc, image, cluster_bits, cluster, &mut out);
-    Ok((answer.err(), out))
+// A table that was listed: the fault, if there was one, and what was printed.
+#[derive(Drop)]
+pub(crate) struct Listing {
+    pub(crate) fault: Option<Fault>,
+    out: FailingOutput,
 }
 
-// Lists the table that begins with cluster 0, and compares the fault and the lines.
+impl Listing {
+    // Lists the table that begins with a cluster of the image.
+    pub(crate) fn of<S: Storage>(
+        alloc: Global,
+        image: &mut S,
+        cluster_bits: u32,
+        cluster: HostCluster,
+    ) -> Result<Listing, Fail> {
+        if !is_cluster_bits(cluster_bits) {
+            return Err(Fail::new("these are no cluster bits"));
+        }
+        let mut out = FailingOutput::new(alloc, Failure::Never)?;
+        let answer = list_l2_table(alloc, image, cluster_bits, cluster, &mut out);
+        let fault = answer.err();
+        Ok(Listing { fault, out })
+    }
+
+    pub(crate) fn has<R: Debug + Drop>(
+        &self,
+        fault: Option<Fault>,
+        lines: &str,
+        row: R,
+    ) -> Result<(), Fail> {
+        let printed = std::str::from_utf8(self.out.bytes())?;
+        same(&(self.fault, printed), &(fault, lines), row)
+    }
+}
+
+// Lists the table that begins with cluster 0 of an image in memory.
 fn lists<R: Debug + Drop>(
-    alloc: Global,
     image: Vec<u8>,
     cluster_bits: u32,
     expected: (Option<Fault>, &str),
     row: R,
 ) -> Result<(), Fail> {
+    let alloc = *image.allocator();
     let mut image = MemStorage::new(image);
-    let (fault, out) = list(alloc, &mut image, cluster_bits, HostCluster(0))?;
-    same(
-        &(fault, std::str::from_utf8(out.as_slice())?),
-        &expected,
-        row,
-    )
+    Listing::of(alloc, &mut image, cluster_bits, HostCluster(0))?.has(expected.0, expected.1, row)
 }
 
 fn lists_each(alloc: Global, cluster_bits: u32, cases: &[Case]) -> Result<(), Fail> {
     let mut numbers = Vec::new(alloc);
     let mut lines = String::new(alloc);
-    for (index, (number, mapping)) in cases.iter().enumerate() {
+    for (number, line) in cases {
         numbers.push(*number)?;
-        if !mapping.is_empty() {
-            writeln!(lines, "{index} {mapping}")?;
-        }
+        lines.push_str(line)?;
     }
     let image = table_of(alloc, numbers.as_slice())?;
-    lists(
-        alloc,
-        image,
-        cluster_bits,
-        (None, lines.as_str()),
-        cluster_bits,
-    )
+    lists(image, cluster_bits, (None, lines.as_str()), cluster_bits)
 }
 
 #[test]
@@ -143,7 +158,7 @@ fn the_last_entry_of_a_table_is_listed_and_none_after_it(rt: HostRuntime) -> Res
         let mut numbers = vec![in rt.alloc(); 0; last]?;
         numbers.push(number)?;
         let image = table_of(rt.alloc(), numbers.as_slice())?;
-        lists(rt.alloc(), image, cluster_bits, (None, lines), last)?;
+        lists(image, cluster_bits, (None, lines), last)?;
     }
     Ok(())
 }
@@ -163,7 +178,7 @@ fn an_image_that_ends_inside_its_table_reads_as_zeros(rt: HostRuntime) -> Result
     for (len, lines) in cases {
         let mut image = table_of(rt.alloc(), &[0x8000_0000_0000_0a00, 0x0000_0000_0101_0200])?;
         image.truncate(len);
-        lists(rt.alloc(), image, 9, (None, lines), len)?;
+        lists(image, 9, (None, lines), len)?;
     }
     Ok(())
 }
@@ -193,7 +208,7 @@ fn the_first_bad_entry_is_the_fault_and_no_line_is_printed(rt: HostRuntime) -> R
     ];
     for (cluster_bits, numbers, fault) in cases {
         let image = table_of(rt.alloc(), &numbers)?;
-        lists(rt.alloc(), image, cluster_bits, (Some(fault), ""), numbers)?;
+        lists(image, cluster_bits, (Some(fault), ""), numbers)?;
     }
     Ok(())
 }
@@ -216,13 +231,9 @@ fn a_table_past_the_greatest_end_is_refused_before_any_read(rt: HostRuntime) -> 
     for (cluster_bits, cluster, expected) in cases {
         let inner = MemStorage::new(table_of(rt.alloc(), &[0xa00])?);
         let mut image = FailingStorage::new(rt.alloc(), inner);
-        let (fault, out) = list(rt.alloc(), &mut image, cluster_bits, HostCluster(cluster))?;
-        let found = (fault, image.calls().is_empty(), out.is_empty());
-        same(
-            &found,
-            &(expected, expected.is_some(), true),
-            (cluster_bits, cluster),
-        )?;
+        let listing = Listing::of(rt.alloc(), &mut image, cluster_bits, HostCluster(cluster))?;
+        listing.has(expected, "", (cluster_bits, cluster))?;
+        same(&image.calls().is_empty(), &expected.is_some(), cluster)?;
     }
     Ok(())
 }
@@ -237,17 +248,13 @@ fn a_failed_call_of_the_storage_is_the_storage_fault_and_prints_nothing(
         let inner = MemStorage::new(Vec::from_slice(rt.alloc(), bytes.as_slice())?);
         let mut image = FailingStorage::new(rt.alloc(), inner);
         image.fail_after(passes);
-        let (fault, out) = list(rt.alloc(), &mut image, 9, HostCluster(0))?;
+        let listing = Listing::of(rt.alloc(), &mut image, 9, HostCluster(0))?;
         let fails = image.failures() != 0;
-        let expected = match fails {
+        let (fault, lines) = match fails {
             true => (Some(Fault::Storage), ""),
             false => (None, "0 data 0xa00 copied\n2 zero\n"),
         };
-        same(
-            &(fault, std::str::from_utf8(out.as_slice())?),
-            &expected,
-            passes,
-        )?;
+        listing.has(fault, lines, passes)?;
         same_bytes(image.inner().bytes(), bytes.as_slice(), passes)?;
         failed |= fails;
         passed |= !fails;
@@ -270,16 +277,13 @@ fn a_failing_output_keeps_all_bytes_but_those_of_one_write(rt: HostRuntime) -> R
         (6, "abcdef"),
     ];
     for (room, kept) in cases {
-        let mut output = FailingOutput::new(rt.alloc());
-        output.fail_after(room);
+        let mut output = FailingOutput::new(rt.alloc(), Failure::WriteAfter(room))?;
         for text in ["ab", "cd", "ef"] {
             let _ = output.write_all(text.as_bytes());
         }
         same_bytes(output.flushed(), b"", (room, "before the flush"))?;
         output.flush()?;
         same_bytes(output.flushed(), kept.as_bytes(), room)?;
-        output.fail_flushes();
-        holds(output.flush().is_err(), room)?;
     }
     Ok(())
 }

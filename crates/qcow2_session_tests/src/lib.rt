@@ -9,4 +9,4 @@ mod refused_memory;
 #[cfg(test)]
 mod watched_files;
 
-pub use failing_output::FailingOutput;
+pub use failing_output::{FailingOutput, Failure};

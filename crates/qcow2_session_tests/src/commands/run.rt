@@ -1,5 +1,6 @@
-use crate::FailingOutput;
+use super::table_of;
 use crate::watched_files::{Opens, WatchedFiles};
+use crate::{FailingOutput, Failure};
 use qcow2_base::{Fault, FileStorage};
 use qcow2_session::{report_fault, run_words};
 use qcow2_testing::{
@@ -22,76 +23,48 @@ const ONE_MAPPING: &str = "3 data 0xa00 copied\n";
 // What a run ends with: the status, and what was flushed of the output and of the error output.
 type Outcome<'a> = (u8, &'a str, &'a str);
 
+// The words of the command `l2` after its image, and what a run of it ends with.
+type L2Row<'a> = (&'a str, &'a str, Outcome<'a>);
+
 // A run that has ended.
 #[derive(Drop)]
-struct Run {
-    status: u8,
-    out: FailingOutput,
-    err: FailingOutput,
+pub(crate) struct Run {
+    pub(crate) status: u8,
+    pub(crate) out: FailingOutput,
+    pub(crate) err: FailingOutput,
 }
 
 impl Run {
-    fn over<R: Files + AllocGlobal>(
+    // Runs a line of words, with the path of an image in place of the word `IMAGE`, over outputs that
+    // fail there.
+    fn failing<R: Files + AllocGlobal>(
         rt: &R,
-        words: &[String],
-        mut out: FailingOutput,
-        mut err: FailingOutput,
-    ) -> Run {
-        let status = run_words(rt, words, &mut out, &mut err);
-        Run { status, out, err }
+        image: &str,
+        words: &[&str],
+        (out, err): (Failure, Failure),
+    ) -> Result<Run, Fail> {
+        let words = words_of(rt.alloc(), words, image)?;
+        let mut out = FailingOutput::new(rt.alloc(), out)?;
+        let mut err = FailingOutput::new(rt.alloc(), err)?;
+        let status = run_words(rt, words.as_slice(), &mut out, &mut err);
+        Ok(Run { status, out, err })
     }
 
-    fn ends_in<R: Debug + Drop>(&self, expected: Outcome<'_>, row: R) -> Result<(), Fail> {
+    pub(crate) fn of<R: Files + AllocGlobal>(
+        rt: &R,
+        image: &str,
+        words: &[&str],
+    ) -> Result<Run, Fail> {
+        Run::failing(rt, image, words, (Failure::Never, Failure::Never))
+    }
+
+    pub(crate) fn has<R: Debug + Drop>(&self, expected: Outcome<'_>, row: R) -> Result<(), Fail> {
         let out = std::str::from_utf8(self.out.flushed())?;
         let err = std::str::from_utf8(self.err.flushed())?;
         same(&(self.status, out, err), &expected, row)
     }
 }
 
-// An output that fails nowhere.
-fn output<R: AllocGlobal>(rt: &R) -> FailingOutput {
-    FailingOutput::new(rt.alloc())
-}
-
-// An output that fails once, after so many bytes.
-fn failing_output<R: AllocGlobal>(rt: &R, room: usize) -> FailingOutput {
-    let mut output = FailingOutput::new(rt.alloc());
-    output.fail_after(room);
-    output
-}
-
-// An output that fails where it is flushed.
-fn unflushed_output<R: AllocGlobal>(rt: &R) -> FailingOutput {
-    let mut output = FailingOutput::new(rt.alloc());
-    output.fail_flushes();
-    output
-}
-
-// Runs the words over outputs that fail nowhere.
-fn runs<R: Files + AllocGlobal>(
-    rt: &R,
-    words: &[String],
-    expected: Outcome<'_>,
-) -> Result<(), Fail> {
-    Run::over(rt, words, output(rt), output(rt)).ends_in(expected, words)
-}
-
-// 1536 bytes, zero but for one entry of the L2 table at cluster 2 of 512 bytes.
-fn image_with_one_mapping(alloc: Global) -> Result<Vec<u8>, Fail> {
-    let mut bytes = vec![in alloc; 0u8; 1048]?;
-    bytes.extend_from_slice(&[0x80, 0, 0, 0, 0, 0, 0x0a, 0])?;
-    bytes.resize(1536, 0)?;
-    Ok(bytes)
-}
-
-pub(crate) fn one_mapping<'a>(
-    rt: &'a HostRuntime,
-    name: &str,
-) -> Result<TemporaryFile<'a, HostRuntime>, Fail> {
-    temporary_file(rt, name, image_with_one_mapping(rt.alloc())?.as_slice())
-}
-
-// The words of a line, with the path of an image in place of the word `IMAGE`.
 fn words_of(alloc: Global, words: &[&str], image: &str) -> Result<Vec<String>, Fail> {
     let mut list = Vec::new(alloc);
     for word in words {
@@ -101,13 +74,39 @@ fn words_of(alloc: Global, words: &[&str], image: &str) -> Result<Vec<String>, F
     Ok(list)
 }
 
-pub(crate) fn l2_words(
-    alloc: Global,
+fn runs<R: Files + AllocGlobal>(
+    rt: &R,
     image: &str,
-    cluster_bits: &str,
-    cluster: &str,
-) -> Result<Vec<String>, Fail> {
-    words_of(alloc, &["l2", image, cluster_bits, cluster], image)
+    words: &[&str],
+    expected: Outcome<'_>,
+) -> Result<(), Fail> {
+    Run::of(rt, image, words)?.has(expected, words)
+}
+
+fn l2_runs<R: Files + AllocGlobal>(rt: &R, image: &str, rows: &[L2Row<'_>]) -> Result<(), Fail> {
+    for (cluster_bits, cluster, expected) in rows {
+        runs(
+            rt,
+            image,
+            &["l2", "IMAGE", cluster_bits, cluster],
+            *expected,
+        )?;
+    }
+    Ok(())
+}
+
+// 1536 bytes, zero but for one entry of the L2 table at cluster 2 of 512 bytes.
+fn image_with_one_mapping(alloc: Global) -> Result<Vec<u8>, Fail> {
+    let mut numbers = [0; 192];
+    numbers[131] = 0x8000_0000_0000_0a00;
+    table_of(alloc, &numbers)
+}
+
+pub(crate) fn one_mapping<'a>(
+    rt: &'a HostRuntime,
+    name: &str,
+) -> Result<TemporaryFile<'a, HostRuntime>, Fail> {
+    temporary_file(rt, name, image_with_one_mapping(rt.alloc())?.as_slice())
 }
 
 #[test]
@@ -115,8 +114,8 @@ fn the_command_l2_reads_its_image_and_lists_the_table_that_begins_with_a_cluster
     rt: HostRuntime,
 ) -> Result<(), Fail> {
     let file = one_mapping(&rt, "rows")?;
-    let image = file.path.as_str();
-    let cases: [(&str, &str, Outcome<'_>); 8] = [
+    let files = WatchedFiles::new(&rt, false);
+    let rows: [L2Row<'_>; 8] = [
         ("9", "2", (0, ONE_MAPPING, "")),
         ("9", "0", (0, "", "")),
         ("9", "1", (0, "", "")),
@@ -126,20 +125,20 @@ fn the_command_l2_reads_its_image_and_lists_the_table_that_begins_with_a_cluster
         ("9", "140737488355328", (1, "", NO_PLACE)),
         ("9", "18446744073709551615", (1, "", NO_PLACE)),
     ];
-    for (cluster_bits, cluster, expected) in cases {
-        let files = WatchedFiles::new(&rt, false);
-        let words = l2_words(rt.alloc(), image, cluster_bits, cluster)?;
-        runs(&files, words.as_slice(), expected)?;
-        same(
-            &files.opens(),
-            &Opens {
-                reading: 1,
-                other: 0,
-            },
-            cluster,
-        )?;
-    }
-    let (bytes, whole) = (fs::read(&rt, image)?, image_with_one_mapping(rt.alloc())?);
+    l2_runs(&files, file.path.as_str(), &rows)?;
+    let opens = Opens {
+        reading: 8,
+        other: 0,
+    };
+    same(
+        &files.opens(),
+        &opens,
+        "one for each row, and none to write",
+    )?;
+    let (bytes, whole) = (
+        fs::read(&rt, file.path.as_str())?,
+        image_with_one_mapping(rt.alloc())?,
+    );
     same_bytes(
         bytes.as_slice(),
         whole.as_slice(),
@@ -173,12 +172,10 @@ const WRONG_WORDS: [&[&str]; 20] = [
 #[test]
 fn wrong_words_are_the_usage_line_and_open_no_file(rt: HostRuntime) -> Result<(), Fail> {
     let file = one_mapping(&rt, "wrong-words")?;
-    let missing = temporary_path(&rt, "wrong-words-missing")?;
     let files = WatchedFiles::new(&rt, false);
-    for image in [file.path.as_str(), missing.as_str()] {
+    for image in [file.path.as_str(), ""] {
         for words in WRONG_WORDS {
-            let words = words_of(rt.alloc(), words, image)?;
-            runs(&files, words.as_slice(), (2, "", USAGE))?;
+            runs(&files, image, words, (2, "", USAGE))?;
         }
     }
     same(
@@ -195,7 +192,7 @@ fn wrong_words_are_the_usage_line_and_open_no_file(rt: HostRuntime) -> Result<()
 fn a_number_is_1_to_20_digits_that_fit_64_bits(rt: HostRuntime) -> Result<(), Fail> {
     let file = one_mapping(&rt, "numbers")?;
     let image = file.path.as_str();
-    let numbers: [(&str, &str, Outcome<'_>); 7] = [
+    let rows: [L2Row<'_>; 7] = [
         ("9", "2", (0, ONE_MAPPING, "")),
         ("9", "02", (0, ONE_MAPPING, "")),
         ("9", "00000000000000000002", (0, ONE_MAPPING, "")),
@@ -204,15 +201,10 @@ fn a_number_is_1_to_20_digits_that_fit_64_bits(rt: HostRuntime) -> Result<(), Fa
         ("9", "18446744073709551615", (1, "", NO_PLACE)),
         ("9", "09223372036854775808", (1, "", NO_PLACE)),
     ];
-    for (cluster_bits, cluster, expected) in numbers {
-        let words = l2_words(rt.alloc(), image, cluster_bits, cluster)?;
-        runs(&rt, words.as_slice(), expected)?;
-    }
+    l2_runs(&rt, image, &rows)?;
     for word in NO_NUMBERS {
-        for (cluster_bits, cluster) in [("9", word), (word, "2")] {
-            let words = l2_words(rt.alloc(), image, cluster_bits, cluster)?;
-            runs(&rt, words.as_slice(), (2, "", USAGE))?;
-        }
+        let refused = (2, "", USAGE);
+        l2_runs(&rt, image, &[("9", word, refused), (word, "2", refused)])?;
     }
     Ok(())
 }
@@ -253,8 +245,7 @@ fn every_number_of_cluster_bits_from_9_to_21_is_taken(rt: HostRuntime) -> Result
         let word = format!(in rt.alloc(); "{cluster_bits}")?;
         let taken = 9 <= cluster_bits && cluster_bits <= 21;
         let expected = if taken { (0, "", "") } else { (2, "", USAGE) };
-        let words = l2_words(rt.alloc(), file.path.as_str(), word.as_str(), "5")?;
-        runs(&rt, words.as_slice(), expected)?;
+        l2_runs(&rt, file.path.as_str(), &[(word.as_str(), "5", expected)])?;
     }
     Ok(())
 }
@@ -263,11 +254,13 @@ fn every_number_of_cluster_bits_from_9_to_21_is_taken(rt: HostRuntime) -> Result
 fn what_is_no_file_is_the_storage_fault(rt: HostRuntime) -> Result<(), Fail> {
     let missing = temporary_path(&rt, "no-file")?;
     let folder = env::temp_dir(&rt)?.into_string();
+    let fault = (1, "", STORAGE);
     for image in [missing.as_str(), folder.as_str(), ""] {
-        for cluster in ["2", "140737488355328"] {
-            let words = l2_words(rt.alloc(), image, "9", cluster)?;
-            runs(&rt, words.as_slice(), (1, "", STORAGE))?;
-        }
+        l2_runs(
+            &rt,
+            image,
+            &[("9", "2", fault), ("9", "140737488355328", fault)],
+        )?;
     }
     holds(
         fs::metadata(&rt, missing.as_str()).is_err(),
@@ -279,6 +272,7 @@ fn what_is_no_file_is_the_storage_fault(rt: HostRuntime) -> Result<(), Fail> {
 #[test]
 fn a_file_that_may_not_be_written_is_opened_for_reading_alone(rt: HostRuntime) -> Result<(), Fail> {
     let file = one_mapping(&rt, "read-only")?;
+    let files = WatchedFiles::new(&rt, true);
     let cases = [
         (
             true,
@@ -293,12 +287,11 @@ fn a_file_that_may_not_be_written_is_opened_for_reading_alone(rt: HostRuntime) -
             None,
             Opens {
                 reading: 1,
-                other: 0,
+                other: 1,
             },
         ),
     ];
     for (writable, fault, opens) in cases {
-        let files = WatchedFiles::new(&rt, true);
         let answer = FileStorage::open(&files, file.path.as_str(), writable);
         same(&(answer.err(), files.opens()), &(fault, opens), writable)?;
     }
@@ -308,7 +301,6 @@ fn a_file_that_may_not_be_written_is_opened_for_reading_alone(rt: HostRuntime) -
 #[test]
 fn each_failed_call_of_the_file_is_the_storage_fault(rt: HostRuntime) -> Result<(), Fail> {
     let file = one_mapping(&rt, "failed-calls")?;
-    let words = l2_words(rt.alloc(), file.path.as_str(), "9", "2")?;
     let (mut failed, mut passed) = (false, false);
     for passes in 0..32 {
         let files = FaultyFiles {
@@ -317,16 +309,18 @@ fn each_failed_call_of_the_file_is_the_storage_fault(rt: HostRuntime) -> Result<
             step: 100,
             end: u64::MAX,
         };
-        let run = Run::over(&files, words.as_slice(), output(&rt), output(&rt));
-        let succeeds = run.status == 0;
-        let expected = if succeeds {
-            (0, ONE_MAPPING, "")
-        } else {
-            (1, "", STORAGE)
-        };
-        run.ends_in(expected, passes)?;
-        failed |= !succeeds;
-        passed |= succeeds;
+        let run = Run::of(&files, file.path.as_str(), &["l2", "IMAGE", "9", "2"])?;
+        let fails = run.status != 0;
+        run.has(
+            if fails {
+                (1, "", STORAGE)
+            } else {
+                (0, ONE_MAPPING, "")
+            },
+            passes,
+        )?;
+        failed |= fails;
+        passed |= !fails;
     }
     holds(
         failed && passed,
@@ -338,21 +332,31 @@ fn each_failed_call_of_the_file_is_the_storage_fault(rt: HostRuntime) -> Result<
 fn what_was_printed_before_a_failed_write_is_flushed(rt: HostRuntime) -> Result<(), Fail> {
     let lines = "0 data 0xa00 copied\n2 zero\n3 zero 0x600\n4 compressed 0x600 512\n";
     let numbers = [0x8000_0000_0000_0a00, 0, 1, 0x601, 0x4000_0000_0000_0600];
-    let bytes = super::table_of(rt.alloc(), &numbers)?;
-    let file = temporary_file(&rt, "failed-writes", bytes.as_slice())?;
-    let words = l2_words(rt.alloc(), file.path.as_str(), "9", "0")?;
-    for room in 0..lines.len() {
+    let file = temporary_file(
+        &rt,
+        "failed-writes",
+        table_of(rt.alloc(), &numbers)?.as_slice(),
+    )?;
+    for room in 0..lines.len() + 1 {
         let printed = std::str::from_utf8(&lines.as_bytes()[..room])?;
-        let run = Run::over(
+        let whole = room == lines.len();
+        let failures = (Failure::WriteAfter(room), Failure::Never);
+        let run = Run::failing(
             &rt,
-            words.as_slice(),
-            failing_output(&rt, room),
-            output(&rt),
-        );
-        run.ends_in((1, printed, STORAGE), room)?;
+            file.path.as_str(),
+            &["l2", "IMAGE", "9", "0"],
+            failures,
+        )?;
+        run.has(
+            if whole {
+                (0, lines, "")
+            } else {
+                (1, printed, STORAGE)
+            },
+            room,
+        )?;
     }
-    let out = failing_output(&rt, lines.len());
-    Run::over(&rt, words.as_slice(), out, output(&rt)).ends_in((0, lines, ""), "room for all")
+    Ok(())
 }
 
 #[test]
@@ -367,10 +371,11 @@ fn a_failed_flush_is_told_where_the_run_has_no_fault_of_its_own(
         ("10", "1", "", "qmeta: fault 19\n"),
     ];
     for (cluster_bits, cluster, written, told) in cases {
-        let words = l2_words(rt.alloc(), file.path.as_str(), cluster_bits, cluster)?;
-        let run = Run::over(&rt, words.as_slice(), unflushed_output(&rt), output(&rt));
-        run.ends_in((1, "", told), cluster)?;
-        same_bytes(run.out.bytes(), written.as_bytes(), cluster)?;
+        let words = ["l2", "IMAGE", cluster_bits, cluster];
+        let failures = (Failure::Flush, Failure::Never);
+        let run = Run::failing(&rt, file.path.as_str(), &words, failures)?;
+        run.has((1, "", told), words)?;
+        same_bytes(run.out.bytes(), written.as_bytes(), words)?;
     }
     Ok(())
 }
@@ -385,15 +390,15 @@ fn a_failed_error_output_keeps_the_status(rt: HostRuntime) -> Result<(), Fail> {
         (&["l2", "IMAGE", "8", "2"], (2, "", USAGE)),
     ];
     for (words, (status, printed, told)) in cases {
-        let words = words_of(rt.alloc(), words, file.path.as_str())?;
-        for room in 0..told.len() {
+        for room in 0..told.len() + 1 {
             let begun = std::str::from_utf8(&told.as_bytes()[..room])?;
-            let err = failing_output(&rt, room);
-            let run = Run::over(&rt, words.as_slice(), output(&rt), err);
-            run.ends_in((status, printed, begun), room)?;
+            let failures = (Failure::Never, Failure::WriteAfter(room));
+            let run = Run::failing(&rt, file.path.as_str(), words, failures)?;
+            run.has((status, printed, begun), (words, room))?;
         }
-        let run = Run::over(&rt, words.as_slice(), output(&rt), unflushed_output(&rt));
-        run.ends_in((status, printed, ""), "no flush passes")?;
+        let failures = (Failure::Never, Failure::Flush);
+        let run = Run::failing(&rt, file.path.as_str(), words, failures)?;
+        run.has((status, printed, ""), (words, "no flush passes"))?;
     }
     Ok(())
 }
@@ -409,13 +414,15 @@ fn a_fault_is_reported_by_its_number(rt: HostRuntime) -> Result<(), Fail> {
         (Fault::ExternalData, "qmeta: fault 36\n"),
     ];
     for (fault, line) in cases {
-        let (mut err, mut failing) = (output(&rt), failing_output(&rt, 0));
-        let statuses = (
-            report_fault(fault, &mut err),
-            report_fault(fault, &mut failing),
-        );
-        same(&statuses, &(1, 1), fault)?;
-        same_bytes(err.flushed(), line.as_bytes(), fault)?;
+        for (failure, told) in [(Failure::Never, line), (Failure::WriteAfter(0), "")] {
+            let mut err = FailingOutput::new(rt.alloc(), failure)?;
+            let status = report_fault(fault, &mut err);
+            same(
+                &(status, std::str::from_utf8(err.flushed())?),
+                &(1, told),
+                fault,
+            )?;
+        }
     }
     Ok(())
 }
