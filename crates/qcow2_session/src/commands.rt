@@ -37,7 +37,8 @@ pub fn run_words<R: Files + AllocGlobal, O: Write, E: Write>(
     ensures no_report { result ≡ 0 → err.new ≡ err.old }
 
     // A table at a place that isn't lawful is a fault whatever the image, and no line is printed.
-    ensures place { IfSome (command_of (map string_bytes words.now)) (λ line. IfSome (place_fault_of line) (λ fault.
+    ensures place { IfSome (command_of (map string_bytes words.now)) (λ line.
+        IfSome (place_fault_of line) (λ fault.
         (result ≡ 1) × Keeps (O.contents out.old) (O.contents out.new))) }
 {
     match Command::read(words) {
@@ -95,7 +96,8 @@ fn run<R: Files + AllocGlobal, O: Write>(
 ) -> Result<(), Fault>
     ensures place { IfSome (place_fault_of (line_of command.now)) (λ fault.
         IsErr result × Keeps (O.contents out.old) (O.contents out.new)) }
-    ensures before_any_line { IfErr result (λ fault. fault ≢ StorageFailed → Keeps (O.contents out.old) (O.contents out.new)) }
+    ensures before_any_line { IfErr result (λ fault.
+        fault ≢ StorageFailed → Keeps (O.contents out.old) (O.contents out.new)) }
 {
     let ran = match command {
         Command::L2(words) => run_l2(rt, words, out),
@@ -118,7 +120,8 @@ fn run_l2<R: Files + AllocGlobal, O: Write>(
     words: &L2Words<'_>,
     out: &mut O,
 ) -> Result<(), Fault>
-    ensures place { IfSome (place_fault_of (l2_line words.now)) (λ fault. IsErr result × (out.new ≡ out.old)) }
+    ensures place { IfSome (place_fault_of (l2_line words.now)) (λ fault.
+        IsErr result × (out.new ≡ out.old)) }
     ensures before_any_line { IfErr result (λ fault. fault ≢ StorageFailed → out.new ≡ out.old) }
 {
     let mut image = FileStorage::open(rt, words.image, false)?;

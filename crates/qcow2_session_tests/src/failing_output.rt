@@ -70,8 +70,10 @@ impl Write for FailingOutput {
 
     fn write(&mut self, buf: &[u8]) -> io::Result<usize>
         ensures bound { WritesAtMost result buf.now }
-        ensures bytes { WriteAppends (Some (written_bytes self.old)) (Some (written_bytes self.new)) result buf.now }
-        ensures planned { failure_of self.old ≡ Failure.WriteAfter 0 → 0 < length buf.now → IsErr result }
+        ensures bytes { WriteAppends (Some (written_bytes self.old)) (Some (written_bytes self.new))
+            result buf.now }
+        ensures planned { failure_of self.old ≡ Failure.WriteAfter 0 →
+            0 < length buf.now → IsErr result }
         ensures flushed { flushed_bytes self.new ≡ flushed_bytes self.old }
     {
         let Failure::WriteAfter(room) = self.failure else {

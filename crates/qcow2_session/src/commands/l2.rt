@@ -32,13 +32,13 @@ pub fn list_l2_table<S: Storage, O: Write>(
     out: &mut O,
 ) -> Result<(), Fault>
     requires { IsClusterBits cluster_bits }
-    ensures place { IfSome (place_fault most_l2_entries (l2_table_at (geometry cluster_bits false) cluster)) (λ fault.
-        (result ≡ Err fault) ⊎ (result ≡ Err NoMemory)) }
+    ensures place { IfSome (place_fault most_l2_entries (l2_table_at (geometry cluster_bits false) cluster))
+        (λ fault. (result ≡ Err fault) ⊎ (result ≡ Err NoMemory)) }
 
     // Where an image tells its bytes, they hold the table then, and these are its lines.
     ensures lines { OnOk result (IsTrue (S.state image.old).tells →
-        IsOkAnd (loaded_l2_table (geometry cluster_bits false) cluster (S.state image.old).byte_at) (λ numbers.
-        Appends (O.contents out.old) (O.contents out.new)
+        let table = loaded_l2_table (geometry cluster_bits false) cluster (S.state image.old).byte_at in
+        IsOkAnd table (λ numbers. Appends (O.contents out.old) (O.contents out.new)
         (entry_lines decimal (geometry cluster_bits false) 0 numbers))) }
 
     // The storage fault is that of the image or, where the table is lawful, of a failed write.
@@ -53,7 +53,8 @@ pub fn list_l2_table<S: Storage, O: Write>(
 
     // A call of the image that failed is the storage fault, before the first line too, and none of
     // its bytes changes.
-    ensures storage { ReadsFor (IsErrOf result StorageFailed × (out.new ≡ out.old)) (S.state image.old) (S.state image.new) }
+    ensures storage { ReadsFor (IsErrOf result StorageFailed × (out.new ≡ out.old))
+        (S.state image.old) (S.state image.new) }
 {
     let header = Header::new(alloc, cluster_bits, REFCOUNT_ORDER, None, None, None)?;
     let table = L2Table::load(alloc, image, &header, cluster, header.l2_entries())?;
