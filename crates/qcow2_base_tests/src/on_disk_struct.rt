@@ -1,6 +1,6 @@
 //! Loads and stores of integers and of structures, each by each call.
 
-ghost use Rattle.std.specs.Prelude.{◌≡◌, false, [], ◌∷◌, refl, IfOk};
+ghost use Rattle.std.specs.Prelude.{◌≡◌, ◌<◌, ◌≤◌, false, [], ◌∷◌, length, refl, IfOk};
 ghost use Rattle.std.proofs.Common.{rules};
 ghost use Rattle.qcow2_base.specs.OnDiskStruct.{big, little};
 
@@ -9,8 +9,9 @@ use qcow2_base::{
     Fault, HeaderExtensionHeader, OnDiskSize, OnDiskStruct, V2Header, V3HeaderBase, read_be,
     read_le, write_be, write_le,
 };
+use qcow2_testing::{same, same_bytes};
 use std::fmt::Debug;
-use std::process::Abort;
+use std::test::Fail;
 
 /// Fields one after the other, of three lengths.
 #[derive(Clone, Copy, Debug, PartialEq, Eq)]
@@ -243,119 +244,127 @@ fn reload<T: OnDiskStruct + Drop>(value: &T, bytes: &mut [u8]) -> Result<T, Faul
 }
 
 /// That the call stores the value as these bytes into a buffer of bytes 0xff that is `len` long,
-/// and loads it from there.
-fn expect_bytes<T: OnDiskStruct + Copy + Debug + PartialEq>(
-    rt: &impl Abort,
+/// leaves those that follow, and loads it from there.
+fn stands<T: OnDiskStruct + Copy + Debug + PartialEq>(
     call: Call,
     value: T,
     expected: &[u8],
     len: usize,
-) {
-    assert!(rt; expected.len() <= len && len <= 80);
+) -> Result<(), Fail>
+    requires fits { length expected.now ≤ len }
+    requires room { len ≤ 80 }
+{
+    let row = (call, value, len);
     let mut buffer = [0xff; 80];
     let bytes = &mut buffer[..len];
-    assert_eq!(rt; store(call, &value, bytes), Ok(()), "{call:?} of {value:?}");
-    assert_eq!(rt; &bytes[..expected.len()], expected, "{call:?} of {value:?}");
-    let past = &bytes[expected.len()..];
-    assert!(rt;
-        past.iter().all(|byte| *byte == 0xff),
-        "{call:?} of {value:?}"
-    );
-    assert_eq!(rt; load(call, bytes), Ok(value), "{call:?} of {value:?}");
-    assert_eq!(rt; reload(&value, bytes), Ok(value), "{value:?}");
+    same(store(call, &value, bytes), Ok(()), row)?;
+    let (stored, past) = bytes.split_at(expected.len());
+    same_bytes(stored, expected, row)?;
+    same_bytes(past, &[0xff; 80][..past.len()], row)?;
+    same(load(call, bytes), Ok(value), row)?;
+    same(reload(&value, bytes), Ok(value), row)
 }
 
-/// That the call refuses to store the value into a buffer that is `len` long, leaves it, and
+/// That each call refuses to store the value into a buffer that is `len` long, leaves it, and
 /// refuses to load from it.
-fn expect_refusal<T: OnDiskStruct + Copy + Debug + PartialEq>(
-    rt: &impl Abort,
-    call: Call,
-    value: T,
-    len: usize,
-) {
-    assert!(rt; len <= 80);
-    let mut buffer = [0xff; 80];
-    let bytes = &mut buffer[..len];
-    let refused = Err(Fault::WrongLength);
-    assert_eq!(rt; store(call, &value, bytes), refused, "{call:?} into {len}");
-    assert!(rt;
-        bytes.iter().all(|byte| *byte == 0xff),
-        "{call:?} into {len}"
-    );
-    let loaded: Result<T, Fault> = load(call, bytes);
-    assert_eq!(rt; loaded, Err(Fault::WrongLength), "{call:?} from {len}");
+fn refuse<T: OnDiskStruct + Copy + Debug + PartialEq>(value: T, len: usize) -> Result<(), Fail>
+    requires { len ≤ 80 }
+{
+    for call in CALLS {
+        let row = (call, value, len);
+        let mut buffer = [0xff; 80];
+        let bytes = &mut buffer[..len];
+        same(store(call, &value, bytes), Err(Fault::WrongLength), row)?;
+        same_bytes(bytes, &[0xff; 80][..len], row)?;
+        let loaded: Result<T, Fault> = load(call, bytes);
+        same(loaded, Err(Fault::WrongLength), row)?;
+    }
+    Ok(())
 }
 
 /// That each call stores the structure as these bytes, leaves what follows, and needs as many
 /// bytes.
-fn expect_structure<T: OnDiskStruct + Copy + Debug + PartialEq>(
-    rt: &impl Abort,
+fn structure<T: OnDiskStruct + Copy + Debug + PartialEq>(
     value: T,
     expected: &[u8],
-) {
+) -> Result<(), Fail>
+    requires bytes { 0 < length expected.now }
+    requires room { length expected.now < 80 }
+{
     let size = expected.len();
-    assert!(rt; 0 < size && size < 80);
-    assert_eq!(rt; T::ON_DISK_SIZE, size);
-    assert_eq!(rt; value.on_disk_size(), size);
+    same((T::ON_DISK_SIZE, value.on_disk_size()), (size, size), value)?;
     for call in CALLS {
-        expect_bytes(rt, call, value, expected, size);
-        expect_bytes(rt, call, value, expected, size + 1);
-        expect_bytes(rt, call, value, expected, 80);
-        expect_refusal(rt, call, value, size - 1);
-        expect_refusal(rt, call, value, 0);
+        stands(call, value, expected, size)?;
+        stands(call, value, expected, size + 1)?;
+        stands(call, value, expected, 80)?;
     }
+    refuse(value, size - 1)?;
+    refuse(value, 0)
 }
 
 /// That the calls store the integer as these bytes, and need exactly as many.
-fn expect_integer<T: OnDiskStruct + Copy + Debug + PartialEq>(
-    rt: &impl Abort,
+fn integer<T: OnDiskStruct + Copy + Debug + PartialEq>(
     value: T,
     little: &[u8],
     big: &[u8],
-) {
+) -> Result<(), Fail>
+    requires bytes { 0 < length little.now }
+    requires room { length little.now < 80 }
+    requires both { length big.now ≡ length little.now }
+{
     let size = little.len();
-    assert!(rt; 0 < size && size < 80);
-    assert_eq!(rt; T::ON_DISK_SIZE, size);
-    assert_eq!(rt; value.on_disk_size(), size);
-    expect_bytes(rt, Call::LittleEndian, value, little, size);
-    expect_bytes(rt, Call::BigEndian, value, big, size);
-    expect_bytes(rt, Call::Native, value, little, size);
-    for call in CALLS {
-        expect_refusal(rt, call, value, 0);
-        expect_refusal(rt, call, value, size - 1);
-        expect_refusal(rt, call, value, size + 1);
+    same((T::ON_DISK_SIZE, value.on_disk_size()), (size, size), value)?;
+    stands(Call::LittleEndian, value, little, size)?;
+    stands(Call::BigEndian, value, big, size)?;
+    stands(Call::Native, value, little, size)?;
+    refuse(value, 0)?;
+    refuse(value, size - 1)?;
+    refuse(value, size + 1)
+}
+
+#[test]
+fn integers_of_two_bytes_stand_in_the_order_asked_for() -> Result<(), Fail> {
+    for (value, little, big) in [
+        (0x0102u16, [2, 1], [1, 2]),
+        (0, [0; 2], [0; 2]),
+        (u16::MAX, [0xff; 2], [0xff; 2]),
+    ] {
+        integer(value, &little, &big)?;
     }
+    Ok(())
 }
 
 #[test]
-fn integers_stand_in_the_order_asked_for(rt: HostRuntime) {
-    expect_integer(&rt, 0x0102u16, &[0x02, 0x01], &[0x01, 0x02]);
-    expect_integer(&rt, 0u16, &[0; 2], &[0; 2]);
-    expect_integer(&rt, u16::MAX, &[0xff; 2], &[0xff; 2]);
-    let little = [0x04, 0x03, 0x02, 0x01];
-    expect_integer(&rt, 0x0102_0304u32, &little, &[0x01, 0x02, 0x03, 0x04]);
-    expect_integer(&rt, 0u32, &[0; 4], &[0; 4]);
-    expect_integer(&rt, u32::MAX, &[0xff; 4], &[0xff; 4]);
-    let little = [0x08, 0x07, 0x06, 0x05, 0x04, 0x03, 0x02, 0x01];
-    let big = [0x01, 0x02, 0x03, 0x04, 0x05, 0x06, 0x07, 0x08];
-    expect_integer(&rt, 0x0102_0304_0506_0708u64, &little, &big);
-    expect_integer(&rt, 0u64, &[0; 8], &[0; 8]);
-    expect_integer(&rt, u64::MAX, &[0xff; 8], &[0xff; 8]);
+fn integers_of_four_bytes_stand_in_the_order_asked_for() -> Result<(), Fail> {
+    for (value, little, big) in [
+        (0x0102_0304u32, [4, 3, 2, 1], [1, 2, 3, 4]),
+        (42, [42, 0, 0, 0], [0, 0, 0, 42]),
+        (0, [0; 4], [0; 4]),
+        (u32::MAX, [0xff; 4], [0xff; 4]),
+    ] {
+        integer(value, &little, &big)?;
+    }
+    Ok(())
 }
 
 #[test]
-fn an_integer_needs_exactly_its_length(rt: HostRuntime) {
-    let mut short = [1, 2, 3];
-    assert_eq!(rt; 42u32.store_to_be(&mut short), Err(Fault::WrongLength));
-    assert_eq!(rt; short, [1, 2, 3]);
-    let mut long = [1, 2, 3, 4, 5];
-    assert_eq!(rt; 42u32.store_to_be(&mut long), Err(Fault::WrongLength));
-    assert_eq!(rt; long, [1, 2, 3, 4, 5]);
-    assert_eq!(rt; Fault::WrongLength.number(), 31);
+fn integers_of_eight_bytes_stand_in_the_order_asked_for() -> Result<(), Fail> {
+    for (value, little, big) in [
+        (
+            0x0102_0304_0506_0708u64,
+            [8, 7, 6, 5, 4, 3, 2, 1],
+            [1, 2, 3, 4, 5, 6, 7, 8],
+        ),
+        (0, [0; 8], [0; 8]),
+        (u64::MAX, [0xff; 8], [0xff; 8]),
+    ] {
+        integer(value, &little, &big)?;
+    }
+    Ok(())
 }
 
 #[test]
-fn big_endian_fields_stand_at_their_places(rt: HostRuntime) {
+fn big_endian_fields_stand_at_their_places() -> Result<(), Fail> {
     let value = TestBE {
         a: 0x1122_3344,
         b: 0x5566_7788_99aa_bbcc,
@@ -364,77 +373,69 @@ fn big_endian_fields_stand_at_their_places(rt: HostRuntime) {
     let expected = [
         0x11, 0x22, 0x33, 0x44, 0x55, 0x66, 0x77, 0x88, 0x99, 0xaa, 0xbb, 0xcc, 0xdd, 0xee,
     ];
-    expect_structure(&rt, value, &expected);
+    structure(value, &expected)
 }
 
 #[test]
-fn little_endian_fields_stand_at_their_places(rt: HostRuntime) {
+fn little_endian_fields_stand_at_their_places() -> Result<(), Fail> {
     let value = TestLE {
         x: 0x1122_3344,
         y: 0x5566_7788,
     };
     let expected = [0x44, 0x33, 0x22, 0x11, 0x88, 0x77, 0x66, 0x55];
-    expect_structure(&rt, value, &expected);
+    structure(value, &expected)
 }
 
 #[test]
-fn fields_of_two_lengths_stand_at_their_places(rt: HostRuntime) {
+fn fields_of_two_lengths_stand_at_their_places() -> Result<(), Fail> {
     let value = TestAtomics {
         plain: 1,
         atomic32: 0x0203_0405,
         atomic64: 0x0607_0809_0a0b_0c0d,
     };
     let expected = [0, 0, 0, 1, 2, 3, 4, 5, 6, 7, 8, 9, 10, 11, 12, 13];
-    expect_structure(&rt, value, &expected);
+    structure(value, &expected)
 }
 
 #[test]
-fn a_gap_keeps_its_bytes(rt: HostRuntime) {
+fn a_gap_keeps_its_bytes() -> Result<(), Fail> {
     let value = TestGaps {
         first: 0x1122_3344,
         second: 0x5566,
     };
     let expected = [0x11, 0x22, 0x33, 0x44, 0xff, 0xff, 0xff, 0xff, 0x55, 0x66];
-    expect_structure(&rt, value, &expected);
+    structure(value, &expected)
 }
 
 #[test]
-fn a_single_field_is_a_structure(rt: HostRuntime) {
+fn a_single_field_is_a_structure() -> Result<(), Fail> {
     let value = TestSingle {
         only: 0x1122_3344_5566_7788,
     };
     let expected = [0x11, 0x22, 0x33, 0x44, 0x55, 0x66, 0x77, 0x88];
-    expect_structure(&rt, value, &expected);
-    // A structure may be followed by other bytes, where an integer may not.
-    let mut longer = [0; 9];
-    assert_eq!(rt; value.store_to_be(&mut longer), Ok(()));
-    assert_eq!(rt;
-        value.only.store_to_be(&mut longer),
-        Err(Fault::WrongLength)
-    );
+    structure(value, &expected)
 }
 
 #[test]
-fn an_extension_begins_with_its_type_and_length(rt: HostRuntime) {
+fn an_extension_begins_with_its_type_and_length() -> Result<(), Fail> {
     let value = HeaderExtensionHeader {
         extension_type: 0xe279_2aca,
         length: 5,
     };
-    expect_structure(&rt, value, &[0xe2, 0x79, 0x2a, 0xca, 0, 0, 0, 5]);
+    structure(value, &[0xe2, 0x79, 0x2a, 0xca, 0, 0, 0, 5])
 }
 
 #[test]
-fn the_default_base_has_no_features(rt: HostRuntime) {
-    let value = V3HeaderBase::default();
+fn the_default_base_has_no_features() -> Result<(), Fail> {
     let expected = [
         0, 0, 0, 0, 0, 0, 0, 0, 0, 0, 0, 0, 0, 0, 0, 0, 0, 0, 0, 0, 0, 0, 0, 0, 0, 0, 0, 4, 0, 0,
         0, 0x68,
     ];
-    expect_structure(&rt, value, &expected);
+    structure(V3HeaderBase::default(), &expected)
 }
 
 #[test]
-fn a_base_has_five_fields(rt: HostRuntime) {
+fn a_base_has_five_fields() -> Result<(), Fail> {
     let value = V3HeaderBase {
         incompatible_features: 0x0102_0304_0506_0708,
         compatible_features: 0x1112_1314_1516_1718,
@@ -447,28 +448,27 @@ fn a_base_has_five_fields(rt: HostRuntime) {
         0x18, 0x21, 0x22, 0x23, 0x24, 0x25, 0x26, 0x27, 0x28, 0x31, 0x32, 0x33, 0x34, 0x41, 0x42,
         0x43, 0x44,
     ];
-    expect_structure(&rt, value, &expected);
+    structure(value, &expected)
 }
 
-/// A version 2 header of which each field has bytes of its own.
-const HEADER: V2Header = V2Header {
-    magic: 0x5146_49fb,
-    version: 2,
-    backing_file_offset: 0x1112_1314_1516_1718,
-    backing_file_size: 0x2122_2324,
-    cluster_bits: 16,
-    size: 0x3132_3334_3536_3738,
-    crypt_method: 0x4142_4344,
-    l1_size: 0x5152_5354,
-    l1_table_offset: 0x6162_6364_6566_6768,
-    refcount_table_offset: 0x7172_7374_7576_7778,
-    refcount_table_clusters: 0x8182_8384,
-    nb_snapshots: 0x9192_9394,
-    snapshots_offset: 0xa1a2_a3a4_a5a6_a7a8,
-};
-
 #[test]
-fn a_version_2_header_has_thirteen_fields(rt: HostRuntime) {
+fn a_version_2_header_has_thirteen_fields() -> Result<(), Fail> {
+    // Each field has bytes of its own.
+    let value = V2Header {
+        magic: 0x5146_49fb,
+        version: 2,
+        backing_file_offset: 0x1112_1314_1516_1718,
+        backing_file_size: 0x2122_2324,
+        cluster_bits: 16,
+        size: 0x3132_3334_3536_3738,
+        crypt_method: 0x4142_4344,
+        l1_size: 0x5152_5354,
+        l1_table_offset: 0x6162_6364_6566_6768,
+        refcount_table_offset: 0x7172_7374_7576_7778,
+        refcount_table_clusters: 0x8182_8384,
+        nb_snapshots: 0x9192_9394,
+        snapshots_offset: 0xa1a2_a3a4_a5a6_a7a8,
+    };
     let expected = [
         0x51, 0x46, 0x49, 0xfb, 0, 0, 0, 2, 0x11, 0x12, 0x13, 0x14, 0x15, 0x16, 0x17, 0x18, 0x21,
         0x22, 0x23, 0x24, 0, 0, 0, 16, 0x31, 0x32, 0x33, 0x34, 0x35, 0x36, 0x37, 0x38, 0x41, 0x42,
@@ -476,40 +476,43 @@ fn a_version_2_header_has_thirteen_fields(rt: HostRuntime) {
         0x72, 0x73, 0x74, 0x75, 0x76, 0x77, 0x78, 0x81, 0x82, 0x83, 0x84, 0x91, 0x92, 0x93, 0x94,
         0xa1, 0xa2, 0xa3, 0xa4, 0xa5, 0xa6, 0xa7, 0xa8,
     ];
-    expect_structure(&rt, HEADER, &expected);
+    structure(value, &expected)
 }
 
 #[test]
-fn a_version_2_header_needs_72_bytes(rt: HostRuntime) {
-    let mut bytes = [0xff; 71];
-    assert_eq!(rt; HEADER.store_to(&mut bytes), Err(Fault::WrongLength));
-    assert!(rt; bytes.iter().all(|byte| *byte == 0xff));
-}
-
-#[test]
-fn a_value_stands_at_any_place(rt: HostRuntime) {
-    for place in [0, 1, 5, 6] {
+fn a_value_stands_at_any_place(rt: HostRuntime) -> Result<(), Fail> {
+    // A place, and the bytes with the number there in each order.
+    let f = 0xff;
+    let cases = [
+        (
+            0,
+            [1, 2, 3, 4, f, f, f, f, f, f],
+            [4, 3, 2, 1, f, f, f, f, f, f],
+        ),
+        (
+            1,
+            [f, 1, 2, 3, 4, f, f, f, f, f],
+            [f, 4, 3, 2, 1, f, f, f, f, f],
+        ),
+        (
+            5,
+            [f, f, f, f, f, 1, 2, 3, 4, f],
+            [f, f, f, f, f, 4, 3, 2, 1, f],
+        ),
+        (
+            6,
+            [f, f, f, f, f, f, 1, 2, 3, 4],
+            [f, f, f, f, f, f, 4, 3, 2, 1],
+        ),
+    ];
+    let number = 0x0102_0304u32;
+    for (place, big, little) in cases {
         assert!(rt; place <= 6);
         let mut bytes = [0xff; 10];
-        write_be(&mut bytes, place, &0x0102_0304u32);
-        assert_eq!(rt;
-            &bytes[place..place + 4],
-            [1, 2, 3, 4].as_slice(),
-            "at {place}"
-        );
-        let before = &bytes[..place];
-        let after = &bytes[place + 4..];
-        assert!(rt; before.iter().all(|byte| *byte == 0xff), "at {place}");
-        assert!(rt; after.iter().all(|byte| *byte == 0xff), "at {place}");
-        let number: u32 = read_be(&bytes, place);
-        assert_eq!(rt; number, 0x0102_0304, "at {place}");
-        write_le(&mut bytes, place, &0x0102_0304u32);
-        assert_eq!(rt;
-            &bytes[place..place + 4],
-            [4, 3, 2, 1].as_slice(),
-            "at {place}"
-        );
-        let number: u32 = read_le(&bytes, place);
-        assert_eq!(rt; number, 0x0102_0304, "at {place}");
+        write_be(&mut bytes, place, &number);
+        same((bytes, read_be(&bytes, place)), (big, number), place)?;
+        write_le(&mut bytes, place, &number);
+        same((bytes, read_le(&bytes, place)), (little, number), place)?;
     }
+    Ok(())
 }

@@ -1,10 +1,11 @@
-ghost use Rattle.std.specs.Prelude.{◌<◌};
+ghost use Rattle.std.specs.Prelude.{◌+◌, ◌^◌, ◌<◌, ◌≤◌};
 
 mod files;
+mod large_files;
 
 use qcow2_base::{MemStorage, Storage, StorageFault};
-use qcow2_testing::{FailingStorage, StorageCall};
-use std::alloc::{AllocError, Global};
+use qcow2_testing::{FailingStorage, StorageCall, holds, same};
+use std::alloc::Global;
 use std::fmt::Debug;
 use std::test::Fail;
 
@@ -22,6 +23,25 @@ pub(crate) fn aligned(storage: MemStorage, exponent: u32) -> MemStorage
     storage.with_align(1 << exponent)
 }
 
+// That so many calls have failed, which no call tells, but `Debug` writes.
+pub(crate) fn has_failed<S: Debug>(alloc: Global, storage: &S, failures: u32) -> Result<(), Fail> {
+    let shown = format!(in alloc; "{storage:?}")?;
+    let count = format!(in alloc; "failures: {failures} ")?;
+    holds(
+        shown.as_str().contains(count.as_str()),
+        (count.as_str(), shown.as_str()),
+    )
+}
+
+// That a read gives these four bytes.
+pub(crate) fn reads<S: Storage>(storage: &mut S, offset: u64, bytes: [u8; 4]) -> Result<(), Fail>
+    requires { offset + 4 ≤ 2 ^ 56 }
+{
+    let mut found = [0xa5; 4];
+    storage.read(&mut found, offset)?;
+    same(found, bytes, offset)
+}
+
 #[test]
 fn a_read_gives_the_bytes_and_zeros_past_the_end(rt: HostRuntime) -> Result<(), Fail> {
     let cases: [(u64, [u8; 4]); 7] = [
@@ -35,12 +55,14 @@ fn a_read_gives_the_bytes_and_zeros_past_the_end(rt: HostRuntime) -> Result<(), 
     ];
     let mut storage = memory(rt.alloc(), &[1, 2, 3, 4, 5])?;
     for (offset, want) in cases {
-        let mut buf = [0xa5; 4];
-        storage.read(&mut buf, offset)?;
-        assert_eq!(rt; buf, want, "at {offset}");
+        assert!(rt; offset <= LIMIT - 4);
+        reads(&mut storage, offset, want)?;
     }
-    assert_eq!(rt; storage.bytes(), [1, 2, 3, 4, 5].as_slice());
-    Ok(())
+    same(
+        storage.bytes(),
+        [1, 2, 3, 4, 5].as_slice(),
+        "after all reads",
+    )
 }
 
 #[test]
@@ -49,7 +71,7 @@ fn an_empty_read_or_write_changes_nothing(rt: HostRuntime) -> Result<(), Fail> {
         let mut storage = memory(rt.alloc(), &[1, 2, 3])?;
         storage.read(&mut [], offset)?;
         storage.write(&[], offset)?;
-        assert_eq!(rt; storage.bytes(), [1, 2, 3].as_slice(), "at {offset}");
+        same(storage.bytes(), [1, 2, 3].as_slice(), offset)?;
     }
     Ok(())
 }
@@ -67,10 +89,10 @@ fn a_write_replaces_its_range_and_lengthens_with_zeros(rt: HostRuntime) -> Resul
     for (offset, want) in cases {
         let mut storage = memory(rt.alloc(), &[1, 2, 3])?;
         storage.write(&[7, 8], offset)?;
-        assert_eq!(rt; storage.bytes(), want, "at {offset}");
+        same(storage.bytes(), want, offset)?;
         let mut buf = [0; 2];
         storage.read(&mut buf, offset)?;
-        assert_eq!(rt; buf, [7, 8], "at {offset}");
+        same(buf, [7, 8], offset)?;
     }
     Ok(())
 }
@@ -78,17 +100,15 @@ fn a_write_replaces_its_range_and_lengthens_with_zeros(rt: HostRuntime) -> Resul
 #[test]
 fn alignments_are_one_until_they_are_set(rt: HostRuntime) -> Result<(), Fail> {
     let storage = memory(rt.alloc(), &[1, 2, 3])?;
-    assert_eq!(rt; (storage.mem_align(), storage.req_align()), (1, 1));
+    same((storage.mem_align(), storage.req_align()), (1, 1), "new")?;
     let mut align = 1;
     for exponent in 0..64 {
-        let storage = aligned(memory(rt.alloc(), &[1, 2, 3])?, exponent);
-        assert_eq!(rt; (storage.mem_align(), storage.req_align()), (align, align));
-        assert_eq!(rt; storage.bytes(), [1, 2, 3].as_slice(), "at {align}");
+        let mut storage = aligned(memory(rt.alloc(), &[1, 2, 3])?, exponent);
+        storage.write(&[9], 1)?;
+        let found = (storage.mem_align(), storage.req_align(), storage.bytes());
+        same(found, (align, align, &[1, 9, 3]), exponent)?;
         align = align.wrapping_mul(2);
     }
-    let mut storage = aligned(memory(rt.alloc(), &[1, 2, 3])?, 12);
-    storage.write(&[9], 1)?;
-    assert_eq!(rt; storage.bytes(), [1, 9, 3].as_slice());
     Ok(())
 }
 
@@ -97,49 +117,38 @@ fn alignments_are_one_until_they_are_set(rt: HostRuntime) -> Result<(), Fail> {
 fn a_refused_growth_is_counted_and_changes_nothing(rt: HostRuntime) -> Result<(), Fail> {
     let mut storage = memory(rt.alloc(), &[1, 2, 3])?;
     for failures in 1..4u32 {
-        assert_eq!(rt; storage.write(&[7, 8], LIMIT - 2), Err(StorageFault));
-        assert_eq!(rt; storage.bytes(), [1, 2, 3].as_slice());
-        assert!(rt; has_failed(rt.alloc(), &storage, failures)?, "{storage:?}");
+        same(
+            storage.write(&[7, 8], LIMIT - 2),
+            Err(StorageFault),
+            failures,
+        )?;
+        same(storage.bytes(), [1, 2, 3].as_slice(), failures)?;
+        has_failed(rt.alloc(), &storage, failures)?;
     }
     storage.write(&[7, 8], 1)?;
-    assert_eq!(rt; storage.bytes(), [1, 7, 8].as_slice());
-    assert!(rt; has_failed(rt.alloc(), &storage, 3)?, "{storage:?}");
-    Ok(())
-}
-
-// Whether this is the count of failed calls, which no call tells, but `Debug` writes.
-pub(crate) fn has_failed<S: Debug>(
-    alloc: Global,
-    storage: &S,
-    failures: u32,
-) -> Result<bool, AllocError> {
-    let shown = format!(in alloc; "{storage:?}")?;
-    let count = format!(in alloc; "failures: {failures} ")?;
-    Ok(shown.as_str().contains(count.as_str()))
+    same(storage.bytes(), [1, 7, 8].as_slice(), "written")?;
+    has_failed(rt.alloc(), &storage, 3)
 }
 
 #[test]
 fn a_planned_failure_is_one_call_that_changes_nothing(rt: HostRuntime) -> Result<(), Fail> {
-    for passes in 0..4u64 {
+    // Which of five writes fails, and the bytes then.
+    let cases = [
+        (0, [1, 11, 12, 13, 14]),
+        (1, [10, 2, 12, 13, 14]),
+        (2, [10, 11, 3, 13, 14]),
+        (3, [10, 11, 12, 0, 14]),
+    ];
+    for (passes, want) in cases {
         let mut storage = FailingStorage::new(rt.alloc(), memory(rt.alloc(), &[1, 2, 3])?);
         storage.fail_after(passes);
-        let mut answers = [true; 5];
-        for (at, answer) in answers.iter_mut().enumerate() {
-            *answer = storage.write(&[at as u8 + 10], at as u64).is_ok();
+        for at in 0..5u64 {
+            let answer = storage.write(&[at as u8 + 10], at);
+            same(answer.is_err(), at == passes, (passes, at))?;
         }
-        for (at, answer) in answers.iter().enumerate() {
-            let fails = at as u64 == passes;
-            assert_eq!(rt; *answer, !fails, "call {at} of plan {passes}");
-            let mut buf = [0];
-            storage.read(&mut buf, at as u64)?;
-            let old = if at < 3 { at as u8 + 1 } else { 0 };
-            assert_eq!(rt;
-                buf[0],
-                if fails { old } else { at as u8 + 10 },
-                "byte {at}"
-            );
-        }
-        assert_eq!(rt; storage.failures(), 1);
+        let mut bytes = [0xa5; 5];
+        storage.read(&mut bytes, 0)?;
+        same((bytes, storage.failures()), (want, 1), passes)?;
     }
     Ok(())
 }
@@ -148,27 +157,38 @@ fn a_planned_failure_is_one_call_that_changes_nothing(rt: HostRuntime) -> Result
 fn a_failing_storage_records_each_call(rt: HostRuntime) -> Result<(), Fail> {
     let inner = aligned(memory(rt.alloc(), &[1, 2, 3])?, 9);
     let mut storage = FailingStorage::new(rt.alloc(), inner);
-    assert_eq!(rt; (storage.mem_align(), storage.req_align()), (512, 512));
+    same(
+        (storage.mem_align(), storage.req_align()),
+        (512, 512),
+        "alignments",
+    )?;
     let mut buf = [0; 2];
     storage.read(&mut buf, 1)?;
-    assert_eq!(rt; buf, [2, 3]);
+    same(buf, [2, 3], "read")?;
     storage.fail_after(0);
-    assert_eq!(rt; storage.write(&[4, 5, 6], 7), Err(StorageFault));
-    assert_eq!(rt;
-        storage.calls(),
-        [
-            StorageCall::Read { offset: 1, len: 2 },
-            StorageCall::Write { offset: 7, len: 3 },
-        ]
-        .as_slice()
-    );
+    same(
+        storage.write(&[4, 5, 6], 7),
+        Err(StorageFault),
+        "the next call",
+    )?;
+    let calls = [
+        StorageCall::Read { offset: 1, len: 2 },
+        StorageCall::Write { offset: 7, len: 3 },
+    ];
+    same(storage.calls(), calls.as_slice(), "calls")?;
     storage.forget_calls();
     storage.fail_after(1);
-    assert_eq!(rt; storage.write(&[9], LIMIT - 1), Err(StorageFault));
-    assert_eq!(rt; storage.read(&mut buf, 0), Err(StorageFault));
+    same(
+        storage.write(&[9], LIMIT - 1),
+        Err(StorageFault),
+        "passed on and refused there",
+    )?;
+    same(storage.read(&mut buf, 0), Err(StorageFault), "planned")?;
     storage.read(&mut buf, 0)?;
-    assert_eq!(rt; storage.calls().len(), 3);
-    assert_eq!(rt; storage.failures(), 3);
-    assert_eq!(rt; storage.inner().bytes(), [1, 2, 3].as_slice());
-    Ok(())
+    let found = (
+        storage.calls().len(),
+        storage.failures(),
+        storage.inner().bytes(),
+    );
+    same(found, (3, 3, &[1, 2, 3]), "calls, failures and bytes")
 }

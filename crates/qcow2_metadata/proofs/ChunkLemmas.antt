@@ -1,4 +1,4 @@
-use Rattle.std.proofs.Common.{◌≡◌, ℕ, zero, suc, ◌+◌, ◌-◌, ◌*◌, ◌<◌, ◌≤◌, ◌↔◌, Bool, true, false, ◌&&◌, IsTrue, List, [], ◌∷◌, ◌++◌, map, length, get_or, take, drop, Option, Some, None, Result, Err, refl, sym, ◌∙◌, ap, add-zero, add_assoc, arith}
+use Rattle.std.proofs.Common.{◌≡◌, ℕ, zero, suc, ◌+◌, ◌-◌, ◌*◌, ◌<◌, ◌≤◌, ◌↔◌, Bool, true, false, ◌&&◌, IsTrue, List, [], ◌∷◌, ◌++◌, map, length, get_or, take, drop, Option, Some, None, Result, Err, refl, sym, ◌∙◌, ap, subst, add-zero, add_assoc, arith}
 use Rattle.std.specs.List.{range_with_len}
 use Rattle.std.specs.Option.{option_or}
 use Rattle.std.specs.Simd.{first_chunks}
@@ -11,7 +11,7 @@ use Rattle.std.specs.Result.{OnOk, MatchResult}
 use Rattle.qcow2_base.specs.Storage.{Holds, Image, be, be_of_same, image_of}
 use Rattle.qcow2_base.specs.declared.fault.Fault.{Fault}
 use Rattle.qcow2_metadata.specs.Table.{chunk_numbers, decoded, first_fault, table_numbers}
-use Rattle.qcow2_metadata.proofs.TableLemmas.{first_fault-append, no_fault_at_all, range-append, table_numbers-held, table_numbers_same}
+use Rattle.qcow2_metadata.proofs.TableLemmas.{first_fault-append, no_fault_item, no_fault_at_all, range-append, table_numbers-held, table_numbers_same}
 
 map_range_at : (f g : ℕ → ℕ) (a b n : ℕ) → ((i : ℕ) → i < n → f (a + i) ≡ g (b + i)) → map f (range_with_len a n) ≡ map g (range_with_len b n)
 map_range_at f g a b zero same = refl
@@ -105,3 +105,10 @@ decoded-refused_piece fault image offset k m n bytes f within held len none bad 
 -- what `extend` leaves after a chain whose items are seen through v
 pub viewed_from_extend : {T A C E Q : Type 0} {steps : T → Option A → T → Type 0} {all : List C} {P : List A → Type 0} {s : T} (v : A → C) (r : Result (Unit {0}) E) → ((it : T) × (xs : List A) × (it ≡ s) × P xs × MatchResult r (λ _. Drains steps it xs) (λ _. (t : T) × Yields steps it xs t)) → YieldsList steps v s all → ((xs : List A) → map v xs ≡ all → P xs → Q) → OnOk r Q
 viewed_from_extend v r ran road says = fact_from_extend v r ran (λ it b. YieldsList-at b road) says
+
+-- each piece of eight bytes holds an entry's number, where all do
+pub lawful_chunk : (fault : ℕ → Option Fault) (chunks : List (List ℕ)) (k : ℕ) (chunk : List ℕ) → first_fault fault (chunk_numbers chunks) ≡ None → k < length chunks → chunk ≡ get_or chunks k chunk → fault (be (image_of chunk) 0 8) ≡ None
+lawful_chunk fault chunks k chunk none below is =
+    let found = no_fault_item (λ (bytes : List ℕ). be (image_of bytes) 0 8) fault chunks k chunk none below in
+    let P : List ℕ → Type 0 = λ bytes. fault (be (image_of bytes) 0 8) ≡ None in
+    subst P (sym is) found

@@ -127,7 +127,7 @@ first_fault-zeros fault zero lawful = refl
 first_fault-zeros fault (suc n) lawful = rw lawful (first_fault-zeros fault n lawful)
 
 -- an entry that is found is lawful
-no_fault_item : {X : Type 0} (number : X → ℕ) (fault : ℕ → Option Fault) (xs : List X) (i : ℕ) (d : X) → first_fault fault (map number xs) ≡ None → i < length xs → fault (number (get_or xs i d)) ≡ None
+pub no_fault_item : {X : Type 0} (number : X → ℕ) (fault : ℕ → Option Fault) (xs : List X) (i : ℕ) (d : X) → first_fault fault (map number xs) ≡ None → i < length xs → fault (number (get_or xs i d)) ≡ None
 no_fault_item number fault [] i d h below = absurd (omega arith)
 no_fault_item number fault (x ∷ xs) zero d h below = (no_fault_at_all (fault (number x)) (first_fault fault (map number xs)) h).0
 no_fault_item number fault (x ∷ xs) (suc i) d h below =

@@ -1,4 +1,4 @@
-use Rattle.std.specs.Prelude.{◌≡◌, ◌≢◌, false, true, OnOk, OnErr, IfErr, IsErrOf, ℕ, Bool, ◌⊎◌, ◌+◌, ◌-◌, ◌*◌, ◌%◌, ◌^◌, ◌<◌, ◌≤◌, max, nat_lt, if◌then◌else◌, List, [], ◌∷◌, ◌++◌, map, length, slice_index, slice_set, take, replicate, Option, Some, None, option_map, Result, Ok, Err, MatchResult, IfSome, IsTrue}
+use Rattle.std.specs.Prelude.{◌≡◌, false, true, OnOk, OnErr, IfErr, IsErrOf, ℕ, Bool, ◌⊎◌, ◌+◌, ◌-◌, ◌*◌, ◌%◌, ◌^◌, ◌<◌, ◌≤◌, max, nat_lt, if◌then◌else◌, List, [], ◌∷◌, ◌++◌, map, length, slice_index, slice_set, take, replicate, Option, Some, None, option_map, Result, Ok, Err, MatchResult, IfSome, IsTrue}
 use Rattle.std.specs.Int.{next_multiple_of}
 use Rattle.std.specs.List.{range_with_len}
 use Rattle.std.specs.Option.{option_or}

@@ -77,8 +77,9 @@ pub trait TableEntry: Sized {
     fn is_lawful(value: u64, header: &Header) -> bool
         ensures { IsTrue result ↔ (fault_of header.now.cluster_bits value ≡ None) };
 
-    /// The entry with a number that was tested before.
-    fn from_tested(value: u64) -> Self
+    /// The entry with a number that `is_lawful` has accepted.
+    fn from_lawful(value: u64, header: &Header) -> Self
+        requires { fault_of header.now.cluster_bits value ≡ None }
         ensures { plain result ≡ value };
 
     /// The number that was accepted.
@@ -181,7 +182,8 @@ impl L2Entry {
         requires { IsClusterBits cluster_bits }
         ensures compressed { is_some result ≡ is_compressed self.now }
         ensures offset { IfSome result (λ range. range.0.0 ≡ compressed_offset cluster_bits self.now) }
-        ensures length { IfSome result (λ range. non_zero_u64_get range.1 ≡ compressed_length cluster_bits self.now) }
+        ensures length { IfSome result (λ range.
+            non_zero_u64_get range.1 ≡ compressed_length cluster_bits self.now) }
         ensures bound { IfSome result (λ range. non_zero_u64_get range.1 ≤ 2 * 2 ^ cluster_bits) }
     {
         if !self.is_compressed() {
@@ -202,7 +204,8 @@ impl L2Entry {
         external_data_file: bool,
     ) -> Option<(HostCluster, ClusterCount)>
         requires { IsClusterBits cluster_bits }
-        ensures { IsAllocation (geometry cluster_bits external_data_file) self.now (option_map from_pair result) }
+        ensures { IsAllocation (geometry cluster_bits external_data_file) self.now
+            (option_map from_pair result) }
     {
         let (start, length) = self.byte_range(cluster_bits, external_data_file)?;
         let first = start.cluster(cluster_bits);
@@ -232,7 +235,7 @@ impl L2Entry {
     fn host_cluster(&self, cluster_bits: u32, external_data_file: bool) -> Option<HostCluster>
         requires cluster_bits { IsClusterBits cluster_bits }
         requires standard { is_compressed self.now ≡ false }
-        ensures value { option_map (λ (c : Cluster). c.0) result 
+        ensures value { option_map (λ (c : Cluster). c.0) result
             ≡ host_cluster (geometry cluster_bits external_data_file) self.now }
         ensures placed { IfSome result (λ (c : Cluster). c.0 * 2 ^ cluster_bits < 2 ^ 56) }
     {
@@ -318,7 +321,7 @@ impl TableEntry for L2Entry {
     }
 
     #[inline]
-    fn from_tested(value: u64) -> Self {
+    fn from_lawful(value: u64, _header: &Header) -> Self {
         L2Entry { value }
     }
 
@@ -388,7 +391,7 @@ impl TableEntry for AtomicL2Entry {
     }
 
     #[inline]
-    fn from_tested(value: u64) -> Self {
+    fn from_lawful(value: u64, _header: &Header) -> Self {
         AtomicL2Entry::new(L2Entry { value })
     }
 

@@ -60,19 +60,22 @@ pub trait Table: Sized {
     fn entries(&self) -> usize
         ensures count { result ≡ length (state self.now).numbers }
         ensures bound { result ≤ 2 ^ 48 }
-        ensures valid { first_fault (Self.InternalEntry.fault_of (state self.now).geometry.cluster_bits) (state self.now).numbers ≡ None };
+        ensures valid { let table = state self.now in
+            first_fault (Self.InternalEntry.fault_of table.geometry.cluster_bits) table.numbers ≡ None };
 
     /// The entry at an index, if there is one.
     fn get_ref(&self, index: usize) -> Option<&Self::InternalEntry>
         ensures number { option_map (λ entry. Self.InternalEntry.plain entry.now) result
             ≡ slice_get (state self.now).numbers index }
         ensures lawful { IfSome result (λ entry.
-            Self.InternalEntry.fault_of (state self.now).geometry.cluster_bits (Self.InternalEntry.plain entry.now) ≡ None) };
+            Self.InternalEntry.fault_of (state self.now).geometry.cluster_bits
+            (Self.InternalEntry.plain entry.now) ≡ None) };
 
     /// The entry at an index; past the end, the entry 0.
     fn get(&self, index: usize) -> Self::Entry
         ensures number { Self.Entry.plain result ≡ slice_index (state self.now).numbers index }
-        ensures lawful { Self.InternalEntry.fault_of (state self.now).geometry.cluster_bits (Self.Entry.plain result) ≡ None };
+        ensures lawful { Self.InternalEntry.fault_of (state self.now).geometry.cluster_bits
+            (Self.Entry.plain result) ≡ None };
 
     /// The cluster in the image that the table begins with.
     fn get_cluster(&self) -> Option<HostCluster>
@@ -80,7 +83,8 @@ pub trait Table: Sized {
 
     /// The offset in the image that the table begins at.
     fn get_offset(&self) -> Option<HostOffset>
-        ensures { option_map (λ (offset : Offset). offset.0) result ≡ option_map offset_of (place_of (state self.now)) };
+        ensures { option_map (λ (offset : Offset). offset.0) result
+            ≡ option_map offset_of (place_of (state self.now)) };
 
     /// Says where in the image the table begins: at a cluster whose offset fits 64 bits. The table then
     /// counts as modified.
@@ -121,7 +125,8 @@ pub trait Table: Sized {
 
     /// How many clusters the table takes in the image, the last of them perhaps in part.
     final fn cluster_count(&self) -> ClusterCount
-        ensures { result.0 ≡ div_ceil (8 * length (state self.now).numbers) (2 ^ (state self.now).geometry.cluster_bits) }
+        ensures { let table = state self.now in
+            result.0 ≡ div_ceil (8 * length table.numbers) (2 ^ table.geometry.cluster_bits) }
     {
         ClusterCount::from_byte_size(self.byte_size() as u64, self.cluster_bits())
     }
@@ -165,7 +170,8 @@ pub trait Table: Sized {
     /// the table's place changes.
     final fn write<S: Storage>(&mut self, image: &mut S) -> Result<(), Fault>
         ensures { WritesTable MAX_ENTRIES Self.InternalEntry.fault_of result
-            (on_storage (state self.old) (S.state image.old)) (on_storage (state self.new) (S.state image.new)) }
+            (on_storage (state self.old) (S.state image.old))
+            (on_storage (state self.new) (S.state image.new)) }
     {
         let Some(cluster) = self.get_cluster() else {
             return Err(Fault::NoOffset);

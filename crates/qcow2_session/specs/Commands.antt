@@ -1,6 +1,9 @@
-use Rattle.std.specs.Prelude.{ℕ, ◌^◌, Bool, ◌&&◌, nat_lt, nat_le, if◌then◌else◌, List, [], ◌∷◌, length, Option, Some, None, codes, bytes_eq}
+use Rattle.std.specs.Prelude.{ℕ, ◌^◌, Bool, ◌&&◌, false, nat_lt, nat_le, if◌then◌else◌, List, [], ◌∷◌, length, Option, Some, None, codes, bytes_eq}
 use Rattle.std.specs.Str.{all_ascii_digits}
 use Rattle.std.specs.Str.Parse.{digits_value}
+use Rattle.qcow2_base.specs.declared.fault.Fault.{Fault}
+use Rattle.qcow2_metadata.specs.Header.{geometry}
+use Rattle.qcow2_metadata.specs.Table.{l2_table_at, most_l2_entries, place_fault}
 
 -- a word is 1 to 20 decimal digits whose number fits 64 bits
 abbrev pub is_number : List ℕ → Bool
@@ -40,3 +43,8 @@ abbrev pub command_of : List (List ℕ) → Option CommandLine
 command_of (name ∷ image ∷ arguments) =
     if bytes_eq name (codes "l2") then l2_of image arguments else None
 command_of _ = None
+
+-- why the table that a command names can't lie in any image, as far as the words tell
+abbrev pub place_fault_of : CommandLine → Option Fault
+place_fault_of (l2 image cluster_bits cluster) =
+    place_fault most_l2_entries (l2_table_at (geometry cluster_bits false) (record { 0 = cluster }))

@@ -1,5 +1,7 @@
 use Rattle.std.specs.Prelude.{ℕ, ◌+◌, ◌*◌, ◌^◌, Bool, true, false, List, [], ◌∷◌, ◌++◌, Some, None, codes}
 use Rattle.std.specs.Fmt.{decimal, digits}
+use Rattle.qcow2_base.specs.Fault.{number_of}
+use Rattle.qcow2_base.specs.declared.fault.Fault.{Fault}
 use Rattle.qcow2_metadata.specs.Header.{Geometry}
 use Rattle.qcow2_metadata.specs.Entries.{Mapping, data_file, backing, zeros, compressed, mapping}
 
@@ -23,22 +25,21 @@ mapping_text cb (compressed offset length) =
     codes "compressed " ++ offset_text offset ++ codes " " ++ decimal length
 mapping_text cb (backing offset) = codes "backing " ++ offset_text offset
 
--- an index, a mapping's text and a line feed
-abbrev pub index_line : ℕ → List ℕ → List ℕ
-index_line index text = decimal index ++ codes " " ++ text ++ 10 ∷ []
+-- the line of an entry: its label, a space and the text of its mapping, or none where the backing file is asked
+abbrev pub entry_line : ℕ → List ℕ → Mapping → List ℕ
+entry_line cb label (backing offset) = []
+entry_line cb label found = label ++ codes " " ++ mapping_text cb found ++ codes "\n"
 
--- the line of an L2 entry's mapping by its index: none where the backing file is asked
-abbrev pub entry_line : ℕ → ℕ → Mapping → List ℕ
-entry_line cb index (backing offset) = []
-entry_line cb index (data_file cluster copied) =
-    index_line index (mapping_text cb (data_file cluster copied))
-entry_line cb index (zeros cluster copied) =
-    index_line index (mapping_text cb (zeros cluster copied))
-entry_line cb index (compressed offset length) =
-    index_line index (mapping_text cb (compressed offset length))
+-- the lines of an L2 table's entries from a guest cluster on, each labelled by its guest cluster
+abbrev pub entry_lines : (ℕ → List ℕ) → Geometry → ℕ → List ℕ → List ℕ
+entry_lines label g cluster [] = []
+entry_lines label g cluster (v ∷ vs) =
+    entry_line g.cluster_bits (label cluster) (mapping g cluster v) ++ entry_lines label g (cluster + 1) vs
 
--- the lines of the entries of an L2 table from an index on
-abbrev pub entry_lines : Geometry → ℕ → List ℕ → List ℕ
-entry_lines g index [] = []
-entry_lines g index (v ∷ vs) =
-    entry_line g.cluster_bits index (mapping g index v) ++ entry_lines g (index + 1) vs
+-- the line of a fault
+abbrev pub fault_line : Fault → List ℕ
+fault_line fault = codes "qmeta: fault " ++ decimal (number_of fault) ++ codes "\n"
+
+-- the line for words that are no command
+abbrev pub usage_line : List ℕ
+usage_line = codes "usage: qmeta COMMAND IMAGE ARGUMENTS\n"

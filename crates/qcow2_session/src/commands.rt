@@ -1,10 +1,15 @@
 //! The commands of the program `qmeta`: reading a command line, running it over a storage, and what
-//! it prints.
+//! it answers.
 
-ghost use Rattle.std.specs.Prelude.{◌≡◌, ◌≤◌, ◌↔◌, None, map, string_bytes};
-ghost use Rattle.qcow2_session.specs.Commands.{command_of};
+ghost use Rattle.std.specs.Prelude.{◌≡◌, ◌≢◌, ◌≤◌, ◌↔◌, None, Err, map, string_bytes, IsErr, IsOk, IfErr, IfSome, OnErr, OnOk, MatchResult};
+ghost use Rattle.std.specs.Io.KnownBytes.{Appends, Keeps};
+ghost use Rattle.qcow2_base.specs.declared.fault.Fault.TheVariants.{Storage as StorageFailed};
+ghost use Rattle.qcow2_session.specs.Commands.{command_of, place_fault_of};
+ghost use Rattle.qcow2_session.specs.Lines.{fault_line, usage_line};
+ghost use Rattle.qcow2_session.specs.Words.{l2_line, line_of};
 
 use qcow2_base::{Fault, FileStorage};
+use std::io;
 use std::io::Write;
 use std::rt::Files;
 
@@ -28,15 +33,16 @@ pub fn run_words<R: Files + AllocGlobal, O: Write, E: Write>(
 ) -> u8
     ensures status { result ≤ 2 }
     ensures wrong_words { (result ≡ 2) ↔ (command_of (map string_bytes words.now) ≡ None) }
+    ensures no_lines { result ≡ 2 → out.new ≡ out.old }
+    ensures no_report { result ≡ 0 → err.new ≡ err.old }
+
+    // A table at a place that isn't lawful is a fault whatever the image, and no line is printed.
+    ensures place { IfSome (command_of (map string_bytes words.now)) (λ line. IfSome (place_fault_of line) (λ fault.
+        (result ≡ 1) × Keeps (O.contents out.old) (O.contents out.new))) }
 {
-    let Some(command) = Command::read(words) else {
-        let _ = writeln!(err, "usage: qmeta COMMAND IMAGE ARGUMENTS");
-        let _ = err.flush();
-        return 2;
-    };
-    match run(rt, &command, out) {
-        Ok(()) => 0,
-        Err(fault) => report_fault(fault, err),
+    match Command::read(words) {
+        Some(command) => status_of(run(rt, &command, out), err),
+        None => refuse_words(err),
     }
 }
 
@@ -44,29 +50,77 @@ pub fn run_words<R: Files + AllocGlobal, O: Write, E: Write>(
 pub fn report_fault<E: Write>(fault: Fault, err: &mut E) -> u8
     ensures { result ≡ 1 }
 {
-    let _ = writeln!(err, "qmeta: fault {}", fault.number());
+    let _ = write_fault(fault, err);
     let _ = err.flush();
     1
 }
 
-// Opens the image, runs the command over it, and flushes what it printed, also before a fault.
+// The status of a run, after its fault is reported.
+fn status_of<E: Write>(ran: Result<(), Fault>, err: &mut E) -> u8
+    ensures success { OnOk ran ((result ≡ 0) × (err.new ≡ err.old)) }
+    ensures fault { OnErr ran (result ≡ 1) }
+{
+    match ran {
+        Ok(()) => 0,
+        Err(fault) => report_fault(fault, err),
+    }
+}
+
+// The status of words that are no command, after the usage is told.
+fn refuse_words<E: Write>(err: &mut E) -> u8
+    ensures { result ≡ 2 }
+{
+    let _ = write_usage(err);
+    let _ = err.flush();
+    2
+}
+
+fn write_fault<E: Write>(fault: Fault, err: &mut E) -> io::Result<()>
+    ensures { OnOk result (Appends (E.contents err.old) (E.contents err.new) (fault_line fault)) }
+{
+    writeln!(err, "qmeta: fault {}", fault.number())
+}
+
+fn write_usage<E: Write>(err: &mut E) -> io::Result<()>
+    ensures { OnOk result (Appends (E.contents err.old) (E.contents err.new) usage_line) }
+{
+    writeln!(err, "usage: qmeta COMMAND IMAGE ARGUMENTS")
+}
+
+// Runs the command over its image, and flushes what it printed, also before a fault.
 fn run<R: Files + AllocGlobal, O: Write>(
     rt: &R,
     command: &Command<'_>,
     out: &mut O,
-) -> Result<(), Fault> {
+) -> Result<(), Fault>
+    ensures place { IfSome (place_fault_of (line_of command.now)) (λ fault.
+        IsErr result × Keeps (O.contents out.old) (O.contents out.new)) }
+    ensures before_any_line { IfErr result (λ fault. fault ≢ StorageFailed → Keeps (O.contents out.old) (O.contents out.new)) }
+{
     let ran = match command {
         Command::L2(words) => run_l2(rt, words, out),
     };
-    let flushed = out.flush().map_err(|_| Fault::Storage);
-    ran.and(flushed)
+    after_flush(ran, out.flush())
 }
 
+// What a run answers whose output was flushed after it: its own fault comes before a failed flush.
+fn after_flush(ran: Result<(), Fault>, flushed: io::Result<()>) -> Result<(), Fault>
+    ensures own { IfErr ran (λ fault. result ≡ Err fault) }
+    ensures flush { OnOk ran (MatchResult flushed (λ _. IsOk result) (λ _. result ≡ Err StorageFailed)) }
+{
+    ran?;
+    flushed.map_err(|_| Fault::Storage)
+}
+
+// Opens the image for reading alone, and runs the command `l2` over it.
 fn run_l2<R: Files + AllocGlobal, O: Write>(
     rt: &R,
     words: &L2Words<'_>,
     out: &mut O,
-) -> Result<(), Fault> {
+) -> Result<(), Fault>
+    ensures place { IfSome (place_fault_of (l2_line words.now)) (λ fault. IsErr result × (out.new ≡ out.old)) }
+    ensures before_any_line { IfErr result (λ fault. fault ≢ StorageFailed → out.new ≡ out.old) }
+{
     let mut image = FileStorage::open(rt, words.image, false)?;
     list_l2_table(
         rt.alloc(),

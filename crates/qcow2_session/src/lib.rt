@@ -2,5 +2,6 @@
 #![tactic(auto)]
 
 mod commands;
+mod lines;
 
 pub use commands::{list_l2_table, report_fault, run_words};

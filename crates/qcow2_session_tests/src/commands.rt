@@ -1,14 +1,12 @@
-ghost use Rattle.qcow2_base.specs.Types.{IsClusterBits};
-
 pub(crate) mod run;
 
 use crate::FailingOutput;
-use qcow2_base::{Fault, HostCluster, MemStorage};
+use qcow2_base::{Fault, HostCluster, MemStorage, Storage};
 use qcow2_session::list_l2_table;
-use qcow2_testing::FailingStorage;
+use qcow2_testing::{FailingStorage, holds, is_cluster_bits, same, same_bytes};
 use std::alloc::Global;
+use std::fmt::Debug;
 use std::io::Write;
-use std::process::Abort;
 use std::test::Fail;
 
 // The number of an L2 entry, and what is printed of its mapping: nothing where the entry is left to
@@ -70,28 +68,39 @@ pub(crate) fn table_of(alloc: Global, numbers: &[u64]) -> Result<Vec<u8>, Fail> 
     Ok(bytes)
 }
 
-// What the table of an image that begins with cluster 0 prints, after the answer.
-fn listed(
+// Lists the table that begins with a cluster of the image.
+fn list<S: Storage>(
     alloc: Global,
-    image: Vec<u8>,
+    image: &mut S,
     cluster_bits: u32,
-) -> Result<(Option<Fault>, Vec<u8>), Fail>
-    requires { IsClusterBits cluster_bits }
-{
-    let mut image = MemStorage::new(image);
+    cluster: HostCluster,
+) -> Result<(Option<Fault>, Vec<u8>), Fail> {
+    if !is_cluster_bits(cluster_bits) {
+        return Err(Fail::new("these are no cluster bits"));
+    }
     let mut out = Vec::new(alloc);
-    let answer = list_l2_table(alloc, &mut image, cluster_bits, HostCluster(0), &mut out);
+    let answer = list_l2_table(alloc, image, cluster_bits, cluster, &mut out);
     Ok((answer.err(), out))
 }
 
-fn assert_lines<R: Abort>(
-    rt: &R,
+// Lists the table that begins with cluster 0, and compares the fault and the lines.
+fn lists<R: Debug + Drop>(
     alloc: Global,
+    image: Vec<u8>,
     cluster_bits: u32,
-    cases: &[Case],
-) -> Result<(), Fail>
-    requires { IsClusterBits cluster_bits }
-{
+    expected: (Option<Fault>, &str),
+    row: R,
+) -> Result<(), Fail> {
+    let mut image = MemStorage::new(image);
+    let (fault, out) = list(alloc, &mut image, cluster_bits, HostCluster(0))?;
+    same(
+        &(fault, std::str::from_utf8(out.as_slice())?),
+        &expected,
+        row,
+    )
+}
+
+fn lists_each(alloc: Global, cluster_bits: u32, cases: &[Case]) -> Result<(), Fail> {
     let mut numbers = Vec::new(alloc);
     let mut lines = String::new(alloc);
     for (index, (number, mapping)) in cases.iter().enumerate() {
@@ -101,39 +110,46 @@ fn assert_lines<R: Abort>(
         }
     }
     let image = table_of(alloc, numbers.as_slice())?;
-    let (fault, out) = listed(alloc, image, cluster_bits)?;
-    assert_eq!(rt; fault, None, "cluster bits {cluster_bits}");
-    assert_eq!(rt; std::str::from_utf8(out.as_slice())?, lines.as_str());
-    Ok(())
+    lists(
+        alloc,
+        image,
+        cluster_bits,
+        (None, lines.as_str()),
+        cluster_bits,
+    )
 }
 
 #[test]
 fn each_kind_of_mapping_is_a_line_of_its_own_form(rt: HostRuntime) -> Result<(), Fail> {
-    assert_lines(&rt, rt.alloc(), 9, &NINE_BITS)?;
-    assert_lines(&rt, rt.alloc(), 16, &SIXTEEN_BITS)?;
-    assert_lines(&rt, rt.alloc(), 21, &TWENTY_ONE_BITS)
+    lists_each(rt.alloc(), 9, &NINE_BITS)?;
+    lists_each(rt.alloc(), 16, &SIXTEEN_BITS)?;
+    lists_each(rt.alloc(), 21, &TWENTY_ONE_BITS)
 }
 
 #[test]
 fn the_last_entry_of_a_table_is_listed_and_none_after_it(rt: HostRuntime) -> Result<(), Fail> {
-    for (last, line) in [(63, "63 data 0xa00\n"), (64, "")] {
+    let cases = [
+        (9, 63, 0xa00, "63 data 0xa00\n"),
+        (9, 64, 0xa00, ""),
+        (
+            21,
+            262143,
+            0x8000_0000_0020_0000,
+            "262143 data 0x200000 copied\n",
+        ),
+        (21, 262144, 0x8000_0000_0020_0000, ""),
+    ];
+    for (cluster_bits, last, number, lines) in cases {
         let mut numbers = vec![in rt.alloc(); 0; last]?;
-        numbers.push(0xa00)?;
-        let (fault, out) = listed(rt.alloc(), table_of(rt.alloc(), &numbers)?, 9)?;
-        assert_eq!(rt; fault, None);
-        assert_eq!(rt; out.as_slice(), line.as_bytes(), "entry {last}");
+        numbers.push(number)?;
+        let image = table_of(rt.alloc(), numbers.as_slice())?;
+        lists(rt.alloc(), image, cluster_bits, (None, lines), last)?;
     }
-    let mut numbers = vec![in rt.alloc(); 0; 262143]?;
-    numbers.push(0x8000_0000_0020_0000)?;
-    let (fault, out) = listed(rt.alloc(), table_of(rt.alloc(), &numbers)?, 21)?;
-    assert_eq!(rt; fault, None);
-    assert_eq!(rt; out.as_slice(), b"262143 data 0x200000 copied\n".as_slice());
     Ok(())
 }
 
 #[test]
 fn an_image_that_ends_inside_its_table_reads_as_zeros(rt: HostRuntime) -> Result<(), Fail> {
-    let whole = table_of(rt.alloc(), &[0x8000_0000_0000_0a00, 0x0000_0000_0101_0200])?;
     let cases: [(usize, &str); 8] = [
         (0, ""),
         (1, ""),
@@ -145,11 +161,9 @@ fn an_image_that_ends_inside_its_table_reads_as_zeros(rt: HostRuntime) -> Result
         (16, "0 data 0xa00 copied\n1 data 0x1010200\n"),
     ];
     for (len, lines) in cases {
-        let mut image = Vec::from_slice(rt.alloc(), whole.as_slice())?;
+        let mut image = table_of(rt.alloc(), &[0x8000_0000_0000_0a00, 0x0000_0000_0101_0200])?;
         image.truncate(len);
-        let (fault, out) = listed(rt.alloc(), image, 9)?;
-        assert_eq!(rt; fault, None);
-        assert_eq!(rt; out.as_slice(), lines.as_bytes(), "{len} bytes");
+        lists(rt.alloc(), image, 9, (None, lines), len)?;
     }
     Ok(())
 }
@@ -177,11 +191,9 @@ fn the_first_bad_entry_is_the_fault_and_no_line_is_printed(rt: HostRuntime) -> R
             Fault::EntryReserved,
         ),
     ];
-    for (cluster_bits, numbers, want) in cases {
-        assert!(rt; 9 <= cluster_bits && cluster_bits <= 21);
-        let (fault, out) = listed(rt.alloc(), table_of(rt.alloc(), &numbers)?, cluster_bits)?;
-        assert_eq!(rt; fault, Some(want), "{numbers:?}");
-        assert!(rt; out.is_empty(), "{numbers:?}");
+    for (cluster_bits, numbers, fault) in cases {
+        let image = table_of(rt.alloc(), &numbers)?;
+        lists(rt.alloc(), image, cluster_bits, (Some(fault), ""), numbers)?;
     }
     Ok(())
 }
@@ -189,32 +201,28 @@ fn the_first_bad_entry_is_the_fault_and_no_line_is_printed(rt: HostRuntime) -> R
 // The greatest cluster that a table can begin with is the one that ends at 2^56.
 #[test]
 fn a_table_past_the_greatest_end_is_refused_before_any_read(rt: HostRuntime) -> Result<(), Fail> {
-    let cases: [(u32, u64, bool); 9] = [
-        (9, (1 << 47) - 1, true),
-        (9, 1 << 47, false),
-        (9, u64::MAX, false),
-        (16, (1 << 40) - 1, true),
-        (16, 1 << 40, false),
-        (16, 1 << 48, false),
-        (21, (1 << 35) - 1, true),
-        (21, 1 << 35, false),
-        (21, u64::MAX, false),
+    let refused = Some(Fault::TablePlace);
+    let cases: [(u32, u64, Option<Fault>); 9] = [
+        (9, (1 << 47) - 1, None),
+        (9, 1 << 47, refused),
+        (9, u64::MAX, refused),
+        (16, (1 << 40) - 1, None),
+        (16, 1 << 40, refused),
+        (16, 1 << 48, refused),
+        (21, (1 << 35) - 1, None),
+        (21, 1 << 35, refused),
+        (21, u64::MAX, refused),
     ];
-    for (cluster_bits, cluster, placed) in cases {
-        assert!(rt; 9 <= cluster_bits && cluster_bits <= 21);
+    for (cluster_bits, cluster, expected) in cases {
         let inner = MemStorage::new(table_of(rt.alloc(), &[0xa00])?);
         let mut image = FailingStorage::new(rt.alloc(), inner);
-        let mut out = Vec::new(rt.alloc());
-        let cluster = HostCluster(cluster);
-        let answer = list_l2_table(rt.alloc(), &mut image, cluster_bits, cluster, &mut out);
-        let fault = if placed {
-            None
-        } else {
-            Some(Fault::TablePlace)
-        };
-        assert_eq!(rt; answer.err(), fault, "{cluster:?}, {cluster_bits} bits");
-        assert_eq!(rt; image.calls().is_empty(), !placed, "{cluster:?}");
-        assert!(rt; out.is_empty());
+        let (fault, out) = list(rt.alloc(), &mut image, cluster_bits, HostCluster(cluster))?;
+        let found = (fault, image.calls().is_empty(), out.is_empty());
+        same(
+            &found,
+            &(expected, expected.is_some(), true),
+            (cluster_bits, cluster),
+        )?;
     }
     Ok(())
 }
@@ -229,67 +237,49 @@ fn a_failed_call_of_the_storage_is_the_storage_fault_and_prints_nothing(
         let inner = MemStorage::new(Vec::from_slice(rt.alloc(), bytes.as_slice())?);
         let mut image = FailingStorage::new(rt.alloc(), inner);
         image.fail_after(passes);
-        let mut out = Vec::new(rt.alloc());
-        let answer = list_l2_table(rt.alloc(), &mut image, 9, HostCluster(0), &mut out);
-        let (fault, lines) = match image.failures() {
-            0 => (None, "0 data 0xa00 copied\n2 zero\n"),
-            _ => (Some(Fault::Storage), ""),
+        let (fault, out) = list(rt.alloc(), &mut image, 9, HostCluster(0))?;
+        let fails = image.failures() != 0;
+        let expected = match fails {
+            true => (Some(Fault::Storage), ""),
+            false => (None, "0 data 0xa00 copied\n2 zero\n"),
         };
-        assert_eq!(rt; answer.err(), fault, "after {passes} calls");
-        assert_eq!(rt; out.as_slice(), lines.as_bytes(), "after {passes} calls");
-        assert_eq!(rt; image.inner().bytes(), bytes.as_slice());
-        failed |= fault.is_some();
-        passed |= fault.is_none();
+        same(
+            &(fault, std::str::from_utf8(out.as_slice())?),
+            &expected,
+            passes,
+        )?;
+        same_bytes(image.inner().bytes(), bytes.as_slice(), passes)?;
+        failed |= fails;
+        passed |= !fails;
     }
-    assert!(rt; failed && passed);
-    Ok(())
+    holds(
+        failed && passed,
+        "some calls are planned to fail, and not all",
+    )
 }
 
 #[test]
-fn a_failed_write_is_the_storage_fault_and_keeps_what_was_printed(
-    rt: HostRuntime,
-) -> Result<(), Fail> {
-    let lines = "0 data 0xa00 copied\n2 zero\n3 zero 0x600\n4 compressed 0x600 512\n";
-    let numbers = [0x8000_0000_0000_0a00, 0, 1, 0x601, 0x4000_0000_0000_0600];
-    let (mut failed, mut passed) = (false, false);
-    for passes in 0..64 {
-        let mut image = MemStorage::new(table_of(rt.alloc(), &numbers)?);
-        let mut out = FailingOutput::new(rt.alloc());
-        out.fail_after(passes);
-        let answer = list_l2_table(rt.alloc(), &mut image, 9, HostCluster(0), &mut out);
-        let whole = out.bytes() == lines.as_bytes();
-        let fault = if whole { None } else { Some(Fault::Storage) };
-        assert_eq!(rt; answer.err(), fault, "after {passes} writes");
-        assert!(rt;
-            lines.as_bytes().starts_with(out.bytes()),
-            "after {passes} writes"
-        );
-        assert!(rt;
-            whole || passes <= out.bytes().len() as u64,
-            "after {passes} writes"
-        );
-        failed |= !whole;
-        passed |= whole;
-    }
-    assert!(rt; failed && passed);
-    Ok(())
-}
-
-#[test]
-fn a_failing_output_keeps_all_writes_but_the_planned_one(rt: HostRuntime) -> Result<(), Fail> {
-    for (passes, kept) in [(0, "bc"), (1, "ac"), (2, "ab"), (3, "abc")] {
+fn a_failing_output_keeps_all_bytes_but_those_of_one_write(rt: HostRuntime) -> Result<(), Fail> {
+    let cases = [
+        (0, "cdef"),
+        (1, "acdef"),
+        (2, "abef"),
+        (3, "abcef"),
+        (4, "abcd"),
+        (5, "abcde"),
+        (6, "abcdef"),
+    ];
+    for (room, kept) in cases {
         let mut output = FailingOutput::new(rt.alloc());
-        output.fail_after(passes);
-        for (at, text) in ["a", "b", "c"].iter().enumerate() {
-            let fails = at as u64 == passes;
-            assert_eq!(rt;
-                output.write_all(text.as_bytes()).is_err(),
-                fails,
-                "write {at}"
-            );
+        output.fail_after(room);
+        for text in ["ab", "cd", "ef"] {
+            let _ = output.write_all(text.as_bytes());
         }
+        same_bytes(output.flushed(), b"", (room, "before the flush"))?;
         output.flush()?;
-        assert_eq!(rt; output.bytes(), kept.as_bytes(), "plan {passes}");
+        same_bytes(output.flushed(), kept.as_bytes(), room)?;
+        output.fail_flushes();
+        holds(output.flush().is_err(), room)?;
     }
     Ok(())
 }

@@ -6,5 +6,7 @@ mod commands;
 mod failing_output;
 #[cfg(test)]
 mod refused_memory;
+#[cfg(test)]
+mod watched_files;
 
 pub use failing_output::FailingOutput;

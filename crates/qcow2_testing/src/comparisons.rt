@@ -5,9 +5,9 @@ use std::fmt::Debug;
 use std::test::Fail;
 
 /// Fails unless both are the same.
-pub fn same<T: PartialEq + Debug, R: Debug + Drop>(
-    found: &T,
-    expected: &T,
+pub fn same<T: PartialEq + Debug + Drop, R: Debug + Drop>(
+    found: T,
+    expected: T,
     row: R,
 ) -> Result<(), Fail> {
     if found == expected {

@@ -1,8 +1,19 @@
-use super::{LIMIT, has_failed};
+use super::{LIMIT, has_failed, reads};
 use qcow2_base::{Fault, FileStorage, Storage, StorageFault};
-use qcow2_testing::{FaultyFiles, temporary_file, temporary_path};
+use qcow2_testing::{FaultyFiles, holds, same, same_bytes, temporary_file, temporary_path};
+use std::fmt::Debug;
 use std::test::Fail;
 use std::{env, fs};
+
+// That the file holds these bytes and no others.
+pub(crate) fn file_holds<R: Debug + Drop>(
+    rt: &HostRuntime,
+    path: &str,
+    bytes: &[u8],
+    row: R,
+) -> Result<(), Fail> {
+    same_bytes(fs::read(rt, path)?.as_slice(), bytes, row)
+}
 
 #[test]
 fn only_a_file_that_is_there_is_opened(rt: HostRuntime) -> Result<(), Fail> {
@@ -12,11 +23,10 @@ fn only_a_file_that_is_there_is_opened(rt: HostRuntime) -> Result<(), Fail> {
     for path in [missing.as_str(), below.as_str(), folder.as_str(), ""] {
         for writable in [false, true] {
             let answer = FileStorage::open(&rt, path, writable);
-            assert!(rt; matches!(&answer, Err(Fault::Storage)), "{path} {writable}");
+            same(answer.err(), Some(Fault::Storage), (path, writable))?;
         }
     }
-    assert!(rt; fs::metadata(&rt, missing.as_str()).is_err());
-    Ok(())
+    holds(fs::metadata(&rt, missing.as_str()).is_err(), missing)
 }
 
 #[test]
@@ -33,15 +43,17 @@ fn a_file_is_read_by_offset_with_zeros_past_its_end(rt: HostRuntime) -> Result<(
         (0, [1, 2, 3, 4]),
     ];
     let mut storage = FileStorage::open(&rt, file.path.as_str(), false)?;
-    assert_eq!(rt; (storage.mem_align(), storage.req_align()), (1, 1));
+    same(
+        (storage.mem_align(), storage.req_align()),
+        (1, 1),
+        "alignments",
+    )?;
     for (offset, want) in cases {
-        let mut buf = [0xa5; 4];
-        storage.read(&mut buf, offset)?;
-        assert_eq!(rt; buf, want, "at {offset}");
+        assert!(rt; offset <= LIMIT - 4);
+        reads(&mut storage, offset, want)?;
         storage.read(&mut [], offset)?;
     }
-    assert!(rt; has_failed(rt.alloc(), &storage, 0)?, "{storage:?}");
-    Ok(())
+    has_failed(rt.alloc(), &storage, 0)
 }
 
 #[test]
@@ -58,14 +70,10 @@ fn a_write_to_a_file_stands_at_its_offset(rt: HostRuntime) -> Result<(), Fail> {
         let mut storage = FileStorage::open(&rt, file.path.as_str(), true)?;
         storage.read(&mut [0; 2], 1)?;
         storage.write(&[7, 8], offset)?;
-        assert_eq!(rt;
-            fs::read(&rt, file.path.as_str())?.as_slice(),
-            want,
-            "at {offset}"
-        );
+        file_holds(&rt, file.path.as_str(), want, offset)?;
         let mut buf = [0; 2];
         storage.read(&mut buf, offset)?;
-        assert_eq!(rt; buf, [7, 8], "at {offset}");
+        same(buf, [7, 8], offset)?;
     }
     Ok(())
 }
@@ -78,10 +86,7 @@ fn an_empty_write_leaves_a_file_as_it_is(rt: HostRuntime) -> Result<(), Fail> {
         for offset in [0, 2, 3, 900, LIMIT] {
             storage.write(&[], offset)?;
         }
-        assert_eq!(rt;
-            fs::read(&rt, file.path.as_str())?.as_slice(),
-            [1, 2, 3].as_slice()
-        );
+        file_holds(&rt, file.path.as_str(), &[1, 2, 3], writable)?;
     }
     Ok(())
 }
@@ -91,14 +96,11 @@ fn a_file_opened_for_reading_refuses_a_write(rt: HostRuntime) -> Result<(), Fail
     let file = temporary_file(&rt, "read-only", &[1, 2, 3])?;
     let mut storage = FileStorage::open(&rt, file.path.as_str(), false)?;
     for failures in 1..3u32 {
-        assert_eq!(rt; storage.write(&[9], 1), Err(StorageFault));
-        assert!(rt; has_failed(rt.alloc(), &storage, failures)?, "{storage:?}");
+        same(storage.write(&[9], 1), Err(StorageFault), failures)?;
+        has_failed(rt.alloc(), &storage, failures)?;
     }
-    let mut buf = [0; 4];
-    storage.read(&mut buf, 0)?;
-    assert_eq!(rt; buf, [1, 2, 3, 0]);
-    assert!(rt; has_failed(rt.alloc(), &storage, 2)?, "{storage:?}");
-    Ok(())
+    reads(&mut storage, 0, [1, 2, 3, 0])?;
+    has_failed(rt.alloc(), &storage, 2)
 }
 
 // Some file systems hold a file of 2^56 bytes, with a hole in it, and others refuse the offset.
@@ -106,18 +108,11 @@ fn a_file_opened_for_reading_refuses_a_write(rt: HostRuntime) -> Result<(), Fail
 fn a_write_at_the_last_offset_stands_or_is_the_storage_fault(rt: HostRuntime) -> Result<(), Fail> {
     let file = temporary_file(&rt, "last-offset", &[1, 2, 3])?;
     let mut storage = FileStorage::open(&rt, file.path.as_str(), true)?;
-    let answer = storage.write(&[9], LIMIT - 1);
-    let held = answer.is_ok();
-    assert!(rt;
-        has_failed(rt.alloc(), &storage, if held { 0 } else { 1 })?,
-        "{storage:?}"
-    );
-    let len = fs::metadata(&rt, file.path.as_str())?.len();
-    assert_eq!(rt; len, if held { LIMIT } else { 3 });
-    let mut buf = [0xa5; 1];
-    storage.read(&mut buf, LIMIT - 1)?;
-    assert_eq!(rt; buf, [if held { 9 } else { 0 }]);
-    Ok(())
+    let held = storage.write(&[9], LIMIT - 1).is_ok();
+    let (failures, len, last) = if held { (0, LIMIT, 9) } else { (1, 3, 0) };
+    has_failed(rt.alloc(), &storage, failures)?;
+    same(fs::metadata(&rt, file.path.as_str())?.len(), len, held)?;
+    reads(&mut storage, LIMIT - 4, [0, 0, 0, last])
 }
 
 #[test]
@@ -128,14 +123,9 @@ fn short_reads_and_writes_are_gone_on_with(rt: HostRuntime) -> Result<(), Fail> 
         let mut storage = FileStorage::open(&files, file.path.as_str(), true)?;
         let mut buf = [0xa5; 6];
         storage.read(&mut buf, 1)?;
-        assert_eq!(rt; buf, [2, 3, 4, 5, 0, 0], "step {step}");
+        same(buf, [2, 3, 4, 5, 0, 0], step)?;
         storage.write(&[6, 7, 8, 9], 2)?;
-        let want = [1, 2, 6, 7, 8, 9];
-        assert_eq!(rt;
-            fs::read(&rt, file.path.as_str())?.as_slice(),
-            want.as_slice(),
-            "step {step}"
-        );
+        file_holds(&rt, file.path.as_str(), &[1, 2, 6, 7, 8, 9], step)?;
     }
     Ok(())
 }
@@ -145,8 +135,7 @@ fn a_file_whose_open_fails_half_way_is_refused(rt: HostRuntime) -> Result<(), Fa
     let file = temporary_file(&rt, "half-open", &[1, 2, 3])?;
     let files = faulty(&rt, Some(0), 2, u64::MAX);
     let answer = FileStorage::open(&files, file.path.as_str(), false);
-    assert!(rt; matches!(&answer, Err(Fault::Storage)));
-    Ok(())
+    same(answer.err(), Some(Fault::Storage), "at its metadata")
 }
 
 // A read of four bytes, two at a time, asks a file four times: for its end, for a place, and twice
@@ -157,15 +146,9 @@ fn a_read_fails_where_one_call_of_the_file_does(rt: HostRuntime) -> Result<(), F
     for passes in 1..5 {
         let files = faulty(&rt, Some(passes), 2, u64::MAX);
         let mut storage = FileStorage::open(&files, file.path.as_str(), false)?;
-        let mut buf = [0; 4];
-        assert_eq!(rt;
-            storage.read(&mut buf, 1),
-            Err(StorageFault),
-            "after {passes}"
-        );
-        assert!(rt; has_failed(rt.alloc(), &storage, 1)?, "{storage:?}");
-        storage.read(&mut buf, 1)?;
-        assert_eq!(rt; buf, [2, 3, 4, 5], "after {passes}");
+        same(storage.read(&mut [0; 4], 1), Err(StorageFault), passes)?;
+        has_failed(rt.alloc(), &storage, 1)?;
+        reads(&mut storage, 1, [2, 3, 4, 5])?;
     }
     Ok(())
 }
@@ -178,25 +161,13 @@ fn a_write_fails_where_one_call_of_the_file_does(rt: HostRuntime) -> Result<(), 
         let file = temporary_file(&rt, "failed-write", &[1, 2, 3, 4, 5, 6])?;
         let files = faulty(&rt, Some(passes), 2, u64::MAX);
         let mut storage = FileStorage::open(&files, file.path.as_str(), true)?;
-        assert_eq!(rt;
-            storage.write(&[9, 9, 9, 9], 1),
-            Err(StorageFault),
-            "after {passes}"
-        );
-        assert!(rt; has_failed(rt.alloc(), &storage, 1)?, "{storage:?}");
+        same(storage.write(&[9, 9, 9, 9], 1), Err(StorageFault), passes)?;
+        has_failed(rt.alloc(), &storage, 1)?;
         let bytes = fs::read(&rt, file.path.as_str())?;
-        let ends = (bytes.first().copied(), bytes.last().copied());
-        assert_eq!(rt;
-            (bytes.len(), ends),
-            (6, (Some(1), Some(6))),
-            "after {passes}"
-        );
+        let found = (bytes.len(), bytes.first().copied(), bytes.last().copied());
+        same(found, (6, Some(1), Some(6)), passes)?;
         storage.write(&[9, 9, 9, 9], 1)?;
-        let want = [1, 9, 9, 9, 9, 6];
-        assert_eq!(rt;
-            fs::read(&rt, file.path.as_str())?.as_slice(),
-            want.as_slice()
-        );
+        file_holds(&rt, file.path.as_str(), &[1, 9, 9, 9, 9, 6], passes)?;
     }
     Ok(())
 }
@@ -207,12 +178,8 @@ fn a_file_that_ends_before_its_length_is_no_zeros(rt: HostRuntime) -> Result<(),
     for end in 0..5 {
         let files = faulty(&rt, None, 2, end);
         let mut storage = FileStorage::open(&files, file.path.as_str(), false)?;
-        assert_eq!(rt;
-            storage.read(&mut [0; 9], 0),
-            Err(StorageFault),
-            "end {end}"
-        );
-        assert!(rt; has_failed(rt.alloc(), &storage, 1)?, "{storage:?}");
+        same(storage.read(&mut [0; 9], 0), Err(StorageFault), end)?;
+        has_failed(rt.alloc(), &storage, 1)?;
     }
     Ok(())
 }

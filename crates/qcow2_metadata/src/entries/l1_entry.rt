@@ -101,7 +101,7 @@ impl TableEntry for L1Entry {
     }
 
     #[inline]
-    fn from_tested(value: u64) -> Self {
+    fn from_lawful(value: u64, _header: &Header) -> Self {
         L1Entry { value }
     }
 

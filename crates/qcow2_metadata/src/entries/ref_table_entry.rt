@@ -76,7 +76,7 @@ impl TableEntry for RefTableEntry {
     }
 
     #[inline]
-    fn from_tested(value: u64) -> Self {
+    fn from_lawful(value: u64, _header: &Header) -> Self {
         RefTableEntry { value }
     }
 

@@ -71,9 +71,11 @@ impl<E: TableKind> Model for EntryTable<E> {
 // The entries, and then entries 0 up to a count.
 fn padded<E: TableKind>(alloc: Global, entries: &[E], count: usize) -> Result<Vec<E>, AllocError>
     requires { length entries.now ≤ count }
-    ensures numbers { IfOk result (λ list. map E.plain list.items ≡ grown_numbers (map E.plain entries.now) count) }
+    ensures numbers { IfOk result (λ list.
+        map E.plain list.items ≡ grown_numbers (map E.plain entries.now) count) }
     ensures count { IfOk result (λ list. length list.items ≡ count) }
-    ensures lawful { IfOk result (λ list. (cb : ℕ) → first_fault (E.fault_of cb) (map E.plain entries.now) ≡ None →
+    ensures lawful { IfOk result (λ list. (cb : ℕ) →
+        first_fault (E.fault_of cb) (map E.plain entries.now) ≡ None →
         first_fault (E.fault_of cb) (map E.plain list.items) ≡ None) }
 {
     let mut list = Vec::with_capacity(alloc, count)?;
@@ -98,7 +100,8 @@ impl<E: TableKind> EntryTable<E> {
         requires bound { entries ≤ 2 ^ 48 }
         requires count { IsTrue (E.has_lawful_count header.now.cluster_bits entries) }
         ensures fault { IsOkUnless result Fault.NoMemory }
-        ensures table { IfOk result (λ table. table ≡ new_table (grown_numbers self.now.numbers entries) header.now) }
+        ensures table { IfOk result (λ table.
+            table ≡ new_table (grown_numbers self.now.numbers entries) header.now) }
     {
         let alloc = *self.entries.allocator();
         let list = padded(alloc, self.entries.as_slice(), entries)?;

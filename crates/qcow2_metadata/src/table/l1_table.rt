@@ -42,10 +42,11 @@ impl EntryTable<L1Entry> {
     /// Refuses to grow past the most entries that an L1 table may have. The table itself stays.
     pub fn clone_and_grow(&self, at_least_index: usize, header: &Header) -> Result<L1Table, Fault>
         requires { header.now.cluster_bits ≡ self.now.geometry.cluster_bits }
-        ensures refused { IsErrOf result Fault.CannotGrow ↔ (most_l1_entries < grown_count self.now at_least_index) }
+        ensures refused { IsErrOf result Fault.CannotGrow
+            ↔ (most_l1_entries < grown_count self.now at_least_index) }
         ensures faults { IfErr result (λ fault. (fault ≡ Fault.CannotGrow) ⊎ (fault ≡ NoMemory)) }
-        ensures table { IfOk result (λ table.
-            table ≡ new_table (grown_numbers self.now.numbers (grown_count self.now at_least_index)) header.now) }
+        ensures table { let entries = grown_count self.now at_least_index in
+            IfOk result (λ table. table ≡ new_table (grown_numbers self.now.numbers entries) header.now) }
     {
         if at_least_index >= L1Entry::MAX_ENTRIES {
             return Err(Fault::CannotGrow);
@@ -71,7 +72,8 @@ impl EntryTable<L1Entry> {
         requires index { index < length self.old.numbers }
         requires cluster_bits { l2_table.now.geometry.cluster_bits ≡ self.old.geometry.cluster_bits }
         requires cluster { IfSome l2_table.now.cluster (IsReferable self.old.geometry.cluster_bits) }
-        requires pending { IfSome l2_table.now.cluster (λ cluster. IfSome new_allocation (λ pending. IsOneCluster pending cluster)) }
+        requires pending { IfSome l2_table.now.cluster (λ cluster.
+            IfSome new_allocation (λ pending. IsOneCluster pending cluster)) }
         ensures answer { MatchOption l2_table.now.cluster
             (result ≡ Err (record { fault = NotPlaced; pending = new_allocation }))
             (λ _. result ≡ Ok tt) }

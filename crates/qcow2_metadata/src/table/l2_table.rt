@@ -70,7 +70,8 @@ impl EntryTable<AtomicL2Entry> {
         cluster: HostCluster,
     ) -> Result<(), Fault>
         requires { self.old.modified ≡ true → self.old.cluster ≡ Some cluster }
-        ensures idle { self.old.modified ≡ false → IsOk result × (self.new ≡ self.old) × (image.new ≡ image.old) }
+        ensures idle { self.old.modified ≡ false →
+            IsOk result × (self.new ≡ self.old) × (image.new ≡ image.old) }
         ensures modified { self.old.modified ≡ true →
             WritesTable most_l2_entries l2_fault result
             (on_storage self.old (S.state image.old)) (on_storage self.new (S.state image.new)) }
@@ -103,7 +104,8 @@ impl L2TableWriteGuard<'_> {
     /// What a guest cluster reads as, as `L2Table::get_mapping` says it.
     pub fn get_mapping(&self, guest_cluster: GuestCluster) -> Result<L2Mapping, Fault>
         requires { guest_cluster.0 * 2 ^ (guarded self.now).geometry.cluster_bits < 2 ^ 64 }
-        ensures mapping { IsOkAnd result (λ found. meaning found ≡ mapping_at (guarded self.now) guest_cluster.0) }
+        ensures mapping { IsOkAnd result (λ found.
+            meaning found ≡ mapping_at (guarded self.now) guest_cluster.0) }
         ensures placed { IfOk result (IsPlaced (guarded self.now).geometry.cluster_bits) }
     {
         self.table.get_mapping(guest_cluster)
@@ -117,7 +119,8 @@ impl L2TableWriteGuard<'_> {
         requires { index < length (guarded self.old).numbers }
         ensures same_table { IsSameTable self.old self.new }
         ensures edit { guarded self.new ≡ edited (guarded self.old) index 0 }
-        ensures freed { IsAllocation (guarded self.old).geometry (slice_index (guarded self.old).numbers index) result }
+        ensures freed { let table = guarded self.old in
+            IsAllocation table.geometry (slice_index table.numbers index) result }
     {
         let before = self.table.replace_entry(index, AtomicL2Entry::cleared());
         let external_data_file = self.table.has_external_data_file();

@@ -28,11 +28,12 @@ pub(super) fn read_entries<E: TableEntry + Drop, S: Storage>(
 ) -> Result<Vec<E>, Fault>
     requires { offset.0 + 8 * entries ≤ 2 ^ 56 }
     ensures exact { IsTrue (S.state image.old).tells → Answers (λ list. map E.plain list.items) result
-        (decoded (E.fault_of header.now.cluster_bits) (table_numbers (S.state image.old).byte_at offset.0 entries)) }
+        (decoded (E.fault_of header.now.cluster_bits)
+        (table_numbers (S.state image.old).byte_at offset.0 entries)) }
     ensures numbers { IsTrue (S.state image.old).tells → IfOk result (λ list.
         map E.plain list.items ≡ table_numbers (S.state image.old).byte_at offset.0 entries) }
-    ensures valid { IfOk result (λ list. first_fault (E.fault_of header.now.cluster_bits) (map E.plain list.items) ≡ None) }
-    ensures count { IfOk result (λ list. length list.items ≡ entries) }
+    ensures lawful { IfOk result (λ list. (length list.items ≡ entries)
+        × (first_fault (E.fault_of header.now.cluster_bits) (map E.plain list.items) ≡ None)) }
     ensures faults { IfErr result (λ fault.
         (fault ≡ EntryReserved) ⊎ (fault ≡ EntryUnaligned) ⊎ (fault ≡ NoMemory) ⊎ (fault ≡ StorageFailed)) }
     ensures storage { OnlyReads result (S.state image.old) (S.state image.new) }
@@ -60,13 +61,15 @@ fn decode<E: TableEntry + Drop>(
         ≡ map E.plain list.old.items ++ table_numbers (image_of bytes.now) 0 (length bytes.now / 8)) }
     ensures valid { OnOk result (first_fault (E.fault_of header.now.cluster_bits)
         (table_numbers (image_of bytes.now) 0 (length bytes.now / 8)) ≡ None) }
-    ensures refused { IfErr result (λ fault. (fault ≡ NoMemory) ⊎ (first_fault (E.fault_of header.now.cluster_bits)
+    ensures refused { IfErr result (λ fault. (fault ≡ NoMemory)
+        ⊎ (first_fault (E.fault_of header.now.cluster_bits)
         (table_numbers (image_of bytes.now) 0 (length bytes.now / 8)) ≡ Some fault)) }
-    ensures faults { IfErr result (λ fault. (fault ≡ EntryReserved) ⊎ (fault ≡ EntryUnaligned) ⊎ (fault ≡ NoMemory)) }
+    ensures faults { IfErr result (λ fault.
+        (fault ≡ EntryReserved) ⊎ (fault ≡ EntryUnaligned) ⊎ (fault ≡ NoMemory)) }
 {
     let (chunks, _) = bytes.as_chunks::<8>();
     check::<E>(chunks, header)?;
-    append(list, chunks)?;
+    append(list, chunks, header)?;
     Ok(())
 }
 
@@ -81,7 +84,8 @@ fn number_of(chunk: &[u8; 8]) -> u64
 
 // Refuses numbers that aren't all entries, by the fault of the first that is none.
 fn check<E: TableEntry + Drop>(chunks: &[[u8; 8]], header: &Header) -> Result<(), Fault>
-    ensures valid { OnOk result (first_fault (E.fault_of header.now.cluster_bits) (chunk_numbers chunks.now) ≡ None) }
+    ensures valid { OnOk result
+        (first_fault (E.fault_of header.now.cluster_bits) (chunk_numbers chunks.now) ≡ None) }
     ensures refused { IfErr result (λ fault.
         first_fault (E.fault_of header.now.cluster_bits) (chunk_numbers chunks.now) ≡ Some fault) }
     ensures faults { IfErr result (λ fault. (fault ≡ EntryReserved) ⊎ (fault ≡ EntryUnaligned)) }
@@ -97,7 +101,8 @@ fn check<E: TableEntry + Drop>(chunks: &[[u8; 8]], header: &Header) -> Result<()
 
 // Whether all numbers are entries. Looks at each, so that several are tested at once.
 fn are_lawful<E: TableEntry>(chunks: &[[u8; 8]], header: &Header) -> bool
-    ensures { IsTrue result ↔ (first_fault (E.fault_of header.now.cluster_bits) (chunk_numbers chunks.now) ≡ None) }
+    ensures { IsTrue result
+        ↔ (first_fault (E.fault_of header.now.cluster_bits) (chunk_numbers chunks.now) ≡ None) }
 {
     let mut lawful = true;
     for chunk in chunks {
@@ -106,11 +111,24 @@ fn are_lawful<E: TableEntry>(chunks: &[[u8; 8]], header: &Header) -> bool
     lawful
 }
 
-// Puts entries with these numbers, which were tested, at the end of the list.
-fn append<E: TableEntry + Drop>(list: &mut Vec<E>, chunks: &[[u8; 8]]) -> Result<(), AllocError>
-    ensures { OnOk result (map E.plain list.new.items ≡ map E.plain list.old.items ++ chunk_numbers chunks.now) }
+// Puts entries with these numbers, which are all lawful, at the end of the list.
+fn append<E: TableEntry + Drop>(
+    list: &mut Vec<E>,
+    chunks: &[[u8; 8]],
+    header: &Header,
+) -> Result<(), AllocError>
+    requires { first_fault (E.fault_of header.now.cluster_bits) (chunk_numbers chunks.now) ≡ None }
+    ensures { OnOk result
+        (map E.plain list.new.items ≡ map E.plain list.old.items ++ chunk_numbers chunks.now) }
 {
-    list.extend(chunks.iter().map(|chunk| E::from_tested(number_of(chunk))))
+    list.extend(
+        chunks.iter().map(
+            |chunk: &[u8; 8]| -> E
+                requires { E.fault_of header.now.cluster_bits (be (image_of chunk.now) 0 8) ≡ None }
+                ensures { E.plain result ≡ be (image_of chunk.now) 0 8 }
+            { E::from_lawful(number_of(chunk), header) },
+        ),
+    )
 }
 
 // Writes the table to the image from an offset on, in pieces of 4096 bytes.
@@ -120,7 +138,8 @@ pub(super) fn write_pieces<T: Table, S: Storage>(
     offset: HostOffset,
 ) -> Result<(), StorageFault>
     requires { offset.0 + 8 * length (T.state table.now).numbers ≤ 2 ^ 56 }
-    ensures { WritesPieces result offset.0 (T.state table.now).numbers (S.state image.old) (S.state image.new) }
+    ensures { WritesPieces result offset.0 (T.state table.now).numbers
+        (S.state image.old) (S.state image.new) }
 {
     let mut buffer = [0u8; PIECE_BYTES];
     let entries = table.entries();

@@ -4,14 +4,15 @@ ghost use Rattle.std.specs.Prelude.{◌≡◌, ◌≢◌, ◌⊎◌, length, fal
 ghost use Rattle.qcow2_base.specs.declared.fault.Fault.TheVariants.{NoMemory, Storage as StorageFailed};
 ghost use Rattle.qcow2_base.specs.Types.{IsClusterBits};
 ghost use Rattle.qcow2_base.specs.Storage.{ReadsFor};
+ghost use Rattle.std.specs.Fmt.{decimal};
 ghost use Rattle.std.specs.Io.KnownBytes.{Appends};
-ghost use Rattle.qcow2_metadata.specs.Entries.{IsPlaced, meaning};
 ghost use Rattle.qcow2_metadata.specs.Header.{geometry};
 ghost use Rattle.qcow2_metadata.specs.Table.{l2_table_at, loaded_l2_table, most_l2_entries, place_fault};
-ghost use Rattle.qcow2_session.specs.Lines.{copied_text, entry_line, entry_lines, mapping_text};
+ghost use Rattle.qcow2_session.specs.Lines.{entry_lines};
 
-use qcow2_base::{Fault, GuestCluster, HostCluster, HostOffset, Storage};
-use qcow2_metadata::{Header, L2Mapping, L2Table, Table};
+use crate::lines::print_entry;
+use qcow2_base::{Fault, GuestCluster, HostCluster, Storage};
+use qcow2_metadata::{Header, L2Table, Table};
 use std::alloc::Global;
 use std::io::Write;
 
@@ -38,7 +39,7 @@ pub fn list_l2_table<S: Storage, O: Write>(
     ensures lines { OnOk result (IsTrue (S.state image.old).tells →
         IsOkAnd (loaded_l2_table (geometry cluster_bits false) cluster (S.state image.old).byte_at) (λ numbers.
         Appends (O.contents out.old) (O.contents out.new)
-        (entry_lines (geometry cluster_bits false) 0 numbers))) }
+        (entry_lines decimal (geometry cluster_bits false) 0 numbers))) }
 
     // The storage fault is that of the image or, where the table is lawful, of a failed write.
     ensures refused { IfErr result (λ fault. IsTrue (S.state image.old).tells →
@@ -64,7 +65,7 @@ fn print_table<O: Write>(table: &L2Table, out: &mut O) -> Result<(), Fault>
     requires { length table.now.numbers ≡ 2 ^ (table.now.geometry.cluster_bits - 3) }
     ensures fault { IsOkUnless result Fault.Storage }
     ensures lines { OnOk result (Appends (O.contents out.old) (O.contents out.new)
-        (entry_lines table.now.geometry 0 table.now.numbers)) }
+        (entry_lines decimal table.now.geometry 0 table.now.numbers)) }
 {
     let cluster_bits = table.cluster_bits();
     for index in 0..table.entries() {
@@ -72,75 +73,4 @@ fn print_table<O: Write>(table: &L2Table, out: &mut O) -> Result<(), Fault>
         print_entry(index, &mapping, cluster_bits, out)?;
     }
     Ok(())
-}
-
-// Prints the line of an entry by its mapping: none where that is left to the backing file.
-fn print_entry<O: Write>(
-    index: usize,
-    mapping: &L2Mapping,
-    cluster_bits: u32,
-    out: &mut O,
-) -> Result<(), Fault>
-    requires bits { IsClusterBits cluster_bits }
-    requires placed { IsPlaced cluster_bits mapping.now }
-    ensures fault { IsOkUnless result Fault.Storage }
-    ensures line { OnOk result (Appends (O.contents out.old) (O.contents out.new)
-        (entry_line cluster_bits index (meaning mapping.now))) }
-{
-    if let L2Mapping::Backing { .. } = mapping {
-        return Ok(());
-    }
-    write!(out, "{index} ").map_err(|_| Fault::Storage)?;
-    print_mapping(mapping, cluster_bits, out)?;
-    writeln!(out).map_err(|_| Fault::Storage)
-}
-
-// Prints a mapping: what it is, its offset, and its length or whether it is copied.
-fn print_mapping<O: Write>(
-    mapping: &L2Mapping,
-    cluster_bits: u32,
-    out: &mut O,
-) -> Result<(), Fault>
-    requires bits { IsClusterBits cluster_bits }
-    requires placed { IsPlaced cluster_bits mapping.now }
-    ensures fault { IsOkUnless result Fault.Storage }
-    ensures text { OnOk result (Appends (O.contents out.old) (O.contents out.new)
-        (mapping_text cluster_bits (meaning mapping.now))) }
-{
-    let written = match mapping {
-        L2Mapping::DataFile {
-            host_cluster,
-            copied,
-        } => {
-            let offset = host_cluster.offset(cluster_bits);
-            write!(out, "data {offset}{}", copied_mark(*copied))
-        }
-        L2Mapping::Zero {
-            host_cluster: Some(cluster),
-            copied,
-        } => {
-            let offset = cluster.offset(cluster_bits);
-            write!(out, "zero {offset}{}", copied_mark(*copied))
-        }
-        L2Mapping::Zero {
-            host_cluster: None,
-            copied: _,
-        } => write!(out, "zero"),
-        L2Mapping::Compressed {
-            host_offset,
-            length,
-        } => write!(out, "compressed {host_offset} {length}"),
-        L2Mapping::Backing { backing_offset } => {
-            let offset = HostOffset(*backing_offset);
-            write!(out, "backing {offset}")
-        }
-    };
-    written.map_err(|_| Fault::Storage)
-}
-
-// What is printed after the offset of a cluster whose refcount is exactly one.
-fn copied_mark(copied: bool) -> &'static str
-    ensures { result.now ≡ copied_text copied }
-{
-    if copied { " copied" } else { "" }
 }

@@ -1,15 +1,80 @@
 use crate::FailingOutput;
-use qcow2_base::Fault;
+use crate::watched_files::{Opens, WatchedFiles};
+use qcow2_base::{Fault, FileStorage};
 use qcow2_session::{report_fault, run_words};
-use qcow2_testing::{FaultyFiles, TemporaryFile, temporary_file, temporary_path};
+use qcow2_testing::{
+    FaultyFiles, TemporaryFile, holds, same, same_bytes, temporary_file, temporary_path,
+};
 use std::alloc::Global;
-use std::io::{BufWriter, Write};
-use std::process::Abort;
+use std::fmt::Debug;
 use std::rt::Files;
 use std::test::Fail;
-use std::{env, fs, io};
+use std::{env, fs};
 
 const USAGE: &str = "usage: qmeta COMMAND IMAGE ARGUMENTS\n";
+
+const NO_PLACE: &str = "qmeta: fault 21\n";
+
+const STORAGE: &str = "qmeta: fault 34\n";
+
+const ONE_MAPPING: &str = "3 data 0xa00 copied\n";
+
+// What a run ends with: the status, and what was flushed of the output and of the error output.
+type Outcome<'a> = (u8, &'a str, &'a str);
+
+// A run that has ended.
+#[derive(Drop)]
+struct Run {
+    status: u8,
+    out: FailingOutput,
+    err: FailingOutput,
+}
+
+impl Run {
+    fn over<R: Files + AllocGlobal>(
+        rt: &R,
+        words: &[String],
+        mut out: FailingOutput,
+        mut err: FailingOutput,
+    ) -> Run {
+        let status = run_words(rt, words, &mut out, &mut err);
+        Run { status, out, err }
+    }
+
+    fn ends_in<R: Debug + Drop>(&self, expected: Outcome<'_>, row: R) -> Result<(), Fail> {
+        let out = std::str::from_utf8(self.out.flushed())?;
+        let err = std::str::from_utf8(self.err.flushed())?;
+        same(&(self.status, out, err), &expected, row)
+    }
+}
+
+// An output that fails nowhere.
+fn output<R: AllocGlobal>(rt: &R) -> FailingOutput {
+    FailingOutput::new(rt.alloc())
+}
+
+// An output that fails once, after so many bytes.
+fn failing_output<R: AllocGlobal>(rt: &R, room: usize) -> FailingOutput {
+    let mut output = FailingOutput::new(rt.alloc());
+    output.fail_after(room);
+    output
+}
+
+// An output that fails where it is flushed.
+fn unflushed_output<R: AllocGlobal>(rt: &R) -> FailingOutput {
+    let mut output = FailingOutput::new(rt.alloc());
+    output.fail_flushes();
+    output
+}
+
+// Runs the words over outputs that fail nowhere.
+fn runs<R: Files + AllocGlobal>(
+    rt: &R,
+    words: &[String],
+    expected: Outcome<'_>,
+) -> Result<(), Fail> {
+    Run::over(rt, words, output(rt), output(rt)).ends_in(expected, words)
+}
 
 // 1536 bytes, zero but for one entry of the L2 table at cluster 2 of 512 bytes.
 fn image_with_one_mapping(alloc: Global) -> Result<Vec<u8>, Fail> {
@@ -42,47 +107,44 @@ pub(crate) fn l2_words(
     cluster_bits: &str,
     cluster: &str,
 ) -> Result<Vec<String>, Fail> {
-    let mut list = words_of(alloc, &["l2", "IMAGE"], image)?;
-    list.push(String::from_str(alloc, cluster_bits)?)?;
-    list.push(String::from_str(alloc, cluster)?)?;
-    Ok(list)
-}
-
-// Runs the words over outputs in memory, and asserts the status and all that is written.
-fn assert_run<R: Abort + Files + AllocGlobal>(
-    rt: &R,
-    words: &[String],
-    want: (u8, &str, &str),
-) -> Result<(), Fail> {
-    let (mut out, mut err) = (Vec::new(rt.alloc()), Vec::new(rt.alloc()));
-    let status = run_words(rt, words, &mut out, &mut err);
-    assert_eq!(rt; status, want.0, "{words:?}");
-    assert_eq!(rt; out.as_slice(), want.1.as_bytes(), "{words:?}");
-    assert_eq!(rt; err.as_slice(), want.2.as_bytes(), "{words:?}");
-    Ok(())
+    words_of(alloc, &["l2", image, cluster_bits, cluster], image)
 }
 
 #[test]
-fn the_command_l2_lists_the_table_that_begins_with_a_cluster(rt: HostRuntime) -> Result<(), Fail> {
+fn the_command_l2_reads_its_image_and_lists_the_table_that_begins_with_a_cluster(
+    rt: HostRuntime,
+) -> Result<(), Fail> {
     let file = one_mapping(&rt, "rows")?;
     let image = file.path.as_str();
-    let fault = (1, "", "qmeta: fault 21\n");
-    let cases: [(&str, &str, (u8, &str, &str)); 8] = [
-        ("9", "2", (0, "3 data 0xa00 copied\n", "")),
+    let cases: [(&str, &str, Outcome<'_>); 8] = [
+        ("9", "2", (0, ONE_MAPPING, "")),
         ("9", "0", (0, "", "")),
         ("9", "1", (0, "", "")),
         ("9", "3", (0, "", "")),
         ("10", "1", (1, "", "qmeta: fault 19\n")),
         ("9", "140737488355327", (0, "", "")),
-        ("9", "140737488355328", fault),
-        ("9", "18446744073709551615", fault),
+        ("9", "140737488355328", (1, "", NO_PLACE)),
+        ("9", "18446744073709551615", (1, "", NO_PLACE)),
     ];
-    for (cluster_bits, cluster, want) in cases {
+    for (cluster_bits, cluster, expected) in cases {
+        let files = WatchedFiles::new(&rt, false);
         let words = l2_words(rt.alloc(), image, cluster_bits, cluster)?;
-        assert_run(&rt, &words, want)?;
+        runs(&files, words.as_slice(), expected)?;
+        same(
+            &files.opens(),
+            &Opens {
+                reading: 1,
+                other: 0,
+            },
+            cluster,
+        )?;
     }
-    assert_eq!(rt; fs::read(&rt, image)?, image_with_one_mapping(rt.alloc())?);
-    Ok(())
+    let (bytes, whole) = (fs::read(&rt, image)?, image_with_one_mapping(rt.alloc())?);
+    same_bytes(
+        bytes.as_slice(),
+        whole.as_slice(),
+        "the image after all runs",
+    )
 }
 
 const WRONG_WORDS: [&[&str]; 20] = [
@@ -109,42 +171,48 @@ const WRONG_WORDS: [&[&str]; 20] = [
 ];
 
 #[test]
-fn wrong_words_are_the_usage_line_and_touch_no_file(rt: HostRuntime) -> Result<(), Fail> {
+fn wrong_words_are_the_usage_line_and_open_no_file(rt: HostRuntime) -> Result<(), Fail> {
     let file = one_mapping(&rt, "wrong-words")?;
     let missing = temporary_path(&rt, "wrong-words-missing")?;
+    let files = WatchedFiles::new(&rt, false);
     for image in [file.path.as_str(), missing.as_str()] {
         for words in WRONG_WORDS {
             let words = words_of(rt.alloc(), words, image)?;
-            assert_run(&rt, &words, (2, "", USAGE))?;
+            runs(&files, words.as_slice(), (2, "", USAGE))?;
         }
     }
-    assert!(rt; fs::metadata(&rt, missing.as_str()).is_err());
-    Ok(())
+    same(
+        &files.opens(),
+        &Opens {
+            reading: 0,
+            other: 0,
+        },
+        "files of wrong words",
+    )
 }
 
 #[test]
 fn a_number_is_1_to_20_digits_that_fit_64_bits(rt: HostRuntime) -> Result<(), Fail> {
     let file = one_mapping(&rt, "numbers")?;
     let image = file.path.as_str();
-    let found = (0, "3 data 0xa00 copied\n", "");
-    for cluster in ["2", "02", "00000000000000000002"] {
-        let words = l2_words(rt.alloc(), image, "9", cluster)?;
-        assert_run(&rt, &words, found)?;
-    }
-    for cluster_bits in ["9", "09", "00000000000000000009"] {
-        let words = l2_words(rt.alloc(), image, cluster_bits, "2")?;
-        assert_run(&rt, &words, found)?;
-    }
-    for cluster in ["18446744073709551615", "09223372036854775808"] {
-        let want = (1, "", "qmeta: fault 21\n");
-        let words = l2_words(rt.alloc(), image, "9", cluster)?;
-        assert_run(&rt, &words, want)?;
+    let numbers: [(&str, &str, Outcome<'_>); 7] = [
+        ("9", "2", (0, ONE_MAPPING, "")),
+        ("9", "02", (0, ONE_MAPPING, "")),
+        ("9", "00000000000000000002", (0, ONE_MAPPING, "")),
+        ("09", "2", (0, ONE_MAPPING, "")),
+        ("00000000000000000009", "2", (0, ONE_MAPPING, "")),
+        ("9", "18446744073709551615", (1, "", NO_PLACE)),
+        ("9", "09223372036854775808", (1, "", NO_PLACE)),
+    ];
+    for (cluster_bits, cluster, expected) in numbers {
+        let words = l2_words(rt.alloc(), image, cluster_bits, cluster)?;
+        runs(&rt, words.as_slice(), expected)?;
     }
     for word in NO_NUMBERS {
-        let words = l2_words(rt.alloc(), image, "9", word)?;
-        assert_run(&rt, &words, (2, "", USAGE))?;
-        let words = l2_words(rt.alloc(), image, word, "2")?;
-        assert_run(&rt, &words, (2, "", USAGE))?;
+        for (cluster_bits, cluster) in [("9", word), (word, "2")] {
+            let words = l2_words(rt.alloc(), image, cluster_bits, cluster)?;
+            runs(&rt, words.as_slice(), (2, "", USAGE))?;
+        }
     }
     Ok(())
 }
@@ -181,13 +249,12 @@ const NO_NUMBERS: [&str; 26] = [
 #[test]
 fn every_number_of_cluster_bits_from_9_to_21_is_taken(rt: HostRuntime) -> Result<(), Fail> {
     let file = temporary_file(&rt, "cluster-bits", &[])?;
-    let image = file.path.as_str();
     for cluster_bits in 0..40 {
         let word = format!(in rt.alloc(); "{cluster_bits}")?;
         let taken = 9 <= cluster_bits && cluster_bits <= 21;
-        let want = if taken { (0, "", "") } else { (2, "", USAGE) };
-        let words = l2_words(rt.alloc(), image, word.as_str(), "5")?;
-        assert_run(&rt, &words, want)?;
+        let expected = if taken { (0, "", "") } else { (2, "", USAGE) };
+        let words = l2_words(rt.alloc(), file.path.as_str(), word.as_str(), "5")?;
+        runs(&rt, words.as_slice(), expected)?;
     }
     Ok(())
 }
@@ -198,12 +265,43 @@ fn what_is_no_file_is_the_storage_fault(rt: HostRuntime) -> Result<(), Fail> {
     let folder = env::temp_dir(&rt)?.into_string();
     for image in [missing.as_str(), folder.as_str(), ""] {
         for cluster in ["2", "140737488355328"] {
-            let want = (1, "", "qmeta: fault 34\n");
             let words = l2_words(rt.alloc(), image, "9", cluster)?;
-            assert_run(&rt, &words, want)?;
+            runs(&rt, words.as_slice(), (1, "", STORAGE))?;
         }
     }
-    assert!(rt; fs::metadata(&rt, missing.as_str()).is_err());
+    holds(
+        fs::metadata(&rt, missing.as_str()).is_err(),
+        "no file is created",
+    )
+}
+
+// It is never opened for reading in place of that.
+#[test]
+fn a_file_that_may_not_be_written_is_opened_for_reading_alone(rt: HostRuntime) -> Result<(), Fail> {
+    let file = one_mapping(&rt, "read-only")?;
+    let cases = [
+        (
+            true,
+            Some(Fault::Storage),
+            Opens {
+                reading: 0,
+                other: 1,
+            },
+        ),
+        (
+            false,
+            None,
+            Opens {
+                reading: 1,
+                other: 0,
+            },
+        ),
+    ];
+    for (writable, fault, opens) in cases {
+        let files = WatchedFiles::new(&rt, true);
+        let answer = FileStorage::open(&files, file.path.as_str(), writable);
+        same(&(answer.err(), files.opens()), &(fault, opens), writable)?;
+    }
     Ok(())
 }
 
@@ -219,132 +317,83 @@ fn each_failed_call_of_the_file_is_the_storage_fault(rt: HostRuntime) -> Result<
             step: 100,
             end: u64::MAX,
         };
-        let (mut out, mut err) = (Vec::new(rt.alloc()), Vec::new(rt.alloc()));
-        let status = run_words(&files, words.as_slice(), &mut out, &mut err);
-        let (lines, faults) = match status {
-            0 => ("3 data 0xa00 copied\n", ""),
-            _ => ("", "qmeta: fault 34\n"),
+        let run = Run::over(&files, words.as_slice(), output(&rt), output(&rt));
+        let succeeds = run.status == 0;
+        let expected = if succeeds {
+            (0, ONE_MAPPING, "")
+        } else {
+            (1, "", STORAGE)
         };
-        assert_eq!(rt; out.as_slice(), lines.as_bytes(), "after {passes} calls");
-        assert_eq!(rt; err.as_slice(), faults.as_bytes(), "after {passes} calls");
-        failed |= status == 1;
-        passed |= status == 0;
+        run.ends_in(expected, passes)?;
+        failed |= !succeeds;
+        passed |= succeeds;
     }
-    assert!(rt; failed && passed);
-    Ok(())
+    holds(
+        failed && passed,
+        "some calls are planned to fail, and not all",
+    )
 }
 
 #[test]
-fn a_failed_write_to_the_output_is_the_storage_fault(rt: HostRuntime) -> Result<(), Fail> {
-    let numbers = [0xa00, 0, 1, 0x0200];
-    let lines = "0 data 0xa00\n2 zero\n3 data 0x200\n";
+fn what_was_printed_before_a_failed_write_is_flushed(rt: HostRuntime) -> Result<(), Fail> {
+    let lines = "0 data 0xa00 copied\n2 zero\n3 zero 0x600\n4 compressed 0x600 512\n";
+    let numbers = [0x8000_0000_0000_0a00, 0, 1, 0x601, 0x4000_0000_0000_0600];
     let bytes = super::table_of(rt.alloc(), &numbers)?;
     let file = temporary_file(&rt, "failed-writes", bytes.as_slice())?;
     let words = l2_words(rt.alloc(), file.path.as_str(), "9", "0")?;
-    let (mut failed, mut passed) = (false, false);
-    for passes in 0..48 {
-        let mut out = FailingOutput::new(rt.alloc());
-        let mut err = Vec::new(rt.alloc());
-        out.fail_after(passes);
-        let status = run_words(&rt, words.as_slice(), &mut out, &mut err);
-        let whole = out.bytes() == lines.as_bytes();
-        let fault = if whole { "" } else { "qmeta: fault 34\n" };
-        assert_eq!(rt; status, if whole { 0 } else { 1 }, "after {passes} writes");
-        assert_eq!(rt; err.as_slice(), fault.as_bytes(), "after {passes} writes");
-        assert!(rt;
-            lines.as_bytes().starts_with(out.bytes()),
-            "after {passes} writes"
+    for room in 0..lines.len() {
+        let printed = std::str::from_utf8(&lines.as_bytes()[..room])?;
+        let run = Run::over(
+            &rt,
+            words.as_slice(),
+            failing_output(&rt, room),
+            output(&rt),
         );
-        failed |= status == 1;
-        passed |= status == 0;
+        run.ends_in((1, printed, STORAGE), room)?;
     }
-    assert!(rt; failed && passed);
-    Ok(())
-}
-
-// An output that takes all writes and fails where it is flushed.
-#[derive(Debug, Drop)]
-struct UnflushedOutput {
-    bytes: Vec<u8>,
-}
-
-impl Write for UnflushedOutput {
-    fn write(&mut self, buf: &[u8]) -> io::Result<usize> {
-        self.bytes.write(buf)
-    }
-
-    fn flush(&mut self) -> io::Result<()> {
-        Err(io::Error::other("no flush passes"))
-    }
+    let out = failing_output(&rt, lines.len());
+    Run::over(&rt, words.as_slice(), out, output(&rt)).ends_in((0, lines, ""), "room for all")
 }
 
 #[test]
-fn a_failed_flush_of_the_output_is_the_storage_fault(rt: HostRuntime) -> Result<(), Fail> {
+fn a_failed_flush_is_told_where_the_run_has_no_fault_of_its_own(
+    rt: HostRuntime,
+) -> Result<(), Fail> {
     let file = one_mapping(&rt, "failed-flush")?;
-    for (cluster, lines) in [("2", "3 data 0xa00 copied\n"), ("0", "")] {
-        let words = l2_words(rt.alloc(), file.path.as_str(), "9", cluster)?;
-        let mut out = UnflushedOutput {
-            bytes: Vec::new(rt.alloc()),
-        };
-        let mut err = Vec::new(rt.alloc());
-        let status = run_words(&rt, words.as_slice(), &mut out, &mut err);
-        assert_eq!(rt; status, 1);
-        assert_eq!(rt; out.bytes.as_slice(), lines.as_bytes());
-        assert_eq!(rt; err.as_slice(), b"qmeta: fault 34\n".as_slice());
-    }
-    Ok(())
-}
-
-#[test]
-fn a_buffered_error_output_is_flushed(rt: HostRuntime) -> Result<(), Fail> {
-    for (cluster_bits, line) in [("9", "qmeta: fault 34\n"), ("8", USAGE)] {
-        let words = l2_words(rt.alloc(), "", cluster_bits, "2")?;
-        let mut err = BufWriter::new(rt.alloc(), FailingOutput::new(rt.alloc()))?;
-        run_words(&rt, words.as_slice(), &mut Vec::new(rt.alloc()), &mut err);
-        assert_eq!(rt; err.get_ref().bytes(), line.as_bytes());
-    }
-    Ok(())
-}
-
-#[test]
-fn a_buffered_output_is_flushed_at_the_end(rt: HostRuntime) -> Result<(), Fail> {
-    let file = one_mapping(&rt, "buffered")?;
-    let words = l2_words(rt.alloc(), file.path.as_str(), "9", "2")?;
-    for (passes, want, lines) in [(0, 1, ""), (1, 0, "3 data 0xa00 copied\n")] {
-        let mut inner = FailingOutput::new(rt.alloc());
-        inner.fail_after(passes);
-        let mut out = BufWriter::new(rt.alloc(), inner)?;
-        let mut err = Vec::new(rt.alloc());
-        let status = run_words(&rt, words.as_slice(), &mut out, &mut err);
-        assert_eq!(rt; status, want, "after {passes} writes");
-        assert_eq!(rt;
-            out.get_ref().bytes(),
-            lines.as_bytes(),
-            "after {passes} writes"
-        );
-    }
-    Ok(())
-}
-
-#[test]
-fn a_failed_write_to_the_error_output_keeps_the_status(rt: HostRuntime) -> Result<(), Fail> {
-    let file = one_mapping(&rt, "failed-errors")?;
-    let cases: [(&[&str], u8, &str); 4] = [
-        (&["l2", "IMAGE", "9", "2"], 0, "3 data 0xa00 copied\n"),
-        (&["l2", "IMAGE", "9", "140737488355328"], 1, ""),
-        (&["l2", "", "9", "2"], 1, ""),
-        (&["l2", "IMAGE", "8", "2"], 2, ""),
+    let cases = [
+        ("9", "2", ONE_MAPPING, STORAGE),
+        ("9", "0", "", STORAGE),
+        ("9", "140737488355328", "", NO_PLACE),
+        ("10", "1", "", "qmeta: fault 19\n"),
     ];
-    for (words, want, lines) in cases {
-        for passes in 0..4 {
-            let mut out = Vec::new(rt.alloc());
-            let mut err = FailingOutput::new(rt.alloc());
-            err.fail_after(passes);
-            let list = words_of(rt.alloc(), words, file.path.as_str())?;
-            let status = run_words(&rt, list.as_slice(), &mut out, &mut err);
-            assert_eq!(rt; status, want, "{words:?}, after {passes} writes");
-            assert_eq!(rt; out.as_slice(), lines.as_bytes(), "{words:?}");
+    for (cluster_bits, cluster, written, told) in cases {
+        let words = l2_words(rt.alloc(), file.path.as_str(), cluster_bits, cluster)?;
+        let run = Run::over(&rt, words.as_slice(), unflushed_output(&rt), output(&rt));
+        run.ends_in((1, "", told), cluster)?;
+        same_bytes(run.out.bytes(), written.as_bytes(), cluster)?;
+    }
+    Ok(())
+}
+
+#[test]
+fn a_failed_error_output_keeps_the_status(rt: HostRuntime) -> Result<(), Fail> {
+    let file = one_mapping(&rt, "failed-errors")?;
+    let cases: [(&[&str], Outcome<'_>); 4] = [
+        (&["l2", "IMAGE", "9", "2"], (0, ONE_MAPPING, "")),
+        (&["l2", "IMAGE", "9", "140737488355328"], (1, "", NO_PLACE)),
+        (&["l2", "", "9", "2"], (1, "", STORAGE)),
+        (&["l2", "IMAGE", "8", "2"], (2, "", USAGE)),
+    ];
+    for (words, (status, printed, told)) in cases {
+        let words = words_of(rt.alloc(), words, file.path.as_str())?;
+        for room in 0..told.len() {
+            let begun = std::str::from_utf8(&told.as_bytes()[..room])?;
+            let err = failing_output(&rt, room);
+            let run = Run::over(&rt, words.as_slice(), output(&rt), err);
+            run.ends_in((status, printed, begun), room)?;
         }
+        let run = Run::over(&rt, words.as_slice(), output(&rt), unflushed_output(&rt));
+        run.ends_in((status, printed, ""), "no flush passes")?;
     }
     Ok(())
 }
@@ -355,17 +404,18 @@ fn a_fault_is_reported_by_its_number(rt: HostRuntime) -> Result<(), Fail> {
         (Fault::NotQcow2, "qmeta: fault 1\n"),
         (Fault::Incompatible(2), "qmeta: fault 17\n"),
         (Fault::BadEdit(7), "qmeta: fault 32\n"),
-        (Fault::Storage, "qmeta: fault 34\n"),
+        (Fault::Storage, STORAGE),
         (Fault::NoMemory, "qmeta: fault 35\n"),
         (Fault::ExternalData, "qmeta: fault 36\n"),
     ];
     for (fault, line) in cases {
-        let mut err = Vec::new(rt.alloc());
-        assert_eq!(rt; report_fault(fault, &mut err), 1);
-        assert_eq!(rt; err.as_slice(), line.as_bytes());
+        let (mut err, mut failing) = (output(&rt), failing_output(&rt, 0));
+        let statuses = (
+            report_fault(fault, &mut err),
+            report_fault(fault, &mut failing),
+        );
+        same(&statuses, &(1, 1), fault)?;
+        same_bytes(err.flushed(), line.as_bytes(), fault)?;
     }
-    let mut err = FailingOutput::new(rt.alloc());
-    err.fail_after(0);
-    assert_eq!(rt; report_fault(Fault::Storage, &mut err), 1);
     Ok(())
 }

@@ -1,4 +1,5 @@
 use Rattle.std.proofs.Common.{arith}
+use Rattle.std.specs.Fmt.{decimal}
 use Rattle.qcow2_session.proofs.LinesLemmas.{entry_lines_more}
 use Rattle.qcow2_metadata.specs.Entries.{meaning}
 use Rattle.qcow2_session.proofs.commands.l2.print_table.Goals as goal
@@ -9,6 +10,6 @@ loop-index-preserved g c =
     let line = c.in_ok-print_entry.ensures.line in
     let bits = c.cluster_bits-cluster_bits.ensures.value in
     let mapping = c.in_ok-mapping.ensures.mapping in
-    entry_lines_more _ _ _ table.geometry
+    entry_lines_more _ _ _ decimal table.geometry
     table.numbers c.loop-index.index (meaning c.in_ok-mapping.mapping)
     (omega arith) c.requires mapping c.loop-index.invariant (rw bits at line)
