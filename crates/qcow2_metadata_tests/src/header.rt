@@ -1,8 +1,8 @@
 //! What headers tell of an image.
 
-use crate::tables::text;
+use crate::fixtures::text;
 use qcow2_metadata::Header;
-use qcow2_testing::is_cluster_bits;
+use qcow2_testing::{is_cluster_bits, same};
 use std::test::Fail;
 
 #[test]
@@ -16,14 +16,23 @@ fn a_new_header_tells_its_sizes(rt: HostRuntime) -> Result<(), Fail> {
         (20, 1048576, 131072),
         (21, 2097152, 262144),
     ];
-    for (bits, size, entries) in table {
-        assert!(rt; is_cluster_bits(bits));
+    for row in table {
+        let bits = row.0;
+        if !is_cluster_bits(bits) {
+            return Err("cluster bits that no image has".into());
+        }
         for refcount_order in 0..7u32 {
             let header = Header::new(rt.alloc(), bits, refcount_order, None, None, None)?;
-            assert_eq!(rt; header.cluster_bits(), bits);
-            assert_eq!(rt; header.cluster_size(), size, "of {bits}");
-            assert_eq!(rt; header.l2_entries(), entries, "of {bits}");
-            assert!(rt; !header.external_data_file());
+            let sizes = (
+                header.cluster_bits(),
+                header.cluster_size(),
+                header.l2_entries(),
+            );
+            same(
+                &(sizes, header.external_data_file()),
+                &(row, false),
+                (row, refcount_order),
+            )?;
         }
     }
     Ok(())
@@ -41,7 +50,8 @@ fn guest_data_is_external_exactly_where_a_data_file_is_named(rt: HostRuntime) ->
         (None, None, Some(""), true),
         (Some("base.img"), Some("qcow2"), Some("data.raw"), true),
     ];
-    for (backing, format, data, external) in table {
+    for row in table {
+        let (backing, format, data, external) = row;
         let header = Header::new(
             rt.alloc(),
             9,
@@ -50,11 +60,7 @@ fn guest_data_is_external_exactly_where_a_data_file_is_named(rt: HostRuntime) ->
             text(rt.alloc(), format)?,
             text(rt.alloc(), data)?,
         )?;
-        assert_eq!(rt;
-            header.external_data_file(),
-            external,
-            "{backing:?} {format:?} {data:?}"
-        );
+        same(&header.external_data_file(), &external, row)?;
     }
     Ok(())
 }

@@ -1,10 +1,20 @@
 //! Which numbers are L1 entries, and where their L2 tables lie.
 
-use crate::tables::header_with;
+use crate::fixtures::header_with;
 use qcow2_base::{Fault, HostOffset};
 use qcow2_metadata::{L1Entry, TableEntry};
-use qcow2_testing::is_cluster_bits;
+use qcow2_testing::same;
 use std::test::Fail;
+
+// What an entry tells: the offset of its L2 table, whether it is copied, its reserved bits and its number.
+fn told(entry: L1Entry) -> (Option<HostOffset>, bool, u64, u64) {
+    (
+        entry.l2_offset(),
+        entry.is_copied(),
+        entry.reserved_bits(),
+        entry.to_plain(),
+    )
+}
 
 #[test]
 fn an_l1_entry_tells_its_offset_and_whether_it_is_copied(rt: HostRuntime) -> Result<(), Fail> {
@@ -21,14 +31,15 @@ fn an_l1_entry_tells_its_offset_and_whether_it_is_copied(rt: HostRuntime) -> Res
         (21, 0x8000_0000_0020_0000, Some(0x20_0000), true),
         (21, 0x80ff_ffff_ffe0_0000, Some(0xff_ffff_ffe0_0000), true),
     ];
-    for (bits, number, offset, copied) in table {
-        assert!(rt; is_cluster_bits(bits));
+    for row in table {
+        let (bits, number, offset, copied) = row;
         let header = header_with(rt.alloc(), bits, false)?;
         let entry = L1Entry::try_from_plain(number, &header)?;
-        assert_eq!(rt; entry.to_plain(), number);
-        assert_eq!(rt; entry.l2_offset(), offset.map(HostOffset), "{number}");
-        assert_eq!(rt; entry.is_copied(), copied, "{number}");
-        assert_eq!(rt; entry.reserved_bits(), 0, "{number}");
+        same(
+            &told(entry),
+            &(offset.map(HostOffset), copied, 0, number),
+            row,
+        )?;
     }
     Ok(())
 }
@@ -51,11 +62,11 @@ fn an_l1_entry_with_a_reserved_bit_or_else_an_unaligned_offset_is_refused(
         (16, 0x201, Fault::EntryReserved),
         (16, 0x0100_0000_0000_0200, Fault::EntryReserved),
     ];
-    for (bits, number, fault) in table {
-        assert!(rt; is_cluster_bits(bits));
+    for row in table {
+        let (bits, number, fault) = row;
         let header = header_with(rt.alloc(), bits, true)?;
-        let answer = L1Entry::try_from_plain(number, &header);
-        assert_eq!(rt; answer, Err(fault), "{number}");
+        same(&L1Entry::try_from_plain(number, &header), &Err(fault), row)?;
+        same(&L1Entry::is_lawful(number, &header), &false, row)?;
     }
     Ok(())
 }
@@ -65,22 +76,21 @@ fn each_bit_of_an_l1_entry_is_reserved_or_of_the_offset_or_copied(
     rt: HostRuntime,
 ) -> Result<(), Fail> {
     for bits in [9, 16, 21u32] {
-        assert!(rt; is_cluster_bits(bits));
         let header = header_with(rt.alloc(), bits, false)?;
         for bit in 0..64u32 {
-            let answer = L1Entry::try_from_plain(1 << bit, &header);
-            if bit <= 8 || 56 <= bit && bit <= 62 {
-                assert_eq!(rt; answer, Err(Fault::EntryReserved), "bit {bit}");
+            let number = 1 << bit;
+            let want = if bit <= 8 || 56 <= bit && bit <= 62 {
+                Err(Fault::EntryReserved)
             } else if bit < bits {
-                assert_eq!(rt; answer, Err(Fault::EntryUnaligned), "bit {bit}");
+                Err(Fault::EntryUnaligned)
             } else if bit <= 55 {
-                let offset = Some(HostOffset(1 << bit));
-                assert_eq!(rt; answer?.l2_offset(), offset, "bit {bit}");
-                assert!(rt; !answer?.is_copied(), "bit {bit}");
+                Ok((Some(HostOffset(number)), false, 0, number))
             } else {
-                assert_eq!(rt; answer?.l2_offset(), None);
-                assert!(rt; answer?.is_copied());
-            }
+                Ok((None, true, 0, number))
+            };
+            let found = L1Entry::try_from_plain(number, &header).map(told);
+            let lawful = L1Entry::is_lawful(number, &header);
+            same(&(found, lawful), &(want, want.is_ok()), (bits, bit))?;
         }
     }
     Ok(())

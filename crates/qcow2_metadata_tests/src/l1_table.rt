@@ -3,20 +3,20 @@
 ghost use Rattle.std.specs.Prelude.{◌*◌, ◌^◌, ◌-◌, ◌<◌, ◌≤◌, ◌↔◌, IsTrue};
 ghost use Rattle.qcow2_base.specs.Types.{IsClusterBits};
 
+use crate::fixtures::{
+    LOADED, NUMBER, Told, cleared_table, header_with, image_with, place, table_that_tells, tells,
+};
 use crate::pending_clusters::refusal;
-use crate::tables::{NUMBER, cleared_table, has_one_entry, header_with, image_with, table_with};
-use crate::three_tables::place;
 use qcow2_base::{ClusterCount, Fault, HostCluster, HostOffset};
 use qcow2_metadata::{
-    ClustersToFreeEntry, Header, L1Table, L2Table, MAX_OFFSET, PendingClusters, Table,
+    ClustersToFreeEntry, Header, L1Entry, L1Table, L2Table, MAX_OFFSET, PendingClusters, Table,
 };
-use qcow2_testing::{FailingStorage, StorageCall, fits, is_cluster_bits};
+use qcow2_testing::{FailingStorage, StorageCall, fits, same, same_bytes};
 use std::alloc::Global;
-use std::process::Abort;
 use std::test::Fail;
 
 // Cluster bits, how many entries there are, an index, and how many there are once the table has it.
-const GROWTHS: [(u32, usize, usize, usize); 14] = [
+const GROWTHS: [(u32, usize, usize, usize); 36] = [
     (9, 0, 0, 64),
     (9, 0, 63, 64),
     (9, 0, 64, 128),
@@ -27,29 +27,67 @@ const GROWTHS: [(u32, usize, usize, usize); 14] = [
     (9, 65, 63, 128),
     (9, 1000, 64, 1024),
     (9, 0, 4194303, 4194304),
+    (10, 0, 0, 128),
+    (10, 1, 128, 256),
+    (11, 0, 0, 256),
+    (11, 1, 256, 512),
+    (12, 0, 0, 512),
+    (12, 1, 512, 1024),
+    (13, 0, 0, 1024),
+    (13, 1, 1024, 2048),
+    (14, 0, 0, 2048),
+    (14, 1, 2048, 4096),
+    (15, 0, 0, 4096),
+    (15, 1, 4096, 8192),
     (16, 0, 0, 8192),
     (16, 0, 8192, 16384),
+    (17, 0, 0, 16384),
+    (17, 1, 16384, 32768),
+    (18, 0, 0, 32768),
+    (18, 1, 32768, 65536),
+    (19, 0, 0, 65536),
+    (19, 1, 65536, 131072),
+    (20, 0, 0, 131072),
+    (20, 1, 131072, 262144),
+    (21, 0, 0, 262144),
     (21, 0, 262144, 524288),
+    (21, 1, 262144, 524288),
     (21, 0, 4194303, 4194304),
 ];
 
 #[test]
 fn an_l1_table_grows_by_whole_clusters(rt: HostRuntime) -> Result<(), Fail> {
-    for (bits, entries, index, want) in GROWTHS {
-        assert!(rt; is_cluster_bits(bits) && entries <= 1000);
+    for row in GROWTHS {
+        let (bits, entries, index, want) = row;
         let header = header_with(rt.alloc(), bits, false)?;
-        let source: L1Table = cleared_table(rt.alloc(), &header, entries)?;
+        let told = Told {
+            entries,
+            entry: (0, NUMBER),
+            ..LOADED
+        };
+        let source: L1Table = table_that_tells(rt.alloc(), &header, &told)?;
         let grown = source.clone_and_grow(index, &header)?;
-        assert_eq!(rt; grown.entries(), want, "{entries} to {index} with {bits}");
-        assert!(rt; has_one_entry(&grown, 0, 0), "{entries} to {index}");
-        assert!(rt; grown.in_bounds(index), "{entries} to {index}");
-        assert_eq!(rt; source.entries(), entries);
+        let number = if entries > 0 { NUMBER } else { 0 };
+        let told_grown = Told {
+            entries: want,
+            entry: (0, number),
+            cluster: None,
+            modified: true,
+        };
+        tells(&grown, &told_grown, row)?;
+        same(
+            &(grown.in_bounds(index), grown.cluster_bits()),
+            &(true, bits),
+            row,
+        )?;
+        tells(&source, &told, row)?;
     }
     Ok(())
 }
 
 #[test]
 fn an_l1_table_does_not_grow_past_the_most_entries(rt: HostRuntime) -> Result<(), Fail> {
+    // Cluster bits, how many entries there are, and an index that the table can't have.
     let table = [
         (9, 0, 4194304),
         (9, 1, usize::MAX),
@@ -59,14 +97,22 @@ fn an_l1_table_does_not_grow_past_the_most_entries(rt: HostRuntime) -> Result<()
         (21, 0, 4194304),
         (21, 1, usize::MAX),
     ];
-    for (bits, entries, index) in table {
-        assert!(rt; is_cluster_bits(bits) && entries <= 4194305usize);
+    for row in table {
+        let (bits, entries, index) = row;
+        if entries > 4194305 {
+            return Err("more entries than the tests have".into());
+        }
         let header = header_with(rt.alloc(), bits, false)?;
         let source: L1Table = cleared_table(rt.alloc(), &header, entries)?;
-        let refused = source.clone_and_grow(index, &header).err();
-        assert_eq!(rt; refused, Some(Fault::CannotGrow), "{entries} to {index}");
-        assert_eq!(rt; source.entries(), entries);
-        assert!(rt; has_one_entry(&source, 0, 0), "{entries} to {index}");
+        let answer = source.clone_and_grow(index, &header);
+        same(&answer.err(), &Some(Fault::CannotGrow), row)?;
+        let told = Told {
+            entries,
+            entry: (0, 0),
+            cluster: None,
+            modified: true,
+        };
+        tells(&source, &told, row)?;
     }
     Ok(())
 }
@@ -75,34 +121,42 @@ fn an_l1_table_does_not_grow_past_the_most_entries(rt: HostRuntime) -> Result<()
 fn growth_is_the_same_for_each_width_of_a_refcount(rt: HostRuntime) -> Result<(), Fail> {
     let header = Header::new(rt.alloc(), 9, 6, None, None, None)?;
     let source: L1Table = cleared_table(rt.alloc(), &header, 64)?;
-    let refused = source.clone_and_grow(4194304, &header).err();
-    assert_eq!(rt; refused, Some(Fault::CannotGrow));
+    let answer = source.clone_and_grow(4194304, &header);
+    same(&answer.err(), &Some(Fault::CannotGrow), "too far")?;
     let grown = source.clone_and_grow(4194303, &header)?;
-    assert_eq!(rt; grown.entries(), 4194304);
-    assert!(rt; has_one_entry(&grown, 0, 0));
-    Ok(())
+    let told = Told {
+        entries: 4194304,
+        entry: (0, 0),
+        cluster: None,
+        modified: true,
+    };
+    tells(&grown, &told, "as far as can be")
 }
 
 #[test]
 fn a_grown_l1_table_has_the_old_entries_and_no_cluster(rt: HostRuntime) -> Result<(), Fail> {
     let header = header_with(rt.alloc(), 9, false)?;
     for modified in [false, true] {
-        let mut source: L1Table = table_with(rt.alloc(), &header, 65, 64, NUMBER)?;
-        place(&rt, &mut source, Some(7), modified);
+        let told = Told {
+            entries: 65,
+            entry: (64, NUMBER),
+            cluster: Some(7),
+            modified,
+        };
+        let source: L1Table = table_that_tells(rt.alloc(), &header, &told)?;
         for (index, entries) in [(0, 128), (127, 128), (128, 192), (200, 256)] {
             let grown = source.clone_and_grow(index, &header)?;
-            assert_eq!(rt; grown.entries(), entries);
-            assert!(rt; has_one_entry(&grown, 64, NUMBER), "to {index}");
-            assert_eq!(rt; (grown.get_cluster(), grown.get_offset()), (None, None));
-            assert!(rt; grown.is_modified());
-            assert_eq!(rt; grown.cluster_bits(), 9);
+            let told_grown = Told {
+                entries,
+                cluster: None,
+                modified: true,
+                ..told
+            };
+            tells(&grown, &told_grown, (modified, index))?;
         }
-        let refused = source.clone_and_grow(4194304, &header).err();
-        assert_eq!(rt; refused, Some(Fault::CannotGrow));
-        assert_eq!(rt; source.entries(), 65);
-        assert!(rt; has_one_entry(&source, 64, NUMBER));
-        assert_eq!(rt; source.get_cluster(), Some(HostCluster(7)));
-        assert_eq!(rt; source.is_modified(), modified);
+        let answer = source.clone_and_grow(4194304, &header);
+        same(&answer.err(), &Some(Fault::CannotGrow), modified)?;
+        tells(&source, &told, modified)?;
     }
     Ok(())
 }
@@ -110,21 +164,29 @@ fn a_grown_l1_table_has_the_old_entries_and_no_cluster(rt: HostRuntime) -> Resul
 #[test]
 fn a_grown_l1_table_is_written_whole(rt: HostRuntime) -> Result<(), Fail> {
     let header = header_with(rt.alloc(), 9, false)?;
-    let source: L1Table = table_with(rt.alloc(), &header, 1, 0, NUMBER)?;
+    let told = Told {
+        entries: 1,
+        entry: (0, NUMBER),
+        ..LOADED
+    };
+    let source: L1Table = table_that_tells(rt.alloc(), &header, &told)?;
     let mut grown = source.clone_and_grow(64, &header)?;
     let inner = image_with(rt.alloc(), 2048, &[(512, u64::MAX), (1528, u64::MAX)])?;
     let mut image = FailingStorage::new(rt.alloc(), inner);
-    assert_eq!(rt; grown.write(&mut image), Err(Fault::NoOffset));
-    place(&rt, &mut grown, Some(1), true);
-    assert_eq!(rt; grown.write(&mut image), Ok(()));
+    same(
+        &grown.write(&mut image),
+        &Err(Fault::NoOffset),
+        "without a cluster",
+    )?;
+    place(&mut grown, Some(1), true)?;
+    same(&grown.write(&mut image), &Ok(()), "write")?;
     let call = StorageCall::Write {
         offset: 512,
         len: 1024,
     };
-    assert_eq!(rt; image.calls(), [call].as_slice());
+    same(&image.calls(), &[call].as_slice(), "write")?;
     let want = image_with(rt.alloc(), 2048, &[(512, NUMBER)])?;
-    assert_eq!(rt; image.inner().bytes(), want.bytes());
-    Ok(())
+    same_bytes(image.inner().bytes(), want.bytes(), "write")
 }
 
 // Whether an L1 entry may refer to the cluster: not the header's, nor one past the last offset.
@@ -140,7 +202,6 @@ fn is_referable(cluster: u64, bits: u32) -> bool
 
 // Enters a table that begins with the cluster, with a pending value for that cluster or with none.
 fn enter(
-    rt: &impl Abort,
     alloc: Global,
     l1_table: &mut L1Table,
     index: usize,
@@ -149,8 +210,9 @@ fn enter(
 ) -> Result<(), Fail> {
     let bits = l1_table.cluster_bits();
     let mut l2_table = L2Table::new_cleared(alloc, &header_with(alloc, bits, false)?)?;
-    assert!(rt; fits(cluster, 0, bits) && is_referable(cluster, bits));
-    assert!(rt; index < l1_table.entries());
+    if !is_referable(cluster, bits) || !fits(cluster, 0, bits) || !l1_table.in_bounds(index) {
+        return Err("no such cluster or no such index".into());
+    }
     l2_table.set_cluster(HostCluster(cluster));
     let new_allocation = if is_pending {
         let count = ClusterCount(1);
@@ -159,8 +221,7 @@ fn enter(
         None
     };
     let answer = l1_table.enter_l2_table(index, &l2_table, new_allocation);
-    assert_eq!(rt; refusal(answer), None, "cluster {cluster}");
-    Ok(())
+    same(&refusal(answer), &None, (bits, index, cluster))
 }
 
 #[test]
@@ -185,48 +246,52 @@ fn an_entered_l2_table_is_copied_and_at_its_offset(rt: HostRuntime) -> Result<()
             0x80ff_ffff_ffe0_0000,
         ),
     ];
-    for (bits, cluster, offset, number) in table {
-        assert!(rt; is_cluster_bits(bits));
+    for row in table {
+        let (bits, cluster, offset, number) = row;
         let header = header_with(rt.alloc(), bits, false)?;
         for (index, is_pending) in [(0, false), (0, true), (63, false), (64, true)] {
             // The entry that was there, of another L2 table, is gone.
-            let mut l1_table = table_with(rt.alloc(), &header, 65, index as u64, NUMBER)?;
-            place(&rt, &mut l1_table, Some(5), false);
-            enter(&rt, rt.alloc(), &mut l1_table, index, cluster, is_pending)?;
-            assert!(rt; has_one_entry(&l1_table, index, number), "{number}");
-            let entry = l1_table.get(index);
-            assert_eq!(rt; entry.l2_offset(), Some(HostOffset(offset)));
-            assert!(rt; entry.is_copied() && l1_table.is_modified(), "{number}");
-            assert_eq!(rt; l1_table.get_cluster(), Some(HostCluster(5)));
-            assert_eq!(rt; l1_table.entries(), 65);
+            let told = Told {
+                entries: 65,
+                entry: (index, NUMBER),
+                cluster: Some(5),
+                modified: false,
+            };
+            let mut l1_table = table_that_tells(rt.alloc(), &header, &told)?;
+            enter(rt.alloc(), &mut l1_table, index, cluster, is_pending)?;
+            let entered = Told {
+                entry: (index, number),
+                modified: true,
+                ..told
+            };
+            tells(&l1_table, &entered, row)?;
+            let entry: L1Entry = l1_table.get(index);
+            let told = (entry.l2_offset(), entry.is_copied());
+            same(&told, &(Some(HostOffset(offset)), true), (row, index))?;
         }
     }
     Ok(())
 }
 
-// Refuses a table without a cluster, and hands the pending value back. The L1 table, which cluster 5
-// holds and whose entry 64 alone isn't 0, is as before.
+// Refuses a table without a cluster, and hands the pending value back. The L1 table is as before.
 fn refuses_to_enter(
-    rt: &impl Abort,
     alloc: Global,
-    l1_table: &mut L1Table,
-    index: usize,
+    header: &Header,
+    told: &Told,
     pending: Option<ClustersToFreeEntry>,
 ) -> Result<(), Fail> {
-    let header = header_with(alloc, l1_table.cluster_bits(), false)?;
-    let l2_table = L2Table::new_cleared(alloc, &header)?;
-    assert!(rt; index < l1_table.entries());
-    let new_allocation = match pending {
-        Some(clusters) => Some(PendingClusters::new(clusters.first, clusters.count)),
-        None => None,
-    };
-    let modified = l1_table.is_modified();
-    let answer = l1_table.enter_l2_table(index, &l2_table, new_allocation);
-    let refused = Some((Fault::NotPlaced, pending));
-    assert_eq!(rt; refusal(answer), refused, "{pending:?}");
-    assert_eq!(rt; l1_table.is_modified(), modified, "{pending:?}");
-    assert!(rt; has_one_entry(l1_table, 64, NUMBER), "{pending:?}");
-    assert_eq!(rt; l1_table.get_cluster(), Some(HostCluster(5)));
+    let mut l1_table: L1Table = table_that_tells(alloc, header, told)?;
+    let l2_table = L2Table::new_cleared(alloc, header)?;
+    for index in [0, 64] {
+        let new_allocation = match pending {
+            Some(clusters) => Some(PendingClusters::new(clusters.first, clusters.count)),
+            None => None,
+        };
+        let row = (told.modified, index, pending);
+        let answer = l1_table.enter_l2_table(index, &l2_table, new_allocation);
+        same(&refusal(answer), &Some((Fault::NotPlaced, pending)), row)?;
+        tells(&l1_table, told, row)?;
+    }
     Ok(())
 }
 
@@ -235,20 +300,22 @@ fn an_l2_table_without_a_cluster_is_refused_and_the_pending_value_comes_back(
     rt: HostRuntime,
 ) -> Result<(), Fail> {
     let header = header_with(rt.alloc(), 9, false)?;
-    let mut l1_table: L1Table = table_with(rt.alloc(), &header, 65, 64, NUMBER)?;
     for modified in [false, true] {
-        place(&rt, &mut l1_table, Some(5), modified);
+        let told = Told {
+            entries: 65,
+            entry: (64, NUMBER),
+            cluster: Some(5),
+            modified,
+        };
+        refuses_to_enter(rt.alloc(), &header, &told, None)?;
         // Without a cluster to be for, any pending value is taken and comes back.
         for (first, count) in [(7, 1), (9, 3), (0, 0)] {
             let clusters = ClustersToFreeEntry {
                 first: HostCluster(first),
                 count: ClusterCount(count),
             };
-            refuses_to_enter(&rt, rt.alloc(), &mut l1_table, 0, Some(clusters))?;
-            refuses_to_enter(&rt, rt.alloc(), &mut l1_table, 64, Some(clusters))?;
+            refuses_to_enter(rt.alloc(), &header, &told, Some(clusters))?;
         }
-        refuses_to_enter(&rt, rt.alloc(), &mut l1_table, 0, None)?;
-        refuses_to_enter(&rt, rt.alloc(), &mut l1_table, 64, None)?;
     }
     Ok(())
 }

@@ -2,13 +2,20 @@
 #![tactic(auto)]
 
 #[cfg(test)]
-mod entries;
+mod every_table;
+mod fixtures;
 #[cfg(test)]
 mod header;
 #[cfg(test)]
 mod l1_entry;
 #[cfg(test)]
 mod l1_table;
+#[cfg(test)]
+mod l2_entry;
+#[cfg(test)]
+mod l2_table;
+#[cfg(test)]
+mod largest_tables;
 #[cfg(test)]
 mod pending_clusters;
 #[cfg(test)]
@@ -18,11 +25,9 @@ mod ref_table_entry;
 #[cfg(test)]
 mod refused_memory;
 #[cfg(test)]
-mod table;
-mod tables;
-#[cfg(test)]
-mod three_tables;
+mod table_files;
 
-pub use tables::{
-    NUMBER, cleared_table, filled_image, has_one_entry, header_with, image_with, table_with,
+pub use fixtures::{
+    LOADED, NUMBER, Told, cleared_table, filled_image, header_with, image_with, place, put,
+    table_that_tells, tells,
 };

@@ -1,66 +1,254 @@
-//! Tables that are longer than the bytes that are read or written at once.
+//! Tables are read and written in pieces of 4096 bytes, counted from where they begin.
 
-use crate::tables::{filled_image, header_with};
+ghost use Rattle.std.specs.Prelude.{◌<◌, IsTrue, length};
+
+use crate::fixtures::{filled_image, header_with, place, put};
 use qcow2_base::{Fault, HostCluster, MemStorage, Storage};
-use qcow2_metadata::{L1Table, Table, TableEntry};
-use qcow2_testing::{FailingStorage, StorageCall};
+use qcow2_metadata::{Header, L1Table, L2Table, RefTable, Table, TableEntry};
+use qcow2_testing::{FailingStorage, StorageCall, same, same_bytes};
 use std::alloc::Global;
+use std::fmt::Debug;
 use std::test::Fail;
 
-/// Each entry of the table in these tests.
-const ENTRY: u64 = 0x8000_0000_0000_0400;
+/// How long the images of these tests are.
+const LEN: usize = 20000;
 
-/// How many entries it has: two pieces of 4096 bytes, and one entry more.
-const ENTRIES: usize = 1025;
+// A table of these tests, and its pieces: where each begins, and how many bytes it has.
+#[derive(Clone, Copy, Debug)]
+struct InPieces {
+    cluster: u64,
+    start: u64,
+    entries: usize,
+    pieces: &'static [(u64, usize)],
+}
 
-/// The cluster that it begins with, at byte 4096.
-const CLUSTER: HostCluster = HostCluster(8);
+// Cluster bits, and then a table's cluster, its offset, how many entries it has, and its pieces.
+const TABLES: [(u32, u64, u64, usize, &[(u64, usize)]); 11] = [
+    (9, 8, 4096, 0, &[]),
+    (9, 8, 4096, 1, &[(4096, 8)]),
+    (9, 2, 1024, 64, &[(1024, 512)]),
+    (9, 8, 4096, 511, &[(4096, 4088)]),
+    (9, 8, 4096, 512, &[(4096, 4096)]),
+    (9, 8, 4096, 513, &[(4096, 4096), (8192, 8)]),
+    (9, 8, 4096, 1024, &[(4096, 4096), (8192, 4096)]),
+    (9, 8, 4096, 1025, &[(4096, 4096), (8192, 4096), (12288, 8)]),
+    // pieces that begin at no multiple of 4096
+    (9, 1, 512, 513, &[(512, 4096), (4608, 8)]),
+    (9, 7, 3584, 1025, &[(3584, 4096), (7680, 4096), (11776, 8)]),
+    (13, 0, 0, 1025, &[(0, 4096), (4096, 4096), (8192, 8)]),
+];
 
-// An image of 16384 bytes of 0xa5 that has the table's first entries at its place.
-fn image_with_entries(alloc: Global, entries: u64) -> Result<MemStorage, Fail> {
-    let mut image = filled_image(alloc, 16384)?;
-    for index in 0..entries.min(ENTRIES as u64) {
-        image.write(&ENTRY.to_be_bytes(), 4096 + 8 * index)?;
+// The same of L2 tables, which fill a cluster.
+const L2_TABLES: [(u32, u64, u64, &[(u64, usize)]); 5] = [
+    (9, 2, 1024, &[(1024, 512)]),
+    (9, 17, 8704, &[(8704, 512)]),
+    (11, 3, 6144, &[(6144, 2048)]),
+    (12, 1, 4096, &[(4096, 4096)]),
+    (13, 1, 8192, &[(8192, 4096), (12288, 4096)]),
+];
+
+// The number of each entry, which is lawful in each table: no two are the same.
+fn number_at(index: usize) -> u64 {
+    0x8000_0000_0000_0000 + 0x20_0000 * (1 + index as u64 % 4096)
+}
+
+// An image of 0xa5 that has so many entries from an offset on.
+fn image_with_first(alloc: Global, start: u64, entries: usize) -> Result<MemStorage, Fault> {
+    let mut image = filled_image(alloc, LEN)?;
+    for index in 0..entries {
+        let place = start.wrapping_add((index as u64).wrapping_mul(8));
+        put(&mut image, place, number_at(index))?;
     }
     Ok(image)
 }
 
-fn table_of_three_pieces(alloc: Global) -> Result<L1Table, Fail> {
-    let header = header_with(alloc, 9, false)?;
-    let mut image = image_with_entries(alloc, ENTRIES as u64)?;
-    Ok(L1Table::load(alloc, &mut image, &header, CLUSTER, ENTRIES)?)
+// Fails unless the table has its entries and its cluster, and this flag.
+fn has_its_entries<T: Table>(table: &T, told: InPieces, modified: bool) -> Result<(), Fail> {
+    same(
+        &(table.entries(), table.get_cluster(), table.is_modified()),
+        &(told.entries, Some(HostCluster(told.cluster)), modified),
+        told,
+    )?;
+    for index in 0..told.entries {
+        same(
+            &table.get(index).to_plain(),
+            &number_at(index),
+            (told, index),
+        )?;
+    }
+    Ok(())
 }
 
-#[test]
-fn a_long_table_is_written_in_pieces_of_4096_bytes(rt: HostRuntime) -> Result<(), Fail> {
-    let mut table = table_of_three_pieces(rt.alloc())?;
-    let mut image = FailingStorage::new(rt.alloc(), filled_image(rt.alloc(), 16384)?);
-    assert_eq!(&rt; table.write(&mut image), Ok(()));
-    let calls = [(4096, 4096), (8192, 4096), (12288, 8)].map(|(offset, len)| StorageCall::Write {
-        offset,
-        len,
-    });
-    assert_eq!(&rt; image.calls(), calls.as_slice());
-    let written = image_with_entries(rt.alloc(), ENTRIES as u64)?;
-    assert!(&rt; image.inner().bytes() == written.bytes());
-    assert!(&rt; !table.is_modified());
+// Fails unless these pieces were read, or written.
+fn are_calls<R: Debug + Drop>(
+    alloc: Global,
+    calls: &[StorageCall],
+    pieces: &[(u64, usize)],
+    is_read: bool,
+    row: R,
+) -> Result<(), Fail> {
+    let mut want = Vec::new(alloc);
+    for (offset, len) in pieces {
+        let (offset, len) = (*offset, *len);
+        let call = if is_read {
+            StorageCall::Read { offset, len }
+        } else {
+            StorageCall::Write { offset, len }
+        };
+        want.push(call)?;
+    }
+    same(&calls, &want.as_slice(), row)
+}
+
+// Loads the table, after each of its calls failed in turn.
+fn loads_in_pieces<T: Table + Drop>(
+    alloc: Global,
+    header: &Header,
+    told: InPieces,
+) -> Result<T, Fail>
+    requires { IsTrue (T.has_lawful_count header.now.cluster_bits told.entries) }
+{
+    let cluster = HostCluster(told.cluster);
+    let bytes = image_with_first(alloc, told.start, told.entries)?;
+    let mut image = FailingStorage::new(alloc, image_with_first(alloc, told.start, told.entries)?);
+    for passes in 0..told.pieces.len() {
+        image.forget_calls();
+        image.fail_after(passes as u64);
+        let answer: Result<T, Fault> = T::load(alloc, &mut image, header, cluster, told.entries);
+        same(&answer.err(), &Some(Fault::Storage), (told, passes))?;
+        are_calls(
+            alloc,
+            image.calls(),
+            &told.pieces[..passes + 1],
+            true,
+            (told, passes),
+        )?;
+    }
+    image.forget_calls();
+    let table: T = T::load(alloc, &mut image, header, cluster, told.entries)?;
+    are_calls(alloc, image.calls(), told.pieces, true, told)?;
+    same(&image.failures(), &(told.pieces.len() as u64), told)?;
+    same_bytes(image.inner().bytes(), bytes.bytes(), told)?;
+    has_its_entries(&table, told, false)?;
+    Ok(table)
+}
+
+// Writes the table to an image in which some of its entries stand.
+fn writes_whole<T: Table>(
+    alloc: Global,
+    table: &mut T,
+    image: &mut FailingStorage<MemStorage>,
+    told: InPieces,
+) -> Result<(), Fail> {
+    image.forget_calls();
+    same(&table.write(image), &Ok(()), told)?;
+    are_calls(alloc, image.calls(), told.pieces, false, told)?;
+    let written = image_with_first(alloc, told.start, told.entries)?;
+    same_bytes(image.inner().bytes(), written.bytes(), told)?;
+    has_its_entries(table, told, false)
+}
+
+// Writes the table over a storage whose call after so many passes fails, and then once more.
+fn writes_again<T: Table>(
+    alloc: Global,
+    table: &mut T,
+    told: InPieces,
+    passes: usize,
+    modified: bool,
+) -> Result<(), Fail>
+    requires { passes < length told.pieces.now }
+{
+    let row = (told, passes, modified);
+    place(table, Some(told.cluster), modified)?;
+    let mut image = FailingStorage::new(alloc, filled_image(alloc, LEN)?);
+    image.fail_after(passes as u64);
+    same(&table.write(&mut image), &Err(Fault::Storage), row)?;
+    are_calls(alloc, image.calls(), &told.pieces[..passes + 1], false, row)?;
+    has_its_entries(table, told, true)?;
+    let torn = image_with_first(alloc, told.start, passes.wrapping_mul(512))?;
+    same_bytes(image.inner().bytes(), torn.bytes(), row)?;
+    writes_whole(alloc, table, &mut image, told)?;
+    same(&image.failures(), &1, row)
+}
+
+// Loads and writes the table, where no call fails and where each of its calls fails in turn.
+fn is_in_pieces<T: Table + Drop>(alloc: Global, header: &Header, told: InPieces) -> Result<(), Fail>
+    requires { IsTrue (T.has_lawful_count header.now.cluster_bits told.entries) }
+{
+    let mut table: T = loads_in_pieces(alloc, header, told)?;
+    let mut image = FailingStorage::new(alloc, filled_image(alloc, LEN)?);
+    writes_whole(alloc, &mut table, &mut image, told)?;
+    for passes in 0..told.pieces.len() {
+        writes_again(alloc, &mut table, told, passes, false)?;
+        writes_again(alloc, &mut table, told, passes, true)?;
+    }
     Ok(())
 }
 
 #[test]
+fn each_table_is_read_and_written_in_its_pieces(rt: HostRuntime) -> Result<(), Fail> {
+    for (bits, cluster, start, entries, pieces) in TABLES {
+        let header = header_with(rt.alloc(), bits, false)?;
+        let told = InPieces {
+            cluster,
+            start,
+            entries,
+            pieces,
+        };
+        is_in_pieces::<L1Table>(rt.alloc(), &header, told)?;
+        is_in_pieces::<RefTable>(rt.alloc(), &header, told)?;
+    }
+    for (bits, cluster, start, pieces) in L2_TABLES {
+        let header = header_with(rt.alloc(), bits, false)?;
+        let told = InPieces {
+            cluster,
+            start,
+            entries: header.l2_entries(),
+            pieces,
+        };
+        is_in_pieces::<L2Table>(rt.alloc(), &header, told)?;
+    }
+    Ok(())
+}
+
+/// The bytes of each entry of an L1 table of 1025 entries from byte 4096 on.
+const ENTRY: [u8; 8] = [0x80, 0, 0, 0, 0, 0, 4, 0];
+
+// 16384 bytes of 0xa5, where those from byte 4096 to before the end are of such entries.
+pub(crate) fn entries_up_to(alloc: Global, end: usize) -> Result<MemStorage, Fault> {
+    let mut bytes = vec![in alloc; 0xa5; 4096]?;
+    for at in 4096..end {
+        bytes.push(ENTRY[at % 8])?;
+    }
+    bytes.resize(16384, 0xa5)?;
+    Ok(MemStorage::new(bytes))
+}
+
+#[test]
 fn a_write_that_fails_at_a_piece_keeps_the_bytes_after_it(rt: HostRuntime) -> Result<(), Fail> {
-    for (passes, entries) in [(0, 0), (1, 512), (2, 1024)] {
-        let mut table = table_of_three_pieces(rt.alloc())?;
-        let mut image = FailingStorage::new(rt.alloc(), filled_image(rt.alloc(), 16384)?);
+    let header = header_with(rt.alloc(), 9, false)?;
+    let mut image = entries_up_to(rt.alloc(), 12296)?;
+    let mut table = L1Table::load(rt.alloc(), &mut image, &header, HostCluster(8), 1025)?;
+    // How many calls pass before the one that fails, and where the new bytes end then.
+    for row in [(0, 4096), (1, 8192), (2, 12288)] {
+        let (passes, end) = row;
+        let mut image = FailingStorage::new(rt.alloc(), entries_up_to(rt.alloc(), 4096)?);
         image.fail_after(passes);
-        assert_eq!(&rt; table.write(&mut image), Err(Fault::Storage));
-        assert!(&rt; table.is_modified(), "{passes}");
-        let torn = image_with_entries(rt.alloc(), entries)?;
-        assert!(&rt; image.inner().bytes() == torn.bytes(), "{passes}");
-        assert_eq!(&rt; table.write(&mut image), Ok(()));
-        assert!(&rt; !table.is_modified(), "{passes}");
-        let written = image_with_entries(rt.alloc(), ENTRIES as u64)?;
-        assert!(&rt; image.inner().bytes() == written.bytes(), "{passes}");
+        let answer = table.write(&mut image);
+        same(
+            &(answer, table.is_modified()),
+            &(Err(Fault::Storage), true),
+            row,
+        )?;
+        let torn = entries_up_to(rt.alloc(), end)?;
+        same_bytes(image.inner().bytes(), torn.bytes(), row)?;
+        image.forget_calls();
+        let answer = table.write(&mut image);
+        same(&(answer, table.is_modified()), &(Ok(()), false), row)?;
+        let written = entries_up_to(rt.alloc(), 12296)?;
+        same_bytes(image.inner().bytes(), written.bytes(), row)?;
+        let pieces = [(4096, 4096), (8192, 4096), (12288, 8)];
+        are_calls(rt.alloc(), image.calls(), &pieces, false, row)?;
     }
     Ok(())
 }
@@ -68,39 +256,33 @@ fn a_write_that_fails_at_a_piece_keeps_the_bytes_after_it(rt: HostRuntime) -> Re
 #[test]
 fn a_load_reads_no_piece_after_that_of_a_bad_entry(rt: HostRuntime) -> Result<(), Fail> {
     let header = header_with(rt.alloc(), 9, false)?;
-    let mut bytes = image_with_entries(rt.alloc(), ENTRIES as u64)?;
-    bytes.write(&[1], 4103)?;
-    let mut image = FailingStorage::new(rt.alloc(), bytes);
-    image.fail_after(1);
-    let loaded = L1Table::load(rt.alloc(), &mut image, &header, CLUSTER, ENTRIES);
-    assert_eq!(&rt; loaded.err(), Some(Fault::EntryReserved));
-    assert_eq!(&rt;
-        image.calls(),
-        [StorageCall::Read {
-            offset: 4096,
-            len: 4096
-        }]
-        .as_slice()
-    );
-    Ok(())
-}
-
-#[test]
-fn a_long_table_is_loaded_in_pieces_of_4096_bytes(rt: HostRuntime) -> Result<(), Fail> {
-    let header = header_with(rt.alloc(), 9, false)?;
-    let mut image = FailingStorage::new(
-        rt.alloc(),
-        image_with_entries(rt.alloc(), ENTRIES as u64)?,
-    );
-    let table = L1Table::load(rt.alloc(), &mut image, &header, CLUSTER, ENTRIES)?;
-    let calls = [(4096, 4096), (8192, 4096), (12288, 8)].map(|(offset, len)| StorageCall::Read {
-        offset,
-        len,
-    });
-    assert_eq!(&rt; image.calls(), calls.as_slice());
-    for index in [0, 511, 512, 1023, 1024] {
-        assert_eq!(&rt; table.get(index).to_plain(), ENTRY, "{index}");
+    let pieces = [(4096, 4096), (8192, 4096), (12288, 8)];
+    // A byte of the image that is 1, how many calls pass before the one that fails, the fault of a load
+    // and the pieces that it reads.
+    for row in [
+        (4103, 1, Fault::EntryReserved, 1),
+        (8191, 1, Fault::EntryReserved, 1),
+        (8199, 2, Fault::EntryReserved, 2),
+        (12287, 2, Fault::EntryReserved, 2),
+        (12295, 3, Fault::EntryReserved, 3),
+        // the bad entry is not read
+        (8199, 1, Fault::Storage, 2),
+        (12295, 2, Fault::Storage, 3usize),
+    ] {
+        let (at, passes, fault, count) = row;
+        let mut bytes = entries_up_to(rt.alloc(), 12296)?;
+        bytes.write(&[1], at)?;
+        let mut image = FailingStorage::new(rt.alloc(), bytes);
+        image.fail_after(passes);
+        let answer = L1Table::load(rt.alloc(), &mut image, &header, HostCluster(8), 1025);
+        same(&answer.err(), &Some(fault), row)?;
+        are_calls(
+            rt.alloc(),
+            image.calls(),
+            &pieces[..count.min(3)],
+            true,
+            row,
+        )?;
     }
-    assert_eq!(&rt; table.get(1025).to_plain(), 0);
     Ok(())
 }

@@ -1,10 +1,19 @@
 //! Which numbers are refcount table entries, and where their refcount blocks lie.
 
-use crate::tables::header_with;
+use crate::fixtures::header_with;
 use qcow2_base::{Fault, HostOffset};
 use qcow2_metadata::{RefTableEntry, TableEntry};
-use qcow2_testing::is_cluster_bits;
+use qcow2_testing::same;
 use std::test::Fail;
+
+// What an entry tells: the offset of its block, its reserved bits and its number.
+fn told(entry: RefTableEntry) -> (Option<HostOffset>, u64, u64) {
+    (
+        entry.refblock_offset(),
+        entry.reserved_bits(),
+        entry.to_plain(),
+    )
+}
 
 #[test]
 fn a_refcount_table_entry_tells_its_offset(rt: HostRuntime) -> Result<(), Fail> {
@@ -18,13 +27,11 @@ fn a_refcount_table_entry_tells_its_offset(rt: HostRuntime) -> Result<(), Fail> 
         (16, 0xffff_ffff_ffff_0000, Some(0xffff_ffff_ffff_0000)),
         (21, 0xffff_ffff_ffe0_0000, Some(0xffff_ffff_ffe0_0000)),
     ];
-    for (bits, number, offset) in table {
-        assert!(rt; is_cluster_bits(bits));
+    for row in table {
+        let (bits, number, offset) = row;
         let header = header_with(rt.alloc(), bits, false)?;
         let entry = RefTableEntry::try_from_plain(number, &header)?;
-        assert_eq!(rt; entry.to_plain(), number);
-        assert_eq!(rt; entry.refblock_offset(), offset.map(HostOffset), "{number}");
-        assert_eq!(rt; entry.reserved_bits(), 0, "{number}");
+        same(&told(entry), &(offset.map(HostOffset), 0, number), row)?;
     }
     Ok(())
 }
@@ -45,11 +52,15 @@ fn a_refcount_table_entry_with_a_reserved_bit_or_else_an_unaligned_offset_is_ref
         (16, 0x201, Fault::EntryReserved),
         (21, 0xffff_ffff_fff0_0100, Fault::EntryReserved),
     ];
-    for (bits, number, fault) in table {
-        assert!(rt; is_cluster_bits(bits));
+    for row in table {
+        let (bits, number, fault) = row;
         let header = header_with(rt.alloc(), bits, true)?;
-        let answer = RefTableEntry::try_from_plain(number, &header);
-        assert_eq!(rt; answer, Err(fault), "{number}");
+        same(
+            &RefTableEntry::try_from_plain(number, &header),
+            &Err(fault),
+            row,
+        )?;
+        same(&RefTableEntry::is_lawful(number, &header), &false, row)?;
     }
     Ok(())
 }
@@ -59,18 +70,19 @@ fn each_bit_of_a_refcount_table_entry_is_reserved_or_of_the_offset(
     rt: HostRuntime,
 ) -> Result<(), Fail> {
     for bits in [9, 16, 21u32] {
-        assert!(rt; is_cluster_bits(bits));
         let header = header_with(rt.alloc(), bits, false)?;
         for bit in 0..64u32 {
-            let answer = RefTableEntry::try_from_plain(1 << bit, &header);
-            if bit <= 8 {
-                assert_eq!(rt; answer, Err(Fault::EntryReserved), "bit {bit}");
+            let number = 1 << bit;
+            let want = if bit <= 8 {
+                Err(Fault::EntryReserved)
             } else if bit < bits {
-                assert_eq!(rt; answer, Err(Fault::EntryUnaligned), "bit {bit}");
+                Err(Fault::EntryUnaligned)
             } else {
-                let offset = Some(HostOffset(1 << bit));
-                assert_eq!(rt; answer?.refblock_offset(), offset, "bit {bit}");
-            }
+                Ok((Some(HostOffset(number)), 0, number))
+            };
+            let found = RefTableEntry::try_from_plain(number, &header).map(told);
+            let lawful = RefTableEntry::is_lawful(number, &header);
+            same(&(found, lawful), &(want, want.is_ok()), (bits, bit))?;
         }
     }
     Ok(())

@@ -1,118 +1,169 @@
 //! What calls do where memory is refused: the answer is fault 35, nothing has changed, and the same
 //! call succeeds the next time.
 //!
-//! `rt try --test --fail-alloc N` refuses the Nth request for memory of each test. Where that is one
-//! of the test's own, the test ends with an error before the call that it is for.
+//! `rt try --test --fail-alloc N` refuses the Nth request for memory of each test. These tests pass for
+//! each N: what a test begins with is made a second time where memory was refused the first time.
 
-ghost use Rattle.std.specs.Prelude.{IsTrue};
+ghost use Rattle.std.specs.Prelude.{◌≡◌, ◌≤◌, IfOk, IsTrue};
 
-use crate::tables::{NUMBER, has_one_entry, header_with, image_with, table_with};
-use crate::three_tables::place;
-use qcow2_base::{Fault, HostCluster};
-use qcow2_metadata::{L1Table, L2Table, RefTable, Table};
+use crate::fixtures::{
+    LOADED, NUMBER, Told, header_with, image_with, place, table_that_tells, tells,
+};
+use crate::pieces::entries_up_to;
+use qcow2_base::{Fault, HostCluster, MemStorage};
+use qcow2_metadata::{Header, L1Table, L2Table, RefTable, Table};
+use qcow2_testing::{same, same_bytes};
 use std::alloc::Global;
-use std::process::Abort;
 use std::test::Fail;
 
-fn loads_again<T: Table + Drop, R: Abort>(rt: &R, alloc: Global) -> Result<(), Fail>
-    requires { IsTrue (T.has_lawful_count 9 64) }
+// A header for clusters of 512 bytes, an image whose cluster 2 is a table, and the same image.
+fn header_and_images(alloc: Global) -> Result<(Header, MemStorage, MemStorage), Fault>
+    ensures { IfOk result (λ made. made.0.cluster_bits ≡ 9) }
 {
     let header = header_with(alloc, 9, false)?;
-    let mut image = image_with(alloc, 1536, &[(1048, NUMBER)])?;
-    let before = Vec::from_slice(alloc, image.bytes())?;
+    let image = image_with(alloc, 1536, &[(1048, NUMBER)])?;
+    let before = image_with(alloc, 1536, &[(1048, NUMBER)])?;
+    Ok((header, image, before))
+}
+
+fn loads_again<T: Table + Drop>(alloc: Global) -> Result<(), Fail>
+    requires { IsTrue (T.has_lawful_count 9 64) }
+{
+    let made = match header_and_images(alloc) {
+        Ok(made) => made,
+        Err(_) => header_and_images(alloc)?,
+    };
+    let (header, mut image, before) = made;
     let cluster = HostCluster(2);
     let mut answer: Result<T, Fault> = T::load(alloc, &mut image, &header, cluster, 64);
     if let Err(fault) = &answer {
-        assert_eq!(rt; *fault, Fault::NoMemory);
-        assert_eq!(rt; image.bytes(), before.as_slice());
+        same(fault, &Fault::NoMemory, T::NAME)?;
+        same_bytes(image.bytes(), before.bytes(), T::NAME)?;
         answer = T::load(alloc, &mut image, &header, cluster, 64);
     }
-    let table = answer?;
-    assert!(rt; has_one_entry(&table, 3, NUMBER));
-    assert_eq!(rt; image.bytes(), before.as_slice());
-    Ok(())
+    tells(&answer?, &LOADED, T::NAME)?;
+    same_bytes(image.bytes(), before.bytes(), T::NAME)
 }
 
 #[test]
 fn a_load_that_memory_refused_succeeds_the_next_time(rt: HostRuntime) -> Result<(), Fail> {
-    loads_again::<L1Table, _>(&rt, rt.alloc())?;
-    loads_again::<L2Table, _>(&rt, rt.alloc())?;
-    loads_again::<RefTable, _>(&rt, rt.alloc())
+    loads_again::<L1Table>(rt.alloc())?;
+    loads_again::<L2Table>(rt.alloc())?;
+    loads_again::<RefTable>(rt.alloc())
 }
 
-// The one entry of the table is still there, and so are its cluster and its flag.
-fn assert_table<T: Table>(rt: &impl Abort, table: &T, modified: bool) {
-    assert!(rt; has_one_entry(table, 3, NUMBER) && table.entries() == 64);
-    assert_eq!(rt; table.get_cluster(), Some(HostCluster(2)));
-    assert_eq!(rt; table.is_modified(), modified);
+// A table of so many entries at cluster 8, an image of 0xa5, and what it is once the table is written.
+fn table_and_images<T: Table + Drop>(
+    alloc: Global,
+    entries: usize,
+) -> Result<(T, MemStorage, MemStorage), Fault>
+    requires count { IsTrue (T.has_lawful_count 9 entries) }
+    requires bound { entries ≤ 1025 }
+    ensures { IfOk result (λ made. (T.state made.0).geometry.cluster_bits ≡ 9) }
+{
+    let header = header_with(alloc, 9, false)?;
+    let mut written = entries_up_to(alloc, 4096 + 8 * entries)?;
+    let table = T::load(alloc, &mut written, &header, HostCluster(8), entries)?;
+    let image = entries_up_to(alloc, 4096)?;
+    Ok((table, image, written))
 }
 
 // A write takes no memory, so none can be refused to it.
-fn writes<T: Table + Drop, R: Abort>(rt: &R, alloc: Global) -> Result<(), Fail>
-    requires { IsTrue (T.has_lawful_count 9 64) }
+fn is_written<T: Table + Drop>(alloc: Global, entries: usize, modified: bool) -> Result<(), Fail>
+    requires count { IsTrue (T.has_lawful_count 9 entries) }
+    requires bound { entries ≤ 1025 }
 {
-    let header = header_with(alloc, 9, false)?;
-    let mut table = table_with::<T>(alloc, &header, 64, 3, NUMBER)?;
-    let after = image_with(alloc, 1536, &[(1048, NUMBER)])?;
-    for modified in [false, true] {
-        place(rt, &mut table, Some(2), modified);
-        let mut image = image_with(alloc, 1536, &[(1024, NUMBER)])?;
-        assert_eq!(rt; table.write(&mut image), Ok(()));
-        assert_table(rt, &table, false);
-        assert_eq!(rt; image.bytes(), after.bytes());
-    }
-    Ok(())
+    let made = match table_and_images(alloc, entries) {
+        Ok(made) => made,
+        Err(_) => table_and_images(alloc, entries)?,
+    };
+    let (mut table, mut image, written): (T, MemStorage, MemStorage) = made;
+    place(&mut table, Some(8), modified)?;
+    let answer = table.write(&mut image);
+    same(&(answer, table.is_modified()), &(Ok(()), false), T::NAME)?;
+    same_bytes(image.bytes(), written.bytes(), T::NAME)
 }
 
 #[test]
 fn a_write_takes_no_memory(rt: HostRuntime) -> Result<(), Fail> {
-    writes::<L1Table, _>(&rt, rt.alloc())?;
-    writes::<L2Table, _>(&rt, rt.alloc())?;
-    writes::<RefTable, _>(&rt, rt.alloc())
+    for modified in [false, true] {
+        is_written::<L1Table>(rt.alloc(), 1025, modified)?;
+        is_written::<L2Table>(rt.alloc(), 64, modified)?;
+        is_written::<RefTable>(rt.alloc(), 1025, modified)?;
+    }
+    Ok(())
 }
 
 #[test]
 fn write_if_modified_takes_no_memory(rt: HostRuntime) -> Result<(), Fail> {
-    let header = header_with(rt.alloc(), 9, false)?;
-    let mut table: L2Table = table_with(rt.alloc(), &header, 64, 3, NUMBER)?;
-    let after = image_with(rt.alloc(), 1536, &[(1048, NUMBER)])?;
-    let mut image = image_with(rt.alloc(), 1536, &[(1024, NUMBER)])?;
-    let cluster = HostCluster(2);
+    let made = match table_and_images(rt.alloc(), 64) {
+        Ok(made) => made,
+        Err(_) => table_and_images(rt.alloc(), 64)?,
+    };
+    let (mut table, mut image, written): (L2Table, MemStorage, MemStorage) = made;
+    let cluster = HostCluster(8);
     table.set_cluster(cluster);
-    assert_eq!(rt; table.write_if_modified(&mut image, cluster), Ok(()));
-    assert_table(&rt, &table, false);
-    assert_eq!(rt; image.bytes(), after.bytes());
-    Ok(())
+    let answer = table.write_if_modified(&mut image, cluster);
+    same(&(answer, table.is_modified()), &(Ok(()), false), "write")?;
+    same_bytes(image.bytes(), written.bytes(), "write")
 }
 
 #[test]
 fn a_cleared_table_that_memory_refused_is_made_the_next_time(rt: HostRuntime) -> Result<(), Fail> {
-    let header = header_with(rt.alloc(), 9, false)?;
+    let header = match header_with(rt.alloc(), 9, false) {
+        Ok(header) => header,
+        Err(_) => header_with(rt.alloc(), 9, false)?,
+    };
     let mut answer = L2Table::new_cleared(rt.alloc(), &header);
     if let Err(fault) = &answer {
-        assert_eq!(rt; *fault, Fault::NoMemory);
-        assert_eq!(rt; (header.cluster_bits(), header.l2_entries()), (9, 64));
+        same(fault, &Fault::NoMemory, "refused")?;
+        same(
+            &(header.cluster_bits(), header.l2_entries()),
+            &(9, 64),
+            "refused",
+        )?;
         answer = L2Table::new_cleared(rt.alloc(), &header);
     }
-    let table = answer?;
-    assert!(rt; has_one_entry(&table, 0, 0) && table.entries() == 64);
-    Ok(())
+    let told = Told {
+        entry: (0, 0),
+        cluster: None,
+        modified: true,
+        ..LOADED
+    };
+    tells(&answer?, &told, "made")
+}
+
+// A header, and an L1 table that says this.
+fn header_and_table(alloc: Global, told: &Told) -> Result<(Header, L1Table), Fault>
+    ensures { IfOk result (λ made. made.0.cluster_bits ≡ made.1.geometry.cluster_bits) }
+{
+    let header = header_with(alloc, 9, false)?;
+    let table = table_that_tells(alloc, &header, told)?;
+    Ok((header, table))
 }
 
 #[test]
 fn a_growth_that_memory_refused_leaves_the_l1_table(rt: HostRuntime) -> Result<(), Fail> {
-    let header = header_with(rt.alloc(), 9, false)?;
     for modified in [false, true] {
-        let mut source: L1Table = table_with(rt.alloc(), &header, 64, 3, NUMBER)?;
-        place(&rt, &mut source, Some(2), modified);
+        let told = Told { modified, ..LOADED };
+        let made = match header_and_table(rt.alloc(), &told) {
+            Ok(made) => made,
+            Err(_) => header_and_table(rt.alloc(), &told)?,
+        };
+        let (header, source) = made;
         let mut answer = source.clone_and_grow(128, &header);
-        assert_table(&rt, &source, modified);
+        tells(&source, &told, modified)?;
         if let Err(fault) = &answer {
-            assert_eq!(rt; *fault, Fault::NoMemory);
+            same(fault, &Fault::NoMemory, modified)?;
             answer = source.clone_and_grow(128, &header);
         }
-        let grown = answer?;
-        assert!(rt; has_one_entry(&grown, 3, NUMBER) && grown.entries() == 192);
+        let grown = Told {
+            entries: 192,
+            cluster: None,
+            modified: true,
+            ..LOADED
+        };
+        tells(&answer?, &grown, modified)?;
     }
     Ok(())
 }

@@ -2,7 +2,7 @@ use Rattle.std.proofs.Common.{◌≡◌, ℕ, zero, suc, map, replicate, Option,
 use Rattle.qcow2_base.specs.declared.fault.Fault.{Fault}
 use Rattle.qcow2_metadata.specs.Entries.{l2_fault}
 use Rattle.qcow2_metadata.specs.Table.{first_fault}
-use Rattle.qcow2_metadata_tests.proofs.table.uniform_table.Goals as goal
+use Rattle.qcow2_metadata_tests.proofs.l2_table.uniform_table.Goals as goal
 
 -- equal entries are lawful where one is
 first_fault-replicate : (fault : ℕ → Option Fault) (n entry : ℕ) → fault entry ≡ None → first_fault fault (map (λ (v : ℕ). v) (replicate n entry)) ≡ None

@@ -1,13 +1,13 @@
 //! Which numbers are L2 entries, and what they mean.
 
-ghost use Rattle.std.specs.Prelude.{◌≡◌, ◌*◌, ◌^◌, ◌<◌, IfOk};
+ghost use Rattle.std.specs.Prelude.{◌≡◌, None, IfOk, OnOk};
 ghost use Rattle.qcow2_base.specs.Types.{IsClusterBits};
 ghost use Rattle.qcow2_metadata.specs.Entries.{l2_fault};
 
-use crate::tables::header_with;
+use crate::fixtures::header_with;
 use qcow2_base::{ClusterCount, Fault, GuestCluster, HostCluster, HostOffset};
-use qcow2_metadata::{AtomicL2Entry, L2Entry, L2Mapping, TableEntry};
-use qcow2_testing::{fits, is_cluster_bits};
+use qcow2_metadata::{AtomicL2Entry, Header, L2Entry, L2Mapping, TableEntry};
+use qcow2_testing::{fits, same};
 use std::alloc::Global;
 use std::num::NonZero;
 use std::test::Fail;
@@ -69,12 +69,30 @@ const COMPRESSED: [(u32, u64, u64, u64, u64, u64); 25] = [
 ];
 
 // The entry with this number.
-fn entry(alloc: Global, cluster_bits: u32, number: u64) -> Result<L2Entry, Fail>
-    requires { IsClusterBits cluster_bits }
-    ensures { IfOk result (λ entry. l2_fault cluster_bits entry ≡ None) }
+fn entry(alloc: Global, cluster_bits: u32, number: u64) -> Result<L2Entry, Fault>
+    ensures lawful { IfOk result (λ entry. l2_fault cluster_bits entry ≡ None) }
+    ensures range { OnOk result (IsClusterBits cluster_bits) }
 {
     let header = header_with(alloc, cluster_bits, false)?;
-    Ok(L2Entry::try_from_plain(number, &header)?)
+    L2Entry::try_from_plain(number, &header)
+}
+
+pub(crate) fn data(cluster: u64, copied: bool) -> L2Mapping {
+    L2Mapping::DataFile {
+        host_cluster: HostCluster(cluster),
+        copied,
+    }
+}
+
+pub(crate) fn backing(backing_offset: u64) -> L2Mapping {
+    L2Mapping::Backing { backing_offset }
+}
+
+fn zeros(cluster: Option<u64>, copied: bool) -> L2Mapping {
+    L2Mapping::Zero {
+        host_cluster: cluster.map(HostCluster),
+        copied,
+    }
 }
 
 #[test]
@@ -89,26 +107,35 @@ fn each_reserved_bit_is_refused(rt: HostRuntime) -> Result<(), Fail> {
         (21, 0x7fff_ffff_ffff_ffff, &[63]),
     ];
     for (bits, number, reserved) in table {
-        assert!(rt; is_cluster_bits(bits));
         let header = header_with(rt.alloc(), bits, false)?;
         let found = L2Entry::try_from_plain(number, &header)?;
-        assert_eq!(rt; (found.to_plain(), found.reserved_bits()), (number, 0));
+        same(
+            &(found.to_plain(), found.reserved_bits()),
+            &(number, 0),
+            (bits, number),
+        )?;
         for bit in reserved {
-            assert!(rt; *bit < 64);
-            let bad = number | 1 << *bit;
-            assert_eq!(rt;
-                L2Entry::try_from_plain(bad, &header),
-                Err(Fault::EntryReserved),
-                "bit {bit} of {bad}"
-            );
-            assert_eq!(rt;
-                AtomicL2Entry::try_from_plain(bad, &header),
-                Err(Fault::EntryReserved),
-                "bit {bit} of {bad}"
-            );
+            let bad = number | 1u64.wrapping_shl(*bit);
+            refuses(&header, bad, Fault::EntryReserved)?;
         }
     }
     Ok(())
+}
+
+// An entry and a cell are refused by this fault.
+fn refuses(header: &Header, number: u64, fault: Fault) -> Result<(), Fail> {
+    let row = (header.cluster_bits(), number);
+    same(&L2Entry::try_from_plain(number, header), &Err(fault), row)?;
+    same(
+        &AtomicL2Entry::try_from_plain(number, header),
+        &Err(fault),
+        row,
+    )?;
+    let lawful = (
+        L2Entry::is_lawful(number, header),
+        AtomicL2Entry::is_lawful(number, header),
+    );
+    same(&lawful, &(false, false), row)
 }
 
 #[test]
@@ -125,18 +152,8 @@ fn an_unaligned_offset_is_refused_after_reserved_bits(rt: HostRuntime) -> Result
         (16, 0x0100_0000_0000_8000, Fault::EntryReserved),
     ];
     for (bits, number, fault) in table {
-        assert!(rt; is_cluster_bits(bits));
         let header = header_with(rt.alloc(), bits, true)?;
-        assert_eq!(rt;
-            L2Entry::try_from_plain(number, &header),
-            Err(fault),
-            "{number}"
-        );
-        assert_eq!(rt;
-            AtomicL2Entry::try_from_plain(number, &header),
-            Err(fault),
-            "{number}"
-        );
+        refuses(&header, number, fault)?;
     }
     Ok(())
 }
@@ -155,24 +172,30 @@ fn an_entry_tells_its_bits(rt: HostRuntime) -> Result<(), Fail> {
         (16, 0x4040_0000_0001_0011, true, false, true),
         (9, 0x60ff_ffff_ffff_ffff, true, false, true),
     ];
-    for (bits, number, compressed, copied, zero) in table {
-        assert!(rt; is_cluster_bits(bits));
+    for row in table {
+        let (bits, number, compressed, copied, zero) = row;
         let header = header_with(rt.alloc(), bits, false)?;
         let found = L2Entry::try_from_plain(number, &header)?;
-        assert_eq!(rt; found.to_plain(), number);
-        assert_eq!(rt;
-            (found.is_compressed(), found.is_copied(), found.is_zero()),
-            (compressed, copied, zero),
-            "{number}"
-        );
-        assert_eq!(rt; found.reserved_bits(), 0, "{number}");
-        assert_eq!(rt;
+        let told = (found.is_compressed(), found.is_copied(), found.is_zero());
+        same(&told, &(compressed, copied, zero), row)?;
+        let numbers = (
+            found.to_plain(),
+            found.reserved_bits(),
             found.compressed_descriptor(),
-            number & 0x3fff_ffff_ffff_ffff,
-            "{number}"
         );
+        same(&numbers, &(number, 0, number & 0x3fff_ffff_ffff_ffff), row)?;
         let cell = AtomicL2Entry::try_from_plain(number, &header)?;
-        assert_eq!(rt; (cell.to_plain(), cell.get()), (number, found));
+        same(&(cell.to_plain(), cell.get()), &(number, found), row)?;
+        let lawful = (
+            L2Entry::is_lawful(number, &header),
+            AtomicL2Entry::is_lawful(number, &header),
+        );
+        same(&lawful, &(true, true), row)?;
+        let tested = (
+            L2Entry::from_tested(number),
+            AtomicL2Entry::from_tested(number),
+        );
+        same(&tested, &(found, cell), row)?;
     }
     Ok(())
 }
@@ -204,55 +227,47 @@ fn a_standard_entry_refers_to_its_cluster(rt: HostRuntime) -> Result<(), Fail> {
             Some((0x00ff_ffff_ffe0_0000, 0x7_ffff_ffff)),
         ),
     ];
-    for (bits, external, number, place) in table {
-        assert!(rt; is_cluster_bits(bits));
+    for row in table {
+        let (bits, external, number, place) = row;
         let found = entry(rt.alloc(), bits, number)?;
-        assert!(rt; !found.is_compressed());
+        if found.is_compressed() {
+            return Err("a compressed entry".into());
+        }
+        let told = (
+            found.cluster_offset(external),
+            found.allocation(bits, external),
+        );
         let offset = place.map(|(offset, _)| HostOffset(offset));
-        assert_eq!(rt; found.cluster_offset(external), offset, "{number}");
         let clusters = place.map(|(_, cluster)| (HostCluster(cluster), ClusterCount(1)));
-        assert_eq!(rt; found.allocation(bits, external), clusters, "{number}");
-        assert_eq!(rt; found.compressed_range(bits), None, "{number}");
+        same(
+            &(told, found.compressed_range(bits)),
+            &((offset, clusters), None),
+            row,
+        )?;
     }
     Ok(())
 }
 
 #[test]
 fn a_compressed_entry_refers_to_the_clusters_of_its_sectors(rt: HostRuntime) -> Result<(), Fail> {
-    for (bits, number, offset, length, first, count) in COMPRESSED {
-        assert!(rt; is_cluster_bits(bits));
+    for row in COMPRESSED {
+        let (bits, number, offset, length, first, count) = row;
         let found = entry(rt.alloc(), bits, number)?;
         let range = found
             .compressed_range(bits)
             .map(|(start, len)| (start.0, len.get()));
-        assert_eq!(rt; range, Some((offset, length)), "{number}");
-        for external in [false, true] {
-            assert_eq!(rt;
-                found.allocation(bits, external),
-                Some((HostCluster(first), ClusterCount(count))),
-                "{number}"
-            );
-        }
+        let clusters = Some((HostCluster(first), ClusterCount(count)));
+        same(
+            &(
+                range,
+                found.allocation(bits, false),
+                found.allocation(bits, true),
+            ),
+            &(Some((offset, length)), clusters, clusters),
+            row,
+        )?;
     }
     Ok(())
-}
-
-fn data(cluster: u64, copied: bool) -> L2Mapping {
-    L2Mapping::DataFile {
-        host_cluster: HostCluster(cluster),
-        copied,
-    }
-}
-
-fn backing(backing_offset: u64) -> L2Mapping {
-    L2Mapping::Backing { backing_offset }
-}
-
-fn zeros(cluster: Option<u64>, copied: bool) -> L2Mapping {
-    L2Mapping::Zero {
-        host_cluster: cluster.map(HostCluster),
-        copied,
-    }
 }
 
 #[test]
@@ -280,15 +295,14 @@ fn an_entry_says_what_its_guest_cluster_reads_as(rt: HostRuntime) -> Result<(), 
         (9, false, 7, 0xa01, zeros(Some(5), false)),
         (21, false, 7, 0x8000_0000_0020_0001, zeros(Some(1), true)),
     ];
-    for (bits, external, guest, number, want) in table {
-        assert!(rt; is_cluster_bits(bits));
-        assert!(rt; fits(guest, 0, bits));
+    for row in table {
+        let (bits, external, guest, number, want) = row;
         let found = entry(rt.alloc(), bits, number)?;
-        assert_eq!(rt;
-            found.into_mapping(GuestCluster(guest), bits, external),
-            Ok(want),
-            "{number}"
-        );
+        if !fits(guest, 0, bits) {
+            return Err("a guest cluster past all disks".into());
+        }
+        let found = found.into_mapping(GuestCluster(guest), bits, external);
+        same(&found, &Ok(want), row)?;
     }
     Ok(())
 }
@@ -303,19 +317,16 @@ fn a_compressed_entry_reads_as_its_range_whatever_the_data_file(
         (16, 0x4040_0000_0001_0010, 0x1_0010, 1008),
         (21, 0x7fff_ffff_ffff_ffff, 0x0001_ffff_ffff_ffff, 4193793),
     ];
-    for (bits, number, offset, length) in table {
-        assert!(rt; is_cluster_bits(bits));
-        let length = NonZero::<u64>::new(length).ok_or("a length of no bytes")?;
+    for row in table {
+        let (bits, number, offset, length) = row;
+        let want = L2Mapping::Compressed {
+            host_offset: HostOffset(offset),
+            length: NonZero::<u64>::new(length).ok_or("a length of no bytes")?,
+        };
         for external in [false, true] {
             let found = entry(rt.alloc(), bits, number)?;
-            assert_eq!(rt;
-                found.into_mapping(GuestCluster(0), bits, external),
-                Ok(L2Mapping::Compressed {
-                    host_offset: HostOffset(offset),
-                    length,
-                }),
-                "{number}"
-            );
+            let found = found.into_mapping(GuestCluster(0), bits, external);
+            same(&found, &Ok(want), (row, external))?;
         }
     }
     Ok(())
@@ -326,11 +337,11 @@ fn a_cell_keeps_the_entry_that_was_put_into_it(rt: HostRuntime) -> Result<(), Fa
     let first = entry(rt.alloc(), 9, 0xa00)?;
     let second = entry(rt.alloc(), 9, 0x8000_0000_0000_0c00)?;
     let mut cell = AtomicL2Entry::new(first);
-    assert_eq!(rt; cell.get(), first);
-    assert_eq!(rt; cell.swap(second), first);
-    assert_eq!(rt;
-        (cell.get(), cell.to_plain()),
-        (second, 0x8000_0000_0000_0c00)
-    );
-    Ok(())
+    same(&cell.get(), &first, "made")?;
+    same(&cell.swap(second), &first, "swapped out")?;
+    same(
+        &(cell.get(), cell.to_plain()),
+        &(second, 0x8000_0000_0000_0c00),
+        "swapped in",
+    )
 }

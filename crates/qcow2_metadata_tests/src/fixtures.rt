@@ -1,0 +1,176 @@
+//! Headers, images and tables to test with.
+
+ghost use Rattle.std.specs.Prelude.{◌≡◌, ◌≤◌, ◌^◌, IfOk, OnOk, IsTrue, length};
+ghost use Rattle.qcow2_base.specs.Types.{IsClusterBits};
+ghost use Rattle.qcow2_metadata.specs.Header.{geometry_of};
+
+use qcow2_base::{Fault, HostCluster, HostOffset, MemStorage, Storage};
+use qcow2_metadata::{EntryTable, Header, Table, TableEntry, TableKind};
+use qcow2_testing::{fits, is_cluster_bits, same};
+use std::alloc::{AllocError, Global};
+use std::fmt::Debug;
+use std::test::Fail;
+
+/// A header of an image with clusters of `2^cluster_bits` bytes, whose guest data may lie in a file of
+/// its own. No image has other cluster bits than 9 to 21.
+pub fn header_with(
+    alloc: Global,
+    cluster_bits: u32,
+    external_data_file: bool,
+) -> Result<Header, Fault>
+    ensures cluster_bits { IfOk result (λ header. header.cluster_bits ≡ cluster_bits) }
+    ensures range { OnOk result (IsClusterBits cluster_bits) }
+{
+    if !is_cluster_bits(cluster_bits) {
+        return Err(Fault::ClusterSize);
+    }
+    let name = if external_data_file {
+        Some("data.raw")
+    } else {
+        None
+    };
+    let name = text(alloc, name)?;
+    Header::new(alloc, cluster_bits, 4, None, None, name)
+}
+
+pub(crate) fn text(alloc: Global, name: Option<&str>) -> Result<Option<String>, AllocError> {
+    match name {
+        Some(name) => Ok(Some(String::from_str(alloc, name)?)),
+        None => Ok(None),
+    }
+}
+
+/// An image of so many bytes of 0xa5.
+pub fn filled_image(alloc: Global, len: usize) -> Result<MemStorage, Fault> {
+    Ok(MemStorage::new(vec![in alloc; 0xa5; len]?))
+}
+
+/// An image of so many bytes that are zero but for these numbers at these places.
+pub fn image_with(alloc: Global, len: usize, numbers: &[(u64, u64)]) -> Result<MemStorage, Fault> {
+    let mut image = MemStorage::new(vec![in alloc; 0; len]?);
+    for (place, number) in numbers {
+        put(&mut image, *place, *number)?;
+    }
+    Ok(image)
+}
+
+/// Puts a number of eight bytes into the image.
+pub fn put<S: Storage>(image: &mut S, place: u64, number: u64) -> Result<(), Fault> {
+    if place >= 1 << 55 {
+        return Err(Fault::TablePlace);
+    }
+    image.write(&number.to_be_bytes(), place)?;
+    Ok(())
+}
+
+/// An L1 entry and a standard L2 entry that is copied, and a refcount table entry, for each cluster size.
+pub const NUMBER: u64 = 0x8000_0000_0020_0000;
+
+/// What a table says whose entries but one are 0: how many they are, that one with its index, the
+/// table's cluster, and whether it counts as modified.
+#[derive(Clone, Copy, Debug)]
+pub struct Told {
+    pub entries: usize,
+    pub entry: (usize, u64),
+    pub cluster: Option<u64>,
+    pub modified: bool,
+}
+
+/// What a table says that cluster 2 of an image of 512-byte clusters holds.
+pub const LOADED: Told = Told {
+    entries: 64,
+    entry: (3, NUMBER),
+    cluster: Some(2),
+    modified: false,
+};
+
+/// Fails unless the table says this.
+pub fn tells<T: Table, R: Debug + Copy>(table: &T, told: &Told, row: R) -> Result<(), Fail> {
+    same(&table.entries(), &told.entries, row)?;
+    same(&other_entry(table, told), &None, row)?;
+    let size = 1 << table.cluster_bits();
+    same(
+        &(table.get_cluster(), table.get_offset(), table.is_modified()),
+        &(
+            told.cluster.map(HostCluster),
+            told.cluster
+                .map(|cluster| HostOffset(cluster.wrapping_mul(size))),
+            told.modified,
+        ),
+        row,
+    )
+}
+
+// The first entry that isn't as it is told, with its index.
+fn other_entry<T: Table>(table: &T, told: &Told) -> Option<(usize, u64)> {
+    let (place, number) = told.entry;
+    for index in 0..told.entries {
+        let found = table.get(index).to_plain();
+        if found != if index == place { number } else { 0 } {
+            return Some((index, found));
+        }
+    }
+    None
+}
+
+/// A table of an image with this header that says this.
+pub fn table_that_tells<T: Table + Drop>(
+    alloc: Global,
+    header: &Header,
+    told: &Told,
+) -> Result<T, Fault>
+    requires { IsTrue (T.has_lawful_count header.now.cluster_bits told.now.entries) }
+    ensures entries { IfOk result (λ table. length (T.state table).numbers ≡ told.now.entries) }
+    ensures geometry { IfOk result (λ table. (T.state table).geometry ≡ geometry_of header.now) }
+    ensures flag { IfOk result (λ table. (T.state table).modified ≡ told.now.modified) }
+{
+    let (index, number) = told.entry;
+    if index >= 1 << 22 {
+        return Err(Fault::TableTooBig);
+    }
+    let start = 2 * header.cluster_size();
+    let mut image = image_with(alloc, start, &[(start as u64 + 8 * index as u64, number)])?;
+    let mut table = T::load(alloc, &mut image, header, HostCluster(2), told.entries)?;
+    place(&mut table, told.cluster, told.modified)?;
+    Ok(table)
+}
+
+/// Gives the table a cluster or none, and sets or clears its flag. Fails where the cluster's offset
+/// doesn't fit 64 bits.
+pub fn place<T: Table>(table: &mut T, cluster: Option<u64>, modified: bool) -> Result<(), Fault>
+    ensures numbers { (T.state table.new).numbers ≡ (T.state table.old).numbers }
+    ensures geometry { (T.state table.new).geometry ≡ (T.state table.old).geometry }
+    ensures flag { OnOk result ((T.state table.new).modified ≡ modified) }
+{
+    match cluster {
+        Some(cluster) => {
+            if !fits(cluster, 0, table.cluster_bits()) {
+                return Err(Fault::TablePlace);
+            }
+            table.set_cluster(HostCluster(cluster));
+        }
+        None => table.unset_cluster(),
+    }
+    if modified {
+        table.set_modified();
+    } else {
+        table.clear_modified();
+    }
+    Ok(())
+}
+
+/// A table of so many entries 0. It has no cluster, and counts as modified.
+pub fn cleared_table<E: TableKind>(
+    alloc: Global,
+    header: &Header,
+    entries: usize,
+) -> Result<EntryTable<E>, Fault>
+    requires count { IsTrue (E.has_lawful_count header.now.cluster_bits entries) }
+    requires bound { entries ≤ 2 ^ 48 }
+    ensures entries { IfOk result (λ table. length table.numbers ≡ entries) }
+    ensures geometry { IfOk result (λ table. table.geometry ≡ geometry_of header.now) }
+{
+    let mut list = Vec::new(alloc);
+    list.resize(entries, E::cleared())?;
+    Ok(EntryTable::from_data(list, header))
+}
