@@ -1,5 +1,6 @@
 pub mod Fault
 pub mod FileStorage
+pub mod Growth
 pub mod MemStorage
 pub mod OnDiskStruct
 pub mod Storage
