@@ -1,6 +1,8 @@
-use Rattle.std.specs.Prelude.{ℕ}
+use Rattle.std.specs.Prelude.{ℕ, List, codes}
 use Rattle.qcow2_base.specs.declared.fault.Fault.{Fault}
 use Rattle.qcow2_base.specs.declared.fault.Fault.TheVariants.{NotQcow2, Version, ClusterSize, HeaderShort, HeaderBig, L1Unaligned, ReftableUnaligned, RefcountWidth, BackingNameLong, BackingNamePlace, BackingNameText, ExtensionsExceed, ExtensionText, FeatureNameCut, FormatConflict, DataFileConflict, Incompatible, EntryReserved, EntryUnaligned, TableTooBig, TablePlace, NoOffset, NotPlaced, HeaderTooLong, NameTooLong, FieldChanged, VersionNeeded, CannotGrow, TooMany, CounterRange, WrongLength, BadEdit, BadStep, Storage, NoMemory, ExternalData}
+use Rattle.qcow2_base.specs.declared.fault.Field.{Field}
+use Rattle.qcow2_base.specs.declared.fault.Field.TheVariants as field
 use Rattle.qcow2_base.specs.declared.fault.FaultKind.{FaultKind}
 use Rattle.qcow2_base.specs.declared.fault.FaultKind.TheVariants as kind
 
@@ -60,3 +62,22 @@ kind_of VersionNeeded = kind.Unsupported
 kind_of Storage = kind.Storage
 kind_of NoMemory = kind.NoMemory
 kind_of _ = kind.InvalidData
+
+-- what a message calls a field: the name that the format has for it, or else what it is
+abbrev pub field_name : Field → List ℕ
+field_name field.Magic = codes "magic"
+field_name field.Version = codes "version"
+field_name field.BackingOffset = codes "backing_file_offset"
+field_name field.BackingSize = codes "backing_file_size"
+field_name field.ClusterBits = codes "cluster_bits"
+field_name field.CryptMethod = codes "crypt_method"
+field_name field.NbSnapshots = codes "nb_snapshots"
+field_name field.SnapshotsOffset = codes "snapshots_offset"
+field_name field.Incompatible = codes "incompatible_features"
+field_name field.Compatible = codes "compatible_features"
+field_name field.Autoclear = codes "autoclear_features"
+field_name field.RefcountOrder = codes "refcount_order"
+field_name field.UnknownFields = codes "the unknown header fields"
+field_name field.BackingName = codes "the backing file name"
+field_name field.Extensions = codes "the header extensions"
+field_name field.ExternalData = codes "the use of an external data file"

@@ -1,4 +1,5 @@
-use Rattle.std.specs.Prelude.{ℕ}
+use Rattle.std.specs.Prelude.{ℕ, false}
+use Rattle.qcow2_base.specs.Storage.{StorageState}
 use Rattle.qcow2_base.specs.declared.storage.file.FileStorage.{FileStorage}
 
 -- the open file
@@ -8,3 +9,13 @@ file_of storage = storage.file
 -- how many calls have failed, modulo 2^64
 abbrev pub failure_count : {F : Type 0} → FileStorage F → ℕ
 failure_count storage = storage.failures
+
+-- what it says as a storage: nothing of its bytes
+abbrev pub state_of : {F : Type 0} → FileStorage F → StorageState
+state_of storage = record {
+  tells = false;
+  byte_at = λ _. 0;
+  failures = failure_count storage;
+  mem_align = 1;
+  req_align = 1;
+}

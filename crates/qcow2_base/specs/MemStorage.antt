@@ -1,4 +1,5 @@
-use Rattle.std.specs.Prelude.{ℕ, List}
+use Rattle.std.specs.Prelude.{ℕ, true, List}
+use Rattle.qcow2_base.specs.Storage.{StorageState, image_of}
 use Rattle.qcow2_base.specs.declared.storage.memory.MemStorage.{MemStorage}
 
 -- the bytes up to the end
@@ -12,3 +13,13 @@ alignment m = m.align
 -- how many calls have failed, modulo 2^64
 abbrev pub failure_count : MemStorage → ℕ
 failure_count m = m.failures
+
+-- what it says as a storage
+abbrev pub state_of : MemStorage → StorageState
+state_of m = record {
+  tells = true;
+  byte_at = image_of (memory_bytes m);
+  failures = failure_count m;
+  mem_align = alignment m;
+  req_align = alignment m;
+}

@@ -1,6 +1,6 @@
 //! Why a call refuses: one fault for each rule of the format or of a call, with a number and a kind.
 
-ghost use Rattle.std.specs.Prelude.{◌≡◌};
+ghost use Rattle.std.specs.Prelude.{◌≡◌, Some};
 ghost use Rattle.qcow2_base.specs.declared.fault.Fault.TheVariants.{NoMemory};
 
 use std::alloc::{AllocError, AllocFailed};
@@ -30,6 +30,10 @@ pub enum Field {
 
 /// The name that the qcow2 format has for the field.
 impl fmt::Display for Field {
+    ghost use Rattle.qcow2_base.specs.Fault.{field_name};
+
+    ghost output = { λ field. Some (field_name field) };
+
     fn fmt<W: fmt::Write>(&self, f: &mut fmt::Formatter<W>) -> fmt::Result {
         f.write_str(match self {
             Field::Magic => "magic",

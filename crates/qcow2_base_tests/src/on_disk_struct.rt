@@ -265,6 +265,21 @@ fn stands<T: OnDiskStruct + Copy + Debug + PartialEq>(
     same(reload(&value, bytes), Ok(value), row)
 }
 
+/// That each call does so.
+fn each_call<T: OnDiskStruct + Copy + Debug + PartialEq>(
+    value: T,
+    expected: &[u8],
+    len: usize,
+) -> Result<(), Fail>
+    requires fits { length expected.now ≤ len }
+    requires room { len ≤ 80 }
+{
+    for call in CALLS {
+        stands(call, value, expected, len)?;
+    }
+    Ok(())
+}
+
 /// That each call refuses to store the value into a buffer that is `len` long, leaves it, and
 /// refuses to load from it.
 fn refuse<T: OnDiskStruct + Copy + Debug + PartialEq>(value: T, len: usize) -> Result<(), Fail>
@@ -293,11 +308,9 @@ fn structure<T: OnDiskStruct + Copy + Debug + PartialEq>(
 {
     let size = expected.len();
     same((T::ON_DISK_SIZE, value.on_disk_size()), (size, size), value)?;
-    for call in CALLS {
-        stands(call, value, expected, size)?;
-        stands(call, value, expected, size + 1)?;
-        stands(call, value, expected, 80)?;
-    }
+    each_call(value, expected, size)?;
+    each_call(value, expected, size + 1)?;
+    each_call(value, expected, 80)?;
     refuse(value, size - 1)?;
     refuse(value, 0)
 }

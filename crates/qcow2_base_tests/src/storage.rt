@@ -1,10 +1,10 @@
-ghost use Rattle.std.specs.Prelude.{◌+◌, ◌^◌, ◌<◌, ◌≤◌};
+ghost use Rattle.std.specs.Prelude.{◌+◌, ◌^◌, ◌<◌, ◌≤◌, length};
 
 mod files;
 mod large_files;
 
 use qcow2_base::{MemStorage, Storage, StorageFault};
-use qcow2_testing::{FailingStorage, StorageCall, holds, same};
+use qcow2_testing::{FailingStorage, StorageCall, holds, same, same_bytes};
 use std::alloc::Global;
 use std::fmt::Debug;
 use std::test::Fail;
@@ -33,13 +33,53 @@ pub(crate) fn has_failed<S: Debug>(alloc: Global, storage: &S, failures: u32) ->
     )
 }
 
-// That a read gives these four bytes.
-pub(crate) fn reads<S: Storage>(storage: &mut S, offset: u64, bytes: [u8; 4]) -> Result<(), Fail>
+// That a read gives these bytes, and that one into an empty buffer does not fail.
+pub(crate) fn reads<S: Storage>(
+    alloc: Global,
+    storage: &mut S,
+    offset: u64,
+    bytes: &[u8],
+) -> Result<(), Fail>
+    requires { offset + length bytes.now ≤ 2 ^ 56 }
+{
+    let mut found = vec![in alloc; 0xa5; bytes.len()]?;
+    storage.read(found.as_mut_slice(), offset)?;
+    storage.read(&mut [], offset)?;
+    same_bytes(&found, bytes, offset)
+}
+
+// That a read of four bytes fails, the so manyth call that does.
+pub(crate) fn read_fails<S: Storage + Debug>(
+    alloc: Global,
+    storage: &mut S,
+    offset: u64,
+    failures: u32,
+) -> Result<(), Fail>
     requires { offset + 4 ≤ 2 ^ 56 }
 {
-    let mut found = [0xa5; 4];
-    storage.read(&mut found, offset)?;
-    same(found, bytes, offset)
+    same(
+        storage.read(&mut [0; 4], offset),
+        Err(StorageFault),
+        (offset, failures),
+    )?;
+    has_failed(alloc, storage, failures)
+}
+
+// That a write of four bytes fails, the so manyth call that does.
+pub(crate) fn write_fails<S: Storage + Debug>(
+    alloc: Global,
+    storage: &mut S,
+    offset: u64,
+    failures: u32,
+) -> Result<(), Fail>
+    requires { offset + 4 ≤ 2 ^ 56 }
+{
+    same(
+        storage.write(&[9; 4], offset),
+        Err(StorageFault),
+        (offset, failures),
+    )?;
+    has_failed(alloc, storage, failures)
 }
 
 #[test]
@@ -56,7 +96,7 @@ fn a_read_gives_the_bytes_and_zeros_past_the_end(rt: HostRuntime) -> Result<(), 
     let mut storage = memory(rt.alloc(), &[1, 2, 3, 4, 5])?;
     for (offset, want) in cases {
         assert!(rt; offset <= LIMIT - 4);
-        reads(&mut storage, offset, want)?;
+        reads(rt.alloc(), &mut storage, offset, &want)?;
     }
     same(
         storage.bytes(),
@@ -90,9 +130,7 @@ fn a_write_replaces_its_range_and_lengthens_with_zeros(rt: HostRuntime) -> Resul
         let mut storage = memory(rt.alloc(), &[1, 2, 3])?;
         storage.write(&[7, 8], offset)?;
         same(storage.bytes(), want, offset)?;
-        let mut buf = [0; 2];
-        storage.read(&mut buf, offset)?;
-        same(buf, [7, 8], offset)?;
+        reads(rt.alloc(), &mut storage, offset, &[7, 8])?;
     }
     Ok(())
 }

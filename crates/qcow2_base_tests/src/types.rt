@@ -4,7 +4,7 @@ ghost use Rattle.std.specs.Prelude.{◌↔◌, IsTrue};
 ghost use Rattle.qcow2_base.specs.Types.{IsRefblockBits};
 
 use qcow2_base::{ClusterCount, GuestCluster, GuestOffset, HostCluster, HostOffset};
-use qcow2_testing::{fits, is_cluster_bits, same};
+use qcow2_testing::{fits, is_cluster_bits, same, same_text};
 use std::test::Fail;
 
 /// The largest offset of all.
@@ -354,25 +354,22 @@ fn clusters_and_counts_move_in_place(rt: HostRuntime) -> Result<(), Fail> {
 
 #[test]
 fn offsets_print_in_hexadecimal_and_counts_in_decimal(rt: HostRuntime) -> Result<(), Fail> {
-    // A number, and the guest offset, the host offset and the count of this number.
     let table = [
-        (0, "0x0 0x0 0"),
-        (9, "0x9 0x9 9"),
-        (10, "0xa 0xa 10"),
-        (2567, "0xa07 0xa07 2567"),
+        (0, "0x0", "0"),
+        (9, "0x9", "9"),
+        (10, "0xa", "10"),
+        (2567, "0xa07", "2567"),
         (
             0x0123_4567_89ab_cdef,
-            "0x123456789abcdef 0x123456789abcdef 81985529216486895",
+            "0x123456789abcdef",
+            "81985529216486895",
         ),
-        (
-            LAST,
-            "0xffffffffffffffff 0xffffffffffffffff 18446744073709551615",
-        ),
+        (LAST, "0xffffffffffffffff", "18446744073709551615"),
     ];
-    for (number, words) in table {
-        let (guest, host) = (GuestOffset(number), HostOffset(number));
-        let text = format!(in rt.alloc(); "{guest} {host} {}", ClusterCount(number))?;
-        same(text.as_str(), words, number)?;
+    for (number, hexadecimal, decimal) in table {
+        same_text(rt.alloc(), GuestOffset(number), hexadecimal)?;
+        same_text(rt.alloc(), HostOffset(number), hexadecimal)?;
+        same_text(rt.alloc(), ClusterCount(number), decimal)?;
     }
     Ok(())
 }

@@ -1,4 +1,4 @@
-use Rattle.std.specs.Prelude.{ℕ, zero, suc, List, Option, None, Some}
+use Rattle.std.specs.Prelude.{◌≡◌, ℕ, zero, suc, List, [], ◌∷◌, ◌++◌, Option, None, Some, Result, IsErr, OnOk}
 use Rattle.qcow2_testing.specs.declared.failing.FailingStorage.{FailingStorage}
 use Rattle.qcow2_base.specs.Storage.{StorageState}
 use Rattle.qcow2_testing.specs.declared.failing.StorageCall.{StorageCall}
@@ -28,3 +28,10 @@ abbrev pub plan_after : Option ℕ → Option ℕ
 plan_after None = None
 plan_after (Some zero) = None
 plan_after (Some (suc passes)) = Some passes
+
+-- a call that ended in this answer: it moves the plan on, fails where that was planned, and then leaves
+-- the other storage; where it passes it is recorded
+pub record FollowsPlan {S T E : Type 0} (answer : Result T E) (call : StorageCall) (old new : FailingStorage S) : Type 0 where
+  pub plan : plan_of new ≡ plan_after (plan_of old)
+  pub planned : plan_of old ≡ Some 0 → IsErr answer × (inner_of new ≡ inner_of old)
+  pub recorded : OnOk answer (calls_of new ≡ calls_of old ++ call ∷ [])

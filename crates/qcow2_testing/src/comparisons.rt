@@ -1,7 +1,10 @@
 //! Comparisons of tests. One that fails tells the row of the table, what was found and what was
 //! expected, as far as the text of a failure reaches.
 
-use std::fmt::Debug;
+ghost use Rattle.std.specs.Prelude.{IsTrue, OnOk};
+
+use std::alloc::Global;
+use std::fmt::{Debug, Display};
 use std::test::Fail;
 
 /// Fails unless both are the same.
@@ -31,8 +34,20 @@ pub fn same_bytes<R: Debug + Drop>(found: &[u8], expected: &[u8], row: R) -> Res
     )))
 }
 
+/// Fails unless the value prints as this text.
+pub fn same_text<D: Display + Debug + Drop>(
+    alloc: Global,
+    value: D,
+    expected: &str,
+) -> Result<(), Fail> {
+    let text = format!(in alloc; "{value}")?;
+    same(text.as_str(), expected, value)
+}
+
 /// Fails unless the condition holds.
-pub fn holds<R: Debug + Drop>(condition: bool, row: R) -> Result<(), Fail> {
+pub fn holds<R: Debug + Drop>(condition: bool, row: R) -> Result<(), Fail>
+    ensures { OnOk result (IsTrue condition) }
+{
     if condition {
         return Ok(());
     }

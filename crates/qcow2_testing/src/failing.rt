@@ -1,8 +1,8 @@
 //! A storage that fails at a planned call, to show what a caller does then.
 
-ghost use Rattle.std.specs.Prelude.{◌≡◌, ℕ, ◌+◌, ◌^◌, ◌%◌, ◌≤◌, List, [], ◌∷◌, ◌++◌, false, length, None, Some, IsTrue, IsErr, OnOk, MatchResult};
+ghost use Rattle.std.specs.Prelude.{◌≡◌, ◌+◌, ◌^◌, ◌%◌, ◌≤◌, [], ◌∷◌, ◌++◌, false, length, None, Some, IsTrue, IsErr};
 ghost use Rattle.qcow2_base.specs.Storage.{ReadsBytes, WritesBytes};
-ghost use Rattle.qcow2_testing.specs.Failing.{inner_of, seen_as, plan_of, calls_of, failure_count, plan_after};
+ghost use Rattle.qcow2_testing.specs.Failing.{inner_of, seen_as, plan_of, calls_of, failure_count, plan_after, FollowsPlan};
 
 use qcow2_base::{Storage, StorageFault};
 use std::alloc::Global;
@@ -141,10 +141,9 @@ impl<S: Storage> Storage for FailingStorage<S> {
 
     fn read(&mut self, buf: &mut [u8], offset: u64) -> Result<(), StorageFault>
         requires { offset + length buf.old ≤ 2 ^ 56 }
-        ensures bytes { ReadsBytes result offset buf.new (seen_as S.state self.old) (seen_as S.state self.new) }
-        ensures planned { plan_of self.old ≡ Some 0 → IsErr result × (inner_of self.new ≡ inner_of self.old) }
-        ensures plan { plan_of self.new ≡ plan_after (plan_of self.old) }
-        ensures recorded { OnOk result (calls_of self.new ≡ calls_of self.old ++ StorageCall.Read offset (length buf.old) ∷ []) }
+        ensures bytes { ReadsBytes result offset buf.new
+            (seen_as S.state self.old) (seen_as S.state self.new) }
+        ensures plan { FollowsPlan result (StorageCall.Read offset (length buf.old)) self.old self.new }
     {
         let len = buf.len();
         if self.admits(StorageCall::Read { offset, len })
@@ -157,10 +156,9 @@ impl<S: Storage> Storage for FailingStorage<S> {
 
     fn write(&mut self, buf: &[u8], offset: u64) -> Result<(), StorageFault>
         requires { offset + length buf.now ≤ 2 ^ 56 }
-        ensures bytes { WritesBytes result offset buf.now (seen_as S.state self.old) (seen_as S.state self.new) }
-        ensures planned { plan_of self.old ≡ Some 0 → IsErr result × (inner_of self.new ≡ inner_of self.old) }
-        ensures plan { plan_of self.new ≡ plan_after (plan_of self.old) }
-        ensures recorded { OnOk result (calls_of self.new ≡ calls_of self.old ++ StorageCall.Write offset (length buf.now) ∷ []) }
+        ensures bytes { WritesBytes result offset buf.now
+            (seen_as S.state self.old) (seen_as S.state self.new) }
+        ensures plan { FollowsPlan result (StorageCall.Write offset (length buf.now)) self.old self.new }
     {
         let len = buf.len();
         if self.admits(StorageCall::Write { offset, len })

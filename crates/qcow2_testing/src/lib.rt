@@ -9,7 +9,7 @@ mod failing;
 mod faulty_files;
 mod temporary_files;
 
-pub use comparisons::{holds, same, same_bytes};
+pub use comparisons::{holds, same, same_bytes, same_text};
 pub use conditions::{fits, is_cluster_bits};
 pub use failing::{FailingStorage, StorageCall, take_turn};
 pub use faulty_files::{FaultyFile, FaultyFiles};

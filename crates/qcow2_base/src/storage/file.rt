@@ -1,12 +1,12 @@
 //! An image in a file.
 
-ghost use Rattle.std.specs.Prelude.{◌≡◌, ◌+◌, ◌^◌, ◌%◌, ◌≤◌, ◌↔◌, true, false, length, refl, is_ok, IsErr, IsOkUnless, IfOk, IfSome, OnOk, MatchResult};
+ghost use Rattle.std.specs.Prelude.{◌≡◌, ◌+◌, ◌^◌, ◌%◌, ◌≤◌, ◌↔◌, true, length, refl, is_ok, IsOk, IsErr, IsOkUnless, IfOk, IfSome, OnOk, MatchResult};
 ghost use Rattle.std.specs.Fs.{new_options, with_read, with_write, IsDir, file_type};
 ghost use Rattle.std.specs.Io.KnownBytes.{Keeps};
 ghost use Rattle.std.specs.Io.Seek.{MovesTo};
 ghost use Rattle.std.proofs.Common.{rules};
-ghost use Rattle.qcow2_base.specs.FileStorage.{file_of, failure_count};
-ghost use Rattle.qcow2_base.specs.Storage.{TellsReads, Holds, image_of};
+ghost use Rattle.qcow2_base.specs.FileStorage.{file_of, failure_count, state_of};
+ghost use Rattle.qcow2_base.specs.Storage.{TellsReads, ReadsBytes, WritesBytes, Holds, image_of};
 
 use super::{Storage, StorageFault};
 use crate::Fault;
@@ -66,13 +66,7 @@ fn refuse_directory(metadata: &Metadata) -> io::Result<()>
 }
 
 impl<F: Read + Write + Seek> Storage for FileStorage<F> {
-    ghost state = { λ f. record {
-      tells = false;
-      byte_at = λ _. 0;
-      failures = f.failures;
-      mem_align = 1;
-      req_align = 1;
-    } };
+    ghost state = { state_of };
 
     fn mem_align(&self) -> usize {
         1
@@ -85,16 +79,20 @@ impl<F: Read + Write + Seek> Storage for FileStorage<F> {
     /// Where the type of the file tells its bytes, as one in memory may, an `Ok` gives those.
     fn read(&mut self, buf: &mut [u8], offset: u64) -> Result<(), StorageFault>
         requires { offset + length buf.old ≤ 2 ^ 56 }
+        ensures bytes { ReadsBytes result offset buf.new (state_of self.old) (state_of self.new) }
         ensures read { TellsReads F.stream_bytes F.stream_position F.remaining →
-            IfSome (F.stream_bytes (file_of self.old)) (λ bytes. OnOk result (Holds (image_of bytes) offset buf.new)) }
-        ensures failures { MatchResult result
-            (λ _. failure_count self.new ≡ failure_count self.old)
-            (λ _. failure_count self.new ≡ (failure_count self.old + 1) % 2 ^ 64) }
+            IfSome (F.stream_bytes (file_of self.old))
+            (λ bytes. OnOk result (Holds (image_of bytes) offset buf.new)) }
     {
         count(read_at(&mut self.file, buf, offset), &mut self.failures)
     }
 
-    fn write(&mut self, buf: &[u8], offset: u64) -> Result<(), StorageFault> {
+    /// An empty write succeeds and asks nothing of the file.
+    fn write(&mut self, buf: &[u8], offset: u64) -> Result<(), StorageFault>
+        requires { offset + length buf.now ≤ 2 ^ 56 }
+        ensures bytes { WritesBytes result offset buf.now (state_of self.old) (state_of self.new) }
+        ensures empty { length buf.now ≡ 0 → IsOk result × (self.new ≡ self.old) }
+    {
         count(write_at(&mut self.file, buf, offset), &mut self.failures)
     }
 
@@ -166,7 +164,9 @@ fn seek_to<F: Seek>(file: &mut F, offset: u64) -> io::Result<()>
 }
 
 // An empty write leaves the file as it is.
-fn write_at<F: Write + Seek>(file: &mut F, buf: &[u8], offset: u64) -> io::Result<()> {
+fn write_at<F: Write + Seek>(file: &mut F, buf: &[u8], offset: u64) -> io::Result<()>
+    ensures { length buf.now ≡ 0 → IsOk result × (file.new ≡ file.old) }
+{
     if buf.is_empty() {
         return Ok(());
     }

@@ -1,7 +1,8 @@
 //! An image in memory.
 
-ghost use Rattle.std.specs.Prelude.{◌≡◌, ℕ, true, ◌+◌, ◌^◌, ◌%◌, ◌<◌, ◌≤◌, max, length, slice_index, IsOk, OnOk, OnErr, MatchResult};
-ghost use Rattle.qcow2_base.specs.Storage.{IsPowerOfTwo, power_of_two_once, Holds, SameOutside, image_of, image_of_ends};
+ghost use Rattle.std.specs.Prelude.{◌≡◌, ℕ, ◌+◌, ◌^◌, ◌<◌, ◌≤◌, max, length, slice_index, IsOk, OnOk, OnErr};
+ghost use Rattle.qcow2_base.specs.Growth.{GrowsToFit};
+ghost use Rattle.qcow2_base.specs.Storage.{IsPowerOfTwo, power_of_two_once, Holds, SameOutside, WritesBytes, image_of, image_of_ends};
 
 use super::{Storage, StorageFault};
 use std::alloc::AllocError;
@@ -55,15 +56,9 @@ impl MemStorage {
 }
 
 impl Storage for MemStorage {
-    ghost use Rattle.qcow2_base.specs.MemStorage.{memory_bytes, alignment, failure_count};
+    ghost use Rattle.qcow2_base.specs.MemStorage.{memory_bytes, state_of};
 
-    ghost state = { λ m. record {
-      tells = true;
-      byte_at = image_of m.bytes.items;
-      failures = m.failures;
-      mem_align = m.align;
-      req_align = m.align;
-    } };
+    ghost state = { state_of };
 
     fn mem_align(&self) -> usize {
         self.align
@@ -78,9 +73,7 @@ impl Storage for MemStorage {
         requires { offset + length buf.old ≤ 2 ^ 56 }
         ensures ok { IsOk result }
         ensures read { Holds (image_of (memory_bytes self.old)) offset buf.new }
-        ensures unchanged { memory_bytes self.new ≡ memory_bytes self.old }
-        ensures failures { failure_count self.new ≡ failure_count self.old }
-        ensures align { alignment self.new ≡ alignment self.old }
+        ensures unchanged { self.new ≡ self.old }
     {
         copy_bytes(&self.bytes, buf, offset as usize);
         Ok(())
@@ -89,18 +82,9 @@ impl Storage for MemStorage {
     /// Fails only where memory for a longer image is refused, and then nothing has changed.
     fn write(&mut self, buf: &[u8], offset: u64) -> Result<(), StorageFault>
         requires { offset + length buf.now ≤ 2 ^ 56 }
-        ensures written { OnOk result (Holds (image_of (memory_bytes self.new)) offset buf.now) }
-        ensures others { SameOutside offset (length buf.now) (image_of (memory_bytes self.old)) (image_of (memory_bytes self.new)) }
-        ensures failures { MatchResult result
-            (λ _. failure_count self.new ≡ failure_count self.old)
-            (λ _. failure_count self.new ≡ (failure_count self.old + 1) % 2 ^ 64) }
-        ensures align { alignment self.new ≡ alignment self.old }
-        ensures err { OnErr result (memory_bytes self.new ≡ memory_bytes self.old) }
-        ensures empty { length buf.now ≡ 0 → memory_bytes self.new ≡ memory_bytes self.old }
-        ensures len { OnOk result (0 < length buf.now →
-            length (memory_bytes self.new) ≡ max (length (memory_bytes self.old)) (offset + length buf.now)) }
-        ensures in_place { offset + length buf.now ≤ length (memory_bytes self.old) → IsOk result }
-        ensures empty_ok { length buf.now ≡ 0 → IsOk result }
+        ensures bytes { WritesBytes result offset buf.now (state_of self.old) (state_of self.new) }
+        ensures growth { GrowsToFit result offset (length buf.now)
+            (memory_bytes self.old) (memory_bytes self.new) }
     {
         match overwrite(&mut self.bytes, buf, offset as usize) {
             Ok(()) => Ok(()),
@@ -135,13 +119,9 @@ fn copy_bytes(bytes: &[u8], buf: &mut [u8], offset: usize)
 fn overwrite(bytes: &mut Vec<u8>, buf: &[u8], offset: usize) -> Result<(), AllocError>
     requires { offset + length buf.now ≤ 2 ^ 56 }
     ensures written { OnOk result (Holds (image_of bytes.new.items) offset buf.now) }
-    ensures others { SameOutside offset (length buf.now) (image_of bytes.old.items) (image_of bytes.new.items) }
-    ensures err { OnErr result (bytes.new.items ≡ bytes.old.items) }
-    ensures len { OnOk result (0 < length buf.now →
-        length bytes.new.items ≡ max (length bytes.old.items) (offset + length buf.now)) }
-    ensures in_place { offset + length buf.now ≤ length bytes.old.items → IsOk result }
-    ensures empty { length buf.now ≡ 0 → bytes.new.items ≡ bytes.old.items }
-    ensures empty_ok { length buf.now ≡ 0 → IsOk result }
+    ensures others { SameOutside offset (length buf.now)
+        (image_of bytes.old.items) (image_of bytes.new.items) }
+    ensures growth { GrowsToFit result offset (length buf.now) bytes.old.items bytes.new.items }
     ensures fit { (o : ℕ) → slice_index bytes.new.items o < 2 ^ 8 }
 {
     if buf.is_empty() {

@@ -1,7 +1,10 @@
-use super::{LIMIT, has_failed, reads};
-use qcow2_base::{Fault, FileStorage, Storage, StorageFault};
-use qcow2_testing::{FaultyFiles, holds, same, same_bytes, temporary_file, temporary_path};
+use super::{LIMIT, has_failed, read_fails, reads, write_fails};
+use qcow2_base::{Fault, FileStorage, Storage};
+use qcow2_testing::{
+    FaultyFile, FaultyFiles, holds, same, same_bytes, temporary_file, temporary_path,
+};
 use std::fmt::Debug;
+use std::fs::File;
 use std::test::Fail;
 use std::{env, fs};
 
@@ -50,8 +53,7 @@ fn a_file_is_read_by_offset_with_zeros_past_its_end(rt: HostRuntime) -> Result<(
     )?;
     for (offset, want) in cases {
         assert!(rt; offset <= LIMIT - 4);
-        reads(&mut storage, offset, want)?;
-        storage.read(&mut [], offset)?;
+        reads(rt.alloc(), &mut storage, offset, &want)?;
     }
     has_failed(rt.alloc(), &storage, 0)
 }
@@ -68,12 +70,10 @@ fn a_write_to_a_file_stands_at_its_offset(rt: HostRuntime) -> Result<(), Fail> {
     for (offset, want) in cases {
         let file = temporary_file(&rt, "write", &[1, 2, 3])?;
         let mut storage = FileStorage::open(&rt, file.path.as_str(), true)?;
-        storage.read(&mut [0; 2], 1)?;
+        reads(rt.alloc(), &mut storage, 1, &[2, 3])?;
         storage.write(&[7, 8], offset)?;
         file_holds(&rt, file.path.as_str(), want, offset)?;
-        let mut buf = [0; 2];
-        storage.read(&mut buf, offset)?;
-        same(buf, [7, 8], offset)?;
+        reads(rt.alloc(), &mut storage, offset, &[7, 8])?;
     }
     Ok(())
 }
@@ -95,11 +95,9 @@ fn an_empty_write_leaves_a_file_as_it_is(rt: HostRuntime) -> Result<(), Fail> {
 fn a_file_opened_for_reading_refuses_a_write(rt: HostRuntime) -> Result<(), Fail> {
     let file = temporary_file(&rt, "read-only", &[1, 2, 3])?;
     let mut storage = FileStorage::open(&rt, file.path.as_str(), false)?;
-    for failures in 1..3u32 {
-        same(storage.write(&[9], 1), Err(StorageFault), failures)?;
-        has_failed(rt.alloc(), &storage, failures)?;
-    }
-    reads(&mut storage, 0, [1, 2, 3, 0])?;
+    write_fails(rt.alloc(), &mut storage, 1, 1)?;
+    write_fails(rt.alloc(), &mut storage, 1, 2)?;
+    reads(rt.alloc(), &mut storage, 0, &[1, 2, 3, 0])?;
     has_failed(rt.alloc(), &storage, 2)
 }
 
@@ -112,18 +110,33 @@ fn a_write_at_the_last_offset_stands_or_is_the_storage_fault(rt: HostRuntime) ->
     let (failures, len, last) = if held { (0, LIMIT, 9) } else { (1, 3, 0) };
     has_failed(rt.alloc(), &storage, failures)?;
     same(fs::metadata(&rt, file.path.as_str())?.len(), len, held)?;
-    reads(&mut storage, LIMIT - 4, [0, 0, 0, last])
+    reads(rt.alloc(), &mut storage, LIMIT - 4, &[0, 0, 0, last])
+}
+
+// A file that passes so many calls and then fails one, reads and writes so many bytes at a time, and
+// ends there for reads.
+fn faulty(
+    rt: &HostRuntime,
+    path: &str,
+    plan: Option<u64>,
+    step: usize,
+    end: u64,
+) -> Result<FileStorage<FaultyFile<File>>, Fault> {
+    let files = FaultyFiles {
+        files: rt,
+        plan,
+        step,
+        end,
+    };
+    FileStorage::open(&files, path, true)
 }
 
 #[test]
 fn short_reads_and_writes_are_gone_on_with(rt: HostRuntime) -> Result<(), Fail> {
     for step in 1..6 {
         let file = temporary_file(&rt, "short", &[1, 2, 3, 4, 5])?;
-        let files = faulty(&rt, None, step, u64::MAX);
-        let mut storage = FileStorage::open(&files, file.path.as_str(), true)?;
-        let mut buf = [0xa5; 6];
-        storage.read(&mut buf, 1)?;
-        same(buf, [2, 3, 4, 5, 0, 0], step)?;
+        let mut storage = faulty(&rt, file.path.as_str(), None, step, u64::MAX)?;
+        reads(rt.alloc(), &mut storage, 2, &[3, 4, 5, 0])?;
         storage.write(&[6, 7, 8, 9], 2)?;
         file_holds(&rt, file.path.as_str(), &[1, 2, 6, 7, 8, 9], step)?;
     }
@@ -133,8 +146,7 @@ fn short_reads_and_writes_are_gone_on_with(rt: HostRuntime) -> Result<(), Fail> 
 #[test]
 fn a_file_whose_open_fails_half_way_is_refused(rt: HostRuntime) -> Result<(), Fail> {
     let file = temporary_file(&rt, "half-open", &[1, 2, 3])?;
-    let files = faulty(&rt, Some(0), 2, u64::MAX);
-    let answer = FileStorage::open(&files, file.path.as_str(), false);
+    let answer = faulty(&rt, file.path.as_str(), Some(0), 2, u64::MAX);
     same(answer.err(), Some(Fault::Storage), "at its metadata")
 }
 
@@ -144,11 +156,9 @@ fn a_file_whose_open_fails_half_way_is_refused(rt: HostRuntime) -> Result<(), Fa
 fn a_read_fails_where_one_call_of_the_file_does(rt: HostRuntime) -> Result<(), Fail> {
     let file = temporary_file(&rt, "failed-read", &[1, 2, 3, 4, 5])?;
     for passes in 1..5 {
-        let files = faulty(&rt, Some(passes), 2, u64::MAX);
-        let mut storage = FileStorage::open(&files, file.path.as_str(), false)?;
-        same(storage.read(&mut [0; 4], 1), Err(StorageFault), passes)?;
-        has_failed(rt.alloc(), &storage, 1)?;
-        reads(&mut storage, 1, [2, 3, 4, 5])?;
+        let mut storage = faulty(&rt, file.path.as_str(), Some(passes), 2, u64::MAX)?;
+        read_fails(rt.alloc(), &mut storage, 1, 1)?;
+        reads(rt.alloc(), &mut storage, 1, &[2, 3, 4, 5])?;
     }
     Ok(())
 }
@@ -159,15 +169,14 @@ fn a_read_fails_where_one_call_of_the_file_does(rt: HostRuntime) -> Result<(), F
 fn a_write_fails_where_one_call_of_the_file_does(rt: HostRuntime) -> Result<(), Fail> {
     for passes in 1..5 {
         let file = temporary_file(&rt, "failed-write", &[1, 2, 3, 4, 5, 6])?;
-        let files = faulty(&rt, Some(passes), 2, u64::MAX);
-        let mut storage = FileStorage::open(&files, file.path.as_str(), true)?;
-        same(storage.write(&[9, 9, 9, 9], 1), Err(StorageFault), passes)?;
-        has_failed(rt.alloc(), &storage, 1)?;
-        let bytes = fs::read(&rt, file.path.as_str())?;
+        let path = file.path.as_str();
+        let mut storage = faulty(&rt, path, Some(passes), 2, u64::MAX)?;
+        write_fails(rt.alloc(), &mut storage, 1, 1)?;
+        let bytes = fs::read(&rt, path)?;
         let found = (bytes.len(), bytes.first().copied(), bytes.last().copied());
         same(found, (6, Some(1), Some(6)), passes)?;
         storage.write(&[9, 9, 9, 9], 1)?;
-        file_holds(&rt, file.path.as_str(), &[1, 9, 9, 9, 9, 6], passes)?;
+        file_holds(&rt, path, &[1, 9, 9, 9, 9, 6], passes)?;
     }
     Ok(())
 }
@@ -176,19 +185,8 @@ fn a_write_fails_where_one_call_of_the_file_does(rt: HostRuntime) -> Result<(), 
 fn a_file_that_ends_before_its_length_is_no_zeros(rt: HostRuntime) -> Result<(), Fail> {
     let file = temporary_file(&rt, "early-end", &[1, 2, 3, 4, 5])?;
     for end in 0..5 {
-        let files = faulty(&rt, None, 2, end);
-        let mut storage = FileStorage::open(&files, file.path.as_str(), false)?;
-        same(storage.read(&mut [0; 9], 0), Err(StorageFault), end)?;
-        has_failed(rt.alloc(), &storage, 1)?;
+        let mut storage = faulty(&rt, file.path.as_str(), None, 2, end)?;
+        read_fails(rt.alloc(), &mut storage, 1, 1)?;
     }
     Ok(())
-}
-
-fn faulty<R>(files: &R, plan: Option<u64>, step: usize, end: u64) -> FaultyFiles<'_, R> {
-    FaultyFiles {
-        files,
-        plan,
-        step,
-        end,
-    }
 }

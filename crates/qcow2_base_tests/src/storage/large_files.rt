@@ -1,8 +1,9 @@
 //! Reads and writes of more bytes than any buffer on their way may have.
 
 use super::files::file_holds;
+use super::reads;
 use qcow2_base::{FileStorage, Storage};
-use qcow2_testing::{same_bytes, temporary_file};
+use qcow2_testing::temporary_file;
 use std::alloc::{AllocError, Global};
 use std::test::Fail;
 
@@ -14,11 +15,8 @@ fn image(alloc: Global, len: usize, start: usize, end: usize) -> Result<Vec<u8>,
     let mut bytes = Vec::new(alloc);
     for at in 0..len {
         let byte = (at % 113) as u8;
-        bytes.push(if start <= at && at < end {
-            255 - byte
-        } else {
-            byte
-        })?;
+        let inside = start <= at && at < end;
+        bytes.push(if inside { 255 - byte } else { byte })?;
     }
     Ok(bytes)
 }
@@ -46,23 +44,21 @@ fn a_large_write_replaces_its_range_and_no_other_byte(rt: HostRuntime) -> Result
 
 #[test]
 fn a_large_read_gives_its_range_and_changes_no_byte(rt: HostRuntime) -> Result<(), Fail> {
-    let old = image(rt.alloc(), 5 * MIB, 0, 0)?;
-    let file = temporary_file(&rt, "large-read", &old)?;
-    // An offset, and how many bytes are read from there on.
-    for (offset, len) in [
-        (1000, 512),
-        (1000, 65537),
-        (1000, 4 * MIB + 1),
-        (500, 5 * MIB),
-    ] {
-        let mut storage = FileStorage::open(&rt, file.path.as_str(), true)?;
-        let mut found = vec![in rt.alloc(); 0xa5; len]?;
-        let mut expected = Vec::from_slice(rt.alloc(), old.as_slice())?;
-        expected.resize(6 * MIB, 0)?;
-        assert!(rt; offset <= MIB && len <= 5 * MIB && offset + len <= expected.len());
-        storage.read(found.as_mut_slice(), offset as u64)?;
-        same_bytes(&found, &expected[offset..offset + len], (offset, len))?;
-        file_holds(&rt, file.path.as_str(), &old, (offset, len))?;
+    let bytes = image(rt.alloc(), 5 * MIB, 0, 0)?;
+    let file = temporary_file(&rt, "large-read", &bytes)?;
+    let mut storage = FileStorage::open(&rt, file.path.as_str(), true)?;
+    let mut padded = Vec::from_slice(rt.alloc(), bytes.as_slice())?;
+    padded.resize(6 * MIB, 0)?;
+    let cases = [
+        (1000, 1512),
+        (1000, 66537),
+        (1000, 4 * MIB + 1001),
+        (500, 5 * MIB + 500),
+    ];
+    for (start, end) in cases {
+        assert!(rt; start <= end && end <= padded.len() && end <= 6 * MIB);
+        reads(rt.alloc(), &mut storage, start as u64, &padded[start..end])?;
+        file_holds(&rt, file.path.as_str(), &bytes, (start, end))?;
     }
     Ok(())
 }
