@@ -9,7 +9,7 @@ use Rattle.std.specs.Slice.{IsGetResult}
 use mathlib.Core.Path.{fun_ext}
 use Rattle.qcow2_base.specs.Storage.{Holds, Image, IsBytes, SameOutside, be, be_of_same, be_tells, image_of}
 use Rattle.qcow2_base.specs.declared.fault.Fault.{Fault}
-use Rattle.qcow2_metadata.specs.Table.{IsFirstFault, TablePlace, first_fault, grown_numbers, numbers_at, offset_of, table_numbers}
+use Rattle.qcow2_metadata.specs.Table.{TablePlace, first_fault, grown_numbers, numbers_at, offset_of, table_numbers}
 
 pub no_fault_at_all : (first rest : Option Fault) → option_or first rest ≡ None → (first ≡ None) × (rest ≡ None)
 no_fault_at_all None rest h = (refl, h)
@@ -18,6 +18,12 @@ no_fault_at_all (Some f) rest h = cc
 lawful_before : (fault : ℕ → Option Fault) (x : ℕ) (xs : List ℕ) (i : ℕ) → fault x ≡ None → ((j : ℕ) → j < i → fault (slice_index xs j) ≡ None) → (j : ℕ) → j < suc i → fault (slice_index (x ∷ xs) j) ≡ None
 lawful_before fault x xs i first rest zero below = first
 lawful_before fault x xs i first rest (suc j) below = rest j (omega arith)
+
+-- the number at i is the first that is no entry, and this is its fault
+pub record IsFirstFault (fault : ℕ → Option Fault) (numbers : List ℕ) (found : Fault) (i : ℕ) : Type 0 where
+  pub within : i < length numbers
+  pub here : fault (slice_index numbers i) ≡ Some found
+  pub before : (j : ℕ) → j < i → fault (slice_index numbers j) ≡ None
 
 first_or_later : (fault : ℕ → Option Fault) (x : ℕ) (xs : List ℕ) (f : Fault) (first : Option Fault) → fault x ≡ first → option_or first (first_fault fault xs) ≡ Some f → (first_fault fault xs ≡ Some f → (i : ℕ) × IsFirstFault fault xs f i) → (i : ℕ) × IsFirstFault fault (x ∷ xs) f i
 first_or_later fault x xs f (Some g) is found later =

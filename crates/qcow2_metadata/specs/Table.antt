@@ -95,12 +95,6 @@ abbrev pub first_fault : (ℕ → Option Fault) → List ℕ → Option Fault
 first_fault fault [] = None
 first_fault fault (v ∷ vs) = option_or (fault v) (first_fault fault vs)
 
--- the number at i is the first that is no entry, and this is its fault
-pub record IsFirstFault (fault : ℕ → Option Fault) (numbers : List ℕ) (found : Fault) (i : ℕ) : Type 0 where
-  pub within : i < length numbers
-  pub here : fault (slice_index numbers i) ≡ Some found
-  pub before : (j : ℕ) → j < i → fault (slice_index numbers j) ≡ None
-
 -- a refusal, if there is one, else the answer
 abbrev pub unless_refused : {T : Type 0} → Option Fault → Result T Fault → Result T Fault
 unless_refused None answer = answer

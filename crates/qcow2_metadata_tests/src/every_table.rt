@@ -39,12 +39,12 @@ fn writes_what_was_read<T: Table + Drop>(
         let mut table = T::load(alloc, &mut image, &header, HostCluster(2), entries)?;
         tells(&table, &told, row)?;
         same(
-            &(table.byte_size(), table.cluster_bits()),
-            &(8 * entries, bits),
+            (table.byte_size(), table.cluster_bits()),
+            (8 * entries, bits),
             row,
         )?;
         same_bytes(image.bytes(), before.as_slice(), row)?;
-        same(&table.write(&mut image), &Ok(()), row)?;
+        same(table.write(&mut image), Ok(()), row)?;
         tells(&table, &told, row)?;
         same_bytes(image.bytes(), before.as_slice(), row)?;
     }
@@ -146,7 +146,7 @@ fn loads_by_its_entries<T: Table + Drop>(
     }
     let before = Vec::from_slice(alloc, image.bytes())?;
     let answer: Result<T, Fault> = T::load(alloc, &mut image, header, HostCluster(2), entries);
-    same(&answer.err(), &Some(fault), row)?;
+    same(answer.err(), Some(fault), row)?;
     same_bytes(image.bytes(), before.as_slice(), row)
 }
 
@@ -242,13 +242,13 @@ fn loads_by_its_place<T: Table + Drop>(
         told.entries,
     );
     let is_read = fault.is_none() && told.entries > 0;
-    same(&!image.calls().is_empty(), &is_read, row)?;
+    same(!image.calls().is_empty(), is_read, row)?;
     match answer {
         Ok(table) => {
-            same(&None, &fault, row)?;
+            same(None, fault, row)?;
             tells(&table, told, row)
         }
-        Err(found) => same(&Some(found), &fault, row),
+        Err(found) => same(Some(found), fault, row),
     }
 }
 
@@ -272,16 +272,18 @@ fn writes_to_its_place<T: Table>(
         offset: told.cluster.unwrap_or(0).wrapping_mul(size),
         len: table.byte_size().min(4096),
     };
-    let (answer, calls, modified): (Result<(), Fault>, &[StorageCall], bool) = match fault {
-        Some(fault) => (Err(fault), &[], told.modified),
-        None if told.entries == 0 => (Ok(()), &[], false),
-        None => (Err(Fault::Storage), &[call], true),
+    let (answer, modified, reached) = match fault {
+        Some(fault) => (Err(fault), told.modified, false),
+        None if told.entries == 0 => (Ok(()), false, false),
+        None => (Err(Fault::Storage), true, true),
     };
+    let first = [call];
+    let calls: &[StorageCall] = if reached { &first } else { &[] };
     place(table, told.cluster, told.modified)?;
     let mut image = FailingStorage::new(alloc, filled_image(alloc, 2048)?);
     image.fail_after(0);
     let found = table.write(&mut image);
-    same(&(found, image.calls()), &(answer, calls), row)?;
+    same((found, image.calls()), (answer, calls), row)?;
     same_bytes(image.inner().bytes(), &[0xa5; 2048], row)?;
     tells(table, &Told { modified, ..*told }, row)
 }
@@ -341,7 +343,7 @@ fn is_too_big<E: TableKind>(alloc: Global, header: &Header) -> Result<(), Fail>
     requires { IsTrue (E.has_lawful_count header.now.cluster_bits 4194305) }
 {
     let mut table: EntryTable<E> = cleared_table(alloc, header, 4194305)?;
-    same(&table.cluster_count(), &ClusterCount(65537), E::NAME)?;
+    same(table.cluster_count(), ClusterCount(65537), E::NAME)?;
     for (cluster, modified, fault) in [
         (None, true, Fault::NoOffset),
         (Some(1), false, Fault::TableTooBig),
@@ -385,16 +387,16 @@ fn bounds_its_indices<E: TableKind>(
     };
     tells(&table, &told, row)?;
     same(
-        &(table.byte_size(), table.cluster_count()),
-        &(8 * entries, ClusterCount(clusters)),
+        (table.byte_size(), table.cluster_count()),
+        (8 * entries, ClusterCount(clusters)),
         row,
     )?;
     for index in [0, 1, 63, 64, 65, usize::MAX] {
         let number = table.get_ref(index).map(|entry| entry.to_plain());
         let within = index < entries;
         same(
-            &(table.in_bounds(index), number, table.get(index).to_plain()),
-            &(within, if within { Some(0) } else { None }, 0),
+            (table.in_bounds(index), number, table.get(index).to_plain()),
+            (within, if within { Some(0) } else { None }, 0),
             (row, index),
         )?;
     }
@@ -428,7 +430,7 @@ fn an_entry_is_at_its_index_and_the_entry_0_past_the_end(rt: HostRuntime) -> Res
     ] {
         let number = table.get_ref(index).map(|entry| entry.to_plain());
         let found = (number, table.get(index).to_plain());
-        same(&found, &(want, want.unwrap_or(0)), index)?;
+        same(found, (want, want.unwrap_or(0)), index)?;
     }
     Ok(())
 }
@@ -436,17 +438,17 @@ fn an_entry_is_at_its_index_and_the_entry_0_past_the_end(rt: HostRuntime) -> Res
 #[test]
 fn each_kind_of_table_has_its_name_and_its_most_entries(_rt: HostRuntime) -> Result<(), Fail> {
     same(
-        &[L1Table::NAME, L2Table::NAME, RefTable::NAME],
-        &["L1 table", "L2 table", "Refcount table"],
+        [L1Table::NAME, L2Table::NAME, RefTable::NAME],
+        ["L1 table", "L2 table", "Refcount table"],
         "names",
     )?;
     same(
-        &[
+        [
             L1Table::MAX_ENTRIES,
             L2Table::MAX_ENTRIES,
             RefTable::MAX_ENTRIES,
         ],
-        &[4194304, 262144, 4194304],
+        [4194304, 262144, 4194304],
         "most entries",
     )
 }
@@ -462,17 +464,14 @@ fn a_cluster_and_the_flag_are_set_and_taken_away(rt: HostRuntime) -> Result<(), 
     };
     let mut table: L2Table = table_that_tells(rt.alloc(), &header, &told)?;
     tells(&table, &told, "loaded")?;
-    same(&table.get_offset(), &Some(HostOffset(0x1_0000)), "loaded")?;
+    same(table.get_offset(), Some(HostOffset(0x1_0000)), "loaded")?;
     table.set_cluster(HostCluster(7));
     told.cluster = Some(7);
     told.modified = true;
     tells(&table, &told, "placed")?;
-    same(&table.get_offset(), &Some(HostOffset(0x7_0000)), "placed")?;
+    same(table.get_offset(), Some(HostOffset(0x7_0000)), "placed")?;
     for modified in [false, true] {
-        table.set_cluster(HostCluster(8));
-        if !modified {
-            table.clear_modified();
-        }
+        place(&mut table, Some(8), modified)?;
         table.unset_cluster();
         told.cluster = None;
         told.modified = modified;

@@ -1,8 +1,9 @@
 //! Headers, images and tables to test with.
 
-ghost use Rattle.std.specs.Prelude.{◌≡◌, ◌≤◌, ◌^◌, IfOk, OnOk, IsTrue, length};
+ghost use Rattle.std.specs.Prelude.{◌≡◌, ◌≤◌, ◌^◌, IfOk, OnOk, IsTrue, length, option_map};
 ghost use Rattle.qcow2_base.specs.Types.{IsClusterBits};
 ghost use Rattle.qcow2_metadata.specs.Header.{geometry_of};
+ghost use Rattle.qcow2_metadata_tests.specs.Fixtures.{cluster_of};
 
 use qcow2_base::{Fault, HostCluster, HostOffset, MemStorage, Storage};
 use qcow2_metadata::{EntryTable, Header, Table, TableEntry, TableKind};
@@ -86,12 +87,12 @@ pub const LOADED: Told = Told {
 
 /// Fails unless the table says this.
 pub fn tells<T: Table, R: Debug + Copy>(table: &T, told: &Told, row: R) -> Result<(), Fail> {
-    same(&table.entries(), &told.entries, row)?;
-    same(&other_entry(table, told), &None, row)?;
+    same(table.entries(), told.entries, row)?;
+    same(other_entry(table, told), None, row)?;
     let size = 1 << table.cluster_bits();
     same(
-        &(table.get_cluster(), table.get_offset(), table.is_modified()),
-        &(
+        (table.get_cluster(), table.get_offset(), table.is_modified()),
+        (
             told.cluster.map(HostCluster),
             told.cluster
                 .map(|cluster| HostOffset(cluster.wrapping_mul(size))),
@@ -122,6 +123,7 @@ pub fn table_that_tells<T: Table + Drop>(
     requires { IsTrue (T.has_lawful_count header.now.cluster_bits told.now.entries) }
     ensures entries { IfOk result (λ table. length (T.state table).numbers ≡ told.now.entries) }
     ensures geometry { IfOk result (λ table. (T.state table).geometry ≡ geometry_of header.now) }
+    ensures cluster { IfOk result (λ table. (T.state table).cluster ≡ option_map cluster_of told.now.cluster) }
     ensures flag { IfOk result (λ table. (T.state table).modified ≡ told.now.modified) }
 {
     let (index, number) = told.entry;
@@ -138,9 +140,10 @@ pub fn table_that_tells<T: Table + Drop>(
 /// Gives the table a cluster or none, and sets or clears its flag. Fails where the cluster's offset
 /// doesn't fit 64 bits.
 pub fn place<T: Table>(table: &mut T, cluster: Option<u64>, modified: bool) -> Result<(), Fault>
-    ensures numbers { (T.state table.new).numbers ≡ (T.state table.old).numbers }
-    ensures geometry { (T.state table.new).geometry ≡ (T.state table.old).geometry }
-    ensures flag { OnOk result ((T.state table.new).modified ≡ modified) }
+    ensures { OnOk result (T.state table.new ≡ record (T.state table.old) {
+      cluster = option_map cluster_of cluster;
+      modified = modified;
+    }) }
 {
     match cluster {
         Some(cluster) => {

@@ -29,8 +29,8 @@ fn a_new_header_tells_its_sizes(rt: HostRuntime) -> Result<(), Fail> {
                 header.l2_entries(),
             );
             same(
-                &(sizes, header.external_data_file()),
-                &(row, false),
+                (sizes, header.external_data_file()),
+                (row, false),
                 (row, refcount_order),
             )?;
         }
@@ -60,7 +60,7 @@ fn guest_data_is_external_exactly_where_a_data_file_is_named(rt: HostRuntime) ->
             text(rt.alloc(), format)?,
             text(rt.alloc(), data)?,
         )?;
-        same(&header.external_data_file(), &external, row)?;
+        same(header.external_data_file(), external, row)?;
     }
     Ok(())
 }

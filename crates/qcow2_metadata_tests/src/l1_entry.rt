@@ -36,8 +36,8 @@ fn an_l1_entry_tells_its_offset_and_whether_it_is_copied(rt: HostRuntime) -> Res
         let header = header_with(rt.alloc(), bits, false)?;
         let entry = L1Entry::try_from_plain(number, &header)?;
         same(
-            &told(entry),
-            &(offset.map(HostOffset), copied, 0, number),
+            told(entry),
+            (offset.map(HostOffset), copied, 0, number),
             row,
         )?;
     }
@@ -65,8 +65,8 @@ fn an_l1_entry_with_a_reserved_bit_or_else_an_unaligned_offset_is_refused(
     for row in table {
         let (bits, number, fault) = row;
         let header = header_with(rt.alloc(), bits, true)?;
-        same(&L1Entry::try_from_plain(number, &header), &Err(fault), row)?;
-        same(&L1Entry::is_lawful(number, &header), &false, row)?;
+        same(L1Entry::try_from_plain(number, &header), Err(fault), row)?;
+        same(L1Entry::is_lawful(number, &header), false, row)?;
     }
     Ok(())
 }
@@ -90,7 +90,7 @@ fn each_bit_of_an_l1_entry_is_reserved_or_of_the_offset_or_copied(
             };
             let found = L1Entry::try_from_plain(number, &header).map(told);
             let lawful = L1Entry::is_lawful(number, &header);
-            same(&(found, lawful), &(want, want.is_ok()), (bits, bit))?;
+            same((found, lawful), (want, want.is_ok()), (bits, bit))?;
         }
     }
     Ok(())

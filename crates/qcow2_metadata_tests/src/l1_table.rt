@@ -76,8 +76,8 @@ fn an_l1_table_grows_by_whole_clusters(rt: HostRuntime) -> Result<(), Fail> {
         };
         tells(&grown, &told_grown, row)?;
         same(
-            &(grown.in_bounds(index), grown.cluster_bits()),
-            &(true, bits),
+            (grown.in_bounds(index), grown.cluster_bits()),
+            (true, bits),
             row,
         )?;
         tells(&source, &told, row)?;
@@ -105,7 +105,7 @@ fn an_l1_table_does_not_grow_past_the_most_entries(rt: HostRuntime) -> Result<()
         let header = header_with(rt.alloc(), bits, false)?;
         let source: L1Table = cleared_table(rt.alloc(), &header, entries)?;
         let answer = source.clone_and_grow(index, &header);
-        same(&answer.err(), &Some(Fault::CannotGrow), row)?;
+        same(answer.err(), Some(Fault::CannotGrow), row)?;
         let told = Told {
             entries,
             entry: (0, 0),
@@ -122,7 +122,7 @@ fn growth_is_the_same_for_each_width_of_a_refcount(rt: HostRuntime) -> Result<()
     let header = Header::new(rt.alloc(), 9, 6, None, None, None)?;
     let source: L1Table = cleared_table(rt.alloc(), &header, 64)?;
     let answer = source.clone_and_grow(4194304, &header);
-    same(&answer.err(), &Some(Fault::CannotGrow), "too far")?;
+    same(answer.err(), Some(Fault::CannotGrow), "too far")?;
     let grown = source.clone_and_grow(4194303, &header)?;
     let told = Told {
         entries: 4194304,
@@ -155,7 +155,7 @@ fn a_grown_l1_table_has_the_old_entries_and_no_cluster(rt: HostRuntime) -> Resul
             tells(&grown, &told_grown, (modified, index))?;
         }
         let answer = source.clone_and_grow(4194304, &header);
-        same(&answer.err(), &Some(Fault::CannotGrow), modified)?;
+        same(answer.err(), Some(Fault::CannotGrow), modified)?;
         tells(&source, &told, modified)?;
     }
     Ok(())
@@ -174,17 +174,17 @@ fn a_grown_l1_table_is_written_whole(rt: HostRuntime) -> Result<(), Fail> {
     let inner = image_with(rt.alloc(), 2048, &[(512, u64::MAX), (1528, u64::MAX)])?;
     let mut image = FailingStorage::new(rt.alloc(), inner);
     same(
-        &grown.write(&mut image),
-        &Err(Fault::NoOffset),
+        grown.write(&mut image),
+        Err(Fault::NoOffset),
         "without a cluster",
     )?;
     place(&mut grown, Some(1), true)?;
-    same(&grown.write(&mut image), &Ok(()), "write")?;
+    same(grown.write(&mut image), Ok(()), "write")?;
     let call = StorageCall::Write {
         offset: 512,
         len: 1024,
     };
-    same(&image.calls(), &[call].as_slice(), "write")?;
+    same(image.calls(), [call].as_slice(), "write")?;
     let want = image_with(rt.alloc(), 2048, &[(512, NUMBER)])?;
     same_bytes(image.inner().bytes(), want.bytes(), "write")
 }
@@ -221,7 +221,7 @@ fn enter(
         None
     };
     let answer = l1_table.enter_l2_table(index, &l2_table, new_allocation);
-    same(&refusal(answer), &None, (bits, index, cluster))
+    same(refusal(answer), None, (bits, index, cluster))
 }
 
 #[test]
@@ -267,7 +267,7 @@ fn an_entered_l2_table_is_copied_and_at_its_offset(rt: HostRuntime) -> Result<()
             tells(&l1_table, &entered, row)?;
             let entry: L1Entry = l1_table.get(index);
             let told = (entry.l2_offset(), entry.is_copied());
-            same(&told, &(Some(HostOffset(offset)), true), (row, index))?;
+            same(told, (Some(HostOffset(offset)), true), (row, index))?;
         }
     }
     Ok(())
@@ -279,17 +279,19 @@ fn refuses_to_enter(
     header: &Header,
     told: &Told,
     pending: Option<ClustersToFreeEntry>,
-) -> Result<(), Fail> {
-    let mut l1_table: L1Table = table_that_tells(alloc, header, told)?;
-    let l2_table = L2Table::new_cleared(alloc, header)?;
+) -> Result<(), Fail>
+    requires { 64 < told.now.entries }
+{
     for index in [0, 64] {
+        let mut l1_table: L1Table = table_that_tells(alloc, header, told)?;
+        let l2_table = L2Table::new_cleared(alloc, header)?;
         let new_allocation = match pending {
             Some(clusters) => Some(PendingClusters::new(clusters.first, clusters.count)),
             None => None,
         };
         let row = (told.modified, index, pending);
         let answer = l1_table.enter_l2_table(index, &l2_table, new_allocation);
-        same(&refusal(answer), &Some((Fault::NotPlaced, pending)), row)?;
+        same(refusal(answer), Some((Fault::NotPlaced, pending)), row)?;
         tells(&l1_table, told, row)?;
     }
     Ok(())

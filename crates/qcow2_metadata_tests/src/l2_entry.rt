@@ -110,8 +110,8 @@ fn each_reserved_bit_is_refused(rt: HostRuntime) -> Result<(), Fail> {
         let header = header_with(rt.alloc(), bits, false)?;
         let found = L2Entry::try_from_plain(number, &header)?;
         same(
-            &(found.to_plain(), found.reserved_bits()),
-            &(number, 0),
+            (found.to_plain(), found.reserved_bits()),
+            (number, 0),
             (bits, number),
         )?;
         for bit in reserved {
@@ -125,17 +125,17 @@ fn each_reserved_bit_is_refused(rt: HostRuntime) -> Result<(), Fail> {
 // An entry and a cell are refused by this fault.
 fn refuses(header: &Header, number: u64, fault: Fault) -> Result<(), Fail> {
     let row = (header.cluster_bits(), number);
-    same(&L2Entry::try_from_plain(number, header), &Err(fault), row)?;
+    same(L2Entry::try_from_plain(number, header), Err(fault), row)?;
     same(
-        &AtomicL2Entry::try_from_plain(number, header),
-        &Err(fault),
+        AtomicL2Entry::try_from_plain(number, header),
+        Err(fault),
         row,
     )?;
     let lawful = (
         L2Entry::is_lawful(number, header),
         AtomicL2Entry::is_lawful(number, header),
     );
-    same(&lawful, &(false, false), row)
+    same(lawful, (false, false), row)
 }
 
 #[test]
@@ -177,25 +177,25 @@ fn an_entry_tells_its_bits(rt: HostRuntime) -> Result<(), Fail> {
         let header = header_with(rt.alloc(), bits, false)?;
         let found = L2Entry::try_from_plain(number, &header)?;
         let told = (found.is_compressed(), found.is_copied(), found.is_zero());
-        same(&told, &(compressed, copied, zero), row)?;
+        same(told, (compressed, copied, zero), row)?;
         let numbers = (
             found.to_plain(),
             found.reserved_bits(),
             found.compressed_descriptor(),
         );
-        same(&numbers, &(number, 0, number & 0x3fff_ffff_ffff_ffff), row)?;
+        same(numbers, (number, 0, number & 0x3fff_ffff_ffff_ffff), row)?;
         let cell = AtomicL2Entry::try_from_plain(number, &header)?;
-        same(&(cell.to_plain(), cell.get()), &(number, found), row)?;
+        same((cell.to_plain(), cell.get()), (number, found), row)?;
         let lawful = (
             L2Entry::is_lawful(number, &header),
             AtomicL2Entry::is_lawful(number, &header),
         );
-        same(&lawful, &(true, true), row)?;
+        same(lawful, (true, true), row)?;
         let tested = (
-            L2Entry::from_tested(number),
-            AtomicL2Entry::from_tested(number),
+            L2Entry::from_lawful(number, &header),
+            AtomicL2Entry::from_lawful(number, &header),
         );
-        same(&tested, &(found, cell), row)?;
+        same(tested, (found, cell), row)?;
     }
     Ok(())
 }
@@ -240,8 +240,8 @@ fn a_standard_entry_refers_to_its_cluster(rt: HostRuntime) -> Result<(), Fail> {
         let offset = place.map(|(offset, _)| HostOffset(offset));
         let clusters = place.map(|(_, cluster)| (HostCluster(cluster), ClusterCount(1)));
         same(
-            &(told, found.compressed_range(bits)),
-            &((offset, clusters), None),
+            (told, found.compressed_range(bits)),
+            ((offset, clusters), None),
             row,
         )?;
     }
@@ -258,12 +258,12 @@ fn a_compressed_entry_refers_to_the_clusters_of_its_sectors(rt: HostRuntime) -> 
             .map(|(start, len)| (start.0, len.get()));
         let clusters = Some((HostCluster(first), ClusterCount(count)));
         same(
-            &(
+            (
                 range,
                 found.allocation(bits, false),
                 found.allocation(bits, true),
             ),
-            &(Some((offset, length)), clusters, clusters),
+            (Some((offset, length)), clusters, clusters),
             row,
         )?;
     }
@@ -302,7 +302,7 @@ fn an_entry_says_what_its_guest_cluster_reads_as(rt: HostRuntime) -> Result<(), 
             return Err("a guest cluster past all disks".into());
         }
         let found = found.into_mapping(GuestCluster(guest), bits, external);
-        same(&found, &Ok(want), row)?;
+        same(found, Ok(want), row)?;
     }
     Ok(())
 }
@@ -326,7 +326,7 @@ fn a_compressed_entry_reads_as_its_range_whatever_the_data_file(
         for external in [false, true] {
             let found = entry(rt.alloc(), bits, number)?;
             let found = found.into_mapping(GuestCluster(0), bits, external);
-            same(&found, &Ok(want), (row, external))?;
+            same(found, Ok(want), (row, external))?;
         }
     }
     Ok(())
@@ -337,11 +337,11 @@ fn a_cell_keeps_the_entry_that_was_put_into_it(rt: HostRuntime) -> Result<(), Fa
     let first = entry(rt.alloc(), 9, 0xa00)?;
     let second = entry(rt.alloc(), 9, 0x8000_0000_0000_0c00)?;
     let mut cell = AtomicL2Entry::new(first);
-    same(&cell.get(), &first, "made")?;
-    same(&cell.swap(second), &first, "swapped out")?;
+    same(cell.get(), first, "made")?;
+    same(cell.swap(second), first, "swapped out")?;
     same(
-        &(cell.get(), cell.to_plain()),
-        &(second, 0x8000_0000_0000_0c00),
+        (cell.get(), cell.to_plain()),
+        (second, 0x8000_0000_0000_0c00),
         "swapped in",
     )
 }

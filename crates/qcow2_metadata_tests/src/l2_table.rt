@@ -4,7 +4,7 @@ ghost use Rattle.std.specs.Prelude.{◌≡◌, None};
 ghost use Rattle.qcow2_metadata.specs.Entries.{l2_fault};
 
 use crate::fixtures::{
-    LOADED, NUMBER, Told, filled_image, header_with, image_with, table_that_tells, tells,
+    LOADED, NUMBER, Told, filled_image, header_with, image_with, put, table_that_tells, tells,
 };
 use crate::l2_entry::{backing, data};
 use qcow2_base::{ClusterCount, Fault, GuestCluster, HostCluster, MemStorage, Storage};
@@ -43,7 +43,7 @@ fn mapping(table: &mut L2Table, guest_cluster: u64) -> Result<L2Mapping, Fail> {
     }
     let found = table.get_mapping(GuestCluster(guest_cluster))?;
     let locked = table.lock_write().get_mapping(GuestCluster(guest_cluster))?;
-    same(&locked, &found, guest_cluster)?;
+    same(locked, found, guest_cluster)?;
     Ok(found)
 }
 
@@ -59,9 +59,9 @@ fn a_table_that_was_not_edited_writes_what_was_read(rt: HostRuntime) -> Result<(
         } else {
             backing(guest * 512)
         };
-        same(&mapping(&mut table, guest)?, &want, guest)?;
+        same(mapping(&mut table, guest)?, want, guest)?;
     }
-    same(&table.write(&mut image), &Ok(()), "write")?;
+    same(table.write(&mut image), Ok(()), "write")?;
     same_bytes(image.bytes(), before.as_slice(), "write")?;
     let told = Told {
         entry: (3, 0x8000_0000_0000_0a00),
@@ -82,8 +82,8 @@ fn a_discarded_cluster_is_handed_back_and_gone_from_the_image(rt: HostRuntime) -
     };
     // The second time there is none left.
     for freed in [Some(clusters), None] {
-        same(&discard(&mut table, 3)?, &freed, "discard")?;
-        same(&mapping(&mut table, 3)?, &backing(1536), freed)?;
+        same(discard(&mut table, 3)?, freed, "discard")?;
+        same(mapping(&mut table, 3)?, backing(1536), freed)?;
         same_bytes(image.bytes(), before.as_slice(), freed)?;
         let told = Told {
             entry: (3, 0),
@@ -92,9 +92,9 @@ fn a_discarded_cluster_is_handed_back_and_gone_from_the_image(rt: HostRuntime) -
         };
         tells(&table, &told, freed)?;
     }
-    same(&table.write(&mut image), &Ok(()), "write")?;
+    same(table.write(&mut image), Ok(()), "write")?;
     same_bytes(image.bytes(), &[0; 1536], "write")?;
-    same(&table.is_modified(), &false, "write")
+    same(table.is_modified(), false, "write")
 }
 
 #[test]
@@ -134,7 +134,7 @@ fn a_discard_hands_back_all_clusters_of_the_entry(rt: HostRuntime) -> Result<(),
             first: HostCluster(first),
             count: ClusterCount(count),
         });
-        same(&discard(&mut table, 63)?, &freed, row)?;
+        same(discard(&mut table, 63)?, freed, row)?;
         let discarded = Told {
             entry: (63, 0),
             modified: true,
@@ -163,7 +163,7 @@ fn copied_at_offset_0_is_a_cluster_of_an_external_data_file_alone(
             ..LOADED
         };
         let mut table: L2Table = table_that_tells(rt.alloc(), &header, &told)?;
-        same(&mapping(&mut table, guest)?, &want, (external, guest))?;
+        same(mapping(&mut table, guest)?, want, (external, guest))?;
     }
     Ok(())
 }
@@ -185,12 +185,12 @@ fn a_new_table_fills_a_cluster_with_entries_0(rt: HostRuntime) -> Result<(), Fai
         };
         tells(&table, &told, bits)?;
         same(
-            &(
+            (
                 table.byte_size(),
                 table.cluster_count(),
                 table.cluster_bits(),
             ),
-            &(header.cluster_size(), ClusterCount(1), bits),
+            (header.cluster_size(), ClusterCount(1), bits),
             bits,
         )?;
     }
@@ -204,49 +204,48 @@ fn a_table_of_given_entries_has_them_and_no_cluster(rt: HostRuntime) -> Result<(
         let entry = AtomicL2Entry::try_from_plain(0x8000_0000_0000_0000, &header)?;
         let mut table = uniform_table(rt.alloc(), &header, entry)?;
         same(
-            &(
+            (
                 table.entries(),
                 table.cluster_bits(),
                 table.get_cluster(),
                 table.is_modified(),
             ),
-            &(64, 9, None, true),
+            (64, 9, None, true),
             external,
         )?;
         for index in 0..64 {
             same(
-                &table.get(index).to_plain(),
-                &0x8000_0000_0000_0000,
+                table.get(index).to_plain(),
+                0x8000_0000_0000_0000,
                 (external, index),
             )?;
         }
-        same(&mapping(&mut table, 1)?, &want, external)?;
+        same(mapping(&mut table, 1)?, want, external)?;
     }
     Ok(())
 }
 
 #[test]
 fn a_write_replaces_the_tables_bytes_and_no_other(rt: HostRuntime) -> Result<(), Fail> {
-    let number = [0x80, 0x23, 0x45, 0x67, 0x89, 0xab, 0xc8, 0x01];
-    // Cluster bits, the table's cluster, and where its entry 63 stands.
-    for row in [(9, 0, 504), (9, 2, 1528), (10, 1, 1528), (11, 1, 2552)] {
-        let (bits, cluster, at) = row;
+    let number = 0x8023_4567_89ab_c801;
+    // Cluster bits, the table's cluster and its offset.
+    for row in [(9, 0, 0), (9, 2, 1024), (10, 1, 1024), (11, 1, 2048)] {
+        let (bits, cluster, start) = row;
         let header = header_with(rt.alloc(), bits, false)?;
         let told = Told {
             entries: header.l2_entries(),
-            entry: (63, u64::from_be_bytes(number)),
+            entry: (63, number),
             cluster: Some(cluster),
             modified: true,
         };
         let mut table: L2Table = table_that_tells(rt.alloc(), &header, &told)?;
-        let mut image = filled_image(rt.alloc(), 5000)?;
         let mut want = filled_image(rt.alloc(), 5000)?;
-        want.write(
-            vec![in rt.alloc(); 0; header.cluster_size()]?.as_slice(),
-            at - 504,
-        )?;
-        want.write(&number, at)?;
-        same(&table.write(&mut image), &Ok(()), row)?;
+        for index in 0..header.l2_entries() as u64 {
+            put(&mut want, start + 8 * index, 0)?;
+        }
+        put(&mut want, start + 504, number)?;
+        let mut image = filled_image(rt.alloc(), 5000)?;
+        same(table.write(&mut image), Ok(()), row)?;
         same_bytes(image.bytes(), want.bytes(), row)?;
         let written = Told {
             modified: false,
@@ -268,7 +267,7 @@ fn write_if_modified_of_an_unmodified_table_makes_no_call(rt: HostRuntime) -> Re
         let mut image = FailingStorage::new(rt.alloc(), filled_image(rt.alloc(), 2048)?);
         image.fail_after(0);
         let answer = table.write_if_modified(&mut image, HostCluster(2));
-        same(&(answer, image.calls()), &(Ok(()), [].as_slice()), cluster)?;
+        same((answer, image.calls()), (Ok(()), [].as_slice()), cluster)?;
         tells(&table, &told, cluster)?;
         same_bytes(image.inner().bytes(), &[0xa5; 2048], cluster)?;
     }
@@ -303,7 +302,7 @@ fn write_if_modified_of_a_modified_table_writes_it(rt: HostRuntime) -> Result<()
             image.fail_after(0);
         }
         let found = table.write_if_modified(&mut image, HostCluster(cluster));
-        same(&(found, image.calls()), &(answer, calls), answer)?;
+        same((found, image.calls()), (answer, calls), answer)?;
         let told = Told {
             modified: answer.is_err(),
             ..told

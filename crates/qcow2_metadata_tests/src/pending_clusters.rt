@@ -41,7 +41,7 @@ fn pending_clusters_that_are_given_up_are_those_that_were_named(
             pending: Some(pending),
         }));
         let handed_back = Some((Fault::NotPlaced, Some(clusters)));
-        same(&(first, refused), &(clusters.first, handed_back), row)?;
+        same((first, refused), (clusters.first, handed_back), row)?;
     }
     Ok(())
 }
@@ -51,5 +51,5 @@ fn pending_clusters_are_spent_once_something_refers_to_them(_rt: HostRuntime) ->
     let pending = PendingClusters::new(HostCluster(7), ClusterCount(1));
     let first = pending.cluster();
     pending.make_persistent();
-    same(&first, &HostCluster(7), "first cluster")
+    same(first, HostCluster(7), "first cluster")
 }

@@ -65,16 +65,12 @@ fn image_with_first(alloc: Global, start: u64, entries: usize) -> Result<MemStor
 // Fails unless the table has its entries and its cluster, and this flag.
 fn has_its_entries<T: Table>(table: &T, told: InPieces, modified: bool) -> Result<(), Fail> {
     same(
-        &(table.entries(), table.get_cluster(), table.is_modified()),
-        &(told.entries, Some(HostCluster(told.cluster)), modified),
+        (table.entries(), table.get_cluster(), table.is_modified()),
+        (told.entries, Some(HostCluster(told.cluster)), modified),
         told,
     )?;
     for index in 0..told.entries {
-        same(
-            &table.get(index).to_plain(),
-            &number_at(index),
-            (told, index),
-        )?;
+        same(table.get(index).to_plain(), number_at(index), (told, index))?;
     }
     Ok(())
 }
@@ -97,7 +93,7 @@ fn are_calls<R: Debug + Drop>(
         };
         want.push(call)?;
     }
-    same(&calls, &want.as_slice(), row)
+    same(calls, want.as_slice(), row)
 }
 
 // Loads the table, after each of its calls failed in turn.
@@ -115,7 +111,7 @@ fn loads_in_pieces<T: Table + Drop>(
         image.forget_calls();
         image.fail_after(passes as u64);
         let answer: Result<T, Fault> = T::load(alloc, &mut image, header, cluster, told.entries);
-        same(&answer.err(), &Some(Fault::Storage), (told, passes))?;
+        same(answer.err(), Some(Fault::Storage), (told, passes))?;
         are_calls(
             alloc,
             image.calls(),
@@ -127,7 +123,7 @@ fn loads_in_pieces<T: Table + Drop>(
     image.forget_calls();
     let table: T = T::load(alloc, &mut image, header, cluster, told.entries)?;
     are_calls(alloc, image.calls(), told.pieces, true, told)?;
-    same(&image.failures(), &(told.pieces.len() as u64), told)?;
+    same(image.failures(), (told.pieces.len() as u64), told)?;
     same_bytes(image.inner().bytes(), bytes.bytes(), told)?;
     has_its_entries(&table, told, false)?;
     Ok(table)
@@ -141,7 +137,7 @@ fn writes_whole<T: Table>(
     told: InPieces,
 ) -> Result<(), Fail> {
     image.forget_calls();
-    same(&table.write(image), &Ok(()), told)?;
+    same(table.write(image), Ok(()), told)?;
     are_calls(alloc, image.calls(), told.pieces, false, told)?;
     let written = image_with_first(alloc, told.start, told.entries)?;
     same_bytes(image.inner().bytes(), written.bytes(), told)?;
@@ -162,13 +158,13 @@ fn writes_again<T: Table>(
     place(table, Some(told.cluster), modified)?;
     let mut image = FailingStorage::new(alloc, filled_image(alloc, LEN)?);
     image.fail_after(passes as u64);
-    same(&table.write(&mut image), &Err(Fault::Storage), row)?;
+    same(table.write(&mut image), Err(Fault::Storage), row)?;
     are_calls(alloc, image.calls(), &told.pieces[..passes + 1], false, row)?;
     has_its_entries(table, told, true)?;
     let torn = image_with_first(alloc, told.start, passes.wrapping_mul(512))?;
     same_bytes(image.inner().bytes(), torn.bytes(), row)?;
     writes_whole(alloc, table, &mut image, told)?;
-    same(&image.failures(), &1, row)
+    same(image.failures(), 1, row)
 }
 
 // Loads and writes the table, where no call fails and where each of its calls fails in turn.
@@ -236,15 +232,15 @@ fn a_write_that_fails_at_a_piece_keeps_the_bytes_after_it(rt: HostRuntime) -> Re
         image.fail_after(passes);
         let answer = table.write(&mut image);
         same(
-            &(answer, table.is_modified()),
-            &(Err(Fault::Storage), true),
+            (answer, table.is_modified()),
+            (Err(Fault::Storage), true),
             row,
         )?;
         let torn = entries_up_to(rt.alloc(), end)?;
         same_bytes(image.inner().bytes(), torn.bytes(), row)?;
         image.forget_calls();
         let answer = table.write(&mut image);
-        same(&(answer, table.is_modified()), &(Ok(()), false), row)?;
+        same((answer, table.is_modified()), (Ok(()), false), row)?;
         let written = entries_up_to(rt.alloc(), 12296)?;
         same_bytes(image.inner().bytes(), written.bytes(), row)?;
         let pieces = [(4096, 4096), (8192, 4096), (12288, 8)];
@@ -275,7 +271,7 @@ fn a_load_reads_no_piece_after_that_of_a_bad_entry(rt: HostRuntime) -> Result<()
         let mut image = FailingStorage::new(rt.alloc(), bytes);
         image.fail_after(passes);
         let answer = L1Table::load(rt.alloc(), &mut image, &header, HostCluster(8), 1025);
-        same(&answer.err(), &Some(fault), row)?;
+        same(answer.err(), Some(fault), row)?;
         are_calls(
             rt.alloc(),
             image.calls(),

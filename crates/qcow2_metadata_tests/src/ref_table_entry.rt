@@ -31,7 +31,7 @@ fn a_refcount_table_entry_tells_its_offset(rt: HostRuntime) -> Result<(), Fail> 
         let (bits, number, offset) = row;
         let header = header_with(rt.alloc(), bits, false)?;
         let entry = RefTableEntry::try_from_plain(number, &header)?;
-        same(&told(entry), &(offset.map(HostOffset), 0, number), row)?;
+        same(told(entry), (offset.map(HostOffset), 0, number), row)?;
     }
     Ok(())
 }
@@ -56,11 +56,11 @@ fn a_refcount_table_entry_with_a_reserved_bit_or_else_an_unaligned_offset_is_ref
         let (bits, number, fault) = row;
         let header = header_with(rt.alloc(), bits, true)?;
         same(
-            &RefTableEntry::try_from_plain(number, &header),
-            &Err(fault),
+            RefTableEntry::try_from_plain(number, &header),
+            Err(fault),
             row,
         )?;
-        same(&RefTableEntry::is_lawful(number, &header), &false, row)?;
+        same(RefTableEntry::is_lawful(number, &header), false, row)?;
     }
     Ok(())
 }
@@ -82,7 +82,7 @@ fn each_bit_of_a_refcount_table_entry_is_reserved_or_of_the_offset(
             };
             let found = RefTableEntry::try_from_plain(number, &header).map(told);
             let lawful = RefTableEntry::is_lawful(number, &header);
-            same(&(found, lawful), &(want, want.is_ok()), (bits, bit))?;
+            same((found, lawful), (want, want.is_ok()), (bits, bit))?;
         }
     }
     Ok(())

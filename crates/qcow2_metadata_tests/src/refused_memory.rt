@@ -37,7 +37,7 @@ fn loads_again<T: Table + Drop>(alloc: Global) -> Result<(), Fail>
     let cluster = HostCluster(2);
     let mut answer: Result<T, Fault> = T::load(alloc, &mut image, &header, cluster, 64);
     if let Err(fault) = &answer {
-        same(fault, &Fault::NoMemory, T::NAME)?;
+        same(*fault, Fault::NoMemory, T::NAME)?;
         same_bytes(image.bytes(), before.bytes(), T::NAME)?;
         answer = T::load(alloc, &mut image, &header, cluster, 64);
     }
@@ -80,7 +80,7 @@ fn is_written<T: Table + Drop>(alloc: Global, entries: usize, modified: bool) ->
     let (mut table, mut image, written): (T, MemStorage, MemStorage) = made;
     place(&mut table, Some(8), modified)?;
     let answer = table.write(&mut image);
-    same(&(answer, table.is_modified()), &(Ok(()), false), T::NAME)?;
+    same((answer, table.is_modified()), (Ok(()), false), T::NAME)?;
     same_bytes(image.bytes(), written.bytes(), T::NAME)
 }
 
@@ -104,7 +104,7 @@ fn write_if_modified_takes_no_memory(rt: HostRuntime) -> Result<(), Fail> {
     let cluster = HostCluster(8);
     table.set_cluster(cluster);
     let answer = table.write_if_modified(&mut image, cluster);
-    same(&(answer, table.is_modified()), &(Ok(()), false), "write")?;
+    same((answer, table.is_modified()), (Ok(()), false), "write")?;
     same_bytes(image.bytes(), written.bytes(), "write")
 }
 
@@ -116,10 +116,10 @@ fn a_cleared_table_that_memory_refused_is_made_the_next_time(rt: HostRuntime) ->
     };
     let mut answer = L2Table::new_cleared(rt.alloc(), &header);
     if let Err(fault) = &answer {
-        same(fault, &Fault::NoMemory, "refused")?;
+        same(*fault, Fault::NoMemory, "refused")?;
         same(
-            &(header.cluster_bits(), header.l2_entries()),
-            &(9, 64),
+            (header.cluster_bits(), header.l2_entries()),
+            (9, 64),
             "refused",
         )?;
         answer = L2Table::new_cleared(rt.alloc(), &header);
@@ -154,7 +154,7 @@ fn a_growth_that_memory_refused_leaves_the_l1_table(rt: HostRuntime) -> Result<(
         let mut answer = source.clone_and_grow(128, &header);
         tells(&source, &told, modified)?;
         if let Err(fault) = &answer {
-            same(fault, &Fault::NoMemory, modified)?;
+            same(*fault, Fault::NoMemory, modified)?;
             answer = source.clone_and_grow(128, &header);
         }
         let grown = Told {

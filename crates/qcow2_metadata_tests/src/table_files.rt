@@ -24,11 +24,11 @@ fn an_l1_table_of_the_most_entries_goes_from_file_to_file(rt: HostRuntime) -> Re
     tells(&table, &told, "loaded")?;
     let other = temporary_file(&rt, "written-l1-table", &[0xa5; 4096])?;
     let mut image = FileStorage::open(&rt, other.path.as_str(), true)?;
-    same(&table.write(&mut image), &Ok(()), "write")?;
+    same(table.write(&mut image), Ok(()), "write")?;
     tells(&table, &told, "written")?;
     let bytes = fs::read(&rt, file.path.as_str())?;
     let written = fs::read(&rt, other.path.as_str())?;
-    same(&bytes.len(), &33558528, "length")?;
+    same(bytes.len(), 33558528, "length")?;
     same_bytes(written.as_slice(), bytes.as_slice(), "written")
 }
 
