@@ -21,7 +21,11 @@ fn the_mapping_is_told_and_taken_away(rt: HostRuntime) -> Result<(), Fail> {
         host_cluster: HostCluster(5),
         copied: true,
     };
-    same(&mapping_of_cluster_3(rt.alloc(), bytes), &Ok(data), "mapping")?;
+    same(
+        &mapping_of_cluster_3(rt.alloc(), bytes),
+        &Ok(data),
+        "mapping",
+    )?;
     let freed = ClustersToFreeEntry {
         first: HostCluster(5),
         count: ClusterCount(1),

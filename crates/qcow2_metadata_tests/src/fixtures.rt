@@ -123,7 +123,8 @@ pub fn table_that_tells<T: Table + Drop>(
     requires { IsTrue (T.has_lawful_count header.now.cluster_bits told.now.entries) }
     ensures entries { IfOk result (λ table. length (T.state table).numbers ≡ told.now.entries) }
     ensures geometry { IfOk result (λ table. (T.state table).geometry ≡ geometry_of header.now) }
-    ensures cluster { IfOk result (λ table. (T.state table).cluster ≡ option_map cluster_of told.now.cluster) }
+    ensures cluster { IfOk result (λ table.
+        (T.state table).cluster ≡ option_map cluster_of told.now.cluster) }
     ensures flag { IfOk result (λ table. (T.state table).modified ≡ told.now.modified) }
 {
     let (index, number) = told.entry;

@@ -232,19 +232,9 @@ fn an_entered_l2_table_is_copied_and_at_its_offset(rt: HostRuntime) -> Result<()
         (9, 1, 0x200, 0x8000_0000_0000_0200),
         (9, (1 << 47) - 1, 0xff_ffff_ffff_fe00, 0x80ff_ffff_ffff_fe00),
         (16, 1, 0x1_0000, 0x8000_0000_0001_0000),
-        (
-            16,
-            (1 << 40) - 1,
-            0xff_ffff_ffff_0000,
-            0x80ff_ffff_ffff_0000,
-        ),
+        (16, (1 << 40) - 1, 0xffffffffff0000, 0x80ffffffffff0000),
         (21, 1, 0x20_0000, 0x8000_0000_0020_0000),
-        (
-            21,
-            (1 << 35) - 1,
-            0xff_ffff_ffe0_0000,
-            0x80ff_ffff_ffe0_0000,
-        ),
+        (21, (1 << 35) - 1, 0xffffffffe00000, 0x80ffffffffe00000),
     ];
     for row in table {
         let (bits, cluster, offset, number) = row;

@@ -233,17 +233,12 @@ fn a_standard_entry_refers_to_its_cluster(rt: HostRuntime) -> Result<(), Fail> {
         if found.is_compressed() {
             return Err("a compressed entry".into());
         }
-        let told = (
-            found.cluster_offset(external),
-            found.allocation(bits, external),
-        );
+        let allocation = found.allocation(bits, external);
+        let told = (found.cluster_offset(external), allocation);
         let offset = place.map(|(offset, _)| HostOffset(offset));
         let clusters = place.map(|(_, cluster)| (HostCluster(cluster), ClusterCount(1)));
-        same(
-            (told, found.compressed_range(bits)),
-            ((offset, clusters), None),
-            row,
-        )?;
+        let range = found.compressed_range(bits);
+        same((told, range), ((offset, clusters), None), row)?;
     }
     Ok(())
 }

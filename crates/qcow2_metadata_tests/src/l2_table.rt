@@ -130,11 +130,8 @@ fn a_discard_hands_back_all_clusters_of_the_entry(rt: HostRuntime) -> Result<(),
         };
         let mut table: L2Table = table_that_tells(rt.alloc(), &header, &told)?;
         tells(&table, &told, row)?;
-        let freed = clusters.map(|(first, count)| ClustersToFreeEntry {
-            first: HostCluster(first),
-            count: ClusterCount(count),
-        });
-        same(discard(&mut table, 63)?, freed, row)?;
+        let freed = discard(&mut table, 63)?.map(|freed| (freed.first.0, freed.count.0));
+        same(freed, clusters, row)?;
         let discarded = Told {
             entry: (63, 0),
             modified: true,
