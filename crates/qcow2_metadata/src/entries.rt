@@ -72,7 +72,7 @@ pub trait TableEntry: Sized {
         ensures refused { IfErr result (λ fault. fault_of header.now.cluster_bits value ≡ Some fault) }
         ensures faults { IfErr result (λ fault. (fault ≡ EntryReserved) ⊎ (fault ≡ EntryUnaligned)) };
 
-    /// Whether `try_from_plain` accepts a number. It takes no branch, so that a loop over many numbers
+    /// Whether `try_from_plain` accepts a number. It has no early exit, so that a loop over many numbers
     /// tests several at once.
     fn is_lawful(value: u64, header: &Header) -> bool
         ensures { IsTrue result ↔ (fault_of header.now.cluster_bits value ≡ None) };
