@@ -48,7 +48,7 @@ le_of_same f g (suc n) o p same =
     let rest = le_of_same f g n (o + 1) (p + 1) (SameBytes-rest f g n o p same) in
     rw (first, rest) refl
 
-number_of_same : (order : Order) (f g : Image) (n o p : ℕ) → SameBytes f o g p n
+pub number_of_same : (order : Order) (f g : Image) (n o p : ℕ) → SameBytes f o g p n
     → number_in order f o n ≡ number_in order g p n
 number_of_same Big = be_of_same
 number_of_same Little = le_of_same
@@ -61,7 +61,7 @@ be_of_held image offset place n bytes held fits =
     (λ k h. rw (add_assoc offset place k) (held.each (place + k) (omega arith)))
 
 -- what an image has, another one has further on, where it has the same bytes there
-HoldsLayout-moved : (f g : Image) (by size : ℕ) (fields : List LayoutField)
+pub HoldsLayout-moved : (f g : Image) (by size : ℕ) (fields : List LayoutField)
     → ((k : ℕ) → k < size → f k ≡ g (by + k)) → layout_end fields ≤ size
     → HoldsLayout f fields → HoldsLayout g (moved by fields)
 HoldsLayout-moved f g by size [] same within held = tt

@@ -1,6 +1,15 @@
 mod EntriesExamples
+mod GrammarExamples
 mod TableExamples
+pub mod ChainLemmas
 pub mod ChunkLemmas
+pub mod ClusterLemmas
 pub mod EntriesLemmas
+pub mod ExtensionsLemmas
+pub mod GrammarLemmas
+pub mod HeaderLemmas
+pub mod LoadLemmas
 pub mod PieceLemmas
+pub mod PointerLemmas
+pub mod RangeLemmas
 pub mod TableLemmas

@@ -1,18 +1,143 @@
-use Rattle.std.specs.Prelude.{ℕ, Bool, ◌==◌, List, Option}
+pub mod Chain
+pub mod Extensions
+pub mod Features
+pub mod Grammar
+pub mod Pointers
+use Rattle.std.specs.Prelude.{◌≡◌, ◌≢◌, ◌⊎◌, ⊤, All, ℕ, Bool, true, nat_eq, ◌==◌, ◌+◌, ◌-◌, ◌*◌, ◌%◌, ◌^◌, ◌≤◌, List, [], ◌∷◌, ◌++◌, map, codes, Option, Some, None, is_some, if◌then◌else◌, option_to_list, slice_get}
+use Rattle.std.specs.Cmp.Lexicographic.{pointwise}
+use Rattle.std.specs.List.{list_all}
+use Rattle.std.specs.Map.{lookup}
+use Rattle.std.specs.Ordering.{is_eq}
 use Rattle.qcow2_base.specs.Bits.{field}
+use Rattle.qcow2_base.specs.Types.{IsClusterBits}
+use Rattle.qcow2_base.specs.declared.on_disk_struct.v2_header.V2Header.{V2Header}
+use Rattle.qcow2_base.specs.declared.on_disk_struct.v3_header_base.V3HeaderBase.{V3HeaderBase}
+use Rattle.qcow2_metadata.specs.Header.Extensions.{Extension, BackingFileFormat, FeatureNameTable, ExternalDataFileName, FeatureKey, FeatureNames, Unknown, extension_number, key_cmp}
+use Rattle.qcow2_metadata.specs.declared.header.extension.HeaderExtensionType.{HeaderExtensionType}
+use Rattle.qcow2_metadata.specs.declared.header.extension.HeaderExtensionType.TheVariants as kind
+use Rattle.qcow2_metadata.specs.declared.header.feature.FeatureType.TheVariants.{Incompatible, Compatible, Autoclear}
 
--- what a header says; names are bytes of UTF-8
+-- what a header says: the two fixed parts, the bytes between these and the extensions, the backing file's
+-- name, which is text, and the extensions without End. In version 2 there is no second part, and this is as
+-- default_base says
 pub record HeaderRecord : Type 0 where
-  pub cluster_bits : ℕ
-  pub refcount_order : ℕ
-  pub incompatible_features : ℕ
+  pub v2 : V2Header
+  pub base : V3HeaderBase
+  pub unknown_header_fields : List ℕ
   pub backing_filename : Option (List ℕ)
-  pub backing_format : Option (List ℕ)
-  pub external_data_filename : Option (List ℕ)
+  pub extensions : List Extension
+
+-- the second part of an image of version 2
+abbrev pub default_base : V3HeaderBase
+default_base = record {
+  incompatible_features = 0;
+  compatible_features = 0;
+  autoclear_features = 0;
+  refcount_order = 4;
+  header_length = 104;
+}
+
+-- the name that an extension of this type says
+abbrev pub name_in : HeaderExtensionType → Extension → Option (List ℕ)
+name_in kind.BackingFileFormat (BackingFileFormat name) = Some name
+name_in kind.ExternalDataFileName (ExternalDataFileName name) = Some name
+name_in _ _ = None
+
+-- the name that an extension has for a feature
+abbrev pub feature_name_in : FeatureKey → Extension → Option (List ℕ)
+feature_name_in key (FeatureNameTable names) = lookup (λ other. is_eq (key_cmp key other)) names
+feature_name_in key _ = None
+
+-- all names that extensions say, in order
+abbrev pub names_by : (Extension → Option (List ℕ)) → List Extension → List (List ℕ)
+names_by name_in [] = []
+names_by name_in (extension ∷ extensions) = option_to_list (name_in extension) ++ names_by name_in extensions
+
+-- the first of them
+abbrev pub first_by : (Extension → Option (List ℕ)) → List Extension → Option (List ℕ)
+first_by name_in extensions = slice_get (names_by name_in extensions) 0
+
+-- whether all names are the first one
+abbrev pub all_same : List (List ℕ) → Bool
+all_same [] = true
+all_same (first ∷ names) = list_all (pointwise nat_eq first) names
 
 -- incompatible feature bit 2: guest data lies in another file
+abbrev pub external_data_bit : V3HeaderBase → ℕ
+external_data_bit base = field base.incompatible_features 2 1
+
+-- the incompatible features but that one
+abbrev pub other_features : V3HeaderBase → ℕ
+other_features base = base.incompatible_features - 4 * external_data_bit base
+
+-- whether guest data lies in another file
 abbrev pub uses_external_data : HeaderRecord → Bool
-uses_external_data header = field header.incompatible_features 2 1 == 1
+uses_external_data header = external_data_bit header.base == 1
+
+-- what features are called in new images
+abbrev pub known_names : FeatureNames
+known_names =
+    ((Incompatible, 0), codes "dirty")
+    ∷ ((Incompatible, 1), codes "corrupt")
+    ∷ ((Incompatible, 2), codes "external data file")
+    ∷ ((Incompatible, 3), codes "extended compression type")
+    ∷ ((Incompatible, 4), codes "extended L2 entries")
+    ∷ ((Compatible, 0), codes "lazy refcounts")
+    ∷ ((Autoclear, 0), codes "persistent dirty bitmaps")
+    ∷ ((Autoclear, 1), codes "raw external data file")
+    ∷ []
+
+-- the header of an image that is to be made: version 3, no tables yet, and a header length that is set when
+-- it is written
+abbrev pub new_header : ℕ → ℕ → Option (List ℕ) → Option (List ℕ) → Option (List ℕ) → HeaderRecord
+new_header cluster_bits refcount_order backing_filename backing_format data_file = record {
+  v2 = record {
+    magic = 0x514649fb;
+    version = 3;
+    backing_file_offset = 0;
+    backing_file_size = 0;
+    cluster_bits = cluster_bits;
+    size = 0;
+    crypt_method = 0;
+    l1_size = 0;
+    l1_table_offset = 0;
+    refcount_table_offset = 0;
+    refcount_table_clusters = 0;
+    nb_snapshots = 0;
+    snapshots_offset = 0;
+  };
+  base = record {
+    incompatible_features = (if is_some data_file then 4 else 0);
+    compatible_features = 0;
+    autoclear_features = 0;
+    refcount_order = refcount_order;
+    header_length = 0;
+  };
+  unknown_header_fields = [];
+  backing_filename = backing_filename;
+  extensions = FeatureNameTable known_names
+      ∷ map BackingFileFormat (option_to_list backing_format)
+      ++ map ExternalDataFileName (option_to_list data_file);
+}
+
+-- only extensions of types that aren't known are kept as they stand
+abbrev pub IsKept : Extension → Type 0
+IsKept (Unknown number content) = (type : HeaderExtensionType) → extension_number type ≢ number
+IsKept _ = ⊤
+
+-- what holds of every header, whether it was made or loaded. Its texts are UTF-8, as all text is
+pub record IsLawfulHeader (header : HeaderRecord) : Type 0 where
+  pub version : (header.v2.version ≡ 2) ⊎ (header.v2.version ≡ 3)
+  pub cluster_bits : IsClusterBits header.v2.cluster_bits
+  pub refcount_order : header.base.refcount_order ≤ 6
+  pub l1_table_aligned : header.v2.l1_table_offset % 2 ^ header.v2.cluster_bits ≡ 0
+  pub reftable_aligned : header.v2.refcount_table_offset % 2 ^ header.v2.cluster_bits ≡ 0
+  pub features : other_features header.base ≡ 0
+  pub one_format : all_same (names_by (name_in kind.BackingFileFormat) header.extensions) ≡ true
+  pub one_data_file : all_same (names_by (name_in kind.ExternalDataFileName) header.extensions) ≡ true
+  pub kept : All IsKept header.extensions
+  pub older : header.v2.version ≡ 2
+      → (header.base ≡ default_base) × (header.unknown_header_fields ≡ []) × (header.extensions ≡ [])
 
 -- what the meaning of an entry depends on: a cluster has 2 ^ cluster_bits bytes, and guest data lies in the
 -- image or in an external data file
@@ -26,4 +151,4 @@ geometry cb external = record { cluster_bits = cb; external_data_file = external
 
 -- that of an image with this header
 abbrev pub geometry_of : HeaderRecord → Geometry
-geometry_of header = geometry header.cluster_bits (uses_external_data header)
+geometry_of header = geometry header.v2.cluster_bits (uses_external_data header)

@@ -1,5 +1,7 @@
+pub mod Answers
 pub mod Entries
 pub mod Header
 pub mod L2Table
 pub mod Range
+pub mod ReadAhead
 pub mod Table

@@ -1,10 +1,16 @@
-use Rattle.std.specs.Prelude.{◌≡◌, ◌≢◌, ℕ, Bool, false, true, ◌+◌, ◌^◌, nat_lt, if◌then◌else◌, Option, Some, None, Result, OnOk, IfErr, IsErrOf}
+use Rattle.std.specs.Prelude.{◌≡◌, ◌≢◌, ℕ, Bool, false, true, ◌+◌, ◌^◌, nat_lt, if◌then◌else◌, Option, Some, None, Result, List, map, OnOk, IfErr, IsErrOf}
+use Rattle.std.specs.List.{range_with_len}
+use Rattle.qcow2_base.specs.Storage.{Image}
 use Rattle.qcow2_base.specs.declared.fault.Fault.{Fault}
 use Rattle.qcow2_base.specs.declared.fault.Fault.TheVariants.{Storage, TablePlace}
 
 -- why so many bytes can't lie in an image from an offset on: they would end past 2 ^ 56
 abbrev pub range_fault : ℕ → ℕ → Option Fault
 range_fault offset len = if nat_lt (2 ^ 56) (offset + len) then Some TablePlace else None
+
+-- so many bytes of an image from an offset on
+abbrev pub bytes_at : Image → ℕ → ℕ → List ℕ
+bytes_at image offset len = map (λ i. image (offset + i)) (range_with_len 0 len)
 
 -- what a modified flag tells after a write that ended in this answer: it is clear after an Ok, set after a
 -- failed storage, and as before after any other refusal; nothing else changes

@@ -1,4 +1,4 @@
-use Rattle.std.specs.Prelude.{◌≡◌, false, true, OnOk, OnErr, IfErr, IsErrOf, ℕ, Bool, ◌⊎◌, ◌+◌, ◌-◌, ◌*◌, ◌%◌, ◌^◌, ◌<◌, ◌≤◌, max, nat_lt, if◌then◌else◌, List, [], ◌∷◌, ◌++◌, map, length, slice_index, slice_set, take, replicate, Option, Some, None, option_map, Result, Ok, Err, MatchResult, IfSome, IsTrue}
+use Rattle.std.specs.Prelude.{◌≡◌, false, true, OnOk, OnErr, IfErr, IsErrOf, ℕ, Bool, ◌⊎◌, ◌+◌, ◌-◌, ◌*◌, ◌%◌, ◌^◌, ◌<◌, ◌≤◌, max, nat_lt, if◌then◌else◌, List, [], ◌∷◌, ◌++◌, map, length, slice_index, slice_set, take, replicate, Option, Some, None, option_map, Result, Ok, Err, IfSome, IsTrue}
 use Rattle.std.specs.Int.{next_multiple_of}
 use Rattle.std.specs.List.{range_with_len}
 use Rattle.std.specs.Option.{option_or}
@@ -129,11 +129,6 @@ loaded_l2_table g cluster image = loaded_table most_l2_entries l2_fault (l2_tabl
 -- the L1 table that stands at a place
 abbrev pub loaded_l1_table : TablePlace → Image → Result (List ℕ) Fault
 loaded_l1_table place image = loaded_table most_l1_entries l1_fault place image
-
--- the answer is the expected one, unless the storage failed or memory ran out
-abbrev pub Answers : {T : Type 0} → (T → List ℕ) → Result T Fault → Result (List ℕ) Fault → Type 0
-Answers numbers answer expected =
-    MatchResult answer (λ table. expected ≡ Ok (numbers table)) (λ fault. (fault ≡ Storage) ⊎ (fault ≡ NoMemory) ⊎ (expected ≡ Err fault))
 
 -- the refusals of a load, whatever the storage tells: the fault of the table's place, if it has one, or
 -- one of an entry, want of memory or a failed storage

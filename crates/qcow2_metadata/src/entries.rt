@@ -67,19 +67,19 @@ pub trait TableEntry: Sized {
     /// The entry with this number. Refuses a number with a reserved bit, and else one whose offset
     /// is no multiple of the cluster size.
     fn try_from_plain(value: u64, header: &Header) -> Result<Self, Fault>
-        ensures accepted { OnOk result (fault_of header.now.cluster_bits value ≡ None) }
+        ensures accepted { OnOk result (fault_of header.now.v2.cluster_bits value ≡ None) }
         ensures number { IfOk result (λ entry. plain entry ≡ value) }
-        ensures refused { IfErr result (λ fault. fault_of header.now.cluster_bits value ≡ Some fault) }
+        ensures refused { IfErr result (λ fault. fault_of header.now.v2.cluster_bits value ≡ Some fault) }
         ensures faults { IfErr result (λ fault. (fault ≡ EntryReserved) ⊎ (fault ≡ EntryUnaligned)) };
 
     /// Whether `try_from_plain` accepts a number. It has no early exit, so that a loop over many numbers
     /// tests several at once.
     fn is_lawful(value: u64, header: &Header) -> bool
-        ensures { IsTrue result ↔ (fault_of header.now.cluster_bits value ≡ None) };
+        ensures { IsTrue result ↔ (fault_of header.now.v2.cluster_bits value ≡ None) };
 
     /// The entry with a number that `is_lawful` has accepted.
     fn from_lawful(value: u64, header: &Header) -> Self
-        requires { fault_of header.now.cluster_bits value ≡ None }
+        requires { fault_of header.now.v2.cluster_bits value ≡ None }
         ensures { plain result ≡ value };
 
     /// The number that was accepted.

@@ -1,48 +1,64 @@
-//! What an image's header says, as far as tables and entries depend on it.
+//! What an image's header says.
 
-ghost use Rattle.std.specs.Prelude.{◌≡◌, ◌-◌, ◌^◌, ◌≤◌, IsOkUnless, IfOk, Some, None, if◌then◌else◌, is_some, option_map, string_bytes};
-ghost use Rattle.qcow2_base.specs.Types.{IsClusterBits};
+ghost use Rattle.std.specs.Prelude.{◌≡◌, ◌+◌, ◌-◌, ◌^◌, ◌≤◌, IsOkUnless, IfOk, MatchResult, None, map, option_map, string_bytes};
+ghost use Rattle.qcow2_base.specs.Types.{IsClusterBits, IsRefblockBits};
+ghost use Rattle.qcow2_metadata.specs.Header.{all_same, first_by, name_in, names_by, new_header};
+ghost use Rattle.qcow2_metadata.specs.Header.Extensions.{extension_of};
 
-use qcow2_base::Fault;
+mod extension;
+mod feature;
+mod load;
+mod pointers;
+
+use extension::known_names;
+pub use extension::{HeaderExtension, HeaderExtensionType};
+pub use feature::{
+    AutoclearFeatures, CompatibleFeatures, FeatureType, IncompatibleFeatures, UnknownValue,
+};
+use load::{EXTERNAL_DATA_FILE, MAGIC};
+use qcow2_base::{ClusterCount, Fault, HostOffset, V2Header, V3HeaderBase};
 use std::alloc::Global;
 use std::marker::Model;
-
-/// Incompatible feature bit 2: guest data lies in an external data file.
-const EXTERNAL_DATA_FILE: u64 = 4;
 
 /// The header of an image in memory. Clauses see it as its record.
 #[derive(Debug, Drop)]
 pub struct Header {
     alloc: Global,
-    cluster_bits: u32,
-    refcount_order: u32,
-    incompatible_features: u64,
+    v2: V2Header,
+    base: V3HeaderBase,
+    unknown_header_fields: Vec<u8>,
     backing_filename: Option<String>,
-    backing_format: Option<String>,
-    external_data_filename: Option<String>,
+    extensions: Vec<HeaderExtension>,
 }
 
 impl Model for Header {
-    ghost use Rattle.std.specs.Prelude.{◌≤◌, option_map, string_bytes};
-    ghost use Rattle.qcow2_base.specs.Types.{IsClusterBits};
-    ghost use Rattle.qcow2_metadata.specs.Header.{HeaderRecord};
+    ghost use Rattle.std.specs.Prelude.{map, option_map, string_bytes};
+    ghost use Rattle.qcow2_metadata.specs.Header.{HeaderRecord, IsLawfulHeader};
+    ghost use Rattle.qcow2_metadata.specs.Header.Extensions.{extension_of};
 
     ghost Value = { HeaderRecord };
 
     ghost view = { λ h. record {
-      cluster_bits = h.cluster_bits;
-      refcount_order = h.refcount_order;
-      incompatible_features = h.incompatible_features;
+      v2 = h.v2;
+      base = h.base;
+      unknown_header_fields = h.unknown_header_fields.items;
       backing_filename = option_map string_bytes h.backing_filename;
-      backing_format = option_map string_bytes h.backing_format;
-      external_data_filename = option_map string_bytes h.external_data_filename;
+      extensions = map extension_of h.extensions.items;
     } };
 
-    ghost invariant = { λ h. IsClusterBits h.cluster_bits × (h.refcount_order ≤ 6) };
+    ghost invariant = { λ h. IsLawfulHeader record {
+      v2 = h.v2;
+      base = h.base;
+      unknown_header_fields = h.unknown_header_fields.items;
+      backing_filename = option_map string_bytes h.backing_filename;
+      extensions = map extension_of h.extensions.items;
+    } };
 }
 
 impl Header {
-    ghost use Rattle.qcow2_metadata.specs.Header.{uses_external_data};
+    ghost use Rattle.std.specs.Prelude.{◌-◌, ◌*◌, ◌<◌};
+    ghost use Rattle.qcow2_metadata.specs.Header.{feature_name_in, first_by, name_in, new_header, uses_external_data};
+    ghost use Rattle.qcow2_metadata.specs.declared.header.extension.HeaderExtensionType.TheVariants as kind;
 
     /// A header of version 3 for an image that is to be made. Guest data lies in the image, or in an
     /// external data file where one is named.
@@ -60,56 +76,63 @@ impl Header {
         requires cluster_bits { IsClusterBits cluster_bits }
         requires refcount_order { refcount_order ≤ 6 }
         ensures fault { IsOkUnless result Fault.NoMemory }
-        ensures record { IfOk result (λ header. header ≡ record {
-          cluster_bits = cluster_bits;
-          refcount_order = refcount_order;
-          incompatible_features = (if is_some external_data_file then 4 else 0);
-          backing_filename = option_map string_bytes backing_filename;
-          backing_format = option_map string_bytes backing_format;
-          external_data_filename = option_map string_bytes external_data_file;
-        }) }
+        ensures record { IfOk result (λ header. header ≡ new_header cluster_bits refcount_order
+            (option_map string_bytes backing_filename) (option_map string_bytes backing_format)
+            (option_map string_bytes external_data_file)) }
     {
         let incompatible_features = if external_data_file.is_some() {
             EXTERNAL_DATA_FILE
         } else {
             0
         };
+        let mut extensions = Vec::new(alloc);
+        extensions.push(HeaderExtension::FeatureNameTable(known_names(alloc)?))?;
+        if let Some(format) = backing_format {
+            extensions.push(HeaderExtension::BackingFileFormat(format))?;
+        }
+        if let Some(name) = external_data_file {
+            extensions.push(HeaderExtension::ExternalDataFileName(name))?;
+        }
         Ok(Header {
             alloc,
-            cluster_bits,
-            refcount_order,
-            incompatible_features,
+            v2: new_v2_header(cluster_bits),
+            base: V3HeaderBase {
+                incompatible_features,
+                refcount_order,
+                header_length: 0,
+                ..V3HeaderBase::default()
+            },
+            unknown_header_fields: Vec::new(alloc),
             backing_filename,
-            backing_format,
-            external_data_filename: external_data_file,
+            extensions,
         })
     }
 
     /// The logarithm of the cluster size in bytes, from 9 to 21.
     #[inline]
     pub fn cluster_bits(&self) -> u32
-        ensures value { result ≡ self.now.cluster_bits }
+        ensures value { result ≡ self.now.v2.cluster_bits }
         ensures range { IsClusterBits result }
     {
-        self.cluster_bits
+        self.v2.cluster_bits
     }
 
     /// The cluster size in bytes.
     #[inline]
     pub fn cluster_size(&self) -> usize
-        ensures value { result ≡ 2 ^ self.now.cluster_bits }
+        ensures value { result ≡ 2 ^ self.now.v2.cluster_bits }
         ensures bound { result ≤ 2 ^ 21 }
     {
-        1 << self.cluster_bits
+        1 << self.v2.cluster_bits
     }
 
     /// The number of entries in an L2 table, which fills one cluster with eight bytes each.
     #[inline]
     pub fn l2_entries(&self) -> usize
-        ensures value { result ≡ 2 ^ (self.now.cluster_bits - 3) }
+        ensures value { result ≡ 2 ^ (self.now.v2.cluster_bits - 3) }
         ensures bound { result ≤ 2 ^ 18 }
     {
-        1 << (self.cluster_bits - 3)
+        1 << (self.v2.cluster_bits - 3)
     }
 
     /// Whether guest data lies in an external data file.
@@ -117,6 +140,188 @@ impl Header {
     pub fn external_data_file(&self) -> bool
         ensures { result ≡ uses_external_data self.now }
     {
-        self.incompatible_features >> 2 & 1 == 1
+        self.base.incompatible_features >> 2 & 1 == 1
     }
+
+    /// The size of the guest's disk, in bytes.
+    #[inline]
+    pub fn size(&self) -> u64
+        ensures { result ≡ self.now.v2.size }
+    {
+        self.v2.size
+    }
+
+    /// The logarithm of the width of a refcount in bits, from 0 to 6.
+    #[inline]
+    pub fn refcount_order(&self) -> u32
+        ensures value { result ≡ self.now.base.refcount_order }
+        ensures range { result ≤ 6 }
+    {
+        self.base.refcount_order
+    }
+
+    /// The logarithm of the number of refcounts in a refcount block, which fills one cluster.
+    #[inline]
+    pub fn rb_bits(&self) -> u32
+        ensures value { result ≡ self.now.v2.cluster_bits + 3 - self.now.base.refcount_order }
+        ensures range { IsRefblockBits result }
+    {
+        self.v2.cluster_bits + 3 - self.base.refcount_order
+    }
+
+    /// The number of refcounts in a refcount block.
+    #[inline]
+    pub fn rb_entries(&self) -> usize
+        ensures value { result ≡ 2 ^ (self.now.v2.cluster_bits + 3 - self.now.base.refcount_order) }
+        ensures bound { result ≤ 2 ^ 24 }
+    {
+        1 << self.rb_bits()
+    }
+
+    /// Where the L1 table begins.
+    #[inline]
+    pub fn l1_table_offset(&self) -> HostOffset
+        ensures { result.0 ≡ self.now.v2.l1_table_offset }
+    {
+        HostOffset(self.v2.l1_table_offset)
+    }
+
+    /// How many entries the L1 table has.
+    #[inline]
+    pub fn l1_table_entries(&self) -> usize
+        ensures value { result ≡ self.now.v2.l1_size }
+        ensures bound { result < 2 ^ 32 }
+    {
+        self.v2.l1_size as usize
+    }
+
+    /// Where the refcount table begins.
+    #[inline]
+    pub fn reftable_offset(&self) -> HostOffset
+        ensures { result.0 ≡ self.now.v2.refcount_table_offset }
+    {
+        HostOffset(self.v2.refcount_table_offset)
+    }
+
+    /// How many clusters the refcount table takes.
+    #[inline]
+    pub fn reftable_clusters(&self) -> ClusterCount
+        ensures value { result.0 ≡ self.now.v2.refcount_table_clusters }
+        ensures bound { result.0 < 2 ^ 32 }
+    {
+        ClusterCount(self.v2.refcount_table_clusters as u64)
+    }
+
+    /// How many entries the refcount table has: it fills its clusters with eight bytes each.
+    #[inline]
+    pub fn reftable_entries(&self) -> usize
+        ensures value { result
+            ≡ self.now.v2.refcount_table_clusters * 2 ^ (self.now.v2.cluster_bits - 3) }
+        ensures bound { result < 2 ^ 50 }
+    {
+        self.v2.refcount_table_clusters as usize * self.l2_entries()
+    }
+
+    /// The name of the backing file, whose data the guest sees where the image has none.
+    #[inline]
+    pub fn backing_filename(&self) -> Option<&String>
+        ensures { option_map (λ name. string_bytes name.now) result ≡ self.now.backing_filename }
+    {
+        self.backing_filename.as_ref()
+    }
+
+    /// The format of the backing file: the first that a header extension says.
+    pub fn backing_format(&self) -> Option<&String>
+        ensures { option_map (λ name. string_bytes name.now) result
+            ≡ first_by (name_in kind.BackingFileFormat) self.now.extensions }
+    {
+        first_name(&self.extensions, HeaderExtensionType::BackingFileFormat)
+    }
+
+    /// The name of the external data file: the first that a header extension says.
+    pub fn external_data_filename(&self) -> Option<&String>
+        ensures { option_map (λ name. string_bytes name.now) result
+            ≡ first_by (name_in kind.ExternalDataFileName) self.now.extensions }
+    {
+        first_name(&self.extensions, HeaderExtensionType::ExternalDataFileName)
+    }
+
+    /// What a feature is called: the name in the first feature name table that has one. No feature has
+    /// a bit past 63, and no table a name for a bit past 255.
+    pub fn feature_name(&self, feature_type: FeatureType, bit: u32) -> Option<&String>
+        ensures named { bit < 256 → option_map (λ name. string_bytes name.now) result
+            ≡ first_by (feature_name_in (feature_type, bit)) self.now.extensions }
+        ensures past { 256 ≤ bit → result ≡ None }
+    {
+        let bit = u8::try_from(bit).ok()?;
+        for extension in &self.extensions {
+            if let Some(name) = extension.feature_name(feature_type, bit) {
+                return Some(name);
+            }
+        }
+        None
+    }
+
+    /// Refuses a header of an older version than this, by fault 27.
+    pub fn require_version(&self, minimum: u32) -> Result<(), Fault>
+        ensures { MatchResult result (λ _. minimum ≤ self.now.v2.version)
+            (λ fault. (self.now.v2.version < minimum) × (fault ≡ Fault.VersionNeeded)) }
+    {
+        if self.v2.version < minimum {
+            return Err(Fault::VersionNeeded);
+        }
+        Ok(())
+    }
+}
+
+// The first part of a new header.
+fn new_v2_header(cluster_bits: u32) -> V2Header
+    ensures { result ≡ (new_header cluster_bits 0 None None None).v2 }
+{
+    V2Header {
+        magic: MAGIC,
+        version: 3,
+        backing_file_offset: 0,
+        backing_file_size: 0,
+        cluster_bits,
+        size: 0,
+        crypt_method: 0,
+        l1_size: 0,
+        l1_table_offset: 0,
+        refcount_table_offset: 0,
+        refcount_table_clusters: 0,
+        nb_snapshots: 0,
+        snapshots_offset: 0,
+    }
+}
+
+// The first name that an extension of this type says.
+fn first_name(
+    extensions: &[HeaderExtension],
+    extension_type: HeaderExtensionType,
+) -> Option<&String>
+    ensures { option_map (λ name. string_bytes name.now) result
+        ≡ first_by (name_in extension_type) (map extension_of extensions.now) }
+{
+    for extension in extensions {
+        if let Some(name) = extension.name(extension_type) {
+            return Some(name);
+        }
+    }
+    None
+}
+
+// Whether all extensions of this type say the same name.
+fn same_names(extensions: &[HeaderExtension], extension_type: HeaderExtensionType) -> bool
+    ensures { result ≡ all_same (names_by (name_in extension_type) (map extension_of extensions.now)) }
+{
+    let first = first_name(extensions, extension_type);
+    for extension in extensions {
+        if let Some(name) = extension.name(extension_type) {
+            if first != Some(name) {
+                return false;
+            }
+        }
+    }
+    true
 }

@@ -4,12 +4,16 @@
 mod entries;
 mod header;
 mod range;
+mod read_ahead;
 mod table;
 
 pub use entries::{
     AtomicL2Entry, ClustersToFreeEntry, L1Entry, L2Entry, L2Mapping, PendingClusters,
     RefTableEntry, Refused, TableEntry,
 };
-pub use header::Header;
+pub use header::{
+    AutoclearFeatures, CompatibleFeatures, FeatureType, Header, HeaderExtension,
+    HeaderExtensionType, IncompatibleFeatures, UnknownValue,
+};
 pub use range::{MAX_FILE_LENGTH, MAX_OFFSET};
 pub use table::{EntryTable, L1Table, L2Table, L2TableWriteGuard, RefTable, Table, TableKind};

@@ -6,7 +6,8 @@ ghost use Rattle.std.specs.Int.{div_ceil};
 ghost use Rattle.qcow2_base.specs.Storage.{OnlyReads};
 ghost use Rattle.qcow2_base.specs.Types.{IsClusterBits};
 ghost use Rattle.qcow2_base.specs.declared.types.HostOffset.{HostOffset as Offset};
-ghost use Rattle.qcow2_metadata.specs.Table.{Answers, IsLoaded, LoadRefuses, TableState, WritesTable, entries_fault, first_fault, flagged, loaded_table, new_table, offset_of, on_storage, place_fault, place_of, table_at};
+ghost use Rattle.qcow2_metadata.specs.Answers.{Answers};
+ghost use Rattle.qcow2_metadata.specs.Table.{IsLoaded, LoadRefuses, TableState, WritesTable, entries_fault, first_fault, flagged, loaded_table, new_table, offset_of, on_storage, place_fault, place_of, table_at};
 
 use crate::range::range_offset;
 use crate::{Header, TableEntry};
@@ -50,9 +51,9 @@ pub trait Table: Sized {
     /// A table of these entries, with no cluster, that counts as modified. They must be lawful under
     /// the header's cluster size, and as many as such a table may have, 2^48 at most.
     fn from_data(list: Vec<Self::InternalEntry>, header: &Header) -> Self
-        requires valid { first_fault (Self.InternalEntry.fault_of header.now.cluster_bits)
+        requires valid { first_fault (Self.InternalEntry.fault_of header.now.v2.cluster_bits)
             (map Self.InternalEntry.plain list.items) ≡ None }
-        requires count { IsTrue (has_lawful_count header.now.cluster_bits (length list.items)) }
+        requires count { IsTrue (has_lawful_count header.now.v2.cluster_bits (length list.items)) }
         requires bound { length list.items ≤ 2 ^ 48 }
         ensures { state result ≡ new_table (map Self.InternalEntry.plain list.items) header.now };
 
@@ -144,7 +145,7 @@ pub trait Table: Sized {
         cluster: HostCluster,
         entries: usize,
     ) -> Result<Self, Fault>
-        requires { IsTrue (has_lawful_count header.now.cluster_bits entries) }
+        requires { IsTrue (has_lawful_count header.now.v2.cluster_bits entries) }
         ensures refused { LoadRefuses (place_fault MAX_ENTRIES (table_at header.now cluster entries)) result }
         ensures exact { IsTrue (S.state image.old).tells → Answers (λ table. (state table).numbers) result
             (loaded_table MAX_ENTRIES Self.InternalEntry.fault_of (table_at header.now cluster entries)

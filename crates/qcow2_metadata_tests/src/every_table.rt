@@ -136,7 +136,7 @@ fn loads_by_its_entries<T: Table + Drop>(
     entries: usize,
     row: Numbers,
 ) -> Result<(), Fail>
-    requires { IsTrue (T.has_lawful_count header.now.cluster_bits entries) }
+    requires { IsTrue (T.has_lawful_count header.now.v2.cluster_bits entries) }
 {
     let (_, numbers, fault) = row;
     let start = 2 * header.cluster_size();
@@ -229,7 +229,7 @@ fn loads_by_its_place<T: Table + Drop>(
     told: &Told,
     fault: Option<Fault>,
 ) -> Result<(), Fail>
-    requires { IsTrue (T.has_lawful_count header.now.cluster_bits told.now.entries) }
+    requires { IsTrue (T.has_lawful_count header.now.v2.cluster_bits told.now.entries) }
 {
     let row = (T::NAME, header.cluster_bits(), told.entries, told.cluster);
     let cluster = told.cluster.ok_or("a place without a cluster")?;
@@ -296,7 +296,7 @@ fn is_where_it_may_be<T: Table + Drop>(
     entries: usize,
     fault: Option<Fault>,
 ) -> Result<(), Fail>
-    requires { IsTrue (T.has_lawful_count header.now.cluster_bits entries) }
+    requires { IsTrue (T.has_lawful_count header.now.v2.cluster_bits entries) }
 {
     let loaded = Told {
         entries,
@@ -340,7 +340,7 @@ fn a_table_lies_where_it_fits_and_ends_at_2_to_the_56_at_most(rt: HostRuntime) -
 
 // A table that is too big for its kind is refused by that fault, but where it has no cluster.
 fn is_too_big<E: TableKind>(alloc: Global, header: &Header) -> Result<(), Fail>
-    requires { IsTrue (E.has_lawful_count header.now.cluster_bits 4194305) }
+    requires { IsTrue (E.has_lawful_count header.now.v2.cluster_bits 4194305) }
 {
     let mut table: EntryTable<E> = cleared_table(alloc, header, 4194305)?;
     same(table.cluster_count(), ClusterCount(65537), E::NAME)?;
@@ -374,7 +374,7 @@ fn bounds_its_indices<E: TableKind>(
     entries: usize,
     clusters: u64,
 ) -> Result<(), Fail>
-    requires count { IsTrue (E.has_lawful_count header.now.cluster_bits entries) }
+    requires count { IsTrue (E.has_lawful_count header.now.v2.cluster_bits entries) }
     requires bound { entries ≤ 262144 }
 {
     let table: EntryTable<E> = cleared_table(alloc, header, entries)?;

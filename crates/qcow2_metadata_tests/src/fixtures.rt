@@ -19,7 +19,7 @@ pub fn header_with(
     cluster_bits: u32,
     external_data_file: bool,
 ) -> Result<Header, Fault>
-    ensures cluster_bits { IfOk result (λ header. header.cluster_bits ≡ cluster_bits) }
+    ensures cluster_bits { IfOk result (λ header. header.v2.cluster_bits ≡ cluster_bits) }
     ensures range { OnOk result (IsClusterBits cluster_bits) }
 {
     if !is_cluster_bits(cluster_bits) {
@@ -120,7 +120,7 @@ pub fn table_that_tells<T: Table + Drop>(
     header: &Header,
     told: &Told,
 ) -> Result<T, Fault>
-    requires { IsTrue (T.has_lawful_count header.now.cluster_bits told.now.entries) }
+    requires { IsTrue (T.has_lawful_count header.now.v2.cluster_bits told.now.entries) }
     ensures entries { IfOk result (λ table. length (T.state table).numbers ≡ told.now.entries) }
     ensures geometry { IfOk result (λ table. (T.state table).geometry ≡ geometry_of header.now) }
     ensures cluster { IfOk result (λ table.
@@ -169,7 +169,7 @@ pub fn cleared_table<E: TableKind>(
     header: &Header,
     entries: usize,
 ) -> Result<EntryTable<E>, Fault>
-    requires count { IsTrue (E.has_lawful_count header.now.cluster_bits entries) }
+    requires count { IsTrue (E.has_lawful_count header.now.v2.cluster_bits entries) }
     requires bound { entries ≤ 2 ^ 48 }
     ensures entries { IfOk result (λ table. length table.numbers ≡ entries) }
     ensures geometry { IfOk result (λ table. table.geometry ≡ geometry_of header.now) }

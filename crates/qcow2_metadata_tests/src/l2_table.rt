@@ -23,7 +23,7 @@ fn sample_image(alloc: Global) -> Result<MemStorage, Fault> {
 
 // A table with this entry at each index.
 fn uniform_table(alloc: Global, header: &Header, entry: AtomicL2Entry) -> Result<L2Table, Fault>
-    requires { l2_fault header.now.cluster_bits entry ≡ None }
+    requires { l2_fault header.now.v2.cluster_bits entry ≡ None }
 {
     let entries = vec![in alloc; entry; header.l2_entries()]?;
     Ok(L2Table::from_data(entries, header))

@@ -18,7 +18,7 @@ fn is_written_and_read_back<T: Table + Drop>(
     cluster: u64,
     entries: usize,
 ) -> Result<(), Fail>
-    requires count { IsTrue (T.has_lawful_count header.now.cluster_bits entries) }
+    requires count { IsTrue (T.has_lawful_count header.now.v2.cluster_bits entries) }
     requires bound { entries ≤ 4194304 }
 {
     let told = Told {

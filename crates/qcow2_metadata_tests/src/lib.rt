@@ -3,9 +3,13 @@
 
 #[cfg(test)]
 mod every_table;
+#[cfg(test)]
+mod features;
 mod fixtures;
 #[cfg(test)]
 mod header;
+#[cfg(test)]
+mod header_load;
 #[cfg(test)]
 mod l1_entry;
 #[cfg(test)]
@@ -21,9 +25,13 @@ mod pending_clusters;
 #[cfg(test)]
 mod pieces;
 #[cfg(test)]
+mod pointers;
+#[cfg(test)]
 mod ref_table_entry;
 #[cfg(test)]
 mod refused_memory;
+#[cfg(test)]
+mod rich_header;
 #[cfg(test)]
 mod table_files;
 

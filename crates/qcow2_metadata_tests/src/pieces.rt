@@ -102,7 +102,7 @@ fn loads_in_pieces<T: Table + Drop>(
     header: &Header,
     told: InPieces,
 ) -> Result<T, Fail>
-    requires { IsTrue (T.has_lawful_count header.now.cluster_bits told.entries) }
+    requires { IsTrue (T.has_lawful_count header.now.v2.cluster_bits told.entries) }
 {
     let cluster = HostCluster(told.cluster);
     let bytes = image_with_first(alloc, told.start, told.entries)?;
@@ -169,7 +169,7 @@ fn writes_again<T: Table>(
 
 // Loads and writes the table, where no call fails and where each of its calls fails in turn.
 fn is_in_pieces<T: Table + Drop>(alloc: Global, header: &Header, told: InPieces) -> Result<(), Fail>
-    requires { IsTrue (T.has_lawful_count header.now.cluster_bits told.entries) }
+    requires { IsTrue (T.has_lawful_count header.now.v2.cluster_bits told.entries) }
 {
     let mut table: T = loads_in_pieces(alloc, header, told)?;
     let mut image = FailingStorage::new(alloc, filled_image(alloc, LEN)?);

@@ -9,16 +9,32 @@ ghost use Rattle.std.specs.Prelude.{◌≡◌, ◌≤◌, IfOk, IsTrue};
 use crate::fixtures::{
     LOADED, NUMBER, Told, header_with, image_with, place, table_that_tells, tells,
 };
+use crate::header_load::{image_of, names};
 use crate::pieces::entries_up_to;
+use crate::rich_header::{NAMES, RICH};
 use qcow2_base::{Fault, HostCluster, MemStorage};
 use qcow2_metadata::{Header, L1Table, L2Table, RefTable, Table};
 use qcow2_testing::{same, same_bytes};
 use std::alloc::Global;
 use std::test::Fail;
 
+#[test]
+fn a_header_that_memory_refused_loads_the_next_time(rt: HostRuntime) -> Result<(), Fail> {
+    let mut image = match image_of(rt.alloc(), &[RICH]) {
+        Ok(image) => image,
+        Err(_) => image_of(rt.alloc(), &[RICH])?,
+    };
+    let mut answer = Header::load(rt.alloc(), &mut image, false);
+    if let Err(fault) = &answer {
+        same(*fault, Fault::NoMemory, "refused")?;
+        answer = Header::load(rt.alloc(), &mut image, false);
+    }
+    same(names(&answer?), NAMES, "loaded")
+}
+
 // A header for clusters of 512 bytes, an image whose cluster 2 is a table, and the same image.
 fn header_and_images(alloc: Global) -> Result<(Header, MemStorage, MemStorage), Fault>
-    ensures { IfOk result (λ made. made.0.cluster_bits ≡ 9) }
+    ensures { IfOk result (λ made. made.0.v2.cluster_bits ≡ 9) }
 {
     let header = header_with(alloc, 9, false)?;
     let image = image_with(alloc, 1536, &[(1048, NUMBER)])?;
@@ -135,7 +151,7 @@ fn a_cleared_table_that_memory_refused_is_made_the_next_time(rt: HostRuntime) ->
 
 // A header, and an L1 table that says this.
 fn header_and_table(alloc: Global, told: &Told) -> Result<(Header, L1Table), Fault>
-    ensures { IfOk result (λ made. made.0.cluster_bits ≡ made.1.geometry.cluster_bits) }
+    ensures { IfOk result (λ made. made.0.v2.cluster_bits ≡ made.1.geometry.cluster_bits) }
 {
     let header = header_with(alloc, 9, false)?;
     let table = table_that_tells(alloc, &header, told)?;

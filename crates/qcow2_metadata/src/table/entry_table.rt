@@ -95,10 +95,10 @@ impl<E: TableKind> EntryTable<E> {
 
     // A table of these entries and then zeros, for an image with this header.
     pub(super) fn grown(&self, entries: usize, header: &Header) -> Result<Self, Fault>
-        requires cluster_bits { header.now.cluster_bits ≡ self.now.geometry.cluster_bits }
+        requires cluster_bits { header.now.v2.cluster_bits ≡ self.now.geometry.cluster_bits }
         requires longer { length self.now.numbers ≤ entries }
         requires bound { entries ≤ 2 ^ 48 }
-        requires count { IsTrue (E.has_lawful_count header.now.cluster_bits entries) }
+        requires count { IsTrue (E.has_lawful_count header.now.v2.cluster_bits entries) }
         ensures fault { IsOkUnless result Fault.NoMemory }
         ensures table { IfOk result (λ table.
             table ≡ new_table (grown_numbers self.now.numbers entries) header.now) }
@@ -144,8 +144,8 @@ impl<E: TableKind> Table for EntryTable<E> {
     ghost has_lawful_count = { E.has_lawful_count };
 
     fn from_data(list: Vec<E>, header: &Header) -> Self
-        requires valid { first_fault (E.fault_of header.now.cluster_bits) (map E.plain list.items) ≡ None }
-        requires count { IsTrue (E.has_lawful_count header.now.cluster_bits (length list.items)) }
+        requires valid { first_fault (E.fault_of header.now.v2.cluster_bits) (map E.plain list.items) ≡ None }
+        requires count { IsTrue (E.has_lawful_count header.now.v2.cluster_bits (length list.items)) }
         requires bound { length list.items ≤ 2 ^ 48 }
         ensures { result ≡ new_table (map E.plain list.items) header.now }
     {

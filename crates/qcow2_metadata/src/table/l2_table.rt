@@ -43,7 +43,7 @@ impl EntryTable<AtomicL2Entry> {
     pub fn new_cleared(alloc: Global, header: &Header) -> Result<L2Table, Fault>
         ensures fault { IsOkUnless result Fault.NoMemory }
         ensures table { IfOk result (λ table.
-            table ≡ new_table (replicate (2 ^ (header.now.cluster_bits - 3)) 0) header.now) }
+            table ≡ new_table (replicate (2 ^ (header.now.v2.cluster_bits - 3)) 0) header.now) }
     {
         let entries = vec![in alloc; AtomicL2Entry::cleared(); header.l2_entries()]?;
         Ok(L2Table::from_data(entries, header))

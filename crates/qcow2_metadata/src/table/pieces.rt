@@ -3,7 +3,8 @@
 ghost use Rattle.std.specs.Prelude.{◌≡◌, ℕ, ◌⊎◌, ◌+◌, ◌++◌, ◌*◌, ◌/◌, ◌^◌, ◌<◌, ◌≤◌, ◌↔◌, IsTrue, length, map, slice_index, None, Some, IfOk, IfErr, OnOk};
 ghost use Rattle.qcow2_base.specs.Storage.{OnlyReads, be, image_of};
 ghost use Rattle.qcow2_base.specs.declared.fault.Fault.TheVariants.{EntryReserved, EntryUnaligned, NoMemory, Storage as StorageFailed};
-ghost use Rattle.qcow2_metadata.specs.Table.{Answers, WritesPieces, chunk_numbers, decoded, first_fault, table_numbers};
+ghost use Rattle.qcow2_metadata.specs.Answers.{Answers};
+ghost use Rattle.qcow2_metadata.specs.Table.{WritesPieces, chunk_numbers, decoded, first_fault, table_numbers};
 
 use super::Table;
 use crate::range::read_range;
@@ -28,12 +29,12 @@ pub(super) fn read_entries<E: TableEntry + Drop, S: Storage>(
 ) -> Result<Vec<E>, Fault>
     requires { offset.0 + 8 * entries ≤ 2 ^ 56 }
     ensures exact { IsTrue (S.state image.old).tells → Answers (λ list. map E.plain list.items) result
-        (decoded (E.fault_of header.now.cluster_bits)
+        (decoded (E.fault_of header.now.v2.cluster_bits)
         (table_numbers (S.state image.old).byte_at offset.0 entries)) }
     ensures numbers { IsTrue (S.state image.old).tells → IfOk result (λ list.
         map E.plain list.items ≡ table_numbers (S.state image.old).byte_at offset.0 entries) }
     ensures lawful { IfOk result (λ list. (length list.items ≡ entries)
-        × (first_fault (E.fault_of header.now.cluster_bits) (map E.plain list.items) ≡ None)) }
+        × (first_fault (E.fault_of header.now.v2.cluster_bits) (map E.plain list.items) ≡ None)) }
     ensures faults { IfErr result (λ fault.
         (fault ≡ EntryReserved) ⊎ (fault ≡ EntryUnaligned) ⊎ (fault ≡ NoMemory) ⊎ (fault ≡ StorageFailed)) }
     ensures storage { OnlyReads result (S.state image.old) (S.state image.new) }
@@ -59,10 +60,10 @@ fn decode<E: TableEntry + Drop>(
 ) -> Result<(), Fault>
     ensures numbers { OnOk result (map E.plain list.new.items
         ≡ map E.plain list.old.items ++ table_numbers (image_of bytes.now) 0 (length bytes.now / 8)) }
-    ensures valid { OnOk result (first_fault (E.fault_of header.now.cluster_bits)
+    ensures valid { OnOk result (first_fault (E.fault_of header.now.v2.cluster_bits)
         (table_numbers (image_of bytes.now) 0 (length bytes.now / 8)) ≡ None) }
     ensures refused { IfErr result (λ fault. (fault ≡ NoMemory)
-        ⊎ (first_fault (E.fault_of header.now.cluster_bits)
+        ⊎ (first_fault (E.fault_of header.now.v2.cluster_bits)
         (table_numbers (image_of bytes.now) 0 (length bytes.now / 8)) ≡ Some fault)) }
     ensures faults { IfErr result (λ fault.
         (fault ≡ EntryReserved) ⊎ (fault ≡ EntryUnaligned) ⊎ (fault ≡ NoMemory)) }
@@ -85,9 +86,9 @@ fn number_of(chunk: &[u8; 8]) -> u64
 // Refuses numbers that aren't all entries, by the fault of the first that is none.
 fn check<E: TableEntry + Drop>(chunks: &[[u8; 8]], header: &Header) -> Result<(), Fault>
     ensures valid { OnOk result
-        (first_fault (E.fault_of header.now.cluster_bits) (chunk_numbers chunks.now) ≡ None) }
+        (first_fault (E.fault_of header.now.v2.cluster_bits) (chunk_numbers chunks.now) ≡ None) }
     ensures refused { IfErr result (λ fault.
-        first_fault (E.fault_of header.now.cluster_bits) (chunk_numbers chunks.now) ≡ Some fault) }
+        first_fault (E.fault_of header.now.v2.cluster_bits) (chunk_numbers chunks.now) ≡ Some fault) }
     ensures faults { IfErr result (λ fault. (fault ≡ EntryReserved) ⊎ (fault ≡ EntryUnaligned)) }
 {
     if are_lawful::<E>(chunks, header) {
@@ -102,7 +103,7 @@ fn check<E: TableEntry + Drop>(chunks: &[[u8; 8]], header: &Header) -> Result<()
 // Whether all numbers are entries. Looks at each, so that several are tested at once.
 fn are_lawful<E: TableEntry>(chunks: &[[u8; 8]], header: &Header) -> bool
     ensures { IsTrue result
-        ↔ (first_fault (E.fault_of header.now.cluster_bits) (chunk_numbers chunks.now) ≡ None) }
+        ↔ (first_fault (E.fault_of header.now.v2.cluster_bits) (chunk_numbers chunks.now) ≡ None) }
 {
     let mut lawful = true;
     for chunk in chunks {
@@ -117,14 +118,14 @@ fn append<E: TableEntry + Drop>(
     chunks: &[[u8; 8]],
     header: &Header,
 ) -> Result<(), AllocError>
-    requires { first_fault (E.fault_of header.now.cluster_bits) (chunk_numbers chunks.now) ≡ None }
+    requires { first_fault (E.fault_of header.now.v2.cluster_bits) (chunk_numbers chunks.now) ≡ None }
     ensures { OnOk result
         (map E.plain list.new.items ≡ map E.plain list.old.items ++ chunk_numbers chunks.now) }
 {
     list.extend(
         chunks.iter().map(
             |chunk: &[u8; 8]| -> E
-                requires { E.fault_of header.now.cluster_bits (be (image_of chunk.now) 0 8) ≡ None }
+                requires { E.fault_of header.now.v2.cluster_bits (be (image_of chunk.now) 0 8) ≡ None }
                 ensures { E.plain result ≡ be (image_of chunk.now) 0 8 }
             { E::from_lawful(number_of(chunk), header) },
         ),

@@ -11,6 +11,6 @@ first_fault-replicate fault (suc n) entry lawful = rw lawful (first_fault-replic
 
 pub from_data-requires-clause-valid : goal.from_data-requires-clause-valid
 from_data-requires-clause-valid c =
-    let cb = c.args.header.now.cluster_bits in
+    let cb = c.args.header.now.v2.cluster_bits in
     let all : c.in_ok-entries.entries.items ≡ replicate c.l2_entries.result c.args.entry = c.in_ok-entries.ensures.items_if_clones_equal (λ y h. h) in
     rw all (first_fault-replicate (l2_fault cb) c.l2_entries.result c.args.entry c.requires)

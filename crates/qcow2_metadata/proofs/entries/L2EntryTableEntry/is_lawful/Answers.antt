@@ -6,7 +6,7 @@ use Rattle.qcow2_metadata.proofs.entries.L2EntryTableEntry.is_lawful.Goals.{then
 
 pub returns : goal.returns
 returns c =
-    let cb = c.args.header.now.cluster_bits in
+    let cb = c.args.header.now.v2.cluster_bits in
     let v = c.args.value in
     let compressed : is_compressed v ≡ true → c.if-is_compressed.offset_is_lawful ≡ nat_eq (v / 2 ^ 56 * 2 ^ 56 % 2 ^ (70 - cb)) 0 =
     elim c.if-is_compressed.branch [ then-is_compressed w ↦ λ e. search rules | else-is_compressed w ↦ λ e. search rules ] in

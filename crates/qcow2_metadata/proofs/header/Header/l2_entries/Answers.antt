@@ -4,4 +4,4 @@ use Rattle.qcow2_metadata.proofs.header.Header.l2_entries.Goals as goal
 
 pub returns-clause-bound : goal.returns-clause-bound
 returns-clause-bound c =
-    let few : c.self.inside.cluster_bits - 3 ≤ 18 = omega arith in omega (arith, pow_mono few)
+    let few : c.self.inside.v2.cluster_bits - 3 ≤ 18 = omega arith in omega (arith, pow_mono few)

@@ -16,7 +16,7 @@ returns g c =
 
 pub extend-requires : goal.extend-requires
 extend-requires g c = λ it is.
-    let fault = g.E.TableEntry.fault_of c.args.header.now.cluster_bits in (
+    let fault = g.E.TableEntry.fault_of c.args.header.now.v2.cluster_bits in (
       (
         tt,
         serves_from_places (YieldsList-from_slice c.args.chunks.now (search rules)) (λ x q step. search rules)

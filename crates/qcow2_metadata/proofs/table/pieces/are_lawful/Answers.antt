@@ -7,7 +7,7 @@ pub loop-chunk-preserved : goal.loop-chunk-preserved
 loop-chunk-preserved g c =
     let chunks = c.args.chunks.now in
     let index = c.loop-chunk.chunk-index in
-    let fault = g.E.TableEntry.fault_of c.args.header.now.cluster_bits in
+    let fault = g.E.TableEntry.fault_of c.args.header.now.v2.cluster_bits in
     let more = chunk_numbers-more chunks index [] (omega arith) in
     let last : IsTrue c.is_lawful-lawful.result ↔ (fault c.number_of.result ≡ None) = c.is_lawful-lawful.ensures in
     rw (more, ← c.number_of.ensures) (lawful_more fault (chunk_numbers (take index chunks)) c.number_of.result c.loop-chunk.lawful c.is_lawful-lawful.result c.loop-chunk.invariant last)

@@ -9,7 +9,7 @@ pub returns-in_err-try_from_plain-clause-refused : goal.returns-in_err-try_from_
 returns-in_err-try_from_plain-clause-refused g c =
     let chunks = c.args.chunks.now in
     let index = c.loop-chunk.chunk-index in
-    let fault = g.E.TableEntry.fault_of c.args.header.now.cluster_bits in
+    let fault = g.E.TableEntry.fault_of c.args.header.now.v2.cluster_bits in
     let left = err_from_is_err_and c.from_residual.result c.from_residual.ensures.1 in
     rw (left.1, left.2) (first_fault-at fault chunks index [] _ (omega arith) c.loop-chunk.invariant (rw (← c.number_of.ensures) c.in_err-try_from_plain.ensures.refused))
 
@@ -17,6 +17,6 @@ pub loop-chunk-preserved : goal.loop-chunk-preserved
 loop-chunk-preserved g c =
     let chunks = c.args.chunks.now in
     let index = c.loop-chunk.chunk-index in
-    let fault = g.E.TableEntry.fault_of c.args.header.now.cluster_bits in
+    let fault = g.E.TableEntry.fault_of c.args.header.now.v2.cluster_bits in
     let more = chunk_numbers-more chunks index [] (omega arith) in
     rw (more, ← c.number_of.ensures) (first_fault_more fault (chunk_numbers (take index chunks)) c.number_of.result c.loop-chunk.invariant c.in_ok-try_from_plain.ensures.accepted)

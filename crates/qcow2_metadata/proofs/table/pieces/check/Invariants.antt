@@ -5,4 +5,4 @@ use Rattle.qcow2_metadata.proofs.table.pieces.check.Given as goal
 -- the numbers so far are all entries
 abbrev pub invariant-loop-chunk : goal.invariant-loop-chunk
 invariant-loop-chunk g l =
-    first_fault (g.E.TableEntry.fault_of l.header.cluster_bits) (chunk_numbers (take l.chunk-index l.chunks)) ≡ None
+    first_fault (g.E.TableEntry.fault_of l.header.v2.cluster_bits) (chunk_numbers (take l.chunk-index l.chunks)) ≡ None

@@ -11,7 +11,7 @@ pub returns-in_err-decode-clause-exact : goal.returns-in_err-decode-clause-exact
 returns-in_err-decode-clause-exact g c told =
     let exit = c.from_residual-in_err-decode in
     let left = err_from_is_err_and exit.result exit.ensures.1 in
-    let fault = g.E.TableEntry.fault_of c.args.header.now.cluster_bits in
+    let fault = g.E.TableEntry.fault_of c.args.header.now.v2.cluster_bits in
     let image = (g.S.Storage.state c.args.image.now).byte_at in
     let offset = c.args.offset.0 in
     let bytes = c.read_range.new.buffer in
@@ -31,7 +31,7 @@ returns-in_err-decode-clause-exact g c told =
 pub loop-piece-preserved : goal.loop-piece-preserved
 loop-piece-preserved g c =
     let plain = g.E.TableEntry.plain in
-    let fault = g.E.TableEntry.fault_of c.args.header.now.cluster_bits in
+    let fault = g.E.TableEntry.fault_of c.args.header.now.v2.cluster_bits in
     let image = (g.S.Storage.state c.args.image.now).byte_at in
     let offset = c.args.offset.0 in
     let bytes = c.read_range.new.buffer in

@@ -12,7 +12,7 @@ invariant-loop-piece g l =
     record {
       told : IsTrue old.tells → numbers ≡ table_numbers old.byte_at l.offset.0 (length l.list.items);
       len : length l.list.items ≡ min (512 * l.piece) l.entries;
-      valid : first_fault (g.E.TableEntry.fault_of l.header.cluster_bits) numbers ≡ None;
+      valid : first_fault (g.E.TableEntry.fault_of l.header.v2.cluster_bits) numbers ≡ None;
       bytes : new.byte_at ≡ old.byte_at;
       failures : new.failures ≡ old.failures;
       device : SameDevice old new;

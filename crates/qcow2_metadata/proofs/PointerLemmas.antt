@@ -1,0 +1,42 @@
+use Rattle.std.proofs.Common.{◌≡◌, ℕ, ◌+◌, ◌-◌, ◌*◌, ◌%◌, ◌^◌, Option, None, Some, option_map, ◌<◌, ◌≤◌, List, [], ◌∷◌, drop, length, slice_range, refl, sym, ◌∙◌, arith}
+use Rattle.std.proofs.lemmas.List.{length-drop, length-take}
+use Rattle.std.proofs.Math.Nat.{mul-mod_left}
+use Rattle.std.proofs.lemmas.List.Edits.{get_or-between}
+use Rattle.qcow2_base.proofs.OnDiskStructLemmas.{number_of_same}
+use Rattle.qcow2_base.specs.OnDiskStruct.{HoldsLayout, LayoutField}
+use Rattle.qcow2_base.specs.declared.types.HostCluster.{HostCluster}
+use Rattle.qcow2_metadata.specs.Table.{TableState, offset_of, place_of}
+use Rattle.qcow2_metadata.specs.Header.Pointers.{HoldsBetween}
+use Rattle.qcow2_base.specs.Storage.{Holds, Image, image_of}
+use Rattle.qcow2_base.specs.declared.types.HostCluster.{HostCluster}
+use Rattle.qcow2_metadata.specs.Table.{TableState, offset_of, place_of}
+use Rattle.qcow2_metadata.specs.Header.Pointers.{HoldsBetween}
+
+-- an image that has a part of a structure's bytes has the fields that lie in it
+pub part-between : (image : Image) (bytes : List ℕ) (first end : ℕ) (fields : List LayoutField) → end ≤ length bytes
+    → Holds image first (slice_range bytes first end) → HoldsLayout (image_of bytes) fields → HoldsBetween image first end fields
+part-between image bytes first end [] within held layout = tt
+part-between image bytes first end (f ∷ fields) within held layout = (
+  λ low high.
+      let same : (k : ℕ) → k < f.size → image (f.place + k) ≡ image_of bytes (f.place + k) = λ k below.
+      let i : ℕ = f.place + k - first in
+      let place : first + i ≡ f.place + k = omega arith in
+      let inside : i < length (slice_range bytes first end) =
+      omega (arith, length-take (end - first) (drop first bytes), length-drop first bytes) in
+      rw (← place) (sym (held.each i inside) ∙ get_or-between bytes first end i 0 (omega arith))
+      in
+      number_of_same f.order image (image_of bytes) f.size f.place f.place same ∙ layout.0,
+  part-between image bytes first end fields within held layout.1,
+)
+
+-- a table's offset is a multiple of the cluster size
+pub table_offset-aligned : (table : TableState) (offset cb : ℕ) → Some offset ≡ option_map offset_of (place_of table)
+    → table.geometry.cluster_bits ≡ cb → offset % 2 ^ cb ≡ 0
+table_offset-aligned table offset cb is same = by_cluster table.cluster refl
+  where
+    by_cluster : (cluster : Option HostCluster) → table.cluster ≡ cluster → offset % 2 ^ cb ≡ 0
+    by_cluster None none = let nowhere : option_map offset_of (place_of table) ≡ None = rw none refl in cc
+    by_cluster (Some cluster) some =
+        let there : option_map offset_of (place_of table) ≡ Some (cluster.0 * 2 ^ table.geometry.cluster_bits) = rw some refl in
+        let at : offset ≡ cluster.0 * 2 ^ table.geometry.cluster_bits = cc in
+        rw (at, same) (mul-mod_left cluster.0 (2 ^ cb))

@@ -1,0 +1,93 @@
+use Rattle.std.specs.Prelude.{◌≡◌, ◌≢◌, ◌⊎◌, ℕ, zero, suc, ◌+◌, ◌<◌, ◌≤◌, ◌==◌, nat_le, IsOk, List, [], ◌∷◌, map, Option, Some, None, Result, Ok, Err, true, false}
+use Rattle.std.specs.Int.{next_multiple_of}
+use Rattle.qcow2_base.specs.Storage.{Image, be}
+use Rattle.qcow2_base.specs.declared.fault.Fault.{Fault}
+use Rattle.qcow2_base.specs.declared.fault.Fault.TheVariants.{ExtensionsExceed}
+use Rattle.qcow2_base.specs.declared.on_disk_struct.header_extension_header.HeaderExtensionHeader.{HeaderExtensionHeader}
+use Rattle.qcow2_metadata.specs.Answers.{and_then, provided, result_map}
+use Rattle.qcow2_metadata.specs.Header.Extensions.{Extension, parsed}
+use Rattle.qcow2_metadata.specs.Range.{bytes_at}
+
+-- where an extension stands, the number of its type, and how many bytes of data it has
+pub record Link : Type 0 where
+  pub place : ℕ
+  pub number : ℕ
+  pub size : ℕ
+
+-- the extension that stands at a place
+abbrev pub link_at : Image → ℕ → Link
+link_at image place = record { place = place; number = be image place 4; size = be image (place + 4) 4 }
+
+-- what stands before its data
+abbrev pub extension_header_at : Image → ℕ → HeaderExtensionHeader
+extension_header_at image place = record { extension_type = be image place 4; length = be image (place + 4) 4 }
+
+-- where its data ends
+abbrev pub end_of : Link → ℕ
+end_of link = link.place + 8 + link.size
+
+-- where the next one stands: its data is padded to a multiple of 8 bytes
+abbrev pub next_place : Link → ℕ
+next_place link = link.place + 8 + next_multiple_of link.size 8
+
+-- what an extension that isn't End says
+abbrev pub said : Image → Link → Result Extension Fault
+said image link = parsed link.number (bytes_at image (link.place + 8) link.size)
+
+-- the extensions from a place on, each the next one of the one before, up to a last one: all before it end
+-- within so many bytes, aren't End, and say something
+abbrev pub IsChain : Image → ℕ → ℕ → List Link → Link → Type 0
+IsChain image len place [] last = last ≡ link_at image place
+IsChain image len place (link ∷ links) last =
+    (link ≡ link_at image place) × (end_of link ≤ len) × (link.number ≢ 0) × IsOk (said image link)
+    × IsChain image len (next_place link) links last
+
+-- the chain is complete: its last extension is End, and ends within so many bytes
+pub record IsEnd (len : ℕ) (last : Link) : Type 0 where
+  pub bounded : end_of last ≤ len
+  pub end : last.number ≡ 0
+
+-- the chain is broken: its last extension ends past so many bytes, or isn't End and says nothing
+abbrev pub IsBroken : Image → ℕ → Link → Fault → Type 0
+IsBroken image len last fault =
+    ((len < end_of last) × (fault ≡ ExtensionsExceed))
+    ⊎ ((end_of last ≤ len) × (last.number ≢ 0) × (said image last ≡ Err fault))
+
+-- the extensions that a complete chain from a place on says
+pub record SaysExtensions (image : Image) (len place : ℕ) (extensions : List Extension) : Type 0 where
+  pub links : List Link
+  pub last : Link
+  pub chain : IsChain image len place links last
+  pub complete : IsEnd len last
+  pub said : map (said image) links ≡ map Ok extensions
+
+-- the fault of a chain from a place on that is broken
+pub record BreaksWith (image : Image) (len place : ℕ) (fault : Fault) : Type 0 where
+  pub links : List Link
+  pub last : Link
+  pub chain : IsChain image len place links last
+  pub broken : IsBroken image len last fault
+
+-- what the extension at a place says, and where the next one stands; nothing where it is End
+abbrev pub extension_at : Image → ℕ → ℕ → Result (Option (Extension × ℕ)) Fault
+extension_at image len place =
+    let link = link_at image place in
+    provided ((nat_le (end_of link) len, ExtensionsExceed) ∷ []) (λ _.
+    elim (link.number == 0) [
+      | true ↦ Ok None
+      | false ↦ result_map (λ extension. Some (extension, next_place link)) (said image link)
+    ])
+
+-- the extensions from a place on, up to End, if these are fewer than so many
+abbrev pub few_extensions : ℕ → Image → ℕ → ℕ → Result (List Extension) Fault
+few_extensions zero image len place = Err ExtensionsExceed
+few_extensions (suc most) image len place =
+    and_then (extension_at image len place) (λ found. elim found [
+      | None ↦ Ok []
+      | Some first ↦ result_map (λ others. first.0 ∷ others) (few_extensions most image len first.1)
+    ])
+
+-- the extensions from a place on, up to End, all of which end within so many bytes: as each has 8 bytes at
+-- least, they are fewer than the bytes
+unfoldable pub extensions_at : Image → ℕ → ℕ → Result (List Extension) Fault
+extensions_at image len place = few_extensions (suc len) image len place

@@ -1,0 +1,194 @@
+use Rattle.std.specs.Prelude.{◌≡◌, ◌≢◌, ◌⊎◌, ℕ, ◌+◌, ◌-◌, ◌^◌, ◌%◌, ◌<◌, ◌≤◌, ◌==◌, max, nat_le, ◌||◌, ◌&&◌, Bool, List, [], ◌∷◌, Option, Some, None, Result, Ok, MatchResult, true, false}
+use Rattle.std.specs.List.{IsAmong}
+use Rattle.std.specs.Str.{IsUtf8}
+use Rattle.qcow2_base.specs.OnDiskStruct.{HoldsLayout, moved, v2_header, v3_header_base}
+use Rattle.qcow2_base.specs.Fault.{number_of}
+use Rattle.qcow2_base.specs.Storage.{Image, be}
+use Rattle.qcow2_base.specs.Types.{IsClusterBits}
+use Rattle.qcow2_base.specs.declared.fault.Fault.{Fault}
+use Rattle.qcow2_base.specs.declared.fault.Fault.TheVariants.{NotQcow2, Version, ClusterSize, HeaderShort, HeaderBig, L1Unaligned, ReftableUnaligned, RefcountWidth, BackingNameLong, BackingNamePlace, BackingNameText, FormatConflict, DataFileConflict, Incompatible, NoMemory, Storage}
+use Rattle.qcow2_base.specs.declared.on_disk_struct.v2_header.V2Header.{V2Header}
+use Rattle.qcow2_base.specs.declared.on_disk_struct.v3_header_base.V3HeaderBase.{V3HeaderBase}
+use Rattle.qcow2_metadata.specs.Answers.{and_then, provided, result_map}
+use Rattle.qcow2_metadata.specs.Header.{HeaderRecord, all_same, default_base, name_in, names_by, other_features}
+use Rattle.qcow2_metadata.specs.Header.Chain.{SaysExtensions, extensions_at}
+use Rattle.qcow2_metadata.specs.Header.Extensions.{Extension, text}
+use Rattle.qcow2_metadata.specs.Range.{bytes_at}
+use Rattle.qcow2_metadata.specs.declared.header.extension.HeaderExtensionType.TheVariants as kind
+
+-- "QFI", and a byte that is no text
+abbrev pub magic : ℕ
+magic = 0x514649fb
+
+-- the part of a header that each version has
+abbrev pub v2_at : Image → V2Header
+v2_at image = record {
+  magic = be image 0 4;
+  version = be image 4 4;
+  backing_file_offset = be image 8 8;
+  backing_file_size = be image 16 4;
+  cluster_bits = be image 20 4;
+  size = be image 24 8;
+  crypt_method = be image 32 4;
+  l1_size = be image 36 4;
+  l1_table_offset = be image 40 8;
+  refcount_table_offset = be image 48 8;
+  refcount_table_clusters = be image 56 4;
+  nb_snapshots = be image 60 4;
+  snapshots_offset = be image 64 8;
+}
+
+-- the part that version 3 adds, of an image without features where the version is 2
+abbrev pub base_at : Image → ℕ → V3HeaderBase
+base_at image version = elim (version == 3) [
+  | true ↦ record {
+    incompatible_features = be image 72 8;
+    compatible_features = be image 80 8;
+    autoclear_features = be image 88 8;
+    refcount_order = be image 96 4;
+    header_length = be image 100 4;
+  }
+  | false ↦ default_base
+]
+
+-- the conditions on the fields that say how to read the others
+abbrev pub version_conditions : V2Header → List (Bool × Fault)
+version_conditions v2 =
+    (v2.magic == magic, NotQcow2)
+    ∷ (v2.version == 2 || v2.version == 3, Version)
+    ∷ (nat_le 9 v2.cluster_bits && nat_le v2.cluster_bits 21, ClusterSize)
+    ∷ []
+
+-- the conditions on fields of a cluster size that is lawful
+abbrev pub field_conditions : V2Header → V3HeaderBase → List (Bool × Fault)
+field_conditions v2 base =
+    (nat_le 104 base.header_length, HeaderShort)
+    ∷ (nat_le base.header_length (2 ^ v2.cluster_bits), HeaderBig)
+    ∷ (v2.l1_table_offset % 2 ^ v2.cluster_bits == 0, L1Unaligned)
+    ∷ (v2.refcount_table_offset % 2 ^ v2.cluster_bits == 0, ReftableUnaligned)
+    ∷ (nat_le base.refcount_order 6, RefcountWidth)
+    ∷ []
+
+-- the two fixed parts of a header
+abbrev pub fixed_parts : Image → Result (V2Header × V3HeaderBase) Fault
+fixed_parts image =
+    let v2 = v2_at image in
+    provided (version_conditions v2) (λ _.
+    let base = base_at image v2.version in
+    provided (field_conditions v2 base) (λ _. Ok (v2, base)))
+
+-- the conditions on the place of the backing file's name
+abbrev pub name_conditions : V2Header → List (Bool × Fault)
+name_conditions v2 =
+    (nat_le v2.backing_file_size 1023, BackingNameLong)
+    ∷ (nat_le (v2.backing_file_offset + v2.backing_file_size) (2 ^ v2.cluster_bits), BackingNamePlace)
+    ∷ []
+
+-- the backing file's name, where the header says where it stands
+abbrev pub backing_name : Image → V2Header → Result (Option (List ℕ)) Fault
+backing_name image v2 = elim (v2.backing_file_offset == 0) [
+  | true ↦ Ok None
+  | false ↦ provided (name_conditions v2) (λ _.
+      result_map Some (text BackingNameText (bytes_at image v2.backing_file_offset v2.backing_file_size)))
+]
+
+-- the extensions, of which version 2 has none
+abbrev pub header_extensions : Image → V2Header → V3HeaderBase → Result (List Extension) Fault
+header_extensions image v2 base = elim (v2.version == 3) [
+  | true ↦ extensions_at image (2 ^ v2.cluster_bits) base.header_length
+  | false ↦ Ok []
+]
+
+-- the conditions that need all extensions: features but the external data file, bit 2, are refused
+abbrev pub last_conditions : V3HeaderBase → List Extension → List (Bool × Fault)
+last_conditions base extensions =
+    (all_same (names_by (name_in kind.BackingFileFormat) extensions), FormatConflict)
+    ∷ (all_same (names_by (name_in kind.ExternalDataFileName) extensions), DataFileConflict)
+    ∷ (other_features base == 0, Incompatible (other_features base))
+    ∷ []
+
+-- the part that version 3 adds stands behind the first, and version 2 has none
+pub record IsBase (image : Image) (version : ℕ) (base : V3HeaderBase) : Type 0 where
+  pub version_3 : version ≡ 3 → HoldsLayout image (moved 72 (v3_header_base base))
+  pub version_2 : version ≡ 2 → base ≡ default_base
+
+-- the backing file's name: at most 1023 bytes of text, within the first cluster
+pub record IsName (image : Image) (v2 : V2Header) (name : List ℕ) : Type 0 where
+  pub some : v2.backing_file_offset ≢ 0
+  pub short : v2.backing_file_size ≤ 1023
+  pub within : v2.backing_file_offset + v2.backing_file_size ≤ 2 ^ v2.cluster_bits
+  pub bytes : name ≡ bytes_at image v2.backing_file_offset v2.backing_file_size
+  pub text : IsUtf8 name
+
+-- it is there where the header says a place
+abbrev pub IsBackingName : Image → V2Header → Option (List ℕ) → Type 0
+IsBackingName image v2 None = v2.backing_file_offset ≡ 0
+IsBackingName image v2 (Some name) = IsName image v2 name
+
+-- the extensions of version 3 begin where the header ends, and version 2 has none
+pub record HasExtensions (image : Image) (v2 : V2Header) (base : V3HeaderBase) (extensions : List Extension) : Type 0 where
+  pub version_3 : v2.version ≡ 3 → SaysExtensions image (2 ^ v2.cluster_bits) base.header_length extensions
+  pub version_2 : v2.version ≡ 2 → extensions ≡ []
+
+-- any two of the names are the same
+abbrev pub AreSame : List (List ℕ) → Type 0
+AreSame names = (a b : List ℕ) → IsAmong names a → IsAmong names b → a ≡ b
+
+-- the image begins with this header
+pub record IsHeader (image : Image) (header : HeaderRecord) : Type 0 where
+  pub v2 : HoldsLayout image (v2_header header.v2)
+  pub base : IsBase image header.v2.version header.base
+  pub magic : header.v2.magic ≡ magic
+  pub version : (header.v2.version ≡ 2) ⊎ (header.v2.version ≡ 3)
+  pub cluster_bits : IsClusterBits header.v2.cluster_bits
+  pub header_not_short : 104 ≤ header.base.header_length
+  pub header_not_big : header.base.header_length ≤ 2 ^ header.v2.cluster_bits
+  pub l1_table_aligned : header.v2.l1_table_offset % 2 ^ header.v2.cluster_bits ≡ 0
+  pub reftable_aligned : header.v2.refcount_table_offset % 2 ^ header.v2.cluster_bits ≡ 0
+  pub refcount_width : header.base.refcount_order ≤ 6
+  pub unknown_header_fields : header.unknown_header_fields ≡ bytes_at image 104 (header.base.header_length - 104)
+  pub backing_filename : IsBackingName image header.v2 header.backing_filename
+  pub extensions : HasExtensions image header.v2 header.base header.extensions
+  pub one_format : AreSame (names_by (name_in kind.BackingFileFormat) header.extensions)
+  pub one_data_file : AreSame (names_by (name_in kind.ExternalDataFileName) header.extensions)
+  pub features : other_features header.base ≡ 0
+
+-- the faults of a load, whatever the storage tells: those of the grammar, want of memory, a failed storage
+abbrev pub IsHeaderFault : Fault → Type 0
+IsHeaderFault fault = (number_of fault ≤ 17) ⊎ (fault ≡ NoMemory) ⊎ (fault ≡ Storage)
+
+-- a load that ended in this answer follows the grammar: an Ok is the image's header, and after a fault but a
+-- failed storage and want of memory the image has none
+abbrev pub FollowsGrammar : Result HeaderRecord Fault → Image → Type 0
+FollowsGrammar answer image = MatchResult answer
+    (λ header. IsHeader image header)
+    (λ fault. (fault ≡ Storage) ⊎ (fault ≡ NoMemory) ⊎ ((header : HeaderRecord) → ¬ (IsHeader image header)))
+
+-- the other image has the same first cluster: 2 ^ cluster_bits bytes, as the image says, and 512 in any case
+abbrev pub SameFirstCluster : Image → Image → Type 0
+SameFirstCluster image other = (o : ℕ) → o < max 512 (2 ^ be image 20 4) → other o ≡ image o
+
+-- what holds of the fixed parts of every header
+pub record AreLawfulParts (v2 : V2Header) (base : V3HeaderBase) : Type 0 where
+  pub version : (v2.version ≡ 2) ⊎ (v2.version ≡ 3)
+  pub cluster_bits : IsClusterBits v2.cluster_bits
+  pub header_length : (104 ≤ base.header_length) × (base.header_length ≤ 2 ^ v2.cluster_bits)
+  pub refcount_order : base.refcount_order ≤ 6
+  pub l1_table_aligned : v2.l1_table_offset % 2 ^ v2.cluster_bits ≡ 0
+  pub reftable_aligned : v2.refcount_table_offset % 2 ^ v2.cluster_bits ≡ 0
+  pub older : v2.version ≡ 2 → base ≡ default_base
+
+-- the header of an image, or the fault of the first condition that it fails
+unfoldable pub header_of : Image → Result HeaderRecord Fault
+header_of image =
+    and_then (fixed_parts image) (λ parts.
+    and_then (backing_name image parts.0) (λ name.
+    and_then (header_extensions image parts.0 parts.1) (λ extensions.
+    provided (last_conditions parts.1 extensions) (λ _.
+    Ok (record {
+      v2 = parts.0;
+      base = parts.1;
+      unknown_header_fields = bytes_at image 104 (parts.1.header_length - 104);
+      backing_filename = name;
+      extensions = extensions;
+    })))))

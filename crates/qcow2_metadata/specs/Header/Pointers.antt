@@ -1,0 +1,62 @@
+use Rattle.std.specs.Prelude.{◌≡◌, ℕ, ◌+◌, ◌-◌, ◌*◌, ◌^◌, ◌≤◌, IsTrue, List, [], ◌∷◌, length, nat_lt, if◌then◌else◌, OnOk, IsOkUnless, Option, Some, None, Result}
+use Rattle.std.specs.Int.{div_ceil}
+use Rattle.qcow2_base.specs.OnDiskStruct.{LayoutField, number_in, v2_header}
+use Rattle.qcow2_base.specs.Storage.{Image, OnlyWrites, StorageState}
+use Rattle.qcow2_base.specs.declared.fault.Fault.{Fault}
+use Rattle.qcow2_base.specs.declared.fault.Fault.TheVariants.{NotPlaced, Storage, TooMany}
+use Rattle.qcow2_base.specs.declared.on_disk_struct.v2_header.V2Header.{V2Header}
+use Rattle.qcow2_base.specs.declared.types.HostCluster.{HostCluster}
+use Rattle.qcow2_metadata.specs.Header.{HeaderRecord}
+use Rattle.qcow2_metadata.specs.Table.{TableState}
+use Rattle.qcow2_metadata.specs.declared.entries.ClustersToFreeEntry.{ClustersToFreeEntry}
+
+-- the header with another size of the guest's disk
+abbrev pub with_size : HeaderRecord → ℕ → HeaderRecord
+with_size header size = record header { v2 = record header.v2 { size = size } }
+
+-- the header with another L1 table: so many entries from an offset on
+abbrev pub with_l1_table : HeaderRecord → ℕ → ℕ → HeaderRecord
+with_l1_table header offset entries = record header {
+  v2 = record header.v2 {
+    l1_size = entries;
+    l1_table_offset = offset;
+  };
+}
+
+-- the header with another refcount table: so many clusters from an offset on
+abbrev pub with_reftable : HeaderRecord → ℕ → ℕ → HeaderRecord
+with_reftable header offset clusters = record header {
+  v2 = record header.v2 {
+    refcount_table_offset = offset;
+    refcount_table_clusters = clusters;
+  };
+}
+
+-- why a header can't refer to a table of so many units: it has no cluster, or the field can't count them
+abbrev pub pointer_fault : TableState → ℕ → Option Fault
+pointer_fault table count = elim table.cluster [
+  | None ↦ Some NotPlaced
+  | Some cluster ↦ if nat_lt count (2 ^ 32) then None else Some TooMany
+]
+
+-- how many clusters a table takes
+abbrev pub clusters_of : TableState → ℕ
+clusters_of table = div_ceil (8 * length table.numbers) (2 ^ table.geometry.cluster_bits)
+
+-- the pending clusters are all those that a table with this first cluster takes
+abbrev pub ArePendingFor : TableState → HostCluster → ClustersToFreeEntry → Type 0
+ArePendingFor table cluster pending = (pending.first ≡ cluster) × (pending.count.0 ≡ clusters_of table)
+
+-- the image has the fields that lie between two places
+abbrev pub HoldsBetween : Image → ℕ → ℕ → List LayoutField → Type 0
+HoldsBetween image first end [] = Unit {0}
+HoldsBetween image first end (f ∷ fields) =
+    (first ≤ f.place → f.place + f.size ≤ end → number_in f.order image f.place f.size ≡ f.value)
+    × HoldsBetween image first end fields
+
+-- a write of the header's first part between two places, which ended in this answer: after an Ok the fields
+-- between them stand there, and no byte outside the range changes
+pub record WritesPart {T : Type 0} (answer : Result T Fault) (v2 : V2Header) (first end : ℕ) (old new : StorageState) : Type 0 where
+  pub written : OnOk answer (IsTrue old.tells → HoldsBetween new.byte_at first end (v2_header v2))
+  pub faults : IsOkUnless answer Storage
+  pub storage : OnlyWrites answer (Some first) (end - first) old new

@@ -1,0 +1,342 @@
+//! Loading a header: the first cluster of an image, looked at where the header says, in its order.
+
+ghost use Rattle.std.specs.Prelude.{All, ◌≡◌, ◌⊎◌, ◌+◌, ◌^◌, ◌≤◌, nat_le, [], ◌∷◌, false, IfErr, IfOk, IfSome, IsTrue, Ok, length, map, option_map, string_bytes};
+ghost use Rattle.qcow2_base.specs.Storage.{Image, OnlyReads};
+ghost use Rattle.qcow2_base.specs.Types.{IsClusterBits};
+ghost use Rattle.qcow2_metadata.specs.Answers.{Answers, provided};
+ghost use Rattle.qcow2_metadata.specs.Header.{IsKept};
+ghost use Rattle.qcow2_metadata.specs.Header.Chain.{end_of, extension_at, extension_header_at, extensions_at, link_at};
+ghost use Rattle.qcow2_metadata.specs.Header.Extensions.{extension_of};
+ghost use Rattle.qcow2_metadata.specs.Header.Grammar.{AreLawfulParts, FollowsGrammar, IsHeaderFault, SameFirstCluster, backing_name, field_conditions, fixed_parts, header_extensions, header_of, last_conditions, version_conditions};
+ghost use Rattle.qcow2_metadata.specs.Range.{bytes_at};
+ghost use Rattle.qcow2_metadata.specs.ReadAhead.{ReadsThrough};
+
+use super::extension::{HeaderExtension, HeaderExtensionType, parse, parse_text};
+use super::{Header, first_name, same_names};
+use crate::range::read_range;
+use crate::read_ahead::ReadAhead;
+use qcow2_base::{
+    Fault, HeaderExtensionHeader, HostOffset, OnDiskStruct, Storage, V2Header, V3HeaderBase,
+    read_be,
+};
+use std::alloc::Global;
+
+/// "QFI", and a byte that is no text.
+pub(super) const MAGIC: u32 = 0x514649fb;
+
+/// How many bytes the backing file's name may have.
+const MAX_BACKING_FILENAME: u32 = 1023;
+
+/// How many bytes the two fixed parts have.
+const FIXED_BYTES: usize = V2Header::ON_DISK_SIZE + V3HeaderBase::ON_DISK_SIZE;
+
+/// Incompatible feature bit 2: guest data lies in an external data file.
+pub(super) const EXTERNAL_DATA_FILE: u64 = 4;
+
+impl Header {
+    /// Loads the header of an image. The answer depends on the first cluster alone, and of an image of
+    /// version 2 on its first 72 bytes and the backing file's name.
+    ///
+    /// Answers the fault of the first condition of the format that the image fails: 1 to 17 in the order of
+    /// their numbers, where the extensions are tested one after another (12 to 14). `writable` must be
+    /// false as yet. Changes no byte.
+    pub fn load<S: Storage>(alloc: Global, image: &mut S, writable: bool) -> Result<Header, Fault>
+        requires { writable ≡ false }
+        ensures exact { IsTrue (S.state image.old).tells →
+            Answers (λ header. header) result (header_of (S.state image.old).byte_at) }
+        ensures grammar { IsTrue (S.state image.old).tells →
+            FollowsGrammar result (S.state image.old).byte_at }
+        ensures first_cluster { IsTrue (S.state image.old).tells →
+            (other : Image) → SameFirstCluster (S.state image.old).byte_at other →
+            Answers (λ header. header) result (header_of other) }
+        ensures faults { IfErr result IsHeaderFault }
+        ensures storage { OnlyReads result (S.state image.old) (S.state image.new) }
+    {
+        let _ = writable;
+        read_header(alloc, image)
+    }
+}
+
+// The header of an image.
+fn read_header<S: Storage>(alloc: Global, image: &mut S) -> Result<Header, Fault>
+    ensures exact { IsTrue (S.state image.old).tells →
+        Answers (λ header. header) result (header_of (S.state image.old).byte_at) }
+    ensures faults { IfErr result IsHeaderFault }
+    ensures storage { OnlyReads result (S.state image.old) (S.state image.new) }
+{
+    let (v2, base) = read_fixed_parts(image)?;
+    let mut ahead = ReadAhead::new(image, cluster_size(&v2));
+    read_other_parts(alloc, &mut ahead, v2, base)
+}
+
+// The header of an image whose two fixed parts are these.
+fn read_other_parts<S: Storage>(
+    alloc: Global,
+    image: &mut ReadAhead<S>,
+    v2: V2Header,
+    base: V3HeaderBase,
+) -> Result<Header, Fault>
+    requires { AreLawfulParts v2 base }
+    ensures exact { IsTrue (S.state image.old.image.now).tells →
+        fixed_parts (S.state image.old.image.now).byte_at ≡ Ok (v2, base) →
+        Answers (λ header. header) result (header_of (S.state image.old.image.now).byte_at) }
+    ensures faults { IfErr result IsHeaderFault }
+    ensures storage { ReadsThrough S.state result image.old image.new }
+{
+    let unknown_len = base.header_length as usize - FIXED_BYTES;
+    let unknown_header_fields = read_bytes(alloc, image, FIXED_BYTES as u64, unknown_len)?;
+    let backing_filename = read_backing_filename(alloc, image, &v2)?;
+    let extensions = read_header_extensions(alloc, image, &v2, &base)?;
+    check_extensions(&base, &extensions)?;
+    Ok(Header {
+        alloc,
+        v2,
+        base,
+        unknown_header_fields,
+        backing_filename,
+        extensions,
+    })
+}
+
+// The two fixed parts, which are lawful. What stands behind the first is not looked at in version 2.
+fn read_fixed_parts<S: Storage>(image: &mut S) -> Result<(V2Header, V3HeaderBase), Fault>
+    ensures exact { IsTrue (S.state image.old).tells →
+        Answers (λ parts. (parts.0, parts.1)) result (fixed_parts (S.state image.old).byte_at) }
+    ensures lawful { IfOk result (λ parts. AreLawfulParts parts.0 parts.1) }
+    ensures faults { IfErr result IsHeaderFault }
+    ensures storage { OnlyReads result (S.state image.old) (S.state image.new) }
+{
+    let mut bytes = [0u8; FIXED_BYTES];
+    read_range(image, HostOffset(0), &mut bytes)?;
+    let v2: V2Header = read_be(&bytes, 0);
+    check_version(&v2)?;
+    let base = if v2.version == 3 {
+        read_be(&bytes, V2Header::ON_DISK_SIZE)
+    } else {
+        V3HeaderBase::default()
+    };
+    check_fields(&v2, &base)?;
+    Ok((v2, base))
+}
+
+// Refuses an image that isn't qcow2, and cluster sizes that no image has.
+fn check_version(v2: &V2Header) -> Result<(), Fault>
+    ensures { result ≡ provided (version_conditions v2.now) (λ _. Ok tt) }
+{
+    if v2.magic != MAGIC {
+        return Err(Fault::NotQcow2);
+    }
+    if v2.version != 2 && v2.version != 3 {
+        return Err(Fault::Version);
+    }
+    if !(9..=21).contains(&v2.cluster_bits) {
+        return Err(Fault::ClusterSize);
+    }
+    Ok(())
+}
+
+// Refuses a header that is too short or longer than a cluster, tables that don't begin with a cluster,
+// and refcounts of more than 64 bits.
+fn check_fields(v2: &V2Header, base: &V3HeaderBase) -> Result<(), Fault>
+    requires { IsClusterBits v2.now.cluster_bits }
+    ensures { result ≡ provided (field_conditions v2.now base.now) (λ _. Ok tt) }
+{
+    let cluster_size = cluster_size(v2);
+    if (base.header_length as usize) < FIXED_BYTES {
+        return Err(Fault::HeaderShort);
+    }
+    if base.header_length as u64 > cluster_size {
+        return Err(Fault::HeaderBig);
+    }
+    if v2.l1_table_offset % cluster_size != 0 {
+        return Err(Fault::L1Unaligned);
+    }
+    if v2.refcount_table_offset % cluster_size != 0 {
+        return Err(Fault::ReftableUnaligned);
+    }
+    if base.refcount_order > 6 {
+        return Err(Fault::RefcountWidth);
+    }
+    Ok(())
+}
+
+// The cluster size in bytes.
+fn cluster_size(v2: &V2Header) -> u64
+    requires { IsClusterBits v2.now.cluster_bits }
+    ensures value { result ≡ 2 ^ v2.now.cluster_bits }
+    ensures bound { result ≤ 2 ^ 21 }
+{
+    1 << v2.cluster_bits
+}
+
+// So many bytes of the image, from an offset on.
+fn read_bytes<S: Storage>(
+    alloc: Global,
+    image: &mut ReadAhead<S>,
+    offset: u64,
+    len: usize,
+) -> Result<Vec<u8>, Fault>
+    requires { offset + len ≤ 2 ^ 56 }
+    ensures read { IfOk result (λ bytes. IsTrue (S.state image.old.image.now).tells →
+        bytes.items ≡ bytes_at (S.state image.old.image.now).byte_at offset len) }
+    ensures len { IfOk result (λ bytes. length bytes.items ≡ len) }
+    ensures faults { IfErr result (λ fault. (fault ≡ Fault.NoMemory) ⊎ (fault ≡ Fault.Storage)) }
+    ensures storage { ReadsThrough S.state result image.old image.new }
+{
+    if len == 0 {
+        return Ok(Vec::new(alloc));
+    }
+    let mut bytes = vec![in alloc; 0u8; len]?;
+    image.read_range(HostOffset(offset), &mut bytes)?;
+    Ok(bytes)
+}
+
+// The backing file's name, where the header says where it stands.
+fn read_backing_filename<S: Storage>(
+    alloc: Global,
+    image: &mut ReadAhead<S>,
+    v2: &V2Header,
+) -> Result<Option<String>, Fault>
+    requires { IsClusterBits v2.now.cluster_bits }
+    ensures exact { IsTrue (S.state image.old.image.now).tells → Answers (option_map string_bytes) result
+        (backing_name (S.state image.old.image.now).byte_at v2.now) }
+    ensures faults { IfErr result IsHeaderFault }
+    ensures storage { ReadsThrough S.state result image.old image.new }
+{
+    if v2.backing_file_offset == 0 {
+        return Ok(None);
+    }
+    if v2.backing_file_size > MAX_BACKING_FILENAME {
+        return Err(Fault::BackingNameLong);
+    }
+    let len = v2.backing_file_size as u64;
+    let cluster_size = cluster_size(v2);
+    if len > cluster_size || v2.backing_file_offset > cluster_size - len {
+        return Err(Fault::BackingNamePlace);
+    }
+    let bytes = read_bytes(alloc, image, v2.backing_file_offset, len as usize)?;
+    Ok(Some(parse_text(bytes, Fault::BackingNameText)?))
+}
+
+// The extensions, of which version 2 has none.
+fn read_header_extensions<S: Storage>(
+    alloc: Global,
+    image: &mut ReadAhead<S>,
+    v2: &V2Header,
+    base: &V3HeaderBase,
+) -> Result<Vec<HeaderExtension>, Fault>
+    requires { AreLawfulParts v2.now base.now }
+    ensures exact { IsTrue (S.state image.old.image.now).tells →
+        Answers (λ list. map extension_of list.items) result
+        (header_extensions (S.state image.old.image.now).byte_at v2.now base.now) }
+    ensures kept { IfOk result (λ list. All IsKept (map extension_of list.items)) }
+    ensures older { IfOk result (λ list. v2.now.version ≡ 2 → list.items ≡ []) }
+    ensures faults { IfErr result IsHeaderFault }
+    ensures storage { ReadsThrough S.state result image.old image.new }
+{
+    if v2.version != 3 {
+        return Ok(Vec::new(alloc));
+    }
+    read_extensions(alloc, image, cluster_size(v2), base.header_length as u64)
+}
+
+// The extensions from a place on, up to End, which all end within so many bytes.
+fn read_extensions<S: Storage>(
+    alloc: Global,
+    image: &mut ReadAhead<S>,
+    len: u64,
+    first: u64,
+) -> Result<Vec<HeaderExtension>, Fault>
+    requires { len ≤ 2 ^ 21 }
+    ensures exact { IsTrue (S.state image.old.image.now).tells →
+        Answers (λ list. map extension_of list.items) result
+        (extensions_at (S.state image.old.image.now).byte_at len first) }
+    ensures kept { IfOk result (λ list. All IsKept (map extension_of list.items)) }
+    ensures faults { IfErr result IsHeaderFault }
+    ensures storage { ReadsThrough S.state result image.old image.new }
+{
+    let mut extensions = Vec::new(alloc);
+    let mut place = first;
+    while let Some((extension, next)) = read_extension(alloc, image, len, place)? {
+        extensions.push(extension)?;
+        place = next;
+    }
+    Ok(extensions)
+}
+
+// The extension at a place, which ends within so many bytes, and where the next one stands; nothing where
+// it is End.
+fn read_extension<S: Storage>(
+    alloc: Global,
+    image: &mut ReadAhead<S>,
+    len: u64,
+    place: u64,
+) -> Result<Option<(HeaderExtension, u64)>, Fault>
+    requires { len ≤ 2 ^ 21 }
+    ensures exact { IsTrue (S.state image.old.image.now).tells →
+        Answers (option_map (λ found. (extension_of found.0, found.1))) result
+        (extension_at (S.state image.old.image.now).byte_at len place) }
+    ensures next { IfOk result (λ found. IfSome found (λ found.
+        (place + 8 ≤ found.1) × (found.1 ≤ len + 8))) }
+    ensures kept { IfOk result (λ found. IfSome found (λ found. IsKept (extension_of found.0))) }
+    ensures faults { IfErr result IsHeaderFault }
+    ensures storage { ReadsThrough S.state result image.old image.new }
+{
+    let header = read_extension_header(image, len, place)?;
+    if header.extension_type == HeaderExtensionType::End as u32 {
+        return Ok(None);
+    }
+    let bytes = read_bytes(alloc, image, place + 8, header.length as usize)?;
+    let extension = parse(alloc, header.extension_type, bytes)?;
+    let next = place + 8 + (header.length as u64).next_multiple_of(8);
+    Ok(Some((extension, next)))
+}
+
+// The type and the length of the extension at a place. It ends within so many bytes.
+fn read_extension_header<S: Storage>(
+    image: &mut ReadAhead<S>,
+    len: u64,
+    place: u64,
+) -> Result<HeaderExtensionHeader, Fault>
+    requires { len ≤ 2 ^ 21 }
+    ensures exact { IsTrue (S.state image.old.image.now).tells → Answers (λ header. header) result
+        (provided ((
+          nat_le (end_of (link_at (S.state image.old.image.now).byte_at place)) len,
+          Fault.ExtensionsExceed,
+        ) ∷ [])
+        (λ _. Ok (extension_header_at (S.state image.old.image.now).byte_at place))) }
+    ensures bounded { IfOk result (λ header. place + 8 + header.length ≤ len) }
+    ensures faults { IfErr result (λ fault. (fault ≡ Fault.ExtensionsExceed) ⊎ (fault ≡ Fault.Storage)) }
+    ensures storage { ReadsThrough S.state result image.old image.new }
+{
+    if place > len || len - place < 8 {
+        return Err(Fault::ExtensionsExceed);
+    }
+    let mut bytes = [0u8; HeaderExtensionHeader::ON_DISK_SIZE];
+    image.read_range(HostOffset(place), &mut bytes)?;
+    let header: HeaderExtensionHeader = read_be(&bytes, 0);
+    if place + 8 + header.length as u64 > len {
+        return Err(Fault::ExtensionsExceed);
+    }
+    Ok(header)
+}
+
+// Refuses texts of one kind that differ, and features that aren't known here.
+fn check_extensions(base: &V3HeaderBase, extensions: &[HeaderExtension]) -> Result<(), Fault>
+    ensures exact { result
+        ≡ provided (last_conditions base.now (map extension_of extensions.now)) (λ _. Ok tt) }
+    ensures faults { IfErr result IsHeaderFault }
+{
+    if !same_names(extensions, HeaderExtensionType::BackingFileFormat) {
+        return Err(Fault::FormatConflict);
+    }
+    if !same_names(extensions, HeaderExtensionType::ExternalDataFileName) {
+        return Err(Fault::DataFileConflict);
+    }
+    let external = base.incompatible_features >> 2 & 1;
+    let others = base.incompatible_features - (external << 2);
+    if others != 0 {
+        return Err(Fault::Incompatible(others));
+    }
+    Ok(())
+}
