@@ -1,5 +1,8 @@
-use Rattle.std.proofs.Common.{◌≡◌, ℕ, suc, ◌+◌, ◌<◌, List, [], ◌∷◌, length, map, slice_index, refl, add-zero, arith}
+use Rattle.std.proofs.Common.{◌≡◌, ℕ, suc, ◌+◌, ◌<◌, List, [], ◌∷◌, drop, get_or, length, map, min, slice_index, ◌-◌, ◌*◌, ap, sym, ◌∙◌, refl, add-zero, arith}
 use Rattle.std.specs.List.{range_with_len}
+use Rattle.std.proofs.lemmas.List.{get_or-drop, get_or-take, length-drop, length-take}
+use Rattle.std.proofs.lemmas.List.FromFn.{fill_by_all, get_or-map-range_with_len, length-map-range_with_len}
+use Rattle.qcow2_metadata.specs.Header.Extensions.{chunk_at}
 use Rattle.qcow2_base.specs.Storage.{Holds, Image}
 use Rattle.qcow2_metadata.specs.Range.{bytes_at}
 
@@ -17,3 +20,24 @@ list_by_index f (byte ∷ bytes) n same =
 pub held-bytes_at : (image : Image) (offset : ℕ) (bytes : List ℕ) → Holds image offset bytes → bytes ≡ bytes_at image offset (length bytes)
 held-bytes_at image offset bytes held =
     list_by_index (λ i. image (offset + i)) bytes 0 (λ i below. let same : 0 + i ≡ i = omega arith in rw same (held.each i below))
+
+-- so many bytes are as many
+pub length-bytes_at : (image : Image) (place len : ℕ) → length (bytes_at image place len) ≡ len
+length-bytes_at image place len = length-map-range_with_len (λ i. image (place + i)) 0 len
+
+-- a chunk that was read is that of all bytes
+pub chunk_at-held : (image : Image) (place len index : ℕ) (read : List ℕ) → Holds image (place + 48 * index) read
+    → length read ≡ min 48 (len - 48 * index) → chunk_at (bytes_at image place len) index ≡ read
+chunk_at-held image place len index read held count =
+    let all = bytes_at image place len in
+    let first : ℕ = 48 * index in
+    let same : length (chunk_at all index) ≡ length read =
+    omega (arith, length-take 48 (drop first all), length-drop first all, length-bytes_at image place len, count) in
+    let each : (k : ℕ) → k < length read → get_or (chunk_at all index) k 0 ≡ image (place + first + k) = λ k below.
+    let here : place + (first + k) ≡ place + first + k = omega arith in
+    let inside : first + k < len = omega (arith, count, below) in
+    get_or-take 48 (drop first all) k 0 (omega (arith, count, below)) ∙ get_or-drop first all k 0
+    ∙ get_or-map-range_with_len (λ i. image (place + i)) 0 len (first + k) (first + k) 0 inside (omega arith) ∙ ap image here
+    in
+    fill_by_all (λ k. image (place + first + k)) (chunk_at all index) (length read) 0 same each
+    ∙ sym (held-bytes_at image (place + first) read held)

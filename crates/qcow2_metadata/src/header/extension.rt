@@ -1,13 +1,14 @@
 //! Header extensions: what stands behind the fields of a version 3 header.
 
-ghost use Rattle.std.specs.Prelude.{◌≡◌, ◌≢◌, ◌⊎◌, IfErr, IfOk, OnOk, option_map, string_bytes};
+ghost use Rattle.std.specs.Prelude.{◌≡◌, ◌≢◌, ◌⊎◌, IfErr, IfOk, IsOkUnless, OnOk, option_map, string_bytes};
 ghost use Rattle.std.specs.BTreeMap.{insert_entry};
 ghost use Rattle.std.specs.Str.Lossy.{utf8_lossy};
 ghost use Rattle.qcow2_base.specs.declared.fault.Fault.TheVariants.{ExtensionText, FeatureNameCut, NoMemory};
 ghost use Rattle.qcow2_metadata.specs.Answers.{Computes, result_map};
 ghost use Rattle.qcow2_metadata.specs.Header.{IsKept, feature_name_in, known_names, name_in};
-ghost use Rattle.qcow2_metadata.specs.Header.Extensions.{extension_number, extension_of, feature_names, key_cmp, names_of, parsed, text, until_zero, with_feature_name};
+ghost use Rattle.qcow2_metadata.specs.Header.Extensions.{extension_number, extension_of, key_cmp, names_of, parsed, text, until_zero, with_feature_name};
 ghost use Rattle.qcow2_metadata.specs.Header.Features.{HasNumber};
+ghost use Rattle.qcow2_metadata.specs.declared.header.extension.HeaderExtensionType.TheVariants as kind;
 
 use super::{FeatureType, UnknownValue};
 use bstr::ByteSlice;
@@ -16,7 +17,7 @@ use std::alloc::{AllocError, Global};
 use std::collections::BTreeMap;
 
 /// How many bytes each name takes in a feature name table, with its type and its bit.
-const FEATURE_NAME_BYTES: usize = 48;
+pub(super) const FEATURE_NAME_BYTES: usize = 48;
 
 /// What the data of a header extension is, by the number that stands before it.
 #[derive(Clone, Copy, Debug, PartialEq, Eq)]
@@ -155,42 +156,26 @@ fn set_name(
     Ok(())
 }
 
-// The extension of a type that isn't End, with these bytes of data.
-pub(super) fn parse(
-    alloc: Global,
-    extension_type: u32,
-    bytes: Vec<u8>,
-) -> Result<HeaderExtension, Fault>
-    requires { extension_type ≢ 0 }
-    ensures exact { Computes extension_of result (parsed extension_type bytes.items) }
+// The extension of a type that is neither End nor a feature name table, with these bytes of data.
+pub(super) fn parse(extension_type: u32, bytes: Vec<u8>) -> Result<HeaderExtension, Fault>
+    requires end { extension_type ≢ extension_number kind.End }
+    requires names { extension_type ≢ extension_number kind.FeatureNameTable }
+    ensures exact { result_map extension_of result ≡ parsed extension_type bytes.items }
     ensures kept { IfOk result (λ extension. IsKept (extension_of extension)) }
-    ensures faults { IfErr result (λ fault.
-        (fault ≡ ExtensionText) ⊎ (fault ≡ FeatureNameCut) ⊎ (fault ≡ NoMemory)) }
+    ensures faults { IsOkUnless result ExtensionText }
 {
-    let Ok(known_type) = HeaderExtensionType::try_from(extension_type) else {
-        return Ok(HeaderExtension::Unknown {
-            extension_type,
-            content: bytes,
-        });
-    };
-    match known_type {
-        HeaderExtensionType::End => Ok(HeaderExtension::Unknown {
-            extension_type,
-            content: bytes,
-        }),
-        HeaderExtensionType::BackingFileFormat => {
-            let format = parse_text(bytes, Fault::ExtensionText)?;
-            Ok(HeaderExtension::BackingFileFormat(format))
-        }
-        HeaderExtensionType::FeatureNameTable => {
-            let names = parse_feature_names(alloc, &bytes)?;
-            Ok(HeaderExtension::FeatureNameTable(names))
-        }
-        HeaderExtensionType::ExternalDataFileName => {
-            let name = parse_text(bytes, Fault::ExtensionText)?;
-            Ok(HeaderExtension::ExternalDataFileName(name))
-        }
+    if extension_type == HeaderExtensionType::BackingFileFormat as u32 {
+        let format = parse_text(bytes, Fault::ExtensionText)?;
+        return Ok(HeaderExtension::BackingFileFormat(format));
     }
+    if extension_type == HeaderExtensionType::ExternalDataFileName as u32 {
+        let name = parse_text(bytes, Fault::ExtensionText)?;
+        return Ok(HeaderExtension::ExternalDataFileName(name));
+    }
+    Ok(HeaderExtension::Unknown {
+        extension_type,
+        content: bytes,
+    })
 }
 
 // The text that the bytes are, or the fault where they are none.
@@ -203,25 +188,8 @@ pub(super) fn parse_text(bytes: Vec<u8>, fault: Fault) -> Result<String, Fault>
     }
 }
 
-// The names of a feature name table.
-fn parse_feature_names(
-    alloc: Global,
-    bytes: &[u8],
-) -> Result<BTreeMap<(FeatureType, u8), String>, Fault>
-    ensures exact { Computes names_of result (feature_names bytes.now) }
-    ensures faults { IfErr result (λ fault. (fault ≡ FeatureNameCut) ⊎ (fault ≡ NoMemory)) }
-{
-    let mut names = BTreeMap::new(alloc);
-    for index in 0..bytes.len().div_ceil(FEATURE_NAME_BYTES) {
-        let rest = &bytes[FEATURE_NAME_BYTES * index..];
-        let chunk = &rest[..FEATURE_NAME_BYTES.min(rest.len())];
-        add_feature_name(alloc, &mut names, chunk)?;
-    }
-    Ok(names)
-}
-
 // Puts the name of a chunk of a feature name table into the names.
-fn add_feature_name(
+pub(super) fn add_feature_name(
     alloc: Global,
     names: &mut BTreeMap<(FeatureType, u8), String>,
     chunk: &[u8],

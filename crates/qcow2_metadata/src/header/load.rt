@@ -1,18 +1,20 @@
 //! Loading a header: the first cluster of an image, looked at where the header says, in its order.
 
-ghost use Rattle.std.specs.Prelude.{All, ◌≡◌, ◌⊎◌, ◌+◌, ◌^◌, ◌≤◌, nat_le, [], ◌∷◌, false, IfErr, IfOk, IfSome, IsTrue, Ok, length, map, option_map, string_bytes};
+ghost use Rattle.std.specs.Prelude.{All, ◌≡◌, ◌≢◌, ◌⊎◌, ◌+◌, ◌^◌, ◌≤◌, nat_le, [], ◌∷◌, false, IfErr, IfOk, IfSome, IsTrue, Ok, length, map, option_map, string_bytes};
 ghost use Rattle.qcow2_base.specs.Storage.{Image, OnlyReads};
 ghost use Rattle.qcow2_base.specs.Types.{IsClusterBits};
 ghost use Rattle.qcow2_metadata.specs.Answers.{Answers, provided};
 ghost use Rattle.qcow2_metadata.specs.Header.{IsKept};
 ghost use Rattle.qcow2_metadata.specs.Header.Chain.{end_of, extension_at, extension_header_at, extensions_at, link_at};
-ghost use Rattle.qcow2_metadata.specs.Header.Extensions.{extension_of};
+ghost use Rattle.qcow2_metadata.specs.Header.Extensions.{extension_of, feature_names, names_of, parsed};
 ghost use Rattle.qcow2_metadata.specs.Header.Grammar.{AreLawfulParts, FollowsGrammar, IsHeaderFault, SameFirstCluster, backing_name, field_conditions, fixed_parts, header_extensions, header_of, last_conditions, version_conditions};
 ghost use Rattle.qcow2_metadata.specs.Range.{bytes_at};
 ghost use Rattle.qcow2_metadata.specs.ReadAhead.{ReadsThrough};
 
-use super::extension::{HeaderExtension, HeaderExtensionType, parse, parse_text};
-use super::{Header, first_name, same_names};
+use super::extension::{
+    FEATURE_NAME_BYTES, HeaderExtension, HeaderExtensionType, add_feature_name, parse, parse_text,
+};
+use super::{FeatureType, Header, same_names};
 use crate::range::read_range;
 use crate::read_ahead::ReadAhead;
 use qcow2_base::{
@@ -20,6 +22,7 @@ use qcow2_base::{
     read_be,
 };
 use std::alloc::Global;
+use std::collections::BTreeMap;
 
 /// "QFI", and a byte that is no text.
 pub(super) const MAGIC: u32 = 0x514649fb;
@@ -286,10 +289,58 @@ fn read_extension<S: Storage>(
     if header.extension_type == HeaderExtensionType::End as u32 {
         return Ok(None);
     }
-    let bytes = read_bytes(alloc, image, place + 8, header.length as usize)?;
-    let extension = parse(alloc, header.extension_type, bytes)?;
+    let extension = read_data(alloc, image, place + 8, &header)?;
     let next = place + 8 + (header.length as u64).next_multiple_of(8);
     Ok(Some((extension, next)))
+}
+
+// The extension that isn't End whose data begins at a place.
+fn read_data<S: Storage>(
+    alloc: Global,
+    image: &mut ReadAhead<S>,
+    place: u64,
+    header: &HeaderExtensionHeader,
+) -> Result<HeaderExtension, Fault>
+    requires end { header.now.extension_type ≢ 0 }
+    requires within { place + header.now.length ≤ 2 ^ 56 }
+    ensures exact { IsTrue (S.state image.old.image.now).tells → Answers extension_of result
+        (parsed header.now.extension_type
+        (bytes_at (S.state image.old.image.now).byte_at place header.now.length)) }
+    ensures kept { IfOk result (λ extension. IsKept (extension_of extension)) }
+    ensures faults { IfErr result IsHeaderFault }
+    ensures storage { ReadsThrough S.state result image.old image.new }
+{
+    let len = header.length as usize;
+    if header.extension_type == HeaderExtensionType::FeatureNameTable as u32 {
+        let names = read_feature_names(alloc, image, place, len)?;
+        return Ok(HeaderExtension::FeatureNameTable(names));
+    }
+    let bytes = read_bytes(alloc, image, place, len)?;
+    parse(header.extension_type, bytes)
+}
+
+// The names of a feature name table that begins at a place and has so many bytes.
+fn read_feature_names<S: Storage>(
+    alloc: Global,
+    image: &mut ReadAhead<S>,
+    place: u64,
+    len: usize,
+) -> Result<BTreeMap<(FeatureType, u8), String>, Fault>
+    requires { place + len ≤ 2 ^ 56 }
+    ensures exact { IsTrue (S.state image.old.image.now).tells → Answers names_of result
+        (feature_names (bytes_at (S.state image.old.image.now).byte_at place len)) }
+    ensures faults { IfErr result IsHeaderFault }
+    ensures storage { ReadsThrough S.state result image.old image.new }
+{
+    let mut names = BTreeMap::new(alloc);
+    let mut buffer = [0u8; FEATURE_NAME_BYTES];
+    for index in 0..len.div_ceil(FEATURE_NAME_BYTES) {
+        let first = FEATURE_NAME_BYTES * index;
+        let chunk = &mut buffer[..FEATURE_NAME_BYTES.min(len - first)];
+        image.read_range(HostOffset(place + first as u64), chunk)?;
+        add_feature_name(alloc, &mut names, chunk)?;
+    }
+    Ok(names)
 }
 
 // The type and the length of the extension at a place. It ends within so many bytes.
