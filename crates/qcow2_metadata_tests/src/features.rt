@@ -29,7 +29,7 @@ fn a_feature_has_the_number_of_its_bit_and_the_key_of_its_field(
         (16, IncompatibleFeatures::ExtendedL2Entries, 4),
     ] {
         is_feature(number, feature, (FeatureType::Incompatible, bit))?;
-        same(feature as u64, number, feature)?;
+        same(u64::from(feature), number, feature)?;
     }
     let (bitmaps, raw) = (
         AutoclearFeatures::Bitmaps,
@@ -39,7 +39,7 @@ fn a_feature_has_the_number_of_its_bit_and_the_key_of_its_field(
     is_feature(2, raw, (FeatureType::Autoclear, 1))?;
     let lazy = CompatibleFeatures::LazyRefcounts;
     is_feature(1, lazy, (FeatureType::Compatible, 0))?;
-    let numbers = [bitmaps as u64, raw as u64, lazy as u64];
+    let numbers = [u64::from(bitmaps), u64::from(raw), u64::from(lazy)];
     same(numbers, [1, 2, 1], "numbers")
 }
 
@@ -105,7 +105,7 @@ fn the_fields_of_features_are_0_to_2_in_their_order(rt: HostRuntime) -> Result<(
             number,
         )?;
     }
-    same(fields.map(|field| field as u8), [0, 1, 2], "numbers")?;
+    same(fields.map(u8::from), [0, 1, 2], "numbers")?;
     holds(fields[0] < fields[1] && fields[1] < fields[2], fields)?;
     same_text(
         rt.alloc(),
@@ -130,7 +130,7 @@ fn an_extension_of_another_number_is_of_no_known_type(_rt: HostRuntime) -> Resul
     ] {
         same(HeaderExtensionType::try_from(number), expected, number)?;
         if let Ok(extension_type) = expected {
-            same(extension_type as u32, number, number)?;
+            same(u32::from(extension_type), number, number)?;
         }
     }
     Ok(())

@@ -48,6 +48,15 @@ impl TryFrom<u32> for HeaderExtensionType {
     }
 }
 
+/// The number that stands before the extension's data.
+impl From<HeaderExtensionType> for u32 {
+    ghost from_gives = { λ value number. number ≡ extension_number value };
+
+    fn from(value: HeaderExtensionType) -> u32 {
+        value as u32
+    }
+}
+
 /// A header extension.
 #[derive(Debug, Drop)]
 pub enum HeaderExtension {

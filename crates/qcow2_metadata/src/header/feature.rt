@@ -38,6 +38,15 @@ impl TryFrom<u8> for FeatureType {
     }
 }
 
+/// The field's number.
+impl From<FeatureType> for u8 {
+    ghost from_gives = { λ value number. number ≡ feature_type_number value };
+
+    fn from(value: FeatureType) -> u8 {
+        value as u8
+    }
+}
+
 /// Incompatible features, by their bits' numbers.
 #[derive(Clone, Copy, Debug, PartialEq, Eq)]
 pub enum IncompatibleFeatures {
@@ -68,6 +77,15 @@ impl TryFrom<u64> for IncompatibleFeatures {
             16 => Ok(IncompatibleFeatures::ExtendedL2Entries),
             _ => Err(UnknownValue),
         }
+    }
+}
+
+/// The number of the feature's bit.
+impl From<IncompatibleFeatures> for u64 {
+    ghost from_gives = { λ value number. number ≡ 2 ^ incompatible_bit value };
+
+    fn from(value: IncompatibleFeatures) -> u64 {
+        value as u64
     }
 }
 
@@ -108,6 +126,15 @@ impl TryFrom<u64> for CompatibleFeatures {
     }
 }
 
+/// The number of the feature's bit.
+impl From<CompatibleFeatures> for u64 {
+    ghost from_gives = { λ value number. number ≡ 2 ^ compatible_bit value };
+
+    fn from(value: CompatibleFeatures) -> u64 {
+        value as u64
+    }
+}
+
 /// The feature's key in feature name tables.
 impl From<CompatibleFeatures> for (FeatureType, u8) {
     ghost from_gives = { λ feature key. key ≡ (Compatible, compatible_bit feature) };
@@ -140,6 +167,15 @@ impl TryFrom<u64> for AutoclearFeatures {
             2 => Ok(AutoclearFeatures::RawExternalData),
             _ => Err(UnknownValue),
         }
+    }
+}
+
+/// The number of the feature's bit.
+impl From<AutoclearFeatures> for u64 {
+    ghost from_gives = { λ value number. number ≡ 2 ^ autoclear_bit value };
+
+    fn from(value: AutoclearFeatures) -> u64 {
+        value as u64
     }
 }
 
