@@ -122,7 +122,6 @@ AreSame-all_same (first ∷ names) same =
     let here : IsAmong (first ∷ names) first = (zero, (omega arith, refl)) in
     first_are first names (λ a among. same first a here (among_more first names a among))
 
--- the fields at the head of an image
 -- an image has the first part that is read at its head
 pub v2_at-holds : (image : Image) → HoldsLayout image (v2_header (v2_at image))
 v2_at-holds image =

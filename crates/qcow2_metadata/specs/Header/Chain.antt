@@ -30,12 +30,12 @@ end_of link = link.place + 8 + link.size
 abbrev pub next_place : Link → ℕ
 next_place link = link.place + 8 + next_multiple_of link.size 8
 
--- what an extension that isn't End says
+-- what an extension that isn't End says: its data as its type reads it, or the fault of data that it can't have
 abbrev pub said : Image → Link → Result Extension Fault
 said image link = parsed link.number (bytes_at image (link.place + 8) link.size)
 
 -- the extensions from a place on, each the next one of the one before, up to a last one: all before it end
--- within so many bytes, aren't End, and say something
+-- within so many bytes, aren't End, and have data that their types can read
 abbrev pub IsChain : Image → ℕ → ℕ → List Link → Link → Type 0
 IsChain image len place [] last = last ≡ link_at image place
 IsChain image len place (link ∷ links) last =
@@ -47,7 +47,7 @@ pub record IsEnd (len : ℕ) (last : Link) : Type 0 where
   pub bounded : end_of last ≤ len
   pub end : last.number ≡ 0
 
--- the chain is broken: its last extension ends past so many bytes, or isn't End and says nothing
+-- the chain is broken: its last extension ends past so many bytes, or has data that its type can't read
 abbrev pub IsBroken : Image → ℕ → Link → Fault → Type 0
 IsBroken image len last fault =
     ((len < end_of last) × (fault ≡ ExtensionsExceed))
