@@ -3,6 +3,7 @@ pub mod Extensions
 pub mod Features
 pub mod Grammar
 pub mod Pointers
+pub mod Text
 use Rattle.std.specs.Prelude.{◌≡◌, ◌≢◌, ◌⊎◌, ⊤, All, ℕ, Bool, true, nat_eq, ◌==◌, ◌+◌, ◌-◌, ◌*◌, ◌%◌, ◌^◌, ◌≤◌, List, [], ◌∷◌, ◌++◌, map, codes, Option, Some, None, is_some, if◌then◌else◌, option_to_list, slice_get}
 use Rattle.std.specs.Cmp.Lexicographic.{pointwise}
 use Rattle.std.specs.List.{list_all}
@@ -26,6 +27,10 @@ pub record HeaderRecord : Type 0 where
   pub unknown_header_fields : List ℕ
   pub backing_filename : Option (List ℕ)
   pub extensions : List Extension
+
+-- "QFI", and a byte that is no text
+abbrev pub magic : ℕ
+magic = 0x514649fb
 
 -- the second part of an image of version 2
 abbrev pub default_base : V3HeaderBase
@@ -92,7 +97,7 @@ known_names =
 abbrev pub new_header : ℕ → ℕ → Option (List ℕ) → Option (List ℕ) → Option (List ℕ) → HeaderRecord
 new_header cluster_bits refcount_order backing_filename backing_format data_file = record {
   v2 = record {
-    magic = 0x514649fb;
+    magic = magic;
     version = 3;
     backing_file_offset = 0;
     backing_file_size = 0;
@@ -127,6 +132,7 @@ IsKept _ = ⊤
 
 -- what holds of every header, whether it was made or loaded. Its texts are UTF-8, as all text is
 pub record IsLawfulHeader (header : HeaderRecord) : Type 0 where
+  pub magic : header.v2.magic ≡ magic
   pub version : (header.v2.version ≡ 2) ⊎ (header.v2.version ≡ 3)
   pub cluster_bits : IsClusterBits header.v2.cluster_bits
   pub refcount_order : header.base.refcount_order ≤ 6

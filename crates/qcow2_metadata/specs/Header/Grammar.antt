@@ -10,15 +10,11 @@ use Rattle.qcow2_base.specs.declared.fault.Fault.TheVariants.{NotQcow2, Version,
 use Rattle.qcow2_base.specs.declared.on_disk_struct.v2_header.V2Header.{V2Header}
 use Rattle.qcow2_base.specs.declared.on_disk_struct.v3_header_base.V3HeaderBase.{V3HeaderBase}
 use Rattle.qcow2_metadata.specs.Answers.{and_then, provided, result_map}
-use Rattle.qcow2_metadata.specs.Header.{HeaderRecord, all_same, default_base, name_in, names_by, other_features}
+use Rattle.qcow2_metadata.specs.Header.{HeaderRecord, all_same, default_base, magic, name_in, names_by, other_features}
 use Rattle.qcow2_metadata.specs.Header.Chain.{SaysExtensions, extensions_at}
 use Rattle.qcow2_metadata.specs.Header.Extensions.{Extension, text}
 use Rattle.qcow2_metadata.specs.Range.{bytes_at}
 use Rattle.qcow2_metadata.specs.declared.header.extension.HeaderExtensionType.TheVariants as kind
-
--- "QFI", and a byte that is no text
-abbrev pub magic : ℕ
-magic = 0x514649fb
 
 -- the part of a header that each version has
 abbrev pub v2_at : Image → V2Header
@@ -170,6 +166,7 @@ SameFirstCluster image other = (o : ℕ) → o < max 512 (2 ^ be image 20 4) →
 
 -- what holds of the fixed parts of every header
 pub record AreLawfulParts (v2 : V2Header) (base : V3HeaderBase) : Type 0 where
+  pub magic : v2.magic ≡ magic
   pub version : (v2.version ≡ 2) ⊎ (v2.version ≡ 3)
   pub cluster_bits : IsClusterBits v2.cluster_bits
   pub header_length : (104 ≤ base.header_length) × (base.header_length ≤ 2 ^ v2.cluster_bits)

@@ -8,6 +8,7 @@ invariant_of-self c =
     let bits : c.self.inside.v2.cluster_bits ≡ c.args.self.now.v2.cluster_bits =
     ap (λ (header : HeaderRecord). header.v2.cluster_bits) c.self.view_is in
     record {
+      magic = old.magic;
       version = old.version;
       cluster_bits = old.cluster_bits;
       refcount_order = old.refcount_order;

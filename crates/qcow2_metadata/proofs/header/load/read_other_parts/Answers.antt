@@ -98,6 +98,7 @@ invariant_of-result g c =
     let checked = rw c.deref.ensures.value at c.in_ok-check_extensions.ensures.exact in
     let hold = (provided-ok (last_conditions base extensions) (λ _. Ok (tt {0})) (tt {0}) (sym checked)).0 in
     record {
+      magic = lawful.magic;
       version = lawful.version;
       cluster_bits = lawful.cluster_bits;
       refcount_order = lawful.refcount_order;

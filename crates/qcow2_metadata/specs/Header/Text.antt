@@ -1,0 +1,154 @@
+use Rattle.std.specs.Prelude.{◌≡◌, ℕ, ◌+◌, ◌-◌, ◌^◌, ◌==◌, nat_le, Bool, true, false, List, [], ◌∷◌, ◌++◌, length, map, take, replicate, Option, Some, None, Result, Ok, Err}
+use Rattle.std.specs.Int.{bytes_high_first, next_multiple_of}
+use Rattle.std.specs.List.{filter, flat_map}
+use Rattle.std.specs.Str.Lossy.{utf8_lossy}
+use Rattle.qcow2_base.specs.OnDiskStruct.{LayoutField, header_extension_header, v2_header, v3_header_base}
+use Rattle.qcow2_base.specs.declared.fault.Fault.{Fault}
+use Rattle.qcow2_base.specs.declared.fault.Fault.TheVariants.{HeaderTooLong, NameTooLong}
+use Rattle.qcow2_base.specs.declared.on_disk_struct.header_extension_header.HeaderExtensionHeader.{HeaderExtensionHeader}
+use Rattle.qcow2_base.specs.declared.on_disk_struct.v2_header.V2Header.{V2Header}
+use Rattle.qcow2_base.specs.declared.on_disk_struct.v3_header_base.V3HeaderBase.{V3HeaderBase}
+use Rattle.qcow2_metadata.specs.Answers.{provided}
+use Rattle.qcow2_metadata.specs.Header.{HeaderRecord}
+use Rattle.qcow2_metadata.specs.Header.Extensions.{BackingFileFormat, Extension, ExternalDataFileName, FeatureKey, FeatureNameTable, Unknown, extension_number, until_zero}
+use Rattle.qcow2_metadata.specs.Header.Features.{feature_type_number}
+use Rattle.qcow2_metadata.specs.declared.header.extension.HeaderExtensionType.TheVariants as kind
+
+-- the bytes of fields that follow one another, the most significant one of each first
+abbrev pub fields_text : List LayoutField → List ℕ
+fields_text fields = flat_map (λ f. bytes_high_first f.size f.value) fields
+
+-- the bytes, and zeros up to a multiple of 8 of them
+abbrev pub padded : List ℕ → List ℕ
+padded bytes = bytes ++ replicate (next_multiple_of (length bytes) 8 - length bytes) 0
+
+-- a feature's name in 48 bytes: its type, its bit, the first 46 bytes of the name, and zeros
+abbrev pub name_chunk : FeatureKey × List ℕ → List ℕ
+name_chunk named = feature_type_number named.0.0 ∷ named.0.1 ∷ take 46 named.1 ++ replicate (46 - length named.1) 0
+
+-- the number of an extension's type
+abbrev pub number_of : Extension → ℕ
+number_of (BackingFileFormat name) = extension_number kind.BackingFileFormat
+number_of (FeatureNameTable names) = extension_number kind.FeatureNameTable
+number_of (ExternalDataFileName name) = extension_number kind.ExternalDataFileName
+number_of (Unknown number content) = number
+
+-- the data of an extension
+abbrev pub data_of : Extension → List ℕ
+data_of (BackingFileFormat name) = name
+data_of (FeatureNameTable names) = flat_map name_chunk names
+data_of (ExternalDataFileName name) = name
+data_of (Unknown number content) = content
+
+-- what stands before its data
+abbrev pub extension_header_of : Extension → HeaderExtensionHeader
+extension_header_of extension = record { extension_type = number_of extension; length = length (data_of extension) }
+
+-- an extension in the image: its type, its length, and its data with the padding
+abbrev pub extension_text : Extension → List ℕ
+extension_text extension = fields_text (header_extension_header (extension_header_of extension)) ++ padded (data_of extension)
+
+-- the extensions one after another, and End, which is eight zero bytes
+abbrev pub extensions_text : List Extension → List ℕ
+extensions_text extensions = flat_map extension_text extensions ++ replicate 8 0
+
+-- where the extensions begin: behind the first part, and in version 3 behind the second one and the padded
+-- unknown fields
+abbrev pub header_end : HeaderRecord → ℕ
+header_end header = elim (header.v2.version == 3) [
+  | true ↦ 104 + length (padded header.unknown_header_fields)
+  | false ↦ 72
+]
+
+-- where the backing file's name begins: right behind the extensions
+abbrev pub name_place : HeaderRecord → ℕ
+name_place header = header_end header + length (extensions_text header.extensions)
+
+-- the first part with the place and the length of the backing file's name, 0 and 0 where there is none
+abbrev pub placed_v2 : HeaderRecord → V2Header
+placed_v2 header = elim header.backing_filename [
+  | None ↦ record header.v2 { backing_file_offset = 0; backing_file_size = 0 }
+  | Some name ↦ record header.v2 { backing_file_offset = name_place header; backing_file_size = length name }
+]
+
+-- the second part with the header's length; version 2 has none that is written
+abbrev pub placed_base : HeaderRecord → V3HeaderBase
+placed_base header = elim (header.v2.version == 3) [
+  | true ↦ record header.base { header_length = header_end header }
+  | false ↦ header.base
+]
+
+-- the header with the places that its text has
+abbrev pub placed : HeaderRecord → HeaderRecord
+placed header = record header { v2 = placed_v2 header; base = placed_base header }
+
+-- what stands before the extensions
+abbrev pub parts_text : HeaderRecord → List ℕ
+parts_text header = elim (header.v2.version == 3) [
+  | true ↦ fields_text (v2_header (placed_v2 header)) ++ fields_text (v3_header_base (placed_base header))
+      ++ padded header.unknown_header_fields
+  | false ↦ fields_text (v2_header (placed_v2 header))
+]
+
+-- the bytes of a header: its parts, the extensions, and the backing file's name, with nothing behind it
+unfoldable pub header_text : HeaderRecord → List ℕ
+header_text header = parts_text header ++ extensions_text header.extensions
+    ++ elim header.backing_filename [ None ↦ [] | Some name ↦ name ]
+
+-- whether an extension is other than a table of feature names
+abbrev pub is_other : Extension → Bool
+is_other (FeatureNameTable names) = false
+is_other _ = true
+
+-- the header with no table of feature names
+abbrev pub bare : HeaderRecord → HeaderRecord
+bare header = record header { extensions = filter is_other header.extensions }
+
+-- whether its text fits the first cluster
+abbrev pub fits : HeaderRecord → Bool
+fits header = nat_le (length (header_text header)) (2 ^ header.v2.cluster_bits)
+
+-- whether the backing file's name is one that an image can have
+abbrev pub is_short : Option (List ℕ) → Bool
+is_short None = true
+is_short (Some name) = nat_le (length name) 1023
+
+-- the header as a write leaves it: with the places of its text, and where that doesn't fit, without feature
+-- names; or why it can't be written
+unfoldable pub kept : HeaderRecord → Result HeaderRecord Fault
+kept header =
+    provided ((is_short header.backing_filename, NameTooLong) ∷ []) (λ _.
+    elim (fits header) [
+      | true ↦ Ok (placed header)
+      | false ↦ provided ((fits (bare header), HeaderTooLong) ∷ []) (λ _. Ok (placed (bare header)))
+    ])
+
+-- the bytes that a write places; none where it is refused
+abbrev pub chosen_text : HeaderRecord → List ℕ
+chosen_text header = elim (kept header) [ Ok written ↦ header_text written | Err fault ↦ [] ]
+
+-- what a name of a feature reads back as: the text of its first 46 bytes, up to the first zero byte
+abbrev pub normal_name : List ℕ → List ℕ
+normal_name name = utf8_lossy (until_zero (take 46 name))
+
+-- what an extension reads back as
+abbrev pub normal_extension : Extension → Extension
+normal_extension (FeatureNameTable names) = FeatureNameTable (map (λ named. (named.0, normal_name named.1)) names)
+normal_extension (BackingFileFormat name) = BackingFileFormat name
+normal_extension (ExternalDataFileName name) = ExternalDataFileName name
+normal_extension (Unknown number content) = Unknown number content
+
+-- what a header that was written reads back as: the unknown fields have their padding, which version 2 has
+-- not, and the names of features are those that the image has
+abbrev pub normal : HeaderRecord → HeaderRecord
+normal header = record header {
+  unknown_header_fields = padded header.unknown_header_fields;
+  extensions = map normal_extension header.extensions;
+}
+
+-- a header that was written stays as it is: to write it again places the same bytes, and so does what it reads
+-- back as, which reads back as itself
+pub record IsSettled (header : HeaderRecord) : Type 0 where
+  pub again : kept header ≡ Ok header
+  pub normal_again : kept (normal header) ≡ Ok (normal header)
+  pub normal_once : normal (normal header) ≡ normal header
