@@ -8,6 +8,7 @@ pub mod EntriesLemmas
 pub mod ExtensionsLemmas
 pub mod GrammarLemmas
 pub mod HeaderLemmas
+pub mod LayoutLemmas
 pub mod LoadLemmas
 pub mod PieceLemmas
 pub mod PointerLemmas

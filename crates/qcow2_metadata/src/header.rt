@@ -9,6 +9,7 @@ mod extension;
 mod feature;
 mod load;
 mod pointers;
+mod text;
 
 use extension::known_names;
 pub use extension::{HeaderExtension, HeaderExtensionType};

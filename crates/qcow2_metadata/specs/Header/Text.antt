@@ -1,8 +1,9 @@
-use Rattle.std.specs.Prelude.{◌≡◌, ℕ, ◌+◌, ◌-◌, ◌^◌, ◌==◌, nat_le, Bool, true, false, List, [], ◌∷◌, ◌++◌, length, map, take, replicate, Option, Some, None, Result, Ok, Err}
+use Rattle.std.specs.Prelude.{◌≡◌, ℕ, ◌+◌, ◌-◌, ◌^◌, ◌==◌, nat_le, ◌||◌, Bool, true, false, if◌then◌else◌, List, [], ◌∷◌, ◌++◌, length, map, take, replicate, Option, Some, None, Result, Ok, Err}
 use Rattle.std.specs.Int.{bytes_high_first, next_multiple_of}
 use Rattle.std.specs.List.{filter, flat_map}
 use Rattle.std.specs.Str.Lossy.{utf8_lossy}
 use Rattle.qcow2_base.specs.OnDiskStruct.{LayoutField, header_extension_header, v2_header, v3_header_base}
+use Rattle.qcow2_base.specs.Storage.{Holds, Image}
 use Rattle.qcow2_base.specs.declared.fault.Fault.{Fault}
 use Rattle.qcow2_base.specs.declared.fault.Fault.TheVariants.{HeaderTooLong, NameTooLong}
 use Rattle.qcow2_base.specs.declared.on_disk_struct.header_extension_header.HeaderExtensionHeader.{HeaderExtensionHeader}
@@ -12,6 +13,8 @@ use Rattle.qcow2_metadata.specs.Answers.{provided}
 use Rattle.qcow2_metadata.specs.Header.{HeaderRecord}
 use Rattle.qcow2_metadata.specs.Header.Extensions.{BackingFileFormat, Extension, ExternalDataFileName, FeatureKey, FeatureNameTable, Unknown, extension_number, until_zero}
 use Rattle.qcow2_metadata.specs.Header.Features.{feature_type_number}
+use Rattle.qcow2_metadata.specs.Header.Grammar.{IsHeader}
+use Rattle.qcow2_metadata.specs.declared.header.text.Layout.{Layout}
 use Rattle.qcow2_metadata.specs.declared.header.extension.HeaderExtensionType.TheVariants as kind
 
 -- the bytes of fields that follow one another, the most significant one of each first
@@ -104,6 +107,20 @@ is_other _ = true
 abbrev pub bare : HeaderRecord → HeaderRecord
 bare header = record header { extensions = filter is_other header.extensions }
 
+-- the extensions that are written: all, or those other than tables of feature names
+abbrev pub chosen_extensions : Bool → List Extension → List Extension
+chosen_extensions true extensions = extensions
+chosen_extensions false extensions = filter is_other extensions
+
+-- what is written of one: its text, or nothing of a table of feature names that is left out
+abbrev pub written_text : Bool → Extension → List ℕ
+written_text with_names extension = if with_names || is_other extension then extension_text extension else []
+
+-- the header that is written: the whole one, or that without feature names
+abbrev pub chosen : Bool → HeaderRecord → HeaderRecord
+chosen true header = header
+chosen false header = bare header
+
 -- whether its text fits the first cluster
 abbrev pub fits : HeaderRecord → Bool
 fits header = nat_le (length (header_text header)) (2 ^ header.v2.cluster_bits)
@@ -145,6 +162,19 @@ normal header = record header {
   unknown_header_fields = padded header.unknown_header_fields;
   extensions = map normal_extension header.extensions;
 }
+
+-- where the parts of a header's text lie: where the extensions begin, where the backing file's name begins, and
+-- how many bytes there are, which fit the first cluster
+pub record IsLayout (header : HeaderRecord) (layout : Layout) : Type 0 where
+  pub header_end : layout.header_end ≡ header_end header
+  pub name_place : layout.name_place ≡ name_place header
+  pub len : layout.len ≡ length (header_text header)
+  pub fits : fits header ≡ true
+
+-- a header that was written: its text stands at the image's start, and is read back as the normal form
+pub record IsWritten (image : Image) (header : HeaderRecord) : Type 0 where
+  pub text : Holds image 0 (header_text header)
+  pub reads_back : IsHeader image (normal header)
 
 -- a header that was written stays as it is: to write it again places the same bytes, and so does what it reads
 -- back as, which reads back as itself

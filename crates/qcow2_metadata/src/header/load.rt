@@ -31,7 +31,7 @@ pub(super) const MAGIC: u32 = 0x514649fb;
 const MAX_BACKING_FILENAME: u32 = 1023;
 
 /// How many bytes the two fixed parts have.
-const FIXED_BYTES: usize = V2Header::ON_DISK_SIZE + V3HeaderBase::ON_DISK_SIZE;
+pub(super) const FIXED_BYTES: usize = V2Header::ON_DISK_SIZE + V3HeaderBase::ON_DISK_SIZE;
 
 /// Incompatible feature bit 2: guest data lies in an external data file.
 pub(super) const EXTERNAL_DATA_FILE: u64 = 4;
