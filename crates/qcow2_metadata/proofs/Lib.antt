@@ -10,6 +10,7 @@ pub mod GrammarLemmas
 pub mod HeaderLemmas
 pub mod LayoutLemmas
 pub mod LoadLemmas
+pub mod NamesLemmas
 pub mod PieceLemmas
 pub mod PointerLemmas
 pub mod RangeLemmas
