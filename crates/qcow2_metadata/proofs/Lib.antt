@@ -15,3 +15,4 @@ pub mod PieceLemmas
 pub mod PointerLemmas
 pub mod RangeLemmas
 pub mod TableLemmas
+pub mod TextLemmas

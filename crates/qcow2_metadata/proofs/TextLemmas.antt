@@ -1,0 +1,189 @@
+use Rattle.std.proofs.Common.{◌≡◌, ◌≢◌, ℕ, zero, suc, ◌+◌, ◌-◌, ◌^◌, ◌%◌, ◌/◌, ◌<◌, ◌≤◌, List, [], ◌∷◌, ◌++◌, length, slice_index, All, Result, Ok, refl, sym, ap, ◌∙◌, subst, inl, inr, append-nil, length-append, arith}
+use Rattle.std.specs.Int.{byte_at, bytes_high_first}
+use Rattle.std.proofs.Math.Nat.{mod-lt}
+use Rattle.std.proofs.lemmas.Bool.{cases_lt}
+use Rattle.std.proofs.lemmas.List.{get_or-append_right, get_or-append-add, get_or_append_left, ext_get_or}
+use Rattle.std.proofs.lemmas.List.Elements.{All-cons, All-head, All-nil, All-tail}
+use Rattle.qcow2_base.specs.OnDiskStruct.{Big, HoldsLayout, LayoutField, header_extension_header, moved, number_in, v2_header, v3_header_base}
+use Rattle.qcow2_base.specs.Storage.{Holds, Image, IsBytes, be, be_fits, be_of_same, be_tells, image_of}
+use Rattle.qcow2_base.specs.declared.on_disk_struct.header_extension_header.HeaderExtensionHeader.{HeaderExtensionHeader}
+use Rattle.qcow2_base.specs.declared.on_disk_struct.v2_header.V2Header.{V2Header}
+use Rattle.qcow2_base.specs.declared.on_disk_struct.v3_header_base.V3HeaderBase.{V3HeaderBase}
+use Rattle.qcow2_base.proofs.OnDiskStructLemmas.{be_of_bytes}
+use Rattle.qcow2_metadata.specs.Header.Extensions.{Extension, parsed}
+use Rattle.qcow2_metadata.specs.Header.Text.{data_of, fields_text, normal_extension, number_of}
+
+-- a field's value fits its bytes
+abbrev IsFitting : LayoutField → Type 0
+IsFitting f = f.value < 256 ^ f.size
+
+-- and each field's does
+abbrev pub AreFitting : List LayoutField → Type 0
+AreFitting fields = All (λ f. f.value < 256 ^ f.size) fields
+
+-- an extension's data reads back as what it says, and its number is one that an image can have
+abbrev pub ReadsBack : Extension → Type 0
+ReadsBack extension =
+    (number_of extension < 2 ^ 32) × (number_of extension ≢ 0)
+    × (parsed (number_of extension) (data_of extension) ≡ Ok (normal_extension extension))
+
+-- the fields are big-endian, and each begins where the one before it ends
+abbrev pub AreJoined : ℕ → List LayoutField → Type 0
+AreJoined place [] = Unit {0}
+AreJoined place (f ∷ fields) = (f.place ≡ place) × (f.order ≡ Big) × AreJoined (place + f.size) fields
+
+-- a number's bytes are as many as are asked for
+pub length-bytes_high_first : (n value : ℕ) → length (bytes_high_first n value) ≡ n
+length-bytes_high_first zero value = refl
+length-bytes_high_first (suc n) value = ap suc (length-bytes_high_first n value)
+
+-- the bytes of a number are bytes
+are_bytes : (n value : ℕ) → IsBytes (image_of (bytes_high_first n value))
+are_bytes zero value offset = omega arith
+are_bytes (suc zero) value zero = mod-lt value {m = 256} (omega arith)
+are_bytes (suc (suc n)) value zero = mod-lt (value / 256 ^ suc n) {m = 256} (omega arith)
+are_bytes (suc n) value (suc offset) = are_bytes n value offset
+
+-- the bytes of a number that an image has, where it has the number
+number-held : (image : Image) (place n value : ℕ) → IsBytes image → be image place n ≡ value
+    → Holds image place (bytes_high_first n value) × (value < 256 ^ n)
+number-held image place n value small is =
+    let fits : value < 256 ^ n = subst (λ (v : ℕ). v < 256 ^ n) is (be_fits image place n small) in
+    let bytes = bytes_high_first n value in
+    let own = be_of_bytes n value bytes [] (sym (append-nil bytes)) fits in
+    let count = length-bytes_high_first n value in
+    (
+      record {
+        each = λ i below.
+            let same : 0 + i ≡ i = omega arith in
+            rw same at (be_tells (image_of bytes) image n 0 place (are_bytes n value) small (own ∙ sym is) i (omega (arith, count)));
+      },
+      fits,
+    )
+
+-- the number of bytes that an image has
+held-number : (image : Image) (place n value : ℕ) → Holds image place (bytes_high_first n value)
+    → value < 256 ^ n → be image place n ≡ value
+held-number image place n value held fits =
+    let bytes = bytes_high_first n value in
+    let own = be_of_bytes n value bytes [] (sym (append-nil bytes)) fits in
+    let count = length-bytes_high_first n value in
+    be_of_same image (image_of bytes) n place 0
+    (λ k below. let same : 0 + k ≡ k = omega arith in rw same (sym (held.each k (omega (arith, count))))) ∙ own
+
+-- what an image has, it has in two pieces
+pub Holds-first : (image : Image) (place : ℕ) (xs ys : List ℕ) → Holds image place (xs ++ ys) → Holds image place xs
+Holds-first image place xs ys held = record {
+  each = λ i below. sym (get_or_append_left xs ys 0 i below) ∙ held.each i (omega (arith, length-append xs ys));
+}
+
+-- the second one stands behind the first
+pub Holds-second : (image : Image) (place : ℕ) (xs ys : List ℕ) → Holds image place (xs ++ ys)
+    → Holds image (place + length xs) ys
+Holds-second image place xs ys held = record {
+  each = λ i below.
+      let there : place + (length xs + i) ≡ place + length xs + i = omega arith in
+      let same = held.each (length xs + i) (omega (arith, length-append xs ys)) in
+      sym (get_or-append-add xs ys i 0) ∙ same ∙ ap image there;
+}
+
+-- two pieces of which one stands behind the other are one
+pub Holds-append : (image : Image) (place : ℕ) (xs ys : List ℕ) → Holds image place xs
+    → Holds image (place + length xs) ys → Holds image place (xs ++ ys)
+Holds-append image place xs ys first second = record {
+  each = λ i below. elim (cases_lt i (length xs)) [
+    | inl inside ↦ get_or_append_left xs ys 0 i inside ∙ first.each i inside
+    | inr after ↦
+        let j = i - length xs in
+        let there : place + length xs + j ≡ place + i = omega arith in
+        get_or-append_right xs ys (length xs) i 0 refl after
+        ∙ second.each j (omega (arith, length-append xs ys)) ∙ ap image there
+  ];
+}
+
+-- fields that an image has are their text
+pub fields-text : (image : Image) (by place : ℕ) (fields : List LayoutField) → IsBytes image → AreJoined place fields
+    → HoldsLayout image (moved by fields) → Holds image (by + place) (fields_text fields) × AreFitting fields
+fields-text image by place [] small joined held = (record { each = λ i below. absurd (omega arith) }, All-nil IsFitting)
+fields-text image by place (f ∷ fields) small joined held =
+    let number : be image (by + place) f.size ≡ f.value =
+    subst (λ (p : ℕ). be image (by + p) f.size ≡ f.value) joined.0
+    (subst (λ o. number_in o image (by + f.place) f.size ≡ f.value) joined.1 held.0) in
+    let first = number-held image (by + place) f.size f.value small number in
+    let rest = fields-text image by (place + f.size) fields small joined.2 held.1 in
+    let next : by + (place + f.size) ≡ by + place + length (bytes_high_first f.size f.value) =
+    omega (arith, length-bytes_high_first f.size f.value) in
+    (
+      Holds-append image (by + place) (bytes_high_first f.size f.value) (fields_text fields) first.0
+      (subst (λ (p : ℕ). Holds image p (fields_text fields)) next rest.0),
+      All-cons IsFitting f fields first.1 rest.1,
+    )
+
+-- an image has the fields of a text that it has
+pub text-fields : (image : Image) (by place : ℕ) (fields : List LayoutField) → AreJoined place fields → AreFitting fields
+    → Holds image (by + place) (fields_text fields) → HoldsLayout image (moved by fields)
+text-fields image by place [] joined fits held = tt
+text-fields image by place (f ∷ fields) joined fits held =
+    let bytes = bytes_high_first f.size f.value in
+    let first = Holds-first image (by + place) bytes (fields_text fields) held in
+    let number = held-number image (by + place) f.size f.value first (All-head IsFitting f fields fits) in
+    let there : be image (by + f.place) f.size ≡ f.value =
+    subst (λ (p : ℕ). be image (by + p) f.size ≡ f.value) (sym joined.0) number in
+    let next : by + place + length bytes ≡ by + (place + f.size) = omega (arith, length-bytes_high_first f.size f.value) in
+    let second = Holds-second image (by + place) bytes (fields_text fields) held in
+    (
+      subst (λ o. number_in o image (by + f.place) f.size ≡ f.value) (sym joined.1) there,
+      text-fields image by (place + f.size) fields joined.2 (All-tail IsFitting f fields fits)
+      (subst (λ (p : ℕ). Holds image p (fields_text fields)) next second),
+    )
+
+-- the fields of the first part follow one another
+v2-joined : (v2 : V2Header) → AreJoined 0 (v2_header v2)
+v2-joined v2 =
+    (refl, refl, (refl, refl, (refl, refl, (refl, refl, (refl, refl, (refl, refl, (refl, refl, (refl, refl,
+    (refl, refl, (refl, refl, (refl, refl, (refl, refl, (refl, refl, tt)))))))))))))
+
+-- and so do those of the second part
+base-joined : (base : V3HeaderBase) → AreJoined 0 (v3_header_base base)
+base-joined base = (refl, refl, (refl, refl, (refl, refl, (refl, refl, (refl, refl, tt)))))
+
+-- and those before an extension's data
+extension-joined : (header : HeaderExtensionHeader) → AreJoined 0 (header_extension_header header)
+extension-joined header = (refl, refl, (refl, refl, tt))
+
+-- bytes that an image of theirs has from its start on, and no more, are those bytes
+same-bytes : (bytes text : List ℕ) → length bytes ≡ length text → Holds (image_of bytes) 0 text → bytes ≡ text
+same-bytes bytes text count held =
+    ext_get_or 0 bytes text count
+    (λ i below. let same : 0 + i ≡ i = omega arith in sym (rw same at (held.each i (omega arith))))
+
+-- bytes that hold both parts of a header are their text
+pub layout-text : (bytes : List ℕ) (v2 : V2Header) (base : V3HeaderBase) → IsBytes (image_of bytes)
+    → length bytes ≡ 104 → HoldsLayout (image_of bytes) (moved 0 (v2_header v2))
+    → HoldsLayout (image_of bytes) (moved 72 (v3_header_base base))
+    → (bytes ≡ fields_text (v2_header v2) ++ fields_text (v3_header_base base))
+    × AreFitting (v2_header v2) × AreFitting (v3_header_base base)
+layout-text bytes v2 base small count first second =
+    let image = image_of bytes in
+    let v2_text = fields_text (v2_header v2) in
+    let base_text = fields_text (v3_header_base base) in
+    let v2_held = fields-text image 0 0 (v2_header v2) small (v2-joined v2) first in
+    let base_held = fields-text image 72 0 (v3_header_base base) small (base-joined base) second in
+    let held = Holds-append image 0 v2_text base_text v2_held.0 base_held.0 in
+    (same-bytes bytes (v2_text ++ base_text) count held, v2_held.1, base_held.1)
+
+-- bytes that hold the first part alone are its text
+pub layout-text-older : (bytes : List ℕ) (v2 : V2Header) → IsBytes (image_of bytes) → length bytes ≡ 72
+    → HoldsLayout (image_of bytes) (moved 0 (v2_header v2))
+    → (bytes ≡ fields_text (v2_header v2)) × AreFitting (v2_header v2)
+layout-text-older bytes v2 small count held =
+    let text = fields-text (image_of bytes) 0 0 (v2_header v2) small (v2-joined v2) held in
+    (same-bytes bytes (fields_text (v2_header v2)) count text.0, text.1)
+
+-- bytes that hold what stands before an extension's data are its text
+pub layout-text-extension : (bytes : List ℕ) (header : HeaderExtensionHeader) → IsBytes (image_of bytes)
+    → length bytes ≡ 8 → HoldsLayout (image_of bytes) (header_extension_header header)
+    → (bytes ≡ fields_text (header_extension_header header)) × AreFitting (header_extension_header header)
+layout-text-extension bytes header small count held =
+    let text = fields-text (image_of bytes) 0 0 (header_extension_header header) small (extension-joined header) held in
+    (same-bytes bytes (fields_text (header_extension_header header)) count text.0, text.1)
