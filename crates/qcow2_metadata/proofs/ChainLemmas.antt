@@ -94,11 +94,11 @@ end-extension_at image len place is =
     rw (fits, end) refl
 
 -- an extension that isn't the last of its chain, what it says, and where the next one stands
-record IsFirst (image : Image) (len place : ℕ) (extension : Extension) (next : ℕ) : Type 0 where
-  bounded : end_of (link_at image place) ≤ len
-  more : (link_at image place).number ≢ 0
-  says : said image (link_at image place) ≡ Ok extension
-  next_is : next ≡ next_place (link_at image place)
+pub record IsFirst (image : Image) (len place : ℕ) (extension : Extension) (next : ℕ) : Type 0 where
+  pub bounded : end_of (link_at image place) ≤ len
+  pub more : (link_at image place).number ≢ 0
+  pub says : said image (link_at image place) ≡ Ok extension
+  pub next_is : next ≡ next_place (link_at image place)
 
 -- an answer of an extension
 extension_at-some : (image : Image) (len place : ℕ) (first : Extension × ℕ)
@@ -185,7 +185,7 @@ extensions_at-unfold image len place =
     (λ next later. few_extensions-same len (suc len) image len next (omega arith) (omega arith))
 
 -- what a chain says that ends right away
-says_none : (image : Image) (len place : ℕ) → IsEnd len (link_at image place)
+pub says_none : (image : Image) (len place : ℕ) → IsEnd len (link_at image place)
     → SaysExtensions image len place []
 says_none image len place is = record {
   links = [];
@@ -196,7 +196,7 @@ says_none image len place is = record {
 }
 
 -- what a chain says, by its first extension and the chain after it
-says_more : (image : Image) (len place next : ℕ) (extension : Extension) (others : List Extension)
+pub says_more : (image : Image) (len place next : ℕ) (extension : Extension) (others : List Extension)
     → IsFirst image len place extension next → SaysExtensions image len next others
     → SaysExtensions image len place (extension ∷ others)
 says_more image len place next extension others first rest = record {

@@ -1,17 +1,30 @@
-use Rattle.std.proofs.Common.{◌≡◌, ◌≢◌, ℕ, zero, suc, ◌+◌, ◌-◌, ◌^◌, ◌%◌, ◌/◌, ◌<◌, ◌≤◌, List, [], ◌∷◌, ◌++◌, length, slice_index, All, Result, Ok, refl, sym, ap, ◌∙◌, subst, inl, inr, append-nil, length-append, arith}
-use Rattle.std.specs.Int.{byte_at, bytes_high_first}
+use Rattle.std.proofs.Common.{◌≡◌, ◌≢◌, ℕ, zero, suc, ◌+◌, ◌-◌, ◌^◌, ◌%◌, ◌/◌, ◌<◌, ◌≤◌, List, [], ◌∷◌, ◌++◌, length, slice_index, All, Bool, true, false, Result, Ok, refl, sym, ap, ◌∙◌, subst, inl, inr, append-nil, append_assoc, length-append, map, replicate, arith}
+use Rattle.std.specs.Int.{bytes_high_first, next_multiple_of}
 use Rattle.std.proofs.Math.Nat.{mod-lt}
+use Rattle.std.specs.List.{flat_map}
 use Rattle.std.proofs.lemmas.Bool.{cases_lt}
-use Rattle.std.proofs.lemmas.List.{get_or-append_right, get_or-append-add, get_or_append_left, ext_get_or}
+use Rattle.std.proofs.lemmas.Bool.Decides.{nat_tests}
+use Rattle.std.proofs.lemmas.List.{get_or-append_right, get_or-append-add, get_or_append_left, ext_get_or, length-replicate}
 use Rattle.std.proofs.lemmas.List.Elements.{All-cons, All-head, All-nil, All-tail}
-use Rattle.qcow2_base.specs.OnDiskStruct.{Big, HoldsLayout, LayoutField, header_extension_header, moved, number_in, v2_header, v3_header_base}
+use Rattle.qcow2_base.specs.OnDiskStruct.{Big, HoldsLayout, big, LayoutField, header_extension_header, moved, number_in, v2_header, v3_header_base}
 use Rattle.qcow2_base.specs.Storage.{Holds, Image, IsBytes, be, be_fits, be_of_same, be_tells, image_of}
 use Rattle.qcow2_base.specs.declared.on_disk_struct.header_extension_header.HeaderExtensionHeader.{HeaderExtensionHeader}
 use Rattle.qcow2_base.specs.declared.on_disk_struct.v2_header.V2Header.{V2Header}
 use Rattle.qcow2_base.specs.declared.on_disk_struct.v3_header_base.V3HeaderBase.{V3HeaderBase}
 use Rattle.qcow2_base.proofs.OnDiskStructLemmas.{be_of_bytes}
-use Rattle.qcow2_metadata.specs.Header.Extensions.{Extension, parsed}
-use Rattle.qcow2_metadata.specs.Header.Text.{data_of, fields_text, normal_extension, number_of}
+use Rattle.qcow2_base.specs.declared.fault.Fault.{Fault}
+use Rattle.qcow2_base.specs.declared.fault.Fault.TheVariants.{HeaderTooLong, NameTooLong}
+use Rattle.qcow2_metadata.specs.Answers.{provided}
+use Rattle.qcow2_metadata.specs.Header.{HeaderRecord, name_in, names_by}
+use Rattle.qcow2_metadata.specs.Header.Chain.{IsEnd, SaysExtensions, link_at}
+use Rattle.qcow2_metadata.specs.Header.Extensions.{BackingFileFormat, Extension, ExternalDataFileName, FeatureNameTable, Unknown, parsed}
+use Rattle.qcow2_metadata.specs.Header.Text.{bare, data_of, extension_header_of, extension_text, extensions_text, fields_text, fits, header_text, is_short, kept, normal_extension, number_of, padded, placed}
+use Rattle.qcow2_metadata.specs.Range.{bytes_at}
+use Rattle.qcow2_metadata.specs.declared.header.extension.HeaderExtensionType.{HeaderExtensionType}
+use Rattle.qcow2_metadata.specs.declared.header.extension.HeaderExtensionType.TheVariants as kind
+use Rattle.qcow2_metadata.proofs.GrammarLemmas.{provided-ok}
+use Rattle.qcow2_metadata.proofs.ChainLemmas.{IsFirst, says_more, says_none}
+use Rattle.qcow2_metadata.proofs.RangeLemmas.{held-bytes_at}
 
 -- a field's value fits its bytes
 abbrev IsFitting : LayoutField → Type 0
@@ -187,3 +200,149 @@ pub layout-text-extension : (bytes : List ℕ) (header : HeaderExtensionHeader) 
 layout-text-extension bytes header small count held =
     let text = fields-text (image_of bytes) 0 0 (header_extension_header header) small (extension-joined header) held in
     (same-bytes bytes (fields_text (header_extension_header header)) count text.0, text.1)
+
+-- padding makes as many bytes as the next multiple of 8
+pub length-padded : (bytes : List ℕ) → length (padded bytes) ≡ next_multiple_of (length bytes) 8
+length-padded bytes =
+    let rest = next_multiple_of (length bytes) 8 - length bytes in
+    omega (arith, length-append bytes (replicate rest 0), length-replicate {A = ℕ} rest 0)
+
+-- how many bytes an extension takes
+pub length-extension_text : (extension : Extension)
+    → length (extension_text extension) ≡ 8 + next_multiple_of (length (data_of extension)) 8
+length-extension_text extension =
+    let header = fields_text (header_extension_header (extension_header_of extension)) in
+    length-append header (padded (data_of extension)) ∙ ap (λ n. 8 + n) (length-padded (data_of extension))
+
+-- what the image has where an extension's text stands
+record HasExtension (image : Image) (place : ℕ) (extension : Extension) : Type 0 where
+  number : be image place 4 ≡ number_of extension
+  size : be image (place + 4) 4 ≡ length (data_of extension)
+  content : bytes_at image (place + 8) (length (data_of extension)) ≡ data_of extension
+
+-- an extension's text stands in the image
+held-extension : (image : Image) (place : ℕ) (extension : Extension) → Holds image place (extension_text extension)
+    → number_of extension < 2 ^ 32 → length (data_of extension) < 2 ^ 32 → HasExtension image place extension
+held-extension image place extension held number_fits size_fits =
+    let header = extension_header_of extension in
+    let header_text = fields_text (header_extension_header header) in
+    let bytes = data_of extension in
+    let first = Holds-first image place header_text (padded bytes) held in
+    let second = Holds-second image place header_text (padded bytes) held in
+    let padding : List ℕ = replicate (next_multiple_of (length bytes) 8 - length bytes) 0 in
+    let content : Holds image (place + 8) bytes = Holds-first image (place + 8) bytes padding second in
+    let fits : AreFitting (header_extension_header header) =
+    All-cons IsFitting (big 0 4 (number_of extension)) (big 4 4 (length bytes) ∷ []) number_fits
+    (All-cons IsFitting (big 4 4 (length bytes)) [] size_fits (All-nil IsFitting)) in
+    let start : place ≡ place + 0 = omega arith in
+    let fields = text-fields image place 0 (header_extension_header header) (extension-joined header) fits
+    (subst (λ (p : ℕ). Holds image p header_text) start first) in
+    record {
+      number = rw start fields.0;
+      size = fields.1.0;
+      content = sym (held-bytes_at image (place + 8) bytes content);
+    }
+
+-- an extension that stands in the image is the first of the chain from there on
+first-extension : (image : Image) (len place : ℕ) (extension : Extension) → ReadsBack extension → len ≤ 2 ^ 21
+    → Holds image place (extension_text extension) → place + length (extension_text extension) ≤ len
+    → IsFirst image len place (normal_extension extension) (place + length (extension_text extension))
+first-extension image len place extension back small held within =
+    let count = length-extension_text extension in
+    let has = held-extension image place extension held back.0 (omega (arith, count)) in
+    record {
+      bounded = omega (arith, count, has.size);
+      more = λ none. back.1 (sym has.number ∙ none);
+      says = rw (has.number, has.size, has.content) back.2;
+      next_is = rw has.size (omega (arith, count));
+    }
+
+-- the zeros behind the extensions are End
+held-end : (image : Image) (len place : ℕ) → Holds image place (replicate 8 0) → place + 8 ≤ len
+    → IsEnd len (link_at image place)
+held-end image len place held within =
+    let end : HeaderExtensionHeader = record { extension_type = 0; length = 0 } in
+    let fields = header_extension_header end in
+    let fits : AreFitting fields =
+    All-cons IsFitting (big 0 4 0) (big 4 4 0 ∷ []) (omega arith)
+    (All-cons IsFitting (big 4 4 0) [] (omega arith) (All-nil IsFitting)) in
+    let start : place ≡ place + 0 = omega arith in
+    let zeros = subst (λ (p : ℕ). Holds image p (replicate 8 0)) start held in
+    let are = text-fields image place 0 fields (extension-joined end) fits zeros in
+    record { bounded = omega (arith, are.1.0); end = rw start are.0 }
+
+-- extensions whose text stands in the image are what the chain from there on says
+pub text-says : (image : Image) (len place : ℕ) (extensions : List Extension) → len ≤ 2 ^ 21
+    → All ReadsBack extensions → Holds image place (extensions_text extensions)
+    → place + length (extensions_text extensions) ≤ len
+    → SaysExtensions image len place (map normal_extension extensions)
+text-says image len place [] small back held within = says_none image len place (held-end image len place held within)
+text-says image len place (extension ∷ extensions) small back held within =
+    let here = extension_text extension in
+    let others = extensions_text extensions in
+    let split : extensions_text (extension ∷ extensions) ≡ here ++ others =
+    append_assoc here (flat_map extension_text extensions) (replicate 8 0) in
+    let whole = subst (Holds image place) split held in
+    let count = ap length split ∙ length-append here others in
+    let first = first-extension image len place extension (All-head ReadsBack extension extensions back) small
+    (Holds-first image place here others whole) (omega (arith, count)) in
+    let rest = text-says image len (place + length here) extensions small (All-tail ReadsBack extension extensions back)
+    (Holds-second image place here others whole) (omega (arith, count)) in
+    says_more image len place (place + length here) (normal_extension extension) (map normal_extension extensions) first rest
+
+-- what an extension reads back as says the same name
+same-name_in : (type : HeaderExtensionType) (extension : Extension)
+    → name_in type (normal_extension extension) ≡ name_in type extension
+same-name_in type (BackingFileFormat name) = refl
+same-name_in type (ExternalDataFileName name) = refl
+same-name_in type (Unknown number content) = refl
+same-name_in kind.End (FeatureNameTable names) = refl
+same-name_in kind.BackingFileFormat (FeatureNameTable names) = refl
+same-name_in kind.FeatureNameTable (FeatureNameTable names) = refl
+same-name_in kind.ExternalDataFileName (FeatureNameTable names) = refl
+
+-- so the names are the same
+pub same-names_by : (type : HeaderExtensionType) (extensions : List Extension)
+    → names_by (name_in type) (map normal_extension extensions) ≡ names_by (name_in type) extensions
+same-names_by type [] = refl
+same-names_by type (extension ∷ extensions) =
+    rw (same-name_in type extension, same-names_by type extensions) refl
+
+-- the header has the places of its text, which fits the first cluster, and a name that isn't too long
+pub record IsPlaced (header : HeaderRecord) : Type 0 where
+  pub placed : header ≡ placed header
+  pub fits : length (header_text header) ≤ 2 ^ header.v2.cluster_bits
+  pub short : is_short header.backing_filename ≡ true
+
+-- what comes of a header whose name isn't too long, by whether its text fits with and without features' names
+abbrev kept_by : HeaderRecord → Bool → Bool → Result HeaderRecord Fault
+kept_by header with_names without_names = elim with_names [
+  | true ↦ Ok (placed header)
+  | false ↦ provided ((without_names, HeaderTooLong) ∷ []) (λ _. Ok (placed (bare header)))
+]
+
+-- a header that is kept as it is with no names of features has none
+bare-same : (header : HeaderRecord) → placed (bare header) ≡ header → bare header ≡ header
+bare-same header is =
+    ap (λ (other : HeaderRecord). record header { extensions = other.extensions }) is
+
+-- a header that is kept as it is fits, and has its places
+kept-by : (header : HeaderRecord) (with_names without_names : Bool) → fits header ≡ with_names
+    → fits (bare header) ≡ without_names → kept_by header with_names without_names ≡ Ok header
+    → (fits header ≡ true) × (header ≡ placed header)
+kept-by header true without_names whole part is = let same : placed header ≡ header = cc in (whole, sym same)
+kept-by header false true whole part is =
+    let same : placed (bare header) ≡ header = cc in
+    let none = bare-same header same in
+    (ap fits (sym none) ∙ part, sym same ∙ ap placed none)
+kept-by header false false whole part is = cc
+
+-- what a header that is kept as it is has
+pub kept-placed : (header : HeaderRecord) → kept header ≡ Ok header → IsPlaced header
+unfolding kept
+kept-placed header is =
+    let next = λ (t : Unit {0}). kept_by header (fits header) (fits (bare header)) in
+    let hold = provided-ok ((is_short header.backing_filename, NameTooLong) ∷ []) next header is in
+    let by = kept-by header (fits header) (fits (bare header)) refl refl hold.1 in
+    let inside = by.0 in
+    record { placed = by.1; fits = grind (arith, nat_tests, inside); short = hold.0.0 }
