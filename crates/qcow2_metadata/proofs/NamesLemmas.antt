@@ -1,11 +1,16 @@
 use Rattle.std.proofs.Common.{◌≡◌, ◌≢◌, ℕ, zero, suc, ◌+◌, ◌-◌, ◌*◌, ◌^◌, ◌<◌, List, [], ◌∷◌, ◌++◌, length, take, drop, map, replicate, refl, sym, ap, ◌∙◌, subst, arith}
-use Rattle.std.specs.Prelude.{All, Ok}
-use Rattle.std.specs.BTreeMap.{insert_entry}
+use lib.Utf8.{encode}
+use Rattle.std.specs.Prelude.{All, true, IfSome, None, Ok, Option, Some, String, option_to_list, option_map, string_bytes}
+use Rattle.std.proofs.lemmas.Bool.{and_parts}
+use Rattle.std.proofs.lemmas.List.Elements.{All-cons, All-from_recursion, All-nil}
+use Rattle.std.proofs.lemmas.Str.{IsUtf8-from_is_utf8, IsUtf8-string_bytes}
+use Rattle.std.specs.BTreeMap.{BTreeMap, IsOrdered, insert_entry}
+use Rattle.std.specs.Global.{Global}
 use Rattle.std.specs.Int.{div_ceil}
-use Rattle.std.specs.List.{AllByRecursion, flat_map}
+use Rattle.std.specs.List.{AllByRecursion, flat_map, list_all}
 use Rattle.std.specs.List.Sorted.{IsStrictlySortedBy}
 use Rattle.std.specs.Map.{keys_of}
-use Rattle.std.specs.Str.{IsUtf8}
+use Rattle.std.specs.Str.{IsUtf8, chars, is_utf8}
 use Rattle.std.specs.Str.Lossy.{utf8_lossy}
 use Rattle.std.specs.declared.cmp.Ordering.TheVariants.{Less, Greater}
 use Rattle.std.proofs.lemmas.Cmp.{nat_cmp_total}
@@ -13,22 +18,12 @@ use Rattle.std.proofs.lemmas.List.{append_assoc, drop_at, drop-drop, length-appe
 use Rattle.std.specs.Ordering.{ordering_reverse}
 use Rattle.qcow2_base.specs.declared.fault.Fault.TheVariants.{ExtensionText}
 use Rattle.qcow2_metadata.proofs.ExtensionsLemmas.{parsed-unknown, text-valid, with_feature_name-named}
-use Rattle.qcow2_metadata.specs.Header.Extensions.{BackingFileFormat, Extension, ExternalDataFileName, FeatureKey, FeatureNameTable, FeatureNames, Unknown, chunk_at, extension_number, feature_names, key_cmp, names_of_chunks, parsed, until_zero, with_feature_name}
+use Rattle.qcow2_metadata.specs.Header.{IsStorable, known_names}
+use Rattle.qcow2_metadata.specs.Header.Extensions.{BackingFileFormat, Extension, ExternalDataFileName, FeatureKey, FeatureNameTable, FeatureNames, Unknown, chunk_at, feature_names, key_cmp, names_of, names_of_chunks, parsed, until_zero, with_feature_name}
 use Rattle.qcow2_metadata.specs.Header.Text.{data_of, name_chunk, normal_extension, normal_name, number_of}
 use Rattle.qcow2_metadata.specs.Answers.{result_map}
-use Rattle.qcow2_metadata.specs.declared.header.extension.HeaderExtensionType.{HeaderExtensionType}
 use Rattle.qcow2_metadata.specs.declared.header.extension.HeaderExtensionType.TheVariants as kind
 use Rattle.qcow2_metadata.specs.declared.header.feature.FeatureType.TheVariants.{Autoclear, Compatible, Incompatible}
-
--- an extension whose text says it: its texts are UTF-8, its names are in the order of their keys, and only
--- data of a type that isn't known is kept as it is
-abbrev pub IsStorable : Extension → Type 0
-IsStorable (BackingFileFormat name) = IsUtf8 name
-IsStorable (ExternalDataFileName name) = IsUtf8 name
-IsStorable (FeatureNameTable names) =
-    IsStrictlySortedBy key_cmp (keys_of names) × All (λ named. IsUtf8 named.1) names
-IsStorable (Unknown number content) =
-    (number < 2 ^ 32) × ((type : HeaderExtensionType) → extension_number type ≢ number)
 
 -- the number of its type fits its field and isn't End's, and its data reads as what it reads back as
 abbrev pub ReadsBack : Extension → Type 0
@@ -164,3 +159,94 @@ storable-reads_back (FeatureNameTable names) storable =
     (omega arith, omega arith, ap (result_map FeatureNameTable) (feature_names-chunks names storable.0))
 storable-reads_back (Unknown number content) storable =
     (storable.0, λ zero. storable.1 kind.End (sym zero), parsed-unknown number content storable.1)
+
+-- the texts of names in memory are text
+names_of-texts : (entries : List (FeatureKey × String Global))
+    → All (λ (named : FeatureKey × List ℕ). IsUtf8 named.1) (map (λ entry. (entry.0, string_bytes entry.1)) entries)
+names_of-texts [] = All-nil (λ (named : FeatureKey × List ℕ). IsUtf8 named.1)
+names_of-texts (entry ∷ entries) =
+    All-cons (λ (named : FeatureKey × List ℕ). IsUtf8 named.1) (entry.0, string_bytes entry.1)
+    (map (λ other. (other.0, string_bytes other.1)) entries) (IsUtf8-string_bytes entry.1) (names_of-texts entries)
+
+-- the keys of names in memory are those of the map
+keys_of-names_of : (entries : List (FeatureKey × String Global))
+    → keys_of (map (λ entry. (entry.0, string_bytes entry.1)) entries) ≡ keys_of entries
+keys_of-names_of [] = refl
+keys_of-names_of (entry ∷ entries) = ap (λ keys. entry.0 ∷ keys) (keys_of-names_of entries)
+
+-- names in memory are in the order of their keys, as those of an image
+pub ordered-storable : (names : BTreeMap FeatureKey (String Global)) → IsOrdered key_cmp names
+    → IsStorable (FeatureNameTable (names_of names))
+ordered-storable names ordered = (
+  subst (IsStrictlySortedBy key_cmp) (sym (keys_of-names_of names.entries)) ordered,
+  names_of-texts names.entries,
+)
+
+-- the backing file's name in memory is text
+pub name-text : (name : Option (String Global)) → IfSome (option_map string_bytes name) IsUtf8
+name-text None = tt
+name-text (Some name) = IsUtf8-string_bytes name
+
+-- what features are called in new images is in the order of the keys
+known_names-ordered : IsStrictlySortedBy key_cmp (keys_of known_names)
+unfolding IsStrictlySortedBy
+known_names-ordered = (
+  (refl, (refl, (refl, (refl, (refl, (refl, (refl, tt))))))),
+  (
+    (refl, (refl, (refl, (refl, (refl, (refl, tt)))))),
+    (
+      (refl, (refl, (refl, (refl, (refl, tt))))),
+      (
+        (refl, (refl, (refl, (refl, tt)))),
+        (
+          (refl, (refl, (refl, tt))),
+          (
+            (refl, (refl, tt)),
+            (
+              (refl, tt),
+              (
+                tt,
+                tt,
+              ),
+            ),
+          ),
+        ),
+      ),
+    ),
+  ),
+)
+
+-- names of which each is text
+all_texts : (names : FeatureNames) → list_all (λ named. is_utf8 named.1) names ≡ true → All (λ (named : FeatureKey × List ℕ). IsUtf8 named.1) names
+all_texts names test = All-from_recursion (λ (named : FeatureKey × List ℕ). IsUtf8 named.1) names (each names test)
+  where
+    each : (names : FeatureNames) → list_all (λ named. is_utf8 named.1) names ≡ true → AllByRecursion (λ (named : FeatureKey × List ℕ). IsUtf8 named.1) names
+    each [] test = tt
+    each (named ∷ names) test =
+        let tests = and_parts (is_utf8 named.1) (list_all (λ other. is_utf8 other.1) names) test in
+        (IsUtf8-from_is_utf8 named.1 tests.0, each names tests.1)
+
+-- what features are called in new images can be stored
+pub known_names-storable : IsStorable (FeatureNameTable known_names)
+unfolding is_utf8 chars encode
+known_names-storable = (known_names-ordered, all_texts known_names refl)
+
+-- the extensions of a new image can be stored
+pub new_extensions-storable : (format data_file : Option (String Global))
+    → All IsStorable
+    (FeatureNameTable known_names
+    ∷ map BackingFileFormat (option_to_list (option_map string_bytes format))
+    ++ map ExternalDataFileName (option_to_list (option_map string_bytes data_file)))
+new_extensions-storable format data_file = All-cons IsStorable (FeatureNameTable known_names) _ known_names-storable (texts format data_file)
+  where
+    texts : (format data_file : Option (String Global))
+        → All IsStorable
+        (map BackingFileFormat (option_to_list (option_map string_bytes format))
+        ++ map ExternalDataFileName (option_to_list (option_map string_bytes data_file)))
+    texts None None = All-nil IsStorable
+    texts None (Some name) = All-cons IsStorable (ExternalDataFileName (string_bytes name)) [] (IsUtf8-string_bytes name) (All-nil IsStorable)
+    texts (Some name) None = All-cons IsStorable (BackingFileFormat (string_bytes name)) [] (IsUtf8-string_bytes name) (All-nil IsStorable)
+    texts (Some name) (Some other) =
+        All-cons IsStorable (BackingFileFormat (string_bytes name)) (ExternalDataFileName (string_bytes other) ∷ [])
+        (IsUtf8-string_bytes name)
+        (All-cons IsStorable (ExternalDataFileName (string_bytes other)) [] (IsUtf8-string_bytes other) (All-nil IsStorable))

@@ -1,4 +1,4 @@
-use Rattle.std.proofs.Common.{◌≡◌, ◌≢◌, ℕ, zero, suc, ◌+◌, ◌-◌, ◌^◌, ◌%◌, ◌/◌, ◌<◌, ◌≤◌, List, [], ◌∷◌, ◌++◌, length, slice_index, All, Bool, true, false, Result, Ok, refl, sym, ap, ◌∙◌, subst, inl, inr, append-nil, append_assoc, length-append, map, replicate, arith}
+use Rattle.std.proofs.Common.{◌≡◌, ℕ, zero, suc, ◌+◌, ◌-◌, ◌^◌, ◌/◌, ◌<◌, ◌≤◌, List, [], ◌∷◌, ◌++◌, length, All, Bool, true, false, Result, Ok, refl, sym, ap, ◌∙◌, subst, inl, inr, append-nil, append_assoc, length-append, map, replicate, arith}
 use Rattle.std.specs.Int.{bytes_high_first, next_multiple_of}
 use Rattle.std.proofs.Math.Nat.{mod-lt}
 use Rattle.std.specs.List.{flat_map}
@@ -17,12 +17,13 @@ use Rattle.qcow2_base.specs.declared.fault.Fault.TheVariants.{HeaderTooLong, Nam
 use Rattle.qcow2_metadata.specs.Answers.{provided}
 use Rattle.qcow2_metadata.specs.Header.{HeaderRecord, name_in, names_by}
 use Rattle.qcow2_metadata.specs.Header.Chain.{IsEnd, SaysExtensions, link_at}
-use Rattle.qcow2_metadata.specs.Header.Extensions.{BackingFileFormat, Extension, ExternalDataFileName, FeatureNameTable, Unknown, parsed}
+use Rattle.qcow2_metadata.specs.Header.Extensions.{BackingFileFormat, Extension, ExternalDataFileName, FeatureNameTable, Unknown}
 use Rattle.qcow2_metadata.specs.Header.Text.{bare, data_of, extension_header_of, extension_text, extensions_text, fields_text, fits, header_text, is_short, kept, normal_extension, number_of, padded, placed}
 use Rattle.qcow2_metadata.specs.Range.{bytes_at}
 use Rattle.qcow2_metadata.specs.declared.header.extension.HeaderExtensionType.{HeaderExtensionType}
 use Rattle.qcow2_metadata.specs.declared.header.extension.HeaderExtensionType.TheVariants as kind
 use Rattle.qcow2_metadata.proofs.GrammarLemmas.{provided-ok}
+use Rattle.qcow2_metadata.proofs.NamesLemmas.{ReadsBack}
 use Rattle.qcow2_metadata.proofs.ChainLemmas.{IsFirst, says_more, says_none}
 use Rattle.qcow2_metadata.proofs.RangeLemmas.{held-bytes_at}
 
@@ -33,12 +34,6 @@ IsFitting f = f.value < 256 ^ f.size
 -- and each field's does
 abbrev pub AreFitting : List LayoutField → Type 0
 AreFitting fields = All (λ f. f.value < 256 ^ f.size) fields
-
--- an extension's data reads back as what it says, and its number is one that an image can have
-abbrev pub ReadsBack : Extension → Type 0
-ReadsBack extension =
-    (number_of extension < 2 ^ 32) × (number_of extension ≢ 0)
-    × (parsed (number_of extension) (data_of extension) ≡ Ok (normal_extension extension))
 
 -- the fields are big-endian, and each begins where the one before it ends
 abbrev pub AreJoined : ℕ → List LayoutField → Type 0
@@ -64,8 +59,7 @@ number-held image place n value small is =
     let fits : value < 256 ^ n = subst (λ (v : ℕ). v < 256 ^ n) is (be_fits image place n small) in
     let bytes = bytes_high_first n value in
     let own = be_of_bytes n value bytes [] (sym (append-nil bytes)) fits in
-    let count = length-bytes_high_first n value in
-    (
+    let count = length-bytes_high_first n value in (
       record {
         each = λ i below.
             let same : 0 + i ≡ i = omega arith in
@@ -125,10 +119,9 @@ fields-text image by place (f ∷ fields) small joined held =
     let first = number-held image (by + place) f.size f.value small number in
     let rest = fields-text image by (place + f.size) fields small joined.2 held.1 in
     let next : by + (place + f.size) ≡ by + place + length (bytes_high_first f.size f.value) =
-    omega (arith, length-bytes_high_first f.size f.value) in
-    (
+    omega (arith, length-bytes_high_first f.size f.value) in (
       Holds-append image (by + place) (bytes_high_first f.size f.value) (fields_text fields) first.0
-      (subst (λ (p : ℕ). Holds image p (fields_text fields)) next rest.0),
+          (subst (λ (p : ℕ). Holds image p (fields_text fields)) next rest.0),
       All-cons IsFitting f fields first.1 rest.1,
     )
 
@@ -143,18 +136,47 @@ text-fields image by place (f ∷ fields) joined fits held =
     let there : be image (by + f.place) f.size ≡ f.value =
     subst (λ (p : ℕ). be image (by + p) f.size ≡ f.value) (sym joined.0) number in
     let next : by + place + length bytes ≡ by + (place + f.size) = omega (arith, length-bytes_high_first f.size f.value) in
-    let second = Holds-second image (by + place) bytes (fields_text fields) held in
-    (
+    let second = Holds-second image (by + place) bytes (fields_text fields) held in (
       subst (λ o. number_in o image (by + f.place) f.size ≡ f.value) (sym joined.1) there,
       text-fields image by (place + f.size) fields joined.2 (All-tail IsFitting f fields fits)
-      (subst (λ (p : ℕ). Holds image p (fields_text fields)) next second),
+          (subst (λ (p : ℕ). Holds image p (fields_text fields)) next second),
     )
 
 -- the fields of the first part follow one another
 v2-joined : (v2 : V2Header) → AreJoined 0 (v2_header v2)
-v2-joined v2 =
-    (refl, refl, (refl, refl, (refl, refl, (refl, refl, (refl, refl, (refl, refl, (refl, refl, (refl, refl,
-    (refl, refl, (refl, refl, (refl, refl, (refl, refl, (refl, refl, tt)))))))))))))
+v2-joined v2 = (
+  refl,
+  refl,
+  (
+    refl,
+    refl,
+    (
+      refl,
+      refl,
+      (
+        refl,
+        refl,
+        (
+          refl,
+          refl,
+          (
+            refl,
+            refl,
+            (
+              refl,
+              refl,
+              (
+                refl,
+                refl,
+                (refl, refl, (refl, refl, (refl, refl, (refl, refl, (refl, refl, tt))))),
+              ),
+            ),
+          ),
+        ),
+      ),
+    ),
+  ),
+)
 
 -- and so do those of the second part
 base-joined : (base : V3HeaderBase) → AreJoined 0 (v3_header_base base)

@@ -4,11 +4,13 @@ pub mod Features
 pub mod Grammar
 pub mod Pointers
 pub mod Text
-use Rattle.std.specs.Prelude.{◌≡◌, ◌≢◌, ◌⊎◌, ⊤, All, ℕ, Bool, true, nat_eq, ◌==◌, ◌+◌, ◌-◌, ◌*◌, ◌%◌, ◌^◌, ◌≤◌, List, [], ◌∷◌, ◌++◌, map, codes, Option, Some, None, is_some, if◌then◌else◌, option_to_list, slice_get}
+use Rattle.std.specs.Prelude.{◌≡◌, ◌≢◌, ◌⊎◌, All, ℕ, Bool, true, nat_eq, ◌==◌, ◌+◌, ◌-◌, ◌*◌, ◌%◌, ◌^◌, ◌<◌, ◌≤◌, List, [], ◌∷◌, ◌++◌, map, codes, Option, Some, None, IfSome, is_some, if◌then◌else◌, option_to_list, slice_get}
 use Rattle.std.specs.Cmp.Lexicographic.{pointwise}
 use Rattle.std.specs.List.{list_all}
-use Rattle.std.specs.Map.{lookup}
+use Rattle.std.specs.List.Sorted.{IsStrictlySortedBy}
+use Rattle.std.specs.Map.{keys_of, lookup}
 use Rattle.std.specs.Ordering.{is_eq}
+use Rattle.std.specs.Str.{IsUtf8}
 use Rattle.qcow2_base.specs.Bits.{field}
 use Rattle.qcow2_base.specs.Types.{IsClusterBits}
 use Rattle.qcow2_base.specs.declared.on_disk_struct.v2_header.V2Header.{V2Header}
@@ -125,12 +127,17 @@ new_header cluster_bits refcount_order backing_filename backing_format data_file
       ++ map ExternalDataFileName (option_to_list data_file);
 }
 
--- only extensions of types that aren't known are kept as they stand
-abbrev pub IsKept : Extension → Type 0
-IsKept (Unknown number content) = (type : HeaderExtensionType) → extension_number type ≢ number
-IsKept _ = ⊤
+-- an extension that an image can say: texts are UTF-8, names of features are in the order of their keys, and only
+-- data of a type that isn't known is kept as it stands
+abbrev pub IsStorable : Extension → Type 0
+IsStorable (BackingFileFormat name) = IsUtf8 name
+IsStorable (FeatureNameTable names) =
+    IsStrictlySortedBy key_cmp (keys_of names) × All (λ named. IsUtf8 named.1) names
+IsStorable (ExternalDataFileName name) = IsUtf8 name
+IsStorable (Unknown number content) =
+    (number < 2 ^ 32) × ((type : HeaderExtensionType) → extension_number type ≢ number)
 
--- what holds of every header, whether it was made or loaded. Its texts are UTF-8, as all text is
+-- what holds of every header, whether it was made or loaded
 pub record IsLawfulHeader (header : HeaderRecord) : Type 0 where
   pub magic : header.v2.magic ≡ magic
   pub version : (header.v2.version ≡ 2) ⊎ (header.v2.version ≡ 3)
@@ -141,7 +148,8 @@ pub record IsLawfulHeader (header : HeaderRecord) : Type 0 where
   pub features : other_features header.base ≡ 0
   pub one_format : all_same (names_by (name_in kind.BackingFileFormat) header.extensions) ≡ true
   pub one_data_file : all_same (names_by (name_in kind.ExternalDataFileName) header.extensions) ≡ true
-  pub kept : All IsKept header.extensions
+  pub backing_filename : IfSome header.backing_filename IsUtf8
+  pub storable : All IsStorable header.extensions
   pub older : header.v2.version ≡ 2
       → (header.base ≡ default_base) × (header.unknown_header_fields ≡ []) × (header.extensions ≡ [])
 

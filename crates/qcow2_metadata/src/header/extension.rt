@@ -1,11 +1,11 @@
 //! Header extensions: what stands behind the fields of a version 3 header.
 
 ghost use Rattle.std.specs.Prelude.{◌≡◌, ◌≢◌, ◌⊎◌, IfErr, IfOk, IsOkUnless, OnOk, option_map, string_bytes};
-ghost use Rattle.std.specs.BTreeMap.{insert_entry};
+ghost use Rattle.std.specs.BTreeMap.{IsOrdered, insert_entry};
 ghost use Rattle.std.specs.Str.Lossy.{utf8_lossy};
 ghost use Rattle.qcow2_base.specs.declared.fault.Fault.TheVariants.{ExtensionText, FeatureNameCut, NoMemory};
 ghost use Rattle.qcow2_metadata.specs.Answers.{Computes, result_map};
-ghost use Rattle.qcow2_metadata.specs.Header.{IsKept, feature_name_in, known_names, name_in};
+ghost use Rattle.qcow2_metadata.specs.Header.{IsStorable, feature_name_in, known_names, name_in};
 ghost use Rattle.qcow2_metadata.specs.Header.Extensions.{extension_number, extension_of, key_cmp, names_of, parsed, text, until_zero, with_feature_name};
 ghost use Rattle.qcow2_metadata.specs.Header.Features.{HasNumber};
 ghost use Rattle.qcow2_metadata.specs.declared.header.extension.HeaderExtensionType.TheVariants as kind;
@@ -170,7 +170,7 @@ pub(super) fn parse(extension_type: u32, bytes: Vec<u8>) -> Result<HeaderExtensi
     requires end { extension_type ≢ extension_number kind.End }
     requires names { extension_type ≢ extension_number kind.FeatureNameTable }
     ensures exact { result_map extension_of result ≡ parsed extension_type bytes.items }
-    ensures kept { IfOk result (λ extension. IsKept (extension_of extension)) }
+    ensures storable { IfOk result (λ extension. IsStorable (extension_of extension)) }
     ensures faults { IsOkUnless result ExtensionText }
 {
     if extension_type == HeaderExtensionType::BackingFileFormat as u32 {
@@ -205,6 +205,7 @@ pub(super) fn add_feature_name(
 ) -> Result<(), Fault>
     ensures exact { Computes (λ _. names_of names.new) result
         (with_feature_name (names_of names.old) chunk.now) }
+    ensures ordered { IsOrdered key_cmp names.old → IsOrdered key_cmp names.new }
     ensures faults { IfErr result (λ fault. (fault ≡ FeatureNameCut) ⊎ (fault ≡ NoMemory)) }
 {
     let Some(number) = chunk.first() else {

@@ -4,9 +4,9 @@ ghost use Rattle.std.specs.Prelude.{All, ◌≡◌, ◌≢◌, ◌⊎◌, ◌+�
 ghost use Rattle.qcow2_base.specs.Storage.{Image, OnlyReads};
 ghost use Rattle.qcow2_base.specs.Types.{IsClusterBits};
 ghost use Rattle.qcow2_metadata.specs.Answers.{Answers, provided};
-ghost use Rattle.qcow2_metadata.specs.Header.{IsKept};
+ghost use Rattle.qcow2_metadata.specs.Header.{IsStorable};
 ghost use Rattle.qcow2_metadata.specs.Header.Chain.{end_of, extension_at, extension_header_at, extensions_at, link_at};
-ghost use Rattle.qcow2_metadata.specs.Header.Extensions.{extension_of, feature_names, names_of, parsed};
+ghost use Rattle.qcow2_metadata.specs.Header.Extensions.{FeatureNameTable, extension_of, feature_names, names_of, parsed};
 ghost use Rattle.qcow2_metadata.specs.Header.Grammar.{AreLawfulParts, FollowsGrammar, IsHeaderFault, SameFirstCluster, backing_name, field_conditions, fixed_parts, header_extensions, header_of, last_conditions, version_conditions};
 ghost use Rattle.qcow2_metadata.specs.Range.{bytes_at};
 ghost use Rattle.qcow2_metadata.specs.ReadAhead.{ReadsThrough};
@@ -232,7 +232,7 @@ fn read_header_extensions<S: Storage>(
     ensures exact { IsTrue (S.state image.old.image.now).tells →
         Answers (λ list. map extension_of list.items) result
         (header_extensions (S.state image.old.image.now).byte_at v2.now base.now) }
-    ensures kept { IfOk result (λ list. All IsKept (map extension_of list.items)) }
+    ensures storable { IfOk result (λ list. All IsStorable (map extension_of list.items)) }
     ensures older { IfOk result (λ list. v2.now.version ≡ 2 → list.items ≡ []) }
     ensures faults { IfErr result IsHeaderFault }
     ensures storage { ReadsThrough S.state result image.old image.new }
@@ -254,7 +254,7 @@ fn read_extensions<S: Storage>(
     ensures exact { IsTrue (S.state image.old.image.now).tells →
         Answers (λ list. map extension_of list.items) result
         (extensions_at (S.state image.old.image.now).byte_at len first) }
-    ensures kept { IfOk result (λ list. All IsKept (map extension_of list.items)) }
+    ensures storable { IfOk result (λ list. All IsStorable (map extension_of list.items)) }
     ensures faults { IfErr result IsHeaderFault }
     ensures storage { ReadsThrough S.state result image.old image.new }
 {
@@ -281,7 +281,7 @@ fn read_extension<S: Storage>(
         (extension_at (S.state image.old.image.now).byte_at len place) }
     ensures next { IfOk result (λ found. IfSome found (λ found.
         (place + 8 ≤ found.1) × (found.1 ≤ len + 8))) }
-    ensures kept { IfOk result (λ found. IfSome found (λ found. IsKept (extension_of found.0))) }
+    ensures storable { IfOk result (λ found. IfSome found (λ found. IsStorable (extension_of found.0))) }
     ensures faults { IfErr result IsHeaderFault }
     ensures storage { ReadsThrough S.state result image.old image.new }
 {
@@ -306,7 +306,7 @@ fn read_data<S: Storage>(
     ensures exact { IsTrue (S.state image.old.image.now).tells → Answers extension_of result
         (parsed header.now.extension_type
         (bytes_at (S.state image.old.image.now).byte_at place header.now.length)) }
-    ensures kept { IfOk result (λ extension. IsKept (extension_of extension)) }
+    ensures storable { IfOk result (λ extension. IsStorable (extension_of extension)) }
     ensures faults { IfErr result IsHeaderFault }
     ensures storage { ReadsThrough S.state result image.old image.new }
 {
@@ -329,6 +329,7 @@ fn read_feature_names<S: Storage>(
     requires { place + len ≤ 2 ^ 56 }
     ensures exact { IsTrue (S.state image.old.image.now).tells → Answers names_of result
         (feature_names (bytes_at (S.state image.old.image.now).byte_at place len)) }
+    ensures storable { IfOk result (λ names. IsStorable (FeatureNameTable (names_of names))) }
     ensures faults { IfErr result IsHeaderFault }
     ensures storage { ReadsThrough S.state result image.old image.new }
 {

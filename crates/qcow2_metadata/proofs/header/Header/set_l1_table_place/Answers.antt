@@ -17,6 +17,7 @@ invariant_of-self c =
       features = old.features;
       one_format = old.one_format;
       one_data_file = old.one_data_file;
-      kept = old.kept;
+      backing_filename = old.backing_filename;
+      storable = old.storable;
       older = old.older;
     }

@@ -4,7 +4,7 @@ use Rattle.std.proofs.lemmas.List.Elements.{All-push}
 use Rattle.std.proofs.lemmas.Result.{err_from_is_err_and}
 use Rattle.qcow2_metadata.proofs.LoadLemmas.{extensions_at-end, extensions_at-fault, extensions_at-more}
 use Rattle.qcow2_metadata.specs.Answers.{result_map}
-use Rattle.qcow2_metadata.specs.Header.{IsKept}
+use Rattle.qcow2_metadata.specs.Header.{IsStorable}
 use Rattle.qcow2_metadata.specs.Header.Extensions.{Extension, extension_of}
 use Rattle.qcow2_metadata.proofs.header.load.read_extensions.Goals as goal
 
@@ -35,9 +35,9 @@ loop-extensions-preserved g c =
     let first = extension_of c.in-Some.extension in
     let list : map extension_of c.push.new.self.items ≡ known ++ first ∷ [] =
     ap (map extension_of) c.in_ok-push.ensures.items ∙ map-append extension_of c.loop-extensions.extensions.items (c.in-Some.extension ∷ []) in
-    let kept : IsKept first = rw c.in-Some.is at c.in_ok-extension.ensures.kept in
+    let storable : IsStorable first = rw c.in-Some.is at c.in_ok-extension.ensures.storable in
     record {
-      kept = rw list (All-push IsKept known first before.kept kept);
+      storable = rw list (All-push IsStorable known first before.storable storable);
       told = λ told.
           let exact = rw c.in-Some.is at (c.in_ok-extension.ensures.exact (before.device.tells ∙ told)) in
           let more = rw before.bytes at (extensions_at-more image len place (first, c.in-Some.next) known exact) in

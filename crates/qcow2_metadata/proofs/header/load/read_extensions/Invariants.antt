@@ -1,7 +1,7 @@
 use Rattle.std.proofs.Common.{◌≡◌, ◌+◌, ◌-◌, ◌++◌, All, IsTrue, map}
 use Rattle.qcow2_base.specs.Storage.{SameDevice}
 use Rattle.qcow2_metadata.specs.Answers.{result_map}
-use Rattle.qcow2_metadata.specs.Header.{IsKept}
+use Rattle.qcow2_metadata.specs.Header.{IsStorable}
 use Rattle.qcow2_metadata.specs.Header.Chain.{extensions_at}
 use Rattle.qcow2_metadata.specs.Header.Extensions.{extension_of}
 use Rattle.qcow2_metadata.proofs.header.load.read_extensions.Given as goal
@@ -15,7 +15,7 @@ invariant-loop-extensions g l =
     record {
       told : IsTrue old.tells → extensions_at old.byte_at l.len l.first
           ≡ result_map (λ others. map extension_of l.extensions.items ++ others) (extensions_at old.byte_at l.len l.place);
-      kept : All IsKept (map extension_of l.extensions.items);
+      storable : All IsStorable (map extension_of l.extensions.items);
       bytes : new.byte_at ≡ old.byte_at;
       failures : new.failures ≡ old.failures;
       device : SameDevice old new;

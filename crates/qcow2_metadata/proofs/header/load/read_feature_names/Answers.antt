@@ -6,6 +6,7 @@ use Rattle.qcow2_metadata.proofs.ExtensionsLemmas.{names_of_chunks-fault, names_
 use Rattle.qcow2_metadata.proofs.RangeLemmas.{chunk_at-held, length-bytes_at}
 use Rattle.qcow2_metadata.specs.Header.Extensions.{names_of, names_of_chunks, with_feature_name}
 use Rattle.qcow2_metadata.specs.Range.{bytes_at}
+use Rattle.qcow2_metadata.proofs.NamesLemmas.{ordered-storable}
 use Rattle.qcow2_metadata.proofs.header.load.read_feature_names.Goals as goal
 
 pub returns-in_err-add_feature_name-clause-exact :
@@ -51,6 +52,7 @@ loop-index-preserved g c =
           let chunk = chunk_at-held image place len index read held count in
           names_of_chunks-more (bytes_at image place len) index names (before.told told)
           ∙ ap (with_feature_name names) chunk ∙ c.in_ok-add_feature_name.ensures.exact;
+      ordered = c.in_ok-add_feature_name.ensures.ordered before.ordered;
       bytes = search rules;
       failures = search rules;
       device = search rules;
@@ -64,3 +66,6 @@ returns-clause-exact g c told =
     let count = length-bytes_at image c.args.place c.args.len in
     let end : div_ceil c.args.len 48 ≡ c.loop-index.index = search rules in
     ap (λ n. names_of_chunks bytes (div_ceil n 48)) count ∙ ap (names_of_chunks bytes) end ∙ c.loop-index.invariant.told told
+
+pub returns-clause-storable : goal.returns-clause-storable
+returns-clause-storable g c = ordered-storable c.loop-index.names c.loop-index.invariant.ordered

@@ -6,6 +6,7 @@ use Rattle.qcow2_base.specs.Storage.{Image}
 use Rattle.qcow2_base.specs.declared.on_disk_struct.v3_header_base.V3HeaderBase.{V3HeaderBase}
 use Rattle.qcow2_metadata.proofs.GrammarLemmas.{provided-ok}
 use Rattle.qcow2_metadata.proofs.LoadLemmas.{HasParts, header-extensions-fault, header-last-fault, header-name-fault, header-whole}
+use Rattle.qcow2_metadata.proofs.NamesLemmas.{name-text}
 use Rattle.qcow2_metadata.specs.Header.Extensions.{extension_of}
 use Rattle.qcow2_metadata.specs.Header.Grammar.{backing_name, header_extensions, last_conditions}
 use Rattle.qcow2_metadata.proofs.header.load.read_other_parts.Goals as goal
@@ -107,7 +108,8 @@ invariant_of-result g c =
       features = grind (arith, nat_tests, hold.1.1.0);
       one_format = hold.0;
       one_data_file = hold.1.0;
-      kept = c.in_ok-extensions.ensures.kept;
+      backing_filename = name-text c.in_ok-backing_filename.backing_filename;
+      storable = c.in_ok-extensions.ensures.storable;
       older = λ two.
           let length_is : base.header_length ≡ 104 = ap (λ (b : V3HeaderBase). b.header_length) (lawful.older two) in
           let none : length unknown ≡ 0 = omega (arith, c.in_ok-unknown_header_fields.ensures.len, length_is) in

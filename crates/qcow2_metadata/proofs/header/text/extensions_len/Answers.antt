@@ -1,4 +1,4 @@
-use Rattle.std.proofs.Common.{◌≡◌, ◌+◌, ap, length, take, take_all, arith}
+use Rattle.std.proofs.Common.{◌≡◌, ◌+◌, ap, length, take_all, arith}
 use Rattle.std.specs.List.{flat_map}
 use Rattle.qcow2_metadata.proofs.LayoutLemmas.{held_part, length-extensions_text, length-parts_within}
 use Rattle.qcow2_metadata.proofs.header.text.extensions_len.Goals as goal
