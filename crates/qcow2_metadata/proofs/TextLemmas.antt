@@ -1,12 +1,14 @@
-use Rattle.std.proofs.Common.{◌≡◌, ℕ, zero, suc, ◌+◌, ◌-◌, ◌^◌, ◌/◌, ◌<◌, ◌≤◌, List, [], ◌∷◌, ◌++◌, length, All, Bool, true, false, Result, Ok, refl, sym, ap, ◌∙◌, subst, inl, inr, append-nil, append_assoc, length-append, map, replicate, arith}
+use Rattle.std.proofs.Common.{◌≡◌, ℕ, zero, suc, ◌+◌, ◌-◌, ◌^◌, ◌/◌, ◌<◌, ◌≤◌, List, [], ◌∷◌, ◌++◌, length, All, ◌⊎◌, ◌==◌, nat_le, IfSome, Option, Some, None, Bool, true, false, Result, Ok, refl, sym, ap, ◌∙◌, subst, inl, inr, append-nil, append_assoc, length-append, map, replicate, arith}
 use Rattle.std.specs.Int.{bytes_high_first, next_multiple_of}
+use Rattle.std.specs.Str.{IsUtf8}
 use Rattle.std.proofs.Math.Nat.{mod-lt}
+use Rattle.std.proofs.Math.Pow.{pow_mono}
 use Rattle.std.specs.List.{flat_map}
 use Rattle.std.proofs.lemmas.Bool.{cases_lt}
 use Rattle.std.proofs.lemmas.Bool.Decides.{nat_tests}
 use Rattle.std.proofs.lemmas.List.{get_or-append_right, get_or-append-add, get_or_append_left, ext_get_or, length-replicate}
 use Rattle.std.proofs.lemmas.List.Elements.{All-cons, All-head, All-nil, All-tail}
-use Rattle.qcow2_base.specs.OnDiskStruct.{Big, HoldsLayout, big, LayoutField, header_extension_header, moved, number_in, v2_header, v3_header_base}
+use Rattle.qcow2_base.specs.OnDiskStruct.{HoldsLayout, LayoutField, big, header_extension_header, moved, number_in, v2_header, v3_header_base}
 use Rattle.qcow2_base.specs.Storage.{Holds, Image, IsBytes, be, be_fits, be_of_same, be_tells, image_of}
 use Rattle.qcow2_base.specs.declared.on_disk_struct.header_extension_header.HeaderExtensionHeader.{HeaderExtensionHeader}
 use Rattle.qcow2_base.specs.declared.on_disk_struct.v2_header.V2Header.{V2Header}
@@ -15,14 +17,15 @@ use Rattle.qcow2_base.proofs.OnDiskStructLemmas.{be_of_bytes}
 use Rattle.qcow2_base.specs.declared.fault.Fault.{Fault}
 use Rattle.qcow2_base.specs.declared.fault.Fault.TheVariants.{HeaderTooLong, NameTooLong}
 use Rattle.qcow2_metadata.specs.Answers.{provided}
-use Rattle.qcow2_metadata.specs.Header.{HeaderRecord, name_in, names_by}
+use Rattle.qcow2_metadata.specs.Header.{HeaderRecord, IsLawfulHeader, name_in, names_by}
 use Rattle.qcow2_metadata.specs.Header.Chain.{IsEnd, SaysExtensions, link_at}
 use Rattle.qcow2_metadata.specs.Header.Extensions.{BackingFileFormat, Extension, ExternalDataFileName, FeatureNameTable, Unknown}
-use Rattle.qcow2_metadata.specs.Header.Text.{bare, data_of, extension_header_of, extension_text, extensions_text, fields_text, fits, header_text, is_short, kept, normal_extension, number_of, padded, placed}
+use Rattle.qcow2_metadata.specs.Header.Grammar.{AreSame, HasExtensions, IsBackingName, IsBase, IsHeader}
+use Rattle.qcow2_metadata.specs.Header.Text.{bare, data_of, extension_header_of, extension_text, extensions_text, fields_text, fits, header_end, header_text, is_short, name_place, kept, normal, normal_extension, number_of, padded, parts_text, placed, placed_base, placed_v2}
 use Rattle.qcow2_metadata.specs.Range.{bytes_at}
 use Rattle.qcow2_metadata.specs.declared.header.extension.HeaderExtensionType.{HeaderExtensionType}
 use Rattle.qcow2_metadata.specs.declared.header.extension.HeaderExtensionType.TheVariants as kind
-use Rattle.qcow2_metadata.proofs.GrammarLemmas.{provided-ok}
+use Rattle.qcow2_metadata.proofs.GrammarLemmas.{all_same-AreSame, provided-ok}
 use Rattle.qcow2_metadata.proofs.NamesLemmas.{ReadsBack}
 use Rattle.qcow2_metadata.proofs.ChainLemmas.{IsFirst, says_more, says_none}
 use Rattle.qcow2_metadata.proofs.RangeLemmas.{held-bytes_at}
@@ -38,7 +41,7 @@ AreFitting fields = All (λ f. f.value < 256 ^ f.size) fields
 -- the fields are big-endian, and each begins where the one before it ends
 abbrev pub AreJoined : ℕ → List LayoutField → Type 0
 AreJoined place [] = Unit {0}
-AreJoined place (f ∷ fields) = (f.place ≡ place) × (f.order ≡ Big) × AreJoined (place + f.size) fields
+AreJoined place (f ∷ fields) = (f ≡ big place f.size f.value) × AreJoined (place + f.size) fields
 
 -- a number's bytes are as many as are asked for
 pub length-bytes_high_first : (n value : ℕ) → length (bytes_high_first n value) ≡ n
@@ -63,7 +66,8 @@ number-held image place n value small is =
       record {
         each = λ i below.
             let same : 0 + i ≡ i = omega arith in
-            rw same at (be_tells (image_of bytes) image n 0 place (are_bytes n value) small (own ∙ sym is) i (omega (arith, count)));
+            let tells = be_tells (image_of bytes) image n 0 place (are_bytes n value) small (own ∙ sym is) in
+            rw same at (tells i (omega (arith, count)));
       },
       fits,
     )
@@ -75,13 +79,19 @@ held-number image place n value held fits =
     let bytes = bytes_high_first n value in
     let own = be_of_bytes n value bytes [] (sym (append-nil bytes)) fits in
     let count = length-bytes_high_first n value in
-    be_of_same image (image_of bytes) n place 0
-    (λ k below. let same : 0 + k ≡ k = omega arith in rw same (sym (held.each k (omega (arith, count))))) ∙ own
+    let each : (k : ℕ) → k < n → image (place + k) ≡ image_of bytes (0 + k) = λ k below.
+    let same : 0 + k ≡ k = omega arith in
+    rw same (sym (held.each k (omega (arith, count))))
+    in
+    be_of_same image (image_of bytes) n place 0 each ∙ own
 
 -- what an image has, it has in two pieces
-pub Holds-first : (image : Image) (place : ℕ) (xs ys : List ℕ) → Holds image place (xs ++ ys) → Holds image place xs
+pub Holds-first : (image : Image) (place : ℕ) (xs ys : List ℕ) → Holds image place (xs ++ ys)
+    → Holds image place xs
 Holds-first image place xs ys held = record {
-  each = λ i below. sym (get_or_append_left xs ys 0 i below) ∙ held.each i (omega (arith, length-append xs ys));
+  each = λ i below.
+      let same = held.each i (omega (arith, length-append xs ys)) in
+      sym (get_or_append_left xs ys 0 i below) ∙ same;
 }
 
 -- the second one stands behind the first
@@ -108,83 +118,56 @@ Holds-append image place xs ys first second = record {
   ];
 }
 
+-- the empty list stands at any place
+Holds-none : (image : Image) (place : ℕ) → Holds image place []
+Holds-none image place = record { each = λ i below. absurd (omega arith) }
+
 -- fields that an image has are their text
-pub fields-text : (image : Image) (by place : ℕ) (fields : List LayoutField) → IsBytes image → AreJoined place fields
-    → HoldsLayout image (moved by fields) → Holds image (by + place) (fields_text fields) × AreFitting fields
-fields-text image by place [] small joined held = (record { each = λ i below. absurd (omega arith) }, All-nil IsFitting)
+pub fields-text : (image : Image) (by place : ℕ) (fields : List LayoutField) → IsBytes image
+    → AreJoined place fields → HoldsLayout image (moved by fields)
+    → Holds image (by + place) (fields_text fields) × AreFitting fields
+fields-text image by place [] small joined held = (Holds-none image (by + place), All-nil IsFitting)
 fields-text image by place (f ∷ fields) small joined held =
-    let number : be image (by + place) f.size ≡ f.value =
-    subst (λ (p : ℕ). be image (by + p) f.size ≡ f.value) joined.0
-    (subst (λ o. number_in o image (by + f.place) f.size ≡ f.value) joined.1 held.0) in
+    let bytes = bytes_high_first f.size f.value in
+    let IsThere = λ (g : LayoutField). number_in g.order image (by + g.place) f.size ≡ f.value in
+    let number = subst IsThere joined.0 held.0 in
     let first = number-held image (by + place) f.size f.value small number in
-    let rest = fields-text image by (place + f.size) fields small joined.2 held.1 in
-    let next : by + (place + f.size) ≡ by + place + length (bytes_high_first f.size f.value) =
-    omega (arith, length-bytes_high_first f.size f.value) in (
-      Holds-append image (by + place) (bytes_high_first f.size f.value) (fields_text fields) first.0
-          (subst (λ (p : ℕ). Holds image p (fields_text fields)) next rest.0),
+    let rest = fields-text image by (place + f.size) fields small joined.1 held.1 in
+    let count = length-bytes_high_first f.size f.value in
+    let next : by + (place + f.size) ≡ by + place + length bytes = omega (arith, count) in
+    let second = subst (λ (p : ℕ). Holds image p (fields_text fields)) next rest.0 in (
+      Holds-append image (by + place) bytes (fields_text fields) first.0 second,
       All-cons IsFitting f fields first.1 rest.1,
     )
 
 -- an image has the fields of a text that it has
-pub text-fields : (image : Image) (by place : ℕ) (fields : List LayoutField) → AreJoined place fields → AreFitting fields
-    → Holds image (by + place) (fields_text fields) → HoldsLayout image (moved by fields)
+pub text-fields : (image : Image) (by place : ℕ) (fields : List LayoutField) → AreJoined place fields
+    → AreFitting fields → Holds image (by + place) (fields_text fields) → HoldsLayout image (moved by fields)
 text-fields image by place [] joined fits held = tt
 text-fields image by place (f ∷ fields) joined fits held =
     let bytes = bytes_high_first f.size f.value in
     let first = Holds-first image (by + place) bytes (fields_text fields) held in
     let number = held-number image (by + place) f.size f.value first (All-head IsFitting f fields fits) in
-    let there : be image (by + f.place) f.size ≡ f.value =
-    subst (λ (p : ℕ). be image (by + p) f.size ≡ f.value) (sym joined.0) number in
-    let next : by + place + length bytes ≡ by + (place + f.size) = omega (arith, length-bytes_high_first f.size f.value) in
-    let second = Holds-second image (by + place) bytes (fields_text fields) held in (
-      subst (λ o. number_in o image (by + f.place) f.size ≡ f.value) (sym joined.1) there,
-      text-fields image by (place + f.size) fields joined.2 (All-tail IsFitting f fields fits)
-          (subst (λ (p : ℕ). Holds image p (fields_text fields)) next second),
-    )
+    let IsThere = λ (g : LayoutField). number_in g.order image (by + g.place) f.size ≡ f.value in
+    let count = length-bytes_high_first f.size f.value in
+    let next : by + place + length bytes ≡ by + (place + f.size) = omega (arith, count) in
+    let second = subst (λ (p : ℕ). Holds image p (fields_text fields)) next
+    (Holds-second image (by + place) bytes (fields_text fields) held) in
+    let others = All-tail IsFitting f fields fits in
+    (subst IsThere (sym joined.0) number, text-fields image by (place + f.size) fields joined.1 others second)
 
 -- the fields of the first part follow one another
 v2-joined : (v2 : V2Header) → AreJoined 0 (v2_header v2)
-v2-joined v2 = (
-  refl,
-  refl,
-  (
-    refl,
-    refl,
-    (
-      refl,
-      refl,
-      (
-        refl,
-        refl,
-        (
-          refl,
-          refl,
-          (
-            refl,
-            refl,
-            (
-              refl,
-              refl,
-              (
-                refl,
-                refl,
-                (refl, refl, (refl, refl, (refl, refl, (refl, refl, (refl, refl, tt))))),
-              ),
-            ),
-          ),
-        ),
-      ),
-    ),
-  ),
-)
+v2-joined v2 =
+    (refl, (refl, (refl, (refl, (refl, (refl, (refl, (refl, (refl, (refl, (refl, (refl, (refl, tt)))))))))))))
 
 -- and so do those of the second part
 base-joined : (base : V3HeaderBase) → AreJoined 0 (v3_header_base base)
-base-joined base = (refl, refl, (refl, refl, (refl, refl, (refl, refl, (refl, refl, tt)))))
+base-joined base = (refl, (refl, (refl, (refl, (refl, tt)))))
 
 -- and those before an extension's data
 extension-joined : (header : HeaderExtensionHeader) → AreJoined 0 (header_extension_header header)
-extension-joined header = (refl, refl, (refl, refl, tt))
+extension-joined header = (refl, (refl, tt))
 
 -- bytes that an image of theirs has from its start on, and no more, are those bytes
 same-bytes : (bytes text : List ℕ) → length bytes ≡ length text → Holds (image_of bytes) 0 text → bytes ≡ text
@@ -220,8 +203,9 @@ pub layout-text-extension : (bytes : List ℕ) (header : HeaderExtensionHeader) 
     → length bytes ≡ 8 → HoldsLayout (image_of bytes) (header_extension_header header)
     → (bytes ≡ fields_text (header_extension_header header)) × AreFitting (header_extension_header header)
 layout-text-extension bytes header small count held =
-    let text = fields-text (image_of bytes) 0 0 (header_extension_header header) small (extension-joined header) held in
-    (same-bytes bytes (fields_text (header_extension_header header)) count text.0, text.1)
+    let fields = header_extension_header header in
+    let text = fields-text (image_of bytes) 0 0 fields small (extension-joined header) held in
+    (same-bytes bytes (fields_text fields) count text.0, text.1)
 
 -- padding makes as many bytes as the next multiple of 8
 pub length-padded : (bytes : List ℕ) → length (padded bytes) ≡ next_multiple_of (length bytes) 8
@@ -242,26 +226,42 @@ record HasExtension (image : Image) (place : ℕ) (extension : Extension) : Type
   size : be image (place + 4) 4 ≡ length (data_of extension)
   content : bytes_at image (place + 8) (length (data_of extension)) ≡ data_of extension
 
+-- the number and the length of an extension fit their bytes
+extension-fits : (header : HeaderExtensionHeader) → header.extension_type < 2 ^ 32 → header.length < 2 ^ 32
+    → AreFitting (header_extension_header header)
+extension-fits header number size =
+    let second = big 4 4 header.length in
+    All-cons IsFitting (big 0 4 header.extension_type) (second ∷ []) number
+    (All-cons IsFitting second [] size (All-nil IsFitting))
+
+-- what stands before an extension's data, in an image that has its text
+held-header : (image : Image) (place : ℕ) (header : HeaderExtensionHeader) → header.extension_type < 2 ^ 32
+    → header.length < 2 ^ 32 → Holds image place (fields_text (header_extension_header header))
+    → (be image place 4 ≡ header.extension_type) × (be image (place + 4) 4 ≡ header.length)
+held-header image place header number size held =
+    let fields = header_extension_header header in
+    let start : place ≡ place + 0 = omega arith in
+    let moved_held = subst (λ (p : ℕ). Holds image p (fields_text fields)) start held in
+    let fits = extension-fits header number size in
+    let are = text-fields image place 0 fields (extension-joined header) fits moved_held in
+    (rw start are.0, are.1.0)
+
 -- an extension's text stands in the image
-held-extension : (image : Image) (place : ℕ) (extension : Extension) → Holds image place (extension_text extension)
-    → number_of extension < 2 ^ 32 → length (data_of extension) < 2 ^ 32 → HasExtension image place extension
-held-extension image place extension held number_fits size_fits =
+held-extension : (image : Image) (place : ℕ) (extension : Extension)
+    → Holds image place (extension_text extension) → number_of extension < 2 ^ 32
+    → length (data_of extension) < 2 ^ 32 → HasExtension image place extension
+held-extension image place extension held number size =
     let header = extension_header_of extension in
     let header_text = fields_text (header_extension_header header) in
     let bytes = data_of extension in
-    let first = Holds-first image place header_text (padded bytes) held in
-    let second = Holds-second image place header_text (padded bytes) held in
     let padding : List ℕ = replicate (next_multiple_of (length bytes) 8 - length bytes) 0 in
+    let second = Holds-second image place header_text (padded bytes) held in
     let content : Holds image (place + 8) bytes = Holds-first image (place + 8) bytes padding second in
-    let fits : AreFitting (header_extension_header header) =
-    All-cons IsFitting (big 0 4 (number_of extension)) (big 4 4 (length bytes) ∷ []) number_fits
-    (All-cons IsFitting (big 4 4 (length bytes)) [] size_fits (All-nil IsFitting)) in
-    let start : place ≡ place + 0 = omega arith in
-    let fields = text-fields image place 0 (header_extension_header header) (extension-joined header) fits
-    (subst (λ (p : ℕ). Holds image p header_text) start first) in
+    let first = Holds-first image place header_text (padded bytes) held in
+    let are = held-header image place header number size first in
     record {
-      number = rw start fields.0;
-      size = fields.1.0;
+      number = are.0;
+      size = are.1;
       content = sym (held-bytes_at image (place + 8) bytes content);
     }
 
@@ -284,33 +284,31 @@ held-end : (image : Image) (len place : ℕ) → Holds image place (replicate 8 
     → IsEnd len (link_at image place)
 held-end image len place held within =
     let end : HeaderExtensionHeader = record { extension_type = 0; length = 0 } in
-    let fields = header_extension_header end in
-    let fits : AreFitting fields =
-    All-cons IsFitting (big 0 4 0) (big 4 4 0 ∷ []) (omega arith)
-    (All-cons IsFitting (big 4 4 0) [] (omega arith) (All-nil IsFitting)) in
-    let start : place ≡ place + 0 = omega arith in
-    let zeros = subst (λ (p : ℕ). Holds image p (replicate 8 0)) start held in
-    let are = text-fields image place 0 fields (extension-joined end) fits zeros in
-    record { bounded = omega (arith, are.1.0); end = rw start are.0 }
+    let are = held-header image place end (omega arith) (omega arith) held in
+    record { bounded = omega (arith, are.1); end = are.0 }
 
 -- extensions whose text stands in the image are what the chain from there on says
 pub text-says : (image : Image) (len place : ℕ) (extensions : List Extension) → len ≤ 2 ^ 21
     → All ReadsBack extensions → Holds image place (extensions_text extensions)
     → place + length (extensions_text extensions) ≤ len
     → SaysExtensions image len place (map normal_extension extensions)
-text-says image len place [] small back held within = says_none image len place (held-end image len place held within)
+text-says image len place [] small back held within =
+    says_none image len place (held-end image len place held within)
 text-says image len place (extension ∷ extensions) small back held within =
     let here = extension_text extension in
     let others = extensions_text extensions in
+    let next = place + length here in
     let split : extensions_text (extension ∷ extensions) ≡ here ++ others =
     append_assoc here (flat_map extension_text extensions) (replicate 8 0) in
     let whole = subst (Holds image place) split held in
     let count = ap length split ∙ length-append here others in
-    let first = first-extension image len place extension (All-head ReadsBack extension extensions back) small
-    (Holds-first image place here others whole) (omega (arith, count)) in
-    let rest = text-says image len (place + length here) extensions small (All-tail ReadsBack extension extensions back)
-    (Holds-second image place here others whole) (omega (arith, count)) in
-    says_more image len place (place + length here) (normal_extension extension) (map normal_extension extensions) first rest
+    let here_held = Holds-first image place here others whole in
+    let others_held = Holds-second image place here others whole in
+    let here_back = All-head ReadsBack extension extensions back in
+    let others_back = All-tail ReadsBack extension extensions back in
+    let first = first-extension image len place extension here_back small here_held (omega (arith, count)) in
+    let rest = text-says image len next extensions small others_back others_held (omega (arith, count)) in
+    says_more image len place next (normal_extension extension) (map normal_extension extensions) first rest
 
 -- what an extension reads back as says the same name
 same-name_in : (type : HeaderExtensionType) (extension : Extension)
@@ -352,7 +350,9 @@ bare-same header is =
 kept-by : (header : HeaderRecord) (with_names without_names : Bool) → fits header ≡ with_names
     → fits (bare header) ≡ without_names → kept_by header with_names without_names ≡ Ok header
     → (fits header ≡ true) × (header ≡ placed header)
-kept-by header true without_names whole part is = let same : placed header ≡ header = cc in (whole, sym same)
+kept-by header true without_names whole part is =
+    let same : placed header ≡ header = cc in
+    (whole, sym same)
 kept-by header false true whole part is =
     let same : placed (bare header) ≡ header = cc in
     let none = bare-same header same in
@@ -368,3 +368,229 @@ kept-placed header is =
     let by = kept-by header (fits header) (fits (bare header)) refl refl hold.1 in
     let inside = by.0 in
     record { placed = by.1; fits = grind (arith, nat_tests, inside); short = hold.0.0 }
+
+-- the bytes of a name, where there is one
+abbrev name_text : Option (List ℕ) → List ℕ
+name_text name = elim name [ None ↦ [] | Some bytes ↦ bytes ]
+
+-- the header's version is 2 or 3
+abbrev IsKnown : HeaderRecord → Type 0
+IsKnown header = (header.v2.version ≡ 2) ⊎ (header.v2.version ≡ 3)
+
+-- the text of the two fixed parts
+abbrev fixed_text : HeaderRecord → List ℕ
+fixed_text header =
+    fields_text (v2_header (placed_v2 header)) ++ fields_text (v3_header_base (placed_base header))
+
+-- the text before the extensions in version 2
+older-parts : (header : HeaderRecord) → header.v2.version ≡ 2
+    → (parts_text header ≡ fields_text (v2_header (placed_v2 header))) × (header_end header ≡ 72)
+older-parts header two =
+    let test : (header.v2.version == 3) ≡ false = grind (arith, nat_tests, two) in
+    (rw (test, parts_text) refl, rw (test, header_end) refl)
+
+-- and in version 3
+newer-parts : (header : HeaderRecord) → header.v2.version ≡ 3
+    → (parts_text header ≡ fixed_text header ++ padded header.unknown_header_fields)
+    × (header_end header ≡ 104 + length (padded header.unknown_header_fields))
+newer-parts header three =
+    let test : (header.v2.version == 3) ≡ true = grind (arith, nat_tests, three) in
+    (rw (test, parts_text) refl, rw (test, header_end) refl)
+
+-- the text before the extensions ends where they begin
+length-parts_text : (header : HeaderRecord) → IsKnown header → length (parts_text header) ≡ header_end header
+length-parts_text header (inl two) =
+    let parts = older-parts header two in
+    ap length parts.0 ∙ sym parts.1
+length-parts_text header (inr three) =
+    let parts = newer-parts header three in
+    let count = length-append (fixed_text header) (padded header.unknown_header_fields) in
+    ap length parts.0 ∙ count ∙ sym parts.1
+
+-- the pieces of the text before the extensions in version 3
+record HasNewerParts (image : Image) (header : HeaderRecord) : Type 0 where
+  v2 : Holds image 0 (fields_text (v2_header (placed_v2 header)))
+  base : Holds image 72 (fields_text (v3_header_base (placed_base header)))
+  unknown : Holds image 104 (padded header.unknown_header_fields)
+
+-- they stand in the image
+held-newer : (image : Image) (header : HeaderRecord) → header.v2.version ≡ 3
+    → Holds image 0 (parts_text header) → HasNewerParts image header
+held-newer image header three held =
+    let v2_text = fields_text (v2_header (placed_v2 header)) in
+    let base_text = fields_text (v3_header_base (placed_base header)) in
+    let unknown = padded header.unknown_header_fields in
+    let whole = subst (Holds image 0) ((newer-parts header three).0) held in
+    let fixed = Holds-first image 0 (v2_text ++ base_text) unknown whole in
+    record {
+      v2 = Holds-first image 0 v2_text base_text fixed;
+      base = Holds-second image 0 v2_text base_text fixed;
+      unknown = Holds-second image 0 (v2_text ++ base_text) unknown whole;
+    }
+
+-- the first part stands in the image
+held-v2 : (image : Image) (header : HeaderRecord) → IsKnown header → Holds image 0 (parts_text header)
+    → Holds image 0 (fields_text (v2_header (placed_v2 header)))
+held-v2 image header (inl two) held = subst (Holds image 0) ((older-parts header two).0) held
+held-v2 image header (inr three) held = (held-newer image header three held).v2
+
+-- the pieces of a header's text, and where they stand
+record HasPieces (image : Image) (header : HeaderRecord) : Type 0 where
+  v2 : Holds image 0 (fields_text (v2_header (placed_v2 header)))
+  newer : header.v2.version ≡ 3 → HasNewerParts image header
+  extensions : Holds image (header_end header) (extensions_text header.extensions)
+  name : Holds image (name_place header) (name_text header.backing_filename)
+  count : length (header_text header) ≡ name_place header + length (name_text header.backing_filename)
+
+-- they stand in the image
+held-pieces : (image : Image) (header : HeaderRecord) → IsKnown header → Holds image 0 (header_text header)
+    → HasPieces image header
+unfolding header_text
+held-pieces image header known held =
+    let parts = parts_text header in
+    let extensions = extensions_text header.extensions in
+    let name = name_text header.backing_filename in
+    let front = Holds-first image 0 (parts ++ extensions) name held in
+    let first = Holds-first image 0 parts extensions front in
+    let second = Holds-second image 0 parts extensions front in
+    let third = Holds-second image 0 (parts ++ extensions) name held in
+    let end : 0 + length parts ≡ header_end header = omega (arith, length-parts_text header known) in
+    let place : length (parts ++ extensions) ≡ name_place header =
+    length-append parts extensions ∙ ap (λ n. n + length extensions) (length-parts_text header known) in
+    let start : 0 + length (parts ++ extensions) ≡ name_place header = omega (arith, place) in
+    record {
+      v2 = held-v2 image header known first;
+      newer = λ three. held-newer image header three first;
+      extensions = subst (λ (p : ℕ). Holds image p extensions) end second;
+      name = subst (λ (p : ℕ). Holds image p name) start third;
+      count = length-append (parts ++ extensions) name ∙ ap (λ n. n + length name) place;
+    }
+
+-- the length of a header that has its places
+placed-length : (header : HeaderRecord) → IsLawfulHeader header → IsPlaced header → IsKnown header
+    → header.base.header_length ≡ 104 + length (padded header.unknown_header_fields)
+placed-length header lawful is (inl two) =
+    let none = lawful.older two in
+    ap (λ (b : V3HeaderBase). b.header_length) none.0
+    ∙ sym (ap (λ (fields : List ℕ). 104 + length (padded fields)) none.1)
+placed-length header lawful is (inr three) =
+    let test : (header.v2.version == 3) ≡ true = grind (arith, nat_tests, three) in
+    let set : (placed_base header).header_length ≡ header_end header = rw (test, placed_base) refl in
+    ap (λ (h : HeaderRecord). h.base.header_length) is.placed ∙ set ∙ (newer-parts header three).1
+
+-- it fits the first cluster
+placed-fits : (image : Image) (header : HeaderRecord) → IsLawfulHeader header → IsPlaced header
+    → HasPieces image header → IsKnown header → header.base.header_length ≤ 2 ^ header.v2.cluster_bits
+placed-fits image header lawful is pieces (inl two) =
+    let none = lawful.older two in
+    let short : header.base.header_length ≡ 104 = ap (λ (b : V3HeaderBase). b.header_length) none.0 in
+    omega (arith, short, pow_mono (lawful.cluster_bits.0))
+placed-fits image header lawful is pieces (inr three) =
+    let count = placed-length header lawful is (inr three) in
+    omega (arith, count, (newer-parts header three).1, pieces.count, is.fits)
+
+-- the unknown fields stand in the image
+held-unknown : (image : Image) (header : HeaderRecord) → IsLawfulHeader header → HasPieces image header
+    → IsKnown header → padded header.unknown_header_fields
+    ≡ bytes_at image 104 (length (padded header.unknown_header_fields))
+held-unknown image header lawful pieces (inl two) =
+    let none = (lawful.older two).1 in
+    rw none refl
+held-unknown image header lawful pieces (inr three) =
+    held-bytes_at image 104 (padded header.unknown_header_fields) ((pieces.newer three).unknown)
+
+-- the second part stands in the image
+held-base : (image : Image) (header : HeaderRecord) → IsLawfulHeader header → IsPlaced header
+    → HasPieces image header → AreFitting (v3_header_base header.base)
+    → IsBase image header.v2.version header.base
+held-base image header lawful is pieces fits = record {
+  version_3 = λ three.
+      let Stands = λ (h : HeaderRecord). Holds image 72 (fields_text (v3_header_base h.base)) in
+      let held = subst Stands (sym is.placed) ((pieces.newer three).base) in
+      text-fields image 72 0 (v3_header_base header.base) (base-joined header.base) fits held;
+  version_2 = λ two. (lawful.older two).0;
+}
+
+-- the extensions begin behind the first part
+end-after : (header : HeaderRecord) → IsKnown header → 72 ≤ header_end header
+end-after header (inl two) = omega (arith, (older-parts header two).1)
+end-after header (inr three) = omega (arith, (newer-parts header three).1)
+
+-- the backing file's name stands in the image
+held-name : (image : Image) (header : HeaderRecord) (name : Option (List ℕ)) → header.backing_filename ≡ name
+    → IsPlaced header → HasPieces image header → 72 ≤ header_end header → IfSome name IsUtf8
+    → IsBackingName image header.v2 name
+held-name image header None none is pieces after text =
+    let place : (placed_v2 header).backing_file_offset ≡ 0 = rw (none, placed_v2) refl in
+    ap (λ (h : HeaderRecord). h.v2.backing_file_offset) is.placed ∙ place
+held-name image header (Some name) some is pieces after text =
+    let own_place : (placed_v2 header).backing_file_offset ≡ name_place header = rw (some, placed_v2) refl in
+    let own_size : (placed_v2 header).backing_file_size ≡ length name = rw (some, placed_v2) refl in
+    let place = ap (λ (h : HeaderRecord). h.v2.backing_file_offset) is.placed ∙ own_place in
+    let size = ap (λ (h : HeaderRecord). h.v2.backing_file_size) is.placed ∙ own_size in
+    let short : nat_le (length name) 1023 ≡ true = rw some at is.short in
+    let end = λ (n : Option (List ℕ)). name_place header + length (name_text n) in
+    let Stands = λ (n : Option (List ℕ)). Holds image (name_place header) (name_text n) in
+    let held : Holds image (name_place header) name = subst Stands some pieces.name in
+    record {
+      some = λ none. omega (arith, after, place, none);
+      short = grind (arith, nat_tests, short, size);
+      within = omega (arith, place, size, pieces.count, ap end some, is.fits);
+      bytes = rw (place, size) (held-bytes_at image (name_place header) name held);
+      text = text;
+    }
+
+-- the extensions stand in the image
+held-extensions : (image : Image) (header : HeaderRecord) → IsLawfulHeader header → IsPlaced header
+    → HasPieces image header → All ReadsBack header.extensions
+    → HasExtensions image header.v2 header.base (map normal_extension header.extensions)
+held-extensions image header lawful is pieces back = record {
+  version_3 = λ three.
+      let len = 2 ^ header.v2.cluster_bits in
+      let place = header.base.header_length in
+      let begin : header_end header ≡ place =
+      (newer-parts header three).1 ∙ sym (placed-length header lawful is (inr three)) in
+      let Stand = λ (p : ℕ). Holds image p (extensions_text header.extensions) in
+      let held = subst Stand begin pieces.extensions in
+      let small : len ≤ 2 ^ 21 = pow_mono (lawful.cluster_bits.1) in
+      let within : place + length (extensions_text header.extensions) ≤ len =
+      omega (arith, begin, pieces.count, is.fits) in
+      text-says image len place header.extensions small back held within;
+  version_2 = λ two. ap (map normal_extension) ((lawful.older two).2);
+}
+
+-- a header whose text stands at the start of an image is the image's, as it reads back
+pub text-header : (image : Image) (header : HeaderRecord) → IsLawfulHeader header
+    → All ReadsBack header.extensions → AreFitting (v2_header header.v2)
+    → AreFitting (v3_header_base header.base) → IfSome header.backing_filename IsUtf8
+    → kept header ≡ Ok header → Holds image 0 (header_text header) → IsHeader image (normal header)
+text-header image header lawful back fits_v2 fits_base text same held =
+    let is = kept-placed header same in
+    let known = lawful.version in
+    let pieces = held-pieces image header known held in
+    let count = placed-length header lawful is known in
+    let unknown = padded header.unknown_header_fields in
+    let between : header.base.header_length - 104 ≡ length unknown = omega (arith, count) in
+    let Stands = λ (h : HeaderRecord). Holds image 0 (fields_text (v2_header h.v2)) in
+    let v2_held = subst Stands (sym is.placed) pieces.v2 in
+    let formats = same-names_by kind.BackingFileFormat header.extensions in
+    let data_files = same-names_by kind.ExternalDataFileName header.extensions in
+    record {
+      v2 = text-fields image 0 0 (v2_header header.v2) (v2-joined header.v2) fits_v2 v2_held;
+      base = held-base image header lawful is pieces fits_base;
+      magic = lawful.magic;
+      version = known;
+      cluster_bits = lawful.cluster_bits;
+      header_not_short = omega (arith, count);
+      header_not_big = placed-fits image header lawful is pieces known;
+      l1_table_aligned = lawful.l1_table_aligned;
+      reftable_aligned = lawful.reftable_aligned;
+      refcount_width = lawful.refcount_order;
+      unknown_header_fields = rw between (held-unknown image header lawful pieces known);
+      backing_filename =
+          held-name image header header.backing_filename refl is pieces (end-after header known) text;
+      extensions = held-extensions image header lawful is pieces back;
+      one_format = subst AreSame (sym formats) (all_same-AreSame _ lawful.one_format);
+      one_data_file = subst AreSame (sym data_files) (all_same-AreSame _ lawful.one_data_file);
+      features = lawful.features;
+    }
