@@ -4,6 +4,7 @@ mod TableExamples
 pub mod ChainLemmas
 pub mod ChunkLemmas
 pub mod ClusterLemmas
+pub mod CutLemmas
 pub mod EntriesLemmas
 pub mod ExtensionsLemmas
 pub mod GrammarLemmas
@@ -14,5 +15,6 @@ pub mod NamesLemmas
 pub mod PieceLemmas
 pub mod PointerLemmas
 pub mod RangeLemmas
+pub mod StorableLemmas
 pub mod TableLemmas
 pub mod TextLemmas

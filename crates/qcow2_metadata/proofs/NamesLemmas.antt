@@ -1,27 +1,31 @@
-use Rattle.std.proofs.Common.{◌≡◌, ◌≢◌, ℕ, zero, suc, ◌+◌, ◌-◌, ◌*◌, ◌^◌, ◌<◌, List, [], ◌∷◌, ◌++◌, length, take, drop, map, replicate, refl, sym, ap, ◌∙◌, subst, arith}
-use lib.Utf8.{encode}
-use Rattle.std.specs.Prelude.{All, true, IfSome, None, Ok, Option, Some, String, option_to_list, option_map, string_bytes}
-use Rattle.std.proofs.lemmas.Bool.{and_parts}
-use Rattle.std.proofs.lemmas.List.Elements.{All-cons, All-from_recursion, All-nil}
-use Rattle.std.proofs.lemmas.Str.{IsUtf8-from_is_utf8, IsUtf8-string_bytes}
-use Rattle.std.specs.BTreeMap.{BTreeMap, IsOrdered, insert_entry}
+use Rattle.std.proofs.Common.{◌≡◌, ◌≢◌, ℕ, zero, suc, ◌+◌, ◌-◌, ◌*◌, ◌^◌, ◌<◌, List, [], ◌∷◌, ◌++◌, length, get_or, take, drop, map, replicate, refl, sym, ap, ◌∙◌, subst, inl, inr, arith, ◌≤◌, ◌==◌, false}
+use Rattle.std.specs.Prelude.{All, Ok, ⊤, String, string_bytes}
 use Rattle.std.specs.Global.{Global}
+use Rattle.std.specs.BTreeMap.{insert_entry}
 use Rattle.std.specs.Int.{div_ceil}
-use Rattle.std.specs.List.{AllByRecursion, flat_map, list_all}
+use Rattle.std.specs.List.{AllByRecursion, flat_map}
 use Rattle.std.specs.List.Sorted.{IsStrictlySortedBy}
 use Rattle.std.specs.Map.{keys_of}
-use Rattle.std.specs.Str.{IsUtf8, chars, is_utf8}
-use Rattle.std.specs.Str.Lossy.{utf8_lossy}
+use Rattle.std.specs.Str.{IsUtf8}
+use Rattle.std.specs.Str.Lossy.{replacement_bytes, utf8_lossy}
 use Rattle.std.specs.declared.cmp.Ordering.TheVariants.{Less, Greater}
+use Rattle.std.proofs.lemmas.Bool.{cases_Bool}
 use Rattle.std.proofs.lemmas.Cmp.{nat_cmp_total}
-use Rattle.std.proofs.lemmas.List.{append_assoc, drop_at, drop-drop, length-append, length-replicate, length-take, length_push, append-nil, take_at}
+use Rattle.std.proofs.lemmas.List.{append_assoc, drop_at, drop-drop, length-append, length-replicate, length-take, length_push, append-nil, take-take, take_all, take_at}
+use Rattle.std.proofs.lemmas.List.Elements.{All-head, All-map, All-tail}
+use Rattle.std.proofs.lemmas.Str.{IsUtf8-string_bytes, utf8_lossy-IsUtf8}
+use Rattle.std.proofs.Math.Seq.{take-append-add}
 use Rattle.std.specs.Ordering.{ordering_reverse}
 use Rattle.qcow2_base.specs.declared.fault.Fault.TheVariants.{ExtensionText}
+use Rattle.qcow2_metadata.proofs.CutLemmas.{IsCutText, IsCutText-take, utf8_lossy-cut, utf8_lossy-replaced}
 use Rattle.qcow2_metadata.proofs.ExtensionsLemmas.{parsed-unknown, text-valid, with_feature_name-named}
-use Rattle.qcow2_metadata.specs.Header.{IsStorable, known_names}
-use Rattle.qcow2_metadata.specs.Header.Extensions.{BackingFileFormat, Extension, ExternalDataFileName, FeatureKey, FeatureNameTable, FeatureNames, Unknown, chunk_at, feature_names, key_cmp, names_of, names_of_chunks, parsed, until_zero, with_feature_name}
+use Rattle.qcow2_metadata.specs.Header.{IsStorable}
+use Rattle.qcow2_metadata.specs.Header.Extensions.{BackingFileFormat, Extension, ExternalDataFileName, FeatureKey, FeatureNameTable, FeatureNames, Unknown, chunk_at, extension_number, extension_of, feature_names, key_cmp, names_of_chunks, parsed, until_zero, with_feature_name}
 use Rattle.qcow2_metadata.specs.Header.Text.{data_of, name_chunk, normal_extension, normal_name, number_of}
 use Rattle.qcow2_metadata.specs.Answers.{result_map}
+use Rattle.qcow2_metadata.specs.declared.header.extension.HeaderExtension.{HeaderExtension}
+use Rattle.qcow2_metadata.specs.declared.header.extension.HeaderExtension.TheVariants as held
+use Rattle.qcow2_metadata.specs.declared.header.extension.HeaderExtensionType.{HeaderExtensionType}
 use Rattle.qcow2_metadata.specs.declared.header.extension.HeaderExtensionType.TheVariants as kind
 use Rattle.qcow2_metadata.specs.declared.header.feature.FeatureType.TheVariants.{Autoclear, Compatible, Incompatible}
 
@@ -160,93 +164,134 @@ storable-reads_back (FeatureNameTable names) storable =
 storable-reads_back (Unknown number content) storable =
     (storable.0, λ zero. storable.1 kind.End (sym zero), parsed-unknown number content storable.1)
 
--- the texts of names in memory are text
-names_of-texts : (entries : List (FeatureKey × String Global))
-    → All (λ (named : FeatureKey × List ℕ). IsUtf8 named.1) (map (λ entry. (entry.0, string_bytes entry.1)) entries)
-names_of-texts [] = All-nil (λ (named : FeatureKey × List ℕ). IsUtf8 named.1)
-names_of-texts (entry ∷ entries) =
-    All-cons (λ (named : FeatureKey × List ℕ). IsUtf8 named.1) (entry.0, string_bytes entry.1)
-    (map (λ other. (other.0, string_bytes other.1)) entries) (IsUtf8-string_bytes entry.1) (names_of-texts entries)
+-- what stands before the first zero byte is the list's front
+until_zero-take : (bytes : List ℕ) → until_zero bytes ≡ take (length (until_zero bytes)) bytes
+until_zero-take [] = refl
+until_zero-take (byte ∷ bytes) =
+    let rest = until_zero-take bytes in
+    elim (cases_Bool (byte == 0)) [
+      | inl ends ↦ rw ends refl
+      | inr more ↦ rw more (ap (λ (text : List ℕ). byte ∷ text) rest)
+    ]
 
--- the keys of names in memory are those of the map
-keys_of-names_of : (entries : List (FeatureKey × String Global))
-    → keys_of (map (λ entry. (entry.0, string_bytes entry.1)) entries) ≡ keys_of entries
-keys_of-names_of [] = refl
-keys_of-names_of (entry ∷ entries) = ap (λ keys. entry.0 ∷ keys) (keys_of-names_of entries)
+-- it has no zero byte
+until_zero-once : (bytes : List ℕ) → until_zero (until_zero bytes) ≡ until_zero bytes
+until_zero-once [] = refl
+until_zero-once (byte ∷ bytes) =
+    let rest = until_zero-once bytes in
+    elim (cases_Bool (byte == 0)) [
+      | inl ends ↦ rw ends refl
+      | inr more ↦ rw (more, more) (ap (λ (text : List ℕ). byte ∷ text) rest)
+    ]
 
--- names in memory are in the order of their keys, as those of an image
-pub ordered-storable : (names : BTreeMap FeatureKey (String Global)) → IsOrdered key_cmp names
-    → IsStorable (FeatureNameTable (names_of names))
-ordered-storable names ordered = (
-  subst (IsStrictlySortedBy key_cmp) (sym (keys_of-names_of names.entries)) ordered,
-  names_of-texts names.entries,
-)
+-- bytes without a zero byte begin with none, and the others have none
+until_zero-cons : (byte : ℕ) (bytes : List ℕ) → until_zero (byte ∷ bytes) ≡ byte ∷ bytes
+    → (byte == 0 ≡ false) × (until_zero bytes ≡ bytes)
+until_zero-cons byte bytes none =
+    elim (cases_Bool (byte == 0)) [
+      | inl ends ↦
+          let nothing : until_zero (byte ∷ bytes) ≡ [] = rw ends refl in
+          cc
+      | inr more ↦
+          let some : until_zero (byte ∷ bytes) ≡ byte ∷ until_zero bytes = rw more refl in
+          (more, cc)
+    ]
 
--- the backing file's name in memory is text
-pub name-text : (name : Option (String Global)) → IfSome (option_map string_bytes name) IsUtf8
-name-text None = tt
-name-text (Some name) = IsUtf8-string_bytes name
+-- the front of bytes without a zero byte has none
+until_zero-front : (front last : List ℕ) → until_zero (front ++ last) ≡ front ++ last
+    → until_zero front ≡ front
+until_zero-front [] last none = refl
+until_zero-front (byte ∷ front) last none =
+    let more = until_zero-cons byte (front ++ last) none in
+    rw more.0 (ap (λ (text : List ℕ). byte ∷ text) (until_zero-front front last more.1))
 
--- what features are called in new images is in the order of the keys
-known_names-ordered : IsStrictlySortedBy key_cmp (keys_of known_names)
-unfolding IsStrictlySortedBy
-known_names-ordered = (
-  (refl, (refl, (refl, (refl, (refl, (refl, (refl, tt))))))),
-  (
-    (refl, (refl, (refl, (refl, (refl, (refl, tt)))))),
-    (
-      (refl, (refl, (refl, (refl, (refl, tt))))),
-      (
-        (refl, (refl, (refl, (refl, tt)))),
-        (
-          (refl, (refl, (refl, tt))),
-          (
-            (refl, (refl, tt)),
-            (
-              (refl, tt),
-              (
-                tt,
-                tt,
-              ),
-            ),
-          ),
-        ),
-      ),
-    ),
-  ),
-)
+-- behind bytes without a zero byte the next ones count
+until_zero-behind : (front last : List ℕ) → until_zero front ≡ front
+    → until_zero (front ++ last) ≡ front ++ until_zero last
+until_zero-behind [] last none = refl
+until_zero-behind (byte ∷ front) last none =
+    let more = until_zero-cons byte front none in
+    rw more.0 (ap (λ (text : List ℕ). byte ∷ text) (until_zero-behind front last more.1))
 
--- names of which each is text
-all_texts : (names : FeatureNames) → list_all (λ named. is_utf8 named.1) names ≡ true → All (λ (named : FeatureKey × List ℕ). IsUtf8 named.1) names
-all_texts names test = All-from_recursion (λ (named : FeatureKey × List ℕ). IsUtf8 named.1) names (each names test)
-  where
-    each : (names : FeatureNames) → list_all (λ named. is_utf8 named.1) names ≡ true → AllByRecursion (λ (named : FeatureKey × List ℕ). IsUtf8 named.1) names
-    each [] test = tt
-    each (named ∷ names) test =
-        let tests = and_parts (is_utf8 named.1) (list_all (λ other. is_utf8 other.1) names) test in
-        (IsUtf8-from_is_utf8 named.1 tests.0, each names tests.1)
+-- the first bytes of U+FFFD have no zero byte
+until_zero-replacement : (n : ℕ) → until_zero (take n replacement_bytes) ≡ take n replacement_bytes
+until_zero-replacement zero = refl
+until_zero-replacement (suc zero) = refl
+until_zero-replacement (suc (suc zero)) = refl
+until_zero-replacement (suc (suc (suc zero))) = refl
+until_zero-replacement (suc (suc (suc (suc n)))) = refl
 
--- what features are called in new images can be stored
-pub known_names-storable : IsStorable (FeatureNameTable known_names)
-unfolding is_utf8 chars encode
-known_names-storable = (known_names-ordered, all_texts known_names refl)
+-- of at most 46 bytes without a zero byte, text that is cut reads back as what it was read as
+normal_name-lossy : (bytes : List ℕ) → length bytes ≤ 46 → until_zero bytes ≡ bytes → IsCutText bytes
+    → normal_name (utf8_lossy bytes) ≡ utf8_lossy bytes
+normal_name-lossy bytes short none (inl text) =
+    let kept = utf8_lossy-IsUtf8 bytes text in
+    rw (kept, take_all 46 bytes short, none) kept
+normal_name-lossy bytes short none (inr (front, last, is, text, cut)) =
+    let n : ℕ = 46 - length front in
+    let some : 0 < n = omega (arith, ap length is, length-append front last, cut.some) in
+    let count : 46 ≡ length front + n = omega arith in
+    let lossy : utf8_lossy bytes ≡ front ++ replacement_bytes =
+    ap utf8_lossy is ∙ utf8_lossy-cut front last text cut in
+    let clean = until_zero-front front last (subst (λ (all : List ℕ). until_zero all ≡ all) is none) in
+    let first : take 46 (front ++ replacement_bytes) ≡ front ++ take n replacement_bytes =
+    ap (λ (i : ℕ). take i (front ++ replacement_bytes)) count ∙ take-append-add front replacement_bytes n in
+    let whole : until_zero (front ++ take n replacement_bytes) ≡ front ++ take n replacement_bytes =
+    until_zero-behind front _ clean ∙ ap (λ (tail : List ℕ). front ++ tail) (until_zero-replacement n) in
+    rw (lossy, first, whole) (utf8_lossy-replaced front n text some)
 
--- the extensions of a new image can be stored
-pub new_extensions-storable : (format data_file : Option (String Global))
-    → All IsStorable
-    (FeatureNameTable known_names
-    ∷ map BackingFileFormat (option_to_list (option_map string_bytes format))
-    ++ map ExternalDataFileName (option_to_list (option_map string_bytes data_file)))
-new_extensions-storable format data_file = All-cons IsStorable (FeatureNameTable known_names) _ known_names-storable (texts format data_file)
-  where
-    texts : (format data_file : Option (String Global))
-        → All IsStorable
-        (map BackingFileFormat (option_to_list (option_map string_bytes format))
-        ++ map ExternalDataFileName (option_to_list (option_map string_bytes data_file)))
-    texts None None = All-nil IsStorable
-    texts None (Some name) = All-cons IsStorable (ExternalDataFileName (string_bytes name)) [] (IsUtf8-string_bytes name) (All-nil IsStorable)
-    texts (Some name) None = All-cons IsStorable (BackingFileFormat (string_bytes name)) [] (IsUtf8-string_bytes name) (All-nil IsStorable)
-    texts (Some name) (Some other) =
-        All-cons IsStorable (BackingFileFormat (string_bytes name)) (ExternalDataFileName (string_bytes other) ∷ [])
-        (IsUtf8-string_bytes name)
-        (All-cons IsStorable (ExternalDataFileName (string_bytes other)) [] (IsUtf8-string_bytes other) (All-nil IsStorable))
+-- what a name reads back as reads back as itself
+pub normal_name-once : (name : List ℕ) → IsUtf8 name → normal_name (normal_name name) ≡ normal_name name
+normal_name-once name text =
+    let held = take 46 name in
+    let bytes = until_zero held in
+    let front = until_zero-take held in
+    let short : length bytes ≤ 46 =
+    omega (arith, ap length front, length-take (length bytes) held, length-take 46 name) in
+    let cut : bytes ≡ take (length bytes) name = front ∙ take-take (length bytes) 46 name short in
+    normal_name-lossy bytes short (until_zero-once held)
+    (subst IsCutText (sym cut) (IsCutText-take name (length bytes) text))
+
+-- to change each element twice is to do so once, where that holds of each
+map-once : {X : Type 0} (change : X → X) (P : X → Type 0)
+    → ((x : X) → P x → change (change x) ≡ change x) → (xs : List X) → All P xs
+    → map change (map change xs) ≡ map change xs
+map-once change P once [] all = refl
+map-once change P once (x ∷ xs) all =
+    let first = once x (All-head P x xs all) in
+    let rest = map-once change P once xs (All-tail P x xs all) in
+    cc
+
+-- what an extension reads back as reads back as itself
+pub normal_extension-once : (extension : Extension) → IsStorable extension
+    → normal_extension (normal_extension extension) ≡ normal_extension extension
+normal_extension-once (BackingFileFormat name) storable = refl
+normal_extension-once (ExternalDataFileName name) storable = refl
+normal_extension-once (FeatureNameTable names) storable =
+    let once = λ (named : FeatureKey × List ℕ) (text : IsUtf8 named.1).
+    ap (λ (name : List ℕ). (named.0, name)) (normal_name-once named.1 text) in
+    ap FeatureNameTable (map-once normal_named (λ named. IsUtf8 named.1) once names storable.1)
+normal_extension-once (Unknown number content) storable = refl
+
+-- and so do all of them
+pub normal_extensions-once : (extensions : List Extension) → All IsStorable extensions
+    → map normal_extension (map normal_extension extensions) ≡ map normal_extension extensions
+normal_extensions-once extensions all =
+    map-once normal_extension IsStorable normal_extension-once extensions all
+
+-- its texts are UTF-8
+abbrev pub HasTexts : Extension → Type 0
+HasTexts (BackingFileFormat name) = IsUtf8 name
+HasTexts (ExternalDataFileName name) = IsUtf8 name
+HasTexts (FeatureNameTable names) = All (λ named. IsUtf8 named.1) names
+HasTexts (Unknown number content) = ⊤
+
+-- the texts of an extension in memory are UTF-8
+pub held-texts : (extension : HeaderExtension) → HasTexts (extension_of extension)
+held-texts (held.BackingFileFormat name) = IsUtf8-string_bytes name
+held-texts (held.ExternalDataFileName name) = IsUtf8-string_bytes name
+held-texts (held.FeatureNameTable names) =
+    let named : FeatureKey × String Global → FeatureKey × List ℕ = λ entry. (entry.0, string_bytes entry.1) in
+    All-map (λ (other : FeatureKey × List ℕ). IsUtf8 other.1) named names.entries
+    (λ k d below. IsUtf8-string_bytes (get_or names.entries k d).1)
+held-texts (held.Unknown number content) = tt

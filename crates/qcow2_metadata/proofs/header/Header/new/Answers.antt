@@ -2,7 +2,7 @@ use Rattle.std.proofs.Common.{rules, ◌≡◌, ◌++◌, ◌∷◌, map, option
 use Rattle.std.specs.Prelude.{option_to_list}
 use Rattle.qcow2_metadata.specs.Header.{known_names}
 use Rattle.qcow2_metadata.specs.Header.Extensions.{BackingFileFormat, ExternalDataFileName, FeatureNameTable, extension_of}
-use Rattle.qcow2_metadata.proofs.NamesLemmas.{name-text, new_extensions-storable}
+use Rattle.qcow2_metadata.proofs.StorableLemmas.{name-text, new_extensions-storable}
 use Rattle.qcow2_metadata.proofs.header.Header.new.Goals as goal
 
 pub invariant_of-result : goal.invariant_of-result

@@ -6,7 +6,7 @@ use Rattle.qcow2_base.specs.Storage.{Image}
 use Rattle.qcow2_base.specs.declared.on_disk_struct.v3_header_base.V3HeaderBase.{V3HeaderBase}
 use Rattle.qcow2_metadata.proofs.GrammarLemmas.{provided-ok}
 use Rattle.qcow2_metadata.proofs.LoadLemmas.{HasParts, header-extensions-fault, header-last-fault, header-name-fault, header-whole}
-use Rattle.qcow2_metadata.proofs.NamesLemmas.{name-text}
+use Rattle.qcow2_metadata.proofs.StorableLemmas.{name-text}
 use Rattle.qcow2_metadata.specs.Header.Extensions.{extension_of}
 use Rattle.qcow2_metadata.specs.Header.Grammar.{backing_name, header_extensions, last_conditions}
 use Rattle.qcow2_metadata.proofs.header.load.read_other_parts.Goals as goal

@@ -1,0 +1,105 @@
+use Rattle.std.proofs.Common.{◌≡◌, List, [], ◌∷◌, ◌++◌, ℕ, map, refl, sym, ap, subst}
+use lib.Utf8.{encode}
+use Rattle.std.specs.Prelude.{All, true, IfSome, None, Option, Some, String, option_to_list, option_map, string_bytes}
+use Rattle.std.proofs.lemmas.Bool.{and_parts}
+use Rattle.std.proofs.lemmas.List.Elements.{All-cons, All-from_recursion, All-nil}
+use Rattle.std.proofs.lemmas.Str.{IsUtf8-from_is_utf8, IsUtf8-string_bytes}
+use Rattle.std.specs.BTreeMap.{BTreeMap, IsOrdered}
+use Rattle.std.specs.Global.{Global}
+use Rattle.std.specs.List.{AllByRecursion, list_all}
+use Rattle.std.specs.List.Sorted.{IsStrictlySortedBy}
+use Rattle.std.specs.Map.{keys_of}
+use Rattle.std.specs.Str.{IsUtf8, chars, is_utf8}
+use Rattle.qcow2_metadata.specs.Header.{IsStorable, known_names}
+use Rattle.qcow2_metadata.specs.Header.Extensions.{BackingFileFormat, Extension, ExternalDataFileName, FeatureKey, FeatureNameTable, FeatureNames, key_cmp, names_of}
+
+-- the texts of names in memory are text
+names_of-texts : (entries : List (FeatureKey × String Global))
+    → All (λ (named : FeatureKey × List ℕ). IsUtf8 named.1) (map (λ entry. (entry.0, string_bytes entry.1)) entries)
+names_of-texts [] = All-nil (λ (named : FeatureKey × List ℕ). IsUtf8 named.1)
+names_of-texts (entry ∷ entries) =
+    All-cons (λ (named : FeatureKey × List ℕ). IsUtf8 named.1) (entry.0, string_bytes entry.1)
+    (map (λ other. (other.0, string_bytes other.1)) entries) (IsUtf8-string_bytes entry.1) (names_of-texts entries)
+
+-- the keys of names in memory are those of the map
+keys_of-names_of : (entries : List (FeatureKey × String Global))
+    → keys_of (map (λ entry. (entry.0, string_bytes entry.1)) entries) ≡ keys_of entries
+keys_of-names_of [] = refl
+keys_of-names_of (entry ∷ entries) = ap (λ keys. entry.0 ∷ keys) (keys_of-names_of entries)
+
+-- names in memory are in the order of their keys, as those of an image
+pub ordered-storable : (names : BTreeMap FeatureKey (String Global)) → IsOrdered key_cmp names
+    → IsStorable (FeatureNameTable (names_of names))
+ordered-storable names ordered = (
+  subst (IsStrictlySortedBy key_cmp) (sym (keys_of-names_of names.entries)) ordered,
+  names_of-texts names.entries,
+)
+
+-- the backing file's name in memory is text
+pub name-text : (name : Option (String Global)) → IfSome (option_map string_bytes name) IsUtf8
+name-text None = tt
+name-text (Some name) = IsUtf8-string_bytes name
+
+-- what features are called in new images is in the order of the keys
+known_names-ordered : IsStrictlySortedBy key_cmp (keys_of known_names)
+unfolding IsStrictlySortedBy
+known_names-ordered = (
+  (refl, (refl, (refl, (refl, (refl, (refl, (refl, tt))))))),
+  (
+    (refl, (refl, (refl, (refl, (refl, (refl, tt)))))),
+    (
+      (refl, (refl, (refl, (refl, (refl, tt))))),
+      (
+        (refl, (refl, (refl, (refl, tt)))),
+        (
+          (refl, (refl, (refl, tt))),
+          (
+            (refl, (refl, tt)),
+            (
+              (refl, tt),
+              (
+                tt,
+                tt,
+              ),
+            ),
+          ),
+        ),
+      ),
+    ),
+  ),
+)
+
+-- names of which each is text
+all_texts : (names : FeatureNames) → list_all (λ named. is_utf8 named.1) names ≡ true → All (λ (named : FeatureKey × List ℕ). IsUtf8 named.1) names
+all_texts names test = All-from_recursion (λ (named : FeatureKey × List ℕ). IsUtf8 named.1) names (each names test)
+  where
+    each : (names : FeatureNames) → list_all (λ named. is_utf8 named.1) names ≡ true → AllByRecursion (λ (named : FeatureKey × List ℕ). IsUtf8 named.1) names
+    each [] test = tt
+    each (named ∷ names) test =
+        let tests = and_parts (is_utf8 named.1) (list_all (λ other. is_utf8 other.1) names) test in
+        (IsUtf8-from_is_utf8 named.1 tests.0, each names tests.1)
+
+-- what features are called in new images can be stored
+pub known_names-storable : IsStorable (FeatureNameTable known_names)
+unfolding is_utf8 chars encode
+known_names-storable = (known_names-ordered, all_texts known_names refl)
+
+-- the extensions of a new image can be stored
+pub new_extensions-storable : (format data_file : Option (String Global))
+    → All IsStorable
+    (FeatureNameTable known_names
+    ∷ map BackingFileFormat (option_to_list (option_map string_bytes format))
+    ++ map ExternalDataFileName (option_to_list (option_map string_bytes data_file)))
+new_extensions-storable format data_file = All-cons IsStorable (FeatureNameTable known_names) _ known_names-storable (texts format data_file)
+  where
+    texts : (format data_file : Option (String Global))
+        → All IsStorable
+        (map BackingFileFormat (option_to_list (option_map string_bytes format))
+        ++ map ExternalDataFileName (option_to_list (option_map string_bytes data_file)))
+    texts None None = All-nil IsStorable
+    texts None (Some name) = All-cons IsStorable (ExternalDataFileName (string_bytes name)) [] (IsUtf8-string_bytes name) (All-nil IsStorable)
+    texts (Some name) None = All-cons IsStorable (BackingFileFormat (string_bytes name)) [] (IsUtf8-string_bytes name) (All-nil IsStorable)
+    texts (Some name) (Some other) =
+        All-cons IsStorable (BackingFileFormat (string_bytes name)) (ExternalDataFileName (string_bytes other) ∷ [])
+        (IsUtf8-string_bytes name)
+        (All-cons IsStorable (ExternalDataFileName (string_bytes other)) [] (IsUtf8-string_bytes other) (All-nil IsStorable))
