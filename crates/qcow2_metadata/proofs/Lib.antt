@@ -1,6 +1,7 @@
 mod EntriesExamples
 mod GrammarExamples
 mod TableExamples
+mod TextExamples
 pub mod ChainLemmas
 pub mod ChunkLemmas
 pub mod ClusterLemmas

@@ -118,8 +118,8 @@ written_text with_names extension = if with_names || is_other extension then ext
 
 -- the header that is written: the whole one, or that without feature names
 abbrev pub chosen : Bool → HeaderRecord → HeaderRecord
-chosen true header = header
-chosen false header = bare header
+chosen with_names header =
+    record header { extensions = chosen_extensions with_names header.extensions }
 
 -- whether its text fits the first cluster
 abbrev pub fits : HeaderRecord → Bool

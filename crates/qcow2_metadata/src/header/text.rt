@@ -213,3 +213,23 @@ fn push_extensions(
     }
     push_zeros(text, 8)
 }
+
+// Puts the parts of a header behind the text.
+fn push_parts(
+    text: &mut Vec<u8>,
+    v2: &V2Header,
+    base: &V3HeaderBase,
+    unknown_header_fields: &[u8],
+) -> Result<(), AllocError>
+    ensures { OnOk result (text.new.items
+        ≡ text.old.items ++ parts_text v2.now base.now unknown_header_fields.now) }
+{
+    let mut bytes = [0u8; FIXED_BYTES];
+    write_be(&mut bytes, 0, v2);
+    if v2.version != 3 {
+        return push_bytes(text, &bytes[..V2Header::ON_DISK_SIZE]);
+    }
+    write_be(&mut bytes, V2Header::ON_DISK_SIZE, base);
+    push_bytes(text, &bytes)?;
+    push_padded(text, unknown_header_fields)
+}
