@@ -21,7 +21,7 @@ use Rattle.qcow2_metadata.specs.Header.{HeaderRecord, IsLawfulHeader, name_in, n
 use Rattle.qcow2_metadata.specs.Header.Chain.{IsEnd, SaysExtensions, link_at}
 use Rattle.qcow2_metadata.specs.Header.Extensions.{BackingFileFormat, Extension, ExternalDataFileName, FeatureNameTable, Unknown}
 use Rattle.qcow2_metadata.specs.Header.Grammar.{AreSame, HasExtensions, IsBackingName, IsBase, IsHeader}
-use Rattle.qcow2_metadata.specs.Header.Text.{bare, data_of, extension_header_of, extension_text, extensions_text, fields_text, fits, header_end, header_text, is_short, name_place, kept, normal, normal_extension, number_of, padded, parts_text, placed, placed_base, placed_v2}
+use Rattle.qcow2_metadata.specs.Header.Text.{AreFitting, bare, data_of, extension_header_of, extension_text, extensions_text, fields_text, fits, header_end, header_text, is_short, name_place, kept, normal, normal_extension, number_of, padded, parts_text, placed, placed_base, placed_v2}
 use Rattle.qcow2_metadata.specs.Range.{bytes_at}
 use Rattle.qcow2_metadata.specs.declared.header.extension.HeaderExtensionType.{HeaderExtensionType}
 use Rattle.qcow2_metadata.specs.declared.header.extension.HeaderExtensionType.TheVariants as kind
@@ -33,10 +33,6 @@ use Rattle.qcow2_metadata.proofs.RangeLemmas.{held-bytes_at}
 -- a field's value fits its bytes
 abbrev IsFitting : LayoutField → Type 0
 IsFitting f = f.value < 256 ^ f.size
-
--- and each field's does
-abbrev pub AreFitting : List LayoutField → Type 0
-AreFitting fields = All (λ f. f.value < 256 ^ f.size) fields
 
 -- the fields are big-endian, and each begins where the one before it ends
 abbrev pub AreJoined : ℕ → List LayoutField → Type 0
@@ -175,28 +171,21 @@ same-bytes bytes text count held =
     ext_get_or 0 bytes text count
     (λ i below. let same : 0 + i ≡ i = omega arith in sym (rw same at (held.each i (omega arith))))
 
--- bytes that hold both parts of a header are their text
-pub layout-text : (bytes : List ℕ) (v2 : V2Header) (base : V3HeaderBase) → IsBytes (image_of bytes)
-    → length bytes ≡ 104 → HoldsLayout (image_of bytes) (moved 0 (v2_header v2))
-    → HoldsLayout (image_of bytes) (moved 72 (v3_header_base base))
-    → (bytes ≡ fields_text (v2_header v2) ++ fields_text (v3_header_base base))
-    × AreFitting (v2_header v2) × AreFitting (v3_header_base base)
-layout-text bytes v2 base small count first second =
-    let image = image_of bytes in
-    let v2_text = fields_text (v2_header v2) in
-    let base_text = fields_text (v3_header_base base) in
-    let v2_held = fields-text image 0 0 (v2_header v2) small (v2-joined v2) first in
-    let base_held = fields-text image 72 0 (v3_header_base base) small (base-joined base) second in
-    let held = Holds-append image 0 v2_text base_text v2_held.0 base_held.0 in
-    (same-bytes bytes (v2_text ++ base_text) count held, v2_held.1, base_held.1)
-
--- bytes that hold the first part alone are its text
-pub layout-text-older : (bytes : List ℕ) (v2 : V2Header) → IsBytes (image_of bytes) → length bytes ≡ 72
+-- bytes that hold the first part of a header are its text
+pub layout-text-v2 : (bytes : List ℕ) (v2 : V2Header) → IsBytes (image_of bytes) → length bytes ≡ 72
     → HoldsLayout (image_of bytes) (moved 0 (v2_header v2))
     → (bytes ≡ fields_text (v2_header v2)) × AreFitting (v2_header v2)
-layout-text-older bytes v2 small count held =
+layout-text-v2 bytes v2 small count held =
     let text = fields-text (image_of bytes) 0 0 (v2_header v2) small (v2-joined v2) held in
     (same-bytes bytes (fields_text (v2_header v2)) count text.0, text.1)
+
+-- and those that hold the second part are its text
+pub layout-text-base : (bytes : List ℕ) (base : V3HeaderBase) → IsBytes (image_of bytes) → length bytes ≡ 32
+    → HoldsLayout (image_of bytes) (moved 0 (v3_header_base base))
+    → (bytes ≡ fields_text (v3_header_base base)) × AreFitting (v3_header_base base)
+layout-text-base bytes base small count held =
+    let text = fields-text (image_of bytes) 0 0 (v3_header_base base) small (base-joined base) held in
+    (same-bytes bytes (fields_text (v3_header_base base)) count text.0, text.1)
 
 -- bytes that hold what stands before an extension's data are its text
 pub layout-text-extension : (bytes : List ℕ) (header : HeaderExtensionHeader) → IsBytes (image_of bytes)

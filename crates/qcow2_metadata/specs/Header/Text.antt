@@ -1,4 +1,4 @@
-use Rattle.std.specs.Prelude.{◌≡◌, ℕ, ◌+◌, ◌-◌, ◌^◌, ◌==◌, nat_le, ◌||◌, Bool, true, false, if◌then◌else◌, List, [], ◌∷◌, ◌++◌, length, map, take, replicate, Option, Some, None, Result, Ok, Err}
+use Rattle.std.specs.Prelude.{◌≡◌, All, ℕ, ◌<◌, ◌+◌, ◌-◌, ◌^◌, ◌==◌, nat_le, ◌||◌, Bool, true, false, if◌then◌else◌, List, [], ◌∷◌, ◌++◌, length, map, take, replicate, Option, Some, None, Result, Ok, Err}
 use Rattle.std.specs.Int.{bytes_high_first, next_multiple_of}
 use Rattle.std.specs.List.{filter, flat_map}
 use Rattle.std.specs.Str.Lossy.{utf8_lossy}
@@ -20,6 +20,10 @@ use Rattle.qcow2_metadata.specs.declared.header.extension.HeaderExtensionType.Th
 -- the bytes of fields that follow one another, the most significant one of each first
 abbrev pub fields_text : List LayoutField → List ℕ
 fields_text fields = flat_map (λ f. bytes_high_first f.size f.value) fields
+
+-- each field's value fits its bytes
+abbrev pub AreFitting : List LayoutField → Type 0
+AreFitting fields = All (λ f. f.value < 256 ^ f.size) fields
 
 -- the bytes, and zeros up to a multiple of 8 of them
 abbrev pub padded : List ℕ → List ℕ
@@ -67,12 +71,19 @@ header_end header = elim (header.v2.version == 3) [
 abbrev pub name_place : HeaderRecord → ℕ
 name_place header = header_end header + length (extensions_text header.extensions)
 
+-- the backing file's name as it is written
+abbrev pub name_text : Option (List ℕ) → List ℕ
+name_text None = []
+name_text (Some name) = name
+
 -- the first part with the place and the length of the backing file's name, 0 and 0 where there is none
+abbrev pub v2_with_name : V2Header → ℕ → Option (List ℕ) → V2Header
+v2_with_name v2 place None = record v2 { backing_file_offset = 0; backing_file_size = 0 }
+v2_with_name v2 place (Some name) = record v2 { backing_file_offset = place; backing_file_size = length name }
+
+-- the first part as it is written
 abbrev pub placed_v2 : HeaderRecord → V2Header
-placed_v2 header = elim header.backing_filename [
-  | None ↦ record header.v2 { backing_file_offset = 0; backing_file_size = 0 }
-  | Some name ↦ record header.v2 { backing_file_offset = name_place header; backing_file_size = length name }
-]
+placed_v2 header = v2_with_name header.v2 (name_place header) header.backing_filename
 
 -- the second part with the header's length; version 2 has none that is written
 abbrev pub placed_base : HeaderRecord → V3HeaderBase
@@ -95,8 +106,7 @@ parts_text header = elim (header.v2.version == 3) [
 
 -- the bytes of a header: its parts, the extensions, and the backing file's name, with nothing behind it
 unfoldable pub header_text : HeaderRecord → List ℕ
-header_text header = parts_text header ++ extensions_text header.extensions
-    ++ elim header.backing_filename [ None ↦ [] | Some name ↦ name ]
+header_text header = parts_text header ++ extensions_text header.extensions ++ name_text header.backing_filename
 
 -- whether an extension is other than a table of feature names
 abbrev pub is_other : Extension → Bool
@@ -163,11 +173,11 @@ normal header = record header {
   extensions = map normal_extension header.extensions;
 }
 
--- where the parts of a header's text lie: where the extensions begin, where the backing file's name begins, and
--- how many bytes there are, which fit the first cluster
+-- a header that is about to be written: its fixed parts with the places of its text, and how many bytes that has,
+-- which fit the first cluster
 pub record IsLayout (header : HeaderRecord) (layout : Layout) : Type 0 where
-  pub header_end : layout.header_end ≡ header_end header
-  pub name_place : layout.name_place ≡ name_place header
+  pub v2 : layout.v2 ≡ placed_v2 header
+  pub base : layout.base ≡ placed_base header
   pub len : layout.len ≡ length (header_text header)
   pub fits : fits header ≡ true
 

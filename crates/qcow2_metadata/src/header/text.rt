@@ -1,11 +1,11 @@
 //! The text of a header: the bytes that a write places at the start of an image.
 
-ghost use Rattle.std.specs.Prelude.{◌≡◌, ◌+◌, ◌*◌, ◌^◌, ◌<◌, ◌≤◌, ◌++◌, All, IfOk, MatchOption, SomeIff, OnOk, if◌then◌else◌, is_ok, length, map, replicate};
+ghost use Rattle.std.specs.Prelude.{◌≡◌, ◌≢◌, ◌+◌, ◌*◌, ◌^◌, ◌<◌, ◌≤◌, ◌++◌, All, IfOk, IfSome, MatchOption, SomeIff, OnOk, if◌then◌else◌, false, ◌==◌, is_ok, length, map, replicate};
 ghost use Rattle.std.specs.List.{flat_map};
 ghost use Rattle.qcow2_base.specs.OnDiskStruct.{header_extension_header, v2_header, v3_header_base};
 ghost use Rattle.qcow2_base.specs.Storage.{IsBytes, image_of};
 ghost use Rattle.qcow2_metadata.specs.Header.Extensions.{extension_of, names_of};
-ghost use Rattle.qcow2_metadata.specs.Header.Text.{number_of, IsLayout, chosen, chosen_extensions, data_of, extension_text, extensions_text, fields_text, fits, header_text, is_other, name_chunk, padded, placed_base, placed_v2, written_text};
+ghost use Rattle.qcow2_metadata.specs.Header.Text.{AreFitting, parts_text, name_text, header_end, v2_with_name, number_of, IsLayout, chosen, chosen_extensions, data_of, extension_text, extensions_text, fields_text, fits, header_text, is_other, name_chunk, padded, placed_base, placed_v2, written_text};
 
 use super::extension::FEATURE_NAME_BYTES;
 use super::load::FIXED_BYTES;
@@ -17,15 +17,140 @@ use std::collections::BTreeMap;
 /// How many bytes of a feature's name a table has room for.
 const FEATURE_NAME_LEN: usize = FEATURE_NAME_BYTES - 2;
 
-/// Where the parts of a header's text lie, in bytes from the start of the image.
-#[derive(Clone, Copy)]
+/// What a write places and leaves: the fixed parts of the header with the places of its text.
 pub(super) struct Layout {
-    /// Where the extensions begin.
-    pub(super) header_end: usize,
-    /// Where the backing file's name begins.
-    pub(super) name_place: usize,
-    /// How many bytes there are.
+    /// Whether tables of feature names are written.
+    pub(super) with_names: bool,
+    /// The first part.
+    pub(super) v2: V2Header,
+    /// The second part.
+    pub(super) base: V3HeaderBase,
+    /// How many bytes the text has.
     pub(super) len: usize,
+}
+
+impl Header {
+    // The layout of its text, with feature names or without; none where the text doesn't fit the first
+    // cluster.
+    pub(super) fn layout(&self, with_names: bool) -> Option<Layout>
+        ensures layout { MatchOption result (fits (chosen with_names self.now) ≡ false)
+            (IsLayout (chosen with_names self.now)) }
+        ensures names { IfSome result (λ layout. layout.with_names ≡ with_names) }
+    {
+        let header_end = self.header_end()?;
+        let name_place = header_end.checked_add(extensions_len(&self.extensions, with_names)?)?;
+        let len = name_place.checked_add(self.backing_filename_len())?;
+        if len > self.cluster_size() {
+            return None;
+        }
+        Some(Layout {
+            with_names,
+            v2: self.placed_v2(name_place),
+            base: self.placed_base(header_end),
+            len,
+        })
+    }
+
+    // Where the extensions begin.
+    fn header_end(&self) -> Option<usize>
+        ensures { SomeIff result (header_end self.now < 2 ^ 64) (header_end self.now) }
+    {
+        if self.v2.version != 3 {
+            return Some(V2Header::ON_DISK_SIZE);
+        }
+        self.unknown_header_fields
+            .len()
+            .checked_next_multiple_of(8)?
+            .checked_add(FIXED_BYTES)
+    }
+
+    // How many bytes the backing file's name has.
+    pub(super) fn backing_filename_len(&self) -> usize
+        ensures { result ≡ length (name_text self.now.backing_filename) }
+    {
+        match &self.backing_filename {
+            Some(name) => name.len(),
+            None => 0,
+        }
+    }
+
+    // The first part of a header whose name lies at a place.
+    fn placed_v2(&self, name_place: usize) -> V2Header
+        requires { length (name_text self.now.backing_filename) < 2 ^ 32 }
+        ensures { result ≡ v2_with_name self.now.v2 name_place self.now.backing_filename }
+    {
+        match &self.backing_filename {
+            Some(name) => V2Header {
+                backing_file_offset: name_place as u64,
+                backing_file_size: name.len() as u32,
+                ..self.v2
+            },
+            None => V2Header {
+                backing_file_offset: 0,
+                backing_file_size: 0,
+                ..self.v2
+            },
+        }
+    }
+
+    // The second part of a header whose extensions begin at a place.
+    fn placed_base(&self, header_end: usize) -> V3HeaderBase
+        requires { header_end < 2 ^ 32 }
+        ensures { result ≡ (if self.now.v2.version == 3
+            then record self.now.base { header_length = header_end } else self.now.base) }
+    {
+        if self.v2.version != 3 {
+            return self.base;
+        }
+        V3HeaderBase {
+            header_length: header_end as u32,
+            ..self.base
+        }
+    }
+
+    // The text of that layout, in one buffer of its length.
+    pub(super) fn text(&self, layout: &Layout) -> Result<Vec<u8>, AllocError>
+        requires { IsLayout (chosen layout.now.with_names self.now) layout.now }
+        ensures text { IfOk result (λ text.
+            text.items ≡ header_text (chosen layout.now.with_names self.now)) }
+        ensures v2_fits { OnOk result (AreFitting (v2_header layout.now.v2)) }
+        ensures base_fits { OnOk result
+            (self.now.v2.version ≡ 3 → AreFitting (v3_header_base layout.now.base)) }
+    {
+        let mut text = Vec::with_capacity(self.alloc, layout.len)?;
+        self.push_parts(&mut text, layout)?;
+        push_extensions(&mut text, &self.extensions, layout.with_names)?;
+        self.push_backing_filename(&mut text)?;
+        Ok(text)
+    }
+
+    // Puts what stands before the extensions behind the text.
+    fn push_parts(&self, text: &mut Vec<u8>, layout: &Layout) -> Result<(), AllocError>
+        requires { IsLayout (chosen layout.now.with_names self.now) layout.now }
+        ensures pushed { OnOk result (text.new.items
+            ≡ text.old.items ++ parts_text (chosen layout.now.with_names self.now)) }
+        ensures v2_fits { OnOk result (AreFitting (v2_header layout.now.v2)) }
+        ensures base_fits { OnOk result
+            (self.now.v2.version ≡ 3 → AreFitting (v3_header_base layout.now.base)) }
+    {
+        push_v2(text, &layout.v2)?;
+        if self.v2.version != 3 {
+            return Ok(());
+        }
+        push_base(text, &layout.base)?;
+        push_padded(text, &self.unknown_header_fields)
+    }
+
+    // Puts the backing file's name behind the text.
+    fn push_backing_filename(&self, text: &mut Vec<u8>) -> Result<(), AllocError>
+        ensures { OnOk result
+            (text.new.items ≡ text.old.items ++ name_text self.now.backing_filename) }
+    {
+        match &self.backing_filename {
+            Some(name) => text.extend_from_slice(name.as_bytes()),
+            None => Ok(()),
+        }
+    }
 }
 
 impl HeaderExtension {
@@ -214,22 +339,24 @@ fn push_extensions(
     push_zeros(text, 8)
 }
 
-// Puts the parts of a header behind the text.
-fn push_parts(
-    text: &mut Vec<u8>,
-    v2: &V2Header,
-    base: &V3HeaderBase,
-    unknown_header_fields: &[u8],
-) -> Result<(), AllocError>
-    ensures { OnOk result (text.new.items
-        ≡ text.old.items ++ parts_text v2.now base.now unknown_header_fields.now) }
+// Puts the first part of a header behind the text.
+fn push_v2(text: &mut Vec<u8>, v2: &V2Header) -> Result<(), AllocError>
+    ensures pushed { OnOk result
+        (text.new.items ≡ text.old.items ++ fields_text (v2_header v2.now)) }
+    ensures fits { AreFitting (v2_header v2.now) }
 {
-    let mut bytes = [0u8; FIXED_BYTES];
+    let mut bytes = [0u8; V2Header::ON_DISK_SIZE];
     write_be(&mut bytes, 0, v2);
-    if v2.version != 3 {
-        return push_bytes(text, &bytes[..V2Header::ON_DISK_SIZE]);
-    }
-    write_be(&mut bytes, V2Header::ON_DISK_SIZE, base);
-    push_bytes(text, &bytes)?;
-    push_padded(text, unknown_header_fields)
+    push_bytes(text, &bytes)
+}
+
+// Puts the second part of a header behind the text.
+fn push_base(text: &mut Vec<u8>, base: &V3HeaderBase) -> Result<(), AllocError>
+    ensures pushed { OnOk result
+        (text.new.items ≡ text.old.items ++ fields_text (v3_header_base base.now)) }
+    ensures fits { AreFitting (v3_header_base base.now) }
+{
+    let mut bytes = [0u8; V3HeaderBase::ON_DISK_SIZE];
+    write_be(&mut bytes, 0, base);
+    push_bytes(text, &bytes)
 }
