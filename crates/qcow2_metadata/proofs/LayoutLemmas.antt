@@ -1,31 +1,23 @@
-use Rattle.std.proofs.Common.{◌≡◌, ℕ, zero, suc, ◌+◌, ◌-◌, ◌*◌, ◌%◌, ◌<◌, ◌≤◌, Bool, true, false, List, [], ◌∷◌, ◌++◌, length, get_or, map, take, replicate, refl, ap, sym, ◌∙◌, add-one, append_assoc, append-nil, length-append, take_all, arith, min}
+use Rattle.std.proofs.Common.{◌≡◌, ℕ, zero, suc, ◌+◌, ◌-◌, ◌%◌, ◌^◌, ◌<◌, ◌≤◌, Bool, true, false, List, [], ◌∷◌, ◌++◌, length, get_or, map, take, replicate, refl, ap, sym, subst, ◌∙◌, add-one, append_assoc, append-nil, length-append, take_all, arith, min}
 use Rattle.std.specs.BTreeMap.{BTreeMap}
 use Rattle.std.specs.Global.{Global}
 use Rattle.std.specs.Int.{next_multiple_of}
 use Rattle.std.specs.List.{filter, flat_map}
-use Rattle.std.specs.Prelude.{String, string_bytes}
-use Rattle.std.proofs.lemmas.List.{length-map, length-replicate, length-take, take_min}
+use Rattle.std.specs.Prelude.{Err, IfSome, MatchOption, None, Ok, Option, Some, String, nat_le, ok_or, string_bytes}
+use Rattle.std.proofs.lemmas.List.{length-map, take_min}
 use Rattle.std.proofs.lemmas.List.Folds.{flat_map-map, length-flat_map-take}
+use Rattle.std.proofs.Math.Pow.{pow_mono}
+use Rattle.std.proofs.lemmas.Bool.Decides.{nat_tests}
+use Rattle.qcow2_metadata.proofs.TextLemmas.{IsKnown, length-header_text, newer-parts}
+use Rattle.qcow2_base.specs.declared.fault.Fault.TheVariants.{HeaderTooLong, NameTooLong}
+use Rattle.qcow2_metadata.specs.Header.{HeaderRecord}
 use Rattle.qcow2_metadata.specs.Header.Extensions.{Extension, FeatureNameTable, FeatureKey, FeatureNames, extension_of, names_of}
-use Rattle.qcow2_base.specs.OnDiskStruct.{header_extension_header}
+use Rattle.qcow2_base.specs.OnDiskStruct.{header_extension_header, v2_header, v3_header_base}
 use Rattle.qcow2_metadata.specs.Header.Features.{feature_type_number}
-use Rattle.qcow2_metadata.specs.Header.Text.{chosen_extensions, data_of, extension_header_of, extension_text, extensions_text, fields_text, is_other, name_chunk, padded, written_text}
+use Rattle.qcow2_metadata.specs.Header.Text.{IsChosen, IsLayout, bare, is_short, kept, placed, chosen, chosen_extensions, header_text, data_of, extension_header_of, extension_text, extensions_text, fields_text, is_other, name_chunk, fits, name_place, name_text, padded, parts_text, placed_base, written_text}
+use Rattle.qcow2_metadata.specs.declared.header.text.Layout.{Layout}
 use Rattle.qcow2_metadata.specs.declared.header.extension.HeaderExtension.{HeaderExtension}
-
--- a name takes 48 bytes
-pub length-name_chunk : (named : FeatureKey × List ℕ) → length (name_chunk named) ≡ 48
-length-name_chunk named =
-    let front = take 46 named.1 in
-    let zeros : List ℕ = replicate (46 - length named.1) 0 in
-    omega (arith, length-append front zeros, length-take 46 named.1, length-replicate (46 - length named.1) zero)
-
--- names take 48 bytes each
-pub length-names : (names : FeatureNames) → length (flat_map name_chunk names) ≡ 48 * length names
-length-names [] = refl
-length-names (named ∷ names) =
-    let first = length-name_chunk named in
-    let both = length-append (name_chunk named) (flat_map name_chunk names) in
-    omega (arith, first, both, length-names names)
+use Rattle.qcow2_metadata.proofs.NamesLemmas.{length-name_chunks}
 
 -- the text of the extensions that are written is that of each, or nothing
 pub chosen-parts : (with_names : Bool) (extensions : List Extension)
@@ -110,7 +102,7 @@ name_chunk_pieces text key name =
 pub names_padded : (names : FeatureNames) → padded (flat_map name_chunk names) ≡ flat_map name_chunk names
 names_padded names =
     let bytes = flat_map name_chunk names in
-    let none : next_multiple_of (length bytes) 8 - length bytes ≡ 0 = omega (arith, length-names names) in
+    let none : next_multiple_of (length bytes) 8 - length bytes ≡ 0 = omega (arith, length-name_chunks names) in
     ap (λ n. bytes ++ replicate n 0) none ∙ append-nil bytes
 
 -- the pieces of an extension of names
@@ -133,3 +125,100 @@ extensions_pieces text before after with_names held i all parts zeros =
     zeros ∙ ap (λ bytes. bytes ++ replicate 8 0) (parts ∙ whole)
     ∙ append_assoc text (flat_map (held_part with_names) held) (replicate 8 0)
     ∙ ap (λ bytes. text ++ bytes) (sym (extensions_text-held with_names held))
+
+-- a text that is longer than the first cluster doesn't fit it
+pub too_long : (header : HeaderRecord) → IsKnown header
+    → 2 ^ header.v2.cluster_bits < name_place header + length (name_text header.backing_filename) → fits header ≡ false
+too_long header known long = grind (arith, nat_tests, length-header_text header known)
+
+-- a text that isn't fits
+pub short_enough : (header : HeaderRecord) → IsKnown header
+    → name_place header + length (name_text header.backing_filename) ≤ 2 ^ header.v2.cluster_bits → fits header ≡ true
+short_enough header known short = grind (arith, nat_tests, length-header_text header known)
+
+-- the pieces before the extensions in version 3
+pub newer_pieces : (header : HeaderRecord) (layout : Layout) (text first second third : List ℕ) → header.v2.version ≡ 3
+    → IsLayout header layout → first ≡ text ++ fields_text (v2_header layout.v2)
+    → second ≡ first ++ fields_text (v3_header_base layout.base)
+    → third ≡ second ++ padded header.unknown_header_fields → third ≡ text ++ parts_text header
+newer_pieces header layout text first second third newer is v2 base unknown =
+    let v2_text = fields_text (v2_header layout.v2) in
+    let base_text = fields_text (v3_header_base layout.base) in
+    let rest = padded header.unknown_header_fields in
+    let parts : parts_text header ≡ (v2_text ++ base_text) ++ rest =
+    (newer-parts header newer).0
+    ∙ ap (λ part. (fields_text (v2_header part) ++ fields_text (v3_header_base (placed_base header))) ++ rest) (sym is.v2)
+    ∙ ap (λ part. (v2_text ++ fields_text (v3_header_base part)) ++ rest) (sym is.base) in
+    let joined : ((text ++ v2_text) ++ base_text) ++ rest ≡ text ++ ((v2_text ++ base_text) ++ rest) = simp append_assoc in
+    unknown ∙ ap (λ bytes. bytes ++ rest) base ∙ ap (λ bytes. (bytes ++ base_text) ++ rest) v2
+    ∙ joined ∙ ap (λ bytes. text ++ bytes) (sym parts)
+
+-- the extensions of a header that fits are few bytes
+pub extensions_short : (header : HeaderRecord) → IsKnown header → header.v2.cluster_bits ≤ 21 → fits header ≡ true
+    → length (extensions_text header.extensions) < 2 ^ 32
+extensions_short header known bits inside =
+    let few : 2 ^ header.v2.cluster_bits ≤ 2 ^ 21 = pow_mono bits in
+    let bound : length (header_text header) ≤ 2 ^ header.v2.cluster_bits = grind (arith, nat_tests, inside) in
+    omega (arith, few, bound, length-header_text header known)
+
+-- the pieces of a header's text
+pub text_pieces : (header : HeaderRecord) (first second third fourth : List ℕ) → first ≡ [] → second ≡ first ++ parts_text header
+    → third ≡ second ++ extensions_text header.extensions → fourth ≡ third ++ name_text header.backing_filename
+    → fourth ≡ header_text header
+unfolding header_text
+text_pieces header first second third fourth none parts extensions name =
+    let before = extensions_text header.extensions in
+    let last = name_text header.backing_filename in
+    name ∙ ap (λ bytes. bytes ++ last) extensions ∙ ap (λ bytes. (bytes ++ before) ++ last) parts
+    ∙ ap (λ bytes. ((bytes ++ parts_text header) ++ before) ++ last) none
+
+-- a name that is too long is refused
+pub kept-long : (header : HeaderRecord) → 1023 < length (name_text header.backing_filename) → kept header ≡ Err NameTooLong
+unfolding kept
+kept-long header long = by_name header.backing_filename refl long
+  where
+    by_name : (name : Option (List ℕ)) → header.backing_filename ≡ name → 1023 < length (name_text name) → kept header ≡ Err NameTooLong
+    by_name None is past = absurd (omega arith)
+    by_name (Some name) is past =
+        let test : nat_le (length name) 1023 ≡ false = grind (arith, nat_tests) in
+        rw (is, test) refl
+
+-- a name that isn't too long
+short-name : (name : Option (List ℕ)) → length (name_text name) ≤ 1023 → is_short name ≡ true
+short-name None short = refl
+short-name (Some name) short = grind (arith, nat_tests)
+
+-- a header whose text fits is written whole
+pub kept-whole : (header : HeaderRecord) → length (name_text header.backing_filename) ≤ 1023 → fits header ≡ true
+    → kept header ≡ Ok (placed header)
+unfolding kept
+kept-whole header short whole = rw (short-name header.backing_filename short, whole) refl
+
+-- else it is written without feature names, if that fits
+pub kept-bare : (header : HeaderRecord) → length (name_text header.backing_filename) ≤ 1023 → fits header ≡ false
+    → fits (bare header) ≡ true → kept header ≡ Ok (placed (bare header))
+unfolding kept
+kept-bare header short whole few = rw (short-name header.backing_filename short, whole, few) refl
+
+-- and else it is refused
+pub kept-none : (header : HeaderRecord) → length (name_text header.backing_filename) ≤ 1023 → fits header ≡ false
+    → fits (bare header) ≡ false → kept header ≡ Err HeaderTooLong
+unfolding kept
+kept-none header short whole few = rw (short-name header.backing_filename short, whole, few) refl
+
+-- a layout with feature names that was found is the one that is written
+pub whole-chosen : (header : HeaderRecord) (layout : Layout) → length (name_text header.backing_filename) ≤ 1023
+    → IsLayout (chosen true header) layout → layout.with_names ≡ true → IsChosen header (Ok layout)
+whole-chosen header layout short is names =
+    subst (λ (b : Bool). IsLayout (chosen b header) layout × (kept header ≡ Ok (placed (chosen b header))))
+    (sym names) (is, kept-whole header short is.fits)
+
+-- where there is none, the answer is the layout without feature names, or the fault
+pub bare-chosen : (header : HeaderRecord) (found : Option Layout) → length (name_text header.backing_filename) ≤ 1023
+    → fits (chosen true header) ≡ false
+    → MatchOption found (fits (chosen false header) ≡ false) (IsLayout (chosen false header))
+    → IfSome found (λ layout. layout.with_names ≡ false) → IsChosen header (ok_or found HeaderTooLong)
+bare-chosen header None short whole few names = kept-none header short whole few
+bare-chosen header (Some layout) short whole is names =
+    subst (λ (b : Bool). IsLayout (chosen b header) layout × (kept header ≡ Ok (placed (chosen b header))))
+    (sym names) (is, kept-bare header short whole is.fits)

@@ -13,9 +13,12 @@ pub mod HeaderLemmas
 pub mod LayoutLemmas
 pub mod LoadLemmas
 pub mod NamesLemmas
+pub mod OpenLemmas
 pub mod PieceLemmas
 pub mod PointerLemmas
 pub mod RangeLemmas
+pub mod SettledLemmas
 pub mod StorableLemmas
 pub mod TableLemmas
 pub mod TextLemmas
+pub mod WriteLemmas

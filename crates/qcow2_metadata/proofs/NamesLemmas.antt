@@ -20,12 +20,11 @@ use Rattle.qcow2_base.specs.declared.fault.Fault.TheVariants.{ExtensionText}
 use Rattle.qcow2_metadata.proofs.CutLemmas.{IsCutText, IsCutText-take, utf8_lossy-cut, utf8_lossy-replaced}
 use Rattle.qcow2_metadata.proofs.ExtensionsLemmas.{parsed-unknown, text-valid, with_feature_name-named}
 use Rattle.qcow2_metadata.specs.Header.{IsStorable}
-use Rattle.qcow2_metadata.specs.Header.Extensions.{BackingFileFormat, Extension, ExternalDataFileName, FeatureKey, FeatureNameTable, FeatureNames, Unknown, chunk_at, extension_number, extension_of, feature_names, key_cmp, names_of_chunks, parsed, until_zero, with_feature_name}
+use Rattle.qcow2_metadata.specs.Header.Extensions.{BackingFileFormat, Extension, ExternalDataFileName, FeatureKey, FeatureNameTable, FeatureNames, Unknown, chunk_at, extension_of, feature_names, key_cmp, names_of_chunks, parsed, until_zero, with_feature_name}
 use Rattle.qcow2_metadata.specs.Header.Text.{data_of, name_chunk, normal_extension, normal_name, number_of}
 use Rattle.qcow2_metadata.specs.Answers.{result_map}
 use Rattle.qcow2_metadata.specs.declared.header.extension.HeaderExtension.{HeaderExtension}
 use Rattle.qcow2_metadata.specs.declared.header.extension.HeaderExtension.TheVariants as held
-use Rattle.qcow2_metadata.specs.declared.header.extension.HeaderExtensionType.{HeaderExtensionType}
 use Rattle.qcow2_metadata.specs.declared.header.extension.HeaderExtensionType.TheVariants as kind
 use Rattle.qcow2_metadata.specs.declared.header.feature.FeatureType.TheVariants.{Autoclear, Compatible, Incompatible}
 
@@ -36,7 +35,7 @@ ReadsBack extension =
     × (parsed (number_of extension) (data_of extension) ≡ Ok (normal_extension extension))
 
 -- a name and what it reads back as, by their key
-abbrev normal_named : FeatureKey × List ℕ → FeatureKey × List ℕ
+abbrev pub normal_named : FeatureKey × List ℕ → FeatureKey × List ℕ
 normal_named named = (named.0, normal_name named.1)
 
 -- zeros behind a name are no part of it

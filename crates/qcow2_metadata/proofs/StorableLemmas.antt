@@ -11,7 +11,7 @@ use Rattle.std.specs.List.Sorted.{IsStrictlySortedBy}
 use Rattle.std.specs.Map.{keys_of}
 use Rattle.std.specs.Str.{IsUtf8, chars, is_utf8}
 use Rattle.qcow2_metadata.specs.Header.{IsStorable, known_names}
-use Rattle.qcow2_metadata.specs.Header.Extensions.{BackingFileFormat, Extension, ExternalDataFileName, FeatureKey, FeatureNameTable, FeatureNames, key_cmp, names_of}
+use Rattle.qcow2_metadata.specs.Header.Extensions.{BackingFileFormat, ExternalDataFileName, FeatureKey, FeatureNameTable, FeatureNames, key_cmp, names_of}
 
 -- the texts of names in memory are text
 names_of-texts : (entries : List (FeatureKey × String Global))

@@ -21,7 +21,7 @@ use Rattle.qcow2_metadata.specs.Header.{HeaderRecord, IsLawfulHeader, name_in, n
 use Rattle.qcow2_metadata.specs.Header.Chain.{IsEnd, SaysExtensions, link_at}
 use Rattle.qcow2_metadata.specs.Header.Extensions.{BackingFileFormat, Extension, ExternalDataFileName, FeatureNameTable, Unknown}
 use Rattle.qcow2_metadata.specs.Header.Grammar.{AreSame, HasExtensions, IsBackingName, IsBase, IsHeader}
-use Rattle.qcow2_metadata.specs.Header.Text.{AreFitting, bare, data_of, extension_header_of, extension_text, extensions_text, fields_text, fits, header_end, header_text, is_short, name_place, kept, normal, normal_extension, number_of, padded, parts_text, placed, placed_base, placed_v2}
+use Rattle.qcow2_metadata.specs.Header.Text.{AreFitting, bare, data_of, extension_header_of, extension_text, extensions_text, fields_text, fits, header_end, header_text, is_short, name_place, name_text, kept, normal, normal_extension, number_of, padded, parts_text, placed, placed_base, placed_v2}
 use Rattle.qcow2_metadata.specs.Range.{bytes_at}
 use Rattle.qcow2_metadata.specs.declared.header.extension.HeaderExtensionType.{HeaderExtensionType}
 use Rattle.qcow2_metadata.specs.declared.header.extension.HeaderExtensionType.TheVariants as kind
@@ -358,12 +358,8 @@ kept-placed header is =
     let inside = by.0 in
     record { placed = by.1; fits = grind (arith, nat_tests, inside); short = hold.0.0 }
 
--- the bytes of a name, where there is one
-abbrev name_text : Option (List ℕ) → List ℕ
-name_text name = elim name [ None ↦ [] | Some bytes ↦ bytes ]
-
 -- the header's version is 2 or 3
-abbrev IsKnown : HeaderRecord → Type 0
+abbrev pub IsKnown : HeaderRecord → Type 0
 IsKnown header = (header.v2.version ≡ 2) ⊎ (header.v2.version ≡ 3)
 
 -- the text of the two fixed parts
@@ -372,14 +368,14 @@ fixed_text header =
     fields_text (v2_header (placed_v2 header)) ++ fields_text (v3_header_base (placed_base header))
 
 -- the text before the extensions in version 2
-older-parts : (header : HeaderRecord) → header.v2.version ≡ 2
+pub older-parts : (header : HeaderRecord) → header.v2.version ≡ 2
     → (parts_text header ≡ fields_text (v2_header (placed_v2 header))) × (header_end header ≡ 72)
 older-parts header two =
     let test : (header.v2.version == 3) ≡ false = grind (arith, nat_tests, two) in
     (rw (test, parts_text) refl, rw (test, header_end) refl)
 
 -- and in version 3
-newer-parts : (header : HeaderRecord) → header.v2.version ≡ 3
+pub newer-parts : (header : HeaderRecord) → header.v2.version ≡ 3
     → (parts_text header ≡ fixed_text header ++ padded header.unknown_header_fields)
     × (header_end header ≡ 104 + length (padded header.unknown_header_fields))
 newer-parts header three =
@@ -387,7 +383,7 @@ newer-parts header three =
     (rw (test, parts_text) refl, rw (test, header_end) refl)
 
 -- the text before the extensions ends where they begin
-length-parts_text : (header : HeaderRecord) → IsKnown header → length (parts_text header) ≡ header_end header
+pub length-parts_text : (header : HeaderRecord) → IsKnown header → length (parts_text header) ≡ header_end header
 length-parts_text header (inl two) =
     let parts = older-parts header two in
     ap length parts.0 ∙ sym parts.1
@@ -395,6 +391,18 @@ length-parts_text header (inr three) =
     let parts = newer-parts header three in
     let count = length-append (fixed_text header) (padded header.unknown_header_fields) in
     ap length parts.0 ∙ count ∙ sym parts.1
+
+-- how many bytes a header's text has
+pub length-header_text : (header : HeaderRecord) → IsKnown header
+    → length (header_text header) ≡ name_place header + length (name_text header.backing_filename)
+unfolding header_text
+length-header_text header known =
+    let parts = parts_text header in
+    let extensions = extensions_text header.extensions in
+    let name = name_text header.backing_filename in
+    let place : length (parts ++ extensions) ≡ name_place header =
+    length-append parts extensions ∙ ap (λ n. n + length extensions) (length-parts_text header known) in
+    length-append (parts ++ extensions) name ∙ ap (λ n. n + length name) place
 
 -- the pieces of the text before the extensions in version 3
 record HasNewerParts (image : Image) (header : HeaderRecord) : Type 0 where
@@ -452,7 +460,7 @@ held-pieces image header known held =
       newer = λ three. held-newer image header three first;
       extensions = subst (λ (p : ℕ). Holds image p extensions) end second;
       name = subst (λ (p : ℕ). Holds image p name) start third;
-      count = length-append (parts ++ extensions) name ∙ ap (λ n. n + length name) place;
+      count = length-header_text header known;
     }
 
 -- the length of a header that has its places
@@ -464,7 +472,8 @@ placed-length header lawful is (inl two) =
     ∙ sym (ap (λ (fields : List ℕ). 104 + length (padded fields)) none.1)
 placed-length header lawful is (inr three) =
     let test : (header.v2.version == 3) ≡ true = grind (arith, nat_tests, three) in
-    let set : (placed_base header).header_length ≡ header_end header = rw (test, placed_base) refl in
+    let by : Bool → V3HeaderBase = λ t. elim t [ true ↦ record header.base { header_length = header_end header } | false ↦ header.base ] in
+    let set : (placed_base header).header_length ≡ header_end header = ap (λ (t : Bool). (by t).header_length) test in
     ap (λ (h : HeaderRecord). h.base.header_length) is.placed ∙ set ∙ (newer-parts header three).1
 
 -- it fits the first cluster

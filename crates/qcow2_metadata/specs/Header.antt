@@ -2,6 +2,7 @@ pub mod Chain
 pub mod Extensions
 pub mod Features
 pub mod Grammar
+pub mod Open
 pub mod Pointers
 pub mod Text
 use Rattle.std.specs.Prelude.{◌≡◌, ◌≢◌, ◌⊎◌, All, ℕ, Bool, true, nat_eq, ◌==◌, ◌+◌, ◌-◌, ◌*◌, ◌%◌, ◌^◌, ◌<◌, ◌≤◌, List, [], ◌∷◌, ◌++◌, map, codes, Option, Some, None, IfSome, is_some, if◌then◌else◌, option_to_list, slice_get}

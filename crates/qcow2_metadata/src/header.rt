@@ -10,6 +10,7 @@ mod feature;
 mod load;
 mod pointers;
 mod text;
+mod write;
 
 use extension::known_names;
 pub use extension::{HeaderExtension, HeaderExtensionType};

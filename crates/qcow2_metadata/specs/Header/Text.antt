@@ -1,4 +1,4 @@
-use Rattle.std.specs.Prelude.{◌≡◌, All, ℕ, ◌<◌, ◌+◌, ◌-◌, ◌^◌, ◌==◌, nat_le, ◌||◌, Bool, true, false, if◌then◌else◌, List, [], ◌∷◌, ◌++◌, length, map, take, replicate, Option, Some, None, Result, Ok, Err}
+use Rattle.std.specs.Prelude.{◌≡◌, All, ℕ, ◌<◌, ◌+◌, ◌-◌, ◌^◌, ◌==◌, nat_le, ◌||◌, Bool, true, false, if◌then◌else◌, List, [], ◌∷◌, ◌++◌, length, map, take, replicate, Option, Some, None, Result, Ok, Err, MatchResult}
 use Rattle.std.specs.Int.{bytes_high_first, next_multiple_of}
 use Rattle.std.specs.List.{filter, flat_map}
 use Rattle.std.specs.Str.Lossy.{utf8_lossy}
@@ -85,12 +85,16 @@ v2_with_name v2 place (Some name) = record v2 { backing_file_offset = place; bac
 abbrev pub placed_v2 : HeaderRecord → V2Header
 placed_v2 header = v2_with_name header.v2 (name_place header) header.backing_filename
 
--- the second part with the header's length; version 2 has none that is written
-abbrev pub placed_base : HeaderRecord → V3HeaderBase
-placed_base header = elim (header.v2.version == 3) [
-  | true ↦ record header.base { header_length = header_end header }
-  | false ↦ header.base
+-- the second part with the header's length, where the version has such a part
+abbrev pub base_with_length : ℕ → V3HeaderBase → ℕ → V3HeaderBase
+base_with_length version base len = elim (version == 3) [
+  | true ↦ record base { header_length = len }
+  | false ↦ base
 ]
+
+-- the second part as it is written
+abbrev pub placed_base : HeaderRecord → V3HeaderBase
+placed_base header = base_with_length header.v2.version header.base (header_end header)
 
 -- the header with the places that its text has
 abbrev pub placed : HeaderRecord → HeaderRecord
@@ -150,9 +154,14 @@ kept header =
       | false ↦ provided ((fits (bare header), HeaderTooLong) ∷ []) (λ _. Ok (placed (bare header)))
     ])
 
+-- the bytes of a header that is written
+abbrev pub placed_text : Result HeaderRecord Fault → List ℕ
+placed_text (Ok written) = header_text written
+placed_text (Err fault) = []
+
 -- the bytes that a write places; none where it is refused
 abbrev pub chosen_text : HeaderRecord → List ℕ
-chosen_text header = elim (kept header) [ Ok written ↦ header_text written | Err fault ↦ [] ]
+chosen_text header = placed_text (kept header)
 
 -- what a name of a feature reads back as: the text of its first 46 bytes, up to the first zero byte
 abbrev pub normal_name : List ℕ → List ℕ
@@ -180,6 +189,12 @@ pub record IsLayout (header : HeaderRecord) (layout : Layout) : Type 0 where
   pub base : layout.base ≡ placed_base header
   pub len : layout.len ≡ length (header_text header)
   pub fits : fits header ≡ true
+
+-- the layout that is written, or why there is none
+abbrev pub IsChosen : HeaderRecord → Result Layout Fault → Type 0
+IsChosen header answer = MatchResult answer
+    (λ layout. IsLayout (chosen layout.with_names header) layout × (kept header ≡ Ok (placed (chosen layout.with_names header))))
+    (λ fault. kept header ≡ Err fault)
 
 -- a header that was written: its text stands at the image's start, and is read back as the normal form
 pub record IsWritten (image : Image) (header : HeaderRecord) : Type 0 where

@@ -1,13 +1,15 @@
 //! Loading a header: the first cluster of an image, looked at where the header says, in its order.
 
-ghost use Rattle.std.specs.Prelude.{All, ◌≡◌, ◌≢◌, ◌⊎◌, ◌+◌, ◌^◌, ◌≤◌, nat_le, [], ◌∷◌, false, IfErr, IfOk, IfSome, IsTrue, Ok, length, map, option_map, string_bytes};
+ghost use Rattle.std.specs.Prelude.{All, ◌≡◌, ◌≢◌, ◌⊎◌, ◌+◌, ◌^◌, ◌≤◌, nat_le, [], ◌∷◌, false, true, IfErr, IfOk, IfSome, IsTrue, Ok, length, map, option_map, string_bytes};
 ghost use Rattle.qcow2_base.specs.Storage.{Image, OnlyReads};
 ghost use Rattle.qcow2_base.specs.Types.{IsClusterBits};
 ghost use Rattle.qcow2_metadata.specs.Answers.{Answers, provided};
 ghost use Rattle.qcow2_metadata.specs.Header.{IsStorable};
 ghost use Rattle.qcow2_metadata.specs.Header.Chain.{end_of, extension_at, extension_header_at, extensions_at, link_at};
+ghost use Rattle.qcow2_metadata.specs.Header.Open.{IsOpenFault, Opens, opened};
 ghost use Rattle.qcow2_metadata.specs.Header.Extensions.{FeatureNameTable, extension_of, feature_names, names_of, parsed};
 ghost use Rattle.qcow2_metadata.specs.Header.Grammar.{AreLawfulParts, FollowsGrammar, IsHeaderFault, SameFirstCluster, backing_name, field_conditions, fixed_parts, header_extensions, header_of, last_conditions, version_conditions};
+ghost use Rattle.qcow2_metadata.specs.Header.Text.{is_short};
 ghost use Rattle.qcow2_metadata.specs.Range.{bytes_at};
 ghost use Rattle.qcow2_metadata.specs.ReadAhead.{ReadsThrough};
 
@@ -28,7 +30,7 @@ use std::collections::BTreeMap;
 pub(super) const MAGIC: u32 = 0x514649fb;
 
 /// How many bytes the backing file's name may have.
-const MAX_BACKING_FILENAME: u32 = 1023;
+pub(super) const MAX_BACKING_FILENAME: u32 = 1023;
 
 /// How many bytes the two fixed parts have.
 pub(super) const FIXED_BYTES: usize = V2Header::ON_DISK_SIZE + V3HeaderBase::ON_DISK_SIZE;
@@ -41,22 +43,27 @@ impl Header {
     /// version 2 on its first 72 bytes and the backing file's name.
     ///
     /// Answers the fault of the first condition of the format that the image fails: 1 to 17 in the order of
-    /// their numbers, where the extensions are tested one after another (12 to 14). `writable` must be
-    /// false as yet. Changes no byte.
+    /// their numbers, where the extensions are tested one after another (12 to 14). Changes no byte then.
+    ///
+    /// Who means to write to the image says so by `writable`, and must know each autoclear feature that the
+    /// header names. None is known here: where there is one, the header is written without any, and a header
+    /// that has no room in the first cluster is refused by fault 24.
     pub fn load<S: Storage>(alloc: Global, image: &mut S, writable: bool) -> Result<Header, Fault>
-        requires { writable ≡ false }
-        ensures exact { IsTrue (S.state image.old).tells →
-            Answers (λ header. header) result (header_of (S.state image.old).byte_at) }
-        ensures grammar { IsTrue (S.state image.old).tells →
+        ensures exact { IsTrue (S.state image.old).tells → Answers (λ header. header) result
+            (opened writable (header_of (S.state image.old).byte_at)) }
+        ensures grammar { writable ≡ false → IsTrue (S.state image.old).tells →
             FollowsGrammar result (S.state image.old).byte_at }
         ensures first_cluster { IsTrue (S.state image.old).tells →
             (other : Image) → SameFirstCluster (S.state image.old).byte_at other →
-            Answers (λ header. header) result (header_of other) }
-        ensures faults { IfErr result IsHeaderFault }
-        ensures storage { OnlyReads result (S.state image.old) (S.state image.new) }
+            Answers (λ header. header) result (opened writable (header_of other)) }
+        ensures faults { IfErr result (IsOpenFault writable) }
+        ensures storage { Opens writable result (S.state image.old) (S.state image.new) }
     {
-        let _ = writable;
-        read_header(alloc, image)
+        let header = read_header(alloc, image)?;
+        if !writable {
+            return Ok(header);
+        }
+        header.prepared(image)
     }
 }
 
@@ -64,6 +71,7 @@ impl Header {
 fn read_header<S: Storage>(alloc: Global, image: &mut S) -> Result<Header, Fault>
     ensures exact { IsTrue (S.state image.old).tells →
         Answers (λ header. header) result (header_of (S.state image.old).byte_at) }
+    ensures short { IfOk result (λ header. is_short header.backing_filename ≡ true) }
     ensures faults { IfErr result IsHeaderFault }
     ensures storage { OnlyReads result (S.state image.old) (S.state image.new) }
 {
@@ -83,6 +91,7 @@ fn read_other_parts<S: Storage>(
     ensures exact { IsTrue (S.state image.old.image.now).tells →
         fixed_parts (S.state image.old.image.now).byte_at ≡ Ok (v2, base) →
         Answers (λ header. header) result (header_of (S.state image.old.image.now).byte_at) }
+    ensures short { IfOk result (λ header. is_short header.backing_filename ≡ true) }
     ensures faults { IfErr result IsHeaderFault }
     ensures storage { ReadsThrough S.state result image.old image.new }
 {
@@ -203,6 +212,7 @@ fn read_backing_filename<S: Storage>(
     requires { IsClusterBits v2.now.cluster_bits }
     ensures exact { IsTrue (S.state image.old.image.now).tells → Answers (option_map string_bytes) result
         (backing_name (S.state image.old.image.now).byte_at v2.now) }
+    ensures short { IfOk result (λ name. is_short (option_map string_bytes name) ≡ true) }
     ensures faults { IfErr result IsHeaderFault }
     ensures storage { ReadsThrough S.state result image.old image.new }
 {

@@ -1,11 +1,12 @@
 //! The text of a header: the bytes that a write places at the start of an image.
 
-ghost use Rattle.std.specs.Prelude.{◌≡◌, ◌≢◌, ◌+◌, ◌*◌, ◌^◌, ◌<◌, ◌≤◌, ◌++◌, All, IfOk, IfSome, MatchOption, SomeIff, OnOk, if◌then◌else◌, false, ◌==◌, is_ok, length, map, replicate};
+ghost use Rattle.std.specs.Prelude.{◌≡◌, ◌≢◌, ◌+◌, ◌*◌, ◌^◌, ◌<◌, ◌≤◌, ◌++◌, All, IfOk, IfSome, MatchOption, SomeIff, OnOk, false, is_ok, length, map, replicate};
 ghost use Rattle.std.specs.List.{flat_map};
 ghost use Rattle.qcow2_base.specs.OnDiskStruct.{header_extension_header, v2_header, v3_header_base};
 ghost use Rattle.qcow2_base.specs.Storage.{IsBytes, image_of};
+ghost use Rattle.qcow2_metadata.specs.Header.{IsLawfulHeader};
 ghost use Rattle.qcow2_metadata.specs.Header.Extensions.{extension_of, names_of};
-ghost use Rattle.qcow2_metadata.specs.Header.Text.{AreFitting, parts_text, name_text, header_end, v2_with_name, number_of, IsLayout, chosen, chosen_extensions, data_of, extension_text, extensions_text, fields_text, fits, header_text, is_other, name_chunk, padded, placed_base, placed_v2, written_text};
+ghost use Rattle.qcow2_metadata.specs.Header.Text.{AreFitting, base_with_length, parts_text, name_text, header_end, v2_with_name, number_of, IsLayout, chosen, chosen_extensions, data_of, extension_text, extensions_text, fields_text, fits, header_text, is_other, name_chunk, padded, placed_base, placed_v2, written_text};
 
 use super::extension::FEATURE_NAME_BYTES;
 use super::load::FIXED_BYTES;
@@ -18,6 +19,7 @@ use std::collections::BTreeMap;
 const FEATURE_NAME_LEN: usize = FEATURE_NAME_BYTES - 2;
 
 /// What a write places and leaves: the fixed parts of the header with the places of its text.
+#[derive(Drop)]
 pub(super) struct Layout {
     /// Whether tables of feature names are written.
     pub(super) with_names: bool,
@@ -37,8 +39,9 @@ impl Header {
             (IsLayout (chosen with_names self.now)) }
         ensures names { IfSome result (λ layout. layout.with_names ≡ with_names) }
     {
+        let extensions_len = extensions_len(&self.extensions, with_names)?;
         let header_end = self.header_end()?;
-        let name_place = header_end.checked_add(extensions_len(&self.extensions, with_names)?)?;
+        let name_place = header_end.checked_add(extensions_len)?;
         let len = name_place.checked_add(self.backing_filename_len())?;
         if len > self.cluster_size() {
             return None;
@@ -96,8 +99,7 @@ impl Header {
     // The second part of a header whose extensions begin at a place.
     fn placed_base(&self, header_end: usize) -> V3HeaderBase
         requires { header_end < 2 ^ 32 }
-        ensures { result ≡ (if self.now.v2.version == 3
-            then record self.now.base { header_length = header_end } else self.now.base) }
+        ensures { result ≡ base_with_length self.now.v2.version self.now.base header_end }
     {
         if self.v2.version != 3 {
             return self.base;
@@ -116,6 +118,7 @@ impl Header {
         ensures v2_fits { OnOk result (AreFitting (v2_header layout.now.v2)) }
         ensures base_fits { OnOk result
             (self.now.v2.version ≡ 3 → AreFitting (v3_header_base layout.now.base)) }
+        ensures lawful { IsLawfulHeader self.now }
     {
         let mut text = Vec::with_capacity(self.alloc, layout.len)?;
         self.push_parts(&mut text, layout)?;

@@ -1,0 +1,232 @@
+use Rattle.std.proofs.Common.{◌≡◌, ◌⊎◌, ℕ, ◌^◌, ◌<◌, ◌≤◌, ◌==◌, Bool, true, false, not, List, [], ◌∷◌, map, refl, ap, sym, subst, ◌∙◌, arith, inl, inr, lit<, Option, Some, None}
+use Rattle.std.specs.Prelude.{All, Err, Ok, length}
+use Rattle.std.specs.List.{filter}
+use Rattle.std.proofs.lemmas.Bool.Decides.{nat_tests}
+use Rattle.std.proofs.lemmas.List.Elements.{All-filter, All-from_recursion, All-weaker}
+use Rattle.std.proofs.Math.Pow.{pow_mono}
+use Rattle.qcow2_base.specs.OnDiskStruct.{LayoutField, v2_header, v3_header_base}
+use Rattle.qcow2_base.specs.Storage.{Holds, Image, OnlyWrites, StorageState}
+use Rattle.qcow2_base.specs.declared.fault.Fault.{Fault}
+use Rattle.qcow2_base.specs.declared.fault.Fault.TheVariants.{HeaderTooLong, NameTooLong}
+use Rattle.qcow2_base.specs.declared.on_disk_struct.v2_header.V2Header.{V2Header}
+use Rattle.qcow2_base.specs.declared.on_disk_struct.v3_header_base.V3HeaderBase.{V3HeaderBase}
+use Rattle.qcow2_metadata.specs.Header.{HeaderRecord, IsLawfulHeader, IsStorable, default_base, name_in, names_by, other_features}
+use Rattle.qcow2_metadata.specs.Header.Extensions.{BackingFileFormat, Extension, ExternalDataFileName, FeatureNameTable, Unknown, extension_of}
+use Rattle.qcow2_metadata.specs.Header.Text.{AreFitting, IsLayout, IsWritten, bare, base_with_length, chosen, chosen_extensions, chosen_text, fits, header_end, header_text, is_short, kept, placed_text, is_other, name_place, placed, v2_with_name}
+use Rattle.qcow2_metadata.specs.declared.header.text.Layout.{Layout}
+use Rattle.qcow2_metadata.proofs.NamesLemmas.{ReadsBack, storable-reads_back}
+use Rattle.qcow2_metadata.proofs.SettledLemmas.{header_text-placed, kept-settled}
+use Rattle.qcow2_metadata.proofs.TextLemmas.{text-header}
+use Rattle.qcow2_metadata.specs.declared.header.extension.HeaderExtension.{HeaderExtension}
+use Rattle.qcow2_metadata.specs.declared.header.extension.HeaderExtensionType.{HeaderExtensionType}
+use Rattle.qcow2_metadata.specs.declared.header.extension.HeaderExtensionType.TheVariants as kind
+
+-- a table of feature names says no name
+no_name : (type : HeaderExtensionType) (extension : Extension) → is_other extension ≡ false
+    → name_in type extension ≡ None
+no_name kind.End (FeatureNameTable names) is = refl
+no_name kind.BackingFileFormat (FeatureNameTable names) is = refl
+no_name kind.FeatureNameTable (FeatureNameTable names) is = refl
+no_name kind.ExternalDataFileName (FeatureNameTable names) is = refl
+no_name type (BackingFileFormat name) is = cc
+no_name type (ExternalDataFileName name) is = cc
+no_name type (Unknown number content) is = cc
+
+-- without such tables the names are the same
+filter-names_by : (type : HeaderExtensionType) (extensions : List Extension)
+    → names_by (name_in type) (filter is_other extensions) ≡ names_by (name_in type) extensions
+filter-names_by type [] = refl
+filter-names_by type (extension ∷ extensions) =
+    by_kind (is_other extension) refl (filter-names_by type extensions)
+  where
+    by_kind : (other : Bool) → is_other extension ≡ other
+        → names_by (name_in type) (filter is_other extensions) ≡ names_by (name_in type) extensions
+        → names_by (name_in type) (filter is_other (extension ∷ extensions))
+        ≡ names_by (name_in type) (extension ∷ extensions)
+    by_kind true is rest = rw (is, rest) refl
+    by_kind false is rest = rw (is, no_name type extension is) rest
+
+-- the names are the same, whether such tables are written or not
+chosen-names_by : (with_names : Bool) (type : HeaderExtensionType) (extensions : List Extension)
+    → names_by (name_in type) (chosen_extensions with_names extensions) ≡ names_by (name_in type) extensions
+chosen-names_by true type extensions = refl
+chosen-names_by false type extensions = filter-names_by type extensions
+
+-- what is written can be stored
+pub chosen-storable : (with_names : Bool) (extensions : List Extension) → All IsStorable extensions
+    → All IsStorable (chosen_extensions with_names extensions)
+chosen-storable true extensions storable = storable
+chosen-storable false extensions storable = All-filter is_other IsStorable extensions storable
+
+-- a place of the name changes nothing else that the first part says
+record KeepsV2 (old new : V2Header) : Type 0 where
+  magic : new.magic ≡ old.magic
+  version : new.version ≡ old.version
+  cluster_bits : new.cluster_bits ≡ old.cluster_bits
+  l1_table_offset : new.l1_table_offset ≡ old.l1_table_offset
+  refcount_table_offset : new.refcount_table_offset ≡ old.refcount_table_offset
+
+v2_with_name-keeps : (v2 : V2Header) (place : ℕ) (name : Option (List ℕ)) → KeepsV2 v2 (v2_with_name v2 place name)
+v2_with_name-keeps v2 place None = record {
+  magic = refl;
+  version = refl;
+  cluster_bits = refl;
+  l1_table_offset = refl;
+  refcount_table_offset = refl;
+}
+v2_with_name-keeps v2 place (Some name) = record {
+  magic = refl;
+  version = refl;
+  cluster_bits = refl;
+  l1_table_offset = refl;
+  refcount_table_offset = refl;
+}
+
+-- a length changes nothing else that the second part says
+record KeepsBase (old new : V3HeaderBase) : Type 0 where
+  refcount_order : new.refcount_order ≡ old.refcount_order
+  other_features : other_features new ≡ other_features old
+
+base_with_length-keeps : (version : ℕ) (base : V3HeaderBase) (len : ℕ)
+    → KeepsBase base (base_with_length version base len)
+base_with_length-keeps version base len = by_version (version == 3) refl
+  where
+    by_version : (newer : Bool) → (version == 3) ≡ newer → KeepsBase base (base_with_length version base len)
+    by_version true is = record { refcount_order = rw (is, base_with_length) refl; other_features = rw (is, base_with_length) refl }
+    by_version false is = record { refcount_order = rw (is, base_with_length) refl; other_features = rw (is, base_with_length) refl }
+
+-- the second part stays in version 2
+older-base : (version : ℕ) (base : V3HeaderBase) (len : ℕ) → version ≡ 2 → base_with_length version base len ≡ base
+older-base version base len two =
+    let test : (version == 3) ≡ false = grind (arith, nat_tests, two) in
+    rw (test, base_with_length) refl
+
+-- of no extensions none are written
+chosen-nil : (with_names : Bool) (extensions : List Extension) → extensions ≡ []
+    → chosen_extensions with_names extensions ≡ []
+chosen-nil true extensions none = none
+chosen-nil false extensions none = ap (filter is_other) none
+
+-- the header that is written is lawful
+pub placed-lawful : (with_names : Bool) (header : HeaderRecord) → IsLawfulHeader header
+    → IsLawfulHeader (placed (chosen with_names header))
+placed-lawful with_names header lawful =
+    let written = chosen with_names header in
+    let v2 = v2_with_name-keeps header.v2 (name_place written) header.backing_filename in
+    let base = base_with_length-keeps header.v2.version header.base (header_end written) in
+    record {
+      magic = v2.magic ∙ lawful.magic;
+      version = rw v2.version lawful.version;
+      cluster_bits = rw v2.cluster_bits lawful.cluster_bits;
+      refcount_order = rw base.refcount_order lawful.refcount_order;
+      l1_table_aligned = rw (v2.cluster_bits, v2.l1_table_offset) lawful.l1_table_aligned;
+      reftable_aligned = rw (v2.cluster_bits, v2.refcount_table_offset) lawful.reftable_aligned;
+      features = base.other_features ∙ lawful.features;
+      one_format = rw (chosen-names_by with_names kind.BackingFileFormat header.extensions) lawful.one_format;
+      one_data_file = rw (chosen-names_by with_names kind.ExternalDataFileName header.extensions) lawful.one_data_file;
+      backing_filename = lawful.backing_filename;
+      storable = chosen-storable with_names header.extensions lawful.storable;
+      older = λ two.
+          let is : header.v2.version ≡ 2 = sym v2.version ∙ two in
+          let none = lawful.older is in (
+            older-base header.v2.version header.base (header_end written) is ∙ none.0,
+            none.1,
+            chosen-nil with_names header.extensions none.2,
+          );
+    }
+
+-- the extensions that are kept in memory are those that are written
+pub kept-extensions : (held : List HeaderExtension)
+    → map extension_of (filter (λ extension. is_other (extension_of extension)) held) ≡ filter is_other (map extension_of held)
+kept-extensions [] = refl
+kept-extensions (extension ∷ held) = by_kind (is_other (extension_of extension)) refl (kept-extensions held)
+  where
+    by_kind : (other : Bool) → is_other (extension_of extension) ≡ other
+        → map extension_of (filter (λ extension. is_other (extension_of extension)) held) ≡ filter is_other (map extension_of held)
+        → map extension_of (filter (λ extension. is_other (extension_of extension)) (extension ∷ held))
+        ≡ filter is_other (map extension_of (extension ∷ held))
+    by_kind true is rest = rw (is, rest) refl
+    by_kind false is rest = rw (is, rest) refl
+
+-- what isn't so
+pub not_true : (test : Bool) → not test ≡ true → test ≡ false
+not_true true is = cc
+not_true false is = refl
+
+-- why a header isn't written
+pub kept-fault : (header : HeaderRecord) (fault : Fault) → kept header ≡ Err fault
+    → (fault ≡ NameTooLong) ⊎ (fault ≡ HeaderTooLong)
+unfolding kept
+kept-fault header fault is = by_tests (is_short header.backing_filename) (fits header) (fits (bare header)) refl refl refl
+  where
+    by_tests : (short whole few : Bool) → is_short header.backing_filename ≡ short → fits header ≡ whole
+        → fits (bare header) ≡ few → (fault ≡ NameTooLong) ⊎ (fault ≡ HeaderTooLong)
+    by_tests false whole few is_short is_whole is_few =
+        let refused : kept header ≡ Err NameTooLong = rw is_short refl in inl (cc)
+    by_tests true true few is_short is_whole is_few =
+        let taken : kept header ≡ Ok (placed header) = rw (is_short, is_whole) refl in cc
+    by_tests true false true is_short is_whole is_few =
+        let taken : kept header ≡ Ok (placed (bare header)) = rw (is_short, is_whole, is_few) refl in cc
+    by_tests true false false is_short is_whole is_few =
+        let refused : kept header ≡ Err HeaderTooLong = rw (is_short, is_whole, is_few) refl in inr (cc)
+
+-- a text that fits is short
+pub text-short : (header : HeaderRecord) → header.v2.cluster_bits ≤ 21 → fits header ≡ true
+    → length (header_text header) ≤ 2 ^ 21
+text-short header bits inside =
+    let few : 2 ^ header.v2.cluster_bits ≤ 2 ^ 21 = pow_mono bits in
+    let bound : length (header_text header) ≤ 2 ^ header.v2.cluster_bits = grind (arith, nat_tests, inside) in
+    omega (arith, few, bound)
+
+-- the text that a write places
+pub chosen_text-placed : (header written : HeaderRecord) → kept header ≡ Ok (placed written)
+    → chosen_text header ≡ header_text written
+chosen_text-placed header written is = ap placed_text is ∙ header_text-placed written
+
+-- the second part of version 2 fits
+default-fits : AreFitting (v3_header_base default_base)
+default-fits = All-from_recursion (λ (f : LayoutField). f.value < 256 ^ f.size) (v3_header_base default_base)
+    (lit< tt, (lit< tt, (lit< tt, (lit< tt, (lit< tt, tt)))))
+
+-- the second part that is written fits
+base-fits : (with_names : Bool) (header : HeaderRecord) (layout : Layout) → IsLawfulHeader header
+    → IsLayout (chosen with_names header) layout
+    → (header.v2.version ≡ 3 → AreFitting (v3_header_base layout.base)) → AreFitting (v3_header_base layout.base)
+base-fits with_names header layout lawful is fits = elim lawful.version [
+  | inl two ↦
+      let same : layout.base ≡ default_base =
+      is.base ∙ older-base header.v2.version header.base (header_end (chosen with_names header)) two ∙ (lawful.older two).0 in
+      subst (λ (base : V3HeaderBase). AreFitting (v3_header_base base)) (sym same) default-fits
+  | inr three ↦ fits three
+]
+
+-- a header whose text stands in an image is written there
+pub written-header : (image : Image) (header : HeaderRecord) (layout : Layout) → IsLawfulHeader header
+    → IsLayout (chosen layout.with_names header) layout
+    → kept header ≡ Ok (placed (chosen layout.with_names header)) → AreFitting (v2_header layout.v2)
+    → (header.v2.version ≡ 3 → AreFitting (v3_header_base layout.base))
+    → Holds image 0 (header_text (chosen layout.with_names header))
+    → IsWritten image (placed (chosen layout.with_names header))
+written-header image header layout lawful is kept v2 base held =
+    let written = chosen layout.with_names header in
+    let after = placed-lawful layout.with_names header lawful in
+    let settled = kept-settled header (placed written) lawful.storable kept in
+    let back = All-weaker IsStorable ReadsBack storable-reads_back written.extensions after.storable in
+    let fits_v2 = subst (λ (part : V2Header). AreFitting (v2_header part)) is.v2 v2 in
+    let fits_base = subst (λ (part : V3HeaderBase). AreFitting (v3_header_base part)) is.base
+    (base-fits layout.with_names header layout lawful is base) in
+    let text = subst (Holds image 0) (sym (header_text-placed written)) held in
+    record {
+      text = text;
+      reads_back = text-header image (placed written) after back fits_v2 fits_base after.backing_filename settled.again text;
+    }
+
+-- a write that is refused touches nothing
+pub refused-writes : (fault : Fault) (len : ℕ) (state : StorageState) → (fault ≡ NameTooLong) ⊎ (fault ≡ HeaderTooLong)
+    → OnlyWrites {T = Unit {0}} (Err fault) (Some 0) len state state
+refused-writes fault len state why = record {
+  told = (λ failed. elim why [ inl long ↦ cc | inr long ↦ cc ], λ moved. absurd (moved refl));
+  others = λ tells. record { before = λ o below. refl; after = λ o past. refl };
+  refused = λ other. refl;
+  device = record { tells = refl; mem_align = refl; req_align = refl };
+}

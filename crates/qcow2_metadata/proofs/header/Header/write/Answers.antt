@@ -1,0 +1,47 @@
+use Rattle.std.proofs.Common.{ap, arith, length, ◌∙◌, rules, subst, sym}
+use Rattle.std.proofs.lemmas.Result.{err_from_is_err_and}
+use Rattle.qcow2_base.specs.Storage.{Holds}
+use Rattle.qcow2_metadata.specs.Header.Text.{IsSettled, IsWritten, chosen, chosen_text, placed}
+use Rattle.qcow2_metadata.proofs.SettledLemmas.{kept-settled}
+use Rattle.qcow2_metadata.proofs.WriteLemmas.{chosen_text-placed, kept-fault, refused-writes, text-short, written-header}
+use Rattle.qcow2_metadata.proofs.header.Header.write.Goals as goal
+
+pub returns-in_err-layout-clause-storage : goal.returns-in_err-layout-clause-storage
+returns-in_err-layout-clause-storage g c =
+    let exit = err_from_is_err_and c.from_residual.result c.from_residual.ensures.1 in
+    let why = kept-fault c.args.self.now c.in_err-layout.field-0.0 c.in_err-layout.ensures in
+    let state = g.S.Storage.state c.args.image.now in
+    rw (exit.1, exit.2) (refused-writes c.in_err-layout.field-0.0 (length (chosen_text c.args.self.now)) state why)
+
+pub write-requires : goal.write-requires
+write-requires g c =
+    let header = chosen c.in_ok-layout.layout.with_names c.args.self.now in
+    let short = text-short header c.in_ok-text.ensures.lawful.cluster_bits.1 c.in_ok-layout.ensures.0.fits in
+    omega (arith, short, ap length c.deref.ensures.value, ap length c.in_ok-text.ensures.text)
+
+pub returns-in_err-write-clause-storage : goal.returns-in_err-write-clause-storage
+returns-in_err-write-clause-storage g c =
+    let written = chosen c.in_ok-layout.layout.with_names c.args.self.now in
+    let text = ap length (chosen_text-placed c.args.self.now written c.in_ok-layout.ensures.1 ∙ sym c.in_ok-text.ensures.text ∙ sym c.deref.ensures.value) in
+    rw text (search rules)
+
+pub returns-clause-written : goal.returns-clause-written
+returns-clause-written g c told =
+    let image = (g.S.Storage.state c.write.new.self).byte_at in
+    let text = c.deref.ensures.value ∙ c.in_ok-text.ensures.text in
+    let held = subst (Holds image 0) text (c.in_ok-write.ensures.written told) in
+    subst (IsWritten image) (sym c.take_over.ensures)
+    (written-header image c.args.self.now c.in_ok-layout.layout c.in_ok-text.ensures.lawful c.in_ok-layout.ensures.0
+    c.in_ok-layout.ensures.1 c.in_ok-text.ensures.v2_fits c.in_ok-text.ensures.base_fits held)
+
+pub returns-clause-settled : goal.returns-clause-settled
+returns-clause-settled g c =
+    let written = placed (chosen c.in_ok-layout.layout.with_names c.args.self.now) in
+    subst IsSettled (sym c.take_over.ensures)
+    (kept-settled c.args.self.now written c.in_ok-text.ensures.lawful.storable c.in_ok-layout.ensures.1)
+
+pub returns-clause-storage : goal.returns-clause-storage
+returns-clause-storage g c =
+    let written = chosen c.in_ok-layout.layout.with_names c.args.self.now in
+    let text = ap length (chosen_text-placed c.args.self.now written c.in_ok-layout.ensures.1 ∙ sym c.in_ok-text.ensures.text ∙ sym c.deref.ensures.value) in
+    rw text (search rules)

@@ -1,0 +1,42 @@
+use Rattle.std.specs.Prelude.{◌≡◌, ◌⊎◌, ℕ, ◌==◌, ◌&&◌, Bool, true, false, not, IsTrue, List, [], length, Some, OnOk, Result, Ok, Err}
+use Rattle.qcow2_base.specs.Storage.{Holds, OnlyReads, OnlyWrites, StorageState}
+use Rattle.qcow2_base.specs.declared.fault.Fault.{Fault}
+use Rattle.qcow2_base.specs.declared.fault.Fault.TheVariants.{HeaderTooLong}
+use Rattle.qcow2_metadata.specs.Answers.{and_then}
+use Rattle.qcow2_metadata.specs.Header.{HeaderRecord}
+use Rattle.qcow2_metadata.specs.Header.Grammar.{IsHeaderFault, header_of}
+use Rattle.qcow2_metadata.specs.Header.Text.{chosen_text, kept}
+
+-- the header with no autoclear feature
+abbrev pub without_autoclear : HeaderRecord → HeaderRecord
+without_autoclear header = record header { base = record header.base { autoclear_features = 0 } }
+
+-- whether the header has to be written before the image may be: it names autoclear features
+abbrev pub is_rewritten : Bool → HeaderRecord → Bool
+is_rewritten writable header = writable && not (header.base.autoclear_features == 0)
+
+-- what a load answers, by what it read: who writes to an image leaves no autoclear feature in its header
+abbrev pub opened : Bool → Result HeaderRecord Fault → Result HeaderRecord Fault
+opened writable read = and_then read (λ header. elim (is_rewritten writable header) [
+  | true ↦ kept (without_autoclear header)
+  | false ↦ Ok header
+])
+
+-- the bytes that a load places, by what it read
+abbrev pub opened_text : Bool → Result HeaderRecord Fault → List ℕ
+opened_text writable (Err fault) = []
+opened_text writable (Ok header) = elim (is_rewritten writable header) [
+  | true ↦ chosen_text (without_autoclear header)
+  | false ↦ []
+]
+
+-- the faults of a load, whatever the storage tells: a header that is written may be too long
+abbrev pub IsOpenFault : Bool → Fault → Type 0
+IsOpenFault writable fault = IsHeaderFault fault ⊎ ((writable ≡ true) × (fault ≡ HeaderTooLong))
+
+-- a load that ended in this answer: it only reads where nobody is to write, and else it places the header without
+-- autoclear features, where it had any, and changes no byte past it
+pub record Opens {T : Type 0} (writable : Bool) (answer : Result T Fault) (old new : StorageState) : Type 0 where
+  pub reads : writable ≡ false → OnlyReads answer old new
+  pub writes : OnlyWrites answer (Some 0) (length (opened_text writable (header_of old.byte_at))) old new
+  pub placed : IsTrue old.tells → OnOk answer (Holds new.byte_at 0 (opened_text writable (header_of old.byte_at)))

@@ -1,0 +1,88 @@
+//! Writing a header to the start of an image.
+
+ghost use Rattle.std.specs.Prelude.{◌≡◌, IsTrue, OnErr, OnOk, Ok, Some, true, length};
+ghost use Rattle.qcow2_base.specs.Storage.{Holds, OnlyWrites};
+ghost use Rattle.qcow2_metadata.specs.Answers.{Answers};
+ghost use Rattle.qcow2_metadata.specs.Header.Open.{opened, opened_text, without_autoclear};
+ghost use Rattle.qcow2_metadata.specs.Header.Text.{IsChosen, IsLayout, IsSettled, IsWritten, chosen, chosen_text, kept, placed};
+
+use super::Header;
+use super::load::MAX_BACKING_FILENAME;
+use super::text::Layout;
+use qcow2_base::{Fault, Storage};
+
+impl Header {
+    /// Writes the header to the start of the image, in one call of the storage: its fields, the extensions, and
+    /// the backing file's name, with nothing behind it. Bytes past these stay.
+    ///
+    /// Sets the header's length, and the place and the length of the backing file's name. Where the text doesn't
+    /// fit the first cluster, tables of feature names are left out, and the header loses them. The header changes
+    /// only after the storage accepted the write.
+    ///
+    /// Refuses a backing file's name of more than 1023 bytes by fault 25, and a text that doesn't fit the first
+    /// cluster by 24; takes memory for the text. After any fault the header is as before, and after any but the
+    /// storage's no byte of the image changed.
+    pub fn write<S: Storage>(&mut self, image: &mut S) -> Result<(), Fault>
+        ensures exact { Answers (λ _. self.new) result (kept self.old) }
+        ensures unchanged { OnErr result (self.new ≡ self.old) }
+        ensures written { OnOk result (IsTrue (S.state image.old).tells →
+            IsWritten (S.state image.new).byte_at self.new) }
+        ensures settled { OnOk result (IsSettled self.new) }
+        ensures storage { OnlyWrites result (Some 0) (length (chosen_text self.old))
+            (S.state image.old) (S.state image.new) }
+    {
+        let layout = self.chosen_layout()?;
+        let text = self.text(&layout)?;
+        image.write(&text, 0)?;
+        self.take_over(layout);
+        Ok(())
+    }
+
+    // The layout that is written: with feature names if that fits, or else without.
+    fn chosen_layout(&self) -> Result<Layout, Fault>
+        ensures { IsChosen self.now result }
+    {
+        if self.backing_filename_len() > MAX_BACKING_FILENAME as usize {
+            return Err(Fault::NameTooLong);
+        }
+        if let Some(layout) = self.layout(true) {
+            return Ok(layout);
+        }
+        self.layout(false).ok_or(Fault::HeaderTooLong)
+    }
+
+    // The header is as it was written.
+    fn take_over(&mut self, layout: Layout)
+        requires { IsLayout (chosen layout.with_names self.old) layout }
+        ensures { self.new ≡ placed (chosen layout.with_names self.old) }
+    {
+        self.v2 = layout.v2;
+        self.base = layout.base;
+        if !layout.with_names {
+            self.extensions.retain(|extension| extension.is_other());
+        }
+    }
+
+    // The header for who means to write to the image, in which no autoclear feature is left.
+    pub(super) fn prepared<S: Storage>(mut self, image: &mut S) -> Result<Header, Fault>
+        ensures exact { Answers (λ header. header) result (opened true (Ok self)) }
+        ensures placed { OnOk result (IsTrue (S.state image.old).tells →
+            Holds (S.state image.new).byte_at 0 (opened_text true (Ok self))) }
+        ensures storage { OnlyWrites result (Some 0) (length (opened_text true (Ok self)))
+            (S.state image.old) (S.state image.new) }
+    {
+        if self.base.autoclear_features == 0 {
+            return Ok(self);
+        }
+        self.clear_autoclear_features();
+        self.write(image)?;
+        Ok(self)
+    }
+
+    // No autoclear feature is there any more.
+    fn clear_autoclear_features(&mut self)
+        ensures { self.new ≡ without_autoclear self.old }
+    {
+        self.base.autoclear_features = 0;
+    }
+}
