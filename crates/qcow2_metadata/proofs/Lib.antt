@@ -21,4 +21,5 @@ pub mod SettledLemmas
 pub mod StorableLemmas
 pub mod TableLemmas
 pub mod TextLemmas
+pub mod UpdateLemmas
 pub mod WriteLemmas

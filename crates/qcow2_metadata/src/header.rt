@@ -10,6 +10,7 @@ mod feature;
 mod load;
 mod pointers;
 mod text;
+mod update;
 mod write;
 
 use extension::known_names;

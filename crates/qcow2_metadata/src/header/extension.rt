@@ -58,7 +58,7 @@ impl From<HeaderExtensionType> for u32 {
 }
 
 /// A header extension.
-#[derive(Debug, Drop)]
+#[derive(Clone, Debug, PartialEq, Eq, Drop)]
 pub enum HeaderExtension {
     /// The format of the backing file.
     BackingFileFormat(String),

@@ -1,0 +1,83 @@
+//! Taking over what changed in another header of the same image.
+
+ghost use Rattle.std.specs.Prelude.{◌≡◌, IfErr, OnErr, OnOk, Ok};
+ghost use Rattle.qcow2_metadata.specs.Answers.{provided};
+ghost use Rattle.qcow2_metadata.specs.Header.Update.{IsFirstChange, agreements, same_value, value_in, with_header_length, with_size_and_tables};
+
+use super::Header;
+use qcow2_base::{Fault, Field};
+
+// The fields that an image in use must keep, in the order in which they are compared.
+const KEPT_FIELDS: [Field; 16] = [
+    Field::Magic,
+    Field::Version,
+    Field::BackingOffset,
+    Field::BackingSize,
+    Field::ClusterBits,
+    Field::CryptMethod,
+    Field::NbSnapshots,
+    Field::SnapshotsOffset,
+    Field::Incompatible,
+    Field::Compatible,
+    Field::Autoclear,
+    Field::RefcountOrder,
+    Field::UnknownFields,
+    Field::BackingName,
+    Field::Extensions,
+    Field::ExternalData,
+];
+
+impl Header {
+    /// Takes over from another header of the same image what may change while the image is used: the size of
+    /// the guest's disk, the number of entries and the offset of the L1 table, and the offset and the number
+    /// of clusters of the refcount table. All else stays as it is, the header's length too.
+    ///
+    /// But for these and the length both must say the same. Where they don't, answers fault 26 with the first
+    /// field that differs, in the order of `Field`, and changes nothing. The other header may be of another
+    /// cluster size, which is such a field. Takes no memory.
+    pub fn update(&mut self, other: &Header) -> Result<(), Fault>
+        ensures exact { result ≡ provided (agreements self.old other.now) (λ _. Ok tt) }
+        ensures first { IfErr result (IsFirstChange self.old other.now) }
+        ensures follows { OnOk result
+            (self.new ≡ with_header_length other.now self.old.base.header_length) }
+        ensures taken { OnOk result (self.new ≡ with_size_and_tables self.old other.now) }
+        ensures kept { OnErr result (self.new ≡ self.old) }
+    {
+        for field in KEPT_FIELDS {
+            if !self.agrees_in(other, field) {
+                return Err(Fault::FieldChanged(field));
+            }
+        }
+        self.v2.size = other.v2.size;
+        self.v2.l1_size = other.v2.l1_size;
+        self.v2.l1_table_offset = other.v2.l1_table_offset;
+        self.v2.refcount_table_offset = other.v2.refcount_table_offset;
+        self.v2.refcount_table_clusters = other.v2.refcount_table_clusters;
+        Ok(())
+    }
+
+    // Whether the other header says the same in this field.
+    fn agrees_in(&self, other: &Header, field: Field) -> bool
+        ensures { result ≡ same_value (value_in field self.now) (value_in field other.now) }
+    {
+        match field {
+            Field::Magic => self.v2.magic == other.v2.magic,
+            Field::Version => self.v2.version == other.v2.version,
+            Field::BackingOffset => self.v2.backing_file_offset == other.v2.backing_file_offset,
+            Field::BackingSize => self.v2.backing_file_size == other.v2.backing_file_size,
+            Field::ClusterBits => self.v2.cluster_bits == other.v2.cluster_bits,
+            Field::CryptMethod => self.v2.crypt_method == other.v2.crypt_method,
+            Field::NbSnapshots => self.v2.nb_snapshots == other.v2.nb_snapshots,
+            Field::SnapshotsOffset => self.v2.snapshots_offset == other.v2.snapshots_offset,
+            Field::Incompatible => self.base.incompatible_features
+                == other.base.incompatible_features,
+            Field::Compatible => self.base.compatible_features == other.base.compatible_features,
+            Field::Autoclear => self.base.autoclear_features == other.base.autoclear_features,
+            Field::RefcountOrder => self.base.refcount_order == other.base.refcount_order,
+            Field::UnknownFields => self.unknown_header_fields == other.unknown_header_fields,
+            Field::BackingName => self.backing_filename == other.backing_filename,
+            Field::Extensions => self.extensions == other.extensions,
+            Field::ExternalData => self.external_data_file() == other.external_data_file(),
+        }
+    }
+}
