@@ -11,6 +11,8 @@ mod header;
 #[cfg(test)]
 mod header_load;
 #[cfg(test)]
+mod header_update;
+#[cfg(test)]
 mod l1_entry;
 #[cfg(test)]
 mod l1_table;

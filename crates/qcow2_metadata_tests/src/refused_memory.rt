@@ -11,7 +11,7 @@ use crate::fixtures::{
 };
 use crate::header_load::{image_of, names};
 use crate::pieces::entries_up_to;
-use crate::rich_header::{NAMES, RICH};
+use crate::rich_header::{NAMES, RICH, extensions};
 use qcow2_base::{Fault, HostCluster, MemStorage};
 use qcow2_metadata::{Header, L1Table, L2Table, RefTable, Table};
 use qcow2_testing::{same, same_bytes};
@@ -30,6 +30,22 @@ fn a_header_that_memory_refused_loads_the_next_time(rt: HostRuntime) -> Result<(
         answer = Header::load(rt.alloc(), &mut image, false);
     }
     same(names(&answer?), NAMES, "loaded")
+}
+
+#[test]
+fn an_extension_that_memory_refused_is_copied_the_next_time(rt: HostRuntime) -> Result<(), Fail> {
+    let list = match extensions(rt.alloc()) {
+        Ok(list) => list,
+        Err(_) => extensions(rt.alloc())?,
+    };
+    for extension in &list {
+        let copy = match extension.clone() {
+            Ok(copy) => copy,
+            Err(_) => extension.clone()?,
+        };
+        same(&copy, extension, "copied")?;
+    }
+    Ok(())
 }
 
 // A header for clusters of 512 bytes, an image whose cluster 2 is a table, and the same image.

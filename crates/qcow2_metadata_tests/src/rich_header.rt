@@ -75,8 +75,8 @@ const SECOND_PART: V3HeaderBase = V3HeaderBase {
     header_length: 112,
 };
 
-// The header's extensions, in their order.
-fn extensions(alloc: Global) -> Result<Vec<HeaderExtension>, AllocError> {
+/// The header's extensions, in their order.
+pub(crate) fn extensions(alloc: Global) -> Result<Vec<HeaderExtension>, AllocError> {
     let mut features = BTreeMap::new(alloc);
     features.insert(
         (FeatureType::Incompatible, 0),
