@@ -278,6 +278,7 @@ with_size_and_tables-lawful here there lawful other bits = record {
   features = lawful.features;
   one_format = lawful.one_format;
   one_data_file = lawful.one_data_file;
-  kept = lawful.kept;
+  backing_filename = lawful.backing_filename;
+  storable = lawful.storable;
   older = lawful.older;
 }
