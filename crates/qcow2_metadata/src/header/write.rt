@@ -12,16 +12,16 @@ use super::text::Layout;
 use qcow2_base::{Fault, Storage};
 
 impl Header {
-    /// Writes the header to the start of the image, in one call of the storage: its fields, the extensions, and
-    /// the backing file's name, with nothing behind it. Bytes past these stay.
+    /// Writes the header to the start of the image, in one call of the storage: its fields, the
+    /// extensions, and the backing file's name, with nothing behind it. Bytes past these stay.
     ///
-    /// Sets the header's length, and the place and the length of the backing file's name. Where the text doesn't
-    /// fit the first cluster, tables of feature names are left out, and the header loses them. The header changes
-    /// only after the storage accepted the write.
+    /// Sets the header's length, and the place and the length of the backing file's name. Where the text
+    /// doesn't fit the first cluster, tables of feature names are left out, and the header loses them. The
+    /// header changes only after the storage accepted the write.
     ///
-    /// Refuses a backing file's name of more than 1023 bytes by fault 25, and a text that doesn't fit the first
-    /// cluster by 24; takes memory for the text. After any fault the header is as before, and after any but the
-    /// storage's no byte of the image changed.
+    /// Refuses a backing file's name of more than 1023 bytes by fault 25, and a text that doesn't fit the
+    /// first cluster by 24; takes memory for the text. After any fault the header is as before, and after
+    /// any but the storage's no byte of the image changed.
     pub fn write<S: Storage>(&mut self, image: &mut S) -> Result<(), Fault>
         ensures exact { Answers (λ _. self.new) result (kept self.old) }
         ensures unchanged { OnErr result (self.new ≡ self.old) }
