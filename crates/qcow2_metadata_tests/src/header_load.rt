@@ -36,8 +36,8 @@ fn least_with(alloc: Global, changes: Changes, others: Changes) -> Result<MemSto
     Ok(image)
 }
 
-// Puts bytes into the image, which grows where it is too short.
-fn change(image: &mut MemStorage, changes: Changes) -> Result<(), Fault> {
+/// Puts bytes into the image, which grows where it is too short.
+pub(crate) fn change(image: &mut MemStorage, changes: Changes) -> Result<(), Fault> {
     for (place, bytes) in changes {
         if *place >= 1 << 32 || bytes.len() >= 1 << 32 {
             return Err(Fault::TablePlace);
@@ -243,8 +243,8 @@ fn a_load_reads_the_names_or_answers_the_first_fault(rt: HostRuntime) -> Result<
     Ok(())
 }
 
-// Changes to the least header that break one condition each, and its number, which is that of the fault.
-const BROKEN: [(Changes, u32); 17] = [
+/// Changes to the least header that break one condition each, and its number, which is that of the fault.
+pub(crate) const BROKEN: [(Changes, u32); 17] = [
     (&[(0, &[0x50])], 1),
     (&[(7, &[4])], 2),
     (&[(23, &[0x16])], 3),
@@ -406,8 +406,8 @@ fn as_many_extensions_are_read_as_the_first_cluster_holds(rt: HostRuntime) -> Re
     Ok(())
 }
 
-// What makes the least header one of version 2, with the backing file a.img.
-const OLDER: Changes = &[
+/// What makes the least header one of version 2, with the backing file a.img.
+pub(crate) const OLDER: Changes = &[
     (7, &[2]),
     (14, &[2, 0]),
     (19, &[5]),
@@ -555,8 +555,8 @@ const TABLES: Changes = &[
     (176, b"\x02\x01raw"),
 ];
 
-// 46 times U+FFFD, which has three bytes.
-const REPLACED: &str = "\u{fffd}\u{fffd}\u{fffd}\u{fffd}\u{fffd}\u{fffd}\u{fffd}\u{fffd}\
+/// 46 times U+FFFD, which has three bytes.
+pub(crate) const REPLACED: &str = "\u{fffd}\u{fffd}\u{fffd}\u{fffd}\u{fffd}\u{fffd}\u{fffd}\u{fffd}\
     \u{fffd}\u{fffd}\u{fffd}\u{fffd}\u{fffd}\u{fffd}\u{fffd}\u{fffd}\
     \u{fffd}\u{fffd}\u{fffd}\u{fffd}\u{fffd}\u{fffd}\u{fffd}\u{fffd}\
     \u{fffd}\u{fffd}\u{fffd}\u{fffd}\u{fffd}\u{fffd}\u{fffd}\u{fffd}\

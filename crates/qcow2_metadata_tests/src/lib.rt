@@ -2,6 +2,8 @@
 #![tactic(auto)]
 
 #[cfg(test)]
+mod cut_feature_names;
+#[cfg(test)]
 mod every_table;
 #[cfg(test)]
 mod features;
@@ -11,7 +13,13 @@ mod header;
 #[cfg(test)]
 mod header_load;
 #[cfg(test)]
+mod header_round_trip;
+#[cfg(test)]
+mod header_texts;
+#[cfg(test)]
 mod header_update;
+#[cfg(test)]
+mod header_write;
 #[cfg(test)]
 mod l1_entry;
 #[cfg(test)]
@@ -36,6 +44,8 @@ mod refused_memory;
 mod rich_header;
 #[cfg(test)]
 mod table_files;
+#[cfg(test)]
+mod writable_load;
 
 pub use fixtures::{
     LOADED, NUMBER, Told, cleared_table, filled_image, header_with, image_with, place, put,

@@ -7,11 +7,16 @@
 ghost use Rattle.std.specs.Prelude.{◌≡◌, ◌≤◌, IfOk, IsTrue};
 
 use crate::fixtures::{
-    LOADED, NUMBER, Told, header_with, image_with, place, table_that_tells, tells,
+    LOADED, NUMBER, Told, filled_image, header_with, image_with, place, table_that_tells, tells,
 };
 use crate::header_load::{image_of, names};
+use crate::header_round_trip::getters;
+use crate::header_texts::{BACKING, BASE, RICH_WRITTEN, Written, dirty, made, with_text};
 use crate::pieces::entries_up_to;
 use crate::rich_header::{NAMES, RICH, extensions};
+use crate::writable_load::{
+    Cleared, LEAST_CLEARED, NAMED_CLEARED, RICH_CLEARED, with_features, without_features,
+};
 use qcow2_base::{Fault, HostCluster, MemStorage};
 use qcow2_metadata::{Header, L1Table, L2Table, RefTable, Table};
 use qcow2_testing::{same, same_bytes};
@@ -44,6 +49,78 @@ fn an_extension_that_memory_refused_is_copied_the_next_time(rt: HostRuntime) -> 
             Err(_) => extension.clone()?,
         };
         same(&copy, extension, "copied")?;
+    }
+    Ok(())
+}
+
+// A header that is made twice, an image, the same image, and what it is once the header is written.
+type Begun = (Header, Header, MemStorage, MemStorage, MemStorage);
+
+fn headers_and_images(alloc: Global, row: Written) -> Result<Begun, Fault> {
+    let image = filled_image(alloc, 2048)?;
+    let before = filled_image(alloc, 2048)?;
+    let written = with_text(alloc, filled_image(alloc, 2048)?, row.1)?;
+    Ok((
+        made(alloc, row.0)?,
+        made(alloc, row.0)?,
+        image,
+        before,
+        written,
+    ))
+}
+
+#[test]
+fn a_write_of_a_header_that_memory_refused_changes_nothing_and_succeeds_the_next_time(
+    rt: HostRuntime,
+) -> Result<(), Fail> {
+    for row in [BASE, BACKING, RICH_WRITTEN] {
+        let begun = match headers_and_images(rt.alloc(), row) {
+            Ok(begun) => begun,
+            Err(_) => headers_and_images(rt.alloc(), row)?,
+        };
+        let (mut header, other, mut image, before, written) = begun;
+        let mut answer = header.write(&mut image);
+        if let Err(fault) = answer {
+            same(fault, Fault::NoMemory, row)?;
+            same(getters(&header), getters(&other), row)?;
+            same_bytes(image.bytes(), before.bytes(), row)?;
+            answer = header.write(&mut image);
+        }
+        same((answer, dirty(&header)), (Ok(()), row.2), row)?;
+        same_bytes(image.bytes(), written.bytes(), row)?;
+    }
+    Ok(())
+}
+
+// An image, the same image, and what it is once its autoclear features are cleared.
+fn images_with_features(
+    alloc: Global,
+    row: Cleared,
+) -> Result<(MemStorage, MemStorage, MemStorage), Fault> {
+    let image = with_features(alloc, row)?;
+    let before = with_features(alloc, row)?;
+    Ok((image, before, without_features(alloc, row)?))
+}
+
+#[test]
+fn a_writable_load_that_memory_refused_changes_nothing_and_succeeds_the_next_time(
+    rt: HostRuntime,
+) -> Result<(), Fail> {
+    for row in [LEAST_CLEARED, RICH_CLEARED, NAMED_CLEARED] {
+        let images = match images_with_features(rt.alloc(), row) {
+            Ok(images) => images,
+            Err(_) => images_with_features(rt.alloc(), row)?,
+        };
+        let (mut image, before, cleared) = images;
+        let mut answer = Header::load(rt.alloc(), &mut image, true);
+        if let Err(fault) = &answer {
+            same(*fault, Fault::NoMemory, row)?;
+            same_bytes(image.bytes(), before.bytes(), row)?;
+            answer = Header::load(rt.alloc(), &mut image, true);
+        }
+        let header = answer?;
+        same((names(&header).0, dirty(&header)), (row.2, row.3), row)?;
+        same_bytes(image.bytes(), cleared.bytes(), row)?;
     }
     Ok(())
 }
