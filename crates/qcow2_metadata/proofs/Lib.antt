@@ -6,6 +6,7 @@ pub mod ChainLemmas
 pub mod ChunkLemmas
 pub mod ClusterLemmas
 pub mod CutLemmas
+pub mod EditsLemmas
 pub mod EntriesLemmas
 pub mod ExtensionsLemmas
 pub mod GrammarLemmas

@@ -1,4 +1,5 @@
 pub mod Answers
+pub mod Edits
 pub mod Entries
 pub mod Header
 pub mod L2Table

@@ -1,0 +1,184 @@
+use Rattle.std.proofs.Common.{◌≡◌, ℕ, zero, suc, Bool, true, false, not, ◌&&◌, ◌||◌, ◌==◌, nat_le, nat_lt, if◌then◌else◌, ◌+◌, ◌-◌, ◌*◌, ◌/◌, ◌%◌, ◌^◌, ◌<◌, ◌≤◌, ◌↔◌, Option, Some, None, option_map, unwrap_or, refl, ap, sym, ◌∙◌, subst, suc-mul, arith}
+use Rattle.std.proofs.lemmas.Nat.{div-mul-add, pow_pos, pow-add}
+use Rattle.std.proofs.Math.Nat.{mul_assoc, mul-mod_left, mul-div_cancel, zero-mod}
+use Rattle.std.proofs.lemmas.Bool.Decides.{nat_tests}
+use Rattle.qcow2_base.specs.Bits.{field}
+use Rattle.qcow2_base.specs.Types.{IsClusterBits}
+use Rattle.qcow2_metadata.specs.Header.{Geometry}
+use Rattle.qcow2_metadata.specs.declared.entries.ClustersToFreeEntry.{ClustersToFreeEntry}
+use Rattle.qcow2_metadata.specs.Entries.{ByteRange, is_among, allocation, byte_range, cluster_count, clusters_of, entry_fault, first_cluster, is_allocated, is_compressed, is_copied, l2_fault, l2_has_reserved, l2_is_unaligned, l2_reserved_bits, meets, offset_field}
+use Rattle.qcow2_metadata.proofs.EntriesLemmas.{l2_fault_zero}
+use Rattle.qcow2_metadata.specs.Edits.{EntryEdit, can_be_made, changed, data_entry, has_host_cluster, is_mappable, to_data, to_nothing, to_zeros, with_zero_flag}
+
+-- an entry of data in a host cluster at an offset: it is standard and copied, and no other bit is set
+record IsDataAt (v offset : ℕ) : Type 0 where
+  standard : field v 62 1 ≡ 0
+  at : offset_field v ≡ offset
+  copied : field v 63 1 ≡ 1
+  low : field v 1 8 ≡ 0
+  high : field v 56 6 ≡ 0
+
+data_at : (offset sectors : ℕ) → offset ≡ sectors * 512 → offset ≤ 2 ^ 56 - 512 → IsDataAt (2 ^ 63 + offset) offset
+data_at offset sectors whole fits = record {
+  standard = omega arith;
+  at = omega arith;
+  copied = omega arith;
+  low = omega arith;
+  high = omega arith;
+}
+
+-- a cluster's offset is whole sectors of 512 bytes
+offset_in_sectors : (cb cluster : ℕ) → 9 ≤ cb → cluster * 2 ^ cb ≡ cluster * 2 ^ (cb - 9) * 512
+offset_in_sectors cb cluster low =
+    let power = pow-add 2 (cb - 9) 9 in
+    let whole : cb - 9 + 9 ≡ cb = omega arith in
+    let same : 2 ^ cb ≡ 2 ^ (cb - 9) * 512 = rw whole at power in
+    ap (λ x. cluster * x) same ∙ sym (mul_assoc cluster (2 ^ (cb - 9)) 512)
+
+mappable_fits : (g : Geometry) (cluster : ℕ) → is_mappable g cluster ≡ true → cluster * 2 ^ g.cluster_bits ≤ 2 ^ 56 - 512
+mappable_fits g cluster mappable = grind (arith, nat_tests)
+
+data_entry_is_data : (g : Geometry) (cluster : ℕ) → IsClusterBits g.cluster_bits → is_mappable g cluster ≡ true → IsDataAt (data_entry g.cluster_bits cluster) (cluster * 2 ^ g.cluster_bits)
+data_entry_is_data g cluster bits mappable =
+    data_at (cluster * 2 ^ g.cluster_bits) (cluster * 2 ^ (g.cluster_bits - 9)) (offset_in_sectors g.cluster_bits cluster bits.0) (mappable_fits g cluster mappable)
+
+-- a cluster that may be mapped to is not at offset 0, but in an external data file
+mapped_is_allocated : (external : Bool) (cluster size : ℕ) → 0 < size → (if external then true else not (cluster == 0)) ≡ true → (not (cluster * size == 0) || (external && true)) ≡ true
+mapped_is_allocated true cluster size some mappable = grind (arith, nat_tests)
+mapped_is_allocated false zero size some mappable = cc
+mapped_is_allocated false (suc c) size some mappable =
+    let product = suc-mul c size in
+    let positive : 0 < suc c * size = omega arith in
+    grind (arith, nat_tests)
+
+second_holds : (a b : Bool) → (a && b) ≡ true → b ≡ true
+second_holds true b both = both
+second_holds false b both = cc
+
+-- the bytes of one cluster
+abbrev bytes_of_cluster : ℕ → ℕ → ByteRange
+bytes_of_cluster cb cluster = record { start = cluster * 2 ^ cb; end = cluster * 2 ^ cb + 2 ^ cb }
+
+data_range : (g : Geometry) (cluster : ℕ) → IsClusterBits g.cluster_bits → is_mappable g cluster ≡ true → byte_range g (data_entry g.cluster_bits cluster) ≡ Some (bytes_of_cluster g.cluster_bits cluster)
+data_range g cluster bits mappable =
+    let parts = data_entry_is_data g cluster bits mappable in
+    let allocated = mapped_is_allocated g.external_data_file cluster (2 ^ g.cluster_bits) (pow_pos g.cluster_bits) (second_holds _ _ mappable) in
+    rw (parts.standard, parts.copied, parts.at, allocated) refl
+
+-- these clusters are the one alone
+abbrev pub just : ℕ → ClustersToFreeEntry
+just cluster = record { first = record { 0 = cluster }; count = record { 0 = 1 } }
+
+clusters_of_one : (cb cluster : ℕ) → clusters_of cb (bytes_of_cluster cb cluster) ≡ just cluster
+clusters_of_one cb cluster =
+    let positive = pow_pos cb in
+    let first : first_cluster cb (bytes_of_cluster cb cluster) ≡ cluster = mul-div_cancel cluster positive in
+    let within : cluster * 2 ^ cb + 2 ^ cb - 1 ≡ cluster * 2 ^ cb + (2 ^ cb - 1) = omega arith in
+    let last : (cluster * 2 ^ cb + 2 ^ cb - 1) / 2 ^ cb ≡ cluster = rw within (div-mul-add cluster (2 ^ cb) (2 ^ cb - 1) (omega arith)) in
+    let count : cluster_count cb (bytes_of_cluster cb cluster) ≡ 1 = omega (arith, last, first) in
+    rw (count, first) refl
+
+-- a data entry refers to its host cluster, and no other
+pub data_entry-allocation : (g : Geometry) (cluster : ℕ) → IsClusterBits g.cluster_bits → is_mappable g cluster ≡ true → allocation g (data_entry g.cluster_bits cluster) ≡ Some (just cluster)
+data_entry-allocation g cluster bits mappable =
+    rw (data_range g cluster bits mappable, clusters_of_one g.cluster_bits cluster) refl
+
+-- whether these clusters, if there are any, have this one among them
+abbrev refer : Option ClustersToFreeEntry → ℕ → Bool
+refer found c = unwrap_or (option_map (λ clusters. is_among clusters c) found) false
+
+refer_just : (cluster c : ℕ) → refer (Some (just cluster)) c ≡ (cluster == c)
+refer_just cluster c = grind (arith, nat_tests)
+
+pub data_entry-meets : (g : Geometry) (cluster c : ℕ) → IsClusterBits g.cluster_bits → is_mappable g cluster ≡ true → meets g (data_entry g.cluster_bits cluster) c ≡ (cluster == c)
+data_entry-meets g cluster c bits mappable =
+    ap (λ (found : Option ClustersToFreeEntry). refer found c) (data_entry-allocation g cluster bits mappable) ∙ refer_just cluster c
+
+-- the zero flag changes nothing else of a standard entry
+record IsSameButZero (v w : ℕ) : Type 0 where
+  kind : field w 62 1 ≡ field v 62 1
+  at : offset_field w ≡ offset_field v
+  copied : field w 63 1 ≡ field v 63 1
+  low : field w 1 8 ≡ field v 1 8
+  high : field w 56 6 ≡ field v 56 6
+
+with_zero_flag_is_same : (v : ℕ) → IsSameButZero v (with_zero_flag v)
+with_zero_flag_is_same v = record {
+  kind = omega arith;
+  at = omega arith;
+  copied = omega arith;
+  low = omega arith;
+  high = omega arith;
+}
+
+with_zero_flag-byte_range : (g : Geometry) (v : ℕ) → is_compressed v ≡ false → byte_range g (with_zero_flag v) ≡ byte_range g v
+with_zero_flag-byte_range g v standard =
+    let same = with_zero_flag_is_same v in
+    rw (same.kind, standard, same.at, same.copied) refl
+
+standard_if_host_cluster : (g : Geometry) (v : ℕ) → has_host_cluster g v ≡ true → is_compressed v ≡ false
+standard_if_host_cluster g v has = not_first (is_compressed v) (is_allocated g.external_data_file v) has
+  where
+    not_first : (a b : Bool) → (not a && b) ≡ true → a ≡ false
+    not_first true b both = cc
+    not_first false b both = refl
+
+-- an entry that has a host cluster refers to the same with the zero flag
+pub with_zero_flag-allocation : (g : Geometry) (v : ℕ) → has_host_cluster g v ≡ true → allocation g (with_zero_flag v) ≡ allocation g v
+with_zero_flag-allocation g v has =
+    ap (λ (found : Option ByteRange). option_map (clusters_of g.cluster_bits) found) (with_zero_flag-byte_range g v (standard_if_host_cluster g v has))
+
+both_false : (external : Bool) → (external && false) ≡ false
+both_false true = refl
+both_false false = refl
+
+-- zeros with no host cluster, and an entry that is cleared, refer to nothing
+pub allocation-one : (g : Geometry) → allocation g 1 ≡ None
+allocation-one g = rw (both_false g.external_data_file) refl
+
+pub allocation-zero : (g : Geometry) → allocation g 0 ≡ None
+allocation-zero g = rw (both_false g.external_data_file) refl
+
+-- what holds of both values of a choice holds of the choice
+either : {A : Type 0} (P : A → Type 0) (test : Bool) (x y : A) → (test ≡ true → P x) → (test ≡ false → P y) → P (if test then x else y)
+either P true x y first second = first refl
+either P false x y first second = second refl
+
+-- what holds of the entries that a change can leave holds of the changed entry
+changed_holds : (P : ℕ → Type 0) (g : Geometry) (edit : EntryEdit) (v : ℕ) → can_be_made g edit ≡ true → ((cluster : ℕ) → is_mappable g cluster ≡ true → P (data_entry g.cluster_bits cluster)) → (has_host_cluster g v ≡ true → P (with_zero_flag v)) → P 1 → P 0 → P (changed g edit v)
+changed_holds P g (to_data cluster) v can mapped kept zeros none = mapped cluster can
+changed_holds P g (to_zeros keep) v can mapped kept zeros none =
+    either P (keep && has_host_cluster g v) (with_zero_flag v) 1 (λ keeps. kept (second_holds keep (has_host_cluster g v) keeps)) (λ _. zeros)
+changed_holds P g to_nothing v can mapped kept zeros none = none
+
+data_entry_is_lawful : (g : Geometry) (cluster : ℕ) → IsClusterBits g.cluster_bits → is_mappable g cluster ≡ true → l2_fault g.cluster_bits (data_entry g.cluster_bits cluster) ≡ None
+data_entry_is_lawful g cluster bits mappable =
+    let parts = data_entry_is_data g cluster bits mappable in
+    let aligned = mul-mod_left cluster (2 ^ g.cluster_bits) in
+    rw (parts.standard, parts.low, parts.high, parts.at, aligned) refl
+
+with_zero_flag-fault : (cb v : ℕ) → is_compressed v ≡ false → l2_fault cb (with_zero_flag v) ≡ l2_fault cb v
+with_zero_flag-fault cb v standard =
+    let same = with_zero_flag_is_same v in
+    rw (same.kind, standard, same.at, same.low, same.high) refl
+
+l2_fault_one : (cb : ℕ) → l2_fault cb 1 ≡ None
+l2_fault_one cb = rw zero-mod refl
+
+-- a change that can be made leaves an L2 entry
+pub changed-lawful : (g : Geometry) (edit : EntryEdit) (v : ℕ) → IsClusterBits g.cluster_bits → can_be_made g edit ≡ true → l2_fault g.cluster_bits v ≡ None → l2_fault g.cluster_bits (changed g edit v) ≡ None
+changed-lawful g edit v bits can lawful =
+    changed_holds (λ w. l2_fault g.cluster_bits w ≡ None) g edit v can
+    (λ cluster mappable. data_entry_is_lawful g cluster bits mappable)
+    (λ has. with_zero_flag-fault g.cluster_bits v (standard_if_host_cluster g v has) ∙ lawful)
+    (l2_fault_one g.cluster_bits)
+    (l2_fault_zero g.cluster_bits)
+
+-- and a number of 64 bits
+pub changed-fits : (g : Geometry) (edit : EntryEdit) (v : ℕ) → can_be_made g edit ≡ true → v < 2 ^ 64 → changed g edit v < 2 ^ 64
+changed-fits g edit v can fits =
+    changed_holds (λ w. w < 2 ^ 64) g edit v can
+    (λ cluster mappable. omega (arith, mappable_fits g cluster mappable))
+    (λ has. omega arith)
+    (omega arith)
+    (omega arith)
