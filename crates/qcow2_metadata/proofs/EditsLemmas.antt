@@ -1,4 +1,4 @@
-use Rattle.std.proofs.Common.{◌≡◌, ℕ, zero, suc, Bool, true, false, not, ◌&&◌, ◌||◌, ◌==◌, nat_le, nat_lt, if◌then◌else◌, ◌+◌, ◌-◌, ◌*◌, ◌/◌, ◌%◌, ◌^◌, ◌<◌, ◌≤◌, ◌↔◌, Option, Some, None, option_map, unwrap_or, refl, ap, sym, ◌∙◌, subst, suc-mul, arith}
+use Rattle.std.proofs.Common.{◌≡◌, ℕ, zero, suc, Bool, true, false, not, ◌&&◌, ◌||◌, ◌==◌, nat_le, nat_lt, if◌then◌else◌, ◌+◌, ◌-◌, ◌*◌, ◌/◌, ◌%◌, ◌^◌, ◌<◌, ◌≤◌, ◌↔◌, Option, Some, None, option_map, unwrap_or, option_to_list, IfSome, List, [], refl, ap, sym, ◌∙◌, subst, suc-mul, arith}
 use Rattle.std.proofs.lemmas.Nat.{div-mul-add, pow_pos, pow-add}
 use Rattle.std.proofs.Math.Nat.{mul_assoc, mul-mod_left, mul-div_cancel, zero-mod}
 use Rattle.std.proofs.lemmas.Bool.Decides.{nat_tests}
@@ -6,9 +6,9 @@ use Rattle.qcow2_base.specs.Bits.{field}
 use Rattle.qcow2_base.specs.Types.{IsClusterBits}
 use Rattle.qcow2_metadata.specs.Header.{Geometry}
 use Rattle.qcow2_metadata.specs.declared.entries.ClustersToFreeEntry.{ClustersToFreeEntry}
-use Rattle.qcow2_metadata.specs.Entries.{ByteRange, is_among, allocation, byte_range, cluster_count, clusters_of, entry_fault, first_cluster, is_allocated, is_compressed, is_copied, l2_fault, l2_has_reserved, l2_is_unaligned, l2_reserved_bits, meets, offset_field}
-use Rattle.qcow2_metadata.proofs.EntriesLemmas.{l2_fault_zero}
-use Rattle.qcow2_metadata.specs.Edits.{EntryEdit, can_be_made, changed, data_entry, has_host_cluster, is_mappable, to_data, to_nothing, to_zeros, with_zero_flag}
+use Rattle.qcow2_metadata.specs.Entries.{ByteRange, is_among, allocation, byte_range, cluster_count, clusters_of, entry_fault, first_cluster, is_allocated, is_compressed, is_copied, l2_fault, l2_has_reserved, l2_is_unaligned, l2_reserved_bits, meets, offset_field, Meets}
+use Rattle.qcow2_metadata.proofs.EntriesLemmas.{l2_fault_zero, meets_is_met}
+use Rattle.qcow2_metadata.specs.Edits.{EntryEdit, can_be_made, changed, data_entry, has_host_cluster, is_mappable, to_data, to_nothing, to_zeros, with_zero_flag, dropped, gained, handed_back, is_just, keeps, one_if, references, times_gained}
 
 -- an entry of data in a host cluster at an offset: it is standard and copied, and no other bit is set
 record IsDataAt (v offset : ℕ) : Type 0 where
@@ -182,3 +182,50 @@ changed-fits g edit v can fits =
     (λ has. omega arith)
     (omega arith)
     (omega arith)
+
+-- clusters one after another are the one alone just where they have it among them and no other
+just_is_all : (cluster : ℕ) (found : Option ClustersToFreeEntry) → IfSome found (λ some. 1 ≤ some.count.0) → (is_just cluster found ≡ true) ↔ ((refer found cluster ≡ true) × ((c : ℕ) → refer found c ≡ true → c ≡ cluster))
+just_is_all cluster None some = (λ just. cc, λ both. cc)
+just_is_all cluster (Some clusters) some = (
+    λ just. (grind (arith, nat_tests), λ c among. grind (arith, nat_tests)),
+    λ both.
+        let first = both.1 clusters.first.0 (grind (arith, nat_tests)) in
+        let second = both.1 (clusters.first.0 + 1) in
+        grind (arith, nat_tests, second),
+)
+
+some_clusters : (cb : ℕ) (found : Option ByteRange) → IfSome (option_map (clusters_of cb) found) (λ some. 1 ≤ some.count.0)
+some_clusters cb None = tt
+some_clusters cb (Some range) = omega arith
+
+-- an entry goes on referring to all that it refers to just where that is the cluster that it is mapped to
+pub keeps-just : (g : Geometry) (cluster v : ℕ) → (keeps g (to_data cluster) v ≡ true) ↔ (Meets g v cluster × ((c : ℕ) → Meets g v c → c ≡ cluster))
+keeps-just g cluster v =
+    let just = just_is_all cluster (allocation g v) (some_clusters g.cluster_bits (byte_range g v)) in (
+      λ keeps. let both = just.0 keeps in ((meets_is_met g v cluster).0 both.0, λ c met. both.1 c ((meets_is_met g v c).1 met)),
+      λ both. just.1 ((meets_is_met g v cluster).1 both.0, λ c meets. both.1 c ((meets_is_met g v c).0 meets)),
+    )
+
+handed_back-option : (found : Option ClustersToFreeEntry) (c : ℕ) → handed_back (option_to_list found) c ≡ one_if (refer found c)
+handed_back-option None c = refl
+handed_back-option (Some clusters) c = omega arith
+
+just_refers : (cluster : ℕ) (found : Option ClustersToFreeEntry) (c : ℕ) → is_just cluster found ≡ true → refer found c ≡ (cluster == c)
+just_refers cluster None c just = cc
+just_refers cluster (Some clusters) c just = grind (arith, nat_tests)
+
+mapped_balances : (cluster : ℕ) (found : Option ClustersToFreeEntry) (c : ℕ) (kept : Bool) → is_just cluster found ≡ kept → one_if (cluster == c) + handed_back (option_to_list (if kept then None else found)) c ≡ one_if (refer found c) + times_gained (option_to_list (if kept then None else Some cluster)) c
+mapped_balances cluster found c true just = rw (just_refers cluster found c just) refl
+mapped_balances cluster found c false just = omega (arith, handed_back-option found c)
+
+zeros_balance : (g : Geometry) (v c : ℕ) (kept : Bool) → (kept ≡ true → has_host_cluster g v ≡ true) → one_if (meets g (if kept then with_zero_flag v else 1) c) + handed_back (option_to_list (if kept then None else allocation g v)) c ≡ one_if (meets g v c) + times_gained [] c
+zeros_balance g v c true has = rw (with_zero_flag-allocation g v (has refl)) refl
+zeros_balance g v c false has = rw (allocation-one g, handed_back-option (allocation g v) c) (omega arith)
+
+-- a change hands back as many references to a cluster as the entry loses, and gains as many as it is given
+pub balance-entry : (g : Geometry) (edit : EntryEdit) (v c : ℕ) → IsClusterBits g.cluster_bits → can_be_made g edit ≡ true → one_if (meets g (changed g edit v) c) + handed_back (option_to_list (dropped g edit v)) c ≡ one_if (meets g v c) + times_gained (option_to_list (gained g edit v)) c
+balance-entry g (to_data cluster) v c bits can =
+    rw (data_entry-meets g cluster c bits can) (mapped_balances cluster (allocation g v) c (is_just cluster (allocation g v)) refl)
+balance-entry g (to_zeros keep) v c bits can =
+    zeros_balance g v c (keep && has_host_cluster g v) (second_holds keep (has_host_cluster g v))
+balance-entry g to_nothing v c bits can = rw (allocation-zero g, handed_back-option (allocation g v) c) (omega arith)
