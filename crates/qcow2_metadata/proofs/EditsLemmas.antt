@@ -1,4 +1,4 @@
-use Rattle.std.proofs.Common.{◌≡◌, ℕ, zero, suc, Bool, true, false, not, ◌&&◌, ◌||◌, ◌==◌, nat_le, nat_lt, if◌then◌else◌, ◌+◌, ◌-◌, ◌*◌, ◌/◌, ◌%◌, ◌^◌, ◌<◌, ◌≤◌, ◌↔◌, Option, Some, None, option_map, unwrap_or, option_to_list, IfSome, List, [], refl, ap, sym, ◌∙◌, subst, suc-mul, arith}
+use Rattle.std.proofs.Common.{◌≡◌, ℕ, zero, suc, Bool, true, false, not, ◌&&◌, ◌||◌, ◌==◌, nat_le, nat_lt, if◌then◌else◌, ◌+◌, ◌-◌, ◌*◌, ◌/◌, ◌%◌, ◌^◌, ◌<◌, ◌≤◌, ◌↔◌, Option, Some, None, option_map, unwrap_or, option_to_list, IfSome, List, [], ◌∷◌, ◌++◌, length, slice_get, slice_index, inl, inr, get_or-set_same, get_or-set_other, map-id, refl, ap, sym, ◌∙◌, subst, suc-mul, arith}
 use Rattle.std.proofs.lemmas.Nat.{div-mul-add, pow_pos, pow-add}
 use Rattle.std.proofs.Math.Nat.{mul_assoc, mul-mod_left, mul-div_cancel, zero-mod}
 use Rattle.std.proofs.lemmas.Bool.Decides.{nat_tests}
@@ -8,7 +8,16 @@ use Rattle.qcow2_metadata.specs.Header.{Geometry}
 use Rattle.qcow2_metadata.specs.declared.entries.ClustersToFreeEntry.{ClustersToFreeEntry}
 use Rattle.qcow2_metadata.specs.Entries.{ByteRange, is_among, allocation, byte_range, cluster_count, clusters_of, entry_fault, first_cluster, is_allocated, is_compressed, is_copied, l2_fault, l2_has_reserved, l2_is_unaligned, l2_reserved_bits, meets, offset_field, Meets}
 use Rattle.qcow2_metadata.proofs.EntriesLemmas.{l2_fault_zero, meets_is_met}
-use Rattle.qcow2_metadata.specs.Edits.{EntryEdit, can_be_made, changed, data_entry, has_host_cluster, is_mappable, to_data, to_nothing, to_zeros, with_zero_flag, dropped, gained, handed_back, is_just, keeps, one_if, references, times_gained}
+use Rattle.qcow2_metadata.proofs.TableLemmas.{first_fault-set, no_fault_item}
+use Rattle.std.proofs.lemmas.List.{length-set}
+use Rattle.std.proofs.lemmas.List.Sums.{sum_by-append, sum_by-set}
+use Rattle.std.proofs.lemmas.Grind.{same_number_lists}
+use Rattle.std.proofs.lemmas.Option.{none-some, same_Some}
+use Rattle.std.proofs.lemmas.Bool.{cases_eq}
+use Rattle.std.specs.List.{list_all}
+use Rattle.qcow2_base.specs.declared.fault.Fault.{Fault}
+use Rattle.qcow2_metadata.specs.Table.{first_fault}
+use Rattle.qcow2_metadata.specs.Edits.{EntryEdit, can_be_made, changed, data_entry, has_host_cluster, is_mappable, to_data, to_nothing, to_zeros, with_zero_flag, dropped, gained, handed_back, is_just, keeps, one_if, references, times_gained, TableEdit, IsEdit, IsRun, RunsTo, after_edit, fits_table, run_of}
 
 -- an entry of data in a host cluster at an offset: it is standard and copied, and no other bit is set
 record IsDataAt (v offset : ℕ) : Type 0 where
@@ -229,3 +238,135 @@ balance-entry g (to_data cluster) v c bits can =
 balance-entry g (to_zeros keep) v c bits can =
     zeros_balance g v c (keep && has_host_cluster g v) (second_holds keep (has_host_cluster g v))
 balance-entry g to_nothing v c bits can = rw (allocation-zero g, handed_back-option (allocation g v) c) (omega arith)
+
+edit_fits : (g : Geometry) (e : TableEdit) (entries : ℕ) → fits_table g entries e ≡ true → (e.index < entries) × (can_be_made g e.edit ≡ true)
+edit_fits g e entries fits = (grind (arith, nat_tests), second_holds _ _ fits)
+
+both_hold : (a b : Bool) → (a && b) ≡ true → (a ≡ true) × (b ≡ true)
+both_hold true b both = (refl, both)
+both_hold false b both = cc
+
+after_edit-length : (g : Geometry) (e : TableEdit) (numbers : List ℕ) → length (after_edit g e numbers) ≡ length numbers
+after_edit-length g e numbers = length-set numbers e.index (changed g e.edit (slice_index numbers e.index))
+
+-- a table has as many entries after a run of edits
+pub run_of-length : (g : Geometry) (edits : List TableEdit) (numbers : List ℕ) → length (run_of g edits numbers).numbers ≡ length numbers
+run_of-length g [] numbers = refl
+run_of-length g (e ∷ edits) numbers = run_of-length g edits (after_edit g e numbers) ∙ after_edit-length g e numbers
+
+-- the first of some edits that all fit a table fits it, and the others fit the table after that
+first_fits : (g : Geometry) (e : TableEdit) (edits : List TableEdit) (numbers : List ℕ) → list_all (fits_table g (length numbers)) (e ∷ edits) ≡ true → (e.index < length numbers) × (can_be_made g e.edit ≡ true) × (list_all (fits_table g (length (after_edit g e numbers))) edits ≡ true)
+first_fits g e edits numbers fit =
+    let both = both_hold (fits_table g (length numbers) e) (list_all (fits_table g (length numbers)) edits) fit in
+    let first = edit_fits g e (length numbers) both.0 in
+    (first.0, first.1, rw (after_edit-length g e numbers) both.1)
+
+-- a run hands back as many references to a cluster as the table loses, and gains as many as it is given
+pub balance-run : (g : Geometry) (edits : List TableEdit) (numbers : List ℕ) (c : ℕ) → IsClusterBits g.cluster_bits → list_all (fits_table g (length numbers)) edits ≡ true → references g (run_of g edits numbers).numbers c + handed_back (run_of g edits numbers).freed c ≡ references g numbers c + times_gained (run_of g edits numbers).gained c
+balance-run g [] numbers c bits fit = refl
+balance-run g (e ∷ edits) numbers c bits fit =
+    let v = slice_index numbers e.index in
+    let rest = run_of g edits (after_edit g e numbers) in
+    let first = first_fits g e edits numbers fit in
+    let entry = balance-entry g e.edit v c bits first.1 in
+    let table = sum_by-set (λ (w : ℕ). one_if (meets g w c)) numbers e.index (changed g e.edit v) 0 first.0 in
+    let more = balance-run g edits (after_edit g e numbers) c bits first.2 in
+    let freed = sum_by-append (λ (clusters : ClustersToFreeEntry). one_if (is_among clusters c)) (option_to_list (dropped g e.edit v)) rest.freed in
+    let gains = sum_by-append (λ (d : ℕ). one_if (d == c)) (option_to_list (gained g e.edit v)) rest.gained in
+    rw (freed, gains) (omega (arith, entry, table, more))
+
+-- an entry of a table is lawful
+entry_is_lawful : (fault : ℕ → Option Fault) (numbers : List ℕ) (i : ℕ) → first_fault fault numbers ≡ None → i < length numbers → fault (slice_index numbers i) ≡ None
+entry_is_lawful fault numbers i lawful below = no_fault_item (λ v. v) fault numbers i 0 (rw (map-id numbers) lawful) below
+
+-- the numbers after a run of edits are L2 entries again
+pub run_of-lawful : (g : Geometry) (edits : List TableEdit) (numbers : List ℕ) → IsClusterBits g.cluster_bits → list_all (fits_table g (length numbers)) edits ≡ true → first_fault (l2_fault g.cluster_bits) numbers ≡ None → first_fault (l2_fault g.cluster_bits) (run_of g edits numbers).numbers ≡ None
+run_of-lawful g [] numbers bits fit lawful = lawful
+run_of-lawful g (e ∷ edits) numbers bits fit lawful =
+    let v = slice_index numbers e.index in
+    let first = first_fits g e edits numbers fit in
+    let entry = changed-lawful g e.edit v bits first.1 (entry_is_lawful (l2_fault g.cluster_bits) numbers e.index lawful first.0) in
+    run_of-lawful g edits (after_edit g e numbers) bits first.2 (first_fault-set (l2_fault g.cluster_bits) numbers e.index (changed g e.edit v) lawful entry)
+
+-- the numbers after an edit are what the edit makes of them
+pub after_edit-is : (g : Geometry) (e : TableEdit) (numbers : List ℕ) → e.index < length numbers → IsEdit g e numbers (after_edit g e numbers)
+after_edit-is g e numbers below = record {
+  entry = get_or-set_same numbers e.index (changed g e.edit (slice_index numbers e.index)) 0 below;
+  others = λ i other. get_or-set_other numbers e.index i (changed g e.edit (slice_index numbers e.index)) 0 other;
+  entries = after_edit-length g e numbers;
+}
+
+-- and nothing else is
+pub edit-determines : (g : Geometry) (e : TableEdit) (old new : List ℕ) → IsEdit g e old new → new ≡ after_edit g e old
+edit-determines g e old new is =
+    let v = changed g e.edit (slice_index old e.index) in
+    same_number_lists new (after_edit g e old) (is.entries ∙ sym (after_edit-length g e old)) (λ k below. elim (cases_eq k e.index) [
+      | inl same ↦ rw same (is.entry ∙ sym (get_or-set_same old e.index v 0 (omega (arith, is.entries))))
+      | inr other ↦ is.others k other ∙ sym (get_or-set_other old e.index k v 0 other)
+    ])
+
+next_step : (step : List ℕ) (steps : List (List ℕ)) (i : ℕ) → slice_get (step ∷ steps) (suc i + 1) ≡ slice_get steps (i + 1)
+next_step step steps i =
+    let next : suc i + 1 ≡ suc (i + 1) = omega arith in
+    rw next refl
+
+each_more : (g : Geometry) (e : TableEdit) (edits : List TableEdit) (before next : List ℕ) (steps : List (List ℕ)) (after : List ℕ) → IsEdit g e before next → IsRun g edits next steps after → (i : ℕ) (f : TableEdit) (old new : List ℕ) → slice_get (e ∷ edits) i ≡ Some f → slice_get (before ∷ steps) i ≡ Some old → slice_get (before ∷ steps) (i + 1) ≡ Some new → IsEdit g f old new
+each_more g e edits before next steps after is run zero f old new edit here there =
+    let same : e ≡ f = cc in
+    let same_old : before ≡ old = cc in
+    let same_new : next ≡ new = same_Some next new (sym run.first ∙ there) in
+    rw (← same, ← same_old, ← same_new) is
+each_more g e edits before next steps after is run (suc i) f old new edit here there =
+    run.each i f old new edit here (sym (next_step before steps i) ∙ there)
+
+-- an edit ahead of a run
+run_more : (g : Geometry) (e : TableEdit) (edits : List TableEdit) (before next : List ℕ) (steps : List (List ℕ)) (after : List ℕ) → IsEdit g e before next → IsRun g edits next steps after → IsRun g (e ∷ edits) before (before ∷ steps) after
+run_more g e edits before next steps after is run = record {
+  count = omega (arith, run.count);
+  first = refl;
+  last = run.last;
+  each = each_more g e edits before next steps after is run;
+}
+
+-- edits that fit a table lead from it to the numbers after the run
+pub run_of-runs : (g : Geometry) (edits : List TableEdit) (numbers : List ℕ) → list_all (fits_table g (length numbers)) edits ≡ true → RunsTo g edits numbers (run_of g edits numbers).numbers
+run_of-runs g [] numbers fit = (numbers ∷ [], record {
+  count = refl;
+  first = refl;
+  last = refl;
+  each = λ i e old new edit here there. absurd (none-some e edit);
+})
+run_of-runs g (e ∷ edits) numbers fit =
+    let first = first_fits g e edits numbers fit in
+    let rest = run_of-runs g edits (after_edit g e numbers) first.2 in
+    (numbers ∷ rest.0, run_more g e edits numbers (after_edit g e numbers) rest.0 (run_of g edits (after_edit g e numbers)).numbers (after_edit-is g e numbers first.0) rest.1)
+
+-- a run without its first edit
+run_rest : (g : Geometry) (e : TableEdit) (edits : List TableEdit) (before step next : List ℕ) (steps : List (List ℕ)) (after : List ℕ) → IsRun g (e ∷ edits) before (step ∷ next ∷ steps) after → IsEdit g e before next × IsRun g edits next (next ∷ steps) after
+run_rest g e edits before step next steps after run =
+    let same : before ≡ step = sym (same_Some step before run.first) in (
+      rw same (run.each 0 e step next refl refl refl),
+      record {
+        count = omega (arith, run.count);
+        first = refl;
+        last = run.last;
+        each = λ i f old new edit here there. run.each (suc i) f old new edit here (next_step step (next ∷ steps) i ∙ there);
+      },
+    )
+
+-- and they lead to no other numbers
+pub run-determines : (g : Geometry) (edits : List TableEdit) (before : List ℕ) (steps : List (List ℕ)) (after : List ℕ) → IsRun g edits before steps after → after ≡ (run_of g edits before).numbers
+run-determines g [] before steps after run = same_Some after before (sym run.last ∙ run.first)
+run-determines g (e ∷ edits) before [] after run = absurd (omega (arith, run.count))
+run-determines g (e ∷ edits) before (step ∷ []) after run = absurd (omega (arith, run.count))
+run-determines g (e ∷ edits) before (step ∷ next ∷ steps) after run =
+    let parts = run_rest g e edits before step next steps after run in
+    let same = edit-determines g e before next parts.0 in
+    rw (← same) (run-determines g edits next (next ∷ steps) after parts.1)
+
+-- edits that fit a table lead from it to the numbers after their run, and to no others
+pub runs-to : (g : Geometry) (edits : List TableEdit) (before after : List ℕ) → list_all (fits_table g (length before)) edits ≡ true → RunsTo g edits before after ↔ (after ≡ (run_of g edits before).numbers)
+runs-to g edits before after fit = (
+    λ runs. run-determines g edits before runs.0 after runs.1,
+    λ same. subst (λ (numbers : List ℕ). RunsTo g edits before numbers) (sym same) (run_of-runs g edits before fit),
+)

@@ -1,3 +1,4 @@
+mod EditsExamples
 mod EntriesExamples
 mod GrammarExamples
 mod TableExamples
