@@ -1,5 +1,5 @@
-use Rattle.std.proofs.Common.{◌≡◌, ℕ, ◌-◌, ◌/◌, ◌^◌, Bool, true, false, List, [], ◌∷◌, replicate, set, slice_index, take, Some, None, refl}
-use Rattle.qcow2_metadata.specs.Header.{Geometry, geometry}
+use Rattle.std.proofs.Common.{◌≡◌, ℕ, ◌-◌, ◌^◌, true, false, List, [], ◌∷◌, replicate, set, slice_index, take, Some, None, refl}
+use Rattle.qcow2_metadata.specs.Header.{geometry}
 use Rattle.qcow2_metadata.specs.declared.entries.ClustersToFreeEntry.{ClustersToFreeEntry}
 use Rattle.qcow2_metadata.specs.Edits.{RunEnd, TableEdit, changed, dropped, fits_table, gained, is_mappable, references, run_of, to_data, to_nothing, to_zeros}
 
@@ -7,8 +7,7 @@ use Rattle.qcow2_metadata.specs.Edits.{RunEnd, TableEdit, changed, dropped, fits
 abbrev clusters : ℕ → ℕ → ClustersToFreeEntry
 clusters first count = record { first = record { 0 = first }; count = record { 0 = count } }
 
--- compressed data of 2048 bytes at 0x600, in clusters 1 to 3 of 1024 bytes, is mapped to cluster 2: all three are
--- handed back, and cluster 2 gains a reference
+-- compressed data in clusters 1 to 3 is mapped to cluster 2: all are handed back, and 2 gains a reference
 pub mapped_within_compressed_data : dropped (geometry 10 false) (to_data 2) 0x7000000000000600 ≡ Some (clusters 1 3)
 mapped_within_compressed_data = refl
 
@@ -59,8 +58,7 @@ zero_kept index = record { index = index; edit = to_zeros true }
 abbrev discard : ℕ → TableEdit
 discard index = record { index = index; edit = to_nothing }
 
--- a table of 64 entries, of which entry 3 refers to cluster 5. It is mapped to its own cluster, then to
--- another, and then discarded
+-- entry 3 of 64 refers to cluster 5: it is mapped to its own cluster, then to another, and then discarded
 abbrev table : List ℕ
 table = set (replicate 64 0) 3 0x8000000000000a00
 
@@ -79,8 +77,7 @@ run_leaves_a_clear_table = refl
 pub references_before_the_run : references (geometry 9 false) table 5 ≡ 1
 references_before_the_run = refl
 
--- a clear table of an image with an external data file. Its first entry is mapped to cluster 0, then made zeros
--- over that cluster, and then mapped to it again
+-- over an external data file: entry 0 of a clear table is mapped to cluster 0, then zeros, then mapped again
 abbrev external_edits : List TableEdit
 external_edits = map_to 0 0 ∷ zero_kept 0 ∷ map_to 0 0 ∷ []
 

@@ -1,25 +1,26 @@
-use Rattle.std.proofs.Common.{◌≡◌, ℕ, zero, suc, Bool, true, false, not, ◌&&◌, ◌||◌, ◌==◌, nat_le, nat_lt, if◌then◌else◌, ◌+◌, ◌-◌, ◌*◌, ◌/◌, ◌%◌, ◌^◌, ◌<◌, ◌≤◌, ◌↔◌, Option, Some, None, option_map, unwrap_or, option_to_list, IfSome, List, [], ◌∷◌, ◌++◌, length, slice_get, slice_index, inl, inr, get_or-set_same, get_or-set_other, map-id, refl, ap, sym, ◌∙◌, subst, suc-mul, arith}
-use Rattle.std.proofs.lemmas.Nat.{div-mul-add, pow_pos, pow-add}
-use Rattle.std.proofs.Math.Nat.{mul_assoc, mul-mod_left, mul-div_cancel, zero-mod}
+use Rattle.std.proofs.Common.{◌≡◌, ℕ, zero, suc, Bool, true, false, not, ◌&&◌, ◌||◌, ◌==◌, if◌then◌else◌, ◌+◌, ◌-◌, ◌*◌, ◌/◌, ◌^◌, ◌<◌, ◌≤◌, ◌↔◌, Option, Some, None, option_map, unwrap_or, option_to_list, IfSome, All, List, [], ◌∷◌, length, slice_get, slice_index, inl, inr, get_or-set_same, get_or-set_other, map-id, refl, ap, sym, ◌∙◌, subst, suc-mul, arith}
+use Rattle.std.proofs.lemmas.Nat.{div-mul-add, pow-add, pow_pos}
+use Rattle.std.proofs.Math.Nat.{mul-div_cancel, mul-mod_left, mul_assoc, zero-mod}
+use Rattle.std.proofs.lemmas.List.Elements.{All-set}
 use Rattle.std.proofs.lemmas.Bool.Decides.{nat_tests}
-use Rattle.qcow2_base.specs.Bits.{field}
-use Rattle.qcow2_base.specs.Types.{IsClusterBits}
-use Rattle.qcow2_metadata.specs.Header.{Geometry}
-use Rattle.qcow2_metadata.specs.declared.entries.ClustersToFreeEntry.{ClustersToFreeEntry}
-use Rattle.qcow2_metadata.specs.Entries.{ByteRange, is_among, allocation, byte_range, cluster_count, clusters_of, entry_fault, first_cluster, is_allocated, is_compressed, is_copied, l2_fault, l2_has_reserved, l2_is_unaligned, l2_reserved_bits, meets, offset_field, Meets}
-use Rattle.qcow2_metadata.proofs.EntriesLemmas.{l2_fault_zero, meets_is_met}
-use Rattle.qcow2_metadata.proofs.TableLemmas.{first_fault-set, no_fault_item}
 use Rattle.std.proofs.lemmas.List.{length-set}
 use Rattle.std.proofs.lemmas.List.Sums.{sum_by-append, sum_by-set}
 use Rattle.std.proofs.lemmas.Grind.{same_number_lists}
 use Rattle.std.proofs.lemmas.Option.{none-some, same_Some}
 use Rattle.std.proofs.lemmas.Bool.{cases_eq}
 use Rattle.std.specs.List.{list_all}
+use Rattle.qcow2_base.specs.Bits.{field}
+use Rattle.qcow2_base.specs.Types.{IsClusterBits}
 use Rattle.qcow2_base.specs.declared.fault.Fault.{Fault}
+use Rattle.qcow2_metadata.specs.Header.{Geometry}
+use Rattle.qcow2_metadata.specs.declared.entries.ClustersToFreeEntry.{ClustersToFreeEntry}
+use Rattle.qcow2_metadata.specs.Entries.{ByteRange, Meets, allocation, byte_range, cluster_count, clusters_of, first_cluster, is_allocated, is_among, is_compressed, l2_fault, meets, offset_field}
+use Rattle.qcow2_metadata.proofs.EntriesLemmas.{l2_fault_zero, meets_is_met}
+use Rattle.qcow2_metadata.proofs.TableLemmas.{first_fault-set, no_fault_item}
 use Rattle.qcow2_metadata.specs.Table.{first_fault}
-use Rattle.qcow2_metadata.specs.Edits.{EntryEdit, can_be_made, changed, data_entry, has_host_cluster, is_mappable, to_data, to_nothing, to_zeros, with_zero_flag, dropped, gained, handed_back, is_just, keeps, one_if, references, times_gained, TableEdit, IsEdit, IsRun, RunsTo, after_edit, fits_table, run_of}
+use Rattle.qcow2_metadata.specs.Edits.{EntryEdit, IsEdit, IsRun, RunsTo, TableEdit, after_edit, can_be_made, changed, data_entry, dropped, fits_table, gained, handed_back, has_host_cluster, is_just, is_mappable, keeps, one_if, references, run_of, times_gained, to_data, to_nothing, to_zeros, with_zero_flag}
 
--- an entry of data in a host cluster at an offset: it is standard and copied, and no other bit is set
+-- an entry of data in a host cluster at an offset: it is standard and copied, with no reserved bit
 record IsDataAt (v offset : ℕ) : Type 0 where
   standard : field v 62 1 ≡ 0
   at : offset_field v ≡ offset
@@ -196,11 +197,11 @@ changed-fits g edit v can fits =
 just_is_all : (cluster : ℕ) (found : Option ClustersToFreeEntry) → IfSome found (λ some. 1 ≤ some.count.0) → (is_just cluster found ≡ true) ↔ ((refer found cluster ≡ true) × ((c : ℕ) → refer found c ≡ true → c ≡ cluster))
 just_is_all cluster None some = (λ just. cc, λ both. cc)
 just_is_all cluster (Some clusters) some = (
-    λ just. (grind (arith, nat_tests), λ c among. grind (arith, nat_tests)),
-    λ both.
-        let first = both.1 clusters.first.0 (grind (arith, nat_tests)) in
-        let second = both.1 (clusters.first.0 + 1) in
-        grind (arith, nat_tests, second),
+  λ just. (grind (arith, nat_tests), λ c among. grind (arith, nat_tests)),
+  λ both.
+      let first = both.1 clusters.first.0 (grind (arith, nat_tests)) in
+      let second = both.1 (clusters.first.0 + 1) in
+      grind (arith, nat_tests, second),
 )
 
 some_clusters : (cb : ℕ) (found : Option ByteRange) → IfSome (option_map (clusters_of cb) found) (λ some. 1 ≤ some.count.0)
@@ -288,6 +289,14 @@ run_of-lawful g (e ∷ edits) numbers bits fit lawful =
     let entry = changed-lawful g e.edit v bits first.1 (entry_is_lawful (l2_fault g.cluster_bits) numbers e.index lawful first.0) in
     run_of-lawful g edits (after_edit g e numbers) bits first.2 (first_fault-set (l2_fault g.cluster_bits) numbers e.index (changed g e.edit v) lawful entry)
 
+-- numbers of 64 bits stay so
+pub run_of-fits : (g : Geometry) (edits : List TableEdit) (numbers : List ℕ) → list_all (fits_table g (length numbers)) edits ≡ true → All (λ v. v < 2 ^ 64) numbers → All (λ v. v < 2 ^ 64) (run_of g edits numbers).numbers
+run_of-fits g [] numbers fit small = small
+run_of-fits g (e ∷ edits) numbers fit small =
+    let first = first_fits g e edits numbers fit in
+    let v = changed-fits g e.edit (slice_index numbers e.index) first.1 (small e.index 0 first.0) in
+    run_of-fits g edits (after_edit g e numbers) first.2 (All-set (λ w. w < 2 ^ 64) numbers e.index (changed g e.edit (slice_index numbers e.index)) v small)
+
 -- the numbers after an edit are what the edit makes of them
 pub after_edit-is : (g : Geometry) (e : TableEdit) (numbers : List ℕ) → e.index < length numbers → IsEdit g e numbers (after_edit g e numbers)
 after_edit-is g e numbers below = record {
@@ -330,12 +339,15 @@ run_more g e edits before next steps after is run = record {
 
 -- edits that fit a table lead from it to the numbers after the run
 pub run_of-runs : (g : Geometry) (edits : List TableEdit) (numbers : List ℕ) → list_all (fits_table g (length numbers)) edits ≡ true → RunsTo g edits numbers (run_of g edits numbers).numbers
-run_of-runs g [] numbers fit = (numbers ∷ [], record {
-  count = refl;
-  first = refl;
-  last = refl;
-  each = λ i e old new edit here there. absurd (none-some e edit);
-})
+run_of-runs g [] numbers fit = (
+  numbers ∷ [],
+  record {
+    count = refl;
+    first = refl;
+    last = refl;
+    each = λ i e old new edit here there. absurd (none-some e edit);
+  },
+)
 run_of-runs g (e ∷ edits) numbers fit =
     let first = first_fits g e edits numbers fit in
     let rest = run_of-runs g edits (after_edit g e numbers) first.2 in
@@ -367,6 +379,6 @@ run-determines g (e ∷ edits) before (step ∷ next ∷ steps) after run =
 -- edits that fit a table lead from it to the numbers after their run, and to no others
 pub runs-to : (g : Geometry) (edits : List TableEdit) (before after : List ℕ) → list_all (fits_table g (length before)) edits ≡ true → RunsTo g edits before after ↔ (after ≡ (run_of g edits before).numbers)
 runs-to g edits before after fit = (
-    λ runs. run-determines g edits before runs.0 after runs.1,
-    λ same. subst (λ (numbers : List ℕ). RunsTo g edits before numbers) (sym same) (run_of-runs g edits before fit),
+  λ runs. run-determines g edits before runs.0 after runs.1,
+  λ same. subst (λ (numbers : List ℕ). RunsTo g edits before numbers) (sym same) (run_of-runs g edits before fit),
 )

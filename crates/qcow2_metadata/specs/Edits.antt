@@ -1,11 +1,10 @@
-use Rattle.std.specs.Prelude.{◌≡◌, ◌≢◌, ℕ, zero, suc, Bool, true, false, not, ◌&&◌, ◌==◌, ◌+◌, ◌-◌, ◌*◌, ◌%◌, ◌^◌, ◌<◌, ◌≤◌, List, [], ◌∷◌, ◌++◌, length, slice_get, slice_index, slice_set, if◌then◌else◌, Option, Some, None, option_to_list, nat_le}
+use Rattle.std.specs.Prelude.{◌≡◌, ◌≢◌, ℕ, Bool, true, false, not, ◌&&◌, ◌==◌, ◌+◌, ◌-◌, ◌*◌, ◌%◌, ◌^◌, List, [], ◌∷◌, ◌++◌, length, slice_get, slice_index, slice_set, if◌then◌else◌, Option, Some, None, option_to_list, nat_le}
 use Rattle.std.specs.List.{sum_by}
-use Rattle.qcow2_metadata.specs.Entries.{Meets, allocation, is_allocated, is_among, is_compressed, meets}
+use Rattle.qcow2_metadata.specs.Entries.{allocation, is_allocated, is_among, is_compressed, meets}
 use Rattle.qcow2_metadata.specs.Header.{Geometry}
 use Rattle.qcow2_metadata.specs.declared.entries.ClustersToFreeEntry.{ClustersToFreeEntry}
 
--- a change of an L2 entry: the guest cluster has data in a host cluster, or zeros, which may keep the host cluster
--- that the entry refers to, or nothing
+-- a change of an L2 entry: to data in a host cluster, to zeros, which may keep its cluster, or to nothing
 pub data EntryEdit : Type 0 where
   to_data : (cluster : ℕ) → EntryEdit
   to_zeros : (keep : Bool) → EntryEdit
@@ -15,7 +14,7 @@ pub data EntryEdit : Type 0 where
 abbrev pub data_entry : ℕ → ℕ → ℕ
 data_entry cb cluster = 2 ^ 63 + cluster * 2 ^ cb
 
--- the entry refers to one host cluster that can be kept under zeros: it is a standard one
+-- whether the entry has a host cluster that zeros can keep: it is a standard one that refers to a cluster
 abbrev pub has_host_cluster : Geometry → ℕ → Bool
 has_host_cluster g v = not (is_compressed v) && is_allocated g.external_data_file v
 
@@ -71,8 +70,7 @@ pub record TableEdit : Type 0 where
   pub index : ℕ
   pub edit : EntryEdit
 
--- what a run of edits leaves: the table's numbers, and in order what it hands back and which clusters gained a
--- reference
+-- what edits leave: the table's numbers, and in order what was handed back and what gained a reference
 pub record RunEnd : Type 0 where
   pub numbers : List ℕ
   pub freed : List ClustersToFreeEntry
@@ -94,31 +92,32 @@ run_of g (e ∷ edits) numbers =
       gained = option_to_list (gained g e.edit v) ++ rest.gained;
     }
 
--- one edit of a table: the entry at its index is the changed one, each other entry and their number stay
+-- one edit of a table: the entry at its index is the changed one, and all others are as they were
 pub record IsEdit (g : Geometry) (e : TableEdit) (old new : List ℕ) : Type 0 where
   pub entry : slice_index new e.index ≡ changed g e.edit (slice_index old e.index)
   pub others : (i : ℕ) → i ≢ e.index → slice_index new i ≡ slice_index old i
   pub entries : length new ≡ length old
 
--- a run of edits through these steps, from the numbers before to those after: each step but the first is the one
--- ahead of it after the edit at its place
-pub record IsRun (g : Geometry) (edits : List TableEdit) (before : List ℕ) (steps : List (List ℕ)) (after : List ℕ) : Type 0 where
+-- a run of edits in steps from the numbers before to those after: each edit leads from one step to the next
+pub record IsRun (g : Geometry) (edits : List TableEdit) (before : List ℕ) (steps : List (List ℕ))
+    (after : List ℕ) : Type 0 where
   pub count : length steps ≡ length edits + 1
   pub first : slice_get steps 0 ≡ Some before
   pub last : slice_get steps (length edits) ≡ Some after
   pub each : (i : ℕ) (e : TableEdit) (old new : List ℕ) → slice_get edits i ≡ Some e →
       slice_get steps i ≡ Some old → slice_get steps (i + 1) ≡ Some new → IsEdit g e old new
 
--- edits, one after the other, lead from the numbers before to those after
+-- some run of the edits leads from the numbers before to those after
 abbrev pub RunsTo : Geometry → List TableEdit → List ℕ → List ℕ → Type 0
 RunsTo g edits before after = (steps : List (List ℕ)) × IsRun g edits before steps after
 
--- a host cluster that an entry may be mapped to: its offset is at most 2 ^ 56 - 512, and it isn't the header's, but
--- where guest data lies in an external data file
+-- whether an entry can hold a host cluster's offset, and it isn't the header's, but in an external data file
 abbrev pub is_mappable : Geometry → ℕ → Bool
-is_mappable g cluster = nat_le (cluster * 2 ^ g.cluster_bits) (2 ^ 56 - 512) && (if g.external_data_file then true else not (cluster == 0))
+is_mappable g cluster =
+    nat_le (cluster * 2 ^ g.cluster_bits) (2 ^ 56 - 512)
+    && (if g.external_data_file then true else not (cluster == 0))
 
--- whether a change can be made: the host cluster that it maps to may be mapped to
+-- whether a change can be made: the host cluster that it maps to, if it does, can be mapped to
 abbrev pub can_be_made : Geometry → EntryEdit → Bool
 can_be_made g (to_data cluster) = is_mappable g cluster
 can_be_made g (to_zeros keep) = true
