@@ -2,7 +2,7 @@ use Rattle.std.proofs.Common.{◌≡◌, ℕ, ◌*◌, Some, None, true, false, 
 use Rattle.qcow2_base.specs.declared.fault.Fault.TheVariants.{EntryReserved, EntryUnaligned}
 use Rattle.qcow2_metadata.specs.Header.{geometry}
 use Rattle.qcow2_metadata.specs.declared.entries.ClustersToFreeEntry.{ClustersToFreeEntry}
-use Rattle.qcow2_metadata.specs.Entries.{allocation, backing, compressed, compressed_length, compressed_offset, data_file, l1_entry_for, l1_fault, l2_fault, mapping, meets, ref_fault, zeros}
+use Rattle.qcow2_metadata.specs.Entries.{allocation, backing, compressed, compressed_length, compressed_offset, data_file, entry_of, is_consecutive, l1_entry_for, l1_fault, l2_fault, mapping, meets, stored_mapping, ref_fault, zeros}
 
 -- numbers that are no entries: a reserved bit, an offset inside a cluster
 pub reserved_bit_56 : l2_fault 9 0x4100000000000000 ≡ Some EntryReserved
@@ -63,6 +63,50 @@ zeros_with_a_cluster = refl
 
 pub compressed_data : mapping (geometry 16 false) 3 0x4040000000010010 ≡ compressed 0x10010 1008
 compressed_data = refl
+
+-- the entries of mappings
+pub number_of_data : entry_of 9 (data_file 5 true) ≡ 0x8000000000000a00
+number_of_data = refl
+
+pub number_of_backing : entry_of 9 (backing 1536) ≡ 0
+number_of_backing = refl
+
+pub number_of_zeros : entry_of 9 (zeros None false) ≡ 1
+number_of_zeros = refl
+
+pub number_of_zeros_with_a_cluster : entry_of 9 (zeros (Some 5) false) ≡ 0xa01
+number_of_zeros_with_a_cluster = refl
+
+pub number_of_compressed_data : entry_of 16 (compressed 0x10010 1000) ≡ 0x4040000000010010
+number_of_compressed_data = refl
+
+pub compressed_data_reaches_a_sectors_end : stored_mapping (geometry 16 false) 3 (compressed 0x10010 1000) ≡ compressed 0x10010 1008
+compressed_data_reaches_a_sectors_end = refl
+
+pub cluster_0_is_none : stored_mapping (geometry 9 false) 3 (data_file 0 true) ≡ backing 1536
+cluster_0_is_none = refl
+
+pub cluster_0_of_a_data_file_is_told : stored_mapping (geometry 9 true) 3 (data_file 0 true) ≡ data_file 0 true
+cluster_0_of_a_data_file_is_told = refl
+
+-- mappings that go on
+pub data_goes_on : is_consecutive 9 (data_file 5 true) (data_file 6 true) ≡ true
+data_goes_on = refl
+
+pub data_that_is_not_copied_does_not : is_consecutive 9 (data_file 5 true) (data_file 6 false) ≡ false
+data_that_is_not_copied_does_not = refl
+
+pub no_cluster_after_the_last : is_consecutive 9 (data_file 0xffffffffffffffff true) (data_file 0 true) ≡ false
+no_cluster_after_the_last = refl
+
+pub backing_goes_on : is_consecutive 9 (backing 0) (backing 512) ≡ true
+backing_goes_on = refl
+
+pub zeros_go_on : is_consecutive 9 (zeros (Some 5) true) (zeros None false) ≡ true
+zeros_go_on = refl
+
+pub data_after_zeros_does_not : is_consecutive 9 (zeros (Some 5) true) (data_file 6 true) ≡ false
+data_after_zeros_does_not = refl
 
 -- the clusters that an entry refers to
 abbrev clusters : ℕ → ℕ → ClustersToFreeEntry

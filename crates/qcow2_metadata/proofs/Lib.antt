@@ -14,6 +14,7 @@ pub mod GrammarLemmas
 pub mod HeaderLemmas
 pub mod LayoutLemmas
 pub mod LoadLemmas
+pub mod MappingLemmas
 pub mod NamesLemmas
 pub mod OpenLemmas
 pub mod PieceLemmas

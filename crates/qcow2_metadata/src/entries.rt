@@ -14,40 +14,14 @@ use std::marker::Model;
 use std::num::NonZero;
 
 mod l1_entry;
+mod l2_mapping;
 mod pending_clusters;
 mod ref_table_entry;
 
 pub use l1_entry::L1Entry;
+pub use l2_mapping::L2Mapping;
 pub use pending_clusters::{PendingClusters, Refused};
 pub use ref_table_entry::RefTableEntry;
-
-/// What a guest cluster reads as.
-#[derive(Clone, Copy, Debug, PartialEq, Eq)]
-pub enum L2Mapping {
-    /// Data is in the data file: the image, or its external data file.
-    DataFile {
-        host_cluster: HostCluster,
-        /// The cluster's refcount is exactly one, so it may be written in place.
-        copied: bool,
-    },
-    /// Data is in the backing file at this offset in bytes, or zero where there is no such file.
-    Backing {
-        backing_offset: u64,
-    },
-    /// Data is zero.
-    Zero {
-        /// A cluster of the data file that is allocated all the same.
-        host_cluster: Option<HostCluster>,
-        /// Its refcount is exactly one.
-        copied: bool,
-    },
-    /// Data is compressed in the image.
-    Compressed {
-        host_offset: HostOffset,
-        /// At most how many bytes the compressed data takes.
-        length: NonZero<u64>,
-    },
-}
 
 /// Host clusters that a dropped entry referred to. Each has one reference less to it.
 #[derive(Clone, Copy, Debug, PartialEq, Eq)]
@@ -145,6 +119,21 @@ impl L2Entry {
         ensures { result ≡ is_copied self.now }
     {
         field(self.value, 63, 1) == 1
+    }
+
+    /// The entry with bit 63 clear: a standard entry no longer says that its cluster has exactly one
+    /// reference, and a compressed one stays as it is.
+    #[inline]
+    #[must_use]
+    #[tactic(auto, using(crate::proofs::MappingLemmas::lawful_without_copied))]
+    pub fn without_copied(self) -> L2Entry
+        ensures number { result ≡ self % 2 ^ 63 }
+        ensures lawful { (cluster_bits : ℕ) →
+            l2_fault cluster_bits self ≡ None → l2_fault cluster_bits result ≡ None }
+    {
+        L2Entry {
+            value: field(self.value, 0, 63),
+        }
     }
 
     /// Bit 0. In a standard entry: the guest cluster reads as zeros.

@@ -1,0 +1,147 @@
+//! What guest clusters read as, and the L2 entries that say so.
+
+ghost use Rattle.std.specs.Prelude.{◌≡◌, ℕ, Bool, ◌-◌, ◌^◌, ◌<◌, None};
+ghost use Rattle.qcow2_base.specs.Types.{IsClusterBits};
+ghost use Rattle.qcow2_metadata.specs.Header.{geometry};
+ghost use Rattle.qcow2_metadata.specs.Entries as spec;
+
+use super::L2Entry;
+use qcow2_base::{HostCluster, HostOffset};
+use std::num::NonZero;
+
+/// What a guest cluster reads as.
+#[derive(Clone, Copy, Debug, PartialEq, Eq)]
+pub enum L2Mapping {
+    /// Data is in the data file: the image, or its external data file.
+    DataFile {
+        host_cluster: HostCluster,
+        /// The cluster's refcount is exactly one, so it may be written in place.
+        copied: bool,
+    },
+    /// Data is in the backing file at this offset in bytes, or zero where there is no such file.
+    Backing {
+        backing_offset: u64,
+    },
+    /// Data is zero.
+    Zero {
+        /// A cluster of the data file that is allocated all the same.
+        host_cluster: Option<HostCluster>,
+        /// Its refcount is exactly one.
+        copied: bool,
+    },
+    /// Data is compressed in the image.
+    Compressed {
+        host_offset: HostOffset,
+        /// At most how many bytes the compressed data takes.
+        length: NonZero<u64>,
+    },
+}
+
+impl L2Mapping {
+    /// Whether this mapping, of some guest cluster, goes on where `preceding`, that of the guest cluster
+    /// before it, ends, in an image with clusters of `2^cluster_bits` bytes.
+    ///
+    /// Data goes on in the next host cluster, where the copied flags are equal, and a backing file goes
+    /// on one cluster further. Nothing comes next after the last number of a cluster, or where the
+    /// offset wouldn't fit 64 bits. Zeros go on after zeros, whatever their clusters, and compressed
+    /// data after compressed data, each cluster of which is read by itself anyway.
+    #[inline]
+    pub fn is_consecutive(&self, preceding: &L2Mapping, cluster_bits: u32) -> bool
+        requires { IsClusterBits cluster_bits }
+        ensures { result
+            ≡ spec.is_consecutive cluster_bits (spec.meaning preceding.now) (spec.meaning self.now) }
+    {
+        match (*preceding, *self) {
+            (
+                L2Mapping::DataFile {
+                    host_cluster: before,
+                    copied: was_copied,
+                },
+                L2Mapping::DataFile {
+                    host_cluster,
+                    copied,
+                },
+            ) => before.0.checked_add(1) == Some(host_cluster.0) && was_copied == copied,
+            (
+                L2Mapping::Backing {
+                    backing_offset: before,
+                },
+                L2Mapping::Backing { backing_offset },
+            ) => before.checked_add(1 << cluster_bits) == Some(backing_offset),
+            (L2Mapping::Zero { .. }, L2Mapping::Zero { .. }) => true,
+            (L2Mapping::Compressed { .. }, L2Mapping::Compressed { .. }) => true,
+            _ => false,
+        }
+    }
+}
+
+impl L2Entry {
+    /// The entry of a guest cluster with this mapping, in an image with clusters of `2^cluster_bits`
+    /// bytes.
+    ///
+    /// Data has its cluster's offset, and bit 63 where it is copied. Backing is 0. Zeros have bit 0, and
+    /// with a cluster its offset, and bit 63 where it is copied. Compressed data has bit 62, its offset
+    /// in bits 0 to x - 1, where `x = 70 - cluster_bits`, and in bits x to 61 the number of sectors of
+    /// 512 bytes that it has beyond the first. So an entry does not keep its length: it reads as
+    /// reaching to the end of the last sector.
+    ///
+    /// Asks for offsets of clusters up to `MAX_OFFSET`, for `copied` on zeros only with a cluster, and
+    /// for compressed data that is shorter than a cluster, at an offset below 2^56 that fits x bits.
+    ///
+    /// An offset of 0 says that there is no cluster, but for a copied one of an external data file.
+    /// Elsewhere data in cluster 0 reads back as backing, and zeros with cluster 0 as zeros without.
+    #[inline]
+    pub fn from_mapping(mapping: L2Mapping, cluster_bits: u32) -> L2Entry
+        requires cluster_bits { IsClusterBits cluster_bits }
+        requires placed { spec.IsPlaced cluster_bits mapping }
+        requires fits { spec.FitsEntry cluster_bits mapping }
+        ensures number { result ≡ spec.entry_of cluster_bits (spec.meaning mapping) }
+        ensures lawful { spec.l2_fault cluster_bits result ≡ None }
+        ensures reads_back { (guest_cluster : ℕ) → (external : Bool) →
+            spec.mapping (geometry cluster_bits external) guest_cluster result
+            ≡ spec.stored_mapping (geometry cluster_bits external) guest_cluster (spec.meaning mapping) }
+    {
+        let value = match mapping {
+            L2Mapping::DataFile {
+                host_cluster,
+                copied,
+            } => copied_bit(copied) + host_cluster.offset(cluster_bits).0,
+            L2Mapping::Backing { backing_offset: _ } => 0,
+            L2Mapping::Zero {
+                host_cluster: Some(host_cluster),
+                copied,
+            } => copied_bit(copied) + host_cluster.offset(cluster_bits).0 + 1,
+            L2Mapping::Zero {
+                host_cluster: None,
+                copied: _,
+            } => 1,
+            L2Mapping::Compressed {
+                host_offset,
+                length,
+            } => compressed_number(host_offset.0, length.get(), cluster_bits),
+        };
+        L2Entry { value }
+    }
+}
+
+// Bit 63 of an entry that is copied, else 0.
+#[inline]
+fn copied_bit(copied: bool) -> u64
+    ensures { result ≡ spec.copied_bit copied }
+{
+    if copied { 1 << 63 } else { 0 }
+}
+
+// The number of the entry of so many bytes of compressed data at an offset.
+#[inline]
+#[tactic(auto, using(crate::proofs::MappingLemmas::compressed_parts_fit))]
+fn compressed_number(offset: u64, length: u64, cluster_bits: u32) -> u64
+    requires cluster_bits { IsClusterBits cluster_bits }
+    requires offset { offset < 2 ^ (70 - cluster_bits) }
+    requires some { 0 < length }
+    requires short { length < 2 ^ cluster_bits }
+    ensures { result ≡ spec.entry_of cluster_bits (spec.compressed offset length) }
+{
+    let sectors_beyond = (length - 1 + offset % 512) / 512;
+    (1 << 62) + (sectors_beyond << (70 - cluster_bits)) + offset
+}
