@@ -126,7 +126,7 @@ with_zero_flag-byte_range g v standard =
     let same = with_zero_flag_is_same v in
     rw (same.kind, standard, same.at, same.copied) refl
 
-standard_if_host_cluster : (g : Geometry) (v : ℕ) → has_host_cluster g v ≡ true → is_compressed v ≡ false
+pub standard_if_host_cluster : (g : Geometry) (v : ℕ) → has_host_cluster g v ≡ true → is_compressed v ≡ false
 standard_if_host_cluster g v has = not_first (is_compressed v) (is_allocated g.external_data_file v) has
   where
     not_first : (a b : Bool) → (not a && b) ≡ true → a ≡ false
@@ -167,7 +167,7 @@ data_entry_is_lawful g cluster bits mappable =
     let aligned = mul-mod_left cluster (2 ^ g.cluster_bits) in
     rw (parts.standard, parts.low, parts.high, parts.at, aligned) refl
 
-with_zero_flag-fault : (cb v : ℕ) → is_compressed v ≡ false → l2_fault cb (with_zero_flag v) ≡ l2_fault cb v
+pub with_zero_flag-fault : (cb v : ℕ) → is_compressed v ≡ false → l2_fault cb (with_zero_flag v) ≡ l2_fault cb v
 with_zero_flag-fault cb v standard =
     let same = with_zero_flag_is_same v in
     rw (same.kind, standard, same.at, same.low, same.high) refl

@@ -11,6 +11,7 @@ pub mod EditsLemmas
 pub mod EntriesLemmas
 pub mod ExtensionsLemmas
 pub mod GrammarLemmas
+pub mod GuardLemmas
 pub mod HeaderLemmas
 pub mod LayoutLemmas
 pub mod LoadLemmas

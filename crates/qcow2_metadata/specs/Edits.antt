@@ -1,7 +1,8 @@
 use Rattle.std.specs.Prelude.{◌≡◌, ◌≢◌, ℕ, Bool, true, false, not, ◌&&◌, ◌==◌, ◌+◌, ◌-◌, ◌*◌, ◌%◌, ◌^◌, List, [], ◌∷◌, ◌++◌, length, slice_get, slice_index, slice_set, if◌then◌else◌, Option, Some, None, option_to_list, nat_le}
 use Rattle.std.specs.List.{sum_by}
-use Rattle.qcow2_metadata.specs.Entries.{allocation, is_allocated, is_among, is_compressed, meets}
+use Rattle.qcow2_metadata.specs.Entries.{IsAllocation, Meets, allocation, is_allocated, is_among, is_compressed, meets}
 use Rattle.qcow2_metadata.specs.Header.{Geometry}
+use Rattle.qcow2_metadata.specs.Table.{TableState, edited}
 use Rattle.qcow2_metadata.specs.declared.entries.ClustersToFreeEntry.{ClustersToFreeEntry}
 
 -- a change of an L2 entry: to data in a host cluster, to zeros, which may keep its cluster, or to nothing
@@ -126,3 +127,15 @@ can_be_made g to_nothing = true
 -- whether an edit can be made of a table with so many entries
 abbrev pub fits_table : Geometry → ℕ → TableEdit → Bool
 fits_table g entries e = nat_le (e.index + 1) entries && can_be_made g e.edit
+
+-- a change of the entry at an index of a table, which handed these clusters back: all that the entry referred to,
+-- unless it goes on doing so
+pub record MakesEdit (edit : EntryEdit) (index : ℕ) (freed : Option ClustersToFreeEntry) (old new : TableState) : Type 0 where
+  pub table : new ≡ edited old index (changed old.geometry edit (slice_index old.numbers index))
+  pub freed_is : freed ≡ dropped old.geometry edit (slice_index old.numbers index)
+  pub met : keeps old.geometry edit (slice_index old.numbers index) ≡ false
+      → IsAllocation old.geometry (slice_index old.numbers index) freed
+
+-- the entry refers to this cluster and to no other
+abbrev pub MeetsJust : Geometry → ℕ → ℕ → Type 0
+MeetsJust g v cluster = Meets g v cluster × ((c : ℕ) → Meets g v c → c ≡ cluster)

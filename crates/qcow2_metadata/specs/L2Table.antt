@@ -1,7 +1,10 @@
-use Rattle.std.specs.Prelude.{◌≡◌}
+use Rattle.std.specs.Prelude.{◌≡◌, ℕ, Option, Some, None}
+use Rattle.std.specs.Int.NonZero.{non_zero_u64_get}
 use Rattle.std.specs.Borrow.{MutBor}
-use Rattle.qcow2_metadata.specs.Table.{TableState}
-use Rattle.qcow2_metadata.specs.declared.table.l2_table.L2TableWriteGuard.{L2TableWriteGuard}
+use Rattle.qcow2_metadata.specs.Entries.{Mapping, compressed}
+use Rattle.qcow2_metadata.specs.Table.{TableState, mapping_at}
+use Rattle.qcow2_metadata.specs.declared.table.l2_guards.L2TableWriteGuard.{L2TableWriteGuard}
+use Rattle.qcow2_metadata.specs.declared.table.l2_guards.CompressedClusterReadGuard.{CompressedClusterReadGuard}
 
 -- the table that a guard has leave to change
 abbrev pub guarded : L2TableWriteGuard → TableState
@@ -15,3 +18,16 @@ IsSameTable old new = new.table.ghost_name ≡ old.table.ghost_name
 pub record IsGuardOf (lent : MutBor TableState) (guard : L2TableWriteGuard) : Type 0 where
   pub table : guarded guard ≡ lent.now
   pub same : guard.table.ghost_name ≡ lent.ghost_name
+
+-- where the data that a guard keeps begins, and how many bytes it takes at most
+abbrev pub range_of : CompressedClusterReadGuard → ℕ × ℕ
+range_of guard = (guard.offset.0, non_zero_u64_get guard.length)
+
+-- the same of a mapping, where it is compressed data
+abbrev pub compressed_range : Mapping → Option (ℕ × ℕ)
+compressed_range (compressed offset length) = Some (offset, length)
+compressed_range _ = None
+
+-- where the compressed data of a guest cluster lies, by its entry in a table
+abbrev pub compressed_at : TableState → ℕ → Option (ℕ × ℕ)
+compressed_at table guest_cluster = compressed_range (mapping_at table guest_cluster)

@@ -86,10 +86,14 @@ impl Model for L2Entry {
 }
 
 impl L2Entry {
+    ghost use Rattle.qcow2_metadata.specs.Edits.{has_host_cluster, with_zero_flag};
     ghost use Rattle.qcow2_metadata.specs.Entries.{IsAllocation, IsPlaced, byte_range, compressed_length, compressed_offset, from_pair, host_cluster, host_offset, is_compressed, is_copied, is_zero, l2_fault, l2_reserved_bits, mapping, meaning};
 
     /// The entry 0: the guest cluster has no data here.
     pub(crate) const UNALLOCATED: L2Entry = L2Entry { value: 0 };
+
+    /// The entry 1: the guest cluster reads as zeros, and has no host cluster.
+    pub(crate) const ZERO: L2Entry = L2Entry { value: 1 };
 
     /// The offset of the host cluster that a standard entry refers to, if it refers to one.
     #[inline]
@@ -142,6 +146,25 @@ impl L2Entry {
         ensures { result ≡ is_zero self.now }
     {
         field(self.value, 0, 1) == 1
+    }
+
+    // Whether the entry is a standard one that refers to a host cluster.
+    #[inline]
+    pub(crate) fn has_host_cluster(&self, external_data_file: bool) -> bool
+        ensures { (cluster_bits : ℕ) →
+            result ≡ has_host_cluster (geometry cluster_bits external_data_file) self.now }
+    {
+        !self.is_compressed() && self.cluster_offset(external_data_file).is_some()
+    }
+
+    // The entry with the zero flag set: the guest cluster reads as zeros, and keeps its host cluster.
+    #[inline]
+    pub(crate) fn with_zero_flag(self) -> L2Entry
+        ensures { result ≡ with_zero_flag self }
+    {
+        L2Entry {
+            value: self.value - self.value % 2 + 1,
+        }
     }
 
     /// The reserved bits of the entry's kind that are set, at their places.

@@ -16,4 +16,7 @@ pub use header::{
     HeaderExtensionType, IncompatibleFeatures, UnknownValue,
 };
 pub use range::{MAX_FILE_LENGTH, MAX_OFFSET};
-pub use table::{EntryTable, L1Table, L2Table, L2TableWriteGuard, RefTable, Table, TableKind};
+pub use table::{
+    CompressedClusterReadGuard, EntryTable, L1Table, L2Table, L2TableWriteGuard, RefTable, Table,
+    TableKind,
+};

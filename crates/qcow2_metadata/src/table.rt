@@ -16,13 +16,15 @@ use std::alloc::Global;
 
 mod entry_table;
 mod l1_table;
+mod l2_guards;
 mod l2_table;
 mod pieces;
 mod ref_table;
 
 pub use entry_table::{EntryTable, TableKind};
 pub use l1_table::L1Table;
-pub use l2_table::{L2Table, L2TableWriteGuard};
+pub use l2_guards::{CompressedClusterReadGuard, L2TableWriteGuard};
+pub use l2_table::L2Table;
 use pieces::{read_entries, write_pieces};
 pub use ref_table::RefTable;
 

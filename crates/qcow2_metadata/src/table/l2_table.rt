@@ -2,11 +2,11 @@
 
 ghost use Rattle.std.specs.Prelude.{◌≡◌, ℕ, ◌-◌, ◌*◌, ◌%◌, ◌^◌, ◌==◌, ◌<◌, IfOk, IsOk, IsOkAnd, IsOkUnless, length, replicate, slice_index, true, false};
 ghost use Rattle.std.proofs.Common.{lit≤};
-ghost use Rattle.qcow2_metadata.specs.Entries.{IsAllocation, IsPlaced, l2_fault, mapping, meaning};
-ghost use Rattle.qcow2_metadata.specs.Table.{WritesTable, edited, mapping_at, most_l2_entries, new_table, on_storage};
+ghost use Rattle.qcow2_metadata.specs.Entries.{IsPlaced, l2_fault, meaning};
+ghost use Rattle.qcow2_metadata.specs.Table.{WritesTable, mapping_at, most_l2_entries, new_table, on_storage};
 
-use super::{EntryTable, Table, TableKind};
-use crate::{AtomicL2Entry, ClustersToFreeEntry, Header, L2Entry, L2Mapping};
+use super::{CompressedClusterReadGuard, EntryTable, L2TableWriteGuard, Table, TableKind};
+use crate::{AtomicL2Entry, Header, L2Entry, L2Mapping};
 use qcow2_base::{Fault, GuestCluster, HostCluster, Storage};
 use std::alloc::Global;
 
@@ -36,7 +36,8 @@ impl TableKind for AtomicL2Entry {
 }
 
 impl EntryTable<AtomicL2Entry> {
-    ghost use Rattle.qcow2_metadata.specs.L2Table.{IsGuardOf};
+    ghost use Rattle.std.specs.Prelude.{option_map};
+    ghost use Rattle.qcow2_metadata.specs.L2Table.{IsGuardOf, compressed_at, range_of};
 
     /// A table of an image with this header in which no cluster has data. It has no cluster, and
     /// counts as modified. Fails only for want of memory.
@@ -47,6 +48,15 @@ impl EntryTable<AtomicL2Entry> {
     {
         let entries = vec![in alloc; AtomicL2Entry::cleared(); header.l2_entries()]?;
         Ok(L2Table::from_data(entries, header))
+    }
+
+    /// Whether guest data lies in an external data file, by the header that the table was made or loaded
+    /// with.
+    #[inline]
+    pub fn external_data_file(&self) -> bool
+        ensures { result ≡ self.now.geometry.external_data_file }
+    {
+        self.has_external_data_file()
     }
 
     /// What a guest cluster reads as by its entry in this table. The cluster's offset must fit 64 bits.
@@ -84,49 +94,33 @@ impl EntryTable<AtomicL2Entry> {
         self.write(image)
     }
 
+    /// Where the compressed data of a guest cluster lies, and nothing where its data isn't compressed. The
+    /// cluster's offset must fit 64 bits. The table can't change while the answer is held. Always answers `Ok`.
+    pub fn lock_compressed_read(
+        &self,
+        guest_cluster: GuestCluster,
+    ) -> Result<Option<CompressedClusterReadGuard<'_>>, Fault>
+        requires { guest_cluster.0 * 2 ^ self.now.geometry.cluster_bits < 2 ^ 64 }
+        ensures { IsOkAnd result (λ guard.
+            option_map range_of guard ≡ compressed_at self.now guest_cluster.0) }
+    {
+        match self.get_mapping(guest_cluster)? {
+            L2Mapping::Compressed {
+                host_offset,
+                length,
+            } => Ok(Some(CompressedClusterReadGuard {
+                table: self,
+                offset: host_offset,
+                length,
+            })),
+            _ => Ok(None),
+        }
+    }
+
     /// Leave to change the table's mappings.
     pub fn lock_write(&mut self) -> L2TableWriteGuard<'_>
         ensures table { IsGuardOf self.entry result }
     {
         L2TableWriteGuard { table: self }
-    }
-}
-
-/// Leave to change an L2 table's mappings. While it is held nobody else sees the table.
-#[derive(Debug, Drop)]
-pub struct L2TableWriteGuard<'a> {
-    table: &'a mut L2Table,
-}
-
-impl L2TableWriteGuard<'_> {
-    ghost use Rattle.qcow2_metadata.specs.L2Table.{IsSameTable, guarded};
-
-    /// What a guest cluster reads as, as `L2Table::get_mapping` says it.
-    pub fn get_mapping(&self, guest_cluster: GuestCluster) -> Result<L2Mapping, Fault>
-        requires { guest_cluster.0 * 2 ^ (guarded self.now).geometry.cluster_bits < 2 ^ 64 }
-        ensures mapping { IsOkAnd result (λ found.
-            meaning found ≡ mapping_at (guarded self.now) guest_cluster.0) }
-        ensures placed { IfOk result (IsPlaced (guarded self.now).geometry.cluster_bits) }
-    {
-        self.table.get_mapping(guest_cluster)
-    }
-
-    /// Takes the mapping at an index away: the guest cluster has no data then. Hands back all host
-    /// clusters that the entry referred to, or nothing where it referred to none. The table then
-    /// counts as modified.
-    #[must_use]
-    pub fn discard_cluster(&mut self, index: usize) -> Option<ClustersToFreeEntry>
-        requires { index < length (guarded self.old).numbers }
-        ensures same_table { IsSameTable self.old self.new }
-        ensures edit { guarded self.new ≡ edited (guarded self.old) index 0 }
-        ensures freed { let table = guarded self.old in
-            IsAllocation table.geometry (slice_index table.numbers index) result }
-    {
-        let before = self.table.replace_entry(index, AtomicL2Entry::cleared());
-        let external_data_file = self.table.has_external_data_file();
-        let (first, count) = before
-            .get()
-            .allocation(self.table.cluster_bits(), external_data_file)?;
-        Some(ClustersToFreeEntry { first, count })
     }
 }

@@ -1,0 +1,162 @@
+//! Guards of L2 tables: leave to change one, and to read compressed data that one refers to.
+
+ghost use Rattle.std.specs.Prelude.{◌≡◌, ◌↔◌, ◌*◌, ◌^◌, ◌<◌, IfOk, IfSome, IsOkAnd, length, option_map, slice_index, true};
+ghost use Rattle.qcow2_metadata.specs.Edits.{MakesEdit, MeetsJust, is_mappable, keeps, to_data, to_zeros};
+ghost use Rattle.qcow2_metadata.specs.Entries.{IsAllocation, IsOneCluster, IsPlaced, meaning};
+ghost use Rattle.qcow2_metadata.specs.Table.{edited, mapping_at};
+
+use super::{L2Table, Table, TableKind};
+use crate::{AtomicL2Entry, ClustersToFreeEntry, L2Entry, L2Mapping, PendingClusters};
+use qcow2_base::{ClusterCount, Fault, GuestCluster, HostCluster, HostOffset};
+use std::num::NonZero;
+
+/// Leave to change an L2 table's mappings. While it is held nobody else sees the table.
+#[derive(Debug, Drop)]
+pub struct L2TableWriteGuard<'a> {
+    pub(super) table: &'a mut L2Table,
+}
+
+impl L2TableWriteGuard<'_> {
+    ghost use Rattle.qcow2_metadata.specs.L2Table.{IsSameTable, compressed_at, guarded, range_of};
+
+    /// What a guest cluster reads as, as `L2Table::get_mapping` says it.
+    pub fn get_mapping(&self, guest_cluster: GuestCluster) -> Result<L2Mapping, Fault>
+        requires { guest_cluster.0 * 2 ^ (guarded self.now).geometry.cluster_bits < 2 ^ 64 }
+        ensures mapping { IsOkAnd result (λ found.
+            meaning found ≡ mapping_at (guarded self.now) guest_cluster.0) }
+        ensures placed { IfOk result (IsPlaced (guarded self.now).geometry.cluster_bits) }
+    {
+        self.table.get_mapping(guest_cluster)
+    }
+
+    /// Where the compressed data of a guest cluster lies, as `L2Table::lock_compressed_read` says it. The
+    /// mappings can't be changed while the answer is held.
+    pub fn compressed_read_guard(
+        &self,
+        guest_cluster: GuestCluster,
+    ) -> Result<Option<CompressedClusterReadGuard<'_>>, Fault>
+        requires { guest_cluster.0 * 2 ^ (guarded self.now).geometry.cluster_bits < 2 ^ 64 }
+        ensures { IsOkAnd result (λ guard.
+            option_map range_of guard ≡ compressed_at (guarded self.now) guest_cluster.0) }
+    {
+        self.table.lock_compressed_read(guest_cluster)
+    }
+
+    /// Maps the guest cluster at an index to data in a host cluster that has no other reference: the entry
+    /// is then copied. Hands back all host clusters that the entry referred to, but nothing where that is
+    /// this one cluster alone, which it goes on referring to. The table then counts as modified.
+    ///
+    /// The host cluster's offset is at most `MAX_OFFSET`, and it isn't cluster 0, but where guest data lies in
+    /// an external data file. Pending clusters that are handed in are that cluster alone, and are spent.
+    #[must_use]
+    pub fn map_cluster(
+        &mut self,
+        index: usize,
+        host_cluster: HostCluster,
+        new_allocation: Option<PendingClusters>,
+    ) -> Option<ClustersToFreeEntry>
+        requires index { index < length (guarded self.old).numbers }
+        requires cluster { is_mappable (guarded self.old).geometry host_cluster.0 ≡ true }
+        requires pending { IfSome new_allocation (λ pending. IsOneCluster pending host_cluster) }
+        ensures same_table { IsSameTable self.old self.new }
+        ensures edit { MakesEdit (to_data host_cluster.0) index result (guarded self.old) (guarded self.new) }
+        ensures kept { let table = guarded self.old in
+            (keeps table.geometry (to_data host_cluster.0) (slice_index table.numbers index) ≡ true)
+            ↔ MeetsJust table.geometry (slice_index table.numbers index) host_cluster.0 }
+    {
+        if let Some(new_allocation) = new_allocation {
+            new_allocation.make_persistent();
+        }
+        let mapping = L2Mapping::DataFile {
+            host_cluster,
+            copied: true,
+        };
+        let entry = L2Entry::from_mapping(mapping, self.table.cluster_bits());
+        let before = self.table.replace_entry(index, AtomicL2Entry::new(entry));
+        let freed = self.allocation_of(before.get())?;
+        if freed.first == host_cluster && freed.count == ClusterCount(1) {
+            return None;
+        }
+        Some(freed)
+    }
+
+    /// Makes the guest cluster at an index read as zeros. With `keep_allocation` an entry that refers to a
+    /// host cluster, and isn't compressed, goes on referring to it, and its copied flag stays. Hands back all
+    /// host clusters that the entry doesn't refer to any more. The table then counts as modified. Always
+    /// answers `Ok`.
+    #[must_use]
+    pub fn zero_cluster(
+        &mut self,
+        index: usize,
+        keep_allocation: bool,
+    ) -> Result<Option<ClustersToFreeEntry>, Fault>
+        requires { index < length (guarded self.old).numbers }
+        ensures same_table { IsSameTable self.old self.new }
+        ensures edit { IsOkAnd result (λ freed.
+            MakesEdit (to_zeros keep_allocation) index freed (guarded self.old) (guarded self.new)) }
+    {
+        let before = self.table.get(index);
+        if keep_allocation && before.has_host_cluster(self.table.external_data_file()) {
+            let zeros = AtomicL2Entry::new(before.with_zero_flag());
+            self.table.replace_entry(index, zeros);
+            return Ok(None);
+        }
+        let zeros = AtomicL2Entry::new(L2Entry::ZERO);
+        self.table.replace_entry(index, zeros);
+        Ok(self.allocation_of(before))
+    }
+
+    /// Takes the mapping at an index away: the guest cluster has no data then. Hands back all host
+    /// clusters that the entry referred to, or nothing where it referred to none. The table then
+    /// counts as modified.
+    #[must_use]
+    pub fn discard_cluster(&mut self, index: usize) -> Option<ClustersToFreeEntry>
+        requires { index < length (guarded self.old).numbers }
+        ensures same_table { IsSameTable self.old self.new }
+        ensures edit { guarded self.new ≡ edited (guarded self.old) index 0 }
+        ensures freed { let table = guarded self.old in
+            IsAllocation table.geometry (slice_index table.numbers index) result }
+    {
+        let before = self.table.replace_entry(index, AtomicL2Entry::cleared());
+        self.allocation_of(before.get())
+    }
+
+    // The host clusters that an entry of the table refers to.
+    fn allocation_of(&self, entry: L2Entry) -> Option<ClustersToFreeEntry>
+        ensures { IsAllocation (guarded self.now).geometry entry result }
+    {
+        let external_data_file = self.table.external_data_file();
+        let (first, count) = entry.allocation(self.table.cluster_bits(), external_data_file)?;
+        Some(ClustersToFreeEntry { first, count })
+    }
+}
+
+/// Where the compressed data of a guest cluster lies. The table can't change while this is held, so the data
+/// stays referred to.
+#[derive(Debug, Drop)]
+pub struct CompressedClusterReadGuard<'a> {
+    pub(super) table: &'a L2Table,
+    pub(super) offset: HostOffset,
+    pub(super) length: NonZero<u64>,
+}
+
+impl CompressedClusterReadGuard<'_> {
+    ghost use Rattle.std.specs.Int.NonZero.{non_zero_u64_get};
+    ghost use Rattle.qcow2_metadata.specs.L2Table.{range_of};
+
+    /// Where the data begins in the image.
+    #[inline]
+    pub fn offset(&self) -> HostOffset
+        ensures { result.0 ≡ (range_of self.now).0 }
+    {
+        self.offset
+    }
+
+    /// At most how many bytes the data takes.
+    #[inline]
+    pub fn length(&self) -> NonZero<u64>
+        ensures { non_zero_u64_get result ≡ (range_of self.now).1 }
+    {
+        self.length
+    }
+}
