@@ -88,7 +88,7 @@ pub(crate) fn backing(backing_offset: u64) -> L2Mapping {
     L2Mapping::Backing { backing_offset }
 }
 
-fn zeros(cluster: Option<u64>, copied: bool) -> L2Mapping {
+pub(crate) fn zeros(cluster: Option<u64>, copied: bool) -> L2Mapping {
     L2Mapping::Zero {
         host_cluster: cluster.map(HostCluster),
         copied,
@@ -323,6 +323,30 @@ fn a_compressed_entry_reads_as_its_range_whatever_the_data_file(
             let found = found.into_mapping(GuestCluster(0), bits, external);
             same(found, Ok(want), (row, external))?;
         }
+    }
+    Ok(())
+}
+
+#[test]
+fn an_entry_without_its_copied_flag_keeps_all_else(rt: HostRuntime) -> Result<(), Fail> {
+    // Cluster bits, a number, and that number with bit 63 clear.
+    let table = [
+        (9, 0, 0),
+        (9, 1, 1),
+        (9, 0xa00, 0xa00),
+        (9, 0x8000_0000_0000_0000, 0),
+        (9, 0x8000_0000_0000_0a00, 0xa00),
+        (9, 0x8000_0000_0000_0a01, 0xa01),
+        (21, 0x80ff_ffff_ffe0_0001, 0x00ff_ffff_ffe0_0001),
+        (16, 0x4040_0000_0001_0010, 0x4040_0000_0001_0010),
+        (9, 0x60ff_ffff_ffff_ffff, 0x60ff_ffff_ffff_ffff),
+    ];
+    for row in table {
+        let (bits, number, want) = row;
+        let found = entry(rt.alloc(), bits, number)?.without_copied();
+        same((found.to_plain(), found.is_copied()), (want, false), row)?;
+        // It is lawful still.
+        same(entry(rt.alloc(), bits, want), Ok(found), row)?;
     }
     Ok(())
 }

@@ -27,6 +27,8 @@ mod l1_table;
 #[cfg(test)]
 mod l2_entry;
 #[cfg(test)]
+mod l2_mapping;
+#[cfg(test)]
 mod l2_table;
 #[cfg(test)]
 mod largest_tables;
