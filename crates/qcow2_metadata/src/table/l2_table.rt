@@ -95,7 +95,7 @@ impl EntryTable<AtomicL2Entry> {
     }
 
     /// Where the compressed data of a guest cluster lies, and nothing where its data isn't compressed. The
-    /// cluster's offset must fit 64 bits. The table can't change while the answer is held. Always answers `Ok`.
+    /// cluster's offset must fit 64 bits. The table can't change while the answer is held. Always `Ok`.
     pub fn lock_compressed_read(
         &self,
         guest_cluster: GuestCluster,
