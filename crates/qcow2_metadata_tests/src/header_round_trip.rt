@@ -3,7 +3,7 @@
 
 use crate::fixtures::filled_image;
 use crate::header_load::{Changes, Names, change, names};
-use crate::header_texts::dirty;
+use crate::header_texts::{dirty, fixed_parts};
 use qcow2_base::{ClusterCount, Fault, HostOffset, MemStorage, Storage};
 use qcow2_metadata::FeatureType::{Autoclear, Compatible};
 use qcow2_metadata::Header;
@@ -224,6 +224,7 @@ fn is_loaded_again(
     same(getters(&loaded), getters(header), sample)?;
     let written = format!(in alloc; "{header:?}")?;
     let before = format!(in alloc; "{loaded:?}")?;
+    same(fixed_parts(&before), fixed_parts(&written), sample)?;
     holds(sample.unknown % 8 != 0 || before == written, sample)?;
     let mut again = filled_image(alloc, 0)?;
     same(loaded.write(&mut again), Ok(()), sample)?;

@@ -348,3 +348,9 @@ pub(crate) fn dirty(header: &Header) -> Option<&str> {
         .feature_name(Incompatible, 0)
         .map(|name| name.as_str())
 }
+
+/// What the text of a header, as it prints itself, tells of its two fixed parts.
+pub(crate) fn fixed_parts(printed: &str) -> Option<&str> {
+    let (parts, _) = printed.split_once("unknown_header_fields")?;
+    Some(parts)
+}
