@@ -37,7 +37,7 @@ fn discard(table: &mut L2Table, index: usize) -> Result<Option<ClustersToFreeEnt
 }
 
 // What a guest cluster reads as, which the table and the leave to change it say alike.
-fn mapping(table: &mut L2Table, guest_cluster: u64) -> Result<L2Mapping, Fail> {
+pub(crate) fn mapping(table: &mut L2Table, guest_cluster: u64) -> Result<L2Mapping, Fail> {
     if !fits(guest_cluster, 0, table.cluster_bits()) {
         return Err("a guest cluster past all disks".into());
     }
