@@ -46,8 +46,8 @@ impl L2TableWriteGuard<'_> {
     /// is then copied. Hands back all host clusters that the entry referred to, but nothing where that is
     /// this one alone, which it goes on referring to. The table then counts as modified.
     ///
-    /// Maps the guest cluster at an index to data in a host cluster that has no other reference: the entry
-    /// an external data file. Pending clusters that are handed in are that cluster alone, and are spent.
+    /// The host cluster's offset is at most `MAX_OFFSET`, and it isn't cluster 0, but where guest data lies
+    /// in an external data file. Pending clusters that are handed in are that cluster alone, and are spent.
     #[must_use]
     pub fn map_cluster(
         &mut self,
