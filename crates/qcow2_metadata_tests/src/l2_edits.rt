@@ -1,6 +1,8 @@
 //! Edits of L2 tables: what mapping and zeroing a cluster leave and hand back, and where compressed data
 //! that is read lies.
 
+ghost use Rattle.std.specs.Prelude.{◌≤◌};
+
 use crate::fixtures::{Told, header_with, table_that_tells, tells};
 use crate::l2_entry::{data, zeros};
 use crate::l2_table::mapping;
@@ -38,7 +40,9 @@ fn table_with(
 }
 
 // The index of the last entry of a table.
-fn last_index(cluster_bits: u32) -> usize {
+fn last_index(cluster_bits: u32) -> usize
+    ensures { (1 ≤ result) × (result ≤ 8191) }
+{
     match cluster_bits {
         9 => 63,
         10 => 127,
