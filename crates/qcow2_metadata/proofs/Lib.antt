@@ -22,6 +22,7 @@ pub mod PieceLemmas
 pub mod PointerLemmas
 pub mod RangeLemmas
 pub mod SettledLemmas
+pub mod SharedLemmas
 pub mod StorableLemmas
 pub mod TableLemmas
 pub mod TextLemmas

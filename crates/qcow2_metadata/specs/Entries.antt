@@ -67,6 +67,12 @@ is_allocated external v = not (offset_field v == 0) || (external && is_copied v)
 abbrev pub host_offset : Bool → ℕ → Option HostOffset
 host_offset external v = if is_allocated external v then Some (record { 0 = offset_field v }) else None
 
+-- an entry where a second table has it too: the copied flag is clear, but where it says that offset 0 is that of a
+-- cluster, in an external data file
+abbrev pub shared : Bool → ℕ → ℕ
+shared external v =
+    if external && (not (is_compressed v) && (offset_field v == 0)) then v else v % 2 ^ 63
+
 -- where a compressed entry's data begins
 abbrev pub compressed_offset : ℕ → ℕ → ℕ
 compressed_offset cb v = compressed_offset_field cb v % 2 ^ 56

@@ -42,6 +42,10 @@ new_table numbers header = record { numbers = numbers; cluster = None; modified 
 abbrev pub edited : TableState → ℕ → ℕ → TableState
 edited table index v = record table { numbers = slice_set table.numbers index v; modified = true }
 
+-- a table of these numbers at no place yet, for the same image, and with the same flag
+abbrev pub elsewhere : TableState → List ℕ → TableState
+elsewhere table numbers = record table { numbers = numbers; cluster = None }
+
 -- a place for a table in an image: the cluster that it begins with, and how many entries it has
 pub record TablePlace : Type 0 where
   pub geometry : Geometry

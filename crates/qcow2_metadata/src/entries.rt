@@ -87,7 +87,7 @@ impl Model for L2Entry {
 
 impl L2Entry {
     ghost use Rattle.qcow2_metadata.specs.Edits.{has_host_cluster, with_zero_flag};
-    ghost use Rattle.qcow2_metadata.specs.Entries.{IsAllocation, IsPlaced, byte_range, compressed_length, compressed_offset, from_pair, host_cluster, host_offset, is_compressed, is_copied, is_zero, l2_fault, l2_reserved_bits, mapping, meaning};
+    ghost use Rattle.qcow2_metadata.specs.Entries.{IsAllocation, IsPlaced, byte_range, compressed_length, compressed_offset, from_pair, host_cluster, host_offset, is_compressed, is_copied, is_zero, l2_fault, l2_reserved_bits, mapping, meaning, shared};
 
     /// The entry 0: the guest cluster has no data here.
     pub(crate) const UNALLOCATED: L2Entry = L2Entry { value: 0 };
@@ -138,6 +138,20 @@ impl L2Entry {
         L2Entry {
             value: field(self.value, 0, 63),
         }
+    }
+
+    // The entry where a second table has it too: its clusters then have two references. The copied flag
+    // stays where it says that offset 0 is that of a cluster, in an external data file.
+    #[inline]
+    pub(crate) fn shared(self, external_data_file: bool) -> L2Entry
+        ensures number { result ≡ shared external_data_file self }
+        ensures lawful { (cluster_bits : ℕ) →
+            l2_fault cluster_bits self ≡ None → l2_fault cluster_bits result ≡ None }
+    {
+        if external_data_file && !self.is_compressed() && self.cluster_offset(false).is_none() {
+            return self;
+        }
+        self.without_copied()
     }
 
     /// Bit 0. In a standard entry: the guest cluster reads as zeros.

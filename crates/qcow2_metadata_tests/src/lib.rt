@@ -25,6 +25,8 @@ mod l1_entry;
 #[cfg(test)]
 mod l1_table;
 #[cfg(test)]
+mod l2_copy;
+#[cfg(test)]
 mod l2_edits;
 #[cfg(test)]
 mod l2_entry;

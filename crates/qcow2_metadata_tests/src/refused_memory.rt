@@ -242,6 +242,32 @@ fn a_cleared_table_that_memory_refused_is_made_the_next_time(rt: HostRuntime) ->
     tells(&answer?, &told, "made")
 }
 
+// An L2 table that says `LOADED`.
+fn loaded_l2_table(alloc: Global) -> Result<L2Table, Fault> {
+    let header = header_with(alloc, 9, false)?;
+    table_that_tells(alloc, &header, &LOADED)
+}
+
+#[test]
+fn a_copy_that_memory_refused_leaves_the_l2_table(rt: HostRuntime) -> Result<(), Fail> {
+    let table = match loaded_l2_table(rt.alloc()) {
+        Ok(table) => table,
+        Err(_) => loaded_l2_table(rt.alloc())?,
+    };
+    let mut answer = table.try_clone();
+    if let Err(fault) = &answer {
+        same(*fault, Fault::NoMemory, "refused")?;
+        answer = table.try_clone();
+    }
+    tells(&table, &LOADED, "copied")?;
+    let told = Told {
+        entry: (3, 0x20_0000),
+        cluster: None,
+        ..LOADED
+    };
+    tells(&answer?, &told, "copied")
+}
+
 // A header, and an L1 table that says this.
 fn header_and_table(alloc: Global, told: &Told) -> Result<(Header, L1Table), Fault>
     ensures { IfOk result (λ made. made.0.v2.cluster_bits ≡ made.1.geometry.cluster_bits) }

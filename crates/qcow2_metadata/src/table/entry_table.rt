@@ -3,7 +3,7 @@
 ghost use Rattle.std.specs.Prelude.{◌≡◌, ℕ, Bool, true, false, ◌*◌, ◌^◌, ◌<◌, ◌≤◌, ◌↔◌, IfOk, IsOkUnless, IsTrue, length, map, slice_get, slice_index, slice_set, Some, None};
 ghost use Rattle.std.proofs.Common.{rules};
 ghost use Rattle.qcow2_base.specs.Types.{IsClusterBits};
-ghost use Rattle.qcow2_metadata.specs.Table.{edited, first_fault, grown_numbers, new_table};
+ghost use Rattle.qcow2_metadata.specs.Table.{edited, elsewhere, first_fault, grown_numbers, new_table};
 
 use super::Table;
 use crate::{Header, TableEntry};
@@ -114,6 +114,33 @@ impl<E: TableKind> EntryTable<E> {
         ensures { result ≡ self.now.geometry.external_data_file }
     {
         self.external_data_file
+    }
+
+    // The entries in order, which are lawful.
+    #[inline]
+    pub(super) fn as_slice(&self) -> &[E]
+        ensures numbers { map E.plain result.now ≡ self.now.numbers }
+        ensures valid { first_fault (E.fault_of self.now.geometry.cluster_bits) self.now.numbers ≡ None }
+        ensures bits { IsClusterBits self.now.geometry.cluster_bits }
+    {
+        self.entries.as_slice()
+    }
+
+    // A table with these entries in the places of its own, and the same flag, that has no cluster.
+    pub(super) fn with_entries(&self, entries: Vec<E>) -> Self
+        requires count { length entries.items ≡ length self.now.numbers }
+        requires valid { first_fault (E.fault_of self.now.geometry.cluster_bits)
+            (map E.plain entries.items) ≡ None }
+        ensures { result ≡ elsewhere self.now (map E.plain entries.items) }
+    {
+        let (cluster, modified) = (None, self.modified);
+        EntryTable {
+            entries,
+            cluster,
+            modified,
+            cluster_bits: self.cluster_bits,
+            external_data_file: self.external_data_file,
+        }
     }
 
     // Puts a lawful entry in the place of another, and returns that one.

@@ -1,14 +1,15 @@
 //! L2 tables: what the clusters of a part of the guest's disk read as.
 
-ghost use Rattle.std.specs.Prelude.{◌≡◌, ℕ, ◌-◌, ◌*◌, ◌%◌, ◌^◌, ◌==◌, ◌<◌, IfOk, IsOk, IsOkAnd, IsOkUnless, length, replicate, slice_index, true, false};
+ghost use Rattle.std.specs.Prelude.{◌≡◌, ℕ, ◌-◌, ◌*◌, ◌%◌, ◌^◌, ◌==◌, ◌<◌, IfOk, IsOk, IsOkAnd, IsOkUnless, length, map, replicate, slice_index, true, false};
 ghost use Rattle.std.proofs.Common.{lit≤};
-ghost use Rattle.qcow2_metadata.specs.Entries.{IsPlaced, l2_fault, meaning};
-ghost use Rattle.qcow2_metadata.specs.Table.{WritesTable, mapping_at, most_l2_entries, new_table, on_storage};
+ghost use Rattle.qcow2_metadata.specs.Edits.{references};
+ghost use Rattle.qcow2_metadata.specs.Entries.{IsPlaced, l2_fault, meaning, shared};
+ghost use Rattle.qcow2_metadata.specs.Table.{WritesTable, elsewhere, mapping_at, most_l2_entries, new_table, on_storage};
 
 use super::{CompressedClusterReadGuard, EntryTable, L2TableWriteGuard, Table, TableKind};
 use crate::{AtomicL2Entry, Header, L2Entry, L2Mapping};
 use qcow2_base::{Fault, GuestCluster, HostCluster, Storage};
-use std::alloc::Global;
+use std::alloc::{AllocError, Global};
 
 /// A table of L2 entries, one for each guest cluster of its part of the disk: it fills one cluster.
 pub type L2Table = EntryTable<AtomicL2Entry>;
@@ -33,6 +34,25 @@ impl TableKind for AtomicL2Entry {
     }
 
     ghost few_entries = { lit≤ tt };
+}
+
+// The entries where a second table has them too.
+fn shared_entries(
+    alloc: Global,
+    entries: &[AtomicL2Entry],
+    external_data_file: bool,
+) -> Result<Vec<AtomicL2Entry>, AllocError>
+    ensures { IfOk result (λ list. list.items ≡ map (shared external_data_file) entries.now) }
+{
+    let mut list = Vec::with_capacity(alloc, entries.len())?;
+    list.extend(
+        entries.iter().map(
+            |entry: &AtomicL2Entry| -> AtomicL2Entry
+                ensures { result ≡ shared external_data_file entry.now }
+            { AtomicL2Entry::new(entry.get().shared(external_data_file)) },
+        ),
+    )?;
+    Ok(list)
 }
 
 impl EntryTable<AtomicL2Entry> {
@@ -115,6 +135,23 @@ impl EntryTable<AtomicL2Entry> {
             })),
             _ => Ok(None),
         }
+    }
+
+    /// A table with the same mappings for another place, which has no cluster yet, and the same flag. The
+    /// host clusters that entries refer to then have a reference more, so no entry of the new table is a
+    /// copied one; but one of cluster 0 of an external data file stays, since just its flag tells of that
+    /// cluster. This table stays as it is. Fails only for want of memory.
+    pub fn try_clone(&self) -> Result<L2Table, Fault>
+        ensures fault { IsOkUnless result Fault.NoMemory }
+        ensures table { IfOk result (λ table. table ≡ elsewhere self.now
+            (map (shared self.now.geometry.external_data_file) self.now.numbers)) }
+        ensures references { IfOk result (λ table. (cluster : ℕ) →
+            references table.geometry table.numbers cluster
+            ≡ references self.now.geometry self.now.numbers cluster) }
+    {
+        let alloc = self.allocator();
+        let entries = shared_entries(alloc, self.as_slice(), self.has_external_data_file())?;
+        Ok(self.with_entries(entries))
     }
 
     /// Leave to change the table's mappings.

@@ -1,0 +1,104 @@
+use Rattle.std.proofs.Common.{◌≡◌, ℕ, Bool, true, false, not, ◌&&◌, ◌||◌, ◌==◌, nat_lt, if◌then◌else◌, ◌+◌, ◌-◌, ◌*◌, ◌/◌, ◌%◌, ◌^◌, ◌≤◌, List, [], ◌∷◌, map, Option, Some, None, refl, ap, sym, ◌∙◌, inl, inr, arith}
+use Rattle.std.proofs.lemmas.Bool.{cases_Bool}
+use Rattle.std.proofs.lemmas.List.Sums.{sum_by-cons}
+use Rattle.std.proofs.lemmas.Nat.{div-mul-add, mod-pow-add, pow_pos}
+use Rattle.std.proofs.Math.Nat.{mod-lt}
+use Rattle.std.proofs.Math.Pow.{mod-mod-pow}
+use Rattle.qcow2_base.specs.Bits.{field}
+use Rattle.qcow2_base.specs.declared.fault.Fault.{Fault}
+use Rattle.qcow2_metadata.specs.Edits.{one_if, references}
+use Rattle.qcow2_metadata.specs.Entries.{ByteRange, byte_range, entry_fault, is_compressed, l2_fault, meets, offset_field, shared}
+use Rattle.qcow2_metadata.specs.Header.{Geometry}
+use Rattle.qcow2_metadata.specs.Table.{first_fault}
+use Rattle.qcow2_metadata.proofs.TableLemmas.{no_fault_at_all}
+
+-- the bits below bit 63 stay without bit 63
+low_bits : (v a : ℕ) → a ≤ 63 → v % 2 ^ 63 % 2 ^ a ≡ v % 2 ^ a
+low_bits v a low =
+    let split : 63 - a + a ≡ 63 = omega arith in
+    rw split at (mod-mod-pow v (63 - a) a)
+
+low_field : (v a b : ℕ) → a + b ≤ 63 → field (v % 2 ^ 63) a b ≡ field v a b
+low_field v a b low =
+    let split : 63 - a + a ≡ 63 = omega arith in
+    let rest : 63 - a - b + b ≡ 63 - a = omega arith in
+    let parts = rw split at (mod-pow-add v (63 - a) a) in
+    let above = ap (λ n. n / 2 ^ a) parts ∙ div-mul-add (v / 2 ^ a % 2 ^ (63 - a)) (2 ^ a) (v % 2 ^ a) (mod-lt v (pow_pos a)) in
+    ap (λ n. n % 2 ^ b) above ∙ (rw rest at (mod-mod-pow (v / 2 ^ a) (63 - a - b) b))
+
+same_range : (packed none external copied : Bool) (a b : ByteRange) → (external && (not packed && none)) ≡ false → (if packed then Some a else (if not none || (external && false) then Some b else None)) ≡ (if packed then Some a else (if not none || (external && copied) then Some b else None))
+same_range true none external copied a b other = refl
+same_range false false external copied a b other = refl
+same_range false true false copied a b other = refl
+same_range false true true copied a b other = cc
+
+-- an entry refers to the same bytes where a second table has it too
+shared-byte_range : (g : Geometry) (v : ℕ) → 9 ≤ g.cluster_bits → g.cluster_bits ≤ 21 → byte_range g (shared g.external_data_file v) ≡ byte_range g v
+shared-byte_range g v low high = elim (cases_Bool (g.external_data_file && (not (is_compressed v) && (offset_field v == 0)))) [
+  | inl stays ↦ rw stays refl
+  | inr other ↦
+      let cb = g.cluster_bits in
+      let kind = low_field v 62 1 (omega arith) in
+      let offset = low_bits v (70 - cb) (omega arith) in
+      let sectors = low_field v (70 - cb) (cb - 8) (omega arith) in
+      let at = low_field v 9 47 (omega arith) in
+      let copied : field (v % 2 ^ 63) 63 1 ≡ 0 = omega arith in
+      let length = 512 * (field v (70 - cb) (cb - 8) + 1) - v % 2 ^ (70 - cb) % 2 ^ 56 % 512 in
+      let start = v % 2 ^ (70 - cb) % 2 ^ 56 in
+      rw (other, kind, offset, sectors, at, copied) (same_range (is_compressed v) (offset_field v == 0) g.external_data_file (field v 63 1 == 1) (record { start = start; end = start + length }) (record { start = offset_field v; end = offset_field v + 2 ^ cb }) other)
+]
+
+pub shared-meets : (g : Geometry) (v c : ℕ) → 9 ≤ g.cluster_bits → g.cluster_bits ≤ 21 → meets g (shared g.external_data_file v) c ≡ meets g v c
+shared-meets g v c low high = rw (shared-byte_range g v low high) refl
+
+-- the references stay where each entry refers to the same clusters
+references-map : (g : Geometry) (f : ℕ → ℕ) (numbers : List ℕ) (c : ℕ) → ((v : ℕ) → meets g (f v) c ≡ meets g v c) → references g (map f numbers) c ≡ references g numbers c
+references-map g f [] c same = refl
+references-map g f (v ∷ vs) c same =
+    let first = ap one_if (same v) in
+    let rest = references-map g f vs c same in
+    let refer : ℕ → ℕ = λ w. one_if (meets g w c) in
+    sum_by-cons refer (f v) (map f vs)
+    ∙ ap (λ n. n + references g (map f vs) c) first ∙ ap (λ n. one_if (meets g v c) + n) rest
+    ∙ sym (sum_by-cons refer v vs)
+
+pub references-shared : (g : Geometry) (numbers : List ℕ) (c : ℕ) → 9 ≤ g.cluster_bits → g.cluster_bits ≤ 21 → references g (map (shared g.external_data_file) numbers) c ≡ references g numbers c
+references-shared g numbers c low high =
+    references-map g (shared g.external_data_file) numbers c (λ v. shared-meets g v c low high)
+
+packed_is_lawful : (high below : Bool) → entry_fault (high || not below) false ≡ None → entry_fault (false || not below) false ≡ None
+packed_is_lawful true below lawful = cc
+packed_is_lawful false below lawful = lawful
+
+-- a lawful entry is lawful without its copied flag, whatever stands above bit 63
+below_is_lawful : (cb v : ℕ) → 9 ≤ cb → cb ≤ 21 → l2_fault cb v ≡ None → l2_fault cb (v % 2 ^ 63) ≡ None
+below_is_lawful cb v low high lawful =
+    let kind = low_field v 62 1 (omega arith) in
+    elim (cases_Bool (is_compressed v)) [
+      | inl packed ↦
+          let offset = low_bits v (70 - cb) (omega arith) in
+          let copied : field (v % 2 ^ 63) 63 1 ≡ 0 = omega arith in
+          let known = rw packed at lawful in
+          rw (kind, packed, copied, offset) (packed_is_lawful (not (field v 63 1 * 2 ^ 63 == 0)) (nat_lt (v % 2 ^ (70 - cb)) (2 ^ 56)) known)
+      | inr standard ↦
+          let reserved : field (v % 2 ^ 63) 1 8 * 2 ^ 1 + field (v % 2 ^ 63) 56 6 * 2 ^ 56 ≡ field v 1 8 * 2 ^ 1 + field v 56 6 * 2 ^ 56 = omega arith in
+          let offset : offset_field (v % 2 ^ 63) ≡ offset_field v = omega arith in
+          let known = rw standard at lawful in
+          rw (kind, standard, reserved, offset) known
+    ]
+
+shared_is_lawful : (external : Bool) (cb v : ℕ) → 9 ≤ cb → cb ≤ 21 → l2_fault cb v ≡ None → l2_fault cb (shared external v) ≡ None
+shared_is_lawful external cb v low high lawful = elim (cases_Bool (external && (not (is_compressed v) && (offset_field v == 0)))) [
+  | inl stays ↦ rw stays lawful
+  | inr other ↦ rw other (below_is_lawful cb v low high lawful)
+]
+
+first_fault-map : (fault : ℕ → Option Fault) (f : ℕ → ℕ) (numbers : List ℕ) → ((v : ℕ) → fault v ≡ None → fault (f v) ≡ None) → first_fault fault numbers ≡ None → first_fault fault (map f numbers) ≡ None
+first_fault-map fault f [] keeps none = refl
+first_fault-map fault f (v ∷ vs) keeps none =
+    let both = no_fault_at_all (fault v) (first_fault fault vs) none in
+    rw (keeps v both.0) (first_fault-map fault f vs keeps both.1)
+
+pub shared-lawful : (external : Bool) (cb : ℕ) (numbers : List ℕ) → 9 ≤ cb → cb ≤ 21 → first_fault (l2_fault cb) numbers ≡ None → first_fault (l2_fault cb) (map (shared external) numbers) ≡ None
+shared-lawful external cb numbers low high none =
+    first_fault-map (l2_fault cb) (shared external) numbers (λ v lawful. shared_is_lawful external cb v low high lawful) none
