@@ -2,3 +2,4 @@ mod CommandsExamples
 pub mod CommandsLemmas
 mod LinesExamples
 pub mod LinesLemmas
+pub mod SessionLemmas

@@ -1,3 +1,4 @@
 pub mod Commands
 pub mod Words
 pub mod Lines
+pub mod Session

@@ -3,5 +3,7 @@
 
 mod commands;
 mod lines;
+mod session;
 
 pub use commands::{list_l2_table, report_fault, run_words};
+pub use session::{Edit, Outcome, edit_table, edits_fit};

@@ -1,0 +1,126 @@
+use Rattle.std.proofs.Common.{◌≡◌, ℕ, Bool, true, false, not, ◌&&◌, nat_le, nat_eq, ◌+◌, ◌-◌, ◌*◌, ◌/◌, ◌^◌, ◌<◌, if◌then◌else◌, Option, Some, None, option_map, slice_index, List, [], ◌∷◌, ◌++◌, length, take, drop, get_or, zero, suc, option_to_list, append_assoc, append-nil, ap, subst, sym, refl, ◌∙◌, arith}
+use Rattle.std.proofs.Math.Nat.{le-div_iff_mul-le}
+use Rattle.std.proofs.lemmas.Nat.{pow_pos}
+use Rattle.std.proofs.lemmas.Bool.Decides.{nat_tests}
+use Rattle.std.proofs.lemmas.Iterator.Adapters.{position_from-zero}
+use Rattle.std.proofs.Math.Seq.{drop-cons}
+use Rattle.std.proofs.lemmas.List.{length-set, map-append, set-set}
+use Rattle.std.proofs.lemmas.Option.{none-some}
+use Rattle.std.specs.List.{list_all, position_from}
+use Rattle.qcow2_base.specs.Types.{IsClusterBits}
+use Rattle.qcow2_base.specs.declared.types.HostCluster.{HostCluster}
+use Rattle.qcow2_metadata.proofs.EditsLemmas.{balance-run}
+use Rattle.qcow2_metadata.specs.Edits.{RunEnd, TableEdit, after_edit, data_entry, fits_table, handed_back, is_just, is_mappable, references, run_of, times_gained, to_data}
+use Rattle.qcow2_metadata.specs.Entries.{allocation}
+use Rattle.qcow2_metadata.specs.Header.{Geometry}
+use Rattle.qcow2_metadata.specs.Table.{TableState, edited}
+use Rattle.qcow2_metadata.specs.declared.entries.ClustersToFreeEntry.{ClustersToFreeEntry}
+use Rattle.qcow2_session.specs.Session.{Balances, HasRoom, Makes, are_some, end_of, first_unfit, fits, left_by, numbers_of, table_edit, table_edits}
+use Rattle.qcow2_session.specs.declared.session.edits.Change.{Change}
+use Rattle.qcow2_session.specs.declared.session.edits.Edit.{Edit}
+use Rattle.qcow2_session.specs.declared.session.edits.Outcome.{Outcome}
+
+-- an offset is at most another where its cluster is at most the other's
+nat_le-div : (cluster size most : ℕ) → 0 < size → nat_le cluster (most / size) ≡ nat_le (cluster * size) most
+nat_le-div cluster size most some = grind (arith, nat_tests, le-div_iff_mul-le {k = size} {x = cluster} {y = most} some)
+
+-- whether a cluster can be mapped to, by the greatest that can
+pub mappable_by_greatest : (g : Geometry) (cluster greatest : ℕ) → greatest ≡ (2 ^ 56 - 512) / 2 ^ g.cluster_bits → is_mappable g cluster ≡ (nat_le cluster greatest && (if g.external_data_file then true else not (nat_eq cluster 0)))
+mappable_by_greatest g cluster greatest is = rw (is, nat_le-div cluster (2 ^ g.cluster_bits) (2 ^ 56 - 512) (pow_pos g.cluster_bits)) refl
+
+-- an entry that is changed twice is as after the second change
+edited-edited : (table : TableState) (index v w : ℕ) → edited (edited table index v) index w ≡ edited table index w
+edited-edited table index v w = rw (set-set table.numbers index v w) refl
+
+first_holds : (a b : Bool) → (a && b) ≡ true → a ≡ true
+first_holds true b both = refl
+first_holds false b both = cc
+
+second_holds : (a b : Bool) → (a && b) ≡ true → b ≡ true
+second_holds true b both = both
+second_holds false b both = cc
+
+-- mapping an entry that was taken away before
+pub Makes-mapping : (index cluster : ℕ) (before : Option ClustersToFreeEntry) (change : Change) (old cleared new : TableState) → cleared ≡ edited old index 0 → new ≡ edited cleared index (data_entry cleared.geometry.cluster_bits cluster) → before ≡ allocation old.geometry (slice_index old.numbers index) → option_map (λ (c : HostCluster). c.0) change.gained ≡ (if is_just cluster before then None else Some cluster) → change.freed ≡ (if is_just cluster before then None else before) → Makes (record { index = index; edit = to_data cluster }) change old new
+Makes-mapping index cluster before change old cleared new is_cleared is_mapped is_before gained freed = record {
+  table = is_mapped ∙ rw is_cleared (edited-edited old index 0 (data_entry old.geometry.cluster_bits cluster));
+  gained = rw is_before at gained;
+  freed = rw is_before at freed;
+}
+
+-- what was done before, and then what a run did
+abbrev pub joined : List ClustersToFreeEntry → List ℕ → RunEnd → RunEnd
+joined freed gained rest = record { numbers = rest.numbers; freed = freed ++ rest.freed; gained = gained ++ rest.gained }
+
+-- so many of the edits are made, and those that are left lead from the table as it is to the end of all
+pub record IsPartWay (edits : List Edit) (done : ℕ) (before now : TableState) (outcome : Outcome) : Type 0 where
+  pub run : joined outcome.freed.items (numbers_of outcome.gained.items) (run_of before.geometry (table_edits (drop done edits)) now.numbers)
+      ≡ run_of before.geometry (table_edits edits) before.numbers
+  pub table : now ≡ left_by (take done edits) before now.numbers
+  pub entries : length now.numbers ≡ length before.numbers
+  pub room : HasRoom (length edits - done) outcome
+
+-- the entry after one more edit, and what was done to references, continue the run
+joined-more : (freed : List ClustersToFreeEntry) (gained : List ℕ) (one : Option ClustersToFreeEntry) (other : Option ℕ) (rest : RunEnd) → joined (freed ++ option_to_list one) (gained ++ option_to_list other) rest ≡ joined freed gained (joined (option_to_list one) (option_to_list other) rest)
+joined-more freed gained one other rest = rw (append_assoc freed (option_to_list one) rest.freed, append_assoc gained (option_to_list other) rest.gained) refl
+
+-- the numbers of one more cluster, if there is one
+numbers_of-more : (clusters : List HostCluster) (other : Option HostCluster) → numbers_of (clusters ++ option_to_list other) ≡ numbers_of clusters ++ option_to_list (option_map (λ (cluster : HostCluster). cluster.0) other)
+numbers_of-more clusters None = rw (append-nil (numbers_of clusters), append-nil clusters) refl
+numbers_of-more clusters (Some cluster) = map-append (λ (c : HostCluster). c.0) clusters (cluster ∷ [])
+
+-- some edits are made once one more is
+are_some-take : (edits : List Edit) (done : ℕ) → done < length edits → are_some (take (done + 1) edits) ≡ true
+are_some-take [] done below = absurd (omega (arith, below))
+are_some-take (edit ∷ edits) done below = let next : done + 1 ≡ suc done = omega arith in rw next refl
+
+-- one more edit is made
+pub part_way-next : (edits : List Edit) (done : ℕ) (default : Edit) (before now next : TableState) (change : Change) (outcome after : Outcome) → done < length edits → IsPartWay edits done before now outcome → Makes (table_edit (get_or edits done default)) change now next → after.gained.items ≡ outcome.gained.items ++ option_to_list change.gained → after.freed.items ≡ outcome.freed.items ++ option_to_list change.freed → ((more : ℕ) → HasRoom (more + 1) outcome → HasRoom more after) → IsPartWay edits (done + 1) before next after
+part_way-next edits done default before now next change outcome after below way made gained freed room =
+    let e : TableEdit = table_edit (get_or edits done default) in
+    let one_more : done + 1 ≡ suc done = omega arith in
+    let enough : length edits - (done + 1) + 1 ≡ length edits - done = omega (arith, below) in
+    let geometry : now.geometry ≡ before.geometry = ap (λ (table : TableState). table.geometry) way.table in
+    let cluster : now.cluster ≡ before.cluster = ap (λ (table : TableState). table.cluster) way.table in
+    let changed : next.numbers ≡ after_edit now.geometry e now.numbers = ap (λ (table : TableState). table.numbers) made.table in
+    let numbers : next.numbers ≡ after_edit before.geometry e now.numbers = rw (← geometry) changed in
+    let left : drop done edits ≡ get_or edits done default ∷ drop (suc done) edits = drop-cons edits done default below in
+    let run : joined outcome.freed.items (numbers_of outcome.gained.items) (run_of before.geometry (e ∷ table_edits (drop (suc done) edits)) now.numbers) ≡ run_of before.geometry (table_edits edits) before.numbers = rw left at way.run in
+    let left_is : (v : ℕ) → edited now e.index v ≡ left_by (take (done + 1) edits) before (edited now e.index v).numbers = λ v. rw (are_some-take edits done below, cluster, geometry) refl in
+    record {
+      run = rw (freed, gained, numbers_of-more, joined-more, made.freed, made.gained, geometry, numbers, one_more) run;
+      table = subst (λ (table : TableState). table ≡ left_by (take (done + 1) edits) before table.numbers) (sym made.table) (left_is _);
+      entries = ap length changed ∙ length-set now.numbers e.index _ ∙ way.entries;
+      room = room (length edits - (done + 1)) (rw enough way.room);
+    }
+
+all_fit-from : (g : Geometry) (entries start : ℕ) (edits : List Edit) → position_from (λ edit. not (fits_table g entries (table_edit edit))) start edits ≡ None → list_all (fits_table g entries) (table_edits edits) ≡ true
+all_fit-from g entries start [] none = refl
+all_fit-from g entries start (edit ∷ edits) none = by_first (fits_table g entries (table_edit edit)) (all_fit-from g entries (start + 1) edits) none
+  where
+    by_first : (first : Bool) → (position_from (λ edit. not (fits_table g entries (table_edit edit))) (start + 1) edits ≡ None → list_all (fits_table g entries) (table_edits edits) ≡ true) → (if not first then Some start else position_from (λ edit. not (fits_table g entries (table_edit edit))) (start + 1) edits) ≡ None → (first && list_all (fits_table g entries) (table_edits edits)) ≡ true
+    by_first true rest none = rest none
+    by_first false rest none = absurd (none-some start (sym none))
+
+-- where none is the first that doesn't fit, all edits fit
+pub all_fit : (table : TableState) (edits : List Edit) → first_unfit table edits ≡ None → list_all (fits_table table.geometry (length table.numbers)) (table_edits edits) ≡ true
+all_fit table edits none = all_fit-from table.geometry (length table.numbers) 0 edits (sym (position_from-zero (λ edit. not (fits table edit)) edits) ∙ none)
+
+-- and so does each of them
+pub each_fits : (test : TableEdit → Bool) (edits : List Edit) (i : ℕ) (default : Edit) → list_all test (table_edits edits) ≡ true → i < length edits → test (table_edit (get_or edits i default)) ≡ true
+each_fits test [] i default fit below = absurd (omega (arith, below))
+each_fits test (edit ∷ edits) zero default fit below = first_holds (test (table_edit edit)) _ fit
+each_fits test (edit ∷ edits) (suc i) default fit below = each_fits test edits i default (second_holds (test (table_edit edit)) _ fit) (omega (arith, below))
+
+-- what is left fits the table as it is
+pub part_way-fits : (edits : List Edit) (done : ℕ) (default : Edit) (before now : TableState) (outcome : Outcome) → first_unfit before edits ≡ None → done < length edits → IsPartWay edits done before now outcome → fits now (get_or edits done default) ≡ true
+part_way-fits edits done default before now outcome none below way =
+    let geometry : now.geometry ≡ before.geometry = ap (λ (table : TableState). table.geometry) way.table in
+    rw (geometry, way.entries) (each_fits (fits_table before.geometry (length before.numbers)) edits done default (all_fit before edits none) below)
+
+-- what a run of edits that fit leaves and hands back is in balance
+pub run-balances : (edits : List Edit) (outcome : Outcome) (old new : TableState) → IsClusterBits old.geometry.cluster_bits → first_unfit old edits ≡ None → end_of new outcome ≡ run_of old.geometry (table_edits edits) old.numbers → new ≡ left_by edits old new.numbers → Balances outcome old new
+run-balances edits outcome old new bits none run left = λ cluster.
+    let geometry : new.geometry ≡ old.geometry = ap (λ (table : TableState). table.geometry) left in
+    let balance = balance-run old.geometry (table_edits edits) old.numbers cluster bits (all_fit old edits none) in
+    rw (geometry) (subst (λ (end : RunEnd). references old.geometry end.numbers cluster + handed_back end.freed cluster ≡ references old.geometry old.numbers cluster + times_gained end.gained cluster) (sym run) balance)

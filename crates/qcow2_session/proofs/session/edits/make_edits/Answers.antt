@@ -1,0 +1,13 @@
+use Rattle.qcow2_session.proofs.SessionLemmas.{part_way-fits, part_way-next}
+use Rattle.qcow2_session.proofs.session.edits.make_edits.Goals as goal
+
+pub make-requires : goal.make-requires
+make-requires c =
+    part_way-fits c.args.edits.now c.loop-edit.edit-index _ c.args.table.now c.loop-edit.table c.loop-edit.outcome
+    c.requires.fit c.loop-edit-test.true c.loop-edit.invariant
+
+pub loop-edit-preserved : goal.loop-edit-preserved
+loop-edit-preserved c =
+    part_way-next c.args.edits.now c.loop-edit.edit-index _ c.args.table.now c.loop-edit.table c.make.new.table
+    c.make.result c.loop-edit.outcome c.push.new.self c.loop-edit-test.true c.loop-edit.invariant c.make.ensures
+    c.push.ensures.gained c.push.ensures.freed c.push.ensures.room
