@@ -1,8 +1,9 @@
 //! Lists of edits of an L2 table: all of them are made, or none.
 
-ghost use Rattle.std.specs.Prelude.{◌≡◌, ℕ, ◌+◌, ◌-◌, ◌<◌, ◌≤◌, ◌/◌, ◌^◌, [], ◌++◌, if◌then◌else◌, IfErr, IfOk, MatchResult, None, Some, length, not, option_map, option_to_list, true};
+ghost use Rattle.std.specs.Prelude.{◌≡◌, ℕ, ◌+◌, ◌-◌, ◌<◌, ◌≤◌, ◌/◌, ◌^◌, [], ◌++◌, if◌then◌else◌, Err, IfErr, IfOk, IfSome, MatchResult, None, Some, length, not, option_map, option_to_list, true};
 ghost use Rattle.std.specs.Vec.{vec_capacity};
 ghost use Rattle.qcow2_base.specs.Types.{IsClusterBits};
+ghost use Rattle.qcow2_base.specs.declared.fault.Fault.TheVariants.{BadEdit};
 ghost use Rattle.qcow2_base.specs.declared.types.HostCluster.{HostCluster as Cluster};
 ghost use Rattle.qcow2_metadata.specs.Answers.{Computes};
 ghost use Rattle.qcow2_metadata.specs.Edits.{is_just, is_mappable, run_of};
@@ -216,8 +217,9 @@ fn make_edits(table: &mut L2Table, edits: &[Edit], outcome: &mut Outcome)
 /// Refuses edits that don't all fit, by the position of the first that `edits_fit` names. Takes memory for
 /// the outcome before the first edit. After any refusal the table is as before. Its cluster stays.
 pub fn edit_table(table: &mut L2Table, edits: &[Edit]) -> Result<Outcome, Fault>
+    ensures unfit { IfSome (first_unfit table.old edits.now) (λ at. result ≡ Err (BadEdit at)) }
     ensures exact { Computes (end_of table.new) result (run_or_refusal table.old edits.now) }
-    ensures refused { IfErr result (λ fault. table.new ≡ table.old) }
+    ensures unchanged { IfErr result (λ fault. table.new ≡ table.old) }
     ensures table { IfOk result (λ outcome. table.new ≡ left_by edits.now table.old table.new.numbers) }
     ensures balance { IfOk result (λ outcome. Balances outcome table.old table.new) }
 {
