@@ -143,6 +143,16 @@ impl<E: TableKind> EntryTable<E> {
         }
     }
 
+    // The entry at an index that isn't past the end, as callers get it.
+    #[inline]
+    pub(super) fn entry_within(&self, index: usize) -> E::Entry
+        requires { index < length self.now.numbers }
+        ensures number { E.Entry.plain result ≡ slice_index self.now.numbers index }
+        ensures lawful { E.fault_of self.now.geometry.cluster_bits (E.Entry.plain result) ≡ None }
+    {
+        self.entries[index].entry()
+    }
+
     // Puts a lawful entry in the place of another, and returns that one.
     pub(super) fn replace_entry(&mut self, index: usize, entry: E) -> E
         requires index { index < length self.old.numbers }

@@ -95,7 +95,7 @@ impl L2TableWriteGuard<'_> {
         ensures edit { IsOkAnd result (λ freed.
             MakesEdit (to_zeros keep_allocation) index freed (guarded self.old) (guarded self.new)) }
     {
-        let before = self.table.get(index);
+        let before = self.table.entry_within(index);
         if keep_allocation && before.has_host_cluster(self.table.external_data_file()) {
             let zeros = AtomicL2Entry::new(before.with_zero_flag());
             self.table.replace_entry(index, zeros);

@@ -12,18 +12,18 @@ use Rattle.qcow2_metadata.proofs.table.l2_guards.L2TableWriteGuard.zero_cluster.
 pub replace_entry-requires-clause-valid : goal.replace_entry-requires-clause-valid
 replace_entry-requires-clause-valid c =
     let table = guarded c.args.self.now in
-    let v = c.get-before.result in
+    let v = c.entry_within-before.result in
     let cb = table.geometry.cluster_bits in
     let has : has_host_cluster table.geometry v ≡ true =
     ap (λ (b : Bool). has_host_cluster (geometry cb b) v) (sym c.external_data_file.ensures)
     ∙ sym (c.has_host_cluster.ensures cb) ∙ c.if-has_host_cluster.true in
     rw (c.new-zeros.ensures, c.with_zero_flag.ensures)
-    (zeros-lawful table.geometry v has c.get-before.ensures.lawful)
+    (zeros-lawful table.geometry v has c.entry_within-before.ensures.lawful)
 
 pub returns-then-has_host_cluster-clause-edit : goal.returns-then-has_host_cluster-clause-edit
 returns-then-has_host_cluster-clause-edit c =
     let table = guarded c.args.self.now in
-    let v = c.get-before.result in
+    let v = c.entry_within-before.result in
     let cb = table.geometry.cluster_bits in
     let number : v ≡ slice_index table.numbers c.args.index = search rules in
     let has : has_host_cluster table.geometry v ≡ true =
@@ -38,7 +38,7 @@ returns-then-has_host_cluster-clause-edit c =
 pub returns-clause-edit : goal.returns-clause-edit
 returns-clause-edit c =
     let table = guarded c.args.self.now in
-    let v = c.get-before.result in
+    let v = c.entry_within-before.result in
     let cb = table.geometry.cluster_bits in
     let number : v ≡ slice_index table.numbers c.args.index = search rules in
     let dropped : (c.args.keep_allocation && has_host_cluster table.geometry (slice_index table.numbers c.args.index)) ≡ false =
