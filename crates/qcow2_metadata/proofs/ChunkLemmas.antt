@@ -13,7 +13,8 @@ use Rattle.qcow2_base.specs.declared.fault.Fault.{Fault}
 use Rattle.qcow2_metadata.specs.Table.{chunk_numbers, decoded, first_fault, table_numbers}
 use Rattle.qcow2_metadata.proofs.TableLemmas.{first_fault-append, no_fault_item, no_fault_at_all, range-append, table_numbers-held, table_numbers_same}
 
-map_range_at : (f g : ℕ → ℕ) (a b n : ℕ) → ((i : ℕ) → i < n → f (a + i) ≡ g (b + i)) → map f (range_with_len a n) ≡ map g (range_with_len b n)
+-- the same numbers made from functions of different indexes
+pub map_range_at : (f g : ℕ → ℕ) (a b n : ℕ) → ((i : ℕ) → i < n → f (a + i) ≡ g (b + i)) → map f (range_with_len a n) ≡ map g (range_with_len b n)
 map_range_at f g a b zero same = refl
 map_range_at f g a b (suc n) same =
     let first : f a ≡ g b = simp add-zero at (same 0 (omega arith)) in

@@ -1,6 +1,6 @@
 use Rattle.std.proofs.Common.{◌≡◌, ℕ, zero, suc, Bool, true, false, not, ◌&&◌, ◌||◌, ◌==◌, if◌then◌else◌, ◌+◌, ◌-◌, ◌*◌, ◌/◌, ◌^◌, ◌<◌, ◌≤◌, ◌↔◌, Option, Some, None, option_map, unwrap_or, option_to_list, IfSome, All, List, [], ◌∷◌, length, slice_get, slice_index, inl, inr, get_or-set_same, get_or-set_other, map-id, refl, ap, sym, ◌∙◌, subst, suc-mul, arith}
-use Rattle.std.proofs.lemmas.Nat.{div-mul-add, pow-add, pow_pos}
-use Rattle.std.proofs.Math.Nat.{mul-div_cancel, mul-mod_left, mul_assoc, zero-mod}
+use Rattle.std.proofs.lemmas.Nat.{div-mul-add, pow_pos}
+use Rattle.std.proofs.Math.Nat.{mul-div_cancel, mul-mod_left, zero-mod}
 use Rattle.std.proofs.lemmas.List.Elements.{All-set}
 use Rattle.std.proofs.lemmas.Bool.Decides.{nat_tests}
 use Rattle.std.proofs.lemmas.List.{length-set}
@@ -15,7 +15,7 @@ use Rattle.qcow2_base.specs.declared.fault.Fault.{Fault}
 use Rattle.qcow2_metadata.specs.Header.{Geometry}
 use Rattle.qcow2_metadata.specs.declared.entries.ClustersToFreeEntry.{ClustersToFreeEntry}
 use Rattle.qcow2_metadata.specs.Entries.{ByteRange, Meets, allocation, byte_range, cluster_count, clusters_of, first_cluster, is_allocated, is_among, is_compressed, l2_fault, meets, offset_field}
-use Rattle.qcow2_metadata.proofs.EntriesLemmas.{l2_fault_zero, meets_is_met}
+use Rattle.qcow2_metadata.proofs.EntriesLemmas.{l2_fault_zero, meets_is_met, offset_in_sectors}
 use Rattle.qcow2_metadata.proofs.TableLemmas.{first_fault-set, no_fault_item}
 use Rattle.qcow2_metadata.specs.Table.{first_fault}
 use Rattle.qcow2_metadata.specs.Edits.{EntryEdit, IsEdit, IsRun, RunsTo, TableEdit, after_edit, can_be_made, changed, data_entry, dropped, fits_table, gained, handed_back, has_host_cluster, is_just, is_mappable, keeps, one_if, references, run_of, times_gained, to_data, to_nothing, to_zeros, with_zero_flag}
@@ -36,14 +36,6 @@ data_at offset sectors whole fits = record {
   low = omega arith;
   high = omega arith;
 }
-
--- a cluster's offset is whole sectors of 512 bytes
-offset_in_sectors : (cb cluster : ℕ) → 9 ≤ cb → cluster * 2 ^ cb ≡ cluster * 2 ^ (cb - 9) * 512
-offset_in_sectors cb cluster low =
-    let power = pow-add 2 (cb - 9) 9 in
-    let whole : cb - 9 + 9 ≡ cb = omega arith in
-    let same : 2 ^ cb ≡ 2 ^ (cb - 9) * 512 = rw whole at power in
-    ap (λ x. cluster * x) same ∙ sym (mul_assoc cluster (2 ^ (cb - 9)) 512)
 
 mappable_fits : (g : Geometry) (cluster : ℕ) → is_mappable g cluster ≡ true → cluster * 2 ^ g.cluster_bits ≤ 2 ^ 56 - 512
 mappable_fits g cluster mappable = grind (arith, nat_tests)

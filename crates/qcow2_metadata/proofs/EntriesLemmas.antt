@@ -5,7 +5,7 @@ use Rattle.std.proofs.Math.Nat.{mul_assoc, mul-mod_left, le-div_iff_mul-le, div-
 use Rattle.std.proofs.Math.Pow.{pow_mono}
 use Rattle.std.proofs.lemmas.Bool.Decides.{same_from_decides, Decides-eqb, Decides-ltb, nat_tests}
 use Rattle.qcow2_metadata.specs.Header.{Geometry}
-use Rattle.qcow2_metadata.specs.Entries.{ByteRange, IsAllocation, IsAmong, Meets, RangeMeets, byte_range, cluster_count, clusters_of, compressed_length, compressed_offset, entry_fault, first_cluster, is_allocated, is_among, is_compressed, l1_entry_for, l1_fault, l1_reserved_bits, l2_fault, l2_reserved_bits, meets, offset_field}
+use Rattle.qcow2_metadata.specs.Entries.{ByteRange, IsAllocation, IsAmong, Meets, RangeMeets, byte_range, cluster_count, clusters_of, compressed_length, compressed_offset, entry_fault, first_cluster, is_allocated, is_among, is_compressed, l1_entry_for, l1_fault, l1_reserved_bits, ref_fault, ref_reserved_bits, l2_fault, l2_reserved_bits, meets, offset_field}
 
 div_rises : (a b k : ℕ) → 0 < k → a ≤ b → a / k ≤ b / k
 div_rises a b k p h = (le-div_iff_mul-le p).1 (omega (arith, div-mul-le_self a k))
@@ -117,15 +117,27 @@ l2_fault_zero cb = rw zero-mod refl
 pub cluster_begins_below : (cb offset : ℕ) → offset / 2 ^ cb * 2 ^ cb ≤ offset
 cluster_begins_below cb offset = div-mul-le_self offset (2 ^ cb)
 
+-- a cluster's offset is whole sectors of 512 bytes
+pub offset_in_sectors : (cb cluster : ℕ) → 9 ≤ cb → cluster * 2 ^ cb ≡ cluster * 2 ^ (cb - 9) * 512
+offset_in_sectors cb cluster low =
+    let power = pow-add 2 (cb - 9) 9 in
+    let whole : cb - 9 + 9 ≡ cb = omega arith in
+    let same : 2 ^ cb ≡ 2 ^ (cb - 9) * 512 = rw whole at power in
+    ap (λ x. cluster * x) same ∙ sym (mul_assoc cluster (2 ^ (cb - 9)) 512)
+
+-- a cluster's offset is a refcount table entry
+pub ref_entry_is_lawful : (cb cluster : ℕ) → 9 ≤ cb → ref_fault cb (cluster * 2 ^ cb) ≡ None
+ref_entry_is_lawful cb cluster low =
+    let in_sectors = offset_in_sectors cb cluster low in
+    let reserved : ref_reserved_bits (cluster * 2 ^ cb) ≡ 0 = rw in_sectors (omega arith) in
+    rw (reserved, mul-mod_left cluster (2 ^ cb)) refl
+
 -- a cluster's offset below 2 ^ 56 with the copied flag is an L1 entry
 pub l1_entry_is_lawful : (cb cluster : ℕ) → 9 ≤ cb → cluster * 2 ^ cb < 2 ^ 56 → l1_fault cb (l1_entry_for (cluster * 2 ^ cb)) ≡ None
 l1_entry_is_lawful cb cluster low fits =
     let offset = cluster * 2 ^ cb in
     let sectors = cluster * 2 ^ (cb - 9) in
-    let power = pow-add 2 (cb - 9) 9 in
-    let whole : cb - 9 + 9 ≡ cb = omega arith in
-    let same : 2 ^ cb ≡ 2 ^ (cb - 9) * 512 = rw whole at power in
-    let in_sectors : offset ≡ sectors * 512 = ap (λ x. cluster * x) same ∙ sym (mul_assoc cluster (2 ^ (cb - 9)) 512) in
+    let in_sectors : offset ≡ sectors * 512 = offset_in_sectors cb cluster low in
     let reserved : l1_reserved_bits (l1_entry_for offset) ≡ 0 = omega arith in
     let field_is : offset_field (l1_entry_for offset) ≡ offset = omega arith in
     let aligned : offset % 2 ^ cb ≡ 0 = mul-mod_left cluster (2 ^ cb) in

@@ -1,6 +1,7 @@
 mod EditsExamples
 mod EntriesExamples
 mod GrammarExamples
+mod RefblockExamples
 mod TableExamples
 mod TextExamples
 pub mod ChainLemmas
@@ -17,10 +18,14 @@ pub mod LayoutLemmas
 pub mod LoadLemmas
 pub mod MappingLemmas
 pub mod NamesLemmas
+pub mod NarrowLemmas
 pub mod OpenLemmas
+pub mod PackedLemmas
+pub mod PackingLemmas
 pub mod PieceLemmas
 pub mod PointerLemmas
 pub mod RangeLemmas
+pub mod RefblockLemmas
 pub mod SettledLemmas
 pub mod SharedLemmas
 pub mod StorableLemmas

@@ -25,6 +25,11 @@ provided {T} conditions next = unless (first_failed conditions)
     unless None = next tt
     unless (Some fault) = Err fault
 
+-- a refusal, if there is one, else the answer
+abbrev pub unless_refused : {T : Type 0} → Option Fault → Result T Fault → Result T Fault
+unless_refused None answer = answer
+unless_refused (Some fault) answer = Err fault
+
 -- the answer is the expected one, unless memory ran out
 abbrev pub Computes : {T V : Type 0} → (T → V) → Result T Fault → Result V Fault → Type 0
 Computes view answer expected =

@@ -3,6 +3,9 @@ pub mod Edits
 pub mod Entries
 pub mod Header
 pub mod L2Table
+pub mod Pieces
 pub mod Range
 pub mod ReadAhead
+pub mod Refblock
+pub mod RefblockGuard
 pub mod Table

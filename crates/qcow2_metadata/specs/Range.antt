@@ -1,4 +1,4 @@
-use Rattle.std.specs.Prelude.{◌≡◌, ◌≢◌, ℕ, Bool, false, true, ◌+◌, ◌^◌, nat_lt, if◌then◌else◌, Option, Some, None, Result, List, map, OnOk, IfErr, IsErrOf}
+use Rattle.std.specs.Prelude.{◌≡◌, ◌≢◌, ◌⊎◌, ℕ, Bool, false, true, ◌+◌, ◌^◌, nat_lt, if◌then◌else◌, Option, Some, None, Result, List, map, OnOk, IfErr, IsErrOf}
 use Rattle.std.specs.List.{range_with_len}
 use Rattle.qcow2_base.specs.Storage.{Image}
 use Rattle.qcow2_base.specs.declared.fault.Fault.{Fault}
@@ -18,3 +18,7 @@ pub record FlagTells {V T : Type 0} (flagged : Bool → V → V) (answer : Resul
   pub ok : OnOk answer (new ≡ flagged false old)
   pub failed : IsErrOf answer Storage → new ≡ flagged true old
   pub err : IfErr answer (λ fault. fault ≢ Storage → new ≡ old)
+
+-- the refusals of a write: that of what is written, or a failed storage
+abbrev pub IsWriteFault : Option Fault → Fault → Type 0
+IsWriteFault of_place fault = (of_place ≡ Some fault) ⊎ (fault ≡ Storage)

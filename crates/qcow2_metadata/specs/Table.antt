@@ -9,7 +9,8 @@ use Rattle.qcow2_base.specs.declared.fault.Fault.TheVariants.{EntryReserved, Ent
 use Rattle.qcow2_base.specs.declared.types.HostCluster.{HostCluster}
 use Rattle.qcow2_metadata.specs.Entries.{Mapping, l1_fault, l2_fault, mapping}
 use Rattle.qcow2_metadata.specs.Header.{Geometry, HeaderRecord, geometry_of}
-use Rattle.qcow2_metadata.specs.Range.{FlagTells, range_fault}
+use Rattle.qcow2_metadata.specs.Answers.{unless_refused}
+use Rattle.qcow2_metadata.specs.Range.{FlagTells, IsWriteFault, range_fault}
 
 -- how many entries a table of each kind may have
 abbrev pub most_l1_entries : ℕ
@@ -99,11 +100,6 @@ abbrev pub first_fault : (ℕ → Option Fault) → List ℕ → Option Fault
 first_fault fault [] = None
 first_fault fault (v ∷ vs) = option_or (fault v) (first_fault fault vs)
 
--- a refusal, if there is one, else the answer
-abbrev pub unless_refused : {T : Type 0} → Option Fault → Result T Fault → Result T Fault
-unless_refused None answer = answer
-unless_refused (Some fault) answer = Err fault
-
 -- numbers as a table: the numbers, or the fault of the first that is no entry
 abbrev pub decoded : (ℕ → Option Fault) → List ℕ → Result (List ℕ) Fault
 decoded fault numbers = unless_refused (first_fault fault numbers) (Ok numbers)
@@ -153,10 +149,6 @@ pub record IsLoaded (place : TablePlace) (image : StorageState) (table : TableSt
   pub cluster : table.cluster ≡ Some place.cluster
   pub unmodified : table.modified ≡ false
   pub geometry : table.geometry ≡ place.geometry
-
--- the refusals of a write: that of the table, or a failed storage
-abbrev pub IsWriteFault : Option Fault → Fault → Type 0
-IsWriteFault of_table fault = (of_table ≡ Some fault) ⊎ (fault ≡ Storage)
 
 -- the new image has the table at its place, and is the old one where that had it there
 pub record IsWritten (fault_of : ℕ → ℕ → Option Fault) (table : TableState) (old new : Image) : Type 0 where

@@ -20,6 +20,7 @@ mod ref_table_entry;
 
 pub use l1_entry::L1Entry;
 pub use l2_mapping::L2Mapping;
+pub(crate) use pending_clusters::refuse;
 pub use pending_clusters::{PendingClusters, Refused};
 pub use ref_table_entry::RefTableEntry;
 

@@ -3,8 +3,10 @@
 
 mod entries;
 mod header;
+mod pieces;
 mod range;
 mod read_ahead;
+mod refblock;
 mod table;
 
 pub use entries::{
@@ -16,6 +18,7 @@ pub use header::{
     HeaderExtensionType, IncompatibleFeatures, UnknownValue,
 };
 pub use range::{MAX_FILE_LENGTH, MAX_OFFSET};
+pub use refblock::{RefBlock, RefBlockWriteGuard};
 pub use table::{
     CompressedClusterReadGuard, EntryTable, L1Table, L2Table, L2TableWriteGuard, RefTable, Table,
     TableKind,

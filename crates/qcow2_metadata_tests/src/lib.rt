@@ -45,6 +45,8 @@ mod pointers;
 #[cfg(test)]
 mod ref_table_entry;
 #[cfg(test)]
+mod refcount_blocks;
+#[cfg(test)]
 mod refused_memory;
 #[cfg(test)]
 mod rich_header;

@@ -3,3 +3,4 @@ pub mod CommandsLemmas
 mod LinesExamples
 pub mod LinesLemmas
 pub mod SessionLemmas
+pub mod StepsLemmas

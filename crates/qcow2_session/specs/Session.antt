@@ -4,8 +4,9 @@ use Rattle.std.specs.Vec.{vec_capacity}
 use Rattle.qcow2_base.specs.declared.fault.Fault.{Fault}
 use Rattle.qcow2_base.specs.declared.fault.Fault.TheVariants.{BadEdit}
 use Rattle.qcow2_base.specs.declared.types.HostCluster.{HostCluster}
+use Rattle.qcow2_metadata.specs.Answers.{unless_refused}
 use Rattle.qcow2_metadata.specs.Edits.{RunEnd, TableEdit, changed, dropped, fits_table, gained, handed_back, references, run_of, times_gained, to_data, to_nothing, to_zeros}
-use Rattle.qcow2_metadata.specs.Table.{TableState, edited, unless_refused}
+use Rattle.qcow2_metadata.specs.Table.{TableState, edited}
 use Rattle.qcow2_session.specs.declared.session.edits.Change.{Change}
 use Rattle.qcow2_session.specs.declared.session.edits.Edit.{Edit}
 use Rattle.qcow2_session.specs.declared.session.edits.Edit.TheVariants.{Discard, Map, Zero}

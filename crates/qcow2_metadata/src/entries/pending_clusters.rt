@@ -65,3 +65,10 @@ pub struct Refused {
     /// The pending clusters that it was given.
     pub pending: Option<PendingClusters>,
 }
+
+// A refusal that hands the pending value back.
+pub(crate) fn refuse(fault: Fault, pending: Option<PendingClusters>) -> Result<(), Refused>
+    ensures { result ≡ Err (record { fault = fault; pending = pending }) }
+{
+    Err(Refused { fault, pending })
+}

@@ -1,10 +1,11 @@
 //! Entries of refcount tables.
 
-ghost use Rattle.std.specs.Prelude.{◌≡◌};
+ghost use Rattle.std.specs.Prelude.{◌≡◌, ◌*◌, ◌^◌, ◌<◌, None};
+ghost use Rattle.qcow2_base.specs.Types.{IsClusterBits};
 
 use super::TableEntry;
 use crate::Header;
-use qcow2_base::{Fault, HostOffset, field};
+use qcow2_base::{Fault, HostCluster, HostOffset, field};
 use std::marker::Model;
 
 /// An entry of a refcount table: where a refcount block lies, if there is one.
@@ -26,10 +27,23 @@ impl Model for RefTableEntry {
 }
 
 impl RefTableEntry {
-    ghost use Rattle.qcow2_metadata.specs.Entries.{offset_unless_zero, ref_reserved_bits, refblock_offset_field};
+    ghost use Rattle.qcow2_metadata.specs.Entries.{offset_unless_zero, ref_fault, ref_reserved_bits, refblock_offset_field};
 
     /// The entry 0: there is no refcount block.
     pub(crate) const NONE: RefTableEntry = RefTableEntry { value: 0 };
+
+    // The entry of a refcount block that begins with a cluster.
+    #[tactic(auto, using(crate::proofs::EntriesLemmas::ref_entry_is_lawful))]
+    pub(crate) fn for_refblock(cluster: HostCluster, cluster_bits: u32) -> RefTableEntry
+        requires cluster_bits { IsClusterBits cluster_bits }
+        requires place { cluster.0 * 2 ^ cluster_bits < 2 ^ 56 }
+        ensures number { result ≡ cluster.0 * 2 ^ cluster_bits }
+        ensures lawful { ref_fault cluster_bits result ≡ None }
+    {
+        RefTableEntry {
+            value: cluster.offset(cluster_bits).0,
+        }
+    }
 
     /// The offset of the refcount block, if there is one.
     #[inline]

@@ -8,6 +8,7 @@ ghost use Rattle.qcow2_metadata.specs.Header.Pointers.{ArePendingFor, pointer_fa
 ghost use Rattle.qcow2_metadata.specs.Table.{IsReferable, edited, grown_count, grown_numbers, most_l1_entries, new_table};
 
 use super::{EntryTable, L2Table, Table, TableKind};
+use crate::entries::refuse;
 use crate::{Header, L1Entry, PendingClusters, Refused};
 use qcow2_base::Fault;
 
@@ -130,11 +131,4 @@ impl Header {
         }
         Ok(())
     }
-}
-
-// A refusal that hands the pending value back.
-fn refuse(fault: Fault, pending: Option<PendingClusters>) -> Result<(), Refused>
-    ensures { result ≡ Err (record { fault = fault; pending = pending }) }
-{
-    Err(Refused { fault, pending })
 }

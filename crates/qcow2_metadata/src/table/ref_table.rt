@@ -6,7 +6,8 @@ ghost use Rattle.qcow2_metadata.specs.Header.Pointers.{clusters_of, pointer_faul
 ghost use Rattle.qcow2_metadata.specs.Table.{most_reftable_entries};
 
 use super::{EntryTable, Table, TableKind};
-use crate::{Header, RefTableEntry};
+use crate::entries::refuse;
+use crate::{Header, PendingClusters, RefBlock, RefTableEntry, Refused};
 use qcow2_base::Fault;
 
 /// A table of refcount table entries, one for each refcount block of the image.
@@ -32,6 +33,47 @@ impl TableKind for RefTableEntry {
     }
 
     ghost few_entries = { lit≤ tt };
+}
+
+impl EntryTable<RefTableEntry> {
+    ghost use Rattle.std.specs.Prelude.{◌≡◌, ◌*◌, ◌^◌, ◌<◌, length};
+    ghost use Rattle.qcow2_base.specs.declared.fault.Fault.TheVariants.{NotPlaced};
+    ghost use Rattle.qcow2_metadata.specs.Entries.{IsOneCluster};
+    ghost use Rattle.qcow2_metadata.specs.Table.{IsReferable, edited};
+
+    /// Enters a refcount block, and spends the pending value for its cluster, if there is one. The table then
+    /// counts as modified.
+    ///
+    /// A block with no cluster is refused: the pending value comes back, and nothing has changed.
+    pub fn enter_refblock(
+        &mut self,
+        index: usize,
+        refblock: &RefBlock,
+        new_allocation: Option<PendingClusters>,
+    ) -> Result<(), Refused>
+        requires index { index < length self.old.numbers }
+        requires cluster_bits { refblock.now.cluster_bits ≡ self.old.geometry.cluster_bits }
+        requires cluster { IfSome refblock.now.cluster (IsReferable self.old.geometry.cluster_bits) }
+        requires pending { IfSome refblock.now.cluster (λ cluster.
+            IfSome new_allocation (λ pending. IsOneCluster pending cluster)) }
+        ensures answer { MatchOption refblock.now.cluster
+            (result ≡ Err (record { fault = NotPlaced; pending = new_allocation }))
+            (λ _. result ≡ Ok tt) }
+        ensures edit { MatchOption refblock.now.cluster
+            (self.new ≡ self.old)
+            (λ cluster. self.new
+            ≡ edited self.old index (cluster.0 * 2 ^ self.old.geometry.cluster_bits)) }
+    {
+        let Some(cluster) = refblock.get_cluster() else {
+            return refuse(Fault::NotPlaced, new_allocation);
+        };
+        let entry = RefTableEntry::for_refblock(cluster, self.cluster_bits());
+        self.replace_entry(index, entry);
+        if let Some(pending) = new_allocation {
+            pending.make_persistent();
+        }
+        Ok(())
+    }
 }
 
 impl Header {

@@ -1,0 +1,182 @@
+use Rattle.std.proofs.Common.{◌≡◌, ℕ, zero, suc, ◌+◌, ◌-◌, ◌*◌, ◌/◌, ◌%◌, ◌^◌, ◌<◌, ◌≤◌, Bool, List, [], ◌∷◌, ◌++◌, length, replicate, slice_index, slice_set, Option, Some, None, min, inl, inr, lit≤, refl, ap, sym, ◌∙◌, arith}
+use Rattle.std.proofs.lemmas.List.{length-replicate, length-set}
+use Rattle.std.proofs.lemmas.List.Elements.{All-replicate, All-set}
+use mathlib.Core.Path.{fun_ext}
+use Rattle.std.proofs.Math.Nat.{le-div_iff_mul-le, mul-add, mul-div_cancel_left, mul_assoc, mul_comm, pow-le-pow_right}
+use Rattle.std.proofs.lemmas.Bool.{cases_lt}
+use Rattle.std.proofs.lemmas.Grind.{same_number_lists}
+use Rattle.std.proofs.lemmas.List.FromFn.{get_or-map-range_with_len}
+use Rattle.std.proofs.lemmas.Nat.{pow-add, pow_pos}
+use Rattle.qcow2_base.specs.Storage.{Holds as HoldsBytes, Image, IsBytes, SameOutside, image_of}
+use Rattle.qcow2_metadata.proofs.PackingLemmas.{counter_at-packed, counters_at-append, counters_at-length, counters_at-same, packed-counters_at, width-per_byte}
+use Rattle.qcow2_metadata.specs.Pieces.{Stand}
+use Rattle.qcow2_base.specs.Types.{IsClusterBits}
+use Rattle.qcow2_base.specs.declared.types.HostCluster.{HostCluster}
+use Rattle.qcow2_metadata.specs.Refblock.{AreCounters, Holds, IsLawfulBlock, IsOfOrder, IsWrittenBlock, block_entries, block_offset, counter_at, counters_at, greatest_counter, numbers_of, packed, per_byte, width}
+use Rattle.qcow2_metadata.specs.declared.refblock.counters.Counters.{Counters}
+use Rattle.qcow2_metadata.specs.declared.refblock.counters.Counters.TheVariants.{U8, U16, U32, U64}
+
+-- the greatest counters of each order
+pub greatest_is : (order : ℕ) → order ≤ 6 → slice_index (1 ∷ 3 ∷ 15 ∷ 255 ∷ 65535 ∷ 4294967295 ∷ 18446744073709551615 ∷ []) order ≡ greatest_counter order
+greatest_is zero low = refl
+greatest_is (suc zero) low = refl
+greatest_is (suc (suc zero)) low = refl
+greatest_is (suc (suc (suc zero))) low = refl
+greatest_is (suc (suc (suc (suc zero)))) low = refl
+greatest_is (suc (suc (suc (suc (suc zero))))) low = refl
+greatest_is (suc (suc (suc (suc (suc (suc zero)))))) low = refl
+greatest_is (suc (suc (suc (suc (suc (suc (suc order))))))) low = absurd (omega (arith, low))
+
+narrow_fits : (order number : ℕ) → order ≤ 3 → number ≤ greatest_counter order → number < 2 ^ 8
+narrow_fits zero number low fits = omega (arith, fits)
+narrow_fits (suc zero) number low fits = omega (arith, fits)
+narrow_fits (suc (suc zero)) number low fits = omega (arith, fits)
+narrow_fits (suc (suc (suc zero))) number low fits = omega (arith, fits)
+narrow_fits (suc (suc (suc (suc order)))) number low fits = absurd (omega (arith, low))
+
+-- the integers of a list hold each number that a counter holds
+pub counter_holds : (order : ℕ) (counters : Counters) (number : ℕ) → IsOfOrder order counters → number ≤ greatest_counter order → Holds counters number
+counter_holds order (U8 list) number kind fits = narrow_fits order number kind fits
+counter_holds order (U16 list) number kind fits = let same = rw kind at fits in omega (arith, same)
+counter_holds order (U32 list) number kind fits = let same = rw kind at fits in omega (arith, same)
+counter_holds order (U64 list) number kind fits = let same = rw kind at fits in omega (arith, same)
+
+-- a number that a counter holds is below the power of two of its width
+below_width : (order number : ℕ) → number ≤ greatest_counter order → number < 2 ^ width order
+below_width order number fits = omega (arith, fits, pow_pos (width order))
+
+pub within_width : (order number : ℕ) → number < 2 ^ width order → number ≤ greatest_counter order
+within_width order number below = omega (arith, below)
+
+-- a block of zeros is lawful
+pub zeros-lawful : (cb order : ℕ) (counters : Counters) → IsClusterBits cb → order ≤ 6 → IsOfOrder order counters → numbers_of counters ≡ replicate (block_entries cb order) 0 → IsLawfulBlock cb order None counters
+zeros-lawful cb order counters bits orders kind zeros = record {
+  bits = bits;
+  orders = orders;
+  kind = kind;
+  place = tt;
+  count = ap length zeros ∙ length-replicate (block_entries cb order) 0;
+  small = rw zeros (All-replicate (λ counter. counter < 2 ^ width order) (block_entries cb order) 0 (pow_pos (width order)));
+}
+
+-- and so is one with another counter
+pub set-lawful : (cb order : ℕ) (cluster : Option HostCluster) (old new : Counters) (index number : ℕ) → IsLawfulBlock cb order cluster old → IsOfOrder order new → numbers_of new ≡ slice_set (numbers_of old) index number → number ≤ greatest_counter order → IsLawfulBlock cb order cluster new
+set-lawful cb order cluster old new index number lawful kind set fits = record {
+  bits = lawful.bits;
+  orders = lawful.orders;
+  kind = kind;
+  place = lawful.place;
+  count = ap length set ∙ length-set (numbers_of old) index number ∙ lawful.count;
+  small = rw set (All-set (λ counter. counter < 2 ^ width order) (numbers_of old) index number (below_width order number fits) lawful.small);
+}
+
+-- the counters of a block fill its cluster
+pub block_bytes : (cb order : ℕ) → IsClusterBits cb → order ≤ 6 → width order * block_entries cb order ≡ 8 * 2 ^ cb
+block_bytes cb order bits orders =
+    let whole : order + (cb + 3 - order) ≡ 3 + cb = omega (arith, bits.0, orders) in
+    sym (pow-add 2 order (cb + 3 - order)) ∙ ap (λ n. 2 ^ n) whole ∙ pow-add 2 3 cb
+
+-- counters are what stands at their indices
+counters_by_index : (order : ℕ) (image : Image) (counters : List ℕ) → ((i : ℕ) → i < length counters → counter_at order image 0 i ≡ slice_index counters i) → counters_at order image 0 (length counters) ≡ counters
+counters_by_index order image counters each =
+    same_number_lists (counters_at order image 0 (length counters)) counters (counters_at-length order image 0 (length counters))
+    (λ k below.
+    let within : k < length counters = omega (arith, below, counters_at-length order image 0 (length counters)) in
+    get_or-map-range_with_len (counter_at order image 0) 0 (length counters) k k 0 within (omega arith) ∙ each k within)
+
+-- where the bytes of counters stand, these are the block's
+pub stand-decoded : (order n len : ℕ) (counters : List ℕ) (image : Image) (offset : ℕ) → order ≤ 6 → AreCounters order counters → length counters ≡ n → width order * n ≡ 8 * len → Stand (packed order counters) len image offset → counters_at order image offset n ≡ counters
+stand-decoded order n len counters image offset orders small count whole stand =
+    counters_at-same order n len image (packed order counters) offset 0 orders whole (λ k below. let zero_k : 0 + k ≡ k = omega arith in rw zero_k (stand k below))
+    ∙ ap (counters_at order (packed order counters) 0) (sym count)
+    ∙ counters_by_index order (packed order counters) counters (λ i below. counter_at-packed order counters i orders small)
+
+-- a block that is written where it stands already changes no byte
+pub stand-same : (order n len : ℕ) (counters : List ℕ) (old new : Image) (offset : ℕ) → order ≤ 6 → IsBytes old → width order * n ≡ 8 * len → Stand (packed order counters) len new offset → SameOutside offset len old new → counters_at order old offset n ≡ counters → new ≡ old
+stand-same order n len counters old new offset orders small whole stand outside same =
+    fun_ext (λ o. elim (cases_lt o offset) [
+      | inl before ↦ outside.before o before
+      | inr from ↦ elim (cases_lt o (offset + len)) [
+        | inl inside ↦
+            let at : offset + (o - offset) ≡ o = omega arith in
+            let below : o - offset < len = omega arith in
+            rw at at (stand (o - offset) below ∙ ap (λ (xs : List ℕ). packed order xs (o - offset)) (sym same)
+            ∙ packed-counters_at order n len old offset (o - offset) orders small whole below)
+        | inr after ↦ outside.after o after
+      ]
+    ])
+
+-- a lawful block whose bytes stand at its cluster is written
+pub block-written : (cb order : ℕ) (cluster : HostCluster) (counters : Counters) (place : Option HostCluster) (modified : Bool) (old new : Image) → IsLawfulBlock cb order place counters → place ≡ Some cluster → IsBytes old → Stand (packed order (numbers_of counters)) (2 ^ cb) new (block_offset cb cluster) → SameOutside (block_offset cb cluster) (2 ^ cb) old new → IsWrittenBlock (record { counters = numbers_of counters; cluster = place; modified = modified; cluster_bits = cb; refcount_order = order }) old new
+block-written cb order cluster counters place modified old new lawful is small stand outside =
+    let n = block_entries cb order in
+    let offset = block_offset cb cluster in
+    let whole = block_bytes cb order lawful.bits lawful.orders in
+    rw is (record {
+      decoded = stand-decoded order n (2 ^ cb) (numbers_of counters) new offset lawful.orders lawful.small lawful.count whole stand;
+      same = stand-same order n (2 ^ cb) (numbers_of counters) old new offset lawful.orders small whole stand outside;
+    })
+
+-- whole numbers of eight bytes are whole numbers of counters
+pub whole_counters : (order len : ℕ) → order ≤ 6 → len % 8 ≡ 0 → width order * (8 * len / width order) ≡ 8 * len
+whole_counters order len orders eights =
+    let six : order + (6 - order) ≡ 6 = omega (arith, orders) in
+    let power : width order * 2 ^ (6 - order) ≡ 64 = sym (pow-add 2 order (6 - order)) ∙ ap (λ n. 2 ^ n) six in
+    let split : 8 * len ≡ width order * 2 ^ (6 - order) * (len / 8) = rw power (omega (arith, eights)) in
+    let times : 8 * len ≡ width order * (2 ^ (6 - order) * (len / 8)) = split ∙ mul_assoc (width order) (2 ^ (6 - order)) (len / 8) in
+    ap (λ n. width order * (n / width order)) times ∙ ap (λ n. width order * n) (mul-div_cancel_left (2 ^ (6 - order) * (len / 8)) (pow_pos order)) ∙ sym times
+
+-- the counters of a block's first bytes, and then those of the bytes after them
+pub counters-more : (order done : ℕ) (image : Image) (offset : ℕ) (list buffer : List ℕ) → order ≤ 6 → length buffer % 8 ≡ 0 → HoldsBytes image (offset + done) buffer → width order * length list ≡ 8 * done → list ≡ counters_at order image offset (length list) → list ++ counters_at order (image_of buffer) 0 (8 * length buffer / width order) ≡ counters_at order image offset (length list + 8 * length buffer / width order)
+counters-more order done image offset list buffer orders eights held whole counters =
+    let m = 8 * length buffer / width order in
+    let same = counters_at-same order m (length buffer) image (image_of buffer) (offset + done) 0 orders (whole_counters order (length buffer) orders eights)
+    (λ k below. let zero_k : 0 + k ≡ k = omega arith in rw zero_k (sym (held.each k below))) in
+    ap (λ (xs : List ℕ). xs ++ counters_at order (image_of buffer) 0 m) counters
+    ∙ ap (λ (xs : List ℕ). counters_at order image offset (length list) ++ xs) (sym same)
+    ∙ sym (counters_at-append order (length list) m done image offset orders whole)
+
+-- as many bits are as many counters
+pub same_count : (order a b len : ℕ) → width order * a ≡ 8 * len → width order * b ≡ 8 * len → a ≡ b
+same_count order a b len left right =
+    sym (mul-div_cancel_left a (pow_pos order)) ∙ ap (λ n. n / width order) (left ∙ sym right) ∙ mul-div_cancel_left b (pow_pos order)
+
+-- and so many bytes more are so many counters more
+pub count-more : (order done len count : ℕ) → order ≤ 6 → len % 8 ≡ 0 → width order * count ≡ 8 * done → width order * (count + 8 * len / width order) ≡ 8 * (done + len)
+count-more order done len count orders eights whole =
+    mul-add (width order) count (8 * len / width order) ∙ omega (arith, whole, whole_counters order len orders eights)
+
+-- a piece of a cluster is whole numbers of eight bytes
+pub piece_in_eights : (cb piece len : ℕ) → IsClusterBits cb → len ≡ min (2 ^ cb - 4096 * piece) 4096 → len % 8 ≡ 0
+piece_in_eights cb piece len bits is =
+    let three : 3 + (cb - 3) ≡ cb = omega (arith, bits.0) in
+    let whole : 2 ^ cb ≡ 8 * 2 ^ (cb - 3) = ap (λ n. 2 ^ n) (sym three) ∙ pow-add 2 3 (cb - 3) in
+    omega (arith, is, whole)
+
+-- the counters of so many bytes, by their width
+pub narrow_length : (order len : ℕ) → order ≤ 3 → per_byte order * len ≡ 8 * len / width order
+narrow_length order len low =
+    let eight = width-per_byte order low in
+    let split : 8 * len ≡ width order * (per_byte order * len) = ap (λ n. n * len) (sym eight) ∙ mul_assoc (width order) (per_byte order) len in
+    sym (ap (λ n. n / width order) split ∙ mul-div_cancel_left (per_byte order * len) (pow_pos order))
+
+-- bytes that lie within counters have so many of them
+pub narrow_within : (order bytes count : ℕ) → order ≤ 3 → 8 * bytes ≤ width order * count → per_byte order * bytes ≤ count
+narrow_within order bytes count low within =
+    let eight = width-per_byte order low in
+    let split : 8 * bytes ≡ per_byte order * bytes * width order = ap (λ n. n * bytes) (sym eight) ∙ mul_assoc (width order) (per_byte order) bytes ∙ mul_comm (width order) (per_byte order * bytes) in
+    let below : per_byte order * bytes * width order ≤ width order * count = omega (arith, split, within) in
+    let least = (le-div_iff_mul-le {k = width order} {x = per_byte order * bytes} {y = width order * count} (pow_pos order)).1 below in
+    rw (mul-div_cancel_left count (pow_pos order)) at least
+
+-- a piece of a block lies within it
+pub piece-within : (cb order : ℕ) (place : Option HostCluster) (counters : Counters) (piece len : ℕ) → IsLawfulBlock cb order place counters → 4096 * piece < 2 ^ cb → len ≡ min (2 ^ cb - 4096 * piece) 4096 → 8 * (4096 * piece + len) ≤ width order * length (numbers_of counters)
+piece-within cb order place counters piece len lawful some is =
+    let whole : width order * length (numbers_of counters) ≡ 8 * 2 ^ cb = rw lawful.count (block_bytes cb order lawful.bits lawful.orders) in
+    omega (arith, whole, some, is)
+
+-- a piece of a block lies in the largest cluster
+pub piece-fits : (cb piece : ℕ) → IsClusterBits cb → 4096 * piece < 2 ^ cb → 4096 * piece < 2 ^ 21
+piece-fits cb piece bits some =
+    let grows : 2 ^ cb ≤ 2 ^ 21 = pow-le-pow_right {n = 2} (lit≤ tt) bits.1 in
+    omega (arith, some, grows)

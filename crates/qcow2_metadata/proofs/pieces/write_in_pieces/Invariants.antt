@@ -1,0 +1,16 @@
+use Rattle.std.proofs.Common.{◌≡◌, IsTrue}
+use Rattle.qcow2_base.specs.Storage.{SameDevice}
+use Rattle.qcow2_metadata.proofs.PackedLemmas.{IsWrittenUpTo}
+use Rattle.qcow2_metadata.proofs.pieces.write_in_pieces.Given as goal
+
+-- the pieces before this one are written, and no call has failed
+abbrev pub invariant-loop-piece : goal.invariant-loop-piece
+invariant-loop-piece g l =
+    let old = g.S.Storage.state l.initial.image in
+    let new = g.S.Storage.state l.image in
+    record {
+      told : IsTrue old.tells → IsWrittenUpTo l.piece (g.P.Packed.bytes l.packed) (g.P.Packed.byte_count l.packed)
+          l.offset.0 old.byte_at new.byte_at;
+      failures : new.failures ≡ old.failures;
+      device : SameDevice old new;
+    }

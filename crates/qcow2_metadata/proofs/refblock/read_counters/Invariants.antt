@@ -1,0 +1,20 @@
+use Rattle.std.proofs.Common.{◌≡◌, ◌*◌, IsTrue, length, min}
+use Rattle.qcow2_base.specs.Storage.{SameDevice}
+use Rattle.qcow2_metadata.specs.Refblock.{AreCounters, IsOfOrder, counters_at, numbers_of, width}
+use Rattle.qcow2_metadata.proofs.refblock.read_counters.Given as goal
+
+-- the counters of the pieces before this one are there, and no call has failed
+abbrev pub invariant-loop-piece : goal.invariant-loop-piece
+invariant-loop-piece g l =
+    let counters = numbers_of l.counters in
+    let old = g.S.Storage.state l.initial.image in
+    let new = g.S.Storage.state l.image in
+    record {
+      kind : IsOfOrder l.order l.counters;
+      whole : width l.order * length counters ≡ 8 * min (4096 * l.piece) l.size;
+      told : IsTrue old.tells → counters ≡ counters_at l.order old.byte_at l.offset.0 (length counters);
+      small : AreCounters l.order counters;
+      bytes : new.byte_at ≡ old.byte_at;
+      failures : new.failures ≡ old.failures;
+      device : SameDevice old new;
+    }

@@ -1,0 +1,322 @@
+//! Refcount blocks: how many references each cluster of a part of the image has.
+
+ghost use Rattle.std.specs.Prelude.{◌≡◌, ℕ, ◌+◌, ◌-◌, ◌*◌, ◌^◌, ◌<◌, ◌≤◌, ◌⊎◌, ◌==◌, IfErr, IfOk, IsOk, IsOkUnless, IsTrue, None, Some, false, length, option_map, replicate, slice_index, true};
+ghost use Rattle.qcow2_base.specs.Storage.{OnlyReads};
+ghost use Rattle.qcow2_base.specs.Types.{IsClusterBits};
+ghost use Rattle.qcow2_base.specs.declared.fault.Fault.TheVariants.{NoMemory, Storage as StorageFailed};
+ghost use Rattle.qcow2_base.specs.declared.types.HostOffset.{HostOffset as Offset};
+ghost use Rattle.qcow2_metadata.specs.Answers.{Answers};
+ghost use Rattle.qcow2_metadata.specs.RefblockGuard.{IsGuardOf};
+ghost use Rattle.qcow2_metadata.specs.Refblock.{AreCounters, IsLoadedBlock, IsOfOrder, RefusesBlock, WritesBlock, block_entries, block_fault, block_of, block_offset, counters_at, flagged_block, greatest_counter, loaded_block, numbers_of, on_storage, stepped_block};
+
+mod counters;
+mod guard;
+mod packing;
+
+use crate::Header;
+use crate::pieces::{PIECE_BYTES, Packed, write_in_pieces};
+use crate::range::{range_offset, read_range};
+use counters::Counters;
+pub use guard::RefBlockWriteGuard;
+use qcow2_base::{Fault, HostCluster, HostOffset, Storage};
+use std::alloc::Global;
+use std::marker::Model;
+
+/// By the refcount order: the greatest number that a counter holds.
+const GREATEST_COUNTERS: [u64; 7] = [1, 3, 15, 255, 65535, 4294967295, 18446744073709551615];
+
+/// The reference counters of the host clusters of one part of an image: it fills one cluster.
+///
+/// A counter has `2^refcount_order` bits. It may have a cluster in the image, where it begins, and it knows
+/// whether it was changed since it was last read or written.
+#[derive(Debug, Drop)]
+pub struct RefBlock {
+    counters: Counters,
+    cluster: Option<HostCluster>,
+    modified: bool,
+    cluster_bits: u32,
+    refcount_order: u32,
+}
+
+impl Model for RefBlock {
+    ghost use Rattle.qcow2_metadata.specs.Refblock.{BlockState, IsLawfulBlock, numbers_of};
+
+    ghost Value = { BlockState };
+
+    ghost view = { λ b. record {
+      counters = numbers_of b.counters;
+      cluster = b.cluster;
+      modified = b.modified;
+      cluster_bits = b.cluster_bits;
+      refcount_order = b.refcount_order;
+    } };
+
+    ghost invariant = { λ b. IsLawfulBlock b.cluster_bits b.refcount_order b.cluster b.counters };
+}
+
+// The counters of the block that stands in the image from an offset on, which are so many. Reads in pieces of
+// 4096 bytes.
+fn read_counters<S: Storage>(
+    alloc: Global,
+    image: &mut S,
+    header: &Header,
+    offset: HostOffset,
+) -> Result<Counters, Fault>
+    requires bits { IsClusterBits header.now.v2.cluster_bits }
+    requires fits { offset.0 + 2 ^ header.now.v2.cluster_bits ≤ 2 ^ 56 }
+    ensures kind { IfOk result (IsOfOrder header.now.base.refcount_order) }
+    ensures counters { IfOk result (λ counters. IsTrue (S.state image.old).tells → numbers_of counters
+        ≡ counters_at header.now.base.refcount_order (S.state image.old).byte_at offset.0
+        (block_entries header.now.v2.cluster_bits header.now.base.refcount_order)) }
+    ensures lawful { IfOk result (λ counters.
+        (length (numbers_of counters) ≡ block_entries header.now.v2.cluster_bits header.now.base.refcount_order)
+        × AreCounters header.now.base.refcount_order (numbers_of counters)) }
+    ensures faults { IfErr result (λ fault. (fault ≡ NoMemory) ⊎ (fault ≡ StorageFailed)) }
+    ensures storage { OnlyReads result (S.state image.old) (S.state image.new) }
+{
+    let (order, size) = (header.refcount_order(), header.cluster_size());
+    let mut counters = Counters::with_capacity(alloc, order, header.rb_entries())?;
+    let mut array = [0u8; PIECE_BYTES];
+    for piece in 0..size.div_ceil(PIECE_BYTES) {
+        let first = PIECE_BYTES * piece;
+        let buffer = &mut array[..(size - first).min(PIECE_BYTES)];
+        read_range(image, HostOffset(offset.0 + first as u64), buffer)?;
+        counters.unpack(order, buffer)?;
+    }
+    Ok(counters)
+}
+
+impl RefBlock {
+    /// A block of an image with this header in which no cluster has a reference. It has no cluster, and counts
+    /// as modified. Fails only for want of memory.
+    pub fn new_cleared<S: Storage>(
+        alloc: Global,
+        image: &S,
+        header: &Header,
+    ) -> Result<RefBlock, Fault>
+        ensures fault { IsOkUnless result Fault.NoMemory }
+        ensures block { IfOk result (λ block. block ≡ block_of header.now
+            (replicate (block_entries header.now.v2.cluster_bits header.now.base.refcount_order) 0) None true) }
+    {
+        // Counters in memory have no alignment that the image asks for.
+        let _ = image;
+        let refcount_order = header.refcount_order();
+        let counters = Counters::zeros(alloc, refcount_order, header.rb_entries())?;
+        Ok(RefBlock {
+            counters,
+            cluster: None,
+            modified: true,
+            cluster_bits: header.cluster_bits(),
+            refcount_order,
+        })
+    }
+
+    /// Reads the block that begins with a cluster of the image, in pieces of 4096 bytes. It has that cluster and
+    /// doesn't count as modified. Refuses an end past 2^56. Changes no byte, whatever it answers.
+    pub fn load<S: Storage>(
+        alloc: Global,
+        image: &mut S,
+        header: &Header,
+        cluster: HostCluster,
+    ) -> Result<RefBlock, Fault>
+        ensures refused { RefusesBlock (block_fault header.now.v2.cluster_bits cluster) result }
+        ensures exact { IsTrue (S.state image.old).tells → Answers (λ block. block.counters) result
+            (loaded_block header.now cluster (S.state image.old).byte_at) }
+        ensures loaded { IfOk result (IsLoadedBlock header.now cluster (S.state image.old)) }
+        ensures storage { OnlyReads result (S.state image.old) (S.state image.new) }
+    {
+        let size = header.cluster_size() as u64;
+        let offset = range_offset(cluster, header.cluster_bits(), size)?;
+        let counters = read_counters(alloc, image, header, offset)?;
+        Ok(RefBlock {
+            counters,
+            cluster: Some(cluster),
+            modified: false,
+            cluster_bits: header.cluster_bits(),
+            refcount_order: header.refcount_order(),
+        })
+    }
+
+    /// Writes the block to the image, from its cluster on, in pieces of 4096 bytes.
+    ///
+    /// Refuses a block with no cluster, then an end past 2^56. After `Ok` the block doesn't count as modified;
+    /// after a storage fault it does, and some pieces are written, then any bytes may stand in one, and those
+    /// after it are as before; after any other refusal nothing has changed. Counters and cluster stay whatever
+    /// it answers, and no byte outside the block's cluster changes.
+    pub fn write<S: Storage>(&mut self, image: &mut S) -> Result<(), Fault>
+        ensures { WritesBlock result (on_storage self.old (S.state image.old))
+            (on_storage self.new (S.state image.new)) }
+    {
+        let Some(cluster) = self.cluster else {
+            return Err(Fault::NoOffset);
+        };
+        let offset = range_offset(cluster, self.cluster_bits, 1 << self.cluster_bits)?;
+        match write_in_pieces(self, image, offset) {
+            Ok(()) => {
+                self.clear_modified();
+                Ok(())
+            }
+            Err(fault) => {
+                self.set_modified();
+                Err(fault.into())
+            }
+        }
+    }
+
+    /// Writes the block to the image, as `write` does, if it counts as modified. The block must then begin with
+    /// the given cluster. A block that doesn't is left alone, and so is the image.
+    pub fn write_if_modified<S: Storage>(
+        &mut self,
+        image: &mut S,
+        cluster: HostCluster,
+    ) -> Result<(), Fault>
+        requires { self.old.modified ≡ true → self.old.cluster ≡ Some cluster }
+        ensures idle { self.old.modified ≡ false →
+            IsOk result × (self.new ≡ self.old) × (image.new ≡ image.old) }
+        ensures modified { self.old.modified ≡ true → WritesBlock result
+            (on_storage self.old (S.state image.old)) (on_storage self.new (S.state image.new)) }
+    {
+        // The caller's word for the cluster is in the contract alone.
+        let _ = cluster;
+        if !self.modified {
+            return Ok(());
+        }
+        self.write(image)
+    }
+
+    /// How many counters the block has.
+    #[inline]
+    pub fn entries(&self) -> usize
+        ensures count { result ≡ length self.now.counters }
+        ensures value { result ≡ block_entries self.now.cluster_bits self.now.refcount_order }
+    {
+        1 << (self.cluster_bits + 3 - self.refcount_order)
+    }
+
+    /// How many references the cluster has that the counter at an index is for.
+    #[inline]
+    pub fn get(&self, index: usize) -> u64
+        requires { index < length self.now.counters }
+        ensures counter { result ≡ slice_index self.now.counters index }
+        ensures fits { result ≤ greatest_counter self.now.refcount_order }
+    {
+        self.counters.get(index)
+    }
+
+    /// Whether the cluster has no reference that the counter at an index is for.
+    #[inline]
+    pub fn is_zero(&self, index: usize) -> bool
+        requires { index < length self.now.counters }
+        ensures { result ≡ (slice_index self.now.counters index == 0) }
+    {
+        self.get(index) == 0
+    }
+
+    /// The cluster in the image that the block begins with.
+    #[inline]
+    pub fn get_cluster(&self) -> Option<HostCluster>
+        ensures { result ≡ self.now.cluster }
+    {
+        self.cluster
+    }
+
+    /// The offset in the image that the block begins at.
+    #[inline]
+    pub fn get_offset(&self) -> Option<HostOffset>
+        ensures { option_map (λ (offset : Offset). offset.0) result
+            ≡ option_map (block_offset self.now.cluster_bits) self.now.cluster }
+    {
+        match self.cluster {
+            Some(cluster) => Some(cluster.offset(self.cluster_bits)),
+            None => None,
+        }
+    }
+
+    /// Says where in the image the block begins: at a cluster whose offset fits 64 bits. The block then counts
+    /// as modified.
+    pub fn set_cluster(&mut self, cluster: HostCluster)
+        requires { cluster.0 * 2 ^ self.old.cluster_bits < 2 ^ 64 }
+        ensures { self.new ≡ record self.old { cluster = Some cluster; modified = true } }
+    {
+        self.cluster = Some(cluster);
+        self.modified = true;
+    }
+
+    /// The logarithm of the cluster size in bytes, from 9 to 21.
+    #[inline]
+    pub fn cluster_bits(&self) -> u32
+        ensures value { result ≡ self.now.cluster_bits }
+        ensures range { IsClusterBits result }
+    {
+        self.cluster_bits
+    }
+
+    /// Whether the block was changed since it was last read or written.
+    #[inline]
+    pub fn is_modified(&self) -> bool
+        ensures { result ≡ self.now.modified }
+    {
+        self.modified
+    }
+
+    /// Says that the block is as it stands in the image.
+    pub fn clear_modified(&mut self)
+        ensures { self.new ≡ flagged_block false self.old }
+    {
+        self.modified = false;
+    }
+
+    /// Says that the block is not as it stands in the image.
+    pub fn set_modified(&mut self)
+        ensures { self.new ≡ flagged_block true self.old }
+    {
+        self.modified = true;
+    }
+
+    /// The allocator that the block keeps its counters with.
+    pub fn allocator(&self) -> Global {
+        self.counters.allocator()
+    }
+
+    // The greatest number that a counter holds.
+    #[inline]
+    fn greatest(&self) -> u64
+        ensures { result ≡ greatest_counter self.now.refcount_order }
+    {
+        GREATEST_COUNTERS[self.refcount_order as usize]
+    }
+
+    // Puts a number that a counter holds in the place of one. The block then counts as modified.
+    #[inline]
+    fn set(&mut self, index: usize, counter: u64)
+        requires index { index < length self.old.counters }
+        requires counter { counter ≤ greatest_counter self.old.refcount_order }
+        ensures { self.new ≡ stepped_block self.old index counter }
+    {
+        self.counters.set(index, counter);
+        self.modified = true;
+    }
+
+    /// Leave to change the block's counters.
+    pub fn lock_write(&mut self) -> RefBlockWriteGuard<'_>
+        ensures { IsGuardOf self.entry result }
+    {
+        RefBlockWriteGuard { block: self }
+    }
+}
+
+impl Packed for RefBlock {
+    ghost use Rattle.qcow2_metadata.specs.Refblock.{packed};
+
+    ghost bytes = { λ b. packed b.refcount_order b.counters };
+
+    ghost byte_count = { λ b. 2 ^ b.cluster_bits };
+
+    fn byte_count(&self) -> usize {
+        1 << self.cluster_bits
+    }
+
+    fn pack(&self, piece: usize, buffer: &mut [u8]) {
+        self.counters.pack(self.refcount_order, piece, buffer);
+    }
+}

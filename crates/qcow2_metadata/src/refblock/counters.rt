@@ -1,0 +1,128 @@
+//! The counters of a block in memory: one number each, in the smallest integers that hold them.
+
+ghost use Rattle.std.specs.Prelude.{◌≡◌, ℕ, ◌++◌, ◌*◌, ◌/◌, ◌%◌, ◌+◌, ◌-◌, ◌^◌, ◌<◌, ◌≤◌, IfOk, OnOk, [], length, replicate, slice_index, slice_set};
+ghost use Rattle.qcow2_base.specs.Storage.{image_of};
+ghost use Rattle.qcow2_metadata.specs.Refblock.{AreCounters, Holds, IsOfOrder, counters_at, numbers_of, packed, width};
+
+use super::packing::{pack_narrow, pack_wide, unpack_narrow, unpack_wide};
+use crate::pieces::PIECE_BYTES;
+use std::alloc::{AllocError, Global};
+
+/// A list of counters: in `U8` they have 1, 2, 4 or 8 bits, and in the others as many as the integers.
+#[derive(Debug, Drop)]
+pub(super) enum Counters {
+    U8(Vec<u8>),
+    U16(Vec<u16>),
+    U32(Vec<u32>),
+    U64(Vec<u64>),
+}
+
+impl Counters {
+    // So many counters that are 0.
+    pub(super) fn zeros(alloc: Global, order: u32, count: usize) -> Result<Counters, AllocError>
+        requires { order ≤ 6 }
+        ensures numbers { IfOk result (λ counters. numbers_of counters ≡ replicate count 0) }
+        ensures order { IfOk result (IsOfOrder order) }
+    {
+        match order {
+            4 => Ok(Counters::U16(vec![in alloc; 0; count]?)),
+            5 => Ok(Counters::U32(vec![in alloc; 0; count]?)),
+            6 => Ok(Counters::U64(vec![in alloc; 0; count]?)),
+            _ => Ok(Counters::U8(vec![in alloc; 0; count]?)),
+        }
+    }
+
+    // No counters, with room for so many.
+    pub(super) fn with_capacity(
+        alloc: Global,
+        order: u32,
+        count: usize,
+    ) -> Result<Counters, AllocError>
+        requires { order ≤ 6 }
+        ensures numbers { IfOk result (λ counters. numbers_of counters ≡ []) }
+        ensures order { IfOk result (IsOfOrder order) }
+    {
+        match order {
+            4 => Ok(Counters::U16(Vec::with_capacity(alloc, count)?)),
+            5 => Ok(Counters::U32(Vec::with_capacity(alloc, count)?)),
+            6 => Ok(Counters::U64(Vec::with_capacity(alloc, count)?)),
+            _ => Ok(Counters::U8(Vec::with_capacity(alloc, count)?)),
+        }
+    }
+
+    // What the list keeps its counters with.
+    pub(super) fn allocator(&self) -> Global {
+        match self {
+            Counters::U8(list) => *list.allocator(),
+            Counters::U16(list) => *list.allocator(),
+            Counters::U32(list) => *list.allocator(),
+            Counters::U64(list) => *list.allocator(),
+        }
+    }
+
+    // The counter at an index.
+    #[inline]
+    pub(super) fn get(&self, index: usize) -> u64
+        requires { index < length (numbers_of self.now) }
+        ensures { result ≡ slice_index (numbers_of self.now) index }
+    {
+        match self {
+            Counters::U8(list) => u64::from(list[index]),
+            Counters::U16(list) => u64::from(list[index]),
+            Counters::U32(list) => u64::from(list[index]),
+            Counters::U64(list) => list[index],
+        }
+    }
+
+    // Puts a number of the counters' width in the place of one.
+    #[inline]
+    pub(super) fn set(&mut self, index: usize, counter: u64)
+        requires index { index < length (numbers_of self.old) }
+        requires fits { Holds self.old counter }
+        ensures numbers { numbers_of self.new ≡ slice_set (numbers_of self.old) index counter }
+        ensures order { (order : ℕ) → IsOfOrder order self.old → IsOfOrder order self.new }
+    {
+        match self {
+            Counters::U8(list) => list[index] = counter as u8,
+            Counters::U16(list) => list[index] = counter as u16,
+            Counters::U32(list) => list[index] = counter as u32,
+            Counters::U64(list) => list[index] = counter,
+        }
+    }
+
+    // Puts the counters of some bytes of a block behind those before them.
+    pub(super) fn unpack(&mut self, order: u32, bytes: &[u8]) -> Result<(), AllocError>
+        requires order { order ≤ 6 }
+        requires kind { IsOfOrder order self.old }
+        ensures numbers { OnOk result (numbers_of self.new ≡ numbers_of self.old
+            ++ counters_at order (image_of bytes.now) 0 (8 * length bytes.now / width order)) }
+        ensures kind { IsOfOrder order self.new }
+    {
+        match self {
+            Counters::U8(list) => unpack_narrow(list, order, bytes),
+            Counters::U16(list) => unpack_wide(list, bytes),
+            Counters::U32(list) => unpack_wide(list, bytes),
+            Counters::U64(list) => unpack_wide(list, bytes),
+        }
+    }
+
+    // Puts the bytes of a piece of the block into the buffer, which is as long as that piece.
+    pub(super) fn pack(&self, order: u32, piece: usize, buffer: &mut [u8])
+        requires kind { IsOfOrder order self.now }
+        requires piece { 4096 * piece < 2 ^ 21 }
+        requires small { AreCounters order (numbers_of self.now) }
+        requires within { 8 * (4096 * piece + length buffer.old) ≤ width order * length (numbers_of self.now) }
+        requires whole { length buffer.old % 8 ≡ 0 }
+        ensures packed { (i : ℕ) → i < length buffer.new → slice_index buffer.new i
+            ≡ packed order (numbers_of self.now) (4096 * piece + i) }
+        ensures len { length buffer.new ≡ length buffer.old }
+    {
+        let first = PIECE_BYTES * piece;
+        match self {
+            Counters::U8(list) => pack_narrow(list, order, first, buffer),
+            Counters::U16(list) => pack_wide(list, first / 2, buffer),
+            Counters::U32(list) => pack_wide(list, first / 4, buffer),
+            Counters::U64(list) => pack_wide(list, first / 8, buffer),
+        }
+    }
+}

@@ -1,0 +1,55 @@
+//! The guard of refcount blocks: leave to change counters.
+
+ghost use Rattle.std.specs.Prelude.{◌≡◌, ◌<◌, ◌==◌, length, slice_index};
+ghost use Rattle.qcow2_metadata.specs.RefblockGuard.{IsSameBlock, guarded};
+ghost use Rattle.qcow2_metadata.specs.Refblock.{Steps, Increment, Decrement};
+
+use super::RefBlock;
+use qcow2_base::Fault;
+
+/// Leave to change a block's counters. While it is held nobody else sees the block.
+#[derive(Debug, Drop)]
+pub struct RefBlockWriteGuard<'a> {
+    pub(super) block: &'a mut RefBlock,
+}
+
+impl RefBlockWriteGuard<'_> {
+    /// Whether the cluster has no reference that the counter at an index is for.
+    #[inline]
+    pub fn is_zero(&self, index: usize) -> bool
+        requires { index < length (guarded self.now).counters }
+        ensures { result ≡ (slice_index (guarded self.now).counters index == 0) }
+    {
+        self.block.is_zero(index)
+    }
+
+    /// Counts one reference more, and answers how many there were. The block then counts as modified. A counter
+    /// at the greatest number that it holds is refused, and nothing has changed.
+    pub fn increment(&mut self, index: usize) -> Result<u64, Fault>
+        requires { index < length (guarded self.old).counters }
+        ensures same_block { IsSameBlock self.old self.new }
+        ensures step { Steps Increment index result (guarded self.old) (guarded self.new) }
+    {
+        let before = self.block.get(index);
+        if before == self.block.greatest() {
+            return Err(Fault::CounterRange);
+        }
+        self.block.set(index, before + 1);
+        Ok(before)
+    }
+
+    /// Counts one reference less, and answers how many there were. The block then counts as modified. A counter
+    /// at 0 is refused, and nothing has changed.
+    pub fn decrement(&mut self, index: usize) -> Result<u64, Fault>
+        requires { index < length (guarded self.old).counters }
+        ensures same_block { IsSameBlock self.old self.new }
+        ensures step { Steps Decrement index result (guarded self.old) (guarded self.new) }
+    {
+        let before = self.block.get(index);
+        if before == 0 {
+            return Err(Fault::CounterRange);
+        }
+        self.block.set(index, before - 1);
+        Ok(before)
+    }
+}

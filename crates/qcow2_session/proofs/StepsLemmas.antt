@@ -1,0 +1,169 @@
+use Rattle.std.proofs.Common.{◌≡◌, ℕ, zero, suc, Bool, true, false, not, ◌&&◌, ◌||◌, ◌==◌, nat_lt, ◌+◌, ◌-◌, ◌<◌, ◌≤◌, if◌then◌else◌, Option, Some, None, List, [], ◌∷◌, ◌++◌, length, drop, get_or, get_or-set_same, get_or-set_other, slice_index, slice_set, append_assoc, append-nil, ap, subst, sym, refl, ◌∙◌, inl, inr, arith}
+use Rattle.std.proofs.Math.Bool.{or_assoc}
+use Rattle.std.proofs.Math.Seq.{drop-cons}
+use Rattle.std.proofs.lemmas.Bool.{cases_eq}
+use Rattle.std.proofs.lemmas.Bool.Decides.{nat_tests}
+use Rattle.std.proofs.lemmas.Iterator.Adapters.{position_from-zero}
+use Rattle.std.proofs.lemmas.List.{drop_all, length-set, set-get_or, set-set}
+use Rattle.std.proofs.lemmas.Option.{none-some}
+use Rattle.std.specs.List.{list_all, position_from}
+use Rattle.qcow2_metadata.specs.Refblock.{BlockState, Increment, after_change, greatest_counter, stepped}
+use Rattle.qcow2_session.specs.Steps.{Counts, MakesStep, StepsEnd, are_some_done, change_of, decrements, end_of, first_unfit, increments, index_of, is_done, left_by, reply_of, run_of_steps, times_made}
+use Rattle.qcow2_session.specs.declared.session.steps.Step.{Step}
+use Rattle.qcow2_session.specs.declared.session.steps.Step.TheVariants.{Dec, Inc}
+use Rattle.qcow2_session.specs.declared.session.steps.StepReply.{StepReply}
+use Rattle.qcow2_session.specs.declared.session.steps.StepReply.TheVariants.{Done}
+
+-- what came of steps before, and then what a run left
+abbrev pub joined : List StepReply → StepsEnd → StepsEnd
+joined replies rest = record { counters = rest.counters; replies = replies ++ rest.replies }
+
+-- so many of the steps are made, and those that are left lead from the block as it is to the end of all
+pub record IsPartWay (steps : List Step) (made : ℕ) (before now : BlockState) (replies : List StepReply) : Type 0 where
+  pub run : joined replies (run_of_steps before.refcount_order (drop made steps) now.counters)
+      ≡ run_of_steps before.refcount_order steps before.counters
+  pub block : now ≡ left_by replies before now.counters
+  pub entries : length now.counters ≡ length before.counters
+
+length-after_change : (counters : List ℕ) (index : ℕ) (after : Option ℕ) → length (after_change counters index after) ≡ length counters
+length-after_change counters index None = refl
+length-after_change counters index (Some counter) = length-set counters index counter
+
+or_false : (a : Bool) → (a || false) ≡ (a || false || false)
+or_false true = refl
+or_false false = refl
+
+swapped : (a b c : Bool) → (a || (b || c)) ≡ (b || (a || c))
+swapped true true c = refl
+swapped true false c = refl
+swapped false b c = refl
+
+done-more : (replies : List StepReply) (reply : StepReply) → are_some_done (replies ++ reply ∷ []) ≡ (are_some_done (reply ∷ []) || are_some_done replies)
+done-more [] reply = or_false (is_done reply)
+done-more (first ∷ replies) reply = ap (λ some. is_done first || some) (done-more replies reply) ∙ swapped (is_done first) (is_done reply || false) (are_some_done replies)
+
+-- one more step is made
+pub part_way-next : (steps : List Step) (made : ℕ) (default : Step) (before now next : BlockState) (reply : StepReply) (replies : List StepReply) → made < length steps → IsPartWay steps made before now replies → MakesStep (get_or steps made default) reply now next → IsPartWay steps (made + 1) before next (replies ++ reply ∷ [])
+part_way-next steps made default before now next reply replies below way makes =
+    let step : Step = get_or steps made default in
+    let one_more : made + 1 ≡ suc made = omega arith in
+    let order : now.refcount_order ≡ before.refcount_order = ap (λ (block : BlockState). block.refcount_order) way.block in
+    let left : drop made steps ≡ get_or steps made default ∷ drop (suc made) steps = drop-cons steps made default below in
+    let modified : now.modified ≡ (are_some_done replies || before.modified) = ap (λ (block : BlockState). block.modified) way.block in
+    let cluster : now.cluster ≡ before.cluster = ap (λ (block : BlockState). block.cluster) way.block in
+    let bits : now.cluster_bits ≡ before.cluster_bits = ap (λ (block : BlockState). block.cluster_bits) way.block in
+    let after = stepped now.refcount_order (change_of step) (slice_index now.counters (index_of step)) in
+    let changed : next.counters ≡ after_change now.counters (index_of step) after = ap (λ (block : BlockState). block.counters) makes.block in
+    let run : joined replies (run_of_steps before.refcount_order (step ∷ drop (suc made) steps) now.counters) ≡ run_of_steps before.refcount_order steps before.counters = rw left at way.run in
+    let left_is : (counters : List ℕ) → left_by (reply ∷ []) now counters ≡ left_by (replies ++ reply ∷ []) before counters =
+    λ counters. rw (modified, cluster, bits, order, done-more replies reply, or_assoc (is_done reply || false) (are_some_done replies) before.modified) refl in
+    record {
+      run = rw (append_assoc replies (reply ∷ []), changed, makes.replies, order, one_more) run;
+      block = subst (λ (block : BlockState). block ≡ left_by (replies ++ reply ∷ []) before block.counters) (sym makes.block) (left_is (after_change now.counters (index_of step) after));
+      entries = ap length changed ∙ length-after_change now.counters (index_of step) _ ∙ way.entries;
+    }
+
+-- all steps are made
+pub part_way-end : (steps : List Step) (made : ℕ) (before now : BlockState) (replies : List StepReply) → length steps ≤ made → IsPartWay steps made before now replies → end_of now replies ≡ run_of_steps before.refcount_order steps before.counters
+part_way-end steps made before now replies all way =
+    let none_left : drop made steps ≡ [] = drop_all made steps all in
+    let run = rw none_left at way.run in
+    ap (λ (list : List StepReply). end_of now list) (sym (append-nil replies)) ∙ run
+
+first_holds : (a b : Bool) → (a && b) ≡ true → a ≡ true
+first_holds true b both = refl
+first_holds false b both = cc
+
+second_holds : (a b : Bool) → (a && b) ≡ true → b ≡ true
+second_holds true b both = both
+second_holds false b both = cc
+
+in_bounds-from : (entries start : ℕ) (steps : List Step) → position_from (λ step. not (nat_lt (index_of step) entries)) start steps ≡ None → list_all (λ step. nat_lt (index_of step) entries) steps ≡ true
+in_bounds-from entries start [] none = refl
+in_bounds-from entries start (step ∷ steps) none = by_first (nat_lt (index_of step) entries) (in_bounds-from entries (start + 1) steps) none
+  where
+    by_first : (first : Bool) → (position_from (λ step. not (nat_lt (index_of step) entries)) (start + 1) steps ≡ None → list_all (λ step. nat_lt (index_of step) entries) steps ≡ true) → (if not first then Some start else position_from (λ step. not (nat_lt (index_of step) entries)) (start + 1) steps) ≡ None → (first && list_all (λ step. nat_lt (index_of step) entries) steps) ≡ true
+    by_first true rest none = rest none
+    by_first false rest none = absurd (none-some start (sym none))
+
+-- where no index is the first out of bounds, all are in bounds
+pub all_in_bounds : (block : BlockState) (steps : List Step) → first_unfit block steps ≡ None → list_all (λ step. nat_lt (index_of step) (length block.counters)) steps ≡ true
+all_in_bounds block steps none =
+    in_bounds-from (length block.counters) 0 steps (sym (position_from-zero (λ step. not (nat_lt (index_of step) (length block.counters))) steps) ∙ none)
+
+-- and so is each of them
+pub each_in_bounds : (entries : ℕ) (steps : List Step) (i : ℕ) (default : Step) → list_all (λ step. nat_lt (index_of step) entries) steps ≡ true → i < length steps → index_of (get_or steps i default) < entries
+each_in_bounds entries [] i default all below = absurd (omega (arith, below))
+each_in_bounds entries (step ∷ steps) zero default all below = let first = first_holds (nat_lt (index_of step) entries) _ all in grind (arith, nat_tests, first)
+each_in_bounds entries (step ∷ steps) (suc i) default all below = each_in_bounds entries steps i default (second_holds (nat_lt (index_of step) entries) _ all) (omega (arith, below))
+
+and_false : (a : Bool) → (a && false) ≡ false
+and_false true = refl
+and_false false = refl
+
+zero_either : (a : Bool) → let nothing : ℕ = 0 in (if a then nothing else nothing) ≡ nothing
+zero_either true = refl
+zero_either false = refl
+
+-- a counter that is put in the place of one
+set_counts : (counters : List ℕ) (i v index more less : ℕ) → i < length counters → v + less ≡ slice_index counters i + more → slice_index (slice_set counters i v) index + (if (i == index) && true then less else 0) ≡ slice_index counters index + (if (i == index) && true then more else 0)
+set_counts counters i v index more less below change = elim (cases_eq index i) [
+  | inl same ↦
+      let set = get_or-set_same counters i v 0 below in
+      rw same (grind (arith, nat_tests, set, change))
+  | inr other ↦
+      let kept = get_or-set_other counters i index v 0 other in
+      grind (arith, nat_tests, kept, other)
+]
+
+counted-inc : (counters : List ℕ) (i index : ℕ) (full : Bool) → i < length counters → slice_index (after_change counters i (if full then None else Some (slice_index counters i + 1))) index + 0 ≡ slice_index counters index + (if (i == index) && is_done (reply_of (if full then None else Some (slice_index counters i + 1)) (slice_index counters i)) then 1 else 0)
+counted-inc counters i index true below = rw and_false refl
+counted-inc counters i index false below = rw zero_either at (set_counts counters i (slice_index counters i + 1) index 1 0 below (omega arith))
+
+counted-dec : (counters : List ℕ) (i index : ℕ) (none : Bool) → (slice_index counters i == 0) ≡ none → i < length counters → slice_index (after_change counters i (if none then None else Some (slice_index counters i - 1))) index + (if (i == index) && is_done (reply_of (if none then None else Some (slice_index counters i - 1)) (slice_index counters i)) then 1 else 0) ≡ slice_index counters index + 0
+counted-dec counters i index true is below = rw and_false refl
+counted-dec counters i index false is below =
+    let some : slice_index counters i - 1 + 1 ≡ slice_index counters i + 0 = grind (arith, nat_tests, is) in
+    rw zero_either at (set_counts counters i (slice_index counters i - 1) index 0 1 below some)
+
+-- what a step does to each counter
+counted : (order : ℕ) (step : Step) (counters : List ℕ) (index : ℕ) → index_of step < length counters → let before = slice_index counters (index_of step) in let after = stepped order (change_of step) before in slice_index (after_change counters (index_of step) after) index + (if decrements index step && is_done (reply_of after before) then 1 else 0) ≡ slice_index counters index + (if increments index step && is_done (reply_of after before) then 1 else 0)
+counted order (Inc i) counters index below = counted-inc counters i index (slice_index counters i == greatest_counter order) below
+counted order (Dec i) counters index below = counted-dec counters i index (slice_index counters i == 0) refl below
+
+-- each counter after a run is as before it, plus the increments that were made, minus the decrements
+pub run_counts : (order : ℕ) (steps : List Step) (counters : List ℕ) (index : ℕ) → list_all (λ step. nat_lt (index_of step) (length counters)) steps ≡ true → slice_index (run_of_steps order steps counters).counters index + times_made (decrements index) steps (run_of_steps order steps counters).replies ≡ slice_index counters index + times_made (increments index) steps (run_of_steps order steps counters).replies
+run_counts order [] counters index all = refl
+run_counts order (step ∷ steps) counters index all =
+    let before = slice_index counters (index_of step) in
+    let after = stepped order (change_of step) before in
+    let below : index_of step < length counters = each_in_bounds (length counters) (step ∷ steps) 0 step all (omega arith) in
+    let len = length-after_change counters (index_of step) after in
+    let rest = run_counts order steps (after_change counters (index_of step) after) index (rw len (second_holds (nat_lt (index_of step) (length counters)) _ all)) in
+    omega (arith, rest, counted order step counters index below)
+
+-- a block that a run led to
+pub run-counts : (steps : List Step) (replies : List StepReply) (old new : BlockState) → first_unfit old steps ≡ None → end_of new replies ≡ run_of_steps old.refcount_order steps old.counters → Counts steps replies old new
+run-counts steps replies old new none run = λ index.
+    subst (λ (end : StepsEnd). slice_index end.counters index + times_made (decrements index) steps end.replies ≡ slice_index old.counters index + times_made (increments index) steps end.replies)
+    (sym run) (run_counts old.refcount_order steps old.counters index (all_in_bounds old steps none))
+
+undone_at : (counters : List ℕ) (i after : ℕ) (full : Bool) → i < length counters → (if full then None else Some (slice_index counters i + 1)) ≡ Some after →
+    let before = slice_index counters i in
+    let first : Option ℕ = if full then None else Some (before + 1) in
+    let between = after_change counters i first in
+    let second : Option ℕ = if slice_index between i == 0 then None else Some (slice_index between i - 1) in
+    let end : StepsEnd = record { counters = after_change between i second; replies = reply_of first before ∷ reply_of second (slice_index between i) ∷ [] } in
+    end ≡ record { counters = counters; replies = Done before ∷ Done (before + 1) ∷ [] }
+undone_at counters i after true below made = absurd (none-some after made)
+undone_at counters i after false below made =
+    let before = slice_index counters i in
+    let at : slice_index (slice_set counters i (before + 1)) i ≡ before + 1 = get_or-set_same counters i (before + 1) 0 below in
+    let some : (before + 1 == 0) ≡ false = grind (arith, nat_tests) in
+    let back : before + 1 - 1 ≡ before = omega arith in
+    let same : slice_set (slice_set counters i (before + 1)) i before ≡ counters = set-set counters i (before + 1) before ∙ set-get_or counters i 0 in
+    rw (at, some, back, same) refl
+
+-- an increment that is made is undone by a decrement right after it
+pub undone : (order i after : ℕ) (counters : List ℕ) → i < length counters → stepped order Increment (slice_index counters i) ≡ Some after → run_of_steps order (Inc i ∷ Dec i ∷ []) counters ≡ record { counters = counters; replies = Done (slice_index counters i) ∷ Done (slice_index counters i + 1) ∷ [] }
+undone order i after counters below made = undone_at counters i after (slice_index counters i == greatest_counter order) below made

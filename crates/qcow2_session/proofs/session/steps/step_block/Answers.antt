@@ -1,0 +1,26 @@
+use Rattle.std.proofs.Common.{◌≡◌, ◌++◌, [], ◌∷◌, ◌∙◌, None, length, length-append, sym, arith, rules}
+use Rattle.qcow2_session.proofs.StepsLemmas.{all_in_bounds, each_in_bounds, part_way-end, part_way-next, run-counts}
+use Rattle.qcow2_session.specs.Steps.{first_unfit}
+use Rattle.qcow2_session.proofs.session.steps.step_block.Goals as goal
+
+pub make-requires : goal.make-requires
+make-requires c =
+    let steps = c.args.steps.now in
+    let before = c.args.block.now in
+    let none : first_unfit before steps ≡ None = sym c.first_unfit.ensures ∙ c.in_default.is in
+    rw c.loop-step.invariant.way.entries (each_in_bounds (length before.counters) steps c.loop-step.step-index _ (all_in_bounds before steps none) c.loop-step-test.true)
+
+pub loop-step-preserved : goal.loop-step-preserved
+loop-step-preserved c =
+    let items : c.push.new.self.items ≡ c.loop-step.replies.items ++ c.make.result ∷ [] = search rules in
+    record {
+      way = rw items (part_way-next c.args.steps.now c.loop-step.step-index _ c.args.block.now c.loop-step.block c.make.new.block
+          c.make.result c.loop-step.replies.items c.loop-step-test.true c.loop-step.invariant.way c.make.ensures);
+      room = rw items (omega (arith, length-append c.loop-step.replies.items (c.make.result ∷ []), c.push.ensures.capacity, c.loop-step.invariant.room, c.loop-step-test.true));
+    }
+
+pub returns-clause-counts : goal.returns-clause-counts
+returns-clause-counts c =
+    let none : first_unfit c.args.block.now c.args.steps.now ≡ None = sym c.first_unfit.ensures ∙ c.in_default.is in
+    run-counts c.args.steps.now c.loop-step.replies.items c.args.block.now c.loop-step.block none
+    (part_way-end c.args.steps.now c.loop-step.step-index c.args.block.now c.loop-step.block c.loop-step.replies.items (omega arith) c.loop-step.invariant.way)
