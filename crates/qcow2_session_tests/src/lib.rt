@@ -3,9 +3,15 @@
 
 #[cfg(test)]
 mod commands;
+#[cfg(test)]
+mod edits;
+#[cfg(test)]
+mod every_edit;
 mod failing_output;
 #[cfg(test)]
 mod refused_memory;
+#[cfg(test)]
+mod tables;
 #[cfg(test)]
 mod watched_files;
 

@@ -6,8 +6,11 @@
 
 use crate::commands::run::{Run, one_mapping};
 use crate::commands::{Listing, table_of};
+use crate::tables::{has, says, table_with};
 use qcow2_base::{Fault, HostCluster, MemStorage};
-use qcow2_testing::same_bytes;
+use qcow2_metadata::Table;
+use qcow2_session::{Edit, edit_table};
+use qcow2_testing::{same, same_bytes};
 use std::test::Fail;
 
 #[test]
@@ -40,4 +43,43 @@ fn a_command_that_memory_refused_reports_it(rt: HostRuntime) -> Result<(), Fail>
     }
     let run = Run::of(&rt, file.path.as_str(), &words)?;
     run.has((0, "3 data 0xa00 copied\n", ""), "with memory")
+}
+
+#[test]
+fn a_list_of_edits_that_memory_refused_leaves_the_table(rt: HostRuntime) -> Result<(), Fail> {
+    let before: &[u64] = &[0x8000_0000_0000_0a00, 0xa00, 0x8000_0000_0000_0c00];
+    let edits = [
+        Edit::Map {
+            index: 0,
+            host_cluster: HostCluster(8),
+        },
+        Edit::Zero {
+            index: 1,
+            keep_allocation: true,
+        },
+        Edit::Discard { index: 2 },
+    ];
+    for modified in [false, true] {
+        let mut table = match table_with(rt.alloc(), 9, false, (0, before)) {
+            Ok(table) => table,
+            Err(_) => table_with(rt.alloc(), 9, false, (0, before))?,
+        };
+        if modified {
+            table.set_modified();
+        }
+        let mut answer = edit_table(&mut table, &edits);
+        if let Err(fault) = &answer {
+            same(*fault, Fault::NoMemory, modified)?;
+            says(&table, (0, before), modified, "refused")?;
+            answer = edit_table(&mut table, &edits);
+        }
+        has(&answer?, &[8], &[(5, 1), (6, 1)], modified)?;
+        says(
+            &table,
+            (0, &[0x8000_0000_0000_1000, 0xa01]),
+            true,
+            "with memory",
+        )?;
+    }
+    Ok(())
 }

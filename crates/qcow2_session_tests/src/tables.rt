@@ -1,0 +1,151 @@
+//! L2 tables to edit, and comparisons of what edits of them leave.
+
+use qcow2_base::{Fault, HostCluster, MemStorage};
+use qcow2_metadata::{ClustersToFreeEntry, Header, L2Table, Table, TableEntry};
+use qcow2_session::{Edit, Outcome, edit_table, edits_fit};
+use qcow2_testing::{fits, is_cluster_bits, same};
+use std::alloc::Global;
+use std::fmt::Debug;
+use std::test::Fail;
+
+/// The index of the first of some entries of a table, and the entries. All others of the table are 0.
+pub(crate) type Entries<'a> = (usize, &'a [u64]);
+
+// The cluster of each table.
+const CLUSTER: HostCluster = HostCluster(7);
+
+// An image that begins with a table of these entries.
+fn image_with(alloc: Global, entries: Entries<'_>) -> Result<MemStorage, Fault> {
+    let (start, numbers) = entries;
+    let mut bytes = Vec::new(alloc);
+    for _ in 0..start {
+        bytes.extend_from_slice(&[0; 8])?;
+    }
+    for number in numbers {
+        bytes.extend_from_slice(&number.to_be_bytes())?;
+    }
+    Ok(MemStorage::new(bytes))
+}
+
+/// A table of an image with these cluster bits, whose guest data may lie in an external data file. It
+/// has a cluster, and isn't modified.
+pub(crate) fn table_with(
+    alloc: Global,
+    bits: u32,
+    external: bool,
+    entries: Entries<'_>,
+) -> Result<L2Table, Fault> {
+    if !is_cluster_bits(bits) || !fits(CLUSTER.0, 0, bits) {
+        return Err(Fault::ClusterSize);
+    }
+    let name = if external {
+        Some(String::from_str(alloc, "data.raw")?)
+    } else {
+        None
+    };
+    let header = Header::new(alloc, bits, 4, None, None, name)?;
+    let mut image = image_with(alloc, entries)?;
+    let count = header.l2_entries();
+    let mut table = L2Table::load(alloc, &mut image, &header, HostCluster(0), count)?;
+    table.set_cluster(CLUSTER);
+    table.clear_modified();
+    Ok(table)
+}
+
+/// Fails unless the table has these entries, its cluster and this flag.
+pub(crate) fn says<R: Debug + Drop>(
+    table: &L2Table,
+    entries: Entries<'_>,
+    modified: bool,
+    row: R,
+) -> Result<(), Fail> {
+    tells(table, table.entries(), entries, modified, row)
+}
+
+/// Fails unless the table begins with these entries, and has its cluster and this flag. Looks at 72 entries
+/// and at those given, and at none behind them, which is quicker where a table is large.
+pub(crate) fn begins<R: Debug + Drop>(
+    table: &L2Table,
+    entries: Entries<'_>,
+    modified: bool,
+    row: R,
+) -> Result<(), Fail> {
+    let end = entries.0.saturating_add(entries.1.len());
+    tells(table, end.max(72), entries, modified, row)
+}
+
+// Looks at so many entries of the table, at its cluster and at its flag.
+fn tells<R: Debug + Drop>(
+    table: &L2Table,
+    count: usize,
+    entries: Entries<'_>,
+    modified: bool,
+    row: R,
+) -> Result<(), Fail> {
+    let found = (
+        other_entry(table, count, entries),
+        table.get_cluster(),
+        table.is_modified(),
+    );
+    same(found, (None, Some(CLUSTER), modified), row)
+}
+
+// The first of so many entries that isn't one of these or else 0, with its index.
+fn other_entry(table: &L2Table, count: usize, entries: Entries<'_>) -> Option<(usize, u64)> {
+    for index in 0..count {
+        let found = table.get(index).to_plain();
+        if found != number_at(entries, index) {
+            return Some((index, found));
+        }
+    }
+    None
+}
+
+fn number_at(entries: Entries<'_>, index: usize) -> u64 {
+    let (start, numbers) = entries;
+    if index >= start
+        && let Some(number) = numbers.get(index - start)
+    {
+        return *number;
+    }
+    0
+}
+
+/// What edits are to leave: the clusters that gained a reference, those that lost one, as the first of those
+/// that one edit handed back and how many, and the table's entries.
+pub(crate) type Left<'a> = (&'a [u64], &'a [(u64, u64)], Entries<'a>);
+
+/// Fails unless the edits can all be made, and leave this and the table modified, if there is one.
+pub(crate) fn makes<R: Debug + Copy + Drop>(
+    table: &mut L2Table,
+    edits: &[Edit],
+    left: Left<'_>,
+    row: R,
+) -> Result<(), Fail> {
+    let (gained, freed, entries) = left;
+    let modified = table.is_modified() || !edits.is_empty();
+    let fit = edits_fit(table, edits);
+    let outcome = edit_table(table, edits)?;
+    same(fit, Ok(()), row)?;
+    has(&outcome, gained, freed, row)?;
+    begins(table, entries, modified, row)
+}
+
+/// Fails unless just these clusters gained a reference, and just these lost one: the first of those that one
+/// edit handed back, and how many.
+pub(crate) fn has<R: Debug + Drop>(
+    outcome: &Outcome,
+    gained: &[u64],
+    freed: &[(u64, u64)],
+    row: R,
+) -> Result<(), Fail> {
+    let found_gained = outcome.gained.iter().map(|cluster: &HostCluster| cluster.0);
+    let found_freed = outcome.freed.iter().map(|freed: &ClustersToFreeEntry| (
+        freed.first.0,
+        freed.count.0,
+    ));
+    if found_gained.eq(gained.iter().copied()) && found_freed.eq(freed.iter().copied()) {
+        return Ok(());
+    }
+    Err(Fail::new(format_args!("{row:?}: found {outcome:?}, expected {gained:?} and {freed:?}")))
+}
