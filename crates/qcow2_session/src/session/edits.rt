@@ -21,7 +21,8 @@ pub enum Edit {
         index: usize,
         host_cluster: HostCluster,
     },
-    /// Zeros, as `L2TableWriteGuard::zero_cluster` makes them.
+    /// Zeros, as `L2TableWriteGuard::zero_cluster` makes them: with `keep_allocation` an entry keeps its host
+    /// cluster, but compressed data is handed back all the same.
     Zero {
         index: usize,
         keep_allocation: bool,
@@ -32,7 +33,11 @@ pub enum Edit {
     },
 }
 
-/// What edits of a table did to references, in the order of the edits.
+/// What edits of a table did to references. Each list has the order of the edits, but a cluster may gain and lose
+/// references in turn, so what counts for its refcount is what it gained less what it lost.
+///
+/// Where guest data lies in an external data file, clusters of data are clusters of that file, which has no
+/// refcounts; those of compressed data are the image's.
 #[derive(Debug, Drop)]
 pub struct Outcome {
     /// The host clusters that gained a reference, each as often as it gained one.
@@ -74,7 +79,8 @@ impl Edit {
                 index,
                 host_cluster,
             } => {
-                // Taken away first, since mapping doesn't tell whether a cluster without a reference is kept.
+                // Taken away first: mapping answers nothing both where the entry had no cluster and where it
+                // keeps this one.
                 let before = guard.discard_cluster(index);
                 let _ = guard.map_cluster(index, host_cluster, None);
                 Change::of_mapping(host_cluster, before)
@@ -184,6 +190,7 @@ fn first_unfit(table: &L2Table, edits: &[Edit]) -> Option<usize>
 
 /// Whether all edits can be made of the table, and if not, the position of the first that can't: its index
 /// is past the table's end, or it maps to a host cluster that `L2TableWriteGuard::map_cluster` doesn't take.
+/// Whether another entry refers to that cluster, or the table itself lies there, is not looked at.
 pub fn edits_fit(table: &L2Table, edits: &[Edit]) -> Result<(), usize>
     ensures { MatchResult result
         (λ fit. first_unfit table.now edits.now ≡ None)
