@@ -54,8 +54,8 @@ impl Model for RefBlock {
     ghost invariant = { λ b. IsLawfulBlock b.cluster_bits b.refcount_order b.cluster b.counters };
 }
 
-// The counters of the block that stands in the image from an offset on, which are so many. Reads in pieces of
-// 4096 bytes.
+// The counters of the block that stands in the image from an offset on, which are so many. Reads in
+// pieces of 4096 bytes.
 fn read_counters<S: Storage>(
     alloc: Global,
     image: &mut S,
@@ -68,9 +68,9 @@ fn read_counters<S: Storage>(
     ensures counters { IfOk result (λ counters. IsTrue (S.state image.old).tells → numbers_of counters
         ≡ counters_at header.now.base.refcount_order (S.state image.old).byte_at offset.0
         (block_entries header.now.v2.cluster_bits header.now.base.refcount_order)) }
-    ensures lawful { IfOk result (λ counters.
-        (length (numbers_of counters) ≡ block_entries header.now.v2.cluster_bits header.now.base.refcount_order)
-        × AreCounters header.now.base.refcount_order (numbers_of counters)) }
+    ensures lawful { IfOk result (λ counters. let header = header.now in
+        (length (numbers_of counters) ≡ block_entries header.v2.cluster_bits header.base.refcount_order)
+        × AreCounters header.base.refcount_order (numbers_of counters)) }
     ensures faults { IfErr result (λ fault. (fault ≡ NoMemory) ⊎ (fault ≡ StorageFailed)) }
     ensures storage { OnlyReads result (S.state image.old) (S.state image.new) }
 {
@@ -87,16 +87,16 @@ fn read_counters<S: Storage>(
 }
 
 impl RefBlock {
-    /// A block of an image with this header in which no cluster has a reference. It has no cluster, and counts
-    /// as modified. Fails only for want of memory.
+    /// A block of an image with this header in which no cluster has a reference. It has no cluster, and
+    /// counts as modified. Fails only for want of memory.
     pub fn new_cleared<S: Storage>(
         alloc: Global,
         image: &S,
         header: &Header,
     ) -> Result<RefBlock, Fault>
         ensures fault { IsOkUnless result Fault.NoMemory }
-        ensures block { IfOk result (λ block. block ≡ block_of header.now
-            (replicate (block_entries header.now.v2.cluster_bits header.now.base.refcount_order) 0) None true) }
+        ensures block { let header = header.now in IfOk result (λ block. block ≡ block_of header
+            (replicate (block_entries header.v2.cluster_bits header.base.refcount_order) 0) None true) }
     {
         // Counters in memory have no alignment that the image asks for.
         let _ = image;
@@ -111,8 +111,9 @@ impl RefBlock {
         })
     }
 
-    /// Reads the block that begins with a cluster of the image, in pieces of 4096 bytes. It has that cluster and
-    /// doesn't count as modified. Refuses an end past 2^56. Changes no byte, whatever it answers.
+    /// Reads the block that begins with a cluster of the image, in pieces of 4096 bytes. It has that
+    /// cluster and doesn't count as modified. Refuses an end past 2^56. Changes no byte, whatever it
+    /// answers.
     pub fn load<S: Storage>(
         alloc: Global,
         image: &mut S,
@@ -139,10 +140,10 @@ impl RefBlock {
 
     /// Writes the block to the image, from its cluster on, in pieces of 4096 bytes.
     ///
-    /// Refuses a block with no cluster, then an end past 2^56. After `Ok` the block doesn't count as modified;
-    /// after a storage fault it does, and some pieces are written, then any bytes may stand in one, and those
-    /// after it are as before; after any other refusal nothing has changed. Counters and cluster stay whatever
-    /// it answers, and no byte outside the block's cluster changes.
+    /// Refuses a block with no cluster, then an end past 2^56. After `Ok` the block doesn't count as
+    /// modified; after a storage fault it does, and some pieces are written, then any bytes may stand in
+    /// one, and those after it are as before; after any other refusal nothing has changed. Counters and
+    /// cluster stay whatever it answers, and no byte outside the block's cluster changes.
     pub fn write<S: Storage>(&mut self, image: &mut S) -> Result<(), Fault>
         ensures { WritesBlock result (on_storage self.old (S.state image.old))
             (on_storage self.new (S.state image.new)) }
@@ -163,8 +164,8 @@ impl RefBlock {
         }
     }
 
-    /// Writes the block to the image, as `write` does, if it counts as modified. The block must then begin with
-    /// the given cluster. A block that doesn't is left alone, and so is the image.
+    /// Writes the block to the image, as `write` does, if it counts as modified. The block must then
+    /// begin with the given cluster. A block that doesn't is left alone, and so is the image.
     pub fn write_if_modified<S: Storage>(
         &mut self,
         image: &mut S,
@@ -232,8 +233,8 @@ impl RefBlock {
         }
     }
 
-    /// Says where in the image the block begins: at a cluster whose offset fits 64 bits. The block then counts
-    /// as modified.
+    /// Says where in the image the block begins: at a cluster whose offset fits 64 bits. The block then
+    /// counts as modified.
     pub fn set_cluster(&mut self, cluster: HostCluster)
         requires { cluster.0 * 2 ^ self.old.cluster_bits < 2 ^ 64 }
         ensures { self.new ≡ record self.old { cluster = Some cluster; modified = true } }

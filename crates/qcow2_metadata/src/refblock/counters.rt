@@ -111,7 +111,8 @@ impl Counters {
         requires kind { IsOfOrder order self.now }
         requires piece { 4096 * piece < 2 ^ 21 }
         requires small { AreCounters order (numbers_of self.now) }
-        requires within { 8 * (4096 * piece + length buffer.old) ≤ width order * length (numbers_of self.now) }
+        requires within { 8 * (4096 * piece + length buffer.old)
+            ≤ width order * length (numbers_of self.now) }
         requires whole { length buffer.old % 8 ≡ 0 }
         ensures packed { (i : ℕ) → i < length buffer.new → slice_index buffer.new i
             ≡ packed order (numbers_of self.now) (4096 * piece + i) }

@@ -23,8 +23,8 @@ impl RefBlockWriteGuard<'_> {
         self.block.is_zero(index)
     }
 
-    /// Counts one reference more, and answers how many there were. The block then counts as modified. A counter
-    /// at the greatest number that it holds is refused, and nothing has changed.
+    /// Counts one reference more, and answers how many there were. The block then counts as modified. A
+    /// counter at the greatest number that it holds is refused, and nothing has changed.
     pub fn increment(&mut self, index: usize) -> Result<u64, Fault>
         requires { index < length (guarded self.old).counters }
         ensures same_block { IsSameBlock self.old self.new }
@@ -38,8 +38,8 @@ impl RefBlockWriteGuard<'_> {
         Ok(before)
     }
 
-    /// Counts one reference less, and answers how many there were. The block then counts as modified. A counter
-    /// at 0 is refused, and nothing has changed.
+    /// Counts one reference less, and answers how many there were. The block then counts as modified. A
+    /// counter at 0 is refused, and nothing has changed.
     pub fn decrement(&mut self, index: usize) -> Result<u64, Fault>
         requires { index < length (guarded self.old).counters }
         ensures same_block { IsSameBlock self.old self.new }

@@ -21,8 +21,8 @@ pub enum Edit {
         index: usize,
         host_cluster: HostCluster,
     },
-    /// Zeros, as `L2TableWriteGuard::zero_cluster` makes them: with `keep_allocation` an entry keeps its host
-    /// cluster, but compressed data is handed back all the same.
+    /// Zeros, as `L2TableWriteGuard::zero_cluster` makes them: with `keep_allocation` an entry keeps its
+    /// host cluster, but compressed data is handed back all the same.
     Zero {
         index: usize,
         keep_allocation: bool,
@@ -33,8 +33,8 @@ pub enum Edit {
     },
 }
 
-/// What edits of a table did to references. Each list has the order of the edits, but a cluster may gain and lose
-/// references in turn, so what counts for its refcount is what it gained less what it lost.
+/// What edits of a table did to references. Each list has the order of the edits, but a cluster may gain
+/// and lose references in turn, so what counts for its refcount is what it gained less what it lost.
 ///
 /// Where guest data lies in an external data file, clusters of data are clusters of that file, which has no
 /// refcounts; those of compressed data are the image's.
@@ -54,7 +54,8 @@ struct Change {
 }
 
 impl Edit {
-    // Whether the edit can be made of the table, whose entries can refer to host clusters up to the greatest.
+    // Whether the edit can be made of the table, whose entries can refer to host clusters up to the
+    // greatest.
     fn fits(&self, table: &L2Table, greatest: HostCluster) -> bool
         requires { greatest.0 ≡ (2 ^ 56 - 512) / 2 ^ table.now.geometry.cluster_bits }
         ensures { result ≡ fits table.now self.now }
@@ -79,8 +80,8 @@ impl Edit {
                 index,
                 host_cluster,
             } => {
-                // Taken away first: mapping answers nothing both where the entry had no cluster and where it
-                // keeps this one.
+                // Taken away first: mapping answers nothing both where the entry had no cluster and where
+                // it keeps this one.
                 let before = guard.discard_cluster(index);
                 let _ = guard.map_cluster(index, host_cluster, None);
                 Change::of_mapping(host_cluster, before)
@@ -97,7 +98,8 @@ impl Edit {
     }
 }
 
-// Whether an entry of the table, which can refer to host clusters up to the greatest, can refer to this one.
+// Whether an entry of the table, which can refer to host clusters up to the greatest, can refer to this
+// one.
 #[tactic(auto, using(crate::proofs::SessionLemmas::mappable_by_greatest))]
 fn is_mappable(table: &L2Table, greatest: HostCluster, host_cluster: HostCluster) -> bool
     requires { greatest.0 ≡ (2 ^ 56 - 512) / 2 ^ table.now.geometry.cluster_bits }
@@ -188,9 +190,10 @@ fn first_unfit(table: &L2Table, edits: &[Edit]) -> Option<usize>
     )
 }
 
-/// Whether all edits can be made of the table, and if not, the position of the first that can't: its index
-/// is past the table's end, or it maps to a host cluster that `L2TableWriteGuard::map_cluster` doesn't take.
-/// Whether another entry refers to that cluster, or the table itself lies there, is not looked at.
+/// Whether all edits can be made of the table, and if not, the position of the first that can't: its
+/// index is past the table's end, or it maps to a host cluster that `L2TableWriteGuard::map_cluster`
+/// doesn't take. Whether another entry refers to that cluster, or the table itself lies there, is not
+/// looked at.
 pub fn edits_fit(table: &L2Table, edits: &[Edit]) -> Result<(), usize>
     ensures { MatchResult result
         (λ fit. first_unfit table.now edits.now ≡ None)
@@ -217,9 +220,10 @@ fn make_edits(table: &mut L2Table, edits: &[Edit], outcome: &mut Outcome)
     }
 }
 
-/// Makes all edits of an L2 table, one after the other, and answers what they did to references: at each host
-/// cluster, the references that the table has then and those handed back are together as many as those that
-/// it had before and those gained. The table then counts as modified, unless there was no edit.
+/// Makes all edits of an L2 table, one after the other, and answers what they did to references: at each
+/// host cluster, the references that the table has then and those handed back are together as many as
+/// those that it had before and those gained. The table then counts as modified, unless there was no
+/// edit.
 ///
 /// Refuses edits that don't all fit, by the position of the first that `edits_fit` names. Takes memory for
 /// the outcome before the first edit. After any refusal the table is as before. Its cluster stays.

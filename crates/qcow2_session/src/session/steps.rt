@@ -69,11 +69,13 @@ fn first_unfit(block: &RefBlock, steps: &[Step]) -> Option<usize>
 /// Makes all steps of a block, one after the other, and answers what came of each. The block then counts as
 /// modified if one of them was done.
 ///
-/// Refuses steps whose indices aren't all in bounds, by the position of the first that isn't. Takes memory for
-/// the replies before the first step. After any refusal the block is as before. Its cluster stays.
+/// Refuses steps whose indices aren't all in bounds, by the position of the first that isn't. Takes
+/// memory for the replies before the first step. After any refusal the block is as before. Its cluster
+/// stays.
 pub fn step_block(block: &mut RefBlock, steps: &[Step]) -> Result<Vec<StepReply>, Fault>
     ensures unfit { IfSome (first_unfit block.old steps.now) (λ at. result ≡ Err (BadStep at)) }
-    ensures exact { Computes (λ replies. end_of block.new replies.items) result (run_or_refusal block.old steps.now) }
+    ensures exact { Computes (λ replies. end_of block.new replies.items) result
+        (run_or_refusal block.old steps.now) }
     ensures unchanged { IfErr result (λ fault. block.new ≡ block.old) }
     ensures block { IfOk result (λ replies. block.new ≡ left_by replies.items block.old block.new.counters) }
     ensures counts { IfOk result (λ replies. Counts steps.now replies.items block.old block.new) }
