@@ -56,7 +56,7 @@ type Answers = &'static [(Way, Option<u64>)];
 // A refcount order, the index of a counter, the place of its bytes and these, its steps, and the bytes then.
 type Stepped = (u32, usize, usize, &'static [u8], Answers, &'static [u8]);
 
-const STEPPED: [Stepped; 24] = [
+const STEPPED: &[Stepped] = &[
     (0, 9, 1, &[0], &[(Up, Some(0)), (Up, None)], &[2]),
     (0, 0, 0, &[0xff], &[(Down, Some(1)), (Down, None)], &[0xfe]),
     (0, 4095, 511, &[0x7f], &[(Up, Some(0))], &[0xff]),
@@ -73,9 +73,23 @@ const STEPPED: [Stepped; 24] = [
     (1, 2047, 511, &[0x80], &[(Up, Some(2))], &[0xc0]),
     (2, 3, 1, &[0], &[(Up, Some(0))], &[0x10]),
     (2, 3, 1, &[0xff], &[(Up, None), (Down, Some(15))], &[0xef]),
-    (2, 1023, 511, &[0x12], &[(Down, Some(1)), (Down, None)], &[2]),
+    (
+        2,
+        1023,
+        511,
+        &[0x12],
+        &[(Down, Some(1)), (Down, None)],
+        &[2],
+    ),
     (3, 511, 511, &[0xff], &[(Up, None)], &[0xff]),
-    (3, 511, 511, &[0xfe], &[(Up, Some(254)), (Up, None)], &[0xff]),
+    (
+        3,
+        511,
+        511,
+        &[0xfe],
+        &[(Up, Some(254)), (Up, None)],
+        &[0xff],
+    ),
     (3, 0, 0, &[1, 7], &[(Down, Some(1)), (Down, None)], &[0, 7]),
     (4, 0, 0, &[0, 0xff], &[(Up, Some(255))], &[1, 0]),
     (4, 0, 0, &[0, 0], &[(Down, None)], &[0, 0]),
@@ -88,9 +102,23 @@ const STEPPED: [Stepped; 24] = [
         &[(Up, Some(65534)), (Up, None)],
         &[9, 9, 0xff, 0xff],
     ),
-    (5, 0, 0, &[0, 0, 0xff, 0xff], &[(Up, Some(65535))], &[0, 1, 0, 0]),
+    (
+        5,
+        0,
+        0,
+        &[0, 0, 0xff, 0xff],
+        &[(Up, Some(65535))],
+        &[0, 1, 0, 0],
+    ),
     (5, 0, 0, &[0xff; 4], &[(Up, None)], &[0xff; 4]),
-    (5, 127, 508, &[1, 0, 0, 0], &[(Down, Some(1 << 24))], &[0, 0xff, 0xff, 0xff]),
+    (
+        5,
+        127,
+        508,
+        &[1, 0, 0, 0],
+        &[(Down, Some(1 << 24))],
+        &[0, 0xff, 0xff, 0xff],
+    ),
     (
         6,
         0,
@@ -108,7 +136,14 @@ const STEPPED: [Stepped; 24] = [
         &[(Up, Some(u64::MAX - 1)), (Up, None), (Down, Some(u64::MAX))],
         &[0xff, 0xff, 0xff, 0xff, 0xff, 0xff, 0xff, 0xfe],
     ),
-    (6, 1, 8, &[0; 8], &[(Down, None), (Up, Some(0))], &[0, 0, 0, 0, 0, 0, 0, 1]),
+    (
+        6,
+        1,
+        8,
+        &[0; 8],
+        &[(Down, None), (Up, Some(0))],
+        &[0, 0, 0, 0, 0, 0, 0, 1],
+    ),
 ];
 
 // What one step of the counter answers: the number before it, or nothing where it is refused.
@@ -131,13 +166,14 @@ fn step(block: &mut RefBlock, index: usize, way: Way) -> Result<Option<u64>, Fai
 #[test]
 fn steps_change_one_counter_and_say_what_it_was(rt: HostRuntime) -> Result<(), Fail> {
     for row in STEPPED {
-        let (order, index, place, bytes, steps, after) = row;
+        let (order, index, place, bytes, steps, after) = *row;
         let header = header_of_order(rt.alloc(), 9, order)?;
         let mut image = image_with(rt.alloc(), place, bytes)?;
         let mut block = RefBlock::load(rt.alloc(), &mut image, &header, HostCluster(1))?;
         let mut modified = false;
-        for (way, answer) in steps {
-            same(step(&mut block, index, *way)?, *answer, row)?;
+        for made in steps {
+            let (way, answer) = *made;
+            same(step(&mut block, index, way)?, answer, row)?;
             modified |= answer.is_some();
             same(block.is_modified(), modified, row)?;
         }
@@ -149,28 +185,41 @@ fn steps_change_one_counter_and_say_what_it_was(rt: HostRuntime) -> Result<(), F
     Ok(())
 }
 
-// Byte i of these blocks is `i mod 251`: the number of a counter by its order and index.
+// The bytes of these blocks: byte i is `i mod 251`.
+fn byte_of_pattern(place: usize) -> u8 {
+    (place % 251) as u8
+}
+
+// The number of a counter by its order and index: a part of a byte, or several bytes.
 fn counter_of_pattern(order: u32, index: usize) -> u64 {
-    if order > 3 {
-        let size = 1usize << (order - 3).min(3);
-        let mut number = 0;
-        for place in 0..size {
-            let byte = (index.wrapping_mul(size).wrapping_add(place) % 251) as u64;
-            number = number << 8 | byte;
-        }
-        return number;
+    if order <= 3 {
+        let numbers = match order {
+            0 => 2,
+            1 => 4,
+            2 => 16,
+            _ => 256,
+        };
+        let bit = index.wrapping_shl(order);
+        return (u64::from(byte_of_pattern(bit / 8)) >> (bit % 8)) % numbers;
     }
-    let width = 1usize << order;
-    let per_byte = 8 / width;
-    let byte = index / per_byte % 251;
-    ((byte >> (width * (index % per_byte))) % (1 << width)) as u64
+    let size = match order {
+        4 => 2,
+        5 => 4,
+        _ => 8,
+    };
+    let mut number = 0;
+    for place in 0..size {
+        let byte = byte_of_pattern(index.wrapping_mul(size).wrapping_add(place));
+        number = number << 8 | u64::from(byte);
+    }
+    number
 }
 
 // So many bytes whose byte i is `i mod 251`.
 fn pattern(alloc: Global, len: usize) -> Result<MemStorage, Fault> {
     let mut bytes = vec![in alloc; 0; len]?;
     for place in 0..bytes.len() {
-        bytes[place] = (place % 251) as u8;
+        bytes[place] = byte_of_pattern(place);
     }
     Ok(MemStorage::new(bytes))
 }
@@ -193,7 +242,11 @@ fn reads_and_writes_again(alloc: Global, bits: u32, every: usize) -> Result<(), 
         let header = header_of_order(alloc, bits, order)?;
         let mut image = pattern(alloc, header.cluster_size())?;
         let mut block = RefBlock::load(alloc, &mut image, &header, HostCluster(0))?;
-        same(block.entries(), header.cluster_size() * 8 >> order, (bits, order))?;
+        same(
+            block.entries(),
+            header.cluster_size() * 8 >> order,
+            (bits, order),
+        )?;
         same(other_counter(&block, order, every), None, (bits, order))?;
         same(block.is_modified(), false, (bits, order))?;
         let mut other = filled_image(alloc, header.cluster_size())?;
@@ -223,12 +276,21 @@ fn a_cleared_block_has_no_reference_and_no_cluster(rt: HostRuntime) -> Result<()
         let image = filled_image(rt.alloc(), 16)?;
         let block = RefBlock::new_cleared(rt.alloc(), &image, &header)?;
         same(
-            (block.entries(), block.get_cluster(), block.get_offset(), block.is_modified()),
+            (
+                block.entries(),
+                block.get_cluster(),
+                block.get_offset(),
+                block.is_modified(),
+            ),
             (4096 >> order, None, None, true),
             order,
         )?;
         for index in 0..block.entries() {
-            same((block.get(index), block.is_zero(index)), (0, true), (order, index))?;
+            same(
+                (block.get(index), block.is_zero(index)),
+                (0, true),
+                (order, index),
+            )?;
         }
     }
     Ok(())
@@ -239,11 +301,23 @@ fn a_block_keeps_its_place_and_its_flag(rt: HostRuntime) -> Result<(), Fail> {
     let header = header_of_order(rt.alloc(), 9, 4)?;
     let mut image = image_with(rt.alloc(), 0, &[0, 7])?;
     let mut block = RefBlock::load(rt.alloc(), &mut image, &header, HostCluster(1))?;
-    same((block.cluster_bits(), block.get_offset()), (9, Some(HostOffset(512))), "loaded")?;
+    same(
+        (block.cluster_bits(), block.get_offset()),
+        (9, Some(HostOffset(512))),
+        "loaded",
+    )?;
     block.set_cluster(HostCluster(2));
-    same((block.get_offset(), block.is_modified()), (Some(HostOffset(1024)), true), "placed")?;
+    same(
+        (block.get_offset(), block.is_modified()),
+        (Some(HostOffset(1024)), true),
+        "placed",
+    )?;
     block.clear_modified();
-    same((block.get_cluster(), block.is_modified()), (Some(HostCluster(2)), false), "cleared")?;
+    same(
+        (block.get_cluster(), block.is_modified()),
+        (Some(HostCluster(2)), false),
+        "cleared",
+    )?;
     block.set_modified();
     same((block.get(0), block.is_modified()), (7, true), "set")
 }
@@ -254,7 +328,11 @@ fn the_last_place_of_a_block_ends_at_the_greatest_end(rt: HostRuntime) -> Result
     let mut image = filled_image(rt.alloc(), 16)?;
     let last = HostCluster((1 << 47) - 1);
     let block = RefBlock::load(rt.alloc(), &mut image, &header, last)?;
-    same((block.get_cluster(), block.get(255)), (Some(last), 0), "the last place")?;
+    same(
+        (block.get_cluster(), block.entries()),
+        (Some(last), 256),
+        "the last place",
+    )?;
     for cluster in [1 << 47, 1 << 48, u64::MAX] {
         let answer = RefBlock::load(rt.alloc(), &mut image, &header, HostCluster(cluster));
         same(answer.err(), Some(Fault::TablePlace), cluster)?;
@@ -275,6 +353,9 @@ fn a_block_without_a_lawful_place_is_not_written(rt: HostRuntime) -> Result<(), 
         same(block.write(&mut image), Err(Fault::NoOffset), modified)?;
         same(block.is_modified(), modified, "no place")?;
     }
+    if block.cluster_bits() != 9 {
+        return Err("another cluster size".into());
+    }
     block.set_cluster(HostCluster(1 << 47));
     for modified in [true, false] {
         if !modified {
@@ -293,10 +374,18 @@ fn only_a_modified_block_is_written(rt: HostRuntime) -> Result<(), Fail> {
     let mut block = RefBlock::load(rt.alloc(), &mut image, &header, HostCluster(1))?;
     let mut other = filled_image(rt.alloc(), 1536)?;
     let untouched = filled_image(rt.alloc(), 1536)?;
-    same(block.write_if_modified(&mut other, HostCluster(1)), Ok(()), "not modified")?;
+    same(
+        block.write_if_modified(&mut other, HostCluster(1)),
+        Ok(()),
+        "not modified",
+    )?;
     same_bytes(other.bytes(), untouched.bytes(), "not modified")?;
     block.set_modified();
-    same(block.write_if_modified(&mut other, HostCluster(1)), Ok(()), "modified")?;
+    same(
+        block.write_if_modified(&mut other, HostCluster(1)),
+        Ok(()),
+        "modified",
+    )?;
     same_bytes(other.bytes(), image.bytes(), "modified")?;
     same(block.is_modified(), false, "written")
 }
@@ -312,11 +401,24 @@ fn a_failed_read_of_a_block_is_told(rt: HostRuntime) -> Result<(), Fail> {
         image.fail_after(passes);
         let answer = RefBlock::load(rt.alloc(), &mut image, &header, HostCluster(0));
         same(answer.err(), Some(Fault::Storage), passes)?;
-        same((image.failures(), image.calls().len() as u64), (1, passes + 1), passes)?;
+        same(
+            (image.failures(), image.calls().len() as u64),
+            (1, passes + 1),
+            passes,
+        )?;
         let block = RefBlock::load(rt.alloc(), &mut image, &header, HostCluster(0))?;
         same(other_counter(&block, 2, 1), None, passes)?;
     }
     Ok(())
+}
+
+// An image of 0xa5 whose first bytes, so many, are those of the pattern.
+fn begun(alloc: Global, written: usize) -> Result<MemStorage, Fault> {
+    let mut bytes = vec![in alloc; 0xa5; 8192]?;
+    for place in 0..written.min(bytes.len()) {
+        bytes[place] = byte_of_pattern(place);
+    }
+    Ok(MemStorage::new(bytes))
 }
 
 #[test]
@@ -329,10 +431,8 @@ fn a_failed_write_of_a_block_leaves_what_it_had_not_reached(rt: HostRuntime) -> 
         image.fail_after(passes);
         same(block.write(&mut image), Err(Fault::Storage), passes)?;
         same(block.is_modified(), true, passes)?;
-        let written = 4096 * passes as usize;
-        let old = filled_image(rt.alloc(), 8192)?;
-        same_bytes(&image.inner().bytes()[..written], &whole.bytes()[..written], passes)?;
-        same_bytes(&image.inner().bytes()[written..], &old.bytes()[written..], passes)?;
+        let written = begun(rt.alloc(), 4096 * passes as usize)?;
+        same_bytes(image.inner().bytes(), written.bytes(), passes)?;
         same(block.write(&mut image), Ok(()), passes)?;
         same_bytes(image.inner().bytes(), whole.bytes(), passes)?;
     }
@@ -369,7 +469,11 @@ fn entered(alloc: Global, cluster: Option<u64>, pending: bool) -> Result<Entered
 #[test]
 fn a_block_is_entered_by_its_offset_alone(rt: HostRuntime) -> Result<(), Fail> {
     for pending in [false, true] {
-        same(entered(rt.alloc(), Some(3), pending)?, (0x600, true, None), pending)?;
+        same(
+            entered(rt.alloc(), Some(3), pending)?,
+            (0x600, true, None),
+            pending,
+        )?;
         let last = (1 << 47) - 1;
         same(
             entered(rt.alloc(), Some(last), pending)?,
@@ -382,7 +486,15 @@ fn a_block_is_entered_by_its_offset_alone(rt: HostRuntime) -> Result<(), Fail> {
         count: ClusterCount(1),
     };
     let refused = Some((Fault::NotPlaced, None));
-    same(entered(rt.alloc(), None, false)?, (0, false, refused), "no pending clusters")?;
+    same(
+        entered(rt.alloc(), None, false)?,
+        (0, false, refused),
+        "no pending clusters",
+    )?;
     let refused = Some((Fault::NotPlaced, Some(none)));
-    same(entered(rt.alloc(), None, true)?, (0, false, refused), "pending clusters")
+    same(
+        entered(rt.alloc(), None, true)?,
+        (0, false, refused),
+        "pending clusters",
+    )
 }
