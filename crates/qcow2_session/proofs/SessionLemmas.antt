@@ -1,12 +1,11 @@
-use Rattle.std.proofs.Common.{◌≡◌, ℕ, Bool, true, false, not, ◌&&◌, nat_le, nat_eq, ◌+◌, ◌-◌, ◌*◌, ◌/◌, ◌^◌, ◌<◌, if◌then◌else◌, Option, Some, None, option_map, slice_index, List, [], ◌∷◌, ◌++◌, length, take, drop, get_or, zero, suc, option_to_list, append_assoc, append-nil, ap, subst, sym, refl, ◌∙◌, arith}
+use Rattle.std.proofs.Common.{◌≡◌, ℕ, true, not, ◌&&◌, nat_le, nat_eq, ◌+◌, ◌-◌, ◌*◌, ◌/◌, ◌^◌, ◌<◌, if◌then◌else◌, Option, Some, None, option_map, slice_index, List, [], ◌∷◌, ◌++◌, length, take, drop, get_or, suc, option_to_list, append_assoc, append-nil, ap, subst, sym, refl, ◌∙◌, arith}
 use Rattle.std.proofs.Math.Nat.{le-div_iff_mul-le}
 use Rattle.std.proofs.lemmas.Nat.{pow_pos}
 use Rattle.std.proofs.lemmas.Bool.Decides.{nat_tests}
-use Rattle.std.proofs.lemmas.Iterator.Adapters.{position_from-zero}
+use Rattle.std.proofs.lemmas.List.Folds.{list_all-map}
 use Rattle.std.proofs.Math.Seq.{drop-cons}
 use Rattle.std.proofs.lemmas.List.{length-set, map-append, set-set}
-use Rattle.std.proofs.lemmas.Option.{none-some}
-use Rattle.std.specs.List.{list_all, position_from}
+use Rattle.std.specs.List.{list_all}
 use Rattle.qcow2_base.specs.Types.{IsClusterBits}
 use Rattle.qcow2_base.specs.declared.types.HostCluster.{HostCluster}
 use Rattle.qcow2_metadata.proofs.EditsLemmas.{balance-run}
@@ -15,6 +14,7 @@ use Rattle.qcow2_metadata.specs.Entries.{allocation}
 use Rattle.qcow2_metadata.specs.Header.{Geometry}
 use Rattle.qcow2_metadata.specs.Table.{TableState, edited}
 use Rattle.qcow2_metadata.specs.declared.entries.ClustersToFreeEntry.{ClustersToFreeEntry}
+use Rattle.qcow2_session.proofs.FirstLemmas.{all_pass, each_passes}
 use Rattle.qcow2_session.specs.Session.{Balances, HasRoom, Makes, are_some, end_of, first_unfit, fits, left_by, numbers_of, table_edit, table_edits}
 use Rattle.qcow2_session.specs.declared.session.edits.Change.{Change}
 use Rattle.qcow2_session.specs.declared.session.edits.Edit.{Edit}
@@ -31,14 +31,6 @@ mappable_by_greatest g cluster greatest is = rw (is, nat_le-div cluster (2 ^ g.c
 -- an entry that is changed twice is as after the second change
 edited-edited : (table : TableState) (index v w : ℕ) → edited (edited table index v) index w ≡ edited table index w
 edited-edited table index v w = rw (set-set table.numbers index v w) refl
-
-first_holds : (a b : Bool) → (a && b) ≡ true → a ≡ true
-first_holds true b both = refl
-first_holds false b both = cc
-
-second_holds : (a b : Bool) → (a && b) ≡ true → b ≡ true
-second_holds true b both = both
-second_holds false b both = cc
 
 -- mapping an entry that was taken away before
 pub Makes-mapping : (index cluster : ℕ) (before : Option ClustersToFreeEntry) (change : Change) (old cleared new : TableState) → cleared ≡ edited old index 0 → new ≡ edited cleared index (data_entry cleared.geometry.cluster_bits cluster) → before ≡ allocation old.geometry (slice_index old.numbers index) → option_map (λ (c : HostCluster). c.0) change.gained ≡ (if is_just cluster before then None else Some cluster) → change.freed ≡ (if is_just cluster before then None else before) → Makes (record { index = index; edit = to_data cluster }) change old new
@@ -94,29 +86,16 @@ part_way-next edits done default before now next change outcome after below way 
       room = room (length edits - (done + 1)) (rw enough way.room);
     }
 
-all_fit-from : (g : Geometry) (entries start : ℕ) (edits : List Edit) → position_from (λ edit. not (fits_table g entries (table_edit edit))) start edits ≡ None → list_all (fits_table g entries) (table_edits edits) ≡ true
-all_fit-from g entries start [] none = refl
-all_fit-from g entries start (edit ∷ edits) none = by_first (fits_table g entries (table_edit edit)) (all_fit-from g entries (start + 1) edits) none
-  where
-    by_first : (first : Bool) → (position_from (λ edit. not (fits_table g entries (table_edit edit))) (start + 1) edits ≡ None → list_all (fits_table g entries) (table_edits edits) ≡ true) → (if not first then Some start else position_from (λ edit. not (fits_table g entries (table_edit edit))) (start + 1) edits) ≡ None → (first && list_all (fits_table g entries) (table_edits edits)) ≡ true
-    by_first true rest none = rest none
-    by_first false rest none = absurd (none-some start (sym none))
-
 -- where none is the first that doesn't fit, all edits fit
 pub all_fit : (table : TableState) (edits : List Edit) → first_unfit table edits ≡ None → list_all (fits_table table.geometry (length table.numbers)) (table_edits edits) ≡ true
-all_fit table edits none = all_fit-from table.geometry (length table.numbers) 0 edits (sym (position_from-zero (λ edit. not (fits table edit)) edits) ∙ none)
-
--- and so does each of them
-pub each_fits : (test : TableEdit → Bool) (edits : List Edit) (i : ℕ) (default : Edit) → list_all test (table_edits edits) ≡ true → i < length edits → test (table_edit (get_or edits i default)) ≡ true
-each_fits test [] i default fit below = absurd (omega (arith, below))
-each_fits test (edit ∷ edits) zero default fit below = first_holds (test (table_edit edit)) _ fit
-each_fits test (edit ∷ edits) (suc i) default fit below = each_fits test edits i default (second_holds (test (table_edit edit)) _ fit) (omega (arith, below))
+all_fit table edits none =
+    list_all-map (fits_table table.geometry (length table.numbers)) table_edit edits ∙ all_pass (fits table) edits none
 
 -- what is left fits the table as it is
 pub part_way-fits : (edits : List Edit) (done : ℕ) (default : Edit) (before now : TableState) (outcome : Outcome) → first_unfit before edits ≡ None → done < length edits → IsPartWay edits done before now outcome → fits now (get_or edits done default) ≡ true
 part_way-fits edits done default before now outcome none below way =
     let geometry : now.geometry ≡ before.geometry = ap (λ (table : TableState). table.geometry) way.table in
-    rw (geometry, way.entries) (each_fits (fits_table before.geometry (length before.numbers)) edits done default (all_fit before edits none) below)
+    rw (geometry, way.entries) (each_passes (fits before) edits done default (all_pass (fits before) edits none) below)
 
 -- what a run of edits that fit leaves and hands back is in balance
 pub run-balances : (edits : List Edit) (outcome : Outcome) (old new : TableState) → IsClusterBits old.geometry.cluster_bits → first_unfit old edits ≡ None → end_of new outcome ≡ run_of old.geometry (table_edits edits) old.numbers → new ≡ left_by edits old new.numbers → Balances outcome old new

@@ -1,13 +1,13 @@
-use Rattle.std.proofs.Common.{◌≡◌, ℕ, zero, suc, Bool, true, false, not, ◌&&◌, ◌||◌, ◌==◌, nat_lt, ◌+◌, ◌-◌, ◌<◌, ◌≤◌, if◌then◌else◌, Option, Some, None, List, [], ◌∷◌, ◌++◌, length, drop, get_or, get_or-set_same, get_or-set_other, slice_index, slice_set, append_assoc, append-nil, ap, subst, sym, refl, ◌∙◌, inl, inr, arith}
+use Rattle.std.proofs.Common.{◌≡◌, ℕ, suc, Bool, true, false, ◌&&◌, ◌||◌, ◌==◌, nat_lt, ◌+◌, ◌-◌, ◌<◌, ◌≤◌, if◌then◌else◌, Option, Some, None, List, [], ◌∷◌, ◌++◌, length, drop, get_or, get_or-set_same, get_or-set_other, slice_index, slice_set, append_assoc, append-nil, ap, subst, sym, refl, ◌∙◌, inl, inr, arith}
 use Rattle.std.proofs.Math.Bool.{or_assoc}
 use Rattle.std.proofs.Math.Seq.{drop-cons}
 use Rattle.std.proofs.lemmas.Bool.{cases_eq}
 use Rattle.std.proofs.lemmas.Bool.Decides.{nat_tests}
-use Rattle.std.proofs.lemmas.Iterator.Adapters.{position_from-zero}
 use Rattle.std.proofs.lemmas.List.{drop_all, length-set, set-get_or, set-set}
 use Rattle.std.proofs.lemmas.Option.{none-some}
-use Rattle.std.specs.List.{list_all, position_from}
+use Rattle.std.specs.List.{list_all}
 use Rattle.qcow2_metadata.specs.Refblock.{BlockState, Increment, after_change, greatest_counter, stepped}
+use Rattle.qcow2_session.proofs.FirstLemmas.{all_pass, each_passes}
 use Rattle.qcow2_session.specs.Steps.{Counts, MakesStep, StepsEnd, are_some_done, change_of, decrements, end_of, first_unfit, increments, index_of, is_done, left_by, reply_of, run_of_steps, times_made}
 use Rattle.qcow2_session.specs.declared.session.steps.Step.{Step}
 use Rattle.qcow2_session.specs.declared.session.steps.Step.TheVariants.{Dec, Inc}
@@ -70,32 +70,18 @@ part_way-end steps made before now replies all way =
     let run = rw none_left at way.run in
     ap (λ (list : List StepReply). end_of now list) (sym (append-nil replies)) ∙ run
 
-first_holds : (a b : Bool) → (a && b) ≡ true → a ≡ true
-first_holds true b both = refl
-first_holds false b both = cc
-
-second_holds : (a b : Bool) → (a && b) ≡ true → b ≡ true
-second_holds true b both = both
-second_holds false b both = cc
-
-in_bounds-from : (entries start : ℕ) (steps : List Step) → position_from (λ step. not (nat_lt (index_of step) entries)) start steps ≡ None → list_all (λ step. nat_lt (index_of step) entries) steps ≡ true
-in_bounds-from entries start [] none = refl
-in_bounds-from entries start (step ∷ steps) none = by_first (nat_lt (index_of step) entries) (in_bounds-from entries (start + 1) steps) none
-  where
-    by_first : (first : Bool) → (position_from (λ step. not (nat_lt (index_of step) entries)) (start + 1) steps ≡ None → list_all (λ step. nat_lt (index_of step) entries) steps ≡ true) → (if not first then Some start else position_from (λ step. not (nat_lt (index_of step) entries)) (start + 1) steps) ≡ None → (first && list_all (λ step. nat_lt (index_of step) entries) steps) ≡ true
-    by_first true rest none = rest none
-    by_first false rest none = absurd (none-some start (sym none))
-
 -- where no index is the first out of bounds, all are in bounds
-pub all_in_bounds : (block : BlockState) (steps : List Step) → first_unfit block steps ≡ None → list_all (λ step. nat_lt (index_of step) (length block.counters)) steps ≡ true
-all_in_bounds block steps none =
-    in_bounds-from (length block.counters) 0 steps (sym (position_from-zero (λ step. not (nat_lt (index_of step) (length block.counters))) steps) ∙ none)
+abbrev in_bounds : ℕ → Step → Bool
+in_bounds entries step = nat_lt (index_of step) entries
+
+pub all_in_bounds : (block : BlockState) (steps : List Step) → first_unfit block steps ≡ None → list_all (in_bounds (length block.counters)) steps ≡ true
+all_in_bounds block steps none = all_pass (in_bounds (length block.counters)) steps none
 
 -- and so is each of them
-pub each_in_bounds : (entries : ℕ) (steps : List Step) (i : ℕ) (default : Step) → list_all (λ step. nat_lt (index_of step) entries) steps ≡ true → i < length steps → index_of (get_or steps i default) < entries
-each_in_bounds entries [] i default all below = absurd (omega (arith, below))
-each_in_bounds entries (step ∷ steps) zero default all below = let first = first_holds (nat_lt (index_of step) entries) _ all in grind (arith, nat_tests, first)
-each_in_bounds entries (step ∷ steps) (suc i) default all below = each_in_bounds entries steps i default (second_holds (nat_lt (index_of step) entries) _ all) (omega (arith, below))
+pub each_in_bounds : (entries : ℕ) (steps : List Step) (i : ℕ) (default : Step) → list_all (in_bounds entries) steps ≡ true → i < length steps → index_of (get_or steps i default) < entries
+each_in_bounds entries steps i default all below =
+    let passes = each_passes (in_bounds entries) steps i default all below in
+    grind (arith, nat_tests, passes)
 
 and_false : (a : Bool) → (a && false) ≡ false
 and_false true = refl
@@ -131,15 +117,22 @@ counted : (order : ℕ) (step : Step) (counters : List ℕ) (index : ℕ) → in
 counted order (Inc i) counters index below = counted-inc counters i index (slice_index counters i == greatest_counter order) below
 counted order (Dec i) counters index below = counted-dec counters i index (slice_index counters i == 0) refl below
 
+rest_in_bounds : (step : Step) (steps : List Step) (entries : ℕ) → list_all (in_bounds entries) (step ∷ steps) ≡ true → list_all (in_bounds entries) steps ≡ true
+rest_in_bounds step steps entries all = second_holds (in_bounds entries step) (list_all (in_bounds entries) steps) all
+  where
+    second_holds : (a b : Bool) → (a && b) ≡ true → b ≡ true
+    second_holds true b both = both
+    second_holds false b both = cc
+
 -- each counter after a run is as before it, plus the increments that were made, minus the decrements
-pub run_counts : (order : ℕ) (steps : List Step) (counters : List ℕ) (index : ℕ) → list_all (λ step. nat_lt (index_of step) (length counters)) steps ≡ true → slice_index (run_of_steps order steps counters).counters index + times_made (decrements index) steps (run_of_steps order steps counters).replies ≡ slice_index counters index + times_made (increments index) steps (run_of_steps order steps counters).replies
+pub run_counts : (order : ℕ) (steps : List Step) (counters : List ℕ) (index : ℕ) → list_all (in_bounds (length counters)) steps ≡ true → slice_index (run_of_steps order steps counters).counters index + times_made (decrements index) steps (run_of_steps order steps counters).replies ≡ slice_index counters index + times_made (increments index) steps (run_of_steps order steps counters).replies
 run_counts order [] counters index all = refl
 run_counts order (step ∷ steps) counters index all =
     let before = slice_index counters (index_of step) in
     let after = stepped order (change_of step) before in
     let below : index_of step < length counters = each_in_bounds (length counters) (step ∷ steps) 0 step all (omega arith) in
     let len = length-after_change counters (index_of step) after in
-    let rest = run_counts order steps (after_change counters (index_of step) after) index (rw len (second_holds (nat_lt (index_of step) (length counters)) _ all)) in
+    let rest = run_counts order steps (after_change counters (index_of step) after) index (rw len (rest_in_bounds step steps (length counters) all)) in
     omega (arith, rest, counted order step counters index below)
 
 -- a block that a run led to
