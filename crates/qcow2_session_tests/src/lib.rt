@@ -2,6 +2,8 @@
 #![tactic(auto)]
 
 #[cfg(test)]
+mod blocks;
+#[cfg(test)]
 mod commands;
 #[cfg(test)]
 mod edits;
@@ -10,6 +12,8 @@ mod every_edit;
 mod failing_output;
 #[cfg(test)]
 mod refused_memory;
+#[cfg(test)]
+mod steps;
 #[cfg(test)]
 mod tables;
 #[cfg(test)]

@@ -4,12 +4,13 @@
 //! `rt try --test --fail-alloc N` refuses the Nth request for memory of each test. Where that is one
 //! of the test's own, the test ends with an error before the call that it is for.
 
+use crate::blocks::{block_says, block_with, flag};
 use crate::commands::run::{Run, one_mapping};
 use crate::commands::{Listing, table_of};
 use crate::tables::{has, says, table_with};
 use qcow2_base::{Fault, HostCluster, MemStorage};
 use qcow2_metadata::Table;
-use qcow2_session::{Edit, edit_table};
+use qcow2_session::{Edit, Step, StepReply, edit_table, step_block};
 use qcow2_testing::{same, same_bytes};
 use std::test::Fail;
 
@@ -80,6 +81,32 @@ fn a_list_of_edits_that_memory_refused_leaves_the_table(rt: HostRuntime) -> Resu
             true,
             "with memory",
         )?;
+    }
+    Ok(())
+}
+
+#[test]
+fn a_list_of_steps_that_memory_refused_leaves_the_block(rt: HostRuntime) -> Result<(), Fail> {
+    let steps = [
+        Step::Inc { index: 0 },
+        Step::Dec { index: 1 },
+        Step::Dec { index: 2 },
+    ];
+    let replies = [StepReply::Done(7), StepReply::Done(1), StepReply::Refused];
+    for modified in [false, true] {
+        let mut block = match block_with(rt.alloc(), 4, &[0, 7, 0, 1]) {
+            Ok(block) => block,
+            Err(_) => block_with(rt.alloc(), 4, &[0, 7, 0, 1])?,
+        };
+        flag(&mut block, modified);
+        let mut answer = step_block(&mut block, &steps);
+        if let Err(fault) = &answer {
+            same(*fault, Fault::NoMemory, modified)?;
+            block_says(&block, &[7, 1], modified, "refused")?;
+            answer = step_block(&mut block, &steps);
+        }
+        same(answer?.as_slice(), &replies, modified)?;
+        block_says(&block, &[8], true, "with memory")?;
     }
     Ok(())
 }
