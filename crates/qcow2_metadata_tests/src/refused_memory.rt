@@ -4,21 +4,24 @@
 //! `rt try --test --fail-alloc N` refuses the Nth request for memory of each test. These tests pass for
 //! each N: what a test begins with is made a second time where memory was refused the first time.
 
-ghost use Rattle.std.specs.Prelude.{◌≡◌, ◌≤◌, IfOk, IsTrue};
+ghost use Rattle.std.specs.Prelude.{◌≡◌, ◌≤◌, IfOk, IsTrue, length};
 
 use crate::fixtures::{
-    LOADED, NUMBER, Told, filled_image, header_with, image_with, place, table_that_tells, tells,
+    LOADED, NUMBER, Told, cleared_table, filled_image, header_with, image_with, place,
+    table_that_tells, tells,
 };
 use crate::header_load::{image_of, names};
 use crate::header_round_trip::getters;
 use crate::header_texts::{BACKING, BASE, RICH_WRITTEN, Written, dirty, made, with_text};
+use crate::pending_clusters::refusal;
 use crate::pieces::entries_up_to;
+use crate::refcount_blocks::header_of_order;
 use crate::rich_header::{NAMES, RICH, extensions};
 use crate::writable_load::{
     Cleared, LEAST_CLEARED, NAMED_CLEARED, RICH_CLEARED, with_features, without_features,
 };
 use qcow2_base::{Fault, HostCluster, MemStorage};
-use qcow2_metadata::{Header, L1Table, L2Table, RefTable, Table};
+use qcow2_metadata::{Header, L1Table, L2Table, RefBlock, RefTable, Table, TableEntry};
 use qcow2_testing::{same, same_bytes};
 use std::alloc::Global;
 use std::test::Fail;
@@ -301,4 +304,184 @@ fn a_growth_that_memory_refused_leaves_the_l1_table(rt: HostRuntime) -> Result<(
         tells(&answer?, &grown, modified)?;
     }
     Ok(())
+}
+
+// Byte i of a block in an image, which is counter i where they have 8 bits.
+fn number_of(index: usize) -> u8 {
+    (index % 251) as u8
+}
+
+// A header of an image with clusters of 8192 bytes and counters of 8 bits, so that a block is read and
+// written in two pieces, and an image of 0xa5 whose cluster 1 is a block.
+fn header_and_block_image(alloc: Global) -> Result<(Header, MemStorage), Fault>
+    ensures { IfOk result (λ made. made.0.v2.cluster_bits ≡ 13) }
+{
+    let header = header_of_order(alloc, 13, 3)?;
+    let mut bytes = vec![in alloc; 0xa5; 8192]?;
+    for index in 0..8192usize {
+        bytes.push(number_of(index))?;
+    }
+    Ok((header, MemStorage::new(bytes)))
+}
+
+// The first counter that isn't that of the image, or isn't 0 in a cleared block, with its index.
+fn other_counter(block: &RefBlock, cleared: bool) -> Option<(usize, u64)> {
+    for index in 0..block.entries() {
+        let found = block.get(index);
+        let expected = if cleared { 0 } else { number_of(index) as u64 };
+        if found != expected {
+            return Some((index, found));
+        }
+    }
+    None
+}
+
+// Fails unless the block has the image's counters, or 0 everywhere, and this cluster and flag.
+fn block_tells(block: &RefBlock, cleared: bool, cluster: Option<u64>) -> Result<(), Fail> {
+    let found = (
+        block.entries(),
+        other_counter(block, cleared),
+        block.get_cluster(),
+        block.is_modified(),
+    );
+    let expected = (8192, None, cluster.map(HostCluster), cleared);
+    same(found, expected, cleared)
+}
+
+#[test]
+fn a_load_of_a_block_that_memory_refused_succeeds_the_next_time(
+    rt: HostRuntime,
+) -> Result<(), Fail> {
+    let made = match header_and_block_image(rt.alloc()) {
+        Ok(made) => made,
+        Err(_) => header_and_block_image(rt.alloc())?,
+    };
+    let before = match header_and_block_image(rt.alloc()) {
+        Ok(made) => made,
+        Err(_) => header_and_block_image(rt.alloc())?,
+    };
+    let (header, mut image) = made;
+    let mut answer = RefBlock::load(rt.alloc(), &mut image, &header, HostCluster(1));
+    if let Err(fault) = &answer {
+        same(*fault, Fault::NoMemory, "refused")?;
+        same_bytes(image.bytes(), before.1.bytes(), "refused")?;
+        answer = RefBlock::load(rt.alloc(), &mut image, &header, HostCluster(1));
+    }
+    block_tells(&answer?, false, Some(1))?;
+    same_bytes(image.bytes(), before.1.bytes(), "loaded")
+}
+
+#[test]
+fn a_cleared_block_that_memory_refused_is_made_the_next_time(rt: HostRuntime) -> Result<(), Fail> {
+    let made = match header_and_block_image(rt.alloc()) {
+        Ok(made) => made,
+        Err(_) => header_and_block_image(rt.alloc())?,
+    };
+    let (header, image) = made;
+    let mut answer = RefBlock::new_cleared(rt.alloc(), &image, &header);
+    if let Err(fault) = &answer {
+        same(*fault, Fault::NoMemory, "refused")?;
+        answer = RefBlock::new_cleared(rt.alloc(), &image, &header);
+    }
+    block_tells(&answer?, true, None)
+}
+
+// A block that was loaded, and the image that it was read from.
+fn block_and_image(alloc: Global) -> Result<(RefBlock, MemStorage), Fault>
+    ensures { IfOk result (λ made. made.0.cluster_bits ≡ 13) }
+{
+    let (header, mut image) = header_and_block_image(alloc)?;
+    let block = RefBlock::load(alloc, &mut image, &header, HostCluster(1))?;
+    Ok((block, image))
+}
+
+// The same, and an image of 0xa5 that is as long.
+fn block_and_images(alloc: Global) -> Result<(RefBlock, MemStorage, MemStorage), Fault>
+    ensures { IfOk result (λ made. made.0.cluster_bits ≡ 13) }
+{
+    let (block, written) = block_and_image(alloc)?;
+    Ok((block, filled_image(alloc, 16384)?, written))
+}
+
+#[test]
+fn a_write_of_a_block_takes_no_memory(rt: HostRuntime) -> Result<(), Fail> {
+    for modified in [false, true] {
+        let made = match block_and_images(rt.alloc()) {
+            Ok(made) => made,
+            Err(_) => block_and_images(rt.alloc())?,
+        };
+        let (mut block, mut image, written) = made;
+        if modified {
+            block.set_modified();
+        }
+        let answer = block.write(&mut image);
+        same((answer, block.is_modified()), (Ok(()), false), modified)?;
+        same_bytes(image.bytes(), written.bytes(), modified)?;
+    }
+    Ok(())
+}
+
+#[test]
+fn write_if_modified_of_a_block_takes_no_memory(rt: HostRuntime) -> Result<(), Fail> {
+    let made = match block_and_images(rt.alloc()) {
+        Ok(made) => made,
+        Err(_) => block_and_images(rt.alloc())?,
+    };
+    let (mut block, mut image, written) = made;
+    let cluster = HostCluster(1);
+    block.set_cluster(cluster);
+    let answer = block.write_if_modified(&mut image, cluster);
+    same((answer, block.is_modified()), (Ok(()), false), "write")?;
+    same_bytes(image.bytes(), written.bytes(), "write")
+}
+
+#[test]
+fn steps_take_no_memory(rt: HostRuntime) -> Result<(), Fail> {
+    let made = match block_and_image(rt.alloc()) {
+        Ok(made) => made,
+        Err(_) => block_and_image(rt.alloc())?,
+    };
+    let (mut block, _) = made;
+    if block.entries() <= 7 {
+        return Err("a block of fewer counters".into());
+    }
+    let mut guard = block.lock_write();
+    same(guard.increment(7), Ok(7), "up")?;
+    same(guard.decrement(7), Ok(8), "down")?;
+    same(guard.decrement(0), Err(Fault::CounterRange), "down from 0")?;
+    same(guard.is_zero(0), true, "at 0")?;
+    same(
+        (other_counter(&block, false), block.is_modified()),
+        (None, true),
+        "stepped",
+    )
+}
+
+// A refcount table of 64 entries 0, and a block.
+fn table_and_block(alloc: Global) -> Result<(RefTable, RefBlock), Fault>
+    ensures entries { IfOk result (λ made. length made.0.numbers ≡ 64) }
+    ensures table { IfOk result (λ made. made.0.geometry.cluster_bits ≡ 13) }
+    ensures block { IfOk result (λ made. made.1.cluster_bits ≡ 13) }
+{
+    let (header, mut image) = header_and_block_image(alloc)?;
+    let block = RefBlock::load(alloc, &mut image, &header, HostCluster(1))?;
+    Ok((cleared_table(alloc, &header, 64)?, block))
+}
+
+#[test]
+fn to_enter_a_block_takes_no_memory(rt: HostRuntime) -> Result<(), Fail> {
+    let made = match table_and_block(rt.alloc()) {
+        Ok(made) => made,
+        Err(_) => table_and_block(rt.alloc())?,
+    };
+    let (mut table, mut block): (RefTable, RefBlock) = made;
+    table.clear_modified();
+    block.set_cluster(HostCluster(1));
+    same(
+        refusal(table.enter_refblock(3, &block, None)),
+        None,
+        "entered",
+    )?;
+    let found = (table.get(3).to_plain(), table.is_modified());
+    same(found, (8192, true), "entered")
 }

@@ -1,4 +1,4 @@
-//! The numbers that blocks keep in memory, which no contract tells: one for each counter.
+//! The numbers that blocks keep in memory: one for each counter, in the smallest integers that hold it.
 
 use super::RefBlock;
 use super::counters::Counters;
