@@ -20,9 +20,9 @@ pub mod MappingLemmas
 pub mod NamesLemmas
 pub mod NarrowLemmas
 pub mod OpenLemmas
-pub mod PackedLemmas
 pub mod PackingLemmas
 pub mod PieceLemmas
+pub mod PiecesLemmas
 pub mod PointerLemmas
 pub mod RangeLemmas
 pub mod RefblockLemmas

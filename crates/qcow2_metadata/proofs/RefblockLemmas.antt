@@ -7,12 +7,12 @@ use Rattle.std.proofs.lemmas.Bool.{cases_lt}
 use Rattle.std.proofs.lemmas.Grind.{same_number_lists}
 use Rattle.std.proofs.lemmas.List.FromFn.{get_or-map-range_with_len}
 use Rattle.std.proofs.lemmas.Nat.{pow-add, pow_pos}
-use Rattle.qcow2_base.specs.Storage.{Holds as HoldsBytes, Image, IsBytes, SameOutside, image_of}
+use Rattle.qcow2_base.specs.Storage.{Holds, Image, IsBytes, SameOutside, image_of}
 use Rattle.qcow2_metadata.proofs.PackingLemmas.{counter_at-packed, counters_at-append, counters_at-length, counters_at-same, packed-counters_at, width-per_byte}
 use Rattle.qcow2_metadata.specs.Pieces.{Stand}
 use Rattle.qcow2_base.specs.Types.{IsClusterBits}
 use Rattle.qcow2_base.specs.declared.types.HostCluster.{HostCluster}
-use Rattle.qcow2_metadata.specs.Refblock.{AreCounters, Holds, IsLawfulBlock, IsOfOrder, IsWrittenBlock, block_entries, block_offset, counter_at, counters_at, greatest_counter, numbers_of, packed, per_byte, width}
+use Rattle.qcow2_metadata.specs.Refblock.{AreCounters, CanHold, IsLawfulBlock, IsOfOrder, IsWrittenBlock, block_entries, block_offset, counter_at, counters_at, greatest_counter, numbers_of, packed, per_byte, width}
 use Rattle.qcow2_metadata.specs.declared.refblock.counters.Counters.{Counters}
 use Rattle.qcow2_metadata.specs.declared.refblock.counters.Counters.TheVariants.{U8, U16, U32, U64}
 
@@ -35,7 +35,7 @@ narrow_fits (suc (suc (suc zero))) number low fits = omega (arith, fits)
 narrow_fits (suc (suc (suc (suc order)))) number low fits = absurd (omega (arith, low))
 
 -- the integers of a list hold each number that a counter holds
-pub counter_holds : (order : ℕ) (counters : Counters) (number : ℕ) → IsOfOrder order counters → number ≤ greatest_counter order → Holds counters number
+pub counter_holds : (order : ℕ) (counters : Counters) (number : ℕ) → IsOfOrder order counters → number ≤ greatest_counter order → CanHold counters number
 counter_holds order (U8 list) number kind fits = narrow_fits order number kind fits
 counter_holds order (U16 list) number kind fits = let same = rw kind at fits in omega (arith, same)
 counter_holds order (U32 list) number kind fits = let same = rw kind at fits in omega (arith, same)
@@ -127,7 +127,7 @@ whole_counters order len orders eights =
     ap (λ n. width order * (n / width order)) times ∙ ap (λ n. width order * n) (mul-div_cancel_left (2 ^ (6 - order) * (len / 8)) (pow_pos order)) ∙ sym times
 
 -- the counters of a block's first bytes, and then those of the bytes after them
-pub counters-more : (order done : ℕ) (image : Image) (offset : ℕ) (list buffer : List ℕ) → order ≤ 6 → length buffer % 8 ≡ 0 → HoldsBytes image (offset + done) buffer → width order * length list ≡ 8 * done → list ≡ counters_at order image offset (length list) → list ++ counters_at order (image_of buffer) 0 (8 * length buffer / width order) ≡ counters_at order image offset (length list + 8 * length buffer / width order)
+pub counters-more : (order done : ℕ) (image : Image) (offset : ℕ) (list buffer : List ℕ) → order ≤ 6 → length buffer % 8 ≡ 0 → Holds image (offset + done) buffer → width order * length list ≡ 8 * done → list ≡ counters_at order image offset (length list) → list ++ counters_at order (image_of buffer) 0 (8 * length buffer / width order) ≡ counters_at order image offset (length list + 8 * length buffer / width order)
 counters-more order done image offset list buffer orders eights held whole counters =
     let m = 8 * length buffer / width order in
     let same = counters_at-same order m (length buffer) image (image_of buffer) (offset + done) 0 orders (whole_counters order (length buffer) orders eights)

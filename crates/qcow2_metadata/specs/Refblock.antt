@@ -68,12 +68,12 @@ IsOfOrder order (U16 list) = order ≡ 4
 IsOfOrder order (U32 list) = order ≡ 5
 IsOfOrder order (U64 list) = order ≡ 6
 
--- the integers of the list hold the number
-abbrev pub Holds : Counters → ℕ → Type 0
-Holds (U8 list) number = number < 2 ^ 8
-Holds (U16 list) number = number < 2 ^ 16
-Holds (U32 list) number = number < 2 ^ 32
-Holds (U64 list) number = number < 2 ^ 64
+-- the integers of the list can hold the number
+abbrev pub CanHold : Counters → ℕ → Type 0
+CanHold (U8 list) number = number < 2 ^ 8
+CanHold (U16 list) number = number < 2 ^ 16
+CanHold (U32 list) number = number < 2 ^ 32
+CanHold (U64 list) number = number < 2 ^ 64
 
 -- each counter fits its width
 abbrev pub AreCounters : ℕ → List ℕ → Type 0
@@ -190,16 +190,16 @@ pub record IsLawfulBlock (cb order : ℕ) (cluster : Option HostCluster) (counte
   pub small : AreCounters order (numbers_of counters)
 
 -- a change of a counter: one more reference, or one less
-pub data Change : Type 0 where
-  Increment : Change
-  Decrement : Change
+pub data CounterChange : Type 0 where
+  Increment : CounterChange
+  Decrement : CounterChange
 
 -- the greatest number that a counter holds
 abbrev pub greatest_counter : ℕ → ℕ
 greatest_counter order = 2 ^ width order - 1
 
 -- the counter after a change, where that can be made
-abbrev pub stepped : ℕ → Change → ℕ → Option ℕ
+abbrev pub stepped : ℕ → CounterChange → ℕ → Option ℕ
 stepped order Increment counter = if counter == greatest_counter order then None else Some (counter + 1)
 stepped order Decrement counter = if counter == 0 then None else Some (counter - 1)
 
@@ -209,7 +209,7 @@ after_change counters index None = counters
 after_change counters index (Some counter) = slice_set counters index counter
 
 -- a change of the counter at an index, which answered the number before it, or was refused and changed nothing
-pub record Steps (change : Change) (index : ℕ) (answer : Result ℕ Fault) (old new : BlockState) : Type 0 where
+pub record Steps (change : CounterChange) (index : ℕ) (answer : Result ℕ Fault) (old new : BlockState) : Type 0 where
   pub answers : MatchOption (stepped old.refcount_order change (slice_index old.counters index))
       (answer ≡ Err CounterRange) (λ counter. answer ≡ Ok (slice_index old.counters index))
   pub steps : MatchOption (stepped old.refcount_order change (slice_index old.counters index))

@@ -56,8 +56,7 @@ impl Model for RefBlock {
     ghost invariant = { λ b. IsLawfulBlock b.cluster_bits b.refcount_order b.cluster b.counters };
 }
 
-// The counters of the block that stands in the image from an offset on, which are so many. Reads in
-// pieces of 4096 bytes.
+// The counters of the block that begins at an offset of the image. Reads in pieces of 4096 bytes.
 fn read_counters<S: Storage>(
     alloc: Global,
     image: &mut S,

@@ -1,7 +1,7 @@
 mod CommandsExamples
-pub mod CommandsLemmas
 mod LinesExamples
+pub mod CommandsLemmas
+pub mod EditsLemmas
 pub mod FirstLemmas
 pub mod LinesLemmas
-pub mod SessionLemmas
 pub mod StepsLemmas

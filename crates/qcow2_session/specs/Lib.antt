@@ -1,5 +1,5 @@
 pub mod Commands
-pub mod Words
+pub mod Edits
 pub mod Lines
-pub mod Session
 pub mod Steps
+pub mod Words

@@ -3,7 +3,7 @@ use Rattle.std.specs.List.{position}
 use Rattle.qcow2_base.specs.declared.fault.Fault.{Fault}
 use Rattle.qcow2_base.specs.declared.fault.Fault.TheVariants.{BadStep}
 use Rattle.qcow2_metadata.specs.Answers.{unless_refused}
-use Rattle.qcow2_metadata.specs.Refblock.{BlockState, Change, Decrement, Increment, after_change, stepped}
+use Rattle.qcow2_metadata.specs.Refblock.{BlockState, CounterChange, Decrement, Increment, after_change, stepped}
 use Rattle.qcow2_session.specs.declared.session.steps.Step.{Step}
 use Rattle.qcow2_session.specs.declared.session.steps.Step.TheVariants.{Dec, Inc}
 use Rattle.qcow2_session.specs.declared.session.steps.StepReply.{StepReply}
@@ -15,7 +15,7 @@ index_of (Inc index) = index
 index_of (Dec index) = index
 
 -- the change of a counter that a step is
-abbrev pub change_of : Step → Change
+abbrev pub change_of : Step → CounterChange
 change_of (Inc index) = Increment
 change_of (Dec index) = Decrement
 

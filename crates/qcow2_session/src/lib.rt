@@ -1,4 +1,4 @@
-//! Whole runs over a qcow2 image, and the commands of the program `qmeta`.
+//! Whole lists of changes to the tables and blocks of a qcow2 image, and the commands of `qmeta`.
 #![tactic(auto)]
 
 mod commands;

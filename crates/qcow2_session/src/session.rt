@@ -1,4 +1,4 @@
-//! Whole runs: lists of changes to a table, and what they hand back.
+//! Whole lists of changes: edits of an L2 table, and counter steps of a refcount block.
 
 mod edits;
 mod steps;

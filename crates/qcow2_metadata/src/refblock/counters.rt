@@ -2,7 +2,7 @@
 
 ghost use Rattle.std.specs.Prelude.{◌≡◌, ℕ, ◌++◌, ◌*◌, ◌/◌, ◌%◌, ◌+◌, ◌-◌, ◌^◌, ◌<◌, ◌≤◌, IfOk, OnOk, [], length, replicate, slice_index, slice_set};
 ghost use Rattle.qcow2_base.specs.Storage.{image_of};
-ghost use Rattle.qcow2_metadata.specs.Refblock.{AreCounters, Holds, IsOfOrder, counters_at, numbers_of, packed, width};
+ghost use Rattle.qcow2_metadata.specs.Refblock.{AreCounters, CanHold, IsOfOrder, counters_at, numbers_of, packed, width};
 
 use super::packing::{pack_narrow, pack_wide, unpack_narrow, unpack_wide};
 use crate::pieces::PIECE_BYTES;
@@ -78,7 +78,7 @@ impl Counters {
     #[inline]
     pub(super) fn set(&mut self, index: usize, counter: u64)
         requires index { index < length (numbers_of self.old) }
-        requires fits { Holds self.old counter }
+        requires fits { CanHold self.old counter }
         ensures numbers { numbers_of self.new ≡ slice_set (numbers_of self.old) index counter }
         ensures order { (order : ℕ) → IsOfOrder order self.old → IsOfOrder order self.new }
     {

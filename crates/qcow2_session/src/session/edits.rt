@@ -7,7 +7,7 @@ ghost use Rattle.qcow2_base.specs.declared.fault.Fault.TheVariants.{BadEdit};
 ghost use Rattle.qcow2_base.specs.declared.types.HostCluster.{HostCluster as Cluster};
 ghost use Rattle.qcow2_metadata.specs.Answers.{Computes};
 ghost use Rattle.qcow2_metadata.specs.Edits.{is_just, is_mappable, run_of};
-ghost use Rattle.qcow2_session.specs.Session.{Balances, HasRoom, Makes, end_of, first_unfit, fits, left_by, run_or_refusal, table_edit, table_edits};
+ghost use Rattle.qcow2_session.specs.Edits.{Balances, HasRoom, Makes, end_of, first_unfit, fits, left_by, run_or_refusal, table_edit, table_edits};
 
 use qcow2_base::{ClusterCount, Fault, HostCluster};
 use qcow2_metadata::{ClustersToFreeEntry, L2Table, MAX_OFFSET, Table};
@@ -100,7 +100,7 @@ impl Edit {
 
 // Whether an entry of the table, which can refer to host clusters up to the greatest, can refer to this
 // one.
-#[tactic(auto, using(crate::proofs::SessionLemmas::mappable_by_greatest))]
+#[tactic(auto, using(crate::proofs::EditsLemmas::mappable_by_greatest))]
 fn is_mappable(table: &L2Table, greatest: HostCluster, host_cluster: HostCluster) -> bool
     requires { greatest.0 ≡ (2 ^ 56 - 512) / 2 ^ table.now.geometry.cluster_bits }
     ensures { result ≡ is_mappable table.now.geometry host_cluster.0 }

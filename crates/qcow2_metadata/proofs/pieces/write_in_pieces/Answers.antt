@@ -1,6 +1,6 @@
 use Rattle.std.proofs.Common.{◌≡◌, ◌-◌, ◌*◌, ◌<◌, ◌∙◌, length, min, arith, rules}
 use Rattle.std.proofs.lemmas.Result.{err_from_is_err_and}
-use Rattle.qcow2_metadata.proofs.PackedLemmas.{IsTornAtPiece-at, IsWrittenUpTo-more, others_kept}
+use Rattle.qcow2_metadata.proofs.PiecesLemmas.{IsTornAtPiece-at, IsWrittenUpTo-more, others_kept}
 use Rattle.qcow2_metadata.proofs.pieces.write_in_pieces.Goals as goal
 
 pub returns-in_err-write : goal.returns-in_err-write

@@ -1,6 +1,6 @@
 use Rattle.std.proofs.Common.{◌≡◌, IsTrue}
 use Rattle.qcow2_base.specs.Storage.{SameDevice}
-use Rattle.qcow2_metadata.proofs.PackedLemmas.{IsWrittenUpTo}
+use Rattle.qcow2_metadata.proofs.PiecesLemmas.{IsWrittenUpTo}
 use Rattle.qcow2_metadata.proofs.pieces.write_in_pieces.Given as goal
 
 -- the pieces before this one are written, and no call has failed

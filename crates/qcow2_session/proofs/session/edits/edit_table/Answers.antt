@@ -1,5 +1,5 @@
 use Rattle.std.proofs.Common.{sym, ◌∙◌}
-use Rattle.qcow2_session.proofs.SessionLemmas.{run-balances}
+use Rattle.qcow2_session.proofs.EditsLemmas.{run-balances}
 use Rattle.qcow2_session.proofs.session.edits.edit_table.Goals as goal
 
 pub returns-clause-balance : goal.returns-clause-balance

@@ -1,7 +1,7 @@
 use Rattle.std.proofs.Common.{not, rules, tests}
 use Rattle.std.proofs.lemmas.Iterator.{YieldsList-from_slice}
 use Rattle.std.proofs.lemmas.Iterator.Search.{position_from_yields_List}
-use Rattle.qcow2_session.specs.Session.{fits}
+use Rattle.qcow2_session.specs.Edits.{fits}
 use Rattle.qcow2_session.specs.declared.session.edits.Edit.{Edit}
 use Rattle.qcow2_session.proofs.session.edits.first_unfit.Goals as goal
 

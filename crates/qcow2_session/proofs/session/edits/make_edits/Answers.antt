@@ -1,4 +1,4 @@
-use Rattle.qcow2_session.proofs.SessionLemmas.{part_way-fits, part_way-next}
+use Rattle.qcow2_session.proofs.EditsLemmas.{part_way-fits, part_way-next}
 use Rattle.qcow2_session.proofs.session.edits.make_edits.Goals as goal
 
 pub make-requires : goal.make-requires

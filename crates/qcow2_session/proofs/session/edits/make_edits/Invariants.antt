@@ -1,4 +1,4 @@
-use Rattle.qcow2_session.proofs.SessionLemmas.{IsPartWay}
+use Rattle.qcow2_session.proofs.EditsLemmas.{IsPartWay}
 use Rattle.qcow2_session.proofs.session.edits.make_edits.Given as goal
 
 abbrev pub invariant-loop-edit : goal.invariant-loop-edit

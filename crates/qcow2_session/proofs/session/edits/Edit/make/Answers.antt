@@ -1,8 +1,8 @@
 use Rattle.std.proofs.Common.{subst, rules}
 use Rattle.qcow2_metadata.specs.Edits.{TableEdit, to_data}
 use Rattle.qcow2_metadata.specs.Table.{TableState}
-use Rattle.qcow2_session.specs.Session.{Makes}
-use Rattle.qcow2_session.proofs.SessionLemmas.{Makes-mapping}
+use Rattle.qcow2_session.specs.Edits.{Makes}
+use Rattle.qcow2_session.proofs.EditsLemmas.{Makes-mapping}
 use Rattle.qcow2_session.proofs.session.edits.Edit.make.Goals as goal
 
 pub returns-in-Map : goal.returns-in-Map

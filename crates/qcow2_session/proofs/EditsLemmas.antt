@@ -15,7 +15,7 @@ use Rattle.qcow2_metadata.specs.Header.{Geometry}
 use Rattle.qcow2_metadata.specs.Table.{TableState, edited}
 use Rattle.qcow2_metadata.specs.declared.entries.ClustersToFreeEntry.{ClustersToFreeEntry}
 use Rattle.qcow2_session.proofs.FirstLemmas.{all_pass, each_passes}
-use Rattle.qcow2_session.specs.Session.{Balances, HasRoom, Makes, are_some, end_of, first_unfit, fits, left_by, numbers_of, table_edit, table_edits}
+use Rattle.qcow2_session.specs.Edits.{Balances, HasRoom, Makes, are_some, end_of, first_unfit, fits, left_by, numbers_of, table_edit, table_edits}
 use Rattle.qcow2_session.specs.declared.session.edits.Change.{Change}
 use Rattle.qcow2_session.specs.declared.session.edits.Edit.{Edit}
 use Rattle.qcow2_session.specs.declared.session.edits.Outcome.{Outcome}
