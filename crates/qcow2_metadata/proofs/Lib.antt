@@ -1,6 +1,8 @@
 mod EditsExamples
 mod EntriesExamples
 mod GrammarExamples
+mod GrowthExamples
+mod OneEntryExamples
 mod RefblockExamples
 mod TableExamples
 mod TextExamples
@@ -12,6 +14,7 @@ pub mod EditsLemmas
 pub mod EntriesLemmas
 pub mod ExtensionsLemmas
 pub mod GrammarLemmas
+pub mod GrowthLemmas
 pub mod GuardLemmas
 pub mod HeaderLemmas
 pub mod LayoutLemmas
@@ -19,6 +22,7 @@ pub mod LoadLemmas
 pub mod MappingLemmas
 pub mod NamesLemmas
 pub mod NarrowLemmas
+pub mod OneEntryLemmas
 pub mod OpenLemmas
 pub mod PackingLemmas
 pub mod PieceLemmas

@@ -6,7 +6,7 @@ use Rattle.qcow2_metadata.specs.Table.{IsTorn, table_numbers}
 use Rattle.qcow2_metadata.proofs.TableLemmas.{table_numbers_more}
 
 -- the first so many numbers stand in the image
-numbers_stand : (image : Image) (offset k : ℕ) (numbers : List ℕ) → k ≤ length numbers → ((i : ℕ) → i < k → be image (offset + 8 * i) 8 ≡ get_or numbers i 0) → table_numbers image offset k ≡ take k numbers
+pub numbers_stand : (image : Image) (offset k : ℕ) (numbers : List ℕ) → k ≤ length numbers → ((i : ℕ) → i < k → be image (offset + 8 * i) 8 ≡ get_or numbers i 0) → table_numbers image offset k ≡ take k numbers
 numbers_stand image offset zero numbers within each = refl
 numbers_stand image offset (suc k) numbers within each =
     let more : suc k ≡ k + 1 = omega arith in

@@ -3,7 +3,7 @@ use Rattle.qcow2_base.specs.Storage.{Image, be}
 use Rattle.qcow2_base.specs.declared.fault.Fault.TheVariants.{EntryUnaligned, TableTooBig}
 use Rattle.qcow2_base.specs.declared.fault.Fault.TheVariants as fault
 use Rattle.qcow2_metadata.specs.Header.{geometry}
-use Rattle.qcow2_metadata.specs.Table.{TablePlace, TableState, edited, grown_count, grown_numbers, loaded_l1_table, loaded_l2_table, most_l1_entries, most_l2_entries, most_reftable_entries, place_fault}
+use Rattle.qcow2_metadata.specs.Table.{TablePlace, TableState, edited, loaded_l1_table, loaded_l2_table, most_l1_entries, most_l2_entries, most_reftable_entries, place_fault}
 use Rattle.qcow2_metadata.specs.declared.range.TheConstants.{MAX_FILE_LENGTH, MAX_OFFSET}
 
 -- so many entries that begin with a cluster of 2 ^ cb bytes
@@ -44,25 +44,6 @@ too_big = refl
 -- a table of so many entries 0
 abbrev table : ℕ → ℕ → TableState
 table cb n = record { numbers = replicate n 0; cluster = None; modified = false; geometry = geometry cb false }
-
--- growth goes by whole clusters
-pub grown_for_entry_0 : grown_count (table 9 0) 0 ≡ 64
-grown_for_entry_0 = refl
-
-pub grown_for_entry_64 : grown_count (table 9 1) 64 ≡ 128
-grown_for_entry_64 = refl
-
-pub grown_keeps_what_there_is : grown_count (table 9 65) 0 ≡ 128
-grown_keeps_what_there_is = refl
-
-pub grown_to_the_most : grown_count (table 21 0) 4194303 ≡ 4194304
-grown_to_the_most = refl
-
-pub grown_past_the_most : grown_count (table 21 0) 4194304 ≡ 4456448
-grown_past_the_most = refl
-
-pub grown_with_zeros : grown_numbers (7 ∷ 8 ∷ []) 4 ≡ 7 ∷ 8 ∷ 0 ∷ 0 ∷ []
-grown_with_zeros = refl
 
 -- an image of 512-byte clusters, zero but for the entry of guest cluster 3 in the table at cluster 2
 abbrev sample : ℕ → Image

@@ -9,7 +9,8 @@ use Rattle.std.specs.Slice.{IsGetResult}
 use mathlib.Core.Path.{fun_ext}
 use Rattle.qcow2_base.specs.Storage.{Holds, Image, IsBytes, SameOutside, be, be_of_same, be_tells, image_of}
 use Rattle.qcow2_base.specs.declared.fault.Fault.{Fault}
-use Rattle.qcow2_metadata.specs.Table.{TablePlace, first_fault, grown_numbers, numbers_at, offset_of, table_numbers}
+use Rattle.qcow2_metadata.specs.Table.{TablePlace, first_fault, numbers_at, offset_of, table_numbers}
+use Rattle.qcow2_metadata.specs.Table.Growth.{grown_numbers}
 
 pub no_fault_at_all : (first rest : Option Fault) → option_or first rest ≡ None → (first ≡ None) × (rest ≡ None)
 no_fault_at_all None rest h = (refl, h)

@@ -1,5 +1,6 @@
+pub mod Growth
+pub mod OneEntry
 use Rattle.std.specs.Prelude.{◌≡◌, false, true, OnOk, OnErr, IfErr, IsErrOf, ℕ, Bool, ◌⊎◌, ◌+◌, ◌-◌, ◌*◌, ◌%◌, ◌^◌, ◌<◌, ◌≤◌, max, nat_lt, if◌then◌else◌, List, [], ◌∷◌, ◌++◌, map, length, slice_index, slice_set, take, replicate, Option, Some, None, option_map, Result, Ok, Err, IfSome, IsTrue}
-use Rattle.std.specs.Int.{next_multiple_of}
 use Rattle.std.specs.List.{range_with_len}
 use Rattle.std.specs.Option.{option_or}
 use Rattle.qcow2_base.specs.Storage.{CountsFailure, Image, OnlyWrites, SameDevice, SameOutside, StorageState, be, image_of}
@@ -200,14 +201,6 @@ pub record IsLawful (fault_of : ℕ → ℕ → Option Fault) (has_lawful_count 
   pub valid : first_fault (fault_of cb) numbers ≡ None
   pub count : IsTrue (has_lawful_count cb (length numbers))
   pub bound : length numbers ≤ 2 ^ 48
-
--- the number of entries that a table has after it has grown to hold an index: whole clusters of them
-abbrev pub grown_count : TableState → ℕ → ℕ
-grown_count table index = next_multiple_of (max (index + 1) (length table.numbers)) (2 ^ (table.geometry.cluster_bits - 3))
-
--- the entries, and then zeros up to a count
-abbrev pub grown_numbers : List ℕ → ℕ → List ℕ
-grown_numbers numbers count = numbers ++ replicate (count - length numbers) 0
 
 -- a cluster that an entry may refer to: not the header's, and with an offset that the entry can hold
 pub record IsReferable (cb : ℕ) (cluster : HostCluster) : Type 0 where

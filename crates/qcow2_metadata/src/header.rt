@@ -133,6 +133,7 @@ impl Header {
     #[inline]
     pub fn l2_entries(&self) -> usize
         ensures value { result ≡ 2 ^ (self.now.v2.cluster_bits - 3) }
+        ensures some { 64 ≤ result }
         ensures bound { result ≤ 2 ^ 18 }
     {
         1 << (self.v2.cluster_bits - 3)
@@ -176,6 +177,7 @@ impl Header {
     #[inline]
     pub fn rb_entries(&self) -> usize
         ensures value { result ≡ 2 ^ (self.now.v2.cluster_bits + 3 - self.now.base.refcount_order) }
+        ensures some { 64 ≤ result }
         ensures bound { result ≤ 2 ^ 24 }
     {
         1 << self.rb_bits()

@@ -21,5 +21,5 @@ pub use range::{MAX_FILE_LENGTH, MAX_OFFSET};
 pub use refblock::{RefBlock, RefBlockWriteGuard};
 pub use table::{
     CompressedClusterReadGuard, EntryTable, L1Table, L2Table, L2TableWriteGuard, RefTable, Table,
-    TableKind,
+    TableKind, Turns, least_spare,
 };

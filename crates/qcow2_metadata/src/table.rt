@@ -8,6 +8,7 @@ ghost use Rattle.qcow2_base.specs.Types.{IsClusterBits};
 ghost use Rattle.qcow2_base.specs.declared.types.HostOffset.{HostOffset as Offset};
 ghost use Rattle.qcow2_metadata.specs.Answers.{Answers};
 ghost use Rattle.qcow2_metadata.specs.Table.{IsLoaded, LoadRefuses, TableState, WritesTable, entries_fault, first_fault, flagged, loaded_table, new_table, offset_of, on_storage, place_fault, place_of, table_at};
+ghost use Rattle.qcow2_metadata.specs.Table.OneEntry.{WritesEntry, range_of};
 
 use crate::range::range_offset;
 use crate::{Header, TableEntry};
@@ -15,16 +16,20 @@ use qcow2_base::{ClusterCount, Fault, HostCluster, HostOffset, Storage};
 use std::alloc::Global;
 
 mod entry_table;
+mod growth;
 mod l1_table;
 mod l2_guards;
 mod l2_table;
+mod one_entry;
 mod pieces;
 mod ref_table;
 
 pub use entry_table::{EntryTable, TableKind};
+pub use growth::{Turns, least_spare};
 pub use l1_table::L1Table;
 pub use l2_guards::{CompressedClusterReadGuard, L2TableWriteGuard};
 pub use l2_table::L2Table;
+use one_entry::{entries_at_once, write_entries};
 use pieces::{read_entries, write_pieces};
 pub use ref_table::RefTable;
 
@@ -195,6 +200,32 @@ pub trait Table: Sized {
                 Err(fault.into())
             }
         }
+    }
+
+    /// Writes one entry of the table to the image, by one call of the storage: the aligned bytes that hold
+    /// it, counted from the table's begin, with the table's entries and with zeros past its end. They are as
+    /// long as the greater of the storage's alignments, eight bytes at least, or eight bytes where that is
+    /// more than a cluster, so no byte of another cluster changes. Takes memory where they are more than
+    /// 4096. The index is in bounds.
+    ///
+    /// Refuses what `write` refuses, then want of memory; nothing has changed then. The table stays as it
+    /// is, and counts as modified as before, whatever it answers.
+    final fn write_entry<S: Storage>(&mut self, image: &mut S, index: usize) -> Result<(), Fault>
+        requires { index < length (state self.old).numbers }
+        ensures { WritesEntry MAX_ENTRIES index
+            (range_of (state self.old).geometry.cluster_bits (S.state image.old) index) result
+            (on_storage (state self.old) (S.state image.old))
+            (on_storage (state self.new) (S.state image.new)) }
+    {
+        let Some(cluster) = self.get_cluster() else {
+            return Err(Fault::NoOffset);
+        };
+        let (cluster_bits, entries) = (self.cluster_bits(), self.entries());
+        let offset = table_offset(cluster, cluster_bits, entries, Self::MAX_ENTRIES)?;
+        let count = entries_at_once(image, cluster_bits);
+        let first = index / count * count;
+        let place = HostOffset(offset.0 + 8 * first as u64);
+        write_entries(self, image, place, first, count)
     }
 
     ghost few_entries: { MAX_ENTRIES ≤ 2 ^ 48 };

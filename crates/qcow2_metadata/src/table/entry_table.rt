@@ -3,7 +3,8 @@
 ghost use Rattle.std.specs.Prelude.{◌≡◌, ℕ, Bool, true, false, ◌*◌, ◌^◌, ◌<◌, ◌≤◌, ◌↔◌, IfOk, IsOkUnless, IsTrue, length, map, slice_get, slice_index, slice_set, Some, None};
 ghost use Rattle.std.proofs.Common.{rules};
 ghost use Rattle.qcow2_base.specs.Types.{IsClusterBits};
-ghost use Rattle.qcow2_metadata.specs.Table.{edited, elsewhere, first_fault, grown_numbers, new_table};
+ghost use Rattle.qcow2_metadata.specs.Table.{edited, elsewhere, first_fault, new_table};
+ghost use Rattle.qcow2_metadata.specs.Table.Growth.{grown_numbers};
 
 use super::Table;
 use crate::{Header, TableEntry};

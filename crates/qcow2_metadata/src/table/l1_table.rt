@@ -5,7 +5,8 @@ ghost use Rattle.std.proofs.Common.{lit≤};
 ghost use Rattle.qcow2_base.specs.declared.fault.Fault.TheVariants.{NoMemory, NotPlaced};
 ghost use Rattle.qcow2_metadata.specs.Entries.{IsOneCluster, l1_entry_for};
 ghost use Rattle.qcow2_metadata.specs.Header.Pointers.{ArePendingFor, pointer_fault, with_l1_table};
-ghost use Rattle.qcow2_metadata.specs.Table.{IsReferable, edited, grown_count, grown_numbers, most_l1_entries, new_table};
+ghost use Rattle.qcow2_metadata.specs.Table.{IsReferable, edited, most_l1_entries, new_table};
+ghost use Rattle.qcow2_metadata.specs.Table.Growth.{grown_count, grown_numbers};
 
 use super::{EntryTable, L2Table, Table, TableKind};
 use crate::entries::refuse;

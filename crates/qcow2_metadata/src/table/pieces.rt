@@ -7,16 +7,14 @@ ghost use Rattle.qcow2_metadata.specs.Answers.{Answers};
 ghost use Rattle.qcow2_metadata.specs.Table.{WritesPieces, chunk_numbers, decoded, first_fault, table_numbers};
 
 use super::Table;
+use crate::pieces::PIECE_BYTES;
 use crate::range::read_range;
 use crate::{Header, TableEntry};
 use qcow2_base::{Fault, HostOffset, Storage, StorageFault, write_be};
 use std::alloc::{AllocError, Global};
 
-/// How many bytes of a table are read or written at once, at most.
-const PIECE_BYTES: usize = 4096;
-
-/// How many entries these are.
-const PIECE_ENTRIES: usize = PIECE_BYTES / 8;
+/// How many entries of a table are read or written at once, at most.
+pub(super) const PIECE_ENTRIES: usize = PIECE_BYTES / 8;
 
 // The entries that stand in the image from an offset on, or the fault of the first that is none. Reads
 // in pieces of 4096 bytes, and none after that of such an entry.
@@ -154,16 +152,15 @@ pub(super) fn write_pieces<T: Table, S: Storage>(
     Ok(())
 }
 
-// Puts the numbers of the table's entries from an index on into the bytes, as many as these hold.
-fn encode<T: Table>(table: &T, first: usize, bytes: &mut [u8])
-    requires within { 8 * first + length bytes.old ≤ 8 * length (T.state table.now).numbers }
-    requires bound { length (T.state table.now).numbers ≤ 2 ^ 48 }
+// Puts the numbers of the table's entries from an index on into the bytes, as many as these hold, and
+// zeros past the table's end.
+pub(super) fn encode<T: Table>(table: &T, first: usize, bytes: &mut [u8])
+    requires { first ≤ 2 ^ 48 }
     ensures written { (i : ℕ) → 8 * i + 8 ≤ length bytes.new →
         be (image_of bytes.new) (8 * i) 8 ≡ slice_index (T.state table.now).numbers (first + i) }
     ensures len { length bytes.new ≡ length bytes.old }
 {
     for index in 0..bytes.len() / 8 {
-        let entry = table.get_ref(first + index).unwrap();
-        write_be(bytes, 8 * index, &entry.to_plain());
+        write_be(bytes, 8 * index, &table.get(first + index).to_plain());
     }
 }

@@ -5,7 +5,8 @@ ghost use Rattle.std.proofs.Common.{lit≤};
 ghost use Rattle.qcow2_metadata.specs.Header.Pointers.{clusters_of, pointer_fault, with_reftable};
 ghost use Rattle.qcow2_metadata.specs.Table.{most_reftable_entries};
 
-use super::{EntryTable, Table, TableKind};
+use super::growth::entries_with;
+use super::{EntryTable, Table, TableKind, Turns, least_spare};
 use crate::entries::refuse;
 use crate::{Header, PendingClusters, RefBlock, RefTableEntry, Refused};
 use qcow2_base::Fault;
@@ -36,10 +37,35 @@ impl TableKind for RefTableEntry {
 }
 
 impl EntryTable<RefTableEntry> {
-    ghost use Rattle.std.specs.Prelude.{◌≡◌, ◌*◌, ◌^◌, ◌<◌, length};
-    ghost use Rattle.qcow2_base.specs.declared.fault.Fault.TheVariants.{NotPlaced};
+    ghost use Rattle.std.specs.Prelude.{◌≡◌, ◌⊎◌, ◌*◌, ◌^◌, ◌<◌, ◌↔◌, length, IfErr, IfOk, IsErrOf};
+    ghost use Rattle.qcow2_base.specs.declared.fault.Fault.TheVariants.{NoMemory, NotPlaced};
     ghost use Rattle.qcow2_metadata.specs.Entries.{IsOneCluster};
-    ghost use Rattle.qcow2_metadata.specs.Table.{IsReferable, edited};
+    ghost use Rattle.qcow2_metadata.specs.Table.{IsReferable, edited, most_reftable_entries, new_table};
+    ghost use Rattle.qcow2_metadata.specs.Table.Growth.{grown_numbers, grown_reftable_count, growth_of};
+
+    /// A copy of the table that holds an index, and pays for its own growth: the same entries, and then zeros,
+    /// in as few whole clusters as that and the `least_spare` entries after the index take. It has no cluster,
+    /// and counts as modified.
+    ///
+    /// Refuses to grow past the most entries that a refcount table may have. The table itself stays.
+    pub fn clone_and_grow(&self, header: &Header, at_least_index: usize) -> Result<RefTable, Fault>
+        requires { header.now.v2.cluster_bits ≡ self.now.geometry.cluster_bits }
+        ensures refused { IsErrOf result Fault.CannotGrow ↔ (most_reftable_entries
+            < grown_reftable_count (growth_of header.now (length self.now.numbers) at_least_index)) }
+        ensures faults { IfErr result (λ fault. (fault ≡ Fault.CannotGrow) ⊎ (fault ≡ NoMemory)) }
+        ensures table { IfOk result (λ table. table ≡ new_table (grown_numbers self.now.numbers
+            (grown_reftable_count (growth_of header.now (length self.now.numbers) at_least_index))) header.now) }
+    {
+        if at_least_index >= RefTableEntry::MAX_ENTRIES {
+            return Err(Fault::CannotGrow);
+        }
+        let len = self.entries();
+        let Some(spare) = least_spare(len, at_least_index, header, &mut Turns::new()) else {
+            return Err(Fault::CannotGrow);
+        };
+        let entries = entries_with(len, at_least_index, spare, header.l2_entries());
+        self.grown(entries, header)
+    }
 
     /// Enters a refcount block, and spends the pending value for its cluster, if there is one. The table then
     /// counts as modified.

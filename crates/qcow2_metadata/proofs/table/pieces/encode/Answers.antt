@@ -1,6 +1,4 @@
-use Rattle.std.proofs.Common.{◌≡◌, ◌+◌, ◌*◌, get_or, Some, inl, sym, ◌∙◌, add-zero, below_more, arith}
-use Rattle.std.specs.List.{slice_get}
-use Rattle.std.proofs.lemmas.Option.{get_or_from_slice_get}
+use Rattle.std.proofs.Common.{◌≡◌, ◌+◌, ◌*◌, slice_index, inl, ◌∙◌, add-zero, below_more, arith}
 use Rattle.qcow2_base.specs.Storage.{be_of_same, image_of}
 use Rattle.qcow2_metadata.proofs.table.pieces.encode.Goals as goal
 
@@ -11,8 +9,7 @@ loop-index-preserved g c =
     let at = c.args.first + index in
     let new = image_of c.write_be.new.bytes in
     let old = image_of c.loop-index.bytes in
-    let found : slice_get numbers at ≡ Some c.to_plain.result = rw c.to_plain.ensures (sym (rw c.unwrap-entry.ensures at c.get_ref.ensures.number)) in
-    let number : c.to_plain.result ≡ get_or numbers at 0 = sym (get_or_from_slice_get numbers at c.to_plain.result 0 found) in
+    let number : c.to_plain.result ≡ slice_index numbers at = c.to_plain.ensures ∙ c.get.ensures.number in
     record {
       len = omega arith;
       written = below_more _ _

@@ -1,0 +1,23 @@
+use Rattle.std.proofs.Common.{arith, rules}
+use Rattle.qcow2_metadata.proofs.OneEntryLemmas.{WritesEntry-of, group-fits, part-few}
+use Rattle.qcow2_metadata.proofs.table.Table.write_entry.Goals as goal
+
+pub write_entries-requires-clause-count : goal.write_entries-requires-clause-count
+write_entries-requires-clause-count g c =
+    (part-few c.cluster_bits-cluster_bits.result c.entries_at_once-count.result c.cluster_bits-cluster_bits.ensures.range.1 c.entries_at_once-count.ensures.part).1
+
+pub write_entries-requires-clause-fits : goal.write_entries-requires-clause-fits
+write_entries-requires-clause-fits g c =
+    let cb = c.cluster_bits-cluster_bits.result in
+    let count = c.entries_at_once-count.result in
+    let part = c.entries_at_once-count.ensures.part in
+    let few = part-few cb count c.cluster_bits-cluster_bits.ensures.range.1 part in
+    let offset = c.in_ok-offset.ensures.offset in
+    rw offset (group-fits cb count c.in-Some.cluster.0 c.args.index (omega (arith, c.cluster_bits-cluster_bits.ensures.range.1)) part few.0 (omega (arith, offset, c.in_ok-offset.ensures.fits, c.entries-entries.ensures.count, c.requires)))
+
+pub returns : goal.returns
+returns g c =
+    let bits = c.cluster_bits-cluster_bits.ensures in
+    let count = c.entries_at_once-count.ensures in
+    WritesEntry-of g.Self.Table.MAX_ENTRIES c.args.index (g.Self.Table.state c.args.self.now) c.in-Some.cluster c.write_entries.result _ _ (search rules) (search rules)
+    (rw bits.value at bits.range.1) (rw (count.count, bits.value) at count.part) (rw (c.in_ok-offset.ensures.offset, count.count, bits.value) at c.write_entries.ensures)

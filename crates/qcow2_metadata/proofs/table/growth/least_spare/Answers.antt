@@ -1,0 +1,58 @@
+use Rattle.std.proofs.Common.{◌≡◌, ◌+◌, ◌<◌, ◌≤◌, arith}
+use Rattle.std.specs.Int.{div_ceil}
+use Rattle.qcow2_metadata.proofs.GrowthLemmas.{IsRoomy-of, enough-least, least_spare-is, needed-enough, needed-least, possible_spare-found, possible_spare-none}
+use Rattle.qcow2_metadata.specs.Table.{most_reftable_entries}
+use Rattle.qcow2_metadata.specs.Table.Growth.{clusters_with, entries_with, growth_of, least_spare}
+use Rattle.qcow2_metadata.proofs.table.growth.least_spare.Goals as goal
+
+pub returns-then-entries-gt-MAX_ENTRIES-clause-spare : goal.returns-then-entries-gt-MAX_ENTRIES-clause-spare
+returns-then-entries-gt-MAX_ENTRIES-clause-spare c =
+    let growth = growth_of c.args.header.now c.args.len c.args.index in
+    let clusters = c.l2_entries-cluster_entries.ensures in
+    let blocks = c.rb_entries-block_counters.ensures in
+    let roomy = IsRoomy-of growth (rw clusters.value at clusters.some) (rw blocks.value at blocks.some) in
+    let many : most_reftable_entries < entries_with growth c.loop-len.spare = rw (c.entries_with-entries.ensures, clusters.value) at c.if-entries-gt-MAX_ENTRIES.true in
+    possible_spare-none growth c.loop-len.spare roomy c.loop-len.invariant.least many
+
+pub returns-then-needed-spare-clause-least : goal.returns-then-needed-spare-clause-least
+returns-then-needed-spare-clause-least c =
+    let growth = growth_of c.args.header.now c.args.len c.args.index in
+    let spare = c.loop-len.spare in
+    let clusters = c.l2_entries-cluster_entries.ensures in
+    let blocks = c.rb_entries-block_counters.ensures in
+    let roomy = IsRoomy-of growth (rw clusters.value at clusters.some) (rw blocks.value at blocks.some) in
+    let few : div_ceil (clusters_with growth spare + spare) growth.block_counters ≤ spare = rw (c.div_ceil-needed.ensures, c.entries_with-entries.ensures, clusters.value, blocks.value) at c.if-needed-spare.true in
+    let enough = needed-enough growth spare roomy few in
+    record {
+      some = c.loop-len.invariant.some;
+      enough = enough;
+      least = λ fewer one is. omega (arith, c.loop-len.invariant.least, enough-least growth fewer roomy is);
+    }
+
+pub returns-then-needed-spare-clause-spare : goal.returns-then-needed-spare-clause-spare
+returns-then-needed-spare-clause-spare c =
+    let growth = growth_of c.args.header.now c.args.len c.args.index in
+    let clusters = c.l2_entries-cluster_entries.ensures in
+    let blocks = c.rb_entries-block_counters.ensures in
+    let roomy = IsRoomy-of growth (rw clusters.value at clusters.some) (rw blocks.value at blocks.some) in
+    let few : entries_with growth c.loop-len.spare ≤ most_reftable_entries = rw (c.entries_with-entries.ensures, clusters.value) at c.if-entries-gt-MAX_ENTRIES.false in
+    possible_spare-found growth c.loop-len.spare (returns-then-needed-spare-clause-least c) roomy few
+
+pub loop-len-preserved : goal.loop-len-preserved
+loop-len-preserved c =
+    let growth = growth_of c.args.header.now c.args.len c.args.index in
+    let spare = c.loop-len.spare in
+    let clusters = c.l2_entries-cluster_entries.ensures in
+    let blocks = c.rb_entries-block_counters.ensures in
+    let roomy = IsRoomy-of growth (rw clusters.value at clusters.some) (rw blocks.value at blocks.some) in
+    let more = needed-least growth spare (least_spare growth) roomy c.loop-len.invariant.least (least_spare-is growth roomy).enough in
+    let needed : c.div_ceil-needed.result ≡ div_ceil (clusters_with growth spare + spare) growth.block_counters = rw (c.entries_with-entries.ensures, clusters.value, blocks.value) at c.div_ceil-needed.ensures in
+    record {
+      some = omega arith;
+      turns = omega arith;
+      least = omega (arith, needed, more);
+      len = c.loop-len.invariant.len;
+    }
+
+pub loop-len-smaller : goal.loop-len-smaller
+loop-len-smaller c = omega (arith, (loop-len-preserved c).least, c.if-needed-spare.false)

@@ -1,0 +1,63 @@
+use Rattle.std.specs.Prelude.{◌≡◌, ℕ, ◌+◌, ◌-◌, ◌*◌, ◌/◌, ◌^◌, ◌≤◌, max, nat_le, if◌then◌else◌, List, ◌++◌, length, replicate, Option, Some, None}
+use Rattle.std.specs.Int.{div_ceil, next_multiple_of}
+use Rattle.qcow2_metadata.specs.Header.{HeaderRecord}
+use Rattle.qcow2_metadata.specs.Table.{TableState, most_reftable_entries}
+
+-- the number of entries that a table has after it has grown to hold an index: whole clusters of them
+abbrev pub grown_count : TableState → ℕ → ℕ
+grown_count table index = next_multiple_of (max (index + 1) (length table.numbers)) (2 ^ (table.geometry.cluster_bits - 3))
+
+-- the entries, and then zeros up to a count
+abbrev pub grown_numbers : List ℕ → ℕ → List ℕ
+grown_numbers numbers count = numbers ++ replicate (count - length numbers) 0
+
+-- a refcount table that is to hold an index: how many entries it has, the index, how many entries fill a
+-- cluster, and how many counters a refcount block has
+pub record Growth : Type 0 where
+  pub len : ℕ
+  pub index : ℕ
+  pub cluster_entries : ℕ
+  pub block_counters : ℕ
+
+-- the growth of a table of so many entries in an image with this header
+abbrev pub growth_of : HeaderRecord → ℕ → ℕ → Growth
+growth_of header len index = record {
+  len = len;
+  index = index;
+  cluster_entries = 2 ^ (header.v2.cluster_bits - 3);
+  block_counters = 2 ^ (header.v2.cluster_bits + 3 - header.base.refcount_order);
+}
+
+-- how many entries the table has with so many spare ones after the index: whole clusters of them
+abbrev pub entries_with : Growth → ℕ → ℕ
+entries_with growth spare = next_multiple_of (max (growth.index + 1 + spare) growth.len) growth.cluster_entries
+
+-- how many clusters these entries fill
+abbrev pub clusters_with : Growth → ℕ → ℕ
+clusters_with growth spare = entries_with growth spare / growth.cluster_entries
+
+-- so many spare blocks have counters enough for the table's clusters and for their own
+abbrev pub IsEnough : Growth → ℕ → Type 0
+IsEnough growth spare = clusters_with growth spare + spare ≤ spare * growth.block_counters
+
+-- the least number of spare blocks that is enough, one at least
+pub record IsLeastSpare (growth : Growth) (spare : ℕ) : Type 0 where
+  pub some : 1 ≤ spare
+  pub enough : IsEnough growth spare
+  pub least : (fewer : ℕ) → 1 ≤ fewer → IsEnough growth fewer → spare ≤ fewer
+
+-- the same by division: beside its own cluster a block counts so many clusters of the table less one, and these
+-- hold the entries after the index less its own, and the entries that there were
+abbrev pub least_spare : Growth → ℕ
+least_spare growth =
+    let entries = growth.cluster_entries * (growth.block_counters - 1) in
+    max (div_ceil (growth.index + 1) (entries - 1)) (div_ceil growth.len entries)
+
+-- how many entries a refcount table has after it has grown to hold an index, and has the least spare ones after it
+abbrev pub grown_reftable_count : Growth → ℕ
+grown_reftable_count growth = entries_with growth (least_spare growth)
+
+-- the least spare, where a refcount table may have so many entries
+abbrev pub possible_spare : Growth → Option ℕ
+possible_spare growth =
+    if nat_le (grown_reftable_count growth) most_reftable_entries then Some (least_spare growth) else None

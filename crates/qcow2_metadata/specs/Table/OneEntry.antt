@@ -1,0 +1,76 @@
+use Rattle.std.specs.Prelude.{◌≡◌, ◌≢◌, ◌⊎◌, ℕ, ◌+◌, ◌*◌, ◌/◌, ◌^◌, ◌<◌, ◌≤◌, max, nat_le, if◌then◌else◌, List, map, length, slice_index, Option, Some, option_map, Result, Err, OnOk, IfErr, IfSome, IsTrue}
+use Rattle.std.specs.List.{range_with_len}
+use Rattle.qcow2_base.specs.Storage.{Image, OnlyWrites, SameOutside, StorageState, be}
+use Rattle.qcow2_base.specs.declared.fault.Fault.{Fault}
+use Rattle.qcow2_base.specs.declared.fault.Fault.TheVariants.{NoMemory, Storage}
+use Rattle.qcow2_metadata.specs.Range.{IsWriteFault}
+use Rattle.qcow2_metadata.specs.Table.{TableOnStorage, TablePlace, numbers_at, offset_of, place_of, table_numbers, write_fault}
+
+-- how many bytes are written for one entry, under cluster_bits: the greatest alignment that the storage asks
+-- for, eight at least, or eight where that is more than a cluster
+abbrev pub entry_alignment : ℕ → StorageState → ℕ
+entry_alignment cb storage =
+    let most = max (max storage.mem_align storage.req_align) 8 in
+    if nat_le most (2 ^ cb) then most else 8
+
+-- entries of a table that are written together: the first one's index, and how many they are
+pub record EntryRange : Type 0 where
+  pub first : ℕ
+  pub count : ℕ
+
+-- the entries in the aligned bytes of the one at an index, counted from the table's first
+abbrev pub range_of : ℕ → StorageState → ℕ → EntryRange
+range_of cb storage index =
+    let count = entry_alignment cb storage / 8 in
+    record { first = index / count * count; count = count }
+
+-- so many entries are a power of two, and no more than fill a cluster
+abbrev pub PartCluster : ℕ → ℕ → Type 0
+PartCluster cb count = (k : ℕ) × (count ≡ 2 ^ k) × (k + 3 ≤ cb)
+
+-- where entries begin in the image
+abbrev pub range_offset : TablePlace → EntryRange → ℕ
+range_offset place range = offset_of place + 8 * range.first
+
+-- the numbers of these entries: those of the table, and zeros past its end
+abbrev pub numbers_in : EntryRange → List ℕ → List ℕ
+numbers_in range numbers = map (λ i. slice_index numbers i) (range_with_len range.first range.count)
+
+-- the image has a table's numbers at its place, but perhaps for that at an index
+abbrev pub HasOthers : ℕ → TablePlace → List ℕ → Image → Type 0
+HasOthers index place numbers image = (i : ℕ) → i < length numbers → i ≢ index →
+    be image (offset_of place + 8 * i) 8 ≡ slice_index numbers i
+
+-- the entry at an index was written, with those beside it: their numbers stand in the new image, and the whole
+-- table does where the old image had the others
+pub record IsWrittenEntry (index : ℕ) (range : EntryRange) (place : TablePlace) (numbers : List ℕ) (old new : Image) : Type 0 where
+  pub entries : table_numbers new (range_offset place range) range.count ≡ numbers_in range numbers
+  pub table : HasOthers index place numbers old → numbers_at place new ≡ numbers
+
+-- the refusals of a write of one entry: those of a write, and want of memory, which is taken for more than
+-- 4096 bytes alone
+abbrev pub IsEntryWriteFault : EntryRange → Option Fault → Fault → Type 0
+IsEntryWriteFault range of_place fault = IsWriteFault of_place fault ⊎ ((fault ≡ NoMemory) × (512 < range.count))
+
+-- where the cluster that holds a table's entry begins
+abbrev pub cluster_offset : TablePlace → ℕ → ℕ
+cluster_offset place index =
+    let size = 2 ^ place.geometry.cluster_bits in (offset_of place + 8 * index) / size * size
+
+-- a write of these entries from an offset on that ended in this answer
+pub record WritesEntries {T : Type 0} (answer : Result T Fault) (offset : ℕ) (range : EntryRange) (numbers : List ℕ) (old new : StorageState) : Type 0 where
+  pub faults : IfErr answer (λ fault. (fault ≡ Storage) ⊎ ((fault ≡ NoMemory) × (512 < range.count)))
+  pub written : IsTrue old.tells → OnOk answer (table_numbers new.byte_at offset range.count ≡ numbers_in range numbers)
+  pub storage : OnlyWrites answer (Some offset) (8 * range.count) old new
+
+-- a write of one entry of a table that ended in this answer
+pub record WritesEntry (most index : ℕ) (range : EntryRange) {T : Type 0} (answer : Result T Fault) (old new : TableOnStorage) : Type 0 where
+  pub refused : IfSome (write_fault most old.table) (λ fault. answer ≡ Err fault)
+  pub faults : IfErr answer (IsEntryWriteFault range (write_fault most old.table))
+  pub table : new.table ≡ old.table
+  pub written : IsTrue old.storage.tells → OnOk answer (IfSome (place_of old.table) (λ place.
+      IsWrittenEntry index range place old.table.numbers old.storage.byte_at new.storage.byte_at))
+  pub cluster : IsTrue old.storage.tells → IfSome (place_of old.table) (λ place.
+      SameOutside (cluster_offset place index) (2 ^ place.geometry.cluster_bits) old.storage.byte_at new.storage.byte_at)
+  pub storage : OnlyWrites answer (option_map (λ place. range_offset place range) (place_of old.table)) (8 * range.count)
+      old.storage new.storage

@@ -1,0 +1,88 @@
+//! Refcount tables pay for their own growth: a table that moves to more clusters needs counters for
+//! these, so it takes spare entries along for new refcount blocks, which need counters too.
+
+ghost use Rattle.std.specs.Prelude.{◌≡◌, ◌+◌, ◌-◌, ◌*◌, ◌^◌, ◌<◌, ◌≤◌, IfSome, max};
+ghost use Rattle.std.specs.Int.{next_multiple_of};
+ghost use Rattle.qcow2_metadata.specs.Table.{most_reftable_entries};
+ghost use Rattle.qcow2_metadata.specs.Table.Growth.{IsLeastSpare, growth_of, possible_spare};
+
+use super::TableKind;
+use crate::{Header, RefTableEntry};
+
+/// Counts the numbers of spare blocks that `least_spare` tries.
+#[derive(Debug, Drop)]
+pub struct Turns {
+    count: usize,
+}
+
+impl Turns {
+    /// No number was tried yet.
+    pub fn new() -> Turns
+        ensures { result.count ≡ 0 }
+    {
+        Turns { count: 0 }
+    }
+
+    /// How many numbers were tried.
+    pub fn count(&self) -> usize
+        ensures { result ≡ self.now.count }
+    {
+        self.count
+    }
+
+    // One more number is tried.
+    fn step(&mut self)
+        requires { self.old.count < 2 ^ 63 }
+        ensures { self.new.count ≡ self.old.count + 1 }
+    {
+        self.count += 1;
+    }
+}
+
+// How many entries a table of so many has that is to hold an index and spare entries after it: whole
+// clusters of them.
+pub(super) fn entries_with(len: usize, index: usize, spare: usize, cluster_entries: usize) -> usize
+    requires len { len < 2 ^ 60 }
+    requires index { index < 2 ^ 60 }
+    requires spare { spare < 2 ^ 60 }
+    requires some { 0 < cluster_entries }
+    requires few { cluster_entries ≤ 2 ^ 18 }
+    ensures { result ≡ next_multiple_of (max (index + 1 + spare) len) cluster_entries }
+{
+    (index + 1 + spare)
+        .max(len)
+        .next_multiple_of(cluster_entries)
+}
+
+/// The least number of spare entries that a refcount table of so many takes along when it grows to hold an
+/// index: as many refcount blocks count all clusters of the grown table, and their own. There is none
+/// where the table would have too many entries. The index is one that a table can have, and no number was
+/// tried before.
+///
+/// Tries at most as many numbers as the answer says, and takes no memory.
+pub fn least_spare(len: usize, index: usize, header: &Header, turns: &mut Turns) -> Option<usize>
+    requires index { index < most_reftable_entries }
+    requires fresh { turns.old.count ≡ 0 }
+    ensures spare { result ≡ possible_spare (growth_of header.now len index) }
+    ensures least { IfSome result (IsLeastSpare (growth_of header.now len index)) }
+    ensures turns { IfSome result (λ spare. turns.new.count ≤ spare) }
+{
+    if len > RefTableEntry::MAX_ENTRIES {
+        return None;
+    }
+    let (cluster_entries, block_counters) = (header.l2_entries(), header.rb_entries());
+    let mut spare = 1;
+    loop {
+        turns.step();
+        let entries = entries_with(len, index, spare, cluster_entries);
+        if entries > RefTableEntry::MAX_ENTRIES {
+            return None;
+        }
+        let clusters = entries / cluster_entries + spare;
+        let needed = clusters.div_ceil(block_counters);
+        if needed <= spare {
+            return Some(spare);
+        }
+        spare = needed;
+    }
+}

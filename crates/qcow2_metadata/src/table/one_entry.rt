@@ -1,0 +1,76 @@
+//! One entry of a table is written with those beside it, as many as the storage's alignment asks for, so
+//! that no aligned storage has to read before it writes. None of them lies in another cluster.
+
+ghost use Rattle.std.specs.Prelude.{◌≡◌, ◌+◌, ◌*◌, ◌/◌, ◌^◌, ◌≤◌, length, IsOkUnless, IsTrue, OnOk, Some};
+ghost use Rattle.qcow2_base.specs.Storage.{OnlyWrites};
+ghost use Rattle.qcow2_base.specs.Types.{IsClusterBits};
+ghost use Rattle.qcow2_metadata.specs.Table.{table_numbers};
+ghost use Rattle.qcow2_metadata.specs.Table.OneEntry.{EntryRange, PartCluster, WritesEntries, entry_alignment, numbers_in};
+
+use super::Table;
+use super::pieces::{PIECE_ENTRIES, encode};
+use crate::pieces::PIECE_BYTES;
+use qcow2_base::{Fault, HostOffset, Storage};
+
+/// How many bytes one entry has.
+const ENTRY_BYTES: usize = 8;
+
+// How many entries are written for one.
+pub(super) fn entries_at_once<S: Storage>(image: &S, cluster_bits: u32) -> usize
+    requires { IsClusterBits cluster_bits }
+    ensures count { result ≡ entry_alignment cluster_bits (S.state image.now) / 8 }
+    ensures part { PartCluster cluster_bits result }
+{
+    let alignment = image.mem_align().max(image.req_align()).max(ENTRY_BYTES);
+    if alignment > 1 << cluster_bits {
+        return 1;
+    }
+    alignment / ENTRY_BYTES
+}
+
+// Writes so many entries from an index on to the image from an offset on, and zeros past the table's end,
+// by one call of the storage. Takes memory for more than 4096 bytes.
+pub(super) fn write_entries<T: Table, S: Storage>(
+    table: &T,
+    image: &mut S,
+    offset: HostOffset,
+    first: usize,
+    count: usize,
+) -> Result<(), Fault>
+    requires first { first ≤ 2 ^ 48 }
+    requires count { count ≤ 2 ^ 18 }
+    requires fits { offset.0 + 8 * count ≤ 2 ^ 56 }
+    ensures { WritesEntries result offset.0 (record { first = first; count = count })
+        (T.state table.now).numbers (S.state image.old) (S.state image.new) }
+{
+    let len = ENTRY_BYTES * count;
+    if count <= PIECE_ENTRIES {
+        let mut array = [0u8; PIECE_BYTES];
+        return write_through(table, image, offset, first, &mut array[..len]);
+    }
+    let mut buffer = vec![in table.allocator(); 0u8; len]?;
+    write_through(table, image, offset, first, buffer.as_mut_slice())
+}
+
+// The same through a buffer that is as long as the entries.
+fn write_through<T: Table, S: Storage>(
+    table: &T,
+    image: &mut S,
+    offset: HostOffset,
+    first: usize,
+    buffer: &mut [u8],
+) -> Result<(), Fault>
+    requires first { first ≤ 2 ^ 48 }
+    requires fits { offset.0 + length buffer.old ≤ 2 ^ 56 }
+    ensures fault { IsOkUnless result Fault.Storage }
+    ensures written { OnOk result (IsTrue (S.state image.old).tells →
+        let range : EntryRange = record { first = first; count = length buffer.old / 8 } in
+        table_numbers (S.state image.new).byte_at offset.0 range.count
+        ≡ numbers_in range (T.state table.now).numbers) }
+    ensures storage { OnlyWrites result (Some offset.0) (length buffer.old)
+        (S.state image.old) (S.state image.new) }
+{
+    encode(table, first, buffer);
+    image.write(buffer, offset.0)?;
+    Ok(())
+}
