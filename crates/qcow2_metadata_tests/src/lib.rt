@@ -37,6 +37,8 @@ mod l2_table;
 #[cfg(test)]
 mod largest_tables;
 #[cfg(test)]
+mod one_entry;
+#[cfg(test)]
 mod pending_clusters;
 #[cfg(test)]
 mod pieces;
@@ -46,6 +48,8 @@ mod pointers;
 mod ref_table_entry;
 #[cfg(test)]
 mod refcount_blocks;
+#[cfg(test)]
+mod reftable_growth;
 #[cfg(test)]
 mod refused_memory;
 #[cfg(test)]

@@ -48,7 +48,7 @@ const L2_TABLES: [(u32, u64, u64, &[(u64, usize)]); 5] = [
 ];
 
 // The number of each entry, which is lawful in each table: no two are the same.
-fn number_at(index: usize) -> u64 {
+pub(crate) fn number_at(index: usize) -> u64 {
     0x8000_0000_0000_0000 + 0x20_0000 * (1 + index as u64 % 4096)
 }
 
