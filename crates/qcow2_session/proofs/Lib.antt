@@ -1,5 +1,7 @@
 mod CommandsExamples
+mod EditsExamples
 mod LinesExamples
+mod StepsExamples
 pub mod CommandsLemmas
 pub mod EditsLemmas
 pub mod FirstLemmas
