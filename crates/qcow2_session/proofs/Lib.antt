@@ -2,8 +2,10 @@ mod CommandsExamples
 mod EditsExamples
 mod LinesExamples
 mod StepsExamples
+mod LookupsExamples
 pub mod CommandsLemmas
 pub mod EditsLemmas
 pub mod FirstLemmas
 pub mod LinesLemmas
+pub mod LookupsLemmas
 pub mod StepsLemmas

@@ -1,5 +1,6 @@
 pub mod Commands
 pub mod Edits
 pub mod Lines
+pub mod Lookups
 pub mod Steps
 pub mod Words

@@ -6,4 +6,6 @@ mod lines;
 mod session;
 
 pub use commands::{list_l2_table, report_fault, run_words};
-pub use session::{Edit, Outcome, Step, StepReply, edit_table, edits_fit, step_block};
+pub use session::{
+    Edit, Outcome, Step, StepReply, edit_table, edits_fit, lookup, lookup_image, step_block,
+};

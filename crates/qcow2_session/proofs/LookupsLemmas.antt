@@ -1,0 +1,79 @@
+use Rattle.std.proofs.Common.{◌≡◌, ℕ, ◌+◌, ◌-◌, ◌*◌, ◌/◌, ◌%◌, ◌^◌, ◌<◌, ◌≤◌, ◌==◌, Bool, true, false, not, Some, None, Result, Ok, Err, ap, lit<, sym, ◌∙◌, arith}
+use Rattle.std.proofs.Math.Nat.{div-mul-le_self, pow-le-pow_right}
+use Rattle.std.proofs.lemmas.Nat.{div-add-mod', mul-le, pow-add, shr_below}
+use Rattle.qcow2_base.specs.Storage.{OnlyReads, StorageState}
+use Rattle.qcow2_base.specs.Types.{IsClusterBits}
+use Rattle.qcow2_base.specs.declared.fault.Fault.{Fault}
+use Rattle.qcow2_base.specs.declared.types.HostOffset.{HostOffset}
+use Rattle.qcow2_metadata.specs.Entries.{entry_fault, l1_fault, l1_reserved_bits, offset_field, offset_unless_zero}
+use Rattle.qcow2_metadata.specs.Header.{HeaderRecord}
+use Rattle.qcow2_metadata.specs.Table.{TablePlace, most_l2_entries, offset_of, place_fault}
+use Rattle.qcow2_session.specs.Lookups.{l1_place}
+
+-- the L1 table of a lawful header begins at the offset that the header says
+pub l1_place-offset : (header : HeaderRecord) → header.v2.l1_table_offset % 2 ^ header.v2.cluster_bits ≡ 0 →
+    offset_of (l1_place header) ≡ header.v2.l1_table_offset
+l1_place-offset header aligned =
+    omega (arith, div-add-mod' header.v2.l1_table_offset (2 ^ header.v2.cluster_bits), aligned)
+
+-- and an L2 table at the one that its lawful entry says
+pub l2_cluster-offset : (cb v : ℕ) → l1_fault cb v ≡ None → offset_field v / 2 ^ cb * 2 ^ cb ≡ offset_field v
+l2_cluster-offset cb v lawful =
+    let aligned : offset_field v % 2 ^ cb ≡ 0 = aligned-by_fault (not (l1_reserved_bits v == 0)) _ lawful in
+    omega (arith, div-add-mod' (offset_field v) (2 ^ cb), aligned)
+  where
+    aligned-by_fault : (reserved : Bool) (n : ℕ) → entry_fault reserved (not (n == 0)) ≡ None → n ≡ 0
+    aligned-by_fault true n lawful = grind (arith, lawful)
+    aligned-by_fault false n lawful = grind (arith, lawful)
+
+-- the cluster of an offset that fits 64 bits begins at one that does
+pub cluster_fits : (offset cluster cb other : ℕ) → offset < 2 ^ 64 → cluster ≡ offset / 2 ^ cb → other ≡ cb → cluster * 2 ^ other < 2 ^ 64
+cluster_fits offset cluster cb other fits is same =
+    rw (is, same) (omega (arith, div-mul-le_self offset (2 ^ cb), fits))
+
+-- a cluster with an offset below 2 ^ 56 ends by there
+pub cluster_ends : (offset cb : ℕ) → cb ≤ 21 → offset < 2 ^ 56 → offset / 2 ^ cb * 2 ^ cb + 2 ^ cb ≤ 2 ^ 56
+cluster_ends offset cb high below =
+    let whole : (56 - cb) + cb ≡ 56 = omega arith in
+    let total : 2 ^ 56 ≡ 2 ^ (56 - cb) * 2 ^ cb = sym (ap (λ x. 2 ^ x) whole) ∙ pow-add 2 (56 - cb) cb in
+    let row : offset / 2 ^ cb < 2 ^ (56 - cb) = shr_below offset (56 - cb) cb (rw whole below) in
+    let room : (offset / 2 ^ cb + 1) * 2 ^ cb ≤ 2 ^ (56 - cb) * 2 ^ cb = mul-le _ _ _ _ (omega arith) (omega arith) in
+    omega (arith, total, room)
+
+-- and so does the one that an L1 entry's offset lies in
+pub l2_cluster_ends : (v cb cluster : ℕ) (offset : HostOffset) → cb ≤ 21 →
+    offset_unless_zero (offset_field v) ≡ Some offset → cluster ≡ offset.0 / 2 ^ cb → cluster * 2 ^ cb + 2 ^ cb ≤ 2 ^ 56
+l2_cluster_ends v cb cluster offset high says is =
+    let below : offset_field v < 2 ^ 56 = omega arith in
+    let field_is : offset.0 ≡ offset_field v = grind (arith, says) in
+    rw is (cluster_ends offset.0 cb high (omega (arith, below, field_is)))
+
+-- an L2 table that ends by 2 ^ 56 can lie there
+pub l2_table-lawful : (place : TablePlace) → place.entries ≡ 2 ^ (place.geometry.cluster_bits - 3) →
+    IsClusterBits place.geometry.cluster_bits → offset_of place + 2 ^ place.geometry.cluster_bits ≤ 2 ^ 56 →
+    place_fault most_l2_entries place ≡ None
+l2_table-lawful place full bits end =
+    let cb = place.geometry.cluster_bits in
+    let high : cb - 3 ≤ 18 = omega (arith, bits.1) in
+    let few : 2 ^ (cb - 3) ≤ 2 ^ 18 = pow-le-pow_right (lit< tt) high in
+    let whole : 3 + (cb - 3) ≡ cb = omega (arith, bits.0) in
+    let size : 2 ^ cb ≡ 2 ^ 3 * 2 ^ (cb - 3) = sym (ap (λ x. 2 ^ x) whole) ∙ pow-add 2 3 (cb - 3) in
+    grind (arith, few, size, full, end)
+
+-- reads one after the other, of which the first succeeded, are reads
+pub reads-then : {A B : Type 0} (value : A) (answer : Result B Fault) (first second third : StorageState) →
+    OnlyReads (Ok value) first second → OnlyReads answer second third → OnlyReads answer first third
+reads-then value answer first second third one other = record {
+  told = grind (arith, one.told, other.told);
+  bytes = other.bytes ∙ one.bytes;
+  device = grind (arith, one.device, other.device);
+}
+
+-- reads that ended in a fault, whatever they were to answer
+pub reads-fault : {A B : Type 0} (one : Result A Fault) (other : Result B Fault) (fault : Fault) (first second : StorageState) →
+    one ≡ Err fault → other ≡ Err fault → OnlyReads one first second → OnlyReads other first second
+reads-fault one other fault first second is same reads = record {
+  told = grind (arith, is, same, reads.told);
+  bytes = reads.bytes;
+  device = reads.device;
+}
