@@ -19,6 +19,7 @@ use std::alloc::Global;
 ///
 /// Reads at most that one L2 table, and answers the fault of its first bad entry, wherever in the table that
 /// is. Changes no byte.
+#[tactic(auto, using(crate::proofs::LookupsLemmas::cluster_fits))]
 pub fn lookup<S: Storage>(
     alloc: Global,
     image: &mut S,

@@ -1,15 +1,7 @@
-use Rattle.std.proofs.Common.{ap, arith, sym, ◌∙◌}
 use Rattle.std.proofs.lemmas.Result.{err_from_is_err_and}
-use Rattle.qcow2_metadata.specs.Header.{Geometry}
 use Rattle.qcow2_metadata.specs.Table.{table_at}
-use Rattle.qcow2_session.proofs.LookupsLemmas.{cluster_fits, l2_table-lawful}
+use Rattle.qcow2_session.proofs.LookupsLemmas.{l2_table-lawful}
 use Rattle.qcow2_session.proofs.session.lookups.lookup.Goals as goal
-
-pub get_mapping-requires : goal.get_mapping-requires
-get_mapping-requires g c =
-    cluster_fits c.args.guest_offset.0 c.cluster-guest_cluster.result.0 c.cluster_bits-cluster_bits.result
-    c.in_ok-l2_table.l2_table.geometry.cluster_bits (omega arith) c.cluster-guest_cluster.ensures
-    (ap (λ (g : Geometry). g.cluster_bits) c.in_ok-l2_table.ensures.loaded.geometry ∙ sym c.cluster_bits-cluster_bits.ensures.value)
 
 pub returns-in_err-l2_table-clause-faults : goal.returns-in_err-l2_table-clause-faults
 returns-in_err-l2_table-clause-faults g c =
