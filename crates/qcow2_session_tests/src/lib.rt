@@ -11,7 +11,11 @@ mod edits;
 mod every_edit;
 mod failing_output;
 #[cfg(test)]
+mod lookups;
+#[cfg(test)]
 mod refused_memory;
+#[cfg(test)]
+mod sample_image;
 #[cfg(test)]
 mod steps;
 #[cfg(test)]

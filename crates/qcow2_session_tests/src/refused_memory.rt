@@ -7,10 +7,11 @@
 use crate::blocks::{block_says, block_with, flag};
 use crate::commands::run::{Run, one_mapping};
 use crate::commands::{Listing, table_of};
+use crate::sample_image::sample_image;
 use crate::tables::{has, says, table_with};
-use qcow2_base::{Fault, HostCluster, MemStorage};
-use qcow2_metadata::Table;
-use qcow2_session::{Edit, Step, StepReply, edit_table, step_block};
+use qcow2_base::{Fault, GuestOffset, HostCluster, MemStorage};
+use qcow2_metadata::{L2Mapping, Table};
+use qcow2_session::{Edit, Step, StepReply, edit_table, lookup_image, step_block};
 use qcow2_testing::{same, same_bytes};
 use std::test::Fail;
 
@@ -109,4 +110,21 @@ fn a_list_of_steps_that_memory_refused_leaves_the_block(rt: HostRuntime) -> Resu
         block_says(&block, &[8], true, "with memory")?;
     }
     Ok(())
+}
+
+#[test]
+fn a_lookup_that_memory_refused_leaves_the_image(rt: HostRuntime) -> Result<(), Fail> {
+    let bytes = sample_image(rt.alloc(), 9, &[])?;
+    let mut image = MemStorage::new(Vec::from_slice(rt.alloc(), bytes.as_slice())?);
+    let mut answer = lookup_image(rt.alloc(), &mut image, GuestOffset(1543));
+    if let Err(fault) = &answer {
+        same(*fault, Fault::NoMemory, "refused")?;
+        answer = lookup_image(rt.alloc(), &mut image, GuestOffset(1543));
+    }
+    let data = L2Mapping::DataFile {
+        host_cluster: HostCluster(5),
+        copied: true,
+    };
+    same(answer, Ok(data), "with memory")?;
+    same_bytes(image.bytes(), bytes.as_slice(), "refused or not")
 }
