@@ -1,8 +1,8 @@
 mod CommandsExamples
 mod EditsExamples
 mod LinesExamples
-mod StepsExamples
 mod LookupsExamples
+mod StepsExamples
 pub mod CommandsLemmas
 pub mod EditsLemmas
 pub mod FirstLemmas
