@@ -6,6 +6,7 @@ mod StepsExamples
 pub mod CommandsLemmas
 pub mod EditsLemmas
 pub mod FirstLemmas
+pub mod ImagesLemmas
 pub mod LinesLemmas
 pub mod LookupsLemmas
 pub mod StepsLemmas

@@ -160,3 +160,26 @@ undone_at counters i after false below made =
 -- an increment that is made is undone by a decrement right after it
 pub undone : (order i after : ℕ) (counters : List ℕ) → i < length counters → stepped order Increment (slice_index counters i) ≡ Some after → run_of_steps order (Inc i ∷ Dec i ∷ []) counters ≡ record { counters = counters; replies = Done (slice_index counters i) ∷ Done (slice_index counters i + 1) ∷ [] }
 undone order i after counters below made = undone_at counters i after (slice_index counters i == greatest_counter order) below made
+
+-- where no step is made, the counters stay
+pub run-idle : (order : ℕ) (steps : List Step) (counters : List ℕ) → are_some_done (run_of_steps order steps counters).replies ≡ false → (run_of_steps order steps counters).counters ≡ counters
+run-idle order [] counters idle = refl
+run-idle order (step ∷ steps) counters idle =
+    let before = slice_index counters (index_of step) in
+    by_first (stepped order (change_of step) before) before (run-idle order steps counters) idle
+  where
+    by_first : (after : Option ℕ) (before : ℕ) → (are_some_done (run_of_steps order steps counters).replies ≡ false → (run_of_steps order steps counters).counters ≡ counters) → (is_done (reply_of after before) || are_some_done (run_of_steps order steps (after_change counters (index_of step) after)).replies) ≡ false → (run_of_steps order steps (after_change counters (index_of step) after)).counters ≡ counters
+    by_first None before rest idle = rest idle
+    by_first (Some counter) before rest idle = cc
+
+neither : (a b : Bool) → (a || b) ≡ false → a ≡ false
+neither true b none = cc
+neither false b none = refl
+
+-- and so do those of a block that isn't modified
+pub block-idle : (steps : List Step) (replies : List StepReply) (old new : BlockState) → end_of new replies ≡ run_of_steps old.refcount_order steps old.counters → new ≡ left_by replies old new.counters → new.modified ≡ false → new.counters ≡ old.counters
+block-idle steps replies old new run left unmodified =
+    let none : (are_some_done replies || old.modified) ≡ false = sym (ap (λ (block : BlockState). block.modified) left) ∙ unmodified in
+    let made : replies ≡ (run_of_steps old.refcount_order steps old.counters).replies = ap (λ (end : StepsEnd). end.replies) run in
+    let idle = subst (λ replies. are_some_done replies ≡ false) made (neither (are_some_done replies) old.modified none) in
+    ap (λ (end : StepsEnd). end.counters) run ∙ run-idle old.refcount_order steps old.counters idle

@@ -1,5 +1,6 @@
 pub mod Commands
 pub mod Edits
+pub mod Images
 pub mod Lines
 pub mod Lookups
 pub mod Steps

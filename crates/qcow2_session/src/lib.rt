@@ -7,5 +7,6 @@ mod session;
 
 pub use commands::{list_l2_table, report_fault, run_words};
 pub use session::{
-    Edit, Outcome, Step, StepReply, edit_table, edits_fit, lookup, lookup_image, step_block,
+    Edit, Outcome, Step, StepReply, edit_image, edit_table, edits_fit, lookup, lookup_image,
+    step_block, step_image,
 };

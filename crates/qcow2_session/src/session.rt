@@ -1,10 +1,12 @@
-//! Whole lists of changes: edits of an L2 table, and counter steps of a refcount block. What a guest offset
-//! reads as.
+//! Whole lists of changes: edits of an L2 table, and counter steps of a refcount block, in memory and in an
+//! image. What a guest offset reads as.
 
 mod edits;
+mod images;
 mod lookups;
 mod steps;
 
 pub use edits::{Edit, Outcome, edit_table, edits_fit};
+pub use images::{edit_image, step_image};
 pub use lookups::{lookup, lookup_image};
 pub use steps::{Step, StepReply, step_block};

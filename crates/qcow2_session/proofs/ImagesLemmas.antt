@@ -1,0 +1,84 @@
+use Rattle.std.proofs.Common.{◌≡◌, ℕ, ◌+◌, ◌-◌, ◌*◌, ◌^◌, Option, Some, None, option_map, Result, Ok, Err, List, length, ap, subst, pow-add, sym, refl, ◌∙◌, arith}
+use Rattle.qcow2_base.specs.Storage.{Image, OnlyWrites, StorageState}
+use Rattle.qcow2_base.specs.Types.{IsClusterBits}
+use Rattle.qcow2_base.specs.declared.fault.Fault.{Fault}
+use Rattle.qcow2_base.specs.declared.fault.Fault.TheVariants.{BadEdit, BadStep}
+use Rattle.qcow2_base.specs.declared.types.HostCluster.{HostCluster}
+use Rattle.qcow2_metadata.proofs.PackingLemmas.{counters_at-length}
+use Rattle.qcow2_metadata.proofs.TableLemmas.{length-table_numbers}
+use Rattle.qcow2_metadata.specs.Answers.{result_map, unless_refused}
+use Rattle.qcow2_metadata.specs.Edits.{RunEnd}
+use Rattle.qcow2_metadata.specs.Header.{Geometry, HeaderRecord, geometry_of}
+use Rattle.qcow2_metadata.specs.Refblock.{BlockState, block_entries, block_offset}
+use Rattle.qcow2_metadata.specs.Table.{TableState, l2_table_at, loaded_l2_table, most_l2_entries, numbers_at, offset_of, place_fault, place_of}
+use Rattle.qcow2_session.specs.Edits.{Balances, end_of, first_unfit, run_or_refusal}
+use Rattle.qcow2_session.specs.Images.{EditsImage, block_in, edits_end, table_in}
+use Rattle.qcow2_session.specs.Steps.{first_unfit as first_unfit_step, run_or_refusal as steps_or_refusal}
+use Rattle.qcow2_session.specs.declared.session.edits.Edit.{Edit}
+use Rattle.qcow2_session.specs.declared.session.edits.Outcome.{Outcome}
+use Rattle.qcow2_session.specs.declared.session.steps.Step.{Step}
+
+-- a value that wasn't refused
+unrefused : {T : Type 0} (refusal : Option Fault) (answer : Result T Fault) (value : T) → unless_refused refusal answer ≡ Ok value → answer ≡ Ok value
+unrefused None answer value is = is
+unrefused (Some fault) answer value is = cc
+
+-- a table that stands at a cluster has the numbers there
+standing-numbers : (g : Geometry) (cluster : HostCluster) (image : Image) (numbers : List ℕ) → loaded_l2_table g cluster image ≡ Ok numbers → numbers ≡ numbers_at (l2_table_at g cluster) image
+standing-numbers g cluster image numbers stands =
+    let decoded = unrefused (place_fault most_l2_entries (l2_table_at g cluster)) _ numbers stands in
+    let same = unrefused _ (Ok (numbers_at (l2_table_at g cluster) image)) numbers decoded in
+    cc
+
+-- the place of a table that fills a cluster
+place_of-full : (table : TableState) (cluster : HostCluster) → table.cluster ≡ Some cluster → length table.numbers ≡ 2 ^ (table.geometry.cluster_bits - 3) → place_of table ≡ Some (l2_table_at table.geometry cluster)
+place_of-full table cluster has full = rw (has, full) refl
+
+-- so many entries are the bytes of a cluster
+full_cluster : (cb n : ℕ) → IsClusterBits cb → n ≡ 2 ^ (cb - 3) → 8 * n ≡ 2 ^ cb
+full_cluster cb n bits full =
+    let three : 3 + (cb - 3) ≡ cb = omega (arith, bits.0) in
+    rw full (sym (pow-add 2 3 (cb - 3)) ∙ ap (λ k. 2 ^ k) three)
+
+-- a write of a table that fills a cluster changes bytes of that cluster alone
+pub full-writes : (table : TableState) (cluster : HostCluster) (answer : Result (Unit {0}) Fault) (old new : StorageState) → IsClusterBits table.geometry.cluster_bits → table.cluster ≡ Some cluster → length table.numbers ≡ 2 ^ (table.geometry.cluster_bits - 3)
+    → OnlyWrites answer (option_map offset_of (place_of table)) (8 * length table.numbers) old new
+    → OnlyWrites answer (Some (cluster.0 * 2 ^ table.geometry.cluster_bits)) (2 ^ table.geometry.cluster_bits) old new
+full-writes table cluster answer old new bits has full writes =
+    rw (place_of-full table cluster has full, full_cluster table.geometry.cluster_bits (length table.numbers) bits full) at writes
+
+-- edits of a table that was loaded from a cluster, and that stands there afterwards
+pub image-edited : (header : HeaderRecord) (cluster : HostCluster) (edits : List Edit) (outcome : Outcome) (before after : TableState) (old new : Image)
+    → before.geometry ≡ geometry_of header → after.geometry ≡ geometry_of header → before.numbers ≡ numbers_at (l2_table_at (geometry_of header) cluster) old
+    → edits_end header cluster edits old ≡ Ok (end_of after outcome) → loaded_l2_table after.geometry cluster new ≡ Ok after.numbers
+    → Balances outcome before after → EditsImage header cluster edits outcome old new
+image-edited header cluster edits outcome before after old new g g' is end stands balance =
+    let there : loaded_l2_table (geometry_of header) cluster new ≡ Ok after.numbers = subst (λ g. loaded_l2_table g cluster new ≡ Ok after.numbers) g' stands in
+    let is' = standing-numbers (geometry_of header) cluster new after.numbers there in
+    record {
+      decoded = there ∙ sym (ap (result_map (λ (end : RunEnd). end.numbers)) end);
+      balance = λ c. rw (g, g', is, is') at (balance c);
+    }
+
+-- what a refusal is
+refused-by : {T : Type 0} (refusal : Option Fault) (value : T) (fault : Fault) → unless_refused refusal (Ok value) ≡ Err fault → refusal ≡ Some fault
+refused-by None value fault is = cc
+refused-by (Some first) value fault is = cc
+
+-- the refusal of edits that can't be made of a table is the one by its geometry and the number of its entries
+pub refused-edits : (header : HeaderRecord) (cluster : HostCluster) (table : TableState) (edits : List Edit) (image : Image) (fault : Fault)
+    → table.geometry ≡ geometry_of header → length table.numbers ≡ 2 ^ (header.v2.cluster_bits - 3)
+    → run_or_refusal table edits ≡ Err fault → option_map BadEdit (first_unfit (table_in header cluster image) edits) ≡ Some fault
+refused-edits header cluster table edits image fault g full refused =
+    let count = length-table_numbers image (offset_of (l2_table_at (geometry_of header) cluster)) (2 ^ (header.v2.cluster_bits - 3)) in
+    rw (g, full, ← count) at (refused-by (option_map BadEdit (first_unfit table edits)) _ fault refused)
+
+-- the refusal of steps that aren't in a block's bounds is the one by the number of its counters
+pub refused-steps : (header : HeaderRecord) (cluster : HostCluster) (block : BlockState) (steps : List Step) (image : Image) (fault : Fault)
+    → length block.counters ≡ block_entries header.v2.cluster_bits header.base.refcount_order
+    → steps_or_refusal block steps ≡ Err fault → option_map BadStep (first_unfit_step (block_in header cluster image) steps) ≡ Some fault
+refused-steps header cluster block steps image fault full refused =
+    let order = header.base.refcount_order in
+    let cb = header.v2.cluster_bits in
+    let count = counters_at-length order image (block_offset cb cluster) (block_entries cb order) in
+    rw (full, ← count) at (refused-by (option_map BadStep (first_unfit_step block steps)) _ fault refused)

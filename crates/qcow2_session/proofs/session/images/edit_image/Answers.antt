@@ -1,0 +1,25 @@
+use Rattle.std.proofs.Common.{rules, inl, inr}
+use Rattle.std.proofs.lemmas.Result.{err_from_is_err_and}
+use Rattle.qcow2_session.proofs.ImagesLemmas.{image-edited, refused-edits}
+use Rattle.qcow2_session.proofs.session.images.edit_image.Goals as goal
+
+pub returns-in_err-outcome-clause-faults : goal.returns-in_err-outcome-clause-faults
+returns-in_err-outcome-clause-faults g c =
+    let image = (g.S.Storage.state c.args.image.now).byte_at in
+    let exit = err_from_is_err_and c.from_residual-in_err-outcome.result c.from_residual-in_err-outcome.ensures.1 in
+    record {
+      place = search rules;
+      faults = rw (exit.1, exit.2) (elim c.in_err-outcome.ensures.exact [
+        | inl memory ↦ inl (inr (inr (inr (inl memory))))
+        | inr refused ↦ inr (refused-edits c.args.header.now c.args.cluster c.in_ok-table.table c.args.edits.now image
+            c.in_err-outcome.field-0.0 (search rules) (search rules) refused)
+      ]);
+    }
+
+pub returns-clause-written : goal.returns-clause-written
+returns-clause-written g c = λ told.
+    let old = (g.S.Storage.state c.args.image.now).byte_at in
+    let new = (g.S.Storage.state c.write_table_back.new.image).byte_at in
+    let stands = c.in_ok-write_table_back.ensures.stands (rw c.load.ensures.storage.device.tells told) in
+    image-edited c.args.header.now c.args.cluster c.args.edits.now c.in_ok-outcome.outcome c.in_ok-table.table c.edit_table.new.table old new
+    (search rules) (search rules) (search rules) (search rules) stands c.in_ok-outcome.ensures.balance

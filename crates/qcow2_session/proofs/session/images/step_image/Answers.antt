@@ -1,0 +1,27 @@
+use Rattle.std.proofs.Common.{◌≡◌, rules, inl, inr, sym}
+use Rattle.std.proofs.lemmas.Result.{err_from_is_err_and}
+use Rattle.qcow2_session.proofs.ImagesLemmas.{refused-steps}
+use Rattle.qcow2_session.proofs.StepsLemmas.{block-idle}
+use Rattle.qcow2_session.proofs.session.images.step_image.Goals as goal
+
+pub returns-in_err-replies-clause-faults : goal.returns-in_err-replies-clause-faults
+returns-in_err-replies-clause-faults g c =
+    let image = (g.S.Storage.state c.args.image.now).byte_at in
+    let exit = err_from_is_err_and c.from_residual-in_err-replies.result c.from_residual-in_err-replies.ensures.1 in
+    record {
+      place = search rules;
+      faults = rw (exit.1, exit.2) (elim c.in_err-replies.ensures.exact [
+        | inl memory ↦ inr (inl memory)
+        | inr refused ↦ inr (inr (inr (refused-steps c.args.header.now c.args.cluster c.in_ok-block.block c.args.steps.now image
+            c.in_err-replies.field-0.0 (search rules) refused)))
+      ]);
+    }
+
+pub write_block_back-requires-clause-stands : goal.write_block_back-requires-clause-stands
+write_block_back-requires-clause-stands g c = λ unmodified told.
+    let kept = block-idle c.args.steps.now c.in_ok-replies.replies.items c.in_ok-block.block c.step_block.new.block
+    (search rules) (search rules) unmodified in
+    let loaded = c.in_ok-block.ensures.loaded.counters (rw (← c.load.ensures.storage.device.tells) told) in
+    let bits : c.step_block.new.block.cluster_bits ≡ c.args.header.now.v2.cluster_bits = search rules in
+    let order : c.step_block.new.block.refcount_order ≡ c.args.header.now.base.refcount_order = search rules in
+    rw (bits, order, c.load.ensures.storage.bytes, kept) (sym loaded)

@@ -1,0 +1,129 @@
+//! Lists of changes of an image: the table or block is loaded, changed, and written if it is modified.
+
+ghost use Rattle.std.specs.Prelude.{◌≡◌, ◌-◌, ◌*◌, ◌^◌, [], false, IfOk, IsOkUnless, IsTrue, None, Ok, OnOk, Some, length};
+ghost use Rattle.qcow2_base.specs.Storage.{OnlyWrites};
+ghost use Rattle.qcow2_base.specs.Types.{IsClusterBits};
+ghost use Rattle.qcow2_metadata.specs.Answers.{Answers};
+ghost use Rattle.qcow2_metadata.specs.Refblock.{block_counters, block_fault};
+ghost use Rattle.qcow2_metadata.specs.Table.{l2_table_at, loaded_l2_table, most_l2_entries, place_fault};
+ghost use Rattle.qcow2_session.specs.Edits.{end_of as edits_left};
+ghost use Rattle.qcow2_session.specs.Images.{EditsImage, RefusesEdits, RefusesSteps, StepsImage, block_in, edits_end, steps_end, table_in};
+ghost use Rattle.qcow2_session.specs.Steps.{are_some_done, end_of as steps_left};
+
+use super::{Edit, Outcome, Step, StepReply, edit_table, step_block};
+use qcow2_base::{Fault, HostCluster, Storage};
+use qcow2_metadata::{Header, L2Table, RefBlock, Table};
+use std::alloc::Global;
+
+/// Makes all edits of the L2 table that begins with a cluster of an image with this header, one after the
+/// other, and writes the table if there was an edit. Answers what they did to references: at each host
+/// cluster, the references that the table has then and those handed back are together as many as those that
+/// it had before and those gained.
+///
+/// Refuses a table that `L2Table::load` refuses: for an end past 2^56, then for the first entry that isn't
+/// lawful. Then it refuses edits that don't all fit, by the position of the first that `edits_fit` names.
+///
+/// After a storage fault some pieces of the table may be written, then any bytes may stand in one, and those
+/// after it are as before; what the edits did is not told. After any other fault no byte has changed. Bytes
+/// outside the table's cluster never do.
+pub fn edit_image<S: Storage>(
+    alloc: Global,
+    image: &mut S,
+    header: &Header,
+    cluster: HostCluster,
+    edits: &[Edit],
+) -> Result<Outcome, Fault>
+    ensures exact { IsTrue (S.state image.old).tells →
+        Answers (edits_left (table_in header.now cluster (S.state image.new).byte_at)) result
+        (edits_end header.now cluster edits.now (S.state image.old).byte_at) }
+    ensures written { IsTrue (S.state image.old).tells → IfOk result (λ outcome. EditsImage header.now cluster
+        edits.now outcome (S.state image.old).byte_at (S.state image.new).byte_at) }
+    ensures idle { edits.now ≡ [] → (S.state image.new).byte_at ≡ (S.state image.old).byte_at }
+    ensures faults { RefusesEdits header.now cluster edits.now (S.state image.old).byte_at result }
+    ensures storage { OnlyWrites result (Some (cluster.0 * 2 ^ header.now.v2.cluster_bits))
+        (2 ^ header.now.v2.cluster_bits) (S.state image.old) (S.state image.new) }
+{
+    let mut table = L2Table::load(alloc, image, header, cluster, header.l2_entries())?;
+    let outcome = edit_table(&mut table, edits)?;
+    write_table_back(&mut table, image, cluster)?;
+    Ok(outcome)
+}
+
+/// Makes all steps of the refcount block that begins with a cluster of an image with this header, one after
+/// the other, and writes the block if one of them was done. Answers what came of each.
+///
+/// Refuses a block that `RefBlock::load` refuses, for an end past 2^56. Then it refuses steps whose indices
+/// aren't all in bounds, by the position of the first that isn't.
+///
+/// After a storage fault some pieces of the block may be written, then any bytes may stand in one, and those
+/// after it are as before; what came of the steps is not told. After any other fault no byte has changed.
+/// Bytes outside the block's cluster never do.
+pub fn step_image<S: Storage>(
+    alloc: Global,
+    image: &mut S,
+    header: &Header,
+    cluster: HostCluster,
+    steps: &[Step],
+) -> Result<Vec<StepReply>, Fault>
+    ensures exact { IsTrue (S.state image.old).tells →
+        let block = block_in header.now cluster (S.state image.new).byte_at in
+        Answers (λ replies. steps_left block replies.items) result
+        (steps_end header.now cluster steps.now (S.state image.old).byte_at) }
+    ensures written { IsTrue (S.state image.old).tells → IfOk result (λ replies. StepsImage header.now cluster
+        steps.now replies.items (S.state image.old).byte_at (S.state image.new).byte_at) }
+    ensures idle { IsTrue (S.state image.old).tells →
+        IfOk (steps_end header.now cluster steps.now (S.state image.old).byte_at) (λ end.
+        are_some_done end.replies ≡ false → (S.state image.new).byte_at ≡ (S.state image.old).byte_at) }
+    ensures faults { RefusesSteps header.now cluster steps.now (S.state image.old).byte_at result }
+    ensures storage { OnlyWrites result (Some (cluster.0 * 2 ^ header.now.v2.cluster_bits))
+        (2 ^ header.now.v2.cluster_bits) (S.state image.old) (S.state image.new) }
+{
+    let mut block = RefBlock::load(alloc, image, header, cluster)?;
+    let replies = step_block(&mut block, steps)?;
+    write_block_back(&mut block, image, cluster)?;
+    Ok(replies)
+}
+
+// Writes a table to the cluster that it was loaded from, if it is modified. Else the image has it there.
+fn write_table_back<S: Storage>(
+    table: &mut L2Table,
+    image: &mut S,
+    cluster: HostCluster,
+) -> Result<(), Fault>
+    requires cluster { table.old.cluster ≡ Some cluster }
+    requires bits { IsClusterBits table.old.geometry.cluster_bits }
+    requires entries { length table.old.numbers ≡ 2 ^ (table.old.geometry.cluster_bits - 3) }
+    requires place { place_fault most_l2_entries (l2_table_at table.old.geometry cluster) ≡ None }
+    requires stands { table.old.modified ≡ false → IsTrue (S.state image.old).tells →
+        loaded_l2_table table.old.geometry cluster (S.state image.old).byte_at ≡ Ok table.old.numbers }
+    ensures fault { IsOkUnless result Fault.Storage }
+    ensures stands { IsTrue (S.state image.old).tells → OnOk result
+        (loaded_l2_table table.old.geometry cluster (S.state image.new).byte_at ≡ Ok table.old.numbers) }
+    ensures idle { table.old.modified ≡ false → S.state image.new ≡ S.state image.old }
+    ensures storage { OnlyWrites result (Some (cluster.0 * 2 ^ table.old.geometry.cluster_bits))
+        (2 ^ table.old.geometry.cluster_bits) (S.state image.old) (S.state image.new) }
+{
+    table.write_if_modified(image, cluster)
+}
+
+// Writes a block to the cluster that it was loaded from, if it is modified. Else the image has it there.
+fn write_block_back<S: Storage>(
+    block: &mut RefBlock,
+    image: &mut S,
+    cluster: HostCluster,
+) -> Result<(), Fault>
+    requires cluster { block.old.cluster ≡ Some cluster }
+    requires place { block_fault block.old.cluster_bits cluster ≡ None }
+    requires stands { block.old.modified ≡ false → IsTrue (S.state image.old).tells →
+        block_counters block.old.cluster_bits block.old.refcount_order cluster (S.state image.old).byte_at
+        ≡ block.old.counters }
+    ensures fault { IsOkUnless result Fault.Storage }
+    ensures stands { IsTrue (S.state image.old).tells → OnOk result
+        (block_counters block.old.cluster_bits block.old.refcount_order cluster (S.state image.new).byte_at
+        ≡ block.old.counters) }
+    ensures idle { block.old.modified ≡ false → S.state image.new ≡ S.state image.old }
+    ensures storage { OnlyWrites result (Some (cluster.0 * 2 ^ block.old.cluster_bits))
+        (2 ^ block.old.cluster_bits) (S.state image.old) (S.state image.new) }
+{
+    block.write_if_modified(image, cluster)
+}
