@@ -11,6 +11,12 @@ mod edits;
 mod every_edit;
 mod failing_output;
 #[cfg(test)]
+mod image_edits;
+#[cfg(test)]
+mod image_steps;
+#[cfg(test)]
+mod images;
+#[cfg(test)]
 mod lookups;
 #[cfg(test)]
 mod refused_memory;

@@ -7,11 +7,14 @@
 use crate::blocks::{block_says, block_with, flag};
 use crate::commands::run::{Run, one_mapping};
 use crate::commands::{Listing, table_of};
+use crate::images::{header_with, image_of};
 use crate::sample_image::sample_image;
 use crate::tables::{has, says, table_with};
 use qcow2_base::{Fault, GuestOffset, HostCluster, MemStorage};
 use qcow2_metadata::{L2Mapping, Table};
-use qcow2_session::{Edit, Step, StepReply, edit_table, lookup_image, step_block};
+use qcow2_session::{
+    Edit, Step, StepReply, edit_image, edit_table, lookup_image, step_block, step_image,
+};
 use qcow2_testing::{same, same_bytes};
 use std::test::Fail;
 
@@ -127,4 +130,52 @@ fn a_lookup_that_memory_refused_leaves_the_image(rt: HostRuntime) -> Result<(), 
     };
     same(answer, Ok(data), "with memory")?;
     same_bytes(image.bytes(), bytes.as_slice(), "refused or not")
+}
+
+#[test]
+fn edits_that_memory_refused_leave_the_image(rt: HostRuntime) -> Result<(), Fail> {
+    let entry: &[u8] = &[0x80, 0, 0, 0, 0, 0, 0x0a, 0];
+    let edits = [
+        Edit::Map {
+            index: 0,
+            host_cluster: HostCluster(8),
+        },
+        Edit::Discard { index: 3 },
+    ];
+    let header = header_with(rt.alloc(), 9, 4, false)?;
+    let before = image_of(rt.alloc(), 2000, (9, 2), 0xa5, &[(1048, entry)])?;
+    let after = image_of(
+        rt.alloc(),
+        2000,
+        (9, 2),
+        0xa5,
+        &[(1024, &[0x80]), (1030, &[0x10])],
+    )?;
+    let mut image = image_of(rt.alloc(), 2000, (9, 2), 0xa5, &[(1048, entry)])?;
+    let mut answer = edit_image(rt.alloc(), &mut image, &header, HostCluster(2), &edits);
+    if let Err(fault) = &answer {
+        same(*fault, Fault::NoMemory, "edits")?;
+        same_bytes(image.bytes(), before.bytes(), "refused")?;
+        answer = edit_image(rt.alloc(), &mut image, &header, HostCluster(2), &edits);
+    }
+    has(&answer?, &[8], &[(5, 1)], "with memory")?;
+    same_bytes(image.bytes(), after.bytes(), "with memory")
+}
+
+#[test]
+fn steps_that_memory_refused_leave_the_image(rt: HostRuntime) -> Result<(), Fail> {
+    let steps = [Step::Inc { index: 0 }, Step::Dec { index: 1 }];
+    let header = header_with(rt.alloc(), 9, 4, false)?;
+    let before = image_of(rt.alloc(), 2000, (9, 2), 0xa5, &[(1024, &[0, 7])])?;
+    let after = image_of(rt.alloc(), 2000, (9, 2), 0xa5, &[(1024, &[0, 8])])?;
+    let mut image = image_of(rt.alloc(), 2000, (9, 2), 0xa5, &[(1024, &[0, 7])])?;
+    let mut answer = step_image(rt.alloc(), &mut image, &header, HostCluster(2), &steps);
+    if let Err(fault) = &answer {
+        same(*fault, Fault::NoMemory, "steps")?;
+        same_bytes(image.bytes(), before.bytes(), "refused")?;
+        answer = step_image(rt.alloc(), &mut image, &header, HostCluster(2), &steps);
+    }
+    let replies = [StepReply::Done(7), StepReply::Refused];
+    same(answer?.as_slice(), &replies, "with memory")?;
+    same_bytes(image.bytes(), after.bytes(), "with memory")
 }
