@@ -63,11 +63,12 @@ const ENDS_OF_2_MIB: &[Edit] = &[
 // The bytes of the entry of data in cluster 5 of 512 bytes.
 const DATA_5: &[u8] = &[0x80, 0, 0, 0, 0, 0, 0x0a, 0];
 
-// Cluster bits and the table's cluster, whether data is external, how long the image is, and what stands in it.
+// Cluster bits and the table's cluster, whether data is external, how long the image is, and what stands in
+// it.
 type Before = ((u32, u64), bool, usize, Parts<'static>);
 
-// The clusters that gained a reference, the first cluster and the count of each run that lost one, how long the
-// image is then, and what stands in it.
+// The clusters that gained a reference, the first cluster and the count of each run that lost one, how long
+// the image is then, and what stands in it.
 type After = (&'static [u64], &'static [(u64, u64)], usize, Parts<'static>);
 
 const EDITED: &[(&'static str, Before, &'static [Edit], After)] = &[
