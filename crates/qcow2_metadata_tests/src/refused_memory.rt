@@ -306,6 +306,89 @@ fn a_growth_that_memory_refused_leaves_the_l1_table(rt: HostRuntime) -> Result<(
     Ok(())
 }
 
+// A header, and a refcount table that says this.
+fn header_and_reftable(alloc: Global, told: &Told) -> Result<(Header, RefTable), Fault>
+    ensures { IfOk result (λ made. made.0.v2.cluster_bits ≡ made.1.geometry.cluster_bits) }
+{
+    let header = header_with(alloc, 9, false)?;
+    let table = table_that_tells(alloc, &header, told)?;
+    Ok((header, table))
+}
+
+#[test]
+fn a_growth_that_memory_refused_leaves_the_refcount_table(rt: HostRuntime) -> Result<(), Fail> {
+    for modified in [false, true] {
+        let told = Told { modified, ..LOADED };
+        let made = match header_and_reftable(rt.alloc(), &told) {
+            Ok(made) => made,
+            Err(_) => header_and_reftable(rt.alloc(), &told)?,
+        };
+        let (header, source) = made;
+        let mut answer = source.clone_and_grow(&header, 126);
+        tells(&source, &told, modified)?;
+        if let Err(fault) = &answer {
+            same(*fault, Fault::NoMemory, modified)?;
+            answer = source.clone_and_grow(&header, 126);
+        }
+        let grown = Told {
+            entries: 128,
+            cluster: None,
+            modified: true,
+            ..LOADED
+        };
+        tells(&answer?, &grown, modified)?;
+    }
+    Ok(())
+}
+
+// A table of 1024 entries in an image of 8192-byte clusters whose last entry alone isn't 0, an image of 0xa5
+// with this alignment in bits, and the same image.
+fn table_and_images(alloc: Global, bits: u32) -> Result<(L1Table, MemStorage, MemStorage), Fault>
+    ensures { IfOk result (λ made. length made.0.numbers ≡ 1024) }
+{
+    let header = header_with(alloc, 13, false)?;
+    let told = Told {
+        entries: 1024,
+        entry: (1023, NUMBER),
+        cluster: Some(1),
+        modified: true,
+    };
+    let table = table_that_tells(alloc, &header, &told)?;
+    let image = filled_image(alloc, 16384)?.with_align(1 << bits.min(30));
+    Ok((table, image, filled_image(alloc, 16384)?))
+}
+
+// Writes entry 1023, and once more where memory was refused. The answer says whether it was.
+fn writes_the_last_entry(alloc: Global, bits: u32) -> Result<bool, Fail> {
+    let made = match table_and_images(alloc, bits) {
+        Ok(made) => made,
+        Err(_) => table_and_images(alloc, bits)?,
+    };
+    let (mut table, mut image, before) = made;
+    let mut answer = table.write_entry(&mut image, 1023);
+    let is_refused = answer.is_err();
+    if is_refused {
+        same(answer, Err(Fault::NoMemory), bits)?;
+        same_bytes(image.bytes(), before.bytes(), bits)?;
+        answer = table.write_entry(&mut image, 1023);
+    }
+    same((answer, table.is_modified()), (Ok(()), true), bits)?;
+    let number = NUMBER.to_be_bytes();
+    same(image.bytes().get(16376..), Some(number.as_slice()), bits)?;
+    Ok(is_refused)
+}
+
+#[test]
+fn a_write_of_one_entry_that_memory_refused_succeeds_the_next_time(
+    rt: HostRuntime,
+) -> Result<(), Fail> {
+    for bits in [0, 12] {
+        same(writes_the_last_entry(rt.alloc(), bits)?, false, bits)?;
+    }
+    writes_the_last_entry(rt.alloc(), 13)?;
+    Ok(())
+}
+
 // Byte i of a block in an image, which is counter i where they have 8 bits.
 fn number_of(index: usize) -> u8 {
     (index % 251) as u8
