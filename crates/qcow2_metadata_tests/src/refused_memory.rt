@@ -343,7 +343,10 @@ fn a_growth_that_memory_refused_leaves_the_refcount_table(rt: HostRuntime) -> Re
 
 // A table of 1024 entries in an image of 8192-byte clusters whose last entry alone isn't 0, an image of 0xa5
 // with this alignment in bits, and the same image.
-fn table_and_images(alloc: Global, bits: u32) -> Result<(L1Table, MemStorage, MemStorage), Fault>
+fn table_and_aligned_images(
+    alloc: Global,
+    bits: u32,
+) -> Result<(L1Table, MemStorage, MemStorage), Fault>
     ensures { IfOk result (λ made. length made.0.numbers ≡ 1024) }
 {
     let header = header_with(alloc, 13, false)?;
@@ -360,9 +363,9 @@ fn table_and_images(alloc: Global, bits: u32) -> Result<(L1Table, MemStorage, Me
 
 // Writes entry 1023, and once more where memory was refused. The answer says whether it was.
 fn writes_the_last_entry(alloc: Global, bits: u32) -> Result<bool, Fail> {
-    let made = match table_and_images(alloc, bits) {
+    let made = match table_and_aligned_images(alloc, bits) {
         Ok(made) => made,
-        Err(_) => table_and_images(alloc, bits)?,
+        Err(_) => table_and_aligned_images(alloc, bits)?,
     };
     let (mut table, mut image, before) = made;
     let mut answer = table.write_entry(&mut image, 1023);

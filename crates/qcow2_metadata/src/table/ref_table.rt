@@ -43,9 +43,9 @@ impl EntryTable<RefTableEntry> {
     ghost use Rattle.qcow2_metadata.specs.Table.{IsReferable, edited, most_reftable_entries, new_table};
     ghost use Rattle.qcow2_metadata.specs.Table.Growth.{grown_numbers, grown_reftable_count, growth_of};
 
-    /// A copy of the table that holds an index, and pays for its own growth: the same entries, and then zeros,
-    /// in as few whole clusters as that and the `least_spare` entries after the index take. It has no cluster,
-    /// and counts as modified.
+    /// A copy of the table that holds an index, and pays for its own growth: the same entries, and then
+    /// zeros, in as few whole clusters as that and the `least_spare` entries after the index take. It has
+    /// no cluster, and counts as modified.
     ///
     /// Refuses to grow past the most entries that a refcount table may have. The table itself stays.
     pub fn clone_and_grow(&self, header: &Header, at_least_index: usize) -> Result<RefTable, Fault>
@@ -53,8 +53,9 @@ impl EntryTable<RefTableEntry> {
         ensures refused { IsErrOf result Fault.CannotGrow ↔ (most_reftable_entries
             < grown_reftable_count (growth_of header.now (length self.now.numbers) at_least_index)) }
         ensures faults { IfErr result (λ fault. (fault ≡ Fault.CannotGrow) ⊎ (fault ≡ NoMemory)) }
-        ensures table { IfOk result (λ table. table ≡ new_table (grown_numbers self.now.numbers
-            (grown_reftable_count (growth_of header.now (length self.now.numbers) at_least_index))) header.now) }
+        ensures table { let entries =
+            grown_reftable_count (growth_of header.now (length self.now.numbers) at_least_index) in
+            IfOk result (λ table. table ≡ new_table (grown_numbers self.now.numbers entries) header.now) }
     {
         if at_least_index >= RefTableEntry::MAX_ENTRIES {
             return Err(Fault::CannotGrow);
