@@ -46,7 +46,7 @@ pub(crate) fn image_of(
 ) -> Result<MemStorage, Fault> {
     let size = 1u64.wrapping_shl(bits);
     let start = cluster.wrapping_mul(size);
-    let mut bytes = Vec::new(alloc);
+    let mut bytes = Vec::with_capacity(alloc, len)?;
     for at in 0..len as u64 {
         let is_inside = start <= at && at - start < size;
         bytes.push(if is_inside { 0 } else { around })?;
