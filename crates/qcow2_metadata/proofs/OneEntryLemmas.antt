@@ -13,7 +13,7 @@ use Rattle.std.proofs.lemmas.List.FromFn.{get_or-map-range_with_len}
 use Rattle.qcow2_metadata.proofs.PieceLemmas.{numbers_stand}
 use Rattle.qcow2_metadata.proofs.TableLemmas.{table_numbers-held}
 use Rattle.qcow2_metadata.specs.Table.{TablePlace, TableState, offset_of, on_storage, place_of, table_numbers, write_fault}
-use Rattle.qcow2_metadata.specs.Table.OneEntry.{EntryRange, IsEntryWriteFault, IsWrittenEntry, PartCluster, WritesEntries, WritesEntry, cluster_offset, numbers_in, range_of, range_offset}
+use Rattle.qcow2_metadata.specs.Table.OneEntry.{EntryRange, IsEntryWriteFault, IsWrittenEntry, IsPartOfCluster, WritesEntries, WritesEntry, cluster_offset, numbers_in, range_of, range_offset}
 
 -- functions that agree over two ranges have the same values there
 ranges_same : (f g : ℕ → ℕ) (a b n : ℕ) → ((j : ℕ) → j < n → f (a + j) ≡ g (b + j)) → map f (range_with_len a n) ≡ map g (range_with_len b n)
@@ -40,7 +40,7 @@ max-power a b left right = elim (cases_lt a b) [
 ]
 
 -- the entries of an alignment that a cluster's size is no less than
-part_of_power : (a cb : ℕ) → IsPowerOfTwo a → 8 ≤ a → a ≤ 2 ^ cb → PartCluster cb (a / 8)
+part_of_power : (a cb : ℕ) → IsPowerOfTwo a → 8 ≤ a → a ≤ 2 ^ cb → IsPartOfCluster cb (a / 8)
 part_of_power a cb (n, is) some few =
     let three : 3 ≤ n = elim (cases_lt n 3) [
       | inl less ↦ absurd (omega (arith, pow_below n 3 less, is, some))
@@ -54,7 +54,7 @@ part_of_power a cb (n, is) some few =
     let eights : a ≡ 2 ^ (n - 3) * 8 = is ∙ ap (λ m. 2 ^ m) (sym exponent) ∙ pow-add 2 (n - 3) 3 in
     (n - 3, rw eights (mul-div_cancel (2 ^ (n - 3)) (omega arith)), omega (arith, exponent, within))
 
-pub part_of_alignments : (cb mem_align req_align : ℕ) → IsPowerOfTwo mem_align → IsPowerOfTwo req_align → max (max mem_align req_align) 8 ≤ 2 ^ cb → PartCluster cb (max (max mem_align req_align) 8 / 8)
+pub part_of_alignments : (cb mem_align req_align : ℕ) → IsPowerOfTwo mem_align → IsPowerOfTwo req_align → max (max mem_align req_align) 8 ≤ 2 ^ cb → IsPartOfCluster cb (max (max mem_align req_align) 8 / 8)
 part_of_alignments cb mem_align req_align mem req few =
     part_of_power (max (max mem_align req_align) 8) cb (max-power (max mem_align req_align) 8 (max-power mem_align req_align mem req) (3, refl)) (omega arith) few
 
@@ -66,14 +66,14 @@ among index count some =
     (omega (arith, whole), omega (arith, whole, small))
 
 -- a cluster is a whole number of groups of entries, and so is the longest file
-cluster_is_parts : (cb count : ℕ) → PartCluster cb count → (parts : ℕ) × (2 ^ cb ≡ parts * (8 * count)) × (0 < parts)
+cluster_is_parts : (cb count : ℕ) → IsPartOfCluster cb count → (parts : ℕ) × (2 ^ cb ≡ parts * (8 * count)) × (0 < parts)
 cluster_is_parts cb count (k, is, few) =
     let exponent : cb - 3 - k + 3 + k ≡ cb = omega (arith, few) in
     let split : 2 ^ cb ≡ 2 ^ (cb - 3 - k) * 2 ^ 3 * 2 ^ k = ap (λ n. 2 ^ n) (sym exponent) ∙ pow-add 2 (cb - 3 - k + 3) k ∙ ap (λ n. n * 2 ^ k) (pow-add 2 (cb - 3 - k) 3) in
     let turned : 2 ^ (cb - 3 - k) * 8 * count ≡ 2 ^ (cb - 3 - k) * (8 * count) = omega arith in
     (2 ^ (cb - 3 - k), rw (← is) at split ∙ turned, pow_pos (cb - 3 - k))
 
-file_is_parts : (cb count : ℕ) → cb ≤ 56 → PartCluster cb count → (parts : ℕ) × (2 ^ 56 ≡ parts * (8 * count))
+file_is_parts : (cb count : ℕ) → cb ≤ 56 → IsPartOfCluster cb count → (parts : ℕ) × (2 ^ 56 ≡ parts * (8 * count))
 file_is_parts cb count low (k, is, few) = let whole = cluster_is_parts 56 count (k, is, omega (arith, few, low)) in (whole.0, whole.1)
 
 -- where a group begins, as a number of groups
@@ -81,7 +81,7 @@ group_offset : (cluster parts group count : ℕ) → cluster * (parts * (8 * cou
 group_offset cluster parts group count = omega arith
 
 -- a group that begins in a file of at most 2 ^ 56 bytes ends there
-pub group-fits : (cb count cluster index : ℕ) → cb ≤ 56 → PartCluster cb count → 0 < count → cluster * 2 ^ cb + 8 * index < 2 ^ 56 → cluster * 2 ^ cb + 8 * (index / count * count) + 8 * count ≤ 2 ^ 56
+pub group-fits : (cb count cluster index : ℕ) → cb ≤ 56 → IsPartOfCluster cb count → 0 < count → cluster * 2 ^ cb + 8 * index < 2 ^ 56 → cluster * 2 ^ cb + 8 * (index / count * count) + 8 * count ≤ 2 ^ 56
 group-fits cb count cluster index low part some below =
     let in_cluster = cluster_is_parts cb count part in
     let in_file = file_is_parts cb count low part in
@@ -112,7 +112,7 @@ group_in_cluster parts group size some =
     (omega (arith, turned, mul-le-mul_right size below), omega (arith, turned, next, all, mul-le-mul_right size above))
 
 -- entries that are written together lie in the cluster of each of them
-pub group-within : (cb count cluster index : ℕ) → PartCluster cb count → 0 < count → ((cluster * 2 ^ cb + 8 * index) / 2 ^ cb * 2 ^ cb ≤ cluster * 2 ^ cb + 8 * (index / count * count))
+pub group-within : (cb count cluster index : ℕ) → IsPartOfCluster cb count → 0 < count → ((cluster * 2 ^ cb + 8 * index) / 2 ^ cb * 2 ^ cb ≤ cluster * 2 ^ cb + 8 * (index / count * count))
     × (cluster * 2 ^ cb + 8 * (index / count * count) + 8 * count ≤ (cluster * 2 ^ cb + 8 * index) / 2 ^ cb * 2 ^ cb + 2 ^ cb)
 group-within cb count cluster index part some =
     let in_cluster = cluster_is_parts cb count part in
@@ -157,7 +157,7 @@ table_with_entry offset index range numbers old new from below written outside o
     ∙ take_all (length numbers) numbers (omega arith)
 
 -- how many they are at most, and at least
-pub part-few : (cb count : ℕ) → cb ≤ 21 → PartCluster cb count → (0 < count) × (count ≤ 2 ^ 18)
+pub part-few : (cb count : ℕ) → cb ≤ 21 → IsPartOfCluster cb count → (0 < count) × (count ≤ 2 ^ 18)
 part-few cb count low (k, is, few) =
     let most : k ≤ 18 = omega (arith, low, few) in
     rw is (pow_pos k, pow_mono most)
@@ -186,7 +186,7 @@ wider offset len cluster size old new from within outside = record {
 
 -- a write of a table's entries at a lawful place is one of the entry
 pub WritesEntry-of : {T : Type 0} (most index : ℕ) (table : TableState) (cluster : HostCluster) (answer : Result T Fault) (old new : StorageState) → table.cluster ≡ Some cluster → write_fault most table ≡ None
-    → table.geometry.cluster_bits ≤ 21 → PartCluster table.geometry.cluster_bits (range_of table.geometry.cluster_bits old index).count
+    → table.geometry.cluster_bits ≤ 21 → IsPartOfCluster table.geometry.cluster_bits (range_of table.geometry.cluster_bits old index).count
     → WritesEntries answer (cluster.0 * 2 ^ table.geometry.cluster_bits + 8 * (range_of table.geometry.cluster_bits old index).first) (range_of table.geometry.cluster_bits old index) table.numbers old new
     → WritesEntry most index (range_of table.geometry.cluster_bits old index) answer (on_storage table old) (on_storage table new)
 WritesEntry-of most index table cluster answer old new has none low part wrote =

@@ -8,5 +8,7 @@ pub mod EditsLemmas
 pub mod FirstLemmas
 pub mod ImagesLemmas
 pub mod LinesLemmas
+pub mod ListingLemmas
 pub mod LookupsLemmas
+pub mod PrintingLemmas
 pub mod StepsLemmas

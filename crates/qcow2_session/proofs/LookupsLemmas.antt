@@ -1,7 +1,7 @@
 use Rattle.std.proofs.Common.{◌≡◌, ℕ, ◌+◌, ◌-◌, ◌*◌, ◌/◌, ◌%◌, ◌^◌, ◌<◌, ◌≤◌, ◌==◌, Bool, true, false, not, Some, None, Result, Ok, Err, ap, lit<, sym, ◌∙◌, arith}
 use Rattle.std.proofs.Math.Nat.{div-mul-le_self, pow-le-pow_right}
 use Rattle.std.proofs.lemmas.Nat.{div-add-mod', mul-le, pow-add, shr_below}
-use Rattle.qcow2_base.specs.Storage.{OnlyReads, StorageState}
+use Rattle.qcow2_base.specs.Storage.{OnlyReads, ReadsFor, StorageState}
 use Rattle.qcow2_base.specs.Types.{IsClusterBits}
 use Rattle.qcow2_base.specs.declared.fault.Fault.{Fault}
 use Rattle.qcow2_base.specs.declared.types.HostOffset.{HostOffset}
@@ -76,4 +76,13 @@ reads-fault one other fault first second is same reads = record {
   told = grind (arith, is, same, reads.told);
   bytes = reads.bytes;
   device = reads.device;
+}
+
+-- reads that were answered, and then calls that only read
+pub reads-then_for : {A told : Type 0} (value : A) (first second third : StorageState) →
+    OnlyReads (Ok value) first second → ReadsFor told second third → ReadsFor told first third
+reads-then_for value first second third one other = record {
+  failed = grind (arith, one.told, other.failed);
+  bytes = other.bytes ∙ one.bytes;
+  device = grind (arith, one.device, other.device);
 }

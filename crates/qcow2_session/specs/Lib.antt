@@ -1,7 +1,10 @@
 pub mod Commands
 pub mod Edits
 pub mod Images
+pub mod Info
 pub mod Lines
+pub mod Listing
 pub mod Lookups
+pub mod Printing
 pub mod Steps
 pub mod Words

@@ -1,7 +1,11 @@
-use Rattle.std.specs.Prelude.{ℕ, ◌+◌, ◌*◌, ◌^◌, Bool, true, false, List, [], ◌∷◌, ◌++◌, Some, None, codes}
+use Rattle.std.specs.Prelude.{ℕ, ◌+◌, ◌*◌, ◌^◌, Bool, true, false, List, [], ◌∷◌, ◌++◌, Some, None, flat_map, codes}
 use Rattle.std.specs.Fmt.{decimal, digits}
 use Rattle.qcow2_base.specs.Fault.{number_of}
 use Rattle.qcow2_base.specs.declared.fault.Fault.{Fault}
+use Rattle.qcow2_base.specs.declared.types.HostCluster.{HostCluster}
+use Rattle.qcow2_metadata.specs.declared.entries.ClustersToFreeEntry.{ClustersToFreeEntry}
+use Rattle.qcow2_session.specs.declared.session.steps.StepReply.{StepReply}
+use Rattle.qcow2_session.specs.declared.session.steps.StepReply.TheVariants.{Done, Refused}
 use Rattle.qcow2_metadata.specs.Header.{Geometry}
 use Rattle.qcow2_metadata.specs.Entries.{Mapping, data_file, backing, zeros, compressed, mapping}
 
@@ -25,6 +29,10 @@ mapping_text cb (compressed offset length) =
     codes "compressed " ++ offset_text offset ++ codes " " ++ decimal length
 mapping_text cb (backing offset) = codes "backing " ++ offset_text offset
 
+-- the line of a mapping alone
+abbrev pub mapping_line : ℕ → Mapping → List ℕ
+mapping_line cb found = mapping_text cb found ++ codes "\n"
+
 -- the line of an entry: its label, a space and the text of its mapping, or none where the backing file is asked
 abbrev pub entry_line : ℕ → List ℕ → Mapping → List ℕ
 entry_line cb label (backing offset) = []
@@ -35,6 +43,28 @@ abbrev pub entry_lines : (ℕ → List ℕ) → Geometry → ℕ → List ℕ �
 entry_lines label g cluster [] = []
 entry_lines label g cluster (v ∷ vs) =
     entry_line g.cluster_bits (label cluster) (mapping g cluster v) ++ entry_lines label g (cluster + 1) vs
+
+-- the line of what came of a step, and those of several
+abbrev pub reply_line : StepReply → List ℕ
+reply_line (Done before) = codes "ok " ++ decimal before ++ codes "\n"
+reply_line Refused = codes "refused\n"
+
+abbrev pub reply_lines : List StepReply → List ℕ
+reply_lines replies = flat_map reply_line replies
+
+-- the line of clusters that lost a reference: the first, and how many; and those of several
+abbrev pub freed_line : ClustersToFreeEntry → List ℕ
+freed_line clusters = codes "freed " ++ decimal clusters.first.0 ++ codes " " ++ decimal clusters.count.0 ++ codes "\n"
+
+abbrev pub freed_lines : List ClustersToFreeEntry → List ℕ
+freed_lines freed = flat_map freed_line freed
+
+-- the line of a cluster that gained a reference, and those of several
+abbrev pub gained_line : HostCluster → List ℕ
+gained_line cluster = codes "gained " ++ decimal cluster.0 ++ codes "\n"
+
+abbrev pub gained_lines : List HostCluster → List ℕ
+gained_lines gained = flat_map gained_line gained
 
 -- the line of a fault
 abbrev pub fault_line : Fault → List ℕ

@@ -1,23 +1,33 @@
 //! The commands of the program `qmeta`: reading a command line, running it over a storage, and what
 //! it answers.
 
-ghost use Rattle.std.specs.Prelude.{◌≡◌, ◌≢◌, ◌≤◌, ◌↔◌, None, Err, map, string_bytes, IsErr, IsOk, IfErr, IfSome, OnErr, OnOk, MatchResult};
+ghost use Rattle.std.specs.Prelude.{◌≡◌, ◌≢◌, ◌≤◌, ◌↔◌, None, Err, map, string_bytes, IsErr, IsOk, IsTrue, IfErr, IfSome, OnErr, OnOk, MatchResult};
 ghost use Rattle.std.specs.Io.KnownBytes.{Appends, Keeps};
 ghost use Rattle.qcow2_base.specs.declared.fault.Fault.TheVariants.{Storage as StorageFailed};
-ghost use Rattle.qcow2_session.specs.Commands.{command_of, place_fault_of};
+ghost use Rattle.qcow2_session.specs.Commands.{command_of, is_silent_on_faults, place_fault_of};
 ghost use Rattle.qcow2_session.specs.Lines.{fault_line, usage_line};
-ghost use Rattle.qcow2_session.specs.Words.{l2_line, line_of};
+ghost use Rattle.qcow2_session.specs.Words.{line_of};
 
 use qcow2_base::{Fault, FileStorage};
 use std::io;
 use std::io::Write;
 use std::rt::Files;
 
+mod at;
+mod count;
+mod edit;
+mod info;
 mod l2;
+mod list;
 mod words;
 
+pub use at::print_mapping_at;
+pub use count::count_references;
+pub use edit::edit_entries;
+pub use info::print_info;
 pub use l2::list_l2_table;
-use words::{Command, L2Words};
+pub use list::list_tables;
+use words::{Command, edits_of, steps_of};
 
 /// Runs a command line, the words after the program's name, and answers the program's status: 0 for
 /// success, 1 for a fault and 2 for words that are no command.
@@ -96,12 +106,10 @@ fn run<R: Files + AllocGlobal, O: Write>(
 ) -> Result<(), Fault>
     ensures place { IfSome (place_fault_of (line_of command.now)) (λ fault.
         IsErr result × Keeps (O.contents out.old) (O.contents out.new)) }
-    ensures before_any_line { IfErr result (λ fault.
+    ensures before_any_line { IsTrue (is_silent_on_faults (line_of command.now)) → IfErr result (λ fault.
         fault ≢ StorageFailed → Keeps (O.contents out.old) (O.contents out.new)) }
 {
-    let ran = match command {
-        Command::L2(words) => run_l2(rt, words, out),
-    };
+    let ran = run_over(rt, command, out);
     after_flush(ran, out.flush())
 }
 
@@ -114,22 +122,37 @@ fn after_flush(ran: Result<(), Fault>, flushed: io::Result<()>) -> Result<(), Fa
     flushed.map_err(|_| Fault::Storage)
 }
 
-// Opens the image for reading alone, and runs the command `l2` over it.
-fn run_l2<R: Files + AllocGlobal, O: Write>(
+// Opens the image, for writing where the command may change it, and runs the command over it.
+fn run_over<R: Files + AllocGlobal, O: Write>(
     rt: &R,
-    words: &L2Words<'_>,
+    command: &Command<'_>,
     out: &mut O,
 ) -> Result<(), Fault>
-    ensures place { IfSome (place_fault_of (l2_line words.now)) (λ fault.
+    ensures place { IfSome (place_fault_of (line_of command.now)) (λ fault.
         IsErr result × (out.new ≡ out.old)) }
-    ensures before_any_line { IfErr result (λ fault. fault ≢ StorageFailed → out.new ≡ out.old) }
+    ensures before_any_line { IsTrue (is_silent_on_faults (line_of command.now)) → IfErr result (λ fault.
+        fault ≢ StorageFailed → out.new ≡ out.old) }
 {
-    let mut image = FileStorage::open(rt, words.image, false)?;
-    list_l2_table(
-        rt.alloc(),
-        &mut image,
-        words.cluster_bits,
-        words.cluster,
-        out,
-    )
+    let mut image = FileStorage::open(rt, command.image(), command.is_writer())?;
+    let alloc = rt.alloc();
+    match *command {
+        Command::L2(words) => {
+            list_l2_table(alloc, &mut image, words.cluster_bits, words.cluster, out)
+        }
+        Command::Info { .. } => print_info(alloc, &mut image, out),
+        Command::List { .. } => list_tables(alloc, &mut image, out),
+        Command::At { guest_offset, .. } => print_mapping_at(alloc, &mut image, guest_offset, out),
+        Command::Edit {
+            l1_index,
+            edits,
+            ..
+        } => {
+            let edits = edits_of(alloc, edits)?;
+            edit_entries(alloc, &mut image, l1_index, edits.as_slice(), out)
+        }
+        Command::Count { cluster, steps, .. } => {
+            let steps = steps_of(alloc, steps)?;
+            count_references(alloc, &mut image, cluster, steps.as_slice(), out)
+        }
+    }
 }

@@ -5,7 +5,10 @@ mod commands;
 mod lines;
 mod session;
 
-pub use commands::{list_l2_table, report_fault, run_words};
+pub use commands::{
+    count_references, edit_entries, list_l2_table, list_tables, print_info, print_mapping_at,
+    report_fault, run_words,
+};
 pub use session::{
     Edit, Outcome, Step, StepReply, edit_image, edit_table, edits_fit, lookup, lookup_image,
     step_block, step_image,

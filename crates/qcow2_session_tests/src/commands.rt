@@ -1,4 +1,5 @@
 pub(crate) mod run;
+pub(crate) mod whole_images;
 
 use crate::{FailingOutput, Failure};
 use qcow2_base::{Fault, HostCluster, MemStorage, Storage};

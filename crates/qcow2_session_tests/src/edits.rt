@@ -1,6 +1,9 @@
 //! Lists of edits of an L2 table: what all of them leave together, and which lists are refused.
 
-use crate::tables::{Entries, Left, begins, makes, says, table_with};
+use crate::tables::{
+    Entries, GONE, KEEP, Left, PAST, TO_0, TO_1, TO_2, TO_5, TO_6, ZERO, begins, makes, says,
+    table_with,
+};
 use qcow2_base::{Fault, HostCluster};
 use qcow2_metadata::{ClustersToFreeEntry, L2Table, Table};
 use qcow2_session::{Edit, Outcome, edit_table, edits_fit};
@@ -8,50 +11,6 @@ use qcow2_testing::same;
 use std::alloc::{AllocError, Global};
 use std::fmt::Debug;
 use std::test::Fail;
-
-// Edits of the entry at index 3.
-const TO_0: Edit = Edit::Map {
-    index: 3,
-    host_cluster: HostCluster(0),
-};
-
-const TO_1: Edit = Edit::Map {
-    index: 3,
-    host_cluster: HostCluster(1),
-};
-
-const TO_2: Edit = Edit::Map {
-    index: 3,
-    host_cluster: HostCluster(2),
-};
-
-const TO_5: Edit = Edit::Map {
-    index: 3,
-    host_cluster: HostCluster(5),
-};
-
-const TO_6: Edit = Edit::Map {
-    index: 3,
-    host_cluster: HostCluster(6),
-};
-
-const KEEP: Edit = Edit::Zero {
-    index: 3,
-    keep_allocation: true,
-};
-
-const ZERO: Edit = Edit::Zero {
-    index: 3,
-    keep_allocation: false,
-};
-
-const GONE: Edit = Edit::Discard { index: 3 };
-
-// An edit past the end of a table of 64 entries.
-const PAST: Edit = Edit::Map {
-    index: 64,
-    host_cluster: HostCluster(5),
-};
 
 // Cluster bits, whether data is external, and the entry at index 3.
 type Before = (u32, bool, u64);

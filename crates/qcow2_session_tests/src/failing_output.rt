@@ -10,7 +10,7 @@ use std::io;
 use std::io::Write;
 
 /// How much memory an output has from the start, so that writing asks for none.
-const CAPACITY: usize = 128;
+const CAPACITY: usize = 512;
 
 /// Where an output fails.
 #[derive(Clone, Copy, Debug, PartialEq, Eq)]

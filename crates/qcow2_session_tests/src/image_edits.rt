@@ -1,41 +1,12 @@
 //! Lists of edits of an image: what stands in it then, what is handed back, and what refuses them.
 
 use crate::images::{Parts, header_with, image_of, pieces_of, reads_and_writes};
-use crate::tables::has;
+use crate::tables::{GONE, KEEP, PAST, TO_0, TO_5, TO_6, has};
 use qcow2_base::{Fault, HostCluster};
 use qcow2_session::{Edit, edit_image};
 use qcow2_testing::{FailingStorage, same, same_bytes};
 use std::alloc::Global;
 use std::test::Fail;
-
-// Edits of the entry at index 3.
-const TO_0: Edit = Edit::Map {
-    index: 3,
-    host_cluster: HostCluster(0),
-};
-
-const TO_5: Edit = Edit::Map {
-    index: 3,
-    host_cluster: HostCluster(5),
-};
-
-const TO_6: Edit = Edit::Map {
-    index: 3,
-    host_cluster: HostCluster(6),
-};
-
-const KEEP: Edit = Edit::Zero {
-    index: 3,
-    keep_allocation: true,
-};
-
-const GONE: Edit = Edit::Discard { index: 3 };
-
-// An edit past the end of a table of 64 entries.
-const PAST: Edit = Edit::Map {
-    index: 64,
-    host_cluster: HostCluster(5),
-};
 
 // Edits of the first entry and the last one, of clusters of 64 KiB and of 2 MiB.
 const ENDS_OF_64_KIB: &[Edit] = &[

@@ -6,6 +6,7 @@
 
 use crate::blocks::{block_says, block_with, flag};
 use crate::commands::run::{Run, one_mapping};
+use crate::commands::whole_images::{PRINTS, sample_file};
 use crate::commands::{Listing, table_of};
 use crate::images::{header_with, image_of};
 use crate::sample_image::sample_image;
@@ -16,6 +17,7 @@ use qcow2_session::{
     Edit, Step, StepReply, edit_image, edit_table, lookup_image, step_block, step_image,
 };
 use qcow2_testing::{same, same_bytes};
+use std::fs;
 use std::test::Fail;
 
 #[test]
@@ -31,23 +33,35 @@ fn a_listing_that_memory_refused_prints_nothing(rt: HostRuntime) -> Result<(), F
     listing.has(None, "0 data 0xa00 copied\n2 zero\n", "with memory")
 }
 
-// To open a file takes memory too. Where that is refused, the storage fails.
 #[test]
 fn a_command_that_memory_refused_reports_it(rt: HostRuntime) -> Result<(), Fail> {
     let file = one_mapping(&rt, "refused-memory")?;
     let words = ["l2", "IMAGE", "9", "2"];
     let run = Run::of(&rt, file.path.as_str(), &words)?;
     if run.status != 0 {
-        let opened = run.err.bytes() != b"qmeta: fault 34\n".as_slice();
-        let told = if opened {
-            "qmeta: fault 35\n"
-        } else {
-            "qmeta: fault 34\n"
-        };
-        run.has((1, "", told), "refused")?;
+        run.was_refused("l2")?;
     }
     let run = Run::of(&rt, file.path.as_str(), &words)?;
     run.has((0, "3 data 0xa00 copied\n", ""), "with memory")
+}
+
+#[test]
+fn a_command_over_an_image_that_memory_refused_changes_nothing(
+    rt: HostRuntime,
+) -> Result<(), Fail> {
+    let before = sample_image(rt.alloc(), 9, &[])?;
+    for (words, printed) in PRINTS {
+        let file = sample_file(&rt, "refused-memory-of-each", &[])?;
+        let mut run = Run::of(&rt, file.path.as_str(), words)?;
+        if run.status != 0 {
+            run.was_refused(words)?;
+            let bytes = fs::read(&rt, file.path.as_str())?;
+            same_bytes(bytes.as_slice(), before.as_slice(), words)?;
+            run = Run::of(&rt, file.path.as_str(), words)?;
+        }
+        run.has((0, *printed, ""), words)?;
+    }
+    Ok(())
 }
 
 #[test]

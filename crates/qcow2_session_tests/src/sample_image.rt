@@ -39,7 +39,7 @@ pub(crate) fn sample_image(
     Ok(bytes)
 }
 
-fn put_all(bytes: &mut [u8], numbers: Numbers<'_>) -> Result<(), Fail> {
+pub(crate) fn put_all(bytes: &mut [u8], numbers: Numbers<'_>) -> Result<(), Fail> {
     for (place, number) in numbers {
         if *place > bytes.len() || bytes.len() - *place < 8 {
             return Err(Fail::new("the image ends before this place"));

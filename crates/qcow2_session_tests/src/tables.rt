@@ -14,6 +14,50 @@ pub(crate) type Entries<'a> = (usize, &'a [u64]);
 // The cluster of each table.
 const CLUSTER: HostCluster = HostCluster(7);
 
+// Edits of the entry at index 3.
+pub(crate) const TO_0: Edit = Edit::Map {
+    index: 3,
+    host_cluster: HostCluster(0),
+};
+
+pub(crate) const TO_1: Edit = Edit::Map {
+    index: 3,
+    host_cluster: HostCluster(1),
+};
+
+pub(crate) const TO_2: Edit = Edit::Map {
+    index: 3,
+    host_cluster: HostCluster(2),
+};
+
+pub(crate) const TO_5: Edit = Edit::Map {
+    index: 3,
+    host_cluster: HostCluster(5),
+};
+
+pub(crate) const TO_6: Edit = Edit::Map {
+    index: 3,
+    host_cluster: HostCluster(6),
+};
+
+pub(crate) const KEEP: Edit = Edit::Zero {
+    index: 3,
+    keep_allocation: true,
+};
+
+pub(crate) const ZERO: Edit = Edit::Zero {
+    index: 3,
+    keep_allocation: false,
+};
+
+pub(crate) const GONE: Edit = Edit::Discard { index: 3 };
+
+// An edit past the end of a table of 64 entries.
+pub(crate) const PAST: Edit = Edit::Map {
+    index: 64,
+    host_cluster: HostCluster(5),
+};
+
 // An image that begins with a table of these entries.
 fn image_with(alloc: Global, entries: Entries<'_>) -> Result<MemStorage, Fault> {
     let (start, numbers) = entries;

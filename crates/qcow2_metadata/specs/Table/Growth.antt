@@ -46,8 +46,8 @@ pub record IsLeastSpare (growth : Growth) (spare : ℕ) : Type 0 where
   pub enough : IsEnough growth spare
   pub least : (fewer : ℕ) → 1 ≤ fewer → IsEnough growth fewer → spare ≤ fewer
 
--- the same by division: beside its own cluster a block counts so many clusters of the table less one, and these
--- hold the entries after the index less its own, and the entries that there were
+-- the same by division: a block counts its own cluster, and with its other counters clusters of the table that
+-- hold so many entries; one of these is the block's own where it stands after the index
 abbrev pub least_spare : Growth → ℕ
 least_spare growth =
     let entries = growth.cluster_entries * (growth.block_counters - 1) in

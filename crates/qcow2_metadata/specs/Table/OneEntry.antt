@@ -25,8 +25,8 @@ range_of cb storage index =
     record { first = index / count * count; count = count }
 
 -- so many entries are a power of two, and no more than fill a cluster
-abbrev pub PartCluster : ℕ → ℕ → Type 0
-PartCluster cb count = (k : ℕ) × (count ≡ 2 ^ k) × (k + 3 ≤ cb)
+abbrev pub IsPartOfCluster : ℕ → ℕ → Type 0
+IsPartOfCluster cb count = (k : ℕ) × (count ≡ 2 ^ k) × (k + 3 ≤ cb)
 
 -- where entries begin in the image
 abbrev pub range_offset : TablePlace → EntryRange → ℕ

@@ -5,7 +5,7 @@ ghost use Rattle.std.specs.Prelude.{◌≡◌, ◌+◌, ◌*◌, ◌/◌, ◌^�
 ghost use Rattle.qcow2_base.specs.Storage.{OnlyWrites};
 ghost use Rattle.qcow2_base.specs.Types.{IsClusterBits};
 ghost use Rattle.qcow2_metadata.specs.Table.{table_numbers};
-ghost use Rattle.qcow2_metadata.specs.Table.OneEntry.{EntryRange, PartCluster, WritesEntries, entry_alignment, numbers_in};
+ghost use Rattle.qcow2_metadata.specs.Table.OneEntry.{EntryRange, IsPartOfCluster, WritesEntries, entry_alignment, numbers_in};
 
 use super::Table;
 use super::pieces::{PIECE_ENTRIES, encode};
@@ -19,7 +19,7 @@ const ENTRY_BYTES: usize = 8;
 pub(super) fn entries_at_once<S: Storage>(image: &S, cluster_bits: u32) -> usize
     requires { IsClusterBits cluster_bits }
     ensures count { result ≡ entry_alignment cluster_bits (S.state image.now) / 8 }
-    ensures part { PartCluster cluster_bits result }
+    ensures part { IsPartOfCluster cluster_bits result }
 {
     let alignment = image.mem_align().max(image.req_align()).max(ENTRY_BYTES);
     if alignment > 1 << cluster_bits {

@@ -1,14 +1,15 @@
 //! The command `l2`: what one L2 table maps.
 
-ghost use Rattle.std.specs.Prelude.{◌≡◌, ◌≢◌, ◌⊎◌, length, false, ◌-◌, ◌^◌, Err, IsTrue, IfSome, IfErr, IsErrOf, OnOk, IsOkAnd, IsOkUnless, is_ok, true};
+ghost use Rattle.std.specs.Prelude.{◌≡◌, ◌≢◌, ◌⊎◌, length, false, ◌-◌, ◌^◌, Err, IfSome, IfErr, IsErrOf, OnOk, IsOkUnless};
 ghost use Rattle.qcow2_base.specs.declared.fault.Fault.TheVariants.{NoMemory, Storage as StorageFailed};
 ghost use Rattle.qcow2_base.specs.Types.{IsClusterBits};
 ghost use Rattle.qcow2_base.specs.Storage.{ReadsFor};
 ghost use Rattle.std.specs.Fmt.{decimal};
 ghost use Rattle.std.specs.Io.KnownBytes.{Appends};
 ghost use Rattle.qcow2_metadata.specs.Header.{geometry};
-ghost use Rattle.qcow2_metadata.specs.Table.{l2_table_at, loaded_l2_table, most_l2_entries, place_fault};
+ghost use Rattle.qcow2_metadata.specs.Table.{l2_table_at, most_l2_entries, place_fault};
 ghost use Rattle.qcow2_session.specs.Lines.{entry_lines};
+ghost use Rattle.qcow2_session.specs.Printing.{Prints, lines_of_l2_table};
 
 use crate::lines::print_entry;
 use qcow2_base::{Fault, GuestCluster, HostCluster, Storage};
@@ -35,20 +36,11 @@ pub fn list_l2_table<S: Storage, O: Write>(
     ensures place { IfSome (place_fault most_l2_entries (l2_table_at (geometry cluster_bits false) cluster))
         (λ fault. (result ≡ Err fault) ⊎ (result ≡ Err NoMemory)) }
 
-    // Where an image tells its bytes, they hold the table then, and these are its lines.
-    ensures lines { OnOk result (IsTrue (S.state image.old).tells →
-        let table = loaded_l2_table (geometry cluster_bits false) cluster (S.state image.old).byte_at in
-        IsOkAnd table (λ numbers. Appends (O.contents out.old) (O.contents out.new)
-        (entry_lines decimal (geometry cluster_bits false) 0 numbers))) }
+    // The lines are what the bytes mean.
+    ensures prints { Prints result (lines_of_l2_table cluster_bits cluster (S.state image.old).byte_at)
+        (S.state image.old) (S.state image.new) (O.contents out.old) (O.contents out.new) }
 
-    // The storage fault is that of the image or, where the table is lawful, of a failed write.
-    ensures refused { IfErr result (λ fault. IsTrue (S.state image.old).tells →
-        let table = loaded_l2_table (geometry cluster_bits false) cluster (S.state image.old).byte_at in
-        (table ≡ Err fault) ⊎ (fault ≡ NoMemory)
-        ⊎ ((fault ≡ StorageFailed)
-        × (((S.state image.new).failures ≢ (S.state image.old).failures) ⊎ (is_ok table ≡ true)))) }
-
-    // Any other fault comes before the first line.
+    // Any fault but the storage fault comes before the first line.
     ensures before_any_line { IfErr result (λ fault. fault ≢ StorageFailed → out.new ≡ out.old) }
 
     // A call of the image that failed is the storage fault, before the first line too, and none of

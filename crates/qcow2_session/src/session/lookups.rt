@@ -69,8 +69,8 @@ pub fn lookup_image<S: Storage>(
     Ok(mapping)
 }
 
-// The image's header, and what the cluster of a guest offset reads as by the image alone.
-fn lookup_with_header<S: Storage>(
+/// The image's header, and what the cluster of a guest offset reads as by the image alone.
+pub(crate) fn lookup_with_header<S: Storage>(
     alloc: Global,
     image: &mut S,
     guest_offset: GuestOffset,

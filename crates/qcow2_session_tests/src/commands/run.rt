@@ -12,16 +12,18 @@ use std::rt::Files;
 use std::test::Fail;
 use std::{env, fs};
 
-const USAGE: &str = "usage: qmeta COMMAND IMAGE ARGUMENTS\n";
+pub(crate) const USAGE: &str = "usage: qmeta COMMAND IMAGE ARGUMENTS\n";
 
 const NO_PLACE: &str = "qmeta: fault 21\n";
 
-const STORAGE: &str = "qmeta: fault 34\n";
+pub(crate) const STORAGE: &str = "qmeta: fault 34\n";
+
+const NO_MEMORY: &str = "qmeta: fault 35\n";
 
 const ONE_MAPPING: &str = "3 data 0xa00 copied\n";
 
 // What a run ends with: the status, and what was flushed of the output and of the error output.
-type Outcome<'a> = (u8, &'a str, &'a str);
+pub(crate) type Outcome<'a> = (u8, &'a str, &'a str);
 
 // The words of the command `l2` after its image, and what a run of it ends with.
 type L2Row<'a> = (&'a str, &'a str, Outcome<'a>);
@@ -37,7 +39,7 @@ pub(crate) struct Run {
 impl Run {
     // Runs a line of words, with the path of an image in place of the word `IMAGE`, over outputs that
     // fail there.
-    fn failing<R: Files + AllocGlobal>(
+    pub(crate) fn failing<R: Files + AllocGlobal>(
         rt: &R,
         image: &str,
         words: &[&str],
@@ -63,6 +65,13 @@ impl Run {
         let err = std::str::from_utf8(self.err.flushed())?;
         same(&(self.status, out, err), &expected, row)
     }
+
+    // Holds of a run that memory was refused. To open a file takes memory too: where that is refused,
+    // the storage fails.
+    pub(crate) fn was_refused<R: Debug + Drop>(&self, row: R) -> Result<(), Fail> {
+        let opened = self.err.bytes() != STORAGE.as_bytes();
+        self.has((1, "", if opened { NO_MEMORY } else { STORAGE }), row)
+    }
 }
 
 fn words_of(alloc: Global, words: &[&str], image: &str) -> Result<Vec<String>, Fail> {
@@ -74,7 +83,7 @@ fn words_of(alloc: Global, words: &[&str], image: &str) -> Result<Vec<String>, F
     Ok(list)
 }
 
-fn runs<R: Files + AllocGlobal>(
+pub(crate) fn runs<R: Files + AllocGlobal>(
     rt: &R,
     image: &str,
     words: &[&str],
@@ -165,7 +174,7 @@ const WRONG_WORDS: [&[&str]; 20] = [
     &["l", "IMAGE", "9", "2"],
     &["l22", "IMAGE", "9", "2"],
     &["IMAGE", "l2", "9", "2"],
-    &["info", "IMAGE"],
+    &["information", "IMAGE"],
     &["--help"],
 ];
 

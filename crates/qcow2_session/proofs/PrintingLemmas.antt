@@ -1,0 +1,65 @@
+use Rattle.std.proofs.Common.{◌≡◌, ◌≢◌, ◌⊎◌, ℕ, ◌+◌, ◌<◌, List, [], ◌∷◌, ◌++◌, append-nil, flat_map, get_or, length, take, false, Option, Result, Ok, Err, OnOk, IsTrue, ap, inl, inr, refl, ◌∙◌}
+use Rattle.std.specs.Result.{IsOkUnless}
+use Rattle.std.specs.Io.KnownBytes.{Appends}
+use Rattle.std.proofs.KnownBytes.{Appends-trans}
+use Rattle.std.proofs.lemmas.Grind.{flat_map-append}
+use Rattle.std.proofs.lemmas.List.{take_more}
+use Rattle.qcow2_base.specs.Storage.{StorageState}
+use Rattle.qcow2_base.specs.declared.fault.Fault.{Fault}
+use Rattle.qcow2_base.specs.declared.fault.Fault.TheVariants.{NoMemory, Storage}
+use Rattle.qcow2_metadata.specs.Answers.{result_map}
+use Rattle.qcow2_metadata.specs.Header.{HeaderRecord}
+use Rattle.qcow2_metadata.specs.Header.Open.{opened}
+use Rattle.qcow2_session.specs.Printing.{Prints, PrintsSome}
+
+-- what was printed before, and then these lines, if the print of these succeeds
+pub then_prints : {T E : Type 0} (answer : Result T E) (a b c : Option (List ℕ)) (lines more : List ℕ) → Appends a b lines → OnOk answer (Appends b c more) → OnOk answer (Appends a c (lines ++ more))
+then_prints (Ok value) a b c lines more before after = Appends-trans a b c lines more before after
+then_prints (Err error) a b c lines more before after = tt
+
+-- the print of the lines that are meant
+pub Prints-lines : {T : Type 0} (answer : Result T Fault) (meant : Result (List ℕ) Fault) (lines : List ℕ) (old new : StorageState) (a b : Option (List ℕ)) → (IsTrue old.tells → meant ≡ Ok lines) → IsOkUnless answer Storage → OnOk answer (Appends a b lines) → Prints answer meant old new a b
+Prints-lines (Ok value) meant lines old new a b means fault printed = record {
+  lines = λ told. rw (means told) printed;
+  refused = tt;
+}
+Prints-lines (Err error) meant lines old new a b means fault printed = record {
+  lines = tt;
+  refused = λ told. rw (means told) (inr (inr (fault, inr refl)));
+}
+
+-- what is read from the bytes is refused, so no line of it is meant
+pub Prints-refused : {T A : Type 0} (fault : Fault) (read : Result A Fault) (lines_of : A → List ℕ) (old new : StorageState) (a b : Option (List ℕ))
+    → (IsTrue old.tells → (fault ≡ Storage) ⊎ (fault ≡ NoMemory) ⊎ (read ≡ Err fault)) → (fault ≡ Storage → new.failures ≢ old.failures) → Prints {T = T} (Err fault) (result_map lines_of read) old new a b
+Prints-refused fault read lines_of old new a b refused failed = record {
+  lines = tt;
+  refused = λ told. elim (refused told) [
+    | inl storage ↦ inr (inr (storage, inl (failed storage)))
+    | inr (inl memory) ↦ inr (inl memory)
+    | inr (inr bad) ↦ inl (ap (result_map lines_of) bad)
+  ];
+}
+
+-- a header that is loaded by who only reads is that of the bytes
+pub header_read : (read : Result HeaderRecord Fault) (header : HeaderRecord) → opened false read ≡ Ok header → read ≡ Ok header
+header_read (Ok other) header is = is
+header_read (Err fault) header is = cc
+
+-- the lines of one item more
+pub printed-more : {X : Type 0} (line : X → List ℕ) (items : List X) (i : ℕ) (default : X) (a b c : Option (List ℕ)) → i < length items
+    → Appends a b (flat_map line (take i items)) → Appends b c (line (get_or items i default)) → Appends a c (flat_map line (take (i + 1) items))
+printed-more line items i default a b c below before here =
+    rw (take_more items i default below, flat_map-append line (take i items) (get_or items i default ∷ []), append-nil (line (get_or items i default)))
+    (Appends-trans a b c _ _ before here)
+
+-- what is meant by the bytes, in other words
+pub PrintsSome-same : {T : Type 0} (answer : Result T Fault) (meant same : Result (List ℕ) Fault) (old new : StorageState) (a b : Option (List ℕ)) → (IsTrue old.tells → meant ≡ same) → new.tells ≡ old.tells
+    → PrintsSome answer same new a b → PrintsSome answer meant old a b
+PrintsSome-same (Ok value) meant same old new a b is tells prints = record {
+  lines = λ told. rw (is told) (prints.lines (tells ∙ told));
+  refused = tt;
+}
+PrintsSome-same (Err fault) meant same old new a b is tells prints = record {
+  lines = tt;
+  refused = λ told. rw (is told) (prints.refused (tells ∙ told));
+}

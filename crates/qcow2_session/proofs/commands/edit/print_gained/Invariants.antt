@@ -1,0 +1,9 @@
+use Rattle.std.proofs.Common.{take}
+use Rattle.std.specs.Io.KnownBytes.{Appends}
+use Rattle.qcow2_session.specs.Lines.{gained_lines}
+use Rattle.qcow2_session.proofs.commands.edit.print_gained.Given as goal
+
+-- the lines of those before this one are printed
+abbrev pub invariant-loop-cluster : goal.invariant-loop-cluster
+invariant-loop-cluster g l =
+    Appends (g.O.Write.contents l.fn.out) (g.O.Write.contents l.out) (gained_lines (take l.cluster-index l.gained))

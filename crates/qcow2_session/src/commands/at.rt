@@ -1,0 +1,34 @@
+//! The command `at`: what a guest offset reads as.
+
+ghost use Rattle.std.specs.Prelude.{◌≡◌, ◌≢◌, IfErr, IsErrOf};
+ghost use Rattle.qcow2_base.specs.Storage.{ReadsFor};
+ghost use Rattle.qcow2_base.specs.declared.fault.Fault.TheVariants.{Storage as StorageFailed};
+ghost use Rattle.qcow2_session.specs.Printing.{Prints, line_at};
+
+use crate::lines::print_mapping;
+use crate::session::lookup_with_header;
+use qcow2_base::{Fault, GuestOffset, Storage};
+use std::alloc::Global;
+use std::io::Write;
+
+/// Prints what the cluster of a guest offset reads as, by the image alone. The size of the guest's disk isn't
+/// looked at.
+///
+/// Answers the fault of the first part that is refused, header, L1 table or L2 table, before the line; a
+/// failed write to `out` is the storage fault. Changes no byte of the image.
+pub fn print_mapping_at<S: Storage, O: Write>(
+    alloc: Global,
+    image: &mut S,
+    guest_offset: GuestOffset,
+    out: &mut O,
+) -> Result<(), Fault>
+    ensures prints { Prints result (line_at guest_offset.0 (S.state image.old).byte_at)
+        (S.state image.old) (S.state image.new) (O.contents out.old) (O.contents out.new) }
+    ensures before_any_line { IfErr result (λ fault. fault ≢ StorageFailed → out.new ≡ out.old) }
+    ensures storage { ReadsFor (IsErrOf result StorageFailed × (out.new ≡ out.old))
+        (S.state image.old) (S.state image.new) }
+{
+    let (header, mapping) = lookup_with_header(alloc, image, guest_offset)?;
+    print_mapping(&mapping, header.cluster_bits(), out)?;
+    writeln!(out).map_err(|_| Fault::Storage)
+}

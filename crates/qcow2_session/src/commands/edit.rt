@@ -1,0 +1,93 @@
+//! The command `edit`: edits of an L2 table.
+
+ghost use Rattle.std.specs.Prelude.{◌≡◌, ◌≢◌, ◌++◌, IfErr, IsErrOf, IsOkUnless, OnOk};
+ghost use Rattle.std.specs.Io.KnownBytes.{Appends};
+ghost use Rattle.qcow2_base.specs.declared.fault.Fault.TheVariants.{Storage as StorageFailed};
+ghost use Rattle.qcow2_session.specs.Lines.{freed_line, freed_lines, gained_line, gained_lines};
+
+use crate::session::{Edit, Outcome, edit_image};
+use qcow2_base::{Fault, HostCluster, Storage};
+use qcow2_metadata::{ClustersToFreeEntry, Header, L1Table, Table};
+use std::alloc::Global;
+use std::io::Write;
+
+/// Makes edits of the L2 table that an L1 entry names, and prints the clusters that lost a reference, and
+/// then those that gained one. The header is loaded by who writes to the image.
+///
+/// Answers the fault of the header, of the L1 table, 23 where the L1 entry names no table, the fault of the
+/// L2 table or of the first edit that doesn't fit before any line, and has changed nothing then but the
+/// header's autoclear features. A failed write to `out` is the storage fault: the table is written by then.
+pub fn edit_entries<S: Storage, O: Write>(
+    alloc: Global,
+    image: &mut S,
+    l1_index: usize,
+    edits: &[Edit],
+    out: &mut O,
+) -> Result<(), Fault>
+    ensures before_any_line { IfErr result (λ fault. fault ≢ StorageFailed → out.new ≡ out.old) }
+    ensures storage { (S.state image.new).failures ≢ (S.state image.old).failures →
+        IsErrOf result StorageFailed × (out.new ≡ out.old) }
+{
+    let header = Header::load(alloc, image, true)?;
+    let cluster_bits = header.cluster_bits();
+    let cluster = header.l1_table_offset().cluster(cluster_bits);
+    let l1_table = L1Table::load(alloc, image, &header, cluster, header.l1_table_entries())?;
+    let Some(offset) = l1_table.get(l1_index).l2_offset() else {
+        return Err(Fault::NotPlaced);
+    };
+    let outcome = edit_image(alloc, image, &header, offset.cluster(cluster_bits), edits)?;
+    print_outcome(&outcome, out)
+}
+
+// Prints what edits did to references.
+fn print_outcome<O: Write>(outcome: &Outcome, out: &mut O) -> Result<(), Fault>
+    ensures fault { IsOkUnless result Fault.Storage }
+    ensures lines { OnOk result (Appends (O.contents out.old) (O.contents out.new)
+        (freed_lines outcome.now.freed.items ++ gained_lines outcome.now.gained.items)) }
+{
+    print_freed(outcome.freed.as_slice(), out)?;
+    print_gained(outcome.gained.as_slice(), out)
+}
+
+// Prints the line of each range of clusters that lost a reference.
+fn print_freed<O: Write>(freed: &[ClustersToFreeEntry], out: &mut O) -> Result<(), Fault>
+    ensures fault { IsOkUnless result Fault.Storage }
+    ensures lines { OnOk result
+        (Appends (O.contents out.old) (O.contents out.new) (freed_lines freed.now)) }
+{
+    for clusters in freed {
+        print_freed_range(*clusters, out)?;
+    }
+    Ok(())
+}
+
+// Prints the line of clusters that lost a reference.
+fn print_freed_range<O: Write>(clusters: ClustersToFreeEntry, out: &mut O) -> Result<(), Fault>
+    ensures fault { IsOkUnless result Fault.Storage }
+    ensures line { OnOk result
+        (Appends (O.contents out.old) (O.contents out.new) (freed_line clusters)) }
+{
+    let (first, count) = (clusters.first.0, clusters.count.0);
+    writeln!(out, "freed {first} {count}").map_err(|_| Fault::Storage)
+}
+
+// Prints the line of each cluster that gained a reference.
+fn print_gained<O: Write>(gained: &[HostCluster], out: &mut O) -> Result<(), Fault>
+    ensures fault { IsOkUnless result Fault.Storage }
+    ensures lines { OnOk result
+        (Appends (O.contents out.old) (O.contents out.new) (gained_lines gained.now)) }
+{
+    for cluster in gained {
+        print_gained_cluster(*cluster, out)?;
+    }
+    Ok(())
+}
+
+// Prints the line of a cluster that gained a reference.
+fn print_gained_cluster<O: Write>(cluster: HostCluster, out: &mut O) -> Result<(), Fault>
+    ensures fault { IsOkUnless result Fault.Storage }
+    ensures line { OnOk result
+        (Appends (O.contents out.old) (O.contents out.new) (gained_line cluster)) }
+{
+    writeln!(out, "gained {}", cluster.0).map_err(|_| Fault::Storage)
+}
