@@ -3,6 +3,7 @@ mod EditsExamples
 mod LinesExamples
 mod LookupsExamples
 mod StepsExamples
+pub mod ChangingLemmas
 pub mod CommandsLemmas
 pub mod EditsLemmas
 pub mod FirstLemmas

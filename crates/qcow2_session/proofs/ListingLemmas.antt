@@ -11,7 +11,8 @@ use Rattle.qcow2_metadata.specs.Header.{Geometry}
 use Rattle.qcow2_metadata.specs.Entries.{Mapping, mapping}
 use Rattle.qcow2_session.proofs.LinesLemmas.{entry_lines-take-suc}
 use Rattle.qcow2_session.specs.Lines.{entry_line, entry_lines}
-use Rattle.qcow2_session.specs.Listing.{lines_by, lines_of_tables, named_cluster}
+use Rattle.qcow2_session.specs.Listing.{lines_by, lines_of_tables}
+use Rattle.qcow2_session.specs.Lookups.{named_cluster}
 
 -- the offset of each guest cluster that an L1 table of the most entries leads to fits 64 bits
 pub guest_offset-fits : (cb index l2_index : ℕ) → cb ≤ 21 → index < 4194304 → l2_index < 2 ^ (cb - 3) → (index * 2 ^ (cb - 3) + l2_index) * 2 ^ cb < 2 ^ 64

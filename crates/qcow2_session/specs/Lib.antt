@@ -1,3 +1,4 @@
+pub mod Changing
 pub mod Commands
 pub mod Edits
 pub mod Images

@@ -2,7 +2,6 @@ use Rattle.std.specs.Prelude.{ℕ, ◌+◌, ◌*◌, ◌^◌, Bool, true, false,
 use Rattle.std.specs.Fmt.{decimal, digits}
 use Rattle.qcow2_base.specs.Fault.{number_of}
 use Rattle.qcow2_base.specs.declared.fault.Fault.{Fault}
-use Rattle.qcow2_base.specs.declared.types.HostCluster.{HostCluster}
 use Rattle.qcow2_metadata.specs.declared.entries.ClustersToFreeEntry.{ClustersToFreeEntry}
 use Rattle.qcow2_session.specs.declared.session.steps.StepReply.{StepReply}
 use Rattle.qcow2_session.specs.declared.session.steps.StepReply.TheVariants.{Done, Refused}
@@ -60,10 +59,10 @@ abbrev pub freed_lines : List ClustersToFreeEntry → List ℕ
 freed_lines freed = flat_map freed_line freed
 
 -- the line of a cluster that gained a reference, and those of several
-abbrev pub gained_line : HostCluster → List ℕ
-gained_line cluster = codes "gained " ++ decimal cluster.0 ++ codes "\n"
+abbrev pub gained_line : ℕ → List ℕ
+gained_line cluster = codes "gained " ++ decimal cluster ++ codes "\n"
 
-abbrev pub gained_lines : List HostCluster → List ℕ
+abbrev pub gained_lines : List ℕ → List ℕ
 gained_lines gained = flat_map gained_line gained
 
 -- the line of a fault

@@ -1,19 +1,13 @@
-use Rattle.std.specs.Prelude.{ℕ, ◌+◌, ◌-◌, ◌*◌, ◌/◌, ◌^◌, List, [], ◌∷◌, ◌++◌, Option, Some, None, option_map, Result, Ok}
+use Rattle.std.specs.Prelude.{ℕ, ◌+◌, ◌-◌, ◌*◌, ◌^◌, List, [], ◌∷◌, ◌++◌, Option, Some, None, Result, Ok}
 use Rattle.qcow2_base.specs.Storage.{Image}
 use Rattle.qcow2_base.specs.declared.fault.Fault.{Fault}
 use Rattle.qcow2_base.specs.declared.types.HostCluster.{HostCluster}
-use Rattle.qcow2_base.specs.declared.types.HostOffset.{HostOffset}
 use Rattle.qcow2_metadata.specs.Answers.{and_then, result_map}
-use Rattle.qcow2_metadata.specs.Entries.{offset_field, offset_unless_zero}
 use Rattle.qcow2_metadata.specs.Header.{Geometry, geometry_of}
 use Rattle.qcow2_metadata.specs.Header.Grammar.{header_of}
 use Rattle.qcow2_metadata.specs.Table.{loaded_l1_table, loaded_l2_table}
 use Rattle.qcow2_session.specs.Lines.{entry_lines, offset_text}
-use Rattle.qcow2_session.specs.Lookups.{l1_place}
-
--- the cluster that the L2 table of an L1 entry begins with, if there is one
-abbrev pub named_cluster : ℕ → ℕ → Option HostCluster
-named_cluster cb v = option_map (λ (offset : HostOffset). record { 0 = offset.0 / 2 ^ cb }) (offset_unless_zero (offset_field v))
+use Rattle.qcow2_session.specs.Lookups.{l1_place, named_cluster}
 
 -- the lines of an L2 table's entries, each labelled by its guest offset, for the L1 entry at an index
 abbrev pub table_lines : Geometry → ℕ → List ℕ → List ℕ

@@ -20,10 +20,13 @@ l1_place header =
 abbrev pub l1_number : ℕ → List ℕ → ℕ → ℕ
 l1_number cb l1 guest_cluster = slice_index l1 (guest_cluster / 2 ^ (cb - 3))
 
--- the cluster that the L2 table of a guest cluster begins with, if there is one
+-- the cluster that the L2 table of an L1 entry begins with, if there is one
+abbrev pub named_cluster : ℕ → ℕ → Option HostCluster
+named_cluster cb v = option_map (λ (offset : HostOffset). record { 0 = offset.0 / 2 ^ cb }) (offset_unless_zero (offset_field v))
+
+-- and that of a guest cluster
 abbrev pub l2_cluster : ℕ → List ℕ → ℕ → Option HostCluster
-l2_cluster cb l1 guest_cluster = option_map (λ (offset : HostOffset). record { 0 = offset.0 / 2 ^ cb })
-    (offset_unless_zero (offset_field (l1_number cb l1 guest_cluster)))
+l2_cluster cb l1 guest_cluster = named_cluster cb (l1_number cb l1 guest_cluster)
 
 -- what a guest cluster reads as by the L2 table that begins with a cluster, or where there is none
 abbrev pub mapping_by : Geometry → Option HostCluster → ℕ → Image → Result Mapping Fault

@@ -3,6 +3,8 @@
 ghost use Rattle.std.specs.Prelude.{◌≡◌, ◌≢◌, IfErr, IsErrOf, IsOkUnless, OnOk};
 ghost use Rattle.std.specs.Io.KnownBytes.{Appends};
 ghost use Rattle.qcow2_base.specs.declared.fault.Fault.TheVariants.{Storage as StorageFailed};
+ghost use Rattle.qcow2_session.specs.Changing.{AfterHeader, PrintsSteps};
+ghost use Rattle.qcow2_session.specs.Images.{steps_end};
 ghost use Rattle.qcow2_session.specs.Lines.{reply_line, reply_lines};
 
 use crate::session::{Step, StepReply, step_image};
@@ -24,6 +26,9 @@ pub fn count_references<S: Storage, O: Write>(
     steps: &[Step],
     out: &mut O,
 ) -> Result<(), Fault>
+    ensures counts { AfterHeader result (S.state image.old) (S.state image.new) (λ header between.
+        PrintsSteps result header cluster (steps_end header cluster steps.now between.byte_at) between
+        (S.state image.new) (O.contents out.old) (O.contents out.new)) }
     ensures before_any_line { IfErr result (λ fault. fault ≢ StorageFailed → out.new ≡ out.old) }
     ensures storage { (S.state image.new).failures ≢ (S.state image.old).failures →
         IsErrOf result StorageFailed × (out.new ≡ out.old) }

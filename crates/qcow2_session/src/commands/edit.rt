@@ -1,8 +1,12 @@
 //! The command `edit`: edits of an L2 table.
 
-ghost use Rattle.std.specs.Prelude.{◌≡◌, ◌≢◌, ◌++◌, IfErr, IsErrOf, IsOkUnless, OnOk};
+ghost use Rattle.std.specs.Prelude.{◌≡◌, ◌≢◌, ◌++◌, IfErr, IsErrOf, IsOkUnless, IsTrue, OnOk};
 ghost use Rattle.std.specs.Io.KnownBytes.{Appends};
+ghost use Rattle.qcow2_base.specs.Storage.{OnlyReads};
 ghost use Rattle.qcow2_base.specs.declared.fault.Fault.TheVariants.{Storage as StorageFailed};
+ghost use Rattle.qcow2_metadata.specs.Answers.{Answers};
+ghost use Rattle.qcow2_session.specs.Changing.{AfterHeader, PrintsEdits, named_end, named_table};
+ghost use Rattle.qcow2_session.specs.Edits.{numbers_of};
 ghost use Rattle.qcow2_session.specs.Lines.{freed_line, freed_lines, gained_line, gained_lines};
 
 use crate::session::{Edit, Outcome, edit_image};
@@ -24,26 +28,43 @@ pub fn edit_entries<S: Storage, O: Write>(
     edits: &[Edit],
     out: &mut O,
 ) -> Result<(), Fault>
+    ensures edits { AfterHeader result (S.state image.old) (S.state image.new) (λ header between.
+        PrintsEdits result header (named_table header l1_index between.byte_at)
+        (named_end header l1_index edits.now between.byte_at) between (S.state image.new)
+        (O.contents out.old) (O.contents out.new)) }
     ensures before_any_line { IfErr result (λ fault. fault ≢ StorageFailed → out.new ≡ out.old) }
     ensures storage { (S.state image.new).failures ≢ (S.state image.old).failures →
         IsErrOf result StorageFailed × (out.new ≡ out.old) }
 {
     let header = Header::load(alloc, image, true)?;
+    let cluster = named_table(alloc, image, &header, l1_index)?;
+    let outcome = edit_image(alloc, image, &header, cluster, edits)?;
+    print_outcome(&outcome, out)
+}
+
+// The cluster that the L2 table of an L1 entry begins with.
+fn named_table<S: Storage>(
+    alloc: Global,
+    image: &mut S,
+    header: &Header,
+    l1_index: usize,
+) -> Result<HostCluster, Fault>
+    ensures exact { IsTrue (S.state image.old).tells → Answers (λ cluster. cluster) result
+        (named_table header.now l1_index (S.state image.old).byte_at) }
+    ensures storage { OnlyReads result (S.state image.old) (S.state image.new) }
+{
     let cluster_bits = header.cluster_bits();
     let cluster = header.l1_table_offset().cluster(cluster_bits);
-    let l1_table = L1Table::load(alloc, image, &header, cluster, header.l1_table_entries())?;
-    let Some(offset) = l1_table.get(l1_index).l2_offset() else {
-        return Err(Fault::NotPlaced);
-    };
-    let outcome = edit_image(alloc, image, &header, offset.cluster(cluster_bits), edits)?;
-    print_outcome(&outcome, out)
+    let l1_table = L1Table::load(alloc, image, header, cluster, header.l1_table_entries())?;
+    let offset = l1_table.get(l1_index).l2_offset().ok_or(Fault::NotPlaced)?;
+    Ok(offset.cluster(cluster_bits))
 }
 
 // Prints what edits did to references.
 fn print_outcome<O: Write>(outcome: &Outcome, out: &mut O) -> Result<(), Fault>
     ensures fault { IsOkUnless result Fault.Storage }
     ensures lines { OnOk result (Appends (O.contents out.old) (O.contents out.new)
-        (freed_lines outcome.now.freed.items ++ gained_lines outcome.now.gained.items)) }
+        (freed_lines outcome.now.freed.items ++ gained_lines (numbers_of outcome.now.gained.items))) }
 {
     print_freed(outcome.freed.as_slice(), out)?;
     print_gained(outcome.gained.as_slice(), out)
@@ -75,7 +96,7 @@ fn print_freed_range<O: Write>(clusters: ClustersToFreeEntry, out: &mut O) -> Re
 fn print_gained<O: Write>(gained: &[HostCluster], out: &mut O) -> Result<(), Fault>
     ensures fault { IsOkUnless result Fault.Storage }
     ensures lines { OnOk result
-        (Appends (O.contents out.old) (O.contents out.new) (gained_lines gained.now)) }
+        (Appends (O.contents out.old) (O.contents out.new) (gained_lines (numbers_of gained.now))) }
 {
     for cluster in gained {
         print_gained_cluster(*cluster, out)?;
@@ -87,7 +108,7 @@ fn print_gained<O: Write>(gained: &[HostCluster], out: &mut O) -> Result<(), Fau
 fn print_gained_cluster<O: Write>(cluster: HostCluster, out: &mut O) -> Result<(), Fault>
     ensures fault { IsOkUnless result Fault.Storage }
     ensures line { OnOk result
-        (Appends (O.contents out.old) (O.contents out.new) (gained_line cluster)) }
+        (Appends (O.contents out.old) (O.contents out.new) (gained_line cluster.0)) }
 {
     writeln!(out, "gained {}", cluster.0).map_err(|_| Fault::Storage)
 }

@@ -1,0 +1,26 @@
+use Rattle.std.proofs.Common.{inr}
+use Rattle.std.proofs.lemmas.Result.{err_from_is_err_and}
+use Rattle.qcow2_session.proofs.ChangingLemmas.{steps-printed}
+use Rattle.qcow2_session.proofs.commands.count.count_references.Goals as goal
+
+pub returns-in_err-replies-clause-counts : goal.returns-in_err-replies-clause-counts
+returns-in_err-replies-clause-counts g c =
+    let left = err_from_is_err_and c.from_residual-in_err-replies.result c.from_residual-in_err-replies.ensures.1 in
+    let ran = c.in_err-replies.ensures in
+    rw (left.1, left.2) (inr (
+      c.in_ok-header.header,
+      g.S.Storage.state c.load.new.image,
+      record { loaded = c.in_ok-header.ensures.exact; refused = tt; storage = c.in_ok-header.ensures.storage },
+      record { lines = tt; written = tt; refused = ran.exact; unchanged = ran.storage.refused; others = ran.storage.others },
+    ))
+
+pub returns-clause-counts : goal.returns-clause-counts
+returns-clause-counts g c =
+    let ran = c.in_ok-replies.ensures in
+    inr (
+      c.in_ok-header.header,
+      g.S.Storage.state c.load.new.image,
+      record { loaded = c.in_ok-header.ensures.exact; refused = tt; storage = c.in_ok-header.ensures.storage },
+      steps-printed c.print_replies.result _ _ _ _ _ _ _ _ ran.exact (λ told. (ran.written told).decoded) ran.storage.others
+          c.print_replies.ensures.fault (rw c.as_slice.ensures.value at c.print_replies.ensures.lines),
+    )

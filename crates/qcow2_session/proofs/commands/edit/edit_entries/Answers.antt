@@ -1,0 +1,45 @@
+use Rattle.std.proofs.Common.{inr, ◌∙◌}
+use Rattle.std.proofs.lemmas.Result.{err_from_is_err_and}
+use Rattle.qcow2_session.proofs.ChangingLemmas.{edits-printed, edits-refused, edits-unnamed}
+use Rattle.qcow2_session.proofs.commands.edit.edit_entries.Goals as goal
+
+pub returns-in_err-cluster-clause-edits : goal.returns-in_err-cluster-clause-edits
+returns-in_err-cluster-clause-edits g c =
+    let left = err_from_is_err_and c.from_residual-in_err-cluster.result c.from_residual-in_err-cluster.ensures.1 in
+    let ran = c.in_err-cluster.ensures in
+    rw (left.1, left.2) (inr (
+      c.in_ok-header.header,
+      g.S.Storage.state c.load.new.image,
+      record { loaded = c.in_ok-header.ensures.exact; refused = tt; storage = c.in_ok-header.ensures.storage },
+      edits-unnamed _ _ _ _ _ _ _ _ ran.exact ran.storage.bytes,
+    ))
+
+pub returns-in_err-outcome-clause-edits : goal.returns-in_err-outcome-clause-edits
+returns-in_err-outcome-clause-edits g c =
+    let left = err_from_is_err_and c.from_residual-in_err-outcome.result c.from_residual-in_err-outcome.ensures.1 in
+    let named = c.in_ok-cluster.ensures in
+    let ran = c.in_err-outcome.ensures in
+    rw (left.1, left.2) (inr (
+      c.in_ok-header.header,
+      g.S.Storage.state c.load.new.image,
+      record { loaded = c.in_ok-header.ensures.exact; refused = tt; storage = c.in_ok-header.ensures.storage },
+      edits-refused _ _ _ c.in_ok-cluster.cluster _ _ _ _ _ named.exact
+          (λ told. rw named.storage.bytes at (ran.exact (named.storage.device.tells ∙ told)))
+          (λ other. ran.storage.refused other ∙ named.storage.bytes)
+          (λ told. rw named.storage.bytes at (ran.storage.others (named.storage.device.tells ∙ told))),
+    ))
+
+pub returns-clause-edits : goal.returns-clause-edits
+returns-clause-edits g c =
+    let named = c.in_ok-cluster.ensures in
+    let ran = c.in_ok-outcome.ensures in
+    inr (
+      c.in_ok-header.header,
+      g.S.Storage.state c.load.new.image,
+      record { loaded = c.in_ok-header.ensures.exact; refused = tt; storage = c.in_ok-header.ensures.storage },
+      edits-printed c.print_outcome.result _ _ c.in_ok-cluster.cluster _ _ _ _ _ _ named.exact
+          (λ told. rw named.storage.bytes at (ran.exact (named.storage.device.tells ∙ told)))
+          (λ told. rw named.storage.bytes at (ran.written (named.storage.device.tells ∙ told)).decoded)
+          (λ told. rw named.storage.bytes at (ran.storage.others (named.storage.device.tells ∙ told)))
+          c.print_outcome.ensures.fault c.print_outcome.ensures.lines,
+    )
