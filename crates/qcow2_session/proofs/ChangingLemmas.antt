@@ -10,6 +10,7 @@ use Rattle.qcow2_metadata.specs.Edits.{RunEnd}
 use Rattle.qcow2_metadata.specs.Header.{HeaderRecord, geometry_of}
 use Rattle.qcow2_metadata.specs.Refblock.{loaded_block}
 use Rattle.qcow2_metadata.specs.Table.{loaded_l2_table}
+use Rattle.qcow2_session.proofs.PrintingLemmas.{refusal-of}
 use Rattle.qcow2_session.specs.Changing.{PrintsEdits, PrintsSteps, SameOutsideCluster, named_end, named_table}
 use Rattle.qcow2_session.specs.Images.{edits_end}
 use Rattle.qcow2_session.specs.Lines.{freed_lines, gained_lines, reply_lines}
@@ -32,7 +33,7 @@ steps-printed (Ok value) header cluster end left old new a b is written outside 
 steps-printed (Err error) header cluster end left old new a b is written outside fault printed = record {
   lines = tt;
   written = tt;
-  refused = λ told. inl fault;
+  refused = λ told. inr (inr (fault, inr (rw (is told) refl)));
   unchanged = λ other. absurd (other fault);
   others = outside;
 }
@@ -55,7 +56,7 @@ edits-printed (Ok value) header l1_index cluster edits left old new a b named is
 edits-printed (Err error) header l1_index cluster edits left old new a b named is written outside fault printed = record {
   lines = tt;
   written = tt;
-  refused = λ told. inl fault;
+  refused = λ told. inr (inr (fault, inr (rw (named told, is told) refl)));
   unchanged = λ other. absurd (other fault);
   others = λ told. rw (named told) (outside told);
 }
@@ -68,16 +69,16 @@ of-any (Err error) all = tt
 -- no table is named, so nothing is edited
 pub edits-unnamed : {T : Type 0} (fault : Fault) (header : HeaderRecord) (l1_index : ℕ) (edits : List Edit) (old new : StorageState) (a b : Option (List ℕ))
     → (IsTrue old.tells → (fault ≡ Storage) ⊎ (fault ≡ NoMemory) ⊎ (named_table header l1_index old.byte_at ≡ Err fault))
-    → new.byte_at ≡ old.byte_at
+    → (fault ≡ Storage → new.failures ≢ old.failures) → new.byte_at ≡ old.byte_at
     → PrintsEdits {T = T} (Err fault) header (named_table header l1_index old.byte_at) (named_end header l1_index edits old.byte_at) old new a b
-edits-unnamed fault header l1_index edits old new a b refused same = record {
+edits-unnamed fault header l1_index edits old new a b refused failed same = record {
   lines = tt;
   written = tt;
-  refused = λ told. elim (refused told) [
+  refused = refusal-of fault (named_end header l1_index edits old.byte_at) old new (λ told. elim (refused told) [
     | inl storage ↦ inl storage
     | inr (inl memory) ↦ inr (inl memory)
     | inr (inr bad) ↦ inr (inr (rw bad refl))
-  ];
+  ]) failed;
   unchanged = λ other. same;
   others = λ told. of-any (named_table header l1_index old.byte_at) (λ cluster. rw same (record { before = λ o below. refl; after = λ o past. refl }));
 }
@@ -86,13 +87,13 @@ edits-unnamed fault header l1_index edits old new a b refused same = record {
 pub edits-refused : {T : Type 0} (fault : Fault) (header : HeaderRecord) (l1_index : ℕ) (cluster : HostCluster) (edits : List Edit) (old new : StorageState) (a b : Option (List ℕ))
     → (IsTrue old.tells → named_table header l1_index old.byte_at ≡ Ok cluster)
     → (IsTrue old.tells → (fault ≡ Storage) ⊎ (fault ≡ NoMemory) ⊎ (edits_end header cluster edits old.byte_at ≡ Err fault))
-    → (fault ≢ Storage → new.byte_at ≡ old.byte_at)
+    → (fault ≡ Storage → new.failures ≢ old.failures) → (fault ≢ Storage → new.byte_at ≡ old.byte_at)
     → (IsTrue old.tells → SameOutsideCluster header cluster old.byte_at new.byte_at)
     → PrintsEdits {T = T} (Err fault) header (named_table header l1_index old.byte_at) (named_end header l1_index edits old.byte_at) old new a b
-edits-refused fault header l1_index cluster edits old new a b named refused unchanged outside = record {
+edits-refused fault header l1_index cluster edits old new a b named refused failed unchanged outside = record {
   lines = tt;
   written = tt;
-  refused = λ told. rw (named told) (refused told);
+  refused = refusal-of fault (named_end header l1_index edits old.byte_at) old new (λ told. rw (named told) (refused told)) failed;
   unchanged = unchanged;
   others = λ told. rw (named told) (outside told);
 }

@@ -1,18 +1,23 @@
-use Rattle.std.proofs.Common.{◌≡◌, ℕ, zero, suc, true, is_ok, ◌+◌, ◌-◌, ◌*◌, ◌%◌, ◌^◌, ◌<◌, ◌≤◌, List, [], ◌∷◌, ◌++◌, length, get_or, take, Option, Result, Ok, Err, ap, refl, sym, ◌∙◌, add-one, append_assoc, append-nil, arith}
+use Rattle.std.proofs.Common.{◌≡◌, ◌⊎◌, ℕ, zero, suc, true, IsTrue, inl, inr, is_ok, ◌+◌, ◌-◌, ◌*◌, ◌%◌, ◌^◌, ◌<◌, ◌≤◌, List, [], ◌∷◌, ◌++◌, length, get_or, take, Option, Result, Ok, Err, ap, refl, sym, ◌∙◌, add-one, append_assoc, append-nil, arith}
 use Rattle.std.specs.Result.{IsOkAnd}
 use Rattle.std.specs.Io.KnownBytes.{Appends}
 use Rattle.std.proofs.KnownBytes.{Appends-trans}
 use Rattle.std.proofs.Math.Pow.{pow_mono}
 use Rattle.std.proofs.lemmas.Nat.{mod-mul-add, mul-add-lt, mul-lt}
-use Rattle.qcow2_base.specs.Storage.{Image}
+use Rattle.qcow2_base.specs.Storage.{Image, StorageState}
 use Rattle.qcow2_base.specs.declared.fault.Fault.{Fault}
+use Rattle.qcow2_base.specs.declared.fault.Fault.TheVariants.{NoMemory, Storage}
 use Rattle.qcow2_metadata.specs.Answers.{and_then, result_map}
-use Rattle.qcow2_metadata.specs.Header.{Geometry}
+use Rattle.qcow2_metadata.specs.Header.{Geometry, HeaderRecord}
+use Rattle.qcow2_metadata.specs.Header.Grammar.{header_of}
+use Rattle.qcow2_metadata.specs.Table.{loaded_l1_table}
 use Rattle.qcow2_metadata.specs.Entries.{Mapping, mapping}
 use Rattle.qcow2_session.proofs.LinesLemmas.{entry_lines-take-suc}
+use Rattle.qcow2_session.proofs.PrintingLemmas.{PrintsSome-none}
 use Rattle.qcow2_session.specs.Lines.{entry_line, entry_lines}
-use Rattle.qcow2_session.specs.Listing.{lines_by, lines_of_tables}
-use Rattle.qcow2_session.specs.Lookups.{named_cluster}
+use Rattle.qcow2_session.specs.Listing.{lines_before, lines_by, lines_kept, lines_kept_of_image, lines_of_image, lines_of_tables}
+use Rattle.qcow2_session.specs.Lookups.{l1_place, named_cluster}
+use Rattle.qcow2_session.specs.Printing.{PrintsSome}
 
 -- the offset of each guest cluster that an L1 table of the most entries leads to fits 64 bits
 pub guest_offset-fits : (cb index l2_index : ℕ) → cb ≤ 21 → index < 4194304 → l2_index < 2 ^ (cb - 3) → (index * 2 ^ (cb - 3) + l2_index) * 2 ^ cb < 2 ^ 64
@@ -77,7 +82,7 @@ past_first (Err other) some rest fault fine later = cc
 past_first (Ok lines) (Err other) rest fault fine later = cc
 past_first (Ok lines) (Ok more) rest fault fine later = rw (later refl) refl
 
-pub lines_of_tables-fault : (g : Geometry) (index : ℕ) (xs : List ℕ) (i : ℕ) (image : Image) (fault : Fault) → i < length xs → is_ok (lines_of_tables g index (take i xs) image) ≡ true
+lines_of_tables-fault : (g : Geometry) (index : ℕ) (xs : List ℕ) (i : ℕ) (image : Image) (fault : Fault) → i < length xs → is_ok (lines_of_tables g index (take i xs) image) ≡ true
     → lines_by g (index + i) (named_cluster g.cluster_bits (get_or xs i 0)) image ≡ Err fault → lines_of_tables g index xs image ≡ Err fault
 lines_of_tables-fault g index [] i image fault below fine bad = absurd (omega (arith, below))
 lines_of_tables-fault g index (x ∷ xs) zero image fault below fine bad =
@@ -88,6 +93,60 @@ lines_of_tables-fault g index (x ∷ xs) (suc i) image fault below fine bad =
     past_first (lines_by g index (named_cluster g.cluster_bits x) image) (lines_of_tables g (index + 1) (take i xs) image) (lines_of_tables g (index + 1) xs image) fault fine
     (λ more. lines_of_tables-fault g (index + 1) xs i image fault (omega (arith, below)) more (rw place at bad))
 
-pub is_ok-printed : (lines : Result (List ℕ) Fault) (a b : Option (List ℕ)) → IsOkAnd lines (Appends a b) → is_ok lines ≡ true
+is_ok-printed : (lines : Result (List ℕ) Fault) (a b : Option (List ℕ)) → IsOkAnd lines (Appends a b) → is_ok lines ≡ true
 is_ok-printed (Ok lines) a b printed = refl
 is_ok-printed (Err fault) a b printed = absurd printed
+
+-- the lines before a table that can't be loaded are those of the tables before it
+before_first : (first some : Result (List ℕ) Fault) (before lines : List ℕ) → and_then first (λ own. result_map (λ more. own ++ more) some) ≡ Ok lines
+    → ((more : List ℕ) → some ≡ Ok more → before ≡ more) → lines_kept first (λ own. own ++ before) ≡ lines
+before_first (Err fault) some before lines is later = cc
+before_first (Ok own) (Err fault) before lines is later = cc
+before_first (Ok own) (Ok more) before lines is later = rw (later more refl) cc
+
+lines_before-fault : (g : Geometry) (index : ℕ) (xs : List ℕ) (i : ℕ) (image : Image) (fault : Fault) (lines : List ℕ) → i < length xs → lines_of_tables g index (take i xs) image ≡ Ok lines
+    → lines_by g (index + i) (named_cluster g.cluster_bits (get_or xs i 0)) image ≡ Err fault → lines_before g index xs image ≡ lines
+lines_before-fault g index [] i image fault lines below is bad = absurd (omega (arith, below))
+lines_before-fault g index (x ∷ xs) zero image fault lines below is bad =
+    let same : index + 0 ≡ index = omega arith in
+    rw (rw same at bad) cc
+lines_before-fault g index (x ∷ xs) (suc i) image fault lines below is bad =
+    let place : index + suc i ≡ index + 1 + i = omega arith in
+    before_first (lines_by g index (named_cluster g.cluster_bits x) image) (lines_of_tables g (index + 1) (take i xs) image) (lines_before g (index + 1) xs image) lines is
+    (λ more some. lines_before-fault g (index + 1) xs i image fault more (omega (arith, below)) some (rw place at bad))
+
+-- lines were printed, and then none: these stay
+kept-printed : (some : Result (List ℕ) Fault) (kept : List ℕ) (a b c : Option (List ℕ)) → IsOkAnd some (Appends a b) → Appends b c [] → ((lines : List ℕ) → some ≡ Ok lines → kept ≡ lines) → Appends a c kept
+kept-printed (Err fault) kept a b c printed none is = absurd printed
+kept-printed (Ok lines) kept a b c printed none is = rw (is lines refl) (rw (append-nil lines) at (Appends-trans a b c lines [] printed none))
+
+-- a table that can't be loaded ends the list, and the lines of those before it stay
+pub refused-at : (g : Geometry) (xs : List ℕ) (i : ℕ) (image : Image) (fault : Fault) (a b c : Option (List ℕ)) → i < length xs → IsOkAnd (lines_of_tables g 0 (take i xs) image) (Appends a b)
+    → lines_by g i (named_cluster g.cluster_bits (get_or xs i 0)) image ≡ Err fault → Appends b c []
+    → (lines_of_tables g 0 xs image ≡ Err fault) × Appends a c (lines_before g 0 xs image)
+refused-at g xs i image fault a b c below printed bad none =
+    let from_zero : 0 + i ≡ i = omega arith in
+    let here : lines_by g (0 + i) (named_cluster g.cluster_bits (get_or xs i 0)) image ≡ Err fault = rw from_zero bad in
+    let some = lines_of_tables g 0 (take i xs) image in
+    (lines_of_tables-fault g 0 xs i image fault below (is_ok-printed some a b printed) here,
+    kept-printed some (lines_before g 0 xs image) a b c printed none (λ lines is. lines_before-fault g 0 xs i image fault lines below is here))
+
+-- a header that can't be read, or an L1 table that can't be loaded, ends the list before its first line
+pub header-refused : {T : Type 0} (fault : Fault) (image : StorageState) (a : Option (List ℕ))
+    → (IsTrue image.tells → (fault ≡ Storage) ⊎ (fault ≡ NoMemory) ⊎ (header_of image.byte_at ≡ Err fault))
+    → PrintsSome {T = T} (Err fault) (lines_of_image image.byte_at) (lines_kept_of_image image.byte_at) image a a
+header-refused fault image a refused = PrintsSome-none fault (lines_of_image image.byte_at) (lines_kept_of_image image.byte_at) image a (λ told. elim (refused told) [
+  | inl storage ↦ inl storage
+  | inr (inl memory) ↦ inr (inl memory)
+  | inr (inr bad) ↦ inr (inr (rw bad refl, rw bad refl))
+])
+
+pub l1-refused : {T : Type 0} (fault : Fault) (header : HeaderRecord) (image : StorageState) (a : Option (List ℕ))
+    → (IsTrue image.tells → header_of image.byte_at ≡ Ok header)
+    → (IsTrue image.tells → (fault ≡ Storage) ⊎ (fault ≡ NoMemory) ⊎ (loaded_l1_table (l1_place header) image.byte_at ≡ Err fault))
+    → PrintsSome {T = T} (Err fault) (lines_of_image image.byte_at) (lines_kept_of_image image.byte_at) image a a
+l1-refused fault header image a read refused = PrintsSome-none fault (lines_of_image image.byte_at) (lines_kept_of_image image.byte_at) image a (λ told. elim (refused told) [
+  | inl storage ↦ inl storage
+  | inr (inl memory) ↦ inr (inl memory)
+  | inr (inr bad) ↦ inr (inr (rw (read told, bad) refl, rw (read told, bad) refl))
+])

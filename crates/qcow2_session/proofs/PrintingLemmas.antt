@@ -1,7 +1,7 @@
 use Rattle.std.proofs.Common.{◌≡◌, ◌≢◌, ◌⊎◌, ℕ, ◌+◌, ◌<◌, List, [], ◌∷◌, ◌++◌, append-nil, flat_map, get_or, length, take, false, Option, Result, Ok, Err, OnOk, IsTrue, ap, inl, inr, refl, ◌∙◌}
 use Rattle.std.specs.Result.{IsOkUnless}
 use Rattle.std.specs.Io.KnownBytes.{Appends}
-use Rattle.std.proofs.KnownBytes.{Appends-trans}
+use Rattle.std.proofs.KnownBytes.{Appends-nil, Appends-trans}
 use Rattle.std.proofs.lemmas.Grind.{flat_map-append}
 use Rattle.std.proofs.lemmas.List.{take_more}
 use Rattle.qcow2_base.specs.Storage.{StorageState}
@@ -10,7 +10,7 @@ use Rattle.qcow2_base.specs.declared.fault.Fault.TheVariants.{NoMemory, Storage}
 use Rattle.qcow2_metadata.specs.Answers.{result_map}
 use Rattle.qcow2_metadata.specs.Header.{HeaderRecord}
 use Rattle.qcow2_metadata.specs.Header.Open.{opened}
-use Rattle.qcow2_session.specs.Printing.{Prints, PrintsSome}
+use Rattle.qcow2_session.specs.Printing.{IsRefusal, Prints, PrintsSome}
 
 -- what was printed before, and then these lines, if the print of these succeeds
 pub then_prints : {T E : Type 0} (answer : Result T E) (a b c : Option (List ℕ)) (lines more : List ℕ) → Appends a b lines → OnOk answer (Appends b c more) → OnOk answer (Appends a c (lines ++ more))
@@ -28,16 +28,25 @@ Prints-lines (Err error) meant lines old new a b means fault printed = record {
   refused = λ told. rw (means told) (inr (inr (fault, inr refl)));
 }
 
+-- the fault that is meant, want of memory, or a failed call of the image
+pub refusal-of : {V : Type 0} (fault : Fault) (meant : Result V Fault) (old new : StorageState)
+    → (IsTrue old.tells → (fault ≡ Storage) ⊎ (fault ≡ NoMemory) ⊎ (meant ≡ Err fault)) → (fault ≡ Storage → new.failures ≢ old.failures) → IsRefusal meant old new fault
+refusal-of fault meant old new refused failed told = elim (refused told) [
+  | inl storage ↦ inr (inr (storage, inl (failed storage)))
+  | inr (inl memory) ↦ inr (inl memory)
+  | inr (inr bad) ↦ inl bad
+]
+
 -- what is read from the bytes is refused, so no line of it is meant
 pub Prints-refused : {T A : Type 0} (fault : Fault) (read : Result A Fault) (lines_of : A → List ℕ) (old new : StorageState) (a b : Option (List ℕ))
     → (IsTrue old.tells → (fault ≡ Storage) ⊎ (fault ≡ NoMemory) ⊎ (read ≡ Err fault)) → (fault ≡ Storage → new.failures ≢ old.failures) → Prints {T = T} (Err fault) (result_map lines_of read) old new a b
 Prints-refused fault read lines_of old new a b refused failed = record {
   lines = tt;
-  refused = λ told. elim (refused told) [
-    | inl storage ↦ inr (inr (storage, inl (failed storage)))
+  refused = refusal-of fault (result_map lines_of read) old new (λ told. elim (refused told) [
+    | inl storage ↦ inl storage
     | inr (inl memory) ↦ inr (inl memory)
-    | inr (inr bad) ↦ inl (ap (result_map lines_of) bad)
-  ];
+    | inr (inr bad) ↦ inr (inr (ap (result_map lines_of) bad))
+  ]) failed;
 }
 
 -- a header that is loaded by who only reads is that of the bytes
@@ -53,13 +62,25 @@ printed-more line items i default a b c below before here =
     (Appends-trans a b c _ _ before here)
 
 -- what is meant by the bytes, in other words
-pub PrintsSome-same : {T : Type 0} (answer : Result T Fault) (meant same : Result (List ℕ) Fault) (old new : StorageState) (a b : Option (List ℕ)) → (IsTrue old.tells → meant ≡ same) → new.tells ≡ old.tells
-    → PrintsSome answer same new a b → PrintsSome answer meant old a b
-PrintsSome-same (Ok value) meant same old new a b is tells prints = record {
-  lines = λ told. rw (is told) (prints.lines (tells ∙ told));
+pub PrintsSome-same : {T : Type 0} (answer : Result T Fault) (meant same : Result (List ℕ) Fault) (kept same_kept : List ℕ) (old new : StorageState) (a b : Option (List ℕ))
+    → (IsTrue old.tells → (meant ≡ same) × (kept ≡ same_kept)) → new.tells ≡ old.tells → PrintsSome answer same same_kept new a b → PrintsSome answer meant kept old a b
+PrintsSome-same (Ok value) meant same kept same_kept old new a b is tells prints = record {
+  lines = λ told. rw (is told).0 (prints.lines (tells ∙ told));
   refused = tt;
 }
-PrintsSome-same (Err fault) meant same old new a b is tells prints = record {
+PrintsSome-same (Err fault) meant same kept same_kept old new a b is tells prints = record {
   lines = tt;
-  refused = λ told. rw (is told) (prints.refused (tells ∙ told));
+  refused = λ told. rw ((is told).0, (is told).1) (prints.refused (tells ∙ told));
+}
+
+-- a refusal before there is a line to print
+pub PrintsSome-none : {T : Type 0} (fault : Fault) (meant : Result (List ℕ) Fault) (kept : List ℕ) (image : StorageState) (a : Option (List ℕ))
+    → (IsTrue image.tells → (fault ≡ Storage) ⊎ (fault ≡ NoMemory) ⊎ ((meant ≡ Err fault) × (kept ≡ []))) → PrintsSome {T = T} (Err fault) meant kept image a a
+PrintsSome-none fault meant kept image a refused = record {
+  lines = tt;
+  refused = λ told. elim (refused told) [
+    | inl storage ↦ inl storage
+    | inr (inl memory) ↦ inr (inl memory)
+    | inr (inr bad) ↦ inr (inr (bad.0, rw bad.1 (Appends-nil a)))
+  ];
 }

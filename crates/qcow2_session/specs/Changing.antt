@@ -14,6 +14,7 @@ use Rattle.qcow2_metadata.specs.Table.{loaded_l1_table, loaded_l2_table}
 use Rattle.qcow2_session.specs.Images.{edits_end}
 use Rattle.qcow2_session.specs.Lines.{freed_lines, gained_lines, reply_lines}
 use Rattle.qcow2_session.specs.Lookups.{l1_place, named_cluster}
+use Rattle.qcow2_session.specs.Printing.{IsRefusal}
 use Rattle.qcow2_session.specs.Steps.{StepsEnd}
 use Rattle.qcow2_session.specs.declared.session.edits.Edit.{Edit}
 
@@ -45,7 +46,7 @@ SameOutsideCluster header cluster old new =
 pub record PrintsSteps {T : Type 0} (answer : Result T Fault) (header : HeaderRecord) (cluster : HostCluster) (end : Result StepsEnd Fault) (old new : StorageState) (before after : Option (List ℕ)) : Type 0 where
   pub lines : OnOk answer (IsTrue old.tells → IsOkAnd end (λ left. Appends before after (reply_lines left.replies)))
   pub written : OnOk answer (IsTrue old.tells → loaded_block header cluster new.byte_at ≡ result_map (λ (left : StepsEnd). left.counters) end)
-  pub refused : IfErr answer (λ fault. IsTrue old.tells → (fault ≡ Storage) ⊎ (fault ≡ NoMemory) ⊎ (end ≡ Err fault))
+  pub refused : IfErr answer (IsRefusal end old new)
   pub unchanged : IfErr answer (λ fault. fault ≢ Storage → new.byte_at ≡ old.byte_at)
   pub others : IsTrue old.tells → SameOutsideCluster header cluster old.byte_at new.byte_at
 
@@ -71,6 +72,6 @@ pub record PrintsEdits {T : Type 0} (answer : Result T Fault) (header : HeaderRe
       Appends before after (freed_lines left.freed ++ gained_lines left.gained)))
   pub written : OnOk answer (IsTrue old.tells → IsOkAnd named (λ cluster.
       loaded_l2_table (geometry_of header) cluster new.byte_at ≡ result_map (λ (left : RunEnd). left.numbers) end))
-  pub refused : IfErr answer (λ fault. IsTrue old.tells → (fault ≡ Storage) ⊎ (fault ≡ NoMemory) ⊎ (end ≡ Err fault))
+  pub refused : IfErr answer (IsRefusal end old new)
   pub unchanged : IfErr answer (λ fault. fault ≢ Storage → new.byte_at ≡ old.byte_at)
   pub others : IsTrue old.tells → IfOk named (λ cluster. SameOutsideCluster header cluster old.byte_at new.byte_at)

@@ -1,4 +1,4 @@
-use Rattle.std.specs.Prelude.{ℕ, ◌+◌, ◌-◌, ◌*◌, ◌^◌, List, [], ◌∷◌, ◌++◌, Option, Some, None, Result, Ok}
+use Rattle.std.specs.Prelude.{ℕ, ◌+◌, ◌-◌, ◌*◌, ◌^◌, List, [], ◌∷◌, ◌++◌, Option, Some, None, Result, Ok, Err}
 use Rattle.qcow2_base.specs.Storage.{Image}
 use Rattle.qcow2_base.specs.declared.fault.Fault.{Fault}
 use Rattle.qcow2_base.specs.declared.types.HostCluster.{HostCluster}
@@ -26,9 +26,27 @@ lines_of_tables g index (v ∷ vs) image =
     and_then (lines_by g index (named_cluster g.cluster_bits v) image) (λ lines.
     result_map (λ rest. lines ++ rest) (lines_of_tables g (index + 1) vs image))
 
+-- what follows from what was read, or no lines where that was refused
+abbrev pub lines_kept : {V : Type 0} → Result V Fault → (V → List ℕ) → List ℕ
+lines_kept (Ok value) next = next value
+lines_kept (Err fault) next = []
+
+-- the lines of the L2 tables that L1 entries name, from an index on, before the first that can't be loaded
+abbrev pub lines_before : Geometry → ℕ → List ℕ → Image → List ℕ
+lines_before g index [] image = []
+lines_before g index (v ∷ vs) image =
+    lines_kept (lines_by g index (named_cluster g.cluster_bits v) image) (λ lines. lines ++ lines_before g (index + 1) vs image)
+
 -- the lines of the command `list`: what all L2 tables of an image map
 abbrev pub lines_of_image : Image → Result (List ℕ) Fault
 lines_of_image image =
     and_then (header_of image) (λ header.
     and_then (loaded_l1_table (l1_place header) image) (λ l1.
     lines_of_tables (geometry_of header) 0 l1 image))
+
+-- those of its lines that stay where a part of the image is refused: none where that is the header or the L1 table
+abbrev pub lines_kept_of_image : Image → List ℕ
+lines_kept_of_image image =
+    lines_kept (header_of image) (λ header.
+    lines_kept (loaded_l1_table (l1_place header) image) (λ l1.
+    lines_before (geometry_of header) 0 l1 image))

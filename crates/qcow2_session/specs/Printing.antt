@@ -13,19 +13,23 @@ use Rattle.qcow2_session.specs.Info.{info_lines}
 use Rattle.qcow2_session.specs.Lines.{entry_lines, mapping_line}
 use Rattle.qcow2_session.specs.Lookups.{image_mapping}
 
--- a command that prints what an image's bytes mean ended in this answer: it printed these lines, or it answers the
--- fault that is meant, want of memory or a failed storage, which is that of the image or, where lines are meant, of
--- the output
+-- calls over an image that was so before and is so now ended in this fault: it is the one that is meant, want of memory,
+-- or a failed storage, which is that of the image or, where no fault is meant, of the output
+abbrev pub IsRefusal : {V : Type 0} → Result V Fault → StorageState → StorageState → Fault → Type 0
+IsRefusal meant old new fault = IsTrue old.tells → (meant ≡ Err fault) ⊎ (fault ≡ NoMemory)
+    ⊎ ((fault ≡ Storage) × ((new.failures ≢ old.failures) ⊎ (is_ok meant ≡ true)))
+
+-- a command that prints what an image's bytes mean ended in this answer: it printed these lines, or it was refused
 pub record Prints {T : Type 0} (answer : Result T Fault) (meant : Result (List ℕ) Fault) (old new : StorageState) (before after : Option (List ℕ)) : Type 0 where
   pub lines : OnOk answer (IsTrue old.tells → IsOkAnd meant (Appends before after))
-  pub refused : IfErr answer (λ fault. IsTrue old.tells → (meant ≡ Err fault) ⊎ (fault ≡ NoMemory)
-      ⊎ ((fault ≡ Storage) × ((new.failures ≢ old.failures) ⊎ (is_ok meant ≡ true))))
+  pub refused : IfErr answer (IsRefusal meant old new)
 
--- the same of a command that prints some lines before it knows that all are meant: the output may have failed also
--- where a fault is meant
-pub record PrintsSome {T : Type 0} (answer : Result T Fault) (meant : Result (List ℕ) Fault) (image : StorageState) (before after : Option (List ℕ)) : Type 0 where
+-- the same of a command that prints some lines before it knows that all are meant: where it is refused, these lines
+-- stay. The output may have failed also where a fault is meant
+pub record PrintsSome {T : Type 0} (answer : Result T Fault) (meant : Result (List ℕ) Fault) (kept : List ℕ) (image : StorageState) (before after : Option (List ℕ)) : Type 0 where
   pub lines : OnOk answer (IsTrue image.tells → IsOkAnd meant (Appends before after))
-  pub refused : IfErr answer (λ fault. IsTrue image.tells → (fault ≡ Storage) ⊎ (fault ≡ NoMemory) ⊎ (meant ≡ Err fault))
+  pub refused : IfErr answer (λ fault. IsTrue image.tells → (fault ≡ Storage) ⊎ (fault ≡ NoMemory)
+      ⊎ ((meant ≡ Err fault) × Appends before after kept))
 
 -- the lines of the command `l2`: what the L2 table that begins with a cluster maps
 abbrev pub lines_of_l2_table : ℕ → HostCluster → Image → Result (List ℕ) Fault

@@ -1,11 +1,11 @@
 //! The command `list`: what all L2 tables of an image map.
 
-ghost use Rattle.std.specs.Prelude.{◌≡◌, ◌≢◌, ◌+◌, ◌-◌, ◌*◌, ◌^◌, ◌<◌, ◌≤◌, length, IfErr, IsErrOf, IsOkUnless, OnOk, slice_index};
+ghost use Rattle.std.specs.Prelude.{◌≡◌, ◌≢◌, ◌+◌, ◌-◌, ◌*◌, ◌^◌, ◌<◌, ◌≤◌, [], length, IfErr, IsErrOf, IsOkUnless, OnOk, slice_index};
 ghost use Rattle.std.specs.Io.KnownBytes.{Appends};
 ghost use Rattle.qcow2_base.specs.Storage.{ReadsFor};
 ghost use Rattle.qcow2_base.specs.declared.fault.Fault.TheVariants.{Storage as StorageFailed};
 ghost use Rattle.qcow2_metadata.specs.Header.{geometry_of};
-ghost use Rattle.qcow2_session.specs.Listing.{lines_by, lines_of_image, lines_of_tables, table_lines};
+ghost use Rattle.qcow2_session.specs.Listing.{lines_before, lines_by, lines_kept_of_image, lines_of_image, lines_of_tables, table_lines};
 ghost use Rattle.qcow2_session.specs.Lookups.{named_cluster};
 ghost use Rattle.qcow2_session.specs.Printing.{PrintsSome};
 
@@ -26,7 +26,8 @@ pub fn list_tables<S: Storage, O: Write>(
     image: &mut S,
     out: &mut O,
 ) -> Result<(), Fault>
-    ensures prints { PrintsSome result (lines_of_image (S.state image.old).byte_at) (S.state image.old)
+    ensures prints { PrintsSome result (lines_of_image (S.state image.old).byte_at)
+        (lines_kept_of_image (S.state image.old).byte_at) (S.state image.old)
         (O.contents out.old) (O.contents out.new) }
     ensures storage { ReadsFor (IsErrOf result StorageFailed) (S.state image.old) (S.state image.new) }
 {
@@ -48,6 +49,7 @@ fn print_tables<S: Storage, O: Write>(
     requires entries { length l1_table.now.numbers ≤ 4194304 }
     ensures prints { PrintsSome result
         (lines_of_tables (geometry_of header.now) 0 l1_table.now.numbers (S.state image.old).byte_at)
+        (lines_before (geometry_of header.now) 0 l1_table.now.numbers (S.state image.old).byte_at)
         (S.state image.old) (O.contents out.old) (O.contents out.new) }
     ensures storage { ReadsFor (IsErrOf result StorageFailed) (S.state image.old) (S.state image.new) }
 {
@@ -70,7 +72,7 @@ fn print_table_of<S: Storage, O: Write>(
     requires index { index < 4194304 }
     ensures prints { let cb = header.now.v2.cluster_bits in
         PrintsSome result (lines_by (geometry_of header.now) index
-        (named_cluster cb (slice_index l1_table.now.numbers index)) (S.state image.old).byte_at)
+        (named_cluster cb (slice_index l1_table.now.numbers index)) (S.state image.old).byte_at) []
         (S.state image.old) (O.contents out.old) (O.contents out.new) }
     ensures storage { ReadsFor (IsErrOf result StorageFailed) (S.state image.old) (S.state image.new) }
 {

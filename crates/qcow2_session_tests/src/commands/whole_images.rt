@@ -207,6 +207,38 @@ fn steps_of_a_block_past_the_end_lengthen_the_file(rt: HostRuntime) -> Result<()
     same_bytes(bytes.as_slice(), want.as_slice(), "the file")
 }
 
+// The words of a command over the sample image with an autoclear feature, what it ends with, and how the image
+// differs from the sample image then.
+const AUTOCLEAR: &[(&[&str], Outcome<'static>, Numbers<'static>)] = &[
+    (&["info", "IMAGE"], (0, INFO, ""), &[(88, 1)]),
+    (&["list", "IMAGE"], (0, LIST, ""), &[(88, 1)]),
+    (&["at", "IMAGE", "0"], (0, "backing 0x0\n", ""), &[(88, 1)]),
+    (&["edit", "IMAGE", "0"], (0, "", ""), &[]),
+    (
+        &["edit", "IMAGE", "0", "zero:64"],
+        (1, "", "qmeta: fault 32\n"),
+        &[],
+    ),
+    (
+        &["edit", "IMAGE", "0", "zero:3"],
+        (0, "freed 5 1\n", ""),
+        &[(1048, 1)],
+    ),
+    (&["count", "IMAGE", "3"], (0, "", ""), &[]),
+];
+
+#[test]
+fn who_edits_or_counts_leaves_no_autoclear_feature(rt: HostRuntime) -> Result<(), Fail> {
+    for (words, expected, changes) in AUTOCLEAR {
+        let file = sample_file(&rt, "autoclear", &[(88, 1)])?;
+        runs(&rt, file.path.as_str(), words, *expected)?;
+        let bytes = fs::read(&rt, file.path.as_str())?;
+        let want = sample_image(rt.alloc(), 9, changes)?;
+        same_bytes(bytes.as_slice(), want.as_slice(), words)?;
+    }
+    Ok(())
+}
+
 #[test]
 fn what_an_edit_maps_is_what_the_offset_reads_as(rt: HostRuntime) -> Result<(), Fail> {
     let file = sample_file(&rt, "maps", &[(32, 2), (520, COPIED + 0x600)])?;

@@ -1,6 +1,7 @@
-use Rattle.std.proofs.Common.{inr}
+use Rattle.std.proofs.Common.{inr, rules}
 use Rattle.std.proofs.lemmas.Result.{err_from_is_err_and}
 use Rattle.qcow2_session.proofs.ChangingLemmas.{steps-printed}
+use Rattle.qcow2_session.proofs.PrintingLemmas.{refusal-of}
 use Rattle.qcow2_session.proofs.commands.count.count_references.Goals as goal
 
 pub returns-in_err-replies-clause-counts : goal.returns-in_err-replies-clause-counts
@@ -11,7 +12,7 @@ returns-in_err-replies-clause-counts g c =
       c.in_ok-header.header,
       g.S.Storage.state c.load.new.image,
       record { loaded = c.in_ok-header.ensures.exact; refused = tt; storage = c.in_ok-header.ensures.storage },
-      record { lines = tt; written = tt; refused = ran.exact; unchanged = ran.storage.refused; others = ran.storage.others },
+      record { lines = tt; written = tt; refused = refusal-of _ _ (g.S.Storage.state c.load.new.image) (g.S.Storage.state c.step_image.new.image) ran.exact (λ storage. search rules); unchanged = ran.storage.refused; others = ran.storage.others },
     ))
 
 pub returns-clause-counts : goal.returns-clause-counts

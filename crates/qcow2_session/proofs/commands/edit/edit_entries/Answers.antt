@@ -1,4 +1,4 @@
-use Rattle.std.proofs.Common.{inr, ◌∙◌}
+use Rattle.std.proofs.Common.{arith, inr, rules, ◌∙◌}
 use Rattle.std.proofs.lemmas.Result.{err_from_is_err_and}
 use Rattle.qcow2_session.proofs.ChangingLemmas.{edits-printed, edits-refused, edits-unnamed}
 use Rattle.qcow2_session.proofs.commands.edit.edit_entries.Goals as goal
@@ -11,7 +11,7 @@ returns-in_err-cluster-clause-edits g c =
       c.in_ok-header.header,
       g.S.Storage.state c.load.new.image,
       record { loaded = c.in_ok-header.ensures.exact; refused = tt; storage = c.in_ok-header.ensures.storage },
-      edits-unnamed _ _ _ _ _ _ _ _ ran.exact ran.storage.bytes,
+      edits-unnamed _ _ _ _ _ _ _ _ ran.exact (λ storage. search rules) ran.storage.bytes,
     ))
 
 pub returns-in_err-outcome-clause-edits : goal.returns-in_err-outcome-clause-edits
@@ -25,6 +25,7 @@ returns-in_err-outcome-clause-edits g c =
       record { loaded = c.in_ok-header.ensures.exact; refused = tt; storage = c.in_ok-header.ensures.storage },
       edits-refused _ _ _ c.in_ok-cluster.cluster _ _ _ _ _ named.exact
           (λ told. rw named.storage.bytes at (ran.exact (named.storage.device.tells ∙ told)))
+          (λ storage. grind (arith, storage, named.storage.told, ran.storage.told))
           (λ other. ran.storage.refused other ∙ named.storage.bytes)
           (λ told. rw named.storage.bytes at (ran.storage.others (named.storage.device.tells ∙ told))),
     ))

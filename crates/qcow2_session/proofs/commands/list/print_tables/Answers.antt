@@ -2,7 +2,7 @@ use Rattle.std.proofs.Common.{◌≡◌, ◌+◌, ◌<◌, get_or, length, take,
 use Rattle.std.proofs.lemmas.List.{length-take, take_more}
 use Rattle.std.proofs.lemmas.Result.{err_from_is_err_and}
 use Rattle.qcow2_metadata.specs.Header.{geometry_of}
-use Rattle.qcow2_session.proofs.ListingLemmas.{is_ok-printed, lines_of_tables-fault, lines_of_tables-more, printed-table}
+use Rattle.qcow2_session.proofs.ListingLemmas.{lines_of_tables-more, printed-table, refused-at}
 use Rattle.qcow2_session.specs.Listing.{lines_by, lines_of_tables}
 use Rattle.qcow2_session.specs.Lookups.{named_cluster}
 use Rattle.qcow2_session.proofs.commands.list.print_tables.Goals as goal
@@ -15,17 +15,14 @@ returns-in_err-print_table_of-clause-prints g c =
     let image = (g.S.Storage.state c.args.image.now).byte_at in
     let index = c.loop-index.index in
     let below : index < length numbers = omega arith in
-    let from_zero : 0 + index ≡ index = omega arith in
     let reads = c.loop-index.invariant.reads in
     rw (left.1, left.2) (record {
       lines = tt;
-      refused = λ told.
-          let fine = is_ok-printed (lines_of_tables geometry 0 (take index numbers) image) _ _ (c.loop-index.invariant.printed told) in
-          elim (c.in_err-print_table_of.ensures.prints.refused (reads.device.tells ∙ told)) [
-            | inl storage ↦ inl storage
-            | inr (inl memory) ↦ inr (inl memory)
-            | inr (inr bad) ↦ inr (inr (lines_of_tables-fault geometry 0 numbers index image _ below fine (rw from_zero (rw reads.bytes at bad))))
-          ];
+      refused = λ told. elim (c.in_err-print_table_of.ensures.prints.refused (reads.device.tells ∙ told)) [
+        | inl storage ↦ inl storage
+        | inr (inl memory) ↦ inr (inl memory)
+        | inr (inr bad) ↦ inr (inr (refused-at geometry numbers index image _ _ _ _ below (c.loop-index.invariant.printed told) (rw reads.bytes at bad.0) bad.1))
+      ];
     })
 
 pub loop-index-preserved : goal.loop-index-preserved
