@@ -207,8 +207,8 @@ fn steps_of_a_block_past_the_end_lengthen_the_file(rt: HostRuntime) -> Result<()
     same_bytes(bytes.as_slice(), want.as_slice(), "the file")
 }
 
-// The words of a command over the sample image with an autoclear feature, what it ends with, and how the image
-// differs from the sample image then.
+// The words of a command over the sample image with an autoclear feature, what it ends with, and how the
+// image differs from the sample image then.
 const AUTOCLEAR: &[(&[&str], Outcome<'static>, Numbers<'static>)] = &[
     (&["info", "IMAGE"], (0, INFO, ""), &[(88, 1)]),
     (&["list", "IMAGE"], (0, LIST, ""), &[(88, 1)]),
