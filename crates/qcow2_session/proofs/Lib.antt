@@ -1,7 +1,10 @@
+mod ChangingExamples
 mod CommandsExamples
 mod EditsExamples
 mod LinesExamples
 mod LookupsExamples
+mod PrintingExamples
+mod SampleImage
 mod StepsExamples
 pub mod ChangingLemmas
 pub mod CommandsLemmas

@@ -127,9 +127,10 @@ pub refused-at : (g : Geometry) (xs : List ℕ) (i : ℕ) (image : Image) (fault
 refused-at g xs i image fault a b c below printed bad none =
     let from_zero : 0 + i ≡ i = omega arith in
     let here : lines_by g (0 + i) (named_cluster g.cluster_bits (get_or xs i 0)) image ≡ Err fault = rw from_zero bad in
-    let some = lines_of_tables g 0 (take i xs) image in
-    (lines_of_tables-fault g 0 xs i image fault below (is_ok-printed some a b printed) here,
-    kept-printed some (lines_before g 0 xs image) a b c printed none (λ lines is. lines_before-fault g 0 xs i image fault lines below is here))
+    let some = lines_of_tables g 0 (take i xs) image in (
+      lines_of_tables-fault g 0 xs i image fault below (is_ok-printed some a b printed) here,
+      kept-printed some (lines_before g 0 xs image) a b c printed none (λ lines is. lines_before-fault g 0 xs i image fault lines below is here),
+    )
 
 -- a header that can't be read, or an L1 table that can't be loaded, ends the list before its first line
 pub header-refused : {T : Type 0} (fault : Fault) (image : StorageState) (a : Option (List ℕ))

@@ -1,46 +1,10 @@
-use Rattle.std.proofs.Common.{◌≡◌, ℕ, ◌+◌, ◌-◌, ◌&&◌, ◌∷◌, ◌++◌, [], List, length, nat_le, nat_lt, slice_index, false, true, Some, None, Ok, Err, refl}
-use Rattle.std.specs.Prelude.{⊤}
-use Rattle.qcow2_base.specs.Storage.{Image, be}
+use Rattle.std.proofs.Common.{◌≡◌, ℕ, ◌∷◌, ◌++◌, [], List, false, true, Some, None, Ok, Err, refl}
 use Rattle.qcow2_base.specs.declared.fault.Fault.{Fault}
 use Rattle.qcow2_base.specs.declared.fault.Fault.TheVariants.{EntryReserved, EntryUnaligned, NotQcow2, TablePlace, TableTooBig}
 use Rattle.qcow2_metadata.specs.Entries.{Mapping, backing, compressed, data_file, zeros}
 use Rattle.qcow2_metadata.specs.Header.{geometry}
-use Rattle.qcow2_metadata.specs.Header.Chain.{extensions_at}
-use Rattle.qcow2_metadata.specs.Header.Grammar.{header_of}
+use Rattle.qcow2_session.proofs.SampleImage.{Part, byte, computing, entry, laid, plain, sample}
 use Rattle.qcow2_session.specs.Lookups.{guest_mapping, image_mapping}
-
--- `unfolding computing` opens what the mapping of an image that is written out is computed by
-unfoldable computing : ⊤
-unfolding header_of extensions_at be
-computing = tt
-
--- bytes at a place
-abbrev Part : Type 0
-Part = ℕ × List ℕ
-
--- the image that has these parts, an earlier one over a later one, and is 0 elsewhere
-abbrev laid : List Part → Image
-laid [] offset = 0
-laid (part ∷ parts) offset = elim (nat_le part.0 offset && nat_lt offset (part.0 + length part.1)) [
-  | true ↦ slice_index part.1 (offset - part.0)
-  | false ↦ laid parts offset
-]
-
-abbrev byte : ℕ → ℕ → List Part
-byte place value = (place, value ∷ []) ∷ []
-
--- an entry's number at a place: its first byte, and its last two
-abbrev entry : ℕ → ℕ → ℕ → ℕ → List Part
-entry place first seventh eighth = (place, first ∷ 0 ∷ 0 ∷ 0 ∷ 0 ∷ 0 ∷ seventh ∷ eighth ∷ []) ∷ []
-
--- a header of version 3 with clusters of 512 bytes, no L1 table, and nothing behind it
-abbrev plain : List Part
-plain = (0, 0x51 ∷ 0x46 ∷ 0x49 ∷ 0xfb ∷ 0 ∷ 0 ∷ 0 ∷ 3 ∷ []) ∷ byte 23 9 ++ byte 99 4 ++ byte 103 104
-
--- the same with a disk of 32768 bytes, an L1 table of one entry at 512, its L2 table at 1024, and in that the
--- data of guest cluster 3, at 2560
-abbrev sample : List Part
-sample = byte 30 0x80 ++ byte 39 1 ++ byte 46 2 ++ entry 512 0x80 4 0 ++ entry 1048 0x80 0x0a 0 ++ plain
 
 -- with these changes, the cluster of an offset reads so, or the lookup is refused
 abbrev ReadsAs : ℕ → List Part → Mapping → Type 0

@@ -1,0 +1,63 @@
+use Rattle.std.proofs.Common.{◌≡◌, ◌++◌, [], Ok, Err, refl}
+use Rattle.std.specs.Prelude.{codes}
+use Rattle.std.specs.Fmt.{digits}
+use Rattle.qcow2_base.specs.declared.fault.Fault.TheVariants.{EntryReserved, NotQcow2}
+use Rattle.qcow2_session.proofs.SampleImage.{byte, computing, entry, laid, plain, sample}
+use Rattle.qcow2_session.specs.Listing.{lines_kept_of_image, lines_of_image}
+use Rattle.qcow2_session.specs.Printing.{line_at, lines_of_info, lines_of_l2_table}
+
+-- what each command prints of the sample image
+pub info_of_the_sample : lines_of_info (laid sample) ≡ Ok (codes "version 3\ncluster-bits 9\nsize 32768\nrefcount-order 4\nl1 0x200 1\nrefcount-table 0x0 0\nbacking none\nformat none\nexternal no\ndata-file none\n")
+unfolding computing digits
+info_of_the_sample = refl
+
+pub at_an_offset_with_data : line_at 1543 (laid sample) ≡ Ok (codes "data 0xa00 copied\n")
+unfolding computing digits
+at_an_offset_with_data = refl
+
+pub at_offset_0 : line_at 0 (laid sample) ≡ Ok (codes "backing 0x0\n")
+unfolding computing digits
+at_offset_0 = refl
+
+pub at_the_end_of_the_disk : line_at 32768 (laid sample) ≡ Ok (codes "backing 0x8000\n")
+unfolding computing digits
+at_the_end_of_the_disk = refl
+
+pub at_the_last_offset : line_at 18446744073709551615 (laid sample) ≡ Ok (codes "backing 0xfffffffffffffe00\n")
+unfolding computing digits
+at_the_last_offset = refl
+
+pub list_of_the_sample : lines_of_image (laid sample) ≡ Ok (codes "0x600 data 0xa00 copied\n")
+unfolding computing digits
+list_of_the_sample = refl
+
+pub table_of_the_sample : lines_of_l2_table 9 (record { 0 = 2 }) (laid sample) ≡ Ok (codes "3 data 0xa00 copied\n")
+unfolding computing digits
+table_of_the_sample = refl
+
+-- no L1 table, and no image
+pub list_of_no_table : lines_of_image (laid plain) ≡ Ok []
+unfolding computing
+list_of_no_table = refl
+
+pub list_of_no_image : lines_of_image (laid []) ≡ Err NotQcow2
+unfolding computing
+list_of_no_image = refl
+
+-- the same table twice
+pub list_of_one_table_twice : lines_of_image (laid (byte 39 2 ++ entry 520 0x80 4 0 ++ sample)) ≡ Ok (codes "0x600 data 0xa00 copied\n0x8600 data 0xa00 copied\n")
+unfolding computing digits
+list_of_one_table_twice = refl
+
+-- a second table behind the first one, whose last entry is none: the lines of the first stay
+pub list_with_a_bad_table : lines_of_image (laid (byte 39 2 ++ entry 520 0x80 6 0 ++ entry 2040 0 0 2 ++ sample)) ≡ Err EntryReserved
+unfolding computing digits
+list_with_a_bad_table = refl
+
+pub kept_before_a_bad_table : lines_kept_of_image (laid (byte 39 2 ++ entry 520 0x80 6 0 ++ entry 2040 0 0 2 ++ sample)) ≡ codes "0x600 data 0xa00 copied\n"
+unfolding computing digits
+kept_before_a_bad_table = refl
+
+pub kept_of_no_image : lines_kept_of_image (laid []) ≡ []
+unfolding computing
+kept_of_no_image = refl
