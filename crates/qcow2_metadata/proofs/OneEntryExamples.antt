@@ -1,6 +1,6 @@
-use Rattle.std.proofs.Common.{◌≡◌, ℕ, ◌^◌, ◌∷◌, [], replicate, ◌++◌, true, refl}
+use Rattle.std.proofs.Common.{◌≡◌, ℕ, ◌^◌, ◌∷◌, [], replicate, true, refl}
 use Rattle.qcow2_base.specs.Storage.{StorageState}
-use Rattle.qcow2_metadata.specs.Table.OneEntry.{EntryRange, entry_alignment, numbers_in, range_of}
+use Rattle.qcow2_metadata.specs.Table.OneEntry.{entry_alignment, numbers_in, range_of}
 
 -- a storage with these alignments
 abbrev aligned : ℕ → ℕ → StorageState

@@ -1,4 +1,4 @@
-use Rattle.std.proofs.Common.{◌≡◌, ◌*◌, ◌/◌, ℕ, List, [], ◌∷◌, Some, None, map, refl}
+use Rattle.std.proofs.Common.{◌≡◌, ◌/◌, ℕ, List, [], ◌∷◌, Some, None, map, refl}
 use Rattle.std.specs.List.{range_with_len}
 use Rattle.qcow2_base.specs.Storage.{be, image_of}
 use Rattle.qcow2_metadata.specs.Refblock.{Decrement, Increment, bytes_each, counters_at, packed, per_byte, stepped, width}

@@ -1,4 +1,4 @@
-use Rattle.std.specs.Prelude.{◌≡◌, ℕ, ◌+◌, ◌-◌, ◌*◌, ◌/◌, ◌^◌, ◌≤◌, max, nat_le, if◌then◌else◌, List, ◌++◌, length, replicate, Option, Some, None}
+use Rattle.std.specs.Prelude.{ℕ, ◌+◌, ◌-◌, ◌*◌, ◌/◌, ◌^◌, ◌≤◌, max, nat_le, if◌then◌else◌, List, ◌++◌, length, replicate, Option, Some, None}
 use Rattle.std.specs.Int.{div_ceil, next_multiple_of}
 use Rattle.qcow2_metadata.specs.Header.{HeaderRecord}
 use Rattle.qcow2_metadata.specs.Table.{TableState, most_reftable_entries}

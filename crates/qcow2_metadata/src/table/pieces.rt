@@ -160,7 +160,22 @@ pub(super) fn encode<T: Table>(table: &T, first: usize, bytes: &mut [u8])
         be (image_of bytes.new) (8 * i) 8 ≡ slice_index (T.state table.now).numbers (first + i) }
     ensures len { length bytes.new ≡ length bytes.old }
 {
+    let held = table.entries().saturating_sub(first).min(bytes.len() / 8);
+    let (inside, outside) = bytes.split_at_mut(8 * held);
+    encode_held(table, first, inside);
+    outside.fill(0);
+}
+
+// The same of entries that are all in the table.
+fn encode_held<T: Table>(table: &T, first: usize, bytes: &mut [u8])
+    requires within { (i : ℕ) → 8 * i + 8 ≤ length bytes.old → first + i < length (T.state table.now).numbers }
+    requires bound { first ≤ 2 ^ 48 }
+    ensures written { (i : ℕ) → 8 * i + 8 ≤ length bytes.new →
+        be (image_of bytes.new) (8 * i) 8 ≡ slice_index (T.state table.now).numbers (first + i) }
+    ensures len { length bytes.new ≡ length bytes.old }
+{
     for index in 0..bytes.len() / 8 {
-        write_be(bytes, 8 * index, &table.get(first + index).to_plain());
+        let entry = table.get_ref(first + index).unwrap();
+        write_be(bytes, 8 * index, &entry.to_plain());
     }
 }

@@ -1,20 +1,17 @@
-use Rattle.std.proofs.Common.{◌≡◌, ◌+◌, ◌*◌, slice_index, inl, ◌∙◌, add-zero, below_more, arith}
-use Rattle.qcow2_base.specs.Storage.{be_of_same, image_of}
+use Rattle.std.proofs.Common.{◌≡◌, ◌*◌, length, arith}
+use Rattle.qcow2_metadata.proofs.PieceLemmas.{held_then_zeros}
 use Rattle.qcow2_metadata.proofs.table.pieces.encode.Goals as goal
 
-pub loop-index-preserved : goal.loop-index-preserved
-loop-index-preserved g c =
-    let numbers = (g.T.Table.state c.args.table.now).numbers in
-    let index = c.loop-index.index in
-    let at = c.args.first + index in
-    let new = image_of c.write_be.new.bytes in
-    let old = image_of c.loop-index.bytes in
-    let number : c.to_plain.result ≡ slice_index numbers at = c.to_plain.ensures ∙ c.get.ensures.number in
-    record {
-      len = omega arith;
-      written = below_more _ _
-          (λ i below. be_of_same new old 8 (8 * i) (8 * i)
-          (λ k small. c.write_be.ensures.gaps (8 * i + k) (inl (omega arith), tt))
-          ∙ c.loop-index.invariant.written i below)
-          (simp add-zero at c.write_be.ensures.placed.0 ∙ number);
-    }
+pub encode_held-requires-clause-within : goal.encode_held-requires-clause-within
+encode_held-requires-clause-within g c = λ i inside.
+    omega (arith, c.split_at_mut-inside.ensures.front_len, c.min-held.ensures, c.saturating_sub.ensures, c.entries.ensures.count, inside)
+
+pub returns-clause-written : goal.returns-clause-written
+returns-clause-written g c = λ i within.
+    let parts = c.split_at_mut-inside.ensures in
+    let n = length c.split_at_mut-inside.result.1.now in
+    let held = c.min-held.result in
+    let zeros = c.fill.ensures.after (λ y same. same) in
+    let inside : length c.encode_held.new.bytes ≡ 8 * held = omega (arith, c.encode_held.ensures.len, parts.front_len, c.min-held.ensures) in
+    rw zeros (held_then_zeros c.encode_held.new.bytes (g.T.Table.state c.args.table.now).numbers c.args.first held n i inside
+    (λ after. omega (arith, after, within, inside, c.fill.ensures.len, parts.back_len, c.min-held.ensures, c.saturating_sub.ensures, c.entries.ensures.count)) c.encode_held.ensures.written)

@@ -1,6 +1,6 @@
 use Rattle.std.proofs.Common.{◌≡◌, ℕ, ◌+◌, ◌*◌, ◌<◌, length, slice_index}
 use Rattle.qcow2_base.specs.Storage.{be, image_of}
-use Rattle.qcow2_metadata.proofs.table.pieces.encode.Given as goal
+use Rattle.qcow2_metadata.proofs.table.pieces.encode_held.Given as goal
 
 -- the numbers of the entries so far stand in the bytes
 abbrev pub invariant-loop-index : goal.invariant-loop-index
