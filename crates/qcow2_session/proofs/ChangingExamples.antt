@@ -1,16 +1,12 @@
-use Rattle.std.proofs.Common.{◌≡◌, ◌∷◌, ◌++◌, [], List, ℕ, Result, Ok, Err, refl}
+use Rattle.std.proofs.Common.{◌≡◌, ◌∷◌, [], List, ℕ, Result, Ok, Err, refl}
 use Rattle.std.specs.Prelude.{codes}
 use Rattle.std.specs.Fmt.{digits}
 use Rattle.qcow2_base.specs.declared.fault.Fault.{Fault}
 use Rattle.qcow2_base.specs.declared.fault.Fault.TheVariants.{BadEdit, BadStep, NotPlaced}
 use Rattle.qcow2_metadata.specs.Answers.{and_then, result_map}
-use Rattle.qcow2_metadata.specs.Edits.{RunEnd}
 use Rattle.qcow2_metadata.specs.Header.Grammar.{header_of}
 use Rattle.qcow2_session.proofs.SampleImage.{computing, laid, sample}
-use Rattle.qcow2_session.specs.Changing.{named_end}
-use Rattle.qcow2_session.specs.Images.{steps_end}
-use Rattle.qcow2_session.specs.Lines.{freed_lines, gained_lines, reply_lines}
-use Rattle.qcow2_session.specs.Steps.{StepsEnd}
+use Rattle.qcow2_session.specs.Changing.{edits_of_table, end_of, steps_of_block}
 use Rattle.qcow2_session.specs.declared.session.edits.Edit.{Edit}
 use Rattle.qcow2_session.specs.declared.session.edits.Edit.TheVariants.{Discard, Map}
 use Rattle.qcow2_session.specs.declared.session.steps.Step.{Step}
@@ -19,7 +15,8 @@ use Rattle.qcow2_session.specs.declared.session.steps.Step.TheVariants.{Dec, Inc
 -- the lines of edits of the table that an L1 entry of the sample image names, or why they are refused
 abbrev edits_print : ℕ → List Edit → Result (List ℕ) Fault
 edits_print l1_index edits = and_then (header_of (laid sample)) (λ header.
-    result_map (λ (left : RunEnd). freed_lines left.freed ++ gained_lines left.gained) (named_end header l1_index edits (laid sample)))
+    let change = edits_of_table l1_index edits header in
+    result_map change.lines (end_of change (laid sample)))
 
 pub mapped_twice_and_let_go : edits_print 0 (Map 3 (record { 0 = 5 }) ∷ Map 3 (record { 0 = 6 }) ∷ Discard 3 ∷ []) ≡ Ok (codes "freed 5 1\nfreed 6 1\ngained 6\n")
 unfolding computing digits
@@ -44,7 +41,8 @@ past_the_l1_table = refl
 -- the lines of steps of the block behind the sample image, or why they are refused
 abbrev steps_print : List Step → Result (List ℕ) Fault
 steps_print steps = and_then (header_of (laid sample)) (λ header.
-    result_map (λ (left : StepsEnd). reply_lines left.replies) (steps_end header (record { 0 = 3 }) steps (laid sample)))
+    let change = steps_of_block (record { 0 = 3 }) steps header in
+    result_map change.lines (end_of change (laid sample)))
 
 pub up_twice_and_down : steps_print (Inc 0 ∷ Inc 0 ∷ Dec 0 ∷ Dec 1 ∷ []) ≡ Ok (codes "ok 0\nok 1\nok 2\nrefused\n")
 unfolding computing digits

@@ -94,6 +94,21 @@ pub data CommandLine : Type 0 where
   edit_entries : (image : List ℕ) (l1_index : ℕ) (edits : List Edit) → CommandLine
   count_steps : (image : List ℕ) (cluster : ℕ) (steps : List Step) → CommandLine
 
+-- the image that a command is about
+abbrev pub image_of : CommandLine → List ℕ
+image_of (l2 image cluster_bits cluster) = image
+image_of (info image) = image
+image_of (list_tables image) = image
+image_of (mapping_at image guest_offset) = image
+image_of (edit_entries image l1_index edits) = image
+image_of (count_steps image cluster steps) = image
+
+-- whether a command may change its image
+abbrev pub changes_image : CommandLine → Bool
+changes_image (edit_entries image l1_index edits) = true
+changes_image (count_steps image cluster steps) = true
+changes_image _ = false
+
 -- the command `l2`, where both of its numbers are there
 abbrev pub l2_with : List ℕ → Option ℕ → Option ℕ → Option CommandLine
 l2_with image (Some cluster_bits) (Some cluster) = Some (l2 image cluster_bits cluster)

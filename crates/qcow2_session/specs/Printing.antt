@@ -1,7 +1,7 @@
-use Rattle.std.specs.Prelude.{◌≡◌, ◌≢◌, ◌⊎◌, ℕ, false, true, is_ok, List, Option, Result, Err, OnOk, IfErr, IsOkAnd, IsTrue}
+use Rattle.std.specs.Prelude.{◌≡◌, ◌≢◌, ◌⊎◌, ℕ, false, true, is_ok, List, Option, Result, Err, OnOk, IfErr, IsErrOf, IsOkAnd, IsTrue}
 use Rattle.std.specs.Fmt.{decimal}
 use Rattle.std.specs.Io.KnownBytes.{Appends}
-use Rattle.qcow2_base.specs.Storage.{Image, StorageState}
+use Rattle.qcow2_base.specs.Storage.{Image, SameDevice, StorageState}
 use Rattle.qcow2_base.specs.declared.fault.Fault.{Fault}
 use Rattle.qcow2_base.specs.declared.fault.Fault.TheVariants.{NoMemory, Storage}
 use Rattle.qcow2_base.specs.declared.types.HostCluster.{HostCluster}
@@ -18,6 +18,13 @@ use Rattle.qcow2_session.specs.Lookups.{image_mapping}
 abbrev pub IsRefusal : {V : Type 0} → Result V Fault → StorageState → StorageState → Fault → Type 0
 IsRefusal meant old new fault = IsTrue old.tells → (meant ≡ Err fault) ⊎ (fault ≡ NoMemory)
     ⊎ ((fault ≡ Storage) × ((new.failures ≢ old.failures) ⊎ (is_ok meant ≡ true)))
+
+-- a command that prints last ended in this answer: a fault other than the storage fault comes before any line, and so
+-- does a failed call of the image, which is that fault
+pub record PrintsLast {T O : Type 0} (answer : Result T Fault) (old new : StorageState) (before after : O) : Type 0 where
+  pub refused : IfErr answer (λ fault. fault ≢ Storage → after ≡ before)
+  pub failed : new.failures ≢ old.failures → IsErrOf answer Storage × (after ≡ before)
+  pub device : SameDevice old new
 
 -- a command that prints what an image's bytes mean ended in this answer: it printed these lines, or it was refused
 pub record Prints {T : Type 0} (answer : Result T Fault) (meant : Result (List ℕ) Fault) (old new : StorageState) (before after : Option (List ℕ)) : Type 0 where

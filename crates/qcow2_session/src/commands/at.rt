@@ -1,9 +1,7 @@
 //! The command `at`: what a guest offset reads as.
 
-ghost use Rattle.std.specs.Prelude.{◌≡◌, ◌≢◌, IfErr, IsErrOf};
-ghost use Rattle.qcow2_base.specs.Storage.{ReadsFor};
-ghost use Rattle.qcow2_base.specs.declared.fault.Fault.TheVariants.{Storage as StorageFailed};
-ghost use Rattle.qcow2_session.specs.Printing.{Prints, line_at};
+ghost use Rattle.std.specs.Prelude.{◌≡◌};
+ghost use Rattle.qcow2_session.specs.Printing.{Prints, PrintsLast, line_at};
 
 use crate::lines::print_mapping;
 use crate::session::lookup_with_header;
@@ -24,9 +22,8 @@ pub fn print_mapping_at<S: Storage, O: Write>(
 ) -> Result<(), Fault>
     ensures prints { Prints result (line_at guest_offset.0 (S.state image.old).byte_at)
         (S.state image.old) (S.state image.new) (O.contents out.old) (O.contents out.new) }
-    ensures before_any_line { IfErr result (λ fault. fault ≢ StorageFailed → out.new ≡ out.old) }
-    ensures storage { ReadsFor (IsErrOf result StorageFailed × (out.new ≡ out.old))
-        (S.state image.old) (S.state image.new) }
+    ensures last { PrintsLast result (S.state image.old) (S.state image.new) out.old out.new }
+    ensures unchanged { (S.state image.new).byte_at ≡ (S.state image.old).byte_at }
 {
     let (header, mapping) = lookup_with_header(alloc, image, guest_offset)?;
     print_mapping(&mapping, header.cluster_bits(), out)?;

@@ -1,11 +1,10 @@
 //! The command `count`: steps of a refcount block's counters.
 
-ghost use Rattle.std.specs.Prelude.{◌≡◌, ◌≢◌, IfErr, IsErrOf, IsOkUnless, OnOk};
+ghost use Rattle.std.specs.Prelude.{◌≡◌, IsOkUnless, OnOk};
 ghost use Rattle.std.specs.Io.KnownBytes.{Appends};
-ghost use Rattle.qcow2_base.specs.declared.fault.Fault.TheVariants.{Storage as StorageFailed};
-ghost use Rattle.qcow2_session.specs.Changing.{AfterHeader, PrintsSteps};
-ghost use Rattle.qcow2_session.specs.Images.{steps_end};
+ghost use Rattle.qcow2_session.specs.Changing.{LoadsAndChanges, steps_of_block};
 ghost use Rattle.qcow2_session.specs.Lines.{reply_line, reply_lines};
+ghost use Rattle.qcow2_session.specs.Printing.{PrintsLast};
 
 use crate::session::{Step, StepReply, step_image};
 use qcow2_base::{Fault, HostCluster, Storage};
@@ -26,12 +25,9 @@ pub fn count_references<S: Storage, O: Write>(
     steps: &[Step],
     out: &mut O,
 ) -> Result<(), Fault>
-    ensures counts { AfterHeader result (S.state image.old) (S.state image.new) (λ header between.
-        PrintsSteps result header cluster (steps_end header cluster steps.now between.byte_at) between
-        (S.state image.new) (O.contents out.old) (O.contents out.new)) }
-    ensures before_any_line { IfErr result (λ fault. fault ≢ StorageFailed → out.new ≡ out.old) }
-    ensures storage { (S.state image.new).failures ≢ (S.state image.old).failures →
-        IsErrOf result StorageFailed × (out.new ≡ out.old) }
+    ensures counts { LoadsAndChanges result (steps_of_block cluster steps.now)
+        (S.state image.old) (S.state image.new) (O.contents out.old) (O.contents out.new) }
+    ensures last { PrintsLast result (S.state image.old) (S.state image.new) out.old out.new }
 {
     let header = Header::load(alloc, image, true)?;
     let replies = step_image(alloc, image, &header, cluster, steps)?;

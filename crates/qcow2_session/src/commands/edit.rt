@@ -1,13 +1,13 @@
 //! The command `edit`: edits of an L2 table.
 
-ghost use Rattle.std.specs.Prelude.{◌≡◌, ◌≢◌, ◌++◌, IfErr, IsErrOf, IsOkUnless, IsTrue, OnOk};
+ghost use Rattle.std.specs.Prelude.{◌≡◌, ◌++◌, IsOkUnless, IsTrue, OnOk};
 ghost use Rattle.std.specs.Io.KnownBytes.{Appends};
 ghost use Rattle.qcow2_base.specs.Storage.{OnlyReads};
-ghost use Rattle.qcow2_base.specs.declared.fault.Fault.TheVariants.{Storage as StorageFailed};
 ghost use Rattle.qcow2_metadata.specs.Answers.{Answers};
-ghost use Rattle.qcow2_session.specs.Changing.{AfterHeader, PrintsEdits, named_end, named_table};
+ghost use Rattle.qcow2_session.specs.Changing.{LoadsAndChanges, edits_of_table, named_table};
 ghost use Rattle.qcow2_session.specs.Edits.{numbers_of};
 ghost use Rattle.qcow2_session.specs.Lines.{freed_line, freed_lines, gained_line, gained_lines};
+ghost use Rattle.qcow2_session.specs.Printing.{PrintsLast};
 
 use crate::session::{Edit, Outcome, edit_image};
 use qcow2_base::{Fault, HostCluster, Storage};
@@ -28,13 +28,9 @@ pub fn edit_entries<S: Storage, O: Write>(
     edits: &[Edit],
     out: &mut O,
 ) -> Result<(), Fault>
-    ensures edits { AfterHeader result (S.state image.old) (S.state image.new) (λ header between.
-        PrintsEdits result header (named_table header l1_index between.byte_at)
-        (named_end header l1_index edits.now between.byte_at) between (S.state image.new)
-        (O.contents out.old) (O.contents out.new)) }
-    ensures before_any_line { IfErr result (λ fault. fault ≢ StorageFailed → out.new ≡ out.old) }
-    ensures storage { (S.state image.new).failures ≢ (S.state image.old).failures →
-        IsErrOf result StorageFailed × (out.new ≡ out.old) }
+    ensures edits { LoadsAndChanges result (edits_of_table l1_index edits.now)
+        (S.state image.old) (S.state image.new) (O.contents out.old) (O.contents out.new) }
+    ensures last { PrintsLast result (S.state image.old) (S.state image.new) out.old out.new }
 {
     let header = Header::load(alloc, image, true)?;
     let cluster = named_table(alloc, image, &header, l1_index)?;

@@ -1,11 +1,9 @@
 //! The command `info`: what an image's header says.
 
-ghost use Rattle.std.specs.Prelude.{◌≡◌, ◌≢◌, ◌++◌, option_map, string_bytes, IfErr, IsErrOf, IsOkUnless, OnOk};
+ghost use Rattle.std.specs.Prelude.{◌≡◌, ◌++◌, option_map, string_bytes, IsOkUnless, OnOk};
 ghost use Rattle.std.specs.Io.KnownBytes.{Appends};
-ghost use Rattle.qcow2_base.specs.Storage.{ReadsFor};
-ghost use Rattle.qcow2_base.specs.declared.fault.Fault.TheVariants.{Storage as StorageFailed};
 ghost use Rattle.qcow2_session.specs.Info.{backing_lines, answer_text, data_file_lines, info_lines, name_line, place_line, place_lines, size_lines, version_lines, version_of};
-ghost use Rattle.qcow2_session.specs.Printing.{Prints, lines_of_info};
+ghost use Rattle.qcow2_session.specs.Printing.{Prints, PrintsLast, lines_of_info};
 
 use qcow2_base::{Fault, HostOffset, Storage};
 use qcow2_metadata::Header;
@@ -24,9 +22,8 @@ pub fn print_info<S: Storage, O: Write>(
 ) -> Result<(), Fault>
     ensures prints { Prints result (lines_of_info (S.state image.old).byte_at)
         (S.state image.old) (S.state image.new) (O.contents out.old) (O.contents out.new) }
-    ensures before_any_line { IfErr result (λ fault. fault ≢ StorageFailed → out.new ≡ out.old) }
-    ensures storage { ReadsFor (IsErrOf result StorageFailed × (out.new ≡ out.old))
-        (S.state image.old) (S.state image.new) }
+    ensures last { PrintsLast result (S.state image.old) (S.state image.new) out.old out.new }
+    ensures unchanged { (S.state image.new).byte_at ≡ (S.state image.old).byte_at }
 {
     let header = Header::load(alloc, image, false)?;
     print_header(&header, out)

@@ -1,15 +1,14 @@
 //! The command `l2`: what one L2 table maps.
 
-ghost use Rattle.std.specs.Prelude.{◌≡◌, ◌≢◌, ◌⊎◌, length, false, ◌-◌, ◌^◌, Err, IfSome, IfErr, IsErrOf, OnOk, IsOkUnless};
-ghost use Rattle.qcow2_base.specs.declared.fault.Fault.TheVariants.{NoMemory, Storage as StorageFailed};
+ghost use Rattle.std.specs.Prelude.{◌≡◌, ◌⊎◌, length, false, ◌-◌, ◌^◌, Err, IfSome, OnOk, IsOkUnless};
+ghost use Rattle.qcow2_base.specs.declared.fault.Fault.TheVariants.{NoMemory};
 ghost use Rattle.qcow2_base.specs.Types.{IsClusterBits};
-ghost use Rattle.qcow2_base.specs.Storage.{ReadsFor};
 ghost use Rattle.std.specs.Fmt.{decimal};
 ghost use Rattle.std.specs.Io.KnownBytes.{Appends};
 ghost use Rattle.qcow2_metadata.specs.Header.{geometry};
 ghost use Rattle.qcow2_metadata.specs.Table.{l2_table_at, most_l2_entries, place_fault};
 ghost use Rattle.qcow2_session.specs.Lines.{entry_lines};
-ghost use Rattle.qcow2_session.specs.Printing.{Prints, lines_of_l2_table};
+ghost use Rattle.qcow2_session.specs.Printing.{Prints, PrintsLast, lines_of_l2_table};
 
 use crate::lines::print_entry;
 use qcow2_base::{Fault, GuestCluster, HostCluster, Storage};
@@ -40,13 +39,9 @@ pub fn list_l2_table<S: Storage, O: Write>(
     ensures prints { Prints result (lines_of_l2_table cluster_bits cluster (S.state image.old).byte_at)
         (S.state image.old) (S.state image.new) (O.contents out.old) (O.contents out.new) }
 
-    // Any fault but the storage fault comes before the first line.
-    ensures before_any_line { IfErr result (λ fault. fault ≢ StorageFailed → out.new ≡ out.old) }
-
-    // A call of the image that failed is the storage fault, before the first line too, and none of
-    // its bytes changes.
-    ensures storage { ReadsFor (IsErrOf result StorageFailed × (out.new ≡ out.old))
-        (S.state image.old) (S.state image.new) }
+    // A fault comes before the first line, but the storage fault of the output.
+    ensures last { PrintsLast result (S.state image.old) (S.state image.new) out.old out.new }
+    ensures unchanged { (S.state image.new).byte_at ≡ (S.state image.old).byte_at }
 {
     let header = Header::new(alloc, cluster_bits, REFCOUNT_ORDER, None, None, None)?;
     let table = L2Table::load(alloc, image, &header, cluster, header.l2_entries())?;

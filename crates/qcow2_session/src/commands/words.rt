@@ -73,7 +73,9 @@ impl<'a> Command<'a> {
     }
 
     /// The image that the command is about.
-    pub(super) fn image(&self) -> &'a str {
+    pub(super) fn image(&self) -> &'a str
+        ensures { result.now ≡ spec.image_of (line_of self.now) }
+    {
         match *self {
             Command::L2(words) => words.image,
             Command::Info { image }
@@ -85,7 +87,9 @@ impl<'a> Command<'a> {
     }
 
     /// Whether the command may change the image.
-    pub(super) fn is_writer(&self) -> bool {
+    pub(super) fn is_writer(&self) -> bool
+        ensures { result ≡ spec.changes_image (line_of self.now) }
+    {
         matches!(self, Command::Edit { .. } | Command::Count { .. })
     }
 

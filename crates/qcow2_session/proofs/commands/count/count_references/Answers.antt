@@ -1,7 +1,7 @@
-use Rattle.std.proofs.Common.{inr, rules}
+use Rattle.std.proofs.Common.{inr, refl, rules}
 use Rattle.std.proofs.lemmas.Result.{err_from_is_err_and}
-use Rattle.qcow2_session.proofs.ChangingLemmas.{steps-printed}
-use Rattle.qcow2_session.proofs.PrintingLemmas.{refusal-of}
+use Rattle.qcow2_session.proofs.ChangingLemmas.{change-printed, change-refused}
+use Rattle.qcow2_session.specs.Changing.{steps_of_block}
 use Rattle.qcow2_session.proofs.commands.count.count_references.Goals as goal
 
 pub returns-in_err-replies-clause-counts : goal.returns-in_err-replies-clause-counts
@@ -11,8 +11,9 @@ returns-in_err-replies-clause-counts g c =
     rw (left.1, left.2) (inr (
       c.in_ok-header.header,
       g.S.Storage.state c.load.new.image,
-      record { loaded = c.in_ok-header.ensures.exact; refused = tt; storage = c.in_ok-header.ensures.storage },
-      record { lines = tt; written = tt; refused = refusal-of _ _ (g.S.Storage.state c.load.new.image) (g.S.Storage.state c.step_image.new.image) ran.exact (λ storage. search rules); unchanged = ran.storage.refused; others = ran.storage.others },
+      record { exact = c.in_ok-header.ensures.exact; storage = c.in_ok-header.ensures.storage },
+      change-refused _ _ (steps_of_block c.args.cluster c.args.steps.now c.in_ok-header.header) c.args.cluster _ _ _ _ (λ told. refl) ran.exact
+          (λ storage. search rules) ran.storage.refused ran.storage.others,
     ))
 
 pub returns-clause-counts : goal.returns-clause-counts
@@ -21,7 +22,7 @@ returns-clause-counts g c =
     inr (
       c.in_ok-header.header,
       g.S.Storage.state c.load.new.image,
-      record { loaded = c.in_ok-header.ensures.exact; refused = tt; storage = c.in_ok-header.ensures.storage },
-      steps-printed c.print_replies.result _ _ _ _ _ _ _ _ ran.exact (λ told. (ran.written told).decoded) ran.storage.others
+      record { exact = c.in_ok-header.ensures.exact; storage = c.in_ok-header.ensures.storage },
+      change-printed c.print_replies.result _ (steps_of_block c.args.cluster c.args.steps.now c.in_ok-header.header) c.args.cluster _ _ _ _ _ (λ told. refl) ran.exact (λ told. (ran.written told).decoded) ran.storage.others
           c.print_replies.ensures.fault (rw c.as_slice.ensures.value at c.print_replies.ensures.lines),
     )

@@ -1,6 +1,7 @@
 use Rattle.std.proofs.Common.{arith, inr, rules, ◌∙◌}
 use Rattle.std.proofs.lemmas.Result.{err_from_is_err_and}
-use Rattle.qcow2_session.proofs.ChangingLemmas.{edits-printed, edits-refused, edits-unnamed}
+use Rattle.qcow2_session.proofs.ChangingLemmas.{change-printed, change-refused, change-unplaced}
+use Rattle.qcow2_session.specs.Changing.{edits_of_table}
 use Rattle.qcow2_session.proofs.commands.edit.edit_entries.Goals as goal
 
 pub returns-in_err-cluster-clause-edits : goal.returns-in_err-cluster-clause-edits
@@ -10,8 +11,8 @@ returns-in_err-cluster-clause-edits g c =
     rw (left.1, left.2) (inr (
       c.in_ok-header.header,
       g.S.Storage.state c.load.new.image,
-      record { loaded = c.in_ok-header.ensures.exact; refused = tt; storage = c.in_ok-header.ensures.storage },
-      edits-unnamed _ _ _ _ _ _ _ _ ran.exact (λ storage. search rules) ran.storage.bytes,
+      record { exact = c.in_ok-header.ensures.exact; storage = c.in_ok-header.ensures.storage },
+      change-unplaced _ _ (edits_of_table c.args.l1_index c.args.edits.now c.in_ok-header.header) _ _ _ _ ran.exact (λ storage. search rules) ran.storage.bytes,
     ))
 
 pub returns-in_err-outcome-clause-edits : goal.returns-in_err-outcome-clause-edits
@@ -22,8 +23,8 @@ returns-in_err-outcome-clause-edits g c =
     rw (left.1, left.2) (inr (
       c.in_ok-header.header,
       g.S.Storage.state c.load.new.image,
-      record { loaded = c.in_ok-header.ensures.exact; refused = tt; storage = c.in_ok-header.ensures.storage },
-      edits-refused _ _ _ c.in_ok-cluster.cluster _ _ _ _ _ named.exact
+      record { exact = c.in_ok-header.ensures.exact; storage = c.in_ok-header.ensures.storage },
+      change-refused _ _ (edits_of_table c.args.l1_index c.args.edits.now c.in_ok-header.header) c.in_ok-cluster.cluster _ _ _ _ named.exact
           (λ told. rw named.storage.bytes at (ran.exact (named.storage.device.tells ∙ told)))
           (λ storage. grind (arith, storage, named.storage.told, ran.storage.told))
           (λ other. ran.storage.refused other ∙ named.storage.bytes)
@@ -37,8 +38,8 @@ returns-clause-edits g c =
     inr (
       c.in_ok-header.header,
       g.S.Storage.state c.load.new.image,
-      record { loaded = c.in_ok-header.ensures.exact; refused = tt; storage = c.in_ok-header.ensures.storage },
-      edits-printed c.print_outcome.result _ _ c.in_ok-cluster.cluster _ _ _ _ _ _ named.exact
+      record { exact = c.in_ok-header.ensures.exact; storage = c.in_ok-header.ensures.storage },
+      change-printed c.print_outcome.result _ (edits_of_table c.args.l1_index c.args.edits.now c.in_ok-header.header) c.in_ok-cluster.cluster _ _ _ _ _ named.exact
           (λ told. rw named.storage.bytes at (ran.exact (named.storage.device.tells ∙ told)))
           (λ told. rw named.storage.bytes at (ran.written (named.storage.device.tells ∙ told)).decoded)
           (λ told. rw named.storage.bytes at (ran.storage.others (named.storage.device.tells ∙ told)))
