@@ -166,9 +166,10 @@ pub(super) fn encode<T: Table>(table: &T, first: usize, bytes: &mut [u8])
     outside.fill(0);
 }
 
-// The same of entries that are all in the table.
+// Puts the numbers of entries into the bytes that are all in the table.
 fn encode_held<T: Table>(table: &T, first: usize, bytes: &mut [u8])
-    requires within { (i : ℕ) → 8 * i + 8 ≤ length bytes.old → first + i < length (T.state table.now).numbers }
+    requires within { (i : ℕ) → 8 * i + 8 ≤ length bytes.old →
+        first + i < length (T.state table.now).numbers }
     requires bound { first ≤ 2 ^ 48 }
     ensures written { (i : ℕ) → 8 * i + 8 ≤ length bytes.new →
         be (image_of bytes.new) (8 * i) 8 ≡ slice_index (T.state table.now).numbers (first + i) }
