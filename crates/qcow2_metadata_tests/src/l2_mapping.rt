@@ -87,31 +87,47 @@ fn enters(
     same(found, (Ok(plain), Ok(external)), row)
 }
 
+// Cluster bits, a cluster of data, whether it is copied, and the number of the entry.
+const DATA: &[(u32, u64, bool, u64)] = &[
+    (9, 5, true, 0x8000_0000_0000_0a00),
+    (9, 5, false, 0xa00),
+    (9, 1, true, 0x8000_0000_0000_0200),
+    (9, PAST_9 - 1, true, 0x80ff_ffff_ffff_fe00),
+    (9, PAST_9 - 1, false, 0x00ff_ffff_ffff_fe00),
+    (16, 2, false, 0x2_0000),
+    (16, PAST_16 - 1, true, 0x80ff_ffff_ffff_0000),
+    (21, 1, true, 0x8000_0000_0020_0000),
+    (21, PAST_21 - 1, false, 0x00ff_ffff_ffe0_0000),
+];
+
 #[test]
 fn a_mapping_to_a_cluster_keeps_it_in_its_entry() -> Result<(), Fail> {
-    let table = [
-        (9, data(5, true), 0x8000_0000_0000_0a00),
-        (9, data(5, false), 0xa00),
-        (9, data(1, true), 0x8000_0000_0000_0200),
-        (9, data(PAST_9 - 1, true), 0x80ff_ffff_ffff_fe00),
-        (9, data(PAST_9 - 1, false), 0x00ff_ffff_ffff_fe00),
-        (16, data(2, false), 0x2_0000),
-        (16, data(PAST_16 - 1, true), 0x80ff_ffff_ffff_0000),
-        (21, data(1, true), 0x8000_0000_0020_0000),
-        (21, data(PAST_21 - 1, false), 0x00ff_ffff_ffe0_0000),
-        (9, zeros(Some(5), true), 0x8000_0000_0000_0a01),
-        (9, zeros(Some(5), false), 0xa01),
-        (9, zeros(Some(PAST_9 - 1), false), 0x00ff_ffff_ffff_fe01),
-        (16, zeros(Some(2), true), 0x8000_0000_0002_0001),
-        (16, zeros(Some(PAST_16 - 1), false), 0x00ff_ffff_ffff_0001),
-        (21, zeros(Some(1), false), 0x20_0001),
-        (21, zeros(Some(PAST_21 - 1), true), 0x80ff_ffff_ffe0_0001),
-        (9, zeros(None, false), 1),
-        (16, zeros(None, false), 1),
-        (21, zeros(None, false), 1),
-    ];
-    for (bits, mapping, number) in table {
-        enters(bits, mapping, number, mapping, mapping)?;
+    for (bits, cluster, copied, number) in DATA {
+        let mapping = data(*cluster, *copied);
+        enters(*bits, mapping, *number, mapping, mapping)?;
+    }
+    Ok(())
+}
+
+// Cluster bits, a cluster of zeros if there is one, whether it is copied, and the number of the entry.
+const ZEROS: &[(u32, Option<u64>, bool, u64)] = &[
+    (9, Some(5), true, 0x8000_0000_0000_0a01),
+    (9, Some(5), false, 0xa01),
+    (9, Some(PAST_9 - 1), false, 0x00ff_ffff_ffff_fe01),
+    (16, Some(2), true, 0x8000_0000_0002_0001),
+    (16, Some(PAST_16 - 1), false, 0x00ff_ffff_ffff_0001),
+    (21, Some(1), false, 0x20_0001),
+    (21, Some(PAST_21 - 1), true, 0x80ff_ffff_ffe0_0001),
+    (9, None, false, 1),
+    (16, None, false, 1),
+    (21, None, false, 1),
+];
+
+#[test]
+fn a_mapping_of_zeros_keeps_their_cluster_in_its_entry() -> Result<(), Fail> {
+    for (bits, cluster, copied, number) in ZEROS {
+        let mapping = zeros(*cluster, *copied);
+        enters(*bits, mapping, *number, mapping, mapping)?;
     }
     Ok(())
 }
@@ -146,52 +162,56 @@ fn cluster_0_is_kept_where_it_is_copied_in_an_external_data_file() -> Result<(),
     Ok(())
 }
 
+// Cluster bits, the offset of a mapping to backing data, and the offset of guest cluster 3.
+const BACKING: &[(u32, u64, u64)] = &[
+    (9, 1536, 1536),
+    (9, 0, 1536),
+    (16, 0x1234, 0x3_0000),
+    (21, u64::MAX, 0x60_0000),
+];
+
 #[test]
 fn the_entry_of_backing_is_0_and_reads_as_the_guest_clusters_own_offset() -> Result<(), Fail> {
-    let table = [
-        (9, backing(1536), 1536),
-        (9, backing(0), 1536),
-        (16, backing(0x1234), 0x3_0000),
-        (21, backing(u64::MAX), 0x60_0000),
-    ];
-    for (bits, mapping, offset) in table {
-        enters(bits, mapping, 0, backing(offset), backing(offset))?;
+    for (bits, offset, own_offset) in BACKING {
+        let found = backing(*own_offset);
+        enters(*bits, backing(*offset), 0, found, found)?;
     }
     Ok(())
 }
 
+// Cluster bits, an offset, a length, the number of the entry, and the length that it reads as.
+const COMPRESSED: &[(u32, u64, u64, u64, u64)] = &[
+    (9, 0, 1, 0x4000_0000_0000_0000, 512),
+    (9, 0, 511, 0x4000_0000_0000_0000, 512),
+    (9, 1, 511, 0x4000_0000_0000_0001, 511),
+    (9, 2, 511, 0x6000_0000_0000_0002, 1022),
+    (9, 0x1ff, 1, 0x4000_0000_0000_01ff, 1),
+    (9, 0x1ff, 2, 0x6000_0000_0000_01ff, 513),
+    (9, 0x00ff_ffff_ffff_fe00, 511, 0x40ff_ffff_ffff_fe00, 512),
+    (9, 0x00ff_ffff_ffff_ffff, 511, 0x60ff_ffff_ffff_ffff, 513),
+    (16, 0x1_0010, 1000, 0x4040_0000_0001_0010, 1008),
+    (16, 0x1_0000, 512, 0x4000_0000_0001_0000, 512),
+    (16, 0x1_0000, 513, 0x4040_0000_0001_0000, 1024),
+    (16, 0, 65535, 0x5fc0_0000_0000_0000, 65536),
+    (16, 0x1ff, 65535, 0x6000_0000_0000_01ff, 65537),
+    (16, 0x003f_ffff_ffff_ffff, 1, 0x403f_ffff_ffff_ffff, 1),
+    (21, 1, 1, 0x4000_0000_0000_0001, 511),
+    (21, 0x600, 2097151, 0x5ffe_0000_0000_0600, 2097152),
+    (21, 0x1_ffff_ffff_fe00, 1, 0x4001_ffff_ffff_fe00, 512),
+    (
+        21,
+        0x1_ffff_ffff_ffff,
+        2097151,
+        0x6001_ffff_ffff_ffff,
+        2097153,
+    ),
+];
+
 #[test]
 fn compressed_data_reads_as_reaching_to_the_end_of_its_last_sector() -> Result<(), Fail> {
-    // Cluster bits, an offset, a length, the number of the entry, and the length that it reads as.
-    let table: [(u32, u64, u64, u64, u64); 18] = [
-        (9, 0, 1, 0x4000_0000_0000_0000, 512),
-        (9, 0, 511, 0x4000_0000_0000_0000, 512),
-        (9, 1, 511, 0x4000_0000_0000_0001, 511),
-        (9, 2, 511, 0x6000_0000_0000_0002, 1022),
-        (9, 0x1ff, 1, 0x4000_0000_0000_01ff, 1),
-        (9, 0x1ff, 2, 0x6000_0000_0000_01ff, 513),
-        (9, 0x00ff_ffff_ffff_fe00, 511, 0x40ff_ffff_ffff_fe00, 512),
-        (9, 0x00ff_ffff_ffff_ffff, 511, 0x60ff_ffff_ffff_ffff, 513),
-        (16, 0x1_0010, 1000, 0x4040_0000_0001_0010, 1008),
-        (16, 0x1_0000, 512, 0x4000_0000_0001_0000, 512),
-        (16, 0x1_0000, 513, 0x4040_0000_0001_0000, 1024),
-        (16, 0, 65535, 0x5fc0_0000_0000_0000, 65536),
-        (16, 0x1ff, 65535, 0x6000_0000_0000_01ff, 65537),
-        (16, 0x003f_ffff_ffff_ffff, 1, 0x403f_ffff_ffff_ffff, 1),
-        (21, 1, 1, 0x4000_0000_0000_0001, 511),
-        (21, 0x600, 2097151, 0x5ffe_0000_0000_0600, 2097152),
-        (21, 0x1_ffff_ffff_fe00, 1, 0x4001_ffff_ffff_fe00, 512),
-        (
-            21,
-            0x1_ffff_ffff_ffff,
-            2097151,
-            0x6001_ffff_ffff_ffff,
-            2097153,
-        ),
-    ];
-    for (bits, offset, length, number, read) in table {
-        let want = compressed(offset, read)?;
-        enters(bits, compressed(offset, length)?, number, want, want)?;
+    for (bits, offset, length, number, read) in COMPRESSED {
+        let want = compressed(*offset, *read)?;
+        enters(*bits, compressed(*offset, *length)?, *number, want, want)?;
     }
     Ok(())
 }
@@ -253,28 +273,29 @@ fn data_goes_on_in_the_next_cluster_and_zeros_in_any() -> Result<(), Fail> {
     Ok(())
 }
 
+// Cluster bits, two offsets, and whether the second goes on after the first.
+const CONSECUTIVE: &[(u32, u64, u64, bool)] = &[
+    (9, 0, 512, true),
+    (9, 0, 0, false),
+    (9, 512, 0, false),
+    (9, 0, 511, false),
+    (9, 0, 1024, false),
+    (16, 0, 0x1_0000, true),
+    (16, 0, 512, false),
+    (21, 0x20_0000, 0x40_0000, true),
+    (9, 0xffff_ffff_ffff_fc00, 0xffff_ffff_ffff_fe00, true),
+    (9, 0xffff_ffff_ffff_fdff, 0xffff_ffff_ffff_ffff, true),
+    (9, 0xffff_ffff_ffff_fe00, 0, false),
+    (9, 0xffff_ffff_ffff_ffff, 511, false),
+    (21, 0xffff_ffff_ffe0_0000, 0, false),
+    (21, 0xffff_ffff_ffe0_0000, 0xffff_ffff_ffff_ffff, false),
+];
+
 #[test]
 fn backing_goes_on_a_cluster_further() -> Result<(), Fail> {
-    // Cluster bits, two offsets, and whether the second goes on after the first.
-    let table: [(u32, u64, u64, bool); 14] = [
-        (9, 0, 512, true),
-        (9, 0, 0, false),
-        (9, 512, 0, false),
-        (9, 0, 511, false),
-        (9, 0, 1024, false),
-        (16, 0, 0x1_0000, true),
-        (16, 0, 512, false),
-        (21, 0x20_0000, 0x40_0000, true),
-        (9, 0xffff_ffff_ffff_fc00, 0xffff_ffff_ffff_fe00, true),
-        (9, 0xffff_ffff_ffff_fdff, 0xffff_ffff_ffff_ffff, true),
-        (9, 0xffff_ffff_ffff_fe00, 0, false),
-        (9, 0xffff_ffff_ffff_ffff, 511, false),
-        (21, 0xffff_ffff_ffe0_0000, 0, false),
-        (21, 0xffff_ffff_ffe0_0000, 0xffff_ffff_ffff_ffff, false),
-    ];
-    for row in table {
-        let (bits, first, second, want) = row;
-        same(goes_on(bits, backing(first), backing(second))?, want, row)?;
+    for row in CONSECUTIVE {
+        let (bits, first, second, want) = *row;
+        same(goes_on(bits, backing(first), backing(second))?, want, *row)?;
     }
     Ok(())
 }
