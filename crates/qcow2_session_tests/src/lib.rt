@@ -26,7 +26,5 @@ mod sample_image;
 mod steps;
 #[cfg(test)]
 mod tables;
-#[cfg(test)]
-mod watched_files;
 
 pub use failing_output::{FailingOutput, Failure};

@@ -1,4 +1,5 @@
-//! Files that pass their calls on to real ones, a few bytes at a time, and fail where a test plans it.
+//! Files that pass their calls on to real ones, record how they are opened, go a few bytes at a
+//! time, and fail where a test plans it.
 
 use crate::failing::take_turn;
 use std::alloc::{Alloc, Allocator};
@@ -8,16 +9,63 @@ use std::io;
 use std::io::{Error, ErrorKind, Read, Seek, SeekFrom, Write};
 use std::rt::Files;
 
+/// How many times a file was opened, or was to be: for reading alone, and in any other way.
+#[derive(Clone, Copy, Debug, PartialEq, Eq)]
+pub struct Opens {
+    pub reading: u64,
+    pub other: u64,
+}
+
 /// Opens such files. Opening one is no call of it; asking for its metadata is the first.
-#[derive(Clone, Copy)]
+#[derive(Drop)]
 pub struct FaultyFiles<'a, R> {
-    pub files: &'a R,
+    files: &'a R,
     /// How many calls pass before the one that fails; without it none fails.
     pub plan: Option<u64>,
     /// The most bytes that one call reads or writes.
     pub step: usize,
     /// Where reads end, whatever the length.
     pub end: u64,
+    /// Whether a file that is to be opened in another way than for reading is refused.
+    pub read_only: bool,
+    opens: Cell<Opens>,
+}
+
+impl<'a, R> FaultyFiles<'a, R> {
+    /// Passes each call on as it is.
+    pub fn new(files: &'a R) -> FaultyFiles<'a, R> {
+        let opens = Opens {
+            reading: 0,
+            other: 0,
+        };
+        FaultyFiles {
+            files,
+            plan: None,
+            step: usize::MAX,
+            end: u64::MAX,
+            read_only: false,
+            opens: Cell::new(opens),
+        }
+    }
+
+    /// How many times a file was opened so far, or was to be.
+    pub fn opens(&self) -> Opens {
+        self.opens.get()
+    }
+
+    // Records one more opening, and tells whether it is to be passed on.
+    fn admits(&self, how: &OpenOptions) -> bool {
+        let changes = how.asks_write() || how.asks_append() || how.asks_truncate();
+        let creates = how.asks_create() || how.asks_create_new();
+        let mut opens = self.opens.get();
+        if changes || creates {
+            opens.other = opens.other.saturating_add(1);
+        } else {
+            opens.reading = opens.reading.saturating_add(1);
+        }
+        self.opens.set(opens);
+        !self.read_only || !(changes || creates)
+    }
 }
 
 /// A file that fails as it was planned when it was opened.
@@ -103,6 +151,9 @@ impl<R: Files> Files for FaultyFiles<'_, R> {
     type Dir = R::Dir;
 
     fn open_file(&self, how: &OpenOptions, path: &str) -> io::Result<FaultyFile<R::File>> {
+        if !self.admits(how) {
+            return Err(ErrorKind::PermissionDenied.into());
+        }
         Ok(FaultyFile {
             file: self.files.open_file(how, path)?,
             plan: Cell::new(self.plan),

@@ -12,5 +12,5 @@ mod temporary_files;
 pub use comparisons::{holds, same, same_bytes, same_text};
 pub use conditions::{fits, is_cluster_bits};
 pub use failing::{FailingStorage, StorageCall, take_turn};
-pub use faulty_files::{FaultyFile, FaultyFiles};
+pub use faulty_files::{FaultyFile, FaultyFiles, Opens};
 pub use temporary_files::{TemporaryFile, temporary_file, temporary_path};

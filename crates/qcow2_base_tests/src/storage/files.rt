@@ -122,12 +122,10 @@ fn faulty(
     step: usize,
     end: u64,
 ) -> Result<FileStorage<FaultyFile<File>>, Fault> {
-    let files = FaultyFiles {
-        files: rt,
-        plan,
-        step,
-        end,
-    };
+    let mut files = FaultyFiles::new(rt);
+    files.plan = plan;
+    files.step = step;
+    files.end = end;
     FileStorage::open(&files, path, true)
 }
 

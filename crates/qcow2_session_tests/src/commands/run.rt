@@ -1,10 +1,9 @@
 use super::table_of;
-use crate::watched_files::{Opens, WatchedFiles};
 use crate::{FailingOutput, Failure};
 use qcow2_base::{Fault, FileStorage};
 use qcow2_session::{report_fault, run_words};
 use qcow2_testing::{
-    FaultyFiles, TemporaryFile, holds, same, same_bytes, temporary_file, temporary_path,
+    FaultyFiles, Opens, TemporaryFile, holds, same, same_bytes, temporary_file, temporary_path,
 };
 use std::alloc::Global;
 use std::fmt::Debug;
@@ -92,6 +91,58 @@ pub(crate) fn runs<R: Files + AllocGlobal>(
     Run::of(rt, image, words)?.has(expected, words)
 }
 
+// Runs a line of words over outputs that fail there.
+pub(crate) fn runs_failing(
+    rt: &HostRuntime,
+    image: &str,
+    words: &[&str],
+    failures: (Failure, Failure),
+    expected: Outcome<'_>,
+) -> Result<(), Fail> {
+    Run::failing(rt, image, words, failures)?.has(expected, (words, failures))
+}
+
+// Runs each of these lines of words, which are no command.
+pub(crate) fn refuses<R: Files + AllocGlobal>(
+    rt: &R,
+    image: &str,
+    lines: &[&[&str]],
+) -> Result<(), Fail> {
+    for words in lines {
+        runs(rt, image, words, (2, "", USAGE))?;
+    }
+    Ok(())
+}
+
+// Runs a line of words over a file that fails its call after so many, and tells whether the run comes
+// to that call. Then it ends in the storage fault, and else it prints this.
+pub(crate) fn meets_failure(
+    rt: &HostRuntime,
+    image: &str,
+    words: &[&str],
+    printed: &str,
+    passes: u64,
+) -> Result<bool, Fail> {
+    let mut files = FaultyFiles::new(rt);
+    files.plan = Some(passes);
+    files.step = 100;
+    let run = Run::of(&files, image, words)?;
+    let fails = run.status != 0;
+    let expected = if fails {
+        (1, "", STORAGE)
+    } else {
+        (0, printed, "")
+    };
+    run.has(expected, (words, passes))?;
+    Ok(fails)
+}
+
+// So many first bytes of a text.
+pub(crate) fn begin(text: &str, len: usize) -> Result<&str, Fail> {
+    let end = len.min(text.len());
+    Ok(std::str::from_utf8(&text.as_bytes()[..end])?)
+}
+
 fn l2_runs<R: Files + AllocGlobal>(rt: &R, image: &str, rows: &[L2Row<'_>]) -> Result<(), Fail> {
     for (cluster_bits, cluster, expected) in rows {
         runs(
@@ -118,23 +169,24 @@ pub(crate) fn one_mapping<'a>(
     temporary_file(rt, name, image_with_one_mapping(rt.alloc())?.as_slice())
 }
 
+const LISTED: &[L2Row<'static>] = &[
+    ("9", "2", (0, ONE_MAPPING, "")),
+    ("9", "0", (0, "", "")),
+    ("9", "1", (0, "", "")),
+    ("9", "3", (0, "", "")),
+    ("10", "1", (1, "", "qmeta: fault 19\n")),
+    ("9", "140737488355327", (0, "", "")),
+    ("9", "140737488355328", (1, "", NO_PLACE)),
+    ("9", "18446744073709551615", (1, "", NO_PLACE)),
+];
+
 #[test]
 fn the_command_l2_reads_its_image_and_lists_the_table_that_begins_with_a_cluster(
     rt: HostRuntime,
 ) -> Result<(), Fail> {
     let file = one_mapping(&rt, "rows")?;
-    let files = WatchedFiles::new(&rt, false);
-    let rows: [L2Row<'_>; 8] = [
-        ("9", "2", (0, ONE_MAPPING, "")),
-        ("9", "0", (0, "", "")),
-        ("9", "1", (0, "", "")),
-        ("9", "3", (0, "", "")),
-        ("10", "1", (1, "", "qmeta: fault 19\n")),
-        ("9", "140737488355327", (0, "", "")),
-        ("9", "140737488355328", (1, "", NO_PLACE)),
-        ("9", "18446744073709551615", (1, "", NO_PLACE)),
-    ];
-    l2_runs(&files, file.path.as_str(), &rows)?;
+    let files = FaultyFiles::new(&rt);
+    l2_runs(&files, file.path.as_str(), LISTED)?;
     let opens = Opens {
         reading: 8,
         other: 0,
@@ -144,10 +196,8 @@ fn the_command_l2_reads_its_image_and_lists_the_table_that_begins_with_a_cluster
         &opens,
         "one for each row, and none to write",
     )?;
-    let (bytes, whole) = (
-        fs::read(&rt, file.path.as_str())?,
-        image_with_one_mapping(rt.alloc())?,
-    );
+    let bytes = fs::read(&rt, file.path.as_str())?;
+    let whole = image_with_one_mapping(rt.alloc())?;
     same_bytes(
         bytes.as_slice(),
         whole.as_slice(),
@@ -155,7 +205,7 @@ fn the_command_l2_reads_its_image_and_lists_the_table_that_begins_with_a_cluster
     )
 }
 
-const WRONG_WORDS: [&[&str]; 20] = [
+const WRONG_WORDS: &[&[&str]] = &[
     &[],
     &[""],
     &["l2"],
@@ -181,12 +231,9 @@ const WRONG_WORDS: [&[&str]; 20] = [
 #[test]
 fn wrong_words_are_the_usage_line_and_open_no_file(rt: HostRuntime) -> Result<(), Fail> {
     let file = one_mapping(&rt, "wrong-words")?;
-    let files = WatchedFiles::new(&rt, false);
-    for image in [file.path.as_str(), ""] {
-        for words in WRONG_WORDS {
-            runs(&files, image, words, (2, "", USAGE))?;
-        }
-    }
+    let files = FaultyFiles::new(&rt);
+    refuses(&files, file.path.as_str(), WRONG_WORDS)?;
+    refuses(&files, "", WRONG_WORDS)?;
     same(
         &files.opens(),
         &Opens {
@@ -197,28 +244,17 @@ fn wrong_words_are_the_usage_line_and_open_no_file(rt: HostRuntime) -> Result<()
     )
 }
 
-#[test]
-fn a_number_is_1_to_20_digits_that_fit_64_bits(rt: HostRuntime) -> Result<(), Fail> {
-    let file = one_mapping(&rt, "numbers")?;
-    let image = file.path.as_str();
-    let rows: [L2Row<'_>; 7] = [
-        ("9", "2", (0, ONE_MAPPING, "")),
-        ("9", "02", (0, ONE_MAPPING, "")),
-        ("9", "00000000000000000002", (0, ONE_MAPPING, "")),
-        ("09", "2", (0, ONE_MAPPING, "")),
-        ("00000000000000000009", "2", (0, ONE_MAPPING, "")),
-        ("9", "18446744073709551615", (1, "", NO_PLACE)),
-        ("9", "09223372036854775808", (1, "", NO_PLACE)),
-    ];
-    l2_runs(&rt, image, &rows)?;
-    for word in NO_NUMBERS {
-        let refused = (2, "", USAGE);
-        l2_runs(&rt, image, &[("9", word, refused), (word, "2", refused)])?;
-    }
-    Ok(())
-}
+const NUMBERS: &[L2Row<'static>] = &[
+    ("9", "2", (0, ONE_MAPPING, "")),
+    ("9", "02", (0, ONE_MAPPING, "")),
+    ("9", "00000000000000000002", (0, ONE_MAPPING, "")),
+    ("09", "2", (0, ONE_MAPPING, "")),
+    ("00000000000000000009", "2", (0, ONE_MAPPING, "")),
+    ("9", "18446744073709551615", (1, "", NO_PLACE)),
+    ("9", "09223372036854775808", (1, "", NO_PLACE)),
+];
 
-const NO_NUMBERS: [&str; 26] = [
+const NO_NUMBERS: &[&str] = &[
     "",
     "+",
     "-",
@@ -248,6 +284,18 @@ const NO_NUMBERS: [&str; 26] = [
 ];
 
 #[test]
+fn a_number_is_1_to_20_digits_that_fit_64_bits(rt: HostRuntime) -> Result<(), Fail> {
+    let file = one_mapping(&rt, "numbers")?;
+    let image = file.path.as_str();
+    l2_runs(&rt, image, NUMBERS)?;
+    for word in NO_NUMBERS {
+        let refused = (2, "", USAGE);
+        l2_runs(&rt, image, &[("9", word, refused), (word, "2", refused)])?;
+    }
+    Ok(())
+}
+
+#[test]
 fn every_number_of_cluster_bits_from_9_to_21_is_taken(rt: HostRuntime) -> Result<(), Fail> {
     let file = temporary_file(&rt, "cluster-bits", &[])?;
     for cluster_bits in 0..40 {
@@ -264,12 +312,9 @@ fn what_is_no_file_is_the_storage_fault(rt: HostRuntime) -> Result<(), Fail> {
     let missing = temporary_path(&rt, "no-file")?;
     let folder = env::temp_dir(&rt)?.into_string();
     let fault = (1, "", STORAGE);
+    let rows = [("9", "2", fault), ("9", "140737488355328", fault)];
     for image in [missing.as_str(), folder.as_str(), ""] {
-        l2_runs(
-            &rt,
-            image,
-            &[("9", "2", fault), ("9", "140737488355328", fault)],
-        )?;
+        l2_runs(&rt, image, &rows)?;
     }
     holds(
         fs::metadata(&rt, missing.as_str()).is_err(),
@@ -281,7 +326,8 @@ fn what_is_no_file_is_the_storage_fault(rt: HostRuntime) -> Result<(), Fail> {
 #[test]
 fn a_file_that_may_not_be_written_is_opened_for_reading_alone(rt: HostRuntime) -> Result<(), Fail> {
     let file = one_mapping(&rt, "read-only")?;
-    let files = WatchedFiles::new(&rt, true);
+    let mut files = FaultyFiles::new(&rt);
+    files.read_only = true;
     let cases = [
         (
             true,
@@ -312,22 +358,8 @@ fn each_failed_call_of_the_file_is_the_storage_fault(rt: HostRuntime) -> Result<
     let file = one_mapping(&rt, "failed-calls")?;
     let (mut failed, mut passed) = (false, false);
     for passes in 0..32 {
-        let files = FaultyFiles {
-            files: &rt,
-            plan: Some(passes),
-            step: 100,
-            end: u64::MAX,
-        };
-        let run = Run::of(&files, file.path.as_str(), &["l2", "IMAGE", "9", "2"])?;
-        let fails = run.status != 0;
-        run.has(
-            if fails {
-                (1, "", STORAGE)
-            } else {
-                (0, ONE_MAPPING, "")
-            },
-            passes,
-        )?;
+        let words = ["l2", "IMAGE", "9", "2"];
+        let fails = meets_failure(&rt, file.path.as_str(), &words, ONE_MAPPING, passes)?;
         failed |= fails;
         passed |= !fails;
     }
@@ -337,101 +369,101 @@ fn each_failed_call_of_the_file_is_the_storage_fault(rt: HostRuntime) -> Result<
     )
 }
 
+const LINES: &str = "0 data 0xa00 copied\n2 zero\n3 zero 0x600\n4 compressed 0x600 512\n";
+
 #[test]
 fn what_was_printed_before_a_failed_write_is_flushed(rt: HostRuntime) -> Result<(), Fail> {
-    let lines = "0 data 0xa00 copied\n2 zero\n3 zero 0x600\n4 compressed 0x600 512\n";
     let numbers = [0x8000_0000_0000_0a00, 0, 1, 0x601, 0x4000_0000_0000_0600];
-    let file = temporary_file(
-        &rt,
-        "failed-writes",
-        table_of(rt.alloc(), &numbers)?.as_slice(),
-    )?;
-    for room in 0..lines.len() + 1 {
-        let printed = std::str::from_utf8(&lines.as_bytes()[..room])?;
-        let whole = room == lines.len();
+    let bytes = table_of(rt.alloc(), &numbers)?;
+    let file = temporary_file(&rt, "failed-writes", bytes.as_slice())?;
+    let words = ["l2", "IMAGE", "9", "0"];
+    for room in 0..LINES.len() {
         let failures = (Failure::WriteAfter(room), Failure::Never);
-        let run = Run::failing(
-            &rt,
-            file.path.as_str(),
-            &["l2", "IMAGE", "9", "0"],
-            failures,
-        )?;
-        run.has(
-            if whole {
-                (0, lines, "")
-            } else {
-                (1, printed, STORAGE)
-            },
-            room,
-        )?;
+        let expected = (1, begin(LINES, room)?, STORAGE);
+        runs_failing(&rt, file.path.as_str(), &words, failures, expected)?;
     }
-    Ok(())
+    let failures = (Failure::WriteAfter(LINES.len()), Failure::Never);
+    runs_failing(&rt, file.path.as_str(), &words, failures, (0, LINES, ""))
 }
+
+// Cluster bits and a cluster, what is written before the flush, and what is told.
+const UNFLUSHED: &[(&str, &str, &str, &str)] = &[
+    ("9", "2", ONE_MAPPING, STORAGE),
+    ("9", "0", "", STORAGE),
+    ("9", "140737488355328", "", NO_PLACE),
+    ("10", "1", "", "qmeta: fault 19\n"),
+];
 
 #[test]
 fn a_failed_flush_is_told_where_the_run_has_no_fault_of_its_own(
     rt: HostRuntime,
 ) -> Result<(), Fail> {
     let file = one_mapping(&rt, "failed-flush")?;
-    let cases = [
-        ("9", "2", ONE_MAPPING, STORAGE),
-        ("9", "0", "", STORAGE),
-        ("9", "140737488355328", "", NO_PLACE),
-        ("10", "1", "", "qmeta: fault 19\n"),
-    ];
-    for (cluster_bits, cluster, written, told) in cases {
-        let words = ["l2", "IMAGE", cluster_bits, cluster];
+    for (cluster_bits, cluster, written, told) in UNFLUSHED {
+        let words = ["l2", "IMAGE", *cluster_bits, *cluster];
         let failures = (Failure::Flush, Failure::Never);
         let run = Run::failing(&rt, file.path.as_str(), &words, failures)?;
-        run.has((1, "", told), words)?;
+        run.has((1, "", *told), words)?;
         same_bytes(run.out.bytes(), written.as_bytes(), words)?;
     }
     Ok(())
 }
 
+// The words of a command, and what it ends with over an error output that does not fail.
+const TOLD: &[(&[&str], Outcome<'static>)] = &[
+    (&["l2", "IMAGE", "9", "2"], (0, ONE_MAPPING, "")),
+    (&["l2", "IMAGE", "9", "140737488355328"], (1, "", NO_PLACE)),
+    (&["l2", "", "9", "2"], (1, "", STORAGE)),
+    (&["l2", "IMAGE", "8", "2"], (2, "", USAGE)),
+];
+
 #[test]
 fn a_failed_error_output_keeps_the_status(rt: HostRuntime) -> Result<(), Fail> {
     let file = one_mapping(&rt, "failed-errors")?;
-    let cases: [(&[&str], Outcome<'_>); 4] = [
-        (&["l2", "IMAGE", "9", "2"], (0, ONE_MAPPING, "")),
-        (&["l2", "IMAGE", "9", "140737488355328"], (1, "", NO_PLACE)),
-        (&["l2", "", "9", "2"], (1, "", STORAGE)),
-        (&["l2", "IMAGE", "8", "2"], (2, "", USAGE)),
-    ];
-    for (words, (status, printed, told)) in cases {
-        for room in 0..told.len() + 1 {
-            let begun = std::str::from_utf8(&told.as_bytes()[..room])?;
-            let failures = (Failure::Never, Failure::WriteAfter(room));
-            let run = Run::failing(&rt, file.path.as_str(), words, failures)?;
-            run.has((status, printed, begun), (words, room))?;
-        }
-        let failures = (Failure::Never, Failure::Flush);
-        let run = Run::failing(&rt, file.path.as_str(), words, failures)?;
-        run.has((status, printed, ""), (words, "no flush passes"))?;
+    for (words, expected) in TOLD {
+        keeps_the_status(&rt, file.path.as_str(), words, *expected)?;
     }
     Ok(())
 }
 
+// Runs words over error outputs that fail at each byte in turn, at none, and at each flush.
+fn keeps_the_status(
+    rt: &HostRuntime,
+    image: &str,
+    words: &[&str],
+    (status, printed, told): Outcome<'_>,
+) -> Result<(), Fail> {
+    for room in 0..told.len().saturating_add(1) {
+        let failures = (Failure::Never, Failure::WriteAfter(room));
+        let expected = (status, printed, begin(told, room)?);
+        runs_failing(rt, image, words, failures, expected)?;
+    }
+    let failures = (Failure::Never, Failure::Flush);
+    runs_failing(rt, image, words, failures, (status, printed, ""))
+}
+
+const REPORTED: &[(Fault, &str)] = &[
+    (Fault::NotQcow2, "qmeta: fault 1\n"),
+    (Fault::Incompatible(2), "qmeta: fault 17\n"),
+    (Fault::BadEdit(7), "qmeta: fault 32\n"),
+    (Fault::Storage, STORAGE),
+    (Fault::NoMemory, "qmeta: fault 35\n"),
+    (Fault::ExternalData, "qmeta: fault 36\n"),
+];
+
 #[test]
 fn a_fault_is_reported_by_its_number(rt: HostRuntime) -> Result<(), Fail> {
-    let cases = [
-        (Fault::NotQcow2, "qmeta: fault 1\n"),
-        (Fault::Incompatible(2), "qmeta: fault 17\n"),
-        (Fault::BadEdit(7), "qmeta: fault 32\n"),
-        (Fault::Storage, STORAGE),
-        (Fault::NoMemory, "qmeta: fault 35\n"),
-        (Fault::ExternalData, "qmeta: fault 36\n"),
-    ];
-    for (fault, line) in cases {
-        for (failure, told) in [(Failure::Never, line), (Failure::WriteAfter(0), "")] {
-            let mut err = FailingOutput::new(rt.alloc(), failure)?;
-            let status = report_fault(fault, &mut err);
-            same(
-                &(status, std::str::from_utf8(err.flushed())?),
-                &(1, told),
-                fault,
-            )?;
-        }
+    for (fault, line) in REPORTED {
+        reports(rt.alloc(), *fault, Failure::Never, line)?;
+        reports(rt.alloc(), *fault, Failure::WriteAfter(0), "")?;
     }
     Ok(())
+}
+
+// Reports a fault on an output that fails there, and fails unless this is told.
+fn reports(alloc: Global, fault: Fault, failure: Failure, told: &str) -> Result<(), Fail> {
+    let mut err = FailingOutput::new(alloc, failure)?;
+    let status = report_fault(fault, &mut err);
+    let found = std::str::from_utf8(err.flushed())?;
+    same(&(status, found), &(1, told), fault)
 }

@@ -1,13 +1,13 @@
 //! The commands over whole images: what they print, and what the file is then.
 
-use super::run::{Outcome, Run, STORAGE, USAGE, runs};
+use super::run::{Outcome, STORAGE, begin, meets_failure, refuses, runs, runs_failing};
 use crate::Failure;
 use crate::sample_image::{COPIED, Numbers, put_all, sample_image};
-use crate::watched_files::{Opens, WatchedFiles};
 use qcow2_base::{Fault, MemStorage};
 use qcow2_metadata::Header;
-use qcow2_testing::{FaultyFiles, TemporaryFile, holds, same, same_bytes, temporary_file};
+use qcow2_testing::{FaultyFiles, Opens, TemporaryFile, holds, same, same_bytes, temporary_file};
 use std::alloc::Global;
+use std::fmt::Debug;
 use std::fs;
 use std::test::Fail;
 
@@ -27,6 +27,26 @@ pub(crate) fn sample_file<'a>(
 ) -> Result<TemporaryFile<'a, HostRuntime>, Fail> {
     let bytes = sample_image(rt.alloc(), 9, changes)?;
     temporary_file(rt, name, bytes.as_slice())
+}
+
+// Runs the words of each row.
+fn runs_each(rt: &HostRuntime, image: &str, rows: &[Row<'_>]) -> Result<(), Fail> {
+    for (words, expected) in rows {
+        runs(rt, image, words, *expected)?;
+    }
+    Ok(())
+}
+
+// Fails unless a file holds the sample image with these changes.
+fn holds_sample<R: Debug + Drop>(
+    rt: &HostRuntime,
+    path: &str,
+    changes: Numbers<'_>,
+    row: R,
+) -> Result<(), Fail> {
+    let bytes = fs::read(rt, path)?;
+    let want = sample_image(rt.alloc(), 9, changes)?;
+    same_bytes(bytes.as_slice(), want.as_slice(), row)
 }
 
 // Commands that leave the sample image as it is.
@@ -74,9 +94,7 @@ fn each_command_says_what_the_image_means(rt: HostRuntime) -> Result<(), Fail> {
     let file = sample_file(&rt, "looks", &[])?;
     for (words, expected) in LOOKS {
         runs(&rt, file.path.as_str(), words, *expected)?;
-        let bytes = fs::read(&rt, file.path.as_str())?;
-        let before = sample_image(rt.alloc(), 9, &[])?;
-        same_bytes(bytes.as_slice(), before.as_slice(), words)?;
+        holds_sample(&rt, file.path.as_str(), &[], words)?;
     }
     Ok(())
 }
@@ -85,7 +103,7 @@ fn each_command_says_what_the_image_means(rt: HostRuntime) -> Result<(), Fail> {
 fn only_edits_and_steps_open_the_image_for_writing(rt: HostRuntime) -> Result<(), Fail> {
     let file = sample_file(&rt, "opens", &[])?;
     for (words, expected) in LOOKS {
-        let files = WatchedFiles::new(&rt, false);
+        let files = FaultyFiles::new(&rt);
         runs(&files, file.path.as_str(), words, *expected)?;
         let changes = words.first() == Some(&"edit") || words.first() == Some(&"count");
         let opens = Opens {
@@ -128,10 +146,8 @@ const WRONG_WORDS: &[&[&str]] = &[
 #[test]
 fn wrong_words_of_each_command_open_no_file(rt: HostRuntime) -> Result<(), Fail> {
     let file = sample_file(&rt, "wrong-words-of-each", &[])?;
-    let files = WatchedFiles::new(&rt, false);
-    for words in WRONG_WORDS {
-        runs(&files, file.path.as_str(), words, (2, "", USAGE))?;
-    }
+    let files = FaultyFiles::new(&rt);
+    refuses(&files, file.path.as_str(), WRONG_WORDS)?;
     let opens = Opens {
         reading: 0,
         other: 0,
@@ -187,9 +203,7 @@ fn edits_and_steps_change_just_their_table_or_block(rt: HostRuntime) -> Result<(
             (0, *printed, "")
         };
         runs(&rt, file.path.as_str(), words, expected)?;
-        let bytes = fs::read(&rt, file.path.as_str())?;
-        let want = sample_image(rt.alloc(), 9, changes)?;
-        same_bytes(bytes.as_slice(), want.as_slice(), words)?;
+        holds_sample(&rt, file.path.as_str(), changes, words)?;
     }
     Ok(())
 }
@@ -232,40 +246,32 @@ fn who_edits_or_counts_leaves_no_autoclear_feature(rt: HostRuntime) -> Result<()
     for (words, expected, changes) in AUTOCLEAR {
         let file = sample_file(&rt, "autoclear", &[(88, 1)])?;
         runs(&rt, file.path.as_str(), words, *expected)?;
-        let bytes = fs::read(&rt, file.path.as_str())?;
-        let want = sample_image(rt.alloc(), 9, changes)?;
-        same_bytes(bytes.as_slice(), want.as_slice(), words)?;
+        holds_sample(&rt, file.path.as_str(), changes, words)?;
     }
     Ok(())
 }
 
+// Commands over a sample image whose second L1 entry names an L2 table past its end.
+const MAPS: &[Row<'static>] = &[
+    (&["at", "IMAGE", "32768"], (0, "backing 0x8000\n", "")),
+    (&["edit", "IMAGE", "1", "map:0:5"], (0, "gained 5\n", "")),
+    (&["at", "IMAGE", "32768"], (0, "data 0xa00 copied\n", "")),
+    (&["at", "IMAGE", "1543"], (0, "data 0xa00 copied\n", "")),
+    (
+        &["list", "IMAGE"],
+        (0, "0x600 data 0xa00 copied\n0x8000 data 0xa00 copied\n", ""),
+    ),
+    (
+        &["edit", "IMAGE", "0", "map:3:6"],
+        (0, "freed 5 1\ngained 6\n", ""),
+    ),
+    (&["at", "IMAGE", "1543"], (0, "data 0xc00 copied\n", "")),
+];
+
 #[test]
 fn what_an_edit_maps_is_what_the_offset_reads_as(rt: HostRuntime) -> Result<(), Fail> {
     let file = sample_file(&rt, "maps", &[(32, 2), (520, COPIED + 0x600)])?;
-    let rows: [Row<'_>; 6] = [
-        (&["at", "IMAGE", "32768"], (0, "backing 0x8000\n", "")),
-        (&["edit", "IMAGE", "1", "map:0:5"], (0, "gained 5\n", "")),
-        (&["at", "IMAGE", "32768"], (0, "data 0xa00 copied\n", "")),
-        (&["at", "IMAGE", "1543"], (0, "data 0xa00 copied\n", "")),
-        (
-            &["list", "IMAGE"],
-            (0, "0x600 data 0xa00 copied\n0x8000 data 0xa00 copied\n", ""),
-        ),
-        (
-            &["edit", "IMAGE", "0", "map:3:6"],
-            (0, "freed 5 1\ngained 6\n", ""),
-        ),
-    ];
-    for (words, expected) in rows {
-        runs(&rt, file.path.as_str(), words, expected)?;
-    }
-    let row = ["at", "IMAGE", "1543"];
-    runs(
-        &rt,
-        file.path.as_str(),
-        &row,
-        (0, "data 0xc00 copied\n", ""),
-    )
+    runs_each(&rt, file.path.as_str(), MAPS)
 }
 
 // Commands that read more and more of the image.
@@ -319,9 +325,7 @@ fn a_damaged_part_is_its_fault_where_a_command_reads_it(rt: HostRuntime) -> Resu
     for (changes, expected) in DAMAGES {
         let file = sample_file(&rt, "damages", changes)?;
         reads_end_with(&rt, file.path.as_str(), expected)?;
-        let bytes = fs::read(&rt, file.path.as_str())?;
-        let before = sample_image(rt.alloc(), 9, changes)?;
-        same_bytes(bytes.as_slice(), before.as_slice(), changes)?;
+        holds_sample(&rt, file.path.as_str(), changes, changes)?;
     }
     Ok(())
 }
@@ -369,19 +373,17 @@ fn named_header(alloc: Global) -> Result<Header, Fault> {
     Header::new(alloc, 16, 6, Some(backing), Some(format), Some(data))
 }
 
+const UNMAPPED: &[Row<'static>] = &[
+    (&["list", "IMAGE"], (0, "", "")),
+    (&["at", "IMAGE", "0"], (0, "backing 0x0\n", "")),
+    (&["edit", "IMAGE", "0"], (1, "", "qmeta: fault 23\n")),
+];
+
 #[test]
 fn an_image_of_a_header_alone_maps_nothing(rt: HostRuntime) -> Result<(), Fail> {
     let whole = sample_image(rt.alloc(), 9, &[(24, 0), (32, 0), (40, 0)])?;
     let file = temporary_file(&rt, "header-alone", whole.as_slice())?;
-    let rows: [Row<'_>; 3] = [
-        (&["list", "IMAGE"], (0, "", "")),
-        (&["at", "IMAGE", "0"], (0, "backing 0x0\n", "")),
-        (&["edit", "IMAGE", "0"], (1, "", "qmeta: fault 23\n")),
-    ];
-    for (words, expected) in rows {
-        runs(&rt, file.path.as_str(), words, expected)?;
-    }
-    Ok(())
+    runs_each(&rt, file.path.as_str(), UNMAPPED)
 }
 
 // Commands over the sample image, and what they print.
@@ -401,41 +403,38 @@ fn each_failed_call_of_the_file_is_the_storage_fault_of_each_command(
     rt: HostRuntime,
 ) -> Result<(), Fail> {
     for (words, printed) in PRINTS {
-        let (mut failed, mut passed) = (false, false);
-        for passes in 0..40 {
-            let file = sample_file(&rt, "failed-calls-of-each", &[])?;
-            let files = FaultyFiles {
-                files: &rt,
-                plan: Some(passes),
-                step: 100,
-                end: u64::MAX,
-            };
-            let run = Run::of(&files, file.path.as_str(), words)?;
-            let fails = run.status != 0;
-            let expected = if fails {
-                (1, "", STORAGE)
-            } else {
-                (0, *printed, "")
-            };
-            run.has(expected, (words, passes))?;
-            failed |= fails;
-            passed |= !fails;
-        }
-        holds(failed && passed, words)?;
+        fails_at_some_calls(&rt, words, printed)?;
     }
     Ok(())
+}
+
+// Runs words over files that fail at one call after the other, until no call is left to fail.
+fn fails_at_some_calls(rt: &HostRuntime, words: &[&str], printed: &str) -> Result<(), Fail> {
+    let (mut failed, mut passed) = (false, false);
+    for passes in 0..40 {
+        let file = sample_file(rt, "failed-calls-of-each", &[])?;
+        let fails = meets_failure(rt, file.path.as_str(), words, printed, passes)?;
+        failed |= fails;
+        passed |= !fails;
+    }
+    holds(failed && passed, words)
 }
 
 #[test]
 fn a_failed_output_is_the_storage_fault_of_each_command(rt: HostRuntime) -> Result<(), Fail> {
     for (words, printed) in PRINTS {
-        for room in 0..printed.len() {
-            let file = sample_file(&rt, "failed-outputs-of-each", &[])?;
-            let failures = (Failure::WriteAfter(room), Failure::Never);
-            let run = Run::failing(&rt, file.path.as_str(), words, failures)?;
-            let begun = std::str::from_utf8(&printed.as_bytes()[..room])?;
-            run.has((1, begun, STORAGE), (words, room))?;
-        }
+        prints_what_is_taken(&rt, words, printed)?;
+    }
+    Ok(())
+}
+
+// Runs words over outputs that fail at each byte in turn.
+fn prints_what_is_taken(rt: &HostRuntime, words: &[&str], printed: &str) -> Result<(), Fail> {
+    for room in 0..printed.len() {
+        let file = sample_file(rt, "failed-outputs-of-each", &[])?;
+        let failures = (Failure::WriteAfter(room), Failure::Never);
+        let expected = (1, begin(printed, room)?, STORAGE);
+        runs_failing(rt, file.path.as_str(), words, failures, expected)?;
     }
     Ok(())
 }
