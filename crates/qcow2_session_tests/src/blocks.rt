@@ -1,9 +1,11 @@
 //! Refcount blocks to step, and comparisons of what steps of them leave.
 
+use crate::calls::{load_block, new_block, step_block};
+use crate::images::header_with;
 use qcow2_base::{Fault, HostCluster, MemStorage};
-use qcow2_metadata::{Header, RefBlock};
-use qcow2_session::{Step, StepReply, step_block};
-use qcow2_testing::same;
+use qcow2_metadata::RefBlock;
+use qcow2_session::{Step, StepReply};
+use qcow2_testing::{fits, same};
 use std::alloc::Global;
 use std::fmt::Debug;
 use std::test::Fail;
@@ -17,15 +19,38 @@ const CLUSTER: HostCluster = HostCluster(3);
 /// A block of an image with clusters of 512 bytes, whose counters have `2^order` bits. It begins with these
 /// bytes, has a cluster, and isn't modified.
 pub(crate) fn block_with(alloc: Global, order: u32, bytes: &[u8]) -> Result<RefBlock, Fault> {
-    if order > 6 {
-        return Err(Fault::RefcountWidth);
-    }
-    let header = Header::new(alloc, 9, order, None, None, None)?;
+    let header = header_with(alloc, 9, order, false)?;
     let mut image = MemStorage::new(Vec::from_slice(alloc, bytes)?);
-    let mut block = RefBlock::load(alloc, &mut image, &header, HostCluster(0))?;
-    block.set_cluster(CLUSTER);
+    let mut block = load_block(alloc, &mut image, &header, HostCluster(0))?;
+    place(&mut block)?;
     block.clear_modified();
     Ok(block)
+}
+
+/// A block of zeros of an image with clusters of 512 bytes, whose counters have 16 bits. It has a
+/// cluster, and is modified.
+pub(crate) fn block_of_zeros(alloc: Global, image: &MemStorage) -> Result<RefBlock, Fault> {
+    let header = header_with(alloc, 9, 4, false)?;
+    let mut block = new_block(alloc, image, &header)?;
+    place(&mut block)?;
+    Ok(block)
+}
+
+// Says that the block begins with its cluster.
+fn place(block: &mut RefBlock) -> Result<(), Fault> {
+    if !fits(CLUSTER.0, 0, block.cluster_bits()) {
+        return Err(Fault::TablePlace);
+    }
+    block.set_cluster(CLUSTER);
+    Ok(())
+}
+
+/// The counter at an index of the block, if there is one.
+pub(crate) fn counter_at(block: &RefBlock, index: usize) -> Option<u64> {
+    if index < block.entries() {
+        return Some(block.get(index));
+    }
+    None
 }
 
 /// Sets the block's flag, or clears it.
@@ -53,10 +78,10 @@ pub(crate) fn block_says<R: Debug + Drop>(
 }
 
 // The first counter that isn't one of these or else 0, with its index.
-fn other_counter(block: &RefBlock, counters: Counters<'_>) -> Option<(usize, u64)> {
+fn other_counter(block: &RefBlock, counters: Counters<'_>) -> Option<(usize, Option<u64>)> {
     for index in 0..block.entries() {
-        let found = block.get(index);
-        if found != counters.get(index).copied().unwrap_or(0) {
+        let found = counter_at(block, index);
+        if found != Some(counters.get(index).copied().unwrap_or(0)) {
             return Some((index, found));
         }
     }

@@ -1,12 +1,13 @@
 //! Lists of edits of an L2 table: what all of them leave together, and which lists are refused.
 
+use crate::calls::{edit_table, edits_fit};
 use crate::tables::{
     Entries, GONE, KEEP, Left, PAST, TO_0, TO_1, TO_2, TO_5, TO_6, ZERO, begins, makes, says,
     table_with,
 };
 use qcow2_base::{Fault, HostCluster};
 use qcow2_metadata::{ClustersToFreeEntry, L2Table, Table};
-use qcow2_session::{Edit, Outcome, edit_table, edits_fit};
+use qcow2_session::{Edit, Outcome};
 use qcow2_testing::same;
 use std::alloc::{AllocError, Global};
 use std::fmt::Debug;
@@ -175,7 +176,7 @@ fn refuses<R: Debug + Copy + Drop>(
 }
 
 // The table, edits of it, and the position of the first that is refused.
-const REFUSED: [(Before, &'static [Edit], usize); 5] = [
+const REFUSED: &[(Before, &'static [Edit], usize)] = &[
     ((9, false, 0x8000_0000_0000_0a00), &[GONE, PAST], 1),
     ((9, false, 0x8000_0000_0000_0a00), &[PAST, GONE, PAST], 0),
     (
@@ -189,7 +190,8 @@ const REFUSED: [(Before, &'static [Edit], usize); 5] = [
 
 #[test]
 fn a_list_with_an_edit_that_does_not_fit_changes_nothing(rt: HostRuntime) -> Result<(), Fail> {
-    for ((bits, external, entry), edits, position) in REFUSED {
+    for row in REFUSED {
+        let ((bits, external, entry), edits, position) = *row;
         let mut table = table_with(rt.alloc(), bits, external, (3, &[entry]))?;
         let row = (bits, external, entry, position);
         refuses(&mut table, (3, &[entry]), edits, position, row)?;
@@ -201,7 +203,7 @@ fn a_list_with_an_edit_that_does_not_fit_changes_nothing(rt: HostRuntime) -> Res
 // cluster that an entry can refer to, the next one, and the entry of data in the greatest.
 type Ends = (u32, bool, usize, u64, u64, u64);
 
-const ENDS: [Ends; 4] = [
+const ENDS: &[Ends] = &[
     (
         9,
         false,
@@ -307,8 +309,8 @@ fn the_last_index_and_the_greatest_cluster_are_taken_and_none_past_them(
     rt: HostRuntime,
 ) -> Result<(), Fail> {
     for ends in ENDS {
-        takes_the_last(rt.alloc(), ends)?;
-        refuses_past_the_last(rt.alloc(), ends)?;
+        takes_the_last(rt.alloc(), *ends)?;
+        refuses_past_the_last(rt.alloc(), *ends)?;
     }
     Ok(())
 }
@@ -359,7 +361,7 @@ fn ten_thousand_edits_are_made_in_their_order(rt: HostRuntime) -> Result<(), Fai
 }
 
 // The first entries of a table of an image with cluster bits 10.
-const SHARED: [u64; 6] = [
+const SHARED: &[u64] = &[
     // compressed data in clusters 1 to 3, and in cluster 2
     0x7000_0000_0000_0600,
     0x4000_0000_0000_0900,
@@ -370,7 +372,7 @@ const SHARED: [u64; 6] = [
     0,
 ];
 
-const MIXED: [Edit; 9] = [
+const MIXED: &[Edit] = &[
     Edit::Map {
         index: 0,
         host_cluster: HostCluster(8),
@@ -403,7 +405,7 @@ const MIXED: [Edit; 9] = [
     },
 ];
 
-const LEFT: [u64; 6] = [
+const LEFT: &[u64] = &[
     0,
     0x8000_0000_0000_0800,
     0x8000_0000_0000_1400,
@@ -414,7 +416,7 @@ const LEFT: [u64; 6] = [
 
 // A cluster, how many of the entries refer to it before, how often it gains and loses a reference, and how
 // many refer to it then.
-const REFERENCES: [(u64, u32, u32, u32, u32); 10] = [
+const REFERENCES: &[(u64, usize, usize, usize, usize)] = &[
     (0, 0, 0, 0, 0),
     (1, 1, 0, 1, 0),
     (2, 2, 1, 2, 1),
@@ -443,14 +445,14 @@ fn changes(outcome: &Outcome, cluster: u64) -> (usize, usize) {
 fn references_before_and_gained_are_those_left_and_handed_back(
     rt: HostRuntime,
 ) -> Result<(), Fail> {
-    let mut table = table_with(rt.alloc(), 10, false, (0, &SHARED))?;
-    let outcome = edit_table(&mut table, &MIXED)?;
-    says(&table, (0, &LEFT), true, "mixed")?;
-    for (cluster, before, gained, freed, after) in REFERENCES {
-        let expected = (gained as usize, freed as usize);
-        same(changes(&outcome, cluster), expected, cluster)?;
-        let sums = (before as u64 + gained as u64, after as u64 + freed as u64);
-        same(sums.0, sums.1, cluster)?;
+    let mut table = table_with(rt.alloc(), 10, false, (0, SHARED))?;
+    let outcome = edit_table(&mut table, MIXED)?;
+    says(&table, (0, LEFT), true, "mixed")?;
+    for row in REFERENCES {
+        let (cluster, before, gained, freed, after) = *row;
+        same(changes(&outcome, cluster), (gained, freed), cluster)?;
+        let (held, left) = (before.checked_add(gained), after.checked_add(freed));
+        same(held, left, cluster)?;
     }
     Ok(())
 }

@@ -2,10 +2,11 @@
 
 ghost use Rattle.std.specs.Prelude.{◌≤◌};
 
+use crate::calls::edit_table;
 use crate::tables::{begins, has, says, table_with};
 use qcow2_base::{Fault, HostCluster};
 use qcow2_metadata::{L2Table, Table};
-use qcow2_session::{Edit, edit_table};
+use qcow2_session::Edit;
 use qcow2_testing::same;
 use std::alloc::Global;
 use std::test::Fail;
@@ -24,7 +25,7 @@ type Size = (u32, u32, u64, u64, usize);
 // A cluster size, and whether data is external.
 type Image = (Size, bool);
 
-const SIZES: [Size; 3] = [
+const SIZES: &[Size] = &[
     // Such small clusters have no more than one further sector, and no data over three clusters.
     (9, 0x1ff, 0x2000_0000_0000_0000, 0, 10),
     (16, 0xffff, 0x0040_0000_0000_0000, 0x2040_0000_0000_0000, 11),
@@ -190,7 +191,7 @@ fn edits_leave(alloc: Global, image: Image) -> Result<(), Fail> {
 fn each_edit_of_each_entry_hands_back_what_it_does_not_keep(rt: HostRuntime) -> Result<(), Fail> {
     for size in SIZES {
         for external in [false, true] {
-            edits_leave(rt.alloc(), (size, external))?;
+            edits_leave(rt.alloc(), (*size, external))?;
         }
     }
     Ok(())

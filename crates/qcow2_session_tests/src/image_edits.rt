@@ -1,10 +1,13 @@
 //! Lists of edits of an image: what stands in it then, what is handed back, and what refuses them.
 
-use crate::images::{Parts, header_with, image_of, pieces_of, reads_and_writes};
+use crate::calls::edit_image;
+use crate::images::{
+    Parts, failing_image, header_with, image_holds, pieces_of, reads_and_writes, three_clusters,
+};
 use crate::tables::{GONE, KEEP, PAST, TO_0, TO_5, TO_6, has};
 use qcow2_base::{Fault, HostCluster};
-use qcow2_session::{Edit, edit_image};
-use qcow2_testing::{FailingStorage, same, same_bytes};
+use qcow2_session::Edit;
+use qcow2_testing::same;
 use std::alloc::Global;
 use std::test::Fail;
 
@@ -42,7 +45,10 @@ type Before = ((u32, u64), bool, usize, Parts<'static>);
 // the image is then, and what stands in it.
 type After = (&'static [u64], &'static [(u64, u64)], usize, Parts<'static>);
 
-const EDITED: &[(&'static str, Before, &'static [Edit], After)] = &[
+// A list of edits, and what it leaves.
+type Edited = (&'static str, Before, &'static [Edit], After);
+
+const EDITED: &[Edited] = &[
     (
         "mapped twice and let go",
         ((9, 2), false, 1536, &[(1048, DATA_5)]),
@@ -139,27 +145,32 @@ const EDITED: &[(&'static str, Before, &'static [Edit], After)] = &[
 #[test]
 fn edits_stand_in_the_image(rt: HostRuntime) -> Result<(), Fail> {
     for row in EDITED {
-        let (name, (place, external, len, parts), edits, (gained, freed, len_then, then)) = *row;
-        let header = header_with(rt.alloc(), place.0, 4, external)?;
-        for around in [0, 0xa5] {
-            let image = image_of(rt.alloc(), len, place, around, parts)?;
-            let mut image = FailingStorage::new(rt.alloc(), image);
-            let outcome = edit_image(rt.alloc(), &mut image, &header, HostCluster(place.1), edits)?;
-            has(&outcome, gained, freed, name)?;
-            let pieces = pieces_of(place.0);
-            let writes = if edits.is_empty() { 0 } else { pieces };
-            same(reads_and_writes(&image), (pieces, writes), name)?;
-            let expected = image_of(rt.alloc(), len_then, place, around, then)?;
-            same_bytes(image.inner().bytes(), expected.bytes(), name)?;
-        }
+        stand(rt.alloc(), *row, 0)?;
+        stand(rt.alloc(), *row, 0xa5)?;
     }
     Ok(())
+}
+
+// Makes the edits of a row, where this byte stands around the table.
+fn stand(alloc: Global, row: Edited, around: u8) -> Result<(), Fail> {
+    let (name, (place, external, len, parts), edits, (gained, freed, len_then, then)) = row;
+    let header = header_with(alloc, place.0, 4, external)?;
+    let mut image = failing_image(alloc, (len, place, around, parts))?;
+    let outcome = edit_image(alloc, &mut image, &header, HostCluster(place.1), edits)?;
+    has(&outcome, gained, freed, name)?;
+    let pieces = pieces_of(place.0);
+    let writes = if edits.is_empty() { 0 } else { pieces };
+    same(reads_and_writes(&image), (pieces, writes), name)?;
+    image_holds(alloc, &image, (len_then, place, around, then), name)
 }
 
 // The entry of the lowest reserved bit, as its last byte.
 const RESERVED: &[u8] = &[2];
 
-const REFUSED: &[(&'static str, Before, &'static [Edit], Fault)] = &[
+// A list of edits, and the fault that it is refused by.
+type Refusal = (&'static str, Before, &'static [Edit], Fault);
+
+const REFUSED: &[Refusal] = &[
     (
         "an index past the end",
         ((9, 2), false, 1536, &[(1048, DATA_5)]),
@@ -237,17 +248,19 @@ const REFUSED: &[(&'static str, Before, &'static [Edit], Fault)] = &[
 #[test]
 fn what_is_refused_leaves_the_image(rt: HostRuntime) -> Result<(), Fail> {
     for row in REFUSED {
-        let (name, (place, external, len, parts), edits, fault) = *row;
-        let header = header_with(rt.alloc(), place.0, 4, external)?;
-        let before = image_of(rt.alloc(), len, place, 0xa5, parts)?;
-        let image = image_of(rt.alloc(), len, place, 0xa5, parts)?;
-        let mut image = FailingStorage::new(rt.alloc(), image);
-        let answer = edit_image(rt.alloc(), &mut image, &header, HostCluster(place.1), edits);
-        same(answer.err(), Some(fault), name)?;
-        same(reads_and_writes(&image).1, 0, name)?;
-        same_bytes(image.inner().bytes(), before.bytes(), name)?;
+        is_refused(rt.alloc(), *row)?;
     }
     Ok(())
+}
+
+fn is_refused(alloc: Global, row: Refusal) -> Result<(), Fail> {
+    let (name, (place, external, len, parts), edits, fault) = row;
+    let header = header_with(alloc, place.0, 4, external)?;
+    let mut image = failing_image(alloc, (len, place, 0xa5, parts))?;
+    let answer = edit_image(alloc, &mut image, &header, HostCluster(place.1), edits);
+    same(answer.err(), Some(fault), name)?;
+    same(reads_and_writes(&image).1, 0, name)?;
+    image_holds(alloc, &image, (len, place, 0xa5, parts), name)
 }
 
 // The bytes of the entry of data in a cluster.
@@ -263,29 +276,26 @@ fn map(index: usize, cluster: u64) -> Edit {
     }
 }
 
-// Maps the first and the last entry of the table in cluster 1, where the call after so many passes fails, and
-// then once more.
+// Maps the first and the last entry of the table in cluster 1, where the call after so many passes
+// fails, and then once more.
 fn fails_and_succeeds(alloc: Global, bits: u32, passes: usize) -> Result<(), Fail> {
     let row = (bits, passes);
     let header = header_with(alloc, bits, 4, false)?;
-    let size = 1usize.wrapping_shl(bits.min(21));
-    let [first, last] = [data(bits, 5), data(bits, 6)];
-    let end = 2 * size as u64;
-    let parts: Parts<'_> = &[(size as u64, &first), (end.saturating_sub(8), &last)];
+    let size = 1usize.wrapping_shl(bits);
     let edits = [map(0, 5), map((size / 8).saturating_sub(1), 6)];
-    let image = image_of(alloc, 3 * size, (bits, 1), 0xa5, &[])?;
-    let mut image = FailingStorage::new(alloc, image);
+    let mut image = failing_image(alloc, three_clusters(bits, &[]))?;
     image.fail_after(passes as u64);
     let answer = edit_image(alloc, &mut image, &header, HostCluster(1), &edits);
     same(answer.err(), Some(Fault::Storage), row)?;
     // The last entry stands in the last piece, which is written last.
     let written = passes.saturating_sub(pieces_of(bits)).min(1);
-    let torn = image_of(alloc, 3 * size, (bits, 1), 0xa5, &parts[..written])?;
-    same_bytes(image.inner().bytes(), torn.bytes(), row)?;
+    let [first, last] = [data(bits, 5), data(bits, 6)];
+    let end = size.saturating_mul(2).saturating_sub(8) as u64;
+    let parts: Parts<'_> = &[(size as u64, &first), (end, &last)];
+    image_holds(alloc, &image, three_clusters(bits, &parts[..written]), row)?;
     let outcome = edit_image(alloc, &mut image, &header, HostCluster(1), &edits)?;
     has(&outcome, &[5, 6][written..], &[], row)?;
-    let after = image_of(alloc, 3 * size, (bits, 1), 0xa5, parts)?;
-    same_bytes(image.inner().bytes(), after.bytes(), row)?;
+    image_holds(alloc, &image, three_clusters(bits, parts), row)?;
     same(image.failures(), 1, row)
 }
 

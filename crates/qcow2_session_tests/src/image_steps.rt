@@ -1,10 +1,13 @@
 //! Lists of steps of an image: what came of each, what stands in the image then, and what refuses them.
 
-use crate::images::{Parts, header_with, image_of, pieces_of, reads_and_writes};
+use crate::calls::step_image;
+use crate::images::{
+    Parts, failing_image, header_with, image_holds, pieces_of, reads_and_writes, three_clusters,
+};
 use StepReply::{Done, Refused};
 use qcow2_base::{Fault, HostCluster};
-use qcow2_session::{Step, StepReply, step_image};
-use qcow2_testing::{FailingStorage, same, same_bytes};
+use qcow2_session::{Step, StepReply};
+use qcow2_testing::same;
 use std::alloc::Global;
 use std::test::Fail;
 
@@ -26,7 +29,10 @@ type Before = ((u32, u64), u32, usize, Parts<'static>);
 // What came of each step, how long the image is then, and what stands in it.
 type After = (&'static [StepReply], usize, Parts<'static>);
 
-const STEPPED: &[(&'static str, Before, &'static [Step], After)] = &[
+// A list of steps, and what it leaves.
+type Stepped = (&'static str, Before, &'static [Step], After);
+
+const STEPPED: &[Stepped] = &[
     (
         "up, up, down, and one that is at 0",
         ((9, 3), 4, 1536, &[(1048, ENTRY)]),
@@ -119,27 +125,32 @@ const STEPPED: &[(&'static str, Before, &'static [Step], After)] = &[
 #[test]
 fn steps_stand_in_the_image(rt: HostRuntime) -> Result<(), Fail> {
     for row in STEPPED {
-        let (name, (place, order, len, parts), steps, (expected, len_then, then)) = *row;
-        let header = header_with(rt.alloc(), place.0, order, false)?;
-        for around in [0, 0xa5] {
-            let image = image_of(rt.alloc(), len, place, around, parts)?;
-            let mut image = FailingStorage::new(rt.alloc(), image);
-            let replies = step_image(rt.alloc(), &mut image, &header, HostCluster(place.1), steps)?;
-            same(replies.as_slice(), expected, name)?;
-            let pieces = pieces_of(place.0);
-            let is_idle = expected
-                .iter()
-                .all(|reply: &StepReply| *reply == StepReply::Refused);
-            let writes = if is_idle { 0 } else { pieces };
-            same(reads_and_writes(&image), (pieces, writes), name)?;
-            let then = image_of(rt.alloc(), len_then, place, around, then)?;
-            same_bytes(image.inner().bytes(), then.bytes(), name)?;
-        }
+        stand(rt.alloc(), *row, 0)?;
+        stand(rt.alloc(), *row, 0xa5)?;
     }
     Ok(())
 }
 
-const REFUSED: &[(&'static str, Before, &'static [Step], Fault)] = &[
+// Makes the steps of a row, where this byte stands around the block.
+fn stand(alloc: Global, row: Stepped, around: u8) -> Result<(), Fail> {
+    let (name, (place, order, len, parts), steps, (expected, len_then, then)) = row;
+    let header = header_with(alloc, place.0, order, false)?;
+    let mut image = failing_image(alloc, (len, place, around, parts))?;
+    let replies = step_image(alloc, &mut image, &header, HostCluster(place.1), steps)?;
+    same(replies.as_slice(), expected, name)?;
+    let pieces = pieces_of(place.0);
+    let is_idle = expected
+        .iter()
+        .all(|reply: &StepReply| *reply == StepReply::Refused);
+    let writes = if is_idle { 0 } else { pieces };
+    same(reads_and_writes(&image), (pieces, writes), name)?;
+    image_holds(alloc, &image, (len_then, place, around, then), name)
+}
+
+// A list of steps, and the fault that it is refused by.
+type Refusal = (&'static str, Before, &'static [Step], Fault);
+
+const REFUSED: &[Refusal] = &[
     (
         "an index past the end",
         ((9, 3), 4, 1536, &[(1048, ENTRY)]),
@@ -181,48 +192,46 @@ const REFUSED: &[(&'static str, Before, &'static [Step], Fault)] = &[
 #[test]
 fn what_is_refused_leaves_the_image(rt: HostRuntime) -> Result<(), Fail> {
     for row in REFUSED {
-        let (name, (place, order, len, parts), steps, fault) = *row;
-        let header = header_with(rt.alloc(), place.0, order, false)?;
-        let before = image_of(rt.alloc(), len, place, 0xa5, parts)?;
-        let image = image_of(rt.alloc(), len, place, 0xa5, parts)?;
-        let mut image = FailingStorage::new(rt.alloc(), image);
-        let cluster = HostCluster(place.1);
-        let answer = step_image(rt.alloc(), &mut image, &header, cluster, steps);
-        same(answer.err(), Some(fault), name)?;
-        same(reads_and_writes(&image).1, 0, name)?;
-        same_bytes(image.inner().bytes(), before.bytes(), name)?;
+        is_refused(rt.alloc(), *row)?;
     }
     Ok(())
 }
 
-// Steps of the first and the last counter of 16 bits of the block in cluster 1, where the call after so many
-// passes fails, and then once more.
+fn is_refused(alloc: Global, row: Refusal) -> Result<(), Fail> {
+    let (name, (place, order, len, parts), steps, fault) = row;
+    let header = header_with(alloc, place.0, order, false)?;
+    let mut image = failing_image(alloc, (len, place, 0xa5, parts))?;
+    let answer = step_image(alloc, &mut image, &header, HostCluster(place.1), steps);
+    same(answer.err(), Some(fault), name)?;
+    same(reads_and_writes(&image).1, 0, name)?;
+    image_holds(alloc, &image, (len, place, 0xa5, parts), name)
+}
+
+// Steps of the first and the last counter of 16 bits of the block in cluster 1, where the call after
+// so many passes fails, and then once more.
 fn fails_and_succeeds(alloc: Global, bits: u32, passes: usize) -> Result<(), Fail> {
     let row = (bits, passes);
     let header = header_with(alloc, bits, 4, false)?;
-    let size = 1usize.wrapping_shl(bits.min(21));
-    let (start, end) = (size as u64, 2 * size as u64);
+    let size = 1usize.wrapping_shl(bits);
     let index = (size / 2).saturating_sub(1);
     let steps = [INC_0, DEC_1, Step::Inc { index }];
-    let image = image_of(alloc, 3 * size, (bits, 1), 0xa5, &[])?;
-    let mut image = FailingStorage::new(alloc, image);
+    let mut image = failing_image(alloc, three_clusters(bits, &[]))?;
     image.fail_after(passes as u64);
     let answer = step_image(alloc, &mut image, &header, HostCluster(1), &steps);
     same(answer.err(), Some(Fault::Storage), row)?;
     // The last counter stands in the last piece, which is written last.
-    let written = passes.saturating_sub(pieces_of(bits)).min(1);
-    let torn: Parts<'_> = &[(start, &[0, written as u8])];
-    let torn = image_of(alloc, 3 * size, (bits, 1), 0xa5, torn)?;
-    same_bytes(image.inner().bytes(), torn.bytes(), row)?;
+    let written = passes.saturating_sub(pieces_of(bits)).min(1) as u8;
+    let torn: Parts<'_> = &[(size as u64, &[0, written])];
+    image_holds(alloc, &image, three_clusters(bits, torn), row)?;
     let replies = step_image(alloc, &mut image, &header, HostCluster(1), &steps)?;
     let expected = [Done(written as u64), Refused, Done(0)];
     same(replies.as_slice(), &expected, row)?;
+    let last = size.saturating_mul(2).saturating_sub(2) as u64;
     let after: Parts<'_> = &[
-        (start, &[0, written as u8 + 1]),
-        (end.saturating_sub(2), &[0, 1]),
+        (size as u64, &[0, written.saturating_add(1)]),
+        (last, &[0, 1]),
     ];
-    let after = image_of(alloc, 3 * size, (bits, 1), 0xa5, after)?;
-    same_bytes(image.inner().bytes(), after.bytes(), row)?;
+    image_holds(alloc, &image, three_clusters(bits, after), row)?;
     same(image.failures(), 1, row)
 }
 
@@ -240,15 +249,18 @@ fn a_failed_call_is_told(rt: HostRuntime) -> Result<(), Fail> {
 #[test]
 fn steps_that_are_all_refused_need_no_write(rt: HostRuntime) -> Result<(), Fail> {
     for bits in [9, 13, 16] {
-        let header = header_with(rt.alloc(), bits, 4, false)?;
-        let size = 1usize.wrapping_shl(bits);
-        let image = image_of(rt.alloc(), size, (bits, 0), 0, &[])?;
-        let mut image = FailingStorage::new(rt.alloc(), image);
-        image.fail_after(pieces_of(bits) as u64);
-        let steps = [DEC_0, DEC_1];
-        let replies = step_image(rt.alloc(), &mut image, &header, HostCluster(0), &steps)?;
-        same(replies.as_slice(), &[Refused; 2], bits)?;
-        same(image.failures(), 0, bits)?;
+        needs_no_write(rt.alloc(), bits)?;
     }
     Ok(())
+}
+
+fn needs_no_write(alloc: Global, bits: u32) -> Result<(), Fail> {
+    let header = header_with(alloc, bits, 4, false)?;
+    let size = 1usize.wrapping_shl(bits);
+    let mut image = failing_image(alloc, (size, (bits, 0), 0, &[]))?;
+    image.fail_after(pieces_of(bits) as u64);
+    let steps = [DEC_0, DEC_1];
+    let replies = step_image(alloc, &mut image, &header, HostCluster(0), &steps)?;
+    same(replies.as_slice(), &[Refused; 2], bits)?;
+    same(image.failures(), 0, bits)
 }

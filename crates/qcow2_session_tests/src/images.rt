@@ -2,11 +2,18 @@
 
 use qcow2_base::{Fault, MemStorage, Storage};
 use qcow2_metadata::Header;
-use qcow2_testing::{FailingStorage, StorageCall, is_cluster_bits};
+use qcow2_testing::{FailingStorage, StorageCall, is_cluster_bits, same_bytes};
 use std::alloc::Global;
+use std::fmt::Debug;
+use std::test::Fail;
 
 /// Bytes at offsets of an image.
 pub(crate) type Parts<'a> = &'a [(u64, &'a [u8])];
+
+/// What an image holds: how many bytes it has, the cluster bits and the cluster of the table or
+/// block, the byte that stands around that, and the parts that stand in the image. Else each byte
+/// of the cluster is 0.
+pub(crate) type Contents<'a> = (usize, (u32, u64), u8, Parts<'a>);
 
 /// A header of an image with these cluster bits and this refcount order, whose guest data may lie in an
 /// external data file.
@@ -35,15 +42,15 @@ pub(crate) fn pieces_of(bits: u32) -> usize {
     1usize.wrapping_shl(bits).div_ceil(4096)
 }
 
-/// An image of so many bytes in which these parts stand. Else each byte of the cluster is 0, and each byte
-/// around it the given one.
-pub(crate) fn image_of(
-    alloc: Global,
-    len: usize,
-    (bits, cluster): (u32, u64),
-    around: u8,
-    parts: Parts<'_>,
-) -> Result<MemStorage, Fault> {
+/// Three clusters, of which the second is the table or block, with these parts.
+pub(crate) fn three_clusters(bits: u32, parts: Parts<'_>) -> Contents<'_> {
+    let size = 1usize.wrapping_shl(bits);
+    (size.saturating_mul(3), (bits, 1), 0xa5, parts)
+}
+
+/// An image that holds this.
+pub(crate) fn image_of(alloc: Global, contents: Contents<'_>) -> Result<MemStorage, Fault> {
+    let (len, (bits, cluster), around, parts) = contents;
     let size = 1u64.wrapping_shl(bits);
     let start = cluster.wrapping_mul(size);
     let mut bytes = Vec::with_capacity(alloc, len)?;
@@ -56,6 +63,25 @@ pub(crate) fn image_of(
         put(&mut image, *place, *part)?;
     }
     Ok(image)
+}
+
+/// An image that holds this, and can be planned to fail.
+pub(crate) fn failing_image(
+    alloc: Global,
+    contents: Contents<'_>,
+) -> Result<FailingStorage<MemStorage>, Fault> {
+    Ok(FailingStorage::new(alloc, image_of(alloc, contents)?))
+}
+
+/// Fails unless the image holds this.
+pub(crate) fn image_holds<R: Debug + Drop>(
+    alloc: Global,
+    image: &FailingStorage<MemStorage>,
+    contents: Contents<'_>,
+    row: R,
+) -> Result<(), Fail> {
+    let expected = image_of(alloc, contents)?;
+    same_bytes(image.inner().bytes(), expected.bytes(), row)
 }
 
 // Puts bytes into the image.

@@ -1,10 +1,11 @@
 //! What guest offsets read as, by each kind of entry, and by which fault a damaged image is refused.
 
+use crate::calls::{load_header, load_l1_table, lookup, lookup_image};
+use crate::images::header_with;
 use crate::sample_image::{COPIED, Numbers, sample_image};
 use Answer::{Backing, Compressed, Data, Refused, Zeros};
 use qcow2_base::{Fault, GuestOffset, HostCluster, MemStorage, Storage};
-use qcow2_metadata::{Header, L1Table, L2Mapping, Table};
-use qcow2_session::{lookup, lookup_image};
+use qcow2_metadata::{Header, L1Table, L2Mapping};
 use qcow2_testing::{FailingStorage, StorageCall, holds, same, same_bytes};
 use std::alloc::Global;
 use std::fmt::Debug;
@@ -310,9 +311,9 @@ fn by_tables<S: Storage>(
     image: &mut S,
     offset: GuestOffset,
 ) -> Result<L2Mapping, Fault> {
-    let header = Header::load(alloc, image, false)?;
+    let header = load_header(alloc, image)?;
     let cluster = header.l1_table_offset().cluster(header.cluster_bits());
-    let l1_table = L1Table::load(alloc, image, &header, cluster, header.l1_table_entries())?;
+    let l1_table = load_l1_table(alloc, image, &header, cluster, header.l1_table_entries())?;
     lookup(alloc, image, &header, &l1_table, offset)
 }
 
@@ -341,6 +342,17 @@ fn answer_of(found: Result<L2Mapping, Fault>) -> Answer {
     }
 }
 
+// The reads of the sample image's two tables.
+const L1_READ: StorageCall = StorageCall::Read {
+    offset: 512,
+    len: 8,
+};
+
+const L2_READ: StorageCall = StorageCall::Read {
+    offset: 1024,
+    len: 512,
+};
+
 // The image's own L1 table names an L2 table past its end. The one that is given names the L2 table that it
 // stands in itself.
 #[test]
@@ -352,46 +364,45 @@ fn a_lookup_goes_by_the_tables_that_it_is_given(rt: HostRuntime) -> Result<(), F
         &[(512, 0x4000), (1024, COPIED + 0x400), (1048, COPIED)],
     )?;
     let mut image = FailingStorage::new(alloc, MemStorage::new(bytes));
-    let plain = Header::new(alloc, 9, 4, None, None, None)?;
-    let name = Some(String::from_str(alloc, "data.raw")?);
-    let external = Header::new(alloc, 9, 4, None, None, name)?;
-    let l1_table = L1Table::load(alloc, &mut image, &plain, HostCluster(2), 1)?;
-    let rows = [(&plain, Backing(1536)), (&external, Data(0, true))];
-    for (header, expected) in rows {
-        image.forget_calls();
-        let found = lookup(alloc, &mut image, header, &l1_table, GuestOffset(1543));
-        same(answer_of(found), expected, header.external_data_file())?;
-        let calls = [StorageCall::Read {
-            offset: 1024,
-            len: 512,
-        }];
-        same(image.calls(), &calls, "the L2 table alone is read")?;
-    }
-    Ok(())
+    let plain = header_with(alloc, 9, 4, false)?;
+    let external = header_with(alloc, 9, 4, true)?;
+    let l1_table = load_l1_table(alloc, &mut image, &plain, HostCluster(2), 1)?;
+    looks_up_by(alloc, &mut image, &plain, &l1_table, Backing(1536))?;
+    looks_up_by(alloc, &mut image, &external, &l1_table, Data(0, true))
+}
+
+// Looks an offset up by a header and an L1 table, and fails unless the L2 table alone is read.
+fn looks_up_by(
+    alloc: Global,
+    image: &mut FailingStorage<MemStorage>,
+    header: &Header,
+    l1_table: &L1Table,
+    expected: Answer,
+) -> Result<(), Fail> {
+    image.forget_calls();
+    let found = lookup(alloc, image, header, l1_table, GuestOffset(1543));
+    same(answer_of(found), expected, header.external_data_file())?;
+    same(image.calls(), &[L2_READ], "the L2 table alone is read")
 }
 
 #[test]
 fn a_lookup_reads_the_header_and_one_table_of_each_kind(rt: HostRuntime) -> Result<(), Fail> {
-    let l1_table = StorageCall::Read {
-        offset: 512,
-        len: 8,
-    };
-    let l2_table = StorageCall::Read {
-        offset: 1024,
-        len: 512,
-    };
-    let rows: [(u64, &[StorageCall]); 2] = [(1543, &[l1_table, l2_table]), (32768, &[l1_table])];
-    for (offset, expected) in rows {
-        let bytes = sample_image(rt.alloc(), 9, &[])?;
-        let mut image = FailingStorage::new(rt.alloc(), MemStorage::new(bytes));
-        lookup_image(rt.alloc(), &mut image, GuestOffset(offset))?;
-        let tables = image.calls().len().saturating_sub(expected.len());
-        let (header, tables) = image.calls().split_at(tables);
-        same(tables, expected, offset)?;
-        for call in header {
-            let within = matches!(call, StorageCall::Read { offset, .. } if *offset < 512);
-            holds(within, (offset, *call))?;
-        }
+    reads_tables(rt.alloc(), 1543, &[L1_READ, L2_READ])?;
+    reads_tables(rt.alloc(), 32768, &[L1_READ])
+}
+
+// Looks an offset up in the sample image, and fails unless it is read for the header, and then just
+// so.
+fn reads_tables(alloc: Global, offset: u64, expected: &[StorageCall]) -> Result<(), Fail> {
+    let bytes = sample_image(alloc, 9, &[])?;
+    let mut image = FailingStorage::new(alloc, MemStorage::new(bytes));
+    lookup_image(alloc, &mut image, GuestOffset(offset))?;
+    let tables = image.calls().len().saturating_sub(expected.len());
+    let (header, tables) = image.calls().split_at(tables);
+    same(tables, expected, offset)?;
+    for call in header {
+        let within = matches!(call, StorageCall::Read { offset, .. } if *offset < 512);
+        holds(within, (offset, *call))?;
     }
     Ok(())
 }
@@ -403,18 +414,7 @@ fn a_failed_call_of_the_storage_is_the_storage_fault_and_changes_no_byte(
     let bytes = sample_image(rt.alloc(), 9, &[])?;
     let (mut failed, mut passed) = (false, false);
     for passes in 0..8 {
-        let inner = MemStorage::new(Vec::from_slice(rt.alloc(), bytes.as_slice())?);
-        let mut image = FailingStorage::new(rt.alloc(), inner);
-        image.fail_after(passes);
-        let found = lookup_image(rt.alloc(), &mut image, GuestOffset(1543));
-        let fails = image.failures() != 0;
-        let expected = if fails { Refused(34) } else { Data(5, true) };
-        same(answer_of(found), expected, passes)?;
-        if fails {
-            let again = lookup_image(rt.alloc(), &mut image, GuestOffset(1543));
-            same(answer_of(again), Data(5, true), (passes, "again"))?;
-        }
-        same_bytes(image.inner().bytes(), bytes.as_slice(), passes)?;
+        let fails = meets_failure(rt.alloc(), &bytes, passes)?;
         failed |= fails;
         passed |= !fails;
     }
@@ -422,4 +422,22 @@ fn a_failed_call_of_the_storage_is_the_storage_fault_and_changes_no_byte(
         failed && passed,
         "some calls are planned to fail, and not all",
     )
+}
+
+// Looks an offset up where the call after so many fails, and tells whether the lookup comes to that
+// call. Then it looks the offset up again.
+fn meets_failure(alloc: Global, bytes: &[u8], passes: u64) -> Result<bool, Fail> {
+    let inner = MemStorage::new(Vec::from_slice(alloc, bytes)?);
+    let mut image = FailingStorage::new(alloc, inner);
+    image.fail_after(passes);
+    let found = lookup_image(alloc, &mut image, GuestOffset(1543));
+    let fails = image.failures() != 0;
+    let expected = if fails { Refused(34) } else { Data(5, true) };
+    same(answer_of(found), expected, passes)?;
+    if fails {
+        let again = lookup_image(alloc, &mut image, GuestOffset(1543));
+        same(answer_of(again), Data(5, true), (passes, "again"))?;
+    }
+    same_bytes(image.inner().bytes(), bytes, passes)?;
+    Ok(fails)
 }

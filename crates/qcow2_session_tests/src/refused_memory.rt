@@ -5,17 +5,16 @@
 //! of the test's own, the test ends with an error before the call that it is for.
 
 use crate::blocks::{block_says, block_with, flag};
+use crate::calls::{edit_image, edit_table, lookup_image, step_block, step_image};
+use crate::commands::Listing;
 use crate::commands::run::{Run, one_mapping};
 use crate::commands::whole_images::{PRINTS, sample_file};
-use crate::commands::{Listing, table_of};
-use crate::images::{header_with, image_of};
+use crate::images::{Contents, header_with, image_of};
 use crate::sample_image::sample_image;
-use crate::tables::{has, says, table_with};
+use crate::tables::{has, says, table_of, table_with};
 use qcow2_base::{Fault, GuestOffset, HostCluster, MemStorage};
 use qcow2_metadata::{L2Mapping, Table};
-use qcow2_session::{
-    Edit, Step, StepReply, edit_image, edit_table, lookup_image, step_block, step_image,
-};
+use qcow2_session::{Edit, Step, StepReply};
 use qcow2_testing::{same, same_bytes};
 use std::fs;
 use std::test::Fail;
@@ -157,15 +156,11 @@ fn edits_that_memory_refused_leave_the_image(rt: HostRuntime) -> Result<(), Fail
         Edit::Discard { index: 3 },
     ];
     let header = header_with(rt.alloc(), 9, 4, false)?;
-    let before = image_of(rt.alloc(), 2000, (9, 2), 0xa5, &[(1048, entry)])?;
-    let after = image_of(
-        rt.alloc(),
-        2000,
-        (9, 2),
-        0xa5,
-        &[(1024, &[0x80]), (1030, &[0x10])],
-    )?;
-    let mut image = image_of(rt.alloc(), 2000, (9, 2), 0xa5, &[(1048, entry)])?;
+    let old: Contents<'_> = (2000, (9, 2), 0xa5, &[(1048, entry)]);
+    let new: Contents<'_> = (2000, (9, 2), 0xa5, &[(1024, &[0x80]), (1030, &[0x10])]);
+    let before = image_of(rt.alloc(), old)?;
+    let after = image_of(rt.alloc(), new)?;
+    let mut image = image_of(rt.alloc(), old)?;
     let mut answer = edit_image(rt.alloc(), &mut image, &header, HostCluster(2), &edits);
     if let Err(fault) = &answer {
         same(*fault, Fault::NoMemory, "edits")?;
@@ -180,9 +175,11 @@ fn edits_that_memory_refused_leave_the_image(rt: HostRuntime) -> Result<(), Fail
 fn steps_that_memory_refused_leave_the_image(rt: HostRuntime) -> Result<(), Fail> {
     let steps = [Step::Inc { index: 0 }, Step::Dec { index: 1 }];
     let header = header_with(rt.alloc(), 9, 4, false)?;
-    let before = image_of(rt.alloc(), 2000, (9, 2), 0xa5, &[(1024, &[0, 7])])?;
-    let after = image_of(rt.alloc(), 2000, (9, 2), 0xa5, &[(1024, &[0, 8])])?;
-    let mut image = image_of(rt.alloc(), 2000, (9, 2), 0xa5, &[(1024, &[0, 7])])?;
+    let old: Contents<'_> = (2000, (9, 2), 0xa5, &[(1024, &[0, 7])]);
+    let new: Contents<'_> = (2000, (9, 2), 0xa5, &[(1024, &[0, 8])]);
+    let before = image_of(rt.alloc(), old)?;
+    let after = image_of(rt.alloc(), new)?;
+    let mut image = image_of(rt.alloc(), old)?;
     let mut answer = step_image(rt.alloc(), &mut image, &header, HostCluster(2), &steps);
     if let Err(fault) = &answer {
         same(*fault, Fault::NoMemory, "steps")?;

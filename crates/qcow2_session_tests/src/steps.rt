@@ -1,10 +1,14 @@
 //! Lists of steps of a refcount block: what came of each, what all leave, and which lists are refused.
 
-use crate::blocks::{Counters, block_says, block_with, flag, steps_make};
+use crate::blocks::{
+    Counters, block_of_zeros, block_says, block_with, counter_at, flag, steps_make,
+};
+use crate::calls::{step_block, write_block};
+use crate::images::image_of;
 use StepReply::{Done, Refused};
-use qcow2_base::{Fault, HostCluster, MemStorage};
-use qcow2_metadata::{Header, RefBlock};
-use qcow2_session::{Step, StepReply, step_block};
+use qcow2_base::{Fault, MemStorage};
+use qcow2_metadata::RefBlock;
+use qcow2_session::{Step, StepReply};
 use qcow2_testing::{same, same_bytes};
 use std::alloc::{AllocError, Global};
 use std::test::Fail;
@@ -110,10 +114,8 @@ fn steps_are_made_one_after_the_other(rt: HostRuntime) -> Result<(), Fail> {
 
 #[test]
 fn what_steps_left_is_written(rt: HostRuntime) -> Result<(), Fail> {
-    let header = Header::new(rt.alloc(), 9, 4, None, None, None)?;
-    let mut image = MemStorage::new(vec![in rt.alloc(); 0xa5; 2048]?);
-    let mut block = RefBlock::new_cleared(rt.alloc(), &image, &header)?;
-    block.set_cluster(HostCluster(3));
+    let mut image = MemStorage::new(filled(rt.alloc(), 0xa5, 2048)?);
+    let mut block = block_of_zeros(rt.alloc(), &image)?;
     steps_make(
         &mut block,
         &[INC_0, INC_0, DEC_0, DEC_1],
@@ -121,12 +123,14 @@ fn what_steps_left_is_written(rt: HostRuntime) -> Result<(), Fail> {
         &[1],
         "cleared",
     )?;
-    block.write(&mut image)?;
-    let mut expected = vec![in rt.alloc(); 0xa5; 1536]?;
-    expected.extend_from_slice(&[0, 1])?;
-    expected.extend_from_slice(&[0; 510])?;
-    same_bytes(image.bytes(), expected.as_slice(), "written")?;
+    write_block(&mut block, &mut image)?;
+    let expected = image_of(rt.alloc(), (2048, (9, 3), 0xa5, &[(1536, &[0, 1])]))?;
+    same_bytes(image.bytes(), expected.bytes(), "written")?;
     block_says(&block, &[1], false, "written")
+}
+
+fn filled(alloc: Global, byte: u8, len: usize) -> Result<Vec<u8>, AllocError> {
+    vec![in alloc; byte; len]
 }
 
 // The greatest index of counters of 16 bits in clusters of 512 bytes, and some past it.
@@ -292,7 +296,7 @@ fn pattern(alloc: Global) -> Result<Vec<u8>, AllocError> {
 fn counters_of(alloc: Global, block: &RefBlock) -> Result<Vec<u64>, AllocError> {
     let mut counters = Vec::new(alloc);
     for index in 0..block.entries() {
-        counters.push(block.get(index))?;
+        counters.push(counter_at(block, index).unwrap_or(0))?;
     }
     Ok(counters)
 }

@@ -1,10 +1,12 @@
 //! L2 tables to edit, and comparisons of what edits of them leave.
 
+use crate::calls::{edit_table, edits_fit, load_l2_table};
+use crate::images::header_with;
 use qcow2_base::{Fault, HostCluster, MemStorage};
-use qcow2_metadata::{ClustersToFreeEntry, Header, L2Table, Table, TableEntry};
-use qcow2_session::{Edit, Outcome, edit_table, edits_fit};
-use qcow2_testing::{fits, is_cluster_bits, same};
-use std::alloc::Global;
+use qcow2_metadata::{ClustersToFreeEntry, L2Table, Table, TableEntry};
+use qcow2_session::{Edit, Outcome};
+use qcow2_testing::{fits, same};
+use std::alloc::{AllocError, Global};
 use std::fmt::Debug;
 use std::test::Fail;
 
@@ -58,16 +60,20 @@ pub(crate) const PAST: Edit = Edit::Map {
     host_cluster: HostCluster(5),
 };
 
-// An image that begins with a table of these entries.
-fn image_with(alloc: Global, entries: Entries<'_>) -> Result<MemStorage, Fault> {
-    let (start, numbers) = entries;
+/// The bytes of these entries of a table.
+pub(crate) fn table_of(alloc: Global, numbers: &[u64]) -> Result<Vec<u8>, AllocError> {
     let mut bytes = Vec::new(alloc);
-    for _ in 0..start {
-        bytes.extend_from_slice(&[0; 8])?;
-    }
     for number in numbers {
         bytes.extend_from_slice(&number.to_be_bytes())?;
     }
+    Ok(bytes)
+}
+
+// An image that begins with a table of these entries.
+fn image_with(alloc: Global, entries: Entries<'_>) -> Result<MemStorage, Fault> {
+    let (start, numbers) = entries;
+    let mut bytes = vec![in alloc; 0; start.saturating_mul(8)]?;
+    bytes.extend_from_slice(&table_of(alloc, numbers)?)?;
     Ok(MemStorage::new(bytes))
 }
 
@@ -79,21 +85,25 @@ pub(crate) fn table_with(
     external: bool,
     entries: Entries<'_>,
 ) -> Result<L2Table, Fault> {
-    if !is_cluster_bits(bits) || !fits(CLUSTER.0, 0, bits) {
-        return Err(Fault::ClusterSize);
-    }
-    let name = if external {
-        Some(String::from_str(alloc, "data.raw")?)
-    } else {
-        None
-    };
-    let header = Header::new(alloc, bits, 4, None, None, name)?;
+    let header = header_with(alloc, bits, 4, external)?;
     let mut image = image_with(alloc, entries)?;
-    let count = header.l2_entries();
-    let mut table = L2Table::load(alloc, &mut image, &header, HostCluster(0), count)?;
-    table.set_cluster(CLUSTER);
+    let mut table = load_l2_table(alloc, &mut image, &header, HostCluster(0))?;
+    place(&mut table)?;
     table.clear_modified();
     Ok(table)
+}
+
+// Says that the table begins with its cluster.
+fn place(table: &mut L2Table) -> Result<(), Fault> {
+    if !fits(CLUSTER.0, 0, table.cluster_bits()) {
+        return Err(Fault::TablePlace);
+    }
+    table.set_cluster(CLUSTER);
+    Ok(())
+}
+
+fn entry_at(table: &L2Table, index: usize) -> u64 {
+    table.get(index).to_plain()
 }
 
 /// Fails unless the table has these entries, its cluster and this flag.
@@ -137,7 +147,7 @@ fn tells<R: Debug + Drop>(
 // The first of so many entries that isn't one of these or else 0, with its index.
 fn other_entry(table: &L2Table, count: usize, entries: Entries<'_>) -> Option<(usize, u64)> {
     for index in 0..count {
-        let found = table.get(index).to_plain();
+        let found = entry_at(table, index);
         if found != number_at(entries, index) {
             return Some((index, found));
         }
@@ -183,13 +193,26 @@ pub(crate) fn has<R: Debug + Drop>(
     freed: &[(u64, u64)],
     row: R,
 ) -> Result<(), Fail> {
-    let found_gained = outcome.gained.iter().map(|cluster: &HostCluster| cluster.0);
-    let found_freed = outcome.freed.iter().map(|freed: &ClustersToFreeEntry| (
-        freed.first.0,
-        freed.count.0,
-    ));
-    if found_gained.eq(gained.iter().copied()) && found_freed.eq(freed.iter().copied()) {
+    if are_clusters(&outcome.gained, gained) && are_runs(&outcome.freed, freed) {
         return Ok(());
     }
     Err(Fail::new(format_args!("{row:?}: found {outcome:?}, expected {gained:?} and {freed:?}")))
+}
+
+fn are_clusters(found: &[HostCluster], expected: &[u64]) -> bool {
+    for (cluster, number) in found.iter().zip(expected) {
+        if cluster.0 != *number {
+            return false;
+        }
+    }
+    found.len() == expected.len()
+}
+
+fn are_runs(found: &[ClustersToFreeEntry], expected: &[(u64, u64)]) -> bool {
+    for (run, (first, count)) in found.iter().zip(expected) {
+        if run.first.0 != *first || run.count.0 != *count {
+            return false;
+        }
+    }
+    found.len() == expected.len()
 }

@@ -1,11 +1,11 @@
-use super::table_of;
+use crate::tables::table_of;
 use crate::{FailingOutput, Failure};
 use qcow2_base::{Fault, FileStorage};
 use qcow2_session::{report_fault, run_words};
 use qcow2_testing::{
     FaultyFiles, Opens, TemporaryFile, holds, same, same_bytes, temporary_file, temporary_path,
 };
-use std::alloc::Global;
+use std::alloc::{AllocError, Global};
 use std::fmt::Debug;
 use std::rt::Files;
 use std::test::Fail;
@@ -156,7 +156,7 @@ fn l2_runs<R: Files + AllocGlobal>(rt: &R, image: &str, rows: &[L2Row<'_>]) -> R
 }
 
 // 1536 bytes, zero but for one entry of the L2 table at cluster 2 of 512 bytes.
-fn image_with_one_mapping(alloc: Global) -> Result<Vec<u8>, Fail> {
+fn image_with_one_mapping(alloc: Global) -> Result<Vec<u8>, AllocError> {
     let mut numbers = [0; 192];
     numbers[131] = 0x8000_0000_0000_0a00;
     table_of(alloc, &numbers)
@@ -299,12 +299,17 @@ fn a_number_is_1_to_20_digits_that_fit_64_bits(rt: HostRuntime) -> Result<(), Fa
 fn every_number_of_cluster_bits_from_9_to_21_is_taken(rt: HostRuntime) -> Result<(), Fail> {
     let file = temporary_file(&rt, "cluster-bits", &[])?;
     for cluster_bits in 0..40 {
-        let word = format!(in rt.alloc(); "{cluster_bits}")?;
-        let taken = 9 <= cluster_bits && cluster_bits <= 21;
-        let expected = if taken { (0, "", "") } else { (2, "", USAGE) };
-        l2_runs(&rt, file.path.as_str(), &[(word.as_str(), "5", expected)])?;
+        takes(&rt, file.path.as_str(), cluster_bits)?;
     }
     Ok(())
+}
+
+// Lists a table of clusters of this size, which is taken or refused.
+fn takes(rt: &HostRuntime, image: &str, cluster_bits: u32) -> Result<(), Fail> {
+    let word = format!(in rt.alloc(); "{cluster_bits}")?;
+    let taken = 9 <= cluster_bits && cluster_bits <= 21;
+    let expected = if taken { (0, "", "") } else { (2, "", USAGE) };
+    runs(rt, image, &["l2", "IMAGE", word.as_str(), "5"], expected)
 }
 
 #[test]

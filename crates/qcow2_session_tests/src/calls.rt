@@ -1,0 +1,105 @@
+//! The calls that are tested, without their clauses: tests compare what comes of a call with their
+//! tables, and no proof about a test has to read what the call ensures.
+
+use qcow2_base::{Fault, GuestOffset, HostCluster, MemStorage, Storage};
+use qcow2_metadata::{Header, L1Table, L2Mapping, L2Table, RefBlock, Table};
+use qcow2_session::{Edit, Outcome, Step, StepReply};
+use std::alloc::Global;
+
+pub(crate) fn edits_fit(table: &L2Table, edits: &[Edit]) -> Result<(), usize> {
+    qcow2_session::edits_fit(table, edits)
+}
+
+pub(crate) fn edit_table(table: &mut L2Table, edits: &[Edit]) -> Result<Outcome, Fault> {
+    qcow2_session::edit_table(table, edits)
+}
+
+pub(crate) fn edit_image<S: Storage>(
+    alloc: Global,
+    image: &mut S,
+    header: &Header,
+    cluster: HostCluster,
+    edits: &[Edit],
+) -> Result<Outcome, Fault> {
+    qcow2_session::edit_image(alloc, image, header, cluster, edits)
+}
+
+pub(crate) fn step_block(block: &mut RefBlock, steps: &[Step]) -> Result<Vec<StepReply>, Fault> {
+    qcow2_session::step_block(block, steps)
+}
+
+pub(crate) fn step_image<S: Storage>(
+    alloc: Global,
+    image: &mut S,
+    header: &Header,
+    cluster: HostCluster,
+    steps: &[Step],
+) -> Result<Vec<StepReply>, Fault> {
+    qcow2_session::step_image(alloc, image, header, cluster, steps)
+}
+
+pub(crate) fn lookup_image<S: Storage>(
+    alloc: Global,
+    image: &mut S,
+    guest_offset: GuestOffset,
+) -> Result<L2Mapping, Fault> {
+    qcow2_session::lookup_image(alloc, image, guest_offset)
+}
+
+/// Looks an offset up by a header and an L1 table of one cluster size.
+pub(crate) fn lookup<S: Storage>(
+    alloc: Global,
+    image: &mut S,
+    header: &Header,
+    l1_table: &L1Table,
+    guest_offset: GuestOffset,
+) -> Result<L2Mapping, Fault> {
+    if header.cluster_bits() != l1_table.cluster_bits() {
+        return Err(Fault::ClusterSize);
+    }
+    qcow2_session::lookup(alloc, image, header, l1_table, guest_offset)
+}
+
+pub(crate) fn load_header<S: Storage>(alloc: Global, image: &mut S) -> Result<Header, Fault> {
+    Header::load(alloc, image, false)
+}
+
+pub(crate) fn load_l1_table<S: Storage>(
+    alloc: Global,
+    image: &mut S,
+    header: &Header,
+    cluster: HostCluster,
+    entries: usize,
+) -> Result<L1Table, Fault> {
+    L1Table::load(alloc, image, header, cluster, entries)
+}
+
+pub(crate) fn load_l2_table(
+    alloc: Global,
+    image: &mut MemStorage,
+    header: &Header,
+    cluster: HostCluster,
+) -> Result<L2Table, Fault> {
+    L2Table::load(alloc, image, header, cluster, header.l2_entries())
+}
+
+pub(crate) fn load_block(
+    alloc: Global,
+    image: &mut MemStorage,
+    header: &Header,
+    cluster: HostCluster,
+) -> Result<RefBlock, Fault> {
+    RefBlock::load(alloc, image, header, cluster)
+}
+
+pub(crate) fn new_block(
+    alloc: Global,
+    image: &MemStorage,
+    header: &Header,
+) -> Result<RefBlock, Fault> {
+    RefBlock::new_cleared(alloc, image, header)
+}
+
+pub(crate) fn write_block(block: &mut RefBlock, image: &mut MemStorage) -> Result<(), Fault> {
+    block.write(image)
+}
