@@ -6,7 +6,7 @@ use std::alloc::{AllocError, AllocFailed};
 use std::test::Fail;
 
 // Each fault with its number and its kind, whatever it carries.
-const FAULTS: [(Fault, u32, FaultKind); 40] = [
+const FAULTS: &[(Fault, u32, FaultKind)] = &[
     (Fault::NotQcow2, 1, FaultKind::InvalidData),
     (Fault::Version, 2, FaultKind::InvalidData),
     (Fault::ClusterSize, 3, FaultKind::InvalidData),
@@ -55,14 +55,15 @@ const FAULTS: [(Fault, u32, FaultKind); 40] = [
 
 #[test]
 fn each_fault_has_its_number_and_kind() -> Result<(), Fail> {
-    for (fault, number, kind) in FAULTS {
+    for row in FAULTS {
+        let (fault, number, kind) = *row;
         same((fault.number(), fault.kind()), (number, kind), fault)?;
     }
     Ok(())
 }
 
 // Each says what must hold, and shows what it carries.
-const MESSAGES: [(Fault, &str); 39] = [
+const MESSAGES: &[(Fault, &'static str)] = &[
     (
         Fault::NotQcow2,
         "not a qcow2 image: the magic must be 0x514649fb",
@@ -212,32 +213,34 @@ const MESSAGES: [(Fault, &str); 39] = [
 #[test]
 fn each_message_is_in_its_own_words(rt: HostRuntime) -> Result<(), Fail> {
     for (fault, words) in MESSAGES {
-        same_text(rt.alloc(), fault, words)?;
+        same_text(rt.alloc(), *fault, words)?;
     }
     Ok(())
 }
 
+const NAMES: &[(Field, &'static str)] = &[
+    (Field::Magic, "magic"),
+    (Field::Version, "version"),
+    (Field::BackingOffset, "backing_file_offset"),
+    (Field::BackingSize, "backing_file_size"),
+    (Field::ClusterBits, "cluster_bits"),
+    (Field::CryptMethod, "crypt_method"),
+    (Field::NbSnapshots, "nb_snapshots"),
+    (Field::SnapshotsOffset, "snapshots_offset"),
+    (Field::Incompatible, "incompatible_features"),
+    (Field::Compatible, "compatible_features"),
+    (Field::Autoclear, "autoclear_features"),
+    (Field::RefcountOrder, "refcount_order"),
+    (Field::UnknownFields, "the unknown header fields"),
+    (Field::BackingName, "the backing file name"),
+    (Field::Extensions, "the header extensions"),
+    (Field::ExternalData, "the use of an external data file"),
+];
+
 #[test]
 fn a_changed_field_is_named_as_the_format_names_it(rt: HostRuntime) -> Result<(), Fail> {
-    let names = [
-        (Field::Magic, "magic"),
-        (Field::Version, "version"),
-        (Field::BackingOffset, "backing_file_offset"),
-        (Field::BackingSize, "backing_file_size"),
-        (Field::ClusterBits, "cluster_bits"),
-        (Field::CryptMethod, "crypt_method"),
-        (Field::NbSnapshots, "nb_snapshots"),
-        (Field::SnapshotsOffset, "snapshots_offset"),
-        (Field::Incompatible, "incompatible_features"),
-        (Field::Compatible, "compatible_features"),
-        (Field::Autoclear, "autoclear_features"),
-        (Field::RefcountOrder, "refcount_order"),
-        (Field::UnknownFields, "the unknown header fields"),
-        (Field::BackingName, "the backing file name"),
-        (Field::Extensions, "the header extensions"),
-        (Field::ExternalData, "the use of an external data file"),
-    ];
-    for (field, name) in names {
+    for row in NAMES {
+        let (field, name) = *row;
         same_text(rt.alloc(), field, name)?;
     }
     Ok(())

@@ -82,19 +82,22 @@ pub(crate) fn write_fails<S: Storage + Debug>(
     has_failed(alloc, storage, failures)
 }
 
+// An offset, and the four bytes that are read there.
+const READS: &[(u64, [u8; 4])] = &[
+    (0, [1, 2, 3, 4]),
+    (2, [3, 4, 5, 0]),
+    (1, [2, 3, 4, 5]),
+    (4, [5, 0, 0, 0]),
+    (5, [0, 0, 0, 0]),
+    (900, [0, 0, 0, 0]),
+    (LIMIT - 4, [0, 0, 0, 0]),
+];
+
 #[test]
 fn a_read_gives_the_bytes_and_zeros_past_the_end(rt: HostRuntime) -> Result<(), Fail> {
-    let cases: [(u64, [u8; 4]); 7] = [
-        (0, [1, 2, 3, 4]),
-        (2, [3, 4, 5, 0]),
-        (1, [2, 3, 4, 5]),
-        (4, [5, 0, 0, 0]),
-        (5, [0, 0, 0, 0]),
-        (900, [0, 0, 0, 0]),
-        (LIMIT - 4, [0, 0, 0, 0]),
-    ];
     let mut storage = memory(rt.alloc(), &[1, 2, 3, 4, 5])?;
-    for (offset, want) in cases {
+    for row in READS {
+        let (offset, want) = *row;
         assert!(rt; offset <= LIMIT - 4);
         reads(rt.alloc(), &mut storage, offset, &want)?;
     }
@@ -116,17 +119,21 @@ fn an_empty_read_or_write_changes_nothing(rt: HostRuntime) -> Result<(), Fail> {
     Ok(())
 }
 
+// An offset, and the bytes after a write of 7 and 8 there.
+const WRITES: &[(u64, &'static [u8])] = &[
+    (0, &[7, 8, 3]),
+    (1, &[1, 7, 8]),
+    (2, &[1, 2, 7, 8]),
+    (3, &[1, 2, 3, 7, 8]),
+    (4, &[1, 2, 3, 0, 7, 8]),
+    (7, &[1, 2, 3, 0, 0, 0, 0, 7, 8]),
+];
+
 #[test]
 fn a_write_replaces_its_range_and_lengthens_with_zeros(rt: HostRuntime) -> Result<(), Fail> {
-    let cases: [(u64, &[u8]); 6] = [
-        (0, &[7, 8, 3]),
-        (1, &[1, 7, 8]),
-        (2, &[1, 2, 7, 8]),
-        (3, &[1, 2, 3, 7, 8]),
-        (4, &[1, 2, 3, 0, 7, 8]),
-        (7, &[1, 2, 3, 0, 0, 0, 0, 7, 8]),
-    ];
-    for (offset, want) in cases {
+    for row in WRITES {
+        let (offset, want) = *row;
+        assert!(rt; offset <= LIMIT - 2);
         let mut storage = memory(rt.alloc(), &[1, 2, 3])?;
         storage.write(&[7, 8], offset)?;
         same(storage.bytes(), want, offset)?;
@@ -168,27 +175,33 @@ fn a_refused_growth_is_counted_and_changes_nothing(rt: HostRuntime) -> Result<()
     has_failed(rt.alloc(), &storage, 3)
 }
 
+// Which of five writes fails, and the bytes then.
+const FAILURES: &[(u64, [u8; 5])] = &[
+    (0, [1, 11, 12, 13, 14]),
+    (1, [10, 2, 12, 13, 14]),
+    (2, [10, 11, 3, 13, 14]),
+    (3, [10, 11, 12, 0, 14]),
+];
+
 #[test]
 fn a_planned_failure_is_one_call_that_changes_nothing(rt: HostRuntime) -> Result<(), Fail> {
-    // Which of five writes fails, and the bytes then.
-    let cases = [
-        (0, [1, 11, 12, 13, 14]),
-        (1, [10, 2, 12, 13, 14]),
-        (2, [10, 11, 3, 13, 14]),
-        (3, [10, 11, 12, 0, 14]),
-    ];
-    for (passes, want) in cases {
-        let mut storage = FailingStorage::new(rt.alloc(), memory(rt.alloc(), &[1, 2, 3])?);
-        storage.fail_after(passes);
-        for at in 0..5u64 {
-            let answer = storage.write(&[at as u8 + 10], at);
-            same(answer.is_err(), at == passes, (passes, at))?;
-        }
-        let mut bytes = [0xa5; 5];
-        storage.read(&mut bytes, 0)?;
-        same((bytes, storage.failures()), (want, 1), passes)?;
+    for (passes, want) in FAILURES {
+        fails_once(rt.alloc(), *passes, *want)?;
     }
     Ok(())
+}
+
+// Writes five bytes, and fails unless one write after so many fails and leaves these bytes.
+fn fails_once(alloc: Global, passes: u64, want: [u8; 5]) -> Result<(), Fail> {
+    let mut storage = FailingStorage::new(alloc, memory(alloc, &[1, 2, 3])?);
+    storage.fail_after(passes);
+    for at in 0..5u64 {
+        let answer = storage.write(&[at as u8 + 10], at);
+        same(answer.is_err(), at == passes, (passes, at))?;
+    }
+    let mut bytes = [0xa5; 5];
+    storage.read(&mut bytes, 0)?;
+    same((bytes, storage.failures()), (want, 1), passes)
 }
 
 #[test]

@@ -16,18 +16,20 @@ fn is_refblock_bits(bits: u32) -> bool
     6 <= bits && bits <= 24
 }
 
+// An offset, the cluster bits, and then the bytes before it in its cluster, and its cluster.
+const IN_CLUSTERS: &[(u64, u32, u64, u64)] = &[
+    (0, 9, 0, 0),
+    (0, 21, 0, 0),
+    (1543, 9, 7, 3),
+    (0x20000000, 16, 0, 8192),
+    (LAST, 9, 511, 36028797018963967),
+    (LAST, 21, 2097151, 8796093022207),
+];
+
 #[test]
 fn an_offset_lies_in_one_cluster(rt: HostRuntime) -> Result<(), Fail> {
-    // An offset, the cluster bits, and then the bytes before it in its cluster, and its cluster.
-    let table = [
-        (0, 9, 0, 0),
-        (0, 21, 0, 0),
-        (1543, 9, 7, 3),
-        (0x20000000, 16, 0, 8192),
-        (LAST, 9, 511, 36028797018963967),
-        (LAST, 21, 2097151, 8796093022207),
-    ];
-    for (offset, bits, before, cluster) in table {
+    for row in IN_CLUSTERS {
+        let (offset, bits, before, cluster) = *row;
         assert!(rt; is_cluster_bits(bits));
         let guest = GuestOffset(offset);
         let host = HostOffset(offset);
@@ -42,19 +44,21 @@ fn an_offset_lies_in_one_cluster(rt: HostRuntime) -> Result<(), Fail> {
     Ok(())
 }
 
+// An offset, the cluster bits, and then its places in the L1 and the L2 table, the bytes from it
+// on in its cluster, and those in the clusters of its L2 table.
+const PLACES: &[(u64, u32, (usize, usize, u64, u64))] = &[
+    (0, 9, (0, 0, 512, 32768)),
+    (0, 21, (0, 0, 2097152, 549755813888)),
+    (1543, 9, (0, 3, 505, 31225)),
+    (0x20000000, 16, (1, 0, 65536, 536870912)),
+    (LAST, 9, (562949953421311, 63, 1, 1)),
+    (LAST, 21, (33554431, 262143, 1, 1)),
+];
+
 #[test]
 fn an_offset_has_its_cluster_s_places(rt: HostRuntime) -> Result<(), Fail> {
-    // An offset, the cluster bits, and then its places in the L1 and the L2 table, the bytes from it
-    // on in its cluster, and those in the clusters of its L2 table.
-    let table = [
-        (0, 9, (0, 0, 512, 32768)),
-        (0, 21, (0, 0, 2097152, 549755813888)),
-        (1543, 9, (0, 3, 505, 31225)),
-        (0x20000000, 16, (1, 0, 65536, 536870912)),
-        (LAST, 9, (562949953421311, 63, 1, 1)),
-        (LAST, 21, (33554431, 262143, 1, 1)),
-    ];
-    for (offset, bits, places) in table {
+    for row in PLACES {
+        let (offset, bits, places) = *row;
         assert!(rt; is_cluster_bits(bits));
         let guest = GuestOffset(offset);
         let found = (
@@ -68,19 +72,22 @@ fn an_offset_has_its_cluster_s_places(rt: HostRuntime) -> Result<(), Fail> {
     Ok(())
 }
 
+// An offset, the cluster bits, and the cluster that starts there.
+const STARTS: &[(u64, u32, Option<u64>)] = &[
+    (0, 9, Some(0)),
+    (0, 21, Some(0)),
+    (1536, 9, Some(3)),
+    (1543, 9, None),
+    (LAST - 511, 9, Some(36028797018963967)),
+    (LAST - 511, 21, None),
+    (LAST - 2097151, 21, Some(8796093022207)),
+    (LAST, 9, None),
+];
+
 #[test]
 fn only_a_cluster_s_start_is_a_checked_cluster(rt: HostRuntime) -> Result<(), Fail> {
-    let table = [
-        (0, 9, Some(0)),
-        (0, 21, Some(0)),
-        (1536, 9, Some(3)),
-        (1543, 9, None),
-        (LAST - 511, 9, Some(36028797018963967)),
-        (LAST - 511, 21, None),
-        (LAST - 2097151, 21, Some(8796093022207)),
-        (LAST, 9, None),
-    ];
-    for (offset, bits, cluster) in table {
+    for row in STARTS {
+        let (offset, bits, cluster) = *row;
         assert!(rt; is_cluster_bits(bits));
         let guest = GuestOffset(offset).checked_cluster(bits);
         let host = HostOffset(offset).checked_cluster(bits);
@@ -90,17 +97,20 @@ fn only_a_cluster_s_start_is_a_checked_cluster(rt: HostRuntime) -> Result<(), Fa
     Ok(())
 }
 
+// A cluster, the cluster bits, and its places in the L1 and the L2 table.
+const GUEST_CLUSTERS: &[(u64, u32, usize, usize)] = &[
+    (0, 9, 0, 0),
+    (0, 21, 0, 0),
+    (64, 9, 1, 0),
+    (8192, 16, 1, 0),
+    (LAST, 9, 288230376151711743, 63),
+    (LAST, 21, 70368744177663, 262143),
+];
+
 #[test]
 fn a_guest_cluster_and_its_places_tell_each_other(rt: HostRuntime) -> Result<(), Fail> {
-    let table = [
-        (0, 9, 0, 0),
-        (0, 21, 0, 0),
-        (64, 9, 1, 0),
-        (8192, 16, 1, 0),
-        (LAST, 9, 288230376151711743, 63),
-        (LAST, 21, 70368744177663, 262143),
-    ];
-    for (number, bits, l1_index, l2_index) in table {
+    for row in GUEST_CLUSTERS {
+        let (number, bits, l1_index, l2_index) = *row;
         assert!(rt; is_cluster_bits(bits));
         assert!(rt; fits(l1_index as u64, l2_index as u64, bits - 3));
         let cluster = GuestCluster(number);
@@ -114,19 +124,22 @@ fn a_guest_cluster_and_its_places_tell_each_other(rt: HostRuntime) -> Result<(),
     Ok(())
 }
 
+// A cluster, the cluster bits, and the next cluster.
+const NEXT: &[(u64, u32, Option<GuestCluster>)] = &[
+    (0, 9, Some(GuestCluster(1))),
+    (62, 9, Some(GuestCluster(63))),
+    (63, 9, None),
+    (262142, 21, Some(GuestCluster(262143))),
+    (262143, 21, None),
+    (LAST - 1, 9, Some(GuestCluster(LAST))),
+    (LAST, 9, None),
+    (LAST, 21, None),
+];
+
 #[test]
 fn the_next_cluster_stays_in_the_l2_table(rt: HostRuntime) -> Result<(), Fail> {
-    let table = [
-        (0, 9, Some(GuestCluster(1))),
-        (62, 9, Some(GuestCluster(63))),
-        (63, 9, None),
-        (262142, 21, Some(GuestCluster(262143))),
-        (262143, 21, None),
-        (LAST - 1, 9, Some(GuestCluster(LAST))),
-        (LAST, 9, None),
-        (LAST, 21, None),
-    ];
-    for (cluster, bits, next) in table {
+    for row in NEXT {
+        let (cluster, bits, next) = *row;
         assert!(rt; is_cluster_bits(bits));
         let found = GuestCluster(cluster).next_in_l2(bits);
         same(found, next, (cluster, bits))?;
@@ -134,18 +147,20 @@ fn the_next_cluster_stays_in_the_l2_table(rt: HostRuntime) -> Result<(), Fail> {
     Ok(())
 }
 
+// A cluster, the cluster bits, the table after the cluster's, and the first cluster there.
+const NEXT_TABLES: &[(u64, u32, usize, u64)] = &[
+    (0, 9, 1, 64),
+    (63, 9, 1, 64),
+    (64, 9, 2, 128),
+    (0, 21, 1, 262144),
+    (LAST - 64, 9, 288230376151711743, LAST - 63),
+    (LAST - 262144, 21, 70368744177663, LAST - 262143),
+];
+
 #[test]
 fn the_next_l2_table_begins_at_a_multiple(rt: HostRuntime) -> Result<(), Fail> {
-    // A cluster, the cluster bits, the table after the cluster's, and the first cluster there.
-    let table = [
-        (0, 9, 1, 64),
-        (63, 9, 1, 64),
-        (64, 9, 2, 128),
-        (0, 21, 1, 262144),
-        (LAST - 64, 9, 288230376151711743, LAST - 63),
-        (LAST - 262144, 21, 70368744177663, LAST - 262143),
-    ];
-    for (number, bits, next_table, first) in table {
+    for row in NEXT_TABLES {
+        let (number, bits, next_table, first) = *row;
         assert!(rt; is_cluster_bits(bits));
         let cluster = GuestCluster(number);
         let l1_index = cluster.l1_index(bits);
@@ -156,16 +171,19 @@ fn the_next_l2_table_begins_at_a_multiple(rt: HostRuntime) -> Result<(), Fail> {
     Ok(())
 }
 
+// A cluster, the cluster bits, and its offset.
+const OFFSETS: &[(u64, u32, u64)] = &[
+    (0, 9, 0),
+    (0, 21, 0),
+    (5, 9, 2560),
+    (36028797018963967, 9, LAST - 511),
+    (8796093022207, 21, LAST - 2097151),
+];
+
 #[test]
 fn a_cluster_begins_at_its_offset(rt: HostRuntime) -> Result<(), Fail> {
-    let table = [
-        (0, 9, 0),
-        (0, 21, 0),
-        (5, 9, 2560),
-        (36028797018963967, 9, LAST - 511),
-        (8796093022207, 21, LAST - 2097151),
-    ];
-    for (number, bits, offset) in table {
+    for row in OFFSETS {
+        let (number, bits, offset) = *row;
         assert!(rt; is_cluster_bits(bits));
         assert!(rt; fits(number, 0, bits));
         let guest = GuestCluster(number).offset(bits);
@@ -178,19 +196,21 @@ fn a_cluster_begins_at_its_offset(rt: HostRuntime) -> Result<(), Fail> {
     Ok(())
 }
 
+// A cluster, the number of bits of a place in a refcount block, and then the places in the
+// refcount table and in the block.
+const HOST_CLUSTERS: &[(u64, u32, usize, usize)] = &[
+    (0, 6, 0, 0),
+    (0, 24, 0, 0),
+    (255, 8, 0, 255),
+    (256, 8, 1, 0),
+    (LAST, 6, 288230376151711743, 63),
+    (LAST, 24, 1099511627775, 16777215),
+];
+
 #[test]
 fn a_host_cluster_and_its_places_tell_each_other(rt: HostRuntime) -> Result<(), Fail> {
-    // A cluster, the number of bits of a place in a refcount block, and then the places in the
-    // refcount table and in the block.
-    let table = [
-        (0, 6, 0, 0),
-        (0, 24, 0, 0),
-        (255, 8, 0, 255),
-        (256, 8, 1, 0),
-        (LAST, 6, 288230376151711743, 63),
-        (LAST, 24, 1099511627775, 16777215),
-    ];
-    for (number, bits, rt_index, rb_index) in table {
+    for row in HOST_CLUSTERS {
+        let (number, bits, rt_index, rb_index) = *row;
         assert!(rt; is_refblock_bits(bits));
         assert!(rt; fits(rt_index as u64, rb_index as u64, bits));
         let cluster = HostCluster(number);
@@ -205,17 +225,20 @@ fn a_host_cluster_and_its_places_tell_each_other(rt: HostRuntime) -> Result<(), 
     Ok(())
 }
 
+// A host cluster, a guest offset, the cluster bits, and the host offset.
+const MAPPED: &[(u64, u64, u32, u64)] = &[
+    (0, 0, 9, 0),
+    (0, LAST, 21, 2097151),
+    (5, 1543, 9, 2567),
+    (36028797018963967, LAST, 9, LAST),
+    (8796093022207, LAST, 21, LAST),
+    (8796093022207, 0, 21, LAST - 2097151),
+];
+
 #[test]
 fn a_mapped_byte_keeps_its_place_in_the_cluster(rt: HostRuntime) -> Result<(), Fail> {
-    let table = [
-        (0, 0, 9, 0),
-        (0, LAST, 21, 2097151),
-        (5, 1543, 9, 2567),
-        (36028797018963967, LAST, 9, LAST),
-        (8796093022207, LAST, 21, LAST),
-        (8796093022207, 0, 21, LAST - 2097151),
-    ];
-    for (cluster, guest, bits, host) in table {
+    for row in MAPPED {
+        let (cluster, guest, bits, host) = *row;
         assert!(rt; is_cluster_bits(bits));
         assert!(rt; fits(cluster, GuestOffset(guest).in_cluster_offset(bits), bits));
         let found = HostCluster(cluster).relative_offset(GuestOffset(guest), bits);
@@ -224,22 +247,24 @@ fn a_mapped_byte_keeps_its_place_in_the_cluster(rt: HostRuntime) -> Result<(), F
     Ok(())
 }
 
+// A size, the cluster bits, the clusters that it takes, and those that it fills.
+const SIZES: &[(u64, u32, u64, Option<u64>)] = &[
+    (0, 9, 0, Some(0)),
+    (0, 21, 0, Some(0)),
+    (1, 21, 1, None),
+    (512, 9, 1, Some(1)),
+    (513, 9, 2, None),
+    (1024, 9, 2, Some(2)),
+    (LAST - 511, 9, 36028797018963967, Some(36028797018963967)),
+    (LAST - 2097151, 21, 8796093022207, Some(8796093022207)),
+    (LAST, 9, 36028797018963968, None),
+    (LAST, 21, 8796093022208, None),
+];
+
 #[test]
 fn a_count_covers_a_size(rt: HostRuntime) -> Result<(), Fail> {
-    // A size, the cluster bits, the clusters that it takes, and those that it fills.
-    let table = [
-        (0, 9, 0, Some(0)),
-        (0, 21, 0, Some(0)),
-        (1, 21, 1, None),
-        (512, 9, 1, Some(1)),
-        (513, 9, 2, None),
-        (1024, 9, 2, Some(2)),
-        (LAST - 511, 9, 36028797018963967, Some(36028797018963967)),
-        (LAST - 2097151, 21, 8796093022207, Some(8796093022207)),
-        (LAST, 9, 36028797018963968, None),
-        (LAST, 21, 8796093022208, None),
-    ];
-    for (size, bits, taken, filled) in table {
+    for row in SIZES {
+        let (size, bits, taken, filled) = *row;
         assert!(rt; is_cluster_bits(bits));
         let count = ClusterCount::from_byte_size(size, bits);
         let checked = ClusterCount::checked_from_byte_size(size, bits);
@@ -249,16 +274,19 @@ fn a_count_covers_a_size(rt: HostRuntime) -> Result<(), Fail> {
     Ok(())
 }
 
+// A count, the cluster bits, and the bytes.
+const COUNTS: &[(u64, u32, u64)] = &[
+    (0, 9, 0),
+    (0, 21, 0),
+    (3, 9, 1536),
+    (36028797018963967, 9, LAST - 511),
+    (8796093022207, 21, LAST - 2097151),
+];
+
 #[test]
 fn a_count_has_so_many_bytes(rt: HostRuntime) -> Result<(), Fail> {
-    let table = [
-        (0, 9, 0),
-        (0, 21, 0),
-        (3, 9, 1536),
-        (36028797018963967, 9, LAST - 511),
-        (8796093022207, 21, LAST - 2097151),
-    ];
-    for (count, bits, size) in table {
+    for row in COUNTS {
+        let (count, bits, size) = *row;
         assert!(rt; is_cluster_bits(bits));
         assert!(rt; fits(count, 0, bits));
         same(ClusterCount(count).byte_size(bits), size, (count, bits))?;
@@ -267,7 +295,7 @@ fn a_count_has_so_many_bytes(rt: HostRuntime) -> Result<(), Fail> {
 }
 
 /// Numbers, what is added to each, and the sum.
-const SUMS: [(u64, u64, u64); 5] = [
+const SUMS: &[(u64, u64, u64)] = &[
     (0, 0, 0),
     (3, 4, 7),
     (LAST, 0, LAST),
@@ -277,7 +305,8 @@ const SUMS: [(u64, u64, u64); 5] = [
 
 #[test]
 fn a_sum_is_so_much_further_on(rt: HostRuntime) -> Result<(), Fail> {
-    for (start, by, end) in SUMS {
+    for row in SUMS {
+        let (start, by, end) = *row;
         assert!(rt; by <= LAST - start);
         let count = ClusterCount(by);
         let found = (
@@ -294,7 +323,8 @@ fn a_sum_is_so_much_further_on(rt: HostRuntime) -> Result<(), Fail> {
 
 #[test]
 fn a_difference_is_so_much_before(rt: HostRuntime) -> Result<(), Fail> {
-    for (start, by, end) in SUMS {
+    for row in SUMS {
+        let (start, by, end) = *row;
         assert!(rt; by <= end);
         let count = ClusterCount(by);
         let found = (
@@ -311,7 +341,8 @@ fn a_difference_is_so_much_before(rt: HostRuntime) -> Result<(), Fail> {
 
 #[test]
 fn places_of_one_kind_have_a_distance(rt: HostRuntime) -> Result<(), Fail> {
-    for (start, distance, end) in SUMS {
+    for row in SUMS {
+        let (start, distance, end) = *row;
         assert!(rt; start <= end);
         let found = (
             GuestOffset(end) - GuestOffset(start),
@@ -327,7 +358,8 @@ fn places_of_one_kind_have_a_distance(rt: HostRuntime) -> Result<(), Fail> {
 
 #[test]
 fn clusters_and_counts_move_in_place(rt: HostRuntime) -> Result<(), Fail> {
-    for (start, by, end) in SUMS {
+    for row in SUMS {
+        let (start, by, end) = *row;
         assert!(rt; by <= LAST - start && by <= end);
         let count = ClusterCount(by);
         let mut moved = (GuestCluster(start), HostCluster(start), ClusterCount(start));
@@ -352,21 +384,24 @@ fn clusters_and_counts_move_in_place(rt: HostRuntime) -> Result<(), Fail> {
     Ok(())
 }
 
+// A number, and its text in hexadecimal and in decimal.
+const TEXTS: &[(u64, &'static str, &'static str)] = &[
+    (0, "0x0", "0"),
+    (9, "0x9", "9"),
+    (10, "0xa", "10"),
+    (2567, "0xa07", "2567"),
+    (
+        0x0123_4567_89ab_cdef,
+        "0x123456789abcdef",
+        "81985529216486895",
+    ),
+    (LAST, "0xffffffffffffffff", "18446744073709551615"),
+];
+
 #[test]
 fn offsets_print_in_hexadecimal_and_counts_in_decimal(rt: HostRuntime) -> Result<(), Fail> {
-    let table = [
-        (0, "0x0", "0"),
-        (9, "0x9", "9"),
-        (10, "0xa", "10"),
-        (2567, "0xa07", "2567"),
-        (
-            0x0123_4567_89ab_cdef,
-            "0x123456789abcdef",
-            "81985529216486895",
-        ),
-        (LAST, "0xffffffffffffffff", "18446744073709551615"),
-    ];
-    for (number, hexadecimal, decimal) in table {
+    for row in TEXTS {
+        let (number, hexadecimal, decimal) = *row;
         same_text(rt.alloc(), GuestOffset(number), hexadecimal)?;
         same_text(rt.alloc(), HostOffset(number), hexadecimal)?;
         same_text(rt.alloc(), ClusterCount(number), decimal)?;

@@ -32,42 +32,49 @@ fn only_a_file_that_is_there_is_opened(rt: HostRuntime) -> Result<(), Fail> {
     holds(fs::metadata(&rt, missing.as_str()).is_err(), missing)
 }
 
+// An offset, and the four bytes that are read there.
+const READS: &[(u64, [u8; 4])] = &[
+    (2, [3, 4, 5, 0]),
+    (0, [1, 2, 3, 4]),
+    (LIMIT - 4, [0, 0, 0, 0]),
+    (1, [2, 3, 4, 5]),
+    (4, [5, 0, 0, 0]),
+    (900, [0, 0, 0, 0]),
+    (5, [0, 0, 0, 0]),
+    (0, [1, 2, 3, 4]),
+];
+
 #[test]
 fn a_file_is_read_by_offset_with_zeros_past_its_end(rt: HostRuntime) -> Result<(), Fail> {
     let file = temporary_file(&rt, "read", &[1, 2, 3, 4, 5])?;
-    let cases: [(u64, [u8; 4]); 8] = [
-        (2, [3, 4, 5, 0]),
-        (0, [1, 2, 3, 4]),
-        (LIMIT - 4, [0, 0, 0, 0]),
-        (1, [2, 3, 4, 5]),
-        (4, [5, 0, 0, 0]),
-        (900, [0, 0, 0, 0]),
-        (5, [0, 0, 0, 0]),
-        (0, [1, 2, 3, 4]),
-    ];
     let mut storage = FileStorage::open(&rt, file.path.as_str(), false)?;
     same(
         (storage.mem_align(), storage.req_align()),
         (1, 1),
         "alignments",
     )?;
-    for (offset, want) in cases {
+    for row in READS {
+        let (offset, want) = *row;
         assert!(rt; offset <= LIMIT - 4);
         reads(rt.alloc(), &mut storage, offset, &want)?;
     }
     has_failed(rt.alloc(), &storage, 0)
 }
 
+// An offset, and the bytes after a write of 7 and 8 there.
+const WRITES: &[(u64, &'static [u8])] = &[
+    (0, &[7, 8, 3]),
+    (1, &[1, 7, 8]),
+    (2, &[1, 2, 7, 8]),
+    (3, &[1, 2, 3, 7, 8]),
+    (6, &[1, 2, 3, 0, 0, 0, 7, 8]),
+];
+
 #[test]
 fn a_write_to_a_file_stands_at_its_offset(rt: HostRuntime) -> Result<(), Fail> {
-    let cases: [(u64, &[u8]); 5] = [
-        (0, &[7, 8, 3]),
-        (1, &[1, 7, 8]),
-        (2, &[1, 2, 7, 8]),
-        (3, &[1, 2, 3, 7, 8]),
-        (6, &[1, 2, 3, 0, 0, 0, 7, 8]),
-    ];
-    for (offset, want) in cases {
+    for row in WRITES {
+        let (offset, want) = *row;
+        assert!(rt; offset <= LIMIT - 2);
         let file = temporary_file(&rt, "write", &[1, 2, 3])?;
         let mut storage = FileStorage::open(&rt, file.path.as_str(), true)?;
         reads(rt.alloc(), &mut storage, 1, &[2, 3])?;
