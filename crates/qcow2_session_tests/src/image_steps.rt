@@ -207,8 +207,8 @@ fn is_refused(alloc: Global, row: Refusal) -> Result<(), Fail> {
     image_holds(alloc, &image, (len, place, 0xa5, parts), name)
 }
 
-// Steps of the first and the last counter of 16 bits of the block in cluster 1, where the call after
-// so many passes fails, and then once more.
+// Steps of the first and the last counter of 16 bits of the block in cluster 1, where the call
+// after so many passes fails, and then once more.
 fn fails_and_succeeds(alloc: Global, bits: u32, passes: usize) -> Result<(), Fail> {
     let row = (bits, passes);
     let header = header_with(alloc, bits, 4, false)?;
