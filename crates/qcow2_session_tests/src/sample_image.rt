@@ -41,10 +41,15 @@ pub(crate) fn sample_image(
 
 pub(crate) fn put_all(bytes: &mut [u8], numbers: Numbers<'_>) -> Result<(), Fail> {
     for (place, number) in numbers {
-        if *place > bytes.len() || bytes.len() - *place < 8 {
-            return Err(Fail::new("the image ends before this place"));
-        }
-        bytes[*place..*place + 8].copy_from_slice(&number.to_be_bytes());
+        put(bytes, *place, *number)?;
     }
+    Ok(())
+}
+
+fn put(bytes: &mut [u8], place: usize, number: u64) -> Result<(), Fail> {
+    if place > bytes.len() || bytes.len() - place < 8 {
+        return Err(Fail::new("the image ends before this place"));
+    }
+    bytes[place..place + 8].copy_from_slice(&number.to_be_bytes());
     Ok(())
 }

@@ -105,14 +105,18 @@ fn only_edits_and_steps_open_the_image_for_writing(rt: HostRuntime) -> Result<()
     for (words, expected) in LOOKS {
         let files = FaultyFiles::new(&rt);
         runs(&files, file.path.as_str(), words, *expected)?;
-        let changes = words.first() == Some(&"edit") || words.first() == Some(&"count");
-        let opens = Opens {
-            reading: u64::from(!changes),
-            other: u64::from(changes),
-        };
-        same(&files.opens(), &opens, words)?;
+        same(&files.opens(), &opens_of(words), words)?;
     }
     Ok(())
+}
+
+// How the command of these words opens its image.
+fn opens_of(words: &[&str]) -> Opens {
+    let changes = words.first() == Some(&"edit") || words.first() == Some(&"count");
+    Opens {
+        reading: u64::from(!changes),
+        other: u64::from(changes),
+    }
 }
 
 const WRONG_WORDS: &[&[&str]] = &[
