@@ -12,8 +12,6 @@ ghost use Rattle.qcow2_metadata.specs.Refblock.{AreCounters, IsLoadedBlock, IsOf
 mod counters;
 mod guard;
 mod packing;
-#[cfg(test)]
-mod tests;
 
 use crate::Header;
 use crate::pieces::{PIECE_BYTES, Packed, write_in_pieces};

@@ -2,6 +2,8 @@
 #![tactic(auto)]
 
 #[cfg(test)]
+mod block_numbers;
+#[cfg(test)]
 mod cut_feature_names;
 #[cfg(test)]
 mod every_table;
