@@ -1,10 +1,10 @@
 //! Names of features that are cut when they are written, since a feature name table has place for 46 bytes of
 //! each.
 
+use crate::header_calls::{load, put_bytes, write};
 use crate::header_load::{LEAST, REPLACED, image_of};
 use crate::header_texts::dirty;
-use qcow2_base::{MemStorage, Storage};
-use qcow2_metadata::Header;
+use qcow2_base::MemStorage;
 use qcow2_testing::{same, same_bytes};
 use std::alloc::Global;
 use std::test::Fail;
@@ -17,7 +17,7 @@ type Cut = (&'static [u8], &'static str, &'static [u8], &'static str);
 const REPLACED_AGAIN: &str = "\u{fffd}\u{fffd}\u{fffd}\u{fffd}\u{fffd}\u{fffd}\u{fffd}\u{fffd}\
     \u{fffd}\u{fffd}\u{fffd}\u{fffd}\u{fffd}\u{fffd}\u{fffd}\u{fffd}";
 
-const CUT: [Cut; 7] = [
+const CUT: &[Cut] = &[
     (
         &[0xff; 46],
         REPLACED,
@@ -75,9 +75,9 @@ fn writes_name(
     name: &'static str,
     bytes: &'static [u8],
 ) -> Result<(), Fail> {
-    let mut header = Header::load(alloc, image, false)?;
+    let mut header = load(alloc, image, false)?;
     same(dirty(&header), Some(name), name)?;
-    same(header.write(image), Ok(()), name)?;
+    same(write(&mut header, image), Ok(()), name)?;
     same_bytes(image.bytes().get(114..160).unwrap_or(&[]), bytes, name)
 }
 
@@ -85,12 +85,13 @@ fn writes_name(
 fn a_feature_name_that_is_cut_is_the_same_from_the_second_load_on(
     rt: HostRuntime,
 ) -> Result<(), Fail> {
-    for (found, first, written, later) in CUT {
+    for row in CUT {
+        let (found, first, written, later) = *row;
         let mut image = image_of(
             rt.alloc(),
             &[LEAST, &[(104, b"\x68\x03\xf8\x57\0\0\0\x30")]],
         )?;
-        image.write(found, 114)?;
+        put_bytes(&mut image, 114, found)?;
         writes_name(rt.alloc(), &mut image, first, written)?;
         writes_name(rt.alloc(), &mut image, later, written)?;
         writes_name(rt.alloc(), &mut image, later, written)?;

@@ -1,5 +1,6 @@
 //! What a load of a header answers.
 
+use crate::header_calls::{called, load, printed, put_bytes};
 use qcow2_base::{Fault, MemStorage, Storage, V3HeaderBase};
 use qcow2_metadata::FeatureType::{self, Autoclear, Compatible, Incompatible};
 use qcow2_metadata::{Header, HeaderExtension};
@@ -39,17 +40,14 @@ fn least_with(alloc: Global, changes: Changes, others: Changes) -> Result<MemSto
 /// Puts bytes into the image, which grows where it is too short.
 pub(crate) fn change(image: &mut MemStorage, changes: Changes) -> Result<(), Fault> {
     for (place, bytes) in changes {
-        if *place >= 1 << 32 || bytes.len() >= 1 << 32 {
-            return Err(Fault::TablePlace);
-        }
-        image.write(bytes, *place)?;
+        put_bytes(image, *place, bytes)?;
     }
     Ok(())
 }
 
 // What a load of the least header with these changes answers.
 fn load_with(alloc: Global, changes: Changes) -> Result<Header, Fault> {
-    Header::load(alloc, &mut least_with(alloc, changes, &[])?, false)
+    load(alloc, &mut least_with(alloc, changes, &[])?, false)
 }
 
 /// The backing file's name, its format, the data file's name, and whether guest data is external.
@@ -77,7 +75,7 @@ fn finding(answer: &Result<Header, Fault>) -> Finding<'_> {
 }
 
 // Changes to the least header, and what a load answers then.
-const LOADS: [(Changes, Finding<'static>); 62] = [
+const LOADS: &[(Changes, Finding<'static>)] = &[
     (&[], Ok(NO_NAMES)),
     // versions, cluster sizes and refcount widths
     (&[(7, &[0])], Err(2)),
@@ -236,7 +234,7 @@ const LOADS: [(Changes, Finding<'static>); 62] = [
 #[test]
 fn a_load_reads_the_names_or_answers_the_first_fault(rt: HostRuntime) -> Result<(), Fail> {
     for row in LOADS {
-        let (changes, expected) = row;
+        let (changes, expected) = *row;
         let answer = load_with(rt.alloc(), changes);
         same(finding(&answer), expected, changes)?;
     }
@@ -244,7 +242,7 @@ fn a_load_reads_the_names_or_answers_the_first_fault(rt: HostRuntime) -> Result<
 }
 
 /// Changes to the least header that break one condition each, and its number, which is that of the fault.
-pub(crate) const BROKEN: [(Changes, u32); 17] = [
+pub(crate) const BROKEN: &[(Changes, u32)] = &[
     (&[(0, &[0x50])], 1),
     (&[(7, &[4])], 2),
     (&[(23, &[0x16])], 3),
@@ -273,11 +271,12 @@ pub(crate) const BROKEN: [(Changes, u32); 17] = [
 // The change by itself and with each other one: the smaller number decides. Two that put different bytes
 // into one place can't be made together.
 fn decides_with_each_other(alloc: Global, changes: Changes, number: u32) -> Result<(), Fail> {
-    for (others, other) in BROKEN {
+    for row in BROKEN {
+        let (others, other) = *row;
         let mut image = least_with(alloc, changes, others)?;
         let turned = least_with(alloc, others, changes)?;
         if image.bytes() == turned.bytes() {
-            let answer = Header::load(alloc, &mut image, false);
+            let answer = load(alloc, &mut image, false);
             same(finding(&answer), Err(number.min(other)), (number, other))?;
         }
     }
@@ -287,28 +286,29 @@ fn decides_with_each_other(alloc: Global, changes: Changes, number: u32) -> Resu
 #[test]
 fn the_first_condition_that_fails_decides(rt: HostRuntime) -> Result<(), Fail> {
     for (changes, number) in BROKEN {
-        decides_with_each_other(rt.alloc(), changes, number)?;
+        decides_with_each_other(rt.alloc(), changes, *number)?;
     }
     Ok(())
 }
+
+// The field of incompatible features, and what the fault tells of it.
+const INCOMPATIBLE: &[(&'static [u8; 8], u64)] = &[
+    (&[0, 0, 0, 0, 0, 0, 0, 1], 1),
+    (&[0, 0, 0, 0, 0, 0, 0, 6], 2),
+    (&[0, 0, 0, 0, 0, 0, 0, 0x18], 0x18),
+    (&[0x80, 0, 0, 0, 0, 0, 0, 4], 1 << 63),
+    (&[0xff; 8], 0xffff_ffff_ffff_fffb),
+];
 
 #[test]
 fn incompatible_features_but_an_external_data_file_are_refused_and_told(
     rt: HostRuntime,
 ) -> Result<(), Fail> {
-    // The field of incompatible features, and what the fault tells of it.
-    let table: [(&'static [u8; 8], u64); 5] = [
-        (&[0, 0, 0, 0, 0, 0, 0, 1], 1),
-        (&[0, 0, 0, 0, 0, 0, 0, 6], 2),
-        (&[0, 0, 0, 0, 0, 0, 0, 0x18], 0x18),
-        (&[0x80, 0, 0, 0, 0, 0, 0, 4], 1 << 63),
-        (&[0xff; 8], 0xffff_ffff_ffff_fffb),
-    ];
-    for row in table {
-        let (field, told) = row;
+    for row in INCOMPATIBLE {
+        let (field, told) = *row;
         let mut image = image_of(rt.alloc(), &[LEAST])?;
-        image.write(field, 72)?;
-        let answer = Header::load(rt.alloc(), &mut image, false);
+        put_bytes(&mut image, 72, field)?;
+        let answer = load(rt.alloc(), &mut image, false);
         same(answer.err(), Some(Fault::Incompatible(told)), row)?;
     }
     Ok(())
@@ -323,7 +323,7 @@ pub(crate) fn keeps<R: Debug + Drop>(
     row: R,
 ) -> Result<(), Fail> {
     let backing = header.backing_filename();
-    let found = format!(in alloc; "{header:?}")?;
+    let found = printed(alloc, header)?;
     let kept = format!(in alloc;
         "unknown_header_fields: {unknown:?}, backing_filename: {backing:?}, extensions: {extensions:?} }}"
     )?;
@@ -346,20 +346,22 @@ fn unknown_extensions(
     Ok(extensions)
 }
 
+// Changes, how many unknown bytes the header has and which, how many extensions and their length.
+const KEPT: &[(Changes, usize, u8, usize, usize)] = &[
+    (&[], 0, 0, 0, 0),
+    (&[(103, &[112])], 8, 0, 0, 0),
+    (&[(103, &[105, 0xab])], 1, 0xab, 0, 0),
+    (&[(102, &[1, 0xf8])], 400, 0, 0, 0),
+    (&[(107, &[7])], 0, 0, 1, 0),
+    (&[(107, &[7, 0, 0, 0, 9])], 0, 0, 1, 9),
+    (&[(107, &[7, 0, 0, 1, 0x88])], 0, 0, 1, 392),
+    (&[(110, &[1, 0x90])], 0, 0, 0, 0),
+];
+
 #[test]
 fn unknown_fields_and_extensions_are_kept(rt: HostRuntime) -> Result<(), Fail> {
-    // Changes, how many unknown bytes the header has and which, how many extensions and their length.
-    let table: [(Changes, usize, u8, usize, usize); 8] = [
-        (&[], 0, 0, 0, 0),
-        (&[(103, &[112])], 8, 0, 0, 0),
-        (&[(103, &[105, 0xab])], 1, 0xab, 0, 0),
-        (&[(102, &[1, 0xf8])], 400, 0, 0, 0),
-        (&[(107, &[7])], 0, 0, 1, 0),
-        (&[(107, &[7, 0, 0, 0, 9])], 0, 0, 1, 9),
-        (&[(107, &[7, 0, 0, 1, 0x88])], 0, 0, 1, 392),
-        (&[(110, &[1, 0x90])], 0, 0, 0, 0),
-    ];
-    for (changes, unknown, byte, count, len) in table {
+    for row in KEPT {
+        let (changes, unknown, byte, count, len) = *row;
         let header = load_with(rt.alloc(), changes)?;
         let unknown = vec![in rt.alloc(); byte; unknown]?;
         let extensions = unknown_extensions(rt.alloc(), count, len)?;
@@ -378,29 +380,31 @@ fn unknown_fields_and_extensions_are_kept(rt: HostRuntime) -> Result<(), Fail> {
 fn image_with_extensions(alloc: Global, changes: Changes, count: u64) -> Result<MemStorage, Fault> {
     let mut image = least_with(alloc, changes, &[])?;
     for index in 0..count.min(1 << 20) {
-        image.write(&[0, 0, 0, 7, 0, 0, 0, 0], 104 + 8 * index)?;
+        put_bytes(&mut image, 104 + 8 * index, &[0, 0, 0, 7, 0, 0, 0, 0])?;
     }
     Ok(image)
 }
 
+// Changes, how many extensions there are besides, and what a load answers.
+const MANY: &[(Changes, u64, Finding<'static>)] = &[
+    (&[], 51, Err(12)),
+    (
+        &[(23, &[21]), (2096104, b"\xe2\x79\x2a\xca\0\0\0\x03raw")],
+        262000,
+        Ok((None, Some("raw"), None, false)),
+    ),
+];
+
 #[test]
 fn as_many_extensions_are_read_as_the_first_cluster_holds(rt: HostRuntime) -> Result<(), Fail> {
     let mut image = image_with_extensions(rt.alloc(), &[], 50)?;
-    let header = Header::load(rt.alloc(), &mut image, false)?;
+    let header = load(rt.alloc(), &mut image, false)?;
     let extensions = unknown_extensions(rt.alloc(), 50, 0)?;
     keeps(rt.alloc(), &header, &[], extensions.as_slice(), 50)?;
-    // Changes, how many extensions there are besides, and what a load answers.
-    let table: [(Changes, u64, Finding<'static>); 2] = [
-        (&[], 51, Err(12)),
-        (
-            &[(23, &[21]), (2096104, b"\xe2\x79\x2a\xca\0\0\0\x03raw")],
-            262000,
-            Ok((None, Some("raw"), None, false)),
-        ),
-    ];
-    for (changes, count, expected) in table {
+    for row in MANY {
+        let (changes, count, expected) = *row;
         let mut image = image_with_extensions(rt.alloc(), changes, count)?;
-        let answer = Header::load(rt.alloc(), &mut image, false);
+        let answer = load(rt.alloc(), &mut image, false);
         same(finding(&answer), expected, count)?;
     }
     Ok(())
@@ -415,30 +419,31 @@ pub(crate) const OLDER: Changes = &[
     (512, b"a.img"),
 ];
 
+// What stands there instead of a version 3 header.
+const BEHIND_BYTE_72: &[Changes] = &[
+    &[],
+    &[(72, &[0; 440])],
+    &[(72, &[0xff; 440])],
+    &[(72, &[0xa5; 440]), (104, b"\xe2\x79\x2a\xca\0\0\0\x03raw")],
+];
+
 #[test]
 fn a_version_2_header_loads_as_if_nothing_came_after_byte_72(rt: HostRuntime) -> Result<(), Fail> {
     let fields = V3HeaderBase::default();
     let tail = format!(in rt.alloc();
         "base: {fields:?}, unknown_header_fields: [], backing_filename: Some(\"a.img\"), extensions: [] }}"
     )?;
-    // What stands there instead of a version 3 header.
-    let others: [Changes; 4] = [
-        &[],
-        &[(72, &[0; 440])],
-        &[(72, &[0xff; 440])],
-        &[(72, &[0xa5; 440]), (104, b"\xe2\x79\x2a\xca\0\0\0\x03raw")],
-    ];
-    for other in others {
+    for other in BEHIND_BYTE_72 {
         let mut image = least_with(rt.alloc(), OLDER, other)?;
-        let header = Header::load(rt.alloc(), &mut image, false)?;
-        let found = format!(in rt.alloc(); "{header:?}")?;
-        holds(found.as_str().ends_with(tail.as_str()), other)?;
+        let header = load(rt.alloc(), &mut image, false)?;
+        let found = printed(rt.alloc(), &header)?;
+        holds(found.as_str().ends_with(tail.as_str()), *other)?;
         let versions = (
             header.require_version(2),
             header.require_version(3),
             header.refcount_order(),
         );
-        same(versions, (Ok(()), Err(Fault::VersionNeeded), 4), other)?;
+        same(versions, (Ok(()), Err(Fault::VersionNeeded), 4), *other)?;
     }
     Ok(())
 }
@@ -451,7 +456,7 @@ const NO_CHUNKS: Changes = &[(104, b"\x68\x03\xf8\x57\0\0\0\0")];
 type Named = (FeatureType, u32, Result<Option<&'static str>, u32>);
 
 // Changes to a header with a feature name table, and what it calls a feature.
-const CHUNKS: [(Changes, Named); 30] = [
+const CHUNKS: &[(Changes, Named)] = &[
     (&[], (Incompatible, 0, Ok(None))),
     (&[(111, b"\x02\0\x05")], (Incompatible, 5, Ok(Some("")))),
     (
@@ -567,17 +572,14 @@ pub(crate) const REPLACED: &str = "\u{fffd}\u{fffd}\u{fffd}\u{fffd}\u{fffd}\u{ff
 fn a_feature_is_called_by_the_last_chunk_of_the_first_table(rt: HostRuntime) -> Result<(), Fail> {
     same(REPLACED.len(), 138, "length")?;
     for (changes, named) in CHUNKS {
-        let (feature_type, bit, expected) = named;
+        let (feature_type, bit, expected) = *named;
         let mut image = least_with(rt.alloc(), NO_CHUNKS, changes)?;
-        let answer = Header::load(rt.alloc(), &mut image, false);
+        let answer = load(rt.alloc(), &mut image, false);
         let found = match &answer {
-            Ok(header) => {
-                let name = header.feature_name(feature_type, bit);
-                Ok(name.map(|name| name.as_str()))
-            }
+            Ok(header) => Ok(called(header, feature_type, bit)),
             Err(fault) => Err(fault.number()),
         };
-        same(found, expected, (changes, feature_type, bit))?;
+        same(found, expected, (*changes, feature_type, bit))?;
     }
     Ok(())
 }

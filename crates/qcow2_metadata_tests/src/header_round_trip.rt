@@ -1,10 +1,13 @@
 //! Headers that are written and loaded again: what they tell is the same, and so are the bytes of the next
 //! write.
 
-use crate::fixtures::filled_image;
+use crate::fixtures::{filled_image, put};
+use crate::header_calls::{
+    called, l1_table_of, load, printed, put_bytes, refcount_table_of, write,
+};
 use crate::header_load::{Changes, Names, change, names};
 use crate::header_texts::{dirty, fixed_parts};
-use qcow2_base::{ClusterCount, Fault, HostOffset, MemStorage, Storage};
+use qcow2_base::{ClusterCount, Fault, HostOffset, MemStorage};
 use qcow2_metadata::FeatureType::{Autoclear, Compatible};
 use qcow2_metadata::Header;
 use qcow2_testing::{holds, same, same_bytes};
@@ -17,7 +20,7 @@ pub(crate) type Getters<'a> = (
     (Names<'a>, bool),
     (u32, u32, u64),
     (HostOffset, usize),
-    (HostOffset, ClusterCount),
+    (HostOffset, ClusterCount, usize),
     [Option<&'a str>; 3],
 );
 
@@ -30,14 +33,12 @@ pub(crate) fn getters(header: &Header) -> Getters<'_> {
             header.refcount_order(),
             header.size(),
         ),
-        (header.l1_table_offset(), header.l1_table_entries()),
-        (header.reftable_offset(), header.reftable_clusters()),
+        l1_table_of(header),
+        refcount_table_of(header),
         [
             dirty(header),
-            header.feature_name(Compatible, 7).map(|name| name.as_str()),
-            header
-                .feature_name(Autoclear, 255)
-                .map(|name| name.as_str()),
+            called(header, Compatible, 7),
+            called(header, Autoclear, 255),
         ],
     )
 }
@@ -188,16 +189,16 @@ fn image_with(
     let (bytes, header_end, place) = parts_of(alloc, sample, with_names, is_padded)?;
     let mut image = MemStorage::new(bytes);
     if let Some(len) = sample.name {
-        image.write(&(len as u64).to_be_bytes(), 12)?;
-        image.write(&(place as u64).to_be_bytes(), 8)?;
+        put(&mut image, 12, len as u64)?;
+        put(&mut image, 8, place as u64)?;
     }
     if sample.version == 3 {
-        image.write(&(header_end as u64).to_be_bytes(), 96)?;
+        put(&mut image, 96, header_end as u64)?;
         change(&mut image, SECOND)?;
     }
     change(&mut image, FIRST)?;
-    image.write(&[0, 0, 0, sample.version], 4)?;
-    image.write(&[0, 0, 0, sample.clusters.0], 20)?;
+    put_bytes(&mut image, 4, &[0, 0, 0, sample.version])?;
+    put_bytes(&mut image, 20, &[0, 0, 0, sample.clusters.0])?;
     Ok(image)
 }
 
@@ -220,16 +221,16 @@ fn is_loaded_again(
     image: &mut MemStorage,
     sample: Sample,
 ) -> Result<(), Fail> {
-    let mut loaded = Header::load(alloc, image, false)?;
+    let mut loaded = load(alloc, image, false)?;
     same(getters(&loaded), getters(header), sample)?;
-    let written = format!(in alloc; "{header:?}")?;
-    let before = format!(in alloc; "{loaded:?}")?;
+    let written = printed(alloc, header)?;
+    let before = printed(alloc, &loaded)?;
     same(fixed_parts(&before), fixed_parts(&written), sample)?;
     holds(sample.unknown % 8 != 0 || before == written, sample)?;
     let mut again = filled_image(alloc, 0)?;
-    same(loaded.write(&mut again), Ok(()), sample)?;
+    same(write(&mut loaded, &mut again), Ok(()), sample)?;
     same_bytes(again.bytes(), image.bytes(), sample)?;
-    let after = format!(in alloc; "{loaded:?}")?;
+    let after = printed(alloc, &loaded)?;
     same(after, before, sample)
 }
 
@@ -240,11 +241,11 @@ fn is_written(alloc: Global, sample: Sample) -> Result<Option<bool>, Fail> {
     if found.bytes().len() > sample.clusters.1 {
         return Ok(None);
     }
-    let mut header = Header::load(alloc, &mut found, false)?;
+    let mut header = load(alloc, &mut found, false)?;
     let name = names(&header).0;
     same(name.map(|name| name.len()), sample.name, sample)?;
     let mut image = filled_image(alloc, 0)?;
-    let answer = header.write(&mut image);
+    let answer = write(&mut header, &mut image);
     match text_of(alloc, sample) {
         Ok(text) => {
             same(answer, Ok(()), sample)?;

@@ -1,12 +1,11 @@
 //! Headers, and the bytes that a write of each places.
 
-use crate::fixtures::text;
-use crate::header_load::{Changes, LEAST, OLDER, change, image_of};
+use crate::header_calls::{called, load_of, new, put_bytes};
+use crate::header_load::{Changes, LEAST, OLDER, change};
 use crate::rich_header::RICH;
-use qcow2_base::{Fault, MemStorage, Storage};
+use qcow2_base::{Fault, MemStorage};
 use qcow2_metadata::FeatureType::Incompatible;
 use qcow2_metadata::Header;
-use qcow2_testing::is_cluster_bits;
 use std::alloc::Global;
 
 /// How a header is made.
@@ -120,7 +119,7 @@ const TWO_TABLES: Changes = &[
 ];
 
 /// Headers and their texts.
-pub(crate) const WRITTEN: [Written; 20] = [
+pub(crate) const WRITTEN: &[Written] = &[
     BASE,
     BACKING,
     (
@@ -306,21 +305,13 @@ pub(crate) const WRITTEN: [Written; 20] = [
 pub(crate) fn made(alloc: Global, origin: Origin) -> Result<Header, Fault> {
     match origin {
         Origin::New(cluster_bits, part, times) => {
-            if !is_cluster_bits(cluster_bits) {
-                return Err(Fault::ClusterSize);
-            }
             let name = part.repeat(alloc, times)?;
-            Header::new(alloc, cluster_bits, 4, Some(name), None, None)
+            new(alloc, cluster_bits, 4, (Some(name.as_str()), None, None))
         }
-        Origin::NewWithAll(name, format, data_file) => Header::new(
-            alloc,
-            16,
-            4,
-            text(alloc, Some(name))?,
-            text(alloc, Some(format))?,
-            text(alloc, Some(data_file))?,
-        ),
-        Origin::Loaded(parts) => Header::load(alloc, &mut image_of(alloc, parts)?, false),
+        Origin::NewWithAll(name, format, data_file) => {
+            new(alloc, 16, 4, (Some(name), Some(format), Some(data_file)))
+        }
+        Origin::Loaded(parts) => load_of(alloc, parts),
     }
 }
 
@@ -335,7 +326,7 @@ pub(crate) fn with_text(
         return Err(Fault::HeaderTooLong);
     }
     let zeros = vec![in alloc; 0; len]?;
-    image.write(&zeros, 0)?;
+    put_bytes(&mut image, 0, &zeros)?;
     for changes in parts {
         change(&mut image, changes)?;
     }
@@ -344,9 +335,7 @@ pub(crate) fn with_text(
 
 /// What a header calls the first incompatible feature.
 pub(crate) fn dirty(header: &Header) -> Option<&str> {
-    header
-        .feature_name(Incompatible, 0)
-        .map(|name| name.as_str())
+    called(header, Incompatible, 0)
 }
 
 /// What the text of a header, as it prints itself, tells of its two fixed parts.

@@ -1,10 +1,11 @@
 //! Taking over what changed in another header of the same image, which field is told where they differ, and
 //! when extensions are equal.
 
-use crate::header_load::{Changes, LEAST, image_of};
+use crate::header_calls::{l1_table_of, load_of, new, printed, update};
+use crate::header_load::{Changes, LEAST};
 use qcow2_base::{Fault, Field, HostOffset};
 use qcow2_metadata::FeatureType::{self, Compatible, Incompatible};
-use qcow2_metadata::{Header, HeaderExtension};
+use qcow2_metadata::HeaderExtension;
 use qcow2_testing::{holds, same};
 use std::alloc::{AllocError, Global};
 use std::collections::BTreeMap;
@@ -25,37 +26,19 @@ const MOVED: Changes = &[
     (56, &[0x51, 0x52, 0x53, 0x54]),
 ];
 
-// The header of an image of these bytes.
-fn header_of(alloc: Global, parts: &[Changes]) -> Result<Header, Fault> {
-    Header::load(alloc, &mut image_of(alloc, parts)?, false)
-}
-
-// All that a header holds.
-fn text_of(alloc: Global, header: &Header) -> Result<String, AllocError> {
-    format!(in alloc; "{header:?}")
-}
-
 #[test]
 fn an_update_takes_over_the_size_and_the_l1_table(rt: HostRuntime) -> Result<(), Fail> {
-    let mut header = header_of(rt.alloc(), &[LEAST, SMALL])?;
-    let l1_table = (header.l1_table_offset(), header.l1_table_entries());
-    same(
-        (header.size(), l1_table),
-        (32768, (HostOffset(512), 1)),
-        "before",
-    )?;
-    let other = header_of(rt.alloc(), &[LEAST, GROWN])?;
-    same(header.update(&other), Ok(()), "update")?;
-    let l1_table = (header.l1_table_offset(), header.l1_table_entries());
-    same(
-        (header.size(), l1_table),
-        (65536, (HostOffset(512), 2)),
-        "after",
-    )
+    let mut header = load_of(rt.alloc(), &[LEAST, SMALL])?;
+    let disk = (header.size(), l1_table_of(&header));
+    same(disk, (32768, (HostOffset(512), 1)), "before")?;
+    let other = load_of(rt.alloc(), &[LEAST, GROWN])?;
+    same(update(&mut header, &other), Ok(()), "update")?;
+    let disk = (header.size(), l1_table_of(&header));
+    same(disk, (65536, (HostOffset(512), 2)), "after")
 }
 
 // Changes to the least header that leave two that agree in all but what is taken over.
-const AGREEING: [(Changes, Changes); 14] = [
+const AGREEING: &[(Changes, Changes)] = &[
     (SMALL, SMALL),
     (SMALL, MOVED),
     (MOVED, GROWN),
@@ -101,13 +84,13 @@ const AGREEING: [(Changes, Changes); 14] = [
 #[test]
 fn a_header_becomes_one_that_agrees_with_it(rt: HostRuntime) -> Result<(), Fail> {
     for row in AGREEING {
-        let mut header = header_of(rt.alloc(), &[LEAST, row.0])?;
-        let other = header_of(rt.alloc(), &[LEAST, row.1])?;
-        same(header.update(&other), Ok(()), row)?;
+        let mut header = load_of(rt.alloc(), &[LEAST, row.0])?;
+        let other = load_of(rt.alloc(), &[LEAST, row.1])?;
+        same(update(&mut header, &other), Ok(()), *row)?;
         same(
-            text_of(rt.alloc(), &header)?,
-            text_of(rt.alloc(), &other)?,
-            row,
+            printed(rt.alloc(), &header)?,
+            printed(rt.alloc(), &other)?,
+            *row,
         )?;
     }
     Ok(())
@@ -128,20 +111,20 @@ const NAMES: Changes = &[
 
 #[test]
 fn each_header_keeps_its_own_length(rt: HostRuntime) -> Result<(), Fail> {
-    let mut made = Header::new(rt.alloc(), 9, 4, None, None, None)?;
-    let mut loaded = header_of(rt.alloc(), &[LEAST, NAMES, SMALL])?;
-    same(made.update(&loaded), Ok(()), "made")?;
-    same((made.size(), made.l1_table_entries()), (32768, 1), "made")?;
-    let text = text_of(rt.alloc(), &made)?;
+    let mut made = new(rt.alloc(), 9, 4, (None, None, None))?;
+    let mut loaded = load_of(rt.alloc(), &[LEAST, NAMES, SMALL])?;
+    same(update(&mut made, &loaded), Ok(()), "made")?;
+    same((made.size(), l1_table_of(&made).1), (32768, 1), "made")?;
+    let text = printed(rt.alloc(), &made)?;
     holds(text.as_str().contains("header_length: 0 }"), "made")?;
     made.set_size(65536);
-    same(loaded.update(&made), Ok(()), "loaded")?;
+    same(update(&mut loaded, &made), Ok(()), "loaded")?;
     same(
-        (loaded.size(), loaded.l1_table_entries()),
+        (loaded.size(), l1_table_of(&loaded).1),
         (65536, 1),
         "loaded",
     )?;
-    let text = text_of(rt.alloc(), &loaded)?;
+    let text = printed(rt.alloc(), &loaded)?;
     holds(text.as_str().contains("header_length: 104 }"), "loaded")
 }
 
@@ -152,13 +135,21 @@ fn are_refused(
     there: &[Changes],
     field: Field,
 ) -> Result<(), Fail> {
-    let mut header = header_of(alloc, here)?;
-    let mut other = header_of(alloc, there)?;
-    let before = (text_of(alloc, &header)?, text_of(alloc, &other)?);
+    let mut header = load_of(alloc, here)?;
+    let mut other = load_of(alloc, there)?;
+    let before = (printed(alloc, &header)?, printed(alloc, &other)?);
     let row = (here, there);
-    same(header.update(&other), Err(Fault::FieldChanged(field)), row)?;
-    same(other.update(&header), Err(Fault::FieldChanged(field)), row)?;
-    let after = (text_of(alloc, &header)?, text_of(alloc, &other)?);
+    same(
+        update(&mut header, &other),
+        Err(Fault::FieldChanged(field)),
+        row,
+    )?;
+    same(
+        update(&mut other, &header),
+        Err(Fault::FieldChanged(field)),
+        row,
+    )?;
+    let after = (printed(alloc, &header)?, printed(alloc, &other)?);
     same(after, before, row)
 }
 
@@ -167,7 +158,7 @@ const BACKED: Changes = &[(14, &[1, 0x68, 0, 0, 0, 2]), (360, b"ab"), (368, b"ab
 
 // Changes to that header, in the order in which fields are compared. The tables move with the cluster size,
 // so that they begin with a cluster.
-const CHANGED: [(Changes, Field); 14] = [
+const CHANGED: &[(Changes, Field)] = &[
     (&[(7, &[2])], Field::Version),
     (&[(15, &[0x70])], Field::BackingOffset),
     (&[(19, &[1])], Field::BackingSize),
@@ -184,20 +175,36 @@ const CHANGED: [(Changes, Field); 14] = [
     (&[(107, &[7])], Field::Extensions),
 ];
 
+// Fails unless the field that these changes touch is told, whichever of the others are made too.
+fn is_told_first(
+    alloc: Global,
+    changes: Changes,
+    field: Field,
+    others: &'static [(Changes, Field)],
+) -> Result<(), Fail> {
+    for row in others {
+        let (other, _) = *row;
+        are_refused(
+            alloc,
+            &[LEAST, BACKED, SMALL],
+            &[LEAST, BACKED, GROWN, changes, other],
+            field,
+        )?;
+    }
+    Ok(())
+}
+
 #[test]
 fn the_first_field_that_differs_is_told(rt: HostRuntime) -> Result<(), Fail> {
     for index in 0..CHANGED.len() {
         let (changes, field) = CHANGED[index];
-        for (others, _) in &CHANGED[index..] {
-            let changed = [LEAST, BACKED, GROWN, changes, others];
-            are_refused(rt.alloc(), &[LEAST, BACKED, SMALL], &changed, field)?;
-        }
+        is_told_first(rt.alloc(), changes, field, &CHANGED[index..])?;
     }
     Ok(())
 }
 
 // Changes to the least header that leave two which differ in one field alone, but for the first row.
-const DIFFERING: [(Changes, Changes, Field); 20] = [
+const DIFFERING: &[(Changes, Changes, Field)] = &[
     (
         &[],
         &[(14, &[1, 0xf8]), (23, &[10]), (46, &[4])],
@@ -317,7 +324,7 @@ fn a_field_that_differs_in_any_way_is_told(rt: HostRuntime) -> Result<(), Fail> 
             rt.alloc(),
             &[LEAST, SMALL, here],
             &[LEAST, GROWN, there],
-            field,
+            *field,
         )?;
     }
     Ok(())

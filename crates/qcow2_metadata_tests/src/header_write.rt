@@ -1,6 +1,7 @@
 //! What a write of a header places, and what it leaves as it was.
 
 use crate::fixtures::filled_image;
+use crate::header_calls::{load, printed, write};
 use crate::header_load::{LEAST, names};
 use crate::header_texts::{Origin, WRITTEN, Written, dirty, fixed_parts, made, with_text};
 use qcow2_base::{Fault, MemStorage};
@@ -13,7 +14,7 @@ use std::test::Fail;
 fn places(alloc: Global, header: &mut Header, row: Written) -> Result<(), Fail> {
     let (_, text, named) = row;
     let mut image = FailingStorage::new(alloc, filled_image(alloc, 2048)?);
-    same(header.write(&mut image), Ok(()), row)?;
+    same(write(header, &mut image), Ok(()), row)?;
     let call = StorageCall::Write {
         offset: 0,
         len: text.0,
@@ -27,6 +28,7 @@ fn places(alloc: Global, header: &mut Header, row: Written) -> Result<(), Fail> 
 #[test]
 fn a_write_places_the_text_by_one_call_and_no_byte_behind_it(rt: HostRuntime) -> Result<(), Fail> {
     for row in WRITTEN {
+        let row = *row;
         let mut header = made(rt.alloc(), row.0)?;
         places(rt.alloc(), &mut header, row)?;
     }
@@ -36,9 +38,10 @@ fn a_write_places_the_text_by_one_call_and_no_byte_behind_it(rt: HostRuntime) ->
 #[test]
 fn a_write_to_an_empty_image_makes_it_as_long_as_the_text(rt: HostRuntime) -> Result<(), Fail> {
     for row in WRITTEN {
+        let row = *row;
         let mut header = made(rt.alloc(), row.0)?;
         let mut image = filled_image(rt.alloc(), 0)?;
-        same(header.write(&mut image), Ok(()), row)?;
+        same(write(&mut header, &mut image), Ok(()), row)?;
         let expected = with_text(rt.alloc(), filled_image(rt.alloc(), 0)?, row.1)?;
         same_bytes(image.bytes(), expected.bytes(), row)?;
     }
@@ -50,15 +53,16 @@ fn a_header_that_was_written_is_written_the_same_again_also_when_it_was_loaded(
     rt: HostRuntime,
 ) -> Result<(), Fail> {
     for row in WRITTEN {
+        let row = *row;
         let mut header = made(rt.alloc(), row.0)?;
         let mut image = filled_image(rt.alloc(), 2048)?;
-        same(header.write(&mut image), Ok(()), row)?;
-        let before = format!(in rt.alloc(); "{header:?}")?;
+        same(write(&mut header, &mut image), Ok(()), row)?;
+        let before = printed(rt.alloc(), &header)?;
         places(rt.alloc(), &mut header, row)?;
-        let after = format!(in rt.alloc(); "{header:?}")?;
+        let after = printed(rt.alloc(), &header)?;
         same(&after, &before, row)?;
-        let mut loaded = Header::load(rt.alloc(), &mut image, false)?;
-        let found = format!(in rt.alloc(); "{loaded:?}")?;
+        let mut loaded = load(rt.alloc(), &mut image, false)?;
+        let found = printed(rt.alloc(), &loaded)?;
         same(fixed_parts(&found), fixed_parts(&before), row)?;
         same(names(&loaded), names(&header), row)?;
         places(rt.alloc(), &mut loaded, row)?;
@@ -67,7 +71,7 @@ fn a_header_that_was_written_is_written_the_same_again_also_when_it_was_loaded(
 }
 
 // A header, the fault of a write, and what the header calls the first incompatible feature.
-const REFUSED: [(Origin, Fault, Option<&'static str>); 6] = [
+const REFUSED: &[(Origin, Fault, Option<&'static str>)] = &[
     (
         Origin::New(9, "a", 401),
         Fault::HeaderTooLong,
@@ -112,18 +116,18 @@ fn refuses(
     image: &mut FailingStorage<MemStorage>,
     fault: Fault,
 ) -> Result<(), Fail> {
-    let header_before = format!(in alloc; "{header:?}")?;
+    let header_before = printed(alloc, header)?;
     let image_before = Vec::from_slice(alloc, image.inner().bytes())?;
-    same(header.write(image), Err(fault), fault)?;
+    same(write(header, image), Err(fault), fault)?;
     same_bytes(image.inner().bytes(), &image_before, fault)?;
-    let header_after = format!(in alloc; "{header:?}")?;
+    let header_after = printed(alloc, header)?;
     same(header_after, header_before, fault)
 }
 
 #[test]
 fn a_refused_write_changes_neither_the_header_nor_the_image(rt: HostRuntime) -> Result<(), Fail> {
     for row in REFUSED {
-        let (origin, fault, named) = row;
+        let (origin, fault, named) = *row;
         let mut header = made(rt.alloc(), origin)?;
         let mut image = FailingStorage::new(rt.alloc(), filled_image(rt.alloc(), 2048)?);
         refuses(rt.alloc(), &mut header, &mut image, fault)?;
@@ -138,6 +142,7 @@ fn a_write_whose_storage_fails_changes_no_header_and_places_the_text_the_next_ti
     rt: HostRuntime,
 ) -> Result<(), Fail> {
     for row in WRITTEN {
+        let row = *row;
         let mut header = made(rt.alloc(), row.0)?;
         let mut image = FailingStorage::new(rt.alloc(), filled_image(rt.alloc(), 2048)?);
         image.fail_after(0);

@@ -13,6 +13,8 @@ mod fixtures;
 #[cfg(test)]
 mod header;
 #[cfg(test)]
+mod header_calls;
+#[cfg(test)]
 mod header_load;
 #[cfg(test)]
 mod header_round_trip;

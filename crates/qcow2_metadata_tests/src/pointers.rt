@@ -1,6 +1,7 @@
 //! Setting where a header's tables lie, and writing that and the disk's size by themselves.
 
 use crate::fixtures::{cleared_table, filled_image, header_with};
+use crate::header_calls::{l1_table_of, put_bytes, refcount_table_of};
 use crate::pending_clusters::refusal;
 use qcow2_base::{ClusterCount, Fault, HostCluster, HostOffset, MemStorage, Storage};
 use qcow2_metadata::{ClustersToFreeEntry, Header, L1Table, PendingClusters, RefTable, Table};
@@ -31,15 +32,9 @@ fn header_with_tables(alloc: Global) -> Result<Header, Fail> {
 fn a_header_refers_to_the_tables_that_it_was_given(rt: HostRuntime) -> Result<(), Fail> {
     let header = header_with_tables(rt.alloc())?;
     same(header.size(), 4096, "size")?;
-    let l1_table = (header.l1_table_offset(), header.l1_table_entries());
-    same(l1_table, (HostOffset(0x200), 1), "L1 table")?;
-    let reftable = (header.reftable_offset(), header.reftable_clusters());
-    same(
-        reftable,
-        (HostOffset(0x800), ClusterCount(2)),
-        "refcount table",
-    )?;
-    same(header.reftable_entries(), 128, "refcount table")
+    same(l1_table_of(&header), (HostOffset(0x200), 1), "L1 table")?;
+    let table = (HostOffset(0x800), ClusterCount(2), 128);
+    same(refcount_table_of(&header), table, "refcount table")
 }
 
 #[test]
@@ -60,12 +55,8 @@ fn a_table_without_a_cluster_is_refused_and_nothing_changes(rt: HostRuntime) -> 
         Err(Fault::NotPlaced),
         "refcount table",
     )?;
-    same(header.l1_table_offset(), HostOffset(0x200), "L1 table")?;
-    same(
-        header.reftable_offset(),
-        HostOffset(0x800),
-        "refcount table",
-    )
+    let places = (l1_table_of(&header).0, refcount_table_of(&header).0);
+    same(places, (HostOffset(0x200), HostOffset(0x800)), "tables")
 }
 
 // Writes one of the three parts.
@@ -78,7 +69,7 @@ fn write_part<S: Storage>(header: &Header, image: &mut S, part: u32) -> Result<(
 }
 
 // Which bytes each part has, and where.
-const PARTS: [(u32, u64, &'static [u8]); 3] = [
+const PARTS: &[(u32, u64, &'static [u8])] = &[
     (0, 24, &[0, 0, 0, 0, 0, 0, 0x10, 0]),
     (1, 36, &[0, 0, 0, 1, 0, 0, 0, 0, 0, 0, 2, 0]),
     (2, 48, &[0, 0, 0, 0, 0, 0, 8, 0, 0, 0, 0, 2]),
@@ -87,17 +78,15 @@ const PARTS: [(u32, u64, &'static [u8]); 3] = [
 // An image of 72 bytes of 0xa5 but for these.
 fn expected_image(alloc: Global, place: u64, bytes: &[u8]) -> Result<MemStorage, Fail> {
     let mut image = filled_image(alloc, 72)?;
-    if place >= 1 << 32 || bytes.len() >= 1 << 32 {
-        return Err(Fault::TablePlace.into());
-    }
-    image.write(bytes, place)?;
+    put_bytes(&mut image, place, bytes)?;
     Ok(image)
 }
 
 #[test]
 fn a_part_is_written_by_one_call_and_no_other_byte_changes(rt: HostRuntime) -> Result<(), Fail> {
     let header = header_with_tables(rt.alloc())?;
-    for (part, place, bytes) in PARTS {
+    for row in PARTS {
+        let (part, place, bytes) = *row;
         let mut image = FailingStorage::new(rt.alloc(), filled_image(rt.alloc(), 72)?);
         let before = filled_image(rt.alloc(), 72)?;
         image.fail_after(0);

@@ -1,6 +1,7 @@
 //! A header with all that a header can have: loaded whole, cut, with a byte changed, and over a storage
 //! that fails.
 
+use crate::header_calls::{l1_table_of, load, printed, refcount_table_of};
 use crate::header_load::{Changes, LEAST, Names, image_of, keeps, names};
 use qcow2_base::{ClusterCount, Fault, HostOffset, MemStorage, Storage, V2Header, V3HeaderBase};
 use qcow2_metadata::{FeatureType, Header, HeaderExtension};
@@ -75,27 +76,58 @@ const SECOND_PART: V3HeaderBase = V3HeaderBase {
     header_length: 112,
 };
 
-/// The header's extensions, in their order.
-pub(crate) fn extensions(alloc: Global) -> Result<Vec<HeaderExtension>, AllocError> {
-    let mut features = BTreeMap::new(alloc);
-    features.insert(
+// The header's feature name table.
+fn features(alloc: Global) -> Result<HeaderExtension, AllocError> {
+    let mut names = BTreeMap::new(alloc);
+    names.insert(
         (FeatureType::Incompatible, 0),
         String::from_str(alloc, "new")?,
     )?;
-    features.insert(
+    names.insert(
         (FeatureType::Compatible, 0),
         String::from_str(alloc, "lazy")?,
     )?;
+    Ok(HeaderExtension::FeatureNameTable(names))
+}
+
+// Which extensions the header has, in their order.
+#[derive(Clone, Copy)]
+enum Kind {
+    Format,
+    Features,
+    DataFile,
+    Unknown,
+}
+
+const KINDS: &[Kind] = &[
+    Kind::Format,
+    Kind::Features,
+    Kind::DataFile,
+    Kind::Unknown,
+    Kind::Format,
+    Kind::DataFile,
+];
+
+fn extension(alloc: Global, kind: Kind) -> Result<HeaderExtension, AllocError> {
+    Ok(match kind {
+        Kind::Format => HeaderExtension::BackingFileFormat(String::from_str(alloc, "qcow2")?),
+        Kind::Features => features(alloc)?,
+        Kind::DataFile => {
+            HeaderExtension::ExternalDataFileName(String::from_str(alloc, "d\u{e4}t.raw")?)
+        }
+        Kind::Unknown => HeaderExtension::Unknown {
+            extension_type: 7,
+            content: Vec::from_slice(alloc, b"xyz")?,
+        },
+    })
+}
+
+/// The header's extensions, in their order.
+pub(crate) fn extensions(alloc: Global) -> Result<Vec<HeaderExtension>, AllocError> {
     let mut list = Vec::new(alloc);
-    list.push(HeaderExtension::BackingFileFormat(String::from_str(alloc, "qcow2")?))?;
-    list.push(HeaderExtension::FeatureNameTable(features))?;
-    list.push(HeaderExtension::ExternalDataFileName(String::from_str(alloc, "d\u{e4}t.raw")?))?;
-    list.push(HeaderExtension::Unknown {
-        extension_type: 7,
-        content: Vec::from_slice(alloc, b"xyz")?,
-    })?;
-    list.push(HeaderExtension::BackingFileFormat(String::from_str(alloc, "qcow2")?))?;
-    list.push(HeaderExtension::ExternalDataFileName(String::from_str(alloc, "d\u{e4}t.raw")?))?;
+    for kind in KINDS {
+        list.push(extension(alloc, *kind)?)?;
+    }
     Ok(list)
 }
 
@@ -104,7 +136,7 @@ fn is_rich(alloc: Global, header: &Header) -> Result<(), Fail> {
     same(names(header), NAMES, "names")?;
     let list = extensions(alloc)?;
     keeps(alloc, header, &UNKNOWN, list.as_slice(), "extensions")?;
-    let found = format!(in alloc; "{header:?}")?;
+    let found = printed(alloc, header)?;
     let parts = format!(in alloc; "v2: {FIRST_PART:?}, base: {SECOND_PART:?},")?;
     holds(found.as_str().contains(parts.as_str()), "parts")
 }
@@ -112,7 +144,7 @@ fn is_rich(alloc: Global, header: &Header) -> Result<(), Fail> {
 #[test]
 fn a_load_tells_each_field(rt: HostRuntime) -> Result<(), Fail> {
     let mut image = image_of(rt.alloc(), &[RICH])?;
-    let header = Header::load(rt.alloc(), &mut image, false)?;
+    let header = load(rt.alloc(), &mut image, false)?;
     is_rich(rt.alloc(), &header)?;
     let sizes = (header.size(), header.cluster_bits(), header.cluster_size());
     same(sizes, (0x0102_0304_0506_0708, 9, 512), "sizes")?;
@@ -122,19 +154,13 @@ fn a_load_tells_each_field(rt: HostRuntime) -> Result<(), Fail> {
         header.rb_entries(),
     );
     same(widths, (5, 7, 128), "widths")?;
-    let l1_table = (header.l1_table_offset(), header.l1_table_entries());
     same(
-        l1_table,
+        l1_table_of(&header),
         (HostOffset(0x3132_3334_3536_3a00), 0x2122_2324),
         "L1 table",
     )?;
-    let refcount_table = (
-        header.reftable_offset(),
-        header.reftable_clusters(),
-        header.reftable_entries(),
-    );
     same(
-        refcount_table,
+        refcount_table_of(&header),
         (
             HostOffset(0x4142_4344_4546_4800),
             ClusterCount(0x5152_5354),
@@ -162,7 +188,7 @@ fn told_at(ranges: Ranges, place: usize) -> Option<u32> {
 // The fault of a load of these bytes is the one that is told of a place.
 fn answers(bytes: Vec<u8>, ranges: Ranges, place: usize) -> Result<(), Fail> {
     let alloc = *bytes.allocator();
-    let answer = Header::load(alloc, &mut MemStorage::new(bytes), false);
+    let answer = load(alloc, &mut MemStorage::new(bytes), false);
     let fault = answer.err().map(|fault| fault.number());
     same(fault, told_at(ranges, place), (ranges.0, place))
 }
@@ -357,26 +383,39 @@ fn each_byte_of_a_header_counts_as_the_format_says(rt: HostRuntime) -> Result<()
     Ok(())
 }
 
+// Loads over the storage, whose call after so many passes fails: no load before has failed but for those
+// with fewer passes.
+fn answers_the_failure(
+    alloc: Global,
+    image: &mut FailingStorage<MemStorage>,
+    passes: usize,
+) -> Result<(), Fail> {
+    image.forget_calls();
+    image.fail_after(passes as u64);
+    let answer = load(alloc, image, false);
+    same(answer.err(), Some(Fault::Storage), passes)?;
+    let calls = passes.saturating_add(1);
+    same(
+        (image.failures(), image.calls().len()),
+        (calls as u64, calls),
+        passes,
+    )
+}
+
 #[test]
 fn a_load_whose_storage_fails_once_answers_that_and_changes_no_byte(
     rt: HostRuntime,
 ) -> Result<(), Fail> {
     let bytes = image_of(rt.alloc(), &[RICH])?;
     let mut image = FailingStorage::new(rt.alloc(), image_of(rt.alloc(), &[RICH])?);
-    let header = Header::load(rt.alloc(), &mut image, false)?;
+    let header = load(rt.alloc(), &mut image, false)?;
     is_rich(rt.alloc(), &header)?;
     // One call reads the fixed parts, and one the rest of the cluster.
-    let calls = image.calls().len();
-    same(calls, 2, "calls")?;
-    for passes in 0..calls {
-        image.forget_calls();
-        image.fail_after(passes as u64);
-        let answer = Header::load(rt.alloc(), &mut image, false);
-        same(answer.err(), Some(Fault::Storage), passes)?;
-        same(image.failures(), passes as u64 + 1, passes)?;
-        same(image.calls().len(), passes.saturating_add(1), passes)?;
+    same(image.calls().len(), 2, "calls")?;
+    for passes in 0..2usize {
+        answers_the_failure(rt.alloc(), &mut image, passes)?;
     }
-    let header = Header::load(rt.alloc(), &mut image, false)?;
+    let header = load(rt.alloc(), &mut image, false)?;
     is_rich(rt.alloc(), &header)?;
     same_bytes(image.inner().bytes(), bytes.bytes(), "image")
 }

@@ -1,6 +1,7 @@
 //! Loads of an image that is to be changed: autoclear features are cleared, by a write of the whole header.
 
 use crate::fixtures::filled_image;
+use crate::header_calls::{load, printed};
 use crate::header_load::{BROKEN, Changes, LEAST, OLDER, image_of, names};
 use crate::header_texts::{FIELDS, RICH_PARTS, Text, dirty, with_text};
 use crate::rich_header::RICH;
@@ -47,7 +48,7 @@ pub(crate) const NAMED_CLEARED: Cleared = (
     None,
 );
 
-const CLEARED: [Cleared; 8] = [
+const CLEARED: &[Cleared] = &[
     LEAST_CLEARED,
     RICH_CLEARED,
     NAMED_CLEARED,
@@ -108,8 +109,9 @@ fn a_writable_load_clears_autoclear_features_by_one_write_of_the_header(
     rt: HostRuntime,
 ) -> Result<(), Fail> {
     for row in CLEARED {
+        let row = *row;
         let mut image = FailingStorage::new(rt.alloc(), with_features(rt.alloc(), row)?);
-        let header = Header::load(rt.alloc(), &mut image, true)?;
+        let header = load(rt.alloc(), &mut image, true)?;
         let cleared = without_features(rt.alloc(), row)?;
         same_bytes(image.inner().bytes(), cleared.bytes(), row)?;
         let (last, others) = image.calls().split_last().unzip();
@@ -120,7 +122,7 @@ fn a_writable_load_clears_autoclear_features_by_one_write_of_the_header(
         same(last, Some(&write), row)?;
         holds(are_reads(others.unwrap_or(&[])), row)?;
         same((names(&header).0, dirty(&header)), (row.2, row.3), row)?;
-        let found = format!(in rt.alloc(); "{header:?}")?;
+        let found = printed(rt.alloc(), &header)?;
         holds(found.as_str().contains("autoclear_features: 0,"), row)?;
     }
     Ok(())
@@ -131,7 +133,7 @@ fn a_writable_load_clears_autoclear_features_of_a_file(rt: HostRuntime) -> Resul
     let begun = with_features(rt.alloc(), RICH_CLEARED)?;
     let file = temporary_file(&rt, "autoclear-features", begun.bytes())?;
     let mut image = FileStorage::open(&rt, file.path.as_str(), true)?;
-    let header = Header::load(rt.alloc(), &mut image, true)?;
+    let header = load(rt.alloc(), &mut image, true)?;
     same(names(&header).0, RICH_CLEARED.2, "name")?;
     let cleared = without_features(rt.alloc(), RICH_CLEARED)?;
     let found = fs::read(&rt, file.path.as_str())?;
@@ -150,7 +152,7 @@ fn reads_only(
 ) -> Result<(), Fail> {
     let image = MemStorage::new(Vec::from_slice(alloc, bytes)?);
     let mut image = FailingStorage::new(alloc, image);
-    let answer = Header::load(alloc, &mut image, writable);
+    let answer = load(alloc, &mut image, writable);
     let found = match &answer {
         Ok(header) => Ok(names(header).0),
         Err(fault) => Err(fault.number()),
@@ -165,6 +167,7 @@ fn a_load_changes_nothing_where_it_may_not_or_need_not_clear_features(
     rt: HostRuntime,
 ) -> Result<(), Fail> {
     for row in CLEARED {
+        let row = *row;
         let image = with_features(rt.alloc(), row)?;
         reads_only(rt.alloc(), image.bytes(), false, Ok(row.2))?;
         let cleared = without_features(rt.alloc(), row)?;
@@ -177,7 +180,7 @@ fn a_load_changes_nothing_where_it_may_not_or_need_not_clear_features(
 const FULL: Changes = &[(102, &[1, 0xf8]), (15, &[1]), (19, &[2])];
 
 // Headers without autoclear features, and the backing file's name of each.
-const NOT_CLEARED: [(&'static [Changes], Option<&'static str>); 4] = [
+const NOT_CLEARED: &[(&'static [Changes], Option<&'static str>)] = &[
     // other features, and a header that can't be written
     (&[LEAST, &[(80, &[0xff; 8])]], None),
     (&[LEAST, FULL], Some("FI")),
@@ -188,7 +191,8 @@ const NOT_CLEARED: [(&'static [Changes], Option<&'static str>); 4] = [
 
 #[test]
 fn a_writable_load_without_autoclear_features_changes_no_byte(rt: HostRuntime) -> Result<(), Fail> {
-    for (header, name) in NOT_CLEARED {
+    for row in NOT_CLEARED {
+        let (header, name) = *row;
         let image = with_text(rt.alloc(), filled_image(rt.alloc(), 2048)?, (517, header))?;
         reads_only(rt.alloc(), image.bytes(), true, Ok(name))?;
     }
@@ -197,11 +201,12 @@ fn a_writable_load_without_autoclear_features_changes_no_byte(rt: HostRuntime) -
 
 #[test]
 fn a_refused_writable_load_changes_no_byte(rt: HostRuntime) -> Result<(), Fail> {
-    for (changes, number) in BROKEN {
+    for row in BROKEN {
+        let (changes, number) = *row;
         let mut image = image_of(rt.alloc(), &[LEAST, BITMAPS, changes])?;
         reads_only(rt.alloc(), image.bytes(), true, Err(number))?;
         if number == 17 {
-            let answer = Header::load(rt.alloc(), &mut image, true);
+            let answer = load(rt.alloc(), &mut image, true);
             same(answer.err(), Some(Fault::Incompatible(2)), number)?;
         }
     }
@@ -217,13 +222,13 @@ fn clears_after_failures(alloc: Global, row: Cleared) -> Result<(), Fail> {
     // One call reads the fixed parts, one the rest of the cluster, and one writes.
     for passes in 0..3u64 {
         image.fail_after(passes);
-        let answer = Header::load(alloc, &mut image, true);
+        let answer = load(alloc, &mut image, true);
         same(answer.err(), Some(Fault::Storage), (row, passes))?;
         same(image.failures(), passes + 1, (row, passes))?;
         same_bytes(image.inner().bytes(), before.bytes(), (row, passes))?;
     }
     image.fail_after(3);
-    let header = Header::load(alloc, &mut image, true)?;
+    let header = load(alloc, &mut image, true)?;
     same((names(&header).0, dirty(&header)), (row.2, row.3), row)?;
     let cleared = without_features(alloc, row)?;
     same_bytes(image.inner().bytes(), cleared.bytes(), row)
@@ -234,6 +239,7 @@ fn a_writable_load_whose_storage_fails_changes_no_byte_and_clears_features_the_n
     rt: HostRuntime,
 ) -> Result<(), Fail> {
     for row in CLEARED {
+        let row = *row;
         clears_after_failures(rt.alloc(), row)?;
     }
     Ok(())
