@@ -12,9 +12,11 @@ use std::alloc::Global;
 use std::num::NonZero;
 use std::test::Fail;
 
-// Compressed entries: the cluster bits, a number, and then its offset and length in bytes, its first
+// A compressed entry: the cluster bits, a number, and then its offset and length in bytes, its first
 // cluster and how many.
-const COMPRESSED: [(u32, u64, u64, u64, u64, u64); 25] = [
+type Compressed = (u32, u64, u64, u64, u64, u64);
+
+const COMPRESSED: &[Compressed] = &[
     // one sector, from its start, from its second byte, and its last byte
     (9, 0x4000_0000_0000_0000, 0, 512, 0, 1),
     (9, 0x4000_0000_0000_0001, 1, 511, 0, 1),
@@ -95,29 +97,39 @@ pub(crate) fn zeros(cluster: Option<u64>, copied: bool) -> L2Mapping {
     }
 }
 
+// Cluster bits, a lawful number, and bits that it may not have.
+type Reserved = (u32, u64, &'static [u32]);
+
+const RESERVED: &[Reserved] = &[
+    (9, 0, &[1, 2, 3, 4, 5, 6, 7, 8, 56, 57, 58, 59, 60, 61]),
+    (21, 0x80ff_ffff_ffe0_0001, &[1, 8, 56, 61]),
+    (9, 0x4000_0000_0000_0000, &[56, 57, 58, 59, 60, 63]),
+    (13, 0x7eff_ffff_ffff_ffff, &[56, 63]),
+    (14, 0x7fff_ffff_ffff_ffff, &[63]),
+    (21, 0x7fff_ffff_ffff_ffff, &[63]),
+];
+
+// Fails unless the number is lawful, and none with one more of the bits is.
+fn reserves(alloc: Global, row: Reserved) -> Result<(), Fail> {
+    let (bits, number, reserved) = row;
+    let header = header_with(alloc, bits, false)?;
+    let found = L2Entry::try_from_plain(number, &header)?;
+    same(
+        (found.to_plain(), found.reserved_bits()),
+        (number, 0),
+        (bits, number),
+    )?;
+    for bit in reserved {
+        let bad = number | 1u64.wrapping_shl(*bit);
+        refuses(&header, bad, Fault::EntryReserved)?;
+    }
+    Ok(())
+}
+
 #[test]
 fn each_reserved_bit_is_refused(rt: HostRuntime) -> Result<(), Fail> {
-    // Cluster bits, a lawful number, and bits that it may not have.
-    let table: [(u32, u64, &[u32]); 6] = [
-        (9, 0, &[1, 2, 3, 4, 5, 6, 7, 8, 56, 57, 58, 59, 60, 61]),
-        (21, 0x80ff_ffff_ffe0_0001, &[1, 8, 56, 61]),
-        (9, 0x4000_0000_0000_0000, &[56, 57, 58, 59, 60, 63]),
-        (13, 0x7eff_ffff_ffff_ffff, &[56, 63]),
-        (14, 0x7fff_ffff_ffff_ffff, &[63]),
-        (21, 0x7fff_ffff_ffff_ffff, &[63]),
-    ];
-    for (bits, number, reserved) in table {
-        let header = header_with(rt.alloc(), bits, false)?;
-        let found = L2Entry::try_from_plain(number, &header)?;
-        same(
-            (found.to_plain(), found.reserved_bits()),
-            (number, 0),
-            (bits, number),
-        )?;
-        for bit in reserved {
-            let bad = number | 1u64.wrapping_shl(*bit);
-            refuses(&header, bad, Fault::EntryReserved)?;
-        }
+    for row in RESERVED {
+        reserves(rt.alloc(), *row)?;
     }
     Ok(())
 }
@@ -138,137 +150,194 @@ fn refuses(header: &Header, number: u64, fault: Fault) -> Result<(), Fail> {
     same(lawful, (false, false), row)
 }
 
+const REFUSED: &[(u32, u64, Fault)] = &[
+    (16, 0x200, Fault::EntryUnaligned),
+    (16, 0x8000, Fault::EntryUnaligned),
+    (16, 0x8000_0000_0001_0200, Fault::EntryUnaligned),
+    (16, 0x00ff_ffff_ffff_8001, Fault::EntryUnaligned),
+    (10, 0x200, Fault::EntryUnaligned),
+    (21, 0x10_0000, Fault::EntryUnaligned),
+    (21, 0x80ff_ffff_ffd0_0000, Fault::EntryUnaligned),
+    (16, 0x202, Fault::EntryReserved),
+    (16, 0x0100_0000_0000_8000, Fault::EntryReserved),
+];
+
 #[test]
 fn an_unaligned_offset_is_refused_after_reserved_bits(rt: HostRuntime) -> Result<(), Fail> {
-    let table = [
-        (16, 0x200, Fault::EntryUnaligned),
-        (16, 0x8000, Fault::EntryUnaligned),
-        (16, 0x8000_0000_0001_0200, Fault::EntryUnaligned),
-        (16, 0x00ff_ffff_ffff_8001, Fault::EntryUnaligned),
-        (10, 0x200, Fault::EntryUnaligned),
-        (21, 0x10_0000, Fault::EntryUnaligned),
-        (21, 0x80ff_ffff_ffd0_0000, Fault::EntryUnaligned),
-        (16, 0x202, Fault::EntryReserved),
-        (16, 0x0100_0000_0000_8000, Fault::EntryReserved),
-    ];
-    for (bits, number, fault) in table {
+    for row in REFUSED {
+        let (bits, number, fault) = *row;
         let header = header_with(rt.alloc(), bits, true)?;
         refuses(&header, number, fault)?;
     }
     Ok(())
 }
 
+// Cluster bits, a number, and then whether it is compressed, copied and a zero entry.
+type Bits = (u32, u64, bool, bool, bool);
+
+const BITS: &[Bits] = &[
+    (9, 0, false, false, false),
+    (9, 1, false, false, true),
+    (9, 0x8000_0000_0000_0000, false, true, false),
+    (9, 0x80ff_ffff_ffff_fe01, false, true, true),
+    (16, 0x00ff_ffff_ffff_0000, false, false, false),
+    (21, 0x8000_0000_0020_0000, false, true, false),
+    (16, 0x4040_0000_0001_0010, true, false, false),
+    (16, 0x4040_0000_0001_0011, true, false, true),
+    (9, 0x60ff_ffff_ffff_ffff, true, false, true),
+];
+
+// The entry with the number, which tells the bits.
+fn tells_bits(header: &Header, row: Bits) -> Result<L2Entry, Fail> {
+    let (_, number, compressed, copied, zero) = row;
+    let found = L2Entry::try_from_plain(number, header)?;
+    let told = (found.is_compressed(), found.is_copied(), found.is_zero());
+    same(told, (compressed, copied, zero), row)?;
+    let numbers = (
+        found.to_plain(),
+        found.reserved_bits(),
+        found.compressed_descriptor(),
+    );
+    same(numbers, (number, 0, number & 0x3fff_ffff_ffff_ffff), row)?;
+    Ok(found)
+}
+
+// Fails unless the number is lawful, in a cell too, and stands for the entry.
+fn is_lawful_cell(header: &Header, number: u64, entry: L2Entry) -> Result<(), Fail> {
+    let row = (header.cluster_bits(), number);
+    let cell = AtomicL2Entry::try_from_plain(number, header)?;
+    same((cell.to_plain(), cell.get()), (number, entry), row)?;
+    let lawful = (
+        L2Entry::is_lawful(number, header),
+        AtomicL2Entry::is_lawful(number, header),
+    );
+    same(lawful, (true, true), row)?;
+    let tested = (
+        L2Entry::from_lawful(number, header),
+        AtomicL2Entry::from_lawful(number, header),
+    );
+    same(tested, (entry, cell), row)
+}
+
 #[test]
 fn an_entry_tells_its_bits(rt: HostRuntime) -> Result<(), Fail> {
-    // Cluster bits, a number, and then whether it is compressed, copied and a zero entry.
-    let table = [
-        (9, 0, false, false, false),
-        (9, 1, false, false, true),
-        (9, 0x8000_0000_0000_0000, false, true, false),
-        (9, 0x80ff_ffff_ffff_fe01, false, true, true),
-        (16, 0x00ff_ffff_ffff_0000, false, false, false),
-        (21, 0x8000_0000_0020_0000, false, true, false),
-        (16, 0x4040_0000_0001_0010, true, false, false),
-        (16, 0x4040_0000_0001_0011, true, false, true),
-        (9, 0x60ff_ffff_ffff_ffff, true, false, true),
-    ];
-    for row in table {
-        let (bits, number, compressed, copied, zero) = row;
-        let header = header_with(rt.alloc(), bits, false)?;
-        let found = L2Entry::try_from_plain(number, &header)?;
-        let told = (found.is_compressed(), found.is_copied(), found.is_zero());
-        same(told, (compressed, copied, zero), row)?;
-        let numbers = (
-            found.to_plain(),
-            found.reserved_bits(),
-            found.compressed_descriptor(),
-        );
-        same(numbers, (number, 0, number & 0x3fff_ffff_ffff_ffff), row)?;
-        let cell = AtomicL2Entry::try_from_plain(number, &header)?;
-        same((cell.to_plain(), cell.get()), (number, found), row)?;
-        let lawful = (
-            L2Entry::is_lawful(number, &header),
-            AtomicL2Entry::is_lawful(number, &header),
-        );
-        same(lawful, (true, true), row)?;
-        let tested = (
-            L2Entry::from_lawful(number, &header),
-            AtomicL2Entry::from_lawful(number, &header),
-        );
-        same(tested, (found, cell), row)?;
+    for row in BITS {
+        let header = header_with(rt.alloc(), row.0, false)?;
+        let found = tells_bits(&header, *row)?;
+        is_lawful_cell(&header, row.1, found)?;
     }
     Ok(())
 }
 
+// Cluster bits, whether data is external, a number, and the offset and the cluster if there is one.
+type Standard = (u32, bool, u64, Option<(u64, u64)>);
+
+const STANDARD: &[Standard] = &[
+    (9, false, 0, None),
+    (9, true, 0, None),
+    (9, false, 1, None),
+    (9, true, 1, None),
+    (9, false, 0x8000_0000_0000_0000, None),
+    (9, true, 0x8000_0000_0000_0000, Some((0, 0))),
+    (21, true, 0x8000_0000_0000_0001, Some((0, 0))),
+    (9, false, 0x8000_0000_0000_0a00, Some((0xa00, 5))),
+    (9, true, 0xa01, Some((0xa00, 5))),
+    (16, false, 0x2_0000, Some((0x2_0000, 2))),
+    (
+        9,
+        false,
+        0x80ff_ffff_ffff_fe00,
+        Some((0x00ff_ffff_ffff_fe00, 0x7fff_ffff_ffff)),
+    ),
+    (
+        21,
+        true,
+        0x00ff_ffff_ffe0_0001,
+        Some((0x00ff_ffff_ffe0_0000, 0x7_ffff_ffff)),
+    ),
+];
+
+fn refers_to_its_cluster(alloc: Global, row: Standard) -> Result<(), Fail> {
+    let (bits, external, number, place) = row;
+    let found = entry(alloc, bits, number)?;
+    if found.is_compressed() {
+        return Err("a compressed entry".into());
+    }
+    let told = (
+        found.cluster_offset(external),
+        found.allocation(bits, external),
+    );
+    let offset = place.map(|(offset, _)| HostOffset(offset));
+    let clusters = place.map(|(_, cluster)| (HostCluster(cluster), ClusterCount(1)));
+    let range = found.compressed_range(bits);
+    same((told, range), ((offset, clusters), None), row)
+}
+
 #[test]
 fn a_standard_entry_refers_to_its_cluster(rt: HostRuntime) -> Result<(), Fail> {
-    // Cluster bits, whether data is external, a number, and the offset and the cluster if there is one.
-    let table: [(u32, bool, u64, Option<(u64, u64)>); 12] = [
-        (9, false, 0, None),
-        (9, true, 0, None),
-        (9, false, 1, None),
-        (9, true, 1, None),
-        (9, false, 0x8000_0000_0000_0000, None),
-        (9, true, 0x8000_0000_0000_0000, Some((0, 0))),
-        (21, true, 0x8000_0000_0000_0001, Some((0, 0))),
-        (9, false, 0x8000_0000_0000_0a00, Some((0xa00, 5))),
-        (9, true, 0xa01, Some((0xa00, 5))),
-        (16, false, 0x2_0000, Some((0x2_0000, 2))),
-        (
-            9,
-            false,
-            0x80ff_ffff_ffff_fe00,
-            Some((0x00ff_ffff_ffff_fe00, 0x7fff_ffff_ffff)),
-        ),
-        (
-            21,
-            true,
-            0x00ff_ffff_ffe0_0001,
-            Some((0x00ff_ffff_ffe0_0000, 0x7_ffff_ffff)),
-        ),
-    ];
-    for row in table {
-        let (bits, external, number, place) = row;
-        let found = entry(rt.alloc(), bits, number)?;
-        if found.is_compressed() {
-            return Err("a compressed entry".into());
-        }
-        let allocation = found.allocation(bits, external);
-        let told = (found.cluster_offset(external), allocation);
-        let offset = place.map(|(offset, _)| HostOffset(offset));
-        let clusters = place.map(|(_, cluster)| (HostCluster(cluster), ClusterCount(1)));
-        let range = found.compressed_range(bits);
-        same((told, range), ((offset, clusters), None), row)?;
+    for row in STANDARD {
+        refers_to_its_cluster(rt.alloc(), *row)?;
     }
     Ok(())
+}
+
+// Clusters that an entry refers to: the first and how many.
+type Clusters = Option<(HostCluster, ClusterCount)>;
+
+// Where the data of a compressed entry begins and how long it is, and the clusters that it is in: without
+// an external data file, and with one.
+fn clusters_of_compressed(
+    alloc: Global,
+    bits: u32,
+    number: u64,
+) -> Result<(Option<(u64, u64)>, Clusters, Clusters), Fault> {
+    let found = entry(alloc, bits, number)?;
+    let range = found
+        .compressed_range(bits)
+        .map(|(start, len)| (start.0, len.get()));
+    Ok((
+        range,
+        found.allocation(bits, false),
+        found.allocation(bits, true),
+    ))
 }
 
 #[test]
 fn a_compressed_entry_refers_to_the_clusters_of_its_sectors(rt: HostRuntime) -> Result<(), Fail> {
     for row in COMPRESSED {
-        let (bits, number, offset, length, first, count) = row;
-        let found = entry(rt.alloc(), bits, number)?;
-        let range = found
-            .compressed_range(bits)
-            .map(|(start, len)| (start.0, len.get()));
+        let (bits, number, offset, length, first, count) = *row;
         let clusters = Some((HostCluster(first), ClusterCount(count)));
         same(
-            (
-                range,
-                found.allocation(bits, false),
-                found.allocation(bits, true),
-            ),
+            clusters_of_compressed(rt.alloc(), bits, number)?,
             (Some((offset, length)), clusters, clusters),
-            row,
+            *row,
         )?;
     }
     Ok(())
 }
 
+// Fails unless a guest cluster whose entry has this number reads as the mapping, with these cluster bits and
+// with external data or without.
+fn reads_as(
+    alloc: Global,
+    image: (u32, bool),
+    number: u64,
+    guest: u64,
+    want: L2Mapping,
+) -> Result<(), Fail> {
+    let (bits, external) = image;
+    let found = entry(alloc, bits, number)?;
+    if !fits(guest, 0, bits) {
+        return Err("a guest cluster past all disks".into());
+    }
+    let found = found.into_mapping(GuestCluster(guest), bits, external);
+    same(found, Ok(want), (image, number, guest))
+}
+
 #[test]
 fn an_entry_says_what_its_guest_cluster_reads_as(rt: HostRuntime) -> Result<(), Fail> {
     // Cluster bits, whether data is external, a guest cluster, the number of its entry, and its mapping.
-    let table = [
+    let table: [(u32, bool, u64, u64, L2Mapping); 14] = [
         (9, false, 3, 0x8000_0000_0000_0a00, data(5, true)),
         (9, false, 3, 0xa00, data(5, false)),
         (9, true, 3, 0xa00, data(5, false)),
@@ -290,63 +359,57 @@ fn an_entry_says_what_its_guest_cluster_reads_as(rt: HostRuntime) -> Result<(), 
         (9, false, 7, 0xa01, zeros(Some(5), false)),
         (21, false, 7, 0x8000_0000_0020_0001, zeros(Some(1), true)),
     ];
-    for row in table {
-        let (bits, external, guest, number, want) = row;
-        let found = entry(rt.alloc(), bits, number)?;
-        if !fits(guest, 0, bits) {
-            return Err("a guest cluster past all disks".into());
-        }
-        let found = found.into_mapping(GuestCluster(guest), bits, external);
-        same(found, Ok(want), row)?;
+    for (bits, external, guest, number, want) in table {
+        reads_as(rt.alloc(), (bits, external), number, guest, want)?;
     }
     Ok(())
 }
+
+// Cluster bits, the number of a compressed entry, and its range.
+const RANGES: &[(u32, u64, u64, u64)] = &[
+    (9, 0x6000_0000_0000_0001, 1, 1023),
+    (10, 0x7000_0000_0000_0600, 0x600, 2048),
+    (16, 0x4040_0000_0001_0010, 0x1_0010, 1008),
+    (21, 0x7fff_ffff_ffff_ffff, 0x0001_ffff_ffff_ffff, 4193793),
+];
 
 #[test]
 fn a_compressed_entry_reads_as_its_range_whatever_the_data_file(
     rt: HostRuntime,
 ) -> Result<(), Fail> {
-    let table = [
-        (9, 0x6000_0000_0000_0001, 1, 1023),
-        (10, 0x7000_0000_0000_0600, 0x600, 2048),
-        (16, 0x4040_0000_0001_0010, 0x1_0010, 1008),
-        (21, 0x7fff_ffff_ffff_ffff, 0x0001_ffff_ffff_ffff, 4193793),
-    ];
-    for row in table {
-        let (bits, number, offset, length) = row;
+    for row in RANGES {
+        let (bits, number, offset, length) = *row;
         let want = L2Mapping::Compressed {
             host_offset: HostOffset(offset),
             length: NonZero::<u64>::new(length).ok_or("a length of no bytes")?,
         };
-        for external in [false, true] {
-            let found = entry(rt.alloc(), bits, number)?;
-            let found = found.into_mapping(GuestCluster(0), bits, external);
-            same(found, Ok(want), (row, external))?;
-        }
+        reads_as(rt.alloc(), (bits, false), number, 0, want)?;
+        reads_as(rt.alloc(), (bits, true), number, 0, want)?;
     }
     Ok(())
 }
 
+// Cluster bits, a number, and that number with bit 63 clear.
+const COPIED: &[(u32, u64, u64)] = &[
+    (9, 0, 0),
+    (9, 1, 1),
+    (9, 0xa00, 0xa00),
+    (9, 0x8000_0000_0000_0000, 0),
+    (9, 0x8000_0000_0000_0a00, 0xa00),
+    (9, 0x8000_0000_0000_0a01, 0xa01),
+    (21, 0x80ff_ffff_ffe0_0001, 0x00ff_ffff_ffe0_0001),
+    (16, 0x4040_0000_0001_0010, 0x4040_0000_0001_0010),
+    (9, 0x60ff_ffff_ffff_ffff, 0x60ff_ffff_ffff_ffff),
+];
+
 #[test]
 fn an_entry_without_its_copied_flag_keeps_all_else(rt: HostRuntime) -> Result<(), Fail> {
-    // Cluster bits, a number, and that number with bit 63 clear.
-    let table = [
-        (9, 0, 0),
-        (9, 1, 1),
-        (9, 0xa00, 0xa00),
-        (9, 0x8000_0000_0000_0000, 0),
-        (9, 0x8000_0000_0000_0a00, 0xa00),
-        (9, 0x8000_0000_0000_0a01, 0xa01),
-        (21, 0x80ff_ffff_ffe0_0001, 0x00ff_ffff_ffe0_0001),
-        (16, 0x4040_0000_0001_0010, 0x4040_0000_0001_0010),
-        (9, 0x60ff_ffff_ffff_ffff, 0x60ff_ffff_ffff_ffff),
-    ];
-    for row in table {
-        let (bits, number, want) = row;
+    for row in COPIED {
+        let (bits, number, want) = *row;
         let found = entry(rt.alloc(), bits, number)?.without_copied();
-        same((found.to_plain(), found.is_copied()), (want, false), row)?;
+        same((found.to_plain(), found.is_copied()), (want, false), *row)?;
         // It is lawful still.
-        same(entry(rt.alloc(), bits, want), Ok(found), row)?;
+        same(entry(rt.alloc(), bits, want), Ok(found), *row)?;
     }
     Ok(())
 }
