@@ -116,7 +116,9 @@ fn edited(
 
 // Cluster bits, whether data is external, an entry, the cluster that it is mapped to, what is handed
 // back, and the entry then.
-const MAPPED: [(u32, bool, u64, u64, Clusters, u64); 18] = [
+type Mapped = (u32, bool, u64, u64, Clusters, u64);
+
+const MAPPED: &[Mapped] = &[
     (
         9,
         false,
@@ -215,45 +217,48 @@ const MAPPED: [(u32, bool, u64, u64, Clusters, u64); 18] = [
     ),
 ];
 
+// Maps the entry at an index, with pending clusters or without.
+fn is_mapped(alloc: Global, row: Mapped, index: usize, pending: bool) -> Result<(), Fail> {
+    let (bits, external, number, cluster, freed, after) = row;
+    let (mut table, told) = table_with(alloc, bits, external, (index, number))?;
+    same(map(&mut table, index, cluster, pending)?, freed, row)?;
+    edited(&mut table, &told, after, data(cluster, true))
+}
+
 #[test]
 fn a_mapped_cluster_reads_as_data_and_what_it_replaces_is_handed_back(
     rt: HostRuntime,
 ) -> Result<(), Fail> {
-    for (bits, external, number, cluster, freed, after) in MAPPED {
+    for row in MAPPED {
         // An index inside, and then the last one, with pending clusters.
-        let (mut table, told) = table_with(rt.alloc(), bits, external, (3, number))?;
-        same(
-            map(&mut table, 3, cluster, false)?,
-            freed,
-            (number, cluster),
-        )?;
-        edited(&mut table, &told, after, data(cluster, true))?;
-        let last = last_index(bits);
-        let (mut table, told) = table_with(rt.alloc(), bits, external, (last, number))?;
-        same(
-            map(&mut table, last, cluster, true)?,
-            freed,
-            (number, cluster),
-        )?;
-        edited(&mut table, &told, after, data(cluster, true))?;
+        is_mapped(rt.alloc(), *row, 3, false)?;
+        is_mapped(rt.alloc(), *row, last_index(row.0), true)?;
     }
     Ok(())
 }
 
+// Maps the entry twice.
+fn is_mapped_again(alloc: Global, row: Mapped) -> Result<(), Fail> {
+    let (bits, external, number, cluster, _, after) = row;
+    let (mut table, told) = table_with(alloc, bits, external, (3, number))?;
+    let _ = map(&mut table, 3, cluster, false)?;
+    same(map(&mut table, 3, cluster, false)?, None, row)?;
+    edited(&mut table, &told, after, data(cluster, true))
+}
+
 #[test]
 fn mapping_to_the_same_cluster_again_hands_back_nothing(rt: HostRuntime) -> Result<(), Fail> {
-    for (bits, external, number, cluster, _, after) in MAPPED {
-        let (mut table, told) = table_with(rt.alloc(), bits, external, (3, number))?;
-        let _ = map(&mut table, 3, cluster, false)?;
-        same(map(&mut table, 3, cluster, false)?, None, (number, cluster))?;
-        edited(&mut table, &told, after, data(cluster, true))?;
+    for row in MAPPED {
+        is_mapped_again(rt.alloc(), *row)?;
     }
     Ok(())
 }
 
 // Cluster bits, whether data is external, an entry, whether it may keep its cluster, what is handed
 // back, the entry then, the cluster that it has then, and whether it is copied.
-const ZEROED: [(u32, bool, u64, bool, Clusters, u64, Option<u64>, bool); 22] = [
+type Zeroed = (u32, bool, u64, bool, Clusters, u64, Option<u64>, bool);
+
+const ZEROED: &[Zeroed] = &[
     (
         9,
         false,
@@ -386,53 +391,61 @@ const ZEROED: [(u32, bool, u64, bool, Clusters, u64, Option<u64>, bool); 22] = [
     (9, false, 0x8000_0000_0000_0000, false, None, 1, None, false),
 ];
 
+// Zeroes the entry at an index.
+fn is_zeroed(alloc: Global, row: Zeroed, index: usize) -> Result<(), Fail> {
+    let (bits, external, number, keep, freed, after, cluster, copied) = row;
+    let (mut table, told) = table_with(alloc, bits, external, (index, number))?;
+    same(zero(&mut table, index, keep)?, freed, row)?;
+    edited(&mut table, &told, after, zeros(cluster, copied))
+}
+
 #[test]
 fn a_zeroed_cluster_reads_as_zeros_and_what_it_does_not_keep_is_handed_back(
     rt: HostRuntime,
 ) -> Result<(), Fail> {
-    for (bits, external, number, keep, freed, after, cluster, copied) in ZEROED {
-        let row = (number, keep);
-        let (mut table, told) = table_with(rt.alloc(), bits, external, (3, number))?;
-        same(zero(&mut table, 3, keep)?, freed, row)?;
-        edited(&mut table, &told, after, zeros(cluster, copied))?;
-        let last = last_index(bits);
-        let (mut table, told) = table_with(rt.alloc(), bits, external, (last, number))?;
-        same(zero(&mut table, last, keep)?, freed, row)?;
-        edited(&mut table, &told, after, zeros(cluster, copied))?;
+    for row in ZEROED {
+        is_zeroed(rt.alloc(), *row, 3)?;
+        is_zeroed(rt.alloc(), *row, last_index(row.0))?;
     }
     Ok(())
 }
 
+// Cluster bits, whether data is external, an entry, and where its data begins and how long it is.
+type Range = (u32, bool, u64, Option<(u64, u64)>);
+
+const RANGES: &[Range] = &[
+    (16, false, 0x4040_0000_0001_0010, Some((0x1_0010, 1008))),
+    (16, true, 0x4040_0000_0001_fff0, Some((0x1_fff0, 528))),
+    (10, false, 0x7000_0000_0000_0600, Some((0x600, 2048))),
+    (9, false, 0x4000_0000_0000_0000, Some((0, 512))),
+    (9, false, 0, None),
+    (9, false, 1, None),
+    (9, false, 0xa00, None),
+    (9, false, 0xa01, None),
+    (9, false, 0x8000_0000_0000_0a00, None),
+    (9, true, 0x8000_0000_0000_0000, None),
+    (9, false, 0x8000_0000_0000_0001, None),
+];
+
+// Reads by the entry of a guest cluster of this part of the disk, of one of the next, and by a neighbour's.
+fn is_read_as_compressed(alloc: Global, row: Range) -> Result<(), Fail> {
+    let (bits, external, number, range) = row;
+    let last = last_index(bits);
+    let (mut table, told) = table_with(alloc, bits, external, (last, number))?;
+    let guest = last as u64;
+    let found = (
+        compressed(&mut table, guest)?,
+        compressed(&mut table, 2 * guest + 1)?,
+        compressed(&mut table, guest - 1)?,
+    );
+    same(found, (range, range, None), row)?;
+    tells(&table, &told, row)
+}
+
 #[test]
 fn only_compressed_data_is_read_as_such(rt: HostRuntime) -> Result<(), Fail> {
-    // Cluster bits, whether data is external, an entry, and where its data begins and how long it is.
-    let table = [
-        (16, false, 0x4040_0000_0001_0010, Some((0x1_0010, 1008))),
-        (16, true, 0x4040_0000_0001_fff0, Some((0x1_fff0, 528))),
-        (10, false, 0x7000_0000_0000_0600, Some((0x600, 2048))),
-        (9, false, 0x4000_0000_0000_0000, Some((0, 512))),
-        (9, false, 0, None),
-        (9, false, 1, None),
-        (9, false, 0xa00, None),
-        (9, false, 0xa01, None),
-        (9, false, 0x8000_0000_0000_0a00, None),
-        (9, true, 0x8000_0000_0000_0000, None),
-        (9, false, 0x8000_0000_0000_0001, None),
-    ];
-    for row in table {
-        let (bits, external, number, range) = row;
-        let last = last_index(bits);
-        let (mut table, told) = table_with(rt.alloc(), bits, external, (last, number))?;
-        // The entry of a guest cluster of this part of the disk, of one of the next, and a neighbour's.
-        let guest = last as u64;
-        let next = 2 * guest + 1;
-        let found = (
-            compressed(&mut table, guest)?,
-            compressed(&mut table, next)?,
-        );
-        same(found, (range, range), row)?;
-        same(compressed(&mut table, guest - 1)?, None, row)?;
-        tells(&table, &told, row)?;
+    for row in RANGES {
+        is_read_as_compressed(rt.alloc(), *row)?;
     }
     Ok(())
 }
