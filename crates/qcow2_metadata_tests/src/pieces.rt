@@ -3,7 +3,8 @@
 ghost use Rattle.std.specs.Prelude.{◌<◌, IsTrue, length};
 
 use crate::fixtures::{filled_image, header_with, place, put};
-use qcow2_base::{Fault, HostCluster, MemStorage, Storage};
+use crate::header_calls::put_bytes;
+use qcow2_base::{Fault, HostCluster, MemStorage};
 use qcow2_metadata::{Header, L1Table, L2Table, RefTable, Table, TableEntry};
 use qcow2_testing::{FailingStorage, StorageCall, same, same_bytes};
 use std::alloc::Global;
@@ -23,7 +24,7 @@ struct InPieces {
 }
 
 // Cluster bits, and then a table's cluster, its offset, how many entries it has, and its pieces.
-const TABLES: [(u32, u64, u64, usize, &[(u64, usize)]); 11] = [
+const TABLES: &[(u32, u64, u64, usize, &'static [(u64, usize)])] = &[
     (9, 8, 4096, 0, &[]),
     (9, 8, 4096, 1, &[(4096, 8)]),
     (9, 2, 1024, 64, &[(1024, 512)]),
@@ -39,7 +40,7 @@ const TABLES: [(u32, u64, u64, usize, &[(u64, usize)]); 11] = [
 ];
 
 // The same of L2 tables, which fill a cluster.
-const L2_TABLES: [(u32, u64, u64, &[(u64, usize)]); 5] = [
+const L2_TABLES: &[(u32, u64, u64, &'static [(u64, usize)])] = &[
     (9, 2, 1024, &[(1024, 512)]),
     (9, 17, 8704, &[(8704, 512)]),
     (11, 3, 6144, &[(6144, 2048)]),
@@ -129,6 +130,15 @@ fn loads_in_pieces<T: Table + Drop>(
     Ok(table)
 }
 
+// What a write of the table answers, and whether it counts as modified then.
+fn write<T: Table>(
+    table: &mut T,
+    image: &mut FailingStorage<MemStorage>,
+) -> (Result<(), Fault>, bool) {
+    let answer = table.write(image);
+    (answer, table.is_modified())
+}
+
 // Writes the table to an image in which some of its entries stand.
 fn writes_whole<T: Table>(
     alloc: Global,
@@ -137,7 +147,7 @@ fn writes_whole<T: Table>(
     told: InPieces,
 ) -> Result<(), Fail> {
     image.forget_calls();
-    same(table.write(image), Ok(()), told)?;
+    same(write(table, image), (Ok(()), false), told)?;
     are_calls(alloc, image.calls(), told.pieces, false, told)?;
     let written = image_with_first(alloc, told.start, told.entries)?;
     same_bytes(image.inner().bytes(), written.bytes(), told)?;
@@ -158,7 +168,7 @@ fn writes_again<T: Table>(
     place(table, Some(told.cluster), modified)?;
     let mut image = FailingStorage::new(alloc, filled_image(alloc, LEN)?);
     image.fail_after(passes as u64);
-    same(table.write(&mut image), Err(Fault::Storage), row)?;
+    same(write(table, &mut image), (Err(Fault::Storage), true), row)?;
     are_calls(alloc, image.calls(), &told.pieces[..passes + 1], false, row)?;
     has_its_entries(table, told, true)?;
     let torn = image_with_first(alloc, told.start, passes.wrapping_mul(512))?;
@@ -182,8 +192,11 @@ fn is_in_pieces<T: Table + Drop>(alloc: Global, header: &Header, told: InPieces)
 }
 
 #[test]
-fn each_table_is_read_and_written_in_its_pieces(rt: HostRuntime) -> Result<(), Fail> {
-    for (bits, cluster, start, entries, pieces) in TABLES {
+fn an_l1_table_and_a_refcount_table_are_read_and_written_in_their_pieces(
+    rt: HostRuntime,
+) -> Result<(), Fail> {
+    for row in TABLES {
+        let (bits, cluster, start, entries, pieces) = *row;
         let header = header_with(rt.alloc(), bits, false)?;
         let told = InPieces {
             cluster,
@@ -194,7 +207,13 @@ fn each_table_is_read_and_written_in_its_pieces(rt: HostRuntime) -> Result<(), F
         is_in_pieces::<L1Table>(rt.alloc(), &header, told)?;
         is_in_pieces::<RefTable>(rt.alloc(), &header, told)?;
     }
-    for (bits, cluster, start, pieces) in L2_TABLES {
+    Ok(())
+}
+
+#[test]
+fn an_l2_table_is_read_and_written_in_its_pieces(rt: HostRuntime) -> Result<(), Fail> {
+    for row in L2_TABLES {
+        let (bits, cluster, start, pieces) = *row;
         let header = header_with(rt.alloc(), bits, false)?;
         let told = InPieces {
             cluster,
@@ -220,65 +239,70 @@ pub(crate) fn entries_up_to(alloc: Global, end: usize) -> Result<MemStorage, Fau
     Ok(MemStorage::new(bytes))
 }
 
+// Writes the table over a storage whose call after so many passes fails, so that the new bytes end there,
+// and then once more.
+fn writes_up_to(alloc: Global, table: &mut L1Table, passes: u64, end: usize) -> Result<(), Fail> {
+    let mut image = FailingStorage::new(alloc, entries_up_to(alloc, 4096)?);
+    image.fail_after(passes);
+    let answer = write(table, &mut image);
+    same(answer, (Err(Fault::Storage), true), passes)?;
+    let torn = entries_up_to(alloc, end)?;
+    same_bytes(image.inner().bytes(), torn.bytes(), passes)?;
+    image.forget_calls();
+    let answer = write(table, &mut image);
+    same(answer, (Ok(()), false), passes)?;
+    let written = entries_up_to(alloc, 12296)?;
+    same_bytes(image.inner().bytes(), written.bytes(), passes)?;
+    are_calls(alloc, image.calls(), THREE_PIECES, false, passes)
+}
+
+// The pieces of that L1 table.
+const THREE_PIECES: &[(u64, usize)] = &[(4096, 4096), (8192, 4096), (12288, 8)];
+
 #[test]
 fn a_write_that_fails_at_a_piece_keeps_the_bytes_after_it(rt: HostRuntime) -> Result<(), Fail> {
     let header = header_with(rt.alloc(), 9, false)?;
     let mut image = entries_up_to(rt.alloc(), 12296)?;
     let mut table = L1Table::load(rt.alloc(), &mut image, &header, HostCluster(8), 1025)?;
     // How many calls pass before the one that fails, and where the new bytes end then.
-    for row in [(0, 4096), (1, 8192), (2, 12288)] {
-        let (passes, end) = row;
-        let mut image = FailingStorage::new(rt.alloc(), entries_up_to(rt.alloc(), 4096)?);
-        image.fail_after(passes);
-        let answer = table.write(&mut image);
-        same(
-            (answer, table.is_modified()),
-            (Err(Fault::Storage), true),
-            row,
-        )?;
-        let torn = entries_up_to(rt.alloc(), end)?;
-        same_bytes(image.inner().bytes(), torn.bytes(), row)?;
-        image.forget_calls();
-        let answer = table.write(&mut image);
-        same((answer, table.is_modified()), (Ok(()), false), row)?;
-        let written = entries_up_to(rt.alloc(), 12296)?;
-        same_bytes(image.inner().bytes(), written.bytes(), row)?;
-        let pieces = [(4096, 4096), (8192, 4096), (12288, 8)];
-        are_calls(rt.alloc(), image.calls(), &pieces, false, row)?;
+    for (passes, end) in [(0, 4096), (1, 8192), (2, 12288)] {
+        writes_up_to(rt.alloc(), &mut table, passes, end)?;
     }
     Ok(())
+}
+
+// A byte of the image that is 1, how many calls pass before the one that fails, the fault of a load
+// and the pieces that it reads.
+type Bad = (u64, u64, Fault, usize);
+
+const BAD: &[Bad] = &[
+    (4103, 1, Fault::EntryReserved, 1),
+    (8191, 1, Fault::EntryReserved, 1),
+    (8199, 2, Fault::EntryReserved, 2),
+    (12287, 2, Fault::EntryReserved, 2),
+    (12295, 3, Fault::EntryReserved, 3),
+    // the bad entry is not read
+    (8199, 1, Fault::Storage, 2),
+    (12295, 2, Fault::Storage, 3),
+];
+
+fn reads_up_to(alloc: Global, header: &Header, row: Bad) -> Result<(), Fail> {
+    let (at, passes, fault, count) = row;
+    let mut bytes = entries_up_to(alloc, 12296)?;
+    put_bytes(&mut bytes, at, &[1])?;
+    let mut image = FailingStorage::new(alloc, bytes);
+    image.fail_after(passes);
+    let answer = L1Table::load(alloc, &mut image, header, HostCluster(8), 1025);
+    same(answer.err(), Some(fault), row)?;
+    let pieces = THREE_PIECES.get(..count).unwrap_or(&[]);
+    are_calls(alloc, image.calls(), pieces, true, row)
 }
 
 #[test]
 fn a_load_reads_no_piece_after_that_of_a_bad_entry(rt: HostRuntime) -> Result<(), Fail> {
     let header = header_with(rt.alloc(), 9, false)?;
-    let pieces = [(4096, 4096), (8192, 4096), (12288, 8)];
-    // A byte of the image that is 1, how many calls pass before the one that fails, the fault of a load
-    // and the pieces that it reads.
-    for row in [
-        (4103, 1, Fault::EntryReserved, 1),
-        (8191, 1, Fault::EntryReserved, 1),
-        (8199, 2, Fault::EntryReserved, 2),
-        (12287, 2, Fault::EntryReserved, 2),
-        (12295, 3, Fault::EntryReserved, 3),
-        // the bad entry is not read
-        (8199, 1, Fault::Storage, 2),
-        (12295, 2, Fault::Storage, 3usize),
-    ] {
-        let (at, passes, fault, count) = row;
-        let mut bytes = entries_up_to(rt.alloc(), 12296)?;
-        bytes.write(&[1], at)?;
-        let mut image = FailingStorage::new(rt.alloc(), bytes);
-        image.fail_after(passes);
-        let answer = L1Table::load(rt.alloc(), &mut image, &header, HostCluster(8), 1025);
-        same(answer.err(), Some(fault), row)?;
-        are_calls(
-            rt.alloc(),
-            image.calls(),
-            &pieces[..count.min(3)],
-            true,
-            row,
-        )?;
+    for row in BAD {
+        reads_up_to(rt.alloc(), &header, *row)?;
     }
     Ok(())
 }
