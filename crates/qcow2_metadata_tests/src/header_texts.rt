@@ -119,7 +119,7 @@ const TWO_TABLES: Changes = &[
 ];
 
 /// Headers and their texts.
-pub(crate) const WRITTEN: &[Written] = &[
+pub(crate) const WRITTEN: [Written; 20] = [
     BASE,
     BACKING,
     (

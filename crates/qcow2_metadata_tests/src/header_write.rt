@@ -28,7 +28,6 @@ fn places(alloc: Global, header: &mut Header, row: Written) -> Result<(), Fail> 
 #[test]
 fn a_write_places_the_text_by_one_call_and_no_byte_behind_it(rt: HostRuntime) -> Result<(), Fail> {
     for row in WRITTEN {
-        let row = *row;
         let mut header = made(rt.alloc(), row.0)?;
         places(rt.alloc(), &mut header, row)?;
     }
@@ -38,7 +37,6 @@ fn a_write_places_the_text_by_one_call_and_no_byte_behind_it(rt: HostRuntime) ->
 #[test]
 fn a_write_to_an_empty_image_makes_it_as_long_as_the_text(rt: HostRuntime) -> Result<(), Fail> {
     for row in WRITTEN {
-        let row = *row;
         let mut header = made(rt.alloc(), row.0)?;
         let mut image = filled_image(rt.alloc(), 0)?;
         same(write(&mut header, &mut image), Ok(()), row)?;
@@ -53,7 +51,6 @@ fn a_header_that_was_written_is_written_the_same_again_also_when_it_was_loaded(
     rt: HostRuntime,
 ) -> Result<(), Fail> {
     for row in WRITTEN {
-        let row = *row;
         let mut header = made(rt.alloc(), row.0)?;
         let mut image = filled_image(rt.alloc(), 2048)?;
         same(write(&mut header, &mut image), Ok(()), row)?;
@@ -142,7 +139,6 @@ fn a_write_whose_storage_fails_changes_no_header_and_places_the_text_the_next_ti
     rt: HostRuntime,
 ) -> Result<(), Fail> {
     for row in WRITTEN {
-        let row = *row;
         let mut header = made(rt.alloc(), row.0)?;
         let mut image = FailingStorage::new(rt.alloc(), filled_image(rt.alloc(), 2048)?);
         image.fail_after(0);
