@@ -1,8 +1,8 @@
 //! Images to edit and to step: a table or block of zeros, with other bytes around it.
 
-use qcow2_base::{Fault, MemStorage, Storage};
+use qcow2_base::{Fault, MemStorage};
 use qcow2_metadata::Header;
-use qcow2_testing::{FailingStorage, StorageCall, is_cluster_bits, same_bytes};
+use qcow2_testing::{FailingStorage, StorageCall, is_cluster_bits, put_bytes, same_bytes};
 use std::alloc::Global;
 use std::fmt::Debug;
 use std::test::Fail;
@@ -60,7 +60,7 @@ pub(crate) fn image_of(alloc: Global, contents: Contents<'_>) -> Result<MemStora
     }
     let mut image = MemStorage::new(bytes);
     for (place, part) in parts {
-        put(&mut image, *place, *part)?;
+        put_bytes(&mut image, *place, *part)?;
     }
     Ok(image)
 }
@@ -82,15 +82,6 @@ pub(crate) fn image_holds<R: Debug + Drop>(
 ) -> Result<(), Fail> {
     let expected = image_of(alloc, contents)?;
     same_bytes(image.inner().bytes(), expected.bytes(), row)
-}
-
-// Puts bytes into the image.
-fn put(image: &mut MemStorage, place: u64, bytes: &[u8]) -> Result<(), Fault> {
-    if place >= 1 << 55 || bytes.len() > 4096 {
-        return Err(Fault::TablePlace);
-    }
-    image.write(bytes, place)?;
-    Ok(())
 }
 
 /// How many calls of the storage were reads, and how many were writes.

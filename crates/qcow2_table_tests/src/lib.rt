@@ -1,0 +1,46 @@
+//! Tests of entries, tables and refcount blocks, and what they are made with.
+#![tactic(auto)]
+
+#[cfg(test)]
+mod block_numbers;
+#[cfg(test)]
+mod every_table;
+mod fixtures;
+#[cfg(test)]
+mod l1_entry;
+#[cfg(test)]
+mod l1_table;
+#[cfg(test)]
+mod l2_copy;
+#[cfg(test)]
+mod l2_edits;
+#[cfg(test)]
+mod l2_entry;
+#[cfg(test)]
+mod l2_mapping;
+#[cfg(test)]
+mod l2_table;
+#[cfg(test)]
+mod largest_tables;
+#[cfg(test)]
+mod one_entry;
+#[cfg(test)]
+mod pending_clusters;
+#[cfg(test)]
+mod pieces;
+#[cfg(test)]
+mod pointers;
+#[cfg(test)]
+mod ref_table_entry;
+#[cfg(test)]
+mod refcount_blocks;
+#[cfg(test)]
+mod reftable_growth;
+#[cfg(test)]
+mod refused_memory;
+#[cfg(test)]
+mod table_files;
+
+pub use fixtures::{
+    LOADED, NUMBER, Told, cleared_table, header_with, place, table_that_tells, tells,
+};

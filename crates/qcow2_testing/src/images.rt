@@ -1,0 +1,32 @@
+//! Images in memory, and what is put into them.
+
+use qcow2_base::{Fault, MemStorage, Storage};
+use std::alloc::Global;
+
+/// An image of so many bytes of 0xa5.
+pub fn filled_image(alloc: Global, len: usize) -> Result<MemStorage, Fault> {
+    Ok(MemStorage::new(vec![in alloc; 0xa5; len]?))
+}
+
+/// An image of so many bytes that are zero but for these numbers at these places.
+pub fn image_with(alloc: Global, len: usize, numbers: &[(u64, u64)]) -> Result<MemStorage, Fault> {
+    let mut image = MemStorage::new(vec![in alloc; 0; len]?);
+    for (place, number) in numbers {
+        put(&mut image, *place, *number)?;
+    }
+    Ok(image)
+}
+
+/// Puts a number of eight bytes into the image, which grows where it is too short.
+pub fn put<S: Storage>(image: &mut S, place: u64, number: u64) -> Result<(), Fault> {
+    put_bytes(image, place, &number.to_be_bytes())
+}
+
+/// Puts bytes into the image, which grows where it is too short.
+pub fn put_bytes<S: Storage>(image: &mut S, place: u64, bytes: &[u8]) -> Result<(), Fault> {
+    if place >= 1 << 55 || bytes.len() >= 1 << 55 {
+        return Err(Fault::TablePlace);
+    }
+    image.write(bytes, place)?;
+    Ok(())
+}
