@@ -8,6 +8,6 @@ mod steps;
 
 pub use edits::{Edit, Outcome, edit_table, edits_fit};
 pub use images::{edit_image, step_image};
-pub(crate) use lookups::lookup_with_header;
+pub(crate) use lookups::{load_l1_table, lookup_with_header};
 pub use lookups::{lookup, lookup_image};
 pub use steps::{Step, StepReply, step_block};

@@ -9,9 +9,9 @@ ghost use Rattle.qcow2_session.specs.Edits.{numbers_of};
 ghost use Rattle.qcow2_session.specs.Lines.{freed_line, freed_lines, gained_line, gained_lines};
 ghost use Rattle.qcow2_session.specs.Printing.{PrintsLast};
 
-use crate::session::{Edit, Outcome, edit_image};
+use crate::session::{Edit, Outcome, edit_image, load_l1_table};
 use qcow2_base::{Fault, HostCluster, Storage};
-use qcow2_metadata::{ClustersToFreeEntry, Header, L1Table, Table};
+use qcow2_metadata::{ClustersToFreeEntry, Header, Table};
 use std::alloc::Global;
 use std::io::Write;
 
@@ -49,11 +49,9 @@ fn named_table<S: Storage>(
         (named_table header.now l1_index (S.state image.old).byte_at) }
     ensures storage { OnlyReads result (S.state image.old) (S.state image.new) }
 {
-    let cluster_bits = header.cluster_bits();
-    let cluster = header.l1_table_offset().cluster(cluster_bits);
-    let l1_table = L1Table::load(alloc, image, header, cluster, header.l1_table_entries())?;
+    let l1_table = load_l1_table(alloc, image, header)?;
     let offset = l1_table.get(l1_index).l2_offset().ok_or(Fault::NotPlaced)?;
-    Ok(offset.cluster(cluster_bits))
+    Ok(offset.cluster(header.cluster_bits()))
 }
 
 // Prints what edits did to references.

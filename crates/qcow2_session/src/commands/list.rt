@@ -10,6 +10,7 @@ ghost use Rattle.qcow2_session.specs.Lookups.{named_cluster};
 ghost use Rattle.qcow2_session.specs.Printing.{PrintsSome};
 
 use crate::lines::print_entry;
+use crate::session::load_l1_table;
 use qcow2_base::{Fault, GuestCluster, HostCluster, Storage};
 use qcow2_metadata::{Header, L1Table, L2Table, Table};
 use std::alloc::Global;
@@ -32,8 +33,7 @@ pub fn list_tables<S: Storage, O: Write>(
     ensures storage { ReadsFor (IsErrOf result StorageFailed) (S.state image.old) (S.state image.new) }
 {
     let header = Header::load(alloc, image, false)?;
-    let cluster = header.l1_table_offset().cluster(header.cluster_bits());
-    let l1_table = L1Table::load(alloc, image, &header, cluster, header.l1_table_entries())?;
+    let l1_table = load_l1_table(alloc, image, &header)?;
     print_tables(alloc, image, &header, &l1_table, out)
 }
 

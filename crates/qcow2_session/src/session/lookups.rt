@@ -1,13 +1,13 @@
 //! What a guest offset reads as, by an image's header, L1 table and L2 table.
 
-ghost use Rattle.std.specs.Prelude.{◌≡◌, ◌+◌, ◌*◌, ◌/◌, ◌^◌, ◌≤◌, None, Ok, IfErr, IfOk, IfSome, IsOkAnd, IsTrue};
+ghost use Rattle.std.specs.Prelude.{◌≡◌, ◌+◌, ◌*◌, ◌/◌, ◌^◌, ◌≤◌, None, Ok, length, IfErr, IfOk, IfSome, IsOkAnd, IsTrue};
 ghost use Rattle.qcow2_base.specs.Storage.{OnlyReads};
 ghost use Rattle.qcow2_metadata.specs.Answers.{Answers};
 ghost use Rattle.qcow2_metadata.specs.Entries.{IsPlaced, backing, meaning};
 ghost use Rattle.qcow2_metadata.specs.Header.{geometry_of};
 ghost use Rattle.qcow2_metadata.specs.Header.Grammar.{header_of};
-ghost use Rattle.qcow2_metadata.specs.Table.{IsLoadFault};
-ghost use Rattle.qcow2_session.specs.Lookups.{IsLookupFault, guest_mapping, image_mapping, l2_cluster};
+ghost use Rattle.qcow2_metadata.specs.Table.{IsLoadFault, loaded_l1_table, most_l1_entries, place_fault};
+ghost use Rattle.qcow2_session.specs.Lookups.{IsLookupFault, guest_mapping, image_mapping, l1_place, l2_cluster};
 
 use qcow2_base::{Fault, GuestCluster, GuestOffset, HostCluster, Storage};
 use qcow2_metadata::{Header, L1Table, L2Mapping, L2Table, Table};
@@ -84,10 +84,27 @@ pub(crate) fn lookup_with_header<S: Storage>(
     ensures storage { OnlyReads result (S.state image.old) (S.state image.new) }
 {
     let header = Header::load(alloc, image, false)?;
-    let cluster = header.l1_table_offset().cluster(header.cluster_bits());
-    let l1_table = L1Table::load(alloc, image, &header, cluster, header.l1_table_entries())?;
+    let l1_table = load_l1_table(alloc, image, &header)?;
     let mapping = lookup(alloc, image, &header, &l1_table, guest_offset)?;
     Ok((header, mapping))
+}
+
+/// The L1 table of an image with this header.
+pub(crate) fn load_l1_table<S: Storage>(
+    alloc: Global,
+    image: &mut S,
+    header: &Header,
+) -> Result<L1Table, Fault>
+    ensures exact { IsTrue (S.state image.old).tells → Answers (λ table. table.numbers) result
+        (loaded_l1_table (l1_place header.now) (S.state image.old).byte_at) }
+    ensures faults { IfErr result (IsLoadFault (place_fault most_l1_entries (l1_place header.now))) }
+    ensures geometry { IfOk result (λ table. table.geometry ≡ geometry_of header.now) }
+    ensures entries { IfOk result (λ table. (length table.numbers ≡ header.now.v2.l1_size)
+        × (length table.numbers ≤ most_l1_entries)) }
+    ensures storage { OnlyReads result (S.state image.old) (S.state image.new) }
+{
+    let cluster = header.l1_table_offset().cluster(header.cluster_bits());
+    L1Table::load(alloc, image, header, cluster, header.l1_table_entries())
 }
 
 // The cluster that the L2 table of a guest cluster begins with, if there is one. It ends by 2^56.

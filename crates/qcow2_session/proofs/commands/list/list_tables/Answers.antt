@@ -22,7 +22,7 @@ returns-clause-prints g c =
     let second = c.in_ok-l1_table.ensures.storage in
     let header = c.in_ok-header.header in
     let numbers = c.in_ok-l1_table.l1_table.numbers in
-    PrintsSome-same c.print_tables.result (lines_of_image image) (lines_of_tables (geometry_of header) 0 numbers image) (lines_kept_of_image image) (lines_before (geometry_of header) 0 numbers image) _ (g.S.Storage.state c.load-2.new.image) _ _
+    PrintsSome-same c.print_tables.result (lines_of_image image) (lines_of_tables (geometry_of header) 0 numbers image) (lines_kept_of_image image) (lines_before (geometry_of header) 0 numbers image) _ (g.S.Storage.state c.load_l1_table.new.image) _ _
     (λ told.
     let read : header_of image ≡ Ok header = header_read (header_of image) header (c.in_ok-header.ensures.exact told) in
     let loaded : loaded_l1_table (l1_place header) image ≡ Ok numbers = search rules in
