@@ -1,7 +1,7 @@
-use Rattle.std.proofs.Common.{◌≡◌, ◌≢◌, ◌⊎◌, ℕ, List, Option, Result, Ok, Err, OnOk, IsTrue, inl, inr, refl}
-use Rattle.std.specs.Result.{IfOk, IsOkUnless}
+use Rattle.std.proofs.Common.{◌≡◌, ◌≢◌, ◌⊎◌, ℕ, false, List, [], ◌∷◌, Option, Result, Ok, Err, OnOk, IsTrue, inl, inr, refl, true≢false}
+use Rattle.std.specs.Result.{IfOk, IsOkUnless, MatchResult}
 use Rattle.std.specs.Io.KnownBytes.{Appends}
-use Rattle.qcow2_base.specs.Storage.{StorageState}
+use Rattle.qcow2_base.specs.Storage.{Image, StorageState}
 use Rattle.qcow2_base.specs.declared.fault.Fault.{Fault}
 use Rattle.qcow2_base.specs.declared.fault.Fault.TheVariants.{NoMemory, Storage}
 use Rattle.qcow2_base.specs.declared.types.HostCluster.{HostCluster}
@@ -9,26 +9,40 @@ use Rattle.qcow2_metadata.specs.Answers.{result_map}
 use Rattle.qcow2_metadata.specs.Header.{HeaderRecord}
 use Rattle.qcow2_session.proofs.PrintingLemmas.{refusal-of}
 use Rattle.qcow2_session.specs.Changing.{Change, PrintsChange, SameOutsideCluster, end_of}
+use Rattle.qcow2_session.specs.Edits.{are_some}
+use Rattle.qcow2_session.specs.declared.session.edits.Edit.{Edit}
+
+-- there is no edit where not some are there
+none-of : (edits : List Edit) → are_some edits ≡ false → edits ≡ []
+none-of [] none = refl
+none-of (edit ∷ edits) none = absurd (true≢false none)
+
+-- which bytes stay where nothing is to be written
+abbrev StaysIdle : {End : Type 0} → Change End → Result End Fault → Image → Image → Type 0
+StaysIdle change end old new = IfOk end (λ left. change.writes left ≡ false → new ≡ old)
 
 -- a change was made, and then printed, if the output didn't fail
 pub change-printed : {T End : Type 0} (answer : Result T Fault) (header : HeaderRecord) (change : Change End) (cluster : HostCluster) (left : End) (old new : StorageState) (a b : Option (List ℕ))
     → (IsTrue old.tells → change.place old.byte_at ≡ Ok cluster)
     → (IsTrue old.tells → change.run cluster old.byte_at ≡ Ok left)
     → (IsTrue old.tells → change.loaded cluster new.byte_at ≡ result_map change.numbers (change.run cluster old.byte_at))
+    → (IsTrue old.tells → StaysIdle change (change.run cluster old.byte_at) old.byte_at new.byte_at)
     → (IsTrue old.tells → SameOutsideCluster header cluster old.byte_at new.byte_at)
     → IsOkUnless answer Storage → OnOk answer (Appends a b (change.lines left)) → PrintsChange answer header change old new a b
-change-printed (Ok value) header change cluster left old new a b named is written outside fault printed = record {
+change-printed (Ok value) header change cluster left old new a b named is written idle outside fault printed = record {
   lines = λ told. rw (named told, is told) printed;
-  written = λ told. rw (named told) (written told);
+  written = λ made told. rw (named told) (written told);
   refused = tt;
   unchanged = tt;
+  idle = λ told. rw (named told) (idle told);
   others = λ told. rw (named told) (outside told);
 }
-change-printed (Err error) header change cluster left old new a b named is written outside fault printed = record {
+change-printed (Err error) header change cluster left old new a b named is written idle outside fault printed = record {
   lines = tt;
-  written = tt;
+  written = λ made told. rw (named told) (written told);
   refused = λ told. inr (inr (fault, inr (rw (named told, is told) refl)));
   unchanged = λ other. absurd (other fault);
+  idle = λ told. rw (named told) (idle told);
   others = λ told. rw (named told) (outside told);
 }
 
@@ -37,6 +51,17 @@ of-any : {V E : Type 0} {P : V → Type 0} (answer : Result V E) → ((value : V
 of-any (Ok value) all = all value
 of-any (Err error) all = tt
 
+-- no byte changed, wherever the change was to be
+unchanged-anywhere : (header : HeaderRecord) (place : Result HostCluster Fault) (old new : Image) → new ≡ old
+    → MatchResult place (λ cluster. SameOutsideCluster header cluster old new) (λ fault. new ≡ old)
+unchanged-anywhere header (Ok cluster) old new same = rw same (record { before = λ o below. refl; after = λ o past. refl })
+unchanged-anywhere header (Err fault) old new same = same
+
+-- a list without an edit leaves an image as it was
+pub idle-edits : {End : Type 0} (edits : List Edit) (end : Result End Fault) (old new : Image) → (edits ≡ [] → new ≡ old)
+    → IfOk end (λ left. are_some edits ≡ false → new ≡ old)
+idle-edits edits end old new idle = of-any end (λ left none. idle (none-of edits none))
+
 -- there is no place for a change, so none is made
 pub change-unplaced : {T End : Type 0} (fault : Fault) (header : HeaderRecord) (change : Change End) (old new : StorageState) (a b : Option (List ℕ))
     → (IsTrue old.tells → (fault ≡ Storage) ⊎ (fault ≡ NoMemory) ⊎ (change.place old.byte_at ≡ Err fault))
@@ -44,14 +69,15 @@ pub change-unplaced : {T End : Type 0} (fault : Fault) (header : HeaderRecord) (
     → PrintsChange {T = T} (Err fault) header change old new a b
 change-unplaced fault header change old new a b refused failed same = record {
   lines = tt;
-  written = tt;
+  written = λ made. absurd (failed made.0 made.1);
   refused = refusal-of fault (end_of change old.byte_at) old new (λ told. elim (refused told) [
     | inl storage ↦ inl storage
     | inr (inl memory) ↦ inr (inl memory)
     | inr (inr bad) ↦ inr (inr (rw bad refl))
   ]) failed;
   unchanged = λ other. same;
-  others = λ told. of-any (change.place old.byte_at) (λ cluster. rw same (record { before = λ o below. refl; after = λ o past. refl }));
+  idle = λ told. of-any (end_of change old.byte_at) (λ left writes. same);
+  others = λ told. unchanged-anywhere header (change.place old.byte_at) old.byte_at new.byte_at same;
 }
 
 -- there is a place for a change, which is refused
@@ -59,12 +85,14 @@ pub change-refused : {T End : Type 0} (fault : Fault) (header : HeaderRecord) (c
     → (IsTrue old.tells → change.place old.byte_at ≡ Ok cluster)
     → (IsTrue old.tells → (fault ≡ Storage) ⊎ (fault ≡ NoMemory) ⊎ (change.run cluster old.byte_at ≡ Err fault))
     → (fault ≡ Storage → new.failures ≢ old.failures) → (fault ≢ Storage → new.byte_at ≡ old.byte_at)
+    → (IsTrue old.tells → StaysIdle change (change.run cluster old.byte_at) old.byte_at new.byte_at)
     → (IsTrue old.tells → SameOutsideCluster header cluster old.byte_at new.byte_at)
     → PrintsChange {T = T} (Err fault) header change old new a b
-change-refused fault header change cluster old new a b named refused failed unchanged outside = record {
+change-refused fault header change cluster old new a b named refused failed unchanged idle outside = record {
   lines = tt;
-  written = tt;
+  written = λ made. absurd (failed made.0 made.1);
   refused = refusal-of fault (end_of change old.byte_at) old new (λ told. rw (named told) (refused told)) failed;
   unchanged = unchanged;
+  idle = λ told. rw (named told) (idle told);
   others = λ told. rw (named told) (outside told);
 }

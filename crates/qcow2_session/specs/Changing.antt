@@ -1,4 +1,4 @@
-use Rattle.std.specs.Prelude.{◌≡◌, ◌≢◌, ◌⊎◌, ℕ, ◌*◌, ◌^◌, true, List, ◌++◌, slice_index, Option, Some, None, Result, Ok, Err, IfErr, IfOk, IsOkAnd, IsTrue, OnOk}
+use Rattle.std.specs.Prelude.{◌≡◌, ◌≢◌, ◌⊎◌, ℕ, ◌*◌, ◌^◌, Bool, false, true, List, ◌++◌, slice_index, Option, Some, None, Result, Ok, Err, IfErr, IfOk, IsOkAnd, IsTrue, MatchResult, OnOk}
 use Rattle.std.specs.Io.KnownBytes.{Appends}
 use Rattle.qcow2_base.specs.Storage.{Image, SameOutside, StorageState}
 use Rattle.qcow2_base.specs.declared.fault.Fault.{Fault}
@@ -11,11 +11,12 @@ use Rattle.qcow2_metadata.specs.Header.Grammar.{header_of}
 use Rattle.qcow2_metadata.specs.Header.Open.{Opens, opened}
 use Rattle.qcow2_metadata.specs.Refblock.{loaded_block}
 use Rattle.qcow2_metadata.specs.Table.{loaded_l1_table, loaded_l2_table}
+use Rattle.qcow2_session.specs.Edits.{are_some}
 use Rattle.qcow2_session.specs.Images.{edits_end, steps_end}
 use Rattle.qcow2_session.specs.Lines.{freed_lines, gained_lines, reply_lines}
 use Rattle.qcow2_session.specs.Lookups.{l1_place, named_cluster}
 use Rattle.qcow2_session.specs.Printing.{IsRefusal}
-use Rattle.qcow2_session.specs.Steps.{StepsEnd}
+use Rattle.qcow2_session.specs.Steps.{StepsEnd, are_some_done}
 use Rattle.qcow2_session.specs.declared.session.edits.Edit.{Edit}
 use Rattle.qcow2_session.specs.declared.session.steps.Step.{Step}
 
@@ -39,12 +40,13 @@ named_table header l1_index image = and_then (loaded_l1_table (l1_place header) 
     placed (Some cluster) = Ok cluster
 
 -- a change of a table or a block of an image: with which cluster it begins, what the change comes to, which numbers
--- load there and which it leaves, and the lines that tell of it
+-- load there and which it leaves, whether they are written, and the lines that tell of it
 pub record Change (End : Type 0) : Type 0 where
   pub place : Image → Result HostCluster Fault
   pub run : HostCluster → Image → Result End Fault
   pub loaded : HostCluster → Image → Result (List ℕ) Fault
   pub numbers : End → List ℕ
+  pub writes : End → Bool
   pub lines : End → List ℕ
 
 -- what a change of an image comes to, or why it is refused
@@ -59,6 +61,7 @@ edits_of_table l1_index edits header = record {
   run = λ cluster. edits_end header cluster edits;
   loaded = loaded_l2_table (geometry_of header);
   numbers = λ left. left.numbers;
+  writes = λ left. are_some edits;
   lines = λ left. freed_lines left.freed ++ gained_lines left.gained;
 }
 
@@ -69,19 +72,27 @@ steps_of_block cluster steps header = record {
   run = λ place. steps_end header place steps;
   loaded = loaded_block header;
   numbers = λ left. left.counters;
+  writes = λ left. are_some_done left.replies;
   lines = λ left. reply_lines left.replies;
 }
 
+-- a change was made, though the output may have failed then: the storage fault is answered where no call of the image
+-- failed
+abbrev pub IsMade : {T : Type 0} → Result T Fault → StorageState → StorageState → Type 0
+IsMade answer old new = IfErr answer (λ fault. (fault ≡ Storage) × (new.failures ≡ old.failures))
+
 -- a change of an image with this header ended in this answer: what loads there then is what it left, and the lines
 -- tell of it; else this is why it was refused, or the output failed. No byte outside the cluster changes, and none
--- where a fault but the storage fault is answered
+-- where there is no cluster, nothing is to be written, or a fault but the storage fault is answered
 pub record PrintsChange {T End : Type 0} (answer : Result T Fault) (header : HeaderRecord) (change : Change End) (old new : StorageState) (before after : Option (List ℕ)) : Type 0 where
   pub lines : OnOk answer (IsTrue old.tells → IsOkAnd (end_of change old.byte_at) (λ left. Appends before after (change.lines left)))
-  pub written : OnOk answer (IsTrue old.tells → IsOkAnd (change.place old.byte_at) (λ cluster.
-      change.loaded cluster new.byte_at ≡ result_map change.numbers (end_of change old.byte_at)))
+  pub written : IsMade answer old new → IsTrue old.tells → IsOkAnd (change.place old.byte_at) (λ cluster.
+      change.loaded cluster new.byte_at ≡ result_map change.numbers (end_of change old.byte_at))
   pub refused : IfErr answer (IsRefusal (end_of change old.byte_at) old new)
   pub unchanged : IfErr answer (λ fault. fault ≢ Storage → new.byte_at ≡ old.byte_at)
-  pub others : IsTrue old.tells → IfOk (change.place old.byte_at) (λ cluster. SameOutsideCluster header cluster old.byte_at new.byte_at)
+  pub idle : IsTrue old.tells → IfOk (end_of change old.byte_at) (λ left. change.writes left ≡ false → new.byte_at ≡ old.byte_at)
+  pub others : IsTrue old.tells → MatchResult (change.place old.byte_at)
+      (λ cluster. SameOutsideCluster header cluster old.byte_at new.byte_at) (λ fault. new.byte_at ≡ old.byte_at)
 
 -- a command that changes an image ended in this answer: its header was refused, or loaded, and then the change that
 -- it asks for was made of the image that the load left, and printed
