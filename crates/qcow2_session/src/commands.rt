@@ -33,8 +33,8 @@ use words::{Command, edits_of, steps_of};
 /// success, 1 for a fault and 2 for words that are no command.
 ///
 /// What the command finds goes to `out`, where lines before a fault stay. A fault is the line
-/// `qmeta: fault N` on `err`, wrong words are the usage line there. Both are flushed at the end. A
-/// failed write to `out` is the storage fault; one to `err` changes nothing.
+/// `qmeta: fault N` on `err`, wrong words are the usage line there. `out` is flushed after a command,
+/// `err` after a line on it. A failed write to `out` is the storage fault; one to `err` changes nothing.
 pub fn run_words<R: Files + AllocGlobal, O: Write, E: Write>(
     rt: &R,
     words: &[String],

@@ -1,4 +1,5 @@
-//! Tests of the program's commands, and an output that fails where a test plans it.
+//! Tests of lists of edits and of steps, of lookups and of the program's commands, and an output that fails
+//! where a test plans it.
 #![tactic(auto)]
 
 #[cfg(test)]

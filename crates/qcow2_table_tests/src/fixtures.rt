@@ -1,4 +1,4 @@
-//! Headers, images and tables to test with.
+//! Headers and tables to test with.
 
 ghost use Rattle.std.specs.Prelude.{◌≡◌, ◌≤◌, ◌^◌, IfOk, OnOk, IsTrue, length, option_map};
 ghost use Rattle.qcow2_base.specs.Types.{IsClusterBits};

@@ -1,4 +1,4 @@
-//! `qmeta`: what a qcow2 image says about itself.
+//! `qmeta`: prints what a qcow2 image says about itself, and edits it.
 #![tactic(auto)]
 
 use qcow2_base::Fault;

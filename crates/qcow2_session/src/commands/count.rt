@@ -16,8 +16,9 @@ use std::io::Write;
 /// the number before it, or `refused`. The header is loaded by who writes to the image.
 ///
 /// Answers the fault of the header, of the block's place or of the first step whose index is past the block's
-/// end before any line, and has changed nothing then but the header's autoclear features. A failed write to
-/// `out` is the storage fault: the block is written by then.
+/// end before any line. It has changed nothing then but the header, which such a load writes anew where it
+/// has autoclear features: its faults are those of `Header::load`. A failed write to `out` is the storage
+/// fault: the block is written by then.
 pub fn count_references<S: Storage, O: Write>(
     alloc: Global,
     image: &mut S,

@@ -19,8 +19,9 @@ use std::io::Write;
 /// then those that gained one. The header is loaded by who writes to the image.
 ///
 /// Answers the fault of the header, of the L1 table, 23 where the L1 entry names no table, the fault of the
-/// L2 table or of the first edit that doesn't fit before any line, and has changed nothing then but the
-/// header's autoclear features. A failed write to `out` is the storage fault: the table is written by then.
+/// L2 table or of the first edit that doesn't fit before any line. It has changed nothing then but the
+/// header, which such a load writes anew where it has autoclear features: its faults are those of
+/// `Header::load`. A failed write to `out` is the storage fault: the table is written by then.
 pub fn edit_entries<S: Storage, O: Write>(
     alloc: Global,
     image: &mut S,
