@@ -4,7 +4,7 @@ mod files;
 mod large_files;
 
 use qcow2_base::{MemStorage, Storage, StorageFault};
-use qcow2_testing::{FailingStorage, StorageCall, holds, same, same_bytes};
+use qcow2_testing::{FailingStorage, StorageCall, holds, printed, same, same_bytes};
 use std::alloc::Global;
 use std::fmt::Debug;
 use std::test::Fail;
@@ -25,7 +25,7 @@ pub(crate) fn aligned(storage: MemStorage, exponent: u32) -> MemStorage
 
 // That so many calls have failed, which no call tells, but `Debug` writes.
 pub(crate) fn has_failed<S: Debug>(alloc: Global, storage: &S, failures: u32) -> Result<(), Fail> {
-    let shown = format!(in alloc; "{storage:?}")?;
+    let shown = printed(alloc, storage)?;
     let count = format!(in alloc; "failures: {failures} ")?;
     holds(
         shown.as_str().contains(count.as_str()),

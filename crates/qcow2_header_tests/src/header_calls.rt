@@ -61,11 +61,6 @@ pub fn update(header: &mut Header, other: &Header) -> Result<(), Fault> {
     header.update(other)
 }
 
-/// All that a header holds.
-pub fn printed(alloc: Global, header: &Header) -> Result<String, AllocError> {
-    format!(in alloc; "{header:?}")
-}
-
 /// Where a header's L1 table begins, and how many entries it has.
 pub fn l1_table_of(header: &Header) -> (HostOffset, usize) {
     (header.l1_table_offset(), header.l1_table_entries())

@@ -1,11 +1,11 @@
 //! What a load of a header answers.
 
 use crate::fixtures::{Changes, LEAST, OLDER, change, image_of};
-use crate::header_calls::{called, load, printed};
+use crate::header_calls::{called, load};
 use qcow2_base::{Fault, MemStorage, Storage, V3HeaderBase};
 use qcow2_metadata::FeatureType::{self, Autoclear, Compatible, Incompatible};
 use qcow2_metadata::{Header, HeaderExtension};
-use qcow2_testing::{holds, put_bytes, same};
+use qcow2_testing::{holds, printed, put_bytes, same};
 use std::alloc::{AllocError, Global};
 use std::fmt::Debug;
 use std::test::Fail;

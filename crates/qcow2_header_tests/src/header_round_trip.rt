@@ -2,13 +2,13 @@
 //! write.
 
 use crate::fixtures::{Changes, change};
-use crate::header_calls::{called, l1_table_of, load, printed, refcount_table_of, write};
+use crate::header_calls::{called, l1_table_of, load, refcount_table_of, write};
 use crate::header_load::{Names, names};
 use crate::header_texts::{dirty, fixed_parts};
 use qcow2_base::{ClusterCount, Fault, HostOffset, MemStorage};
 use qcow2_metadata::FeatureType::{Autoclear, Compatible};
 use qcow2_metadata::Header;
-use qcow2_testing::{filled_image, holds, put, put_bytes, same, same_bytes};
+use qcow2_testing::{filled_image, holds, printed, put, put_bytes, same, same_bytes};
 use std::alloc::{AllocError, Global};
 use std::test::Fail;
 

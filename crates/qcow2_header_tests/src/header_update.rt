@@ -2,11 +2,11 @@
 //! when extensions are equal.
 
 use crate::fixtures::{Changes, LEAST};
-use crate::header_calls::{l1_table_of, load_of, new, printed, update};
+use crate::header_calls::{l1_table_of, load_of, new, update};
 use qcow2_base::{Fault, Field, HostOffset};
 use qcow2_metadata::FeatureType::{self, Compatible, Incompatible};
 use qcow2_metadata::HeaderExtension;
-use qcow2_testing::{holds, same};
+use qcow2_testing::{holds, printed, same};
 use std::alloc::{AllocError, Global};
 use std::collections::BTreeMap;
 use std::test::Fail;

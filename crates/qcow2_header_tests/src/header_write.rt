@@ -1,12 +1,12 @@
 //! What a write of a header places, and what it leaves as it was.
 
 use crate::fixtures::LEAST;
-use crate::header_calls::{load, printed, write};
+use crate::header_calls::{load, write};
 use crate::header_load::names;
 use crate::header_texts::{Origin, WRITTEN, Written, dirty, fixed_parts, made, with_text};
 use qcow2_base::{Fault, MemStorage};
 use qcow2_metadata::Header;
-use qcow2_testing::{FailingStorage, StorageCall, filled_image, same, same_bytes};
+use qcow2_testing::{FailingStorage, StorageCall, filled_image, printed, same, same_bytes};
 use std::alloc::Global;
 use std::test::Fail;
 

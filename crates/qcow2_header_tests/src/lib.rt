@@ -27,6 +27,4 @@ mod rich_header;
 mod writable_load;
 
 pub use fixtures::{Changes, LEAST, OLDER, change, image_of};
-pub use header_calls::{
-    called, l1_table_of, load, load_of, new, printed, refcount_table_of, update, write,
-};
+pub use header_calls::{called, l1_table_of, load, load_of, new, refcount_table_of, update, write};

@@ -4,11 +4,11 @@
 //! `rt try --test --fail-alloc N` refuses the Nth request for memory of each test. These tests pass for
 //! each N: what a test begins with is made a second time where memory was refused the first time.
 
-use crate::fixtures::image_of;
+use crate::header_calls::{load, write};
 use crate::header_load::names;
 use crate::header_round_trip::getters;
 use crate::header_texts::{BACKING, BASE, RICH_WRITTEN, Written, dirty, made, with_text};
-use crate::rich_header::{NAMES, RICH, extensions};
+use crate::rich_header::{NAMES, extensions, rich_image};
 use crate::writable_load::{
     Cleared, LEAST_CLEARED, NAMED_CLEARED, RICH_CLEARED, with_features, without_features,
 };
@@ -20,14 +20,14 @@ use std::test::Fail;
 
 #[test]
 fn a_header_that_memory_refused_loads_the_next_time(rt: HostRuntime) -> Result<(), Fail> {
-    let mut image = match image_of(rt.alloc(), &[RICH]) {
+    let mut image = match rich_image(rt.alloc()) {
         Ok(image) => image,
-        Err(_) => image_of(rt.alloc(), &[RICH])?,
+        Err(_) => rich_image(rt.alloc())?,
     };
-    let mut answer = Header::load(rt.alloc(), &mut image, false);
+    let mut answer = load(rt.alloc(), &mut image, false);
     if let Err(fault) = &answer {
         same(*fault, Fault::NoMemory, "refused")?;
-        answer = Header::load(rt.alloc(), &mut image, false);
+        answer = load(rt.alloc(), &mut image, false);
     }
     same(names(&answer?), NAMES, "loaded")
 }
@@ -74,12 +74,12 @@ fn a_write_of_a_header_that_memory_refused_changes_nothing_and_succeeds_the_next
             Err(_) => headers_and_images(rt.alloc(), row)?,
         };
         let (mut header, other, mut image, before, written) = begun;
-        let mut answer = header.write(&mut image);
+        let mut answer = write(&mut header, &mut image);
         if let Err(fault) = answer {
             same(fault, Fault::NoMemory, row)?;
             same(getters(&header), getters(&other), row)?;
             same_bytes(image.bytes(), before.bytes(), row)?;
-            answer = header.write(&mut image);
+            answer = write(&mut header, &mut image);
         }
         same((answer, dirty(&header)), (Ok(()), row.2), row)?;
         same_bytes(image.bytes(), written.bytes(), row)?;
@@ -107,11 +107,11 @@ fn a_writable_load_that_memory_refused_changes_nothing_and_succeeds_the_next_tim
             Err(_) => images_with_features(rt.alloc(), row)?,
         };
         let (mut image, before, cleared) = images;
-        let mut answer = Header::load(rt.alloc(), &mut image, true);
+        let mut answer = load(rt.alloc(), &mut image, true);
         if let Err(fault) = &answer {
             same(*fault, Fault::NoMemory, row)?;
             same_bytes(image.bytes(), before.bytes(), row)?;
-            answer = Header::load(rt.alloc(), &mut image, true);
+            answer = load(rt.alloc(), &mut image, true);
         }
         let header = answer?;
         same((names(&header).0, dirty(&header)), (row.2, row.3), row)?;

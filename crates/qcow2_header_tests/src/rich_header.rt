@@ -2,11 +2,11 @@
 //! that fails.
 
 use crate::fixtures::{Changes, LEAST, image_of};
-use crate::header_calls::{l1_table_of, load, printed, refcount_table_of};
+use crate::header_calls::{l1_table_of, load, refcount_table_of};
 use crate::header_load::{Names, keeps, names};
 use qcow2_base::{ClusterCount, Fault, HostOffset, MemStorage, Storage, V2Header, V3HeaderBase};
 use qcow2_metadata::{FeatureType, Header, HeaderExtension};
-use qcow2_testing::{FailingStorage, holds, same, same_bytes};
+use qcow2_testing::{FailingStorage, holds, printed, same, same_bytes};
 use std::alloc::{AllocError, Global};
 use std::collections::BTreeMap;
 use std::test::Fail;
@@ -142,9 +142,14 @@ fn is_rich(alloc: Global, header: &Header) -> Result<(), Fail> {
     holds(found.as_str().contains(parts.as_str()), "parts")
 }
 
+/// The image of these bytes.
+pub(crate) fn rich_image(alloc: Global) -> Result<MemStorage, Fault> {
+    image_of(alloc, &[RICH])
+}
+
 #[test]
 fn a_load_tells_each_field(rt: HostRuntime) -> Result<(), Fail> {
-    let mut image = image_of(rt.alloc(), &[RICH])?;
+    let mut image = rich_image(rt.alloc())?;
     let header = load(rt.alloc(), &mut image, false)?;
     is_rich(rt.alloc(), &header)?;
     let sizes = (header.size(), header.cluster_bits(), header.cluster_size());
@@ -371,7 +376,7 @@ const RAISED: Ranges = (
 
 #[test]
 fn each_byte_of_a_header_counts_as_the_format_says(rt: HostRuntime) -> Result<(), Fail> {
-    let image = image_of(rt.alloc(), &[RICH])?;
+    let image = rich_image(rt.alloc())?;
     for place in 0..image.bytes().len() {
         let byte = image.bytes()[place];
         let mut turned = Vec::from_slice(rt.alloc(), image.bytes())?;
@@ -407,8 +412,8 @@ fn answers_the_failure(
 fn a_load_whose_storage_fails_once_answers_that_and_changes_no_byte(
     rt: HostRuntime,
 ) -> Result<(), Fail> {
-    let bytes = image_of(rt.alloc(), &[RICH])?;
-    let mut image = FailingStorage::new(rt.alloc(), image_of(rt.alloc(), &[RICH])?);
+    let bytes = rich_image(rt.alloc())?;
+    let mut image = FailingStorage::new(rt.alloc(), rich_image(rt.alloc())?);
     let header = load(rt.alloc(), &mut image, false)?;
     is_rich(rt.alloc(), &header)?;
     // One call reads the fixed parts, and one the rest of the cluster.

@@ -1,14 +1,14 @@
 //! Loads of an image that is to be changed: autoclear features are cleared, by a write of the whole header.
 
 use crate::fixtures::{Changes, LEAST, OLDER, image_of};
-use crate::header_calls::{load, printed};
+use crate::header_calls::load;
 use crate::header_load::{BROKEN, names};
 use crate::header_texts::{FIELDS, RICH_PARTS, Text, dirty, with_text};
 use crate::rich_header::RICH;
 use qcow2_base::{Fault, FileStorage, MemStorage};
 use qcow2_metadata::Header;
 use qcow2_testing::{
-    FailingStorage, StorageCall, filled_image, holds, same, same_bytes, temporary_file,
+    FailingStorage, StorageCall, filled_image, holds, printed, same, same_bytes, temporary_file,
 };
 use std::alloc::Global;
 use std::fs;

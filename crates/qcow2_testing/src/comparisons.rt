@@ -3,7 +3,7 @@
 
 ghost use Rattle.std.specs.Prelude.{IsTrue, OnOk};
 
-use std::alloc::Global;
+use std::alloc::{AllocError, Global};
 use std::fmt::{Debug, Display};
 use std::test::Fail;
 
@@ -17,6 +17,11 @@ pub fn same<T: PartialEq + Debug + Drop, R: Debug + Drop>(
         return Ok(());
     }
     Err(Fail::new(format_args!("{row:?}: found {found:?}, expected {expected:?}")))
+}
+
+/// What a value prints as by `Debug`, which tells what no call does.
+pub fn printed<T: Debug>(alloc: Global, value: &T) -> Result<String, AllocError> {
+    format!(in alloc; "{value:?}")
 }
 
 /// Fails unless both are the same bytes, and tells the first that differs and not all of them.
