@@ -21,6 +21,9 @@ const KEPT: &[Kept] = &[
     (6, 64, "U64", &[0xff; 8], &[u64::MAX]),
 ];
 
+// The numbers that aren't 0 at the beginning of a cleared block.
+const NONE: &[u64] = &[];
+
 // How a block prints that keeps so many numbers in these integers: these numbers, and 0 behind them.
 fn beginning(alloc: Global, row: Kept, first: &[u64]) -> Result<String, AllocError> {
     let (_, count, integers, ..) = row;
@@ -62,7 +65,7 @@ fn a_cleared_block_keeps_one_number_for_each_counter(rt: HostRuntime) -> Result<
     for row in KEPT {
         let order = row.0;
         let found = printed_cleared(rt.alloc(), order)?;
-        let expected = beginning(rt.alloc(), *row, &[])?;
+        let expected = beginning(rt.alloc(), *row, NONE)?;
         holds(found.as_str().starts_with(expected.as_str()), order)?;
     }
     Ok(())

@@ -399,13 +399,17 @@ fn bounds_its_indices<E: TableKind>(
 }
 
 // Fails unless a table of so many entries 0 has this index just where it is below that.
-fn is_bounded<T: Table>(table: &T, index: usize, entries: usize) -> Result<(), Fail> {
+fn is_bounded<E: TableKind>(
+    table: &EntryTable<E>,
+    index: usize,
+    entries: usize,
+) -> Result<(), Fail> {
     let number = table.get_ref(index).map(|entry| entry.to_plain());
     let within = index < entries;
     same(
         (table.in_bounds(index), number, table.get(index).to_plain()),
         (within, if within { Some(0) } else { None }, 0),
-        (T::NAME, entries, index),
+        (EntryTable::<E>::NAME, entries, index),
     )
 }
 
