@@ -1,4 +1,4 @@
-use Rattle.std.proofs.Common.{◌≡◌, ℕ, ◌+◌, ◌-◌, ◌*◌, ◌^◌, Option, Some, None, option_map, Result, Ok, Err, List, length, ap, subst, pow-add, sym, refl, ◌∙◌, arith}
+use Rattle.std.proofs.Common.{◌≡◌, ℕ, ◌+◌, ◌-◌, ◌*◌, ◌^◌, IfSome, IsOkAnd, Option, Some, None, option_map, Result, Ok, Err, List, length, ap, subst, pow-add, sym, refl, ◌∙◌, arith}
 use Rattle.qcow2_base.specs.Storage.{Image, OnlyWrites, StorageState}
 use Rattle.qcow2_base.specs.Types.{IsClusterBits}
 use Rattle.qcow2_base.specs.declared.fault.Fault.{Fault}
@@ -10,7 +10,7 @@ use Rattle.qcow2_metadata.specs.Answers.{result_map, unless_refused}
 use Rattle.qcow2_metadata.specs.Edits.{RunEnd}
 use Rattle.qcow2_metadata.specs.Header.{Geometry, HeaderRecord, geometry_of}
 use Rattle.qcow2_metadata.specs.Refblock.{BlockState, block_entries, block_offset}
-use Rattle.qcow2_metadata.specs.Table.{TableState, l2_table_at, loaded_l2_table, most_l2_entries, numbers_at, offset_of, place_fault, place_of}
+use Rattle.qcow2_metadata.specs.Table.{IsTorn, TableState, l2_table_at, loaded_l2_table, most_l2_entries, numbers_at, offset_of, place_fault, place_of}
 use Rattle.qcow2_session.specs.Edits.{Balances, end_of, first_unfit, run_or_refusal}
 use Rattle.qcow2_session.specs.Images.{EditsImage, block_in, edits_end, table_in}
 use Rattle.qcow2_session.specs.Steps.{first_unfit as first_unfit_step, run_or_refusal as steps_or_refusal}
@@ -47,6 +47,11 @@ pub full-writes : (table : TableState) (cluster : HostCluster) (answer : Result 
 full-writes table cluster answer old new bits has full writes =
     rw (place_of-full table cluster has full, full_cluster table.geometry.cluster_bits (length table.numbers) bits full) at writes
 
+-- where a write of a table that fills a cluster failed at a piece
+pub full-torn : (table : TableState) (cluster : HostCluster) (old new : Image) → table.cluster ≡ Some cluster → length table.numbers ≡ 2 ^ (table.geometry.cluster_bits - 3)
+    → IfSome (place_of table) (λ place. IsTorn table.numbers (offset_of place) old new) → IsTorn table.numbers (cluster.0 * 2 ^ table.geometry.cluster_bits) old new
+full-torn table cluster old new has full torn = rw (place_of-full table cluster has full) at torn
+
 -- edits of a table that was loaded from a cluster, and that stands there afterwards
 pub image-edited : (header : HeaderRecord) (cluster : HostCluster) (edits : List Edit) (outcome : Outcome) (before after : TableState) (old new : Image)
     → before.geometry ≡ geometry_of header → after.geometry ≡ geometry_of header → before.numbers ≡ numbers_at (l2_table_at (geometry_of header) cluster) old
@@ -59,6 +64,13 @@ image-edited header cluster edits outcome before after old new g g' is end stand
       decoded = there ∙ sym (ap (result_map (λ (end : RunEnd). end.numbers)) end);
       balance = λ c. rw (g, g', is, is') at (balance c);
     }
+
+-- edits of a table whose write failed at a piece
+pub image-torn : (header : HeaderRecord) (cluster : HostCluster) (edits : List Edit) (outcome : Outcome) (after : TableState) (between old new : Image)
+    → after.geometry ≡ geometry_of header → between ≡ old → edits_end header cluster edits old ≡ Ok (end_of after outcome)
+    → IsTorn after.numbers (cluster.0 * 2 ^ after.geometry.cluster_bits) between new
+    → IsOkAnd (edits_end header cluster edits old) (λ end. IsTorn end.numbers (cluster.0 * 2 ^ header.v2.cluster_bits) old new)
+image-torn header cluster edits outcome after between old new g same is torn = rw is (rw (g, same) at torn)
 
 -- what a refusal is
 refused-by : {T : Type 0} (refusal : Option Fault) (value : T) (fault : Fault) → unless_refused refusal (Ok value) ≡ Err fault → refusal ≡ Some fault

@@ -1,13 +1,13 @@
-use Rattle.std.specs.Prelude.{◌≡◌, ◌⊎◌, ℕ, false, IfErr, IfSome, List, Option, Some, option_map, Result, Err}
-use Rattle.qcow2_base.specs.Storage.{Image}
+use Rattle.std.specs.Prelude.{◌≡◌, ◌⊎◌, ℕ, ◌*◌, ◌^◌, false, IfErr, IfSome, IsErrOf, IsOkAnd, IsTrue, List, Option, Some, option_map, Result, Err}
+use Rattle.qcow2_base.specs.Storage.{Image, StorageState}
 use Rattle.qcow2_base.specs.declared.fault.Fault.{Fault}
 use Rattle.qcow2_base.specs.declared.fault.Fault.TheVariants.{BadEdit, BadStep, NoMemory, Storage}
 use Rattle.qcow2_base.specs.declared.types.HostCluster.{HostCluster}
 use Rattle.qcow2_metadata.specs.Answers.{and_then, result_map}
 use Rattle.qcow2_metadata.specs.Edits.{RunEnd}
 use Rattle.qcow2_metadata.specs.Header.{HeaderRecord, geometry_of}
-use Rattle.qcow2_metadata.specs.Refblock.{BlockState, block_counters, block_fault, block_of, loaded_block}
-use Rattle.qcow2_metadata.specs.Table.{IsLoadFault, TableState, l2_table_at, loaded_l2_table, most_l2_entries, numbers_at, place_fault}
+use Rattle.qcow2_metadata.specs.Refblock.{BlockState, IsTornBlock, block_counters, block_fault, block_of, block_offset, loaded_block}
+use Rattle.qcow2_metadata.specs.Table.{IsLoadFault, IsTorn, TableState, l2_table_at, loaded_l2_table, most_l2_entries, numbers_at, place_fault}
 use Rattle.qcow2_session.specs.Edits.{Balances, first_unfit, run_or_refusal}
 use Rattle.qcow2_session.specs.Steps.{Counts, StepsEnd, first_unfit as first_unfit_step, run_or_refusal as steps_or_refusal}
 use Rattle.qcow2_session.specs.declared.session.edits.Edit.{Edit}
@@ -40,11 +40,15 @@ abbrev pub table_fault : HeaderRecord → HostCluster → Option Fault
 table_fault header cluster = place_fault most_l2_entries (l2_table_at (geometry_of header) cluster)
 
 -- edits of an image that ended in this answer, whatever its storage tells: the fault of the table's place comes before
--- all others, which are those of the load, and that of the first edit that can't be made
-pub record RefusesEdits {T : Type 0} (header : HeaderRecord) (cluster : HostCluster) (edits : List Edit) (image : Image) (answer : Result T Fault) : Type 0 where
+-- all others, which are those of the load, and that of the first edit that can't be made. After the storage fault the
+-- image is as before, or the table that the edits leave is written up to a piece
+pub record RefusesEdits {T : Type 0} (header : HeaderRecord) (cluster : HostCluster) (edits : List Edit) (answer : Result T Fault) (old new : StorageState) : Type 0 where
   pub place : IfSome (table_fault header cluster) (λ fault. answer ≡ Err fault)
   pub faults : IfErr answer (λ fault. IsLoadFault (table_fault header cluster) fault
-      ⊎ (option_map BadEdit (first_unfit (table_in header cluster image) edits) ≡ Some fault))
+      ⊎ (option_map BadEdit (first_unfit (table_in header cluster old.byte_at) edits) ≡ Some fault))
+  pub torn : IsTrue old.tells → IsErrOf answer Storage → (new.byte_at ≡ old.byte_at)
+      ⊎ IsOkAnd (edits_end header cluster edits old.byte_at) (λ end.
+      IsTorn end.numbers (cluster.0 * 2 ^ header.v2.cluster_bits) old.byte_at new.byte_at)
 
 -- the block of these counters, as it is loaded from a cluster of an image with this header
 abbrev pub block_from : HeaderRecord → HostCluster → List ℕ → BlockState
@@ -69,9 +73,14 @@ pub record StepsImage (header : HeaderRecord) (cluster : HostCluster) (steps : L
   pub counts : Counts steps replies (block_in header cluster old) (block_in header cluster new)
 
 -- steps of an image that ended in this answer, whatever its storage tells: the fault of the block's place comes before
--- all others, which are those of the load, and that of the first step whose index is past the block's end
-pub record RefusesSteps {T : Type 0} (header : HeaderRecord) (cluster : HostCluster) (steps : List Step) (image : Image) (answer : Result T Fault) : Type 0 where
+-- all others, which are those of the load, and that of the first step whose index is past the block's end. After the
+-- storage fault the image is as before, or the block that the steps leave is written up to a piece
+pub record RefusesSteps {T : Type 0} (header : HeaderRecord) (cluster : HostCluster) (steps : List Step) (answer : Result T Fault) (old new : StorageState) : Type 0 where
   pub place : IfSome (block_fault header.v2.cluster_bits cluster) (λ fault. answer ≡ Err fault)
   pub faults : IfErr answer (λ fault.
       (block_fault header.v2.cluster_bits cluster ≡ Some fault) ⊎ (fault ≡ NoMemory) ⊎ (fault ≡ Storage)
-      ⊎ (option_map BadStep (first_unfit_step (block_in header cluster image) steps) ≡ Some fault))
+      ⊎ (option_map BadStep (first_unfit_step (block_in header cluster old.byte_at) steps) ≡ Some fault))
+  pub torn : IsTrue old.tells → IsErrOf answer Storage → (new.byte_at ≡ old.byte_at)
+      ⊎ IsOkAnd (steps_end header cluster steps old.byte_at) (λ end.
+      IsTornBlock (block_from header cluster end.counters) (block_offset header.v2.cluster_bits cluster)
+      old.byte_at new.byte_at)

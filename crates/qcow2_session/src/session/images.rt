@@ -1,11 +1,12 @@
 //! Lists of changes of an image: the table or block is loaded, changed, and written if it is modified.
 
-ghost use Rattle.std.specs.Prelude.{◌≡◌, ◌-◌, ◌*◌, ◌^◌, [], false, IfOk, IsOkUnless, IsTrue, None, Ok, OnOk, Some, length};
+ghost use Rattle.std.specs.Prelude.{◌≡◌, ◌-◌, ◌*◌, ◌^◌, [], false, IfOk, IsErrOf, IsOkUnless, IsTrue, None, Ok, OnOk, Some, length};
 ghost use Rattle.qcow2_base.specs.Storage.{OnlyWrites};
 ghost use Rattle.qcow2_base.specs.Types.{IsClusterBits};
+ghost use Rattle.qcow2_base.specs.declared.fault.Fault.TheVariants.{Storage as StorageFailed};
 ghost use Rattle.qcow2_metadata.specs.Answers.{Answers};
-ghost use Rattle.qcow2_metadata.specs.Refblock.{block_counters, block_fault};
-ghost use Rattle.qcow2_metadata.specs.Table.{l2_table_at, loaded_l2_table, most_l2_entries, place_fault};
+ghost use Rattle.qcow2_metadata.specs.Refblock.{IsTornBlock, block_counters, block_fault, block_offset};
+ghost use Rattle.qcow2_metadata.specs.Table.{IsTorn, l2_table_at, loaded_l2_table, most_l2_entries, place_fault};
 ghost use Rattle.qcow2_session.specs.Edits.{end_of as edits_left};
 ghost use Rattle.qcow2_session.specs.Images.{EditsImage, RefusesEdits, RefusesSteps, StepsImage, block_in, edits_end, steps_end, table_in};
 ghost use Rattle.qcow2_session.specs.Steps.{are_some_done, end_of as steps_left};
@@ -39,7 +40,8 @@ pub fn edit_image<S: Storage>(
     ensures written { IsTrue (S.state image.old).tells → IfOk result (λ outcome. EditsImage header.now cluster
         edits.now outcome (S.state image.old).byte_at (S.state image.new).byte_at) }
     ensures idle { edits.now ≡ [] → (S.state image.new).byte_at ≡ (S.state image.old).byte_at }
-    ensures faults { RefusesEdits header.now cluster edits.now (S.state image.old).byte_at result }
+    ensures faults { RefusesEdits header.now cluster edits.now result
+        (S.state image.old) (S.state image.new) }
     ensures storage { OnlyWrites result (Some (cluster.0 * 2 ^ header.now.v2.cluster_bits))
         (2 ^ header.now.v2.cluster_bits) (S.state image.old) (S.state image.new) }
 {
@@ -74,7 +76,8 @@ pub fn step_image<S: Storage>(
     ensures idle { IsTrue (S.state image.old).tells →
         IfOk (steps_end header.now cluster steps.now (S.state image.old).byte_at) (λ end.
         are_some_done end.replies ≡ false → (S.state image.new).byte_at ≡ (S.state image.old).byte_at) }
-    ensures faults { RefusesSteps header.now cluster steps.now (S.state image.old).byte_at result }
+    ensures faults { RefusesSteps header.now cluster steps.now result
+        (S.state image.old) (S.state image.new) }
     ensures storage { OnlyWrites result (Some (cluster.0 * 2 ^ header.now.v2.cluster_bits))
         (2 ^ header.now.v2.cluster_bits) (S.state image.old) (S.state image.new) }
 {
@@ -100,6 +103,9 @@ fn write_table_back<S: Storage>(
     ensures stands { IsTrue (S.state image.old).tells → OnOk result
         (loaded_l2_table table.old.geometry cluster (S.state image.new).byte_at ≡ Ok table.old.numbers) }
     ensures idle { table.old.modified ≡ false → S.state image.new ≡ S.state image.old }
+    ensures torn { IsTrue (S.state image.old).tells → IsErrOf result StorageFailed →
+        IsTorn table.old.numbers (cluster.0 * 2 ^ table.old.geometry.cluster_bits)
+        (S.state image.old).byte_at (S.state image.new).byte_at }
     ensures storage { OnlyWrites result (Some (cluster.0 * 2 ^ table.old.geometry.cluster_bits))
         (2 ^ table.old.geometry.cluster_bits) (S.state image.old) (S.state image.new) }
 {
@@ -122,6 +128,9 @@ fn write_block_back<S: Storage>(
         (block_counters block.old.cluster_bits block.old.refcount_order cluster (S.state image.new).byte_at
         ≡ block.old.counters) }
     ensures idle { block.old.modified ≡ false → S.state image.new ≡ S.state image.old }
+    ensures torn { IsTrue (S.state image.old).tells → IsErrOf result StorageFailed →
+        IsTornBlock block.old (block_offset block.old.cluster_bits cluster)
+        (S.state image.old).byte_at (S.state image.new).byte_at }
     ensures storage { OnlyWrites result (Some (cluster.0 * 2 ^ block.old.cluster_bits))
         (2 ^ block.old.cluster_bits) (S.state image.old) (S.state image.new) }
 {

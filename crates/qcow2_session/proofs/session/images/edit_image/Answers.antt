@@ -1,6 +1,6 @@
-use Rattle.std.proofs.Common.{rules, inl, inr}
+use Rattle.std.proofs.Common.{Err, ap, rules, inl, inr}
 use Rattle.std.proofs.lemmas.Result.{err_from_is_err_and}
-use Rattle.qcow2_session.proofs.ImagesLemmas.{image-edited, refused-edits}
+use Rattle.qcow2_session.proofs.ImagesLemmas.{image-edited, image-torn, refused-edits}
 use Rattle.qcow2_session.proofs.session.images.edit_image.Goals as goal
 
 pub returns-in_err-outcome-clause-faults : goal.returns-in_err-outcome-clause-faults
@@ -14,6 +14,21 @@ returns-in_err-outcome-clause-faults g c =
         | inr refused ↦ inr (refused-edits c.args.header.now c.args.cluster c.in_ok-table.table c.args.edits.now image
             c.in_err-outcome.field-0.0 (search rules) (search rules) refused)
       ]);
+      torn = λ told failed. inl c.load.ensures.storage.bytes;
+    }
+
+pub returns-in_err-write_table_back-clause-faults : goal.returns-in_err-write_table_back-clause-faults
+returns-in_err-write_table_back-clause-faults g c =
+    let exit = err_from_is_err_and c.from_residual-in_err-write_table_back.result c.from_residual-in_err-write_table_back.ensures.1 in
+    let failed = c.in_err-write_table_back.ensures in
+    record {
+      place = search rules;
+      faults = rw (exit.1, exit.2) (inl (inr (inr (inr (inr failed.fault)))));
+      torn = λ told storage.
+          let old = (g.S.Storage.state c.args.image.now).byte_at in
+          let new = (g.S.Storage.state c.write_table_back.new.image).byte_at in
+          inr (image-torn c.args.header.now c.args.cluster c.args.edits.now c.in_ok-outcome.outcome c.edit_table.new.table _ old new
+          (search rules) c.load.ensures.storage.bytes (search rules) (failed.torn (rw c.load.ensures.storage.device.tells told) (ap Err failed.fault)));
     }
 
 pub returns-clause-written : goal.returns-clause-written

@@ -15,6 +15,7 @@ returns-in_err-replies-clause-faults g c =
         | inr refused ↦ inr (inr (inr (refused-steps c.args.header.now c.args.cluster c.in_ok-block.block c.args.steps.now image
             c.in_err-replies.field-0.0 (search rules) refused)))
       ]);
+      torn = λ told failed. inl c.load.ensures.storage.bytes;
     }
 
 pub write_block_back-requires-clause-stands : goal.write_block_back-requires-clause-stands
