@@ -9,10 +9,10 @@ use Rattle.qcow2_metadata.specs.Edits.{RunEnd}
 use Rattle.qcow2_metadata.specs.Header.{HeaderRecord, geometry_of}
 use Rattle.qcow2_metadata.specs.Header.Grammar.{header_of}
 use Rattle.qcow2_metadata.specs.Header.Open.{Opens, opened}
-use Rattle.qcow2_metadata.specs.Refblock.{loaded_block}
-use Rattle.qcow2_metadata.specs.Table.{loaded_l1_table, loaded_l2_table}
+use Rattle.qcow2_metadata.specs.Refblock.{IsTornBlock, block_offset, loaded_block}
+use Rattle.qcow2_metadata.specs.Table.{IsTorn, loaded_l1_table, loaded_l2_table}
 use Rattle.qcow2_session.specs.Edits.{are_some}
-use Rattle.qcow2_session.specs.Images.{edits_end, steps_end}
+use Rattle.qcow2_session.specs.Images.{block_from, edits_end, steps_end}
 use Rattle.qcow2_session.specs.Lines.{freed_lines, gained_lines, reply_lines}
 use Rattle.qcow2_session.specs.Lookups.{l1_place, named_cluster}
 use Rattle.qcow2_session.specs.Printing.{IsRefusal}
@@ -40,13 +40,15 @@ named_table header l1_index image = and_then (loaded_l1_table (l1_place header) 
     placed (Some cluster) = Ok cluster
 
 -- a change of a table or a block of an image: with which cluster it begins, what the change comes to, which numbers
--- load there and which it leaves, whether they are written, and the lines that tell of it
-pub record Change (End : Type 0) : Type 0 where
+-- load there and which it leaves, whether they are written, how an image differs where that failed at a piece, and the
+-- lines that tell of it
+pub record Change (End : Type 0) : Type 1 where
   pub place : Image → Result HostCluster Fault
   pub run : HostCluster → Image → Result End Fault
   pub loaded : HostCluster → Image → Result (List ℕ) Fault
   pub numbers : End → List ℕ
   pub writes : End → Bool
+  pub Torn : HostCluster → End → Image → Image → Type 0
   pub lines : End → List ℕ
 
 -- what a change of an image comes to, or why it is refused
@@ -62,6 +64,7 @@ edits_of_table l1_index edits header = record {
   loaded = loaded_l2_table (geometry_of header);
   numbers = λ left. left.numbers;
   writes = λ left. are_some edits;
+  Torn = λ cluster left. IsTorn left.numbers (cluster.0 * 2 ^ header.v2.cluster_bits);
   lines = λ left. freed_lines left.freed ++ gained_lines left.gained;
 }
 
@@ -73,6 +76,7 @@ steps_of_block cluster steps header = record {
   loaded = loaded_block header;
   numbers = λ left. left.counters;
   writes = λ left. are_some_done left.replies;
+  Torn = λ place left. IsTornBlock (block_from header place left.counters) (block_offset header.v2.cluster_bits place);
   lines = λ left. reply_lines left.replies;
 }
 
@@ -83,13 +87,17 @@ IsMade answer old new = IfErr answer (λ fault. (fault ≡ Storage) × (new.fail
 
 -- a change of an image with this header ended in this answer: what loads there then is what it left, and the lines
 -- tell of it; else this is why it was refused, or the output failed. No byte outside the cluster changes, and none
--- where there is no cluster, nothing is to be written, or a fault but the storage fault is answered
+-- where there is no cluster, nothing is to be written, or a fault but the storage fault is answered. Where a call of
+-- the image failed, none changed, or what the change leaves is written up to a piece
 pub record PrintsChange {T End : Type 0} (answer : Result T Fault) (header : HeaderRecord) (change : Change End) (old new : StorageState) (before after : Option (List ℕ)) : Type 0 where
   pub lines : OnOk answer (IsTrue old.tells → IsOkAnd (end_of change old.byte_at) (λ left. Appends before after (change.lines left)))
   pub written : IsMade answer old new → IsTrue old.tells → IsOkAnd (change.place old.byte_at) (λ cluster.
       change.loaded cluster new.byte_at ≡ result_map change.numbers (end_of change old.byte_at))
   pub refused : IfErr answer (IsRefusal (end_of change old.byte_at) old new)
   pub unchanged : IfErr answer (λ fault. fault ≢ Storage → new.byte_at ≡ old.byte_at)
+  pub torn : IsTrue old.tells → new.failures ≢ old.failures → (new.byte_at ≡ old.byte_at)
+      ⊎ IsOkAnd (change.place old.byte_at) (λ cluster. IsOkAnd (end_of change old.byte_at) (λ left.
+      change.Torn cluster left old.byte_at new.byte_at))
   pub idle : IsTrue old.tells → IfOk (end_of change old.byte_at) (λ left. change.writes left ≡ false → new.byte_at ≡ old.byte_at)
   pub others : IsTrue old.tells → MatchResult (change.place old.byte_at)
       (λ cluster. SameOutsideCluster header cluster old.byte_at new.byte_at) (λ fault. new.byte_at ≡ old.byte_at)

@@ -13,7 +13,7 @@ returns-in_err-replies-clause-counts g c =
       g.S.Storage.state c.load.new.image,
       record { exact = c.in_ok-header.ensures.exact; storage = c.in_ok-header.ensures.storage },
       change-refused _ _ (steps_of_block c.args.cluster c.args.steps.now c.in_ok-header.header) c.args.cluster _ _ _ _ (λ told. refl) ran.exact
-          (λ storage. search rules) ran.storage.refused ran.idle ran.storage.others,
+          (λ storage. search rules) ran.storage.refused (λ told failed. ran.faults.torn told (search rules)) ran.idle ran.storage.others,
     ))
 
 pub returns-clause-counts : goal.returns-clause-counts
@@ -23,6 +23,6 @@ returns-clause-counts g c =
       c.in_ok-header.header,
       g.S.Storage.state c.load.new.image,
       record { exact = c.in_ok-header.ensures.exact; storage = c.in_ok-header.ensures.storage },
-      change-printed c.print_replies.result _ (steps_of_block c.args.cluster c.args.steps.now c.in_ok-header.header) c.args.cluster _ _ _ _ _ (λ told. refl) ran.exact (λ told. (ran.written told).decoded) ran.idle ran.storage.others
+      change-printed c.print_replies.result _ (steps_of_block c.args.cluster c.args.steps.now c.in_ok-header.header) c.args.cluster _ _ _ _ _ (λ told. refl) ran.exact (λ told. (ran.written told).decoded) (search rules) ran.idle ran.storage.others
           c.print_replies.ensures.fault (rw c.as_slice.ensures.value at c.print_replies.ensures.lines),
     )

@@ -28,6 +28,7 @@ returns-in_err-outcome-clause-edits g c =
           (λ told. rw named.storage.bytes at (ran.exact (named.storage.device.tells ∙ told)))
           (λ storage. grind (arith, storage, named.storage.told, ran.storage.told))
           (λ other. ran.storage.refused other ∙ named.storage.bytes)
+          (λ told failed. rw named.storage.bytes at (ran.faults.torn (named.storage.device.tells ∙ told) (grind (arith, failed, named.storage.told, ran.storage.told))))
           (λ told. idle-edits c.args.edits.now _ _ _ (λ none. ran.idle none ∙ named.storage.bytes))
           (λ told. rw named.storage.bytes at (ran.storage.others (named.storage.device.tells ∙ told))),
     ))
@@ -43,6 +44,7 @@ returns-clause-edits g c =
       change-printed c.print_outcome.result _ (edits_of_table c.args.l1_index c.args.edits.now c.in_ok-header.header) c.in_ok-cluster.cluster _ _ _ _ _ named.exact
           (λ told. rw named.storage.bytes at (ran.exact (named.storage.device.tells ∙ told)))
           (λ told. rw named.storage.bytes at (ran.written (named.storage.device.tells ∙ told)).decoded)
+          (grind (arith, named.storage.told, ran.storage.told))
           (λ told. idle-edits c.args.edits.now _ _ _ (λ none. ran.idle none ∙ named.storage.bytes))
           (λ told. rw named.storage.bytes at (ran.storage.others (named.storage.device.tells ∙ told)))
           c.print_outcome.ensures.fault c.print_outcome.ensures.lines,
