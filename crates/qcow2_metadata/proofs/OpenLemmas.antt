@@ -3,7 +3,7 @@ use Rattle.std.specs.Prelude.{Err, IfErr, Ok, Result}
 use Rattle.qcow2_base.specs.Storage.{Image}
 use Rattle.qcow2_base.specs.declared.fault.Fault.{Fault}
 use Rattle.qcow2_base.specs.declared.fault.Fault.TheVariants.{HeaderTooLong, NoMemory, Storage}
-use Rattle.qcow2_metadata.specs.Answers.{Answers}
+use Rattle.qcow2_metadata.specs.Answers.{Answers, RefusesFirst}
 use Rattle.qcow2_metadata.specs.Header.{HeaderRecord}
 use Rattle.qcow2_metadata.specs.Header.Grammar.{SameFirstCluster, header_of}
 use Rattle.qcow2_metadata.specs.Header.Open.{IsOpenFault, opened, without_autoclear}
@@ -36,6 +36,14 @@ opened-too_long header fault short is = by_test (header.base.autoclear_features 
     by_test false test =
         let written : opened true (Ok header) ≡ kept (without_autoclear header) = ap by test in
         kept-too_long (without_autoclear header) fault short (cc)
+
+-- what is answered once refusals come first is what is answered
+pub answers-first : (answer : Result HeaderRecord Fault) (expected : Result HeaderRecord Fault)
+    → RefusesFirst (λ h. h) answer expected → Answers (λ h. h) answer expected
+answers-first (Ok value) expected is = is
+answers-first (Err fault) expected (inl refused) = inr (inr refused)
+answers-first (Err fault) expected (inr (inl failed, value)) = inl failed
+answers-first (Err fault) expected (inr (inr memory, value)) = inr (inl memory)
 
 -- the faults of a load for who means to write
 pub opened-faults : (answer : Result HeaderRecord Fault) (header : HeaderRecord) (writable : Bool) → writable ≡ true

@@ -49,22 +49,20 @@ pub within_width : (order number : ℕ) → number < 2 ^ width order → number 
 within_width order number below = omega (arith, below)
 
 -- a block of zeros is lawful
-pub zeros-lawful : (cb order : ℕ) (counters : Counters) → IsClusterBits cb → order ≤ 6 → IsOfOrder order counters → numbers_of counters ≡ replicate (block_entries cb order) 0 → IsLawfulBlock cb order None counters
-zeros-lawful cb order counters bits orders kind zeros = record {
+pub zeros-lawful : (cb order : ℕ) (counters : Counters) → IsClusterBits cb → order ≤ 6 → numbers_of counters ≡ replicate (block_entries cb order) 0 → IsLawfulBlock cb order None (numbers_of counters)
+zeros-lawful cb order counters bits orders zeros = record {
   bits = bits;
   orders = orders;
-  kind = kind;
   place = tt;
   count = ap length zeros ∙ length-replicate (block_entries cb order) 0;
   small = rw zeros (All-replicate (λ counter. counter < 2 ^ width order) (block_entries cb order) 0 (pow_pos (width order)));
 }
 
 -- and so is one with another counter
-pub set-lawful : (cb order : ℕ) (cluster : Option HostCluster) (old new : Counters) (index number : ℕ) → IsLawfulBlock cb order cluster old → IsOfOrder order new → numbers_of new ≡ slice_set (numbers_of old) index number → number ≤ greatest_counter order → IsLawfulBlock cb order cluster new
-set-lawful cb order cluster old new index number lawful kind set fits = record {
+pub set-lawful : (cb order : ℕ) (cluster : Option HostCluster) (old new : Counters) (index number : ℕ) → IsLawfulBlock cb order cluster (numbers_of old) → numbers_of new ≡ slice_set (numbers_of old) index number → number ≤ greatest_counter order → IsLawfulBlock cb order cluster (numbers_of new)
+set-lawful cb order cluster old new index number lawful set fits = record {
   bits = lawful.bits;
   orders = lawful.orders;
-  kind = kind;
   place = lawful.place;
   count = ap length set ∙ length-set (numbers_of old) index number ∙ lawful.count;
   small = rw set (All-set (λ counter. counter < 2 ^ width order) (numbers_of old) index number (below_width order number fits) lawful.small);
@@ -107,7 +105,7 @@ stand-same order n len counters old new offset orders small whole stand outside 
     ])
 
 -- a lawful block whose bytes stand at its cluster is written
-pub block-written : (cb order : ℕ) (cluster : HostCluster) (counters : Counters) (place : Option HostCluster) (modified : Bool) (old new : Image) → IsLawfulBlock cb order place counters → place ≡ Some cluster → IsBytes old → Stand (packed order (numbers_of counters)) (2 ^ cb) new (block_offset cb cluster) → SameOutside (block_offset cb cluster) (2 ^ cb) old new → IsWrittenBlock (record { counters = numbers_of counters; cluster = place; modified = modified; cluster_bits = cb; refcount_order = order }) old new
+pub block-written : (cb order : ℕ) (cluster : HostCluster) (counters : Counters) (place : Option HostCluster) (modified : Bool) (old new : Image) → IsLawfulBlock cb order place (numbers_of counters) → place ≡ Some cluster → IsBytes old → Stand (packed order (numbers_of counters)) (2 ^ cb) new (block_offset cb cluster) → SameOutside (block_offset cb cluster) (2 ^ cb) old new → IsWrittenBlock (record { counters = numbers_of counters; cluster = place; modified = modified; cluster_bits = cb; refcount_order = order }) old new
 block-written cb order cluster counters place modified old new lawful is small stand outside =
     let n = block_entries cb order in
     let offset = block_offset cb cluster in
@@ -170,9 +168,9 @@ narrow_within order bytes count low within =
     rw (mul-div_cancel_left count (pow_pos order)) at least
 
 -- a piece of a block lies within it
-pub piece-within : (cb order : ℕ) (place : Option HostCluster) (counters : Counters) (piece len : ℕ) → IsLawfulBlock cb order place counters → 4096 * piece < 2 ^ cb → len ≡ min (2 ^ cb - 4096 * piece) 4096 → 8 * (4096 * piece + len) ≤ width order * length (numbers_of counters)
-piece-within cb order place counters piece len lawful some is =
-    let whole : width order * length (numbers_of counters) ≡ 8 * 2 ^ cb = rw lawful.count (block_bytes cb order lawful.bits lawful.orders) in
+pub piece-within : (cb order count piece len : ℕ) → IsClusterBits cb → order ≤ 6 → count ≡ block_entries cb order → 4096 * piece < 2 ^ cb → len ≡ min (2 ^ cb - 4096 * piece) 4096 → 8 * (4096 * piece + len) ≤ width order * count
+piece-within cb order count piece len bits orders entries some is =
+    let whole : width order * count ≡ 8 * 2 ^ cb = rw entries (block_bytes cb order bits orders) in
     omega (arith, whole, some, is)
 
 -- a piece of a block lies in the largest cluster

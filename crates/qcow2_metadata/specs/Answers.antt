@@ -1,4 +1,4 @@
-use Rattle.std.specs.Prelude.{◌≡◌, ◌⊎◌, Bool, List, [], ◌∷◌, if◌then◌else◌, Option, Some, None, Result, Ok, Err, MatchResult}
+use Rattle.std.specs.Prelude.{◌≡◌, ◌⊎◌, Bool, List, [], ◌∷◌, if◌then◌else◌, Option, Some, None, Result, Ok, Err, IsOk, MatchResult}
 use Rattle.qcow2_base.specs.declared.fault.Fault.{Fault}
 use Rattle.qcow2_base.specs.declared.fault.Fault.TheVariants.{NoMemory, Storage}
 
@@ -39,3 +39,10 @@ Computes view answer expected =
 abbrev pub Answers : {T V : Type 0} → (T → V) → Result T Fault → Result V Fault → Type 0
 Answers view answer expected =
     MatchResult answer (λ value. expected ≡ Ok (view value)) (λ fault. (fault ≡ Storage) ⊎ (fault ≡ NoMemory) ⊎ (expected ≡ Err fault))
+
+-- the answer is the expected one: a refusal whatever the storage and the memory do, and a value unless the storage
+-- failed or memory ran out
+abbrev pub RefusesFirst : {T V : Type 0} → (T → V) → Result T Fault → Result V Fault → Type 0
+RefusesFirst view answer expected =
+    MatchResult answer (λ value. expected ≡ Ok (view value)) (λ fault. (expected ≡ Err fault)
+    ⊎ (((fault ≡ Storage) ⊎ (fault ≡ NoMemory)) × IsOk expected))

@@ -180,14 +180,13 @@ pub record WritesBlock {T : Type 0} (answer : Result T Fault) (old new : BlockOn
   pub storage : OnlyWrites answer (option_map (block_offset old.block.cluster_bits) old.block.cluster)
       (2 ^ old.block.cluster_bits) old.storage new.storage
 
--- what holds of every block: its cluster's offset fits 64 bits, and its counters fill a cluster
-pub record IsLawfulBlock (cb order : ℕ) (cluster : Option HostCluster) (counters : Counters) : Type 0 where
+-- what holds of every block: its counters fill a cluster, each fits its width, and its cluster's offset fits 64 bits
+pub record IsLawfulBlock (cb order : ℕ) (cluster : Option HostCluster) (counters : List ℕ) : Type 0 where
   pub bits : IsClusterBits cb
   pub orders : order ≤ 6
-  pub kind : IsOfOrder order counters
   pub place : IfSome cluster (λ (c : HostCluster). c.0 * 2 ^ cb < 2 ^ 64)
-  pub count : length (numbers_of counters) ≡ block_entries cb order
-  pub small : AreCounters order (numbers_of counters)
+  pub count : length counters ≡ block_entries cb order
+  pub small : AreCounters order counters
 
 -- a change of a counter: one more reference, or one less
 pub data CounterChange : Type 0 where

@@ -1,7 +1,7 @@
 pub mod Growth
 pub mod OneEntry
 use Rattle.std.specs.Prelude.{◌≡◌, false, true, OnOk, OnErr, IfErr, IsErrOf, ℕ, Bool, ◌⊎◌, ◌+◌, ◌-◌, ◌*◌, ◌%◌, ◌^◌, ◌<◌, ◌≤◌, max, nat_lt, if◌then◌else◌, List, [], ◌∷◌, ◌++◌, map, length, slice_index, slice_set, take, replicate, Option, Some, None, option_map, Result, Ok, Err, IfSome, IsTrue}
-use Rattle.std.specs.List.{range_with_len}
+use Rattle.std.specs.List.{All, range_with_len}
 use Rattle.std.specs.Option.{option_or}
 use Rattle.qcow2_base.specs.Storage.{CountsFailure, Image, OnlyWrites, SameDevice, SameOutside, StorageState, be, image_of}
 use Rattle.qcow2_base.specs.Types.{IsClusterBits}
@@ -194,11 +194,13 @@ pub record WritesTable (most : ℕ) (fault_of : ℕ → ℕ → Option Fault) {T
       IsTorn old.table.numbers (offset_of place) old.storage.byte_at new.storage.byte_at)
   pub storage : OnlyWrites answer (option_map offset_of (place_of old.table)) (8 * length old.table.numbers) old.storage new.storage
 
--- what holds of every table: its cluster's offset fits 64 bits, and each number is an entry of its kind
+-- what holds of every table: as many entries as its kind may have, 2 ^ 48 at most, each a number of 64 bits that is
+-- an entry of its kind, and a cluster whose offset fits 64 bits
 pub record IsLawful (fault_of : ℕ → ℕ → Option Fault) (has_lawful_count : ℕ → ℕ → Bool) (cb : ℕ) (cluster : Option HostCluster) (numbers : List ℕ) : Type 0 where
   pub bits : IsClusterBits cb
   pub place : IfSome cluster (λ (c : HostCluster). c.0 * 2 ^ cb < 2 ^ 64)
   pub valid : first_fault (fault_of cb) numbers ≡ None
+  pub fits : All (λ v. v < 2 ^ 64) numbers
   pub count : IsTrue (has_lawful_count cb (length numbers))
   pub bound : length numbers ≤ 2 ^ 48
 

@@ -7,7 +7,7 @@ ghost use Rattle.qcow2_base.specs.declared.fault.Fault.TheVariants.{NoMemory, St
 ghost use Rattle.qcow2_base.specs.declared.types.HostOffset.{HostOffset as Offset};
 ghost use Rattle.qcow2_metadata.specs.Answers.{Answers};
 ghost use Rattle.qcow2_metadata.specs.RefblockGuard.{IsGuardOf};
-ghost use Rattle.qcow2_metadata.specs.Refblock.{AreCounters, IsLoadedBlock, IsOfOrder, RefusesBlock, WritesBlock, block_entries, block_fault, block_of, block_offset, counters_at, flagged_block, greatest_counter, loaded_block, numbers_of, on_storage, stepped_block};
+ghost use Rattle.qcow2_metadata.specs.Refblock.{AreCounters, IsLawfulBlock, IsLoadedBlock, IsOfOrder, RefusesBlock, WritesBlock, block_entries, block_fault, block_of, block_offset, counters_at, flagged_block, greatest_counter, loaded_block, numbers_of, on_storage, stepped_block};
 
 mod counters;
 mod guard;
@@ -39,7 +39,7 @@ pub struct RefBlock {
 }
 
 impl Model for RefBlock {
-    ghost use Rattle.qcow2_metadata.specs.Refblock.{BlockState, IsLawfulBlock, numbers_of};
+    ghost use Rattle.qcow2_metadata.specs.Refblock.{BlockState, IsLawfulBlock, IsOfOrder, numbers_of};
 
     ghost Value = { BlockState };
 
@@ -51,7 +51,8 @@ impl Model for RefBlock {
       refcount_order = b.refcount_order;
     } };
 
-    ghost invariant = { λ b. IsLawfulBlock b.cluster_bits b.refcount_order b.cluster b.counters };
+    ghost invariant = { λ b. IsOfOrder b.refcount_order b.counters
+        × IsLawfulBlock b.cluster_bits b.refcount_order b.cluster (numbers_of b.counters) };
 }
 
 // The counters of the block that begins at an offset of the image. Reads in pieces of 4096 bytes.
@@ -189,6 +190,8 @@ impl RefBlock {
     pub fn entries(&self) -> usize
         ensures count { result ≡ length self.now.counters }
         ensures value { result ≡ block_entries self.now.cluster_bits self.now.refcount_order }
+        ensures lawful { let block = self.now in
+            IsLawfulBlock block.cluster_bits block.refcount_order block.cluster block.counters }
     {
         1 << (self.cluster_bits + 3 - self.refcount_order)
     }
@@ -275,7 +278,18 @@ impl RefBlock {
 
     /// The allocator that the block keeps its counters with.
     pub fn allocator(&self) -> Global {
-        self.counters.allocator()
+        self.kept().allocator()
+    }
+
+    // The counters as memory has them: one number each, in the smallest integers that hold an order's.
+    #[inline]
+    fn kept(&self) -> &Counters
+        ensures integers { IsOfOrder self.now.refcount_order result.now }
+        ensures numbers { numbers_of result.now ≡ self.now.counters }
+        ensures count { let block = self.now in
+            length (numbers_of result.now) ≡ block_entries block.cluster_bits block.refcount_order }
+    {
+        &self.counters
     }
 
     // The greatest number that a counter holds.
@@ -317,6 +331,6 @@ impl Packed for RefBlock {
     }
 
     fn pack(&self, piece: usize, buffer: &mut [u8]) {
-        self.counters.pack(self.refcount_order, piece, buffer);
+        self.kept().pack(self.refcount_order, piece, buffer);
     }
 }

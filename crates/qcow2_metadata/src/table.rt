@@ -7,7 +7,7 @@ ghost use Rattle.qcow2_base.specs.Storage.{OnlyReads};
 ghost use Rattle.qcow2_base.specs.Types.{IsClusterBits};
 ghost use Rattle.qcow2_base.specs.declared.types.HostOffset.{HostOffset as Offset};
 ghost use Rattle.qcow2_metadata.specs.Answers.{Answers};
-ghost use Rattle.qcow2_metadata.specs.Table.{IsLoaded, LoadRefuses, TableState, WritesTable, entries_fault, first_fault, flagged, loaded_table, new_table, offset_of, on_storage, place_fault, place_of, table_at};
+ghost use Rattle.qcow2_metadata.specs.Table.{IsLawful, IsLoaded, LoadRefuses, TableState, WritesTable, entries_fault, first_fault, flagged, loaded_table, new_table, offset_of, on_storage, place_fault, place_of, table_at};
 ghost use Rattle.qcow2_metadata.specs.Table.OneEntry.{WritesEntry, range_of};
 
 use crate::range::range_offset;
@@ -67,9 +67,9 @@ pub trait Table: Sized {
     /// The number of entries.
     fn entries(&self) -> usize
         ensures count { result ≡ length (state self.now).numbers }
-        ensures bound { result ≤ 2 ^ 48 }
-        ensures valid { let table = state self.now in
-            first_fault (Self.InternalEntry.fault_of table.geometry.cluster_bits) table.numbers ≡ None };
+        ensures lawful { let table = state self.now in
+            IsLawful Self.InternalEntry.fault_of has_lawful_count
+            table.geometry.cluster_bits table.cluster table.numbers };
 
     /// The entry at an index, if there is one.
     fn get_ref(&self, index: usize) -> Option<&Self::InternalEntry>

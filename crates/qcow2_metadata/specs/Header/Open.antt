@@ -1,11 +1,11 @@
-use Rattle.std.specs.Prelude.{◌≡◌, ◌⊎◌, ℕ, ◌==◌, ◌&&◌, Bool, true, false, not, IsTrue, List, [], length, Some, OnOk, Result, Ok, Err}
+use Rattle.std.specs.Prelude.{◌≡◌, ◌⊎◌, ℕ, ◌==◌, ◌&&◌, Bool, true, false, not, IsTrue, List, [], length, Some, IfOk, IsOkAnd, OnOk, Result, Ok, Err}
 use Rattle.qcow2_base.specs.Storage.{Holds, OnlyReads, OnlyWrites, StorageState}
 use Rattle.qcow2_base.specs.declared.fault.Fault.{Fault}
 use Rattle.qcow2_base.specs.declared.fault.Fault.TheVariants.{HeaderTooLong}
 use Rattle.qcow2_metadata.specs.Answers.{and_then}
 use Rattle.qcow2_metadata.specs.Header.{HeaderRecord}
 use Rattle.qcow2_metadata.specs.Header.Grammar.{IsHeaderFault, header_of}
-use Rattle.qcow2_metadata.specs.Header.Text.{chosen_text, kept}
+use Rattle.qcow2_metadata.specs.Header.Text.{IsSettled, IsWritten, chosen_text, kept}
 
 -- the header with no autoclear feature
 abbrev pub without_autoclear : HeaderRecord → HeaderRecord
@@ -34,9 +34,17 @@ opened_text writable (Ok header) = elim (is_rewritten writable header) [
 abbrev pub IsOpenFault : Bool → Fault → Type 0
 IsOpenFault writable fault = IsHeaderFault fault ⊎ ((writable ≡ true) × (fault ≡ HeaderTooLong))
 
+-- a load had to write: the header that it read is one that is rewritten
+abbrev pub HadToWrite : Bool → StorageState → Type 0
+HadToWrite writable old =
+    IsTrue old.tells × IsOkAnd (header_of old.byte_at) (λ header. IsTrue (is_rewritten writable header))
+
 -- a load that ended in this answer: it only reads where nobody is to write, and else it places the header without
--- autoclear features, where it had any, and changes no byte past it
-pub record Opens {T : Type 0} (writable : Bool) (answer : Result T Fault) (old new : StorageState) : Type 0 where
+-- autoclear features, where it had any, and changes no byte past it. The header that it answers then is written and
+-- settled, as after any write
+pub record Opens (writable : Bool) (answer : Result HeaderRecord Fault) (old new : StorageState) : Type 0 where
   pub reads : writable ≡ false → OnlyReads answer old new
   pub writes : OnlyWrites answer (Some 0) (length (opened_text writable (header_of old.byte_at))) old new
   pub placed : IsTrue old.tells → OnOk answer (Holds new.byte_at 0 (opened_text writable (header_of old.byte_at)))
+  pub written : HadToWrite writable old → IfOk answer (IsWritten new.byte_at)
+  pub settled : HadToWrite writable old → IfOk answer IsSettled

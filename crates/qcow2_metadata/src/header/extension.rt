@@ -1,6 +1,6 @@
 //! Header extensions: what stands behind the fields of a version 3 header.
 
-ghost use Rattle.std.specs.Prelude.{◌≡◌, ◌≢◌, ◌⊎◌, IfErr, IfOk, IsOkUnless, OnOk, option_map, string_bytes};
+ghost use Rattle.std.specs.Prelude.{◌≡◌, ◌≢◌, ◌⊎◌, ◌≤◌, IfErr, IfOk, IsOkUnless, OnOk, length, option_map, string_bytes};
 ghost use Rattle.std.specs.BTreeMap.{IsOrdered, insert_entry};
 ghost use Rattle.std.specs.Str.Lossy.{utf8_lossy};
 ghost use Rattle.qcow2_base.specs.declared.fault.Fault.TheVariants.{ExtensionText, FeatureNameCut, NoMemory};
@@ -203,6 +203,7 @@ pub(super) fn add_feature_name(
     names: &mut BTreeMap<(FeatureType, u8), String>,
     chunk: &[u8],
 ) -> Result<(), Fault>
+    requires { length chunk.now ≤ 48 }
     ensures exact { Computes (λ _. names_of names.new) result
         (with_feature_name (names_of names.old) chunk.now) }
     ensures ordered { IsOrdered key_cmp names.old → IsOrdered key_cmp names.new }
@@ -224,6 +225,7 @@ pub(super) fn add_feature_name(
 
 // The name that stands before the first zero byte, with U+FFFD for what is no text.
 fn name_of(alloc: Global, bytes: &[u8]) -> Result<String, AllocError>
+    requires { length bytes.now ≤ 46 }
     ensures { IfOk result (λ name. string_bytes name ≡ utf8_lossy (until_zero bytes.now)) }
 {
     let end = bytes.find_byte(0).unwrap_or(bytes.len());

@@ -1,10 +1,10 @@
 //! Loading a header: the first cluster of an image, looked at where the header says, in its order.
 
-ghost use Rattle.std.specs.Prelude.{All, ◌≡◌, ◌≢◌, ◌⊎◌, ◌+◌, ◌^◌, ◌≤◌, nat_le, [], ◌∷◌, false, true, IfErr, IfOk, IfSome, IsTrue, Ok, length, map, option_map, string_bytes};
+ghost use Rattle.std.specs.Prelude.{All, ◌≡◌, ◌≢◌, ◌⊎◌, ◌+◌, ◌%◌, ◌^◌, ◌≤◌, nat_le, [], ◌∷◌, false, true, IfErr, IfOk, IfSome, IsTrue, Ok, OnOk, length, map, option_map, string_bytes};
 ghost use Rattle.qcow2_base.specs.Storage.{Image, OnlyReads};
 ghost use Rattle.qcow2_base.specs.Types.{IsClusterBits};
 ghost use Rattle.qcow2_metadata.specs.Answers.{Answers, provided};
-ghost use Rattle.qcow2_metadata.specs.Header.{IsStorable};
+ghost use Rattle.qcow2_metadata.specs.Header.{IsStorable, magic};
 ghost use Rattle.qcow2_metadata.specs.Header.Chain.{end_of, extension_at, extension_header_at, extensions_at, link_at};
 ghost use Rattle.qcow2_metadata.specs.Header.Open.{IsOpenFault, Opens, opened};
 ghost use Rattle.qcow2_metadata.specs.Header.Extensions.{FeatureNameTable, extension_of, feature_names, names_of, parsed};
@@ -44,6 +44,7 @@ impl Header {
     ///
     /// Answers the fault of the first condition of the format that the image fails: 1 to 17 in the order of
     /// their numbers, where the extensions are tested one after another (12 to 14). Changes no byte then.
+    /// Takes memory for bytes of the image only once it knows that they end within the largest cluster.
     ///
     /// Who means to write to the image says so by `writable`, and must know each autoclear feature that the
     /// header names. None is known here: where there is one, the header is written without any, and a header
@@ -133,7 +134,11 @@ fn read_fixed_parts<S: Storage>(image: &mut S) -> Result<(V2Header, V3HeaderBase
 
 // Refuses an image that isn't qcow2, and cluster sizes that no image has.
 fn check_version(v2: &V2Header) -> Result<(), Fault>
-    ensures { result ≡ provided (version_conditions v2.now) (λ _. Ok tt) }
+    ensures exact { result ≡ provided (version_conditions v2.now) (λ _. Ok tt) }
+    ensures faults { IfErr result IsHeaderFault }
+    ensures magic { OnOk result (v2.now.magic ≡ magic) }
+    ensures version { OnOk result ((v2.now.version ≡ 2) ⊎ (v2.now.version ≡ 3)) }
+    ensures cluster_bits { OnOk result (IsClusterBits v2.now.cluster_bits) }
 {
     if v2.magic != MAGIC {
         return Err(Fault::NotQcow2);
@@ -151,7 +156,13 @@ fn check_version(v2: &V2Header) -> Result<(), Fault>
 // and refcounts of more than 64 bits.
 fn check_fields(v2: &V2Header, base: &V3HeaderBase) -> Result<(), Fault>
     requires { IsClusterBits v2.now.cluster_bits }
-    ensures { result ≡ provided (field_conditions v2.now base.now) (λ _. Ok tt) }
+    ensures exact { result ≡ provided (field_conditions v2.now base.now) (λ _. Ok tt) }
+    ensures faults { IfErr result IsHeaderFault }
+    ensures header_length { OnOk result
+        ((104 ≤ base.now.header_length) × (base.now.header_length ≤ 2 ^ v2.now.cluster_bits)) }
+    ensures aligned { OnOk result ((v2.now.l1_table_offset % 2 ^ v2.now.cluster_bits ≡ 0)
+        × (v2.now.refcount_table_offset % 2 ^ v2.now.cluster_bits ≡ 0)) }
+    ensures refcount_order { OnOk result (base.now.refcount_order ≤ 6) }
 {
     let cluster_size = cluster_size(v2);
     if (base.header_length as usize) < FIXED_BYTES {
@@ -181,14 +192,15 @@ fn cluster_size(v2: &V2Header) -> u64
     1 << v2.cluster_bits
 }
 
-// So many bytes of the image, from an offset on.
+// So many bytes of the image, from an offset on. Takes memory for them, so it asks that they end within the
+// largest cluster.
 fn read_bytes<S: Storage>(
     alloc: Global,
     image: &mut ReadAhead<S>,
     offset: u64,
     len: usize,
 ) -> Result<Vec<u8>, Fault>
-    requires { offset + len ≤ 2 ^ 56 }
+    requires { offset + len ≤ 2 ^ 21 }
     ensures read { IfOk result (λ bytes. IsTrue (S.state image.old.image.now).tells →
         bytes.items ≡ bytes_at (S.state image.old.image.now).byte_at offset len) }
     ensures len { IfOk result (λ bytes. length bytes.items ≡ len) }
@@ -312,7 +324,7 @@ fn read_data<S: Storage>(
     header: &HeaderExtensionHeader,
 ) -> Result<HeaderExtension, Fault>
     requires end { header.now.extension_type ≢ 0 }
-    requires within { place + header.now.length ≤ 2 ^ 56 }
+    requires within { place + header.now.length ≤ 2 ^ 21 }
     ensures exact { IsTrue (S.state image.old.image.now).tells → Answers extension_of result
         (parsed header.now.extension_type
         (bytes_at (S.state image.old.image.now).byte_at place header.now.length)) }
@@ -336,7 +348,7 @@ fn read_feature_names<S: Storage>(
     place: u64,
     len: usize,
 ) -> Result<BTreeMap<(FeatureType, u8), String>, Fault>
-    requires { place + len ≤ 2 ^ 56 }
+    requires { place + len ≤ 2 ^ 21 }
     ensures exact { IsTrue (S.state image.old.image.now).tells → Answers names_of result
         (feature_names (bytes_at (S.state image.old.image.now).byte_at place len)) }
     ensures storable { IfOk result (λ names. IsStorable (FeatureNameTable (names_of names))) }

@@ -1,9 +1,9 @@
 //! Writing a header to the start of an image.
 
-ghost use Rattle.std.specs.Prelude.{◌≡◌, IsTrue, OnErr, OnOk, Ok, Some, true, length};
+ghost use Rattle.std.specs.Prelude.{◌≡◌, IfOk, IsTrue, OnErr, OnOk, Ok, Some, true, length};
 ghost use Rattle.qcow2_base.specs.Storage.{Holds, OnlyWrites};
-ghost use Rattle.qcow2_metadata.specs.Answers.{Answers};
-ghost use Rattle.qcow2_metadata.specs.Header.Open.{opened, opened_text, without_autoclear};
+ghost use Rattle.qcow2_metadata.specs.Answers.{RefusesFirst};
+ghost use Rattle.qcow2_metadata.specs.Header.Open.{is_rewritten, opened, opened_text, without_autoclear};
 ghost use Rattle.qcow2_metadata.specs.Header.Text.{IsChosen, IsLayout, IsSettled, IsWritten, chosen, chosen_text, kept, placed};
 
 use super::Header;
@@ -20,10 +20,10 @@ impl Header {
     /// header changes only after the storage accepted the write.
     ///
     /// Refuses a backing file's name of more than 1023 bytes by fault 25, and a text that doesn't fit the
-    /// first cluster by 24; takes memory for the text. After any fault the header is as before, and after
-    /// any but the storage's no byte of the image changed.
+    /// first cluster by 24, before it takes memory for the text and calls the storage. After any fault the
+    /// header is as before, and after any but the storage's no byte of the image changed.
     pub fn write<S: Storage>(&mut self, image: &mut S) -> Result<(), Fault>
-        ensures exact { Answers (λ _. self.new) result (kept self.old) }
+        ensures exact { RefusesFirst (λ _. self.new) result (kept self.old) }
         ensures unchanged { OnErr result (self.new ≡ self.old) }
         ensures written { OnOk result (IsTrue (S.state image.old).tells →
             IsWritten (S.state image.new).byte_at self.new) }
@@ -65,9 +65,12 @@ impl Header {
 
     // The header for who means to write to the image, in which no autoclear feature is left.
     pub(super) fn prepared<S: Storage>(mut self, image: &mut S) -> Result<Header, Fault>
-        ensures exact { Answers (λ header. header) result (opened true (Ok self)) }
+        ensures exact { RefusesFirst (λ header. header) result (opened true (Ok self)) }
         ensures placed { OnOk result (IsTrue (S.state image.old).tells →
             Holds (S.state image.new).byte_at 0 (opened_text true (Ok self))) }
+        ensures written { IsTrue (is_rewritten true self) → IsTrue (S.state image.old).tells →
+            IfOk result (IsWritten (S.state image.new).byte_at) }
+        ensures settled { IsTrue (is_rewritten true self) → IfOk result IsSettled }
         ensures storage { OnlyWrites result (Some 0) (length (opened_text true (Ok self)))
             (S.state image.old) (S.state image.new) }
     {

@@ -2,6 +2,7 @@
 
 ghost use Rattle.std.specs.Prelude.{◌≡◌, ℕ, Bool, true, false, ◌*◌, ◌^◌, ◌<◌, ◌≤◌, ◌↔◌, IfOk, IsOkUnless, IsTrue, length, map, slice_get, slice_index, slice_set, Some, None};
 ghost use Rattle.std.proofs.Common.{rules};
+ghost use Rattle.std.specs.List.{All};
 ghost use Rattle.qcow2_base.specs.Types.{IsClusterBits};
 ghost use Rattle.qcow2_metadata.specs.Table.{edited, elsewhere, first_fault, new_table};
 ghost use Rattle.qcow2_metadata.specs.Table.Growth.{grown_numbers};
@@ -85,6 +86,16 @@ fn padded<E: TableKind>(alloc: Global, entries: &[E], count: usize) -> Result<Ve
     Ok(list)
 }
 
+// Each number fits 64 bits, since it is read as one. What is read is let go, so a compiler leaves the loop out.
+#[inline]
+fn numbers_fit<E: TableEntry>(entries: &[E])
+    ensures { All (λ v. v < 2 ^ 64) (map E.plain entries.now) }
+{
+    for entry in entries {
+        let _ = entry.to_plain();
+    }
+}
+
 impl<E: TableKind> EntryTable<E> {
     /// Whether the table has an entry at the index.
     #[inline]
@@ -134,6 +145,7 @@ impl<E: TableKind> EntryTable<E> {
             (map E.plain entries.items) ≡ None }
         ensures { result ≡ elsewhere self.now (map E.plain entries.items) }
     {
+        numbers_fit(&entries);
         let (cluster, modified) = (None, self.modified);
         EntryTable {
             entries,
@@ -161,6 +173,8 @@ impl<E: TableKind> EntryTable<E> {
         ensures before { E.plain result ≡ slice_index self.old.numbers index }
         ensures edit { self.new ≡ edited self.old index (E.plain entry) }
     {
+        // It fits 64 bits, since it is read as a number of these.
+        let _ = entry.to_plain();
         self.modified = true;
         std::mem::replace(&mut self.entries[index], entry)
     }
@@ -187,6 +201,7 @@ impl<E: TableKind> Table for EntryTable<E> {
         requires bound { length list.items ≤ 2 ^ 48 }
         ensures { result ≡ new_table (map E.plain list.items) header.now }
     {
+        numbers_fit(&list);
         EntryTable {
             entries: list,
             cluster: None,

@@ -4,7 +4,7 @@
 ghost use Rattle.std.specs.Prelude.{◌≡◌, ◌+◌, ◌-◌, ◌*◌, ◌^◌, ◌<◌, ◌≤◌, IfSome, max};
 ghost use Rattle.std.specs.Int.{next_multiple_of};
 ghost use Rattle.qcow2_metadata.specs.Table.{most_reftable_entries};
-ghost use Rattle.qcow2_metadata.specs.Table.Growth.{IsLeastSpare, growth_of, possible_spare};
+ghost use Rattle.qcow2_metadata.specs.Table.Growth.{IsLeastSpare, growth_of, least_spare as least, possible_spare};
 
 use super::TableKind;
 use crate::{Header, RefTableEntry};
@@ -59,13 +59,14 @@ pub(super) fn entries_with(len: usize, index: usize, spare: usize, cluster_entri
 /// where the table would have too many entries. The index is one that a table can have, and no number was
 /// tried before.
 ///
-/// Tries at most as many numbers as the answer says, and takes no memory.
+/// Tries at most as many numbers as the least is, also where the table would have too many entries, and
+/// takes no memory.
 pub fn least_spare(len: usize, index: usize, header: &Header, turns: &mut Turns) -> Option<usize>
     requires index { index < most_reftable_entries }
     requires fresh { turns.old.count ≡ 0 }
     ensures spare { result ≡ possible_spare (growth_of header.now len index) }
     ensures least { IfSome result (IsLeastSpare (growth_of header.now len index)) }
-    ensures turns { IfSome result (λ spare. turns.new.count ≤ spare) }
+    ensures turns { turns.new.count ≤ least (growth_of header.now len index) }
 {
     if len > RefTableEntry::MAX_ENTRIES {
         return None;

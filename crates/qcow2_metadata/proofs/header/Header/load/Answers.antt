@@ -3,7 +3,7 @@ use Rattle.std.proofs.lemmas.Result.{err_from_is_err_and}
 use Rattle.qcow2_metadata.specs.Header.Open.{opened}
 use Rattle.qcow2_metadata.proofs.GrammarLemmas.{header_of-is}
 use Rattle.qcow2_metadata.proofs.LoadLemmas.{follows-grammar}
-use Rattle.qcow2_metadata.proofs.OpenLemmas.{opened-faults, opened-same, opened-same_fault}
+use Rattle.qcow2_metadata.proofs.OpenLemmas.{answers-first, opened-faults, opened-same, opened-same_fault}
 use Rattle.qcow2_metadata.proofs.header.Header.load.Goals as goal
 
 pub returns-in_err-header-clause-grammar : goal.returns-in_err-header-clause-grammar
@@ -39,10 +39,11 @@ returns-clause-first_cluster g c told other same =
     let to_write : c.args.writable ≡ true = search rules in
     let is = opened-same c.args.writable image other header same (c.in_ok-header.ensures.exact told)
     ∙ ap (λ (b : Bool). opened b (Ok header)) to_write in
-    rw is c.prepared.ensures.exact
+    rw is (answers-first c.prepared.result (opened true (Ok header)) c.prepared.ensures.exact)
 
 pub returns-clause-faults : goal.returns-clause-faults
 returns-clause-faults g c =
     let to_write : c.args.writable ≡ true = search rules in
-    opened-faults c.prepared.result c.in_ok-header.header c.args.writable to_write c.in_ok-header.ensures.short
-    c.prepared.ensures.exact
+    let header = c.in_ok-header.header in
+    opened-faults c.prepared.result header c.args.writable to_write c.in_ok-header.ensures.short
+    (answers-first c.prepared.result (opened true (Ok header)) c.prepared.ensures.exact)

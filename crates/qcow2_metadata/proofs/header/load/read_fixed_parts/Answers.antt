@@ -14,7 +14,7 @@ returns-in_err-check_version-clause-exact g c told =
     let is : v2_at image ≡ v2 = read-v2_at image c.read_range.new.buffer v2 held within c.read_be-v2.ensures in
     let exit = err_from_is_err_and c.from_residual-in_err-check_version.result c.from_residual-in_err-check_version.ensures.1 in
     let fault = c.in_err-check_version.field-0.0 in
-    rw (exit.1, exit.2) (inr (inr (version-fault image v2 fault is c.in_err-check_version.ensures)))
+    rw (exit.1, exit.2) (inr (inr (version-fault image v2 fault is c.in_err-check_version.ensures.exact)))
 
 pub returns-in_err-check_fields-clause-exact : goal.returns-in_err-check_fields-clause-exact
 returns-in_err-check_fields-clause-exact g c told =
@@ -30,7 +30,7 @@ returns-in_err-check_fields-clause-exact g c told =
       | else-v2-eq3 w ↦ base_at-older image v2.version w.if-v2-eq3.false ∙ sym w.default-base.ensures ∙ sym w.base-is
     ] in
     let exit = err_from_is_err_and c.from_residual-in_err-check_fields.result c.from_residual-in_err-check_fields.ensures.1 in
-    rw (exit.1, exit.2) (inr (inr (fields-fault image v2 c.if-v2-eq3.base fault is base c.in_ok-check_version.ensures c.in_err-check_fields.ensures)))
+    rw (exit.1, exit.2) (inr (inr (fields-fault image v2 c.if-v2-eq3.base fault is base c.in_ok-check_version.ensures.exact c.in_err-check_fields.ensures.exact)))
 
 pub returns-clause-exact : goal.returns-clause-exact
 returns-clause-exact g c told =
@@ -44,4 +44,4 @@ returns-clause-exact g c told =
       | then-v2-eq3 w ↦ ap (base_at image) w.if-v2-eq3.true ∙ read-base_at image buffer _ held within w.read_be-base.ensures ∙ sym w.base-is
       | else-v2-eq3 w ↦ base_at-older image v2.version w.if-v2-eq3.false ∙ sym w.default-base.ensures ∙ sym w.base-is
     ] in
-    fixed-ok image v2 c.if-v2-eq3.base is base c.in_ok-check_version.ensures c.in_ok-check_fields.ensures
+    fixed-ok image v2 c.if-v2-eq3.base is base c.in_ok-check_version.ensures.exact c.in_ok-check_fields.ensures.exact

@@ -1,7 +1,8 @@
-use Rattle.std.proofs.Common.{◌≡◌, Ok, inl, inr, arith, length, map, option_map, string_bytes, sym, ap, ◌∙◌}
+use Rattle.std.proofs.Common.{◌≡◌, ◌^◌, ◌≤◌, Ok, inl, inr, arith, length, map, option_map, string_bytes, sym, ap, ◌∙◌}
 use Rattle.std.proofs.lemmas.Result.{err_from_is_err_and}
 use Rattle.std.proofs.lemmas.Bool.Decides.{nat_tests}
 use Rattle.std.proofs.lemmas.List.{nil_from_length}
+use Rattle.std.proofs.Math.Pow.{pow_mono}
 use Rattle.qcow2_base.specs.Storage.{Image}
 use Rattle.qcow2_base.specs.declared.on_disk_struct.v3_header_base.V3HeaderBase.{V3HeaderBase}
 use Rattle.qcow2_metadata.proofs.GrammarLemmas.{provided-ok}
@@ -10,6 +11,11 @@ use Rattle.qcow2_metadata.proofs.StorableLemmas.{name-text}
 use Rattle.qcow2_metadata.specs.Header.Extensions.{extension_of}
 use Rattle.qcow2_metadata.specs.Header.Grammar.{backing_name, header_extensions, last_conditions}
 use Rattle.qcow2_metadata.proofs.header.load.read_other_parts.Goals as goal
+
+pub read_bytes-requires : goal.read_bytes-requires
+read_bytes-requires g c =
+    let few : 2 ^ c.args.v2.cluster_bits ≤ 2 ^ 21 = pow_mono c.requires.cluster_bits.1 in
+    omega (arith, few, c.requires.header_length)
 
 pub returns-in_err-backing_filename-clause-exact :
     goal.returns-in_err-backing_filename-clause-exact

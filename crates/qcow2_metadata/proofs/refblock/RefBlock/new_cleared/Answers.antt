@@ -8,5 +8,4 @@ invariant_of-result g c =
     let order = c.refcount_order-refcount_order in
     let zeros : numbers_of c.in_ok-counters.counters ≡ replicate (block_entries c.cluster_bits.result order.result) 0 =
     rw (c.cluster_bits.ensures.value, order.ensures.value) (c.in_ok-counters.ensures.numbers ∙ ap (λ n. replicate n 0) c.rb_entries.ensures.value) in
-    zeros-lawful c.cluster_bits.result order.result c.in_ok-counters.counters c.cluster_bits.ensures.range order.ensures.range
-    (c.in_ok-counters.ensures.order) zeros
+    (c.in_ok-counters.ensures.order, zeros-lawful c.cluster_bits.result order.result c.in_ok-counters.counters c.cluster_bits.ensures.range order.ensures.range zeros)

@@ -7,11 +7,13 @@ pub set-requires-clause-fits : goal.set-requires-clause-fits
 set-requires-clause-fits c =
     let block = c.self.inside in
     let fits : c.args.counter ≤ greatest_counter block.refcount_order = rw (← c.self.view_is) at c.requires.counter in
-    counter_holds block.refcount_order block.counters c.args.counter c.self.invariant.kind fits
+    counter_holds block.refcount_order block.counters c.args.counter c.self.invariant.0 fits
 
 pub invariant_of-self : goal.invariant_of-self
 invariant_of-self c =
     let block = c.self.inside in
-    let fits : c.args.counter ≤ greatest_counter block.refcount_order = rw (← c.self.view_is) at c.requires.counter in
-    set-lawful block.cluster_bits block.refcount_order block.cluster block.counters c.set.new.self c.args.index
-    c.args.counter c.self.invariant (c.set.ensures.order _ c.self.invariant.kind) c.set.ensures.numbers fits
+    let fits : c.args.counter ≤ greatest_counter block.refcount_order = rw (← c.self.view_is) at c.requires.counter in (
+      c.set.ensures.order _ c.self.invariant.0,
+      set-lawful block.cluster_bits block.refcount_order block.cluster block.counters c.set.new.self c.args.index
+          c.args.counter c.self.invariant.1 c.set.ensures.numbers fits,
+    )

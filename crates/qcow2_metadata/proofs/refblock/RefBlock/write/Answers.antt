@@ -20,5 +20,5 @@ returns-in-Ok g c = record {
       let small = g.met.S.Storage.byte_fits c.args.image.now in
       let stand : Stand (packed block.refcount_order (numbers_of block.counters)) (2 ^ block.cluster_bits) new (block_offset block.cluster_bits cluster) = search rules in
       let outside : SameOutside (block_offset block.cluster_bits cluster) (2 ^ block.cluster_bits) old new = search rules in
-      rw (← c.self.view_is) (block-written block.cluster_bits block.refcount_order cluster block.counters block.cluster block.modified old new c.self.invariant c.in-Some.is small stand outside);
+      rw (← c.self.view_is) (block-written block.cluster_bits block.refcount_order cluster block.counters block.cluster block.modified old new c.self.invariant.1 c.in-Some.is small stand outside);
 }

@@ -1,4 +1,5 @@
-use Rattle.std.proofs.Common.{◌≡◌, map, slice_set, None, refl, ◌∙◌, rules}
+use Rattle.std.proofs.Common.{◌≡◌, ◌^◌, ◌<◌, map, slice_set, None, refl, ◌∙◌, arith, rules}
+use Rattle.std.proofs.lemmas.List.Elements.{All-set}
 use Rattle.std.proofs.lemmas.List.{length-set, map-set}
 use Rattle.qcow2_metadata.proofs.TableLemmas.{first_fault-set}
 use Rattle.qcow2_metadata.proofs.table.entry_table.EntryTable.replace_entry.Goals as goal
@@ -12,10 +13,12 @@ invariant_of-self g c =
     let edit : map plain (slice_set c.self.inside.entries.items c.args.index c.replace.new.dest) ≡ slice_set numbers c.args.index (plain c.args.entry) = map-set plain c.self.inside.entries.items c.args.index c.replace.new.dest ∙ rw c.replace.ensures.after refl in
     let len = length-set numbers c.args.index (plain c.args.entry) in
     let lawful : fault (plain c.args.entry) ≡ None = search rules in
+    let small : plain c.args.entry < 2 ^ 64 = omega arith in
     rw edit (record {
       bits = before.bits;
       place = before.place;
       valid = first_fault-set fault numbers c.args.index (plain c.args.entry) before.valid lawful;
+      fits = All-set (λ v. v < 2 ^ 64) numbers c.args.index (plain c.args.entry) small before.fits;
       count = rw len before.count;
       bound = rw len before.bound;
     })
