@@ -1,4 +1,4 @@
-use Rattle.std.proofs.Common.{◌≡◌, ◌∷◌, [], List, ℕ, Result, Ok, Err, refl}
+use Rattle.std.proofs.Common.{◌≡◌, ◌∷◌, [], Bool, false, true, List, ℕ, Result, Ok, Err, refl}
 use Rattle.std.specs.Prelude.{codes}
 use Rattle.std.specs.Fmt.{digits}
 use Rattle.qcow2_base.specs.declared.fault.Fault.{Fault}
@@ -38,6 +38,20 @@ pub past_the_l1_table : edits_print 1 (Discard 0 ∷ []) ≡ Err NotPlaced
 unfolding computing digits
 past_the_l1_table = refl
 
+-- whether edits of the table that an L1 entry of the sample image names are written
+abbrev edits_write : ℕ → List Edit → Result Bool Fault
+edits_write l1_index edits = and_then (header_of (laid sample)) (λ header.
+    let change = edits_of_table l1_index edits header in
+    result_map change.writes (end_of change (laid sample)))
+
+pub no_edit_is_not_written : edits_write 0 [] ≡ Ok false
+unfolding computing
+no_edit_is_not_written = refl
+
+pub an_edit_that_leaves_an_entry_is_written : edits_write 0 (Discard 3 ∷ []) ≡ Ok true
+unfolding computing
+an_edit_that_leaves_an_entry_is_written = refl
+
 -- the lines of steps of the block behind the sample image, or why they are refused
 abbrev steps_print : List Step → Result (List ℕ) Fault
 steps_print steps = and_then (header_of (laid sample)) (λ header.
@@ -51,3 +65,17 @@ up_twice_and_down = refl
 pub step_past_the_block : steps_print (Inc 256 ∷ []) ≡ Err (BadStep 0)
 unfolding computing digits
 step_past_the_block = refl
+
+-- whether steps of the block behind the sample image are written
+abbrev steps_write : List Step → Result Bool Fault
+steps_write steps = and_then (header_of (laid sample)) (λ header.
+    let change = steps_of_block (record { 0 = 3 }) steps header in
+    result_map change.writes (end_of change (laid sample)))
+
+pub refused_steps_are_not_written : steps_write (Dec 0 ∷ Dec 1 ∷ []) ≡ Ok false
+unfolding computing
+refused_steps_are_not_written = refl
+
+pub steps_of_which_one_is_made_are_written : steps_write (Dec 1 ∷ Inc 1 ∷ []) ≡ Ok true
+unfolding computing
+steps_of_which_one_is_made_are_written = refl

@@ -1,5 +1,5 @@
 use Rattle.std.proofs.Common.{◌≡◌, ℕ, ◌+◌, ◌-◌, ◌*◌, ◌^◌, IfSome, IsOkAnd, Option, Some, None, option_map, Result, Ok, Err, List, length, ap, subst, pow-add, sym, refl, ◌∙◌, arith}
-use Rattle.qcow2_base.specs.Storage.{Image, OnlyWrites, StorageState}
+use Rattle.qcow2_base.specs.Storage.{Image, OnlyWrites, SameOutside, StorageState}
 use Rattle.qcow2_base.specs.Types.{IsClusterBits}
 use Rattle.qcow2_base.specs.declared.fault.Fault.{Fault}
 use Rattle.qcow2_base.specs.declared.fault.Fault.TheVariants.{BadEdit, BadStep}
@@ -7,11 +7,15 @@ use Rattle.qcow2_base.specs.declared.types.HostCluster.{HostCluster}
 use Rattle.qcow2_metadata.proofs.PackingLemmas.{counters_at-length}
 use Rattle.qcow2_metadata.proofs.TableLemmas.{length-table_numbers}
 use Rattle.qcow2_metadata.specs.Answers.{result_map, unless_refused}
-use Rattle.qcow2_metadata.specs.Edits.{RunEnd}
+use Rattle.qcow2_metadata.specs.Edits.{RunEnd, handed_back, references, times_gained}
 use Rattle.qcow2_metadata.specs.Header.{Geometry, HeaderRecord, geometry_of}
+use Rattle.qcow2_metadata.specs.Header.Grammar.{header_of}
+use Rattle.qcow2_metadata.proofs.GrammarLemmas.{header_of-is}
+use Rattle.qcow2_session.proofs.WholeImageLemmas.{balances-image, changes-own-lookups, avoids-others, stays-sound}
+use Rattle.qcow2_session.specs.WholeImage.{ChangesL2Table, AvoidsHeaderAndL1Table, l2_bytes}
 use Rattle.qcow2_metadata.specs.Refblock.{BlockState, block_entries, block_offset}
 use Rattle.qcow2_metadata.specs.Table.{IsTorn, TableState, l2_table_at, loaded_l2_table, most_l2_entries, numbers_at, offset_of, place_fault, place_of}
-use Rattle.qcow2_session.specs.Edits.{Balances, end_of, first_unfit, run_or_refusal}
+use Rattle.qcow2_session.specs.Edits.{Balances, end_of, first_unfit, numbers_of, run_or_refusal}
 use Rattle.qcow2_session.specs.Images.{EditsImage, block_in, edits_end, table_in}
 use Rattle.qcow2_session.specs.Steps.{first_unfit as first_unfit_step, run_or_refusal as steps_or_refusal}
 use Rattle.qcow2_session.specs.declared.session.edits.Edit.{Edit}
@@ -52,17 +56,38 @@ pub full-torn : (table : TableState) (cluster : HostCluster) (old new : Image) �
     → IfSome (place_of table) (λ place. IsTorn table.numbers (offset_of place) old new) → IsTorn table.numbers (cluster.0 * 2 ^ table.geometry.cluster_bits) old new
 full-torn table cluster old new has full torn = rw (place_of-full table cluster has full) at torn
 
+-- a change of the bytes of an L2 table, by the image's own header
+changed-by : (header own : HeaderRecord) (cluster : HostCluster) (old new : Image) → header_of old ≡ Ok own
+    → geometry_of own ≡ geometry_of header → AvoidsHeaderAndL1Table own (l2_bytes (geometry_of own) cluster)
+    → SameOutside (cluster.0 * 2 ^ header.v2.cluster_bits) (2 ^ header.v2.cluster_bits) old new → ChangesL2Table own cluster old new
+changed-by header own cluster old new begins same avoids outside = record {
+  same = subst (λ (cb : ℕ). SameOutside (cluster.0 * 2 ^ cb) (2 ^ cb) old new) (sym (ap (λ (g : Geometry). g.cluster_bits) same)) outside;
+  bits = (header_of-is old own begins).cluster_bits.0;
+  avoids = avoids;
+}
+
 -- edits of a table that was loaded from a cluster, and that stands there afterwards
 pub image-edited : (header : HeaderRecord) (cluster : HostCluster) (edits : List Edit) (outcome : Outcome) (before after : TableState) (old new : Image)
     → before.geometry ≡ geometry_of header → after.geometry ≡ geometry_of header → before.numbers ≡ numbers_at (l2_table_at (geometry_of header) cluster) old
     → edits_end header cluster edits old ≡ Ok (end_of after outcome) → loaded_l2_table after.geometry cluster new ≡ Ok after.numbers
+    → SameOutside (cluster.0 * 2 ^ header.v2.cluster_bits) (2 ^ header.v2.cluster_bits) old new
     → Balances outcome before after → EditsImage header cluster edits outcome old new
-image-edited header cluster edits outcome before after old new g g' is end stands balance =
+image-edited header cluster edits outcome before after old new g g' is end stands outside balance =
     let there : loaded_l2_table (geometry_of header) cluster new ≡ Ok after.numbers = subst (λ g. loaded_l2_table g cluster new ≡ Ok after.numbers) g' stands in
     let is' = standing-numbers (geometry_of header) cluster new after.numbers there in
+    let balances : Balances outcome (table_in header cluster old) (table_in header cluster new) = λ c. rw (g, g', is, is') at (balance c) in
     record {
       decoded = there ∙ sym (ap (result_map (λ (end : RunEnd). end.numbers)) end);
-      balance = λ c. rw (g, g', is, is') at (balance c);
+      balance = balances;
+      lookups = λ own begins same avoids. changes-own-lookups own cluster old new begins (changed-by header own cluster old new begins same avoids outside);
+      whole = λ own l1 sound same found.
+          let avoids = avoids-others own l1 cluster found.0 sound.apart found.1 in
+          let change = changed-by header own cluster old new sound.tables.begins same avoids outside in (
+            stays-sound own l1 cluster after.numbers old new sound change (subst (λ g. loaded_l2_table g cluster new ≡ Ok after.numbers) (sym same) there),
+            balances-image own l1 cluster found.0 outcome.freed.items (numbers_of outcome.gained.items) old new sound.apart found.1 change
+                (λ c. subst (λ (g : Geometry). references g (numbers_at (l2_table_at g cluster) new) c + handed_back outcome.freed.items c
+                ≡ references g (numbers_at (l2_table_at g cluster) old) c + times_gained (numbers_of outcome.gained.items) c) (sym same) (balances c)),
+          );
     }
 
 -- edits of a table whose write failed at a piece

@@ -6,6 +6,7 @@ mod LookupsExamples
 mod PrintingExamples
 mod SampleImage
 mod StepsExamples
+mod WholeImageExamples
 pub mod ChangingLemmas
 pub mod CommandsLemmas
 pub mod EditsLemmas
@@ -15,4 +16,6 @@ pub mod LinesLemmas
 pub mod ListingLemmas
 pub mod LookupsLemmas
 pub mod PrintingLemmas
+pub mod ReportLemmas
 pub mod StepsLemmas
+pub mod WholeImageLemmas

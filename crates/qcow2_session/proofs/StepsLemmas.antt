@@ -1,4 +1,4 @@
-use Rattle.std.proofs.Common.{◌≡◌, ℕ, suc, Bool, true, false, ◌&&◌, ◌||◌, ◌==◌, nat_lt, ◌+◌, ◌-◌, ◌<◌, ◌≤◌, if◌then◌else◌, Option, Some, None, List, [], ◌∷◌, ◌++◌, length, drop, get_or, get_or-set_same, get_or-set_other, slice_index, slice_set, append_assoc, append-nil, ap, subst, sym, refl, ◌∙◌, inl, inr, arith}
+use Rattle.std.proofs.Common.{◌≡◌, ℕ, suc, Bool, true, false, ◌&&◌, ◌||◌, ◌==◌, nat_lt, ◌+◌, ◌-◌, ◌<◌, ◌≤◌, if◌then◌else◌, Option, Some, None, List, [], ◌∷◌, ◌++◌, length, drop, get_or, get_or-set_same, get_or-set_other, slice_get, slice_index, slice_set, append_assoc, append-nil, ap, subst, sym, refl, ◌∙◌, inl, inr, arith}
 use Rattle.std.proofs.Math.Bool.{or_assoc}
 use Rattle.std.proofs.Math.Seq.{drop-cons}
 use Rattle.std.proofs.lemmas.Bool.{cases_eq}
@@ -6,9 +6,9 @@ use Rattle.std.proofs.lemmas.Bool.Decides.{nat_tests}
 use Rattle.std.proofs.lemmas.List.{drop_all, length-set, set-get_or, set-set}
 use Rattle.std.proofs.lemmas.Option.{none-some}
 use Rattle.std.specs.List.{list_all}
-use Rattle.qcow2_metadata.specs.Refblock.{BlockState, Increment, after_change, greatest_counter, stepped}
+use Rattle.qcow2_metadata.specs.Refblock.{BlockState, after_change, greatest_counter, stepped}
 use Rattle.qcow2_session.proofs.FirstLemmas.{all_pass, each_passes}
-use Rattle.qcow2_session.specs.Steps.{Counts, MakesStep, StepsEnd, are_some_done, change_of, decrements, end_of, first_unfit, increments, index_of, is_done, left_by, reply_of, run_of_steps, times_made}
+use Rattle.qcow2_session.specs.Steps.{Counts, MakesStep, StepsEnd, Undoes, are_some_done, change_of, decrements, end_of, first_unfit, increments, index_of, is_done, left_by, reply_of, run_of_steps, times_made}
 use Rattle.qcow2_session.specs.declared.session.steps.Step.{Step}
 use Rattle.qcow2_session.specs.declared.session.steps.Step.TheVariants.{Dec, Inc}
 use Rattle.qcow2_session.specs.declared.session.steps.StepReply.{StepReply}
@@ -135,12 +135,6 @@ run_counts order (step ∷ steps) counters index all =
     let rest = run_counts order steps (after_change counters (index_of step) after) index (rw len (rest_in_bounds step steps (length counters) all)) in
     omega (arith, rest, counted order step counters index below)
 
--- a block that a run led to
-pub run-counts : (steps : List Step) (replies : List StepReply) (old new : BlockState) → first_unfit old steps ≡ None → end_of new replies ≡ run_of_steps old.refcount_order steps old.counters → Counts steps replies old new
-run-counts steps replies old new none run = λ index.
-    subst (λ (end : StepsEnd). slice_index end.counters index + times_made (decrements index) steps end.replies ≡ slice_index old.counters index + times_made (increments index) steps end.replies)
-    (sym run) (run_counts old.refcount_order steps old.counters index (all_in_bounds old steps none))
-
 undone_at : (counters : List ℕ) (i after : ℕ) (full : Bool) → i < length counters → (if full then None else Some (slice_index counters i + 1)) ≡ Some after →
     let before = slice_index counters i in
     let first : Option ℕ = if full then None else Some (before + 1) in
@@ -157,9 +151,46 @@ undone_at counters i after false below made =
     let same : slice_set (slice_set counters i (before + 1)) i before ≡ counters = set-set counters i (before + 1) before ∙ set-get_or counters i 0 in
     rw (at, some, back, same) refl
 
--- an increment that is made is undone by a decrement right after it
-pub undone : (order i after : ℕ) (counters : List ℕ) → i < length counters → stepped order Increment (slice_index counters i) ≡ Some after → run_of_steps order (Inc i ∷ Dec i ∷ []) counters ≡ record { counters = counters; replies = Done (slice_index counters i) ∷ Done (slice_index counters i + 1) ∷ [] }
-undone order i after counters below made = undone_at counters i after (slice_index counters i == greatest_counter order) below made
+abbrev two_done : List ℕ → ℕ → StepsEnd
+two_done counters before = record { counters = counters; replies = Done before ∷ Done (before + 1) ∷ [] }
+
+-- an increment that was made, as the first reply says, is undone by a decrement right after it
+undone_first : (counters : List ℕ) (i before : ℕ) (full : Bool) → i < length counters →
+    let first : Option ℕ = if full then None else Some (slice_index counters i + 1) in
+    let between = after_change counters i first in
+    let second : Option ℕ = if slice_index between i == 0 then None else Some (slice_index between i - 1) in
+    let end : StepsEnd = record { counters = after_change between i second; replies = reply_of first (slice_index counters i) ∷ reply_of second (slice_index between i) ∷ [] } in
+    slice_get end.replies 0 ≡ Some (Done before) → end ≡ record { counters = counters; replies = Done before ∷ Done (before + 1) ∷ [] }
+undone_first counters i before true below made = cc
+undone_first counters i before false below made =
+    let is : slice_index counters i ≡ before = cc in
+    undone_at counters i (slice_index counters i + 1) false below refl ∙ ap (two_done counters) is
+
+run-undoes : (steps : List Step) (replies : List StepReply) (old new : BlockState) → list_all (in_bounds (length old.counters)) steps ≡ true → new.refcount_order ≡ old.refcount_order → end_of new replies ≡ run_of_steps old.refcount_order steps old.counters → Undoes steps replies old new
+run-undoes steps replies old new all order run = λ index before is made.
+    let all_two : list_all (in_bounds (length old.counters)) (Inc index ∷ Dec index ∷ []) ≡ true = rw is at all in
+    let below : index < length old.counters = each_in_bounds (length old.counters) (Inc index ∷ Dec index ∷ []) 0 (Inc index) all_two (omega arith) in
+    let run_two : end_of new replies ≡ run_of_steps old.refcount_order (Inc index ∷ Dec index ∷ []) old.counters = rw is at run in
+    let first = subst (λ (end : StepsEnd). slice_get end.replies 0 ≡ Some (Done before)) run_two made in
+    let end = run_two ∙ undone_first old.counters index before (slice_index old.counters index == greatest_counter old.refcount_order) below first in
+    let counters : new.counters ≡ old.counters = ap (λ (end : StepsEnd). end.counters) end in
+    (ap (λ (end : StepsEnd). end.replies) end, rw (order, counters) refl)
+
+-- a block that a run led to
+pub run-counts : (steps : List Step) (replies : List StepReply) (old new : BlockState) → first_unfit old steps ≡ None → new.refcount_order ≡ old.refcount_order → end_of new replies ≡ run_of_steps old.refcount_order steps old.counters → Counts steps replies old new
+run-counts steps replies old new none order run = record {
+  balance = λ index.
+      subst (λ (end : StepsEnd). slice_index end.counters index + times_made (decrements index) steps end.replies ≡ slice_index old.counters index + times_made (increments index) steps end.replies)
+      (sym run) (run_counts old.refcount_order steps old.counters index (all_in_bounds old steps none));
+  undone = run-undoes steps replies old new (all_in_bounds old steps none) order run;
+}
+
+-- blocks of the same counters
+pub counts-same : (steps : List Step) (replies : List StepReply) (old new before after : BlockState) → Counts steps replies old new → before.counters ≡ old.counters → after.counters ≡ new.counters → before.refcount_order ≡ old.refcount_order → after.refcount_order ≡ new.refcount_order → Counts steps replies before after
+counts-same steps replies old new before after counts same_old same_new order_old order_new = record {
+  balance = λ index. rw (same_old, same_new) (counts.balance index);
+  undone = λ index number is made. rw (same_old, same_new, order_old, order_new) (counts.undone index number is made);
+}
 
 -- where no step is made, the counters stay
 pub run-idle : (order : ℕ) (steps : List Step) (counters : List ℕ) → are_some_done (run_of_steps order steps counters).replies ≡ false → (run_of_steps order steps counters).counters ≡ counters

@@ -88,7 +88,7 @@ IsMade answer old new = IfErr answer (λ fault. (fault ≡ Storage) × (new.fail
 -- a change of an image with this header ended in this answer: what loads there then is what it left, and the lines
 -- tell of it; else this is why it was refused, or the output failed. No byte outside the cluster changes, and none
 -- where there is no cluster, nothing is to be written, or a fault but the storage fault is answered. Where a call of
--- the image failed, none changed, or what the change leaves is written up to a piece
+-- the image failed, no byte changed, or what the change leaves is written up to a piece
 pub record PrintsChange {T End : Type 0} (answer : Result T Fault) (header : HeaderRecord) (change : Change End) (old new : StorageState) (before after : Option (List ℕ)) : Type 0 where
   pub lines : OnOk answer (IsTrue old.tells → IsOkAnd (end_of change old.byte_at) (λ left. Appends before after (change.lines left)))
   pub written : IsMade answer old new → IsTrue old.tells → IsOkAnd (change.place old.byte_at) (λ cluster.

@@ -1,4 +1,4 @@
-use Rattle.std.specs.Prelude.{◌≡◌, ◌⊎◌, ℕ, ◌*◌, ◌^◌, false, IfErr, IfSome, IsErrOf, IsOkAnd, IsTrue, List, Option, Some, option_map, Result, Err}
+use Rattle.std.specs.Prelude.{◌≡◌, ◌⊎◌, ℕ, ◌*◌, ◌^◌, false, IfErr, IfSome, IsErrOf, IsOkAnd, IsTrue, List, Option, Some, option_map, Result, Ok, Err}
 use Rattle.qcow2_base.specs.Storage.{Image, StorageState}
 use Rattle.qcow2_base.specs.declared.fault.Fault.{Fault}
 use Rattle.qcow2_base.specs.declared.fault.Fault.TheVariants.{BadEdit, BadStep, NoMemory, Storage}
@@ -8,7 +8,9 @@ use Rattle.qcow2_metadata.specs.Edits.{RunEnd}
 use Rattle.qcow2_metadata.specs.Header.{HeaderRecord, geometry_of}
 use Rattle.qcow2_metadata.specs.Refblock.{BlockState, IsTornBlock, block_counters, block_fault, block_of, block_offset, loaded_block}
 use Rattle.qcow2_metadata.specs.Table.{IsLoadFault, IsTorn, TableState, l2_table_at, loaded_l2_table, most_l2_entries, numbers_at, place_fault}
-use Rattle.qcow2_session.specs.Edits.{Balances, first_unfit, run_or_refusal}
+use Rattle.qcow2_metadata.specs.Header.Grammar.{header_of}
+use Rattle.qcow2_session.specs.WholeImage.{BalancesImage, ChangesOwnLookups, AvoidsHeaderAndL1Table, IsL2Table, IsSoundImage, l2_bytes}
+use Rattle.qcow2_session.specs.Edits.{Balances, first_unfit, numbers_of, run_or_refusal}
 use Rattle.qcow2_session.specs.Steps.{Counts, StepsEnd, first_unfit as first_unfit_step, run_or_refusal as steps_or_refusal}
 use Rattle.qcow2_session.specs.declared.session.edits.Edit.{Edit}
 use Rattle.qcow2_session.specs.declared.session.edits.Outcome.{Outcome}
@@ -29,11 +31,18 @@ abbrev pub edits_end : HeaderRecord → HostCluster → List Edit → Image → 
 edits_end header cluster edits image = and_then (loaded_l2_table (geometry_of header) cluster image)
     (λ numbers. run_or_refusal (table_from header cluster numbers) edits)
 
--- edits of an image with this outcome: what loads from it then is the table that they left, and no reference is lost
+-- edits of an image with this outcome: what loads from it then is the table that they left, and no reference is lost.
+-- Where the image's own header has the same geometry: a table that neither it nor the L1 table lies in changes the
+-- lookups of its own offsets alone, and where no two tables share a byte, no reference of the whole image is lost
 pub record EditsImage (header : HeaderRecord) (cluster : HostCluster) (edits : List Edit) (outcome : Outcome) (old new : Image) : Type 0 where
   pub decoded : loaded_l2_table (geometry_of header) cluster new
       ≡ result_map (λ (end : RunEnd). end.numbers) (edits_end header cluster edits old)
   pub balance : Balances outcome (table_in header cluster old) (table_in header cluster new)
+  pub lookups : (own : HeaderRecord) → header_of old ≡ Ok own → geometry_of own ≡ geometry_of header →
+      AvoidsHeaderAndL1Table own (l2_bytes (geometry_of own) cluster) → ChangesOwnLookups own cluster old new
+  pub whole : (own : HeaderRecord) (l1 : List ℕ) → IsSoundImage old own l1 → geometry_of own ≡ geometry_of header →
+      IsL2Table own l1 cluster → IsSoundImage new own l1
+      × BalancesImage (geometry_of own) l1 outcome.freed.items (numbers_of outcome.gained.items) old new
 
 -- why no L2 table can begin with a cluster
 abbrev pub table_fault : HeaderRecord → HostCluster → Option Fault

@@ -7,5 +7,8 @@ pub mod Lines
 pub mod Listing
 pub mod Lookups
 pub mod Printing
+pub mod Report
+pub mod Running
 pub mod Steps
+pub mod WholeImage
 pub mod Words

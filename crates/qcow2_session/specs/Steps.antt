@@ -1,9 +1,9 @@
-use Rattle.std.specs.Prelude.{◌≡◌, ℕ, Bool, true, false, not, ◌+◌, ◌||◌, ◌&&◌, ◌==◌, nat_lt, slice_index, List, [], ◌∷◌, length, Option, Some, None, option_map, Result, Ok, if◌then◌else◌}
+use Rattle.std.specs.Prelude.{◌≡◌, ℕ, Bool, true, false, not, ◌+◌, ◌||◌, ◌&&◌, ◌==◌, nat_lt, slice_get, slice_index, List, [], ◌∷◌, length, Option, Some, None, option_map, Result, Ok, if◌then◌else◌}
 use Rattle.std.specs.List.{position}
 use Rattle.qcow2_base.specs.declared.fault.Fault.{Fault}
 use Rattle.qcow2_base.specs.declared.fault.Fault.TheVariants.{BadStep}
 use Rattle.qcow2_metadata.specs.Answers.{unless_refused}
-use Rattle.qcow2_metadata.specs.Refblock.{BlockState, CounterChange, Decrement, Increment, after_change, stepped}
+use Rattle.qcow2_metadata.specs.Refblock.{BlockState, CounterChange, Decrement, Increment, after_change, packed, stepped}
 use Rattle.qcow2_session.specs.declared.session.steps.Step.{Step}
 use Rattle.qcow2_session.specs.declared.session.steps.Step.TheVariants.{Dec, Inc}
 use Rattle.qcow2_session.specs.declared.session.steps.StepReply.{StepReply}
@@ -86,8 +86,18 @@ abbrev pub decrements : ℕ → Step → Bool
 decrements at (Inc index) = false
 decrements at (Dec index) = index == at
 
--- each counter is as before, plus the increments that were made, minus the decrements that were
-abbrev pub Counts : List Step → List StepReply → BlockState → BlockState → Type 0
-Counts steps replies old new = (index : ℕ) →
-    slice_index new.counters index + times_made (decrements index) steps replies
-    ≡ slice_index old.counters index + times_made (increments index) steps replies
+-- an increment that was made, and after it just a decrement of the same counter: that is made too, and the bytes that
+-- the block takes in an image are as before
+abbrev pub Undoes : List Step → List StepReply → BlockState → BlockState → Type 0
+Undoes steps replies old new = (index before : ℕ) →
+    steps ≡ Inc index ∷ Dec index ∷ [] → slice_get replies 0 ≡ Some (Done before) →
+    (replies ≡ Done before ∷ Done (before + 1) ∷ [])
+    × (packed new.refcount_order new.counters ≡ packed old.refcount_order old.counters)
+
+-- what steps of a block, of which these replies came, do to its counters: each is as before, plus the increments that
+-- were made, minus the decrements that were, and a decrement undoes an increment
+pub record Counts (steps : List Step) (replies : List StepReply) (old new : BlockState) : Type 0 where
+  pub balance : (index : ℕ) →
+      slice_index new.counters index + times_made (decrements index) steps replies
+      ≡ slice_index old.counters index + times_made (increments index) steps replies
+  pub undone : Undoes steps replies old new

@@ -1,11 +1,11 @@
 //! The commands of the program `qmeta`: reading a command line, running it over a storage, and what
 //! it answers.
 
-ghost use Rattle.std.specs.Prelude.{◌≡◌, ◌≢◌, ◌≤◌, ◌↔◌, None, Err, map, string_bytes, IsErr, IsOk, IsTrue, IfErr, IfSome, OnErr, OnOk, MatchResult};
-ghost use Rattle.std.specs.Io.KnownBytes.{Appends, Keeps};
+ghost use Rattle.std.specs.Prelude.{◌≡◌, ◌≢◌, ◌≤◌, ◌↔◌, None, Err, map, string_bytes, IsErr, IsOk, IsTrue, IfErr, IfSome, OnOk, MatchResult};
+ghost use Rattle.std.specs.Io.KnownBytes.{Keeps};
 ghost use Rattle.qcow2_base.specs.declared.fault.Fault.TheVariants.{Storage as StorageFailed};
 ghost use Rattle.qcow2_session.specs.Commands.{command_of, is_silent_on_faults, place_fault_of};
-ghost use Rattle.qcow2_session.specs.Lines.{fault_line, usage_line};
+ghost use Rattle.qcow2_session.specs.Report.{Reports};
 ghost use Rattle.qcow2_session.specs.Words.{line_of};
 
 use qcow2_base::{Fault, FileStorage};
@@ -19,6 +19,8 @@ mod edit;
 mod info;
 mod l2;
 mod list;
+mod report;
+mod running;
 mod words;
 
 pub use at::print_mapping_at;
@@ -27,7 +29,10 @@ pub use edit::edit_entries;
 pub use info::print_info;
 pub use l2::list_l2_table;
 pub use list::list_tables;
-use words::{Command, edits_of, steps_of};
+use report::refuse_words;
+pub use report::report_fault;
+use running::run_command;
+use words::Command;
 
 /// Runs a command line, the words after the program's name, and answers the program's status: 0 for
 /// success, 1 for a fault and 2 for words that are no command.
@@ -44,7 +49,7 @@ pub fn run_words<R: Files + AllocGlobal, O: Write, E: Write>(
     ensures status { result ≤ 2 }
     ensures wrong_words { (result ≡ 2) ↔ (command_of (map string_bytes words.now) ≡ None) }
     ensures no_lines { result ≡ 2 → out.new ≡ out.old }
-    ensures no_report { result ≡ 0 → err.new ≡ err.old }
+    ensures reports { Reports result E.contents err.old err.new }
 
     // A table at a place that isn't lawful is a fault whatever the image, and no line is printed.
     ensures place { IfSome (command_of (map string_bytes words.now)) (λ line.
@@ -57,45 +62,15 @@ pub fn run_words<R: Files + AllocGlobal, O: Write, E: Write>(
     }
 }
 
-/// Reports a fault on `err`, and answers the status for it. A failed write changes nothing of that.
-pub fn report_fault<E: Write>(fault: Fault, err: &mut E) -> u8
-    ensures { result ≡ 1 }
-{
-    let _ = write_fault(fault, err);
-    let _ = err.flush();
-    1
-}
-
 // The status of a run, after its fault is reported.
 fn status_of<E: Write>(ran: Result<(), Fault>, err: &mut E) -> u8
-    ensures success { OnOk ran ((result ≡ 0) × (err.new ≡ err.old)) }
-    ensures fault { OnErr ran (result ≡ 1) }
+    ensures status { MatchResult ran (λ _. result ≡ 0) (λ _. result ≡ 1) }
+    ensures reports { Reports result E.contents err.old err.new }
 {
     match ran {
         Ok(()) => 0,
         Err(fault) => report_fault(fault, err),
     }
-}
-
-// The status of words that are no command, after the usage is told.
-fn refuse_words<E: Write>(err: &mut E) -> u8
-    ensures { result ≡ 2 }
-{
-    let _ = write_usage(err);
-    let _ = err.flush();
-    2
-}
-
-fn write_fault<E: Write>(fault: Fault, err: &mut E) -> io::Result<()>
-    ensures { OnOk result (Appends (E.contents err.old) (E.contents err.new) (fault_line fault)) }
-{
-    writeln!(err, "qmeta: fault {}", fault.number())
-}
-
-fn write_usage<E: Write>(err: &mut E) -> io::Result<()>
-    ensures { OnOk result (Appends (E.contents err.old) (E.contents err.new) usage_line) }
-{
-    writeln!(err, "usage: qmeta COMMAND IMAGE ARGUMENTS")
 }
 
 // Runs the command over its image, and flushes what it printed, also before a fault.
@@ -134,25 +109,5 @@ fn run_over<R: Files + AllocGlobal, O: Write>(
         fault ≢ StorageFailed → out.new ≡ out.old) }
 {
     let mut image = FileStorage::open(rt, command.image(), command.is_writer())?;
-    let alloc = rt.alloc();
-    match *command {
-        Command::L2(words) => {
-            list_l2_table(alloc, &mut image, words.cluster_bits, words.cluster, out)
-        }
-        Command::Info { .. } => print_info(alloc, &mut image, out),
-        Command::List { .. } => list_tables(alloc, &mut image, out),
-        Command::At { guest_offset, .. } => print_mapping_at(alloc, &mut image, guest_offset, out),
-        Command::Edit {
-            l1_index,
-            edits,
-            ..
-        } => {
-            let edits = edits_of(alloc, edits)?;
-            edit_entries(alloc, &mut image, l1_index, edits.as_slice(), out)
-        }
-        Command::Count { cluster, steps, .. } => {
-            let steps = steps_of(alloc, steps)?;
-            count_references(alloc, &mut image, cluster, steps.as_slice(), out)
-        }
-    }
+    run_command(rt.alloc(), &mut image, command, out)
 }

@@ -227,7 +227,7 @@ fn make_edits(table: &mut L2Table, edits: &[Edit], outcome: &mut Outcome)
 ///
 /// Refuses edits that don't all fit, by the position of the first that `edits_fit` names. Takes memory for
 /// the outcome before the first edit. After any refusal the table is as before. Its cluster stays.
-pub fn edit_table(table: &mut L2Table, edits: &[Edit]) -> Result<Outcome, Fault>
+pub fn edit_table(alloc: Global, table: &mut L2Table, edits: &[Edit]) -> Result<Outcome, Fault>
     ensures unfit { IfSome (first_unfit table.old edits.now) (λ at. result ≡ Err (BadEdit at)) }
     ensures exact { Computes (end_of table.new) result (run_or_refusal table.old edits.now) }
     ensures unchanged { IfErr result (λ fault. table.new ≡ table.old) }
@@ -237,7 +237,7 @@ pub fn edit_table(table: &mut L2Table, edits: &[Edit]) -> Result<Outcome, Fault>
     if let Some(position) = first_unfit(table, edits) {
         return Err(Fault::BadEdit(position));
     }
-    let mut outcome = Outcome::with_capacity(table.allocator(), edits.len())?;
+    let mut outcome = Outcome::with_capacity(alloc, edits.len())?;
     make_edits(table, edits, &mut outcome);
     Ok(outcome)
 }

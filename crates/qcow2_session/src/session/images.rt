@@ -24,6 +24,11 @@ use std::alloc::Global;
 /// Refuses a table that `L2Table::load` refuses: for an end past 2^56, then for the first entry that isn't
 /// lawful. Then it refuses edits that don't all fit, by the position of the first that `edits_fit` names.
 ///
+/// Where the table shares no byte with the image's first cluster and its L1 table, guest offsets of other
+/// tables that share none with it read as before, and its own as the edits say. Where no two tables of the
+/// image share a byte, and each offset can be looked up, that stays so, and the references of all tables are
+/// balanced as those of this one are.
+///
 /// After a storage fault some pieces of the table may be written, then any bytes may stand in one, and those
 /// after it are as before; what the edits did is not told. After any other fault no byte has changed. Bytes
 /// outside the table's cluster never do.
@@ -46,7 +51,7 @@ pub fn edit_image<S: Storage>(
         (2 ^ header.now.v2.cluster_bits) (S.state image.old) (S.state image.new) }
 {
     let mut table = L2Table::load(alloc, image, header, cluster, header.l2_entries())?;
-    let outcome = edit_table(&mut table, edits)?;
+    let outcome = edit_table(alloc, &mut table, edits)?;
     write_table_back(&mut table, image, cluster)?;
     Ok(outcome)
 }
@@ -82,7 +87,7 @@ pub fn step_image<S: Storage>(
         (2 ^ header.now.v2.cluster_bits) (S.state image.old) (S.state image.new) }
 {
     let mut block = RefBlock::load(alloc, image, header, cluster)?;
-    let replies = step_block(&mut block, steps)?;
+    let replies = step_block(alloc, &mut block, steps)?;
     write_block_back(&mut block, image, cluster)?;
     Ok(replies)
 }

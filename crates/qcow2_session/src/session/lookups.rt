@@ -1,12 +1,12 @@
 //! What a guest offset reads as, by an image's header, L1 table and L2 table.
 
-ghost use Rattle.std.specs.Prelude.{◌≡◌, ◌+◌, ◌*◌, ◌/◌, ◌^◌, ◌≤◌, None, Ok, length, IfErr, IfOk, IfSome, IsOkAnd, IsTrue};
+ghost use Rattle.std.specs.Prelude.{◌≡◌, ◌+◌, ◌*◌, ◌/◌, ◌^◌, ◌≤◌, None, Ok, IfErr, IfOk, IfSome, IsOkAnd, IsTrue};
 ghost use Rattle.qcow2_base.specs.Storage.{OnlyReads};
 ghost use Rattle.qcow2_metadata.specs.Answers.{Answers};
 ghost use Rattle.qcow2_metadata.specs.Entries.{IsPlaced, backing, meaning};
 ghost use Rattle.qcow2_metadata.specs.Header.{geometry_of};
 ghost use Rattle.qcow2_metadata.specs.Header.Grammar.{header_of};
-ghost use Rattle.qcow2_metadata.specs.Table.{IsLoadFault, loaded_l1_table, most_l1_entries, place_fault};
+ghost use Rattle.qcow2_metadata.specs.Table.{IsLoadFault, IsLoaded, LoadRefuses, loaded_l1_table, most_l1_entries, place_fault};
 ghost use Rattle.qcow2_session.specs.Lookups.{IsLookupFault, guest_mapping, image_mapping, l1_place, l2_cluster};
 
 use qcow2_base::{Fault, GuestCluster, GuestOffset, HostCluster, Storage};
@@ -89,18 +89,16 @@ pub(crate) fn lookup_with_header<S: Storage>(
     Ok((header, mapping))
 }
 
-/// The L1 table of an image with this header.
+/// The L1 table of an image with this header, as `L1Table::load` loads it.
 pub(crate) fn load_l1_table<S: Storage>(
     alloc: Global,
     image: &mut S,
     header: &Header,
 ) -> Result<L1Table, Fault>
+    ensures refused { LoadRefuses (place_fault most_l1_entries (l1_place header.now)) result }
     ensures exact { IsTrue (S.state image.old).tells → Answers (λ table. table.numbers) result
         (loaded_l1_table (l1_place header.now) (S.state image.old).byte_at) }
-    ensures faults { IfErr result (IsLoadFault (place_fault most_l1_entries (l1_place header.now))) }
-    ensures geometry { IfOk result (λ table. table.geometry ≡ geometry_of header.now) }
-    ensures entries { IfOk result (λ table. (length table.numbers ≡ header.now.v2.l1_size)
-        × (length table.numbers ≤ most_l1_entries)) }
+    ensures loaded { IfOk result (IsLoaded (l1_place header.now) (S.state image.old)) }
     ensures storage { OnlyReads result (S.state image.old) (S.state image.new) }
 {
     let cluster = header.l1_table_offset().cluster(header.cluster_bits());

@@ -7,6 +7,7 @@ ghost use Rattle.qcow2_session.specs.Steps.{Counts, MakesStep, end_of, first_unf
 
 use qcow2_base::Fault;
 use qcow2_metadata::RefBlock;
+use std::alloc::Global;
 
 /// A change of one counter of a refcount block. The index is that of the counter.
 #[derive(Clone, Copy, Debug, PartialEq, Eq)]
@@ -72,7 +73,11 @@ fn first_unfit(block: &RefBlock, steps: &[Step]) -> Option<usize>
 /// Refuses steps whose indices aren't all in bounds, by the position of the first that isn't. Takes
 /// memory for the replies before the first step. After any refusal the block is as before. Its cluster
 /// stays.
-pub fn step_block(block: &mut RefBlock, steps: &[Step]) -> Result<Vec<StepReply>, Fault>
+pub fn step_block(
+    alloc: Global,
+    block: &mut RefBlock,
+    steps: &[Step],
+) -> Result<Vec<StepReply>, Fault>
     ensures unfit { IfSome (first_unfit block.old steps.now) (λ at. result ≡ Err (BadStep at)) }
     ensures exact { Computes (λ replies. end_of block.new replies.items) result
         (run_or_refusal block.old steps.now) }
@@ -83,7 +88,7 @@ pub fn step_block(block: &mut RefBlock, steps: &[Step]) -> Result<Vec<StepReply>
     if let Some(position) = first_unfit(block, steps) {
         return Err(Fault::BadStep(position));
     }
-    let mut replies = Vec::with_capacity(block.allocator(), steps.len())?;
+    let mut replies = Vec::with_capacity(alloc, steps.len())?;
     for step in steps {
         replies.push(step.make(block)).unwrap();
     }
