@@ -16,6 +16,7 @@ pub fn load_of(alloc: Global, parts: &[Changes]) -> Result<Header, Fault> {
     load(alloc, &mut image_of(alloc, parts)?, false)
 }
 
+// The name as a text of its own, if there is one.
 fn text(alloc: Global, name: Option<&str>) -> Result<Option<String>, AllocError> {
     match name {
         Some(name) => Ok(Some(String::from_str(alloc, name)?)),

@@ -25,46 +25,26 @@ fn places(alloc: Global, header: &mut Header, row: Written) -> Result<(), Fail> 
     same(dirty(header), named, row)
 }
 
-#[test]
-fn a_write_places_the_text_by_one_call_and_no_byte_behind_it(rt: HostRuntime) -> Result<(), Fail> {
-    for row in WRITTEN {
-        let mut header = made(rt.alloc(), row.0)?;
-        places(rt.alloc(), &mut header, row)?;
-    }
-    Ok(())
+// Fails unless a write of the header to an empty image makes that as long as the text.
+fn places_in_empty(alloc: Global, header: &mut Header, row: Written) -> Result<(), Fail> {
+    let mut image = filled_image(alloc, 0)?;
+    same(write(header, &mut image), Ok(()), row)?;
+    let expected = with_text(alloc, filled_image(alloc, 0)?, row.1)?;
+    same_bytes(image.bytes(), expected.bytes(), row)
 }
 
-#[test]
-fn a_write_to_an_empty_image_makes_it_as_long_as_the_text(rt: HostRuntime) -> Result<(), Fail> {
-    for row in WRITTEN {
-        let mut header = made(rt.alloc(), row.0)?;
-        let mut image = filled_image(rt.alloc(), 0)?;
-        same(write(&mut header, &mut image), Ok(()), row)?;
-        let expected = with_text(rt.alloc(), filled_image(rt.alloc(), 0)?, row.1)?;
-        same_bytes(image.bytes(), expected.bytes(), row)?;
-    }
-    Ok(())
-}
-
-#[test]
-fn a_header_that_was_written_is_written_the_same_again_also_when_it_was_loaded(
-    rt: HostRuntime,
-) -> Result<(), Fail> {
-    for row in WRITTEN {
-        let mut header = made(rt.alloc(), row.0)?;
-        let mut image = filled_image(rt.alloc(), 2048)?;
-        same(write(&mut header, &mut image), Ok(()), row)?;
-        let before = printed(rt.alloc(), &header)?;
-        places(rt.alloc(), &mut header, row)?;
-        let after = printed(rt.alloc(), &header)?;
-        same(&after, &before, row)?;
-        let mut loaded = load(rt.alloc(), &mut image, false)?;
-        let found = printed(rt.alloc(), &loaded)?;
-        same(fixed_parts(&found), fixed_parts(&before), row)?;
-        same(names(&loaded), names(&header), row)?;
-        places(rt.alloc(), &mut loaded, row)?;
-    }
-    Ok(())
+// Fails unless a header that was written is written the same again, also when it was loaded.
+fn places_again(alloc: Global, header: &mut Header, row: Written) -> Result<(), Fail> {
+    let mut image = with_text(alloc, filled_image(alloc, 2048)?, row.1)?;
+    let before = printed(alloc, header)?;
+    places(alloc, header, row)?;
+    let after = printed(alloc, header)?;
+    same(&after, &before, row)?;
+    let mut loaded = load(alloc, &mut image, false)?;
+    let found = printed(alloc, &loaded)?;
+    same(fixed_parts(&found), fixed_parts(&before), row)?;
+    same(names(&loaded), names(header), row)?;
+    places(alloc, &mut loaded, row)
 }
 
 // A header, the fault of a write, and what the header calls the first incompatible feature.
@@ -134,17 +114,24 @@ fn a_refused_write_changes_neither_the_header_nor_the_image(rt: HostRuntime) -> 
     Ok(())
 }
 
+// Fails unless a write over a storage that fails changes nothing.
+fn fails(alloc: Global, header: &mut Header) -> Result<(), Fail> {
+    let mut image = FailingStorage::new(alloc, filled_image(alloc, 2048)?);
+    image.fail_after(0);
+    refuses(alloc, header, &mut image, Fault::Storage)?;
+    same(image.failures(), 1, "failures")
+}
+
 #[test]
-fn a_write_whose_storage_fails_changes_no_header_and_places_the_text_the_next_time(
+fn a_write_places_the_text_by_one_call_after_a_failed_storage_and_again(
     rt: HostRuntime,
 ) -> Result<(), Fail> {
     for row in WRITTEN {
         let mut header = made(rt.alloc(), row.0)?;
-        let mut image = FailingStorage::new(rt.alloc(), filled_image(rt.alloc(), 2048)?);
-        image.fail_after(0);
-        refuses(rt.alloc(), &mut header, &mut image, Fault::Storage)?;
-        same(image.failures(), 1, row)?;
+        fails(rt.alloc(), &mut header)?;
         places(rt.alloc(), &mut header, row)?;
+        places_in_empty(rt.alloc(), &mut header, row)?;
+        places_again(rt.alloc(), &mut header, row)?;
     }
     Ok(())
 }

@@ -106,28 +106,22 @@ fn are_reads(calls: &[StorageCall]) -> bool {
         .all(|call| matches!(call, StorageCall::Read { .. }))
 }
 
-#[test]
-fn a_writable_load_clears_autoclear_features_by_one_write_of_the_header(
-    rt: HostRuntime,
-) -> Result<(), Fail> {
-    for row in CLEARED {
-        let row = *row;
-        let mut image = FailingStorage::new(rt.alloc(), with_features(rt.alloc(), row)?);
-        let header = load(rt.alloc(), &mut image, true)?;
-        let cleared = without_features(rt.alloc(), row)?;
-        same_bytes(image.inner().bytes(), cleared.bytes(), row)?;
-        let (last, others) = image.calls().split_last().unzip();
-        let write = StorageCall::Write {
-            offset: 0,
-            len: row.1.0,
-        };
-        same(last, Some(&write), row)?;
-        holds(are_reads(others.unwrap_or(&[])), row)?;
-        same((names(&header).0, dirty(&header)), (row.2, row.3), row)?;
-        let found = printed(rt.alloc(), &header)?;
-        holds(found.as_str().contains("autoclear_features: 0,"), row)?;
-    }
-    Ok(())
+// Fails unless a writable load clears the features by one write of the header.
+fn clears(alloc: Global, row: Cleared) -> Result<(), Fail> {
+    let mut image = FailingStorage::new(alloc, with_features(alloc, row)?);
+    let header = load(alloc, &mut image, true)?;
+    let cleared = without_features(alloc, row)?;
+    same_bytes(image.inner().bytes(), cleared.bytes(), row)?;
+    let (last, others) = image.calls().split_last().unzip();
+    let write = StorageCall::Write {
+        offset: 0,
+        len: row.1.0,
+    };
+    same(last, Some(&write), row)?;
+    holds(are_reads(others.unwrap_or(&[])), row)?;
+    same((names(&header).0, dirty(&header)), (row.2, row.3), row)?;
+    let found = printed(alloc, &header)?;
+    holds(found.as_str().contains("autoclear_features: 0,"), row)
 }
 
 #[test]
@@ -164,18 +158,12 @@ fn reads_only(
     same_bytes(image.inner().bytes(), bytes, expected)
 }
 
-#[test]
-fn a_load_changes_nothing_where_it_may_not_or_need_not_clear_features(
-    rt: HostRuntime,
-) -> Result<(), Fail> {
-    for row in CLEARED {
-        let row = *row;
-        let image = with_features(rt.alloc(), row)?;
-        reads_only(rt.alloc(), image.bytes(), false, Ok(row.2))?;
-        let cleared = without_features(rt.alloc(), row)?;
-        reads_only(rt.alloc(), cleared.bytes(), true, Ok(row.2))?;
-    }
-    Ok(())
+// Fails unless a load changes nothing where it may not, and where there is no feature to clear.
+fn leaves(alloc: Global, row: Cleared) -> Result<(), Fail> {
+    let image = with_features(alloc, row)?;
+    reads_only(alloc, image.bytes(), false, Ok(row.2))?;
+    let cleared = without_features(alloc, row)?;
+    reads_only(alloc, cleared.bytes(), true, Ok(row.2))
 }
 
 // 400 unknown bytes, and a name within the magic: behind End there is no place for it.
@@ -237,12 +225,13 @@ fn clears_after_failures(alloc: Global, row: Cleared) -> Result<(), Fail> {
 }
 
 #[test]
-fn a_writable_load_whose_storage_fails_changes_no_byte_and_clears_features_the_next_time(
+fn a_writable_load_clears_autoclear_features_by_one_write_also_after_a_failed_storage(
     rt: HostRuntime,
 ) -> Result<(), Fail> {
     for row in CLEARED {
-        let row = *row;
-        clears_after_failures(rt.alloc(), row)?;
+        leaves(rt.alloc(), *row)?;
+        clears(rt.alloc(), *row)?;
+        clears_after_failures(rt.alloc(), *row)?;
     }
     Ok(())
 }

@@ -11,7 +11,7 @@ pub(crate) fn edits_fit(table: &L2Table, edits: &[Edit]) -> Result<(), usize> {
 }
 
 pub(crate) fn edit_table(table: &mut L2Table, edits: &[Edit]) -> Result<Outcome, Fault> {
-    qcow2_session::edit_table(table, edits)
+    qcow2_session::edit_table(table.allocator(), table, edits)
 }
 
 pub(crate) fn edit_image<S: Storage>(
@@ -25,7 +25,7 @@ pub(crate) fn edit_image<S: Storage>(
 }
 
 pub(crate) fn step_block(block: &mut RefBlock, steps: &[Step]) -> Result<Vec<StepReply>, Fault> {
-    qcow2_session::step_block(block, steps)
+    qcow2_session::step_block(block.allocator(), block, steps)
 }
 
 pub(crate) fn step_image<S: Storage>(

@@ -9,6 +9,8 @@ mod calls;
 #[cfg(test)]
 mod commands;
 #[cfg(test)]
+mod damaged_images;
+#[cfg(test)]
 mod edits;
 #[cfg(test)]
 mod every_edit;

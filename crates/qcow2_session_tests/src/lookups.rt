@@ -412,9 +412,15 @@ fn a_failed_call_of_the_storage_is_the_storage_fault_and_changes_no_byte(
     rt: HostRuntime,
 ) -> Result<(), Fail> {
     let bytes = sample_image(rt.alloc(), 9, &[])?;
+    meets_failures(rt.alloc(), &bytes, false)?;
+    meets_failures(rt.alloc(), &bytes, true)
+}
+
+// Looks an offset up with each call failed in turn, and with none.
+fn meets_failures(alloc: Global, bytes: &[u8], goes_by_tables: bool) -> Result<(), Fail> {
     let (mut failed, mut passed) = (false, false);
     for passes in 0..8 {
-        let fails = meets_failure(rt.alloc(), &bytes, passes)?;
+        let fails = meets_failure(alloc, bytes, passes, goes_by_tables)?;
         failed |= fails;
         passed |= !fails;
     }
@@ -424,20 +430,38 @@ fn a_failed_call_of_the_storage_is_the_storage_fault_and_changes_no_byte(
     )
 }
 
-// Looks an offset up where the call after so many fails, and tells whether the lookup comes to that
-// call. Then it looks the offset up again.
-fn meets_failure(alloc: Global, bytes: &[u8], passes: u64) -> Result<bool, Fail> {
+// Looks an offset up where the call after so many fails, by the image alone or by tables that are loaded first,
+// and tells whether the lookup comes to that call. Then it looks the offset up again.
+fn meets_failure(
+    alloc: Global,
+    bytes: &[u8],
+    passes: u64,
+    goes_by_tables: bool,
+) -> Result<bool, Fail> {
+    let row = (passes, goes_by_tables);
     let inner = MemStorage::new(Vec::from_slice(alloc, bytes)?);
     let mut image = FailingStorage::new(alloc, inner);
     image.fail_after(passes);
-    let found = lookup_image(alloc, &mut image, GuestOffset(1543));
+    let found = look_up(alloc, &mut image, goes_by_tables);
     let fails = image.failures() != 0;
     let expected = if fails { Refused(34) } else { Data(5, true) };
-    same(answer_of(found), expected, passes)?;
+    same(answer_of(found), expected, row)?;
     if fails {
-        let again = lookup_image(alloc, &mut image, GuestOffset(1543));
-        same(answer_of(again), Data(5, true), (passes, "again"))?;
+        let again = look_up(alloc, &mut image, goes_by_tables);
+        same(answer_of(again), Data(5, true), (row, "again"))?;
     }
-    same_bytes(image.inner().bytes(), bytes, passes)?;
+    same_bytes(image.inner().bytes(), bytes, row)?;
     Ok(fails)
+}
+
+fn look_up<S: Storage>(
+    alloc: Global,
+    image: &mut S,
+    goes_by_tables: bool,
+) -> Result<L2Mapping, Fault> {
+    if goes_by_tables {
+        by_tables(alloc, image, GuestOffset(1543))
+    } else {
+        lookup_image(alloc, image, GuestOffset(1543))
+    }
 }

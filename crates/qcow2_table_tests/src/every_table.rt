@@ -1,169 +1,61 @@
 //! What holds of L1 tables, L2 tables and refcount tables alike.
 
-ghost use Rattle.std.specs.Prelude.{◌≤◌, IsTrue};
-
 use crate::fixtures::{
-    LOADED, NUMBER, Told, cleared_table, header_with, place, table_that_tells, tells,
+    CLEARED, LOADED, Loads, NUMBER, Told, cleared_l1_table, cleared_reftable, header_with, place,
+    table_that_tells, tells, write,
 };
 use qcow2_base::{ClusterCount, Fault, HostCluster, HostOffset};
-use qcow2_metadata::{
-    AtomicL2Entry, EntryTable, Header, L1Entry, L1Table, L2Table, RefTable, RefTableEntry, Table,
-    TableEntry, TableKind,
-};
-use qcow2_testing::{
-    FailingStorage, StorageCall, filled_image, fits, image_with, put, same, same_bytes,
-};
+use qcow2_metadata::{Header, L1Table, L2Table, RefTable, Table, TableEntry};
+use qcow2_testing::{FailingStorage, filled_image, fits, image_with, put, same, same_bytes};
 use std::alloc::Global;
 use std::test::Fail;
 
-// A table that was just loaded from cluster 2 is that of the image, and writes what was read.
-fn writes_what_was_read<T: Table + Drop>(
-    alloc: Global,
-    bits: u32,
-    entries: usize,
-) -> Result<(), Fail>
-    requires count { IsTrue (T.has_lawful_count bits entries) }
-    requires bound { entries ≤ 8192 }
-{
-    let header = header_with(alloc, bits, false)?;
-    let start = 2 * header.cluster_size();
-    for index in [0, 1, 62, 63] {
-        let row = (T::NAME, bits, entries, index);
-        let told = Told {
-            entries,
-            entry: (index, NUMBER),
-            ..LOADED
-        };
-        let number = (start as u64 + 8 * index as u64, NUMBER);
-        let mut image = image_with(alloc, start + 8 * entries + 99, &[number])?;
-        let before = Vec::from_slice(alloc, image.bytes())?;
-        let mut table = T::load(alloc, &mut image, &header, HostCluster(2), entries)?;
-        tells(&table, &told, row)?;
-        same(
-            (table.byte_size(), table.cluster_bits()),
-            (8 * entries, bits),
-            row,
-        )?;
-        same_bytes(image.bytes(), before.as_slice(), row)?;
-        same(table.write(&mut image), Ok(()), row)?;
-        tells(&table, &told, row)?;
-        same_bytes(image.bytes(), before.as_slice(), row)?;
-    }
-    Ok(())
-}
+const RESERVED: Fault = Fault::EntryReserved;
 
-#[test]
-fn each_table_writes_what_was_read(rt: HostRuntime) -> Result<(), Fail> {
-    writes_what_was_read::<L1Table>(rt.alloc(), 9, 64)?;
-    writes_what_was_read::<L1Table>(rt.alloc(), 9, 100)?;
-    writes_what_was_read::<L1Table>(rt.alloc(), 16, 64)?;
-    writes_what_was_read::<L2Table>(rt.alloc(), 9, 64)?;
-    writes_what_was_read::<L2Table>(rt.alloc(), 16, 8192)?;
-    writes_what_was_read::<RefTable>(rt.alloc(), 9, 64)?;
-    writes_what_was_read::<RefTable>(rt.alloc(), 9, 100)?;
-    writes_what_was_read::<RefTable>(rt.alloc(), 16, 64)
-}
+const UNALIGNED: Fault = Fault::EntryUnaligned;
 
-// Cluster bits, numbers by their indices among entries 0, and the fault of the first that is no entry.
-type Numbers = (u32, &'static [(u64, u64)], Fault);
-
-const L1_NUMBERS: [Numbers; 9] = [
-    (16, &[(0, 1)], Fault::EntryReserved),
-    (16, &[(1023, 0x0100_0000_0000_0000)], Fault::EntryReserved),
-    (16, &[(5, 0x200)], Fault::EntryUnaligned),
-    (16, &[(5, 0x200), (6, 1)], Fault::EntryUnaligned),
-    (
-        16,
-        &[(5, NUMBER), (6, 0x201), (7, 0x200)],
-        Fault::EntryReserved,
-    ),
-    (16, &[(8, 0xffff_ffff_ffff_0000)], Fault::EntryReserved),
+// Cluster bits, numbers by their indices among entries 0, which no table may have, and the fault of the
+// first that is no entry.
+const NUMBERS: &[(u32, &'static [(u64, u64)], Fault)] = &[
+    (9, &[(63, 2)], RESERVED),
+    (9, &[(0, 1 << 8)], RESERVED),
+    (16, &[(5, 0x200)], UNALIGNED),
+    (16, &[(5, 0x200), (6, 2)], UNALIGNED),
+    (16, &[(5, 2), (6, 0x200)], RESERVED),
+    (16, &[(5, 0x202), (6, 0x200)], RESERVED),
     // in other pieces of 512 entries than the first
-    (
-        16,
-        &[(511, 0x200), (512, 1), (1024, 1)],
-        Fault::EntryUnaligned,
-    ),
-    (16, &[(512, 1), (513, 0x200)], Fault::EntryReserved),
-    (21, &[(1023, 0x10_0000), (1024, 1)], Fault::EntryUnaligned),
+    (16, &[(511, 0x200), (512, 2), (1024, 2)], UNALIGNED),
+    (16, &[(512, 2), (513, 0x200)], RESERVED),
+    (21, &[(1023, 0x10_0000), (1024, 2)], UNALIGNED),
 ];
 
-const REFCOUNT_NUMBERS: [Numbers; 6] = [
-    (16, &[(0, 1)], Fault::EntryReserved),
-    (16, &[(1023, 0xffff_ffff_ffff_fe00)], Fault::EntryUnaligned),
-    (16, &[(5, 0x200), (6, 0x100)], Fault::EntryUnaligned),
-    (
-        16,
-        &[(5, 0xffff_ffff_ffff_0000), (6, 0x100)],
-        Fault::EntryReserved,
-    ),
-    (
-        16,
-        &[(511, 0x200), (512, 1), (1024, 1)],
-        Fault::EntryUnaligned,
-    ),
-    (9, &[(1024, 0x1ff), (1023, NUMBER)], Fault::EntryReserved),
-];
-
-const L2_NUMBERS: [Numbers; 13] = [
-    (16, &[(0, 2)], Fault::EntryReserved),
-    (16, &[(1023, 0x200)], Fault::EntryUnaligned),
-    (16, &[(5, 1), (6, 0x200), (7, 2)], Fault::EntryUnaligned),
-    (9, &[(0, 0x4100_0000_0000_0000)], Fault::EntryReserved),
-    (9, &[(63, 2)], Fault::EntryReserved),
-    (
-        9,
-        &[(62, 0xc000_0000_0000_0000), (63, 2)],
-        Fault::EntryReserved,
-    ),
-    (16, &[(8191, 0x200), (0, 0x1_0000)], Fault::EntryUnaligned),
-    (16, &[(5, 0x200), (6, 2)], Fault::EntryUnaligned),
-    (16, &[(6, 0x200), (5, 2)], Fault::EntryReserved),
-    (16, &[(5, 0x202), (6, 0x200)], Fault::EntryReserved),
-    (
-        21,
-        &[(262143, 0x10_0000), (0, 0x8000_0000_0020_0000)],
-        Fault::EntryUnaligned,
-    ),
-    (12, &[(511, 0x200)], Fault::EntryUnaligned),
-    (13, &[(512, 2), (513, 0x200)], Fault::EntryReserved),
-];
-
-// The first number of the table from cluster 2 on that is no entry decides a load, which changes no
-// byte.
-fn loads_by_its_entries<T: Table + Drop>(
+// The first number of the table from cluster 2 on that is no entry decides a load, which changes no byte.
+fn loads_by_its_entries<T: Loads>(
     alloc: Global,
     header: &Header,
-    entries: usize,
-    row: Numbers,
-) -> Result<(), Fail>
-    requires { IsTrue (T.has_lawful_count header.now.v2.cluster_bits entries) }
-{
-    let (_, numbers, fault) = row;
-    let start = 2 * header.cluster_size();
-    let mut image = image_with(alloc, start + 8 * 1025, &[])?;
+    numbers: &[(u64, u64)],
+    fault: Fault,
+) -> Result<(), Fail> {
+    let row = (T::NAME, header.cluster_bits(), fault);
+    let (start, entries) = (2 * header.cluster_size(), header.l2_entries());
+    let mut image = image_with(alloc, start + 8 * entries, &[])?;
     for (index, number) in numbers {
-        put(&mut image, start as u64 + 8 * (*index % 262144), *number)?;
+        let place = start as u64 + 8 * (*index % 262144);
+        put(&mut image, place, *number)?;
     }
     let before = Vec::from_slice(alloc, image.bytes())?;
-    let answer: Result<T, Fault> = T::load(alloc, &mut image, header, HostCluster(2), entries);
+    let answer = T::load_from(alloc, &mut image, header, 2, entries);
     same(answer.err(), Some(fault), row)?;
     same_bytes(image.bytes(), before.as_slice(), row)
 }
 
 #[test]
 fn the_first_entry_that_is_not_lawful_decides_a_load(rt: HostRuntime) -> Result<(), Fail> {
-    for row in L1_NUMBERS {
-        let header = header_with(rt.alloc(), row.0, false)?;
-        loads_by_its_entries::<L1Table>(rt.alloc(), &header, 1025, row)?;
-    }
-    for row in REFCOUNT_NUMBERS {
-        let header = header_with(rt.alloc(), row.0, false)?;
-        loads_by_its_entries::<RefTable>(rt.alloc(), &header, 1025, row)?;
-    }
-    for row in L2_NUMBERS {
-        let header = header_with(rt.alloc(), row.0, false)?;
-        loads_by_its_entries::<L2Table>(rt.alloc(), &header, header.l2_entries(), row)?;
+    for (bits, numbers, fault) in NUMBERS {
+        let header = header_with(rt.alloc(), *bits, false)?;
+        loads_by_its_entries::<L1Table>(rt.alloc(), &header, numbers, *fault)?;
+        loads_by_its_entries::<L2Table>(rt.alloc(), &header, numbers, *fault)?;
+        loads_by_its_entries::<RefTable>(rt.alloc(), &header, numbers, *fault)?;
     }
     Ok(())
 }
@@ -174,312 +66,194 @@ const PAST: Option<Fault> = Some(Fault::TablePlace);
 /// More entries than an L1 table or a refcount table may have.
 const TOO_BIG: Option<Fault> = Some(Fault::TableTooBig);
 
-// Cluster bits, a cluster, how many entries a table from there on has, and why no L1 table or refcount
-// table may be there, if so.
-const PLACES: [(u32, u64, usize, Option<Fault>); 20] = [
+// Cluster bits, a cluster, how many entries a table from there on has, and why none may be there, if so.
+// Where there are as many entries as in an L2 table, it holds of one.
+const PLACES: &[(u32, u64, usize, Option<Fault>)] = &[
     (9, (1 << 47) - 1, 64, None),
     (9, (1 << 47) - 1, 65, PAST),
-    (9, (1 << 47) - 2, 65, None),
-    (9, (1 << 47) - 1, 1, None),
-    (9, 1 << 47, 1, PAST),
+    (9, 1 << 47, 64, PAST),
     (9, (1 << 55) - 1, 64, PAST),
+    (9, u64::MAX, 64, PAST),
     (9, 1 << 47, 0, None),
     (9, (1 << 47) + 1, 0, PAST),
-    (9, u64::MAX, 0, PAST),
     (9, (1 << 47) - 65536, 4194304, None),
     (9, (1 << 47) - 65535, 4194304, PAST),
-    (9, u64::MAX, 4194304, PAST),
-    (9, 0, 4194305, TOO_BIG),
-    (9, 1 << 47, 4194305, TOO_BIG),
     (9, u64::MAX, 4194305, TOO_BIG),
     (9, 0, usize::MAX, TOO_BIG),
     (16, (1 << 40) - 1, 8192, None),
-    (16, (1 << 40) - 1, 8193, PAST),
-    (21, (1 << 35) - 16, 4194304, None),
-    (21, (1 << 35) - 15, 4194304, PAST),
-];
-
-// The same of L2 tables, which fill a cluster. The last of each have offsets that don't fit 64 bits.
-const L2_PLACES: [(u32, u64, Option<Fault>); 19] = [
-    (9, (1 << 47) - 1, None),
-    (9, 1 << 47, PAST),
-    (9, (1 << 47) + 1, PAST),
-    (9, (1 << 55) - 1, PAST),
-    (9, 1 << 55, PAST),
-    (9, 1 << 63, PAST),
-    (9, u64::MAX, PAST),
-    (16, (1 << 40) - 1, None),
-    (16, 1 << 40, PAST),
-    (16, (1 << 40) + 1, PAST),
-    (16, 1 << 55, PAST),
-    (16, 1 << 63, PAST),
-    (16, u64::MAX, PAST),
-    (21, (1 << 35) - 1, None),
-    (21, 1 << 35, PAST),
-    (21, (1 << 35) + 1, PAST),
-    (21, 1 << 55, PAST),
-    (21, 1 << 63, PAST),
-    (21, u64::MAX, PAST),
+    (16, 1 << 40, 8192, PAST),
+    (21, (1 << 35) - 1, 262144, None),
+    (21, 1 << 63, 262144, PAST),
 ];
 
 // A table is loaded from where it may be, and else no byte is read. Past the image's end all bytes are
 // zero, so a loaded table is all zero. One without entries takes no call of the storage.
-fn loads_by_its_place<T: Table + Drop>(
-    alloc: Global,
-    header: &Header,
-    told: &Told,
-    fault: Option<Fault>,
-) -> Result<(), Fail>
-    requires { IsTrue (T.has_lawful_count header.now.v2.cluster_bits told.now.entries) }
-{
-    let row = (T::NAME, header.cluster_bits(), told.entries, told.cluster);
-    let cluster = told.cluster.ok_or("a place without a cluster")?;
-    let mut image = FailingStorage::new(alloc, image_with(alloc, 64, &[(0, u64::MAX)])?);
-    let answer: Result<T, Fault> = T::load(
-        alloc,
-        &mut image,
-        header,
-        HostCluster(cluster),
-        told.entries,
-    );
-    let is_read = fault.is_none() && told.entries > 0;
-    same(!image.calls().is_empty(), is_read, row)?;
-    match answer {
-        Ok(table) => {
-            same(None, fault, row)?;
-            tells(&table, told, row)
-        }
-        Err(found) => same(Some(found), fault, row),
-    }
-}
-
-// What a write of a table to its place answers over a storage that fails, its calls, and whether the
-// table is modified then.
-fn writes_to_its_place<T: Table>(
-    alloc: Global,
-    table: &mut T,
-    told: &Told,
-    fault: Option<Fault>,
-) -> Result<(), Fail> {
-    let row = (
-        T::NAME,
-        table.cluster_bits(),
-        told.entries,
-        told.cluster,
-        told.modified,
-    );
-    let size = 1 << table.cluster_bits();
-    let call = StorageCall::Write {
-        offset: told.cluster.unwrap_or(0).wrapping_mul(size),
-        len: table.byte_size().min(4096),
-    };
-    let (answer, modified, reached) = match fault {
-        Some(fault) => (Err(fault), told.modified, false),
-        None if told.entries == 0 => (Ok(()), false, false),
-        None => (Err(Fault::Storage), true, true),
-    };
-    let first = [call];
-    let calls: &[StorageCall] = if reached { &first } else { &[] };
-    place(table, told.cluster, told.modified)?;
-    let mut image = FailingStorage::new(alloc, filled_image(alloc, 2048)?);
-    image.fail_after(0);
-    let found = table.write(&mut image);
-    same((found, image.calls()), (answer, calls), row)?;
-    same_bytes(image.inner().bytes(), &[0xa5; 2048], row)?;
-    tells(table, &Told { modified, ..*told }, row)
-}
-
-// Loads a table from its place, and then writes one there, which is refused alike, and without a cluster.
-fn is_where_it_may_be<T: Table + Drop>(
+fn loads_by_its_place<T: Loads>(
     alloc: Global,
     header: &Header,
     cluster: u64,
     entries: usize,
     fault: Option<Fault>,
-) -> Result<(), Fail>
-    requires { IsTrue (T.has_lawful_count header.now.v2.cluster_bits entries) }
-{
-    let loaded = Told {
+) -> Result<(), Fail> {
+    let row = (T::NAME, header.cluster_bits(), entries, cluster);
+    let mut image = FailingStorage::new(alloc, image_with(alloc, 64, &[(0, u64::MAX)])?);
+    let answer = T::load_from(alloc, &mut image, header, cluster, entries);
+    let is_read = fault.is_none() && entries > 0;
+    same(!image.calls().is_empty(), is_read, row)?;
+    let told = Told {
         entries,
-        entry: (0, 0),
         cluster: Some(cluster),
         modified: false,
+        ..CLEARED
     };
-    loads_by_its_place::<T>(alloc, header, &loaded, fault)?;
-    if entries > 262144 || !fits(cluster, 0, header.cluster_bits()) {
-        return Ok(());
+    match answer {
+        Ok(table) => {
+            same(None, fault, row)?;
+            tells(&table, &told, row)
+        }
+        Err(found) => same(Some(found), fault, row),
     }
-    let mut told = Told {
-        entry: (0, NUMBER),
-        ..loaded
-    };
-    let mut table: T = table_that_tells(alloc, header, &told)?;
-    for modified in [false, true] {
-        told.modified = modified;
-        told.cluster = Some(cluster);
-        writes_to_its_place(alloc, &mut table, &told, fault)?;
-        told.cluster = None;
-        writes_to_its_place(alloc, &mut table, &told, Some(Fault::NoOffset))?;
-    }
-    Ok(())
 }
 
 #[test]
-fn a_table_lies_where_it_fits_and_ends_at_2_to_the_56_at_most(rt: HostRuntime) -> Result<(), Fail> {
+fn a_table_is_loaded_from_where_it_ends_at_2_to_the_56_at_most(
+    rt: HostRuntime,
+) -> Result<(), Fail> {
     for (bits, cluster, entries, fault) in PLACES {
-        let header = header_with(rt.alloc(), bits, false)?;
-        is_where_it_may_be::<L1Table>(rt.alloc(), &header, cluster, entries, fault)?;
-        is_where_it_may_be::<RefTable>(rt.alloc(), &header, cluster, entries, fault)?;
-    }
-    for (bits, cluster, fault) in L2_PLACES {
-        let header = header_with(rt.alloc(), bits, false)?;
-        let entries = header.l2_entries();
-        is_where_it_may_be::<L2Table>(rt.alloc(), &header, cluster, entries, fault)?;
+        let header = header_with(rt.alloc(), *bits, false)?;
+        loads_by_its_place::<L1Table>(rt.alloc(), &header, *cluster, *entries, *fault)?;
+        loads_by_its_place::<RefTable>(rt.alloc(), &header, *cluster, *entries, *fault)?;
+        if *entries == header.l2_entries() {
+            loads_by_its_place::<L2Table>(rt.alloc(), &header, *cluster, *entries, *fault)?;
+        }
     }
     Ok(())
 }
 
-// A table that is too big for its kind is refused by that fault, but where it has no cluster.
-fn is_too_big<E: TableKind>(alloc: Global, header: &Header) -> Result<(), Fail>
-    requires { IsTrue (E.has_lawful_count header.now.v2.cluster_bits 4194305) }
-{
-    let mut table: EntryTable<E> = cleared_table(alloc, header, 4194305)?;
-    same(table.cluster_count(), ClusterCount(65537), E::NAME)?;
-    for (cluster, modified, fault) in [
-        (None, true, Fault::NoOffset),
-        (Some(1), false, Fault::TableTooBig),
-        (Some(1 << 47), true, Fault::TableTooBig),
-    ] {
-        let told = Told {
-            entries: 4194305,
-            entry: (0, 0),
-            cluster,
-            modified,
-        };
-        writes_to_its_place(alloc, &mut table, &told, Some(fault))?;
+// A cluster that a table has, and why it can't be written there, if so.
+type Written = (Option<u64>, Option<Fault>);
+
+// A write of the table over a storage that fails, from each of these places: only a storage's fault
+// leaves it modified, and any other leaves the flag.
+fn is_written_by_its_place<T: Table>(
+    alloc: Global,
+    table: &mut T,
+    places: &[Written],
+) -> Result<(), Fail> {
+    let entries = table.entries();
+    for (cluster, fault) in places {
+        for modified in [false, true] {
+            let row = (T::NAME, entries, *cluster, modified);
+            place(table, *cluster, modified)?;
+            let mut image = FailingStorage::new(alloc, filled_image(alloc, 2048)?);
+            image.fail_after(0);
+            let answer = write(table, &mut image);
+            same(answer, Err(fault.unwrap_or(Fault::Storage)), row)?;
+            same(image.calls().is_empty(), fault.is_some(), row)?;
+            same_bytes(image.inner().bytes(), &[0xa5; 2048], row)?;
+            let told = Told {
+                entries,
+                cluster: *cluster,
+                modified: modified || fault.is_none(),
+                ..CLEARED
+            };
+            tells(table, &told, row)?;
+        }
     }
     Ok(())
+}
+
+const NOT_PLACED: Written = (None, Some(Fault::NoOffset));
+
+#[test]
+fn a_table_is_written_to_where_it_may_be(rt: HostRuntime) -> Result<(), Fail> {
+    let header = header_with(rt.alloc(), 9, false)?;
+    let places = [
+        NOT_PLACED,
+        (Some((1 << 47) - 1), None),
+        (Some(1 << 47), PAST),
+        (Some((1 << 55) - 1), PAST),
+    ];
+    let mut l1_table = cleared_l1_table(rt.alloc(), &header, 64)?;
+    is_written_by_its_place(rt.alloc(), &mut l1_table, &places)?;
+    let mut l2_table = L2Table::new_cleared(rt.alloc(), &header)?;
+    is_written_by_its_place(rt.alloc(), &mut l2_table, &places)?;
+    let mut reftable = cleared_reftable(rt.alloc(), &header, 64)?;
+    is_written_by_its_place(rt.alloc(), &mut reftable, &places)
 }
 
 #[test]
 fn a_table_one_entry_too_big_is_refused_before_its_place(rt: HostRuntime) -> Result<(), Fail> {
     let header = header_with(rt.alloc(), 9, false)?;
-    is_too_big::<L1Entry>(rt.alloc(), &header)?;
-    is_too_big::<RefTableEntry>(rt.alloc(), &header)
+    let places = [NOT_PLACED, (Some(1), TOO_BIG), (Some(1 << 47), TOO_BIG)];
+    let mut l1_table = cleared_l1_table(rt.alloc(), &header, 4194305)?;
+    is_written_by_its_place(rt.alloc(), &mut l1_table, &places)?;
+    let mut reftable = cleared_reftable(rt.alloc(), &header, 4194305)?;
+    is_written_by_its_place(rt.alloc(), &mut reftable, &places)
 }
 
-// An index below the number of entries is in bounds, and past the end there is the entry 0.
-fn bounds_its_indices<E: TableKind>(
-    alloc: Global,
-    header: &Header,
-    entries: usize,
-    clusters: u64,
-) -> Result<(), Fail>
-    requires count { IsTrue (E.has_lawful_count header.now.v2.cluster_bits entries) }
-    requires bound { entries ≤ 262144 }
-{
-    let table: EntryTable<E> = cleared_table(alloc, header, entries)?;
-    let row = (EntryTable::<E>::NAME, entries);
-    let told = Told {
-        entries,
-        entry: (0, 0),
-        cluster: None,
-        modified: true,
-    };
-    tells(&table, &told, row)?;
-    same(
-        (table.byte_size(), table.cluster_count()),
-        (8 * entries, ClusterCount(clusters)),
-        row,
-    )?;
-    for index in [0, 1, 63, 64, 65, usize::MAX] {
-        is_bounded(&table, index, entries)?;
-    }
-    Ok(())
-}
-
-// Fails unless a table of so many entries 0 has this index just where it is below that.
-fn is_bounded<E: TableKind>(
-    table: &EntryTable<E>,
-    index: usize,
-    entries: usize,
-) -> Result<(), Fail> {
-    let number = table.get_ref(index).map(|entry| entry.to_plain());
-    let within = index < entries;
-    same(
-        (table.in_bounds(index), number, table.get(index).to_plain()),
-        (within, if within { Some(0) } else { None }, 0),
-        (EntryTable::<E>::NAME, entries, index),
-    )
-}
-
-#[test]
-fn an_index_below_the_number_of_entries_is_in_bounds(rt: HostRuntime) -> Result<(), Fail> {
-    let header = header_with(rt.alloc(), 9, false)?;
-    for (entries, clusters) in [(0, 0), (1, 1), (64, 1), (65, 2)] {
-        bounds_its_indices::<L1Entry>(rt.alloc(), &header, entries, clusters)?;
-        bounds_its_indices::<RefTableEntry>(rt.alloc(), &header, entries, clusters)?;
-    }
-    bounds_its_indices::<AtomicL2Entry>(rt.alloc(), &header, 64, 1)
-}
-
-#[test]
-fn an_entry_is_at_its_index_and_the_entry_0_past_the_end(rt: HostRuntime) -> Result<(), Fail> {
-    let header = header_with(rt.alloc(), 9, false)?;
-    let told = Told {
-        entry: (63, 0xa00),
-        ..LOADED
-    };
-    let table: L2Table = table_that_tells(rt.alloc(), &header, &told)?;
-    for (index, want) in [
-        (0, Some(0)),
-        (62, Some(0)),
-        (63, Some(0xa00)),
-        (64, None),
-        (usize::MAX, None),
-    ] {
+// Fails unless the table has an entry at just the indices below the number of its entries, and takes so
+// many clusters.
+fn bounds_its_indices<T: Table>(table: &T, entries: usize, clusters: u64) -> Result<(), Fail> {
+    let size = (table.byte_size(), table.cluster_count());
+    let row = (T::NAME, entries);
+    same(size, (entries.wrapping_mul(8), ClusterCount(clusters)), row)?;
+    for index in [0, 63, 64, 65, usize::MAX] {
         let number = table.get_ref(index).map(|entry| entry.to_plain());
+        let expected = if index < entries { Some(0) } else { None };
         let found = (number, table.get(index).to_plain());
-        same(found, (want, want.unwrap_or(0)), index)?;
+        same(found, (expected, 0), (row, index))?;
     }
     Ok(())
 }
 
 #[test]
-fn each_kind_of_table_has_its_name_and_its_most_entries(_rt: HostRuntime) -> Result<(), Fail> {
+fn an_entry_past_the_end_is_the_entry_0(rt: HostRuntime) -> Result<(), Fail> {
+    let header = header_with(rt.alloc(), 9, false)?;
+    for (entries, clusters) in [(0, 0), (64, 1), (65, 2)] {
+        let l1_table = cleared_l1_table(rt.alloc(), &header, entries)?;
+        bounds_its_indices(&l1_table, entries, clusters)?;
+        let reftable = cleared_reftable(rt.alloc(), &header, entries)?;
+        bounds_its_indices(&reftable, entries, clusters)?;
+        let bounds = (l1_table.in_bounds(64), reftable.in_bounds(64));
+        same(bounds, (entries > 64, entries > 64), entries)?;
+    }
+    bounds_its_indices(&L2Table::new_cleared(rt.alloc(), &header)?, 64, 1)
+}
+
+#[test]
+fn each_kind_of_table_has_its_name_and_its_most_entries() -> Result<(), Fail> {
     same(
-        [L1Table::NAME, L2Table::NAME, RefTable::NAME],
-        ["L1 table", "L2 table", "Refcount table"],
-        "names",
+        (L1Table::NAME, L1Table::MAX_ENTRIES),
+        ("L1 table", 4194304),
+        "L1",
     )?;
     same(
-        [
-            L1Table::MAX_ENTRIES,
-            L2Table::MAX_ENTRIES,
-            RefTable::MAX_ENTRIES,
-        ],
-        [4194304, 262144, 4194304],
-        "most entries",
-    )
+        (L2Table::NAME, L2Table::MAX_ENTRIES),
+        ("L2 table", 262144),
+        "L2",
+    )?;
+    let found = (RefTable::NAME, RefTable::MAX_ENTRIES);
+    same(found, ("Refcount table", 4194304), "refcounts")
 }
 
 #[test]
 fn a_cluster_and_the_flag_are_set_and_taken_away(rt: HostRuntime) -> Result<(), Fail> {
-    let header = header_with(rt.alloc(), 16, false)?;
-    let mut told = Told {
-        entries: header.l2_entries(),
-        entry: (3, 0x2_0000),
-        cluster: Some(1),
-        modified: false,
-    };
-    let mut table: L2Table = table_that_tells(rt.alloc(), &header, &told)?;
-    tells(&table, &told, "loaded")?;
-    same(table.get_offset(), Some(HostOffset(0x1_0000)), "loaded")?;
+    let header = header_with(rt.alloc(), 9, false)?;
+    let mut table: L1Table = table_that_tells(rt.alloc(), &header, &LOADED)?;
+    same(table.get_offset(), Some(HostOffset(1024)), "loaded")?;
+    same(table.get(3).to_plain(), NUMBER, "loaded")?;
+    // To be placed sets the flag, and to be displaced leaves it.
+    if !fits(7, 0, table.cluster_bits()) {
+        return Err("another cluster size".into());
+    }
     table.set_cluster(HostCluster(7));
-    told.cluster = Some(7);
-    told.modified = true;
+    let mut told = Told {
+        cluster: Some(7),
+        modified: true,
+        ..LOADED
+    };
     tells(&table, &told, "placed")?;
-    same(table.get_offset(), Some(HostOffset(0x7_0000)), "placed")?;
     for modified in [false, true] {
         place(&mut table, Some(8), modified)?;
         table.unset_cluster();
@@ -487,7 +261,5 @@ fn a_cluster_and_the_flag_are_set_and_taken_away(rt: HostRuntime) -> Result<(), 
         told.modified = modified;
         tells(&table, &told, modified)?;
     }
-    table.clear_modified();
-    table.set_modified();
-    tells(&table, &told, "set")
+    Ok(())
 }

@@ -1,12 +1,12 @@
-//! Headers and tables to test with.
+//! Headers and tables to test with, and calls of tables without any clauses: tests compare what is
+//! answered, and no proof about a test has to read what the call ensures.
 
-ghost use Rattle.std.specs.Prelude.{◌≡◌, ◌≤◌, ◌^◌, IfOk, OnOk, IsTrue, length, option_map};
-ghost use Rattle.qcow2_base.specs.Types.{IsClusterBits};
-ghost use Rattle.qcow2_metadata.specs.Header.{geometry_of};
-ghost use Rattle.qcow2_table_tests.specs.Fixtures.{cluster_of};
+ghost use Rattle.std.specs.Prelude.{◌^◌, ◌≤◌, IsTrue};
 
-use qcow2_base::{Fault, HostCluster, HostOffset};
-use qcow2_metadata::{EntryTable, Header, Table, TableEntry, TableKind};
+use qcow2_base::{Fault, HostCluster, HostOffset, Storage};
+use qcow2_metadata::{
+    EntryTable, Header, L1Table, L2Table, RefTable, Table, TableEntry, TableKind,
+};
 use qcow2_testing::{fits, image_with, is_cluster_bits, same};
 use std::alloc::Global;
 use std::fmt::Debug;
@@ -14,14 +14,11 @@ use std::test::Fail;
 
 /// A header of an image with clusters of `2^cluster_bits` bytes, whose guest data may lie in a file of
 /// its own. No image has other cluster bits than 9 to 21.
-pub fn header_with(
+pub(crate) fn header_with(
     alloc: Global,
     cluster_bits: u32,
     external_data_file: bool,
-) -> Result<Header, Fault>
-    ensures cluster_bits { IfOk result (λ header. header.v2.cluster_bits ≡ cluster_bits) }
-    ensures range { OnOk result (IsClusterBits cluster_bits) }
-{
+) -> Result<Header, Fault> {
     if !is_cluster_bits(cluster_bits) {
         return Err(Fault::ClusterSize);
     }
@@ -33,29 +30,132 @@ pub fn header_with(
     Header::new(alloc, cluster_bits, 4, None, None, name)
 }
 
+/// A header of an image with these cluster bits, whose refcounts have `2^refcount_order` bits.
+pub(crate) fn header_of_order(
+    alloc: Global,
+    cluster_bits: u32,
+    refcount_order: u32,
+) -> Result<Header, Fault> {
+    if !is_cluster_bits(cluster_bits) {
+        return Err(Fault::ClusterSize);
+    }
+    if refcount_order > 6 {
+        return Err(Fault::RefcountWidth);
+    }
+    Header::new(alloc, cluster_bits, refcount_order, None, None, None)
+}
+
+/// A kind of table that tests load: an L2 table only with as many entries as fill a cluster.
+pub(crate) trait Loads: Table + Drop {
+    /// What a load of so many entries from a cluster on answers.
+    fn load_from<S: Storage>(
+        alloc: Global,
+        image: &mut S,
+        header: &Header,
+        cluster: u64,
+        entries: usize,
+    ) -> Result<Self, Fault>;
+}
+
+impl Loads for L1Table {
+    fn load_from<S: Storage>(
+        alloc: Global,
+        image: &mut S,
+        header: &Header,
+        cluster: u64,
+        entries: usize,
+    ) -> Result<L1Table, Fault> {
+        L1Table::load(alloc, image, header, HostCluster(cluster), entries)
+    }
+}
+
+impl Loads for RefTable {
+    fn load_from<S: Storage>(
+        alloc: Global,
+        image: &mut S,
+        header: &Header,
+        cluster: u64,
+        entries: usize,
+    ) -> Result<RefTable, Fault> {
+        RefTable::load(alloc, image, header, HostCluster(cluster), entries)
+    }
+}
+
+impl Loads for L2Table {
+    fn load_from<S: Storage>(
+        alloc: Global,
+        image: &mut S,
+        header: &Header,
+        cluster: u64,
+        entries: usize,
+    ) -> Result<L2Table, Fault> {
+        if entries != header.l2_entries() {
+            return Err(Fault::WrongLength);
+        }
+        L2Table::load(alloc, image, header, HostCluster(cluster), entries)
+    }
+}
+
+/// What a write of the table answers.
+pub(crate) fn write<T: Table, S: Storage>(table: &mut T, image: &mut S) -> Result<(), Fault> {
+    table.write(image)
+}
+
+/// What a write of one entry answers.
+pub(crate) fn write_entry<T: Table, S: Storage>(
+    table: &mut T,
+    image: &mut S,
+    index: usize,
+) -> Result<(), Fault> {
+    if index >= table.entries() {
+        return Err(Fault::WrongLength);
+    }
+    table.write_entry(image, index)
+}
+
+/// What `write_if_modified` answers, which is told the table's own cluster.
+pub(crate) fn write_if_modified<S: Storage>(
+    table: &mut L2Table,
+    image: &mut S,
+) -> Result<(), Fault> {
+    match table.get_cluster() {
+        Some(cluster) => table.write_if_modified(image, cluster),
+        None if table.is_modified() => Err(Fault::WrongLength),
+        None => table.write_if_modified(image, HostCluster(0)),
+    }
+}
+
 /// An L1 entry and a standard L2 entry that is copied, and a refcount table entry, for each cluster size.
-pub const NUMBER: u64 = 0x8000_0000_0020_0000;
+pub(crate) const NUMBER: u64 = 0x8000_0000_0020_0000;
 
 /// What a table says whose entries but one are 0: how many they are, that one with its index, the
 /// table's cluster, and whether it counts as modified.
 #[derive(Clone, Copy, Debug)]
-pub struct Told {
-    pub entries: usize,
-    pub entry: (usize, u64),
-    pub cluster: Option<u64>,
-    pub modified: bool,
+pub(crate) struct Told {
+    pub(crate) entries: usize,
+    pub(crate) entry: (usize, u64),
+    pub(crate) cluster: Option<u64>,
+    pub(crate) modified: bool,
 }
 
 /// What a table says that cluster 2 of an image of 512-byte clusters holds.
-pub const LOADED: Told = Told {
+pub(crate) const LOADED: Told = Told {
     entries: 64,
     entry: (3, NUMBER),
     cluster: Some(2),
     modified: false,
 };
 
+/// What a table of entries 0 alone says that has no cluster.
+pub(crate) const CLEARED: Told = Told {
+    entries: 64,
+    entry: (0, 0),
+    cluster: None,
+    modified: true,
+};
+
 /// Fails unless the table says this.
-pub fn tells<T: Table, R: Debug + Copy>(table: &T, told: &Told, row: R) -> Result<(), Fail> {
+pub(crate) fn tells<T: Table, R: Debug + Copy>(table: &T, told: &Told, row: R) -> Result<(), Fail> {
     same(table.entries(), told.entries, row)?;
     same(other_entry(table, told), None, row)?;
     let size = 1 << table.cluster_bits();
@@ -84,37 +184,29 @@ fn other_entry<T: Table>(table: &T, told: &Told) -> Option<(usize, u64)> {
 }
 
 /// A table of an image with this header that says this.
-pub fn table_that_tells<T: Table + Drop>(
+pub(crate) fn table_that_tells<T: Loads>(
     alloc: Global,
     header: &Header,
     told: &Told,
-) -> Result<T, Fault>
-    requires { IsTrue (T.has_lawful_count header.now.v2.cluster_bits told.now.entries) }
-    ensures entries { IfOk result (λ table. length (T.state table).numbers ≡ told.now.entries) }
-    ensures geometry { IfOk result (λ table. (T.state table).geometry ≡ geometry_of header.now) }
-    ensures cluster { IfOk result (λ table.
-        (T.state table).cluster ≡ option_map cluster_of told.now.cluster) }
-    ensures flag { IfOk result (λ table. (T.state table).modified ≡ told.now.modified) }
-{
+) -> Result<T, Fault> {
     let (index, number) = told.entry;
     if index >= 1 << 22 {
         return Err(Fault::TableTooBig);
     }
     let start = 2 * header.cluster_size();
     let mut image = image_with(alloc, start, &[(start as u64 + 8 * index as u64, number)])?;
-    let mut table = T::load(alloc, &mut image, header, HostCluster(2), told.entries)?;
+    let mut table = T::load_from(alloc, &mut image, header, 2, told.entries)?;
     place(&mut table, told.cluster, told.modified)?;
     Ok(table)
 }
 
 /// Gives the table a cluster or none, and sets or clears its flag. Fails where the cluster's offset
 /// doesn't fit 64 bits.
-pub fn place<T: Table>(table: &mut T, cluster: Option<u64>, modified: bool) -> Result<(), Fault>
-    ensures { OnOk result (T.state table.new ≡ record (T.state table.old) {
-      cluster = option_map cluster_of cluster;
-      modified = modified;
-    }) }
-{
+pub(crate) fn place<T: Table>(
+    table: &mut T,
+    cluster: Option<u64>,
+    modified: bool,
+) -> Result<(), Fault> {
     match cluster {
         Some(cluster) => {
             if !fits(cluster, 0, table.cluster_bits()) {
@@ -132,18 +224,40 @@ pub fn place<T: Table>(table: &mut T, cluster: Option<u64>, modified: bool) -> R
     Ok(())
 }
 
-/// A table of so many entries 0. It has no cluster, and counts as modified.
-pub fn cleared_table<E: TableKind>(
+// A table of so many entries 0.
+fn cleared_table<E: TableKind>(
     alloc: Global,
     header: &Header,
     entries: usize,
 ) -> Result<EntryTable<E>, Fault>
     requires count { IsTrue (E.has_lawful_count header.now.v2.cluster_bits entries) }
     requires bound { entries ≤ 2 ^ 48 }
-    ensures entries { IfOk result (λ table. length table.numbers ≡ entries) }
-    ensures geometry { IfOk result (λ table. table.geometry ≡ geometry_of header.now) }
 {
     let mut list = Vec::new(alloc);
     list.resize(entries, E::cleared())?;
     Ok(EntryTable::from_data(list, header))
+}
+
+/// An L1 table of so many entries 0, 4194305 at most. It has no cluster, and counts as modified.
+pub(crate) fn cleared_l1_table(
+    alloc: Global,
+    header: &Header,
+    entries: usize,
+) -> Result<L1Table, Fault> {
+    if entries > 4194305 {
+        return Err(Fault::WrongLength);
+    }
+    cleared_table(alloc, header, entries)
+}
+
+/// The same of a refcount table.
+pub(crate) fn cleared_reftable(
+    alloc: Global,
+    header: &Header,
+    entries: usize,
+) -> Result<RefTable, Fault> {
+    if entries > 4194305 {
+        return Err(Fault::WrongLength);
+    }
+    cleared_table(alloc, header, entries)
 }

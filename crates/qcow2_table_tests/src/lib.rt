@@ -4,18 +4,19 @@
 #[cfg(test)]
 mod block_numbers;
 #[cfg(test)]
-mod every_table;
-mod fixtures;
+mod blocks;
 #[cfg(test)]
-mod l1_entry;
+mod entries;
+#[cfg(test)]
+mod every_table;
+#[cfg(test)]
+mod fixtures;
 #[cfg(test)]
 mod l1_table;
 #[cfg(test)]
 mod l2_copy;
 #[cfg(test)]
 mod l2_edits;
-#[cfg(test)]
-mod l2_entry;
 #[cfg(test)]
 mod l2_mapping;
 #[cfg(test)]
@@ -31,8 +32,6 @@ mod pieces;
 #[cfg(test)]
 mod pointers;
 #[cfg(test)]
-mod ref_table_entry;
-#[cfg(test)]
 mod refcount_blocks;
 #[cfg(test)]
 mod reftable_growth;
@@ -40,7 +39,3 @@ mod reftable_growth;
 mod refused_memory;
 #[cfg(test)]
 mod table_files;
-
-pub use fixtures::{
-    LOADED, NUMBER, Told, cleared_table, header_with, place, table_that_tells, tells,
-};

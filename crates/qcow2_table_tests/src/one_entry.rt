@@ -1,11 +1,12 @@
 //! Writes of one entry: which bytes of the image change, and what they are then.
 
-ghost use Rattle.std.specs.Prelude.{◌≡◌, IfOk, IsTrue, length};
-
-use crate::fixtures::{NUMBER, Told, cleared_table, header_with, place, table_that_tells, tells};
+use crate::fixtures::{
+    CLEARED, Loads, NUMBER, Told, cleared_l1_table, cleared_reftable, header_with, place,
+    table_that_tells, tells, write_entry,
+};
 use crate::pieces::number_at;
 use qcow2_base::{Fault, HostCluster, MemStorage, Storage};
-use qcow2_metadata::{Header, L1Table, L2Table, RefTable, Table};
+use qcow2_metadata::{Header, L1Table, L2Table, RefTable};
 use qcow2_testing::{FailingStorage, StorageCall, filled_image, put, same, same_bytes};
 use std::alloc::Global;
 use std::test::Fail;
@@ -17,9 +18,7 @@ fn aligned(image: MemStorage, bits: u32) -> MemStorage {
 
 // An L1 table of 320 entries in an image of 512-byte clusters, from cluster 8 on, whose entry 300 alone
 // isn't 0.
-fn sample_table(alloc: Global) -> Result<L1Table, Fault>
-    ensures { IfOk result (λ table. length table.numbers ≡ 320) }
-{
+fn sample_table(alloc: Global) -> Result<L1Table, Fault> {
     let header = header_with(alloc, 9, false)?;
     let told = Told {
         entries: 320,
@@ -60,7 +59,7 @@ fn one_entry_is_written_with_its_aligned_bytes_within_a_cluster(
         }
         let mut table = sample_table(rt.alloc())?;
         let mut image = aligned(filled_image(rt.alloc(), 16384)?, bits);
-        same(table.write_entry(&mut image, 300), Ok(()), row)?;
+        same(write_entry(&mut table, &mut image, 300), Ok(()), row)?;
         let mut want = filled_image(rt.alloc(), 16384)?;
         want.write(vec![in rt.alloc(); 0; len]?.as_slice(), start)?;
         put(&mut want, 6496, 0x8000_0000_0001_0000)?;
@@ -121,25 +120,18 @@ fn image_with_entries(
 }
 
 // Writes each of the case's entries under each alignment, by one call, and finds the table as it was.
-fn writes_each_entry<T: Table + Drop>(
-    alloc: Global,
-    table: &mut T,
-    case: Case,
-) -> Result<(), Fail> {
+fn writes_each_entry<T: Loads>(alloc: Global, table: &mut T, case: Case) -> Result<(), Fail> {
     let (cluster_bits, cluster, start, entries, indices) = case;
     for index in indices {
         for bits in 0..22u32 {
             let row = (T::NAME, cluster_bits, *index, bits);
-            if *index >= table.entries() {
-                return Err("an index past the table's end".into());
-            }
             let modified = bits % 2 == 0;
             place(table, Some(cluster), modified)?;
             let (first, count) = written_with(cluster_bits, bits, *index);
             let end = first.saturating_add(count);
             let image = aligned(image_up_to(alloc, case, end)?, bits);
             let mut image = FailingStorage::new(alloc, image);
-            same(table.write_entry(&mut image, *index), Ok(()), row)?;
+            same(write_entry(table, &mut image, *index), Ok(()), row)?;
             let want = image_with_entries(alloc, case, first, end)?;
             same_bytes(image.inner().bytes(), want.bytes(), row)?;
             let call = StorageCall::Write {
@@ -158,12 +150,10 @@ fn writes_each_entry<T: Table + Drop>(
 }
 
 // The table of the case, as it is loaded from an image.
-fn loaded<T: Table + Drop>(alloc: Global, header: &Header, case: Case) -> Result<T, Fault>
-    requires { IsTrue (T.has_lawful_count header.now.v2.cluster_bits case.3) }
-{
+fn loaded<T: Loads>(alloc: Global, header: &Header, case: Case) -> Result<T, Fault> {
     let (_, cluster, _, entries, _) = case;
     let mut image = image_with_entries(alloc, case, 0, entries)?;
-    T::load(alloc, &mut image, header, HostCluster(cluster), entries)
+    T::load_from(alloc, &mut image, header, cluster, entries)
 }
 
 #[test]
@@ -173,12 +163,9 @@ fn one_entry_of_each_table_is_written_under_each_alignment(rt: HostRuntime) -> R
         let mut l1_table: L1Table = loaded(rt.alloc(), &header, *case)?;
         writes_each_entry(rt.alloc(), &mut l1_table, *case)?;
     }
-    for case in &CASES[..2] {
-        let header = header_with(rt.alloc(), case.0, false)?;
-        let mut reftable: RefTable = loaded(rt.alloc(), &header, *case)?;
-        writes_each_entry(rt.alloc(), &mut reftable, *case)?;
-    }
-    Ok(())
+    let header = header_with(rt.alloc(), 9, false)?;
+    let mut reftable: RefTable = loaded(rt.alloc(), &header, CASES[0])?;
+    writes_each_entry(rt.alloc(), &mut reftable, CASES[0])
 }
 
 #[test]
@@ -204,7 +191,7 @@ fn past_its_end_a_table_is_written_as_zeros(rt: HostRuntime) -> Result<(), Fail>
     };
     let mut table: L1Table = table_that_tells(rt.alloc(), &header, &told)?;
     let mut image = aligned(filled_image(rt.alloc(), 2048)?, 9);
-    same(table.write_entry(&mut image, 0), Ok(()), "write")?;
+    same(write_entry(&mut table, &mut image, 0), Ok(()), "write")?;
     let mut want = filled_image(rt.alloc(), 2048)?;
     want.write(&[0; 512], 512)?;
     put(&mut want, 512, NUMBER)?;
@@ -225,37 +212,33 @@ const REFUSALS: &[(usize, Option<u64>, Fault)] = &[
     (64, Some(2), Fault::Storage),
 ];
 
+// Tries to write the first entry of a table over a storage that fails.
+fn refuses(alloc: Global, header: &Header, row: (usize, Option<u64>, Fault)) -> Result<(), Fail> {
+    let (entries, cluster, fault) = row;
+    let mut table = cleared_reftable(alloc, header, entries)?;
+    for modified in [false, true] {
+        place(&mut table, cluster, modified)?;
+        let mut image = FailingStorage::new(alloc, aligned(filled_image(alloc, 2048)?, 9));
+        image.fail_after(0);
+        same(write_entry(&mut table, &mut image, 0), Err(fault), row)?;
+        let told = Told {
+            entries,
+            cluster,
+            modified,
+            ..CLEARED
+        };
+        tells(&table, &told, row)?;
+        same_bytes(image.inner().bytes(), &[0xa5; 2048], row)?;
+        same(image.failures(), u64::from(fault == Fault::Storage), row)?;
+    }
+    Ok(())
+}
+
 #[test]
 fn a_refused_write_of_one_entry_changes_nothing(rt: HostRuntime) -> Result<(), Fail> {
     let header = header_with(rt.alloc(), 9, false)?;
     for row in REFUSALS {
-        let (entries, cluster, fault) = *row;
-        if entries > 4194305 {
-            return Err("more entries than the tests have".into());
-        }
-        let mut table: RefTable = cleared_table(rt.alloc(), &header, entries)?;
-        for modified in [false, true] {
-            place(&mut table, cluster, modified)?;
-            let mut image = FailingStorage::new(
-                rt.alloc(),
-                aligned(filled_image(rt.alloc(), 2048)?, 9),
-            );
-            image.fail_after(0);
-            if table.entries() == 0 {
-                return Err("no entry to write".into());
-            }
-            same(table.write_entry(&mut image, 0), Err(fault), row)?;
-            let told = Told {
-                entries,
-                entry: (0, 0),
-                cluster,
-                modified,
-            };
-            tells(&table, &told, row)?;
-            let before = filled_image(rt.alloc(), 2048)?;
-            same_bytes(image.inner().bytes(), before.bytes(), row)?;
-            same(image.failures(), u64::from(fault == Fault::Storage), row)?;
-        }
+        refuses(rt.alloc(), &header, *row)?;
     }
     Ok(())
 }
@@ -263,12 +246,12 @@ fn a_refused_write_of_one_entry_changes_nothing(rt: HostRuntime) -> Result<(), F
 #[test]
 fn the_last_bytes_of_the_longest_file_are_written(rt: HostRuntime) -> Result<(), Fail> {
     let header = header_with(rt.alloc(), 9, false)?;
-    let mut table: L1Table = cleared_table(rt.alloc(), &header, 64)?;
+    let mut table = cleared_l1_table(rt.alloc(), &header, 64)?;
     place(&mut table, Some((1 << 47) - 1), false)?;
     let mut image = FailingStorage::new(rt.alloc(), aligned(filled_image(rt.alloc(), 0)?, 9));
     image.fail_after(0);
     same(
-        table.write_entry(&mut image, 63),
+        write_entry(&mut table, &mut image, 63),
         Err(Fault::Storage),
         "last",
     )?;

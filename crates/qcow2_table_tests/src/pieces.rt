@@ -1,8 +1,6 @@
 //! Tables are read and written in pieces of 4096 bytes, counted from where they begin.
 
-ghost use Rattle.std.specs.Prelude.{◌<◌, IsTrue, length};
-
-use crate::fixtures::{header_with, place};
+use crate::fixtures::{Loads, header_with, place};
 use qcow2_base::{Fault, HostCluster, MemStorage};
 use qcow2_metadata::{Header, L1Table, L2Table, RefTable, Table, TableEntry};
 use qcow2_testing::{FailingStorage, StorageCall, filled_image, put, put_bytes, same, same_bytes};
@@ -20,6 +18,13 @@ struct InPieces {
     start: u64,
     entries: usize,
     pieces: &'static [(u64, usize)],
+}
+
+impl InPieces {
+    // The pieces up to the one after so many.
+    fn first_pieces(&self, passes: usize) -> &'static [(u64, usize)] {
+        self.pieces.get(..passes.saturating_add(1)).unwrap_or(&[])
+    }
 }
 
 // Cluster bits, and then a table's cluster, its offset, how many entries it has, and its pieces.
@@ -97,31 +102,25 @@ fn are_calls<R: Debug + Drop>(
 }
 
 // Loads the table, after each of its calls failed in turn.
-fn loads_in_pieces<T: Table + Drop>(
-    alloc: Global,
-    header: &Header,
-    told: InPieces,
-) -> Result<T, Fail>
-    requires { IsTrue (T.has_lawful_count header.now.v2.cluster_bits told.entries) }
-{
-    let cluster = HostCluster(told.cluster);
+fn loads_in_pieces<T: Loads>(alloc: Global, header: &Header, told: InPieces) -> Result<T, Fail> {
+    let (cluster, entries) = (told.cluster, told.entries);
     let bytes = image_with_first(alloc, told.start, told.entries)?;
     let mut image = FailingStorage::new(alloc, image_with_first(alloc, told.start, told.entries)?);
     for passes in 0..told.pieces.len() {
         image.forget_calls();
         image.fail_after(passes as u64);
-        let answer: Result<T, Fault> = T::load(alloc, &mut image, header, cluster, told.entries);
+        let answer = T::load_from(alloc, &mut image, header, cluster, entries);
         same(answer.err(), Some(Fault::Storage), (told, passes))?;
         are_calls(
             alloc,
             image.calls(),
-            &told.pieces[..passes + 1],
+            told.first_pieces(passes),
             true,
             (told, passes),
         )?;
     }
     image.forget_calls();
-    let table: T = T::load(alloc, &mut image, header, cluster, told.entries)?;
+    let table = T::load_from(alloc, &mut image, header, cluster, entries)?;
     are_calls(alloc, image.calls(), told.pieces, true, told)?;
     same(image.failures(), (told.pieces.len() as u64), told)?;
     same_bytes(image.inner().bytes(), bytes.bytes(), told)?;
@@ -160,15 +159,13 @@ fn writes_again<T: Table>(
     told: InPieces,
     passes: usize,
     modified: bool,
-) -> Result<(), Fail>
-    requires { passes < length told.pieces.now }
-{
+) -> Result<(), Fail> {
     let row = (told, passes, modified);
     place(table, Some(told.cluster), modified)?;
     let mut image = FailingStorage::new(alloc, filled_image(alloc, LEN)?);
     image.fail_after(passes as u64);
     same(write(table, &mut image), (Err(Fault::Storage), true), row)?;
-    are_calls(alloc, image.calls(), &told.pieces[..passes + 1], false, row)?;
+    are_calls(alloc, image.calls(), told.first_pieces(passes), false, row)?;
     has_its_entries(table, told, true)?;
     let torn = image_with_first(alloc, told.start, passes.wrapping_mul(512))?;
     same_bytes(image.inner().bytes(), torn.bytes(), row)?;
@@ -177,9 +174,7 @@ fn writes_again<T: Table>(
 }
 
 // Loads and writes the table, where no call fails and where each of its calls fails in turn.
-fn is_in_pieces<T: Table + Drop>(alloc: Global, header: &Header, told: InPieces) -> Result<(), Fail>
-    requires { IsTrue (T.has_lawful_count header.now.v2.cluster_bits told.entries) }
-{
+fn is_in_pieces<T: Loads>(alloc: Global, header: &Header, told: InPieces) -> Result<(), Fail> {
     let mut table: T = loads_in_pieces(alloc, header, told)?;
     let mut image = FailingStorage::new(alloc, filled_image(alloc, LEN)?);
     writes_whole(alloc, &mut table, &mut image, told)?;
@@ -262,7 +257,7 @@ const THREE_PIECES: &[(u64, usize)] = &[(4096, 4096), (8192, 4096), (12288, 8)];
 fn a_write_that_fails_at_a_piece_keeps_the_bytes_after_it(rt: HostRuntime) -> Result<(), Fail> {
     let header = header_with(rt.alloc(), 9, false)?;
     let mut image = entries_up_to(rt.alloc(), 12296)?;
-    let mut table = L1Table::load(rt.alloc(), &mut image, &header, HostCluster(8), 1025)?;
+    let mut table = L1Table::load_from(rt.alloc(), &mut image, &header, 8, 1025)?;
     // How many calls pass before the one that fails, and where the new bytes end then.
     for (passes, end) in [(0, 4096), (1, 8192), (2, 12288)] {
         writes_up_to(rt.alloc(), &mut table, passes, end)?;
@@ -291,7 +286,7 @@ fn reads_up_to(alloc: Global, header: &Header, row: Bad) -> Result<(), Fail> {
     put_bytes(&mut bytes, at, &[1])?;
     let mut image = FailingStorage::new(alloc, bytes);
     image.fail_after(passes);
-    let answer = L1Table::load(alloc, &mut image, header, HostCluster(8), 1025);
+    let answer = L1Table::load_from(alloc, &mut image, header, 8, 1025);
     same(answer.err(), Some(fault), row)?;
     let pieces = THREE_PIECES.get(..count).unwrap_or(&[]);
     are_calls(alloc, image.calls(), pieces, true, row)

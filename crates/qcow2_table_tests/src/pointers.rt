@@ -1,30 +1,69 @@
 //! Setting where a header's tables lie, and writing that and the disk's size by themselves.
 
-use crate::fixtures::{cleared_table, header_with};
+use crate::fixtures::{cleared_l1_table, cleared_reftable, header_with, place};
 use crate::pending_clusters::refusal;
 use qcow2_base::{ClusterCount, Fault, HostCluster, HostOffset, MemStorage, Storage};
-use qcow2_metadata::{ClustersToFreeEntry, Header, L1Table, PendingClusters, RefTable, Table};
-use qcow2_testing::{FailingStorage, filled_image, put_bytes, same, same_bytes};
+use qcow2_metadata::{ClustersToFreeEntry, Header, PendingClusters, Table};
+use qcow2_testing::{FailingStorage, filled_image, fits, put_bytes, same, same_bytes};
 use std::alloc::Global;
 use std::test::Fail;
+
+// Gives the header an L1 table of one entry at cluster 1, whose clusters are pending.
+fn set_l1_table(alloc: Global, header: &mut Header) -> Result<(), Fail> {
+    let mut table = cleared_l1_table(alloc, header, 1)?;
+    let bits = header.cluster_bits();
+    if table.cluster_bits() != bits || !fits(1, 0, bits) {
+        return Err("a table of another cluster size".into());
+    }
+    table.set_cluster(HostCluster(1));
+    let pending = PendingClusters::new(HostCluster(1), table.cluster_count());
+    let answer = header.set_l1_table(&table, Some(pending));
+    same(refusal(answer), None, "L1 table")
+}
+
+// Gives the header a refcount table of so many entries with a cluster or none.
+fn set_reftable(
+    alloc: Global,
+    header: &mut Header,
+    entries: usize,
+    cluster: Option<u64>,
+) -> Result<(), Fault> {
+    let mut table = cleared_reftable(alloc, header, entries)?;
+    place(&mut table, cluster, true)?;
+    if table.cluster_bits() != header.cluster_bits() {
+        return Err(Fault::ClusterSize);
+    }
+    header.set_reftable(&table)
+}
 
 // A header whose disk has 4096 bytes, whose L1 table has one entry at 0x200, and whose refcount table has
 // 65 entries at 0x800: two clusters of 512 bytes.
 fn header_with_tables(alloc: Global) -> Result<Header, Fail> {
     let mut header = header_with(alloc, 9, false)?;
     header.set_size(4096);
-    let mut l1_table: L1Table = cleared_table(alloc, &header, 1)?;
-    l1_table.set_cluster(HostCluster(1));
-    let pending = PendingClusters::new(HostCluster(1), ClusterCount(1));
-    same(
-        refusal(header.set_l1_table(&l1_table, Some(pending))),
-        None,
-        "L1 table",
-    )?;
-    let mut reftable: RefTable = cleared_table(alloc, &header, 65)?;
-    reftable.set_cluster(HostCluster(4));
-    header.set_reftable(&reftable)?;
+    set_l1_table(alloc, &mut header)?;
+    set_reftable(alloc, &mut header, 65, Some(4))?;
     Ok(header)
+}
+
+// Gives the header an L1 table without a cluster, and pending clusters that come back.
+fn refuses_l1_table(alloc: Global, header: &mut Header) -> Result<(), Fail> {
+    let mut table = cleared_l1_table(alloc, header, 64)?;
+    if table.cluster_bits() != header.cluster_bits() {
+        return Err("a table of another cluster size".into());
+    }
+    table.unset_cluster();
+    let clusters = ClustersToFreeEntry {
+        first: HostCluster(7),
+        count: ClusterCount(3),
+    };
+    let pending = PendingClusters::new(clusters.first, clusters.count);
+    let answer = header.set_l1_table(&table, Some(pending));
+    same(
+        refusal(answer),
+        Some((Fault::NotPlaced, Some(clusters))),
+        "L1 table",
+    )
 }
 
 #[test]
@@ -45,21 +84,9 @@ fn a_header_refers_to_the_tables_that_it_was_given(rt: HostRuntime) -> Result<()
 #[test]
 fn a_table_without_a_cluster_is_refused_and_nothing_changes(rt: HostRuntime) -> Result<(), Fail> {
     let mut header = header_with_tables(rt.alloc())?;
-    let mut l1_table: L1Table = cleared_table(rt.alloc(), &header, 64)?;
-    l1_table.unset_cluster();
-    let pending = PendingClusters::new(HostCluster(7), ClusterCount(3));
-    let answer = refusal(header.set_l1_table(&l1_table, Some(pending)));
-    let clusters = ClustersToFreeEntry {
-        first: HostCluster(7),
-        count: ClusterCount(3),
-    };
-    same(answer, Some((Fault::NotPlaced, Some(clusters))), "L1 table")?;
-    let reftable: RefTable = cleared_table(rt.alloc(), &header, 64)?;
-    same(
-        header.set_reftable(&reftable),
-        Err(Fault::NotPlaced),
-        "refcount table",
-    )?;
+    refuses_l1_table(rt.alloc(), &mut header)?;
+    let answer = set_reftable(rt.alloc(), &mut header, 64, None);
+    same(answer, Err(Fault::NotPlaced), "refcount table")?;
     let places = (header.l1_table_offset(), header.reftable_offset());
     same(places, (HostOffset(0x200), HostOffset(0x800)), "tables")
 }

@@ -1,35 +1,13 @@
 //! Refcount blocks: their counters at each width, what steps leave, and where they are read and written.
 
-ghost use Rattle.std.specs.Prelude.{◌≡◌, ◌≤◌, IfOk, OnOk};
-ghost use Rattle.qcow2_base.specs.Types.{IsClusterBits};
-
-use crate::fixtures::cleared_table;
+use crate::blocks::{counter, load, new_cleared, place, told, write, write_if_modified};
+use crate::fixtures::{cleared_reftable, header_of_order};
 use crate::pending_clusters::refusal;
 use qcow2_base::{ClusterCount, Fault, HostCluster, HostOffset, MemStorage, Storage};
-use qcow2_metadata::{
-    ClustersToFreeEntry, Header, PendingClusters, RefBlock, RefTable, Table, TableEntry,
-};
-use qcow2_testing::{FailingStorage, filled_image, is_cluster_bits, same, same_bytes};
+use qcow2_metadata::{ClustersToFreeEntry, PendingClusters, RefBlock, RefTable, Table, TableEntry};
+use qcow2_testing::{FailingStorage, filled_image, fits, same, same_bytes};
 use std::alloc::Global;
 use std::test::Fail;
-
-/// A header of an image with these cluster bits, whose refcounts have `2^refcount_order` bits.
-pub(crate) fn header_of_order(
-    alloc: Global,
-    cluster_bits: u32,
-    refcount_order: u32,
-) -> Result<Header, Fault>
-    ensures bits { IfOk result (λ header. header.v2.cluster_bits ≡ cluster_bits) }
-    ensures range { OnOk result (IsClusterBits cluster_bits) }
-{
-    if !is_cluster_bits(cluster_bits) {
-        return Err(Fault::ClusterSize);
-    }
-    if refcount_order > 6 {
-        return Err(Fault::RefcountWidth);
-    }
-    Header::new(alloc, cluster_bits, refcount_order, None, None, None)
-}
 
 // Three clusters of 512 bytes: 0xa5, zeros but for these bytes at a place, and 0xa5 again.
 fn image_with(alloc: Global, place: usize, bytes: &[u8]) -> Result<MemStorage, Fault> {
@@ -169,7 +147,7 @@ fn steps_change_one_counter_and_say_what_it_was(rt: HostRuntime) -> Result<(), F
         let (order, index, place, bytes, steps, after) = *row;
         let header = header_of_order(rt.alloc(), 9, order)?;
         let mut image = image_with(rt.alloc(), place, bytes)?;
-        let mut block = RefBlock::load(rt.alloc(), &mut image, &header, HostCluster(1))?;
+        let mut block = load(rt.alloc(), &mut image, &header, 1)?;
         let mut modified = false;
         for made in steps {
             let (way, answer) = *made;
@@ -178,7 +156,7 @@ fn steps_change_one_counter_and_say_what_it_was(rt: HostRuntime) -> Result<(), F
             same(block.is_modified(), modified, row)?;
         }
         same(block.get_cluster(), Some(HostCluster(1)), row)?;
-        block.write(&mut image)?;
+        write(&mut block, &mut image)?;
         let expected = image_with(rt.alloc(), place, after)?;
         same_bytes(image.bytes(), expected.bytes(), row)?;
     }
@@ -224,13 +202,13 @@ fn pattern(alloc: Global, len: usize) -> Result<MemStorage, Fault> {
     Ok(MemStorage::new(bytes))
 }
 
-// The first counter that isn't that of the pattern, with its index. Looks at every so many.
+// The first counter that isn't that of the pattern, which is answered with its index. Looks at every so many.
 fn other_counter(block: &RefBlock, order: u32, every: usize) -> Option<(usize, u64)> {
     for turn in 0..block.entries() / every.max(1) {
         let index = turn * every.max(1);
-        let found = block.get(index);
-        if found != counter_of_pattern(order, index) || block.is_zero(index) != (found == 0) {
-            return Some((index, found));
+        let number = counter_of_pattern(order, index);
+        if counter(block, index) != Some((number, number == 0)) {
+            return Some((index, number));
         }
     }
     None
@@ -241,7 +219,7 @@ fn reads_and_writes_again(alloc: Global, bits: u32, every: usize) -> Result<(), 
     for order in 0..7 {
         let header = header_of_order(alloc, bits, order)?;
         let mut image = pattern(alloc, header.cluster_size())?;
-        let mut block = RefBlock::load(alloc, &mut image, &header, HostCluster(0))?;
+        let mut block = load(alloc, &mut image, &header, 0)?;
         same(
             block.entries(),
             header.cluster_size() * 8 >> order,
@@ -250,9 +228,9 @@ fn reads_and_writes_again(alloc: Global, bits: u32, every: usize) -> Result<(), 
         same(other_counter(&block, order, every), None, (bits, order))?;
         same(block.is_modified(), false, (bits, order))?;
         let mut other = filled_image(alloc, header.cluster_size())?;
-        block.write(&mut other)?;
+        write(&mut block, &mut other)?;
         same_bytes(other.bytes(), image.bytes(), (bits, order))?;
-        block.write(&mut image)?;
+        write(&mut block, &mut image)?;
         same_bytes(image.bytes(), other.bytes(), (bits, order))?;
     }
     Ok(())
@@ -271,27 +249,15 @@ fn the_largest_blocks_are_read_and_written_again(rt: HostRuntime) -> Result<(), 
 
 #[test]
 fn a_cleared_block_has_no_reference_and_no_cluster(rt: HostRuntime) -> Result<(), Fail> {
-    for order in 0..7 {
+    for order in 0..7u32 {
         let header = header_of_order(rt.alloc(), 9, order)?;
-        let image = filled_image(rt.alloc(), 16)?;
-        let block = RefBlock::new_cleared(rt.alloc(), &image, &header)?;
-        same(
-            (
-                block.entries(),
-                block.get_cluster(),
-                block.get_offset(),
-                block.is_modified(),
-            ),
-            (4096 >> order, None, None, true),
-            order,
-        )?;
-        for index in 0..block.entries() {
-            same(
-                (block.get(index), block.is_zero(index)),
-                (0, true),
-                (order, index),
-            )?;
+        let block = new_cleared(rt.alloc(), &header)?;
+        let entries = 4096 >> order;
+        same(told(&block), (entries, None, true), order)?;
+        for index in 0..entries {
+            same(counter(&block, index), Some((0, true)), (order, index))?;
         }
+        same(counter(&block, entries), None, order)?;
     }
     Ok(())
 }
@@ -300,89 +266,80 @@ fn a_cleared_block_has_no_reference_and_no_cluster(rt: HostRuntime) -> Result<()
 fn a_block_keeps_its_place_and_its_flag(rt: HostRuntime) -> Result<(), Fail> {
     let header = header_of_order(rt.alloc(), 9, 4)?;
     let mut image = image_with(rt.alloc(), 0, &[0, 7])?;
-    let mut block = RefBlock::load(rt.alloc(), &mut image, &header, HostCluster(1))?;
-    same(
-        (block.cluster_bits(), block.get_offset()),
-        (9, Some(HostOffset(512))),
-        "loaded",
-    )?;
+    let mut block = load(rt.alloc(), &mut image, &header, 1)?;
+    let place = (block.cluster_bits(), block.get_offset());
+    same(place, (9, Some(HostOffset(512))), "loaded")?;
+    same(told(&block), (256, Some(HostCluster(1)), false), "loaded")?;
+    if !fits(2, 0, block.cluster_bits()) {
+        return Err("another cluster size".into());
+    }
     block.set_cluster(HostCluster(2));
-    same(
-        (block.get_offset(), block.is_modified()),
-        (Some(HostOffset(1024)), true),
-        "placed",
-    )?;
+    same(told(&block), (256, Some(HostCluster(2)), true), "placed")?;
     block.clear_modified();
-    same(
-        (block.get_cluster(), block.is_modified()),
-        (Some(HostCluster(2)), false),
-        "cleared",
-    )?;
+    same(told(&block), (256, Some(HostCluster(2)), false), "cleared")?;
     block.set_modified();
-    same((block.get(0), block.is_modified()), (7, true), "set")
+    same(
+        (counter(&block, 0), block.is_modified()),
+        (Some((7, false)), true),
+        "set",
+    )
 }
 
 #[test]
 fn the_last_place_of_a_block_ends_at_the_greatest_end(rt: HostRuntime) -> Result<(), Fail> {
     let header = header_of_order(rt.alloc(), 9, 4)?;
     let mut image = filled_image(rt.alloc(), 16)?;
-    let last = HostCluster((1 << 47) - 1);
-    let block = RefBlock::load(rt.alloc(), &mut image, &header, last)?;
+    let last = (1 << 47) - 1;
+    let block = load(rt.alloc(), &mut image, &header, last)?;
     same(
-        (block.get_cluster(), block.entries()),
-        (Some(last), 256),
+        told(&block),
+        (256, Some(HostCluster(last)), false),
         "the last place",
     )?;
     for cluster in [1 << 47, 1 << 48, u64::MAX] {
-        let answer = RefBlock::load(rt.alloc(), &mut image, &header, HostCluster(cluster));
+        let answer = load(rt.alloc(), &mut image, &header, cluster);
         same(answer.err(), Some(Fault::TablePlace), cluster)?;
     }
     Ok(())
 }
 
+// Writes the block, which is refused by this fault, and stays as it is.
+fn refuses_to_write(block: &mut RefBlock, fault: Fault) -> Result<(), Fail> {
+    let mut image = MemStorage::new(Vec::new(block.allocator()));
+    let before = told(block);
+    same(write(block, &mut image), Err(fault), before)?;
+    same((told(block), image.bytes().len()), (before, 0), fault)
+}
+
 #[test]
 fn a_block_without_a_lawful_place_is_not_written(rt: HostRuntime) -> Result<(), Fail> {
     let header = header_of_order(rt.alloc(), 9, 4)?;
-    let mut image = filled_image(rt.alloc(), 16)?;
-    let before = filled_image(rt.alloc(), 16)?;
-    let mut block = RefBlock::new_cleared(rt.alloc(), &image, &header)?;
+    let mut block = new_cleared(rt.alloc(), &header)?;
+    refuses_to_write(&mut block, Fault::NoOffset)?;
+    block.clear_modified();
+    refuses_to_write(&mut block, Fault::NoOffset)?;
     for modified in [true, false] {
-        if !modified {
-            block.clear_modified();
-        }
-        same(block.write(&mut image), Err(Fault::NoOffset), modified)?;
-        same(block.is_modified(), modified, "no place")?;
+        place(&mut block, 1 << 47, modified)?;
+        refuses_to_write(&mut block, Fault::TablePlace)?;
     }
-    if block.cluster_bits() != 9 {
-        return Err("another cluster size".into());
-    }
-    block.set_cluster(HostCluster(1 << 47));
-    for modified in [true, false] {
-        if !modified {
-            block.clear_modified();
-        }
-        same(block.write(&mut image), Err(Fault::TablePlace), modified)?;
-        same(block.is_modified(), modified, "past the end")?;
-    }
-    same_bytes(image.bytes(), before.bytes(), "refused")
+    Ok(())
 }
 
 #[test]
 fn only_a_modified_block_is_written(rt: HostRuntime) -> Result<(), Fail> {
     let header = header_of_order(rt.alloc(), 9, 4)?;
     let mut image = image_with(rt.alloc(), 0, &[0, 7])?;
-    let mut block = RefBlock::load(rt.alloc(), &mut image, &header, HostCluster(1))?;
+    let mut block = load(rt.alloc(), &mut image, &header, 1)?;
     let mut other = filled_image(rt.alloc(), 1536)?;
-    let untouched = filled_image(rt.alloc(), 1536)?;
     same(
-        block.write_if_modified(&mut other, HostCluster(1)),
+        write_if_modified(&mut block, &mut other),
         Ok(()),
         "not modified",
     )?;
-    same_bytes(other.bytes(), untouched.bytes(), "not modified")?;
+    same_bytes(other.bytes(), &[0xa5; 1536], "not modified")?;
     block.set_modified();
     same(
-        block.write_if_modified(&mut other, HostCluster(1)),
+        write_if_modified(&mut block, &mut other),
         Ok(()),
         "modified",
     )?;
@@ -393,23 +350,19 @@ fn only_a_modified_block_is_written(rt: HostRuntime) -> Result<(), Fail> {
 // A block of 8192 bytes is read and written in two pieces.
 const CALLS: [u64; 2] = [0, 1];
 
-#[test]
-fn a_failed_read_of_a_block_is_told(rt: HostRuntime) -> Result<(), Fail> {
-    let header = header_of_order(rt.alloc(), 13, 2)?;
-    for passes in CALLS {
-        let mut image = FailingStorage::new(rt.alloc(), pattern(rt.alloc(), 8192)?);
-        image.fail_after(passes);
-        let answer = RefBlock::load(rt.alloc(), &mut image, &header, HostCluster(0));
-        same(answer.err(), Some(Fault::Storage), passes)?;
-        same(
-            (image.failures(), image.calls().len() as u64),
-            (1, passes + 1),
-            passes,
-        )?;
-        let block = RefBlock::load(rt.alloc(), &mut image, &header, HostCluster(0))?;
-        same(other_counter(&block, 2, 1), None, passes)?;
-    }
-    Ok(())
+// Loads a block of 8192 bytes where the call after so many fails, and then once more.
+fn loads_again(alloc: Global, order: u32, passes: u64) -> Result<RefBlock, Fail> {
+    let row = (order, passes);
+    let header = header_of_order(alloc, 13, order)?;
+    let mut image = FailingStorage::new(alloc, pattern(alloc, 8192)?);
+    image.fail_after(passes);
+    let answer = load(alloc, &mut image, &header, 0);
+    same(answer.err(), Some(Fault::Storage), row)?;
+    let counts = (image.failures(), image.calls().len() as u64);
+    same(counts, (1, passes.saturating_add(1)), row)?;
+    let block = load(alloc, &mut image, &header, 0)?;
+    same(other_counter(&block, order, 1), None, row)?;
+    Ok(block)
 }
 
 // An image of 0xa5 whose first bytes, so many, are those of the pattern.
@@ -421,22 +374,57 @@ fn begun(alloc: Global, written: usize) -> Result<MemStorage, Fault> {
     Ok(MemStorage::new(bytes))
 }
 
+// Writes the block of the pattern where the call after so many fails, and then once more.
+fn writes_again(alloc: Global, block: &mut RefBlock, passes: u64) -> Result<(), Fail> {
+    let mut image = FailingStorage::new(alloc, filled_image(alloc, 8192)?);
+    image.fail_after(passes);
+    same(write(block, &mut image), Err(Fault::Storage), passes)?;
+    same(block.is_modified(), true, passes)?;
+    let written = begun(alloc, (passes as usize).saturating_mul(4096))?;
+    same_bytes(image.inner().bytes(), written.bytes(), passes)?;
+    same(write(block, &mut image), Ok(()), passes)?;
+    same(block.is_modified(), false, passes)?;
+    let whole = pattern(alloc, 8192)?;
+    same_bytes(image.inner().bytes(), whole.bytes(), passes)
+}
+
 #[test]
-fn a_failed_write_of_a_block_leaves_what_it_had_not_reached(rt: HostRuntime) -> Result<(), Fail> {
-    let header = header_of_order(rt.alloc(), 13, 2)?;
-    let mut whole = pattern(rt.alloc(), 8192)?;
-    for passes in CALLS {
-        let mut block = RefBlock::load(rt.alloc(), &mut whole, &header, HostCluster(0))?;
-        let mut image = FailingStorage::new(rt.alloc(), filled_image(rt.alloc(), 8192)?);
-        image.fail_after(passes);
-        same(block.write(&mut image), Err(Fault::Storage), passes)?;
-        same(block.is_modified(), true, passes)?;
-        let written = begun(rt.alloc(), 4096 * passes as usize)?;
-        same_bytes(image.inner().bytes(), written.bytes(), passes)?;
-        same(block.write(&mut image), Ok(()), passes)?;
-        same_bytes(image.inner().bytes(), whole.bytes(), passes)?;
+fn each_failed_call_of_a_block_of_each_width_is_told(rt: HostRuntime) -> Result<(), Fail> {
+    for order in 0..7u32 {
+        for passes in CALLS {
+            let mut block = loads_again(rt.alloc(), order, passes)?;
+            writes_again(rt.alloc(), &mut block, passes)?;
+        }
     }
     Ok(())
+}
+
+// Enters the block in the table's first entry, which may be that at the cluster, and with pending clusters or
+// with none.
+fn enter(
+    table: &mut RefTable,
+    block: &mut RefBlock,
+    cluster: Option<u64>,
+    pending: bool,
+) -> Result<Option<(Fault, Option<ClustersToFreeEntry>)>, Fail> {
+    if table.cluster_bits() != 9 || block.cluster_bits() != 9 || !table.in_bounds(0) {
+        return Err("another cluster size, or no entry".into());
+    }
+    if let Some(cluster) = cluster {
+        if cluster == 0 || cluster > (1 << 47) - 1 {
+            return Err("a cluster that no entry holds".into());
+        }
+        block.set_cluster(HostCluster(cluster));
+    } else if block.get_cluster().is_some() {
+        return Err("a block that has a cluster".into());
+    }
+    let pending = if pending {
+        let first = HostCluster(cluster.unwrap_or(0));
+        Some(PendingClusters::new(first, ClusterCount(1)))
+    } else {
+        None
+    };
+    Ok(refusal(table.enter_refblock(0, block, pending)))
 }
 
 // Enters a block in the first entry of a table, and says what the entry is then, whether the table counts as
@@ -445,24 +433,10 @@ type Entered = (u64, bool, Option<(Fault, Option<ClustersToFreeEntry>)>);
 
 fn entered(alloc: Global, cluster: Option<u64>, pending: bool) -> Result<Entered, Fail> {
     let header = header_of_order(alloc, 9, 4)?;
-    let image = filled_image(alloc, 16)?;
-    let mut block = RefBlock::new_cleared(alloc, &image, &header)?;
-    let mut first = 0;
-    if let Some(cluster) = cluster {
-        if cluster == 0 || cluster > (1 << 47) - 1 {
-            return Err("a cluster that no entry holds".into());
-        }
-        block.set_cluster(HostCluster(cluster));
-        first = cluster;
-    }
-    let mut table: RefTable = cleared_table(alloc, &header, 64)?;
+    let mut block = new_cleared(alloc, &header)?;
+    let mut table = cleared_reftable(alloc, &header, 64)?;
     table.clear_modified();
-    let pending = if pending {
-        Some(PendingClusters::new(HostCluster(first), ClusterCount(1)))
-    } else {
-        None
-    };
-    let refused = refusal(table.enter_refblock(0, &block, pending));
+    let refused = enter(&mut table, &mut block, cluster, pending)?;
     Ok((table.get(0).to_plain(), table.is_modified(), refused))
 }
 

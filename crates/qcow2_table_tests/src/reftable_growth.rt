@@ -1,11 +1,30 @@
 //! Refcount tables: how they grow, and how many spare entries they take along for that.
 
-use crate::fixtures::{LOADED, NUMBER, Told, cleared_table, place, table_that_tells, tells};
-use crate::refcount_blocks::header_of_order;
-use qcow2_base::Fault;
+use crate::fixtures::{
+    CLEARED, NUMBER, Told, cleared_reftable, header_of_order, table_that_tells, tells,
+};
+use qcow2_base::{ClusterCount, Fault};
 use qcow2_metadata::{Header, RefTable, Table, Turns, least_spare};
-use qcow2_testing::{FailingStorage, StorageCall, holds, image_with, same, same_bytes};
+use qcow2_testing::{holds, same};
 use std::test::Fail;
+
+/// What the growth of a table answers.
+pub(crate) fn grow(table: &RefTable, index: usize, header: &Header) -> Result<RefTable, Fault> {
+    if header.cluster_bits() != table.cluster_bits() {
+        return Err(Fault::WrongLength);
+    }
+    table.clone_and_grow(header, index)
+}
+
+// The least spare entries, if there may be so many, and the turns that it took to find them.
+fn spare_of(len: usize, index: usize, header: &Header) -> (Option<usize>, usize) {
+    if index >= 4194304 {
+        return (None, 0);
+    }
+    let mut turns = Turns::new();
+    let spare = least_spare(len, index, header, &mut turns);
+    (spare, turns.count())
+}
 
 /// A growth of a refcount table: cluster bits and refcount order, how many entries there are and the
 /// index that the table is to hold; how many spare entries are the least, and how many entries there are
@@ -50,22 +69,19 @@ const GROWTHS: &[Growth] = &[
     (21, 6, 0, 262143, Some((1, 524288))),
     (21, 4, 4194304, 4194302, Some((1, 4194304))),
     (21, 0, 0, 4194303, None),
+    (9, 6, 0, 4194304, None),
+    (9, 4, 1, usize::MAX, None),
 ];
 
 #[test]
 fn the_spare_entries_are_the_least_that_count_themselves(rt: HostRuntime) -> Result<(), Fail> {
     for row in GROWTHS {
         let (bits, order, len, index, want) = *row;
-        if index >= 4194304 {
-            return Err("an index that no table has".into());
-        }
         let header = header_of_order(rt.alloc(), bits, order)?;
-        let mut turns = Turns::new();
-        same(turns.count(), 0, row)?;
-        let spare = least_spare(len, index, &header, &mut turns);
+        let (spare, turns) = spare_of(len, index, &header);
         same(spare, want.map(|want: (usize, usize)| want.0), row)?;
         if let Some(spare) = spare {
-            holds(1 <= turns.count() && turns.count() <= spare, row)?;
+            holds(1 <= turns && turns <= spare, row)?;
         }
     }
     Ok(())
@@ -74,52 +90,24 @@ fn the_spare_entries_are_the_least_that_count_themselves(rt: HostRuntime) -> Res
 #[test]
 fn a_spare_of_a_thousand_is_found_in_three_turns(rt: HostRuntime) -> Result<(), Fail> {
     let header = header_of_order(rt.alloc(), 9, 6)?;
-    let mut turns = Turns::new();
     same(
-        least_spare(4194304, 0, &header, &mut turns),
-        Some(1041),
+        spare_of(4194304, 0, &header),
+        (Some(1041), 3),
         "the most entries",
-    )?;
-    same(turns.count(), 3, "turns")
+    )
 }
 
 #[test]
 fn a_refcount_table_grows_with_its_spare_entries(rt: HostRuntime) -> Result<(), Fail> {
     for row in GROWTHS {
         let (bits, order, entries, index, want) = *row;
-        if entries > 4194305 {
-            return Err("more entries than the tests have".into());
-        }
         let header = header_of_order(rt.alloc(), bits, order)?;
-        let source: RefTable = cleared_table(rt.alloc(), &header, entries)?;
-        let answer = source.clone_and_grow(&header, index);
-        let told = Told {
-            entries,
-            entry: (0, 0),
-            cluster: None,
-            modified: true,
-        };
-        tells(&source, &told, row)?;
+        let source = cleared_reftable(rt.alloc(), &header, entries)?;
+        let answer = grow(&source, index, &header);
+        tells(&source, &Told { entries, ..CLEARED }, row)?;
         match want {
             None => same(answer.err(), Some(Fault::CannotGrow), row)?,
-            Some((_, entries)) => {
-                let grown = answer?;
-                tells(&grown, &Told { entries, ..told }, row)?;
-                holds(grown.in_bounds(index) && !grown.in_bounds(entries), row)?;
-            }
-        }
-    }
-    Ok(())
-}
-
-#[test]
-fn a_refcount_table_does_not_grow_to_an_index_of_no_table(rt: HostRuntime) -> Result<(), Fail> {
-    for index in [4194304, 4194305, usize::MAX - 1, usize::MAX] {
-        for bits in [9, 16, 21] {
-            let header = header_of_order(rt.alloc(), bits, 4)?;
-            let source: RefTable = cleared_table(rt.alloc(), &header, 1)?;
-            let answer = source.clone_and_grow(&header, index);
-            same(answer.err(), Some(Fault::CannotGrow), (bits, index))?;
+            Some((_, entries)) => tells(&answer?, &Told { entries, ..CLEARED }, row)?,
         }
     }
     Ok(())
@@ -127,7 +115,7 @@ fn a_refcount_table_does_not_grow_to_an_index_of_no_table(rt: HostRuntime) -> Re
 
 #[test]
 fn a_grown_refcount_table_has_the_old_entries_and_no_cluster(rt: HostRuntime) -> Result<(), Fail> {
-    let header = Header::new(rt.alloc(), 9, 6, None, None, None)?;
+    let header = header_of_order(rt.alloc(), 9, 6)?;
     for modified in [false, true] {
         let told = Told {
             entries: 4096,
@@ -136,42 +124,15 @@ fn a_grown_refcount_table_has_the_old_entries_and_no_cluster(rt: HostRuntime) ->
             modified,
         };
         let source: RefTable = table_that_tells(rt.alloc(), &header, &told)?;
-        for (index, entries) in [(0, 4096), (4093, 4096), (4094, 4160), (4096, 4160)] {
-            let grown = source.clone_and_grow(&header, index)?;
-            let told_grown = Told {
-                entries,
-                cluster: None,
-                modified: true,
-                ..told
-            };
-            tells(&grown, &told_grown, (modified, index))?;
-        }
-        let answer = source.clone_and_grow(&header, 4194303);
-        same(answer.err(), Some(Fault::CannotGrow), modified)?;
+        let grown = grow(&source, 4096, &header)?;
+        let told_grown = Told {
+            entries: 4160,
+            entry: told.entry,
+            ..CLEARED
+        };
+        tells(&grown, &told_grown, modified)?;
+        same(grown.cluster_count(), ClusterCount(65), modified)?;
         tells(&source, &told, modified)?;
     }
     Ok(())
-}
-
-#[test]
-fn a_grown_refcount_table_is_written_whole(rt: HostRuntime) -> Result<(), Fail> {
-    let header = Header::new(rt.alloc(), 9, 4, None, None, None)?;
-    let told = Told {
-        entries: 1,
-        entry: (0, NUMBER),
-        ..LOADED
-    };
-    let source: RefTable = table_that_tells(rt.alloc(), &header, &told)?;
-    let mut grown = source.clone_and_grow(&header, 64)?;
-    let inner = image_with(rt.alloc(), 2048, &[(512, u64::MAX), (1528, u64::MAX)])?;
-    let mut image = FailingStorage::new(rt.alloc(), inner);
-    place(&mut grown, Some(1), true)?;
-    same(grown.write(&mut image), Ok(()), "write")?;
-    let call = StorageCall::Write {
-        offset: 512,
-        len: 1024,
-    };
-    same(image.calls(), [call].as_slice(), "write")?;
-    let want = image_with(rt.alloc(), 2048, &[(512, NUMBER)])?;
-    same_bytes(image.inner().bytes(), want.bytes(), "write")
 }
