@@ -105,8 +105,11 @@ fn enter(
 ) -> Result<(), Fail> {
     let bits = l1_table.cluster_bits();
     let mut l2_table = L2Table::new_cleared(alloc, &header_with(alloc, bits, false)?)?;
-    if !is_referable(cluster, bits) || !fits(cluster, 0, bits) || !l1_table.in_bounds(index) {
-        return Err("no such cluster or no such index".into());
+    if l2_table.cluster_bits() != bits || !l1_table.in_bounds(index) {
+        return Err("a table of another cluster size, or no such index".into());
+    }
+    if !is_referable(cluster, bits) || !fits(cluster, 0, bits) {
+        return Err("no such cluster".into());
     }
     l2_table.set_cluster(HostCluster(cluster));
     let new_allocation = if is_pending {
@@ -164,8 +167,11 @@ fn refusal_of(
         alloc,
         &header_with(alloc, l1_table.cluster_bits(), false)?,
     )?;
-    if l2_table.get_cluster().is_some() || !l1_table.in_bounds(0) {
+    if l2_table.cluster_bits() != l1_table.cluster_bits() || !l1_table.in_bounds(0) {
         return Err(Fault::WrongLength);
+    }
+    if l2_table.get_cluster().is_some() {
+        return Err(Fault::TablePlace);
     }
     let pending = match pending {
         Some(clusters) => Some(PendingClusters::new(clusters.first, clusters.count)),

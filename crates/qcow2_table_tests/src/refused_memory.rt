@@ -140,7 +140,7 @@ fn table_and_image(alloc: Global) -> Result<(L1Table, MemStorage), Fault> {
         cluster: Some(1),
         modified: true,
     };
-    let image = filled_image(alloc, 16384)?.with_align(8192);
+    let image = filled_image(alloc, 16384)?.with_align(1 << 13);
     Ok((table_that_tells(alloc, &header, &told)?, image))
 }
 
