@@ -15,7 +15,7 @@ use crate::tables::{has, says, table_of, table_with};
 use qcow2_base::{Fault, GuestOffset, HostCluster, MemStorage};
 use qcow2_metadata::{L2Mapping, Table};
 use qcow2_session::{Edit, Step, StepReply};
-use qcow2_testing::{same, same_bytes};
+use qcow2_testing::{FaultyFiles, same, same_bytes};
 use std::fs;
 use std::test::Fail;
 
@@ -36,9 +36,10 @@ fn a_listing_that_memory_refused_prints_nothing(rt: HostRuntime) -> Result<(), F
 fn a_command_that_memory_refused_reports_it(rt: HostRuntime) -> Result<(), Fail> {
     let file = one_mapping(&rt, "refused-memory")?;
     let words = ["l2", "IMAGE", "9", "2"];
-    let run = Run::of(&rt, file.path.as_str(), &words)?;
+    let files = FaultyFiles::new(&rt);
+    let run = Run::of(&files, file.path.as_str(), &words)?;
     if run.status != 0 {
-        run.was_refused("l2")?;
+        run.was_refused(&files, "l2")?;
     }
     let run = Run::of(&rt, file.path.as_str(), &words)?;
     run.has((0, "3 data 0xa00 copied\n", ""), "with memory")
@@ -49,11 +50,12 @@ fn a_command_over_an_image_that_memory_refused_changes_nothing(
     rt: HostRuntime,
 ) -> Result<(), Fail> {
     let before = sample_image(rt.alloc(), 9, &[])?;
-    for (words, printed) in PRINTS {
+    for (words, printed, _) in PRINTS {
         let file = sample_file(&rt, "refused-memory-of-each", &[])?;
-        let mut run = Run::of(&rt, file.path.as_str(), words)?;
+        let files = FaultyFiles::new(&rt);
+        let mut run = Run::of(&files, file.path.as_str(), words)?;
         if run.status != 0 {
-            run.was_refused(words)?;
+            run.was_refused(&files, words)?;
             let bytes = fs::read(&rt, file.path.as_str())?;
             same_bytes(bytes.as_slice(), before.as_slice(), words)?;
             run = Run::of(&rt, file.path.as_str(), words)?;

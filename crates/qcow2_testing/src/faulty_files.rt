@@ -29,6 +29,7 @@ pub struct FaultyFiles<'a, R> {
     /// Whether a file that is to be opened in another way than for reading is refused.
     pub read_only: bool,
     opens: Cell<Opens>,
+    has_refused: Cell<bool>,
 }
 
 impl<'a, R> FaultyFiles<'a, R> {
@@ -45,7 +46,13 @@ impl<'a, R> FaultyFiles<'a, R> {
             end: u64::MAX,
             read_only: false,
             opens: Cell::new(opens),
+            has_refused: Cell::new(false),
         }
+    }
+
+    /// Whether the last file that was to be opened could not be.
+    pub fn has_refused(&self) -> bool {
+        self.has_refused.get()
     }
 
     /// How many times a file was opened so far, or was to be.
@@ -151,11 +158,14 @@ impl<R: Files> Files for FaultyFiles<'_, R> {
     type Dir = R::Dir;
 
     fn open_file(&self, how: &OpenOptions, path: &str) -> io::Result<FaultyFile<R::File>> {
+        self.has_refused.set(true);
         if !self.admits(how) {
             return Err(ErrorKind::PermissionDenied.into());
         }
+        let file = self.files.open_file(how, path)?;
+        self.has_refused.set(false);
         Ok(FaultyFile {
-            file: self.files.open_file(how, path)?,
+            file,
             plan: Cell::new(self.plan),
             step: self.step,
             end: self.end,

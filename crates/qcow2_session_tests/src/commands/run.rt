@@ -65,11 +65,15 @@ impl Run {
         same(&(self.status, out, err), &expected, row)
     }
 
-    // Holds of a run that memory was refused. To open a file takes memory too: where that is refused,
-    // the storage fails.
-    pub(crate) fn was_refused<R: Debug + Drop>(&self, row: R) -> Result<(), Fail> {
-        let opened = self.err.bytes() != STORAGE.as_bytes();
-        self.has((1, "", if opened { NO_MEMORY } else { STORAGE }), row)
+    // Holds of a run that memory was refused. To open a file takes memory too: where it could not be opened,
+    // the storage fails, and nowhere else.
+    pub(crate) fn was_refused<F, R: Debug + Drop>(
+        &self,
+        files: &FaultyFiles<'_, F>,
+        row: R,
+    ) -> Result<(), Fail> {
+        let fault = if files.has_refused() { STORAGE } else { NO_MEMORY };
+        self.has((1, "", fault), row)
     }
 }
 
@@ -114,27 +118,29 @@ pub(crate) fn refuses<R: Files + AllocGlobal>(
     Ok(())
 }
 
-// Runs a line of words over a file that fails its call after so many, and tells whether the run comes
-// to that call. Then it ends in the storage fault, and else it prints this.
-pub(crate) fn meets_failure(
+// Runs a line of words over a file of which each call takes 100 bytes at most, with each call of the
+// file failed in turn: that is the storage fault. A run that has all of its calls prints this.
+pub(crate) fn fails_at_each_call(
     rt: &HostRuntime,
-    image: &str,
+    name: &str,
+    image: &[u8],
     words: &[&str],
-    printed: &str,
-    passes: u64,
-) -> Result<bool, Fail> {
-    let mut files = FaultyFiles::new(rt);
-    files.plan = Some(passes);
-    files.step = 100;
-    let run = Run::of(&files, image, words)?;
-    let fails = run.status != 0;
-    let expected = if fails {
-        (1, "", STORAGE)
-    } else {
-        (0, printed, "")
-    };
-    run.has(expected, (words, passes))?;
-    Ok(fails)
+    (printed, calls): (&str, u64),
+) -> Result<(), Fail> {
+    for passes in 0..=calls {
+        let file = temporary_file(rt, name, image)?;
+        let mut files = FaultyFiles::new(rt);
+        files.plan = Some(passes);
+        files.step = 100;
+        let expected = if passes < calls {
+            (1, "", STORAGE)
+        } else {
+            (0, printed, "")
+        };
+        let run = Run::of(&files, file.path.as_str(), words)?;
+        run.has(expected, (words, passes))?;
+    }
+    Ok(())
 }
 
 // So many first bytes of a text.
@@ -358,20 +364,12 @@ fn a_file_that_may_not_be_written_is_opened_for_reading_alone(rt: HostRuntime) -
     Ok(())
 }
 
+// The file's kind and its length are asked for, the place is set, and 512 bytes are read by six calls.
 #[test]
 fn each_failed_call_of_the_file_is_the_storage_fault(rt: HostRuntime) -> Result<(), Fail> {
-    let file = one_mapping(&rt, "failed-calls")?;
-    let (mut failed, mut passed) = (false, false);
-    for passes in 0..32 {
-        let words = ["l2", "IMAGE", "9", "2"];
-        let fails = meets_failure(&rt, file.path.as_str(), &words, ONE_MAPPING, passes)?;
-        failed |= fails;
-        passed |= !fails;
-    }
-    holds(
-        failed && passed,
-        "some calls are planned to fail, and not all",
-    )
+    let image = image_with_one_mapping(rt.alloc())?;
+    let words = ["l2", "IMAGE", "9", "2"];
+    fails_at_each_call(&rt, "failed-calls", &image, &words, (ONE_MAPPING, 9))
 }
 
 const LINES: &str = "0 data 0xa00 copied\n2 zero\n3 zero 0x600\n4 compressed 0x600 512\n";

@@ -1,6 +1,6 @@
 //! The commands over whole images: what they print, and what the file is then.
 
-use super::run::{Outcome, STORAGE, begin, meets_failure, refuses, runs, runs_failing};
+use super::run::{Outcome, STORAGE, begin, fails_at_each_call, refuses, runs, runs_failing};
 use crate::Failure;
 use crate::sample_image::{COPIED, Numbers, put_all, sample_image};
 use qcow2_base::{Fault, MemStorage};
@@ -390,15 +390,28 @@ fn an_image_of_a_header_alone_maps_nothing(rt: HostRuntime) -> Result<(), Fail> 
     runs_each(&rt, file.path.as_str(), UNMAPPED)
 }
 
-// Commands over the sample image, and what they print.
-pub(crate) const PRINTS: &[(&[&str], &str)] = &[
-    (&["info", "IMAGE"], INFO),
-    (&["list", "IMAGE"], LIST),
-    (&["at", "IMAGE", "1543"], "data 0xa00 copied\n"),
-    (&["edit", "IMAGE", "0", "map:3:6"], "freed 5 1\ngained 6\n"),
+// Commands over the sample image, what they print, and how many calls of its file they make where one takes 100
+// bytes at most. Each asks for the file's kind by one call, and reads the header's 512 bytes by eleven: 104 by four,
+// and 408 by seven. A read asks for the length, sets the place, and goes on until it has its bytes below the end; a
+// write sets the place, goes on until all is written, and flushes. An L1 table of one entry takes three calls, a
+// table of 512 bytes eight, a block past the end one; to write one of these takes eight.
+pub(crate) const PRINTS: &[(&[&str], &str, u64)] = &[
+    (&["info", "IMAGE"], INFO, 1 + 11),
+    (&["list", "IMAGE"], LIST, 1 + 11 + 3 + 8),
+    (
+        &["at", "IMAGE", "1543"],
+        "data 0xa00 copied\n",
+        1 + 11 + 3 + 8,
+    ),
+    (
+        &["edit", "IMAGE", "0", "map:3:6"],
+        "freed 5 1\ngained 6\n",
+        1 + 11 + 3 + 8 + 8,
+    ),
     (
         &["count", "IMAGE", "3", "inc:0", "dec:1"],
         "ok 0\nrefused\n",
+        1 + 11 + 1 + 8,
     ),
 ];
 
@@ -406,27 +419,16 @@ pub(crate) const PRINTS: &[(&[&str], &str)] = &[
 fn each_failed_call_of_the_file_is_the_storage_fault_of_each_command(
     rt: HostRuntime,
 ) -> Result<(), Fail> {
-    for (words, printed) in PRINTS {
-        fails_at_some_calls(&rt, words, printed)?;
+    let image = sample_image(rt.alloc(), 9, &[])?;
+    for (words, printed, calls) in PRINTS {
+        fails_at_each_call(&rt, "failed-calls-of-each", &image, words, (*printed, *calls))?;
     }
     Ok(())
 }
 
-// Runs words over files that fail at one call after the other, until no call is left to fail.
-fn fails_at_some_calls(rt: &HostRuntime, words: &[&str], printed: &str) -> Result<(), Fail> {
-    let (mut failed, mut passed) = (false, false);
-    for passes in 0..40 {
-        let file = sample_file(rt, "failed-calls-of-each", &[])?;
-        let fails = meets_failure(rt, file.path.as_str(), words, printed, passes)?;
-        failed |= fails;
-        passed |= !fails;
-    }
-    holds(failed && passed, words)
-}
-
 #[test]
 fn a_failed_output_is_the_storage_fault_of_each_command(rt: HostRuntime) -> Result<(), Fail> {
-    for (words, printed) in PRINTS {
+    for (words, printed, _) in PRINTS {
         prints_what_is_taken(&rt, words, printed)?;
     }
     Ok(())
