@@ -7,7 +7,8 @@ ghost use Rattle.qcow2_base.specs.Types.{IsClusterBits};
 
 use anyhow::Result;
 use qcow2_base::{HostCluster, MemStorage};
-use qcow2_metadata::{Header, L2Table, Table};
+use qcow2_metadata::{Header, L2Table, RefBlock, Table};
+use qcow2_session::{Edit, edit_settled, edit_table};
 use std::alloc::Global;
 use std::env;
 use std::time::{CpuClock, Duration};
@@ -29,7 +30,7 @@ fn main(rt: HostRuntime) -> Result<()> {
             measure(&rt, name, entries, cluster_bits, rounds)?;
         }
     }
-    Ok(())
+    measure_edits(&rt, rounds.min(20))
 }
 
 fn rounds(rt: &HostRuntime) -> Result<u32> {
@@ -67,6 +68,61 @@ fn measure(
     eprintln!(rt; "load-{name} {count} {}", loaded.as_nanos())?;
     eprintln!(rt; "write-{name} {count} {}", written.as_nanos())?;
     Ok(())
+}
+
+// The least time of 8192 edits of an L2 table of 262144 entries, of a copy of the table, and of the same
+// edits together with their counters, in clusters of 2 MiB.
+fn measure_edits(rt: &HostRuntime, rounds: u32) -> Result<()> {
+    let alloc = rt.alloc();
+    let header = Header::new(alloc, 21, 4, None, None, None)?;
+    let mut image = MemStorage::new(image_with(
+        alloc,
+        header.cluster_size(),
+        262144,
+        Entries::Data,
+    )?);
+    let mut counters = image_of_ones(alloc)?;
+    let edits = edits_of_every_32nd_entry(alloc)?;
+    let (mut edited, mut copied, mut settled) = (Duration::MAX, Duration::MAX, Duration::MAX);
+    for _ in 0..rounds {
+        let mut table = L2Table::load(alloc, &mut image, &header, HostCluster(1), 262144)?;
+        let mut block = RefBlock::load(alloc, &mut counters, &header, HostCluster(0))?;
+        let start = rt.thread_cpu_time()?;
+        let mut copy = table.try_clone()?;
+        let after_copy = rt.thread_cpu_time()?;
+        edit_table(alloc, &mut copy, &edits)?;
+        let after_edits = rt.thread_cpu_time()?;
+        edit_settled(alloc, &mut table, &mut block, &header, 0, &edits)?;
+        let end = rt.thread_cpu_time()?;
+        copied = copied.min(after_copy.saturating_sub(start));
+        edited = edited.min(after_edits.saturating_sub(after_copy));
+        settled = settled.min(end.saturating_sub(after_edits));
+    }
+    eprintln!(rt; "copied 262144 {}", copied.as_nanos())?;
+    eprintln!(rt; "edited 8192 {}", edited.as_nanos())?;
+    eprintln!(rt; "settled 8192 {}", settled.as_nanos())?;
+    Ok(())
+}
+
+// Each maps another cluster in place of the one that the entry has.
+fn edits_of_every_32nd_entry(alloc: Global) -> Result<Vec<Edit>> {
+    let mut edits = Vec::new(alloc);
+    for at in 0..8192 {
+        edits.push(Edit::Map {
+            index: 32 * at,
+            host_cluster: HostCluster(300000 + at as u64),
+        })?;
+    }
+    Ok(edits)
+}
+
+// A block of 2 MiB whose counters are all 1, of 16 bits each.
+fn image_of_ones(alloc: Global) -> Result<MemStorage> {
+    let mut bytes = Vec::new(alloc);
+    for _ in 0..1u32 << 20 {
+        bytes.extend_from_slice(&[0, 1])?;
+    }
+    Ok(MemStorage::new(bytes))
 }
 
 // An image whose second cluster is a table of so many entries.

@@ -2,7 +2,8 @@
 #![tactic(auto)]
 
 use qcow2_base::{Fault, GuestCluster, HostCluster, MemStorage};
-use qcow2_metadata::{ClustersToFreeEntry, Header, L2Mapping, L2Table, Table};
+use qcow2_metadata::{Header, L2Mapping, L2Table, RefBlock, Table};
+use qcow2_session::{Edit, Outcome, edit_settled};
 use std::alloc::Global;
 
 /// What guest cluster 3 reads as, by the L2 table that begins with cluster 2 of the image.
@@ -14,17 +15,19 @@ pub fn mapping_of_cluster_3(alloc: Global, bytes: Vec<u8>) -> Result<L2Mapping, 
     table.get_mapping(GuestCluster(3))
 }
 
-/// Takes that mapping away, in the image too. Hands back the clusters that it referred to.
-pub fn discard_cluster_3(
-    alloc: Global,
-    image: &mut MemStorage,
-) -> Result<Option<ClustersToFreeEntry>, Fault> {
+/// Takes that mapping away, and counts it in the first refcount block, which begins with cluster 3: in
+/// the image too, or not at all where the counters don't know of its clusters.
+pub fn discard_cluster_3(alloc: Global, image: &mut MemStorage) -> Result<Outcome, Fault> {
     let header = Header::new(alloc, 9, 4, None, None, None)?;
     let entries = header.l2_entries();
     let mut table = L2Table::load(alloc, image, &header, HostCluster(2), entries)?;
-    let freed = table.lock_write().discard_cluster(3);
+    let mut block = RefBlock::load(alloc, image, &header, HostCluster(3))?;
+    let edits = [Edit::Discard { index: 3 }];
+    let outcome = edit_settled(alloc, &mut table, &mut block, &header, 0, &edits)?;
+    // In this order a crash between leaves a cluster that is counted and not used, and no worse.
     table.write(image)?;
-    Ok(freed)
+    block.write(image)?;
+    Ok(outcome)
 }
 
 #[cfg(test)]

@@ -254,6 +254,15 @@ impl RefBlock {
         self.cluster_bits
     }
 
+    /// The logarithm of the number of bits that a counter has, from 0 to 6.
+    #[inline]
+    pub fn refcount_order(&self) -> u32
+        ensures value { result ≡ self.now.refcount_order }
+        ensures range { result ≤ 6 }
+    {
+        self.refcount_order
+    }
+
     /// Whether the block was changed since it was last read or written.
     #[inline]
     pub fn is_modified(&self) -> bool

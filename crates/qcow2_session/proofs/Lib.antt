@@ -17,5 +17,6 @@ pub mod ListingLemmas
 pub mod LookupsLemmas
 pub mod PrintingLemmas
 pub mod ReportLemmas
+pub mod SettledLemmas
 pub mod StepsLemmas
 pub mod WholeImageLemmas

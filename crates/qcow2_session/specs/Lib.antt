@@ -9,6 +9,7 @@ pub mod Lookups
 pub mod Printing
 pub mod Report
 pub mod Running
+pub mod Settled
 pub mod Steps
 pub mod WholeImage
 pub mod Words

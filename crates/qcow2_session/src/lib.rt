@@ -10,6 +10,6 @@ pub use commands::{
     report_fault, run_words,
 };
 pub use session::{
-    Edit, Outcome, Step, StepReply, edit_image, edit_table, edits_fit, lookup, lookup_image,
-    step_block, step_image,
+    Edit, Outcome, Step, StepReply, edit_image, edit_settled, edit_table, edits_fit, lookup,
+    lookup_image, settle, step_block, step_image,
 };

@@ -1,13 +1,15 @@
 //! Whole lists of changes: edits of an L2 table, and counter steps of a refcount block, in memory and in an
-//! image. What a guest offset reads as.
+//! image. Counters that follow what edits did to references. What a guest offset reads as.
 
 mod edits;
 mod images;
 mod lookups;
+mod settled;
 mod steps;
 
 pub use edits::{Edit, Outcome, edit_table, edits_fit};
 pub use images::{edit_image, step_image};
 pub(crate) use lookups::{load_l1_table, lookup_with_header};
 pub use lookups::{lookup, lookup_image};
+pub use settled::{edit_settled, settle};
 pub use steps::{Step, StepReply, step_block};

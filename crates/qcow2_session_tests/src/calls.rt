@@ -103,3 +103,34 @@ pub(crate) fn new_block(
 pub(crate) fn write_block(block: &mut RefBlock, image: &mut MemStorage) -> Result<(), Fault> {
     block.write(image)
 }
+
+pub(crate) fn settle(
+    block: &mut RefBlock,
+    header: &Header,
+    rt_index: usize,
+    outcome: &Outcome,
+) -> Result<(), Fault> {
+    if header.cluster_bits() != block.cluster_bits()
+        || header.refcount_order() != block.refcount_order()
+    {
+        return Err(Fault::WrongLength);
+    }
+    qcow2_session::settle(block, header, rt_index, outcome)
+}
+
+pub(crate) fn edit_settled(
+    table: &mut L2Table,
+    block: &mut RefBlock,
+    header: &Header,
+    rt_index: usize,
+    edits: &[Edit],
+) -> Result<Outcome, Fault> {
+    if header.cluster_bits() != block.cluster_bits()
+        || header.refcount_order() != block.refcount_order()
+        || header.cluster_bits() != table.cluster_bits()
+        || header.external_data_file() != table.external_data_file()
+    {
+        return Err(Fault::WrongLength);
+    }
+    qcow2_session::edit_settled(table.allocator(), table, block, header, rt_index, edits)
+}

@@ -28,6 +28,8 @@ mod refused_memory;
 #[cfg(test)]
 mod sample_image;
 #[cfg(test)]
+mod settled;
+#[cfg(test)]
 mod steps;
 #[cfg(test)]
 mod tables;

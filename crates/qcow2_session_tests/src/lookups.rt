@@ -430,8 +430,8 @@ fn meets_failures(alloc: Global, bytes: &[u8], goes_by_tables: bool) -> Result<(
     )
 }
 
-// Looks an offset up where the call after so many fails, by the image alone or by tables that are loaded first,
-// and tells whether the lookup comes to that call. Then it looks the offset up again.
+// Looks an offset up where the call after so many fails, by the image alone or by tables that are loaded
+// first, and tells whether the lookup comes to that call. Then it looks the offset up again.
 fn meets_failure(
     alloc: Global,
     bytes: &[u8],

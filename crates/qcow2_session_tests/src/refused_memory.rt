@@ -5,7 +5,7 @@
 //! of the test's own, the test ends with an error before the call that it is for.
 
 use crate::blocks::{block_says, block_with, flag};
-use crate::calls::{edit_image, edit_table, lookup_image, step_block, step_image};
+use crate::calls::{edit_image, edit_settled, edit_table, lookup_image, step_block, step_image};
 use crate::commands::Listing;
 use crate::commands::run::{Run, one_mapping};
 use crate::commands::whole_images::{PRINTS, sample_file};
@@ -191,4 +191,22 @@ fn steps_that_memory_refused_leave_the_image(rt: HostRuntime) -> Result<(), Fail
     let replies = [StepReply::Done(7), StepReply::Refused];
     same(answer?.as_slice(), &replies, "with memory")?;
     same_bytes(image.bytes(), after.bytes(), "with memory")
+}
+
+#[test]
+fn settled_edits_that_memory_refused_leave_table_and_block(rt: HostRuntime) -> Result<(), Fail> {
+    let header = header_with(rt.alloc(), 9, 4, false)?;
+    let entries: &[u64] = &[0x8000_0000_0000_0a00, 0, 0, 0x8000_0000_0000_0c00];
+    let mut table = table_with(rt.alloc(), 9, false, (0, entries))?;
+    let mut block = block_with(rt.alloc(), 4, &[0, 1, 0, 1, 0, 1, 0, 1, 0, 1, 0, 1, 0, 1])?;
+    let edits = [Edit::Discard { index: 0 }, Edit::Discard { index: 3 }];
+    let mut answer = edit_settled(&mut table, &mut block, &header, 0, &edits);
+    if matches!(answer, Err(Fault::NoMemory)) {
+        says(&table, (0, entries), false, "refused")?;
+        block_says(&block, &[1, 1, 1, 1, 1, 1, 1], false, "refused")?;
+        answer = edit_settled(&mut table, &mut block, &header, 0, &edits);
+    }
+    has(&answer?, &[], &[(5, 1), (6, 1)], "with memory")?;
+    says(&table, (0, &[]), true, "with memory")?;
+    block_says(&block, &[1, 1, 1, 1, 1, 0, 0], true, "with memory")
 }

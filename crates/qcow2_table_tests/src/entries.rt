@@ -144,6 +144,9 @@ fn means(
     same((kept.get(), kept.to_plain()), (entry, number), row)
 }
 
+/// Bit 63 of an entry: its cluster has no other reference.
+const COPIED: u64 = 0x8000_0000_0000_0000;
+
 #[test]
 fn a_standard_entry_refers_to_its_cluster(rt: HostRuntime) -> Result<(), Fail> {
     let last = 0x7fff_ffff_ffff;
@@ -151,38 +154,18 @@ fn a_standard_entry_refers_to_its_cluster(rt: HostRuntime) -> Result<(), Fail> {
     let table: [(Image, u64, Clusters, L2Mapping); 12] = [
         ((9, false), 0, None, backing(3584)),
         ((16, true), 0, None, backing(458752)),
-        ((9, false), 0x8000_0000_0000_0000, None, backing(3584)),
-        (
-            (9, true),
-            0x8000_0000_0000_0000,
-            Some((0, 1)),
-            data(0, true),
-        ),
-        (
-            (9, false),
-            0x8000_0000_0000_0a00,
-            Some((5, 1)),
-            data(5, true),
-        ),
+        ((9, false), COPIED, None, backing(3584)),
+        ((9, true), COPIED, Some((0, 1)), data(0, true)),
+        ((9, false), COPIED + 0xa00, Some((5, 1)), data(5, true)),
         ((9, true), 0xa00, Some((5, 1)), data(5, false)),
-        (
-            (9, false),
-            0x00ff_ffff_ffff_fe00,
-            Some((last, 1)),
-            data(last, false),
-        ),
+        ((9, false), last << 9, Some((last, 1)), data(last, false)),
         ((9, false), 1, None, zeros(None, false)),
-        ((9, false), 0x8000_0000_0000_0001, None, zeros(None, false)),
-        (
-            (9, true),
-            0x8000_0000_0000_0001,
-            Some((0, 1)),
-            zeros(Some(0), true),
-        ),
+        ((9, false), COPIED + 1, None, zeros(None, false)),
+        ((9, true), COPIED + 1, Some((0, 1)), zeros(Some(0), true)),
         ((9, false), 0xa01, Some((5, 1)), zeros(Some(5), false)),
         (
             (21, false),
-            0x8000_0000_0020_0001,
+            COPIED + 0x20_0001,
             Some((1, 1)),
             zeros(Some(1), true),
         ),

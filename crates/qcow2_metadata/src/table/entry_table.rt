@@ -86,7 +86,8 @@ fn padded<E: TableKind>(alloc: Global, entries: &[E], count: usize) -> Result<Ve
     Ok(list)
 }
 
-// Each number fits 64 bits, since it is read as one. What is read is let go, so a compiler leaves the loop out.
+// Each number fits 64 bits, since it is read as one. What is read is let go, so a compiler leaves the
+// loop out.
 #[inline]
 fn numbers_fit<E: TableEntry>(entries: &[E])
     ensures { All (λ v. v < 2 ^ 64) (map E.plain entries.now) }

@@ -72,7 +72,11 @@ impl Run {
         files: &FaultyFiles<'_, F>,
         row: R,
     ) -> Result<(), Fail> {
-        let fault = if files.has_refused() { STORAGE } else { NO_MEMORY };
+        let fault = if files.has_refused() {
+            STORAGE
+        } else {
+            NO_MEMORY
+        };
         self.has((1, "", fault), row)
     }
 }

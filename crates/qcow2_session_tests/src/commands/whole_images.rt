@@ -390,11 +390,12 @@ fn an_image_of_a_header_alone_maps_nothing(rt: HostRuntime) -> Result<(), Fail> 
     runs_each(&rt, file.path.as_str(), UNMAPPED)
 }
 
-// Commands over the sample image, what they print, and how many calls of its file they make where one takes 100
-// bytes at most. Each asks for the file's kind by one call, and reads the header's 512 bytes by eleven: 104 by four,
-// and 408 by seven. A read asks for the length, sets the place, and goes on until it has its bytes below the end; a
-// write sets the place, goes on until all is written, and flushes. An L1 table of one entry takes three calls, a
-// table of 512 bytes eight, a block past the end one; to write one of these takes eight.
+// Commands over the sample image, what they print, and how many calls of its file they make where one
+// takes 100 bytes at most. Each asks for the file's kind by one call, and reads the header's 512 bytes by
+// eleven: 104 by four, and 408 by seven. A read asks for the length, sets the place, and goes on until it
+// has its bytes below the end; a write sets the place, goes on until all is written, and flushes. An L1
+// table of one entry takes three calls, a table of 512 bytes eight, a block past the end one; to write one
+// of these takes eight.
 pub(crate) const PRINTS: &[(&[&str], &str, u64)] = &[
     (&["info", "IMAGE"], INFO, 1 + 11),
     (&["list", "IMAGE"], LIST, 1 + 11 + 3 + 8),
@@ -421,7 +422,13 @@ fn each_failed_call_of_the_file_is_the_storage_fault_of_each_command(
 ) -> Result<(), Fail> {
     let image = sample_image(rt.alloc(), 9, &[])?;
     for (words, printed, calls) in PRINTS {
-        fails_at_each_call(&rt, "failed-calls-of-each", &image, words, (*printed, *calls))?;
+        fails_at_each_call(
+            &rt,
+            "failed-calls-of-each",
+            &image,
+            words,
+            (*printed, *calls),
+        )?;
     }
     Ok(())
 }

@@ -1,0 +1,33 @@
+use Rattle.std.proofs.Common.{ℕ, ◌+◌}
+use Rattle.qcow2_metadata.specs.Refblock.{Increment}
+use Rattle.qcow2_session.specs.Settled.{ChangesCounters, just, times_among}
+use Rattle.qcow2_session.proofs.SettledLemmas.{can-settle, losses-short, moves-back, moves-flagged, settled-by}
+use Rattle.qcow2_session.proofs.session.settled.count_outcome.Goals as goal
+
+pub returns-clause-back : goal.returns-clause-back
+returns-clause-back c =
+    let by = λ (i : ℕ). times_among just c.args.outcome.now.gained.items (c.args.first + i) in
+    let up : ChangesCounters Increment by c.args.block.now c.count_all.new.block = rw c.as_slice-gained.ensures.value at c.in_default.ensures.changed in
+    moves-back Increment by c.args.block.now c.count_all-2.new.block c.count_list.new.block
+    (moves-flagged Increment by c.args.block.now c.count_all.new.block c.count_all-2.new.block c.in-Err-count_all.ensures.back.1 up)
+    (rw (c.unwrap.ensures, c.as_slice-gained.ensures.value) at c.count_list.ensures.changed)
+
+pub returns-clause-answer : goal.returns-clause-answer
+returns-clause-answer c =
+    let by = λ (i : ℕ). times_among just c.args.outcome.now.gained.items (c.args.first + i) in
+    let up : ChangesCounters Increment by c.args.block.now c.count_all.new.block = rw c.as_slice-gained.ensures.value at c.in_default.ensures.changed in (
+      c.in-Err-count_all.ensures.back.0,
+      losses-short c.args.first c.args.outcome.now.gained.items c.args.outcome.now.freed.items c.args.block.now c.count_all.new.block up
+          (rw c.as_slice.ensures.value at c.in-Err-count_all.ensures.short),
+    )
+
+pub returns-in_default-count_all-clause-answer : goal.returns-in_default-count_all-clause-answer
+returns-in_default-count_all-clause-answer c =
+    can-settle c.args.first c.args.outcome.now.gained.items c.args.outcome.now.freed.items c.args.block.now c.count_all.new.block c.count_all-2.new.block
+    (rw c.as_slice-gained.ensures.value at c.in_default.ensures.changed) c.count_all-2.ensures.fit (rw c.as_slice.ensures.value at c.in_default-count_all.ensures.changed)
+
+pub returns-in_default-count_all-clause-settled : goal.returns-in_default-count_all-clause-settled
+returns-in_default-count_all-clause-settled c =
+    settled-by c.args.first c.args.outcome.now.gained.items c.args.outcome.now.freed.items c.args.block.now c.count_all.new.block c.count_all-2.new.block
+    (rw c.as_slice-gained.ensures.value at c.in_default.ensures.changed) (rw c.as_slice-gained.ensures.value at c.in_default.ensures.flag)
+    (rw c.as_slice.ensures.value at c.in_default-count_all.ensures.changed) (rw c.as_slice.ensures.value at c.in_default-count_all.ensures.flag)

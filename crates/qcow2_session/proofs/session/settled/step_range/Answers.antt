@@ -1,0 +1,27 @@
+use Rattle.std.proofs.Common.{arith, inl}
+use Rattle.qcow2_metadata.specs.Edits.{one_if}
+use Rattle.qcow2_session.specs.Settled.{change_in, is_between}
+use Rattle.qcow2_session.proofs.SettledLemmas.{between-end, flags-as, moves-as, range-next, range-stops}
+use Rattle.qcow2_session.proofs.session.settled.step_range.Goals as goal
+
+pub loop-index-preserved : goal.loop-index-preserved
+loop-index-preserved c =
+    let next = range-next (change_in c.args.direction) c.args.start c.loop-index.index c.in_default.field-0 c.step.result c.args.block.now c.loop-index.block c.step.new.block
+    c.loop-index.auto.index (omega (arith, c.loop-index-test.true, c.requires)) c.loop-index.invariant.moves c.loop-index.invariant.flags c.step.ensures c.in_default.is in
+    record { moves = next.0; flags = next.1; end = inl (omega (arith, c.loop-index-test.true)) }
+
+pub returns-in-Err-clause-stopped : goal.returns-in-Err-clause-stopped
+returns-in-Err-clause-stopped c =
+    let stops = range-stops (change_in c.args.direction) c.args.start c.loop-index.index c.in-Err.field-0 c.step.result c.args.block.now c.loop-index.block c.step.new.block
+    (omega (arith, c.loop-index-test.true, c.requires)) c.loop-index.invariant.moves c.step.ensures c.in-Err.is in
+    (c.loop-index.auto.index, c.loop-index-test.true, stops.0)
+
+pub returns-clause-changed : goal.returns-clause-changed
+returns-clause-changed c =
+    moves-as (change_in c.args.direction) (λ i. one_if (is_between c.args.start c.loop-index.index i)) (λ i. one_if (is_between c.args.start c.args.end i)) c.args.block.now c.loop-index.block
+    (λ i below. between-end c.args.start c.args.end c.loop-index.index i c.loop-index-test.false c.loop-index.invariant.end) c.loop-index.invariant.moves
+
+pub returns-clause-flag : goal.returns-clause-flag
+returns-clause-flag c =
+    flags-as (λ i. one_if (is_between c.args.start c.loop-index.index i)) (λ i. one_if (is_between c.args.start c.args.end i)) c.args.block.now c.loop-index.block
+    (λ i below. between-end c.args.start c.args.end c.loop-index.index i c.loop-index-test.false c.loop-index.invariant.end) c.loop-index.invariant.flags
