@@ -15,8 +15,8 @@ pub fn mapping_of_cluster_3(alloc: Global, bytes: Vec<u8>) -> Result<L2Mapping, 
     table.get_mapping(GuestCluster(3))
 }
 
-/// Takes that mapping away, and counts it in the first refcount block, which begins with cluster 3: in
-/// the image too, or not at all where the counters don't know of its clusters.
+/// Takes the mapping of guest cluster 3 away, and counts it: the L2 table begins with cluster 2 of the
+/// image, and its first refcount block with cluster 3. Where a counter is 0 already, nothing changes.
 pub fn discard_cluster_3(alloc: Global, image: &mut MemStorage) -> Result<Outcome, Fault> {
     let header = Header::new(alloc, 9, 4, None, None, None)?;
     let entries = header.l2_entries();

@@ -4,22 +4,29 @@
 use qcow2_base::Fault;
 use std::fs::File;
 use std::io;
-use std::io::BufWriter;
+use std::io::{BufWriter, ErrorKind, Write};
 use std::process::ExitCode;
 use std::rt::Files;
 
-/// Runs the words of the command line. The storage fault, with no image opened, where the standard
-/// descriptors can't be taken.
 fn main(rt: HostRuntime) -> ExitCode {
     let mut err = rt.stderr();
-    let Ok(_taken) = take_standard_descriptors(&rt) else {
-        return ExitCode::from(qcow2_session::report_fault(Fault::Storage, &mut err));
-    };
-    let words = words_of(&rt);
-    ExitCode::from(match BufWriter::new(rt.alloc(), rt.stdout()) {
-        Ok(mut out) => qcow2_session::run_words(&rt, words.as_slice(), &mut out, &mut err),
-        Err(_) => qcow2_session::report_fault(Fault::NoMemory, &mut err),
+    ExitCode::from(match run(&rt, &mut err) {
+        Ok(status) => status,
+        Err(fault) => qcow2_session::report_fault(fault, &mut err),
     })
+}
+
+// Runs the words of the command line, and answers the status. The storage fault, with no image opened,
+// where the standard descriptors can't be taken.
+fn run<E: Write>(rt: &HostRuntime, err: &mut E) -> Result<u8, Fault> {
+    let Ok(_taken) = take_standard_descriptors(rt) else {
+        return Err(Fault::Storage);
+    };
+    let words = words_of(rt)?;
+    let Ok(mut out) = BufWriter::new(rt.alloc(), rt.stdout()) else {
+        return Err(Fault::NoMemory);
+    };
+    Ok(qcow2_session::run_words(rt, words.as_slice(), &mut out, err))
 }
 
 // Files that nothing can be written to. While they are held, no file that is opened later gets descriptor 0,
@@ -33,13 +40,11 @@ fn null_file<R: Files>(rt: &R) -> io::Result<R::File> {
     File::open(rt, "/dev/null")
 }
 
-// The words after the program's name, or none where one of them can't be read.
-fn words_of(rt: &HostRuntime) -> Vec<String> {
+// The words after the program's name, or none where one of them isn't text.
+fn words_of(rt: &HostRuntime) -> Result<Vec<String>, Fault> {
     match std::env::args(rt) {
-        Ok(arguments) => arguments
-            .skip(1)
-            .collect(rt.alloc())
-            .unwrap_or(Vec::new(rt.alloc())),
-        Err(_) => Vec::new(rt.alloc()),
+        Ok(arguments) => Ok(arguments.skip(1).collect(rt.alloc())?),
+        Err(error) if error.kind() == ErrorKind::OutOfMemory => Err(Fault::NoMemory),
+        Err(_) => Ok(Vec::new(rt.alloc())),
     }
 }
