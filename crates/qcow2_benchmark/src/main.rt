@@ -1,4 +1,4 @@
-//! How long tables take to be loaded from an image in memory and written to one. It prints the least
+//! How long tables take to be loaded from an image in memory, edited, and written to one. It prints the least
 //! time of a round in nanoseconds to standard error: `scripts/benchmark` runs it beside plain Rust.
 #![tactic(auto)]
 

@@ -15,8 +15,9 @@ pub fn mapping_of_cluster_3(alloc: Global, bytes: Vec<u8>) -> Result<L2Mapping, 
     table.get_mapping(GuestCluster(3))
 }
 
-/// Takes the mapping of guest cluster 3 away, and counts it: the L2 table begins with cluster 2 of the
-/// image, and its first refcount block with cluster 3. Where a counter is 0 already, nothing changes.
+/// Takes the mapping of guest cluster 3 away, and counts that in the first refcount block: the L2 table
+/// begins with cluster 2 of the image, the block with cluster 3. Where a counter of one of the mapping's
+/// clusters in that block is 0, nothing changes.
 pub fn discard_cluster_3(alloc: Global, image: &mut MemStorage) -> Result<Outcome, Fault> {
     let header = Header::new(alloc, 9, 4, None, None, None)?;
     let entries = header.l2_entries();
@@ -24,7 +25,8 @@ pub fn discard_cluster_3(alloc: Global, image: &mut MemStorage) -> Result<Outcom
     let mut block = RefBlock::load(alloc, image, &header, HostCluster(3))?;
     let edits = [Edit::Discard { index: 3 }];
     let outcome = edit_settled(alloc, &mut table, &mut block, &header, 0, &edits)?;
-    // In this order a crash between leaves a cluster that is counted and not used, and no worse.
+    // A discard takes references away: in this order a crash between leaves a cluster that is counted and
+    // not used, and no worse.
     table.write(image)?;
     block.write(image)?;
     Ok(outcome)

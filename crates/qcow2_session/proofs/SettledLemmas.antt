@@ -17,7 +17,7 @@ use Rattle.std.proofs.lemmas.Option.{none-some, same_Some}
 use Rattle.qcow2_metadata.specs.Entries.{is_among}
 use Rattle.qcow2_metadata.specs.Refblock.{AreCounters, BlockState, CounterChange, Decrement, Increment, Steps, greatest_counter, stepped, stepped_block}
 use Rattle.qcow2_metadata.specs.declared.entries.ClustersToFreeEntry.{ClustersToFreeEntry}
-use Rattle.qcow2_session.specs.Settled.{CanSettle, CoversReferences, MarksModified, FollowsReferences, IsSameButFlag, IsChangedBy, LeavesRange, ChangesCounters, Settles, SomeCannotGain, SomeLeavesRange, opposite, is_between, just, times_among}
+use Rattle.qcow2_session.specs.Settled.{CanSettle, CoversReferences, MarksModified, FollowsReferences, IsSameButFlag, IsChangedBy, LeavesRange, ChangesCounters, Settles, SomeCannotGain, SomeLeavesRange, opposite, is_between, alone, times_among}
 
 -- a counter that moved by nothing
 still : (change : CounterChange) (counter : ℕ) → IsChangedBy change 0 counter counter
@@ -220,18 +220,18 @@ range-stops change start at fault answer a b c below moves steps is =
     unmoved Decrement v w moved = omega (arith, moved)
 
 -- a cluster is among itself alone
-one-among : (cluster : HostCluster) (c : ℕ) → one_if (is_among (just cluster) c) ≡ one_if (cluster.0 == c)
+one-among : (cluster : HostCluster) (c : ℕ) → one_if (is_among (alone cluster) c) ≡ one_if (cluster.0 == c)
 one-among cluster c = elim (cases_eq c cluster.0) [
   | inl same ↦ grind (arith, nat_tests, same)
   | inr other ↦ grind (arith, nat_tests, other)
 ]
 
 -- gains are counted by clusters or by their numbers
-times-gained : (gained : List HostCluster) (c : ℕ) → times_among just gained c ≡ times_gained (numbers_of gained) c
+times-gained : (gained : List HostCluster) (c : ℕ) → times_among alone gained c ≡ times_gained (numbers_of gained) c
 times-gained [] c = refl
 times-gained (cluster ∷ gained) c = omega (
   arith,
-  sum_by-cons (λ (item : HostCluster). one_if (is_among (just item) c)) cluster gained,
+  sum_by-cons (λ (item : HostCluster). one_if (is_among (alone item) c)) cluster gained,
   sum_by-cons (λ (number : ℕ). one_if (number == c)) cluster.0 (numbers_of gained),
   one-among cluster c,
   times-gained gained c,
@@ -246,13 +246,13 @@ order-kept change by a b moves = ap (λ (block : BlockState). block.refcount_ord
 
 -- counters that gained all and then lost all
 pub settled-by : (first : ℕ) (gained : List HostCluster) (freed : List ClustersToFreeEntry) (a b c : BlockState)
-    → ChangesCounters Increment (λ i. times_among just gained (first + i)) a b → MarksModified (λ i. times_among just gained (first + i)) a b
+    → ChangesCounters Increment (λ i. times_among alone gained (first + i)) a b → MarksModified (λ i. times_among alone gained (first + i)) a b
     → ChangesCounters Decrement (λ i. times_among (λ (item : ClustersToFreeEntry). item) freed (first + i)) b c → MarksModified (λ i. times_among (λ (item : ClustersToFreeEntry). item) freed (first + i)) b c
     → Settles first freed (numbers_of gained) a c
 settled-by first gained freed a b c up up_flag down down_flag = record {
   counters = λ i below. omega (arith, up.counters i below, down.counters i (omega (arith, below, up.entries)), times-gained gained (first + i));
   entries = down.entries ∙ up.entries;
-  flag = flags-twice (λ i. times_among just gained (first + i)) (λ i. handed_back freed (first + i))
+  flag = flags-twice (λ i. times_among alone gained (first + i)) (λ i. handed_back freed (first + i))
       (λ i. times_gained (numbers_of gained) (first + i) + handed_back freed (first + i)) a b c
       (λ i below. omega (arith, times-gained gained (first + i))) up.entries up_flag down_flag;
   others = down.others ∙ ap (λ (block : BlockState). record block { counters = c.counters; modified = c.modified }) up.others;
@@ -260,12 +260,12 @@ settled-by first gained freed a b c up up_flag down down_flag = record {
 
 -- and that could
 pub can-settle : (first : ℕ) (gained : List HostCluster) (freed : List ClustersToFreeEntry) (a b c : BlockState)
-    → ChangesCounters Increment (λ i. times_among just gained (first + i)) a b → AreCounters b.refcount_order b.counters
+    → ChangesCounters Increment (λ i. times_among alone gained (first + i)) a b → AreCounters b.refcount_order b.counters
     → ChangesCounters Decrement (λ i. times_among (λ (item : ClustersToFreeEntry). item) freed (first + i)) b c
     → (index : ℕ) → index < length a.counters → CanSettle a first freed (numbers_of gained) index
 can-settle first gained freed a b c up fit down = λ i below.
     let within : i < length b.counters = omega (arith, below, up.entries) in
-    let order = order-kept Increment (λ i. times_among just gained (first + i)) a b up in
+    let order = order-kept Increment (λ i. times_among alone gained (first + i)) a b up in
     let most = rw order at (fits b.refcount_order b.counters i fit within) in
     let is = up.counters i below in
     let down_is = down.counters i within in
@@ -273,13 +273,13 @@ can-settle first gained freed a b c up fit down = λ i below.
 
 -- gains that don't fit
 pub gains-short : (first : ℕ) (gained : List HostCluster) (freed : List ClustersToFreeEntry) (a : BlockState)
-    → SomeLeavesRange Increment (λ i. times_among just gained (first + i)) a
+    → SomeLeavesRange Increment (λ i. times_among alone gained (first + i)) a
     → (index : ℕ) × (index < length a.counters) × (CanSettle a first freed (numbers_of gained) index → ⊥)
 gains-short first gained freed a (i, below, short) = (i, below, λ can. omega (arith, short, can.0, times-gained gained (first + i)))
 
 -- losses that don't fit
 pub losses-short : (first : ℕ) (gained : List HostCluster) (freed : List ClustersToFreeEntry) (a b : BlockState)
-    → ChangesCounters Increment (λ i. times_among just gained (first + i)) a b
+    → ChangesCounters Increment (λ i. times_among alone gained (first + i)) a b
     → SomeLeavesRange Decrement (λ i. times_among (λ (item : ClustersToFreeEntry). item) freed (first + i)) b
     → (index : ℕ) × (index < length a.counters) × (CanSettle a first freed (numbers_of gained) index → ⊥)
 losses-short first gained freed a b up (i, below, short) =

@@ -56,10 +56,10 @@ first_refusal header table edits =
 abbrev pub run_of_table : TableState → List Edit → RunEnd
 run_of_table table edits = run_of table.geometry (table_edits edits) table.numbers
 
--- the answer of edits that all fit: what they did, which each counter can count, or the fault of one that can't, unless
--- memory ran out
-abbrev pub EditsSettle : ℕ → BlockState → RunEnd → TableState → Result Outcome Fault → Type 0
-EditsSettle first block end table answer = MatchResult answer
+-- the answer of edits that all fit: what they did, where each counter can settle; else the fault of one that can't, or of
+-- want of memory
+abbrev pub EditsSettleOrRefuse : ℕ → BlockState → RunEnd → TableState → Result Outcome Fault → Type 0
+EditsSettleOrRefuse first block end table answer = MatchResult answer
     (λ outcome. (end_of table outcome ≡ end)
     × ((index : ℕ) → index < length block.counters → CanSettle block first end.freed end.gained index))
     (λ fault. (fault ≡ NoMemory) ⊎ ((fault ≡ CounterRange) × SomeCannotSettle block first end.freed end.gained))
@@ -71,7 +71,7 @@ FollowsReferences first old_table old_block new_table new_block = (index : ℕ) 
     slice_index new_block.counters index + references old_table.geometry old_table.numbers (first + index)
     ≡ slice_index old_block.counters index + references new_table.geometry new_table.numbers (first + index)
 
--- a table that edits with this outcome left, and a block that counted them
+-- the table that edits left, and the block that counted their outcome
 pub record EditsAndSettles (first : ℕ) (edits : List Edit) (outcome : Outcome) (old_table : TableState) (old_block : BlockState) (new_table : TableState) (new_block : BlockState) : Type 0 where
   pub table : new_table ≡ left_by edits old_table new_table.numbers
   pub balance : Balances outcome old_table new_table
@@ -135,9 +135,9 @@ is_between start end index = nat_le start index && nat_lt index end
 abbrev pub IsSameButFlag : BlockState → BlockState → Type 0
 IsSameButFlag old new = new ≡ record old { modified = new.modified }
 
--- a cluster as clusters one after another
-abbrev pub just : HostCluster → ClustersToFreeEntry
-just cluster = record { first = cluster; count = record { 0 = 1 } }
+-- a cluster as a range of one
+abbrev pub alone : HostCluster → ClustersToFreeEntry
+alone cluster = record { first = cluster; count = record { 0 = 1 } }
 
 -- how many items of a list have a cluster among theirs
 abbrev pub times_among : {C : Type 0} → (C → ClustersToFreeEntry) → List C → ℕ → ℕ

@@ -1,10 +1,10 @@
-//! What commands do where memory is refused: the answer is fault 35, nothing is printed, and the
-//! same call succeeds the next time.
+//! What commands and lists of changes do where memory is refused: the answer is fault 35, nothing is printed
+//! or changed, and the same call succeeds the next time.
 //!
 //! `rt try --test --fail-alloc N` refuses the Nth request for memory of each test. Where that is one
 //! of the test's own, the test ends with an error before the call that it is for.
 
-use crate::blocks::{block_says, block_with, flag};
+use crate::blocks::{block_says, block_with, counter_at, flag};
 use crate::calls::{edit_image, edit_settled, edit_table, lookup_image, step_block, step_image};
 use crate::commands::Listing;
 use crate::commands::run::{Run, one_mapping};
@@ -16,6 +16,7 @@ use qcow2_base::{Fault, GuestOffset, HostCluster, MemStorage};
 use qcow2_metadata::{L2Mapping, Table};
 use qcow2_session::{Edit, Step, StepReply};
 use qcow2_testing::{FaultyFiles, same, same_bytes};
+use std::alloc::Global;
 use std::fs;
 use std::test::Fail;
 
@@ -193,20 +194,61 @@ fn steps_that_memory_refused_leave_the_image(rt: HostRuntime) -> Result<(), Fail
     same_bytes(image.bytes(), after.bytes(), "with memory")
 }
 
-#[test]
-fn settled_edits_that_memory_refused_leave_table_and_block(rt: HostRuntime) -> Result<(), Fail> {
-    let header = header_with(rt.alloc(), 9, 4, false)?;
+// Makes edits of a table and a block that count these references to clusters 5 and 6: a refusal of memory comes
+// before any other, and changes nothing.
+fn settles_the_next_time(
+    alloc: Global,
+    counters: &[u8],
+    expected: Option<Fault>,
+    modified: bool,
+) -> Result<(), Fail> {
+    let header = header_with(alloc, 9, 4, false)?;
     let entries: &[u64] = &[0x8000_0000_0000_0a00, 0, 0, 0x8000_0000_0000_0c00];
-    let mut table = table_with(rt.alloc(), 9, false, (0, entries))?;
-    let mut block = block_with(rt.alloc(), 4, &[0, 1, 0, 1, 0, 1, 0, 1, 0, 1, 0, 1, 0, 1])?;
+    let mut table = table_with(alloc, 9, false, (0, entries))?;
+    let mut block = block_with(alloc, 4, counters)?;
+    if modified {
+        table.set_modified();
+    }
+    flag(&mut block, modified);
+    let before = [counter_at(&block, 5), counter_at(&block, 6)];
     let edits = [Edit::Discard { index: 0 }, Edit::Discard { index: 3 }];
     let mut answer = edit_settled(&mut table, &mut block, &header, 0, &edits);
     if matches!(answer, Err(Fault::NoMemory)) {
-        says(&table, (0, entries), false, "refused")?;
-        block_says(&block, &[1, 1, 1, 1, 1, 1, 1], false, "refused")?;
+        says(&table, (0, entries), modified, "refused")?;
+        same(
+            [counter_at(&block, 5), counter_at(&block, 6)],
+            before,
+            "refused",
+        )?;
+        same(block.is_modified(), modified, "refused")?;
         answer = edit_settled(&mut table, &mut block, &header, 0, &edits);
     }
-    has(&answer?, &[], &[(5, 1), (6, 1)], "with memory")?;
-    says(&table, (0, &[]), true, "with memory")?;
-    block_says(&block, &[1, 1, 1, 1, 1, 0, 0], true, "with memory")
+    match expected {
+        None => {
+            has(&answer?, &[], &[(5, 1), (6, 1)], "with memory")?;
+            says(&table, (0, &[]), true, "with memory")?;
+            block_says(&block, &[], true, "with memory")
+        }
+        Some(_) => {
+            same(answer.err(), expected, "with memory")?;
+            says(&table, (0, entries), modified, "with memory")?;
+            same(
+                [counter_at(&block, 5), counter_at(&block, 6)],
+                before,
+                "with memory",
+            )
+        }
+    }
+}
+
+#[test]
+fn settled_edits_that_memory_refused_leave_table_and_block(rt: HostRuntime) -> Result<(), Fail> {
+    let counted: &[u8] = &[0, 0, 0, 0, 0, 0, 0, 0, 0, 0, 0, 1, 0, 1];
+    let not_counted: &[u8] = &[0, 0, 0, 0, 0, 0, 0, 0, 0, 0, 0, 1];
+    for modified in [false, true] {
+        settles_the_next_time(rt.alloc(), counted, None, modified)?;
+        let fault = Some(Fault::CounterRange);
+        settles_the_next_time(rt.alloc(), not_counted, fault, modified)?;
+    }
+    Ok(())
 }

@@ -6,7 +6,7 @@ use crate::calls::{
 };
 use crate::images::header_with;
 use crate::sample_image::sample_image;
-use crate::tables::{GONE, PAST, TO_0, TO_5, TO_6, ZERO, has, says, table_with};
+use crate::tables::{GONE, KEEP, PAST, TO_0, TO_5, TO_6, ZERO, has, says, table_with};
 use qcow2_base::{ClusterCount, Fault, HostCluster, MemStorage};
 use qcow2_metadata::{ClustersToFreeEntry, Header, RefBlock, Table};
 use qcow2_session::{Edit, Outcome, Step};
@@ -23,138 +23,135 @@ type Counters<'a> = &'a [(usize, usize, u64)];
 // how many lost one.
 type References<'a> = (&'a [u64], &'a [(u64, u64)]);
 
-// What is settled: the cluster bits, the refcount order, the block's index in the refcount table, and
-// its counters. What edits did. The counters afterwards, where they can count it, and whether the block
-// has to do with it.
+// What is settled: the cluster bits, the refcount order, the block's index in the refcount table, and its
+// counters. What edits did. Where they can be counted, the counters afterwards, and whether the block then
+// counts as modified though it didn't.
 type Row<'a> = (
     (u32, u32, usize, Counters<'a>),
     References<'a>,
-    Option<Counters<'a>>,
-    bool,
+    Option<(Counters<'a>, bool)>,
 );
 
-// The first counters of a block of 64 that counts no cluster below 2^64, and the last of one before it.
+// The index in the refcount table of a block of 64 counters whose first one is for cluster 2^64.
 const AT_2_TO_THE_64: usize = 1 << 58;
+
+const MAX: u64 = u64::MAX;
+
+// All counters of a block of 64.
+const ONES: Counters<'static> = &[(0, 64, 1)];
 
 const ROWS: &[Row<'static>] = &[
     (
         (9, 4, 0, &[(5, 1, 1)]),
         (&[6], &[(5, 1), (6, 1)]),
-        Some(&[]),
-        true,
+        Some((&[], true)),
     ),
-    ((9, 4, 0, &[]), (&[6], &[(5, 1), (6, 1)]), None, true),
+    ((9, 4, 0, &[]), (&[6], &[(5, 1), (6, 1)]), None),
     (
         (10, 4, 0, &[(1, 3, 1)]),
         (&[2], &[(1, 3)]),
-        Some(&[(2, 1, 1)]),
-        true,
+        Some((&[(2, 1, 1)], true)),
     ),
-    ((9, 6, 0, &[(63, 1, 1)]), (&[], &[(63, 2)]), Some(&[]), true),
-    ((9, 6, 1, &[(0, 1, 1)]), (&[], &[(63, 2)]), Some(&[]), true),
-    ((9, 0, 0, &[(5, 1, 1)]), (&[5], &[(5, 1)]), None, true),
+    (
+        (9, 6, 0, &[(63, 1, 1)]),
+        (&[], &[(63, 2)]),
+        Some((&[], true)),
+    ),
+    (
+        (9, 6, 1, &[(0, 1, 1)]),
+        (&[], &[(63, 2)]),
+        Some((&[], true)),
+    ),
+    ((9, 0, 0, &[(5, 1, 1)]), (&[5], &[(5, 1)]), None),
+    // a cluster that gains or loses more than one reference
+    (
+        (9, 1, 0, &[(5, 1, 1)]),
+        (&[5, 5], &[(5, 1)]),
+        Some((&[(5, 1, 2)], true)),
+    ),
+    ((9, 1, 0, &[(5, 1, 1)]), (&[5, 5, 5], &[(5, 1)]), None),
+    (
+        (9, 4, 0, &[(5, 1, 2), (6, 1, 1)]),
+        (&[], &[(5, 2), (5, 1)]),
+        Some((&[], true)),
+    ),
+    ((9, 4, 0, &[(5, 2, 1)]), (&[], &[(5, 2), (5, 1)]), None),
     // ranges that begin before the block, that end behind it, and that hold all of it
     (
-        (9, 6, 1, &[(0, 64, 1)]),
+        (9, 6, 1, ONES),
         (&[], &[(60, 8)]),
-        Some(&[(4, 60, 1)]),
-        true,
+        Some((&[(4, 60, 1)], true)),
     ),
     (
-        (9, 6, 1, &[(0, 64, 1)]),
+        (9, 6, 1, ONES),
         (&[], &[(120, 20)]),
-        Some(&[(0, 56, 1)]),
-        true,
+        Some((&[(0, 56, 1)], true)),
     ),
+    ((9, 6, 1, ONES), (&[], &[(0, 1000)]), Some((&[], true))),
     (
-        (9, 6, 1, &[(0, 64, 1)]),
-        (&[], &[(0, 1000)]),
-        Some(&[]),
-        true,
-    ),
-    (
-        (9, 6, 1, &[(0, 64, 1)]),
+        (9, 6, 1, ONES),
         (&[], &[(0, 64), (128, 1)]),
-        Some(&[(0, 64, 1)]),
-        false,
+        Some((ONES, false)),
     ),
     // ranges of 2^64 - 1 clusters
+    ((9, 6, 0, ONES), (&[], &[(0, MAX)]), Some((&[], true))),
     (
-        (9, 6, 0, &[(0, 64, 1)]),
-        (&[], &[(0, u64::MAX)]),
-        Some(&[]),
-        true,
+        (9, 6, 0, ONES),
+        (&[], &[(1, MAX)]),
+        Some((&[(0, 1, 1)], true)),
+    ),
+    ((9, 6, 0, ONES), (&[], &[(MAX, MAX)]), Some((ONES, false))),
+    // blocks that begin past every cluster, at 2^64, behind it, and 64 clusters before it
+    (
+        (9, 6, usize::MAX, ONES),
+        (&[MAX], &[(MAX, MAX)]),
+        Some((ONES, false)),
     ),
     (
-        (9, 6, 0, &[(0, 64, 1)]),
-        (&[], &[(1, u64::MAX)]),
-        Some(&[(0, 1, 1)]),
-        true,
+        (9, 6, AT_2_TO_THE_64, ONES),
+        (&[], &[(MAX, 3)]),
+        Some((&[(2, 62, 1)], true)),
     ),
     (
-        (9, 6, 0, &[(0, 64, 1)]),
-        (&[], &[(u64::MAX, u64::MAX)]),
-        Some(&[(0, 64, 1)]),
-        false,
-    ),
-    // blocks that begin past every cluster, at 2^64, and 64 clusters before it
-    (
-        (9, 6, usize::MAX, &[(0, 64, 1)]),
-        (&[u64::MAX], &[(u64::MAX, u64::MAX)]),
-        Some(&[(0, 64, 1)]),
-        false,
+        (9, 6, AT_2_TO_THE_64, ONES),
+        (&[MAX], &[(0, 64)]),
+        Some((ONES, false)),
     ),
     (
-        (9, 6, AT_2_TO_THE_64, &[(0, 64, 1)]),
-        (&[], &[(u64::MAX, 3)]),
-        Some(&[(2, 62, 1)]),
-        true,
+        (9, 6, AT_2_TO_THE_64 + 1, ONES),
+        (&[], &[(MAX, 100)]),
+        Some((&[(35, 29, 1)], true)),
     ),
     (
-        (9, 6, AT_2_TO_THE_64, &[(0, 64, 1)]),
-        (&[u64::MAX], &[(0, 64)]),
-        Some(&[(0, 64, 1)]),
-        false,
-    ),
-    (
-        (9, 6, AT_2_TO_THE_64 - 1, &[(0, 64, 1)]),
-        (&[], &[(u64::MAX, 3)]),
-        Some(&[(0, 63, 1)]),
-        true,
+        (9, 6, AT_2_TO_THE_64 - 1, ONES),
+        (&[], &[(MAX, 3)]),
+        Some((&[(0, 63, 1)], true)),
     ),
     // nothing at all, no clusters, and a cluster that gains what it loses
     (
         (9, 4, 0, &[(5, 1, 1)]),
         (&[], &[]),
-        Some(&[(5, 1, 1)]),
-        false,
+        Some((&[(5, 1, 1)], false)),
     ),
     (
         (9, 4, 0, &[(5, 1, 1)]),
         (&[], &[(5, 0)]),
-        Some(&[(5, 1, 1)]),
-        false,
+        Some((&[(5, 1, 1)], false)),
     ),
     (
         (9, 4, 0, &[(5, 1, 1)]),
         (&[5], &[(5, 1)]),
-        Some(&[(5, 1, 1)]),
-        true,
+        Some((&[(5, 1, 1)], true)),
     ),
     // what was counted up or down before a refusal is put back
     (
         (9, 4, 0, &[(0, 200, 1)]),
         (&[0, 1, 2], &[(0, 200), (255, 1)]),
         None,
-        true,
     ),
-    (
-        (9, 4, 0, &[(0, 200, 1)]),
-        (&[0, 1, 2], &[(0, 201)]),
-        None,
-        true,
-    ),
-    ((9, 0, 0, &[(5, 1, 1)]), (&[6, 7, 5], &[]), None, true),
+    ((9, 4, 0, &[(0, 200, 1)]), (&[0, 1, 2], &[(0, 201)]), None),
+    ((9, 6, 1, &[(0, 63, 1)]), (&[64], &[(60, 1000)]), None),
+    ((9, 0, 0, &[(5, 1, 1)]), (&[6, 7, 5], &[]), None),
 ];
 
 // What edits did, as they would tell it.
@@ -232,21 +229,18 @@ fn counts<R: Debug + Copy + Drop>(
 
 // Settles a block with this flag as the row says.
 fn settles(alloc: Global, row: Row<'_>, modified: bool) -> Result<(), Fail> {
-    let ((bits, order, rt_index, before), references, after, counts_some) = row;
+    let ((bits, order, rt_index, before), references, after) = row;
     let header = header_with(alloc, bits, order, false)?;
     let mut block = block_of(alloc, &header, before, modified)?;
     let outcome = outcome_of(alloc, references)?;
     let answer = settle(&mut block, &header, rt_index, &outcome);
-    match after {
-        Some(after) => {
-            same(answer, Ok(()), (row, modified))?;
-            counts(&block, after, modified || counts_some, (row, modified))
-        }
-        None => {
-            same(answer, Err(Fault::CounterRange), (row, modified))?;
-            counts(&block, before, modified, (row, modified))
-        }
-    }
+    let fault = match after {
+        Some(_) => None,
+        None => Some(Fault::CounterRange),
+    };
+    same(answer.err(), fault, (row, modified))?;
+    let (counters, counts_some) = after.unwrap_or((before, false));
+    counts(&block, counters, modified || counts_some, (row, modified))
 }
 
 #[test]
@@ -258,18 +252,28 @@ fn counters_follow_what_clusters_gained_and_lost(rt: HostRuntime) -> Result<(), 
     Ok(())
 }
 
-// A counter of each width counts what its cluster gained before what it lost.
+// What a cluster gained is counted before what it lost.
 #[test]
 fn a_counter_of_each_width_goes_up_before_it_goes_down(rt: HostRuntime) -> Result<(), Fail> {
+    let references: References<'_> = (&[5], &[(5, 1)]);
+    let nothing: Counters<'_> = &[];
     for order in 0..7 {
-        let gains = (&[5u64] as &[u64], &[(5u64, 1u64)] as &[(u64, u64)]);
-        let row = (
-            (9, order, 0, &[] as Counters<'_>),
-            gains,
-            Some(&[] as Counters<'_>),
-            true,
-        );
+        let row = ((9, order, 0, nothing), references, Some((nothing, true)));
         settles(rt.alloc(), row, false)?;
+    }
+    Ok(())
+}
+
+// Fails unless this counter of the block has this number, and each other one the other.
+fn all_but_one<R: Debug + Copy + Drop>(
+    block: &RefBlock,
+    (place, number): (usize, u64),
+    other: u64,
+    row: R,
+) -> Result<(), Fail> {
+    for index in 0..block.entries() {
+        let expected = if index == place { number } else { other };
+        same(counter_at(block, index), Some(expected), (row, index))?;
     }
     Ok(())
 }
@@ -282,12 +286,11 @@ fn counts_just_a_loss(alloc: Global, order: u32, greatest: u64) -> Result<(), Fa
     let gain = outcome_of(alloc, (&[5], &[(5, 1)]))?;
     let answer = settle(&mut block, &header, 0, &gain);
     same(answer, Err(Fault::CounterRange), order)?;
-    let left = (counter_at(&block, 5), block.is_modified());
-    same(left, (Some(greatest), false), order)?;
+    all_but_one(&block, (5, greatest), greatest, order)?;
+    holds(!block.is_modified(), order)?;
     let loss = outcome_of(alloc, (&[], &[(5, 1)]))?;
     same(settle(&mut block, &header, 0, &loss), Ok(()), order)?;
-    let left = (counter_at(&block, 4), counter_at(&block, 5));
-    same(left, (Some(greatest), greatest.checked_sub(1)), order)?;
+    all_but_one(&block, (5, greatest.saturating_sub(1)), greatest, order)?;
     holds(block.is_modified(), order)
 }
 
@@ -308,61 +311,109 @@ fn no_counter_passes_the_greatest_number(rt: HostRuntime) -> Result<(), Fail> {
     Ok(())
 }
 
+// Settles with an external data file, which is refused before anything.
+fn refuses_external_data(
+    alloc: Global,
+    references: References<'_>,
+    modified: bool,
+) -> Result<(), Fail> {
+    let row = (references, modified);
+    let header = header_with(alloc, 9, 4, true)?;
+    let mut block = block_of(alloc, &header, &[(5, 1, 1)], modified)?;
+    let outcome = outcome_of(alloc, references)?;
+    let answer = settle(&mut block, &header, 0, &outcome);
+    same(answer, Err(Fault::ExternalData), row)?;
+    counts(&block, &[(5, 1, 1)], modified, row)
+}
+
 #[test]
 fn an_external_data_file_has_no_counters(rt: HostRuntime) -> Result<(), Fail> {
-    let header = header_with(rt.alloc(), 9, 4, true)?;
     let outcomes: [References<'_>; 3] = [(&[], &[]), (&[5], &[]), (&[], &[(5, 1)])];
     for references in outcomes {
-        let mut block = block_of(rt.alloc(), &header, &[(5, 1, 1)], false)?;
-        let outcome = outcome_of(rt.alloc(), references)?;
-        let answer = settle(&mut block, &header, 0, &outcome);
-        same(answer, Err(Fault::ExternalData), references)?;
-        counts(&block, &[(5, 1, 1)], false, references)?;
+        refuses_external_data(rt.alloc(), references, false)?;
+        refuses_external_data(rt.alloc(), references, true)?;
     }
     Ok(())
 }
 
-// Entry 3 of a table, and the edits of it.
+// Entry 3 of a table: data in cluster 5, and compressed data in clusters 0 and 1.
 const DATA_5: u64 = 0x8000_0000_0000_0a00;
 
-// The refcount order and the counters, the edits, and either the fault or what is left: the clusters
-// that gained a reference and those that lost one, entry 3, and the counters.
+const COMPRESSED_0_1: u64 = 0x6000_0000_0000_0001;
+
+// The refcount order, the block's index in the refcount table, entry 3 and the counters; the edits; and
+// either the fault or what is left: the clusters that gained a reference and those that lost one, entry 3, the
+// counters, and whether the block then counts as modified though it didn't.
 type Settled<'a> = (
-    (u32, Counters<'a>),
+    (u32, usize, u64, Counters<'a>),
     &'a [Edit],
-    Result<(References<'a>, u64, Counters<'a>), Fault>,
+    Result<(References<'a>, u64, Counters<'a>, bool), Fault>,
 );
 
+const FIVE: Counters<'static> = &[(5, 1, 1)];
+
+const NONE: References<'static> = (&[], &[]);
+
 const SETTLED: &[Settled<'static>] = &[
-    ((4, &[(5, 1, 1)]), &[GONE], Ok(((&[], &[(5, 1)]), 0, &[]))),
-    ((4, &[]), &[GONE], Err(Fault::CounterRange)),
     (
-        (4, &[(5, 1, 1)]),
+        (4, 0, DATA_5, FIVE),
+        &[GONE],
+        Ok(((&[], &[(5, 1)]), 0, &[], true)),
+    ),
+    ((4, 0, DATA_5, &[]), &[GONE], Err(Fault::CounterRange)),
+    // zeros, without the cluster and with it
+    (
+        (4, 0, DATA_5, FIVE),
+        &[ZERO],
+        Ok(((&[], &[(5, 1)]), 1, &[], true)),
+    ),
+    (
+        (4, 0, DATA_5, FIVE),
+        &[KEEP],
+        Ok((NONE, DATA_5 + 1, FIVE, false)),
+    ),
+    (
+        (4, 0, COMPRESSED_0_1, &[(0, 2, 1)]),
+        &[TO_5],
+        Ok(((&[5], &[(0, 2)]), DATA_5, FIVE, true)),
+    ),
+    (
+        (4, 0, DATA_5, FIVE),
         &[TO_6],
-        Ok(((&[6], &[(5, 1)]), 0x8000_0000_0000_0c00, &[(6, 1, 1)])),
+        Ok(((&[6], &[(5, 1)]), 0x8000_0000_0000_0c00, &[(6, 1, 1)], true)),
     ),
     // the cluster that the entry has already is kept
     (
-        (4, &[(5, 1, 1)]),
+        (4, 0, DATA_5, FIVE),
         &[TO_5],
-        Ok(((&[], &[]), DATA_5, &[(5, 1, 1)])),
+        Ok((NONE, DATA_5, FIVE, false)),
     ),
     // there and back
     (
-        (4, &[(5, 1, 1)]),
+        (4, 0, DATA_5, FIVE),
         &[TO_6, TO_5],
-        Ok(((&[6, 5], &[(5, 1), (6, 1)]), DATA_5, &[(5, 1, 1)])),
+        Ok(((&[6, 5], &[(5, 1), (6, 1)]), DATA_5, FIVE, true)),
     ),
-    ((0, &[(5, 1, 1)]), &[TO_6, TO_5], Err(Fault::CounterRange)),
-    ((0, &[(5, 2, 1)]), &[TO_6], Err(Fault::CounterRange)),
-    // the edits fit first
-    ((4, &[]), &[GONE, PAST], Err(Fault::BadEdit(1))),
-    ((4, &[(5, 1, 1)]), &[ZERO, TO_0], Err(Fault::BadEdit(1))),
     (
-        (4, &[(5, 1, 1)]),
-        &[],
-        Ok(((&[], &[]), DATA_5, &[(5, 1, 1)])),
+        (0, 0, DATA_5, FIVE),
+        &[TO_6, TO_5],
+        Err(Fault::CounterRange),
     ),
+    (
+        (0, 0, DATA_5, &[(5, 2, 1)]),
+        &[TO_6],
+        Err(Fault::CounterRange),
+    ),
+    // a block that counts none of the clusters
+    (
+        (4, 1, DATA_5, FIVE),
+        &[GONE],
+        Ok(((&[], &[(5, 1)]), 0, FIVE, false)),
+    ),
+    // the edits fit first
+    ((4, 0, DATA_5, &[]), &[GONE, PAST], Err(Fault::BadEdit(1))),
+    ((4, 0, DATA_5, FIVE), &[ZERO, TO_0], Err(Fault::BadEdit(1))),
+    ((4, 0, DATA_5, FIVE), &[], Ok((NONE, DATA_5, FIVE, false))),
 ];
 
 // Makes the edits of a table and a block with these flags.
@@ -371,32 +422,27 @@ fn edits_settle(
     row: Settled<'_>,
     (table_modified, block_modified): (bool, bool),
 ) -> Result<(), Fail> {
-    let ((order, before), edits, expected) = row;
+    let ((order, rt_index, before, counters), edits, expected) = row;
     let header = header_with(alloc, 9, order, false)?;
-    let mut table = table_with(alloc, 9, false, (3, &[DATA_5]))?;
+    let mut table = table_with(alloc, 9, false, (3, &[before]))?;
     if table_modified {
         table.set_modified();
     }
-    let mut block = block_of(alloc, &header, before, block_modified)?;
-    let answer = edit_settled(&mut table, &mut block, &header, 0, edits);
-    let (entry, table_after, counters, block_after) = match expected {
-        Ok(((gained, freed), entry, counters)) => {
-            let touched = !gained.is_empty() || !freed.is_empty();
+    let mut block = block_of(alloc, &header, counters, block_modified)?;
+    let answer = edit_settled(&mut table, &mut block, &header, rt_index, edits);
+    match expected {
+        Ok(((gained, freed), entry, after, counts_some)) => {
             has(&answer?, gained, freed, row)?;
-            (
-                entry,
-                table_modified || !edits.is_empty(),
-                counters,
-                block_modified || touched,
-            )
+            let table_after = table_modified || !edits.is_empty();
+            says(&table, (3, &[entry]), table_after, row)?;
+            counts(&block, after, block_modified || counts_some, row)
         }
         Err(fault) => {
             same(answer.err(), Some(fault), row)?;
-            (DATA_5, table_modified, before, block_modified)
+            says(&table, (3, &[before]), table_modified, row)?;
+            counts(&block, counters, block_modified, row)
         }
-    };
-    says(&table, (3, &[entry]), table_after, row)?;
-    counts(&block, counters, block_after, row)
+    }
 }
 
 #[test]
@@ -410,17 +456,30 @@ fn edits_are_counted_or_not_made(rt: HostRuntime) -> Result<(), Fail> {
     Ok(())
 }
 
+// Edits of a table and a block with this flag each, over an external data file.
+fn refuses_edits_of_external_data(
+    alloc: Global,
+    edits: &[Edit],
+    modified: bool,
+) -> Result<(), Fail> {
+    let header = header_with(alloc, 9, 4, true)?;
+    let mut table = table_with(alloc, 9, true, (3, &[DATA_5]))?;
+    if modified {
+        table.set_modified();
+    }
+    let mut block = block_of(alloc, &header, FIVE, modified)?;
+    let answer = edit_settled(&mut table, &mut block, &header, 0, edits);
+    same(answer.err(), Some(Fault::ExternalData), edits)?;
+    says(&table, (3, &[DATA_5]), modified, edits)?;
+    counts(&block, FIVE, modified, edits)
+}
+
 #[test]
 fn edits_over_an_external_data_file_are_refused_first(rt: HostRuntime) -> Result<(), Fail> {
-    let header = header_with(rt.alloc(), 9, 4, true)?;
     let lists: [&[Edit]; 3] = [&[], &[GONE], &[PAST]];
     for edits in lists {
-        let mut table = table_with(rt.alloc(), 9, true, (3, &[DATA_5]))?;
-        let mut block = block_of(rt.alloc(), &header, &[(5, 1, 1)], false)?;
-        let answer = edit_settled(&mut table, &mut block, &header, 0, edits);
-        same(answer.err(), Some(Fault::ExternalData), edits)?;
-        says(&table, (3, &[DATA_5]), false, edits)?;
-        counts(&block, &[(5, 1, 1)], false, edits)?;
+        refuses_edits_of_external_data(rt.alloc(), edits, false)?;
+        refuses_edits_of_external_data(rt.alloc(), edits, true)?;
     }
     Ok(())
 }

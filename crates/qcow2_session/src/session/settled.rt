@@ -1,6 +1,6 @@
 //! Counters of a refcount block that follow what edits of a table did to references.
 
-ghost use Rattle.std.specs.Prelude.{◌≡◌, ℕ, ◌+◌, ◌<◌, ◌≤◌, Err, IfErr, IfOk, IfSome, IsOkUnless, MatchResult, None, OnOk, false, length, nat_lt, slice_index, take, true};
+ghost use Rattle.std.specs.Prelude.{◌≡◌, ℕ, ◌+◌, ◌<◌, ◌≤◌, Err, IfErr, IfOk, IfSome, MatchResult, None, OnOk, false, length, nat_lt, slice_index, take, true};
 ghost use Rattle.qcow2_base.specs.declared.fault.Fault.TheVariants.{CounterRange, ExternalData};
 ghost use Rattle.qcow2_metadata.specs.Edits.{one_if};
 ghost use Rattle.qcow2_metadata.specs.Entries.{is_among};
@@ -8,7 +8,7 @@ ghost use Rattle.qcow2_metadata.specs.Header.{geometry_of, uses_external_data};
 ghost use Rattle.qcow2_metadata.specs.Refblock.{AreCounters, Steps, stepped};
 ghost use Rattle.qcow2_metadata.specs.declared.entries.ClustersToFreeEntry.{ClustersToFreeEntry as Clusters};
 ghost use Rattle.qcow2_session.specs.Edits.{numbers_of};
-ghost use Rattle.qcow2_session.specs.Settled.{ChangesCounters, CoversReferences, EditsAndSettles, EditsSettle, IsSameButFlag, MarksModified, Settles, SettlesOrRefuses, SomeCannotGain, SomeLeavesRange, change_in, first_counted, first_refusal, is_between, just, opposite, run_of_table, times_among};
+ghost use Rattle.qcow2_session.specs.Settled.{ChangesCounters, CoversReferences, EditsAndSettles, EditsSettleOrRefuse, IsSameButFlag, MarksModified, Settles, SettlesOrRefuses, SomeCannotGain, SomeLeavesRange, change_in, first_counted, first_refusal, is_between, alone, opposite, run_of_table, times_among};
 
 use super::{Edit, Outcome, edit_table, edits_fit};
 use qcow2_base::{ClusterCount, Fault, HostCluster};
@@ -61,7 +61,7 @@ fn step_range(
     ensures stopped { IfErr result (λ at. (start ≤ at) × (at < end)
         × ChangesCounters (change_in direction)
         (λ i. one_if (is_between start at i)) block.old block.new) }
-    ensures short { IfErr result (λ at. stepped block.old.refcount_order (change_in direction)
+    ensures out_of_range { IfErr result (λ at. stepped block.old.refcount_order (change_in direction)
         (slice_index block.old.counters at) ≡ None) }
 {
     for index in start..end {
@@ -99,8 +99,8 @@ fn count_clusters(
         (λ i. one_if (is_among clusters (first + i))) block.old block.new) }
     ensures flag { OnOk result (MarksModified
         (λ i. one_if (is_among clusters (first + i))) block.old block.new) }
-    ensures back { IfErr result (λ fault. IsSameButFlag block.old block.new) }
-    ensures short { IfErr result (λ fault.
+    ensures back { IfErr result (λ fault. (fault ≡ CounterRange) × IsSameButFlag block.old block.new) }
+    ensures out_of_range { IfErr result (λ fault.
         SomeLeavesRange (change_in direction) (λ i. one_if (is_among clusters (first + i))) block.old) }
 {
     let entries = block.entries();
@@ -124,7 +124,7 @@ trait Counted {
 }
 
 impl Counted for HostCluster {
-    ghost clusters = { just };
+    ghost clusters = { alone };
 
     fn clusters(&self) -> ClustersToFreeEntry {
         let count = ClusterCount(1);
@@ -143,9 +143,8 @@ impl Counted for ClustersToFreeEntry {
     }
 }
 
-// Changes the counters of the clusters of each item, one item after the other. Stops at the first of
-// which a counter doesn't let it, changes none of that one's, and answers how many items came before
-// it.
+// Changes the counters of the clusters of each item, one item after the other. Where one doesn't let it,
+// it stops before an item, and answers how many came before that.
 fn count_list<C: Counted>(
     block: &mut RefBlock,
     first: u128,
@@ -160,7 +159,7 @@ fn count_list<C: Counted>(
     ensures stopped { IfErr result (λ at. (at < length list.now)
         × ChangesCounters (change_in direction)
         (λ i. times_among C.clusters (take at list.now) (first + i)) block.old block.new) }
-    ensures short { IfErr result (λ at.
+    ensures out_of_range { IfErr result (λ at.
         SomeLeavesRange (change_in direction)
         (λ i. times_among C.clusters list.now (first + i)) block.old) }
 {
@@ -187,7 +186,7 @@ fn count_all<C: Counted>(
     ensures flag { OnOk result (MarksModified
         (λ i. times_among C.clusters list.now (first + i)) block.old block.new) }
     ensures back { IfErr result (λ fault. (fault ≡ CounterRange) × IsSameButFlag block.old block.new) }
-    ensures short { IfErr result (λ fault.
+    ensures out_of_range { IfErr result (λ fault.
         SomeLeavesRange (change_in direction)
         (λ i. times_among C.clusters list.now (first + i)) block.old) }
 {
@@ -218,17 +217,17 @@ fn count_outcome(block: &mut RefBlock, first: u128, outcome: &Outcome) -> Result
     Err(fault)
 }
 
-/// Counts in a refcount block what edits did to references, by their outcome: the counter of each of
-/// the block's clusters goes up by one for each reference that the cluster gained, and down by one for
-/// each that it lost. The block's clusters are as many as it has entries, from `rt_index`, the block's
+/// Counts in a refcount block what edits did to references, by their outcome: the counter of each
+/// cluster that the block counts goes up by one for each reference that the cluster gained, and down by
+/// one for each that it lost. These clusters are as many as the block has entries, from `rt_index`, its
 /// index in the refcount table, times that number on; all others are passed over. The block then counts
-/// as modified if one of its clusters gained or lost a reference. The header has the block's cluster
-/// bits and refcount order. Takes no memory.
+/// as modified if one of them gained or lost a reference, else its flag stays. Where it lies in the image
+/// stays. The header has the block's cluster bits and refcount order. Takes no memory.
 ///
 /// Refuses an image with an external data file, where clusters of guest data have no counters. Then
 /// refuses an outcome by which a counter would pass the greatest number that it can hold, when all
 /// gains are counted and no loss, or by which a cluster loses more than its counter and its gains.
-/// After any refusal the block is as before. Its cluster stays.
+/// After any refusal the block is as before.
 pub fn settle(
     block: &mut RefBlock,
     header: &Header,
@@ -281,11 +280,12 @@ fn entries_of(
 }
 
 // Another table that says the same.
-fn copy_of(alloc: Global, table: &L2Table, header: &Header) -> Result<L2Table, AllocError>
+fn copy_of(table: &L2Table, header: &Header) -> Result<L2Table, AllocError>
     requires { geometry_of header.now ≡ table.now.geometry }
     ensures { IfOk result (λ copy. copy ≡ table.now) }
 {
-    let mut copy = L2Table::from_data(entries_of(alloc, table, table.entries())?, header);
+    let entries = entries_of(table.allocator(), table, table.entries())?;
+    let mut copy = L2Table::from_data(entries, header);
     if let Some(cluster) = table.get_cluster() {
         copy.set_cluster(cluster);
     }
@@ -295,16 +295,17 @@ fn copy_of(alloc: Global, table: &L2Table, header: &Header) -> Result<L2Table, A
     Ok(copy)
 }
 
-/// Makes all edits of an L2 table, as `edit_table` does, and counts in a refcount block what they did
-/// to references, as `settle` does: at each of the block's clusters, the counter and the table's
-/// references before are together as many as the counter before and the table's references after. So a
-/// counter that was at least its references stays so. The header has the table's geometry, and the
-/// block's cluster bits and refcount order.
+/// Makes all edits of an L2 table, as `edit_table` does, and counts what they did to the clusters of a
+/// refcount block, as `settle` does: at each of these, the counter and the table's references before are
+/// together as many as the counter before and the table's references after. So a counter that was at
+/// least its references stays so. What they did to other clusters is for the caller to count: the
+/// outcome is settled with each other block by `settle`, and where that refuses, the edits stay made.
+/// The header has the table's geometry, and the block's cluster bits and refcount order.
 ///
 /// Refuses an image with an external data file, and then edits that don't all fit, by the position of
 /// the first that `edits_fit` names. Takes all memory before the first change. Then refuses what
-/// `settle` refuses: where each counter was at least its references, only gains that pass the greatest
-/// number. After any refusal table and block are as before.
+/// `settle` refuses: where each counter was at least its references, only gains by which a counter
+/// passes the greatest number. After any refusal table and block are as before.
 pub fn edit_settled(
     alloc: Global,
     table: &mut L2Table,
@@ -317,7 +318,7 @@ pub fn edit_settled(
     requires cluster_bits { header.now.v2.cluster_bits ≡ block.old.cluster_bits }
     requires refcount_order { header.now.base.refcount_order ≡ block.old.refcount_order }
     ensures refused { IfSome (first_refusal header.now table.old edits.now) (λ fault. result ≡ Err fault) }
-    ensures answer { first_refusal header.now table.old edits.now ≡ None → EditsSettle
+    ensures answer { first_refusal header.now table.old edits.now ≡ None → EditsSettleOrRefuse
         (first_counted block.old rt_index) block.old (run_of_table table.old edits.now) table.new result }
     ensures unchanged { IfErr result (λ fault. (table.new ≡ table.old) × (block.new ≡ block.old)) }
     ensures edited { IfOk result (λ outcome. EditsAndSettles (first_counted block.old rt_index)
@@ -334,7 +335,7 @@ pub fn edit_settled(
     if let Err(position) = edits_fit(table, edits) {
         return Err(Fault::BadEdit(position));
     }
-    let mut edited = copy_of(alloc, table, header)?;
+    let mut edited = copy_of(table, header)?;
     let outcome = edit_table(alloc, &mut edited, edits)?;
     settle(block, header, rt_index, &outcome)?;
     *table = edited;

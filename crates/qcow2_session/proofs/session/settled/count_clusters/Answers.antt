@@ -1,4 +1,4 @@
-use Rattle.std.proofs.Common.{◌≡◌, ℕ, ◌+◌, ◌<◌, length, subst, arith, rules, ◌∙◌}
+use Rattle.std.proofs.Common.{◌≡◌, ℕ, ◌+◌, ◌<◌, length, refl, subst, arith, rules, ◌∙◌}
 use Rattle.std.proofs.lemmas.Bool.Decides.{nat_tests}
 use Rattle.qcow2_metadata.specs.Edits.{one_if}
 use Rattle.qcow2_metadata.specs.Entries.{is_among}
@@ -24,11 +24,11 @@ returns-in_default-clause-flag c =
 pub returns-clause-back : goal.returns-clause-back
 returns-clause-back c =
     let by = λ (i : ℕ). one_if (is_between c.counters_before-start.result c.in-Err.stopped i) in
-    moves-back (change_in c.args.direction) by c.args.block.now c.step_range.new.block c.step_range-2.new.block c.in-Err.ensures.stopped.2
-    (subst (λ (d : CounterChange). ChangesCounters d by c.step_range.new.block c.step_range-2.new.block) c.back.ensures (rw c.unwrap.ensures at c.step_range-2.ensures.changed))
+    (refl, moves-back (change_in c.args.direction) by c.args.block.now c.step_range.new.block c.step_range-2.new.block c.in-Err.ensures.stopped.2
+    (subst (λ (d : CounterChange). ChangesCounters d by c.step_range.new.block c.step_range-2.new.block) c.back.ensures (rw c.unwrap.ensures at c.step_range-2.ensures.changed)))
 
-pub returns-clause-short : goal.returns-clause-short
-returns-clause-short c =
+pub returns-clause-out_of_range : goal.returns-clause-out_of_range
+returns-clause-out_of_range c =
     let stopped = c.in-Err.stopped in
     let below = c.in-Err.ensures.stopped in
     let within : stopped < length c.args.block.now.counters = omega (arith, below.1, c.counters_before-end.ensures.within, c.entries-entries.ensures.count) in
@@ -36,4 +36,4 @@ returns-clause-short c =
     (c.counters_before-start.ensures.each stopped (omega (arith, below.1, c.counters_before-end.ensures.within))) (c.counters_before-end.ensures.each stopped (omega (arith, below.1, c.counters_before-end.ensures.within))) in
     let one : one_if (is_between c.counters_before-start.result c.counters_before-end.result stopped) ≡ 1 = grind (arith, nat_tests, below.0, below.1) in
     clusters-short (change_in c.args.direction) (λ i. one_if (is_among c.args.clusters (c.args.first + i))) stopped c.args.block.now
-    within (among ∙ one) c.in-Err.ensures.short
+    within (among ∙ one) c.in-Err.ensures.out_of_range

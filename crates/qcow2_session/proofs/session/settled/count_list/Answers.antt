@@ -6,8 +6,8 @@ use Rattle.qcow2_session.specs.Settled.{MarksModified, ChangesCounters, SomeLeav
 use Rattle.qcow2_session.proofs.SettledLemmas.{flags-twice, list-short, moves-twice, times-more, times-within}
 use Rattle.qcow2_session.proofs.session.settled.count_list.Goals as goal
 
-pub returns-in-Err-clause-short : goal.returns-in-Err-clause-short
-returns-in-Err-clause-short g c =
+pub returns-in-Err-clause-out_of_range : goal.returns-in-Err-clause-out_of_range
+returns-in-Err-clause-out_of_range g c =
     let clusters = g.C.Counted.clusters in
     let list = c.args.list.now in
     let at = c.loop-at.at in
@@ -15,7 +15,7 @@ returns-in-Err-clause-short g c =
     list-short (change_in c.args.direction) (λ i. times_among clusters (take at list) (c.args.first + i)) (λ i. one_if (is_among (clusters item) (c.args.first + i)))
     (λ i. times_among clusters list (c.args.first + i)) c.args.block.now c.loop-at.block c.loop-at.invariant.moves
     (λ i. times-within clusters list at item (c.args.first + i) c.loop-at-test.true c.index-list-at.is)
-    (subst (λ (some : ClustersToFreeEntry). SomeLeavesRange (change_in c.args.direction) (λ i. one_if (is_among some (c.args.first + i))) c.loop-at.block) c.clusters.ensures c.in-Err.ensures.short)
+    (subst (λ (some : ClustersToFreeEntry). SomeLeavesRange (change_in c.args.direction) (λ i. one_if (is_among some (c.args.first + i))) c.loop-at.block) c.clusters.ensures c.in-Err.ensures.out_of_range)
 
 pub loop-at-preserved : goal.loop-at-preserved
 loop-at-preserved g c =
