@@ -194,8 +194,8 @@ fn steps_that_memory_refused_leave_the_image(rt: HostRuntime) -> Result<(), Fail
     same_bytes(image.bytes(), after.bytes(), "with memory")
 }
 
-// Makes edits of a table and a block that count these references to clusters 5 and 6: a refusal of memory comes
-// before any other, and changes nothing.
+// Makes edits of a table and a block with these counters: a refusal of memory comes before any other, and
+// changes nothing.
 fn settles_the_next_time(
     alloc: Global,
     counters: &[u8],

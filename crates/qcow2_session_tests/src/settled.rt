@@ -342,8 +342,8 @@ const DATA_5: u64 = 0x8000_0000_0000_0a00;
 const COMPRESSED_0_1: u64 = 0x6000_0000_0000_0001;
 
 // The refcount order, the block's index in the refcount table, entry 3 and the counters; the edits; and
-// either the fault or what is left: the clusters that gained a reference and those that lost one, entry 3, the
-// counters, and whether the block then counts as modified though it didn't.
+// either the fault or what is left: the clusters that gained a reference and those that lost one, entry 3,
+// the counters, and whether the block then counts as modified though it didn't.
 type Settled<'a> = (
     (u32, usize, u64, Counters<'a>),
     &'a [Edit],

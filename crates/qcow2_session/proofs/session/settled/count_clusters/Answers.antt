@@ -23,9 +23,11 @@ returns-in_default-clause-flag c =
 
 pub returns-clause-back : goal.returns-clause-back
 returns-clause-back c =
-    let by = λ (i : ℕ). one_if (is_between c.counters_before-start.result c.in-Err.stopped i) in
-    (refl, moves-back (change_in c.args.direction) by c.args.block.now c.step_range.new.block c.step_range-2.new.block c.in-Err.ensures.stopped.2
-    (subst (λ (d : CounterChange). ChangesCounters d by c.step_range.new.block c.step_range-2.new.block) c.back.ensures (rw c.unwrap.ensures at c.step_range-2.ensures.changed)))
+    let by = λ (i : ℕ). one_if (is_between c.counters_before-start.result c.in-Err.stopped i) in (
+      refl,
+      moves-back (change_in c.args.direction) by c.args.block.now c.step_range.new.block c.step_range-2.new.block c.in-Err.ensures.stopped.2
+          (subst (λ (d : CounterChange). ChangesCounters d by c.step_range.new.block c.step_range-2.new.block) c.back.ensures (rw c.unwrap.ensures at c.step_range-2.ensures.changed)),
+    )
 
 pub returns-clause-out_of_range : goal.returns-clause-out_of_range
 returns-clause-out_of_range c =
