@@ -1,0 +1,179 @@
+//! Runs of the function of each command, over a small disk.
+
+use super::headers::{DISK, DISK_IMAGES};
+use super::{Images, Parts, Run};
+use crate::outputs::Output;
+use qcow2_base::{Fault, GuestOffset, HostCluster, Storage};
+use qcow2_session::{
+    Edit, Step, count_references, edit_entries, list_l2_table, list_tables, print_info,
+    print_mapping_at,
+};
+use std::alloc::Global;
+
+#[derive(Clone, Copy, Debug)]
+enum Command {
+    Info,
+    List,
+    At,
+    ListTable,
+    Edit,
+    Count,
+}
+
+/// A command, what it prints over the disk, and what it prints over what it leaves.
+pub(crate) struct CommandRun {
+    command: Command,
+    name: &'static str,
+    images: Images,
+    printed: &'static str,
+    printed_again: &'static str,
+}
+
+impl CommandRun {
+    /// What it prints where it is made once more.
+    pub(crate) fn printed_again(&self) -> &'static str {
+        self.printed_again
+    }
+}
+
+const EDITS: [Edit; 3] = [
+    Edit::Map {
+        index: 3,
+        host_cluster: HostCluster(5),
+    },
+    Edit::Map {
+        index: 3,
+        host_cluster: HostCluster(6),
+    },
+    Edit::Discard { index: 3 },
+];
+
+const STEPS: [Step; 4] = [
+    Step::Inc { index: 0 },
+    Step::Inc { index: 0 },
+    Step::Dec { index: 0 },
+    Step::Dec { index: 1 },
+];
+
+// The disk without a mapping.
+const DISCARDED: Parts = &[
+    (0, b"\x51\x46\x49\xfb\0\0\0\x03"),
+    (23, &[9]),
+    (30, &[0x80]),
+    (39, &[1]),
+    (46, &[2]),
+    (99, &[4]),
+    (103, &[104]),
+    (512, &[0x80, 0, 0, 0, 0, 0, 4]),
+];
+
+// The disk with a reference of its first cluster.
+const COUNTED: Parts = &[
+    (0, b"\x51\x46\x49\xfb\0\0\0\x03"),
+    (23, &[9]),
+    (30, &[0x80]),
+    (39, &[1]),
+    (46, &[2]),
+    (99, &[4]),
+    (103, &[104]),
+    (512, &[0x80, 0, 0, 0, 0, 0, 4]),
+    (1048, &[0x80, 0, 0, 0, 0, 0, 10]),
+    (1536, &[0, 1]),
+];
+
+const INFO: &str = "version 3\ncluster-bits 9\nsize 32768\nrefcount-order 4\nl1 0x200 1\n\
+    refcount-table 0x0 0\nbacking none\nformat none\nexternal no\ndata-file none\n";
+
+/// Each command of the table.
+pub(crate) const COMMANDS: [CommandRun; 6] = [
+    CommandRun {
+        command: Command::Info,
+        name: "info",
+        images: DISK_IMAGES,
+        printed: INFO,
+        printed_again: INFO,
+    },
+    CommandRun {
+        command: Command::List,
+        name: "list",
+        images: DISK_IMAGES,
+        printed: "0x600 data 0xa00 copied\n",
+        printed_again: "0x600 data 0xa00 copied\n",
+    },
+    CommandRun {
+        command: Command::At,
+        name: "at",
+        images: DISK_IMAGES,
+        printed: "data 0xa00 copied\n",
+        printed_again: "data 0xa00 copied\n",
+    },
+    CommandRun {
+        command: Command::ListTable,
+        name: "l2",
+        images: DISK_IMAGES,
+        printed: "3 data 0xa00 copied\n",
+        printed_again: "3 data 0xa00 copied\n",
+    },
+    CommandRun {
+        command: Command::Edit,
+        name: "edit",
+        images: Images {
+            after: DISCARDED,
+            ..DISK_IMAGES
+        },
+        printed: "freed 5 1\nfreed 6 1\ngained 6\n",
+        printed_again: "freed 5 1\nfreed 6 1\ngained 5\ngained 6\n",
+    },
+    CommandRun {
+        command: Command::Count,
+        name: "count",
+        images: Images {
+            after: COUNTED,
+            ..DISK_IMAGES
+        },
+        printed: "ok 0\nok 1\nok 2\nrefused\n",
+        printed_again: "ok 1\nok 2\nok 3\nrefused\n",
+    },
+];
+
+impl Run for CommandRun {
+    type Begun = Output;
+
+    fn name(&self) -> (&'static str, &'static str) {
+        (self.name, "over a disk")
+    }
+
+    fn images(&self) -> Images {
+        self.images
+    }
+
+    fn begin(&self, alloc: Global) -> Result<Output, Fault> {
+        Ok(Output::new(alloc)?)
+    }
+
+    fn call<S: Storage>(
+        &self,
+        alloc: Global,
+        out: &mut Output,
+        image: &mut S,
+    ) -> Result<(), Fault> {
+        out.restart();
+        match self.command {
+            Command::Info => print_info(alloc, image, out),
+            Command::List => list_tables(alloc, image, out),
+            Command::At => print_mapping_at(alloc, image, GuestOffset(1543), out),
+            Command::ListTable => list_l2_table(alloc, image, 9, HostCluster(2), out),
+            Command::Edit => edit_entries(alloc, image, 0, &EDITS, out),
+            Command::Count => count_references(alloc, image, HostCluster(3), &STEPS, out),
+        }
+    }
+
+    fn stands(&self, out: &Output, answer: Result<(), Fault>, _before: &[u8]) -> bool {
+        let printed = self.printed.as_bytes();
+        if answer.is_ok() {
+            out.bytes() == printed
+        } else {
+            printed.starts_with(out.bytes())
+        }
+    }
+}

@@ -1,0 +1,223 @@
+//! Calls of tables and blocks, of their guards, of growth, and the calls of lists that take no memory.
+
+use super::Sum;
+use qcow2_base::{ClusterCount, Fault, GuestCluster, HostCluster, MemStorage};
+use qcow2_metadata::{
+    ClustersToFreeEntry, Header, L1Table, L2Table, MAX_OFFSET, PendingClusters, RefBlock, RefTable,
+    Refused, Table, TableEntry, Turns, least_spare,
+};
+use qcow2_session::{Edit, Outcome, edits_fit, settle};
+use qcow2_testing::fits;
+use std::alloc::Global;
+
+/// A header, tables and a block of it, an image that they are written to, and what edits did to references.
+#[derive(Drop)]
+pub(super) struct Tables {
+    header: Header,
+    l1_table: L1Table,
+    l2_table: L2Table,
+    reftable: RefTable,
+    block: RefBlock,
+    image: MemStorage,
+    outcome: Outcome,
+}
+
+/// The cluster that each table and block begins with.
+const CLUSTER: HostCluster = HostCluster(1);
+
+pub(super) fn begin(alloc: Global) -> Result<Tables, Fault> {
+    let header = Header::new(alloc, 9, 4, None, None, None)?;
+    let mut image = MemStorage::new(vec![in alloc; 0; 1024]?);
+    let entries = header.l2_entries();
+    let freed = ClustersToFreeEntry {
+        first: HostCluster(5),
+        count: ClusterCount(1),
+    };
+    let outcome = Outcome {
+        gained: Vec::from_slice(alloc, &[HostCluster(5)])?,
+        freed: Vec::from_slice(alloc, &[freed])?,
+    };
+    Ok(Tables {
+        l1_table: L1Table::load(alloc, &mut image, &header, CLUSTER, entries)?,
+        l2_table: L2Table::load(alloc, &mut image, &header, CLUSTER, entries)?,
+        reftable: RefTable::load(alloc, &mut image, &header, CLUSTER, entries)?,
+        block: RefBlock::load(alloc, &mut image, &header, CLUSTER)?,
+        header,
+        image,
+        outcome,
+    })
+}
+
+pub(super) fn make(turn: u64, tables: &mut Tables, sum: &mut Sum) {
+    let Tables {
+        header,
+        l1_table,
+        l2_table,
+        reftable,
+        block,
+        image,
+        outcome,
+    } = tables;
+    let index = (turn % 64) as usize;
+    look_at(l1_table, index, sum);
+    look_at(l2_table, index, sum);
+    look_at(reftable, index, sum);
+    sum.note(l1_table.in_bounds(index));
+    sum.note(reftable.in_bounds(index));
+    enter_l2_table(l1_table, l2_table, index, sum);
+    enter_refblock(reftable, block, index, sum);
+    point(header, l1_table, reftable, sum);
+    look_up(l2_table, sum);
+    change(l2_table, index, sum);
+    sum.note(edits_fit(l2_table, &[Edit::Discard { index }]).is_ok());
+    count(block, index, sum);
+    settle_outcome(block, header, outcome, sum);
+    grow(header, index, sum);
+    write(l1_table, l2_table, block, image, sum);
+    make_empty(l1_table.allocator(), header, sum);
+}
+
+fn look_at<T: Table>(table: &mut T, index: usize, sum: &mut Sum) {
+    sum.add(table.entries() as u64);
+    sum.note(table.get_ref(index).is_some());
+    sum.add(table.get(index).to_plain());
+    sum.add(table.byte_size() as u64);
+    sum.add(table.cluster_count().0);
+    sum.note(table.get_cluster().is_some());
+    sum.note(table.get_offset().is_some());
+    sum.add(table.cluster_bits() as u64);
+    table.unset_cluster();
+    table.set_cluster(CLUSTER);
+    table.clear_modified();
+    sum.note(table.is_modified());
+    table.set_modified();
+}
+
+// Adds what a call has answered that may hand a pending value back, which is given up then.
+fn note_answer(answer: Result<(), Refused>, sum: &mut Sum) {
+    let Err(Refused { fault, pending }) = answer else {
+        return;
+    };
+    sum.add(fault.number() as u64);
+    if let Some(pending) = pending {
+        sum.add(pending.give_up().first.0);
+    }
+}
+
+fn enter_l2_table(l1_table: &mut L1Table, l2_table: &mut L2Table, index: usize, sum: &mut Sum) {
+    if !l1_table.in_bounds(index) || l2_table.cluster_bits() != l1_table.cluster_bits() {
+        return;
+    }
+    l2_table.unset_cluster();
+    note_answer(l1_table.enter_l2_table(index, l2_table, None), sum);
+    if CLUSTER.offset(l2_table.cluster_bits()) > MAX_OFFSET {
+        return;
+    }
+    l2_table.set_cluster(CLUSTER);
+    let pending = PendingClusters::new(CLUSTER, ClusterCount(1));
+    let answer = l1_table.enter_l2_table(index, l2_table, Some(pending));
+    note_answer(answer, sum);
+}
+
+fn enter_refblock(reftable: &mut RefTable, block: &mut RefBlock, index: usize, sum: &mut Sum) {
+    if !reftable.in_bounds(index) || block.cluster_bits() != reftable.cluster_bits() {
+        return;
+    }
+    if CLUSTER.offset(block.cluster_bits()) > MAX_OFFSET {
+        return;
+    }
+    block.set_cluster(CLUSTER);
+    let pending = PendingClusters::new(CLUSTER, ClusterCount(1));
+    note_answer(reftable.enter_refblock(index, block, Some(pending)), sum);
+}
+
+fn point(header: &mut Header, l1_table: &L1Table, reftable: &RefTable, sum: &mut Sum) {
+    if header.cluster_bits() == l1_table.cluster_bits() {
+        note_answer(header.set_l1_table(l1_table, None), sum);
+    }
+    if header.cluster_bits() == reftable.cluster_bits() {
+        sum.note(header.set_reftable(reftable).is_ok());
+    }
+}
+
+fn look_up(table: &mut L2Table, sum: &mut Sum) {
+    sum.note(table.external_data_file());
+    let guest_cluster = GuestCluster(3);
+    if !fits(3, 0, table.cluster_bits()) {
+        return;
+    }
+    sum.note(table.get_mapping(guest_cluster).is_ok());
+    sum.note(table.lock_compressed_read(guest_cluster).is_ok());
+    let guard = table.lock_write();
+    sum.note(guard.get_mapping(guest_cluster).is_ok());
+    sum.note(guard.compressed_read_guard(guest_cluster).is_ok());
+}
+
+fn change(table: &mut L2Table, index: usize, sum: &mut Sum) {
+    let cluster = HostCluster(8);
+    if index >= table.entries() || cluster.offset(table.cluster_bits()) > MAX_OFFSET {
+        return;
+    }
+    let mut guard = table.lock_write();
+    sum.note(guard.map_cluster(index, cluster, None).is_some());
+    sum.note(guard.zero_cluster(index, true).is_ok());
+    sum.note(guard.discard_cluster(index).is_some());
+}
+
+fn count(block: &mut RefBlock, index: usize, sum: &mut Sum) {
+    sum.note(block.get_cluster().is_some());
+    sum.note(block.get_offset().is_some());
+    sum.add(block.cluster_bits() as u64);
+    sum.note(block.is_modified());
+    if index >= block.entries() {
+        return;
+    }
+    sum.add(block.get(index));
+    sum.note(block.is_zero(index));
+    let mut guard = block.lock_write();
+    sum.note(guard.increment(index).is_ok());
+    sum.note(guard.is_zero(index));
+    sum.note(guard.decrement(index).is_ok());
+}
+
+fn settle_outcome(block: &mut RefBlock, header: &Header, outcome: &Outcome, sum: &mut Sum) {
+    if header.cluster_bits() == block.cluster_bits()
+        && header.refcount_order() == block.refcount_order()
+    {
+        sum.note(settle(block, header, 0, outcome).is_ok());
+    }
+}
+
+fn grow(header: &Header, index: usize, sum: &mut Sum) {
+    if index >= 4194304 {
+        return;
+    }
+    let mut turns = Turns::new();
+    sum.note(least_spare(64, index, header, &mut turns).is_some());
+    sum.add(turns.count() as u64);
+}
+
+fn write(
+    l1_table: &mut L1Table,
+    l2_table: &mut L2Table,
+    block: &mut RefBlock,
+    image: &mut MemStorage,
+    sum: &mut Sum,
+) {
+    sum.note(l1_table.write(image).is_ok());
+    if let Some(cluster) = l2_table.get_cluster() {
+        sum.note(l2_table.write_if_modified(image, cluster).is_ok());
+    }
+    if let Some(cluster) = block.get_cluster() {
+        block.clear_modified();
+        block.set_modified();
+        sum.note(block.write_if_modified(image, cluster).is_ok());
+    }
+    sum.note(block.write(image).is_ok());
+}
+
+fn make_empty(alloc: Global, header: &Header, sum: &mut Sum) {
+    let l1_table = L1Table::from_data(Vec::new(alloc), header);
+    let reftable = RefTable::from_data(Vec::new(alloc), header);
+    sum.add(l1_table.entries() as u64 ^ reftable.entries() as u64);
+}
