@@ -1,11 +1,12 @@
-//! Makes each call of the library that can fail with each of its refusals, and tells what isn't as it must be.
+//! Makes each call of the library that can fail with each of its refusals, and tells what isn't as it must
+//! be.
 //!
 //! With no word, it refuses each call of the storage and each write of the output in turn, and prints a line
 //! for each run with how many there are; then it makes each run where nothing is refused, and prints how many
-//! runs there are. `scripts/refuse-each-allocation` runs it with other words: with `memory` it does the latter
-//! alone, and each of its requests for memory is refused in turn; with `without-memory` and a number it makes
-//! the calls that take no memory so many times; with `settled` and 0 or 1 it makes one list of edits that the
-//! counters can't follow, or one that they can: all memory is taken before they are looked at.
+//! runs there are. `scripts/refuse-each-allocation` runs it with other words: with `memory` it does the
+//! latter alone, and each of its requests for memory is refused in turn; with `without-memory` and a number
+//! it makes the calls that take no memory so many times; with `settled` and 0 or 1 it makes one list of edits
+//! that the counters can't follow, or one that they can: all memory is taken before they are looked at.
 #![tactic(auto)]
 
 mod memory;

@@ -74,8 +74,8 @@ pub(crate) fn refuse_each_write(alloc: Global, run: &CommandRun) -> Result<u64, 
     Err((MOST_WRITES, Wrong::Endless))
 }
 
-// Makes the command with so many writes passed and the next one refused, if there is a next one, and then once
-// more. What it changes in the image is written by the time that it prints.
+// Makes the command with so many writes passed and the next one refused, if there is a next one, and then
+// once more. What it changes in the image is written by the time that it prints.
 fn refuse_write(alloc: Global, run: &CommandRun, passes: u64) -> Result<bool, Wrong> {
     let mut out = run.begin(alloc)?;
     let after = run.images().after(alloc)?;

@@ -117,7 +117,8 @@ fn refuse_each<R: Run>(alloc: Global, run: &R) -> Result<u64, (u64, Wrong)> {
     Err((MOST_CALLS, Wrong::Endless))
 }
 
-// Makes the run with so many calls passed and the next one refused, if there is a next one, and then once more.
+// Makes the run with so many calls passed and the next one refused, if there is a next one, and then once
+// more.
 fn refuse<R: Run>(alloc: Global, run: &R, passes: u64) -> Result<bool, Wrong> {
     let mut begun = run.begin(alloc)?;
     let images = run.images();

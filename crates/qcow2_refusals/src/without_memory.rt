@@ -1,5 +1,5 @@
-//! The calls that take no memory, each made as often as is asked for. `scripts/refuse-each-allocation` counts the
-//! program's requests for memory, which must be as many for one turn as for a thousand.
+//! The calls that take no memory, each made as often as is asked for. `scripts/refuse-each-allocation` counts
+//! the program's requests for memory, which must be as many for one turn as for a thousand.
 
 mod entries;
 mod headers;

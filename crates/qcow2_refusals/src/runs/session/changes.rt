@@ -257,8 +257,8 @@ impl Run for ChangeRun {
     }
 }
 
-/// Makes edits whose outcome the counters follow, or one that they can't. Takes as many requests for memory in
-/// both cases, unless the counters are looked at before all memory is taken.
+/// Makes edits whose outcome the counters follow, or one that they can't. Takes as many requests for memory
+/// in both cases, unless the counters are looked at before all memory is taken.
 pub(crate) fn settle_once(alloc: Global, counted: bool) -> Result<(), Fault> {
     let changes = if counted {
         Changes::Settled
