@@ -47,9 +47,9 @@ pub(crate) fn lookup_image<S: Storage>(
 }
 
 /// Looks an offset up by a header and an L1 table of one cluster size.
-pub(crate) fn lookup<S: Storage>(
+pub(crate) fn lookup(
     alloc: Global,
-    image: &mut S,
+    image: &mut MemStorage,
     header: &Header,
     l1_table: &L1Table,
     guest_offset: GuestOffset,
@@ -60,18 +60,18 @@ pub(crate) fn lookup<S: Storage>(
     qcow2_session::lookup(alloc, image, header, l1_table, guest_offset)
 }
 
-pub(crate) fn load_header<S: Storage>(alloc: Global, image: &mut S) -> Result<Header, Fault> {
+pub(crate) fn load_header(alloc: Global, image: &mut MemStorage) -> Result<Header, Fault> {
     Header::load(alloc, image, false)
 }
 
-pub(crate) fn load_l1_table<S: Storage>(
+/// Loads the L1 table that a header tells.
+pub(crate) fn load_l1_table(
     alloc: Global,
-    image: &mut S,
+    image: &mut MemStorage,
     header: &Header,
-    cluster: HostCluster,
-    entries: usize,
 ) -> Result<L1Table, Fault> {
-    L1Table::load(alloc, image, header, cluster, entries)
+    let cluster = header.l1_table_offset().cluster(header.cluster_bits());
+    L1Table::load(alloc, image, header, cluster, header.l1_table_entries())
 }
 
 pub(crate) fn load_l2_table(
@@ -90,18 +90,6 @@ pub(crate) fn load_block(
     cluster: HostCluster,
 ) -> Result<RefBlock, Fault> {
     RefBlock::load(alloc, image, header, cluster)
-}
-
-pub(crate) fn new_block(
-    alloc: Global,
-    image: &MemStorage,
-    header: &Header,
-) -> Result<RefBlock, Fault> {
-    RefBlock::new_cleared(alloc, image, header)
-}
-
-pub(crate) fn write_block(block: &mut RefBlock, image: &mut MemStorage) -> Result<(), Fault> {
-    block.write(image)
 }
 
 pub(crate) fn settle(
