@@ -1,7 +1,7 @@
 //! Refcount blocks to step and to settle, and comparisons of what is left of them.
 
 use crate::calls::{load_block, step_block};
-use qcow2_base::{Fault, HostCluster, MemStorage};
+use qcow2_base::{Fault, HostCluster};
 use qcow2_metadata::{Header, RefBlock};
 use qcow2_session::{Step, StepReply};
 use qcow2_testing::same;
@@ -23,17 +23,22 @@ pub(crate) fn block_of(
     (bytes, counters): (&[u8], Counters<'_>),
     modified: bool,
 ) -> Result<RefBlock, Fault> {
-    let mut image = MemStorage::new(Vec::from_slice(alloc, bytes)?);
-    let mut block = load_block(alloc, &mut image, header, CLUSTER)?;
-    for run in counters {
-        step_block(&mut block, &steps_up(alloc, *run)?)?;
-    }
+    let mut block = load_block(alloc, bytes, header)?;
+    count_up(&mut block, counters)?;
     if modified {
         block.set_modified();
     } else {
         block.clear_modified();
     }
     Ok(block)
+}
+
+fn count_up(block: &mut RefBlock, counters: Counters<'_>) -> Result<(), Fault> {
+    for run in counters {
+        let steps = steps_up(block.allocator(), *run)?;
+        step_block(block, &steps)?;
+    }
+    Ok(())
 }
 
 // Steps of so many counters up to a number.

@@ -74,8 +74,8 @@ const GOOD: u64 = 0x8000_0000_0020_0000;
 
 const ALL: usize = usize::MAX;
 
-// Cluster bits, and the cluster that is listed. What stands in the image from its begin on: the index of the
-// first entry that isn't 0, the entries with their lines, and how many bytes of all that there are. The fault.
+// Cluster bits, and the cluster that is listed. What the image begins with: the index of the first entry
+// that isn't 0, the entries with their lines, and how many bytes of all that there are. The fault.
 type Row = (
     (u32, u64),
     (usize, &'static [Case], usize),

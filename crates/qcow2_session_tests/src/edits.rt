@@ -30,7 +30,7 @@ macro_rules! map {
     };
 }
 
-const ROWS: &[Row<'static>] = &[
+const DATA: &[Row<'static>] = &[
     (
         "no edit",
         ((9, false), (3, &[DATA_5])),
@@ -128,6 +128,9 @@ const ROWS: &[Row<'static>] = &[
         &[KEEP, TO_5],
         Ok(((&[5], &[]), (3, &[DATA_5]))),
     ),
+];
+
+const COMPRESSED: &[Row<'static>] = &[
     // compressed data
     (
         "compressed data's own cluster",
@@ -204,6 +207,9 @@ const ROWS: &[Row<'static>] = &[
             ),
         )),
     ),
+];
+
+const ENDS: &[Row<'static>] = &[
     // the last index and the greatest cluster
     (
         "the last entry of a table of 512 bytes",
@@ -229,6 +235,9 @@ const ROWS: &[Row<'static>] = &[
             (262_143, &[0x80ff_ffff_ffe0_0000]),
         )),
     ),
+];
+
+const REFUSED: &[Row<'static>] = &[
     // what is refused
     (
         "an index past the end",
@@ -329,74 +338,76 @@ const MIXED: &[Edit] = &[
     map!(1, 2),
 ];
 
-#[test]
-fn edits_are_all_made_in_their_order_or_none(rt: HostRuntime) -> Result<(), Fail> {
-    for row in ROWS {
-        leave(rt.alloc(), *row, false)?;
-        leave(rt.alloc(), *row, true)?;
+// Makes the edits of each row, of a table with each flag.
+fn rows_leave(alloc: Global, rows: &[Row<'_>]) -> Result<(), Fail> {
+    for row in rows {
+        leave(alloc, *row, false)?;
+        leave(alloc, *row, true)?;
     }
     Ok(())
+}
+
+#[test]
+fn edits_are_made_one_after_the_other(rt: HostRuntime) -> Result<(), Fail> {
+    rows_leave(rt.alloc(), DATA)
+}
+
+#[test]
+fn compressed_data_is_handed_back(rt: HostRuntime) -> Result<(), Fail> {
+    rows_leave(rt.alloc(), COMPRESSED)
+}
+
+#[test]
+fn the_last_index_and_the_greatest_cluster_are_taken(rt: HostRuntime) -> Result<(), Fail> {
+    rows_leave(rt.alloc(), ENDS)
+}
+
+#[test]
+fn a_list_with_an_edit_that_does_not_fit_changes_nothing(rt: HostRuntime) -> Result<(), Fail> {
+    rows_leave(rt.alloc(), REFUSED)
 }
 
 // Makes the edits of a row, of a table with this flag.
 fn leave(alloc: Global, row: Row<'_>, modified: bool) -> Result<(), Fail> {
     let (name, (image, before), edits, expected) = row;
     let mut table = table_with(alloc, image, before, modified)?;
-    let fit = edits_fit(&table, edits);
-    let answer = edit_table(&mut table, edits);
-    match expected {
-        Ok((references, after)) => {
-            same(fit, Ok(()), name)?;
-            did(answer, Ok(references), name)?;
-            says(&table, after, modified || !edits.is_empty(), name)
-        }
-        Err(position) => {
-            same(fit, Err(position), name)?;
-            did(answer, Err(Fault::BadEdit(position)), name)?;
-            says(&table, before, modified, name)
-        }
-    }
+    let (fit, answer) = match expected {
+        Ok((references, _)) => (Ok(()), Ok(references)),
+        Err(position) => (Err(position), Err(Fault::BadEdit(position))),
+    };
+    same(edits_fit(&table, edits), fit, name)?;
+    did(edit_table(&mut table, edits), answer, name)?;
+    let (after, modified) = match expected {
+        Ok((_, after)) => (after, modified || !edits.is_empty()),
+        Err(_) => (before, modified),
+    };
+    says(&table, after, modified, name)
 }
 
-// Ten thousand edits of a table of 8192 entries, which clusters they give a reference, and which lose it:
-// those of the first 1808 entries, which are mapped twice.
+// Ten thousand edits of a table of 8192 entries: a map of each entry and a discard of it after that. Which
+// clusters they give a reference, and which lose it.
 fn many_edits(alloc: Global) -> Result<(Vec<Edit>, Vec<u64>, Vec<(u64, u64)>), AllocError> {
     let mut edits = Vec::new(alloc);
     let mut gained = Vec::new(alloc);
     let mut freed = Vec::new(alloc);
-    for place in 0..10_000u64 {
-        edits.push(map!((place % 8192) as usize, 1 + place))?;
-        gained.push(1 + place)?;
-        if place < 1808 {
-            freed.push((1 + place, 1))?;
-        }
+    for place in 0..5000usize {
+        let cluster = 1 + place as u64;
+        let index = 8191 - place;
+        edits.extend_from_slice(&[map!(index, cluster), Edit::Discard { index }])?;
+        gained.push(cluster)?;
+        freed.push((cluster, 1))?;
     }
     Ok((edits, gained, freed))
 }
 
-// Discards of all entries, which then refer to these clusters, and the entries.
-fn many_discards(alloc: Global) -> Result<(Vec<Edit>, Vec<(u64, u64)>, Vec<u64>), AllocError> {
-    let mut edits = Vec::new(alloc);
-    let mut freed = Vec::new(alloc);
-    let mut entries = Vec::new(alloc);
-    for index in 0..8192usize {
-        let cluster = if index < 1808 { 8193 } else { 1 } + index as u64;
-        edits.push(Edit::Discard { index })?;
-        freed.push((cluster, 1))?;
-        entries.push(0x8000_0000_0000_0000 + cluster * 65536)?;
-    }
-    Ok((edits, freed, entries))
-}
-
 #[test]
 fn ten_thousand_edits_are_made_in_their_order(rt: HostRuntime) -> Result<(), Fail> {
-    let alloc = rt.alloc();
-    let (edits, gained, freed) = many_edits(alloc)?;
-    let (discards, discarded, entries) = many_discards(alloc)?;
+    let (edits, gained, freed) = many_edits(rt.alloc())?;
     let cleared: Before<'_> = ((16, false), (0, &[]));
-    let mapped: Before<'_> = ((16, false), (0, &entries));
-    let left: Left<'_> = ((&gained, &freed), mapped.1);
-    leave(alloc, ("mapped", cleared, &edits, Ok(left)), false)?;
-    let left: Left<'_> = ((&[], &discarded), cleared.1);
-    leave(alloc, ("discarded", mapped, &discards, Ok(left)), false)
+    let left: Left<'_> = ((&gained, &freed), cleared.1);
+    leave(
+        rt.alloc(),
+        ("mapped and discarded", cleared, &edits, Ok(left)),
+        false,
+    )
 }

@@ -48,18 +48,6 @@ const ROWS: &[Row] = &[
         Ok((&[Refused, Refused], 1536, &[(1048, ENTRY)])),
     ),
     (
-        "none is done at the greatest number",
-        ((9, 1), 4, 1300, &[(512, &[0xff, 0xff])]),
-        &[INC_0, DEC_1, INC_0],
-        Ok((&[Refused; 3], 1300, &[(512, &[0xff, 0xff])])),
-    ),
-    (
-        "no step",
-        ((9, 1), 4, 700, &[(512, &[0, 7])]),
-        &[],
-        Ok((&[], 700, &[(512, &[0, 7])])),
-    ),
-    (
         "no step at the last place",
         ((9, 0x7fff_ffff_ffff), 4, 700, &[]),
         &[],
@@ -70,12 +58,6 @@ const ROWS: &[Row] = &[
         ((9, 1), 4, 1300, &[(512, &[0, 7])]),
         &[INC_0, DEC_0],
         Ok((&[Done(7), Done(8)], 1300, &[(512, &[0, 7])])),
-    ),
-    (
-        "the last one is done",
-        ((9, 1), 4, 1300, &[(512, &[0, 7])]),
-        &[DEC_1, DEC_1, DEC_0],
-        Ok((&[Refused, Refused, Done(7)], 1300, &[(512, &[0, 6])])),
     ),
     (
         "counters of one bit",
@@ -131,12 +113,6 @@ const ROWS: &[Row] = &[
         Err(Fault::BadStep(2)),
     ),
     (
-        "an index past the end of counters of 64 bits",
-        ((9, 2), 6, 1536, &[]),
-        &[INC_0, Step::Inc { index: 64 }],
-        Err(Fault::BadStep(1)),
-    ),
-    (
         "an index past the end at the last place",
         ((9, 0x7fff_ffff_ffff), 4, 1536, &[]),
         &[Step::Inc { index: 256 }],
@@ -171,16 +147,16 @@ fn stand(alloc: Global, row: Row, around: u8) -> Result<(), Fail> {
     let header = header_with(alloc, place.0, order, false)?;
     let mut image = recording_image(alloc, (len, place, around, parts))?;
     let answer = step_image(alloc, &mut image, &header, HostCluster(place.1), steps);
-    match expected {
-        Ok((replies, len_then, then)) => {
-            let some_done = answered(answer, Ok(replies), name)?;
-            let then = (len_then, place, around, then);
-            image_holds(alloc, &image, then, (true, some_done), name)
-        }
-        Err(fault) => {
-            answered(answer, Err(fault), name)?;
-            let calls = (fault != Fault::TablePlace, false);
-            image_holds(alloc, &image, (len, place, around, parts), calls, name)
-        }
-    }
+    let (expected, (len, parts), is_read) = match expected {
+        Ok((replies, len, parts)) => (Ok(replies), (len, parts), true),
+        Err(fault) => (Err(fault), (len, parts), fault != Fault::TablePlace),
+    };
+    let is_written = answered(answer, expected, name)?;
+    image_holds(
+        alloc,
+        &image,
+        (len, place, around, parts),
+        (is_read, is_written),
+        name,
+    )
 }

@@ -260,8 +260,8 @@ const ENTRIES: &[(u64, Answer, Answer)] = &[
     ),
 ];
 
-// How many bytes of the sample image there are, and what an offset reads as: zeros follow where an image is cut
-// off, up to the last byte of the entry that isn't 0.
+// How many bytes of the sample image there are, and what an offset reads as: zeros follow where an image is
+// cut off, up to the last byte of the entry that isn't 0.
 const CUTS: &[(usize, Answer)] = &[
     (0, Refused(1)),
     (3, Refused(1)),

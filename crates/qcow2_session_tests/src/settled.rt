@@ -6,9 +6,9 @@ use crate::images::header_with;
 use crate::tables::{
     DATA_5, GONE, KEEP, PAST, References, TO_0, TO_5, TO_6, ZERO, did, says, table_with,
 };
-use qcow2_base::{ClusterCount, Fault, HostCluster};
-use qcow2_metadata::ClustersToFreeEntry;
-use qcow2_session::{Edit, Outcome};
+use qcow2_base::Fault;
+use qcow2_metadata::{L2Table, RefBlock};
+use qcow2_session::Edit;
 use qcow2_testing::same;
 use std::alloc::Global;
 use std::test::Fail;
@@ -39,7 +39,7 @@ const FIVE: Counters<'static> = &[(5, 1, 1)];
 // The bytes of a block whose counters all have the greatest number.
 const FULL: &[u8] = &[0xff; 512];
 
-const ROWS: &[Row<'static>] = &[
+const CLUSTERS: &[Row<'static>] = &[
     (
         ((9, 4, false), 0, (&[], &[(5, 1, 1)])),
         (&[6], &[(5, 1), (6, 1)]),
@@ -101,6 +101,9 @@ const ROWS: &[Row<'static>] = &[
         Err(Fault::CounterRange),
         &[(5, 2, 1)],
     ),
+];
+
+const RANGES: &[Row<'static>] = &[
     // ranges that begin before the block, that end behind it, and that hold all of it
     (
         ((9, 6, false), 1, (&[], ONES)),
@@ -220,6 +223,9 @@ const ROWS: &[Row<'static>] = &[
         Err(Fault::CounterRange),
         &[(5, 1, 1)],
     ),
+];
+
+const WIDTHS: &[Row<'static>] = &[
     // a cluster that gains what it loses, by counters of each width
     (
         ((9, 0, false), 0, (&[], &[])),
@@ -369,42 +375,43 @@ const ROWS: &[Row<'static>] = &[
     ),
 ];
 
-// What edits did, as they would tell it.
-fn outcome_of(alloc: Global, references: References<'_>) -> Result<Outcome, Fault> {
-    let (gained, freed) = references;
-    let mut outcome = Outcome {
-        gained: Vec::new(alloc),
-        freed: Vec::new(alloc),
-    };
-    for cluster in gained {
-        outcome.gained.push(HostCluster(*cluster))?;
-    }
-    for (first, count) in freed {
-        let (first, count) = (HostCluster(*first), ClusterCount(*count));
-        outcome.freed.push(ClustersToFreeEntry { first, count })?;
-    }
-    Ok(outcome)
-}
-
-#[test]
-fn counters_follow_what_clusters_gained_and_lost(rt: HostRuntime) -> Result<(), Fail> {
-    for row in ROWS {
-        settles(rt.alloc(), *row, false)?;
-        settles(rt.alloc(), *row, true)?;
+// Settles a block with each flag as each row says.
+fn rows_settle(alloc: Global, rows: &[Row<'_>]) -> Result<(), Fail> {
+    for row in rows {
+        settles(alloc, *row, false)?;
+        settles(alloc, *row, true)?;
     }
     Ok(())
 }
 
+#[test]
+fn counters_follow_what_clusters_gained_and_lost(rt: HostRuntime) -> Result<(), Fail> {
+    rows_settle(rt.alloc(), CLUSTERS)
+}
+
+#[test]
+fn ranges_are_counted_as_far_as_the_block_counts_them(rt: HostRuntime) -> Result<(), Fail> {
+    rows_settle(rt.alloc(), RANGES)
+}
+
+#[test]
+fn no_counter_passes_the_greatest_number_of_its_width(rt: HostRuntime) -> Result<(), Fail> {
+    rows_settle(rt.alloc(), WIDTHS)
+}
+
 // Settles a block with this flag as the row says.
 fn settles(alloc: Global, row: Row<'_>, modified: bool) -> Result<(), Fail> {
-    let (((bits, order, external), rt_index, before), references, expected, counters) = row;
-    let header = header_with(alloc, bits, order, external)?;
+    let ((image, rt_index, before), references, expected, counters) = row;
+    let header = header_with(alloc, image.0, image.1, image.2)?;
     let mut block = block_of(alloc, &header, before, modified)?;
-    let outcome = outcome_of(alloc, references)?;
-    let answer = settle(&mut block, &header, rt_index, &outcome);
-    let row = (order, rt_index, references);
-    same(answer.err(), expected.err(), row)?;
-    counts(&block, counters, modified || expected == Ok(true), row)
+    let answer = settle(&mut block, &header, rt_index, references);
+    same(answer.err(), expected.err(), references)?;
+    counts(
+        &block,
+        counters,
+        modified || expected == Ok(true),
+        references,
+    )
 }
 
 // Entry 3 of a table of compressed data in clusters 0 and 1.
@@ -568,15 +575,30 @@ fn edits_settle(
     row: Settled<'_>,
     (table_modified, block_modified): (bool, bool),
 ) -> Result<(), Fail> {
-    let (((bits, order, external), rt_index, before), entry, edits, expected, left) = row;
-    let header = header_with(alloc, bits, order, external)?;
-    let mut table = table_with(alloc, (bits, external), (3, &[entry]), table_modified)?;
+    let ((image, rt_index, before), entry, edits, expected, left) = row;
+    let header = header_with(alloc, image.0, image.1, image.2)?;
+    let mut table = table_with(alloc, (image.0, image.2), (3, &[entry]), table_modified)?;
     let mut block = block_of(alloc, &header, (&[], before), block_modified)?;
     let answer = edit_settled(&mut table, &mut block, &header, rt_index, edits);
-    let is_edited = answer.is_ok() && !edits.is_empty();
-    let row = (order, rt_index, entry, edits);
-    did(answer, expected, row)?;
-    let (after, counters, counts_some) = left;
-    says(&table, (3, &[after]), table_modified || is_edited, row)?;
-    counts(&block, counters, block_modified || counts_some, row)
+    did(answer, expected, edits)?;
+    let table_modified = table_modified || expected.is_ok() && !edits.is_empty();
+    are_left(
+        &table,
+        &block,
+        left,
+        (table_modified, block_modified),
+        edits,
+    )
+}
+
+// Fails unless this is left of a table and of a block that had this flag.
+fn are_left(
+    table: &L2Table,
+    block: &RefBlock,
+    (entry, counters, counts_some): (u64, Counters<'_>, bool),
+    (table_modified, block_modified): (bool, bool),
+    row: &[Edit],
+) -> Result<(), Fail> {
+    says(table, (3, &[entry]), table_modified, row)?;
+    counts(block, counters, block_modified || counts_some, row)
 }

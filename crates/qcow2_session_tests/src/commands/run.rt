@@ -64,11 +64,11 @@ pub(crate) fn runs(
     let run = run_line(files, image, words, failures)?;
     let out = std::str::from_utf8(run.out.flushed())?;
     let err = std::str::from_utf8(run.err.flushed())?;
-    same((run.status, out, err), expected, (words, failures))
+    same((run.status, out, err), expected, words)
 }
 
-// A number is 1 to 20 digits that fit 64 bits, and an image has 9 to 21 cluster bits.
-const WRONG_WORDS: &[&[&str]] = &[
+// Words that are no command, for `l2` first.
+const NO_COMMANDS: &[&[&str]] = &[
     &[],
     &[""],
     &["l2"],
@@ -89,6 +89,10 @@ const WRONG_WORDS: &[&[&str]] = &[
     &["IMAGE", "l2", "9", "2"],
     &["information", "IMAGE"],
     &["--help"],
+];
+
+// A number is 1 to 20 digits that fit 64 bits.
+const NO_NUMBERS: &[&[&str]] = &[
     &["l2", "IMAGE", "9", ""],
     &["l2", "IMAGE", "9", "+"],
     &["l2", "IMAGE", "9", "-"],
@@ -119,6 +123,9 @@ const WRONG_WORDS: &[&[&str]] = &[
     &["l2", "IMAGE", "000000000000000000009", "2"],
     &["l2", "IMAGE", "+00000000000000000009", "2"],
     &["l2", "IMAGE", "\u{ff19}", "2"],
+];
+
+const NO_ARGUMENTS: &[&[&str]] = &[
     &["info"],
     &["info", "IMAGE", "9"],
     &["list", "IMAGE", ""],
@@ -146,19 +153,27 @@ const WRONG_WORDS: &[&[&str]] = &[
     &["count", "IMAGE", "three"],
 ];
 
-#[test]
-fn wrong_words_are_the_usage_line_and_open_no_file(rt: HostRuntime) -> Result<(), Fail> {
-    for words in WRONG_WORDS {
-        ends_with(
-            &rt,
-            "wrong-words",
-            (&[], &[]),
-            words,
-            NO_FAILURES,
-            (2, "", USAGE),
-        )?;
+// Runs lines of words that are no command, which opens no file.
+fn are_refused(rt: &HostRuntime, name: &str, lines: &[&[&str]]) -> Result<(), Fail> {
+    for words in lines {
+        ends_with(rt, name, (&[], &[]), words, NO_FAILURES, (2, "", USAGE))?;
     }
     Ok(())
+}
+
+#[test]
+fn wrong_words_are_the_usage_line(rt: HostRuntime) -> Result<(), Fail> {
+    are_refused(&rt, "no-commands", NO_COMMANDS)
+}
+
+#[test]
+fn a_number_is_1_to_20_digits_that_fit_64_bits(rt: HostRuntime) -> Result<(), Fail> {
+    are_refused(&rt, "no-numbers", NO_NUMBERS)
+}
+
+#[test]
+fn wrong_arguments_of_a_command_are_the_usage_line(rt: HostRuntime) -> Result<(), Fail> {
+    are_refused(&rt, "no-arguments", NO_ARGUMENTS)
 }
 
 // All faults, in the order of their numbers.

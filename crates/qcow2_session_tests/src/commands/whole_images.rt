@@ -388,8 +388,8 @@ fn a_damaged_part_is_its_fault_where_a_command_reads_it(rt: HostRuntime) -> Resu
     rows_end(&rt, "damages", DAMAGES)
 }
 
-// Runs words over a file of the sample image with changes, and fails unless the run ends so, opens the file as
-// its command does, and leaves it with these changes.
+// Runs words over a file of the sample image with changes, and fails unless the run ends so, opens the file
+// as its command does, and leaves it with these changes.
 pub(crate) fn ends_with(
     rt: &HostRuntime,
     name: &str,
@@ -668,8 +668,8 @@ fn each_failed_call_of_the_file_is_the_storage_fault(rt: HostRuntime) -> Result<
     Ok(())
 }
 
-// Runs words over a file of which each call takes 100 bytes at most, with each call of the file failed in turn.
-// A run that has all of its calls prints this.
+// Runs words over a file of which each call takes 100 bytes at most, with each call of the file failed in
+// turn. A run that has all of its calls prints this.
 fn fails_at_each_call(
     rt: &HostRuntime,
     words: &[&str],
