@@ -1,107 +1,98 @@
-//! Refcount blocks to step, and comparisons of what steps of them leave.
+//! Refcount blocks to step and to settle, and comparisons of what is left of them.
 
-use crate::calls::{load_block, new_block, step_block};
-use crate::images::header_with;
-use qcow2_base::{Fault, HostCluster, MemStorage};
-use qcow2_metadata::RefBlock;
+use crate::calls::{load_block, step_block};
+use qcow2_base::{Fault, HostCluster};
+use qcow2_metadata::{Header, RefBlock};
 use qcow2_session::{Step, StepReply};
-use qcow2_testing::{fits, same};
-use std::alloc::Global;
+use qcow2_testing::same;
+use std::alloc::{AllocError, Global};
 use std::fmt::Debug;
 use std::test::Fail;
 
-/// The first counters of a block. All others are 0.
-pub(crate) type Counters<'a> = &'a [u64];
+/// Counters of a block: the index of the first of some, how many there are, and the number of each. All
+/// others are 0.
+pub(crate) type Counters<'a> = &'a [(usize, usize, u64)];
 
 // The cluster of each block.
-const CLUSTER: HostCluster = HostCluster(3);
+const CLUSTER: HostCluster = HostCluster(0);
 
-/// A block of an image with clusters of 512 bytes, whose counters have `2^order` bits. It begins with these
-/// bytes, has a cluster, and isn't modified.
-pub(crate) fn block_with(alloc: Global, order: u32, bytes: &[u8]) -> Result<RefBlock, Fault> {
-    let header = header_with(alloc, 9, order, false)?;
-    let mut image = MemStorage::new(Vec::from_slice(alloc, bytes)?);
-    let mut block = load_block(alloc, &mut image, &header, HostCluster(0))?;
-    place(&mut block)?;
-    block.clear_modified();
-    Ok(block)
-}
-
-/// A block of zeros of an image with clusters of 512 bytes, whose counters have 16 bits. It has a
-/// cluster, and is modified.
-pub(crate) fn block_of_zeros(alloc: Global, image: &MemStorage) -> Result<RefBlock, Fault> {
-    let header = header_with(alloc, 9, 4, false)?;
-    let mut block = new_block(alloc, image, &header)?;
-    place(&mut block)?;
-    Ok(block)
-}
-
-// Says that the block begins with its cluster.
-fn place(block: &mut RefBlock) -> Result<(), Fault> {
-    if !fits(CLUSTER.0, 0, block.cluster_bits()) {
-        return Err(Fault::TablePlace);
-    }
-    block.set_cluster(CLUSTER);
-    Ok(())
-}
-
-/// The counter at an index of the block, if there is one.
-pub(crate) fn counter_at(block: &RefBlock, index: usize) -> Option<u64> {
-    if index < block.entries() {
-        return Some(block.get(index));
-    }
-    None
-}
-
-/// Sets the block's flag, or clears it.
-pub(crate) fn flag(block: &mut RefBlock, modified: bool) {
+/// A block of an image with this header that begins with these bytes. These counters are counted up then.
+pub(crate) fn block_of(
+    alloc: Global,
+    header: &Header,
+    (bytes, counters): (&[u8], Counters<'_>),
+    modified: bool,
+) -> Result<RefBlock, Fault> {
+    let mut block = load_block(alloc, bytes, header)?;
+    count_up(&mut block, counters)?;
     if modified {
         block.set_modified();
     } else {
         block.clear_modified();
     }
+    Ok(block)
+}
+
+fn count_up(block: &mut RefBlock, counters: Counters<'_>) -> Result<(), Fault> {
+    for run in counters {
+        let steps = steps_up(block.allocator(), *run)?;
+        step_block(block, &steps)?;
+    }
+    Ok(())
+}
+
+// Steps of so many counters up to a number.
+fn steps_up(
+    alloc: Global,
+    (first, count, number): (usize, usize, u64),
+) -> Result<Vec<Step>, AllocError> {
+    let mut steps = Vec::new(alloc);
+    for place in 0..count.saturating_mul(number as usize) {
+        let index = first.saturating_add(place % count);
+        steps.push(Step::Inc { index })?;
+    }
+    Ok(steps)
 }
 
 /// Fails unless the block has these counters, its cluster and this flag.
-pub(crate) fn block_says<R: Debug + Drop>(
+pub(crate) fn counts<R: Debug + Copy + Drop>(
     block: &RefBlock,
     counters: Counters<'_>,
     modified: bool,
     row: R,
 ) -> Result<(), Fail> {
-    let found = (
-        other_counter(block, counters),
-        block.get_cluster(),
-        block.is_modified(),
-    );
-    same(found, (None, Some(CLUSTER), modified), row)
+    for index in 0..block.entries() {
+        same(block.get(index), number_at(counters, index), (row, index))?;
+    }
+    let found = (block.get_cluster(), block.is_modified());
+    same(found, (Some(CLUSTER), modified), row)
 }
 
-// The first counter that isn't one of these or else 0, with its index.
-fn other_counter(block: &RefBlock, counters: Counters<'_>) -> Option<(usize, Option<u64>)> {
-    for index in 0..block.entries() {
-        let found = counter_at(block, index);
-        if found != Some(counters.get(index).copied().unwrap_or(0)) {
-            return Some((index, found));
+// The number of a counter.
+fn number_at(counters: Counters<'_>, index: usize) -> u64 {
+    for (first, count, number) in counters {
+        if index >= *first && index - *first < *count {
+            return *number;
         }
     }
-    None
+    0
 }
 
-/// Fails unless the steps answer this, one after the other, and leave these counters. The block then is
-/// modified if it was or if a step was done.
-pub(crate) fn steps_make<R: Debug + Copy + Drop>(
-    block: &mut RefBlock,
-    steps: &[Step],
-    expected: &[StepReply],
-    counters: Counters<'_>,
+/// Fails unless steps answered this: what came of each, or a fault. Tells whether one was done.
+pub(crate) fn answered<R: Debug + Drop>(
+    answer: Result<Vec<StepReply>, Fault>,
+    expected: Result<&[StepReply], Fault>,
     row: R,
-) -> Result<(), Fail> {
-    let some_done = expected
-        .iter()
-        .any(|reply: &StepReply| *reply != StepReply::Refused);
-    let modified = block.is_modified() || some_done;
-    let replies = step_block(block, steps)?;
-    same(replies.as_slice(), expected, row)?;
-    block_says(block, counters, modified, row)
+) -> Result<bool, Fail> {
+    let found = match &answer {
+        Ok(replies) => Ok(replies.as_slice()),
+        Err(fault) => Err(*fault),
+    };
+    same(found, expected, row)?;
+    let replies = expected.unwrap_or(&[]);
+    Ok(
+        replies
+            .iter()
+            .any(|reply: &StepReply| *reply != StepReply::Refused),
+    )
 }

@@ -1,8 +1,9 @@
 //! The calls that are tested, without their clauses: tests compare what comes of a call with their
 //! tables, and no proof about a test has to read what the call ensures.
 
-use qcow2_base::{Fault, GuestOffset, HostCluster, MemStorage, Storage};
-use qcow2_metadata::{Header, L1Table, L2Mapping, L2Table, RefBlock, Table};
+use crate::tables::References;
+use qcow2_base::{ClusterCount, Fault, GuestOffset, HostCluster, MemStorage, Storage};
+use qcow2_metadata::{ClustersToFreeEntry, Header, L1Table, L2Mapping, L2Table, RefBlock, Table};
 use qcow2_session::{Edit, Outcome, Step, StepReply};
 use std::alloc::Global;
 
@@ -47,9 +48,9 @@ pub(crate) fn lookup_image<S: Storage>(
 }
 
 /// Looks an offset up by a header and an L1 table of one cluster size.
-pub(crate) fn lookup<S: Storage>(
+pub(crate) fn lookup(
     alloc: Global,
-    image: &mut S,
+    image: &mut MemStorage,
     header: &Header,
     l1_table: &L1Table,
     guest_offset: GuestOffset,
@@ -60,18 +61,18 @@ pub(crate) fn lookup<S: Storage>(
     qcow2_session::lookup(alloc, image, header, l1_table, guest_offset)
 }
 
-pub(crate) fn load_header<S: Storage>(alloc: Global, image: &mut S) -> Result<Header, Fault> {
+pub(crate) fn load_header(alloc: Global, image: &mut MemStorage) -> Result<Header, Fault> {
     Header::load(alloc, image, false)
 }
 
-pub(crate) fn load_l1_table<S: Storage>(
+/// Loads the L1 table that a header tells.
+pub(crate) fn load_l1_table(
     alloc: Global,
-    image: &mut S,
+    image: &mut MemStorage,
     header: &Header,
-    cluster: HostCluster,
-    entries: usize,
 ) -> Result<L1Table, Fault> {
-    L1Table::load(alloc, image, header, cluster, entries)
+    let cluster = header.l1_table_offset().cluster(header.cluster_bits());
+    L1Table::load(alloc, image, header, cluster, header.l1_table_entries())
 }
 
 pub(crate) fn load_l2_table(
@@ -83,39 +84,42 @@ pub(crate) fn load_l2_table(
     L2Table::load(alloc, image, header, cluster, header.l2_entries())
 }
 
-pub(crate) fn load_block(
-    alloc: Global,
-    image: &mut MemStorage,
-    header: &Header,
-    cluster: HostCluster,
-) -> Result<RefBlock, Fault> {
-    RefBlock::load(alloc, image, header, cluster)
+/// Loads the block that begins with cluster 0 of an image of these bytes.
+pub(crate) fn load_block(alloc: Global, bytes: &[u8], header: &Header) -> Result<RefBlock, Fault> {
+    let mut image = MemStorage::new(Vec::from_slice(alloc, bytes)?);
+    RefBlock::load(alloc, &mut image, header, HostCluster(0))
 }
 
-pub(crate) fn new_block(
-    alloc: Global,
-    image: &MemStorage,
-    header: &Header,
-) -> Result<RefBlock, Fault> {
-    RefBlock::new_cleared(alloc, image, header)
-}
-
-pub(crate) fn write_block(block: &mut RefBlock, image: &mut MemStorage) -> Result<(), Fault> {
-    block.write(image)
-}
-
+/// Settles what edits did to references.
 pub(crate) fn settle(
     block: &mut RefBlock,
     header: &Header,
     rt_index: usize,
-    outcome: &Outcome,
+    references: References<'_>,
 ) -> Result<(), Fault> {
+    let outcome = outcome_of(block.allocator(), references)?;
     if header.cluster_bits() != block.cluster_bits()
         || header.refcount_order() != block.refcount_order()
     {
         return Err(Fault::WrongLength);
     }
-    qcow2_session::settle(block, header, rt_index, outcome)
+    qcow2_session::settle(block, header, rt_index, &outcome)
+}
+
+// What edits did, as they would tell it.
+fn outcome_of(alloc: Global, (gained, freed): References<'_>) -> Result<Outcome, Fault> {
+    let mut outcome = Outcome {
+        gained: Vec::new(alloc),
+        freed: Vec::new(alloc),
+    };
+    for cluster in gained {
+        outcome.gained.push(HostCluster(*cluster))?;
+    }
+    for (first, count) in freed {
+        let (first, count) = (HostCluster(*first), ClusterCount(*count));
+        outcome.freed.push(ClustersToFreeEntry { first, count })?;
+    }
+    Ok(outcome)
 }
 
 pub(crate) fn edit_settled(

@@ -1,14 +1,14 @@
+//! The command `l2`: the lines of a table, and its faults.
+
 pub(crate) mod run;
 pub(crate) mod whole_images;
 
 use crate::tables::table_of;
 use crate::{FailingOutput, Failure};
-use qcow2_base::{Fault, HostCluster, MemStorage, Storage};
+use qcow2_base::{Fault, HostCluster, MemStorage};
 use qcow2_session::list_l2_table;
-use qcow2_testing::{FailingStorage, holds, is_cluster_bits, same, same_bytes};
+use qcow2_testing::{FailingStorage, is_cluster_bits, same, same_bytes};
 use std::alloc::Global;
-use std::fmt::Debug;
-use std::io;
 use std::io::Write;
 use std::test::Fail;
 
@@ -70,212 +70,192 @@ const TWENTY_ONE_BITS: &[Case] = &[
     ),
 ];
 
-// A table that was listed: the fault, if there was one, and what was printed.
-#[derive(Drop)]
-pub(crate) struct Listing {
-    pub(crate) fault: Option<Fault>,
-    out: FailingOutput,
-}
+const GOOD: u64 = 0x8000_0000_0020_0000;
 
-impl Listing {
-    // Lists the table that begins with a cluster of the image.
-    pub(crate) fn of<S: Storage>(
-        alloc: Global,
-        image: &mut S,
-        cluster_bits: u32,
-        cluster: HostCluster,
-    ) -> Result<Listing, Fail> {
-        if !is_cluster_bits(cluster_bits) {
-            return Err(Fail::new("these are no cluster bits"));
-        }
-        let mut out = FailingOutput::new(alloc, Failure::Never)?;
-        let answer = list_l2_table(alloc, image, cluster_bits, cluster, &mut out);
-        let fault = answer.err();
-        Ok(Listing { fault, out })
+const ALL: usize = usize::MAX;
+
+// Cluster bits, and the cluster that is listed. What the image begins with: the index of the first entry
+// that isn't 0, the entries with their lines, and how many bytes of all that there are. The fault.
+type Row = (
+    (u32, u64),
+    (usize, &'static [Case], usize),
+    Result<(), Fault>,
+);
+
+const ROWS: &[Row] = &[
+    ((9, 0), (0, NINE_BITS, ALL), Ok(())),
+    ((16, 0), (0, SIXTEEN_BITS, ALL), Ok(())),
+    ((21, 0), (0, TWENTY_ONE_BITS, ALL), Ok(())),
+    // the last entry, and one past it
+    (
+        (9, 0),
+        (63, &[(0xa00, "63 data 0xa00\n"), (0xa00, "")], ALL),
+        Ok(()),
+    ),
+    (
+        (21, 0),
+        (
+            262_143,
+            &[(GOOD, "262143 data 0x200000 copied\n"), (GOOD, "")],
+            ALL,
+        ),
+        Ok(()),
+    ),
+    // images that end inside their table, which goes on with zeros
+    ((9, 0), (0, &[(0x8000_0000_0000_0a00, "")], 0), Ok(())),
+    ((9, 0), (0, &[(0x8000_0000_0000_0a00, "")], 6), Ok(())),
+    (
+        (9, 0),
+        (0, &[(0x8000_0000_0000_0a00, "0 data 0xa00 copied\n")], 7),
+        Ok(()),
+    ),
+    (
+        (9, 0),
+        (
+            0,
+            &[
+                (GOOD, "0 data 0x200000 copied\n"),
+                (0x101_0200, "1 data 0x1000000\n"),
+            ],
+            13,
+        ),
+        Ok(()),
+    ),
+    // the first bad entry is the fault, and no line is printed
+    (
+        (9, 0),
+        (0, &[(GOOD, ""), (2, ""), (GOOD, "")], ALL),
+        Err(Fault::EntryReserved),
+    ),
+    (
+        (9, 0),
+        (
+            0,
+            &[(GOOD, ""), (GOOD, ""), (0x4100_0000_0000_0000, "")],
+            ALL,
+        ),
+        Err(Fault::EntryReserved),
+    ),
+    (
+        (9, 0),
+        (
+            0,
+            &[(0x0100_0000_0000_0000, ""), (GOOD, ""), (GOOD, "")],
+            ALL,
+        ),
+        Err(Fault::EntryReserved),
+    ),
+    (
+        (9, 0),
+        (
+            0,
+            &[(GOOD, ""), (0xc000_0000_0000_0000, ""), (GOOD, "")],
+            ALL,
+        ),
+        Err(Fault::EntryReserved),
+    ),
+    (
+        (16, 0),
+        (0, &[(GOOD, ""), (GOOD, ""), (0x200, "")], ALL),
+        Err(Fault::EntryUnaligned),
+    ),
+    (
+        (16, 0),
+        (0, &[(GOOD, ""), (0x200, ""), (2, "")], ALL),
+        Err(Fault::EntryUnaligned),
+    ),
+    (
+        (16, 0),
+        (0, &[(GOOD, ""), (2, ""), (0x200, "")], ALL),
+        Err(Fault::EntryReserved),
+    ),
+    (
+        (16, 0),
+        (0, &[(0x202, ""), (0x200, ""), (GOOD, "")], ALL),
+        Err(Fault::EntryReserved),
+    ),
+    // the greatest cluster of a table is the one that ends at 2^56
+    ((9, (1 << 47) - 1), (0, &[(GOOD, "")], ALL), Ok(())),
+    (
+        (9, 1 << 47),
+        (0, &[(GOOD, "")], ALL),
+        Err(Fault::TablePlace),
+    ),
+    (
+        (9, u64::MAX),
+        (0, &[(GOOD, "")], ALL),
+        Err(Fault::TablePlace),
+    ),
+    ((16, (1 << 40) - 1), (0, &[(GOOD, "")], ALL), Ok(())),
+    (
+        (16, 1 << 40),
+        (0, &[(GOOD, "")], ALL),
+        Err(Fault::TablePlace),
+    ),
+    (
+        (16, 1 << 48),
+        (0, &[(GOOD, "")], ALL),
+        Err(Fault::TablePlace),
+    ),
+    ((21, (1 << 35) - 1), (0, &[(GOOD, "")], ALL), Ok(())),
+    (
+        (21, 1 << 35),
+        (0, &[(GOOD, "")], ALL),
+        Err(Fault::TablePlace),
+    ),
+    (
+        (21, u64::MAX),
+        (0, &[(GOOD, "")], ALL),
+        Err(Fault::TablePlace),
+    ),
+];
+
+#[test]
+fn a_table_is_listed_or_refused_before_its_first_line(rt: HostRuntime) -> Result<(), Fail> {
+    for row in ROWS {
+        lists(rt.alloc(), *row)?;
     }
+    Ok(())
+}
 
-    pub(crate) fn has<R: Debug + Drop>(
-        &self,
-        fault: Option<Fault>,
-        lines: &str,
-        row: R,
-    ) -> Result<(), Fail> {
-        let printed = std::str::from_utf8(self.out.bytes())?;
-        same(&(self.fault, printed), &(fault, lines), row)
+// Lists the table of a row. One that would end past the greatest end is refused before any read.
+fn lists(alloc: Global, row: Row) -> Result<(), Fail> {
+    let ((cluster_bits, cluster), (first, cases, len), expected) = row;
+    let (image, lines) = table_and_lines(alloc, first, cases, len)?;
+    let mut image = FailingStorage::new(alloc, image);
+    let mut out = FailingOutput::new(alloc, Failure::Never)?;
+    if !is_cluster_bits(cluster_bits) {
+        return Err(Fail::new("these are no cluster bits"));
     }
+    let answer = list_l2_table(
+        alloc,
+        &mut image,
+        cluster_bits,
+        HostCluster(cluster),
+        &mut out,
+    );
+    same(answer, expected, row)?;
+    same_bytes(out.bytes(), lines.as_bytes(), row)?;
+    let is_refused = expected == Err(Fault::TablePlace);
+    same(image.calls().is_empty(), is_refused, row)
 }
 
-// Lists the table that begins with cluster 0 of an image in memory.
-fn lists<R: Debug + Drop>(
-    image: Vec<u8>,
-    cluster_bits: u32,
-    expected: (Option<Fault>, &str),
-    row: R,
-) -> Result<(), Fail> {
-    let alloc = *image.allocator();
-    let mut image = MemStorage::new(image);
-    Listing::of(alloc, &mut image, cluster_bits, HostCluster(0))?.has(expected.0, expected.1, row)
-}
-
-fn lists_each(alloc: Global, cluster_bits: u32, cases: &[Case]) -> Result<(), Fail> {
+// So many bytes of an image that begins with a table, and all its lines.
+fn table_and_lines(
+    alloc: Global,
+    first: usize,
+    cases: &[Case],
+    len: usize,
+) -> Result<(MemStorage, String), Fail> {
     let mut numbers = Vec::new(alloc);
     let mut lines = String::new(alloc);
     for (number, line) in cases {
         numbers.push(*number)?;
         lines.push_str(line)?;
     }
-    let image = table_of(alloc, numbers.as_slice())?;
-    lists(image, cluster_bits, (None, lines.as_str()), cluster_bits)
-}
-
-#[test]
-fn each_kind_of_mapping_is_a_line_of_its_own_form(rt: HostRuntime) -> Result<(), Fail> {
-    lists_each(rt.alloc(), 9, NINE_BITS)?;
-    lists_each(rt.alloc(), 16, SIXTEEN_BITS)?;
-    lists_each(rt.alloc(), 21, TWENTY_ONE_BITS)
-}
-
-// Cluster bits, an index past which no entry stands, its entry, and what is printed.
-const LAST_ENTRIES: &[(u32, usize, u64, &'static str)] = &[
-    (9, 63, 0xa00, "63 data 0xa00\n"),
-    (9, 64, 0xa00, ""),
-    (
-        21,
-        262143,
-        0x8000_0000_0020_0000,
-        "262143 data 0x200000 copied\n",
-    ),
-    (21, 262144, 0x8000_0000_0020_0000, ""),
-];
-
-#[test]
-fn the_last_entry_of_a_table_is_listed_and_none_after_it(rt: HostRuntime) -> Result<(), Fail> {
-    for row in LAST_ENTRIES {
-        let (cluster_bits, last, number, lines) = *row;
-        let mut numbers = vec![in rt.alloc(); 0; last]?;
-        numbers.push(number)?;
-        let image = table_of(rt.alloc(), numbers.as_slice())?;
-        lists(image, cluster_bits, (None, lines), last)?;
-    }
-    Ok(())
-}
-
-// The length of an image, and what is printed.
-const ENDS: &[(usize, &'static str)] = &[
-    (0, ""),
-    (1, ""),
-    (6, ""),
-    (7, "0 data 0xa00 copied\n"),
-    (8, "0 data 0xa00 copied\n"),
-    (12, "0 data 0xa00 copied\n"),
-    (13, "0 data 0xa00 copied\n1 data 0x1000000\n"),
-    (16, "0 data 0xa00 copied\n1 data 0x1010200\n"),
-];
-
-#[test]
-fn an_image_that_ends_inside_its_table_reads_as_zeros(rt: HostRuntime) -> Result<(), Fail> {
-    for (len, lines) in ENDS {
-        let mut image = table_of(rt.alloc(), &[0x8000_0000_0000_0a00, 0x0000_0000_0101_0200])?;
-        image.truncate(*len);
-        lists(image, 9, (None, *lines), *len)?;
-    }
-    Ok(())
-}
-
-const GOOD: u64 = 0x8000_0000_0020_0000;
-
-// Cluster bits, the first entries of a table, and the fault of the first bad one.
-const BAD: &[(u32, [u64; 3], Fault)] = &[
-    (9, [GOOD, 2, GOOD], Fault::EntryReserved),
-    (9, [GOOD, GOOD, 0x4100_0000_0000_0000], Fault::EntryReserved),
-    (9, [0x0100_0000_0000_0000, GOOD, GOOD], Fault::EntryReserved),
-    (9, [GOOD, 0xc000_0000_0000_0000, GOOD], Fault::EntryReserved),
-    (16, [GOOD, GOOD, 0x200], Fault::EntryUnaligned),
-    (16, [GOOD, 0x200, 2], Fault::EntryUnaligned),
-    (16, [GOOD, 2, 0x200], Fault::EntryReserved),
-    (16, [0x202, 0x200, GOOD], Fault::EntryReserved),
-    (
-        21,
-        [GOOD, GOOD, 0x8000_0000_0010_0000],
-        Fault::EntryUnaligned,
-    ),
-    (
-        21,
-        [GOOD, 0x0000_0000_0000_0101, GOOD],
-        Fault::EntryReserved,
-    ),
-];
-
-#[test]
-fn the_first_bad_entry_is_the_fault_and_no_line_is_printed(rt: HostRuntime) -> Result<(), Fail> {
-    for row in BAD {
-        let (cluster_bits, numbers, fault) = *row;
-        let image = table_of(rt.alloc(), &numbers)?;
-        lists(image, cluster_bits, (Some(fault), ""), numbers)?;
-    }
-    Ok(())
-}
-
-const REFUSED: Option<Fault> = Some(Fault::TablePlace);
-
-// Cluster bits, a cluster that a table begins with, and the fault. The greatest such cluster is the
-// one that ends at 2^56.
-const PLACES: &[(u32, u64, Option<Fault>)] = &[
-    (9, (1 << 47) - 1, None),
-    (9, 1 << 47, REFUSED),
-    (9, u64::MAX, REFUSED),
-    (16, (1 << 40) - 1, None),
-    (16, 1 << 40, REFUSED),
-    (16, 1 << 48, REFUSED),
-    (21, (1 << 35) - 1, None),
-    (21, 1 << 35, REFUSED),
-    (21, u64::MAX, REFUSED),
-];
-
-#[test]
-fn a_table_past_the_greatest_end_is_refused_before_any_read(rt: HostRuntime) -> Result<(), Fail> {
-    for row in PLACES {
-        let (cluster_bits, cluster, expected) = *row;
-        let inner = MemStorage::new(table_of(rt.alloc(), &[0xa00])?);
-        let mut image = FailingStorage::new(rt.alloc(), inner);
-        let listing = Listing::of(rt.alloc(), &mut image, cluster_bits, HostCluster(cluster))?;
-        listing.has(expected, "", (cluster_bits, cluster))?;
-        same(&image.calls().is_empty(), &expected.is_some(), cluster)?;
-    }
-    Ok(())
-}
-
-#[test]
-fn a_failed_call_of_the_storage_is_the_storage_fault_and_prints_nothing(
-    rt: HostRuntime,
-) -> Result<(), Fail> {
-    let bytes = table_of(rt.alloc(), &[0x8000_0000_0000_0a00, 0, 1])?;
-    let (mut failed, mut passed) = (false, false);
-    for passes in 0..8 {
-        let fails = meets_failure(rt.alloc(), &bytes, passes)?;
-        failed |= fails;
-        passed |= !fails;
-    }
-    holds(
-        failed && passed,
-        "some calls are planned to fail, and not all",
-    )
-}
-
-// Lists a table where the call after so many fails, and tells whether the list comes to that call.
-fn meets_failure(alloc: Global, bytes: &[u8], passes: u64) -> Result<bool, Fail> {
-    let inner = MemStorage::new(Vec::from_slice(alloc, bytes)?);
-    let mut image = FailingStorage::new(alloc, inner);
-    image.fail_after(passes);
-    let listing = Listing::of(alloc, &mut image, 9, HostCluster(0))?;
-    let fails = image.failures() != 0;
-    let (fault, lines) = match fails {
-        true => (Some(Fault::Storage), ""),
-        false => (None, "0 data 0xa00 copied\n2 zero\n"),
-    };
-    listing.has(fault, lines, passes)?;
-    same_bytes(image.inner().bytes(), bytes, passes)?;
-    Ok(fails)
+    let mut image = table_of(alloc, (first, &numbers))?;
+    image.truncate(len);
+    Ok((MemStorage::new(image), lines))
 }
 
 // How many bytes are taken before a write fails, and what of three writes is kept.
@@ -297,7 +277,7 @@ fn a_failing_output_keeps_all_bytes_but_those_of_one_write(rt: HostRuntime) -> R
         try_to_write(&mut output, "cd");
         try_to_write(&mut output, "ef");
         same_bytes(output.flushed(), b"", (*room, "before the flush"))?;
-        flush(&mut output)?;
+        output.flush()?;
         same_bytes(output.flushed(), kept.as_bytes(), *room)?;
     }
     Ok(())
@@ -305,8 +285,4 @@ fn a_failing_output_keeps_all_bytes_but_those_of_one_write(rt: HostRuntime) -> R
 
 fn try_to_write(output: &mut FailingOutput, text: &str) {
     let _ = output.write_all(text.as_bytes());
-}
-
-fn flush(output: &mut FailingOutput) -> io::Result<()> {
-    output.flush()
 }

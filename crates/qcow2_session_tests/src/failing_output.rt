@@ -13,7 +13,7 @@ use std::io::Write;
 const CAPACITY: usize = 512;
 
 /// Where an output fails.
-#[derive(Clone, Copy, Debug, PartialEq, Eq)]
+#[derive(Clone, Copy)]
 pub enum Failure {
     /// Nowhere.
     Never,
@@ -25,7 +25,7 @@ pub enum Failure {
 
 /// An output that keeps what is written to it, and tells how much of it was flushed. A call that
 /// fails keeps nothing.
-#[derive(Debug, Drop)]
+#[derive(Drop)]
 pub struct FailingOutput {
     bytes: Vec<u8>,
     flushed: usize,

@@ -2,7 +2,7 @@
 
 use qcow2_base::{Fault, MemStorage};
 use qcow2_metadata::Header;
-use qcow2_testing::{FailingStorage, StorageCall, is_cluster_bits, put_bytes, same_bytes};
+use qcow2_testing::{FailingStorage, StorageCall, is_cluster_bits, put_bytes, same, same_bytes};
 use std::alloc::Global;
 use std::fmt::Debug;
 use std::test::Fail;
@@ -37,19 +37,8 @@ pub(crate) fn header_with(
     Header::new(alloc, bits, order, None, None, name)
 }
 
-/// How many pieces of 4096 bytes a cluster has.
-pub(crate) fn pieces_of(bits: u32) -> usize {
-    1usize.wrapping_shl(bits).div_ceil(4096)
-}
-
-/// Three clusters, of which the second is the table or block, with these parts.
-pub(crate) fn three_clusters(bits: u32, parts: Parts<'_>) -> Contents<'_> {
-    let size = 1usize.wrapping_shl(bits);
-    (size.saturating_mul(3), (bits, 1), 0xa5, parts)
-}
-
-/// An image that holds this.
-pub(crate) fn image_of(alloc: Global, contents: Contents<'_>) -> Result<MemStorage, Fault> {
+// An image that holds this.
+fn image_of(alloc: Global, contents: Contents<'_>) -> Result<MemStorage, Fault> {
     let (len, (bits, cluster), around, parts) = contents;
     let size = 1u64.wrapping_shl(bits);
     let start = cluster.wrapping_mul(size);
@@ -65,27 +54,33 @@ pub(crate) fn image_of(alloc: Global, contents: Contents<'_>) -> Result<MemStora
     Ok(image)
 }
 
-/// An image that holds this, and can be planned to fail.
-pub(crate) fn failing_image(
+/// An image that holds this, and records its calls.
+pub(crate) fn recording_image(
     alloc: Global,
     contents: Contents<'_>,
 ) -> Result<FailingStorage<MemStorage>, Fault> {
     Ok(FailingStorage::new(alloc, image_of(alloc, contents)?))
 }
 
-/// Fails unless the image holds this.
-pub(crate) fn image_holds<R: Debug + Drop>(
+/// Fails unless the image holds this, and its cluster was read or was not, and then written or not: each
+/// by one call for each piece of 4096 bytes.
+pub(crate) fn image_holds<R: Debug + Copy + Drop>(
     alloc: Global,
     image: &FailingStorage<MemStorage>,
     contents: Contents<'_>,
+    (is_read, is_written): (bool, bool),
     row: R,
 ) -> Result<(), Fail> {
     let expected = image_of(alloc, contents)?;
-    same_bytes(image.inner().bytes(), expected.bytes(), row)
+    same_bytes(image.inner().bytes(), expected.bytes(), row)?;
+    let pieces = 1usize.wrapping_shl(contents.1.0).div_ceil(4096);
+    let reads = if is_read { pieces } else { 0 };
+    let writes = if is_written { pieces } else { 0 };
+    same(reads_and_writes(image), (reads, writes), row)
 }
 
-/// How many calls of the storage were reads, and how many were writes.
-pub(crate) fn reads_and_writes(image: &FailingStorage<MemStorage>) -> (usize, usize) {
+// How many calls of the storage were reads, and how many were writes.
+fn reads_and_writes(image: &FailingStorage<MemStorage>) -> (usize, usize) {
     let writes = image
         .calls()
         .iter()

@@ -9,11 +9,7 @@ mod calls;
 #[cfg(test)]
 mod commands;
 #[cfg(test)]
-mod damaged_images;
-#[cfg(test)]
 mod edits;
-#[cfg(test)]
-mod every_edit;
 mod failing_output;
 #[cfg(test)]
 mod image_edits;
@@ -23,8 +19,6 @@ mod image_steps;
 mod images;
 #[cfg(test)]
 mod lookups;
-#[cfg(test)]
-mod refused_memory;
 #[cfg(test)]
 mod sample_image;
 #[cfg(test)]

@@ -1,12 +1,11 @@
 //! What guest offsets read as, by each kind of entry, and by which fault a damaged image is refused.
 
 use crate::calls::{load_header, load_l1_table, lookup, lookup_image};
-use crate::images::header_with;
 use crate::sample_image::{COPIED, Numbers, sample_image};
 use Answer::{Backing, Compressed, Data, Refused, Zeros};
-use qcow2_base::{Fault, GuestOffset, HostCluster, MemStorage, Storage};
-use qcow2_metadata::{Header, L1Table, L2Mapping};
-use qcow2_testing::{FailingStorage, StorageCall, holds, same, same_bytes};
+use qcow2_base::{Fault, GuestOffset, MemStorage};
+use qcow2_metadata::L2Mapping;
+use qcow2_testing::{FailingStorage, StorageCall, same, same_bytes};
 use std::alloc::Global;
 use std::fmt::Debug;
 use std::test::Fail;
@@ -22,12 +21,12 @@ enum Answer {
 }
 
 // Offsets, and what the cluster of each reads as.
-type Offsets = &'static [(u64, Answer)];
+type Offsets<'a> = &'a [(u64, Answer)];
 
 // Cluster bits, changes of the sample image, and what offsets read as then.
-type Row = (&'static str, u32, Numbers<'static>, Offsets);
+type Row = (&'static str, u32, Numbers<'static>, Offsets<'static>);
 
-const OFFSETS: &[Row] = &[
+const ROWS: &[Row] = &[
     (
         "one cluster of data",
         9,
@@ -136,56 +135,13 @@ const OFFSETS: &[Row] = &[
     ),
     ("no L1 entry", 9, &[(32, 0)], &[(1543, Backing(1536))]),
     ("a disk of 0 bytes", 9, &[(24, 0)], &[(1543, Data(5, true))]),
-];
-
-#[test]
-fn each_offset_reads_as_the_entry_of_its_cluster(rt: HostRuntime) -> Result<(), Fail> {
-    for (name, cluster_bits, changes, offsets) in OFFSETS {
-        let bytes = sample_image(rt.alloc(), *cluster_bits, changes)?;
-        reads_as(rt.alloc(), bytes.as_slice(), offsets, *name)?;
-    }
-    Ok(())
-}
-
-// An entry for guest cluster 3, and what that reads as: with data in the image, and in a file of its own.
-const ENTRIES: &[(u64, Answer, Answer)] = &[
-    (0, Backing(1536), Backing(1536)),
-    (COPIED, Backing(1536), Data(0, true)),
-    (0xa00, Data(5, false), Data(5, false)),
-    (COPIED + 0xa00, Data(5, true), Data(5, true)),
-    (1, Zeros(None, false), Zeros(None, false)),
-    (COPIED + 1, Zeros(None, false), Zeros(Some(0), true)),
-    (0xa01, Zeros(Some(5), false), Zeros(Some(5), false)),
-    (COPIED + 0xa01, Zeros(Some(5), true), Zeros(Some(5), true)),
     (
-        0x80ff_ffff_ffff_fe00,
-        Data(0x7fff_ffff_ffff, true),
-        Data(0x7fff_ffff_ffff, true),
+        "an L2 table in the last cluster",
+        9,
+        &[(512, COPIED + (1 << 56) - 512)],
+        &[(1543, Backing(1536))],
     ),
-    (
-        0x4000_0000_0000_0601,
-        Compressed(0x601, 511),
-        Compressed(0x601, 511),
-    ),
-    (
-        0x6000_0000_0000_0601,
-        Compressed(0x601, 1023),
-        Compressed(0x601, 1023),
-    ),
-];
-
-#[test]
-fn each_kind_of_entry_is_looked_up(rt: HostRuntime) -> Result<(), Fail> {
-    for (number, expected, external) in ENTRIES {
-        let bytes = sample_image(rt.alloc(), 9, &[(1048, *number)])?;
-        reads_as(rt.alloc(), bytes.as_slice(), &[(1543, *expected)], *number)?;
-        let bytes = sample_image(rt.alloc(), 9, &[(72, 4), (1048, *number)])?;
-        reads_as(rt.alloc(), bytes.as_slice(), &[(1543, *external)], *number)?;
-    }
-    Ok(())
-}
-
-const DAMAGED: &[Row] = &[
+    // damaged images: the fault is that of the first bad part
     (
         "no qcow2 image",
         9,
@@ -277,13 +233,76 @@ const DAMAGED: &[Row] = &[
     ),
 ];
 
+// An entry for guest cluster 3, and what that reads as: with data in the image, and in a file of its own.
+const ENTRIES: &[(u64, Answer, Answer)] = &[
+    (0, Backing(1536), Backing(1536)),
+    (COPIED, Backing(1536), Data(0, true)),
+    (0xa00, Data(5, false), Data(5, false)),
+    (COPIED + 0xa00, Data(5, true), Data(5, true)),
+    (1, Zeros(None, false), Zeros(None, false)),
+    (COPIED + 1, Zeros(None, false), Zeros(Some(0), true)),
+    (0xa01, Zeros(Some(5), false), Zeros(Some(5), false)),
+    (COPIED + 0xa01, Zeros(Some(5), true), Zeros(Some(5), true)),
+    (
+        0x80ff_ffff_ffff_fe00,
+        Data(0x7fff_ffff_ffff, true),
+        Data(0x7fff_ffff_ffff, true),
+    ),
+    (
+        0x4000_0000_0000_0601,
+        Compressed(0x601, 511),
+        Compressed(0x601, 511),
+    ),
+    (
+        0x6000_0000_0000_0601,
+        Compressed(0x601, 1023),
+        Compressed(0x601, 1023),
+    ),
+];
+
+// How many bytes of the sample image there are, and what an offset reads as: zeros follow where an image is
+// cut off, up to the last byte of the entry that isn't 0.
+const CUTS: &[(usize, Answer)] = &[
+    (0, Refused(1)),
+    (3, Refused(1)),
+    (4, Refused(2)),
+    (7, Refused(2)),
+    (8, Refused(3)),
+    (23, Refused(3)),
+    (24, Refused(4)),
+    (103, Refused(4)),
+    (104, Backing(1536)),
+    (519, Backing(1536)),
+    (1054, Backing(1536)),
+    (1055, Data(5, true)),
+];
+
 #[test]
-fn a_damaged_image_is_refused_by_the_fault_of_its_first_bad_part(
-    rt: HostRuntime,
-) -> Result<(), Fail> {
-    for (name, cluster_bits, changes, offsets) in DAMAGED {
-        let bytes = sample_image(rt.alloc(), *cluster_bits, changes)?;
-        reads_as(rt.alloc(), bytes.as_slice(), offsets, *name)?;
+fn each_offset_reads_as_the_image_says(rt: HostRuntime) -> Result<(), Fail> {
+    for (name, cluster_bits, changes, offsets) in ROWS {
+        let image = sample_image(rt.alloc(), *cluster_bits, changes)?;
+        reads_as(rt.alloc(), image.bytes(), offsets, *name)?;
+    }
+    Ok(())
+}
+
+#[test]
+fn each_kind_of_entry_is_looked_up(rt: HostRuntime) -> Result<(), Fail> {
+    for (number, expected, external) in ENTRIES {
+        for (features, expected) in [(0, *expected), (4, *external)] {
+            let image = sample_image(rt.alloc(), 9, &[(72, features), (1048, *number)])?;
+            reads_as(rt.alloc(), image.bytes(), &[(1543, expected)], *number)?;
+        }
+    }
+    Ok(())
+}
+
+#[test]
+fn an_image_that_is_cut_off_reads_as_if_zeros_followed(rt: HostRuntime) -> Result<(), Fail> {
+    let image = sample_image(rt.alloc(), 9, &[])?;
+    for (len, expected) in CUTS {
+        let bytes = image.bytes().get(..*len).unwrap_or(&[]);
+        reads_as(rt.alloc(), bytes, &[(1543, *expected)], *len)?;
     }
     Ok(())
 }
@@ -292,7 +311,7 @@ fn a_damaged_image_is_refused_by_the_fault_of_its_first_bad_part(
 fn reads_as<R: Debug + Copy + Drop>(
     alloc: Global,
     bytes: &[u8],
-    offsets: &[(u64, Answer)],
+    offsets: Offsets<'_>,
     row: R,
 ) -> Result<(), Fail> {
     let mut image = MemStorage::new(Vec::from_slice(alloc, bytes)?);
@@ -306,14 +325,13 @@ fn reads_as<R: Debug + Copy + Drop>(
 }
 
 // Looks an offset up by the header and the L1 table of an image, each loaded first.
-fn by_tables<S: Storage>(
+fn by_tables(
     alloc: Global,
-    image: &mut S,
+    image: &mut MemStorage,
     offset: GuestOffset,
 ) -> Result<L2Mapping, Fault> {
     let header = load_header(alloc, image)?;
-    let cluster = header.l1_table_offset().cluster(header.cluster_bits());
-    let l1_table = load_l1_table(alloc, image, &header, cluster, header.l1_table_entries())?;
+    let l1_table = load_l1_table(alloc, image, &header)?;
     lookup(alloc, image, &header, &l1_table, offset)
 }
 
@@ -343,125 +361,29 @@ fn answer_of(found: Result<L2Mapping, Fault>) -> Answer {
 }
 
 // The reads of the sample image's two tables.
-const L1_READ: StorageCall = StorageCall::Read {
-    offset: 512,
-    len: 8,
-};
-
-const L2_READ: StorageCall = StorageCall::Read {
-    offset: 1024,
-    len: 512,
-};
-
-// The image's own L1 table names an L2 table past its end. The one that is given names the L2 table that it
-// stands in itself.
-#[test]
-fn a_lookup_goes_by_the_tables_that_it_is_given(rt: HostRuntime) -> Result<(), Fail> {
-    let alloc = rt.alloc();
-    let bytes = sample_image(
-        alloc,
-        9,
-        &[(512, 0x4000), (1024, COPIED + 0x400), (1048, COPIED)],
-    )?;
-    let mut image = FailingStorage::new(alloc, MemStorage::new(bytes));
-    let plain = header_with(alloc, 9, 4, false)?;
-    let external = header_with(alloc, 9, 4, true)?;
-    let l1_table = load_l1_table(alloc, &mut image, &plain, HostCluster(2), 1)?;
-    looks_up_by(alloc, &mut image, &plain, &l1_table, Backing(1536))?;
-    looks_up_by(alloc, &mut image, &external, &l1_table, Data(0, true))
-}
-
-// Looks an offset up by a header and an L1 table, and fails unless the L2 table alone is read.
-fn looks_up_by(
-    alloc: Global,
-    image: &mut FailingStorage<MemStorage>,
-    header: &Header,
-    l1_table: &L1Table,
-    expected: Answer,
-) -> Result<(), Fail> {
-    image.forget_calls();
-    let found = lookup(alloc, image, header, l1_table, GuestOffset(1543));
-    same(answer_of(found), expected, header.external_data_file())?;
-    same(image.calls(), &[L2_READ], "the L2 table alone is read")
-}
+const TABLES: [StorageCall; 2] = [
+    StorageCall::Read {
+        offset: 512,
+        len: 8,
+    },
+    StorageCall::Read {
+        offset: 1024,
+        len: 512,
+    },
+];
 
 #[test]
 fn a_lookup_reads_the_header_and_one_table_of_each_kind(rt: HostRuntime) -> Result<(), Fail> {
-    reads_tables(rt.alloc(), 1543, &[L1_READ, L2_READ])?;
-    reads_tables(rt.alloc(), 32768, &[L1_READ])
-}
-
-// Looks an offset up in the sample image, and fails unless it is read for the header, and then just
-// so.
-fn reads_tables(alloc: Global, offset: u64, expected: &[StorageCall]) -> Result<(), Fail> {
-    let bytes = sample_image(alloc, 9, &[])?;
-    let mut image = FailingStorage::new(alloc, MemStorage::new(bytes));
-    lookup_image(alloc, &mut image, GuestOffset(offset))?;
-    let tables = image.calls().len().saturating_sub(expected.len());
-    let (header, tables) = image.calls().split_at(tables);
-    same(tables, expected, offset)?;
-    for call in header {
-        let within = matches!(call, StorageCall::Read { offset, .. } if *offset < 512);
-        holds(within, (offset, *call))?;
+    let alloc = rt.alloc();
+    for (offset, tables) in [(1543, 2), (32768, 1)] {
+        let mut image = FailingStorage::new(alloc, sample_image(alloc, 9, &[])?);
+        let answer = lookup_image(alloc, &mut image, GuestOffset(offset));
+        same(answer.err(), None, offset)?;
+        let is_header = |call: &&StorageCall| {
+            matches!(call, StorageCall::Read { offset, .. } if *offset < 512)
+        };
+        let header = image.calls().iter().take_while(is_header).count();
+        same(image.calls().get(header..), TABLES.get(..tables), offset)?;
     }
     Ok(())
-}
-
-#[test]
-fn a_failed_call_of_the_storage_is_the_storage_fault_and_changes_no_byte(
-    rt: HostRuntime,
-) -> Result<(), Fail> {
-    let bytes = sample_image(rt.alloc(), 9, &[])?;
-    meets_failures(rt.alloc(), &bytes, false)?;
-    meets_failures(rt.alloc(), &bytes, true)
-}
-
-// Looks an offset up with each call failed in turn, and with none.
-fn meets_failures(alloc: Global, bytes: &[u8], goes_by_tables: bool) -> Result<(), Fail> {
-    let (mut failed, mut passed) = (false, false);
-    for passes in 0..8 {
-        let fails = meets_failure(alloc, bytes, passes, goes_by_tables)?;
-        failed |= fails;
-        passed |= !fails;
-    }
-    holds(
-        failed && passed,
-        "some calls are planned to fail, and not all",
-    )
-}
-
-// Looks an offset up where the call after so many fails, by the image alone or by tables that are loaded
-// first, and tells whether the lookup comes to that call. Then it looks the offset up again.
-fn meets_failure(
-    alloc: Global,
-    bytes: &[u8],
-    passes: u64,
-    goes_by_tables: bool,
-) -> Result<bool, Fail> {
-    let row = (passes, goes_by_tables);
-    let inner = MemStorage::new(Vec::from_slice(alloc, bytes)?);
-    let mut image = FailingStorage::new(alloc, inner);
-    image.fail_after(passes);
-    let found = look_up(alloc, &mut image, goes_by_tables);
-    let fails = image.failures() != 0;
-    let expected = if fails { Refused(34) } else { Data(5, true) };
-    same(answer_of(found), expected, row)?;
-    if fails {
-        let again = look_up(alloc, &mut image, goes_by_tables);
-        same(answer_of(again), Data(5, true), (row, "again"))?;
-    }
-    same_bytes(image.inner().bytes(), bytes, row)?;
-    Ok(fails)
-}
-
-fn look_up<S: Storage>(
-    alloc: Global,
-    image: &mut S,
-    goes_by_tables: bool,
-) -> Result<L2Mapping, Fault> {
-    if goes_by_tables {
-        by_tables(alloc, image, GuestOffset(1543))
-    } else {
-        lookup_image(alloc, image, GuestOffset(1543))
-    }
 }

@@ -1,11 +1,11 @@
 //! L2 tables to edit, and comparisons of what edits of them leave.
 
-use crate::calls::{edit_table, edits_fit, load_l2_table};
+use crate::calls::load_l2_table;
 use crate::images::header_with;
 use qcow2_base::{Fault, HostCluster, MemStorage};
 use qcow2_metadata::{ClustersToFreeEntry, L2Table, Table, TableEntry};
 use qcow2_session::{Edit, Outcome};
-use qcow2_testing::{fits, same};
+use qcow2_testing::same;
 use std::alloc::{AllocError, Global};
 use std::fmt::Debug;
 use std::test::Fail;
@@ -13,8 +13,15 @@ use std::test::Fail;
 /// The index of the first of some entries of a table, and the entries. All others of the table are 0.
 pub(crate) type Entries<'a> = (usize, &'a [u64]);
 
+/// What edits did to references: the clusters that gained one, and those that lost one, as the first of
+/// those that one edit handed back and how many.
+pub(crate) type References<'a> = (&'a [u64], &'a [(u64, u64)]);
+
 // The cluster of each table.
-const CLUSTER: HostCluster = HostCluster(7);
+const CLUSTER: HostCluster = HostCluster(0);
+
+/// The entry of data in cluster 5 of 512 bytes.
+pub(crate) const DATA_5: u64 = 0x8000_0000_0000_0a00;
 
 // Edits of the entry at index 3.
 pub(crate) const TO_0: Edit = Edit::Map {
@@ -61,98 +68,44 @@ pub(crate) const PAST: Edit = Edit::Map {
 };
 
 /// The bytes of these entries of a table.
-pub(crate) fn table_of(alloc: Global, numbers: &[u64]) -> Result<Vec<u8>, AllocError> {
-    let mut bytes = Vec::new(alloc);
+pub(crate) fn table_of(alloc: Global, entries: Entries<'_>) -> Result<Vec<u8>, AllocError> {
+    let (start, numbers) = entries;
+    let mut bytes = vec![in alloc; 0; start.saturating_mul(8)]?;
     for number in numbers {
         bytes.extend_from_slice(&number.to_be_bytes())?;
     }
     Ok(bytes)
 }
 
-// An image that begins with a table of these entries.
-fn image_with(alloc: Global, entries: Entries<'_>) -> Result<MemStorage, Fault> {
-    let (start, numbers) = entries;
-    let mut bytes = vec![in alloc; 0; start.saturating_mul(8)]?;
-    bytes.extend_from_slice(&table_of(alloc, numbers)?)?;
-    Ok(MemStorage::new(bytes))
-}
-
-/// A table of an image with these cluster bits, whose guest data may lie in an external data file. It
-/// has a cluster, and isn't modified.
+/// A table of an image with these cluster bits, whose guest data may lie in an external data file.
 pub(crate) fn table_with(
     alloc: Global,
-    bits: u32,
-    external: bool,
+    (bits, external): (u32, bool),
     entries: Entries<'_>,
+    modified: bool,
 ) -> Result<L2Table, Fault> {
     let header = header_with(alloc, bits, 4, external)?;
-    let mut image = image_with(alloc, entries)?;
-    let mut table = load_l2_table(alloc, &mut image, &header, HostCluster(0))?;
-    place(&mut table)?;
-    table.clear_modified();
+    let mut image = MemStorage::new(table_of(alloc, entries)?);
+    let mut table = load_l2_table(alloc, &mut image, &header, CLUSTER)?;
+    if modified {
+        table.set_modified();
+    }
     Ok(table)
 }
 
-// Says that the table begins with its cluster.
-fn place(table: &mut L2Table) -> Result<(), Fault> {
-    if !fits(CLUSTER.0, 0, table.cluster_bits()) {
-        return Err(Fault::TablePlace);
-    }
-    table.set_cluster(CLUSTER);
-    Ok(())
-}
-
-fn entry_at(table: &L2Table, index: usize) -> u64 {
-    table.get(index).to_plain()
-}
-
 /// Fails unless the table has these entries, its cluster and this flag.
-pub(crate) fn says<R: Debug + Drop>(
+pub(crate) fn says<R: Debug + Copy + Drop>(
     table: &L2Table,
     entries: Entries<'_>,
     modified: bool,
     row: R,
 ) -> Result<(), Fail> {
-    tells(table, table.entries(), entries, modified, row)
-}
-
-/// Fails unless the table begins with these entries, and has its cluster and this flag. Looks at 72 entries
-/// and at those given, and at none behind them, which is quicker where a table is large.
-pub(crate) fn begins<R: Debug + Drop>(
-    table: &L2Table,
-    entries: Entries<'_>,
-    modified: bool,
-    row: R,
-) -> Result<(), Fail> {
-    let end = entries.0.saturating_add(entries.1.len());
-    tells(table, end.max(72), entries, modified, row)
-}
-
-// Looks at so many entries of the table, at its cluster and at its flag.
-fn tells<R: Debug + Drop>(
-    table: &L2Table,
-    count: usize,
-    entries: Entries<'_>,
-    modified: bool,
-    row: R,
-) -> Result<(), Fail> {
-    let found = (
-        other_entry(table, count, entries),
-        table.get_cluster(),
-        table.is_modified(),
-    );
-    same(found, (None, Some(CLUSTER), modified), row)
-}
-
-// The first of so many entries that isn't one of these or else 0, with its index.
-fn other_entry(table: &L2Table, count: usize, entries: Entries<'_>) -> Option<(usize, u64)> {
-    for index in 0..count {
-        let found = entry_at(table, index);
-        if found != number_at(entries, index) {
-            return Some((index, found));
-        }
+    for index in 0..table.entries() {
+        let found = table.get(index).to_plain();
+        same(found, number_at(entries, index), (row, index))?;
     }
-    None
+    let found = (table.get_cluster(), table.is_modified());
+    same(found, (Some(CLUSTER), modified), row)
 }
 
 fn number_at(entries: Entries<'_>, index: usize) -> u64 {
@@ -165,38 +118,26 @@ fn number_at(entries: Entries<'_>, index: usize) -> u64 {
     0
 }
 
-/// What edits are to leave: the clusters that gained a reference, those that lost one, as the first of those
-/// that one edit handed back and how many, and the table's entries.
-pub(crate) type Left<'a> = (&'a [u64], &'a [(u64, u64)], Entries<'a>);
-
-/// Fails unless the edits can all be made, and leave this and the table modified, if there is one.
-pub(crate) fn makes<R: Debug + Copy + Drop>(
-    table: &mut L2Table,
-    edits: &[Edit],
-    left: Left<'_>,
+/// Fails unless edits answered this: what they did to references, or a fault.
+pub(crate) fn did<R: Debug + Drop>(
+    answer: Result<Outcome, Fault>,
+    expected: Result<References<'_>, Fault>,
     row: R,
 ) -> Result<(), Fail> {
-    let (gained, freed, entries) = left;
-    let modified = table.is_modified() || !edits.is_empty();
-    let fit = edits_fit(table, edits);
-    let outcome = edit_table(table, edits)?;
-    same(fit, Ok(()), row)?;
-    has(&outcome, gained, freed, row)?;
-    begins(table, entries, modified, row)
-}
-
-/// Fails unless just these clusters gained a reference, and just these lost one: the first of those that one
-/// edit handed back, and how many.
-pub(crate) fn has<R: Debug + Drop>(
-    outcome: &Outcome,
-    gained: &[u64],
-    freed: &[(u64, u64)],
-    row: R,
-) -> Result<(), Fail> {
-    if are_clusters(&outcome.gained, gained) && are_runs(&outcome.freed, freed) {
+    if are_equal(&answer, expected) {
         return Ok(());
     }
-    Err(Fail::new(format_args!("{row:?}: found {outcome:?}, expected {gained:?} and {freed:?}")))
+    Err(Fail::new(format_args!("{row:?}: found {answer:?}, expected {expected:?}")))
+}
+
+fn are_equal(answer: &Result<Outcome, Fault>, expected: Result<References<'_>, Fault>) -> bool {
+    match (answer, expected) {
+        (Ok(outcome), Ok((gained, freed))) => {
+            are_clusters(&outcome.gained, gained) && are_runs(&outcome.freed, freed)
+        }
+        (Err(fault), Err(expected)) => *fault == expected,
+        _ => false,
+    }
 }
 
 fn are_clusters(found: &[HostCluster], expected: &[u64]) -> bool {
