@@ -3,8 +3,8 @@
 
 use crate::entries::{MEANINGS, Meaning};
 use crate::fixtures::{LOADED, Told, header_of, table_that_tells, tells};
-use crate::l2_mapping::Reads::{Backing, Compressed, Data, Zeros};
-use crate::l2_mapping::{Reads, mapping_of};
+use crate::l2_mapping::Reads::Compressed;
+use crate::l2_mapping::mapping_of;
 use qcow2_base::{ClusterCount, GuestCluster, HostCluster};
 use qcow2_metadata::{ClustersToFreeEntry, L2Mapping, L2Table, MAX_OFFSET, PendingClusters, Table};
 use qcow2_testing::{fits, same};
@@ -83,7 +83,7 @@ fn compressed(table: &mut L2Table, guest_cluster: u64) -> Result<Option<(u64, u6
     Ok(found)
 }
 
-// Reads by an entry of a table, which stays.
+// Reads by an entry of a table.
 fn is_read(alloc: Global, row: Meaning) -> Result<(), Fail> {
     let (bits, external, number, _, reads) = row;
     let header = header_of(alloc, bits, 4, external)?;
@@ -99,8 +99,7 @@ fn is_read(alloc: Global, row: Meaning) -> Result<(), Fail> {
         _ => None,
     };
     let found = (compressed(&mut table, 7)?, compressed(&mut table, 8)?);
-    same(found, (range, None), row)?;
-    tells(&table, &told, row)
+    same(found, (range, None), row)
 }
 
 #[test]
@@ -125,81 +124,37 @@ enum Edit {
 
 use Edit::{Discard, Map, Zero};
 
-// Cluster bits, whether data is external, the entry of guest cluster 63, an edit of it, the first cluster
-// that is handed back and how many, if any, and the entry then and what it reads as.
-type Edited = (u32, bool, u64, Edit, Option<(u64, u64)>, u64, Reads);
+// Cluster bits, whether data is external, an entry, an edit of it, the first cluster that is handed back and
+// how many, if any, and the entry then.
+type Edited = (u32, bool, u64, Edit, Option<(u64, u64)>, u64);
 
 /// Bit 63 of an entry: its cluster has no other reference.
 const COPIED: u64 = 0x8000_0000_0000_0000;
 
 const FIVE: Option<(u64, u64)> = Some((5, 1));
 
-const NONE: Reads = Zeros(None, false);
-
 const EDITED: &[Edited] = &[
     (
         9,
         false,
-        COPIED + 0xa00,
+        0x8000_0000_0000_0a00,
         Map(5, false),
         None,
-        COPIED + 0xa00,
-        Data(5, true),
+        0x8000_0000_0000_0a00,
     ),
     (
         9,
         false,
-        COPIED + 0xa00,
+        0x8000_0000_0000_0a00,
         Map(6, true),
         FIVE,
-        COPIED + 0xc00,
-        Data(6, true),
+        0x8000_0000_0000_0c00,
     ),
-    (
-        9,
-        false,
-        0xa00,
-        Map(5, false),
-        None,
-        COPIED + 0xa00,
-        Data(5, true),
-    ),
-    (
-        9,
-        false,
-        0,
-        Map(5, true),
-        None,
-        COPIED + 0xa00,
-        Data(5, true),
-    ),
-    (
-        9,
-        false,
-        COPIED,
-        Map(5, true),
-        None,
-        COPIED + 0xa00,
-        Data(5, true),
-    ),
-    (
-        9,
-        false,
-        0xa01,
-        Map(5, false),
-        None,
-        COPIED + 0xa00,
-        Data(5, true),
-    ),
-    (
-        9,
-        false,
-        0xa01,
-        Map(6, true),
-        FIVE,
-        COPIED + 0xc00,
-        Data(6, true),
-    ),
+    (9, false, 0xa00, Map(5, false), None, 0x8000_0000_0000_0a00),
+    (9, false, 0, Map(5, true), None, 0x8000_0000_0000_0a00),
+    (9, false, COPIED, Map(5, true), None, 0x8000_0000_0000_0a00),
+    (9, false, 0xa01, Map(5, false), None, 0x8000_0000_0000_0a00),
+    (9, false, 0xa01, Map(6, true), FIVE, 0x8000_0000_0000_0c00),
     (
         9,
         false,
@@ -207,18 +162,16 @@ const EDITED: &[Edited] = &[
         Map(0x7fff_ffff_ffff, true),
         FIVE,
         0x80ff_ffff_ffff_fe00,
-        Data(0x7fff_ffff_ffff, true),
     ),
-    (9, true, 0xa00, Map(0, true), FIVE, COPIED, Data(0, true)),
-    (9, true, COPIED, Map(0, false), None, COPIED, Data(0, true)),
+    (9, true, 0xa00, Map(0, true), FIVE, COPIED),
+    (9, true, COPIED, Map(0, false), None, COPIED),
     (
         9,
         true,
         COPIED,
         Map(5, true),
         Some((0, 1)),
-        COPIED + 0xa00,
-        Data(5, true),
+        0x8000_0000_0000_0a00,
     ),
     // compressed data: all of it in the cluster, from there on, up to there, and on both sides
     (
@@ -227,8 +180,7 @@ const EDITED: &[Edited] = &[
         0x4040_0000_0001_0010,
         Map(1, true),
         None,
-        COPIED + 0x1_0000,
-        Data(1, true),
+        0x8000_0000_0001_0000,
     ),
     (
         16,
@@ -236,8 +188,7 @@ const EDITED: &[Edited] = &[
         0x4040_0000_0001_fff0,
         Map(1, true),
         Some((1, 2)),
-        COPIED + 0x1_0000,
-        Data(1, true),
+        0x8000_0000_0001_0000,
     ),
     (
         16,
@@ -245,8 +196,7 @@ const EDITED: &[Edited] = &[
         0x4040_0000_0001_fff0,
         Map(2, true),
         Some((1, 2)),
-        COPIED + 0x2_0000,
-        Data(2, true),
+        0x8000_0000_0002_0000,
     ),
     (
         10,
@@ -254,27 +204,17 @@ const EDITED: &[Edited] = &[
         0x7000_0000_0000_0600,
         Map(2, true),
         Some((1, 3)),
-        COPIED + 0x800,
-        Data(2, true),
+        0x8000_0000_0000_0800,
     ),
     (
         9,
         false,
-        COPIED + 0xa00,
+        0x8000_0000_0000_0a00,
         Zero(true),
         None,
-        COPIED + 0xa01,
-        Zeros(Some(5), true),
+        0x8000_0000_0000_0a01,
     ),
-    (
-        9,
-        false,
-        0xa01,
-        Zero(true),
-        None,
-        0xa01,
-        Zeros(Some(5), false),
-    ),
+    (9, false, 0xa01, Zero(true), None, 0xa01),
     (
         16,
         false,
@@ -282,30 +222,13 @@ const EDITED: &[Edited] = &[
         Zero(true),
         Some((1, 2)),
         1,
-        NONE,
     ),
-    (
-        10,
-        true,
-        0x7000_0000_0000_0600,
-        Zero(true),
-        Some((1, 3)),
-        1,
-        NONE,
-    ),
-    (9, false, 0, Zero(true), None, 1, NONE),
-    (
-        9,
-        true,
-        COPIED,
-        Zero(true),
-        None,
-        COPIED + 1,
-        Zeros(Some(0), true),
-    ),
-    (9, false, COPIED, Zero(true), None, 1, NONE),
-    (9, false, COPIED + 0xa00, Zero(false), FIVE, 1, NONE),
-    (9, false, 0xa01, Zero(false), FIVE, 1, NONE),
+    (10, true, 0x7000_0000_0000_0600, Zero(true), Some((1, 3)), 1),
+    (9, false, 0, Zero(true), None, 1),
+    (9, true, COPIED, Zero(true), None, 0x8000_0000_0000_0001),
+    (9, false, COPIED, Zero(true), None, 1),
+    (9, false, 0x8000_0000_0000_0a00, Zero(false), FIVE, 1),
+    (9, false, 0xa01, Zero(false), FIVE, 1),
     (
         16,
         false,
@@ -313,33 +236,16 @@ const EDITED: &[Edited] = &[
         Zero(false),
         Some((1, 1)),
         1,
-        NONE,
     ),
-    (9, false, 1, Zero(false), None, 1, NONE),
-    (9, true, COPIED, Zero(false), Some((0, 1)), 1, NONE),
-    (9, false, COPIED, Zero(false), None, 1, NONE),
-    (9, false, 1, Discard, None, 0, Backing(32256)),
-    (9, false, COPIED, Discard, None, 0, Backing(32256)),
-    (9, true, COPIED, Discard, Some((0, 1)), 0, Backing(32256)),
-    (9, false, 0xa01, Discard, FIVE, 0, Backing(32256)),
-    (
-        16,
-        true,
-        0x4040_0000_0001_fff0,
-        Discard,
-        Some((1, 2)),
-        0,
-        Backing(4128768),
-    ),
-    (
-        10,
-        false,
-        0x7000_0000_0000_0600,
-        Discard,
-        Some((1, 3)),
-        0,
-        Backing(64512),
-    ),
+    (9, false, 1, Zero(false), None, 1),
+    (9, true, COPIED, Zero(false), Some((0, 1)), 1),
+    (9, false, COPIED, Zero(false), None, 1),
+    (9, false, 1, Discard, None, 0),
+    (9, false, COPIED, Discard, None, 0),
+    (9, true, COPIED, Discard, Some((0, 1)), 0),
+    (9, false, 0xa01, Discard, FIVE, 0),
+    (16, true, 0x4040_0000_0001_fff0, Discard, Some((1, 2)), 0),
+    (10, false, 0x7000_0000_0000_0600, Discard, Some((1, 3)), 0),
     (
         21,
         false,
@@ -347,13 +253,12 @@ const EDITED: &[Edited] = &[
         Discard,
         Some((268435455, 3)),
         0,
-        Backing(132120576),
     ),
 ];
 
 // Edits the entry, and fails unless all other entries stay.
 fn is_edited(alloc: Global, row: Edited) -> Result<(), Fail> {
-    let (bits, external, number, edit, freed, after, reads) = row;
+    let (bits, external, number, edit, freed, after) = row;
     let header = header_of(alloc, bits, 4, external)?;
     let told = Told {
         entries: header.l2_entries(),
@@ -373,14 +278,11 @@ fn is_edited(alloc: Global, row: Edited) -> Result<(), Fail> {
         modified: true,
         ..told
     };
-    tells(&table, &edited, row)?;
-    same(mapping(&mut table, 63)?, mapping_of(reads)?, row)
+    tells(&table, &edited, row)
 }
 
 #[test]
-fn an_edited_entry_reads_as_its_edit_and_what_it_drops_is_handed_back(
-    rt: HostRuntime,
-) -> Result<(), Fail> {
+fn an_edit_leaves_its_entry_and_hands_back_what_it_drops(rt: HostRuntime) -> Result<(), Fail> {
     for row in EDITED {
         is_edited(rt.alloc(), *row)?;
     }

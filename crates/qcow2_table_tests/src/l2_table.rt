@@ -7,6 +7,7 @@ use crate::fixtures::{
 use qcow2_base::Fault;
 use qcow2_metadata::{L2Table, Table};
 use qcow2_testing::{FailingStorage, image_with, same, same_bytes};
+use std::alloc::Global;
 use std::test::Fail;
 
 #[test]
@@ -20,7 +21,9 @@ fn a_new_table_fills_a_cluster_with_entries_0(rt: HostRuntime) -> Result<(), Fai
 }
 
 // Cluster bits, whether guest data is in an external data file, an entry, and it in the copy.
-const COPIES: &[(u32, bool, u64, u64)] = &[
+type Copied = (u32, bool, u64, u64);
+
+const COPIES: &[Copied] = &[
     (9, false, 0, 0),
     (9, true, 1, 1),
     (9, false, 0xa00, 0xa00),
@@ -35,34 +38,41 @@ const COPIES: &[(u32, bool, u64, u64)] = &[
     (21, false, 0x80ff_ffff_ffe0_0001, 0x00ff_ffff_ffe0_0001),
 ];
 
+// Copies a table, which stays.
+fn is_copied(alloc: Global, row: Copied) -> Result<(), Fail> {
+    let (bits, external, number, copied) = row;
+    let header = header_of(alloc, bits, 4, external)?;
+    let told = Told {
+        entries: header.l2_entries(),
+        entry: (63, number),
+        modified: external,
+        ..LOADED
+    };
+    let table: L2Table = table_that_tells(alloc, &header, &told)?;
+    let copy = table.try_clone()?;
+    tells(&table, &told, row)?;
+    let told = Told {
+        entry: (63, copied),
+        cluster: None,
+        ..told
+    };
+    tells(&copy, &told, row)?;
+    let found = (copy.external_data_file(), copy.cluster_bits());
+    same(found, (external, bits), row)
+}
+
 #[test]
 fn a_copy_has_the_same_mappings_and_no_copied_entry(rt: HostRuntime) -> Result<(), Fail> {
     for row in COPIES {
-        let (bits, external, number, copied) = *row;
-        let header = header_of(rt.alloc(), bits, 4, external)?;
-        let told = Told {
-            entries: header.l2_entries(),
-            entry: (63, number),
-            modified: external,
-            ..LOADED
-        };
-        let table: L2Table = table_that_tells(rt.alloc(), &header, &told)?;
-        let copy = table.try_clone()?;
-        tells(&table, &told, *row)?;
-        let told = Told {
-            entry: (63, copied),
-            cluster: None,
-            ..told
-        };
-        tells(&copy, &told, *row)?;
-        let found = (copy.external_data_file(), copy.cluster_bits());
-        same(found, (external, bits), *row)?;
+        is_copied(rt.alloc(), *row)?;
     }
     Ok(())
 }
 
 // A table's cluster and whether it is modified, and then the answer and how many calls the storage gets.
-const WRITES: &[(Option<u64>, bool, Result<(), Fault>, usize)] = &[
+type Written = (Option<u64>, bool, Result<(), Fault>, usize);
+
+const WRITES: &[Written] = &[
     (None, false, Ok(()), 0),
     (Some(2), false, Ok(()), 0),
     (Some(1 << 47), false, Ok(()), 0),
@@ -70,33 +80,33 @@ const WRITES: &[(Option<u64>, bool, Result<(), Fault>, usize)] = &[
     (Some(2), true, Ok(()), 1),
 ];
 
+fn is_written(alloc: Global, row: Written) -> Result<(), Fail> {
+    let (cluster, modified, answer, calls) = row;
+    let header = header_with(alloc, 9)?;
+    let told = Told {
+        cluster,
+        modified,
+        ..LOADED
+    };
+    let mut table: L2Table = table_that_tells(alloc, &header, &told)?;
+    let image = image_with(alloc, 1536, &[(1024, 0x200)])?;
+    let mut image = FailingStorage::new(alloc, image);
+    same(write_if_modified(&mut table, &mut image), answer, row)?;
+    same(image.calls().len(), calls, row)?;
+    let number = if calls > 0 {
+        (1048, NUMBER)
+    } else {
+        (1024, 0x200)
+    };
+    let want = image_with(alloc, 1536, &[number])?;
+    same_bytes(image.inner().bytes(), want.bytes(), row)?;
+    same(table.is_modified(), answer.is_err(), row)
+}
+
 #[test]
 fn write_if_modified_writes_a_modified_table_alone(rt: HostRuntime) -> Result<(), Fail> {
-    let header = header_with(rt.alloc(), 9)?;
     for row in WRITES {
-        let (cluster, modified, answer, calls) = *row;
-        let told = Told {
-            cluster,
-            modified,
-            ..LOADED
-        };
-        let mut table: L2Table = table_that_tells(rt.alloc(), &header, &told)?;
-        let image = image_with(rt.alloc(), 1536, &[(1024, 0x200)])?;
-        let mut image = FailingStorage::new(rt.alloc(), image);
-        same(write_if_modified(&mut table, &mut image), answer, *row)?;
-        same(image.calls().len(), calls, *row)?;
-        let number = if calls > 0 {
-            (1048, NUMBER)
-        } else {
-            (1024, 0x200)
-        };
-        let want = image_with(rt.alloc(), 1536, &[number])?;
-        same_bytes(image.inner().bytes(), want.bytes(), *row)?;
-        let told = Told {
-            modified: answer.is_err(),
-            ..told
-        };
-        tells(&table, &told, *row)?;
+        is_written(rt.alloc(), *row)?;
     }
     Ok(())
 }

@@ -66,28 +66,34 @@ const GROWTHS: &[Growth] = &[
     (9, 4, 1, usize::MAX, None),
 ];
 
+// The least spare entries are found in no more turns than they are.
+fn has_spare(header: &Header, row: Growth) -> Result<(), Fail> {
+    let (_, _, entries, index, want) = row;
+    let (spare, turns) = spare_of(entries, index, header);
+    same(spare, want.map(|want: (usize, usize)| want.0), row)?;
+    holds(
+        spare.is_none() || 1 <= turns && turns <= spare.unwrap_or(0),
+        row,
+    )
+}
+
 // Grows a table whose last entry alone isn't 0, and that stays.
 fn grows(alloc: Global, row: Growth) -> Result<(), Fail> {
     let (bits, order, entries, index, want) = row;
     let header = header_of(alloc, bits, order, false)?;
+    has_spare(&header, row)?;
+    let number = if entries > 0 { NUMBER } else { 0 };
     let told = Told {
         entries,
-        entry: (
-            entries.saturating_sub(1),
-            if entries > 0 { NUMBER } else { 0 },
-        ),
+        entry: (entries.saturating_sub(1), number),
         ..LOADED
     };
     let source: RefTable = table_that_tells(alloc, &header, &told)?;
     let answer = grow(&source, index, &header);
     tells(&source, &told, row)?;
-    let (spare, turns) = spare_of(entries, index, &header);
-    let Some((least, entries)) = want else {
-        same(spare, None, row)?;
+    let Some((_, entries)) = want else {
         return same(answer.err(), Some(Fault::CannotGrow), row);
     };
-    same(spare, Some(least), row)?;
-    holds(1 <= turns && turns <= least, row)?;
     let grown = Told {
         entries,
         entry: told.entry,
