@@ -606,7 +606,7 @@ fn are_left(
 
 // The sample image with a refcount block at cluster 3, in which cluster 5 has a reference.
 fn image_with_block(alloc: Global) -> Result<MemStorage, Fail> {
-    let mut image = MemStorage::new(sample_image(alloc, 9, &[])?);
+    let mut image = sample_image(alloc, 9, &[])?;
     put_bytes(&mut image, 1536, &[0, 1, 0, 1, 0, 1, 0, 1, 0, 0, 0, 1])?;
     put_bytes(&mut image, 2047, &[0])?;
     Ok(image)

@@ -1,8 +1,9 @@
 //! The numbers that blocks keep in memory: one for each counter, in the smallest integers that hold it.
 
 use crate::blocks::{load, new_cleared};
-use crate::fixtures::header_of_order;
+use crate::fixtures::header_of;
 use qcow2_base::{Fault, MemStorage};
+use qcow2_metadata::{Header, RefBlock};
 use qcow2_testing::{printed, same};
 use std::alloc::{AllocError, Global};
 use std::test::Fail;
@@ -32,50 +33,29 @@ fn beginning(alloc: Global, row: Kept, first: &[u64]) -> Result<String, AllocErr
     format!(in alloc; "RefBlock {{ counters: {integers}({numbers}), ")
 }
 
-// How a block prints that is loaded from an image of these bytes, and zeros behind them.
-fn printed_load(alloc: Global, order: u32, bytes: &[u8]) -> Result<String, Fault> {
-    let header = header_of_order(alloc, 9, order)?;
-    let mut image = MemStorage::new(Vec::from_slice(alloc, bytes)?);
-    let block = load(alloc, &mut image, &header, 0)?;
-    Ok(printed(alloc, &block)?)
-}
-
-// How a cleared block prints.
-fn printed_cleared(alloc: Global, order: u32) -> Result<String, Fault> {
-    let header = header_of_order(alloc, 9, order)?;
-    let block = new_cleared(alloc, &header)?;
-    Ok(printed(alloc, &block)?)
-}
-
-// Fails unless the text begins with this, and tells both.
-fn begins_with(found: &str, expected: &str, order: u32) -> Result<(), Fail> {
-    if found.starts_with(expected) {
+// Fails unless the block prints so, and tells both.
+fn keeps(block: &RefBlock, row: Kept, first: &[u64]) -> Result<(), Fail> {
+    let found = printed(block.allocator(), block)?;
+    let expected = beginning(block.allocator(), row, first)?;
+    if found.as_str().starts_with(expected.as_str()) {
         return Ok(());
     }
-    same(found, expected, order)
+    same(found.as_str(), expected.as_str(), row.0)
 }
 
-// Fails unless a loaded block begins with the row's numbers, and a cleared one with zeros.
-fn keeps(alloc: Global, row: Kept) -> Result<(), Fail> {
-    let (order, _, _, bytes, first) = row;
-    let found = printed_load(alloc, order, bytes)?;
-    begins_with(
-        found.as_str(),
-        beginning(alloc, row, first)?.as_str(),
-        order,
-    )?;
-    let found = printed_cleared(alloc, order)?;
-    begins_with(
-        found.as_str(),
-        beginning(alloc, row, NO_NUMBERS)?.as_str(),
-        order,
-    )
+// The block of an image of these bytes, and zeros behind them.
+fn loaded(alloc: Global, header: &Header, bytes: &[u8]) -> Result<RefBlock, Fault> {
+    let mut image = MemStorage::new(Vec::from_slice(alloc, bytes)?);
+    load(alloc, &mut image, header, 0)
 }
 
 #[test]
 fn a_block_keeps_one_number_for_each_counter(rt: HostRuntime) -> Result<(), Fail> {
     for row in KEPT {
-        keeps(rt.alloc(), *row)?;
+        let (order, _, _, bytes, first) = *row;
+        let header = header_of(rt.alloc(), 9, order, false)?;
+        keeps(&loaded(rt.alloc(), &header, bytes)?, *row, first)?;
+        keeps(&new_cleared(rt.alloc(), &header)?, *row, NO_NUMBERS)?;
     }
     Ok(())
 }

@@ -12,14 +12,15 @@ use std::alloc::Global;
 use std::fmt::Debug;
 use std::test::Fail;
 
-/// A header of an image with clusters of `2^cluster_bits` bytes, whose guest data may lie in a file of
-/// its own. No image has other cluster bits than 9 to 21.
-pub(crate) fn header_with(
+/// A header of an image with clusters of `2^cluster_bits` bytes, whose refcounts have `2^refcount_order`
+/// bits, and whose guest data may lie in a file of its own. Cluster bits are 9 to 21, and the order 0 to 6.
+pub(crate) fn header_of(
     alloc: Global,
     cluster_bits: u32,
+    refcount_order: u32,
     external_data_file: bool,
 ) -> Result<Header, Fault> {
-    if !is_cluster_bits(cluster_bits) {
+    if !is_cluster_bits(cluster_bits) || refcount_order > 6 {
         return Err(Fault::ClusterSize);
     }
     let name = if external_data_file {
@@ -27,22 +28,12 @@ pub(crate) fn header_with(
     } else {
         None
     };
-    Header::new(alloc, cluster_bits, 4, None, None, name)
+    Header::new(alloc, cluster_bits, refcount_order, None, None, name)
 }
 
-/// A header of an image with these cluster bits, whose refcounts have `2^refcount_order` bits.
-pub(crate) fn header_of_order(
-    alloc: Global,
-    cluster_bits: u32,
-    refcount_order: u32,
-) -> Result<Header, Fault> {
-    if !is_cluster_bits(cluster_bits) {
-        return Err(Fault::ClusterSize);
-    }
-    if refcount_order > 6 {
-        return Err(Fault::RefcountWidth);
-    }
-    Header::new(alloc, cluster_bits, refcount_order, None, None, None)
+/// A header of an image with these cluster bits, and else as most images have it.
+pub(crate) fn header_with(alloc: Global, cluster_bits: u32) -> Result<Header, Fault> {
+    header_of(alloc, cluster_bits, 4, false)
 }
 
 /// A kind of table that tests load: an L2 table only with as many entries as fill a cluster.
@@ -244,18 +235,6 @@ pub(crate) fn cleared_l1_table(
     header: &Header,
     entries: usize,
 ) -> Result<L1Table, Fault> {
-    if entries > 4194305 {
-        return Err(Fault::WrongLength);
-    }
-    cleared_table(alloc, header, entries)
-}
-
-/// The same of a refcount table.
-pub(crate) fn cleared_reftable(
-    alloc: Global,
-    header: &Header,
-    entries: usize,
-) -> Result<RefTable, Fault> {
     if entries > 4194305 {
         return Err(Fault::WrongLength);
     }

@@ -1,44 +1,23 @@
-//! Edits of L2 tables: what mapping and zeroing a cluster leave and hand back, and where compressed data
+//! Edits of L2 tables: what they leave and hand back, what guest clusters read as, and where compressed data
 //! that is read lies.
 
-use crate::fixtures::{Told, header_with, table_that_tells, tells};
-use crate::l2_mapping::{data, zeros};
-use crate::l2_table::mapping;
+use crate::entries::{MEANINGS, Meaning};
+use crate::fixtures::{LOADED, Told, header_of, table_that_tells, tells};
+use crate::l2_mapping::Reads::Compressed;
+use crate::l2_mapping::mapping_of;
 use qcow2_base::{ClusterCount, GuestCluster, HostCluster};
 use qcow2_metadata::{ClustersToFreeEntry, L2Mapping, L2Table, MAX_OFFSET, PendingClusters, Table};
 use qcow2_testing::{fits, same};
 use std::alloc::Global;
 use std::test::Fail;
 
-// A first cluster and how many there are, if any.
-type Clusters = Option<(u64, u64)>;
-
-fn numbers_of(freed: Option<ClustersToFreeEntry>) -> Clusters {
-    freed.map(|freed| (freed.first.0, freed.count.0))
-}
-
-// A table of an image with these cluster bits, whose guest data may lie in an external data file. It has
-// cluster 1 and isn't modified, and all its entries are 0 but this one.
-fn table_with(
-    alloc: Global,
-    bits: u32,
-    external: bool,
-    entry: (usize, u64),
-) -> Result<(L2Table, Told), Fail> {
-    let header = header_with(alloc, bits, external)?;
-    let told = Told {
-        entries: header.l2_entries(),
-        entry,
-        cluster: Some(1),
-        modified: false,
-    };
-    let table = table_that_tells(alloc, &header, &told)?;
-    tells(&table, &told, entry)?;
-    Ok((table, told))
-}
-
 // Maps to the cluster, which pending clusters may be handed in for.
-fn map(table: &mut L2Table, index: usize, cluster: u64, pending: bool) -> Result<Clusters, Fail> {
+fn map(
+    table: &mut L2Table,
+    index: usize,
+    cluster: u64,
+    pending: bool,
+) -> Result<Option<ClustersToFreeEntry>, Fail> {
     let bits = table.cluster_bits();
     if !table.in_bounds(index) || !fits(cluster, 0, bits) {
         return Err("an index past the table's end, or a cluster past all images".into());
@@ -55,16 +34,36 @@ fn map(table: &mut L2Table, index: usize, cluster: u64, pending: bool) -> Result
     } else {
         None
     };
-    let freed = table.lock_write().map_cluster(index, cluster, pending);
-    Ok(numbers_of(freed))
+    Ok(table.lock_write().map_cluster(index, cluster, pending))
 }
 
-fn zero(table: &mut L2Table, index: usize, keep: bool) -> Result<Clusters, Fail> {
+fn zero(
+    table: &mut L2Table,
+    index: usize,
+    keep: bool,
+) -> Result<Option<ClustersToFreeEntry>, Fail> {
     if !table.in_bounds(index) {
         return Err("an index past the table's end".into());
     }
-    let freed = table.lock_write().zero_cluster(index, keep)?;
-    Ok(numbers_of(freed))
+    Ok(table.lock_write().zero_cluster(index, keep)?)
+}
+
+fn discard(table: &mut L2Table, index: usize) -> Result<Option<ClustersToFreeEntry>, Fail> {
+    if !table.in_bounds(index) {
+        return Err("an index past the table's end".into());
+    }
+    Ok(table.lock_write().discard_cluster(index))
+}
+
+// What a guest cluster reads as, which the table and the leave to change it say alike.
+fn mapping(table: &mut L2Table, guest_cluster: u64) -> Result<L2Mapping, Fail> {
+    if !fits(guest_cluster, 0, table.cluster_bits()) {
+        return Err("a guest cluster past all disks".into());
+    }
+    let found = table.get_mapping(GuestCluster(guest_cluster))?;
+    let locked = table.lock_write().get_mapping(GuestCluster(guest_cluster))?;
+    same(locked, found, guest_cluster)?;
+    Ok(found)
 }
 
 // Where the compressed data of a guest cluster begins and how many bytes it takes, which the table and
@@ -84,33 +83,62 @@ fn compressed(table: &mut L2Table, guest_cluster: u64) -> Result<Option<(u64, u6
     Ok(found)
 }
 
-// Fails unless the table says this of the entry that was edited, is modified, and has else stayed.
-fn edited(
-    table: &mut L2Table,
-    before: &Told,
-    number: u64,
-    reads_as: L2Mapping,
-) -> Result<(), Fail> {
-    let (index, old) = before.entry;
+// Reads by an entry of a table.
+fn is_read(alloc: Global, row: Meaning) -> Result<(), Fail> {
+    let (bits, external, number, _, reads) = row;
+    let header = header_of(alloc, bits, 4, external)?;
     let told = Told {
-        entry: (index, number),
-        modified: true,
-        ..*before
+        entries: header.l2_entries(),
+        entry: (7, number),
+        ..LOADED
     };
-    tells(table, &told, (index, old))?;
-    same(mapping(table, index as u64)?, reads_as, (index, old))
+    let mut table: L2Table = table_that_tells(alloc, &header, &told)?;
+    same(mapping(&mut table, 7)?, mapping_of(reads)?, row)?;
+    let range = match reads {
+        Compressed(offset, length) => Some((offset, length)),
+        _ => None,
+    };
+    let found = (compressed(&mut table, 7)?, compressed(&mut table, 8)?);
+    same(found, (range, None), row)
 }
 
-// Cluster bits, whether data is external, an entry, the cluster that it is mapped to, what is handed
-// back, and the entry then.
-type Mapped = (u32, bool, u64, u64, Clusters, u64);
+#[test]
+fn a_guest_cluster_reads_as_its_entry_and_only_compressed_data_as_such(
+    rt: HostRuntime,
+) -> Result<(), Fail> {
+    for row in MEANINGS {
+        is_read(rt.alloc(), *row)?;
+    }
+    Ok(())
+}
 
-const MAPPED: &[Mapped] = &[
+// An edit of an entry.
+#[derive(Clone, Copy, Debug)]
+enum Edit {
+    // to data in a cluster, with pending clusters or without
+    Map(u64, bool),
+    // to zeros, which may keep the cluster
+    Zero(bool),
+    Discard,
+}
+
+use Edit::{Discard, Map, Zero};
+
+// Cluster bits, whether data is external, an entry, an edit of it, the first cluster that is handed back and
+// how many, if any, and the entry then.
+type Edited = (u32, bool, u64, Edit, Option<(u64, u64)>, u64);
+
+/// Bit 63 of an entry: its cluster has no other reference.
+const COPIED: u64 = 0x8000_0000_0000_0000;
+
+const FIVE: Option<(u64, u64)> = Some((5, 1));
+
+const EDITED: &[Edited] = &[
     (
         9,
         false,
         0x8000_0000_0000_0a00,
-        5,
+        Map(5, false),
         None,
         0x8000_0000_0000_0a00,
     ),
@@ -118,46 +146,30 @@ const MAPPED: &[Mapped] = &[
         9,
         false,
         0x8000_0000_0000_0a00,
-        6,
-        Some((5, 1)),
+        Map(6, true),
+        FIVE,
         0x8000_0000_0000_0c00,
     ),
-    (9, false, 0xa00, 5, None, 0x8000_0000_0000_0a00),
-    (9, false, 0xa00, 4, Some((5, 1)), 0x8000_0000_0000_0800),
-    (9, false, 0, 5, None, 0x8000_0000_0000_0a00),
-    (9, false, 1, 5, None, 0x8000_0000_0000_0a00),
-    (
-        9,
-        false,
-        0x8000_0000_0000_0000,
-        5,
-        None,
-        0x8000_0000_0000_0a00,
-    ),
-    (9, false, 0xa01, 5, None, 0x8000_0000_0000_0a00),
-    (9, false, 0xa01, 6, Some((5, 1)), 0x8000_0000_0000_0c00),
+    (9, false, 0xa00, Map(5, false), None, 0x8000_0000_0000_0a00),
+    (9, false, 0, Map(5, true), None, 0x8000_0000_0000_0a00),
+    (9, false, COPIED, Map(5, true), None, 0x8000_0000_0000_0a00),
+    (9, false, 0xa01, Map(5, false), None, 0x8000_0000_0000_0a00),
+    (9, false, 0xa01, Map(6, true), FIVE, 0x8000_0000_0000_0c00),
     (
         9,
         false,
         0xa00,
-        0x7fff_ffff_ffff,
-        Some((5, 1)),
+        Map(0x7fff_ffff_ffff, true),
+        FIVE,
         0x80ff_ffff_ffff_fe00,
     ),
-    (9, true, 0xa00, 0, Some((5, 1)), 0x8000_0000_0000_0000),
+    (9, true, 0xa00, Map(0, true), FIVE, COPIED),
+    (9, true, COPIED, Map(0, false), None, COPIED),
     (
         9,
         true,
-        0x8000_0000_0000_0000,
-        0,
-        None,
-        0x8000_0000_0000_0000,
-    ),
-    (
-        9,
-        true,
-        0x8000_0000_0000_0000,
-        5,
+        COPIED,
+        Map(5, true),
         Some((0, 1)),
         0x8000_0000_0000_0a00,
     ),
@@ -166,7 +178,7 @@ const MAPPED: &[Mapped] = &[
         16,
         false,
         0x4040_0000_0001_0010,
-        1,
+        Map(1, true),
         None,
         0x8000_0000_0001_0000,
     ),
@@ -174,7 +186,7 @@ const MAPPED: &[Mapped] = &[
         16,
         false,
         0x4040_0000_0001_fff0,
-        1,
+        Map(1, true),
         Some((1, 2)),
         0x8000_0000_0001_0000,
     ),
@@ -182,7 +194,7 @@ const MAPPED: &[Mapped] = &[
         16,
         false,
         0x4040_0000_0001_fff0,
-        2,
+        Map(2, true),
         Some((1, 2)),
         0x8000_0000_0002_0000,
     ),
@@ -190,225 +202,89 @@ const MAPPED: &[Mapped] = &[
         10,
         false,
         0x7000_0000_0000_0600,
-        2,
+        Map(2, true),
         Some((1, 3)),
         0x8000_0000_0000_0800,
     ),
     (
-        16,
-        true,
-        0x4040_0000_0001_0010,
-        2,
-        Some((1, 1)),
-        0x8000_0000_0002_0000,
-    ),
-];
-
-// Maps the entry at an index, with pending clusters or without.
-fn is_mapped(alloc: Global, row: Mapped, index: usize, pending: bool) -> Result<(), Fail> {
-    let (bits, external, number, cluster, freed, after) = row;
-    let (mut table, told) = table_with(alloc, bits, external, (index, number))?;
-    same(map(&mut table, index, cluster, pending)?, freed, row)?;
-    edited(&mut table, &told, after, data(cluster, true))
-}
-
-#[test]
-fn a_mapped_cluster_reads_as_data_and_what_it_replaces_is_handed_back(
-    rt: HostRuntime,
-) -> Result<(), Fail> {
-    for row in MAPPED {
-        // An index inside, and then the last one of the smallest table, with pending clusters.
-        is_mapped(rt.alloc(), *row, 3, false)?;
-        is_mapped(rt.alloc(), *row, 63, true)?;
-    }
-    Ok(())
-}
-
-// Cluster bits, whether data is external, an entry, whether it may keep its cluster, what is handed
-// back, the entry then, the cluster that it has then, and whether it is copied.
-type Zeroed = (u32, bool, u64, bool, Clusters, u64, Option<u64>, bool);
-
-const ZEROED: &[Zeroed] = &[
-    (
         9,
         false,
         0x8000_0000_0000_0a00,
-        true,
+        Zero(true),
         None,
         0x8000_0000_0000_0a01,
-        Some(5),
-        true,
     ),
-    (
-        9,
-        false,
-        0x8000_0000_0000_0a01,
-        true,
-        None,
-        0x8000_0000_0000_0a01,
-        Some(5),
-        true,
-    ),
-    (9, false, 0xa00, true, None, 0xa01, Some(5), false),
-    (9, false, 0xa01, true, None, 0xa01, Some(5), false),
-    (
-        16,
-        false,
-        0x4040_0000_0001_0010,
-        true,
-        Some((1, 1)),
-        1,
-        None,
-        false,
-    ),
+    (9, false, 0xa01, Zero(true), None, 0xa01),
     (
         16,
         false,
         0x4040_0000_0001_fff0,
-        true,
+        Zero(true),
         Some((1, 2)),
         1,
-        None,
-        false,
     ),
-    (
-        10,
-        false,
-        0x7000_0000_0000_0600,
-        true,
-        Some((1, 3)),
-        1,
-        None,
-        false,
-    ),
-    (
-        10,
-        true,
-        0x7000_0000_0000_0600,
-        true,
-        Some((1, 3)),
-        1,
-        None,
-        false,
-    ),
-    (9, false, 0, true, None, 1, None, false),
-    (9, false, 1, true, None, 1, None, false),
-    (
-        9,
-        true,
-        0x8000_0000_0000_0000,
-        true,
-        None,
-        0x8000_0000_0000_0001,
-        Some(0),
-        true,
-    ),
-    (9, false, 0x8000_0000_0000_0000, true, None, 1, None, false),
-    (
-        9,
-        false,
-        0x8000_0000_0000_0a00,
-        false,
-        Some((5, 1)),
-        1,
-        None,
-        false,
-    ),
-    (9, false, 0xa00, false, Some((5, 1)), 1, None, false),
-    (9, false, 0xa01, false, Some((5, 1)), 1, None, false),
+    (10, true, 0x7000_0000_0000_0600, Zero(true), Some((1, 3)), 1),
+    (9, false, 0, Zero(true), None, 1),
+    (9, true, COPIED, Zero(true), None, 0x8000_0000_0000_0001),
+    (9, false, COPIED, Zero(true), None, 1),
+    (9, false, 0x8000_0000_0000_0a00, Zero(false), FIVE, 1),
+    (9, false, 0xa01, Zero(false), FIVE, 1),
     (
         16,
         false,
         0x4040_0000_0001_0010,
-        false,
+        Zero(false),
         Some((1, 1)),
         1,
-        None,
-        false,
     ),
+    (9, false, 1, Zero(false), None, 1),
+    (9, true, COPIED, Zero(false), Some((0, 1)), 1),
+    (9, false, COPIED, Zero(false), None, 1),
+    (9, false, 1, Discard, None, 0),
+    (9, false, COPIED, Discard, None, 0),
+    (9, true, COPIED, Discard, Some((0, 1)), 0),
+    (9, false, 0xa01, Discard, FIVE, 0),
+    (16, true, 0x4040_0000_0001_fff0, Discard, Some((1, 2)), 0),
+    (10, false, 0x7000_0000_0000_0600, Discard, Some((1, 3)), 0),
     (
-        16,
+        21,
         false,
-        0x4040_0000_0001_fff0,
-        false,
-        Some((1, 2)),
-        1,
-        None,
-        false,
+        0x7fff_ffff_ffff_ffff,
+        Discard,
+        Some((268435455, 3)),
+        0,
     ),
-    (
-        10,
-        false,
-        0x7000_0000_0000_0600,
-        false,
-        Some((1, 3)),
-        1,
-        None,
-        false,
-    ),
-    (9, false, 0, false, None, 1, None, false),
-    (9, false, 1, false, None, 1, None, false),
-    (
-        9,
-        true,
-        0x8000_0000_0000_0000,
-        false,
-        Some((0, 1)),
-        1,
-        None,
-        false,
-    ),
-    (9, false, 0x8000_0000_0000_0000, false, None, 1, None, false),
 ];
 
-// Zeroes the entry at an index.
-fn is_zeroed(alloc: Global, row: Zeroed, index: usize) -> Result<(), Fail> {
-    let (bits, external, number, keep, freed, after, cluster, copied) = row;
-    let (mut table, told) = table_with(alloc, bits, external, (index, number))?;
-    same(zero(&mut table, index, keep)?, freed, row)?;
-    edited(&mut table, &told, after, zeros(cluster, copied))
+// Edits the entry, and fails unless all other entries stay.
+fn is_edited(alloc: Global, row: Edited) -> Result<(), Fail> {
+    let (bits, external, number, edit, freed, after) = row;
+    let header = header_of(alloc, bits, 4, external)?;
+    let told = Told {
+        entries: header.l2_entries(),
+        entry: (63, number),
+        ..LOADED
+    };
+    let mut table: L2Table = table_that_tells(alloc, &header, &told)?;
+    let found = match edit {
+        Map(cluster, pending) => map(&mut table, 63, cluster, pending)?,
+        Zero(keep) => zero(&mut table, 63, keep)?,
+        Discard => discard(&mut table, 63)?,
+    };
+    let found = found.map(|found| (found.first.0, found.count.0));
+    same(found, freed, row)?;
+    let edited = Told {
+        entry: (63, after),
+        modified: true,
+        ..told
+    };
+    tells(&table, &edited, row)
 }
 
 #[test]
-fn a_zeroed_cluster_reads_as_zeros_and_what_it_does_not_keep_is_handed_back(
-    rt: HostRuntime,
-) -> Result<(), Fail> {
-    for row in ZEROED {
-        is_zeroed(rt.alloc(), *row, 63)?;
-    }
-    Ok(())
-}
-
-// Cluster bits, whether data is external, an entry, and where its data begins and how long it is.
-type Range = (u32, bool, u64, Option<(u64, u64)>);
-
-const RANGES: &[Range] = &[
-    (16, false, 0x4040_0000_0001_0010, Some((0x1_0010, 1008))),
-    (16, true, 0x4040_0000_0001_fff0, Some((0x1_fff0, 528))),
-    (10, false, 0x7000_0000_0000_0600, Some((0x600, 2048))),
-    (9, false, 0x4000_0000_0000_0000, Some((0, 512))),
-    (9, false, 0, None),
-    (9, false, 1, None),
-    (9, false, 0xa00, None),
-    (9, false, 0xa01, None),
-    (9, false, 0x8000_0000_0000_0a00, None),
-    (9, true, 0x8000_0000_0000_0000, None),
-    (9, false, 0x8000_0000_0000_0001, None),
-];
-
-// Reads by the entry of a guest cluster, and by a neighbour's.
-fn is_read_as_compressed(alloc: Global, row: Range) -> Result<(), Fail> {
-    let (bits, external, number, range) = row;
-    let (mut table, told) = table_with(alloc, bits, external, (63, number))?;
-    let found = (compressed(&mut table, 63)?, compressed(&mut table, 62)?);
-    same(found, (range, None), row)?;
-    tells(&table, &told, row)
-}
-
-#[test]
-fn only_compressed_data_is_read_as_such(rt: HostRuntime) -> Result<(), Fail> {
-    for row in RANGES {
-        is_read_as_compressed(rt.alloc(), *row)?;
+fn an_edit_leaves_its_entry_and_hands_back_what_it_drops(rt: HostRuntime) -> Result<(), Fail> {
+    for row in EDITED {
+        is_edited(rt.alloc(), *row)?;
     }
     Ok(())
 }

@@ -14,15 +14,11 @@ mod fixtures;
 #[cfg(test)]
 mod l1_table;
 #[cfg(test)]
-mod l2_copy;
-#[cfg(test)]
 mod l2_edits;
 #[cfg(test)]
 mod l2_mapping;
 #[cfg(test)]
 mod l2_table;
-#[cfg(test)]
-mod largest_tables;
 #[cfg(test)]
 mod one_entry;
 #[cfg(test)]
@@ -35,7 +31,5 @@ mod pointers;
 mod refcount_blocks;
 #[cfg(test)]
 mod reftable_growth;
-#[cfg(test)]
-mod refused_memory;
 #[cfg(test)]
 mod table_files;

@@ -5,9 +5,11 @@ use qcow2_metadata::{ClustersToFreeEntry, PendingClusters, Refused};
 use qcow2_testing::same;
 use std::test::Fail;
 
-// The fault of a refusal and the clusters that came back with it, which are given up. None where
-// nothing was refused.
-pub(crate) fn refusal(answer: Result<(), Refused>) -> Option<(Fault, Option<ClustersToFreeEntry>)> {
+/// The fault of a refusal and the clusters that came back with it, if there was one.
+pub(crate) type Refusal = Option<(Fault, Option<ClustersToFreeEntry>)>;
+
+/// The refusal of an answer, whose clusters are given up.
+pub(crate) fn refusal(answer: Result<(), Refused>) -> Refusal {
     match answer {
         Ok(()) => None,
         Err(
@@ -25,31 +27,25 @@ pub(crate) fn refusal(answer: Result<(), Refused>) -> Option<(Fault, Option<Clus
     }
 }
 
-#[test]
-fn pending_clusters_that_are_given_up_are_those_that_were_named(
-    _rt: HostRuntime,
-) -> Result<(), Fail> {
-    for row in [(0, 0), (0, 1), (7, 1), (7, 3), (1, u64::MAX), (u64::MAX, 9)] {
-        let clusters = ClustersToFreeEntry {
-            first: HostCluster(row.0),
-            count: ClusterCount(row.1),
-        };
-        let pending = PendingClusters::new(clusters.first, clusters.count);
-        let first = pending.cluster();
-        let refused = refusal(Err(Refused {
-            fault: Fault::NotPlaced,
-            pending: Some(pending),
-        }));
-        let handed_back = Some((Fault::NotPlaced, Some(clusters)));
-        same((first, refused), (clusters.first, handed_back), row)?;
-    }
-    Ok(())
+/// The refusal of a table or block without a cluster, and of clusters for it.
+pub(crate) fn not_placed(clusters: Option<(u64, u64)>) -> Refusal {
+    let clusters = clusters.map(|(first, count)| ClustersToFreeEntry {
+        first: HostCluster(first),
+        count: ClusterCount(count),
+    });
+    Some((Fault::NotPlaced, clusters))
 }
 
 #[test]
-fn pending_clusters_are_spent_once_something_refers_to_them(_rt: HostRuntime) -> Result<(), Fail> {
-    let pending = PendingClusters::new(HostCluster(7), ClusterCount(1));
+fn pending_clusters_are_given_up_or_spent() -> Result<(), Fail> {
+    let clusters = ClustersToFreeEntry {
+        first: HostCluster(7),
+        count: ClusterCount(u64::MAX),
+    };
+    let pending = PendingClusters::new(clusters.first, clusters.count);
+    same(pending.give_up(), clusters, "given up")?;
+    let pending = PendingClusters::new(clusters.first, clusters.count);
     let first = pending.cluster();
     pending.make_persistent();
-    same(first, HostCluster(7), "first cluster")
+    same(first, HostCluster(7), "spent")
 }

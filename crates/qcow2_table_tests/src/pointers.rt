@@ -1,35 +1,40 @@
 //! Setting where a header's tables lie, and writing that and the disk's size by themselves.
 
-use crate::fixtures::{cleared_l1_table, cleared_reftable, header_with, place};
-use crate::pending_clusters::refusal;
-use qcow2_base::{ClusterCount, Fault, HostCluster, HostOffset, MemStorage, Storage};
-use qcow2_metadata::{ClustersToFreeEntry, Header, PendingClusters, Table};
-use qcow2_testing::{FailingStorage, filled_image, fits, put_bytes, same, same_bytes};
+use crate::fixtures::{CLEARED, Told, cleared_l1_table, header_with, place, table_that_tells};
+use crate::pending_clusters::{Refusal, not_placed, refusal};
+use qcow2_base::{ClusterCount, Fault, HostCluster, HostOffset, Storage};
+use qcow2_metadata::{Header, PendingClusters, RefTable, Table};
+use qcow2_testing::{FailingStorage, filled_image, put_bytes, same, same_bytes};
 use std::alloc::Global;
 use std::test::Fail;
 
-// Gives the header an L1 table of one entry at cluster 1, whose clusters are pending.
-fn set_l1_table(alloc: Global, header: &mut Header) -> Result<(), Fail> {
-    let mut table = cleared_l1_table(alloc, header, 1)?;
-    let bits = header.cluster_bits();
-    if table.cluster_bits() != bits || !fits(1, 0, bits) {
-        return Err("a table of another cluster size".into());
-    }
-    table.set_cluster(HostCluster(1));
-    let pending = PendingClusters::new(HostCluster(1), table.cluster_count());
-    let answer = header.set_l1_table(&table, Some(pending));
-    same(refusal(answer), None, "L1 table")
-}
-
-// Gives the header a refcount table of so many entries with a cluster or none.
-fn set_reftable(
+// Gives the header an L1 table of one entry with a cluster, whose clusters are pending, or without one and
+// with pending clusters 7 to 9.
+fn set_l1_table(
     alloc: Global,
     header: &mut Header,
-    entries: usize,
     cluster: Option<u64>,
-) -> Result<(), Fault> {
-    let mut table = cleared_reftable(alloc, header, entries)?;
+) -> Result<Refusal, Fault> {
+    let mut table = cleared_l1_table(alloc, header, 1)?;
     place(&mut table, cluster, true)?;
+    if table.cluster_bits() != header.cluster_bits() {
+        return Err(Fault::ClusterSize);
+    }
+    let pending = match table.get_cluster() {
+        Some(first) => PendingClusters::new(first, table.cluster_count()),
+        None => PendingClusters::new(HostCluster(7), ClusterCount(3)),
+    };
+    Ok(refusal(header.set_l1_table(&table, Some(pending))))
+}
+
+// Gives the header a refcount table of 65 entries with a cluster or none.
+fn set_reftable(alloc: Global, header: &mut Header, cluster: Option<u64>) -> Result<(), Fault> {
+    let told = Told {
+        entries: 65,
+        cluster,
+        ..CLEARED
+    };
+    let table: RefTable = table_that_tells(alloc, header, &told)?;
     if table.cluster_bits() != header.cluster_bits() {
         return Err(Fault::ClusterSize);
     }
@@ -37,33 +42,17 @@ fn set_reftable(
 }
 
 // A header whose disk has 4096 bytes, whose L1 table has one entry at 0x200, and whose refcount table has
-// 65 entries at 0x800: two clusters of 512 bytes.
+// 65 entries at 0x800: two clusters of 512 bytes. Tables without a cluster were refused.
 fn header_with_tables(alloc: Global) -> Result<Header, Fail> {
-    let mut header = header_with(alloc, 9, false)?;
+    let mut header = header_with(alloc, 9)?;
     header.set_size(4096);
-    set_l1_table(alloc, &mut header)?;
-    set_reftable(alloc, &mut header, 65, Some(4))?;
+    same(set_l1_table(alloc, &mut header, Some(1))?, None, "L1 table")?;
+    set_reftable(alloc, &mut header, Some(4))?;
+    let found = set_l1_table(alloc, &mut header, None)?;
+    same(found, not_placed(Some((7, 3))), "L1 table")?;
+    let answer = set_reftable(alloc, &mut header, None);
+    same(answer, Err(Fault::NotPlaced), "refcount table")?;
     Ok(header)
-}
-
-// Gives the header an L1 table without a cluster, and pending clusters that come back.
-fn refuses_l1_table(alloc: Global, header: &mut Header) -> Result<(), Fail> {
-    let mut table = cleared_l1_table(alloc, header, 64)?;
-    if table.cluster_bits() != header.cluster_bits() {
-        return Err("a table of another cluster size".into());
-    }
-    table.unset_cluster();
-    let clusters = ClustersToFreeEntry {
-        first: HostCluster(7),
-        count: ClusterCount(3),
-    };
-    let pending = PendingClusters::new(clusters.first, clusters.count);
-    let answer = header.set_l1_table(&table, Some(pending));
-    same(
-        refusal(answer),
-        Some((Fault::NotPlaced, Some(clusters))),
-        "L1 table",
-    )
 }
 
 #[test]
@@ -79,16 +68,6 @@ fn a_header_refers_to_the_tables_that_it_was_given(rt: HostRuntime) -> Result<()
     );
     let expected = (HostOffset(0x800), ClusterCount(2), 128);
     same(reftable, expected, "refcount table")
-}
-
-#[test]
-fn a_table_without_a_cluster_is_refused_and_nothing_changes(rt: HostRuntime) -> Result<(), Fail> {
-    let mut header = header_with_tables(rt.alloc())?;
-    refuses_l1_table(rt.alloc(), &mut header)?;
-    let answer = set_reftable(rt.alloc(), &mut header, 64, None);
-    same(answer, Err(Fault::NotPlaced), "refcount table")?;
-    let places = (header.l1_table_offset(), header.reftable_offset());
-    same(places, (HostOffset(0x200), HostOffset(0x800)), "tables")
 }
 
 // Writes one of the three parts.
@@ -107,32 +86,16 @@ const PARTS: &[(u32, u64, &'static [u8])] = &[
     (2, 48, &[0, 0, 0, 0, 0, 0, 8, 0, 0, 0, 0, 2]),
 ];
 
-// An image of 72 bytes of 0xa5 but for these.
-fn expected_image(alloc: Global, place: u64, bytes: &[u8]) -> Result<MemStorage, Fail> {
-    let mut image = filled_image(alloc, 72)?;
-    put_bytes(&mut image, place, bytes)?;
-    Ok(image)
-}
-
 #[test]
 fn a_part_is_written_by_one_call_and_no_other_byte_changes(rt: HostRuntime) -> Result<(), Fail> {
     let header = header_with_tables(rt.alloc())?;
-    for row in PARTS {
-        let (part, place, bytes) = *row;
+    for (part, at, bytes) in PARTS {
         let mut image = FailingStorage::new(rt.alloc(), filled_image(rt.alloc(), 72)?);
-        let before = filled_image(rt.alloc(), 72)?;
-        image.fail_after(0);
-        same(
-            write_part(&header, &mut image, part),
-            Err(Fault::Storage),
-            part,
-        )?;
-        same_bytes(image.inner().bytes(), before.bytes(), part)?;
-        image.forget_calls();
-        same(write_part(&header, &mut image, part), Ok(()), part)?;
-        same(image.calls().len(), 1, part)?;
-        let expected = expected_image(rt.alloc(), place, bytes)?;
-        same_bytes(image.inner().bytes(), expected.bytes(), part)?;
+        same(write_part(&header, &mut image, *part), Ok(()), *part)?;
+        same(image.calls().len(), 1, *part)?;
+        let mut expected = filled_image(rt.alloc(), 72)?;
+        put_bytes(&mut expected, *at, bytes)?;
+        same_bytes(image.inner().bytes(), expected.bytes(), *part)?;
     }
     Ok(())
 }

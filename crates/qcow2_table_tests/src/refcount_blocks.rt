@@ -1,11 +1,11 @@
 //! Refcount blocks: their counters at each width, what steps leave, and where they are read and written.
 
 use crate::blocks::{counter, load, new_cleared, place, told, write, write_if_modified};
-use crate::fixtures::{cleared_reftable, header_of_order};
-use crate::pending_clusters::refusal;
+use crate::fixtures::{LOADED, NUMBER, Told, header_of, header_with, table_that_tells, tells};
+use crate::pending_clusters::{Refusal, not_placed, refusal};
 use qcow2_base::{ClusterCount, Fault, HostCluster, HostOffset, MemStorage, Storage};
-use qcow2_metadata::{ClustersToFreeEntry, PendingClusters, RefBlock, RefTable, Table, TableEntry};
-use qcow2_testing::{FailingStorage, filled_image, fits, same, same_bytes};
+use qcow2_metadata::{PendingClusters, RefBlock, RefTable, Table};
+use qcow2_testing::{FailingStorage, filled_image, same, same_bytes};
 use std::alloc::Global;
 use std::test::Fail;
 
@@ -141,273 +141,179 @@ fn step(block: &mut RefBlock, index: usize, way: Way) -> Result<Option<u64>, Fai
     }
 }
 
-#[test]
-fn steps_change_one_counter_and_say_what_it_was(rt: HostRuntime) -> Result<(), Fail> {
-    for row in STEPPED {
-        let (order, index, place, bytes, steps, after) = *row;
-        let header = header_of_order(rt.alloc(), 9, order)?;
-        let mut image = image_with(rt.alloc(), place, bytes)?;
-        let mut block = load(rt.alloc(), &mut image, &header, 1)?;
-        let mut modified = false;
-        for made in steps {
-            let (way, answer) = *made;
-            same(step(&mut block, index, way)?, answer, row)?;
-            modified |= answer.is_some();
-            same(block.is_modified(), modified, row)?;
-        }
-        same(block.get_cluster(), Some(HostCluster(1)), row)?;
-        write(&mut block, &mut image)?;
-        let expected = image_with(rt.alloc(), place, after)?;
-        same_bytes(image.bytes(), expected.bytes(), row)?;
+// Makes the steps, of which each that isn't refused sets the flag.
+fn are_answers(block: &mut RefBlock, index: usize, steps: Answers) -> Result<(), Fail> {
+    let mut modified = false;
+    for made in steps {
+        let (way, answer) = *made;
+        same(step(block, index, way)?, answer, steps)?;
+        modified |= answer.is_some();
+        same(block.is_modified(), modified, steps)?;
     }
     Ok(())
 }
 
-// The bytes of these blocks: byte i is `i mod 251`.
-fn byte_of_pattern(place: usize) -> u8 {
-    (place % 251) as u8
+fn is_stepped(alloc: Global, row: Stepped) -> Result<(), Fail> {
+    let (order, index, place, bytes, steps, after) = row;
+    let header = header_of(alloc, 9, order, false)?;
+    let mut image = image_with(alloc, place, bytes)?;
+    let mut block = load(alloc, &mut image, &header, 1)?;
+    are_answers(&mut block, index, steps)?;
+    same(block.get_cluster(), Some(HostCluster(1)), row)?;
+    same(write(&mut block, &mut image), Ok(()), row)?;
+    let expected = image_with(alloc, place, after)?;
+    same_bytes(image.bytes(), expected.bytes(), row)
 }
 
-// The number of a counter by its order and index: a part of a byte, or several bytes.
-fn counter_of_pattern(order: u32, index: usize) -> u64 {
-    if order <= 3 {
-        let numbers = match order {
-            0 => 2,
-            1 => 4,
-            2 => 16,
-            _ => 256,
-        };
-        let bit = index.wrapping_shl(order);
-        return (u64::from(byte_of_pattern(bit / 8)) >> (bit % 8)) % numbers;
+#[test]
+fn steps_change_one_counter_and_say_what_it_was(rt: HostRuntime) -> Result<(), Fail> {
+    for row in STEPPED {
+        is_stepped(rt.alloc(), *row)?;
     }
-    let size = match order {
-        4 => 2,
-        5 => 4,
-        _ => 8,
-    };
-    let mut number = 0;
-    for place in 0..size {
-        let byte = byte_of_pattern(index.wrapping_mul(size).wrapping_add(place));
-        number = number << 8 | u64::from(byte);
-    }
-    number
+    Ok(())
 }
 
-// So many bytes whose byte i is `i mod 251`.
+// An image of so many bytes, of which byte i is `i mod 251`.
 fn pattern(alloc: Global, len: usize) -> Result<MemStorage, Fault> {
-    let mut bytes = vec![in alloc; 0; len]?;
-    for place in 0..bytes.len() {
-        bytes[place] = byte_of_pattern(place);
+    let mut bytes = Vec::new(alloc);
+    for at in 0..len {
+        bytes.push((at % 251) as u8)?;
     }
     Ok(MemStorage::new(bytes))
 }
 
-// The first counter that isn't that of the pattern, which is answered with its index. Looks at every so many.
-fn other_counter(block: &RefBlock, order: u32, every: usize) -> Option<(usize, u64)> {
-    for turn in 0..block.entries() / every.max(1) {
-        let index = turn * every.max(1);
-        let number = counter_of_pattern(order, index);
-        if counter(block, index) != Some((number, number == 0)) {
-            return Some((index, number));
-        }
-    }
-    None
-}
+// A refcount order, how many counters the largest block has, and the last of them where its bytes are the
+// pattern: they end with 0x27 to 0x2e.
+type Largest = (u32, usize, u64);
 
-// A block of each width, with these cluster bits: its counters, and the bytes that it writes again.
-fn reads_and_writes_again(alloc: Global, bits: u32, every: usize) -> Result<(), Fail> {
-    for order in 0..7 {
-        let header = header_of_order(alloc, bits, order)?;
-        let mut image = pattern(alloc, header.cluster_size())?;
-        let mut block = load(alloc, &mut image, &header, 0)?;
-        same(
-            block.entries(),
-            header.cluster_size() * 8 >> order,
-            (bits, order),
-        )?;
-        same(other_counter(&block, order, every), None, (bits, order))?;
-        same(block.is_modified(), false, (bits, order))?;
-        let mut other = filled_image(alloc, header.cluster_size())?;
-        write(&mut block, &mut other)?;
-        same_bytes(other.bytes(), image.bytes(), (bits, order))?;
-        write(&mut block, &mut image)?;
-        same_bytes(image.bytes(), other.bytes(), (bits, order))?;
-    }
-    Ok(())
-}
+const LARGEST: &[Largest] = &[
+    (0, 16777216, 0),
+    (1, 8388608, 0),
+    (2, 4194304, 2),
+    (3, 2097152, 0x2e),
+    (4, 1048576, 0x2d2e),
+    (5, 524288, 0x2b2c_2d2e),
+    (6, 262144, 0x2728_292a_2b2c_2d2e),
+];
 
-#[test]
-fn blocks_of_each_width_are_read_and_written_again(rt: HostRuntime) -> Result<(), Fail> {
-    reads_and_writes_again(rt.alloc(), 9, 1)?;
-    reads_and_writes_again(rt.alloc(), 12, 1)
+// Reads the block of the image, and writes it to another.
+fn is_read_and_written(alloc: Global, image: &mut MemStorage, row: Largest) -> Result<(), Fail> {
+    let (order, entries, last) = row;
+    let header = header_of(alloc, 21, order, false)?;
+    let mut block = load(alloc, image, &header, 0)?;
+    same(told(&block), (entries, Some(HostCluster(0)), false), row)?;
+    let found = counter(&block, entries.saturating_sub(1));
+    same(found, Some((last, last == 0)), row)?;
+    let mut other = filled_image(alloc, header.cluster_size())?;
+    same(write(&mut block, &mut other), Ok(()), row)?;
+    same_bytes(other.bytes(), image.bytes(), row)
 }
 
 #[test]
 fn the_largest_blocks_are_read_and_written_again(rt: HostRuntime) -> Result<(), Fail> {
-    reads_and_writes_again(rt.alloc(), 21, 101)
+    let mut image = pattern(rt.alloc(), 2097152)?;
+    for row in LARGEST {
+        is_read_and_written(rt.alloc(), &mut image, *row)?;
+    }
+    Ok(())
+}
+
+// What a write answers, and how many calls the storage gets.
+type Answer = (Result<(), Fault>, usize);
+
+// A block's cluster, whether it is modified, and what comes of `write_if_modified` and then of a write.
+type Written = (u64, bool, Answer, Answer);
+
+const WRITES: &[Written] = &[
+    (1, false, (Ok(()), 0), (Ok(()), 1)),
+    (1, true, (Ok(()), 1), (Ok(()), 1)),
+    (1 << 47, false, (Ok(()), 0), PAST),
+    (1 << 47, true, PAST, PAST),
+];
+
+const PAST: Answer = (Err(Fault::TablePlace), 0);
+
+fn written(
+    block: &mut RefBlock,
+    image: &mut FailingStorage<MemStorage>,
+    if_modified: bool,
+) -> Answer {
+    image.forget_calls();
+    let answer = if if_modified {
+        write_if_modified(block, image)
+    } else {
+        write(block, image)
+    };
+    (answer, image.calls().len())
+}
+
+// Writes a block of an image at the same place or at another.
+fn is_written(alloc: Global, row: Written) -> Result<(), Fail> {
+    let (cluster, modified, first, second) = row;
+    let header = header_with(alloc, 9)?;
+    let mut image = image_with(alloc, 0, &[0, 7])?;
+    let mut block = load(alloc, &mut image, &header, 1)?;
+    place(&mut block, cluster, modified)?;
+    let mut other = FailingStorage::new(alloc, filled_image(block.allocator(), 1536)?);
+    same(written(&mut block, &mut other, true), first, row)?;
+    let flag = modified && first.0.is_err();
+    same(told(&block), (256, Some(HostCluster(cluster)), flag), row)?;
+    same(written(&mut block, &mut other, false), second, row)?;
+    if second.0.is_err() {
+        image = filled_image(alloc, 1536)?;
+    }
+    same_bytes(other.inner().bytes(), image.bytes(), row)
 }
 
 #[test]
-fn a_cleared_block_has_no_reference_and_no_cluster(rt: HostRuntime) -> Result<(), Fail> {
-    for order in 0..7u32 {
-        let header = header_of_order(rt.alloc(), 9, order)?;
-        let block = new_cleared(rt.alloc(), &header)?;
-        let entries = 4096 >> order;
-        same(told(&block), (entries, None, true), order)?;
-        for index in 0..entries {
-            same(counter(&block, index), Some((0, true)), (order, index))?;
-        }
-        same(counter(&block, entries), None, order)?;
+fn a_block_is_written_where_it_may_be(rt: HostRuntime) -> Result<(), Fail> {
+    for row in WRITES {
+        is_written(rt.alloc(), *row)?;
     }
     Ok(())
 }
 
 #[test]
-fn a_block_keeps_its_place_and_its_flag(rt: HostRuntime) -> Result<(), Fail> {
-    let header = header_of_order(rt.alloc(), 9, 4)?;
-    let mut image = image_with(rt.alloc(), 0, &[0, 7])?;
-    let mut block = load(rt.alloc(), &mut image, &header, 1)?;
-    let place = (block.cluster_bits(), block.get_offset());
-    same(place, (9, Some(HostOffset(512))), "loaded")?;
-    same(told(&block), (256, Some(HostCluster(1)), false), "loaded")?;
-    if !fits(2, 0, block.cluster_bits()) {
-        return Err("another cluster size".into());
-    }
-    block.set_cluster(HostCluster(2));
-    same(told(&block), (256, Some(HostCluster(2)), true), "placed")?;
-    block.clear_modified();
-    same(told(&block), (256, Some(HostCluster(2)), false), "cleared")?;
-    block.set_modified();
-    same(
-        (counter(&block, 0), block.is_modified()),
-        (Some((7, false)), true),
-        "set",
-    )
-}
-
-#[test]
-fn the_last_place_of_a_block_ends_at_the_greatest_end(rt: HostRuntime) -> Result<(), Fail> {
-    let header = header_of_order(rt.alloc(), 9, 4)?;
+fn a_block_is_loaded_from_where_it_may_be(rt: HostRuntime) -> Result<(), Fail> {
+    let header = header_with(rt.alloc(), 9)?;
     let mut image = filled_image(rt.alloc(), 16)?;
     let last = (1 << 47) - 1;
     let block = load(rt.alloc(), &mut image, &header, last)?;
+    same(told(&block), (256, Some(HostCluster(last)), false), "last")?;
     same(
-        told(&block),
-        (256, Some(HostCluster(last)), false),
-        "the last place",
+        block.get_offset(),
+        Some(HostOffset(0xff_ffff_ffff_fe00)),
+        "last",
     )?;
-    for cluster in [1 << 47, 1 << 48, u64::MAX] {
-        let answer = load(rt.alloc(), &mut image, &header, cluster);
-        same(answer.err(), Some(Fault::TablePlace), cluster)?;
-    }
-    Ok(())
-}
-
-// Writes the block, which is refused by this fault, and stays as it is.
-fn refuses_to_write(block: &mut RefBlock, fault: Fault) -> Result<(), Fail> {
-    let mut image = MemStorage::new(Vec::new(block.allocator()));
-    let before = told(block);
-    same(write(block, &mut image), Err(fault), before)?;
-    same((told(block), image.bytes().len()), (before, 0), fault)
+    let answer = load(rt.alloc(), &mut image, &header, 1 << 47);
+    same(answer.err(), Some(Fault::TablePlace), "past the last")
 }
 
 #[test]
-fn a_block_without_a_lawful_place_is_not_written(rt: HostRuntime) -> Result<(), Fail> {
-    let header = header_of_order(rt.alloc(), 9, 4)?;
+fn a_cleared_block_has_no_reference_and_no_place(rt: HostRuntime) -> Result<(), Fail> {
+    let header = header_with(rt.alloc(), 9)?;
     let mut block = new_cleared(rt.alloc(), &header)?;
-    refuses_to_write(&mut block, Fault::NoOffset)?;
     block.clear_modified();
-    refuses_to_write(&mut block, Fault::NoOffset)?;
-    for modified in [true, false] {
-        place(&mut block, 1 << 47, modified)?;
-        refuses_to_write(&mut block, Fault::TablePlace)?;
-    }
-    Ok(())
-}
-
-#[test]
-fn only_a_modified_block_is_written(rt: HostRuntime) -> Result<(), Fail> {
-    let header = header_of_order(rt.alloc(), 9, 4)?;
-    let mut image = image_with(rt.alloc(), 0, &[0, 7])?;
-    let mut block = load(rt.alloc(), &mut image, &header, 1)?;
-    let mut other = filled_image(rt.alloc(), 1536)?;
-    same(
-        write_if_modified(&mut block, &mut other),
-        Ok(()),
-        "not modified",
-    )?;
-    same_bytes(other.bytes(), &[0xa5; 1536], "not modified")?;
     block.set_modified();
+    same(told(&block), (256, None, true), "cleared")?;
+    same(counter(&block, 255), Some((0, true)), "cleared")?;
+    let mut image = MemStorage::new(Vec::new(rt.alloc()));
     same(
-        write_if_modified(&mut block, &mut other),
-        Ok(()),
-        "modified",
-    )?;
-    same_bytes(other.bytes(), image.bytes(), "modified")?;
-    same(block.is_modified(), false, "written")
+        write(&mut block, &mut image),
+        Err(Fault::NoOffset),
+        "cleared",
+    )
 }
 
-// A block of 8192 bytes is read and written in two pieces.
-const CALLS: [u64; 2] = [0, 1];
-
-// Loads a block of 8192 bytes where the call after so many fails, and then once more.
-fn loads_again(alloc: Global, order: u32, passes: u64) -> Result<RefBlock, Fail> {
-    let row = (order, passes);
-    let header = header_of_order(alloc, 13, order)?;
-    let mut image = FailingStorage::new(alloc, pattern(alloc, 8192)?);
-    image.fail_after(passes);
-    let answer = load(alloc, &mut image, &header, 0);
-    same(answer.err(), Some(Fault::Storage), row)?;
-    let counts = (image.failures(), image.calls().len() as u64);
-    same(counts, (1, passes.saturating_add(1)), row)?;
-    let block = load(alloc, &mut image, &header, 0)?;
-    same(other_counter(&block, order, 1), None, row)?;
-    Ok(block)
-}
-
-// An image of 0xa5 whose first bytes, so many, are those of the pattern.
-fn begun(alloc: Global, written: usize) -> Result<MemStorage, Fault> {
-    let mut bytes = vec![in alloc; 0xa5; 8192]?;
-    for place in 0..written.min(bytes.len()) {
-        bytes[place] = byte_of_pattern(place);
-    }
-    Ok(MemStorage::new(bytes))
-}
-
-// Writes the block of the pattern where the call after so many fails, and then once more.
-fn writes_again(alloc: Global, block: &mut RefBlock, passes: u64) -> Result<(), Fail> {
-    let mut image = FailingStorage::new(alloc, filled_image(alloc, 8192)?);
-    image.fail_after(passes);
-    same(write(block, &mut image), Err(Fault::Storage), passes)?;
-    same(block.is_modified(), true, passes)?;
-    let written = begun(alloc, (passes as usize).saturating_mul(4096))?;
-    same_bytes(image.inner().bytes(), written.bytes(), passes)?;
-    same(write(block, &mut image), Ok(()), passes)?;
-    same(block.is_modified(), false, passes)?;
-    let whole = pattern(alloc, 8192)?;
-    same_bytes(image.inner().bytes(), whole.bytes(), passes)
-}
-
-#[test]
-fn each_failed_call_of_a_block_of_each_width_is_told(rt: HostRuntime) -> Result<(), Fail> {
-    for order in 0..7u32 {
-        for passes in CALLS {
-            let mut block = loads_again(rt.alloc(), order, passes)?;
-            writes_again(rt.alloc(), &mut block, passes)?;
-        }
-    }
-    Ok(())
-}
-
-// Enters the block in the table's first entry, which may be that at the cluster, and with pending clusters or
+// Enters the block in the table's entry 3, which may be that at the cluster, and with pending clusters or
 // with none.
 fn enter(
     table: &mut RefTable,
     block: &mut RefBlock,
     cluster: Option<u64>,
     pending: bool,
-) -> Result<Option<(Fault, Option<ClustersToFreeEntry>)>, Fail> {
-    if table.cluster_bits() != 9 || block.cluster_bits() != 9 || !table.in_bounds(0) {
+) -> Result<Refusal, Fail> {
+    if table.cluster_bits() != 9 || block.cluster_bits() != 9 || !table.in_bounds(3) {
         return Err("another cluster size, or no entry".into());
     }
     if let Some(cluster) = cluster {
@@ -419,56 +325,39 @@ fn enter(
         return Err("a block that has a cluster".into());
     }
     let pending = if pending {
-        let first = HostCluster(cluster.unwrap_or(0));
+        let first = HostCluster(cluster.unwrap_or(7));
         Some(PendingClusters::new(first, ClusterCount(1)))
     } else {
         None
     };
-    Ok(refusal(table.enter_refblock(0, block, pending)))
+    Ok(refusal(table.enter_refblock(3, block, pending)))
 }
 
-// Enters a block in the first entry of a table, and says what the entry is then, whether the table counts as
-// modified, and what was refused.
-type Entered = (u64, bool, Option<(Fault, Option<ClustersToFreeEntry>)>);
-
-fn entered(alloc: Global, cluster: Option<u64>, pending: bool) -> Result<Entered, Fail> {
-    let header = header_of_order(alloc, 9, 4)?;
+// Enters a block in a table whose entry 3 is of another one, and fails unless the entry is then this number,
+// or else the refusal.
+fn is_entered(alloc: Global, cluster: Option<u64>, pending: bool, number: u64) -> Result<(), Fail> {
+    let row = (cluster, pending);
+    let header = header_with(alloc, 9)?;
+    let mut table: RefTable = table_that_tells(alloc, &header, &LOADED)?;
     let mut block = new_cleared(alloc, &header)?;
-    let mut table = cleared_reftable(alloc, &header, 64)?;
-    table.clear_modified();
-    let refused = enter(&mut table, &mut block, cluster, pending)?;
-    Ok((table.get(0).to_plain(), table.is_modified(), refused))
+    let found = enter(&mut table, &mut block, cluster, pending)?;
+    let want = match cluster {
+        Some(_) => None,
+        None => not_placed(if pending { Some((7, 1)) } else { None }),
+    };
+    same(found, want, row)?;
+    let told = Told {
+        entry: (3, number),
+        modified: cluster.is_some(),
+        ..LOADED
+    };
+    tells(&table, &told, row)
 }
 
 #[test]
 fn a_block_is_entered_by_its_offset_alone(rt: HostRuntime) -> Result<(), Fail> {
-    for pending in [false, true] {
-        same(
-            entered(rt.alloc(), Some(3), pending)?,
-            (0x600, true, None),
-            pending,
-        )?;
-        let last = (1 << 47) - 1;
-        same(
-            entered(rt.alloc(), Some(last), pending)?,
-            (0x00ff_ffff_ffff_fe00, true, None),
-            pending,
-        )?;
-    }
-    let none = ClustersToFreeEntry {
-        first: HostCluster(0),
-        count: ClusterCount(1),
-    };
-    let refused = Some((Fault::NotPlaced, None));
-    same(
-        entered(rt.alloc(), None, false)?,
-        (0, false, refused),
-        "no pending clusters",
-    )?;
-    let refused = Some((Fault::NotPlaced, Some(none)));
-    same(
-        entered(rt.alloc(), None, true)?,
-        (0, false, refused),
-        "pending clusters",
-    )
+    is_entered(rt.alloc(), Some(3), false, 0x600)?;
+    is_entered(rt.alloc(), Some((1 << 47) - 1), true, 0xff_ffff_ffff_fe00)?;
+    is_entered(rt.alloc(), None, false, NUMBER)?;
+    is_entered(rt.alloc(), None, true, NUMBER)
 }

@@ -1,15 +1,14 @@
 //! Refcount tables: how they grow, and how many spare entries they take along for that.
 
-use crate::fixtures::{
-    CLEARED, NUMBER, Told, cleared_reftable, header_of_order, table_that_tells, tells,
-};
-use qcow2_base::{ClusterCount, Fault};
+use crate::fixtures::{CLEARED, LOADED, NUMBER, Told, header_of, table_that_tells, tells};
+use qcow2_base::Fault;
 use qcow2_metadata::{Header, RefTable, Table, Turns, least_spare};
 use qcow2_testing::{holds, same};
+use std::alloc::Global;
 use std::test::Fail;
 
-/// What the growth of a table answers.
-pub(crate) fn grow(table: &RefTable, index: usize, header: &Header) -> Result<RefTable, Fault> {
+// What the growth of a table answers.
+fn grow(table: &RefTable, index: usize, header: &Header) -> Result<RefTable, Fault> {
     if header.cluster_bits() != table.cluster_bits() {
         return Err(Fault::WrongLength);
     }
@@ -26,9 +25,9 @@ fn spare_of(len: usize, index: usize, header: &Header) -> (Option<usize>, usize)
     (spare, turns.count())
 }
 
-/// A growth of a refcount table: cluster bits and refcount order, how many entries there are and the
-/// index that the table is to hold; how many spare entries are the least, and how many entries there are
-/// then, if there may be so many.
+// A growth of a refcount table: cluster bits and refcount order, how many entries there are and the
+// index that the table is to hold; how many spare entries are the least, and how many entries there are
+// then, if there may be so many.
 type Growth = (u32, u32, usize, usize, Option<(usize, usize)>);
 
 const GROWTHS: &[Growth] = &[
@@ -44,9 +43,7 @@ const GROWTHS: &[Growth] = &[
     (9, 6, 8064, 0, Some((2, 8064))),
     (9, 6, 8065, 0, Some((3, 8128))),
     (9, 6, 100000, 100000, Some((25, 100032))),
-    (9, 6, 4193280, 0, Some((1040, 4193280))),
     (9, 6, 4194304, 0, Some((1041, 4194304))),
-    (9, 6, 4194305, 0, None),
     (9, 6, 0, 4193262, Some((1041, 4194304))),
     (9, 6, 0, 4193263, None),
     (9, 6, 0, 4194303, None),
@@ -54,85 +51,68 @@ const GROWTHS: &[Growth] = &[
     (9, 5, 0, 8127, Some((2, 8192))),
     (9, 4, 0, 16319, Some((2, 16384))),
     (9, 3, 0, 1000000, Some((31, 1000064))),
-    (9, 0, 0, 4194286, Some((17, 4194304))),
     (9, 0, 0, 4194287, None),
-    (9, 0, 4194304, 0, Some((17, 4194304))),
     (10, 6, 0, 16254, Some((1, 16256))),
     (10, 6, 0, 16255, Some((2, 16384))),
     (12, 4, 0, 511, Some((1, 1024))),
     (12, 4, 1048065, 0, Some((2, 1048576))),
     (16, 4, 8191, 8190, Some((1, 8192))),
     (16, 4, 8192, 8191, Some((1, 16384))),
-    (16, 6, 0, 4194302, Some((1, 4194304))),
     (16, 6, 0, 4194303, None),
     (21, 6, 0, 262142, Some((1, 262144))),
     (21, 6, 0, 262143, Some((1, 524288))),
-    (21, 4, 4194304, 4194302, Some((1, 4194304))),
     (21, 0, 0, 4194303, None),
     (9, 6, 0, 4194304, None),
     (9, 4, 1, usize::MAX, None),
 ];
 
-#[test]
-fn the_spare_entries_are_the_least_that_count_themselves(rt: HostRuntime) -> Result<(), Fail> {
-    for row in GROWTHS {
-        let (bits, order, len, index, want) = *row;
-        let header = header_of_order(rt.alloc(), bits, order)?;
-        let (spare, turns) = spare_of(len, index, &header);
-        same(spare, want.map(|want: (usize, usize)| want.0), row)?;
-        if let Some(spare) = spare {
-            holds(1 <= turns && turns <= spare, row)?;
-        }
-    }
-    Ok(())
+// The least spare entries are found in no more turns than they are.
+fn has_spare(header: &Header, row: Growth) -> Result<(), Fail> {
+    let (_, _, entries, index, want) = row;
+    let (spare, turns) = spare_of(entries, index, header);
+    same(spare, want.map(|want: (usize, usize)| want.0), row)?;
+    holds(
+        spare.is_none() || 1 <= turns && turns <= spare.unwrap_or(0),
+        row,
+    )
+}
+
+// Grows a table whose last entry alone isn't 0, and that stays.
+fn grows(alloc: Global, row: Growth) -> Result<(), Fail> {
+    let (bits, order, entries, index, want) = row;
+    let header = header_of(alloc, bits, order, false)?;
+    has_spare(&header, row)?;
+    let number = if entries > 0 { NUMBER } else { 0 };
+    let told = Told {
+        entries,
+        entry: (entries.saturating_sub(1), number),
+        ..LOADED
+    };
+    let source: RefTable = table_that_tells(alloc, &header, &told)?;
+    let answer = grow(&source, index, &header);
+    tells(&source, &told, row)?;
+    let Some((_, entries)) = want else {
+        return same(answer.err(), Some(Fault::CannotGrow), row);
+    };
+    let grown = Told {
+        entries,
+        entry: told.entry,
+        ..CLEARED
+    };
+    tells(&answer?, &grown, row)
 }
 
 #[test]
 fn a_spare_of_a_thousand_is_found_in_three_turns(rt: HostRuntime) -> Result<(), Fail> {
-    let header = header_of_order(rt.alloc(), 9, 6)?;
-    same(
-        spare_of(4194304, 0, &header),
-        (Some(1041), 3),
-        "the most entries",
-    )
+    let header = header_of(rt.alloc(), 9, 6, false)?;
+    let found = spare_of(4194304, 0, &header);
+    same(found, (Some(1041), 3), "the most entries")
 }
 
 #[test]
-fn a_refcount_table_grows_with_its_spare_entries(rt: HostRuntime) -> Result<(), Fail> {
+fn a_refcount_table_grows_with_the_least_spare_entries(rt: HostRuntime) -> Result<(), Fail> {
     for row in GROWTHS {
-        let (bits, order, entries, index, want) = *row;
-        let header = header_of_order(rt.alloc(), bits, order)?;
-        let source = cleared_reftable(rt.alloc(), &header, entries)?;
-        let answer = grow(&source, index, &header);
-        tells(&source, &Told { entries, ..CLEARED }, row)?;
-        match want {
-            None => same(answer.err(), Some(Fault::CannotGrow), row)?,
-            Some((_, entries)) => tells(&answer?, &Told { entries, ..CLEARED }, row)?,
-        }
-    }
-    Ok(())
-}
-
-#[test]
-fn a_grown_refcount_table_has_the_old_entries_and_no_cluster(rt: HostRuntime) -> Result<(), Fail> {
-    let header = header_of_order(rt.alloc(), 9, 6)?;
-    for modified in [false, true] {
-        let told = Told {
-            entries: 4096,
-            entry: (4095, NUMBER),
-            cluster: Some(7),
-            modified,
-        };
-        let source: RefTable = table_that_tells(rt.alloc(), &header, &told)?;
-        let grown = grow(&source, 4096, &header)?;
-        let told_grown = Told {
-            entries: 4160,
-            entry: told.entry,
-            ..CLEARED
-        };
-        tells(&grown, &told_grown, modified)?;
-        same(grown.cluster_count(), ClusterCount(65), modified)?;
-        tells(&source, &told, modified)?;
+        grows(rt.alloc(), *row)?;
     }
     Ok(())
 }

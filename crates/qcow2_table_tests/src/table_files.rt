@@ -1,15 +1,15 @@
-//! Tables of images in real files.
+//! Tables of the most entries that their kind may have, and tables of images in real files.
 
-use crate::fixtures::{LOADED, Loads, NUMBER, Told, header_with, tells, write};
+use crate::fixtures::{LOADED, Loads, NUMBER, Told, header_with, table_that_tells, tells, write};
 use qcow2_base::FileStorage;
 use qcow2_metadata::{L1Table, L2Table};
-use qcow2_testing::{put, same, same_bytes, temporary_file};
+use qcow2_testing::{filled_image, put, same, same_bytes, temporary_file};
 use std::fs;
 use std::test::Fail;
 
 #[test]
 fn an_l1_table_of_the_most_entries_goes_from_file_to_file(rt: HostRuntime) -> Result<(), Fail> {
-    let header = header_with(rt.alloc(), 9, false)?;
+    let header = header_with(rt.alloc(), 9)?;
     let file = temporary_file(&rt, "largest-l1-table", &[0xa5; 4096])?;
     let mut image = FileStorage::open(&rt, file.path.as_str(), true)?;
     // The last entry of a table that begins at byte 4096. The file has zeros before it.
@@ -35,7 +35,7 @@ fn an_l1_table_of_the_most_entries_goes_from_file_to_file(rt: HostRuntime) -> Re
 // The file ends within the table at cluster 2 or before the others.
 #[test]
 fn a_load_near_the_end_of_a_writable_file_leaves_the_file(rt: HostRuntime) -> Result<(), Fail> {
-    let header = header_with(rt.alloc(), 9, false)?;
+    let header = header_with(rt.alloc(), 9)?;
     let mut bytes = [0xa5; 1056];
     bytes[1024..1048].fill(0);
     bytes[1048..].copy_from_slice(&NUMBER.to_be_bytes());
@@ -56,4 +56,26 @@ fn a_load_near_the_end_of_a_writable_file_leaves_the_file(rt: HostRuntime) -> Re
         )?;
     }
     Ok(())
+}
+
+#[test]
+fn an_l2_table_of_the_most_entries_is_written_and_read_back(rt: HostRuntime) -> Result<(), Fail> {
+    let header = header_with(rt.alloc(), 21)?;
+    let told = Told {
+        entries: 262144,
+        entry: (262143, NUMBER),
+        cluster: Some(1),
+        modified: false,
+    };
+    let mut table: L2Table = table_that_tells(rt.alloc(), &header, &told)?;
+    tells(&table, &told, "made")?;
+    let mut image = filled_image(rt.alloc(), 4194312)?;
+    same(write(&mut table, &mut image), Ok(()), "written")?;
+    // The table begins at byte 2097152 with zeros.
+    let mut want = filled_image(rt.alloc(), 2097152)?;
+    put(&mut want, 4194296, NUMBER)?;
+    put(&mut want, 4194304, 0xa5a5_a5a5_a5a5_a5a5)?;
+    same_bytes(image.bytes(), want.bytes(), "written")?;
+    let found = L2Table::load_from(rt.alloc(), &mut image, &header, 1, 262144)?;
+    tells(&found, &told, "read back")
 }
