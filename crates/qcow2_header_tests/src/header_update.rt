@@ -85,19 +85,19 @@ const AGREEING: &[(Changes, Changes)] = &[
     ),
 ];
 
-// Fails unless the header becomes the other, but for what an update leaves.
-fn becomes(alloc: Global, header: &mut Header, other: &Header) -> Result<(), Fail> {
-    let expected = printed(alloc, other)?;
-    same(update(header, other), Ok(()), &expected)?;
-    same(&printed(alloc, header)?, &expected, "updated")
+// Fails unless the first header becomes the second one.
+fn becomes(alloc: Global, here: Changes, there: Changes) -> Result<(), Fail> {
+    let mut header = load_with(alloc, here, &[])?;
+    let other = load_with(alloc, there, &[])?;
+    same(update(&mut header, &other), Ok(()), (here, there))?;
+    let found = printed(alloc, &header)?;
+    same(found, printed(alloc, &other)?, (here, there))
 }
 
 #[test]
 fn a_header_becomes_one_that_agrees_with_it(rt: HostRuntime) -> Result<(), Fail> {
-    for row in AGREEING {
-        let mut header = load_with(rt.alloc(), row.0, &[])?;
-        let other = load_with(rt.alloc(), row.1, &[])?;
-        becomes(rt.alloc(), &mut header, &other)?;
+    for (here, there) in AGREEING {
+        becomes(rt.alloc(), here, there)?;
     }
     Ok(())
 }

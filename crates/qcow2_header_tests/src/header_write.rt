@@ -2,7 +2,7 @@
 
 use crate::fixtures::{Changes, filled_with, text_of};
 use crate::header_calls::{dirty, load, load_with, names, new, write};
-use crate::header_texts::{CUT, KNOWN, LOADED, NAMED, NEW, New, Written};
+use crate::header_texts::{CUT, Cut, KNOWN, LOADED, NAMED, NEW, New, NewWritten, Written};
 use qcow2_base::{Fault, MemStorage};
 use qcow2_metadata::Header;
 use qcow2_testing::{
@@ -56,25 +56,29 @@ fn made(alloc: Global, row: New) -> Result<Header, Fault> {
     )
 }
 
+fn is_new(alloc: Global, row: &NewWritten) -> Result<(), Fail> {
+    let (new, len, changes, is_named) = *row;
+    let mut header = made(alloc, new)?;
+    let (known, called) = if is_named {
+        (KNOWN, Some("dirty"))
+    } else {
+        (NONE, None)
+    };
+    let text = text_of(alloc, known, changes, len)?;
+    goes_round(alloc, &mut header, &text, (called, called))
+}
+
+const NONE: Changes = &[];
+
 #[test]
 fn a_new_header_is_written_with_the_names_of_features_where_they_fit(
     rt: HostRuntime,
 ) -> Result<(), Fail> {
     for row in NEW {
-        let (new, len, changes, is_named) = *row;
-        let mut header = made(rt.alloc(), new)?;
-        let (known, called) = if is_named {
-            (KNOWN, Some("dirty"))
-        } else {
-            (NONE, None)
-        };
-        let text = text_of(rt.alloc(), known, changes, len)?;
-        goes_round(rt.alloc(), &mut header, &text, (called, called))?;
+        is_new(rt.alloc(), row)?;
     }
     Ok(())
 }
-
-const NONE: Changes = &[];
 
 fn is_written(alloc: Global, row: &Written) -> Result<(), Fail> {
     let (changes, len, text, called) = *row;
@@ -112,17 +116,21 @@ fn text_with(alloc: Global, name: &[u8]) -> Result<MemStorage, Fault> {
     Ok(image)
 }
 
+fn is_cut(alloc: Global, row: &Cut) -> Result<(), Fail> {
+    let (found, first, written, later) = *row;
+    let mut header = load(alloc, &mut text_with(alloc, found)?, false)?;
+    same(dirty(&header), Some(first), first)?;
+    let text = text_with(alloc, written)?;
+    let called = (Some(first), Some(later));
+    goes_round(alloc, &mut header, text.bytes(), called)
+}
+
 #[test]
 fn a_feature_name_that_is_cut_is_the_same_from_the_second_load_on(
     rt: HostRuntime,
 ) -> Result<(), Fail> {
     for row in CUT {
-        let (found, first, written, later) = *row;
-        let mut header = load(rt.alloc(), &mut text_with(rt.alloc(), found)?, false)?;
-        same(dirty(&header), Some(first), first)?;
-        let text = text_with(rt.alloc(), written)?;
-        let called = (Some(first), Some(later));
-        goes_round(rt.alloc(), &mut header, text.bytes(), called)?;
+        is_cut(rt.alloc(), row)?;
     }
     Ok(())
 }

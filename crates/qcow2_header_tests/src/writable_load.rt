@@ -165,20 +165,22 @@ fn a_load_for_writing_without_autoclear_features_or_refused_only_reads(
     Ok(())
 }
 
+// Fails unless a load of the file for writing answers a header without autoclear features.
+fn loads_file(rt: &HostRuntime, path: &str) -> Result<(), Fail> {
+    let mut image = FileStorage::open(rt, path, true)?;
+    let header = load(rt.alloc(), &mut image, true)?;
+    let text = printed(rt.alloc(), &header)?;
+    holds(text.as_str().contains("autoclear_features: 0,"), "header")
+}
+
 #[test]
 fn a_load_for_writing_clears_autoclear_features_of_a_file(rt: HostRuntime) -> Result<(), Fail> {
     let begun = text_of(rt.alloc(), RICH, &[], 400)?;
     let file = temporary_file(&rt, "autoclear-features", &begun)?;
-    let mut image = FileStorage::open(&rt, file.path.as_str(), true)?;
-    let header = load(rt.alloc(), &mut image, true)?;
-    let text = printed(rt.alloc(), &header)?;
-    holds(text.as_str().contains("autoclear_features: 0,"), "header")?;
-    let found = fs::read(&rt, file.path.as_str())?;
+    loads_file(&rt, file.path.as_str())?;
+    let mut expected = MemStorage::new(begun);
     let text = text_of(rt.alloc(), RICH_WRITTEN, &[(88, &[0; 8])], 310)?;
-    same_bytes(found.get(..310).unwrap_or(&[]), &text, "header")?;
-    same_bytes(
-        found.get(310..).unwrap_or(&[]),
-        begun.get(310..).unwrap_or(&[]),
-        "behind it",
-    )
+    put_bytes(&mut expected, 0, &text)?;
+    let found = fs::read(&rt, file.path.as_str())?;
+    same_bytes(found.as_slice(), expected.bytes(), "file")
 }
