@@ -1,6 +1,6 @@
 //! Loads and stores of integers and of structures, each by each call.
 
-ghost use Rattle.std.specs.Prelude.{◌≡◌, ◌<◌, ◌≤◌, false, [], ◌∷◌, length, refl, IfOk};
+ghost use Rattle.std.specs.Prelude.{◌≡◌, ◌<◌, ◌≤◌, ◌+◌, false, [], ◌∷◌, length, refl, IfOk};
 ghost use Rattle.std.proofs.Common.{rules};
 ghost use Rattle.qcow2_base.specs.OnDiskStruct.{big, little};
 
@@ -210,14 +210,12 @@ impl OnDiskStruct for TestSingle {
 }
 
 /// The three orders in which a value can be asked for.
-#[derive(Clone, Copy, Debug, PartialEq, Eq)]
+#[derive(Clone, Copy, Debug)]
 enum Call {
     LittleEndian,
     BigEndian,
     Native,
 }
-
-const CALLS: [Call; 3] = [Call::LittleEndian, Call::BigEndian, Call::Native];
 
 fn load<T: OnDiskStruct>(call: Call, bytes: &[u8]) -> Result<T, Fault> {
     match call {
@@ -261,23 +259,7 @@ fn stands<T: OnDiskStruct + Copy + Debug + PartialEq>(
     let (stored, past) = bytes.split_at(expected.len());
     same_bytes(stored, expected, row)?;
     same_bytes(past, &[0xff; 80][..past.len()], row)?;
-    same(load(call, bytes), Ok(value), row)?;
-    same(reload(&value, bytes), Ok(value), row)
-}
-
-/// That each call does so.
-fn each_call<T: OnDiskStruct + Copy + Debug + PartialEq>(
-    value: T,
-    expected: &[u8],
-    len: usize,
-) -> Result<(), Fail>
-    requires fits { length expected.now ≤ len }
-    requires room { len ≤ 80 }
-{
-    for call in CALLS {
-        stands(call, value, expected, len)?;
-    }
-    Ok(())
+    same(load(call, bytes), Ok(value), row)
 }
 
 /// That each call refuses to store the value into a buffer that is `len` long, leaves it, and
@@ -285,7 +267,7 @@ fn each_call<T: OnDiskStruct + Copy + Debug + PartialEq>(
 fn refuse<T: OnDiskStruct + Copy + Debug + PartialEq>(value: T, len: usize) -> Result<(), Fail>
     requires { len ≤ 80 }
 {
-    for call in CALLS {
+    for call in [Call::LittleEndian, Call::BigEndian, Call::Native] {
         let row = (call, value, len);
         let mut buffer = [0xff; 80];
         let bytes = &mut buffer[..len];
@@ -297,140 +279,59 @@ fn refuse<T: OnDiskStruct + Copy + Debug + PartialEq>(value: T, len: usize) -> R
     Ok(())
 }
 
-/// That each call stores the structure as these bytes, leaves what follows, and needs as many
-/// bytes.
+/// That the calls store the value as these bytes, need as many bytes, and leave so many that follow.
+fn each_call<T: OnDiskStruct + Copy + Debug + PartialEq>(
+    value: T,
+    little: &[u8],
+    big: &[u8],
+    spare: usize,
+) -> Result<(), Fail>
+    requires bytes { 0 < length little.now }
+    requires room { length little.now + spare ≤ 80 }
+    requires both { length big.now ≡ length little.now }
+{
+    let size = little.len();
+    same((T::ON_DISK_SIZE, value.on_disk_size()), (size, size), value)?;
+    stands(Call::LittleEndian, value, little, size + spare)?;
+    stands(Call::BigEndian, value, big, size + spare)?;
+    stands(Call::Native, value, little, size + spare)?;
+    refuse(value, size - 1)?;
+    let mut buffer = [0xff; 80];
+    same(reload(&value, &mut buffer[..size]), Ok(value), value)
+}
+
+#[test]
+fn integers_stand_in_the_order_asked_for_and_need_just_their_bytes() -> Result<(), Fail> {
+    each_call(0x0102u16, &[2, 1], &[1, 2], 0)?;
+    each_call(0x0102_0304u32, &[4, 3, 2, 1], &[1, 2, 3, 4], 0)?;
+    let little = [8, 7, 6, 5, 4, 3, 2, 1];
+    let big = [1, 2, 3, 4, 5, 6, 7, 8];
+    each_call(0x0102_0304_0506_0708u64, &little, &big, 0)?;
+    refuse(0x0102u16, 3)?;
+    refuse(0x0102_0304u32, 5)?;
+    refuse(0x0102_0304_0506_0708u64, 9)
+}
+
+/// That the calls store the structure as these bytes, and leave three that follow.
 fn structure<T: OnDiskStruct + Copy + Debug + PartialEq>(
     value: T,
     expected: &[u8],
 ) -> Result<(), Fail>
     requires bytes { 0 < length expected.now }
-    requires room { length expected.now < 80 }
+    requires room { length expected.now ≤ 77 }
 {
-    let size = expected.len();
-    same((T::ON_DISK_SIZE, value.on_disk_size()), (size, size), value)?;
-    each_call(value, expected, size)?;
-    each_call(value, expected, size + 1)?;
-    each_call(value, expected, 80)?;
-    refuse(value, size - 1)?;
-    refuse(value, 0)
-}
-
-/// That the calls store the integer as these bytes, and need exactly as many.
-fn integer<T: OnDiskStruct + Copy + Debug + PartialEq>(
-    value: T,
-    little: &[u8],
-    big: &[u8],
-) -> Result<(), Fail>
-    requires bytes { 0 < length little.now }
-    requires room { length little.now < 80 }
-    requires both { length big.now ≡ length little.now }
-{
-    let size = little.len();
-    same((T::ON_DISK_SIZE, value.on_disk_size()), (size, size), value)?;
-    stands(Call::LittleEndian, value, little, size)?;
-    stands(Call::BigEndian, value, big, size)?;
-    stands(Call::Native, value, little, size)?;
-    refuse(value, 0)?;
-    refuse(value, size - 1)?;
-    refuse(value, size + 1)
+    each_call(value, expected, expected, 3)
 }
 
 #[test]
-fn integers_of_two_bytes_stand_in_the_order_asked_for() -> Result<(), Fail> {
-    for (value, little, big) in [
-        (0x0102u16, [2, 1], [1, 2]),
-        (0, [0; 2], [0; 2]),
-        (u16::MAX, [0xff; 2], [0xff; 2]),
-    ] {
-        integer(value, &little, &big)?;
-    }
-    Ok(())
-}
-
-#[test]
-fn integers_of_four_bytes_stand_in_the_order_asked_for() -> Result<(), Fail> {
-    for (value, little, big) in [
-        (0x0102_0304u32, [4, 3, 2, 1], [1, 2, 3, 4]),
-        (42, [42, 0, 0, 0], [0, 0, 0, 42]),
-        (0, [0; 4], [0; 4]),
-        (u32::MAX, [0xff; 4], [0xff; 4]),
-    ] {
-        integer(value, &little, &big)?;
-    }
-    Ok(())
-}
-
-#[test]
-fn integers_of_eight_bytes_stand_in_the_order_asked_for() -> Result<(), Fail> {
-    for (value, little, big) in [
-        (
-            0x0102_0304_0506_0708u64,
-            [8, 7, 6, 5, 4, 3, 2, 1],
-            [1, 2, 3, 4, 5, 6, 7, 8],
-        ),
-        (0, [0; 8], [0; 8]),
-        (u64::MAX, [0xff; 8], [0xff; 8]),
-    ] {
-        integer(value, &little, &big)?;
-    }
-    Ok(())
-}
-
-#[test]
-fn big_endian_fields_stand_at_their_places() -> Result<(), Fail> {
-    let value = TestBE {
-        a: 0x1122_3344,
-        b: 0x5566_7788_99aa_bbcc,
-        c: 0xddee,
-    };
-    let expected = [
-        0x11, 0x22, 0x33, 0x44, 0x55, 0x66, 0x77, 0x88, 0x99, 0xaa, 0xbb, 0xcc, 0xdd, 0xee,
-    ];
-    structure(value, &expected)
-}
-
-#[test]
-fn little_endian_fields_stand_at_their_places() -> Result<(), Fail> {
-    let value = TestLE {
-        x: 0x1122_3344,
-        y: 0x5566_7788,
-    };
-    let expected = [0x44, 0x33, 0x22, 0x11, 0x88, 0x77, 0x66, 0x55];
-    structure(value, &expected)
-}
-
-#[test]
-fn fields_of_two_lengths_stand_at_their_places() -> Result<(), Fail> {
-    let value = TestAtomics {
-        plain: 1,
-        atomic32: 0x0203_0405,
-        atomic64: 0x0607_0809_0a0b_0c0d,
-    };
-    let expected = [0, 0, 0, 1, 2, 3, 4, 5, 6, 7, 8, 9, 10, 11, 12, 13];
-    structure(value, &expected)
-}
-
-#[test]
-fn a_gap_keeps_its_bytes() -> Result<(), Fail> {
+fn the_fields_of_a_small_structure_stand_at_their_places() -> Result<(), Fail> {
+    // The bytes between its fields stay.
     let value = TestGaps {
         first: 0x1122_3344,
         second: 0x5566,
     };
     let expected = [0x11, 0x22, 0x33, 0x44, 0xff, 0xff, 0xff, 0xff, 0x55, 0x66];
-    structure(value, &expected)
-}
-
-#[test]
-fn a_single_field_is_a_structure() -> Result<(), Fail> {
-    let value = TestSingle {
-        only: 0x1122_3344_5566_7788,
-    };
-    let expected = [0x11, 0x22, 0x33, 0x44, 0x55, 0x66, 0x77, 0x88];
-    structure(value, &expected)
-}
-
-#[test]
-fn an_extension_begins_with_its_type_and_length() -> Result<(), Fail> {
+    structure(value, &expected)?;
     let value = HeaderExtensionHeader {
         extension_type: 0xe279_2aca,
         length: 5,
@@ -439,16 +340,52 @@ fn an_extension_begins_with_its_type_and_length() -> Result<(), Fail> {
 }
 
 #[test]
-fn the_default_base_has_no_features() -> Result<(), Fail> {
+fn a_structure_stands_in_its_own_order_whatever_is_asked_for() -> Result<(), Fail> {
+    let value = TestBE {
+        a: 0x0102_0304,
+        b: 0x1112_1314_1516_1718,
+        c: 0x2122,
+    };
     let expected = [
-        0, 0, 0, 0, 0, 0, 0, 0, 0, 0, 0, 0, 0, 0, 0, 0, 0, 0, 0, 0, 0, 0, 0, 0, 0, 0, 0, 4, 0, 0,
-        0, 0x68,
+        1, 2, 3, 4, 0x11, 0x12, 0x13, 0x14, 0x15, 0x16, 0x17, 0x18, 0x21, 0x22,
     ];
-    structure(V3HeaderBase::default(), &expected)
+    structure(value, &expected)?;
+    let value = TestLE {
+        x: 0x0102_0304,
+        y: 0x1112_1314,
+    };
+    structure(value, &[4, 3, 2, 1, 0x14, 0x13, 0x12, 0x11])
 }
 
 #[test]
-fn a_base_has_five_fields() -> Result<(), Fail> {
+fn a_structure_of_one_length_or_of_one_field_stands_at_its_places() -> Result<(), Fail> {
+    let value = TestAtomics {
+        plain: 0x0102_0304,
+        atomic32: 0x1112_1314,
+        atomic64: 0x2122_2324_2526_2728,
+    };
+    let expected = [
+        1, 2, 3, 4, 0x11, 0x12, 0x13, 0x14, 0x21, 0x22, 0x23, 0x24, 0x25, 0x26, 0x27, 0x28,
+    ];
+    structure(value, &expected)?;
+    let value = TestSingle {
+        only: 0x0102_0304_0506_0708,
+    };
+    structure(value, &[1, 2, 3, 4, 5, 6, 7, 8])
+}
+
+const DEFAULT_BASE: [u8; 32] = [
+    0, 0, 0, 0, 0, 0, 0, 0, 0, 0, 0, 0, 0, 0, 0, 0, 0, 0, 0, 0, 0, 0, 0, 0, 0, 0, 0, 4, 0, 0, 0,
+    0x68,
+];
+
+const BASE: [u8; 32] = [
+    0x01, 0x02, 0x03, 0x04, 0x05, 0x06, 0x07, 0x08, 0x11, 0x12, 0x13, 0x14, 0x15, 0x16, 0x17, 0x18,
+    0x21, 0x22, 0x23, 0x24, 0x25, 0x26, 0x27, 0x28, 0x31, 0x32, 0x33, 0x34, 0x41, 0x42, 0x43, 0x44,
+];
+
+#[test]
+fn a_base_has_five_fields_and_none_is_a_feature_by_default() -> Result<(), Fail> {
     let value = V3HeaderBase {
         incompatible_features: 0x0102_0304_0506_0708,
         compatible_features: 0x1112_1314_1516_1718,
@@ -456,12 +393,8 @@ fn a_base_has_five_fields() -> Result<(), Fail> {
         refcount_order: 0x3132_3334,
         header_length: 0x4142_4344,
     };
-    let expected = [
-        0x01, 0x02, 0x03, 0x04, 0x05, 0x06, 0x07, 0x08, 0x11, 0x12, 0x13, 0x14, 0x15, 0x16, 0x17,
-        0x18, 0x21, 0x22, 0x23, 0x24, 0x25, 0x26, 0x27, 0x28, 0x31, 0x32, 0x33, 0x34, 0x41, 0x42,
-        0x43, 0x44,
-    ];
-    structure(value, &expected)
+    structure(value, &BASE)?;
+    structure(V3HeaderBase::default(), &DEFAULT_BASE)
 }
 
 #[test]
@@ -493,39 +426,14 @@ fn a_version_2_header_has_thirteen_fields() -> Result<(), Fail> {
 }
 
 #[test]
-fn a_value_stands_at_any_place(rt: HostRuntime) -> Result<(), Fail> {
-    // A place, and the bytes with the number there in each order.
+fn a_value_stands_at_any_place() -> Result<(), Fail> {
     let f = 0xff;
-    let cases = [
-        (
-            0,
-            [1, 2, 3, 4, f, f, f, f, f, f],
-            [4, 3, 2, 1, f, f, f, f, f, f],
-        ),
-        (
-            1,
-            [f, 1, 2, 3, 4, f, f, f, f, f],
-            [f, 4, 3, 2, 1, f, f, f, f, f],
-        ),
-        (
-            5,
-            [f, f, f, f, f, 1, 2, 3, 4, f],
-            [f, f, f, f, f, 4, 3, 2, 1, f],
-        ),
-        (
-            6,
-            [f, f, f, f, f, f, 1, 2, 3, 4],
-            [f, f, f, f, f, f, 4, 3, 2, 1],
-        ),
-    ];
     let number = 0x0102_0304u32;
-    for (place, big, little) in cases {
-        assert!(rt; place <= 6);
-        let mut bytes = [0xff; 10];
-        write_be(&mut bytes, place, &number);
-        same((bytes, read_be(&bytes, place)), (big, number), place)?;
-        write_le(&mut bytes, place, &number);
-        same((bytes, read_le(&bytes, place)), (little, number), place)?;
-    }
-    Ok(())
+    let mut bytes = [f; 10];
+    write_be(&mut bytes, 5, &number);
+    let expected = ([f, f, f, f, f, 1, 2, 3, 4, f], number);
+    same((bytes, read_be(&bytes, 5)), expected, "big-endian")?;
+    write_le(&mut bytes, 6, &number);
+    let expected = ([f, f, f, f, f, 1, 4, 3, 2, 1], number);
+    same((bytes, read_le(&bytes, 6)), expected, "little-endian")
 }

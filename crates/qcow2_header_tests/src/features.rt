@@ -4,130 +4,82 @@ use qcow2_metadata::{
     AutoclearFeatures, CompatibleFeatures, FeatureType, HeaderExtensionType, IncompatibleFeatures,
     UnknownValue,
 };
-use qcow2_testing::{holds, same, same_text};
+use qcow2_testing::{same, same_text};
 use std::fmt::Debug;
 use std::test::Fail;
 
-// Fails unless the number stands for this feature and is its own, and this is its key.
-fn is_feature<F>(number: u64, feature: F, key: (FeatureType, u8)) -> Result<(), Fail>
+// Numbers, and what each stands for.
+type Numbers<N, T> = &'static [(N, Result<T, UnknownValue>)];
+
+const INCOMPATIBLE: Numbers<u64, IncompatibleFeatures> = &[
+    (1, Ok(IncompatibleFeatures::Dirty)),
+    (2, Ok(IncompatibleFeatures::Corrupt)),
+    (4, Ok(IncompatibleFeatures::ExternalDataFile)),
+    (8, Ok(IncompatibleFeatures::CompressionType)),
+    (16, Ok(IncompatibleFeatures::ExtendedL2Entries)),
+    (0, Err(UnknownValue)),
+    (3, Err(UnknownValue)),
+    (32, Err(UnknownValue)),
+    ((1 << 32) + 4, Err(UnknownValue)),
+    (u64::MAX, Err(UnknownValue)),
+];
+
+const COMPATIBLE: Numbers<u64, CompatibleFeatures> = &[
+    (1, Ok(CompatibleFeatures::LazyRefcounts)),
+    (0, Err(UnknownValue)),
+    (2, Err(UnknownValue)),
+    ((1 << 32) + 1, Err(UnknownValue)),
+];
+
+const AUTOCLEAR: Numbers<u64, AutoclearFeatures> = &[
+    (1, Ok(AutoclearFeatures::Bitmaps)),
+    (2, Ok(AutoclearFeatures::RawExternalData)),
+    (0, Err(UnknownValue)),
+    (3, Err(UnknownValue)),
+    (4, Err(UnknownValue)),
+];
+
+const FIELDS: Numbers<u8, FeatureType> = &[
+    (0, Ok(FeatureType::Incompatible)),
+    (1, Ok(FeatureType::Compatible)),
+    (2, Ok(FeatureType::Autoclear)),
+    (3, Err(UnknownValue)),
+    (255, Err(UnknownValue)),
+];
+
+const EXTENSIONS: Numbers<u32, HeaderExtensionType> = &[
+    (0, Ok(HeaderExtensionType::End)),
+    (0xe279_2aca, Ok(HeaderExtensionType::BackingFileFormat)),
+    (0x6803_f857, Ok(HeaderExtensionType::FeatureNameTable)),
+    (0x4441_5441, Ok(HeaderExtensionType::ExternalDataFileName)),
+    (7, Err(UnknownValue)),
+    (0xca2a_79e2, Err(UnknownValue)),
+    (u32::MAX, Err(UnknownValue)),
+];
+
+// Fails unless each number stands for what it does, which has that number.
+fn are_numbers<N, T>(rows: Numbers<N, T>) -> Result<(), Fail>
 where
-    F: TryFrom<u64, Error = UnknownValue>
-        + Into<u64>
-        + Into<(FeatureType, u8)>
-        + Copy
-        + PartialEq
-        + Debug,
+    N: Copy + PartialEq + Debug,
+    T: TryFrom<N, Error = UnknownValue> + Into<N> + Copy + PartialEq + Debug,
 {
-    let number_again: u64 = feature.into();
-    same(
-        (F::try_from(number), number_again),
-        (Ok(feature), number),
-        number,
-    )?;
-    let found: (FeatureType, u8) = feature.into();
-    same(found, key, number)
-}
-
-// The number of an incompatible feature, the feature, and its bit.
-const INCOMPATIBLE: &[(u64, IncompatibleFeatures, u8)] = &[
-    (1, IncompatibleFeatures::Dirty, 0),
-    (2, IncompatibleFeatures::Corrupt, 1),
-    (4, IncompatibleFeatures::ExternalDataFile, 2),
-    (8, IncompatibleFeatures::CompressionType, 3),
-    (16, IncompatibleFeatures::ExtendedL2Entries, 4),
-];
-
-#[test]
-fn a_feature_has_the_number_of_its_bit_and_the_key_of_its_field(
-    _rt: HostRuntime,
-) -> Result<(), Fail> {
-    for row in INCOMPATIBLE {
-        let (number, feature, bit) = *row;
-        is_feature(number, feature, (FeatureType::Incompatible, bit))?;
-    }
-    is_feature(1, AutoclearFeatures::Bitmaps, (FeatureType::Autoclear, 0))?;
-    is_feature(
-        2,
-        AutoclearFeatures::RawExternalData,
-        (FeatureType::Autoclear, 1),
-    )?;
-    is_feature(
-        1,
-        CompatibleFeatures::LazyRefcounts,
-        (FeatureType::Compatible, 0),
-    )
-}
-
-// Numbers, and whether they are incompatible, compatible and autoclear features.
-const NUMBERS: &[(&'static [u64], (bool, bool, bool))] = &[
-    (&[1], (true, true, true)),
-    (&[2], (true, false, true)),
-    (&[4, 8, 16], (true, false, false)),
-    (
-        &[
-            0,
-            3,
-            5,
-            6,
-            7,
-            9,
-            12,
-            17,
-            20,
-            24,
-            31,
-            32,
-            64,
-            1 << 32,
-            (1 << 32) + 4,
-            u64::MAX,
-        ],
-        (false, false, false),
-    ),
-];
-
-#[test]
-fn no_other_number_is_a_feature(_rt: HostRuntime) -> Result<(), Fail> {
-    for (numbers, expected) in NUMBERS {
-        are_features(numbers, *expected)?;
-    }
-    Ok(())
-}
-
-// Whether the number stands for a feature.
-fn stands_for_one<F: TryFrom<u64, Error = UnknownValue> + Copy>(number: u64) -> bool {
-    F::try_from(number).is_ok()
-}
-
-fn are_features(numbers: &[u64], expected: (bool, bool, bool)) -> Result<(), Fail> {
-    for number in numbers {
-        let found = (
-            stands_for_one::<IncompatibleFeatures>(*number),
-            stands_for_one::<CompatibleFeatures>(*number),
-            stands_for_one::<AutoclearFeatures>(*number),
-        );
-        same(found, expected, *number)?;
+    for row in rows {
+        let (number, expected) = *row;
+        same(T::try_from(number), expected, number)?;
+        if let Ok(value) = expected {
+            same(value.into(), number, number)?;
+        }
     }
     Ok(())
 }
 
 #[test]
-fn the_fields_of_features_are_0_to_2_in_their_order(rt: HostRuntime) -> Result<(), Fail> {
-    let fields = [
-        FeatureType::Incompatible,
-        FeatureType::Compatible,
-        FeatureType::Autoclear,
-    ];
-    for number in 0..=255 {
-        let field = fields.get(number as usize).copied();
-        same(
-            FeatureType::try_from(number),
-            field.ok_or(UnknownValue),
-            number,
-        )?;
-    }
-    same(fields.map(u8::from), [0, 1, 2], "numbers")?;
-    holds(fields[0] < fields[1] && fields[1] < fields[2], fields)?;
+fn a_number_stands_for_what_has_it(rt: HostRuntime) -> Result<(), Fail> {
+    are_numbers(INCOMPATIBLE)?;
+    are_numbers(COMPATIBLE)?;
+    are_numbers(AUTOCLEAR)?;
+    are_numbers(FIELDS)?;
+    are_numbers(EXTENSIONS)?;
     same_text(
         rt.alloc(),
         UnknownValue,
@@ -135,37 +87,32 @@ fn the_fields_of_features_are_0_to_2_in_their_order(rt: HostRuntime) -> Result<(
     )
 }
 
-// Numbers, and the types of extensions that they stand for.
-const EXTENSION_TYPES: &[(u32, Result<HeaderExtensionType, UnknownValue>)] = &[
-    (0, Ok(HeaderExtensionType::End)),
-    (0xe279_2aca, Ok(HeaderExtensionType::BackingFileFormat)),
-    (0x6803_f857, Ok(HeaderExtensionType::FeatureNameTable)),
-    (0x4441_5441, Ok(HeaderExtensionType::ExternalDataFileName)),
-    (1, Err(UnknownValue)),
-    (7, Err(UnknownValue)),
-    (0xca2a_79e2, Err(UnknownValue)),
-    (0x6803_f858, Err(UnknownValue)),
-    (0x4441_5440, Err(UnknownValue)),
-    (u32::MAX, Err(UnknownValue)),
-];
-
-// Fails unless the number is that of the type, if there is one.
-fn has_number(
-    extension_type: Result<HeaderExtensionType, UnknownValue>,
-    number: u32,
-) -> Result<(), Fail> {
-    match extension_type {
-        Ok(extension_type) => same(u32::from(extension_type), number, number),
-        Err(_) => Ok(()),
-    }
-}
-
 #[test]
-fn an_extension_of_another_number_is_of_no_known_type(_rt: HostRuntime) -> Result<(), Fail> {
-    for row in EXTENSION_TYPES {
-        let (number, expected) = *row;
-        same(HeaderExtensionType::try_from(number), expected, number)?;
-        has_number(expected, number)?;
-    }
-    Ok(())
+fn the_key_of_a_feature_is_its_field_and_its_bit() -> Result<(), Fail> {
+    let found: [(FeatureType, u8); 8] = [
+        IncompatibleFeatures::Dirty.into(),
+        IncompatibleFeatures::Corrupt.into(),
+        IncompatibleFeatures::ExternalDataFile.into(),
+        IncompatibleFeatures::CompressionType.into(),
+        IncompatibleFeatures::ExtendedL2Entries.into(),
+        CompatibleFeatures::LazyRefcounts.into(),
+        AutoclearFeatures::Bitmaps.into(),
+        AutoclearFeatures::RawExternalData.into(),
+    ];
+    let keys = [
+        (FeatureType::Incompatible, 0),
+        (FeatureType::Incompatible, 1),
+        (FeatureType::Incompatible, 2),
+        (FeatureType::Incompatible, 3),
+        (FeatureType::Incompatible, 4),
+        (FeatureType::Compatible, 0),
+        (FeatureType::Autoclear, 0),
+        (FeatureType::Autoclear, 1),
+    ];
+    same(found, keys, "keys")?;
+    let order = (
+        FeatureType::Incompatible < FeatureType::Compatible,
+        FeatureType::Compatible < FeatureType::Autoclear,
+    );
+    same(order, (true, true), "order")
 }

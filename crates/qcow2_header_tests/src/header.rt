@@ -1,51 +1,37 @@
 //! What headers tell of an image.
 
-use crate::header_calls::{called, l1_table_of, new, refcount_table_of};
-use crate::header_load::{Names, names};
+use crate::fixtures::{Changes, OLDER};
+use crate::header_calls::{Names, Sizes, Tables, called, load_with, names, new, sizes, tables};
+use crate::rich_header::RICH;
 use qcow2_base::{ClusterCount, Fault, HostOffset};
 use qcow2_metadata::FeatureType::{self, Autoclear, Compatible, Incompatible};
 use qcow2_testing::same;
-use std::alloc::Global;
 use std::test::Fail;
 
-// Cluster bits, and then the cluster size in bytes and the entries of an L2 table.
-type Sizes = (u32, usize, usize);
-
 const SIZES: &[Sizes] = &[
-    (9, 512, 64),
-    (10, 1024, 128),
-    (15, 32768, 4096),
-    (16, 65536, 8192),
-    (20, 1048576, 131072),
-    (21, 2097152, 262144),
+    (9, 0, 512, 64, 4096, 12),
+    (9, 4, 512, 64, 256, 8),
+    (9, 6, 512, 64, 64, 6),
+    (10, 4, 1024, 128, 512, 9),
+    (15, 5, 32768, 4096, 8192, 13),
+    (16, 4, 65536, 8192, 32768, 15),
+    (20, 1, 1048576, 131072, 4194304, 22),
+    (21, 0, 2097152, 262144, 16777216, 24),
+    (21, 6, 2097152, 262144, 262144, 18),
 ];
 
-// Fails unless a new header with these cluster bits tells the sizes.
-fn tells_sizes(alloc: Global, expected: Sizes, refcount_order: u32) -> Result<(), Fail> {
-    let header = new(alloc, expected.0, refcount_order, (None, None, None))?;
-    let sizes = (
-        header.cluster_bits(),
-        header.cluster_size(),
-        header.l2_entries(),
-    );
-    same(
-        (sizes, header.external_data_file()),
-        (expected, false),
-        (expected, refcount_order),
-    )
-}
+const NO_TABLES: Tables = (0, HostOffset(0), 0, HostOffset(0), ClusterCount(0), 0);
 
 #[test]
-fn a_new_header_tells_its_sizes(rt: HostRuntime) -> Result<(), Fail> {
+fn a_new_header_tells_its_sizes_and_has_no_disk_and_no_tables(rt: HostRuntime) -> Result<(), Fail> {
     for row in SIZES {
-        for refcount_order in 0..7u32 {
-            tells_sizes(rt.alloc(), *row, refcount_order)?;
-        }
+        let header = new(rt.alloc(), row.0, row.1, (None, None, None))?;
+        same(sizes(&header), *row, *row)?;
+        same(tables(&header), NO_TABLES, *row)?;
     }
     Ok(())
 }
 
-// The backing file, its format and the data file, and then whether guest data is external.
 const NAMES: &[Names<'static>] = &[
     (None, None, None, false),
     (Some("base.img"), None, None, false),
@@ -64,55 +50,6 @@ fn a_new_header_tells_its_names_and_that_data_is_external_where_a_data_file_is_n
         let (backing, format, data, _) = *row;
         let header = new(rt.alloc(), 9, 4, (backing, format, data))?;
         same(names(&header), *row, *row)?;
-    }
-    Ok(())
-}
-
-// Cluster bits and the refcount order, and then the refcounts of a block and their logarithm.
-const BLOCKS: &[(u32, u32, usize, u32)] = &[
-    (9, 0, 4096, 12),
-    (9, 4, 256, 8),
-    (9, 6, 64, 6),
-    (16, 4, 32768, 15),
-    (21, 0, 16777216, 24),
-    (21, 6, 262144, 18),
-];
-
-#[test]
-fn a_new_header_tells_the_size_of_its_refcount_blocks(rt: HostRuntime) -> Result<(), Fail> {
-    for row in BLOCKS {
-        let (bits, order, _, _) = *row;
-        let header = new(rt.alloc(), bits, order, (None, None, None))?;
-        let found = (
-            header.cluster_bits(),
-            header.refcount_order(),
-            header.rb_entries(),
-            header.rb_bits(),
-        );
-        same(found, *row, *row)?;
-    }
-    Ok(())
-}
-
-// A version, and what a header of version 3 answers where it is needed.
-const VERSIONS: &[(u32, Result<(), Fault>)] = &[
-    (0, Ok(())),
-    (2, Ok(())),
-    (3, Ok(())),
-    (4, Err(Fault::VersionNeeded)),
-    (u32::MAX, Err(Fault::VersionNeeded)),
-];
-
-#[test]
-fn a_new_header_has_no_disk_and_no_tables_and_is_of_version_3(rt: HostRuntime) -> Result<(), Fail> {
-    let header = new(rt.alloc(), 21, 6, (None, None, None))?;
-    same(header.size(), 0, "size")?;
-    same(l1_table_of(&header), (HostOffset(0), 0), "L1 table")?;
-    let none = (HostOffset(0), ClusterCount(0), 0);
-    same(refcount_table_of(&header), none, "refcount table")?;
-    for row in VERSIONS {
-        let (minimum, expected) = *row;
-        same(header.require_version(minimum), expected, minimum)?;
     }
     Ok(())
 }
@@ -143,6 +80,48 @@ fn a_new_header_has_the_names_of_eight_features(rt: HostRuntime) -> Result<(), F
     for row in FEATURES {
         let (feature_type, bit, expected) = *row;
         same(called(&header, feature_type, bit), expected, *row)?;
+    }
+    Ok(())
+}
+
+#[test]
+fn a_loaded_header_tells_its_names_and_its_numbers(rt: HostRuntime) -> Result<(), Fail> {
+    let header = load_with(rt.alloc(), RICH, &[])?;
+    let expected = (
+        Some("\u{e4}.img"),
+        Some("qcow2"),
+        Some("d\u{e4}t.raw"),
+        true,
+    );
+    same(names(&header), expected, "names")?;
+    same(sizes(&header), (9, 5, 512, 64, 128, 7), "sizes")?;
+    let expected = (
+        0x0102_0304_0506_0708,
+        HostOffset(0x3132_3334_3536_3a00),
+        0x2122_2324,
+        HostOffset(0x4142_4344_4546_4800),
+        ClusterCount(0x5152_5354),
+        0x14_5494_d500,
+    );
+    same(tables(&header), expected, "tables")
+}
+
+// Changes to the least header, a version, and what the header answers where that is needed.
+const VERSIONS: &[(Changes, u32, Result<(), Fault>)] = &[
+    (&[], 0, Ok(())),
+    (&[], 3, Ok(())),
+    (&[], 4, Err(Fault::VersionNeeded)),
+    (&[], u32::MAX, Err(Fault::VersionNeeded)),
+    (OLDER, 2, Ok(())),
+    (OLDER, 3, Err(Fault::VersionNeeded)),
+];
+
+#[test]
+fn a_header_refuses_a_later_version_than_its_own(rt: HostRuntime) -> Result<(), Fail> {
+    for row in VERSIONS {
+        let (changes, minimum, expected) = *row;
+        let header = load_with(rt.alloc(), changes, &[])?;
+        same(header.require_version(minimum), expected, row)?;
     }
     Ok(())
 }

@@ -1,19 +1,23 @@
 //! Calls of headers without any clauses, for tests that look at what is answered.
 
-use crate::fixtures::{Changes, image_of};
+use crate::fixtures::{Changes, least_with};
 use qcow2_base::{ClusterCount, Fault, HostOffset, Storage};
 use qcow2_metadata::{FeatureType, Header};
 use qcow2_testing::is_cluster_bits;
 use std::alloc::{AllocError, Global};
 
 /// What a load of a header answers.
-pub fn load<S: Storage>(alloc: Global, image: &mut S, writable: bool) -> Result<Header, Fault> {
+pub(crate) fn load<S: Storage>(
+    alloc: Global,
+    image: &mut S,
+    writable: bool,
+) -> Result<Header, Fault> {
     Header::load(alloc, image, writable)
 }
 
-/// What a load of the header of an image of these bytes answers.
-pub fn load_of(alloc: Global, parts: &[Changes]) -> Result<Header, Fault> {
-    load(alloc, &mut image_of(alloc, parts)?, false)
+/// What a load of the least header with these changes, and then others, answers.
+pub(crate) fn load_with(alloc: Global, changes: Changes, others: Changes) -> Result<Header, Fault> {
+    load(alloc, &mut least_with(alloc, changes, others)?, false)
 }
 
 // The name as a text of its own, if there is one.
@@ -25,7 +29,7 @@ fn text(alloc: Global, name: Option<&str>) -> Result<Option<String>, AllocError>
 }
 
 /// A new header, with a backing file's name and its format, and a data file's name.
-pub fn new(
+pub(crate) fn new(
     alloc: Global,
     cluster_bits: u32,
     refcount_order: u32,
@@ -53,23 +57,54 @@ pub fn new(
 }
 
 /// What a write of the header answers.
-pub fn write<S: Storage>(header: &mut Header, image: &mut S) -> Result<(), Fault> {
+pub(crate) fn write<S: Storage>(header: &mut Header, image: &mut S) -> Result<(), Fault> {
     header.write(image)
 }
 
 /// What an update of the header answers.
-pub fn update(header: &mut Header, other: &Header) -> Result<(), Fault> {
+pub(crate) fn update(header: &mut Header, other: &Header) -> Result<(), Fault> {
     header.update(other)
 }
 
-/// Where a header's L1 table begins, and how many entries it has.
-pub fn l1_table_of(header: &Header) -> (HostOffset, usize) {
-    (header.l1_table_offset(), header.l1_table_entries())
+/// The backing file's name, its format, the data file's name, and whether guest data is external.
+pub(crate) type Names<'a> = (Option<&'a str>, Option<&'a str>, Option<&'a str>, bool);
+
+/// The names that a header tells.
+pub(crate) fn names(header: &Header) -> Names<'_> {
+    (
+        header.backing_filename().map(|name| name.as_str()),
+        header.backing_format().map(|name| name.as_str()),
+        header.external_data_filename().map(|name| name.as_str()),
+        header.external_data_file(),
+    )
 }
 
-/// Where a header's refcount table begins, and how many clusters and how many entries it has.
-pub fn refcount_table_of(header: &Header) -> (HostOffset, ClusterCount, usize) {
+/// Cluster bits and the refcount order, and then the cluster size, the entries of an L2 table, the refcounts
+/// of a block and their logarithm.
+pub(crate) type Sizes = (u32, u32, usize, usize, usize, u32);
+
+/// The sizes that a header tells.
+pub(crate) fn sizes(header: &Header) -> Sizes {
     (
+        header.cluster_bits(),
+        header.refcount_order(),
+        header.cluster_size(),
+        header.l2_entries(),
+        header.rb_entries(),
+        header.rb_bits(),
+    )
+}
+
+/// The size of the disk, where the L1 table begins and its entries, and where the refcount table begins, its
+/// clusters and its entries.
+pub(crate) type Tables = (u64, HostOffset, usize, HostOffset, ClusterCount, usize);
+
+/// The disk and the tables that a header tells.
+pub(crate) fn tables(header: &Header) -> Tables {
+    (
+        header.size(),
+        header.l1_table_offset(),
+        header.l1_table_entries(),
         header.reftable_offset(),
         header.reftable_clusters(),
         header.reftable_entries(),
@@ -77,8 +112,13 @@ pub fn refcount_table_of(header: &Header) -> (HostOffset, ClusterCount, usize) {
 }
 
 /// What a header calls a feature.
-pub fn called(header: &Header, feature_type: FeatureType, bit: u32) -> Option<&str> {
+pub(crate) fn called(header: &Header, feature_type: FeatureType, bit: u32) -> Option<&str> {
     header
         .feature_name(feature_type, bit)
         .map(|name| name.as_str())
+}
+
+/// What a header calls the first incompatible feature.
+pub(crate) fn dirty(header: &Header) -> Option<&str> {
+    called(header, FeatureType::Incompatible, 0)
 }

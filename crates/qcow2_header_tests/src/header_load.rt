@@ -1,95 +1,99 @@
 //! What a load of a header answers.
 
-use crate::fixtures::{Changes, LEAST, OLDER, change, image_of};
-use crate::header_calls::{called, load};
-use qcow2_base::{Fault, MemStorage, Storage, V3HeaderBase};
+use crate::fixtures::{Changes, OLDER, least_with};
+use crate::header_calls::{Names, called, load, load_with, names};
+use crate::header_texts::REPLACED;
+use crate::rich_header::RICH;
+use qcow2_base::{Fault, MemStorage};
 use qcow2_metadata::FeatureType::{self, Autoclear, Compatible, Incompatible};
-use qcow2_metadata::{Header, HeaderExtension};
-use qcow2_testing::{holds, printed, put_bytes, same};
-use std::alloc::{AllocError, Global};
-use std::fmt::Debug;
+use qcow2_metadata::Header;
+use qcow2_testing::{printed, put_bytes, same};
+use std::alloc::Global;
 use std::test::Fail;
-
-// The least header with these changes, and then others.
-fn least_with(alloc: Global, changes: Changes, others: Changes) -> Result<MemStorage, Fault> {
-    let mut image = image_of(alloc, &[LEAST])?;
-    change(&mut image, changes)?;
-    change(&mut image, others)?;
-    Ok(image)
-}
-
-// What a load of the least header with these changes answers.
-fn load_with(alloc: Global, changes: Changes) -> Result<Header, Fault> {
-    load(alloc, &mut least_with(alloc, changes, &[])?, false)
-}
-
-/// The backing file's name, its format, the data file's name, and whether guest data is external.
-pub(crate) type Names<'a> = (Option<&'a str>, Option<&'a str>, Option<&'a str>, bool);
 
 const NO_NAMES: Names<'static> = (None, None, None, false);
 
-pub(crate) fn names(header: &Header) -> Names<'_> {
-    (
-        header.backing_filename().map(|name| name.as_str()),
-        header.backing_format().map(|name| name.as_str()),
-        header.external_data_filename().map(|name| name.as_str()),
-        header.external_data_file(),
-    )
-}
-
-// What a load answers: the names, or the number of the fault.
-type Finding<'a> = Result<Names<'a>, u32>;
+// What a load answers: the names, or the fault.
+type Finding<'a> = Result<Names<'a>, Fault>;
 
 fn finding(answer: &Result<Header, Fault>) -> Finding<'_> {
     match answer {
         Ok(header) => Ok(names(header)),
-        Err(fault) => Err(fault.number()),
+        Err(fault) => Err(*fault),
     }
 }
 
 // Changes to the least header, and what a load answers then.
-const LOADS: &[(Changes, Finding<'static>)] = &[
+type Loaded = (Changes, Finding<'static>);
+
+fn is_loaded(alloc: Global, row: &Loaded) -> Result<(), Fail> {
+    let (changes, expected) = *row;
+    let answer = load_with(alloc, changes, &[]);
+    same(finding(&answer), expected, changes)
+}
+
+const NUMBERS: &[Loaded] = &[
     (&[], Ok(NO_NAMES)),
     // versions, cluster sizes and refcount widths
-    (&[(7, &[0])], Err(2)),
-    (&[(7, &[1])], Err(2)),
+    (&[(7, &[0])], Err(Fault::Version)),
+    (&[(7, &[1])], Err(Fault::Version)),
     (&[(7, &[2])], Ok(NO_NAMES)),
-    (&[(4, &[1])], Err(2)),
-    (&[(23, &[8])], Err(3)),
+    (&[(4, &[1])], Err(Fault::Version)),
+    (&[(23, &[8])], Err(Fault::ClusterSize)),
     (&[(23, &[21])], Ok(NO_NAMES)),
-    (&[(20, &[1])], Err(3)),
+    (&[(20, &[1])], Err(Fault::ClusterSize)),
     (&[(99, &[0])], Ok(NO_NAMES)),
     (&[(99, &[6])], Ok(NO_NAMES)),
-    (&[(96, &[1])], Err(8)),
+    (&[(96, &[1])], Err(Fault::RefcountWidth)),
     // tables that begin with a cluster of 512 bytes, but not with one of 1024
     (&[(46, &[2]), (54, &[2])], Ok(NO_NAMES)),
-    (&[(46, &[2]), (23, &[10])], Err(6)),
-    (&[(54, &[2]), (23, &[10])], Err(7)),
+    (&[(46, &[2]), (23, &[10])], Err(Fault::L1Unaligned)),
+    (&[(54, &[2]), (23, &[10])], Err(Fault::ReftableUnaligned)),
     (&[(40, &[0x80]), (48, &[0x80])], Ok(NO_NAMES)),
     // header lengths, up to the cluster's end
     (&[(103, &[112])], Ok(NO_NAMES)),
     (&[(102, &[1, 0xf8])], Ok(NO_NAMES)),
-    (&[(102, &[1, 0xf9])], Err(12)),
-    (&[(102, &[2, 0])], Err(12)),
-    (&[(100, &[1])], Err(5)),
+    (&[(102, &[1, 0xf9])], Err(Fault::ExtensionsExceed)),
+    (&[(102, &[2, 0])], Err(Fault::ExtensionsExceed)),
+    (&[(100, &[1])], Err(Fault::HeaderBig)),
     (&[(23, &[21]), (101, &[0x1f, 0xff, 0xf8])], Ok(NO_NAMES)),
-    (&[(23, &[21]), (101, &[0x20, 0, 0])], Err(12)),
-    (&[(23, &[21]), (101, &[0x20, 0, 1])], Err(5)),
+    (
+        &[(23, &[21]), (101, &[0x20, 0, 0])],
+        Err(Fault::ExtensionsExceed),
+    ),
+    (&[(23, &[21]), (101, &[0x20, 0, 1])], Err(Fault::HeaderBig)),
+];
+
+#[test]
+fn a_load_refuses_numbers_that_no_header_has(rt: HostRuntime) -> Result<(), Fail> {
+    for row in NUMBERS {
+        is_loaded(rt.alloc(), row)?;
+    }
+    Ok(())
+}
+
+const EXTENSIONS: &[Loaded] = &[
     // an extension of another type, up to the cluster's end
     (&[(107, &[7, 0, 0, 1, 0x88])], Ok(NO_NAMES)),
-    (&[(107, &[7, 0, 0, 1, 0x89])], Err(12)),
-    (&[(107, &[7, 0, 0, 1, 0x90])], Err(12)),
-    (&[(107, &[7, 0xff, 0xff, 0xff, 0xff])], Err(12)),
+    (&[(107, &[7, 0, 0, 1, 0x89])], Err(Fault::ExtensionsExceed)),
+    (&[(107, &[7, 0, 0, 1, 0x90])], Err(Fault::ExtensionsExceed)),
+    (
+        &[(107, &[7, 0xff, 0xff, 0xff, 0xff])],
+        Err(Fault::ExtensionsExceed),
+    ),
     // End has a length too, and nothing after it is read
     (&[(110, &[1, 0x90])], Ok(NO_NAMES)),
-    (&[(110, &[1, 0x91])], Err(12)),
-    (&[(108, &[0xff, 0xff, 0xff, 0xff])], Err(12)),
+    (&[(110, &[1, 0x91])], Err(Fault::ExtensionsExceed)),
+    (
+        &[(108, &[0xff, 0xff, 0xff, 0xff])],
+        Err(Fault::ExtensionsExceed),
+    ),
     (&[(112, b"\xe2\x79\x2a\xca\0\0\0\x01\xff")], Ok(NO_NAMES)),
     // data that ends within the cluster, though its padding doesn't
     (&[(103, &[105]), (111, &[1, 0x8f])], Ok(NO_NAMES)),
     (
         &[(103, &[105]), (105, b"\xe2\x79\x2a\xca\0\0\x01\x8f\xff")],
-        Err(13),
+        Err(Fault::ExtensionText),
     ),
     // names in extensions
     (
@@ -104,7 +108,10 @@ const LOADS: &[(Changes, Finding<'static>)] = &[
         &[(104, b"DATA\0\0\0\x03\xe2\x82\xac")],
         Ok((None, None, Some("\u{20ac}"), false)),
     ),
-    (&[(104, b"DATA\0\0\0\x02\xe2\x82\xac")], Err(13)),
+    (
+        &[(104, b"DATA\0\0\0\x02\xe2\x82\xac")],
+        Err(Fault::ExtensionText),
+    ),
     (&[(79, &[4])], Ok((None, None, None, true))),
     (
         &[(104, b"\xe2\x79\x2a\xca\0\0\0\0")],
@@ -119,6 +126,19 @@ const LOADS: &[(Changes, Finding<'static>)] = &[
         ],
         Ok((None, Some("raw"), Some("a"), false)),
     ),
+];
+
+#[test]
+fn a_load_reads_the_names_in_extensions_that_end_within_the_first_cluster(
+    rt: HostRuntime,
+) -> Result<(), Fail> {
+    for row in EXTENSIONS {
+        is_loaded(rt.alloc(), row)?;
+    }
+    Ok(())
+}
+
+const SEVERAL: &[Loaded] = &[
     // the same format twice, and others
     (
         &[
@@ -133,7 +153,7 @@ const LOADS: &[(Changes, Finding<'static>)] = &[
             (120, b"\xe2\x79\x2a\xca\0\0\0\x01b"),
             (136, b"\xe2\x79\x2a\xca\0\0\0\x01a"),
         ],
-        Err(15),
+        Err(Fault::FormatConflict),
     ),
     (
         &[
@@ -148,7 +168,7 @@ const LOADS: &[(Changes, Finding<'static>)] = &[
             (104, b"\x68\x03\xf8\x57\0\0\0\x01\0"),
             (120, b"DATA\0\0\0\x01\xff"),
         ],
-        Err(14),
+        Err(Fault::FeatureNameCut),
     ),
     (
         &[
@@ -156,7 +176,7 @@ const LOADS: &[(Changes, Finding<'static>)] = &[
             (120, b"\x68\x03\xf8\x57\0\0\0\x01\0"),
             (136, b"\0\0\0\x07\0\0\x01\x91"),
         ],
-        Err(13),
+        Err(Fault::ExtensionText),
     ),
     (
         &[
@@ -164,7 +184,7 @@ const LOADS: &[(Changes, Finding<'static>)] = &[
             (120, b"\xe2\x79\x2a\xca\0\0\0\x01b"),
             (136, b"\0\0\0\x07\0\0\x01\x91"),
         ],
-        Err(12),
+        Err(Fault::ExtensionsExceed),
     ),
     (
         &[
@@ -173,49 +193,95 @@ const LOADS: &[(Changes, Finding<'static>)] = &[
             (136, b"\xe2\x79\x2a\xca\0\0\0\x01a"),
             (152, b"\xe2\x79\x2a\xca\0\0\0\x01b"),
         ],
-        Err(15),
+        Err(Fault::FormatConflict),
     ),
-    // backing names, which may lie anywhere in the first cluster
-    (
-        &[(14, &[1, 0xf8]), (19, &[8])],
-        Ok((Some("\0\0\0\0\0\0\0\0"), None, None, false)),
-    ),
-    (&[(14, &[1, 0xf8]), (19, &[9])], Err(10)),
-    (&[(14, &[2, 0])], Ok((Some(""), None, None, false))),
-    (&[(14, &[2, 1])], Err(10)),
-    (
-        &[(15, &[1]), (19, &[2])],
-        Ok((Some("FI"), None, None, false)),
-    ),
-    (&[(8, &[0xff; 8]), (19, &[1])], Err(10)),
-    (&[(8, &[0xff; 8])], Err(10)),
-    (&[(8, &[0xff; 8]), (18, &[4])], Err(9)),
-    (&[(16, &[0xff; 4])], Ok(NO_NAMES)),
-    // longer than the cluster
-    (&[(15, &[1]), (18, &[2, 0])], Err(10)),
-    (&[(15, &[1]), (18, &[2, 1])], Err(10)),
-    (&[(15, &[1]), (18, &[3, 0xff])], Err(10)),
-    (&[(8, &[0xff; 8]), (18, &[3, 0xff])], Err(10)),
-    // 1023 bytes, of which the last is no text, and 1024
-    (
-        &[(23, &[11]), (14, &[4, 0, 0, 0, 3, 0xff]), (2046, &[0xff])],
-        Err(11),
-    ),
-    (&[(23, &[11]), (14, &[4, 0, 0, 0, 4, 0])], Err(9)),
 ];
 
 #[test]
-fn a_load_reads_the_names_or_answers_the_first_fault(rt: HostRuntime) -> Result<(), Fail> {
-    for row in LOADS {
-        let (changes, expected) = *row;
-        let answer = load_with(rt.alloc(), changes);
-        same(finding(&answer), expected, changes)?;
+fn a_load_reads_extensions_in_their_order_and_compares_names_after_them(
+    rt: HostRuntime,
+) -> Result<(), Fail> {
+    for row in SEVERAL {
+        is_loaded(rt.alloc(), row)?;
     }
     Ok(())
 }
 
-/// Changes to the least header that break one condition each, and its number, which is that of the fault.
-pub(crate) const BROKEN: &[(Changes, u32)] = &[
+const BACKING_NAMES: &[Loaded] = &[
+    (
+        &[(14, &[1, 0xf8]), (19, &[8])],
+        Ok((Some("\0\0\0\0\0\0\0\0"), None, None, false)),
+    ),
+    (
+        &[(14, &[1, 0xf8]), (19, &[9])],
+        Err(Fault::BackingNamePlace),
+    ),
+    (&[(14, &[2, 0])], Ok((Some(""), None, None, false))),
+    (&[(14, &[2, 1])], Err(Fault::BackingNamePlace)),
+    (
+        &[(15, &[1]), (19, &[2])],
+        Ok((Some("FI"), None, None, false)),
+    ),
+    (&[(8, &[0xff; 8]), (19, &[1])], Err(Fault::BackingNamePlace)),
+    (&[(8, &[0xff; 8])], Err(Fault::BackingNamePlace)),
+    (&[(8, &[0xff; 8]), (18, &[4])], Err(Fault::BackingNameLong)),
+    (&[(16, &[0xff; 4])], Ok(NO_NAMES)),
+    // longer than the cluster
+    (&[(15, &[1]), (18, &[2, 0])], Err(Fault::BackingNamePlace)),
+    (&[(15, &[1]), (18, &[2, 1])], Err(Fault::BackingNamePlace)),
+    (
+        &[(15, &[1]), (18, &[3, 0xff])],
+        Err(Fault::BackingNamePlace),
+    ),
+    (
+        &[(8, &[0xff; 8]), (18, &[3, 0xff])],
+        Err(Fault::BackingNamePlace),
+    ),
+    // 1023 bytes, of which the last is no text, and 1024
+    (
+        &[(23, &[11]), (14, &[4, 0, 0, 0, 3, 0xff]), (2046, &[0xff])],
+        Err(Fault::BackingNameText),
+    ),
+    (
+        &[(23, &[11]), (14, &[4, 0, 0, 0, 4, 0])],
+        Err(Fault::BackingNameLong),
+    ),
+];
+
+#[test]
+fn a_backing_name_lies_anywhere_in_the_first_cluster(rt: HostRuntime) -> Result<(), Fail> {
+    for row in BACKING_NAMES {
+        is_loaded(rt.alloc(), row)?;
+    }
+    Ok(())
+}
+
+const INCOMPATIBLE: &[Loaded] = &[
+    (&[(79, &[1])], Err(Fault::Incompatible(1))),
+    (&[(79, &[6])], Err(Fault::Incompatible(2))),
+    (&[(79, &[0x18])], Err(Fault::Incompatible(0x18))),
+    (
+        &[(72, &[0x80]), (79, &[4])],
+        Err(Fault::Incompatible(1 << 63)),
+    ),
+    (
+        &[(72, &[0xff; 8])],
+        Err(Fault::Incompatible(0xffff_ffff_ffff_fffb)),
+    ),
+];
+
+#[test]
+fn incompatible_features_but_an_external_data_file_are_refused_and_told(
+    rt: HostRuntime,
+) -> Result<(), Fail> {
+    for row in INCOMPATIBLE {
+        is_loaded(rt.alloc(), row)?;
+    }
+    Ok(())
+}
+
+// Changes to the least header that break one condition each, and its number, which is that of the fault.
+const BROKEN: &[(Changes, u32)] = &[
     (&[(0, &[0x50])], 1),
     (&[(7, &[4])], 2),
     (&[(23, &[0x16])], 3),
@@ -250,7 +316,8 @@ fn decides_with_each_other(alloc: Global, changes: Changes, number: u32) -> Resu
         let turned = least_with(alloc, others, changes)?;
         if image.bytes() == turned.bytes() {
             let answer = load(alloc, &mut image, false);
-            same(finding(&answer), Err(number.min(other)), (number, other))?;
+            let found = answer.err().map(|fault| fault.number());
+            same(found, Some(number.min(other)), (number, other))?;
         }
     }
     Ok(())
@@ -260,91 +327,6 @@ fn decides_with_each_other(alloc: Global, changes: Changes, number: u32) -> Resu
 fn the_first_condition_that_fails_decides(rt: HostRuntime) -> Result<(), Fail> {
     for (changes, number) in BROKEN {
         decides_with_each_other(rt.alloc(), changes, *number)?;
-    }
-    Ok(())
-}
-
-// The field of incompatible features, and what the fault tells of it.
-const INCOMPATIBLE: &[(&'static [u8; 8], u64)] = &[
-    (&[0, 0, 0, 0, 0, 0, 0, 1], 1),
-    (&[0, 0, 0, 0, 0, 0, 0, 6], 2),
-    (&[0, 0, 0, 0, 0, 0, 0, 0x18], 0x18),
-    (&[0x80, 0, 0, 0, 0, 0, 0, 4], 1 << 63),
-    (&[0xff; 8], 0xffff_ffff_ffff_fffb),
-];
-
-#[test]
-fn incompatible_features_but_an_external_data_file_are_refused_and_told(
-    rt: HostRuntime,
-) -> Result<(), Fail> {
-    for row in INCOMPATIBLE {
-        let (field, told) = *row;
-        let mut image = image_of(rt.alloc(), &[LEAST])?;
-        put_bytes(&mut image, 72, field)?;
-        let answer = load(rt.alloc(), &mut image, false);
-        same(answer.err(), Some(Fault::Incompatible(told)), row)?;
-    }
-    Ok(())
-}
-
-/// Fails unless the header keeps these unknown fields and these extensions.
-pub(crate) fn keeps<R: Debug + Drop>(
-    alloc: Global,
-    header: &Header,
-    unknown: &[u8],
-    extensions: &[HeaderExtension],
-    row: R,
-) -> Result<(), Fail> {
-    let backing = header.backing_filename();
-    let found = printed(alloc, header)?;
-    let kept = format!(in alloc;
-        "unknown_header_fields: {unknown:?}, backing_filename: {backing:?}, extensions: {extensions:?} }}"
-    )?;
-    holds(found.as_str().ends_with(kept.as_str()), row)
-}
-
-// So many extensions of type 7, with so many zeros in each.
-fn unknown_extensions(
-    alloc: Global,
-    count: usize,
-    len: usize,
-) -> Result<Vec<HeaderExtension>, AllocError> {
-    let mut extensions = Vec::new(alloc);
-    for _ in 0..count {
-        extensions.push(HeaderExtension::Unknown {
-            extension_type: 7,
-            content: vec![in alloc; 0; len]?,
-        })?;
-    }
-    Ok(extensions)
-}
-
-// Changes, how many unknown bytes the header has and which, how many extensions and their length.
-const KEPT: &[(Changes, usize, u8, usize, usize)] = &[
-    (&[], 0, 0, 0, 0),
-    (&[(103, &[112])], 8, 0, 0, 0),
-    (&[(103, &[105, 0xab])], 1, 0xab, 0, 0),
-    (&[(102, &[1, 0xf8])], 400, 0, 0, 0),
-    (&[(107, &[7])], 0, 0, 1, 0),
-    (&[(107, &[7, 0, 0, 0, 9])], 0, 0, 1, 9),
-    (&[(107, &[7, 0, 0, 1, 0x88])], 0, 0, 1, 392),
-    (&[(110, &[1, 0x90])], 0, 0, 0, 0),
-];
-
-#[test]
-fn unknown_fields_and_extensions_are_kept(rt: HostRuntime) -> Result<(), Fail> {
-    for row in KEPT {
-        let (changes, unknown, byte, count, len) = *row;
-        let header = load_with(rt.alloc(), changes)?;
-        let unknown = vec![in rt.alloc(); byte; unknown]?;
-        let extensions = unknown_extensions(rt.alloc(), count, len)?;
-        keeps(
-            rt.alloc(),
-            &header,
-            unknown.as_slice(),
-            extensions.as_slice(),
-            changes,
-        )?;
     }
     Ok(())
 }
@@ -360,7 +342,8 @@ fn image_with_extensions(alloc: Global, changes: Changes, count: u64) -> Result<
 
 // Changes, how many extensions there are besides, and what a load answers.
 const MANY: &[(Changes, u64, Finding<'static>)] = &[
-    (&[], 51, Err(12)),
+    (&[], 50, Ok(NO_NAMES)),
+    (&[], 51, Err(Fault::ExtensionsExceed)),
     (
         &[(23, &[21]), (2096104, b"\xe2\x79\x2a\xca\0\0\0\x03raw")],
         262000,
@@ -370,10 +353,6 @@ const MANY: &[(Changes, u64, Finding<'static>)] = &[
 
 #[test]
 fn as_many_extensions_are_read_as_the_first_cluster_holds(rt: HostRuntime) -> Result<(), Fail> {
-    let mut image = image_with_extensions(rt.alloc(), &[], 50)?;
-    let header = load(rt.alloc(), &mut image, false)?;
-    let extensions = unknown_extensions(rt.alloc(), 50, 0)?;
-    keeps(rt.alloc(), &header, &[], extensions.as_slice(), 50)?;
     for row in MANY {
         let (changes, count, expected) = *row;
         let mut image = image_with_extensions(rt.alloc(), changes, count)?;
@@ -383,31 +362,75 @@ fn as_many_extensions_are_read_as_the_first_cluster_holds(rt: HostRuntime) -> Re
     Ok(())
 }
 
-// What stands there instead of a version 3 header.
-const BEHIND_BYTE_72: &[Changes] = &[
-    &[],
-    &[(72, &[0; 440])],
-    &[(72, &[0xff; 440])],
-    &[(72, &[0xa5; 440]), (104, b"\xe2\x79\x2a\xca\0\0\0\x03raw")],
+// Changes to the least header, and what the header prints by `Debug`, which tells what no call does.
+const KEPT: &[(Changes, &'static str)] = &[
+    (
+        RICH,
+        "Header { alloc: Global, v2: V2Header { magic: 1363560955, version: 3, \
+        backing_file_offset: 360, backing_file_size: 6, cluster_bits: 9, \
+            size: 72623859790382856, crypt_method: 286397204, l1_size: 555885348, \
+            l1_table_offset: 3544952156018063872, \
+            refcount_table_offset: 4702394921427290112, refcount_table_clusters: 1364349780, \
+            nb_snapshots: 1633837924, snapshots_offset: 8174723217654970232 }, \
+            base: V3HeaderBase { incompatible_features: 4, \
+            compatible_features: 9332165983064197000, autoclear_features: 10489608748473423768, \
+            refcount_order: 5, header_length: 112 }, unknown_header_fields: [161, 162, 163, 164, \
+            165, 166, 167, 168], \
+            backing_filename: Some(\"ä.img\"), extensions: [\
+            BackingFileFormat(\"qcow2\"), \
+            FeatureNameTable({(Incompatible, 0): \"new\", (Compatible, 0): \"lazy\"}), \
+            ExternalDataFileName(\"dät.raw\"), \
+            Unknown { extension_type: 7, content: [120, 121, 122] }, \
+            BackingFileFormat(\"qcow2\"), \
+            ExternalDataFileName(\"dät.raw\")] }",
+    ),
+    (
+        &[(103, &[105, 0xab]), (108, b"\x07\0\0\0\x02\xa1")],
+        "Header { alloc: Global, v2: V2Header { magic: 1363560955, version: 3, \
+        backing_file_offset: 0, backing_file_size: 0, cluster_bits: 9, \
+            size: 0, crypt_method: 0, l1_size: 0, l1_table_offset: 0, \
+            refcount_table_offset: 0, refcount_table_clusters: 0, nb_snapshots: 0, \
+            snapshots_offset: 0 }, \
+            base: V3HeaderBase { incompatible_features: 0, compatible_features: 0, \
+            autoclear_features: 0, \
+            refcount_order: 4, header_length: 105 }, unknown_header_fields: [171], \
+            backing_filename: None, extensions: [\
+            Unknown { extension_type: 7, content: [161, 0] }] }",
+    ),
+    // of version 2, whatever stands there instead of a version 3 header
+    (OLDER, OF_VERSION_2),
+    (
+        &[
+            (7, &[2]),
+            (14, &[2, 0]),
+            (19, &[5]),
+            (23, &[16]),
+            (72, &[0xff; 32]),
+            (104, b"\xe2\x79\x2a\xca\0\0\0\x03raw"),
+            (512, b"a.img"),
+        ],
+        OF_VERSION_2,
+    ),
 ];
 
+const OF_VERSION_2: &str = "Header { alloc: Global, v2: V2Header { magic: 1363560955, version: 2, \
+    backing_file_offset: 512, backing_file_size: 5, cluster_bits: 16, \
+    size: 0, crypt_method: 0, l1_size: 0, l1_table_offset: 0, \
+    refcount_table_offset: 0, refcount_table_clusters: 0, nb_snapshots: 0, snapshots_offset: 0 }, \
+    base: V3HeaderBase { incompatible_features: 0, compatible_features: 0, autoclear_features: 0, \
+    refcount_order: 4, header_length: 104 }, unknown_header_fields: [], \
+    backing_filename: Some(\"a.img\"), extensions: [] }";
+
+fn keeps(alloc: Global, changes: Changes, expected: &str) -> Result<(), Fail> {
+    let header = load_with(alloc, changes, &[])?;
+    let found = printed(alloc, &header)?;
+    same(found.as_str(), expected, changes)
+}
+
 #[test]
-fn a_version_2_header_loads_as_if_nothing_came_after_byte_72(rt: HostRuntime) -> Result<(), Fail> {
-    let fields = V3HeaderBase::default();
-    let tail = format!(in rt.alloc();
-        "base: {fields:?}, unknown_header_fields: [], backing_filename: Some(\"a.img\"), extensions: [] }}"
-    )?;
-    for other in BEHIND_BYTE_72 {
-        let mut image = least_with(rt.alloc(), OLDER, other)?;
-        let header = load(rt.alloc(), &mut image, false)?;
-        let found = printed(rt.alloc(), &header)?;
-        holds(found.as_str().ends_with(tail.as_str()), *other)?;
-        let versions = (
-            header.require_version(2),
-            header.require_version(3),
-            header.refcount_order(),
-        );
-        same(versions, (Ok(()), Err(Fault::VersionNeeded), 4), *other)?;
+fn a_load_keeps_all_that_a_header_says(rt: HostRuntime) -> Result<(), Fail> {
+    for (changes, expected) in KEPT {
+        keeps(rt.alloc(), changes, expected)?;
     }
     Ok(())
 }
@@ -417,7 +440,7 @@ fn a_version_2_header_loads_as_if_nothing_came_after_byte_72(rt: HostRuntime) ->
 const NO_CHUNKS: Changes = &[(104, b"\x68\x03\xf8\x57\0\0\0\0")];
 
 // A feature's bit and its field, and the name that a header has for it, or the fault of the load.
-type Named = (FeatureType, u32, Result<Option<&'static str>, u32>);
+type Named = (FeatureType, u32, Result<Option<&'static str>, Fault>);
 
 // Changes to a header with a feature name table, and what it calls a feature.
 const CHUNKS: &[(Changes, Named)] = &[
@@ -451,14 +474,30 @@ const CHUNKS: &[(Changes, Named)] = &[
         (Autoclear, 1, Ok(Some("a"))),
     ),
     (&[(111, b"\x01\x03")], (Incompatible, 0, Ok(None))),
-    (&[(111, b"\x01\0")], (Incompatible, 0, Err(14))),
-    (&[(111, b"\x01\x01")], (Incompatible, 0, Err(14))),
-    (&[(111, b"\x01\x02")], (Incompatible, 0, Err(14))),
-    (&[(111, b"\x31")], (Incompatible, 0, Err(14))),
+    (
+        &[(111, b"\x01\0")],
+        (Incompatible, 0, Err(Fault::FeatureNameCut)),
+    ),
+    (
+        &[(111, b"\x01\x01")],
+        (Incompatible, 0, Err(Fault::FeatureNameCut)),
+    ),
+    (
+        &[(111, b"\x01\x02")],
+        (Incompatible, 0, Err(Fault::FeatureNameCut)),
+    ),
+    (
+        &[(111, b"\x31")],
+        (Incompatible, 0, Err(Fault::FeatureNameCut)),
+    ),
     (
         &[(111, b"\x31"), (160, &[9])],
         (Incompatible, 0, Ok(Some(""))),
     ),
+];
+
+// The same, with names that are cut or no text.
+const NAMES: &[(Changes, Named)] = &[
     // a name ends before its first zero byte, or with its chunk, even inside a character
     (&[(111, b"\x30\0\0a\0b")], (Incompatible, 0, Ok(Some("a")))),
     (&[(111, b"\x30\0\0\0a")], (Incompatible, 0, Ok(Some("")))),
@@ -524,26 +563,28 @@ const TABLES: Changes = &[
     (176, b"\x02\x01raw"),
 ];
 
-/// 46 times U+FFFD, which has three bytes.
-pub(crate) const REPLACED: &str = "\u{fffd}\u{fffd}\u{fffd}\u{fffd}\u{fffd}\u{fffd}\u{fffd}\u{fffd}\
-    \u{fffd}\u{fffd}\u{fffd}\u{fffd}\u{fffd}\u{fffd}\u{fffd}\u{fffd}\
-    \u{fffd}\u{fffd}\u{fffd}\u{fffd}\u{fffd}\u{fffd}\u{fffd}\u{fffd}\
-    \u{fffd}\u{fffd}\u{fffd}\u{fffd}\u{fffd}\u{fffd}\u{fffd}\u{fffd}\
-    \u{fffd}\u{fffd}\u{fffd}\u{fffd}\u{fffd}\u{fffd}\u{fffd}\u{fffd}\
-    \u{fffd}\u{fffd}\u{fffd}\u{fffd}\u{fffd}\u{fffd}";
+fn is_called(alloc: Global, changes: Changes, named: Named) -> Result<(), Fail> {
+    let (feature_type, bit, expected) = named;
+    let answer = load_with(alloc, NO_CHUNKS, changes);
+    let found = match &answer {
+        Ok(header) => Ok(called(header, feature_type, bit)),
+        Err(fault) => Err(*fault),
+    };
+    same(found, expected, (changes, feature_type, bit))
+}
 
 #[test]
 fn a_feature_is_called_by_the_last_chunk_of_the_first_table(rt: HostRuntime) -> Result<(), Fail> {
-    same(REPLACED.len(), 138, "length")?;
     for (changes, named) in CHUNKS {
-        let (feature_type, bit, expected) = *named;
-        let mut image = least_with(rt.alloc(), NO_CHUNKS, changes)?;
-        let answer = load(rt.alloc(), &mut image, false);
-        let found = match &answer {
-            Ok(header) => Ok(called(header, feature_type, bit)),
-            Err(fault) => Err(fault.number()),
-        };
-        same(found, expected, (*changes, feature_type, bit))?;
+        is_called(rt.alloc(), changes, *named)?;
+    }
+    Ok(())
+}
+
+#[test]
+fn a_feature_name_ends_with_its_chunk_and_is_made_text(rt: HostRuntime) -> Result<(), Fail> {
+    for (changes, named) in NAMES {
+        is_called(rt.alloc(), changes, *named)?;
     }
     Ok(())
 }

@@ -1,33 +1,67 @@
 //! Headers, and the bytes that a write of each places.
 
-use crate::fixtures::{Changes, LEAST, OLDER, change};
-use crate::header_calls::{called, load_of, new};
+use crate::fixtures::{Changes, OLDER};
 use crate::rich_header::RICH;
-use qcow2_base::{Fault, MemStorage};
-use qcow2_metadata::FeatureType::Incompatible;
-use qcow2_metadata::Header;
-use qcow2_testing::put_bytes;
-use std::alloc::Global;
 
-/// How a header is made.
-#[derive(Clone, Copy, Debug)]
-pub(crate) enum Origin {
-    /// New: cluster bits, and a backing file's name that is this text so many times.
-    New(u32, &'static str, usize),
-    /// New, with clusters of 65536 bytes: a backing file's name and its format, and a data file's name.
-    NewWithAll(&'static str, &'static str, &'static str),
-    /// Loaded from an image of zeros with these bytes.
-    Loaded(&'static [Changes]),
-}
+/// A backing file's name, which is a text so many times.
+pub(crate) type Repeated = (&'static str, usize);
 
-/// The first bytes of an image: how many they are, and which of them aren't zero.
-pub(crate) type Text = (usize, &'static [Changes]);
+/// A new header: cluster bits, the backing file's name, its format, and a data file's name.
+pub(crate) type New = (u32, Repeated, Option<&'static str>, Option<&'static str>);
 
-/// A header, what a write of it places, and what it calls the first incompatible feature then.
-pub(crate) type Written = (Origin, Text, Option<&'static str>);
+/// A new header, how many bytes a write of it places, and how they differ from the least header: with the
+/// names of features in it, or without.
+pub(crate) type NewWritten = (New, usize, Changes, bool);
 
-// The names of features in new headers.
-const KNOWN: Changes = &[
+/// New headers and their texts.
+pub(crate) const NEW: &[NewWritten] = &[
+    // a name of 8 bytes, which just fits besides the names of features, and one of 9, which doesn't
+    (
+        (9, ("base.img", 1), None, None),
+        512,
+        &[(14, &[1, 0xf8, 0, 0, 0, 8]), (504, b"base.img")],
+        true,
+    ),
+    (
+        (9, ("backing.1", 1), None, None),
+        121,
+        &[(15, &[112, 0, 0, 0, 9]), (112, b"backing.1")],
+        false,
+    ),
+    (
+        (16, ("base.img", 1), Some("qcow2"), Some("data.raw")),
+        544,
+        &[
+            (14, &[2, 0x18, 0, 0, 0, 8, 0, 0, 0, 16]),
+            (79, &[4]),
+            (496, b"\xe2\x79\x2a\xca\0\0\0\x05qcow2"),
+            (512, b"DATA\0\0\0\x08data.raw"),
+            (536, b"base.img"),
+        ],
+        true,
+    ),
+    // the longest name in clusters of 512 bytes, and the longest of all
+    (
+        (9, ("a", 400), None, None),
+        512,
+        &[(15, &[112, 0, 0, 1, 0x90]), (112, &[b'a'; 400])],
+        false,
+    ),
+    (
+        (16, ("a", 1023), None, None),
+        1527,
+        &[
+            (14, &[1, 0xf8, 0, 0, 3, 0xff, 0, 0, 0, 16]),
+            (504, &[b'a'; 1023]),
+        ],
+        true,
+    ),
+    // an empty name has a place too
+    ((9, ("", 1), None, None), 504, &[(14, &[1, 0xf8])], true),
+];
+
+/// The names of features in new headers.
+pub(crate) const KNOWN: Changes = &[
     (104, b"\x68\x03\xf8\x57\0\0\x01\x80"),
     (112, b"\0\0dirty"),
     (160, b"\0\x01corrupt"),
@@ -39,32 +73,9 @@ const KNOWN: Changes = &[
     (448, b"\x02\x01raw external data file"),
 ];
 
-/// A name of 8 bytes, which just fits besides the names of features.
-pub(crate) const BASE: Written = (
-    Origin::New(9, "base.img", 1),
-    (
-        512,
-        &[
-            LEAST,
-            KNOWN,
-            &[(14, &[1, 0xf8, 0, 0, 0, 8]), (504, b"base.img")],
-        ],
-    ),
-    Some("dirty"),
-);
-
-/// A name of 9 bytes, which doesn't.
-pub(crate) const BACKING: Written = (
-    Origin::New(9, "backing.1", 1),
-    (
-        121,
-        &[LEAST, &[(15, &[112, 0, 0, 0, 9]), (112, b"backing.1")]],
-    ),
-    None,
-);
-
-/// Each field, and each byte of it, has a place of its own.
-pub(crate) const FIELDS: Changes = &[
+/// What is written of the header with all that a header can have: names of features in whole chunks, and the
+/// backing file's name behind End.
+pub(crate) const RICH_WRITTEN: Changes = &[
     (0, b"\x51\x46\x49\xfb\0\0\0\x03"),
     (20, &[0, 0, 0, 9]),
     (24, &[1, 2, 3, 4, 5, 6, 7, 8]),
@@ -79,11 +90,6 @@ pub(crate) const FIELDS: Changes = &[
     (80, &[0x81, 0x82, 0x83, 0x84, 0x85, 0x86, 0x87, 0x88]),
     (88, &[0x91, 0x92, 0x93, 0x94, 0x95, 0x96, 0x97, 0x98]),
     (96, &[0, 0, 0, 5, 0, 0, 0, 104]),
-];
-
-/// What is written besides of the header with all that a header can have: names of features in whole chunks,
-/// and the backing file's name behind End.
-pub(crate) const RICH_PARTS: Changes = &[
     (14, &[1, 0x30, 0, 0, 0, 6]),
     (103, &[112, 0xa1, 0xa2, 0xa3, 0xa4, 0xa5, 0xa6, 0xa7, 0xa8]),
     (112, b"\xe2\x79\x2a\xca\0\0\0\x05qcow2"),
@@ -96,13 +102,6 @@ pub(crate) const RICH_PARTS: Changes = &[
     (304, b"\xc3\xa4.img"),
 ];
 
-/// The header with all that a header can have.
-pub(crate) const RICH_WRITTEN: Written = (
-    Origin::Loaded(&[RICH]),
-    (310, &[FIELDS, RICH_PARTS]),
-    Some("new"),
-);
-
 // Chunks that stand in no order, twice, with a type that isn't known, and cut.
 const CHUNKS: Changes = &[
     (104, b"\x68\x03\xf8\x57\0\0\0\xc4\x02\x01c"),
@@ -112,235 +111,179 @@ const CHUNKS: Changes = &[
     (304, b"\0\0a\0"),
 ];
 
-// Two tables with a name each, with an extension between them.
-const TWO_TABLES: Changes = &[
-    (104, b"\x68\x03\xf8\x57\0\0\0\x03\0\0a"),
-    (123, b"\x07"),
-    (128, b"\x68\x03\xf8\x57\0\0\0\x03\x01\x07b"),
-];
+/// Changes to the least header, how many bytes a write of it places, how they differ from the least header,
+/// and what the header calls the first incompatible feature then.
+pub(crate) type Written = (Changes, usize, Changes, Option<&'static str>);
 
-/// Headers and their texts.
-pub(crate) const WRITTEN: [Written; 20] = [
-    BASE,
-    BACKING,
-    (
-        Origin::NewWithAll("base.img", "qcow2", "data.raw"),
-        (
-            544,
-            &[
-                LEAST,
-                KNOWN,
-                &[
-                    (14, &[2, 0x18, 0, 0, 0, 8, 0, 0, 0, 16]),
-                    (79, &[4]),
-                    (496, b"\xe2\x79\x2a\xca\0\0\0\x05qcow2"),
-                    (512, b"DATA\0\0\0\x08data.raw"),
-                    (536, b"base.img"),
-                ],
-            ],
-        ),
-        Some("dirty"),
-    ),
-    // the longest name in clusters of 512 bytes, and the longest of all
-    (
-        Origin::New(9, "a", 400),
-        (
-            512,
-            &[LEAST, &[(15, &[112, 0, 0, 1, 0x90]), (112, &[b'a'; 400])]],
-        ),
-        None,
-    ),
-    (
-        Origin::New(16, "a", 1023),
-        (
-            1527,
-            &[
-                LEAST,
-                KNOWN,
-                &[
-                    (14, &[1, 0xf8, 0, 0, 3, 0xff, 0, 0, 0, 16]),
-                    (504, &[b'a'; 1023]),
-                ],
-            ],
-        ),
-        Some("dirty"),
-    ),
-    // an empty name has a place too, and no name has none
-    (
-        Origin::New(9, "", 1),
-        (504, &[LEAST, KNOWN, &[(14, &[1, 0xf8])]]),
-        Some("dirty"),
-    ),
-    (
-        Origin::Loaded(&[LEAST, &[(14, &[2, 0])]]),
-        (112, &[LEAST, &[(15, &[112])]]),
-        None,
-    ),
-    (
-        Origin::Loaded(&[LEAST, &[(16, &[0xff; 4])]]),
-        (112, &[LEAST]),
-        None,
-    ),
+/// Loaded headers and their texts.
+pub(crate) const LOADED: &[Written] = &[
+    // an empty name has a place, and no name has none
+    (&[(14, &[2, 0])], 112, &[(15, &[112])], None),
+    (&[(16, &[0xff; 4])], 112, &[], None),
     // a name that lay within the magic
     (
-        Origin::Loaded(&[LEAST, &[(15, &[1]), (19, &[2])]]),
-        (114, &[LEAST, &[(15, &[112, 0, 0, 0, 2]), (112, b"FI")]]),
+        &[(15, &[1]), (19, &[2])],
+        114,
+        &[(15, &[112, 0, 0, 0, 2]), (112, b"FI")],
         None,
     ),
     // unknown fields and their padding
+    (&[(103, &[105, 0xab])], 120, &[(103, &[112, 0xab])], None),
     (
-        Origin::Loaded(&[LEAST, &[(103, &[105, 0xab])]]),
-        (120, &[LEAST, &[(103, &[112, 0xab])]]),
-        None,
-    ),
-    (
-        Origin::Loaded(&[LEAST, &[(102, &[1, 0xf8, 0xab])]]),
-        (512, &[LEAST, &[(102, &[1, 0xf8, 0xab])]]),
+        &[(102, &[1, 0xf8, 0xab])],
+        512,
+        &[(102, &[1, 0xf8, 0xab])],
         None,
     ),
     // version 2, whatever stands behind its 72 bytes
     (
-        Origin::Loaded(&[LEAST, OLDER, &[(72, &[0xff; 440])]]),
-        (
-            85,
-            &[&[
-                (0, b"\x51\x46\x49\xfb\0\0\0\x02"),
-                (15, &[80, 0, 0, 0, 5, 0, 0, 0, 16]),
-                (80, b"a.img"),
-            ]],
-        ),
+        OLDER,
+        85,
+        &[
+            (7, &[2]),
+            (15, &[80, 0, 0, 0, 5, 0, 0, 0, 16]),
+            (80, b"a.img"),
+        ],
         None,
     ),
-    // each field has its place, and End loses its data
-    (
-        Origin::Loaded(&[FIELDS, &[(110, &[1, 0x90])]]),
-        (112, &[FIELDS]),
-        None,
-    ),
-    RICH_WRITTEN,
+    // all that a header can have
+    (RICH, 310, RICH_WRITTEN, Some("new")),
+    // End loses its data
+    (&[(110, &[1, 0x90])], 112, &[], None),
     // an extension of 5 bytes at an odd place
     (
-        Origin::Loaded(&[
-            LEAST,
-            &[(103, &[105]), (108, b"\x07\0\0\0\x05\xa1\xa2\xa3\xa4\xa5")],
-        ]),
-        (
-            136,
-            &[
-                LEAST,
-                &[(103, &[112]), (115, b"\x07\0\0\0\x05\xa1\xa2\xa3\xa4\xa5")],
-            ],
-        ),
+        &[(103, &[105]), (108, b"\x07\0\0\0\x05\xa1\xa2\xa3\xa4\xa5")],
+        136,
+        &[(103, &[112]), (115, b"\x07\0\0\0\x05\xa1\xa2\xa3\xa4\xa5")],
         None,
     ),
-    // no names of features, an empty one, and many
+    // a header that fills a cluster of 2 MiB
     (
-        Origin::Loaded(&[LEAST, &[(104, b"\x68\x03\xf8\x57")]]),
-        (120, &[LEAST, &[(104, b"\x68\x03\xf8\x57")]]),
-        None,
-    ),
-    (
-        Origin::Loaded(&[LEAST, &[(104, b"\x68\x03\xf8\x57\0\0\0\x02")]]),
-        (168, &[LEAST, &[(104, b"\x68\x03\xf8\x57\0\0\0\x30")]]),
-        Some(""),
-    ),
-    (
-        Origin::Loaded(&[LEAST, CHUNKS]),
-        (
-            264,
-            &[
-                LEAST,
-                &[
-                    (104, b"\x68\x03\xf8\x57\0\0\0\x90\0\0a"),
-                    (160, b"\0\x09b"),
-                    (208, b"\x02\x01c"),
-                ],
-            ],
-        ),
-        Some("a"),
-    ),
-    // two tables, which both stay where they just fit, and else both go
-    (
-        Origin::Loaded(&[
-            LEAST,
-            TWO_TABLES,
-            &[(15, &[152, 0, 0, 1, 0x18]), (152, &[b'n'; 280])],
-        ]),
-        (
-            512,
-            &[
-                LEAST,
-                &[
-                    (15, &[232, 0, 0, 1, 0x18]),
-                    (104, b"\x68\x03\xf8\x57\0\0\0\x30\0\0a"),
-                    (163, b"\x07"),
-                    (168, b"\x68\x03\xf8\x57\0\0\0\x30\x01\x07b"),
-                    (232, &[b'n'; 280]),
-                ],
-            ],
-        ),
-        Some("a"),
-    ),
-    (
-        Origin::Loaded(&[
-            LEAST,
-            TWO_TABLES,
-            &[(15, &[152, 0, 0, 1, 0x19]), (152, &[b'n'; 281])],
-        ]),
-        (
-            401,
-            &[
-                LEAST,
-                &[
-                    (15, &[120, 0, 0, 1, 0x19]),
-                    (107, b"\x07"),
-                    (120, &[b'n'; 281]),
-                ],
-            ],
-        ),
+        &[(23, &[21]), (101, &[0x1f, 0xff, 0xf8])],
+        2097152,
+        &[(23, &[21]), (101, &[0x1f, 0xff, 0xf8])],
         None,
     ),
 ];
 
-/// A header that is made.
-pub(crate) fn made(alloc: Global, origin: Origin) -> Result<Header, Fault> {
-    match origin {
-        Origin::New(cluster_bits, part, times) => {
-            let name = part.repeat(alloc, times)?;
-            new(alloc, cluster_bits, 4, (Some(name.as_str()), None, None))
-        }
-        Origin::NewWithAll(name, format, data_file) => {
-            new(alloc, 16, 4, (Some(name), Some(format), Some(data_file)))
-        }
-        Origin::Loaded(parts) => load_of(alloc, parts),
-    }
-}
+/// Loaded headers with names of features, and their texts.
+pub(crate) const NAMED: &[Written] = &[
+    // no names, an empty one, and many
+    (
+        &[(104, b"\x68\x03\xf8\x57")],
+        120,
+        &[(104, b"\x68\x03\xf8\x57")],
+        None,
+    ),
+    (
+        &[(104, b"\x68\x03\xf8\x57\0\0\0\x02")],
+        168,
+        &[(104, b"\x68\x03\xf8\x57\0\0\0\x30")],
+        Some(""),
+    ),
+    (
+        CHUNKS,
+        264,
+        &[
+            (104, b"\x68\x03\xf8\x57\0\0\0\x90\0\0a"),
+            (160, b"\0\x09b"),
+            (208, b"\x02\x01c"),
+        ],
+        Some("a"),
+    ),
+    // two tables, which both stay where they just fit, and else both go
+    (
+        &[
+            (15, &[152, 0, 0, 1, 0x18]),
+            (104, b"\x68\x03\xf8\x57\0\0\0\x03\0\0a"),
+            (123, b"\x07"),
+            (128, b"\x68\x03\xf8\x57\0\0\0\x03\x01\x07b"),
+        ],
+        512,
+        &[
+            (15, &[232, 0, 0, 1, 0x18]),
+            (104, b"\x68\x03\xf8\x57\0\0\0\x30\0\0a"),
+            (163, b"\x07"),
+            (168, b"\x68\x03\xf8\x57\0\0\0\x30\x01\x07b"),
+        ],
+        Some("a"),
+    ),
+    (
+        &[
+            (15, &[152, 0, 0, 1, 0x19]),
+            (104, b"\x68\x03\xf8\x57\0\0\0\x03\0\0a"),
+            (123, b"\x07"),
+            (128, b"\x68\x03\xf8\x57\0\0\0\x03\x01\x07b"),
+        ],
+        401,
+        &[(15, &[120, 0, 0, 1, 0x19]), (107, b"\x07")],
+        None,
+    ),
+];
 
-/// The image with a text over its first bytes.
-pub(crate) fn with_text(
-    alloc: Global,
-    mut image: MemStorage,
-    text: Text,
-) -> Result<MemStorage, Fault> {
-    let (len, parts) = text;
-    if len >= 1 << 32 {
-        return Err(Fault::HeaderTooLong);
-    }
-    let zeros = vec![in alloc; 0; len]?;
-    put_bytes(&mut image, 0, &zeros)?;
-    for changes in parts {
-        change(&mut image, changes)?;
-    }
-    Ok(image)
-}
+/// The bytes of a feature's name, what the feature is called when they are loaded, the bytes that are written
+/// then, and what it is called from the next load on. A feature name table has place for 46 bytes of a name.
+pub(crate) type Cut = (&'static [u8], &'static str, &'static [u8], &'static str);
 
-/// What a header calls the first incompatible feature.
-pub(crate) fn dirty(header: &Header) -> Option<&str> {
-    called(header, Incompatible, 0)
-}
+/// Names that are cut when they are written.
+pub(crate) const CUT: &[Cut] = &[
+    (
+        &[0xff; 46],
+        REPLACED,
+        b"\xef\xbf\xbd\xef\xbf\xbd\xef\xbf\xbd\xef\xbf\xbd\xef\xbf\xbd\
+            \xef\xbf\xbd\xef\xbf\xbd\xef\xbf\xbd\xef\xbf\xbd\xef\xbf\xbd\
+            \xef\xbf\xbd\xef\xbf\xbd\xef\xbf\xbd\xef\xbf\xbd\xef\xbf\xbd\xef",
+        REPLACED_AGAIN,
+    ),
+    // 48, 47 and 46 bytes of text, of which 46 are written
+    (
+        b"0123456789abcdefghijklmnopqrstuvwxyzABCDEFGHI\xff",
+        "0123456789abcdefghijklmnopqrstuvwxyzABCDEFGHI\u{fffd}",
+        b"0123456789abcdefghijklmnopqrstuvwxyzABCDEFGHI\xef",
+        "0123456789abcdefghijklmnopqrstuvwxyzABCDEFGHI\u{fffd}",
+    ),
+    (
+        b"0123456789abcdefghijklmnopqrstuvwxyzABCDEFGH\xff",
+        "0123456789abcdefghijklmnopqrstuvwxyzABCDEFGH\u{fffd}",
+        b"0123456789abcdefghijklmnopqrstuvwxyzABCDEFGH\xef\xbf",
+        "0123456789abcdefghijklmnopqrstuvwxyzABCDEFGH\u{fffd}",
+    ),
+    (
+        b"0123456789abcdefghijklmnopqrstuvwxyzABCDEFG\xff",
+        "0123456789abcdefghijklmnopqrstuvwxyzABCDEFG\u{fffd}",
+        b"0123456789abcdefghijklmnopqrstuvwxyzABCDEFG\xef\xbf\xbd",
+        "0123456789abcdefghijklmnopqrstuvwxyzABCDEFG\u{fffd}",
+    ),
+    // a character that was cut, and text of 46 bytes
+    (
+        b"0123456789abcdefghijklmnopqrstuvwxyzABCDEFGHI\xc3",
+        "0123456789abcdefghijklmnopqrstuvwxyzABCDEFGHI\u{fffd}",
+        b"0123456789abcdefghijklmnopqrstuvwxyzABCDEFGHI\xef",
+        "0123456789abcdefghijklmnopqrstuvwxyzABCDEFGHI\u{fffd}",
+    ),
+    (
+        b"0123456789abcdefghijklmnopqrstuvwxyzABCDEFGHIJ",
+        "0123456789abcdefghijklmnopqrstuvwxyzABCDEFGHIJ",
+        b"0123456789abcdefghijklmnopqrstuvwxyzABCDEFGHIJ",
+        "0123456789abcdefghijklmnopqrstuvwxyzABCDEFGHIJ",
+    ),
+    // what stands behind a zero byte goes
+    (
+        b"a\0b",
+        "a",
+        b"a\0\0\0\0\0\0\0\0\0\0\0\0\0\0\0\0\0\0\0\0\0\0\
+            \0\0\0\0\0\0\0\0\0\0\0\0\0\0\0\0\0\0\0\0\0\0\0",
+        "a",
+    ),
+];
 
-/// What the text of a header, as it prints itself, tells of its two fixed parts.
-pub(crate) fn fixed_parts(printed: &str) -> Option<&str> {
-    let (parts, _) = printed.split_once("unknown_header_fields")?;
-    Some(parts)
-}
+// 46 and 16 times U+FFFD, which has three bytes.
+pub(crate) const REPLACED: &str = "\u{fffd}\u{fffd}\u{fffd}\u{fffd}\u{fffd}\u{fffd}\u{fffd}\u{fffd}\
+    \u{fffd}\u{fffd}\u{fffd}\u{fffd}\u{fffd}\u{fffd}\u{fffd}\u{fffd}\
+    \u{fffd}\u{fffd}\u{fffd}\u{fffd}\u{fffd}\u{fffd}\u{fffd}\u{fffd}\
+    \u{fffd}\u{fffd}\u{fffd}\u{fffd}\u{fffd}\u{fffd}\u{fffd}\u{fffd}\
+    \u{fffd}\u{fffd}\u{fffd}\u{fffd}\u{fffd}\u{fffd}\u{fffd}\u{fffd}\
+    \u{fffd}\u{fffd}\u{fffd}\u{fffd}\u{fffd}\u{fffd}";
+
+const REPLACED_AGAIN: &str = "\u{fffd}\u{fffd}\u{fffd}\u{fffd}\u{fffd}\u{fffd}\u{fffd}\u{fffd}\
+    \u{fffd}\u{fffd}\u{fffd}\u{fffd}\u{fffd}\u{fffd}\u{fffd}\u{fffd}";

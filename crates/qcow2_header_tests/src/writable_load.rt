@@ -1,102 +1,85 @@
 //! Loads of an image that is to be changed: autoclear features are cleared, by a write of the whole header.
 
-use crate::fixtures::{Changes, LEAST, OLDER, image_of};
-use crate::header_calls::load;
-use crate::header_load::{BROKEN, names};
-use crate::header_texts::{FIELDS, RICH_PARTS, Text, dirty, with_text};
+use crate::fixtures::{Changes, OLDER, filled_with, text_of};
+use crate::header_calls::{load, names};
+use crate::header_texts::RICH_WRITTEN;
 use crate::rich_header::RICH;
-use qcow2_base::{Fault, FileStorage, MemStorage};
-use qcow2_metadata::Header;
+use qcow2_base::{Fault, FileStorage, MemStorage, Storage};
 use qcow2_testing::{
-    FailingStorage, StorageCall, filled_image, holds, printed, same, same_bytes, temporary_file,
+    FailingStorage, StorageCall, holds, printed, put_bytes, same, same_bytes, temporary_file,
 };
 use std::alloc::Global;
 use std::fs;
 use std::test::Fail;
 
-/// What an image begins with, what is written where its autoclear features are cleared, and then the backing
-/// file's name and what the first incompatible feature is called.
-pub(crate) type Cleared = (Text, Text, Option<&'static str>, Option<&'static str>);
+// What a load answers: the backing file's name or the fault.
+type Finding<'a> = Result<Option<&'a str>, Fault>;
 
-// The autoclear feature that is bit 0.
-const BITMAPS: Changes = &[(95, &[1])];
+// An image of 2048 bytes that begins with the least header and these changes, of which so many bytes count.
+fn image_with(alloc: Global, changes: Changes, len: usize) -> Result<MemStorage, Fault> {
+    let text = text_of(alloc, changes, &[], len)?;
+    filled_with(alloc, 2048, &text)
+}
 
-/// The least header.
-pub(crate) const LEAST_CLEARED: Cleared = ((112, &[LEAST, BITMAPS]), (112, &[LEAST]), None, None);
+// What a load for writing answers.
+fn answers<S: Storage>(
+    alloc: Global,
+    image: &mut S,
+    expected: Finding<'static>,
+) -> Result<(), Fail> {
+    let answer = load(alloc, image, true);
+    let found = match &answer {
+        Ok(header) => Ok(names(header).0),
+        Err(fault) => Err(*fault),
+    };
+    same(found, expected, expected)
+}
 
-/// The header with all that a header can have.
-pub(crate) const RICH_CLEARED: Cleared = (
-    (366, &[RICH]),
-    (310, &[FIELDS, RICH_PARTS, &[(88, &[0; 8])]]),
-    Some("\u{e4}.img"),
-    Some("new"),
-);
-
-/// A header whose names of features take more place when they are written, and then don't fit.
-pub(crate) const NAMED_CLEARED: Cleared = (
+// Autoclear features and other changes to the least header, in so many bytes, the text that is written, and
+// the backing file's name.
+const CLEARED: &[(Changes, usize, usize, Changes, Option<&'static str>)] = &[
+    (&[(95, &[1])], 112, 112, &[], None),
+    // names of features that take more place when they are written, and then don't fit
     (
-        512,
         &[
-            LEAST,
-            BITMAPS,
-            &[
-                (104, b"\x68\x03\xf8\x57\0\0\0\x03\0\0d"),
-                (120, b"\0\0\0\x07\0\0\x01\x78"),
-            ],
+            (95, &[1]),
+            (104, b"\x68\x03\xf8\x57\0\0\0\x03\0\0d"),
+            (120, b"\0\0\0\x07\0\0\x01\x78"),
         ],
+        512,
+        496,
+        &[(104, b"\0\0\0\x07\0\0\x01\x78")],
+        None,
     ),
-    (496, &[LEAST, &[(104, b"\0\0\0\x07\0\0\x01\x78")]]),
-    None,
-    None,
-);
-
-const CLEARED: &[Cleared] = &[
-    LEAST_CLEARED,
-    RICH_CLEARED,
-    NAMED_CLEARED,
     // the highest feature, and all
-    (
-        (512, &[LEAST, &[(88, &[0x80])]]),
-        (112, &[LEAST]),
-        None,
-        None,
-    ),
-    (
-        (512, &[LEAST, &[(88, &[0xff; 8])]]),
-        (112, &[LEAST]),
-        None,
-        None,
-    ),
+    (&[(88, &[0x80])], 512, 112, &[], None),
+    (&[(88, &[0xff; 8])], 512, 112, &[], None),
     // a header of 105 bytes
     (
-        (113, &[LEAST, BITMAPS, &[(103, &[105, 0xab])]]),
-        (120, &[LEAST, &[(103, &[112, 0xab])]]),
-        None,
+        &[(95, &[1]), (103, &[105, 0xab])],
+        113,
+        120,
+        &[(103, &[112, 0xab])],
         None,
     ),
     // a name that lies within the magic, and a length without a name
     (
-        (112, &[LEAST, BITMAPS, &[(15, &[1]), (19, &[2])]]),
-        (114, &[LEAST, &[(15, &[112, 0, 0, 0, 2]), (112, b"FI")]]),
+        &[(95, &[1]), (15, &[1]), (19, &[2])],
+        112,
+        114,
+        &[(15, &[112, 0, 0, 0, 2]), (112, b"FI")],
         Some("FI"),
-        None,
     ),
-    (
-        (112, &[LEAST, BITMAPS, &[(16, &[0xff; 4])]]),
-        (112, &[LEAST]),
-        None,
-        None,
-    ),
+    (&[(95, &[1]), (16, &[0xff; 4])], 112, 112, &[], None),
 ];
 
-/// An image of 0xa5 that begins with the header.
-pub(crate) fn with_features(alloc: Global, row: Cleared) -> Result<MemStorage, Fault> {
-    with_text(alloc, filled_image(alloc, 2048)?, row.0)
-}
-
-/// The same image when its autoclear features are cleared.
-pub(crate) fn without_features(alloc: Global, row: Cleared) -> Result<MemStorage, Fault> {
-    with_text(alloc, with_features(alloc, row)?, row.1)
+// Fails unless the calls are two that read, and then one that writes so many bytes.
+fn are_two_reads_and_a_write(calls: &[StorageCall], len: usize) -> Result<(), Fail> {
+    let write = StorageCall::Write { offset: 0, len };
+    let reads = calls.split_last().map(|(_, reads)| reads);
+    same(calls.last(), Some(&write), len)?;
+    same(calls.len(), 3, len)?;
+    holds(are_reads(reads.unwrap_or(&[])), len)
 }
 
 // Whether there is no write among the calls.
@@ -106,132 +89,98 @@ fn are_reads(calls: &[StorageCall]) -> bool {
         .all(|call| matches!(call, StorageCall::Read { .. }))
 }
 
-// Fails unless a writable load clears the features by one write of the header.
-fn clears(alloc: Global, row: Cleared) -> Result<(), Fail> {
-    let mut image = FailingStorage::new(alloc, with_features(alloc, row)?);
-    let header = load(alloc, &mut image, true)?;
-    let cleared = without_features(alloc, row)?;
-    same_bytes(image.inner().bytes(), cleared.bytes(), row)?;
-    let (last, others) = image.calls().split_last().unzip();
-    let write = StorageCall::Write {
-        offset: 0,
-        len: row.1.0,
-    };
-    same(last, Some(&write), row)?;
-    holds(are_reads(others.unwrap_or(&[])), row)?;
-    same((names(&header).0, dirty(&header)), (row.2, row.3), row)?;
-    let found = printed(alloc, &header)?;
-    holds(found.as_str().contains("autoclear_features: 0,"), row)
-}
-
 #[test]
-fn a_writable_load_clears_autoclear_features_of_a_file(rt: HostRuntime) -> Result<(), Fail> {
-    let begun = with_features(rt.alloc(), RICH_CLEARED)?;
-    let file = temporary_file(&rt, "autoclear-features", begun.bytes())?;
-    let mut image = FileStorage::open(&rt, file.path.as_str(), true)?;
-    let header = load(rt.alloc(), &mut image, true)?;
-    same(names(&header).0, RICH_CLEARED.2, "name")?;
-    let cleared = without_features(rt.alloc(), RICH_CLEARED)?;
-    let found = fs::read(&rt, file.path.as_str())?;
-    same_bytes(found.as_slice(), cleared.bytes(), "file")
+fn a_load_for_writing_clears_autoclear_features_by_one_write(rt: HostRuntime) -> Result<(), Fail> {
+    for row in CLEARED {
+        let (changes, begun, len, text, name) = *row;
+        let image = image_with(rt.alloc(), changes, begun)?;
+        clears(
+            rt.alloc(),
+            image,
+            &text_of(rt.alloc(), text, &[], len)?,
+            name,
+        )?;
+    }
+    Ok(())
 }
 
-// What a load answers: the backing file's name, or the number of the fault.
-type Finding<'a> = Result<Option<&'a str>, u32>;
-
-// Fails unless a load of these bytes answers this, and only reads.
-fn reads_only(
+// Fails unless a load for writing places the text in the image, and answers the name.
+fn clears(
     alloc: Global,
-    bytes: &[u8],
-    writable: bool,
-    expected: Finding<'static>,
+    image: MemStorage,
+    text: &[u8],
+    name: Option<&'static str>,
 ) -> Result<(), Fail> {
-    let image = MemStorage::new(Vec::from_slice(alloc, bytes)?);
+    let mut expected = MemStorage::new(Vec::from_slice(alloc, image.bytes())?);
+    put_bytes(&mut expected, 0, text)?;
     let mut image = FailingStorage::new(alloc, image);
-    let answer = load(alloc, &mut image, writable);
-    let found = match &answer {
-        Ok(header) => Ok(names(header).0),
-        Err(fault) => Err(fault.number()),
-    };
-    same(found, expected, writable)?;
-    holds(are_reads(image.calls()), expected)?;
-    same_bytes(image.inner().bytes(), bytes, expected)
+    answers(alloc, &mut image, Ok(name))?;
+    are_two_reads_and_a_write(image.calls(), text.len())?;
+    same_bytes(image.inner().bytes(), expected.bytes(), text.len())
 }
 
-// Fails unless a load changes nothing where it may not, and where there is no feature to clear.
-fn leaves(alloc: Global, row: Cleared) -> Result<(), Fail> {
-    let image = with_features(alloc, row)?;
-    reads_only(alloc, image.bytes(), false, Ok(row.2))?;
-    let cleared = without_features(alloc, row)?;
-    reads_only(alloc, cleared.bytes(), true, Ok(row.2))
-}
-
-// 400 unknown bytes, and a name within the magic: behind End there is no place for it.
-const FULL: Changes = &[(102, &[1, 0xf8]), (15, &[1]), (19, &[2])];
-
-// Headers without autoclear features, and the backing file's name of each.
-const NOT_CLEARED: &[(&'static [Changes], Option<&'static str>)] = &[
+// Changes to the least header, in so many bytes, and what a load for writing answers, which writes nothing.
+const LEFT: &[(Changes, usize, Finding<'static>)] = &[
     // other features, and a header that can't be written
-    (&[LEAST, &[(80, &[0xff; 8])]], None),
-    (&[LEAST, FULL], Some("FI")),
-    (&[RICH, &[(88, &[0; 8])]], Some("\u{e4}.img")),
+    (&[(80, &[0xff; 8])], 112, Ok(None)),
+    (
+        &[(102, &[1, 0xf8]), (15, &[1]), (19, &[2])],
+        512,
+        Ok(Some("FI")),
+    ),
     // version 2 has no features, whatever stands in their place
-    (&[LEAST, OLDER, &[(72, &[0xff; 440])]], Some("a.img")),
+    (OLDER, 517, Ok(Some("a.img"))),
+    (
+        &[
+            (7, &[2]),
+            (14, &[2, 0]),
+            (19, &[5]),
+            (23, &[16]),
+            (72, &[0xff; 32]),
+            (512, b"a.img"),
+        ],
+        517,
+        Ok(Some("a.img")),
+    ),
+    // what is refused, for the header or for its length
+    (&[(79, &[2]), (95, &[1])], 112, Err(Fault::Incompatible(2))),
+    (
+        &[(95, &[1]), (102, &[1, 0xf8]), (15, &[1]), (19, &[2])],
+        512,
+        Err(Fault::HeaderTooLong),
+    ),
 ];
 
 #[test]
-fn a_writable_load_without_autoclear_features_changes_no_byte(rt: HostRuntime) -> Result<(), Fail> {
-    for row in NOT_CLEARED {
-        let (header, name) = *row;
-        let image = with_text(rt.alloc(), filled_image(rt.alloc(), 2048)?, (517, header))?;
-        reads_only(rt.alloc(), image.bytes(), true, Ok(name))?;
-    }
-    Ok(())
-}
-
-#[test]
-fn a_refused_writable_load_changes_no_byte(rt: HostRuntime) -> Result<(), Fail> {
-    for row in BROKEN {
-        let (changes, number) = *row;
-        let mut image = image_of(rt.alloc(), &[LEAST, BITMAPS, changes])?;
-        reads_only(rt.alloc(), image.bytes(), true, Err(number))?;
-        if number == 17 {
-            let answer = load(rt.alloc(), &mut image, true);
-            same(answer.err(), Some(Fault::Incompatible(2)), number)?;
-        }
-    }
-    let image = image_of(rt.alloc(), &[LEAST, BITMAPS, FULL])?;
-    reads_only(rt.alloc(), image.bytes(), false, Ok(Some("FI")))?;
-    reads_only(rt.alloc(), image.bytes(), true, Err(24))
-}
-
-// Lets each call of a writable load fail in turn.
-fn clears_after_failures(alloc: Global, row: Cleared) -> Result<(), Fail> {
-    let mut image = FailingStorage::new(alloc, with_features(alloc, row)?);
-    let before = with_features(alloc, row)?;
-    // One call reads the fixed parts, one the rest of the cluster, and one writes.
-    for passes in 0..3u64 {
-        image.fail_after(passes);
-        let answer = load(alloc, &mut image, true);
-        same(answer.err(), Some(Fault::Storage), (row, passes))?;
-        same(image.failures(), passes + 1, (row, passes))?;
-        same_bytes(image.inner().bytes(), before.bytes(), (row, passes))?;
-    }
-    image.fail_after(3);
-    let header = load(alloc, &mut image, true)?;
-    same((names(&header).0, dirty(&header)), (row.2, row.3), row)?;
-    let cleared = without_features(alloc, row)?;
-    same_bytes(image.inner().bytes(), cleared.bytes(), row)
-}
-
-#[test]
-fn a_writable_load_clears_autoclear_features_by_one_write_also_after_a_failed_storage(
+fn a_load_for_writing_without_autoclear_features_or_refused_only_reads(
     rt: HostRuntime,
 ) -> Result<(), Fail> {
-    for row in CLEARED {
-        leaves(rt.alloc(), *row)?;
-        clears(rt.alloc(), *row)?;
-        clears_after_failures(rt.alloc(), *row)?;
+    for row in LEFT {
+        let (changes, len, expected) = *row;
+        let image = image_with(rt.alloc(), changes, len)?;
+        let mut image = FailingStorage::new(rt.alloc(), image);
+        answers(rt.alloc(), &mut image, expected)?;
+        holds(are_reads(image.calls()), row)?;
     }
     Ok(())
+}
+
+// Fails unless a load of the file for writing answers a header without autoclear features.
+fn loads_file(rt: &HostRuntime, path: &str) -> Result<(), Fail> {
+    let mut image = FileStorage::open(rt, path, true)?;
+    let header = load(rt.alloc(), &mut image, true)?;
+    let text = printed(rt.alloc(), &header)?;
+    holds(text.as_str().contains("autoclear_features: 0,"), "header")
+}
+
+#[test]
+fn a_load_for_writing_clears_autoclear_features_of_a_file(rt: HostRuntime) -> Result<(), Fail> {
+    let begun = text_of(rt.alloc(), RICH, &[], 400)?;
+    let file = temporary_file(&rt, "autoclear-features", &begun)?;
+    loads_file(&rt, file.path.as_str())?;
+    let mut expected = MemStorage::new(begun);
+    let text = text_of(rt.alloc(), RICH_WRITTEN, &[(88, &[0; 8])], 310)?;
+    put_bytes(&mut expected, 0, &text)?;
+    let found = fs::read(&rt, file.path.as_str())?;
+    same_bytes(found.as_slice(), expected.bytes(), "file")
 }

@@ -86,24 +86,12 @@ fn a_write_to_a_file_stands_at_its_offset(rt: HostRuntime) -> Result<(), Fail> {
 }
 
 #[test]
-fn an_empty_write_leaves_a_file_as_it_is(rt: HostRuntime) -> Result<(), Fail> {
-    let file = temporary_file(&rt, "empty-write", &[1, 2, 3])?;
-    for writable in [true, false] {
-        let mut storage = FileStorage::open(&rt, file.path.as_str(), writable)?;
-        for offset in [0, 2, 3, 900, LIMIT] {
-            storage.write(&[], offset)?;
-        }
-        file_holds(&rt, file.path.as_str(), &[1, 2, 3], writable)?;
-    }
-    Ok(())
-}
-
-#[test]
-fn a_file_opened_for_reading_refuses_a_write(rt: HostRuntime) -> Result<(), Fail> {
+fn a_file_opened_for_reading_refuses_a_write_that_has_bytes(rt: HostRuntime) -> Result<(), Fail> {
     let file = temporary_file(&rt, "read-only", &[1, 2, 3])?;
     let mut storage = FileStorage::open(&rt, file.path.as_str(), false)?;
     write_fails(rt.alloc(), &mut storage, 1, 1)?;
     write_fails(rt.alloc(), &mut storage, 1, 2)?;
+    storage.write(&[], 900)?;
     reads(rt.alloc(), &mut storage, 0, &[1, 2, 3, 0])?;
     has_failed(rt.alloc(), &storage, 2)
 }
@@ -168,20 +156,25 @@ fn a_read_fails_where_one_call_of_the_file_does(rt: HostRuntime) -> Result<(), F
     Ok(())
 }
 
+// Fails unless a write fails by this call of the file and leaves the bytes around it, and the next one
+// makes it good.
+fn write_fails_by(rt: &HostRuntime, path: &str, passes: u64) -> Result<(), Fail> {
+    let mut storage = faulty(rt, path, Some(passes), 2, u64::MAX)?;
+    write_fails(rt.alloc(), &mut storage, 1, 1)?;
+    let bytes = fs::read(rt, path)?;
+    let found = (bytes.len(), bytes.first().copied(), bytes.last().copied());
+    same(found, (6, Some(1), Some(6)), passes)?;
+    storage.write(&[9, 9, 9, 9], 1)?;
+    file_holds(rt, path, &[1, 9, 9, 9, 9, 6], passes)
+}
+
 // A write of four bytes, two at a time, asks a file four times: for a place, twice to take bytes,
 // and to pass them on.
 #[test]
 fn a_write_fails_where_one_call_of_the_file_does(rt: HostRuntime) -> Result<(), Fail> {
     for passes in 1..5 {
         let file = temporary_file(&rt, "failed-write", &[1, 2, 3, 4, 5, 6])?;
-        let path = file.path.as_str();
-        let mut storage = faulty(&rt, path, Some(passes), 2, u64::MAX)?;
-        write_fails(rt.alloc(), &mut storage, 1, 1)?;
-        let bytes = fs::read(&rt, path)?;
-        let found = (bytes.len(), bytes.first().copied(), bytes.last().copied());
-        same(found, (6, Some(1), Some(6)), passes)?;
-        storage.write(&[9, 9, 9, 9], 1)?;
-        file_holds(&rt, path, &[1, 9, 9, 9, 9, 6], passes)?;
+        write_fails_by(&rt, file.path.as_str(), passes)?;
     }
     Ok(())
 }
