@@ -2,13 +2,16 @@
 
 use super::{Each, Images, NO_IMAGES, Run};
 use qcow2_base::{Fault, HostCluster, MemStorage, Storage};
-use qcow2_metadata::{Header, L1Table, L2Table, RefBlock, RefTable, Table, TableEntry};
+use qcow2_metadata::{
+    Header, HeaderExtension, L1Table, L2Table, RefBlock, RefTable, Table, TableEntry,
+};
 use qcow2_testing::image_with;
 use std::alloc::Global;
 
 #[derive(Clone, Copy, Debug)]
 enum Copies {
     NewHeader,
+    Extension,
     ClearedTable,
     ClearedBlock,
     Clone,
@@ -20,6 +23,7 @@ enum Copies {
 #[derive(Drop)]
 struct Sources {
     header: Header,
+    extension: HeaderExtension,
     l1_table: L1Table,
     l2_table: L2Table,
     reftable: RefTable,
@@ -29,6 +33,7 @@ struct Sources {
 #[derive(Drop)]
 enum Made {
     Header(Header),
+    Extension(HeaderExtension),
     L1Table(L1Table),
     L2Table(L2Table),
     Reftable(RefTable),
@@ -46,6 +51,7 @@ impl Run for Copies {
     fn name(&self) -> (&'static str, &'static str) {
         match *self {
             Copies::NewHeader => ("Header::new", "with three names"),
+            Copies::Extension => ("HeaderExtension::clone", "of a name"),
             Copies::ClearedTable => ("new_cleared", "L2 table"),
             Copies::ClearedBlock => ("new_cleared", "refcount block"),
             Copies::Clone => ("try_clone", "L2 table"),
@@ -67,6 +73,7 @@ impl Run for Copies {
             l2_table: L2Table::load(alloc, &mut image, &header, CLUSTER, entries)?,
             reftable: RefTable::load(alloc, &mut image, &header, CLUSTER, entries)?,
             header,
+            extension: HeaderExtension::BackingFileFormat(String::from_str(alloc, "qcow2")?),
             made: None,
         })
     }
@@ -79,6 +86,7 @@ impl Run for Copies {
     ) -> Result<(), Fault> {
         begun.made = Some(match *self {
             Copies::NewHeader => Made::Header(new_header(alloc)?),
+            Copies::Extension => Made::Extension(begun.extension.clone()?),
             Copies::ClearedTable => Made::L2Table(L2Table::new_cleared(alloc, &begun.header)?),
             Copies::ClearedBlock => Made::Block(cleared_block(alloc, &begun.header)?),
             Copies::Clone => Made::L2Table(begun.l2_table.try_clone()?),
@@ -92,6 +100,7 @@ impl Run for Copies {
         says(&begun.l1_table, 64, Some(CLUSTER), false)
             && says(&begun.l2_table, 64, Some(CLUSTER), false)
             && says(&begun.reftable, 64, Some(CLUSTER), false)
+            && is_format(&begun.extension)
             && match &begun.made {
                 None => answer.is_err(),
                 Some(made) => answer.is_ok() && self.is_made(made),
@@ -104,6 +113,7 @@ impl Copies {
     fn is_made(&self, made: &Made) -> bool {
         match (*self, made) {
             (Copies::NewHeader, Made::Header(header)) => has_names(header),
+            (Copies::Extension, Made::Extension(extension)) => is_format(extension),
             (Copies::ClearedTable, Made::L2Table(table)) => {
                 table.entries() == 64 && table.get(3).to_plain() == 0
             }
@@ -148,6 +158,13 @@ fn is(name: Option<&String>, text: &str) -> bool {
     name.map(|name| name.as_str()) == Some(text)
 }
 
+fn is_format(extension: &HeaderExtension) -> bool {
+    match extension {
+        HeaderExtension::BackingFileFormat(format) => format.as_str() == "qcow2",
+        _ => false,
+    }
+}
+
 fn cleared_block(alloc: Global, header: &Header) -> Result<RefBlock, Fault> {
     RefBlock::new_cleared(alloc, &MemStorage::new(Vec::new(alloc)), header)
 }
@@ -169,6 +186,7 @@ fn grow_reftable(sources: &Sources) -> Result<RefTable, Fault> {
 pub(super) fn take_each<E: Each>(each: &mut E) {
     for run in [
         Copies::NewHeader,
+        Copies::Extension,
         Copies::ClearedTable,
         Copies::ClearedBlock,
         Copies::Clone,
