@@ -308,7 +308,8 @@ fn integers_stand_in_the_order_asked_for_and_need_just_their_bytes() -> Result<(
     let big = [1, 2, 3, 4, 5, 6, 7, 8];
     each_call(0x0102_0304_0506_0708u64, &little, &big, 0)?;
     refuse(0x0102u16, 3)?;
-    refuse(0x0102_0304u32, 5)?;
+    refuse(42u32, 3)?;
+    refuse(42u32, 5)?;
     refuse(0x0102_0304_0506_0708u64, 9)
 }
 

@@ -57,6 +57,8 @@ fn an_offset_has_its_place_in_a_cluster_and_in_the_tables(rt: HostRuntime) -> Re
 // An offset and the cluster bits, the cluster that starts there, and how many clusters it takes to there.
 const STARTS: &[(u64, u32, Option<u64>, u64)] = &[
     (0, 9, Some(0), 0),
+    (513, 9, None, 2),
+    (1024, 9, Some(2), 2),
     (1536, 9, Some(3), 3),
     (1543, 9, None, 4),
     (LAST - 2097151, 21, Some(8796093022207), 8796093022207),
@@ -86,6 +88,8 @@ fn only_a_cluster_s_start_is_a_checked_cluster_or_count(rt: HostRuntime) -> Resu
 // A cluster and the cluster bits, its places in the L1 and the L2 table, and the next cluster.
 const CLUSTERS: &[(u64, u32, usize, usize, Option<u64>)] = &[
     (0, 21, 0, 0, Some(1)),
+    (62, 9, 0, 62, Some(63)),
+    (63, 9, 0, 63, None),
     (126, 9, 1, 62, Some(127)),
     (127, 9, 1, 63, None),
     (8192, 16, 1, 0, Some(8193)),

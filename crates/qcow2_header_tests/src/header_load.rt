@@ -222,6 +222,10 @@ const BACKING_NAMES: &[Loaded] = &[
         &[(15, &[1]), (19, &[2])],
         Ok((Some("FI"), None, None, false)),
     ),
+    (
+        &[(15, &[1]), (19, &[2]), (95, &[1]), (102, &[1, 0xf8])],
+        Ok((Some("FI"), None, None, false)),
+    ),
     (&[(8, &[0xff; 8]), (19, &[1])], Err(Fault::BackingNamePlace)),
     (&[(8, &[0xff; 8])], Err(Fault::BackingNamePlace)),
     (&[(8, &[0xff; 8]), (18, &[4])], Err(Fault::BackingNameLong)),

@@ -42,6 +42,11 @@ const MOVED: Changes = &[
 
 // Changes to the least header that leave two that agree in all but what is taken over.
 const AGREEING: &[(Changes, Changes)] = &[
+    // a disk of 32768 bytes becomes one of 65536, its L1 table one of 2 entries
+    (
+        &[(30, &[0x80]), (39, &[1]), (46, &[2])],
+        &[(29, &[1]), (39, &[2]), (46, &[2])],
+    ),
     (SMALL, SMALL),
     (SMALL, GROWN),
     (&[], MOVED),
@@ -107,6 +112,11 @@ fn a_header_becomes_one_that_agrees_with_it(rt: HostRuntime) -> Result<(), Fail>
 const DIFFERING: &[(Changes, Changes, Field)] = &[
     (&[], &[(7, &[2]), (107, &[7])], Field::Version),
     (&[], &[(15, &[0x70]), (107, &[7])], Field::BackingOffset),
+    (
+        &[],
+        &[(15, &[0x70]), (23, &[10]), (46, &[4])],
+        Field::BackingOffset,
+    ),
     (&[], &[(19, &[1]), (107, &[7])], Field::BackingSize),
     (
         &[],

@@ -104,7 +104,8 @@ fn over_file<R: Run>(rt: &HostRuntime, path: &str, run: &R) -> Result<(), Wrong>
     let mut begun = begin_again(rt.alloc(), run)?;
     fs::write(rt, path, begun.before.bytes())?;
     let mut file = match FileStorage::open(rt, path, true) {
-        Err(_) => FileStorage::open(rt, path, true)?,
+        Err(Fault::Storage) => FileStorage::open(rt, path, true)?,
+        Err(fault) => return Err(Wrong::Beginning(fault)),
         Ok(file) => file,
     };
     let answer = run.call(rt.alloc(), &mut begun.with, &mut file);

@@ -18,11 +18,12 @@ use std::alloc::Global;
 pub(crate) type Parts = &'static [(u64, &'static [u8])];
 
 /// What an image holds before a call and after one that succeeds: so many bytes of 0xa5, zeros in place of
-/// those between two places, and then these parts.
+/// those between two places, and then its own parts and these.
 #[derive(Clone, Copy)]
 pub(crate) struct Images {
     pub(crate) len: usize,
     pub(crate) zeros: (usize, usize),
+    pub(crate) own: Parts,
     pub(crate) before: Parts,
     pub(crate) after: Parts,
     /// The logarithm of the alignments that a storage in memory has.
@@ -33,6 +34,7 @@ pub(crate) struct Images {
 pub(crate) const NO_IMAGES: Images = Images {
     len: 0,
     zeros: (0, 0),
+    own: &[],
     before: &[],
     after: &[],
     alignment_bits: 0,
@@ -51,6 +53,7 @@ impl Images {
 
     fn with(&self, alloc: Global, parts: Parts) -> Result<MemStorage, Fault> {
         let mut image = self.filled(alloc)?;
+        put_parts(&mut image, self.own)?;
         put_parts(&mut image, parts)?;
         Ok(image)
     }

@@ -227,6 +227,7 @@ const EDITED: &[Edited] = &[
     (9, false, 0, Zero(true), None, 1),
     (9, true, COPIED, Zero(true), None, 0x8000_0000_0000_0001),
     (9, false, COPIED, Zero(true), None, 1),
+    (9, false, 0x8000_0000_0000_0a00, Discard, FIVE, 0),
     (9, false, 0x8000_0000_0000_0a00, Zero(false), FIVE, 1),
     (9, false, 0xa01, Zero(false), FIVE, 1),
     (

@@ -22,7 +22,7 @@ const WRITTEN: &[Written] = &[
     (9, 8, 320, 300, 6496, 8, 6400, 256),
     (9, 8, 320, 300, 6496, 9, 6144, 512),
     // more than a cluster
-    (9, 8, 320, 300, 6496, 10, 6496, 8),
+    (9, 8, 320, 300, 6496, 12, 6496, 8),
     (9, 8, 320, 300, 6496, 30, 6496, 8),
     // zeros past the table's end
     (9, 1, 1, 0, 512, 9, 512, 512),
@@ -46,7 +46,7 @@ fn is_written(alloc: Global, row: Written) -> Result<(), Fail> {
         entries,
         entry: (index, NUMBER),
         cluster: Some(cluster),
-        modified: bits % 2 == 0,
+        modified: bits % 2 == 1,
     };
     let mut table: L1Table = table_that_tells(alloc, &header, &told)?;
     let image = filled_image(alloc, 16384)?.with_align(1 << bits.min(30));

@@ -182,37 +182,47 @@ fn pattern(alloc: Global, len: usize) -> Result<MemStorage, Fault> {
     Ok(MemStorage::new(bytes))
 }
 
-// A refcount order, how many counters the largest block has, and the last of them where its bytes are the
-// pattern: they end with 0x27 to 0x2e.
-type Largest = (u32, usize, u64);
+// Cluster bits, a refcount order, how many counters the block has, and the last of them where its bytes are
+// the pattern: the least block ends with the bytes 2 to 9, the largest with 0x27 to 0x2e.
+type Whole = (u32, u32, usize, u64);
 
-const LARGEST: &[Largest] = &[
-    (0, 16777216, 0),
-    (1, 8388608, 0),
-    (2, 4194304, 2),
-    (3, 2097152, 0x2e),
-    (4, 1048576, 0x2d2e),
-    (5, 524288, 0x2b2c_2d2e),
-    (6, 262144, 0x2728_292a_2b2c_2d2e),
+const WHOLE: &[Whole] = &[
+    (9, 0, 4096, 0),
+    (9, 1, 2048, 0),
+    (9, 2, 1024, 0),
+    (9, 3, 512, 9),
+    (9, 4, 256, 0x0809),
+    (9, 5, 128, 0x0607_0809),
+    (9, 6, 64, 0x0203_0405_0607_0809),
+    (21, 0, 16777216, 0),
+    (21, 1, 8388608, 0),
+    (21, 2, 4194304, 2),
+    (21, 3, 2097152, 0x2e),
+    (21, 4, 1048576, 0x2d2e),
+    (21, 5, 524288, 0x2b2c_2d2e),
+    (21, 6, 262144, 0x2728_292a_2b2c_2d2e),
 ];
 
 // Reads the block of the image, and writes it to another.
-fn is_read_and_written(alloc: Global, image: &mut MemStorage, row: Largest) -> Result<(), Fail> {
-    let (order, entries, last) = row;
-    let header = header_of(alloc, 21, order, false)?;
+fn is_read_and_written(alloc: Global, image: &mut MemStorage, row: Whole) -> Result<(), Fail> {
+    let (bits, order, entries, last) = row;
+    let header = header_of(alloc, bits, order, false)?;
     let mut block = load(alloc, image, &header, 0)?;
     same(told(&block), (entries, Some(HostCluster(0)), false), row)?;
     let found = counter(&block, entries.saturating_sub(1));
     same(found, Some((last, last == 0)), row)?;
     let mut other = filled_image(alloc, header.cluster_size())?;
     same(write(&mut block, &mut other), Ok(()), row)?;
-    same_bytes(other.bytes(), image.bytes(), row)
+    let block_bytes = image.bytes().get(..header.cluster_size());
+    same_bytes(other.bytes(), block_bytes.unwrap_or(&[]), row)
 }
 
 #[test]
-fn the_largest_blocks_are_read_and_written_again(rt: HostRuntime) -> Result<(), Fail> {
+fn the_least_and_the_largest_blocks_are_read_and_written_again(
+    rt: HostRuntime,
+) -> Result<(), Fail> {
     let mut image = pattern(rt.alloc(), 2097152)?;
-    for row in LARGEST {
+    for row in WHOLE {
         is_read_and_written(rt.alloc(), &mut image, *row)?;
     }
     Ok(())

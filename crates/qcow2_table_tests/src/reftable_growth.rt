@@ -32,6 +32,7 @@ type Growth = (u32, u32, usize, usize, Option<(usize, usize)>);
 
 const GROWTHS: &[Growth] = &[
     (9, 6, 0, 0, Some((1, 64))),
+    (9, 6, 0, usize::MAX, None),
     (9, 6, 0, 62, Some((1, 64))),
     (9, 6, 0, 63, Some((1, 128))),
     (9, 6, 0, 4030, Some((1, 4032))),

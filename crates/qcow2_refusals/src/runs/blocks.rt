@@ -38,13 +38,15 @@ const COUNTERS: Parts = &[
 const LOADED: Images = Images {
     len: 24576,
     zeros: (8192, 16384),
-    before: COUNTERS,
-    after: COUNTERS,
+    own: COUNTERS,
+    before: &[],
+    after: &[],
     alignment_bits: 0,
 };
 
 const WRITTEN: Images = Images {
-    before: &[],
+    own: &[],
+    after: COUNTERS,
     ..LOADED
 };
 
@@ -97,7 +99,8 @@ impl Run for BlockRun {
         let header = Header::new(alloc, 13, self.refcount_order, None, None, None)?;
         let mut image = LOADED.before(alloc)?;
         let mut block = RefBlock::load(alloc, &mut image, &header, CLUSTER)?;
-        if self.call != BlockCall::Load {
+        // a write sets the flag where it is refused
+        if self.call == BlockCall::WriteIfModified {
             block.set_modified();
         }
         let same = RefBlock::load(alloc, &mut image, &header, CLUSTER)?;

@@ -1,7 +1,7 @@
 //! Runs of the function of each command, over a small disk.
 
-use super::headers::{DISK, DISK_IMAGES};
-use super::{Images, Parts, Run};
+use super::headers::DISK_IMAGES;
+use super::{Images, Run};
 use crate::outputs::Output;
 use qcow2_base::{Fault, GuestOffset, HostCluster, Storage};
 use qcow2_session::{
@@ -55,32 +55,6 @@ const STEPS: [Step; 4] = [
     Step::Dec { index: 1 },
 ];
 
-// The disk without a mapping.
-const DISCARDED: Parts = &[
-    (0, b"\x51\x46\x49\xfb\0\0\0\x03"),
-    (23, &[9]),
-    (30, &[0x80]),
-    (39, &[1]),
-    (46, &[2]),
-    (99, &[4]),
-    (103, &[104]),
-    (512, &[0x80, 0, 0, 0, 0, 0, 4]),
-];
-
-// The disk with a reference of its first cluster.
-const COUNTED: Parts = &[
-    (0, b"\x51\x46\x49\xfb\0\0\0\x03"),
-    (23, &[9]),
-    (30, &[0x80]),
-    (39, &[1]),
-    (46, &[2]),
-    (99, &[4]),
-    (103, &[104]),
-    (512, &[0x80, 0, 0, 0, 0, 0, 4]),
-    (1048, &[0x80, 0, 0, 0, 0, 0, 10]),
-    (1536, &[0, 1]),
-];
-
 const INFO: &str = "version 3\ncluster-bits 9\nsize 32768\nrefcount-order 4\nl1 0x200 1\n\
     refcount-table 0x0 0\nbacking none\nformat none\nexternal no\ndata-file none\n";
 
@@ -117,8 +91,9 @@ pub(crate) const COMMANDS: [CommandRun; 6] = [
     CommandRun {
         command: Command::Edit,
         name: "edit",
+        // entry 3 of the table is 0 then
         images: Images {
-            after: DISCARDED,
+            after: &[(1048, &[0; 8])],
             ..DISK_IMAGES
         },
         printed: "freed 5 1\nfreed 6 1\ngained 6\n",
@@ -127,8 +102,9 @@ pub(crate) const COMMANDS: [CommandRun; 6] = [
     CommandRun {
         command: Command::Count,
         name: "count",
+        // the block is in cluster 3
         images: Images {
-            after: COUNTED,
+            after: &[(1536, &[0, 1])],
             ..DISK_IMAGES
         },
         printed: "ok 0\nok 1\nok 2\nrefused\n",

@@ -1,6 +1,6 @@
 //! Runs of headers: loads, a write and the three pointer writes.
 
-use super::{Each, Images, Parts, Run};
+use super::{Each, Images, NO_IMAGES, Parts, Run};
 use qcow2_base::{ClusterCount, Fault, HostOffset, MemStorage, Storage};
 use qcow2_metadata::{FeatureType, Header};
 use std::alloc::Global;
@@ -21,7 +21,7 @@ struct HeaderRun {
 }
 
 /// A disk of 64 clusters of 512 bytes, of which guest cluster 3 is the data in host cluster 5.
-pub(crate) const DISK: Parts = &[
+const DISK: Parts = &[
     (0, b"\x51\x46\x49\xfb\0\0\0\x03"),
     (23, &[9]),
     (30, &[0x80]),
@@ -33,16 +33,8 @@ pub(crate) const DISK: Parts = &[
     (1048, &[0x80, 0, 0, 0, 0, 0, 10]),
 ];
 
-// The least header, with an autoclear feature.
-const WITH_AUTOCLEAR: Parts = &[
-    (0, b"\x51\x46\x49\xfb\0\0\0\x03"),
-    (23, &[9]),
-    (95, &[1]),
-    (99, &[4]),
-    (103, &[104]),
-];
-
-const WITHOUT_AUTOCLEAR: Parts = &[
+// The least header, of clusters of 512 bytes.
+const LEAST: Parts = &[
     (0, b"\x51\x46\x49\xfb\0\0\0\x03"),
     (23, &[9]),
     (99, &[4]),
@@ -50,7 +42,7 @@ const WITHOUT_AUTOCLEAR: Parts = &[
 ];
 
 // The text of a new header for the backing file backing.1, which leaves no room for names of features.
-const WITH_BACKING_FILE: Parts = &[
+const TEXT: Parts = &[
     (0, b"\x51\x46\x49\xfb\0\0\0\x03"),
     (15, &[112, 0, 0, 0, 9]),
     (23, &[9]),
@@ -63,8 +55,9 @@ const WITH_BACKING_FILE: Parts = &[
 pub(crate) const DISK_IMAGES: Images = Images {
     len: 2048,
     zeros: (0, 2048),
-    before: DISK,
-    after: DISK,
+    own: DISK,
+    before: &[],
+    after: &[],
     alignment_bits: 0,
 };
 
@@ -72,6 +65,7 @@ pub(crate) const DISK_IMAGES: Images = Images {
 const FILLED: Images = Images {
     len: 1024,
     zeros: (0, 0),
+    own: &[],
     before: &[],
     after: &[],
     alignment_bits: 0,
@@ -87,41 +81,35 @@ const RUNS: [HeaderRun; 7] = [
         name: ("Header::load", "that clears autoclear features"),
         call: HeaderCall::Load { writable: true },
         images: Images {
-            len: 1024,
             zeros: (0, 512),
-            before: WITH_AUTOCLEAR,
-            after: WITHOUT_AUTOCLEAR,
-            alignment_bits: 0,
+            own: LEAST,
+            before: &[(95, &[1])],
+            ..FILLED
         },
     },
     HeaderRun {
         name: ("Header::write", "within an image"),
         call: HeaderCall::Write,
         images: Images {
-            len: 1024,
             zeros: (0, 121),
-            before: &[],
-            after: WITH_BACKING_FILE,
-            alignment_bits: 0,
+            after: TEXT,
+            ..FILLED
         },
     },
     HeaderRun {
         name: ("Header::write", "past the end of an image"),
         call: HeaderCall::Write,
         images: Images {
-            len: 0,
-            zeros: (0, 0),
-            before: &[],
-            after: WITH_BACKING_FILE,
-            alignment_bits: 0,
+            after: TEXT,
+            ..NO_IMAGES
         },
     },
     HeaderRun {
         name: ("Header::write_size", "of a disk"),
         call: HeaderCall::WriteSize,
         images: Images {
-            after: &[(24, &[0, 0, 0, 0, 0, 0, 0x80, 0])],
-            ..FILLED
+            after: &[(24, &[0, 0, 0, 0, 0, 0, 0x10, 0])],
+            ..DISK_IMAGES
         },
     },
     HeaderRun {
@@ -154,16 +142,23 @@ pub(crate) fn disk_header(alloc: Global) -> Result<Header, Fault> {
     Header::load(alloc, &mut image, false)
 }
 
+// The same of a disk of 8 clusters.
+fn smaller_header(alloc: Global) -> Result<Header, Fault> {
+    let mut header = disk_header(alloc)?;
+    header.set_size(4096);
+    Ok(header)
+}
+
 fn new_header(alloc: Global) -> Result<Header, Fault> {
     let name = String::from_str(alloc, "backing.1")?;
     Header::new(alloc, 9, 4, Some(name), None, None)
 }
 
-// Whether the header still says where the disk's tables lie.
-fn is_of_disk(header: &Header) -> bool {
+// Whether the header still says this of the disk's size, and where the disk's tables lie.
+fn is_of_disk(header: &Header, size: u64) -> bool {
     let l1_table = (header.l1_table_offset(), header.l1_table_entries());
     let reftable = (header.reftable_offset(), header.reftable_clusters());
-    header.size() == 32768
+    header.size() == size
         && l1_table == (HostOffset(512), 1)
         && reftable == (HostOffset(0), ClusterCount(0))
 }
@@ -190,6 +185,7 @@ impl Run for HeaderRun {
         match self.call {
             HeaderCall::Load { .. } => Ok(None),
             HeaderCall::Write => Ok(Some(new_header(alloc)?)),
+            HeaderCall::WriteSize => Ok(Some(smaller_header(alloc)?)),
             _ => Ok(Some(disk_header(alloc)?)),
         }
     }
@@ -223,7 +219,8 @@ impl Run for HeaderRun {
             HeaderCall::Load { writable: true } => header.size() == 0,
             HeaderCall::Write if answer.is_err() => first_feature(header) == Some("dirty"),
             HeaderCall::Write => first_feature(header).is_none(),
-            _ => is_of_disk(header),
+            HeaderCall::WriteSize => is_of_disk(header, 4096),
+            _ => is_of_disk(header, 32768),
         }
     }
 }

@@ -81,20 +81,21 @@ const ENTRIES: Parts = &[
 const LOADED: Images = Images {
     len: 24576,
     zeros: (8192, 16384),
-    before: ENTRIES,
-    after: ENTRIES,
+    own: ENTRIES,
+    before: &[],
+    after: &[],
     alignment_bits: 0,
 };
 
 const WRITTEN: Images = Images {
-    before: &[],
+    own: &[],
+    after: ENTRIES,
     ..LOADED
 };
 
 const ENTRY_WRITTEN: Images = Images {
-    before: &[],
     after: &[(16378, &[0, 0, 0x60])],
-    ..LOADED
+    ..WRITTEN
 };
 
 const ALIGNED: Images = Images {
@@ -102,7 +103,7 @@ const ALIGNED: Images = Images {
     ..WRITTEN
 };
 
-// The table of those entries, which counts as modified where it is to be written.
+// The table of those entries, with this flag.
 fn begun<T: Kind>(alloc: Global, modified: bool) -> Result<Tables<T>, Fault> {
     let header = Header::new(alloc, 13, 4, None, None, None)?;
     let mut image = LOADED.before(alloc)?;
@@ -179,7 +180,11 @@ impl<T: Kind> Run for TableRun<T> {
     }
 
     fn begin(&self, alloc: Global) -> Result<Tables<T>, Fault> {
-        begun(alloc, self.call != TableCall::Load)
+        // a write sets the flag where it is refused
+        begun(
+            alloc,
+            !matches!(self.call, TableCall::Load | TableCall::Write),
+        )
     }
 
     fn call<S: Storage>(

@@ -205,6 +205,9 @@ fn write(
     sum: &mut Sum,
 ) {
     sum.note(l1_table.write(image).is_ok());
+    if 3 < l1_table.entries() {
+        sum.note(l1_table.write_entry(image, 3).is_ok());
+    }
     if let Some(cluster) = l2_table.get_cluster() {
         sum.note(l2_table.write_if_modified(image, cluster).is_ok());
     }

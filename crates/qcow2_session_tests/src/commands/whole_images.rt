@@ -62,7 +62,30 @@ type Row = (
     Numbers<'static>,
 );
 
+// What makes the sample image one whose cluster 2 alone isn't zeros.
+const TABLE_ALONE: Numbers<'static> = &[
+    (0, 0),
+    (16, 0),
+    (24, 0),
+    (32, 0),
+    (40, 0),
+    (96, 0),
+    (512, 0),
+];
+
 const TABLES: &[Row] = &[
+    (
+        TABLE_ALONE,
+        &["l2", "IMAGE", "9", "2"],
+        (0, ONE_LINE, ""),
+        TABLE_ALONE,
+    ),
+    (
+        TABLE_ALONE,
+        &["l2", "IMAGE", "9", "0"],
+        (0, "", ""),
+        TABLE_ALONE,
+    ),
     // tables, by their cluster bits and their cluster
     (&[], &["l2", "IMAGE", "9", "2"], (0, ONE_LINE, ""), &[]),
     (&[], &["l2", "IMAGE", "9", "0"], BAD_ENTRY, &[]),
@@ -621,6 +644,7 @@ const MAPS: &[(&'static [&'static str], Outcome<'static>)] = &[
         (0, "freed 5 1\ngained 6\n", ""),
     ),
     (&["at", "IMAGE", "1543"], (0, "data 0xc00 copied\n", "")),
+    (&["at", "IMAGE", "0"], (0, "backing 0x0\n", "")),
 ];
 
 #[test]

@@ -57,6 +57,7 @@ impl Run for EditRun {
         Images {
             len: 131072,
             zeros: (0, 131072),
+            own: &[],
             before: &[],
             after: EDITED,
             alignment_bits: 0,
@@ -120,6 +121,7 @@ impl Run for StepRun {
         Images {
             len: 12288,
             zeros: (4096, 8192),
+            own: &[],
             before: &[(4096, &[0, 7])],
             after: &[(4096, &[0, 8]), (8190, &[0, 1])],
             alignment_bits: 0,
