@@ -17,7 +17,7 @@ const CAPACITY: usize = 1024;
 const MOST_WRITES: u64 = 1000;
 
 /// An output that keeps what is written to it. A write that fails keeps nothing, and later ones pass again.
-#[derive(Debug, Drop)]
+#[derive(Drop)]
 pub(crate) struct Output {
     bytes: Vec<u8>,
     plan: Option<u64>,

@@ -6,6 +6,8 @@ mod headers;
 mod numbers;
 mod tables;
 
+use self::headers::Headers;
+use self::tables::Tables;
 use qcow2_base::Fault;
 use std::alloc::Global;
 
@@ -31,11 +33,15 @@ pub(crate) fn make_calls(alloc: Global, turns: u64) -> Result<Sum, Fault> {
     let mut headers = headers::begin(alloc)?;
     let mut tables = tables::begin(alloc)?;
     for turn in 0..turns {
-        numbers::make(turn, &mut sum);
-        numbers::make_storage(alloc, 9, &mut sum);
-        entries::make(turn, &headers.first, &mut sum);
-        headers::make(turn, &mut headers, &mut sum);
-        tables::make(turn, &mut tables, &mut sum);
+        make_turn(alloc, turn, &mut headers, &mut tables, &mut sum);
     }
     Ok(sum)
+}
+
+fn make_turn(alloc: Global, turn: u64, headers: &mut Headers, tables: &mut Tables, sum: &mut Sum) {
+    numbers::make(turn, sum);
+    numbers::make_storage(alloc, 9, sum);
+    entries::make(turn, &headers.first, sum);
+    headers::make(turn, headers, sum);
+    tables::make(turn, tables, sum);
 }

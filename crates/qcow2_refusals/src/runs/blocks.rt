@@ -8,14 +8,14 @@ use std::alloc::Global;
 /// The cluster that a block begins with.
 const CLUSTER: HostCluster = HostCluster(1);
 
-#[derive(Clone, Copy, Debug, PartialEq, Eq)]
+#[derive(Clone, Copy, PartialEq, Eq)]
 enum BlockCall {
     Load,
     Write,
     WriteIfModified,
 }
 
-#[derive(Clone, Copy, Debug)]
+#[derive(Clone, Copy)]
 struct BlockRun {
     call: BlockCall,
     refcount_order: u32,

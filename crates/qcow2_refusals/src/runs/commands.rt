@@ -10,7 +10,7 @@ use qcow2_session::{
 };
 use std::alloc::Global;
 
-#[derive(Clone, Copy, Debug)]
+#[derive(Clone, Copy)]
 enum Command {
     Info,
     List,

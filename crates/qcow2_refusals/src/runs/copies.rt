@@ -8,7 +8,7 @@ use qcow2_metadata::{
 use qcow2_testing::image_with;
 use std::alloc::Global;
 
-#[derive(Clone, Copy, Debug)]
+#[derive(Clone, Copy)]
 enum Copies {
     NewHeader,
     Extension,

@@ -5,7 +5,7 @@ use qcow2_base::{ClusterCount, Fault, HostOffset, MemStorage, Storage};
 use qcow2_metadata::{FeatureType, Header};
 use std::alloc::Global;
 
-#[derive(Clone, Copy, Debug)]
+#[derive(Clone, Copy)]
 enum HeaderCall {
     Load { writable: bool },
     Write,

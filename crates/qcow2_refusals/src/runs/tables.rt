@@ -48,7 +48,7 @@ impl Kind for RefTable {
     }
 }
 
-#[derive(Clone, Copy, Debug, PartialEq, Eq)]
+#[derive(Clone, Copy, PartialEq, Eq)]
 enum TableCall {
     Load,
     Write,

@@ -7,7 +7,7 @@ use qcow2_session::{Edit, Outcome, Step, StepReply, edit_settled, edit_table, st
 use qcow2_testing::image_with;
 use std::alloc::Global;
 
-#[derive(Clone, Copy, Debug, PartialEq, Eq)]
+#[derive(Clone, Copy, PartialEq, Eq)]
 enum Changes {
     Edits,
     Steps,
@@ -18,7 +18,7 @@ enum Changes {
 }
 
 /// Changes of a table and a block that count as modified, or that don't.
-#[derive(Clone, Copy, Debug)]
+#[derive(Clone, Copy)]
 struct ChangeRun {
     changes: Changes,
     modified: bool,

@@ -11,7 +11,7 @@ use std::alloc::Global;
 const CLUSTER: HostCluster = HostCluster(1);
 
 /// Edits of the first and the last entry of a table of 65536 bytes, which is written in 16 pieces.
-#[derive(Clone, Copy, Debug)]
+#[derive(Clone, Copy)]
 pub(crate) struct EditRun;
 
 pub(crate) const EDITS: [Edit; 2] = [
