@@ -7,7 +7,7 @@ use qcow2_metadata::{
     Refused, Table, TableEntry, Turns, least_spare,
 };
 use qcow2_session::{Edit, Outcome, edits_fit, settle};
-use qcow2_testing::fits;
+use qcow2_testing::{fits, image_with};
 use std::alloc::Global;
 
 /// A header, tables and a block of it, an image that they are written to, and what edits did to references.
@@ -25,9 +25,12 @@ pub(super) struct Tables {
 /// The cluster that each table and block begins with.
 const CLUSTER: HostCluster = HostCluster(1);
 
+/// Entry 3 of the L2 table: compressed data from byte 0x600 on, which no turn changes.
+const COMPRESSED: u64 = 0x4000_0000_0000_0600;
+
 pub(super) fn begin(alloc: Global) -> Result<Tables, Fault> {
     let header = Header::new(alloc, 9, 4, None, None, None)?;
-    let mut image = MemStorage::new(vec![in alloc; 0; 1024]?);
+    let mut image = image_with(alloc, 1024, &[(24, COMPRESSED)])?;
     let entries = header.l2_entries();
     let freed = ClustersToFreeEntry {
         first: HostCluster(5),
@@ -39,7 +42,7 @@ pub(super) fn begin(alloc: Global) -> Result<Tables, Fault> {
     };
     Ok(Tables {
         l1_table: L1Table::load(alloc, &mut image, &header, CLUSTER, entries)?,
-        l2_table: L2Table::load(alloc, &mut image, &header, CLUSTER, entries)?,
+        l2_table: L2Table::load(alloc, &mut image, &header, HostCluster(0), entries)?,
         reftable: RefTable::load(alloc, &mut image, &header, CLUSTER, entries)?,
         block: RefBlock::load(alloc, &mut image, &header, CLUSTER)?,
         header,
@@ -58,7 +61,7 @@ pub(super) fn make(turn: u64, tables: &mut Tables, sum: &mut Sum) {
         image,
         outcome,
     } = tables;
-    let index = (turn % 64) as usize;
+    let index = (turn % 32 + 4) as usize;
     look_at(l1_table, index, sum);
     look_at(l2_table, index, sum);
     look_at(reftable, index, sum);
@@ -147,7 +150,10 @@ fn look_up(table: &mut L2Table, sum: &mut Sum) {
         return;
     }
     sum.note(table.get_mapping(guest_cluster).is_ok());
-    sum.note(table.lock_compressed_read(guest_cluster).is_ok());
+    if let Ok(Some(guard)) = table.lock_compressed_read(guest_cluster) {
+        sum.add(guard.offset().0);
+        sum.add(guard.length().get());
+    }
     let guard = table.lock_write();
     sum.note(guard.get_mapping(guest_cluster).is_ok());
     sum.note(guard.compressed_read_guard(guest_cluster).is_ok());
