@@ -7,61 +7,61 @@ use Rattle.qcow2_base.specs.declared.fault.FaultKind.{FaultKind}
 use Rattle.qcow2_base.specs.declared.fault.FaultKind.TheVariants as kind
 
 -- the number of a fault
-abbrev pub number_of : Fault → ℕ
-number_of NotQcow2 = 1
-number_of Version = 2
-number_of ClusterSize = 3
-number_of HeaderShort = 4
-number_of HeaderBig = 5
-number_of L1Unaligned = 6
-number_of ReftableUnaligned = 7
-number_of RefcountWidth = 8
-number_of BackingNameLong = 9
-number_of BackingNamePlace = 10
-number_of BackingNameText = 11
-number_of ExtensionsExceed = 12
-number_of ExtensionText = 13
-number_of FeatureNameCut = 14
-number_of FormatConflict = 15
-number_of DataFileConflict = 16
-number_of (Incompatible features) = 17
-number_of EntryReserved = 18
-number_of EntryUnaligned = 19
-number_of TableTooBig = 20
-number_of TablePlace = 21
-number_of NoOffset = 22
-number_of NotPlaced = 23
-number_of HeaderTooLong = 24
-number_of NameTooLong = 25
-number_of (FieldChanged field) = 26
-number_of VersionNeeded = 27
-number_of CannotGrow = 28
-number_of TooMany = 29
-number_of CounterRange = 30
-number_of WrongLength = 31
-number_of (BadEdit position) = 32
-number_of (BadStep position) = 33
-number_of Storage = 34
-number_of NoMemory = 35
-number_of ExternalData = 36
+abbrev pub fault_number : Fault → ℕ
+fault_number NotQcow2 = 1
+fault_number Version = 2
+fault_number ClusterSize = 3
+fault_number HeaderShort = 4
+fault_number HeaderBig = 5
+fault_number L1Unaligned = 6
+fault_number ReftableUnaligned = 7
+fault_number RefcountWidth = 8
+fault_number BackingNameLong = 9
+fault_number BackingNamePlace = 10
+fault_number BackingNameText = 11
+fault_number ExtensionsExceed = 12
+fault_number ExtensionText = 13
+fault_number FeatureNameCut = 14
+fault_number FormatConflict = 15
+fault_number DataFileConflict = 16
+fault_number (Incompatible features) = 17
+fault_number EntryReserved = 18
+fault_number EntryUnaligned = 19
+fault_number TableTooBig = 20
+fault_number TablePlace = 21
+fault_number NoOffset = 22
+fault_number NotPlaced = 23
+fault_number HeaderTooLong = 24
+fault_number NameTooLong = 25
+fault_number (FieldChanged field) = 26
+fault_number VersionNeeded = 27
+fault_number CannotGrow = 28
+fault_number TooMany = 29
+fault_number CounterRange = 30
+fault_number WrongLength = 31
+fault_number (BadEdit position) = 32
+fault_number (BadStep position) = 33
+fault_number Storage = 34
+fault_number NoMemory = 35
+fault_number ExternalData = 36
 
 -- the kind of a fault
-abbrev pub kind_of : Fault → FaultKind
-kind_of NotPlaced = kind.InvalidInput
-kind_of NameTooLong = kind.InvalidInput
-kind_of (BadEdit position) = kind.InvalidInput
-kind_of (BadStep position) = kind.InvalidInput
-kind_of ExternalData = kind.InvalidInput
-kind_of FormatConflict = kind.Other
-kind_of DataFileConflict = kind.Other
-kind_of NoOffset = kind.Other
-kind_of HeaderTooLong = kind.Other
-kind_of (FieldChanged field) = kind.Other
-kind_of CannotGrow = kind.Other
-kind_of VersionNeeded = kind.Unsupported
-kind_of Storage = kind.Storage
-kind_of NoMemory = kind.NoMemory
-kind_of _ = kind.InvalidData
+abbrev pub fault_kind : Fault → FaultKind
+fault_kind NotPlaced = kind.InvalidInput
+fault_kind NameTooLong = kind.InvalidInput
+fault_kind (BadEdit position) = kind.InvalidInput
+fault_kind (BadStep position) = kind.InvalidInput
+fault_kind ExternalData = kind.InvalidInput
+fault_kind FormatConflict = kind.Other
+fault_kind DataFileConflict = kind.Other
+fault_kind NoOffset = kind.Other
+fault_kind HeaderTooLong = kind.Other
+fault_kind (FieldChanged field) = kind.Other
+fault_kind CannotGrow = kind.Other
+fault_kind VersionNeeded = kind.Unsupported
+fault_kind Storage = kind.Storage
+fault_kind NoMemory = kind.NoMemory
+fault_kind _ = kind.InvalidData
 
 -- what a message calls a field: the name that the format has for it, or else what it is
 abbrev pub field_name : Field → List ℕ

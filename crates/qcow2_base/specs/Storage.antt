@@ -1,3 +1,6 @@
+pub mod File
+pub mod Growth
+pub mod Memory
 use Rattle.std.specs.Prelude.{◌≡◌, ◌≢◌, ℕ, zero, suc, ◌+◌, ◌*◌, ◌^◌, ◌%◌, ◌<◌, ◌≤◌, ◌↔◌, Bool, IsTrue, List, Option, Some, IfSome, Result, MatchResult, OnOk, IfErr, IsErrOf, length, drop, slice_index, refl}
 use Rattle.qcow2_base.specs.declared.fault.Fault.{Fault}
 use Rattle.qcow2_base.specs.declared.fault.Fault.TheVariants.{Storage as StorageFailed}

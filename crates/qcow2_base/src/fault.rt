@@ -151,11 +151,11 @@ pub enum FaultKind {
 }
 
 impl Fault {
-    ghost use Rattle.qcow2_base.specs.Fault.{number_of, kind_of};
+    ghost use Rattle.qcow2_base.specs.Fault.{fault_number, fault_kind};
 
     /// The fault's fixed number, from 1 to 36, which `qmeta` prints.
     pub fn number(&self) -> u32
-        ensures { result ≡ number_of self.now }
+        ensures { result ≡ fault_number self.now }
     {
         match self {
             Fault::NotQcow2 => 1,
@@ -199,7 +199,7 @@ impl Fault {
 
     /// The fault's sort.
     pub fn kind(&self) -> FaultKind
-        ensures { result ≡ kind_of self.now }
+        ensures { result ≡ fault_kind self.now }
     {
         match self {
             Fault::NotPlaced

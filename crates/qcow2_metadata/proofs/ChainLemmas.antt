@@ -3,8 +3,8 @@ use Rattle.qcow2_base.specs.Storage.{Image}
 use Rattle.qcow2_base.specs.declared.fault.Fault.{Fault}
 use Rattle.qcow2_base.specs.declared.fault.Fault.TheVariants.{ExtensionsExceed}
 use Rattle.std.proofs.lemmas.Bool.Decides.{nat_tests}
-use Rattle.qcow2_metadata.specs.Answers.{and_then, provided, result_map}
-use Rattle.qcow2_metadata.specs.Header.Chain.{BreaksWith, IsBroken, IsChain, IsEnd, Link, SaysExtensions, end_of, extension_at, extensions_at, few_extensions, link_at, next_place, said}
+use Rattle.qcow2_metadata.specs.Results.{and_then, provided, result_map}
+use Rattle.qcow2_metadata.specs.Header.Chain.{BreaksWith, IsBroken, IsChain, IsEnd, Link, SaysExtensions, data_end, extension_at, extensions_at, few_extensions, link_at, next_place, said}
 use Rattle.qcow2_metadata.specs.Header.Extensions.{Extension}
 
 -- the value of an answer that was changed
@@ -44,7 +44,7 @@ with_others image len most found = elim found [
 pub extension_at-past : (image : Image) (len place : ℕ) → len < place + 8
     → extension_at image len place ≡ Err ExtensionsExceed
 extension_at-past image len place past =
-    let exceeds : nat_le (end_of (link_at image place)) len ≡ false = grind (arith, nat_tests) in
+    let exceeds : nat_le (data_end (link_at image place)) len ≡ false = grind (arith, nat_tests) in
     rw exceeds refl
 
 -- how an answer of nothing comes about
@@ -81,7 +81,7 @@ extension_at-end : (image : Image) (len place : ℕ) → extension_at image len 
     → IsEnd len (link_at image place)
 extension_at-end image len place is =
     let link = link_at image place in
-    let fits = nat_le (end_of link) len in
+    let fits = nat_le (data_end link) len in
     let by = end_by fits (link.number == 0) (next_place link) (said image link) is in
     record { bounded = grind (arith, nat_tests, by.0); end = grind (arith, nat_tests, by.1) }
 
@@ -89,13 +89,13 @@ extension_at-end image len place is =
 end-extension_at : (image : Image) (len place : ℕ) → IsEnd len (link_at image place)
     → extension_at image len place ≡ Ok None
 end-extension_at image len place is =
-    let fits : nat_le (end_of (link_at image place)) len ≡ true = grind (arith, nat_tests, is.bounded) in
+    let fits : nat_le (data_end (link_at image place)) len ≡ true = grind (arith, nat_tests, is.bounded) in
     let end : (link_at image place).number == 0 ≡ true = grind (arith, nat_tests, is.end) in
     rw (fits, end) refl
 
 -- an extension that isn't the last of its chain, what it says, and where the next one stands
 pub record IsFirst (image : Image) (len place : ℕ) (extension : Extension) (next : ℕ) : Type 0 where
-  pub bounded : end_of (link_at image place) ≤ len
+  pub bounded : data_end (link_at image place) ≤ len
   pub more : (link_at image place).number ≢ 0
   pub says : said image (link_at image place) ≡ Ok extension
   pub next_is : next ≡ next_place (link_at image place)
@@ -105,7 +105,7 @@ extension_at-some : (image : Image) (len place : ℕ) (first : Extension × ℕ)
     → extension_at image len place ≡ Ok (Some first) → IsFirst image len place first.0 first.1
 extension_at-some image len place first is =
     let link = link_at image place in
-    let fits = nat_le (end_of link) len in
+    let fits = nat_le (data_end link) len in
     let by = some_by fits (link.number == 0) (next_place link) (said image link) first is in
     record {
       bounded = grind (arith, nat_tests, by.0);
@@ -118,7 +118,7 @@ extension_at-some image len place first is =
 some-extension_at : (image : Image) (len place : ℕ) (extension : Extension) (next : ℕ)
     → IsFirst image len place extension next → extension_at image len place ≡ Ok (Some (extension, next))
 some-extension_at image len place extension next is =
-    let fits : nat_le (end_of (link_at image place)) len ≡ true = grind (arith, nat_tests, is.bounded) in
+    let fits : nat_le (data_end (link_at image place)) len ≡ true = grind (arith, nat_tests, is.bounded) in
     let end : (link_at image place).number == 0 ≡ false = grind (arith, nat_tests, is.more) in
     rw (fits, end, is.says, is.next_is) refl
 
@@ -127,7 +127,7 @@ extension_at-broken : (image : Image) (len place : ℕ) (fault : Fault)
     → extension_at image len place ≡ Err fault → IsBroken image len (link_at image place) fault
 extension_at-broken image len place fault is =
     let link = link_at image place in
-    let fits = nat_le (end_of link) len in
+    let fits = nat_le (data_end link) len in
     elim (broken_by fits (link.number == 0) (next_place link) (said image link) fault is) [
       | inl past ↦ inl (grind (arith, nat_tests, past.0), past.1)
       | inr unsaid ↦ inr (grind (arith, nat_tests, unsaid.0), grind (arith, nat_tests, unsaid.1), unsaid.2)
@@ -137,10 +137,10 @@ extension_at-broken image len place fault is =
 broken-extension_at : (image : Image) (len place : ℕ) (fault : Fault)
     → IsBroken image len (link_at image place) fault → extension_at image len place ≡ Err fault
 broken-extension_at image len place fault (inl past) =
-    let exceeds : nat_le (end_of (link_at image place)) len ≡ false = grind (arith, nat_tests, past.0) in
+    let exceeds : nat_le (data_end (link_at image place)) len ≡ false = grind (arith, nat_tests, past.0) in
     rw (exceeds, past.1) refl
 broken-extension_at image len place fault (inr unsaid) =
-    let fits : nat_le (end_of (link_at image place)) len ≡ true = grind (arith, nat_tests, unsaid.0) in
+    let fits : nat_le (data_end (link_at image place)) len ≡ true = grind (arith, nat_tests, unsaid.0) in
     let end : (link_at image place).number == 0 ≡ false = grind (arith, nat_tests, unsaid.1) in
     rw (fits, end, unsaid.2) refl
 
@@ -309,10 +309,10 @@ extensions_at-breaks image len place fault is =
 
 -- the first extension of a chain of more than one
 first_of_chain : (image : Image) (len place : ℕ) (link : Link) (extension : Extension)
-    → link ≡ link_at image place → end_of link ≤ len → link.number ≢ 0 → said image link ≡ Ok extension
+    → link ≡ link_at image place → data_end link ≤ len → link.number ≢ 0 → said image link ≡ Ok extension
     → IsFirst image len place extension (next_place link)
 first_of_chain image len place link extension same bounded more says = record {
-  bounded = subst (λ (l : Link). end_of l ≤ len) same bounded;
+  bounded = subst (λ (l : Link). data_end l ≤ len) same bounded;
   more = subst (λ (l : Link). l.number ≢ 0) same more;
   says = subst (λ (l : Link). said image l ≡ Ok extension) same says;
   next_is = ap next_place same;

@@ -7,9 +7,9 @@ use Rattle.qcow2_base.specs.declared.fault.Fault.{Fault}
 use Rattle.qcow2_base.specs.declared.fault.Fault.TheVariants.{BackingNameText, ExtensionsExceed}
 use Rattle.qcow2_base.specs.declared.on_disk_struct.v2_header.V2Header.{V2Header}
 use Rattle.qcow2_base.specs.declared.on_disk_struct.v3_header_base.V3HeaderBase.{V3HeaderBase}
-use Rattle.qcow2_metadata.specs.Answers.{Answers, and_then, first_failed, provided, result_map}
+use Rattle.qcow2_metadata.specs.Results.{Answers, and_then, first_failed, provided, result_map}
 use Rattle.qcow2_metadata.specs.Header.{HeaderRecord, default_base}
-use Rattle.qcow2_metadata.specs.Header.Chain.{Link, end_of, extension_at, extensions_at, few_extensions, link_at, next_place, said}
+use Rattle.qcow2_metadata.specs.Header.Chain.{Link, data_end, extension_at, extensions_at, few_extensions, link_at, next_place, said}
 use Rattle.qcow2_metadata.specs.Header.Extensions.{Extension, parsed, text}
 use Rattle.qcow2_metadata.specs.Header.Grammar.{SameFirstCluster, backing_name, base_at, field_conditions, fixed_parts, header_extensions, header_of, last_conditions, name_conditions, v2_at, version_conditions}
 use Rattle.qcow2_metadata.specs.Range.{bytes_at}
@@ -167,17 +167,17 @@ found_at link saying = elim (link.number == 0) [
 -- what comes of an extension
 abbrev extension_on : Image → ℕ → Link → Result (Option (Extension × ℕ)) Fault
 extension_on image len link =
-    provided ((nat_le (end_of link) len, ExtensionsExceed) ∷ []) (λ _. found_at link (said image link))
+    provided ((nat_le (data_end link) len, ExtensionsExceed) ∷ []) (λ _. found_at link (said image link))
 
 -- what an extension says that fits is the same
 extension_on-same : (len : ℕ) (image other : Image) → AgreeWithin len image other → (link : Link)
     → extension_on other len link ≡ extension_on image len link
 extension_on-same len image other same link =
-    let read = λ (hold : AllHold ((nat_le (end_of link) len, ExtensionsExceed) ∷ [])).
-    let fits : end_of link ≤ len = grind (arith, nat_tests, hold.0) in
+    let read = λ (hold : AllHold ((nat_le (data_end link) len, ExtensionsExceed) ∷ [])).
+    let fits : data_end link ≤ len = grind (arith, nat_tests, hold.0) in
     let bytes = bytes_at-same len image other same (link.place + 8) link.size (omega (arith, fits)) in
     ap (λ (content : List ℕ). found_at link (parsed link.number content)) bytes in
-    provided-same ((nat_le (end_of link) len, ExtensionsExceed) ∷ [])
+    provided-same ((nat_le (data_end link) len, ExtensionsExceed) ∷ [])
     (λ _. found_at link (said other link)) (λ _. found_at link (said image link)) read
 
 -- the extension at a place is the same

@@ -1,7 +1,7 @@
 use Rattle.std.proofs.Common.{◌≡◌, ℕ, ◌-◌, ◌^◌, true, false, List, [], ◌∷◌, replicate, set, slice_index, take, Some, None, refl}
 use Rattle.qcow2_metadata.specs.Header.{geometry}
 use Rattle.qcow2_metadata.specs.declared.entries.ClustersToFreeEntry.{ClustersToFreeEntry}
-use Rattle.qcow2_metadata.specs.Edits.{RunEnd, TableEdit, changed, dropped, fits_table, gained, is_mappable, references, run_of, to_data, to_nothing, to_zeros}
+use Rattle.qcow2_metadata.specs.Table.L2Guards.{RunEnd, TableEdit, changed, dropped, fits_table, gained, is_mappable, references, run_of, to_data, to_nothing, to_zeros}
 
 -- the clusters that an entry referred to
 abbrev clusters : ℕ → ℕ → ClustersToFreeEntry

@@ -14,11 +14,12 @@ use Rattle.qcow2_base.specs.Types.{IsClusterBits}
 use Rattle.qcow2_base.specs.declared.fault.Fault.{Fault}
 use Rattle.qcow2_metadata.specs.Header.{Geometry}
 use Rattle.qcow2_metadata.specs.declared.entries.ClustersToFreeEntry.{ClustersToFreeEntry}
-use Rattle.qcow2_metadata.specs.Entries.{ByteRange, Meets, allocation, byte_range, cluster_count, clusters_of, first_cluster, is_allocated, is_among, is_compressed, l2_fault, meets, offset_field}
+use Rattle.qcow2_metadata.specs.Entries.L2Entry.{ByteRange, Meets, allocation, byte_range, cluster_count, clusters_met, first_cluster, is_allocated, is_compressed, l2_fault, meets}
+use Rattle.qcow2_metadata.specs.Entries.{is_among, offset_field}
 use Rattle.qcow2_metadata.proofs.EntriesLemmas.{l2_fault_zero, meets_is_met, offset_in_sectors}
 use Rattle.qcow2_metadata.proofs.TableLemmas.{first_fault-set, no_fault_item}
 use Rattle.qcow2_metadata.specs.Table.{first_fault}
-use Rattle.qcow2_metadata.specs.Edits.{EntryEdit, IsEdit, IsRun, RunsTo, TableEdit, after_edit, can_be_made, changed, data_entry, dropped, fits_table, gained, handed_back, has_host_cluster, is_just, is_mappable, keeps, one_if, references, run_of, times_gained, to_data, to_nothing, to_zeros, with_zero_flag}
+use Rattle.qcow2_metadata.specs.Table.L2Guards.{EntryEdit, IsEdit, IsRun, RunsTo, TableEdit, after_edit, can_be_made, changed, data_entry, dropped, fits_table, gained, handed_back, has_host_cluster, is_just, is_mappable, keeps, one_if, references, run_of, times_gained, to_data, to_nothing, to_zeros, with_zero_flag}
 
 -- an entry of data in a host cluster at an offset: it is standard and copied, with no reserved bit
 record IsDataAt (v offset : ℕ) : Type 0 where
@@ -71,7 +72,7 @@ data_range g cluster bits mappable =
 abbrev pub just : ℕ → ClustersToFreeEntry
 just cluster = record { first = record { 0 = cluster }; count = record { 0 = 1 } }
 
-clusters_of_one : (cb cluster : ℕ) → clusters_of cb (bytes_of_cluster cb cluster) ≡ just cluster
+clusters_of_one : (cb cluster : ℕ) → clusters_met cb (bytes_of_cluster cb cluster) ≡ just cluster
 clusters_of_one cb cluster =
     let positive = pow_pos cb in
     let first : first_cluster cb (bytes_of_cluster cb cluster) ≡ cluster = mul-div_cancel cluster positive in
@@ -128,7 +129,7 @@ standard_if_host_cluster g v has = not_first (is_compressed v) (is_allocated g.e
 -- an entry that has a host cluster refers to the same with the zero flag
 pub with_zero_flag-allocation : (g : Geometry) (v : ℕ) → has_host_cluster g v ≡ true → allocation g (with_zero_flag v) ≡ allocation g v
 with_zero_flag-allocation g v has =
-    ap (λ (found : Option ByteRange). option_map (clusters_of g.cluster_bits) found) (with_zero_flag-byte_range g v (standard_if_host_cluster g v has))
+    ap (λ (found : Option ByteRange). option_map (clusters_met g.cluster_bits) found) (with_zero_flag-byte_range g v (standard_if_host_cluster g v has))
 
 both_false : (external : Bool) → (external && false) ≡ false
 both_false true = refl
@@ -196,7 +197,7 @@ just_is_all cluster (Some clusters) some = (
       grind (arith, nat_tests, second),
 )
 
-some_clusters : (cb : ℕ) (found : Option ByteRange) → IfSome (option_map (clusters_of cb) found) (λ some. 1 ≤ some.count.0)
+some_clusters : (cb : ℕ) (found : Option ByteRange) → IfSome (option_map (clusters_met cb) found) (λ some. 1 ≤ some.count.0)
 some_clusters cb None = tt
 some_clusters cb (Some range) = omega arith
 

@@ -2,7 +2,10 @@ use Rattle.std.proofs.Common.{◌≡◌, ℕ, ◌*◌, Some, None, true, false, 
 use Rattle.qcow2_base.specs.declared.fault.Fault.TheVariants.{EntryReserved, EntryUnaligned}
 use Rattle.qcow2_metadata.specs.Header.{geometry}
 use Rattle.qcow2_metadata.specs.declared.entries.ClustersToFreeEntry.{ClustersToFreeEntry}
-use Rattle.qcow2_metadata.specs.Entries.{allocation, backing, compressed, compressed_length, compressed_offset, data_file, entry_of, is_consecutive, l1_entry_for, l1_fault, l2_fault, mapping, meets, stored_mapping, ref_fault, zeros}
+use Rattle.qcow2_metadata.specs.Entries.L2Entry.{allocation, compressed_length, compressed_offset, l2_fault, meets}
+use Rattle.qcow2_metadata.specs.Entries.L2Mapping.{backing, compressed, data_file, zeros, entry_of, is_consecutive, mapping, stored_mapping}
+use Rattle.qcow2_metadata.specs.Entries.L1Entry.{l1_entry_for, l1_fault}
+use Rattle.qcow2_metadata.specs.Entries.RefTableEntry.{ref_fault}
 
 -- numbers that are no entries: a reserved bit, an offset inside a cluster
 pub reserved_bit_56 : l2_fault 9 0x4100000000000000 ≡ Some EntryReserved

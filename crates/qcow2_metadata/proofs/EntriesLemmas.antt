@@ -5,7 +5,10 @@ use Rattle.std.proofs.Math.Nat.{mul_assoc, mul-mod_left, le-div_iff_mul-le, div-
 use Rattle.std.proofs.Math.Pow.{pow_mono}
 use Rattle.std.proofs.lemmas.Bool.Decides.{same_from_decides, Decides-eqb, Decides-ltb, nat_tests}
 use Rattle.qcow2_metadata.specs.Header.{Geometry}
-use Rattle.qcow2_metadata.specs.Entries.{ByteRange, IsAllocation, IsAmong, Meets, RangeMeets, byte_range, cluster_count, clusters_of, compressed_length, compressed_offset, entry_fault, first_cluster, is_allocated, is_among, is_compressed, l1_entry_for, l1_fault, l1_reserved_bits, ref_fault, ref_reserved_bits, l2_fault, l2_reserved_bits, meets, offset_field}
+use Rattle.qcow2_metadata.specs.Entries.L2Entry.{ByteRange, IsAllocation, Meets, RangeMeets, byte_range, cluster_count, clusters_met, compressed_length, compressed_offset, first_cluster, is_allocated, is_compressed, l2_fault, l2_reserved_bits, meets}
+use Rattle.qcow2_metadata.specs.Entries.{IsAmong, entry_fault, is_among, offset_field}
+use Rattle.qcow2_metadata.specs.Entries.L1Entry.{l1_entry_for, l1_fault, l1_reserved_bits}
+use Rattle.qcow2_metadata.specs.Entries.RefTableEntry.{ref_fault, ref_reserved_bits}
 
 div_rises : (a b k : ℕ) → 0 < k → a ≤ b → a / k ≤ b / k
 div_rises a b k p h = (le-div_iff_mul-le p).1 (omega (arith, div-mul-le_self a k))
@@ -55,7 +58,7 @@ sectors_fill_two_clusters cb low =
     omega (arith, rw same at split)
 
 -- the clusters of an entry's range are those that the entry meets
-met_by_entry : (g : Geometry) (v c : ℕ) (range : ByteRange) → byte_range g v ≡ Some range → range.start < range.end → Meets g v c ↔ IsAmong (clusters_of g.cluster_bits range) c
+met_by_entry : (g : Geometry) (v c : ℕ) (range : ByteRange) → byte_range g v ≡ Some range → range.start < range.end → Meets g v c ↔ IsAmong (clusters_met g.cluster_bits range) c
 met_by_entry g v c range is some =
     let around = met_clusters g.cluster_bits range c some in (
       λ met. let same : met.0 ≡ range = cc in
@@ -98,11 +101,11 @@ byte_range_has_bytes g v range is =
     (record { start = offset_field v; end = offset_field v + 2 ^ cb })
     range (omega arith) (omega (arith, pow_pos cb)) is
 
-meets_by_range : (g : Geometry) (v c : ℕ) (found : Option ByteRange) → byte_range g v ≡ found → IsTrue (unwrap_or (option_map (λ clusters. is_among clusters c) (option_map (clusters_of g.cluster_bits) found)) false) ↔ Meets g v c
+meets_by_range : (g : Geometry) (v c : ℕ) (found : Option ByteRange) → byte_range g v ≡ found → IsTrue (unwrap_or (option_map (λ clusters. is_among clusters c) (option_map (clusters_met g.cluster_bits) found)) false) ↔ Meets g v c
 meets_by_range g v c None is = (λ t. cc, λ met. let no : None ≡ Some met.0 = cc in cc)
 meets_by_range g v c (Some range) is =
     let met = met_by_entry g v c range is (byte_range_has_bytes g v range is) in
-    let clusters = clusters_of g.cluster_bits range in
+    let clusters = clusters_met g.cluster_bits range in
     (λ t. met.1 (grind (arith, nat_tests)), λ m. let among = met.0 m in grind (arith, nat_tests))
 
 -- the test whether an entry meets a cluster is true just where it does

@@ -18,12 +18,12 @@ use Rattle.std.proofs.lemmas.Bool.{cases_lt}
 use Rattle.std.proofs.lemmas.Bool.Decides.{nat_tests}
 use Rattle.qcow2_metadata.proofs.GrammarLemmas.{and_then-ok}
 use Rattle.qcow2_metadata.specs.Header.{feature_name_in}
-use Rattle.qcow2_metadata.specs.declared.header.extension.HeaderExtensionType.{HeaderExtensionType}
-use Rattle.qcow2_metadata.specs.declared.header.extension.HeaderExtensionType.TheVariants as kind
+use Rattle.qcow2_metadata.specs.declared.header.extensions.HeaderExtensionType.{HeaderExtensionType}
+use Rattle.qcow2_metadata.specs.declared.header.extensions.HeaderExtensionType.TheVariants as kind
 use Rattle.qcow2_metadata.specs.Header.Extensions.{FeatureKey, FeatureNameTable, FeatureNames, HasKey, IsLastNamed, Unknown, chunk_at, feature_names, name_at, extension_number, parsed, key_cmp, names_of_chunks, text, until_zero, with_feature_name}
 use Rattle.qcow2_metadata.specs.Header.Features.{feature_type_number, feature_type_of}
-use Rattle.qcow2_metadata.specs.declared.header.feature.FeatureType.{FeatureType}
-use Rattle.qcow2_metadata.specs.declared.header.feature.FeatureType.TheVariants.{Autoclear, Compatible, Incompatible}
+use Rattle.qcow2_metadata.specs.declared.header.features.FeatureType.{FeatureType}
+use Rattle.qcow2_metadata.specs.declared.header.features.FeatureType.TheVariants.{Autoclear, Compatible, Incompatible}
 
 -- a list up to the first zero byte
 until_zero-take : (bytes : List ℕ) (n : ℕ) → n ≤ length bytes → ((k : ℕ) → k < n → slice_index bytes k ≢ 0)

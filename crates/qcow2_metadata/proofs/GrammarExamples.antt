@@ -7,12 +7,12 @@ use lib.Utf8.{encode}
 use Rattle.qcow2_base.specs.Storage.{Image, be}
 use Rattle.qcow2_base.specs.declared.fault.Fault.{Fault}
 use Rattle.qcow2_base.specs.declared.fault.Fault.TheVariants as fault
-use Rattle.qcow2_metadata.specs.Answers.{result_map}
+use Rattle.qcow2_metadata.specs.Results.{result_map}
 use Rattle.qcow2_metadata.specs.Header.{HeaderRecord, feature_name_in, first_by, uses_external_data}
 use Rattle.qcow2_metadata.specs.Header.Chain.{extensions_at}
 use Rattle.qcow2_metadata.specs.Header.Extensions.{Extension, BackingFileFormat, FeatureNameTable, FeatureNames, FeatureKey, ExternalDataFileName, Unknown}
 use Rattle.qcow2_metadata.specs.Header.Grammar.{header_of}
-use Rattle.qcow2_metadata.specs.declared.header.feature.FeatureType.TheVariants.{Incompatible, Compatible, Autoclear}
+use Rattle.qcow2_metadata.specs.declared.header.features.FeatureType.TheVariants.{Incompatible, Compatible, Autoclear}
 
 -- `unfolding computing` opens what the header of an image that is written out is computed by
 unfoldable computing : ⊤

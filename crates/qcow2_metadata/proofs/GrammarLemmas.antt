@@ -11,13 +11,12 @@ use Rattle.qcow2_base.specs.declared.fault.Fault.{Fault}
 use Rattle.qcow2_base.specs.declared.fault.Fault.TheVariants.{BackingNameText}
 use Rattle.qcow2_base.specs.declared.on_disk_struct.v2_header.V2Header.{V2Header}
 use Rattle.qcow2_base.specs.declared.on_disk_struct.v3_header_base.V3HeaderBase.{V3HeaderBase}
-use Rattle.qcow2_metadata.specs.Answers.{and_then, first_failed, provided, result_map}
-use Rattle.qcow2_metadata.specs.Header.{HeaderRecord, magic, name_in, names_by}
+use Rattle.qcow2_metadata.specs.Results.{and_then, first_failed, provided, result_map}
+use Rattle.qcow2_metadata.specs.Header.{HeaderRecord, magic, name_in, names_by, all_same}
 use Rattle.qcow2_metadata.specs.Header.Extensions.{Extension, text}
-use Rattle.qcow2_metadata.specs.Header.{all_same}
 use Rattle.qcow2_metadata.specs.Header.Grammar.{AreSame, HasExtensions, IsBackingName, IsBase, IsHeader, backing_name, base_at, field_conditions, fixed_parts, header_extensions, header_of, last_conditions, name_conditions, v2_at, version_conditions}
 use Rattle.qcow2_metadata.specs.Range.{bytes_at}
-use Rattle.qcow2_metadata.specs.declared.header.extension.HeaderExtensionType.TheVariants as kind
+use Rattle.qcow2_metadata.specs.declared.header.extensions.HeaderExtensionType.TheVariants as kind
 use Rattle.qcow2_metadata.proofs.ChainLemmas.{extensions_at-says, result_map-ok, says-extensions_at}
 
 -- the two answers of which one came

@@ -14,9 +14,9 @@ use Rattle.qcow2_metadata.specs.Header.{HeaderRecord}
 use Rattle.qcow2_metadata.specs.Header.Extensions.{Extension, FeatureNameTable, FeatureKey, FeatureNames, extension_of, names_of}
 use Rattle.qcow2_base.specs.OnDiskStruct.{header_extension_header, v2_header, v3_header_base}
 use Rattle.qcow2_metadata.specs.Header.Features.{feature_type_number}
-use Rattle.qcow2_metadata.specs.Header.Text.{IsChosen, IsLayout, bare, is_short, kept, placed, chosen, chosen_extensions, header_text, data_of, extension_header_of, extension_text, extensions_text, fields_text, is_other, name_chunk, fits, name_place, name_text, padded, parts_text, placed_base, written_text}
+use Rattle.qcow2_metadata.specs.Header.Text.{IsChosen, IsLayout, bare, is_short, kept, placed, chosen, chosen_extensions, header_text, data_of, extension_header_of, extension_text, extensions_text, fields_text, is_other, name_chunk, fits_first_cluster, name_place, name_text, padded, parts_text, placed_base, written_text}
 use Rattle.qcow2_metadata.specs.declared.header.text.Layout.{Layout}
-use Rattle.qcow2_metadata.specs.declared.header.extension.HeaderExtension.{HeaderExtension}
+use Rattle.qcow2_metadata.specs.declared.header.extensions.HeaderExtension.{HeaderExtension}
 use Rattle.qcow2_metadata.proofs.NamesLemmas.{length-name_chunks}
 
 -- the text of the extensions that are written is that of each, or nothing
@@ -128,12 +128,12 @@ extensions_pieces text before after with_names held i all parts zeros =
 
 -- a text that is longer than the first cluster doesn't fit it
 pub too_long : (header : HeaderRecord) → IsKnown header
-    → 2 ^ header.v2.cluster_bits < name_place header + length (name_text header.backing_filename) → fits header ≡ false
+    → 2 ^ header.v2.cluster_bits < name_place header + length (name_text header.backing_filename) → fits_first_cluster header ≡ false
 too_long header known long = grind (arith, nat_tests, length-header_text header known)
 
 -- a text that isn't fits
 pub short_enough : (header : HeaderRecord) → IsKnown header
-    → name_place header + length (name_text header.backing_filename) ≤ 2 ^ header.v2.cluster_bits → fits header ≡ true
+    → name_place header + length (name_text header.backing_filename) ≤ 2 ^ header.v2.cluster_bits → fits_first_cluster header ≡ true
 short_enough header known short = grind (arith, nat_tests, length-header_text header known)
 
 -- the pieces before the extensions in version 3
@@ -154,7 +154,7 @@ newer_pieces header layout text first second third newer is v2 base unknown =
     ∙ joined ∙ ap (λ bytes. text ++ bytes) (sym parts)
 
 -- the extensions of a header that fits are few bytes
-pub extensions_short : (header : HeaderRecord) → IsKnown header → header.v2.cluster_bits ≤ 21 → fits header ≡ true
+pub extensions_short : (header : HeaderRecord) → IsKnown header → header.v2.cluster_bits ≤ 21 → fits_first_cluster header ≡ true
     → length (extensions_text header.extensions) < 2 ^ 32
 extensions_short header known bits inside =
     let few : 2 ^ header.v2.cluster_bits ≤ 2 ^ 21 = pow_mono bits in
@@ -189,20 +189,20 @@ short-name None short = refl
 short-name (Some name) short = grind (arith, nat_tests)
 
 -- a header whose text fits is written whole
-pub kept-whole : (header : HeaderRecord) → length (name_text header.backing_filename) ≤ 1023 → fits header ≡ true
+pub kept-whole : (header : HeaderRecord) → length (name_text header.backing_filename) ≤ 1023 → fits_first_cluster header ≡ true
     → kept header ≡ Ok (placed header)
 unfolding kept
 kept-whole header short whole = rw (short-name header.backing_filename short, whole) refl
 
 -- else it is written without feature names, if that fits
-pub kept-bare : (header : HeaderRecord) → length (name_text header.backing_filename) ≤ 1023 → fits header ≡ false
-    → fits (bare header) ≡ true → kept header ≡ Ok (placed (bare header))
+pub kept-bare : (header : HeaderRecord) → length (name_text header.backing_filename) ≤ 1023 → fits_first_cluster header ≡ false
+    → fits_first_cluster (bare header) ≡ true → kept header ≡ Ok (placed (bare header))
 unfolding kept
 kept-bare header short whole few = rw (short-name header.backing_filename short, whole, few) refl
 
 -- and else it is refused
-pub kept-none : (header : HeaderRecord) → length (name_text header.backing_filename) ≤ 1023 → fits header ≡ false
-    → fits (bare header) ≡ false → kept header ≡ Err HeaderTooLong
+pub kept-none : (header : HeaderRecord) → length (name_text header.backing_filename) ≤ 1023 → fits_first_cluster header ≡ false
+    → fits_first_cluster (bare header) ≡ false → kept header ≡ Err HeaderTooLong
 unfolding kept
 kept-none header short whole few = rw (short-name header.backing_filename short, whole, few) refl
 
@@ -215,8 +215,8 @@ whole-chosen header layout short is names =
 
 -- where there is none, the answer is the layout without feature names, or the fault
 pub bare-chosen : (header : HeaderRecord) (found : Option Layout) → length (name_text header.backing_filename) ≤ 1023
-    → fits (chosen true header) ≡ false
-    → MatchOption found (fits (chosen false header) ≡ false) (IsLayout (chosen false header))
+    → fits_first_cluster (chosen true header) ≡ false
+    → MatchOption found (fits_first_cluster (chosen false header) ≡ false) (IsLayout (chosen false header))
     → IfSome found (λ layout. layout.with_names ≡ false) → IsChosen header (ok_or found HeaderTooLong)
 bare-chosen header None short whole few names = kept-none header short whole few
 bare-chosen header (Some layout) short whole is names =

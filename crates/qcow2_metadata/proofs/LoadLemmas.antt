@@ -9,7 +9,7 @@ use Rattle.qcow2_base.specs.declared.on_disk_struct.v3_header_base.V3HeaderBase.
 use Rattle.qcow2_base.proofs.OnDiskStructLemmas.{HoldsLayout-moved}
 use Rattle.qcow2_metadata.proofs.ChainLemmas.{extensions_at-unfold}
 use Rattle.qcow2_metadata.proofs.GrammarLemmas.{header_of-is, holds-base_at, holds-v2_at, is-header_of}
-use Rattle.qcow2_metadata.specs.Answers.{Answers, first_failed, provided, result_map}
+use Rattle.qcow2_metadata.specs.Results.{Answers, first_failed, provided, result_map}
 use Rattle.qcow2_metadata.specs.Header.{HeaderRecord, default_base}
 use Rattle.qcow2_metadata.specs.Header.Chain.{extension_at, extension_header_at, extensions_at}
 use Rattle.qcow2_metadata.specs.Header.Extensions.{Extension}

@@ -9,7 +9,9 @@ use Rattle.qcow2_base.specs.declared.fault.Fault.TheVariants.{EntryReserved}
 use Rattle.qcow2_metadata.specs.Header.{geometry}
 use Rattle.qcow2_metadata.specs.declared.entries.l2_mapping.L2Mapping.{L2Mapping}
 use Rattle.qcow2_metadata.specs.declared.entries.l2_mapping.L2Mapping.TheVariants.{DataFile, Backing, Zero, Compressed}
-use Rattle.qcow2_metadata.specs.Entries.{FitsEntry, IsPlaced, backing, compressed, copied_bit, data_file, entry_fault, entry_of, is_compressed, is_told, l2_fault, mapping, meaning, offset_field, stored_mapping, sector_end, sectors_beyond, standard_mapping, zeros}
+use Rattle.qcow2_metadata.specs.Entries.L2Mapping.{FitsEntry, IsPlaced, copied_bit, entry_of, is_told, mapping, meaning, stored_mapping, sector_end, sectors_beyond, standard_mapping, backing, compressed, data_file, zeros}
+use Rattle.qcow2_metadata.specs.Entries.{entry_fault, offset_field}
+use Rattle.qcow2_metadata.specs.Entries.L2Entry.{is_compressed, l2_fault}
 use Rattle.qcow2_metadata.proofs.EntriesLemmas.{l2_fault_zero, sectors_fill_two_clusters}
 
 -- the number of a flag

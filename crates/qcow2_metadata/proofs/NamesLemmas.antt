@@ -21,18 +21,18 @@ use Rattle.qcow2_metadata.proofs.CutLemmas.{IsCutText, IsCutText-take, utf8_loss
 use Rattle.qcow2_metadata.proofs.ExtensionsLemmas.{parsed-unknown, text-valid, with_feature_name-named}
 use Rattle.qcow2_metadata.specs.Header.{IsStorable}
 use Rattle.qcow2_metadata.specs.Header.Extensions.{BackingFileFormat, Extension, ExternalDataFileName, FeatureKey, FeatureNameTable, FeatureNames, Unknown, chunk_at, extension_of, feature_names, key_cmp, names_of_chunks, parsed, until_zero, with_feature_name}
-use Rattle.qcow2_metadata.specs.Header.Text.{data_of, name_chunk, normal_extension, normal_name, number_of}
-use Rattle.qcow2_metadata.specs.Answers.{result_map}
-use Rattle.qcow2_metadata.specs.declared.header.extension.HeaderExtension.{HeaderExtension}
-use Rattle.qcow2_metadata.specs.declared.header.extension.HeaderExtension.TheVariants as held
-use Rattle.qcow2_metadata.specs.declared.header.extension.HeaderExtensionType.TheVariants as kind
-use Rattle.qcow2_metadata.specs.declared.header.feature.FeatureType.TheVariants.{Autoclear, Compatible, Incompatible}
+use Rattle.qcow2_metadata.specs.Header.Text.{data_of, name_chunk, normal_extension, normal_name, type_number}
+use Rattle.qcow2_metadata.specs.Results.{result_map}
+use Rattle.qcow2_metadata.specs.declared.header.extensions.HeaderExtension.{HeaderExtension}
+use Rattle.qcow2_metadata.specs.declared.header.extensions.HeaderExtension.TheVariants as held
+use Rattle.qcow2_metadata.specs.declared.header.extensions.HeaderExtensionType.TheVariants as kind
+use Rattle.qcow2_metadata.specs.declared.header.features.FeatureType.TheVariants.{Autoclear, Compatible, Incompatible}
 
 -- the number of its type fits its field and isn't End's, and its data reads as what it reads back as
 abbrev pub ReadsBack : Extension → Type 0
 ReadsBack extension =
-    (number_of extension < 2 ^ 32) × (number_of extension ≢ 0)
-    × (parsed (number_of extension) (data_of extension) ≡ Ok (normal_extension extension))
+    (type_number extension < 2 ^ 32) × (type_number extension ≢ 0)
+    × (parsed (type_number extension) (data_of extension) ≡ Ok (normal_extension extension))
 
 -- a name and what it reads back as, by their key
 abbrev pub normal_named : FeatureKey × List ℕ → FeatureKey × List ℕ

@@ -6,7 +6,8 @@ use Rattle.std.proofs.lemmas.Nat.{mul-add-lt, pow-add}
 use Rattle.std.proofs.Math.Nat.{div-eq_of_lt, div-one, mod-one}
 use Rattle.qcow2_base.specs.Bits.{field}
 use Rattle.qcow2_base.specs.Storage.{IsBytes, image_of}
-use Rattle.qcow2_metadata.specs.Refblock.{AreCounters, counter_at, counters_at, from_digits, packed, per_byte, width}
+use Rattle.qcow2_metadata.specs.Refblock.Counters.{AreCounters}
+use Rattle.qcow2_metadata.specs.Refblock.Packing.{counter_at, counters_at, from_digits, packed, per_byte, width}
 use Rattle.qcow2_metadata.proofs.PackingLemmas.{counter_at-narrow, counters_at-append, counters_at-same, narrow_cases, packed-narrow, width-per_byte}
 
 -- a width as the code makes it, and the number of values that a counter has

@@ -1,6 +1,6 @@
 use Rattle.std.proofs.Common.{◌≡◌, ℕ, ◌^◌, ◌∷◌, [], replicate, true, refl}
 use Rattle.qcow2_base.specs.Storage.{StorageState}
-use Rattle.qcow2_metadata.specs.Table.OneEntry.{entry_alignment, numbers_in, range_of}
+use Rattle.qcow2_metadata.specs.Table.OneEntry.{entry_alignment, numbers_in, entries_together}
 
 -- a storage with these alignments
 abbrev aligned : ℕ → ℕ → StorageState
@@ -27,13 +27,13 @@ pub largest_cluster : entry_alignment 21 (aligned 1 (2 ^ 21)) ≡ 2 ^ 21
 largest_cluster = refl
 
 -- entry 300 alone, and with those in its 512 bytes, which are entries 256 to 319
-pub entry_300_alone : range_of 9 (aligned 4096 4096) 300 ≡ record { first = 300; count = 1 }
+pub entry_300_alone : entries_together 9 (aligned 4096 4096) 300 ≡ record { first = 300; count = 1 }
 entry_300_alone = refl
 
-pub entry_300_in_512_bytes : range_of 9 (aligned 512 512) 300 ≡ record { first = 256; count = 64 }
+pub entry_300_in_512_bytes : entries_together 9 (aligned 512 512) 300 ≡ record { first = 256; count = 64 }
 entry_300_in_512_bytes = refl
 
-pub entry_300_in_256_bytes : range_of 9 (aligned 256 1) 300 ≡ record { first = 288; count = 32 }
+pub entry_300_in_256_bytes : entries_together 9 (aligned 256 1) 300 ≡ record { first = 288; count = 32 }
 entry_300_in_256_bytes = refl
 
 -- past its end a table counts as zeros

@@ -12,8 +12,8 @@ use Rattle.std.proofs.lemmas.List.{take_all}
 use Rattle.std.proofs.lemmas.List.FromFn.{get_or-map-range_with_len}
 use Rattle.qcow2_metadata.proofs.PieceLemmas.{numbers_stand}
 use Rattle.qcow2_metadata.proofs.TableLemmas.{table_numbers-held}
-use Rattle.qcow2_metadata.specs.Table.{TablePlace, TableState, offset_of, on_storage, place_of, table_numbers, write_fault}
-use Rattle.qcow2_metadata.specs.Table.OneEntry.{EntryRange, IsEntryWriteFault, IsWrittenEntry, IsPartOfCluster, WritesEntries, WritesEntry, cluster_offset, numbers_in, range_of, range_offset}
+use Rattle.qcow2_metadata.specs.Table.{TablePlace, TableState, offset_of, table_on_storage, place_of, table_numbers, write_fault}
+use Rattle.qcow2_metadata.specs.Table.OneEntry.{EntryRange, IsEntryWriteFault, IsWrittenEntry, IsPartOfCluster, WritesEntries, WritesEntry, cluster_offset, numbers_in, entries_together, range_offset}
 
 -- functions that agree over two ranges have the same values there
 ranges_same : (f g : ℕ → ℕ) (a b n : ℕ) → ((j : ℕ) → j < n → f (a + j) ≡ g (b + j)) → map f (range_with_len a n) ≡ map g (range_with_len b n)
@@ -186,12 +186,12 @@ wider offset len cluster size old new from within outside = record {
 
 -- a write of a table's entries at a lawful place is one of the entry
 pub WritesEntry-of : {T : Type 0} (most index : ℕ) (table : TableState) (cluster : HostCluster) (answer : Result T Fault) (old new : StorageState) → table.cluster ≡ Some cluster → write_fault most table ≡ None
-    → table.geometry.cluster_bits ≤ 21 → IsPartOfCluster table.geometry.cluster_bits (range_of table.geometry.cluster_bits old index).count
-    → WritesEntries answer (cluster.0 * 2 ^ table.geometry.cluster_bits + 8 * (range_of table.geometry.cluster_bits old index).first) (range_of table.geometry.cluster_bits old index) table.numbers old new
-    → WritesEntry most index (range_of table.geometry.cluster_bits old index) answer (on_storage table old) (on_storage table new)
+    → table.geometry.cluster_bits ≤ 21 → IsPartOfCluster table.geometry.cluster_bits (entries_together table.geometry.cluster_bits old index).count
+    → WritesEntries answer (cluster.0 * 2 ^ table.geometry.cluster_bits + 8 * (entries_together table.geometry.cluster_bits old index).first) (entries_together table.geometry.cluster_bits old index) table.numbers old new
+    → WritesEntry most index (entries_together table.geometry.cluster_bits old index) answer (table_on_storage table old) (table_on_storage table new)
 WritesEntry-of most index table cluster answer old new has none low part wrote =
     let cb = table.geometry.cluster_bits in
-    let range = range_of cb old index in
+    let range = entries_together cb old index in
     let place : TablePlace = record { geometry = table.geometry; cluster = cluster; entries = length table.numbers } in
     let here : place_of table ≡ Some place = rw has refl in
     let few = part-few cb range.count low part in

@@ -3,20 +3,20 @@ use Rattle.std.specs.Prelude.{Err, IfErr, Ok, Result}
 use Rattle.qcow2_base.specs.Storage.{Image}
 use Rattle.qcow2_base.specs.declared.fault.Fault.{Fault}
 use Rattle.qcow2_base.specs.declared.fault.Fault.TheVariants.{HeaderTooLong, NoMemory, Storage}
-use Rattle.qcow2_metadata.specs.Answers.{Answers, RefusesFirst}
+use Rattle.qcow2_metadata.specs.Results.{Answers, RefusesFirst}
 use Rattle.qcow2_metadata.specs.Header.{HeaderRecord}
 use Rattle.qcow2_metadata.specs.Header.Grammar.{SameFirstCluster, header_of}
 use Rattle.qcow2_metadata.specs.Header.Open.{IsOpenFault, opened, without_autoclear}
-use Rattle.qcow2_metadata.specs.Header.Text.{bare, fits, is_short, kept, placed}
+use Rattle.qcow2_metadata.specs.Header.Text.{bare, fits_first_cluster, is_short, kept, placed}
 use Rattle.qcow2_metadata.proofs.ClusterLemmas.{header_of-same}
 
 -- why a header whose name isn't too long isn't written
 kept-too_long : (header : HeaderRecord) (fault : Fault) → is_short header.backing_filename ≡ true
     → kept header ≡ Err fault → fault ≡ HeaderTooLong
 unfolding kept
-kept-too_long header fault short is = by_tests (fits header) (fits (bare header)) refl refl
+kept-too_long header fault short is = by_tests (fits_first_cluster header) (fits_first_cluster (bare header)) refl refl
   where
-    by_tests : (whole few : Bool) → fits header ≡ whole → fits (bare header) ≡ few → fault ≡ HeaderTooLong
+    by_tests : (whole few : Bool) → fits_first_cluster header ≡ whole → fits_first_cluster (bare header) ≡ few → fault ≡ HeaderTooLong
     by_tests true few is_whole is_few = let taken : kept header ≡ Ok (placed header) = rw (short, is_whole) refl in cc
     by_tests false true is_whole is_few =
         let taken : kept header ≡ Ok (placed (bare header)) = rw (short, is_whole, is_few) refl in cc

@@ -9,7 +9,8 @@ use Rattle.std.proofs.Math.Nat.{mul-add-div, mul-add-mod_self_left, add-mul-div_
 use Rattle.std.proofs.Math.Arith.{mod-mul}
 use Rattle.qcow2_base.specs.Bits.{field}
 use Rattle.qcow2_base.specs.Storage.{Image, IsBytes, be, be_fits, be_of_same, be_tells, image_of}
-use Rattle.qcow2_metadata.specs.Refblock.{AreCounters, bytes_each, counter_at, counters_at, from_digits, packed, per_byte, width}
+use Rattle.qcow2_metadata.specs.Refblock.Counters.{AreCounters}
+use Rattle.qcow2_metadata.specs.Refblock.Packing.{bytes_each, counter_at, counters_at, from_digits, packed, per_byte, width}
 use Rattle.qcow2_metadata.proofs.ChunkLemmas.{map_range_at}
 use Rattle.qcow2_metadata.proofs.TableLemmas.{range-append}
 

@@ -8,9 +8,6 @@ use Rattle.qcow2_base.specs.declared.types.HostCluster.{HostCluster}
 use Rattle.qcow2_metadata.specs.Table.{TableState, offset_of, place_of}
 use Rattle.qcow2_metadata.specs.Header.Pointers.{HoldsBetween}
 use Rattle.qcow2_base.specs.Storage.{Holds, Image, image_of}
-use Rattle.qcow2_base.specs.declared.types.HostCluster.{HostCluster}
-use Rattle.qcow2_metadata.specs.Table.{TableState, offset_of, place_of}
-use Rattle.qcow2_metadata.specs.Header.Pointers.{HoldsBetween}
 
 -- an image that has a part of a structure's bytes has the fields that lie in it
 pub part-between : (image : Image) (bytes : List ℕ) (first end : ℕ) (fields : List LayoutField) → end ≤ length bytes

@@ -1,7 +1,8 @@
 use Rattle.std.proofs.Common.{◌≡◌, ◌/◌, ℕ, List, [], ◌∷◌, Some, None, map, refl}
 use Rattle.std.specs.List.{range_with_len}
 use Rattle.qcow2_base.specs.Storage.{be, image_of}
-use Rattle.qcow2_metadata.specs.Refblock.{Decrement, Increment, bytes_each, counters_at, packed, per_byte, stepped, width}
+use Rattle.qcow2_metadata.specs.Refblock.Guard.{Decrement, Increment, stepped}
+use Rattle.qcow2_metadata.specs.Refblock.Packing.{bytes_each, counters_at, packed, per_byte, width}
 
 -- counters that are no wider than a byte share it, and wider ones have several
 counters_of_a_byte : map per_byte (range_with_len 0 4) ≡ map (λ order. 8 / width order) (range_with_len 0 4)

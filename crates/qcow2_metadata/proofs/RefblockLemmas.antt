@@ -12,7 +12,9 @@ use Rattle.qcow2_metadata.proofs.PackingLemmas.{counter_at-packed, counters_at-a
 use Rattle.qcow2_metadata.specs.Pieces.{Stand}
 use Rattle.qcow2_base.specs.Types.{IsClusterBits}
 use Rattle.qcow2_base.specs.declared.types.HostCluster.{HostCluster}
-use Rattle.qcow2_metadata.specs.Refblock.{AreCounters, CanHold, IsLawfulBlock, IsOfOrder, IsWrittenBlock, block_entries, block_offset, counter_at, counters_at, greatest_counter, numbers_of, packed, per_byte, width}
+use Rattle.qcow2_metadata.specs.Refblock.Counters.{AreCounters, CanHold, IsOfOrder, kept_counters}
+use Rattle.qcow2_metadata.specs.Refblock.{IsLawfulBlock, IsWrittenBlock, block_entries, block_offset, greatest_counter}
+use Rattle.qcow2_metadata.specs.Refblock.Packing.{counter_at, counters_at, packed, per_byte, width}
 use Rattle.qcow2_metadata.specs.declared.refblock.counters.Counters.{Counters}
 use Rattle.qcow2_metadata.specs.declared.refblock.counters.Counters.TheVariants.{U8, U16, U32, U64}
 
@@ -49,7 +51,7 @@ pub within_width : (order number : ℕ) → number < 2 ^ width order → number 
 within_width order number below = omega (arith, below)
 
 -- a block of zeros is lawful
-pub zeros-lawful : (cb order : ℕ) (counters : Counters) → IsClusterBits cb → order ≤ 6 → numbers_of counters ≡ replicate (block_entries cb order) 0 → IsLawfulBlock cb order None (numbers_of counters)
+pub zeros-lawful : (cb order : ℕ) (counters : Counters) → IsClusterBits cb → order ≤ 6 → kept_counters counters ≡ replicate (block_entries cb order) 0 → IsLawfulBlock cb order None (kept_counters counters)
 zeros-lawful cb order counters bits orders zeros = record {
   bits = bits;
   orders = orders;
@@ -59,13 +61,13 @@ zeros-lawful cb order counters bits orders zeros = record {
 }
 
 -- and so is one with another counter
-pub set-lawful : (cb order : ℕ) (cluster : Option HostCluster) (old new : Counters) (index number : ℕ) → IsLawfulBlock cb order cluster (numbers_of old) → numbers_of new ≡ slice_set (numbers_of old) index number → number ≤ greatest_counter order → IsLawfulBlock cb order cluster (numbers_of new)
+pub set-lawful : (cb order : ℕ) (cluster : Option HostCluster) (old new : Counters) (index number : ℕ) → IsLawfulBlock cb order cluster (kept_counters old) → kept_counters new ≡ slice_set (kept_counters old) index number → number ≤ greatest_counter order → IsLawfulBlock cb order cluster (kept_counters new)
 set-lawful cb order cluster old new index number lawful set fits = record {
   bits = lawful.bits;
   orders = lawful.orders;
   place = lawful.place;
-  count = ap length set ∙ length-set (numbers_of old) index number ∙ lawful.count;
-  small = rw set (All-set (λ counter. counter < 2 ^ width order) (numbers_of old) index number (below_width order number fits) lawful.small);
+  count = ap length set ∙ length-set (kept_counters old) index number ∙ lawful.count;
+  small = rw set (All-set (λ counter. counter < 2 ^ width order) (kept_counters old) index number (below_width order number fits) lawful.small);
 }
 
 -- the counters of a block fill its cluster
@@ -105,14 +107,14 @@ stand-same order n len counters old new offset orders small whole stand outside 
     ])
 
 -- a lawful block whose bytes stand at its cluster is written
-pub block-written : (cb order : ℕ) (cluster : HostCluster) (counters : Counters) (place : Option HostCluster) (modified : Bool) (old new : Image) → IsLawfulBlock cb order place (numbers_of counters) → place ≡ Some cluster → IsBytes old → Stand (packed order (numbers_of counters)) (2 ^ cb) new (block_offset cb cluster) → SameOutside (block_offset cb cluster) (2 ^ cb) old new → IsWrittenBlock (record { counters = numbers_of counters; cluster = place; modified = modified; cluster_bits = cb; refcount_order = order }) old new
+pub block-written : (cb order : ℕ) (cluster : HostCluster) (counters : Counters) (place : Option HostCluster) (modified : Bool) (old new : Image) → IsLawfulBlock cb order place (kept_counters counters) → place ≡ Some cluster → IsBytes old → Stand (packed order (kept_counters counters)) (2 ^ cb) new (block_offset cb cluster) → SameOutside (block_offset cb cluster) (2 ^ cb) old new → IsWrittenBlock (record { counters = kept_counters counters; cluster = place; modified = modified; cluster_bits = cb; refcount_order = order }) old new
 block-written cb order cluster counters place modified old new lawful is small stand outside =
     let n = block_entries cb order in
     let offset = block_offset cb cluster in
     let whole = block_bytes cb order lawful.bits lawful.orders in
     rw is (record {
-      decoded = stand-decoded order n (2 ^ cb) (numbers_of counters) new offset lawful.orders lawful.small lawful.count whole stand;
-      same = stand-same order n (2 ^ cb) (numbers_of counters) old new offset lawful.orders small whole stand outside;
+      decoded = stand-decoded order n (2 ^ cb) (kept_counters counters) new offset lawful.orders lawful.small lawful.count whole stand;
+      same = stand-same order n (2 ^ cb) (kept_counters counters) old new offset lawful.orders small whole stand outside;
     })
 
 -- whole numbers of eight bytes are whole numbers of counters

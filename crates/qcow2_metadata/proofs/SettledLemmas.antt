@@ -11,7 +11,7 @@ use Rattle.qcow2_base.specs.declared.fault.Fault.TheVariants.{HeaderTooLong, Nam
 use Rattle.qcow2_base.specs.declared.on_disk_struct.header_extension_header.HeaderExtensionHeader.{HeaderExtensionHeader}
 use Rattle.qcow2_metadata.specs.Header.{HeaderRecord, IsStorable}
 use Rattle.qcow2_metadata.specs.Header.Extensions.{BackingFileFormat, Extension, ExternalDataFileName, FeatureNameTable, Unknown}
-use Rattle.qcow2_metadata.specs.Header.Text.{IsSettled, bare, data_of, extension_header_of, extension_text, extensions_text, fields_text, fits, header_end, header_text, is_other, is_short, kept, name_place, name_text, normal, normal_extension, number_of, padded, parts_text, placed, placed_base, placed_v2}
+use Rattle.qcow2_metadata.specs.Header.Text.{IsSettled, bare, data_of, extension_header_of, extension_text, extensions_text, fields_text, fits_first_cluster, header_end, header_text, is_other, is_short, kept, name_place, name_text, normal, normal_extension, type_number, padded, parts_text, placed, placed_base, placed_v2}
 use Rattle.qcow2_metadata.proofs.NamesLemmas.{length-name_chunks, normal_extensions-once, normal_named}
 use Rattle.qcow2_metadata.proofs.TextLemmas.{length-padded}
 
@@ -33,7 +33,7 @@ length-normal_data (FeatureNameTable names) =
 length-normal_data (Unknown number content) = refl
 
 -- and its number
-number_of-normal : (extension : Extension) → number_of (normal_extension extension) ≡ number_of extension
+number_of-normal : (extension : Extension) → type_number (normal_extension extension) ≡ type_number extension
 number_of-normal (BackingFileFormat name) = refl
 number_of-normal (ExternalDataFileName name) = refl
 number_of-normal (FeatureNameTable names) = refl
@@ -168,7 +168,7 @@ header_text-placed header = λ i.
     ++ extensions_text header.extensions ++ name_text header.backing_filename
 
 -- which fits where it fits without the places
-fits-placed : (header : HeaderRecord) → fits (placed header) ≡ fits header
+fits-placed : (header : HeaderRecord) → fits_first_cluster (placed header) ≡ fits_first_cluster header
 fits-placed header =
     let bits = v2_by-bits header.backing_filename header.v2 (name_place header) in
     λ i. nat_le (length (header_text-placed header i)) (2 ^ bits i)
@@ -217,21 +217,21 @@ length-normal_header header =
     )
 
 -- so it fits where the header fits
-fits-normal : (header : HeaderRecord) → fits (normal header) ≡ fits header
+fits-normal : (header : HeaderRecord) → fits_first_cluster (normal header) ≡ fits_first_cluster header
 fits-normal header = ap (λ (n : ℕ). nat_le n (2 ^ header.v2.cluster_bits)) (length-normal_header header)
 
 -- a header that fits is kept with its places
-kept-fits : (header : HeaderRecord) → is_short header.backing_filename ≡ true → fits header ≡ true
+kept-fits : (header : HeaderRecord) → is_short header.backing_filename ≡ true → fits_first_cluster header ≡ true
     → kept header ≡ Ok (placed header)
 unfolding kept
 kept-fits header short fit = rw (short, fit) refl
 
 -- and so it is settled
-settled-fits : (header : HeaderRecord) → is_short header.backing_filename ≡ true → fits header ≡ true
+settled-fits : (header : HeaderRecord) → is_short header.backing_filename ≡ true → fits_first_cluster header ≡ true
     → All IsStorable header.extensions → IsSettled (placed header)
 settled-fits header short fit all =
     let written = placed header in
-    let fit_again : fits written ≡ true = fits-placed header ∙ fit in
+    let fit_again : fits_first_cluster written ≡ true = fits-placed header ∙ fit in
     let places = placed-placed header in
     record {
       again = kept-fits written short fit_again ∙ ap Ok places;
@@ -249,11 +249,11 @@ pub kept-settled : (header written : HeaderRecord) → All IsStorable header.ext
 unfolding kept
 kept-settled header written all is =
     elim (cases_Bool (is_short header.backing_filename)) [
-      | inl short ↦ elim (cases_Bool (fits header)) [
+      | inl short ↦ elim (cases_Bool (fits_first_cluster header)) [
         | inl fit ↦
             let same : placed header ≡ written = cc (kept-fits header short fit) in
             subst IsSettled same (settled-fits header short fit all)
-        | inr big ↦ elim (cases_Bool (fits (bare header))) [
+        | inr big ↦ elim (cases_Bool (fits_first_cluster (bare header))) [
           | inl fit ↦
               let whole : kept header ≡ Ok (placed (bare header)) = rw (short, big, fit) refl in
               let same : placed (bare header) ≡ written = cc in

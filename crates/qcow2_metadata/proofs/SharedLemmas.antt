@@ -6,8 +6,9 @@ use Rattle.std.proofs.Math.Nat.{mod-lt}
 use Rattle.std.proofs.Math.Pow.{mod-mod-pow}
 use Rattle.qcow2_base.specs.Bits.{field}
 use Rattle.qcow2_base.specs.declared.fault.Fault.{Fault}
-use Rattle.qcow2_metadata.specs.Edits.{one_if, references}
-use Rattle.qcow2_metadata.specs.Entries.{ByteRange, byte_range, entry_fault, is_compressed, l2_fault, meets, offset_field, shared}
+use Rattle.qcow2_metadata.specs.Table.L2Guards.{one_if, references}
+use Rattle.qcow2_metadata.specs.Entries.L2Entry.{ByteRange, byte_range, is_compressed, l2_fault, meets, shared}
+use Rattle.qcow2_metadata.specs.Entries.{entry_fault, offset_field}
 use Rattle.qcow2_metadata.specs.Header.{Geometry}
 use Rattle.qcow2_metadata.specs.Table.{first_fault}
 use Rattle.qcow2_metadata.proofs.TableLemmas.{no_fault_at_all}

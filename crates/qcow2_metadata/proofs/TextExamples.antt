@@ -6,13 +6,13 @@ use lib.Utf8.{encode}
 use Rattle.qcow2_base.specs.Storage.{be, image_of}
 use Rattle.qcow2_base.specs.declared.fault.Fault.{Fault}
 use Rattle.qcow2_base.specs.declared.fault.Fault.TheVariants as fault
-use Rattle.qcow2_metadata.specs.Answers.{and_then, result_map}
+use Rattle.qcow2_metadata.specs.Results.{and_then, result_map}
 use Rattle.qcow2_metadata.specs.Header.{HeaderRecord, default_base, known_names, new_header}
 use Rattle.qcow2_metadata.specs.Header.Chain.{extensions_at}
 use Rattle.qcow2_metadata.specs.Header.Extensions.{Extension, BackingFileFormat, FeatureNameTable, FeatureNames, ExternalDataFileName, Unknown}
 use Rattle.qcow2_metadata.specs.Header.Grammar.{header_of}
 use Rattle.qcow2_metadata.specs.Header.Text.{chosen_text, extension_text, extensions_text, header_text, kept, name_chunk, normal, normal_name, padded}
-use Rattle.qcow2_metadata.specs.declared.header.feature.FeatureType.TheVariants.{Incompatible, Compatible, Autoclear}
+use Rattle.qcow2_metadata.specs.declared.header.features.FeatureType.TheVariants.{Incompatible, Compatible, Autoclear}
 
 -- `unfolding computing` opens what a header's text is computed by, and what the header of that text is
 unfoldable computing : ⊤

@@ -16,15 +16,15 @@ use Rattle.qcow2_base.specs.declared.on_disk_struct.v3_header_base.V3HeaderBase.
 use Rattle.qcow2_base.proofs.OnDiskStructLemmas.{be_of_bytes}
 use Rattle.qcow2_base.specs.declared.fault.Fault.{Fault}
 use Rattle.qcow2_base.specs.declared.fault.Fault.TheVariants.{HeaderTooLong, NameTooLong}
-use Rattle.qcow2_metadata.specs.Answers.{provided}
+use Rattle.qcow2_metadata.specs.Results.{provided}
 use Rattle.qcow2_metadata.specs.Header.{HeaderRecord, IsLawfulHeader, name_in, names_by}
 use Rattle.qcow2_metadata.specs.Header.Chain.{IsEnd, SaysExtensions, link_at}
 use Rattle.qcow2_metadata.specs.Header.Extensions.{BackingFileFormat, Extension, ExternalDataFileName, FeatureNameTable, Unknown}
 use Rattle.qcow2_metadata.specs.Header.Grammar.{AreSame, HasExtensions, IsBackingName, IsBase, IsHeader}
-use Rattle.qcow2_metadata.specs.Header.Text.{AreFitting, bare, data_of, extension_header_of, extension_text, extensions_text, fields_text, fits, header_end, header_text, is_short, name_place, name_text, kept, normal, normal_extension, number_of, padded, parts_text, placed, placed_base, placed_v2}
+use Rattle.qcow2_metadata.specs.Header.Text.{AreFitting, bare, data_of, extension_header_of, extension_text, extensions_text, fields_text, fits_first_cluster, header_end, header_text, is_short, name_place, name_text, kept, normal, normal_extension, type_number, padded, parts_text, placed, placed_base, placed_v2}
 use Rattle.qcow2_metadata.specs.Range.{bytes_at}
-use Rattle.qcow2_metadata.specs.declared.header.extension.HeaderExtensionType.{HeaderExtensionType}
-use Rattle.qcow2_metadata.specs.declared.header.extension.HeaderExtensionType.TheVariants as kind
+use Rattle.qcow2_metadata.specs.declared.header.extensions.HeaderExtensionType.{HeaderExtensionType}
+use Rattle.qcow2_metadata.specs.declared.header.extensions.HeaderExtensionType.TheVariants as kind
 use Rattle.qcow2_metadata.proofs.GrammarLemmas.{all_same-AreSame, provided-ok}
 use Rattle.qcow2_metadata.proofs.NamesLemmas.{ReadsBack}
 use Rattle.qcow2_metadata.proofs.ChainLemmas.{IsFirst, says_more, says_none}
@@ -211,7 +211,7 @@ length-extension_text extension =
 
 -- what the image has where an extension's text stands
 record HasExtension (image : Image) (place : ℕ) (extension : Extension) : Type 0 where
-  number : be image place 4 ≡ number_of extension
+  number : be image place 4 ≡ type_number extension
   size : be image (place + 4) 4 ≡ length (data_of extension)
   content : bytes_at image (place + 8) (length (data_of extension)) ≡ data_of extension
 
@@ -237,7 +237,7 @@ held-header image place header number size held =
 
 -- an extension's text stands in the image
 held-extension : (image : Image) (place : ℕ) (extension : Extension)
-    → Holds image place (extension_text extension) → number_of extension < 2 ^ 32
+    → Holds image place (extension_text extension) → type_number extension < 2 ^ 32
     → length (data_of extension) < 2 ^ 32 → HasExtension image place extension
 held-extension image place extension held number size =
     let header = extension_header_of extension in
@@ -336,25 +336,25 @@ bare-same header is =
     ap (λ (other : HeaderRecord). record header { extensions = other.extensions }) is
 
 -- a header that is kept as it is fits, and has its places
-kept-by : (header : HeaderRecord) (with_names without_names : Bool) → fits header ≡ with_names
-    → fits (bare header) ≡ without_names → kept_by header with_names without_names ≡ Ok header
-    → (fits header ≡ true) × (header ≡ placed header)
+kept-by : (header : HeaderRecord) (with_names without_names : Bool) → fits_first_cluster header ≡ with_names
+    → fits_first_cluster (bare header) ≡ without_names → kept_by header with_names without_names ≡ Ok header
+    → (fits_first_cluster header ≡ true) × (header ≡ placed header)
 kept-by header true without_names whole part is =
     let same : placed header ≡ header = cc in
     (whole, sym same)
 kept-by header false true whole part is =
     let same : placed (bare header) ≡ header = cc in
     let none = bare-same header same in
-    (ap fits (sym none) ∙ part, sym same ∙ ap placed none)
+    (ap fits_first_cluster (sym none) ∙ part, sym same ∙ ap placed none)
 kept-by header false false whole part is = cc
 
 -- what a header that is kept as it is has
 pub kept-placed : (header : HeaderRecord) → kept header ≡ Ok header → IsPlaced header
 unfolding kept
 kept-placed header is =
-    let next = λ (t : Unit {0}). kept_by header (fits header) (fits (bare header)) in
+    let next = λ (t : Unit {0}). kept_by header (fits_first_cluster header) (fits_first_cluster (bare header)) in
     let hold = provided-ok ((is_short header.backing_filename, NameTooLong) ∷ []) next header is in
-    let by = kept-by header (fits header) (fits (bare header)) refl refl hold.1 in
+    let by = kept-by header (fits_first_cluster header) (fits_first_cluster (bare header)) refl refl hold.1 in
     let inside = by.0 in
     record { placed = by.1; fits = grind (arith, nat_tests, inside); short = hold.0.0 }
 

@@ -17,17 +17,17 @@ use Rattle.qcow2_base.specs.declared.fault.Fault.{Fault}
 use Rattle.qcow2_base.specs.declared.fault.Fault.TheVariants.{FieldChanged}
 use Rattle.qcow2_base.specs.declared.fault.Field.{Field}
 use Rattle.qcow2_base.specs.declared.fault.Field.TheVariants as field
-use Rattle.qcow2_metadata.specs.Answers.{first_failed, provided}
+use Rattle.qcow2_metadata.specs.Results.{first_failed, provided}
 use Rattle.qcow2_metadata.specs.Header.{HeaderRecord, IsLawfulHeader}
 use Rattle.qcow2_metadata.specs.Header.Extensions.{Extension, BackingFileFormat, FeatureNameTable, ExternalDataFileName, Unknown, FeatureKey, extension_of}
 use Rattle.qcow2_metadata.specs.Header.Features.{feature_type_number}
 use Rattle.qcow2_metadata.specs.Header.Update.{AgreeIn, FieldValue, Number, Bytes, Name, Extensions, Flag, IsFirstChange, agreements, kept_fields, same_extension, same_feature_name, same_value, value_in, with_header_length, with_size_and_tables}
-use Rattle.qcow2_metadata.specs.declared.header.extension.HeaderExtension.{HeaderExtension}
-use Rattle.qcow2_metadata.specs.declared.header.extension.HeaderExtension.TheVariants as held
-use Rattle.qcow2_metadata.specs.declared.header.feature.FeatureType.{FeatureType}
-use Rattle.qcow2_metadata.specs.declared.header.feature.FeatureType.TheVariants.{Autoclear, Compatible, Incompatible}
-use Rattle.qcow2_metadata.specs.contracts.header.extension.HeaderExtensionPartialEq.TheImpl as extension_eq
-use Rattle.qcow2_metadata.specs.contracts.header.feature.FeatureTypePartialEq.TheImpl as feature_type_eq
+use Rattle.qcow2_metadata.specs.declared.header.extensions.HeaderExtension.{HeaderExtension}
+use Rattle.qcow2_metadata.specs.declared.header.extensions.HeaderExtension.TheVariants as held
+use Rattle.qcow2_metadata.specs.declared.header.features.FeatureType.{FeatureType}
+use Rattle.qcow2_metadata.specs.declared.header.features.FeatureType.TheVariants.{Autoclear, Compatible, Incompatible}
+use Rattle.qcow2_metadata.specs.contracts.header.extensions.HeaderExtensionPartialEq.TheImpl as extension_eq
+use Rattle.qcow2_metadata.specs.contracts.header.features.FeatureTypePartialEq.TheImpl as feature_type_eq
 
 -- the numbers of two types of features are the same exactly where the types are
 feature_type_number-Decides : (a b : FeatureType) → Decides (feature_type_number a == feature_type_number b) (a ≡ b)

@@ -12,14 +12,14 @@ use Rattle.qcow2_base.specs.declared.on_disk_struct.v2_header.V2Header.{V2Header
 use Rattle.qcow2_base.specs.declared.on_disk_struct.v3_header_base.V3HeaderBase.{V3HeaderBase}
 use Rattle.qcow2_metadata.specs.Header.{HeaderRecord, IsLawfulHeader, IsStorable, default_base, name_in, names_by, other_features}
 use Rattle.qcow2_metadata.specs.Header.Extensions.{BackingFileFormat, Extension, ExternalDataFileName, FeatureNameTable, Unknown, extension_of}
-use Rattle.qcow2_metadata.specs.Header.Text.{AreFitting, IsLayout, IsWritten, bare, base_with_length, chosen, chosen_extensions, chosen_text, fits, header_end, header_text, is_short, kept, placed_text, is_other, name_place, placed, v2_with_name}
+use Rattle.qcow2_metadata.specs.Header.Text.{AreFitting, IsLayout, IsWrittenHeader, bare, base_with_length, chosen, chosen_extensions, chosen_text, fits_first_cluster, header_end, header_text, is_short, kept, placed_text, is_other, name_place, placed, v2_with_name}
 use Rattle.qcow2_metadata.specs.declared.header.text.Layout.{Layout}
 use Rattle.qcow2_metadata.proofs.NamesLemmas.{ReadsBack, storable-reads_back}
 use Rattle.qcow2_metadata.proofs.SettledLemmas.{header_text-placed, kept-settled}
 use Rattle.qcow2_metadata.proofs.TextLemmas.{text-header}
-use Rattle.qcow2_metadata.specs.declared.header.extension.HeaderExtension.{HeaderExtension}
-use Rattle.qcow2_metadata.specs.declared.header.extension.HeaderExtensionType.{HeaderExtensionType}
-use Rattle.qcow2_metadata.specs.declared.header.extension.HeaderExtensionType.TheVariants as kind
+use Rattle.qcow2_metadata.specs.declared.header.extensions.HeaderExtension.{HeaderExtension}
+use Rattle.qcow2_metadata.specs.declared.header.extensions.HeaderExtensionType.{HeaderExtensionType}
+use Rattle.qcow2_metadata.specs.declared.header.extensions.HeaderExtensionType.TheVariants as kind
 
 -- a table of feature names says no name
 no_name : (type : HeaderExtensionType) (extension : Extension) → is_other extension ≡ false
@@ -157,10 +157,10 @@ not_true false is = refl
 pub kept-fault : (header : HeaderRecord) (fault : Fault) → kept header ≡ Err fault
     → (fault ≡ NameTooLong) ⊎ (fault ≡ HeaderTooLong)
 unfolding kept
-kept-fault header fault is = by_tests (is_short header.backing_filename) (fits header) (fits (bare header)) refl refl refl
+kept-fault header fault is = by_tests (is_short header.backing_filename) (fits_first_cluster header) (fits_first_cluster (bare header)) refl refl refl
   where
-    by_tests : (short whole few : Bool) → is_short header.backing_filename ≡ short → fits header ≡ whole
-        → fits (bare header) ≡ few → (fault ≡ NameTooLong) ⊎ (fault ≡ HeaderTooLong)
+    by_tests : (short whole few : Bool) → is_short header.backing_filename ≡ short → fits_first_cluster header ≡ whole
+        → fits_first_cluster (bare header) ≡ few → (fault ≡ NameTooLong) ⊎ (fault ≡ HeaderTooLong)
     by_tests false whole few is_short is_whole is_few =
         let refused : kept header ≡ Err NameTooLong = rw is_short refl in inl (cc)
     by_tests true true few is_short is_whole is_few =
@@ -171,7 +171,7 @@ kept-fault header fault is = by_tests (is_short header.backing_filename) (fits h
         let refused : kept header ≡ Err HeaderTooLong = rw (is_short, is_whole, is_few) refl in inr (cc)
 
 -- a text that fits is short
-pub text-short : (header : HeaderRecord) → header.v2.cluster_bits ≤ 21 → fits header ≡ true
+pub text-short : (header : HeaderRecord) → header.v2.cluster_bits ≤ 21 → fits_first_cluster header ≡ true
     → length (header_text header) ≤ 2 ^ 21
 text-short header bits inside =
     let few : 2 ^ header.v2.cluster_bits ≤ 2 ^ 21 = pow_mono bits in
@@ -206,7 +206,7 @@ pub written-header : (image : Image) (header : HeaderRecord) (layout : Layout) �
     → kept header ≡ Ok (placed (chosen layout.with_names header)) → AreFitting (v2_header layout.v2)
     → (header.v2.version ≡ 3 → AreFitting (v3_header_base layout.base))
     → Holds image 0 (header_text (chosen layout.with_names header))
-    → IsWritten image (placed (chosen layout.with_names header))
+    → IsWrittenHeader image (placed (chosen layout.with_names header))
 written-header image header layout lawful is kept v2 base held =
     let written = chosen layout.with_names header in
     let after = placed-lawful layout.with_names header lawful in

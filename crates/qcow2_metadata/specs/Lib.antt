@@ -1,11 +1,8 @@
-pub mod Answers
-pub mod Edits
 pub mod Entries
 pub mod Header
-pub mod L2Table
 pub mod Pieces
 pub mod Range
 pub mod ReadAhead
 pub mod Refblock
-pub mod RefblockGuard
+pub mod Results
 pub mod Table

@@ -1,83 +1,18 @@
-use Rattle.std.specs.Prelude.{◌≡◌, ◌⊎◌, ◌==◌, IfErr, IsErrOf, IsTrue, OnOk, MatchOption, Result, Ok, Err, option_map, ℕ, Bool, false, true, ◌+◌, ◌-◌, ◌*◌, ◌/◌, ◌%◌, ◌^◌, ◌<◌, ◌≤◌, nat_le, if◌then◌else◌, List, [], ◌∷◌, map, take, drop, length, slice_index, slice_set, Option, Some, None, IfSome}
-use Rattle.std.specs.List.{All, range_with_len}
-use Rattle.qcow2_base.specs.Bits.{field}
-use Rattle.qcow2_base.specs.Storage.{Image, OnlyWrites, StorageState, be}
+pub mod Counters
+pub mod Guard
+pub mod Packing
+use Rattle.std.specs.Prelude.{◌≡◌, ◌⊎◌, IfErr, IsErrOf, IsTrue, OnOk, Result, Ok, Err, option_map, ℕ, Bool, false, true, ◌+◌, ◌-◌, ◌*◌, ◌^◌, ◌<◌, ◌≤◌, List, length, slice_set, Option, Some, None, IfSome}
+use Rattle.qcow2_base.specs.Storage.{Image, OnlyWrites, StorageState}
 use Rattle.qcow2_base.specs.Types.{IsClusterBits}
 use Rattle.qcow2_base.specs.declared.fault.Fault.{Fault}
-use Rattle.qcow2_base.specs.declared.fault.Fault.TheVariants.{CounterRange, NoMemory, NoOffset, Storage}
+use Rattle.qcow2_base.specs.declared.fault.Fault.TheVariants.{NoMemory, NoOffset, Storage}
 use Rattle.qcow2_base.specs.declared.types.HostCluster.{HostCluster}
-use Rattle.qcow2_metadata.specs.Answers.{unless_refused}
+use Rattle.qcow2_metadata.specs.Results.{unless_refused}
 use Rattle.qcow2_metadata.specs.Header.{HeaderRecord}
 use Rattle.qcow2_metadata.specs.Pieces.{IsTornAtPiece}
 use Rattle.qcow2_metadata.specs.Range.{FlagTells, IsWriteFault, range_fault}
-use Rattle.qcow2_metadata.specs.declared.refblock.counters.Counters.{Counters}
-use Rattle.qcow2_metadata.specs.declared.refblock.counters.Counters.TheVariants.{U8, U16, U32, U64}
-
--- by the refcount order: how many bits a counter has
-abbrev pub width : ℕ → ℕ
-width order = 2 ^ order
-
--- whether a counter is no wider than a byte
-abbrev pub is_narrow : ℕ → Bool
-is_narrow order = nat_le order 3
-
--- how many counters a byte has, where they are no wider than it
-abbrev pub per_byte : ℕ → ℕ
-per_byte order = 2 ^ (3 - order)
-
--- how many bytes a counter has, where it is wider than one
-abbrev pub bytes_each : ℕ → ℕ
-bytes_each order = 2 ^ (order - 3)
-
--- counter i of the block that begins at an offset of an image: a digit of a byte, the first one the lowest, or
--- a big-endian number of whole bytes
-abbrev pub counter_at : ℕ → Image → ℕ → ℕ → ℕ
-counter_at order image offset i =
-    if is_narrow order
-    then field (image (offset + i / per_byte order)) (width order * (i % per_byte order)) (width order)
-    else be image (offset + bytes_each order * i) (bytes_each order)
-
--- the first n counters of the block that begins at an offset of an image
-abbrev pub counters_at : ℕ → Image → ℕ → ℕ → List ℕ
-counters_at order image offset n = map (counter_at order image offset) (range_with_len 0 n)
-
--- the number with these digits to a base, the lowest digit first
-abbrev pub from_digits : ℕ → List ℕ → ℕ
-from_digits base [] = 0
-from_digits base (digit ∷ digits) = digit + base * from_digits base digits
-
--- the bytes that counters take in an image: each is the sum of its counters, shifted to their places, or a part
--- of one big-endian counter
-abbrev pub packed : ℕ → List ℕ → Image
-packed order counters j =
-    if is_narrow order
-    then from_digits (2 ^ width order) (take (per_byte order) (drop (per_byte order * j) counters))
-    else slice_index counters (j / bytes_each order) / 256 ^ (bytes_each order - 1 - j % bytes_each order) % 256
-
--- the numbers of a list of counters
-abbrev pub numbers_of : Counters → List ℕ
-numbers_of (U8 list) = list.items
-numbers_of (U16 list) = list.items
-numbers_of (U32 list) = list.items
-numbers_of (U64 list) = list.items
-
--- the list has the type that holds counters of an order
-abbrev pub IsOfOrder : ℕ → Counters → Type 0
-IsOfOrder order (U8 list) = order ≤ 3
-IsOfOrder order (U16 list) = order ≡ 4
-IsOfOrder order (U32 list) = order ≡ 5
-IsOfOrder order (U64 list) = order ≡ 6
-
--- the integers of the list can hold the number
-abbrev pub CanHold : Counters → ℕ → Type 0
-CanHold (U8 list) number = number < 2 ^ 8
-CanHold (U16 list) number = number < 2 ^ 16
-CanHold (U32 list) number = number < 2 ^ 32
-CanHold (U64 list) number = number < 2 ^ 64
-
--- each counter fits its width
-abbrev pub AreCounters : ℕ → List ℕ → Type 0
-AreCounters order counters = All (λ counter. counter < 2 ^ width order) counters
+use Rattle.qcow2_metadata.specs.Refblock.Packing.{counters_at, packed, width}
+use Rattle.qcow2_metadata.specs.Refblock.Counters.{AreCounters}
 
 -- what a block in memory says: its counters, its cluster in the image if it has one, whether it was changed since
 -- it was last read or written, and the image's cluster bits and refcount order
@@ -166,8 +101,8 @@ pub record BlockOnStorage : Type 0 where
   pub storage : StorageState
 
 -- the two together
-abbrev pub on_storage : BlockState → StorageState → BlockOnStorage
-on_storage block storage = record { block = block; storage = storage }
+abbrev pub block_on_storage : BlockState → StorageState → BlockOnStorage
+block_on_storage block storage = record { block = block; storage = storage }
 
 -- a write of a block that ended in this answer
 pub record WritesBlock {T : Type 0} (answer : Result T Fault) (old new : BlockOnStorage) : Type 0 where
@@ -188,28 +123,6 @@ pub record IsLawfulBlock (cb order : ℕ) (cluster : Option HostCluster) (counte
   pub count : length counters ≡ block_entries cb order
   pub small : AreCounters order counters
 
--- a change of a counter: one more reference, or one less
-pub data CounterChange : Type 0 where
-  Increment : CounterChange
-  Decrement : CounterChange
-
 -- the greatest number that a counter holds
 abbrev pub greatest_counter : ℕ → ℕ
 greatest_counter order = 2 ^ width order - 1
-
--- the counter after a change, where that can be made
-abbrev pub stepped : ℕ → CounterChange → ℕ → Option ℕ
-stepped order Increment counter = if counter == greatest_counter order then None else Some (counter + 1)
-stepped order Decrement counter = if counter == 0 then None else Some (counter - 1)
-
--- the counters after a change of the one at an index, which became this if the change was made
-abbrev pub after_change : List ℕ → ℕ → Option ℕ → List ℕ
-after_change counters index None = counters
-after_change counters index (Some counter) = slice_set counters index counter
-
--- a change of the counter at an index, which answered the number before it, or was refused and changed nothing
-pub record Steps (change : CounterChange) (index : ℕ) (answer : Result ℕ Fault) (old new : BlockState) : Type 0 where
-  pub answers : MatchOption (stepped old.refcount_order change (slice_index old.counters index))
-      (answer ≡ Err CounterRange) (λ counter. answer ≡ Ok (slice_index old.counters index))
-  pub steps : MatchOption (stepped old.refcount_order change (slice_index old.counters index))
-      (new ≡ old) (λ counter. new ≡ stepped_block old index counter)

@@ -1,4 +1,6 @@
 pub mod Growth
+pub mod L2Guards
+pub mod L2Table
 pub mod OneEntry
 use Rattle.std.specs.Prelude.{◌≡◌, false, true, OnOk, OnErr, IfErr, IsErrOf, ℕ, Bool, ◌⊎◌, ◌+◌, ◌-◌, ◌*◌, ◌%◌, ◌^◌, ◌<◌, ◌≤◌, max, nat_lt, if◌then◌else◌, List, [], ◌∷◌, ◌++◌, map, length, slice_index, slice_set, take, replicate, Option, Some, None, option_map, Result, Ok, Err, IfSome, IsTrue}
 use Rattle.std.specs.List.{All, range_with_len}
@@ -8,9 +10,11 @@ use Rattle.qcow2_base.specs.Types.{IsClusterBits}
 use Rattle.qcow2_base.specs.declared.fault.Fault.{Fault}
 use Rattle.qcow2_base.specs.declared.fault.Fault.TheVariants.{EntryReserved, EntryUnaligned, NoMemory, NoOffset, Storage, TableTooBig}
 use Rattle.qcow2_base.specs.declared.types.HostCluster.{HostCluster}
-use Rattle.qcow2_metadata.specs.Entries.{Mapping, l1_fault, l2_fault, mapping}
+use Rattle.qcow2_metadata.specs.Entries.L2Mapping.{Mapping, mapping}
+use Rattle.qcow2_metadata.specs.Entries.L1Entry.{l1_fault}
+use Rattle.qcow2_metadata.specs.Entries.L2Entry.{l2_fault}
 use Rattle.qcow2_metadata.specs.Header.{Geometry, HeaderRecord, geometry_of}
-use Rattle.qcow2_metadata.specs.Answers.{unless_refused}
+use Rattle.qcow2_metadata.specs.Results.{unless_refused}
 use Rattle.qcow2_metadata.specs.Range.{FlagTells, IsWriteFault, range_fault}
 
 -- how many entries a table of each kind may have
@@ -152,7 +156,7 @@ pub record IsLoaded (place : TablePlace) (image : StorageState) (table : TableSt
   pub geometry : table.geometry ≡ place.geometry
 
 -- the new image has the table at its place, and is the old one where that had it there
-pub record IsWritten (fault_of : ℕ → ℕ → Option Fault) (table : TableState) (old new : Image) : Type 0 where
+pub record IsWrittenTable (fault_of : ℕ → ℕ → Option Fault) (table : TableState) (old new : Image) : Type 0 where
   pub decoded : IfSome (place_of table) (λ place. decoded_table fault_of place new ≡ Ok table.numbers)
   pub same : IfSome (place_of table) (λ place. numbers_at place old ≡ table.numbers → new ≡ old)
 
@@ -181,15 +185,15 @@ pub record TableOnStorage : Type 0 where
   pub storage : StorageState
 
 -- the two together
-abbrev pub on_storage : TableState → StorageState → TableOnStorage
-on_storage table storage = record { table = table; storage = storage }
+abbrev pub table_on_storage : TableState → StorageState → TableOnStorage
+table_on_storage table storage = record { table = table; storage = storage }
 
 -- a write of a table that ended in this answer
 pub record WritesTable (most : ℕ) (fault_of : ℕ → ℕ → Option Fault) {T : Type 0} (answer : Result T Fault) (old new : TableOnStorage) : Type 0 where
   pub refused : IfSome (write_fault most old.table) (λ fault. answer ≡ Err fault)
   pub faults : IfErr answer (IsWriteFault (write_fault most old.table))
   pub flag : FlagTells flagged answer old.table new.table
-  pub written : IsTrue old.storage.tells → OnOk answer (IsWritten fault_of old.table old.storage.byte_at new.storage.byte_at)
+  pub written : IsTrue old.storage.tells → OnOk answer (IsWrittenTable fault_of old.table old.storage.byte_at new.storage.byte_at)
   pub torn : IsTrue old.storage.tells → IsErrOf answer Storage → IfSome (place_of old.table) (λ place.
       IsTorn old.table.numbers (offset_of place) old.storage.byte_at new.storage.byte_at)
   pub storage : OnlyWrites answer (option_map offset_of (place_of old.table)) (8 * length old.table.numbers) old.storage new.storage

@@ -5,17 +5,17 @@ ghost use Rattle.qcow2_base.specs.Types.{IsClusterBits, IsRefblockBits};
 ghost use Rattle.qcow2_metadata.specs.Header.{all_same, first_by, name_in, names_by, new_header};
 ghost use Rattle.qcow2_metadata.specs.Header.Extensions.{extension_of};
 
-mod extension;
-mod feature;
+mod extensions;
+mod features;
 mod load;
 mod pointers;
 mod text;
 mod update;
 mod write;
 
-use extension::known_names;
-pub use extension::{HeaderExtension, HeaderExtensionType};
-pub use feature::{
+use extensions::known_names;
+pub use extensions::{HeaderExtension, HeaderExtensionType};
+pub use features::{
     AutoclearFeatures, CompatibleFeatures, FeatureType, IncompatibleFeatures, UnknownValue,
 };
 use load::{EXTERNAL_DATA_FILE, MAGIC};
@@ -61,7 +61,7 @@ impl Model for Header {
 impl Header {
     ghost use Rattle.std.specs.Prelude.{◌-◌, ◌*◌, ◌<◌};
     ghost use Rattle.qcow2_metadata.specs.Header.{feature_name_in, first_by, name_in, new_header, uses_external_data};
-    ghost use Rattle.qcow2_metadata.specs.declared.header.extension.HeaderExtensionType.TheVariants as kind;
+    ghost use Rattle.qcow2_metadata.specs.declared.header.extensions.HeaderExtensionType.TheVariants as kind;
 
     /// A header of version 3 for an image that is to be made. Guest data lies in the image, or in an
     /// external data file where one is named.

@@ -5,9 +5,11 @@ ghost use Rattle.qcow2_base.specs.Storage.{OnlyReads};
 ghost use Rattle.qcow2_base.specs.Types.{IsClusterBits};
 ghost use Rattle.qcow2_base.specs.declared.fault.Fault.TheVariants.{NoMemory, Storage as StorageFailed};
 ghost use Rattle.qcow2_base.specs.declared.types.HostOffset.{HostOffset as Offset};
-ghost use Rattle.qcow2_metadata.specs.Answers.{Answers};
-ghost use Rattle.qcow2_metadata.specs.RefblockGuard.{IsGuardOf};
-ghost use Rattle.qcow2_metadata.specs.Refblock.{AreCounters, IsLawfulBlock, IsLoadedBlock, IsOfOrder, RefusesBlock, WritesBlock, block_entries, block_fault, block_of, block_offset, counters_at, flagged_block, greatest_counter, loaded_block, numbers_of, on_storage, stepped_block};
+ghost use Rattle.qcow2_metadata.specs.Results.{Answers};
+ghost use Rattle.qcow2_metadata.specs.Refblock.Guard.{IsBlockGuard};
+ghost use Rattle.qcow2_metadata.specs.Refblock.Counters.{AreCounters, IsOfOrder, kept_counters};
+ghost use Rattle.qcow2_metadata.specs.Refblock.{IsLawfulBlock, IsLoadedBlock, RefusesBlock, WritesBlock, block_entries, block_fault, block_of, block_offset, flagged_block, greatest_counter, loaded_block, block_on_storage, stepped_block};
+ghost use Rattle.qcow2_metadata.specs.Refblock.Packing.{counters_at};
 
 mod counters;
 mod guard;
@@ -39,12 +41,13 @@ pub struct RefBlock {
 }
 
 impl Model for RefBlock {
-    ghost use Rattle.qcow2_metadata.specs.Refblock.{BlockState, IsLawfulBlock, IsOfOrder, numbers_of};
+    ghost use Rattle.qcow2_metadata.specs.Refblock.{BlockState, IsLawfulBlock};
+    ghost use Rattle.qcow2_metadata.specs.Refblock.Counters.{IsOfOrder, kept_counters};
 
     ghost Value = { BlockState };
 
     ghost view = { λ b. record {
-      counters = numbers_of b.counters;
+      counters = kept_counters b.counters;
       cluster = b.cluster;
       modified = b.modified;
       cluster_bits = b.cluster_bits;
@@ -52,7 +55,7 @@ impl Model for RefBlock {
     } };
 
     ghost invariant = { λ b. IsOfOrder b.refcount_order b.counters
-        × IsLawfulBlock b.cluster_bits b.refcount_order b.cluster (numbers_of b.counters) };
+        × IsLawfulBlock b.cluster_bits b.refcount_order b.cluster (kept_counters b.counters) };
 }
 
 // The counters of the block that begins at an offset of the image. Reads in pieces of 4096 bytes.
@@ -65,12 +68,12 @@ fn read_counters<S: Storage>(
     requires bits { IsClusterBits header.now.v2.cluster_bits }
     requires fits { offset.0 + 2 ^ header.now.v2.cluster_bits ≤ 2 ^ 56 }
     ensures kind { IfOk result (IsOfOrder header.now.base.refcount_order) }
-    ensures counters { IfOk result (λ counters. IsTrue (S.state image.old).tells → numbers_of counters
+    ensures counters { IfOk result (λ counters. IsTrue (S.state image.old).tells → kept_counters counters
         ≡ counters_at header.now.base.refcount_order (S.state image.old).byte_at offset.0
         (block_entries header.now.v2.cluster_bits header.now.base.refcount_order)) }
     ensures lawful { IfOk result (λ counters. let header = header.now in
-        (length (numbers_of counters) ≡ block_entries header.v2.cluster_bits header.base.refcount_order)
-        × AreCounters header.base.refcount_order (numbers_of counters)) }
+        (length (kept_counters counters) ≡ block_entries header.v2.cluster_bits header.base.refcount_order)
+        × AreCounters header.base.refcount_order (kept_counters counters)) }
     ensures faults { IfErr result (λ fault. (fault ≡ NoMemory) ⊎ (fault ≡ StorageFailed)) }
     ensures storage { OnlyReads result (S.state image.old) (S.state image.new) }
 {
@@ -145,8 +148,8 @@ impl RefBlock {
     /// one, and those after it are as before; after any other refusal nothing has changed. Counters and
     /// cluster stay whatever it answers, and no byte outside the block's cluster changes.
     pub fn write<S: Storage>(&mut self, image: &mut S) -> Result<(), Fault>
-        ensures { WritesBlock result (on_storage self.old (S.state image.old))
-            (on_storage self.new (S.state image.new)) }
+        ensures { WritesBlock result (block_on_storage self.old (S.state image.old))
+            (block_on_storage self.new (S.state image.new)) }
     {
         let Some(cluster) = self.cluster else {
             return Err(Fault::NoOffset);
@@ -175,7 +178,7 @@ impl RefBlock {
         ensures idle { self.old.modified ≡ false →
             IsOk result × (self.new ≡ self.old) × (image.new ≡ image.old) }
         ensures modified { self.old.modified ≡ true → WritesBlock result
-            (on_storage self.old (S.state image.old)) (on_storage self.new (S.state image.new)) }
+            (block_on_storage self.old (S.state image.old)) (block_on_storage self.new (S.state image.new)) }
     {
         // The caller's word for the cluster is in the contract alone.
         let _ = cluster;
@@ -294,9 +297,9 @@ impl RefBlock {
     #[inline]
     fn kept(&self) -> &Counters
         ensures integers { IsOfOrder self.now.refcount_order result.now }
-        ensures numbers { numbers_of result.now ≡ self.now.counters }
+        ensures numbers { kept_counters result.now ≡ self.now.counters }
         ensures count { let block = self.now in
-            length (numbers_of result.now) ≡ block_entries block.cluster_bits block.refcount_order }
+            length (kept_counters result.now) ≡ block_entries block.cluster_bits block.refcount_order }
     {
         &self.counters
     }
@@ -322,14 +325,14 @@ impl RefBlock {
 
     /// Leave to change the block's counters.
     pub fn lock_write(&mut self) -> RefBlockWriteGuard<'_>
-        ensures { IsGuardOf self.entry result }
+        ensures { IsBlockGuard self.entry result }
     {
         RefBlockWriteGuard { block: self }
     }
 }
 
 impl Packed for RefBlock {
-    ghost use Rattle.qcow2_metadata.specs.Refblock.{packed};
+    ghost use Rattle.qcow2_metadata.specs.Refblock.Packing.{packed};
 
     ghost bytes = { λ b. packed b.refcount_order b.counters };
 

@@ -6,9 +6,9 @@ ghost use Rattle.std.specs.Int.{div_ceil};
 ghost use Rattle.qcow2_base.specs.Storage.{OnlyReads};
 ghost use Rattle.qcow2_base.specs.Types.{IsClusterBits};
 ghost use Rattle.qcow2_base.specs.declared.types.HostOffset.{HostOffset as Offset};
-ghost use Rattle.qcow2_metadata.specs.Answers.{Answers};
-ghost use Rattle.qcow2_metadata.specs.Table.{IsLawful, IsLoaded, LoadRefuses, TableState, WritesTable, entries_fault, first_fault, flagged, loaded_table, new_table, offset_of, on_storage, place_fault, place_of, table_at};
-ghost use Rattle.qcow2_metadata.specs.Table.OneEntry.{WritesEntry, range_of};
+ghost use Rattle.qcow2_metadata.specs.Results.{Answers};
+ghost use Rattle.qcow2_metadata.specs.Table.{IsLawful, IsLoaded, LoadRefuses, TableState, WritesTable, entries_fault, first_fault, flagged, loaded_table, new_table, offset_of, table_on_storage, place_fault, place_of, table_at};
+ghost use Rattle.qcow2_metadata.specs.Table.OneEntry.{WritesEntry, entries_together};
 
 use crate::range::range_offset;
 use crate::{Header, TableEntry};
@@ -178,8 +178,8 @@ pub trait Table: Sized {
     /// the table's place changes.
     final fn write<S: Storage>(&mut self, image: &mut S) -> Result<(), Fault>
         ensures { WritesTable MAX_ENTRIES Self.InternalEntry.fault_of result
-            (on_storage (state self.old) (S.state image.old))
-            (on_storage (state self.new) (S.state image.new)) }
+            (table_on_storage (state self.old) (S.state image.old))
+            (table_on_storage (state self.new) (S.state image.new)) }
     {
         let Some(cluster) = self.get_cluster() else {
             return Err(Fault::NoOffset);
@@ -213,9 +213,9 @@ pub trait Table: Sized {
     final fn write_entry<S: Storage>(&mut self, image: &mut S, index: usize) -> Result<(), Fault>
         requires { index < length (state self.old).numbers }
         ensures { WritesEntry MAX_ENTRIES index
-            (range_of (state self.old).geometry.cluster_bits (S.state image.old) index) result
-            (on_storage (state self.old) (S.state image.old))
-            (on_storage (state self.new) (S.state image.new)) }
+            (entries_together (state self.old).geometry.cluster_bits (S.state image.old) index) result
+            (table_on_storage (state self.old) (S.state image.old))
+            (table_on_storage (state self.new) (S.state image.new)) }
     {
         let Some(cluster) = self.get_cluster() else {
             return Err(Fault::NoOffset);

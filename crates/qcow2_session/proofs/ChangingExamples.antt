@@ -3,10 +3,10 @@ use Rattle.std.specs.Prelude.{codes}
 use Rattle.std.specs.Fmt.{digits}
 use Rattle.qcow2_base.specs.declared.fault.Fault.{Fault}
 use Rattle.qcow2_base.specs.declared.fault.Fault.TheVariants.{BadEdit, BadStep, NotPlaced}
-use Rattle.qcow2_metadata.specs.Answers.{and_then, result_map}
+use Rattle.qcow2_metadata.specs.Results.{and_then, result_map}
 use Rattle.qcow2_metadata.specs.Header.Grammar.{header_of}
 use Rattle.qcow2_session.proofs.SampleImage.{computing, laid, sample}
-use Rattle.qcow2_session.specs.Changing.{edits_of_table, end_of, steps_of_block}
+use Rattle.qcow2_session.specs.Changing.{edits_of_table, change_end, steps_of_block}
 use Rattle.qcow2_session.specs.declared.session.edits.Edit.{Edit}
 use Rattle.qcow2_session.specs.declared.session.edits.Edit.TheVariants.{Discard, Map}
 use Rattle.qcow2_session.specs.declared.session.steps.Step.{Step}
@@ -16,7 +16,7 @@ use Rattle.qcow2_session.specs.declared.session.steps.Step.TheVariants.{Dec, Inc
 abbrev edits_print : ℕ → List Edit → Result (List ℕ) Fault
 edits_print l1_index edits = and_then (header_of (laid sample)) (λ header.
     let change = edits_of_table l1_index edits header in
-    result_map change.lines (end_of change (laid sample)))
+    result_map change.lines (change_end change (laid sample)))
 
 pub mapped_twice_and_let_go : edits_print 0 (Map 3 (record { 0 = 5 }) ∷ Map 3 (record { 0 = 6 }) ∷ Discard 3 ∷ []) ≡ Ok (codes "freed 5 1\nfreed 6 1\ngained 6\n")
 unfolding computing digits
@@ -42,7 +42,7 @@ past_the_l1_table = refl
 abbrev edits_write : ℕ → List Edit → Result Bool Fault
 edits_write l1_index edits = and_then (header_of (laid sample)) (λ header.
     let change = edits_of_table l1_index edits header in
-    result_map change.writes (end_of change (laid sample)))
+    result_map change.writes (change_end change (laid sample)))
 
 pub no_edit_is_not_written : edits_write 0 [] ≡ Ok false
 unfolding computing
@@ -56,7 +56,7 @@ an_edit_that_leaves_an_entry_is_written = refl
 abbrev steps_print : List Step → Result (List ℕ) Fault
 steps_print steps = and_then (header_of (laid sample)) (λ header.
     let change = steps_of_block (record { 0 = 3 }) steps header in
-    result_map change.lines (end_of change (laid sample)))
+    result_map change.lines (change_end change (laid sample)))
 
 pub up_twice_and_down : steps_print (Inc 0 ∷ Inc 0 ∷ Dec 0 ∷ Dec 1 ∷ []) ≡ Ok (codes "ok 0\nok 1\nok 2\nrefused\n")
 unfolding computing digits
@@ -70,7 +70,7 @@ step_past_the_block = refl
 abbrev steps_write : List Step → Result Bool Fault
 steps_write steps = and_then (header_of (laid sample)) (λ header.
     let change = steps_of_block (record { 0 = 3 }) steps header in
-    result_map change.writes (end_of change (laid sample)))
+    result_map change.writes (change_end change (laid sample)))
 
 pub refused_steps_are_not_written : steps_write (Dec 0 ∷ Dec 1 ∷ []) ≡ Ok false
 unfolding computing

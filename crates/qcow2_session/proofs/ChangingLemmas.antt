@@ -5,11 +5,11 @@ use Rattle.qcow2_base.specs.Storage.{Image, StorageState}
 use Rattle.qcow2_base.specs.declared.fault.Fault.{Fault}
 use Rattle.qcow2_base.specs.declared.fault.Fault.TheVariants.{NoMemory, Storage}
 use Rattle.qcow2_base.specs.declared.types.HostCluster.{HostCluster}
-use Rattle.qcow2_metadata.specs.Answers.{result_map}
+use Rattle.qcow2_metadata.specs.Results.{result_map}
 use Rattle.qcow2_metadata.specs.Header.{HeaderRecord}
 use Rattle.qcow2_session.proofs.PrintingLemmas.{refusal-of}
-use Rattle.qcow2_session.specs.Changing.{Change, PrintsChange, SameOutsideCluster, end_of}
-use Rattle.qcow2_session.specs.Edits.{are_some}
+use Rattle.qcow2_session.specs.Changing.{Change, PrintsChange, SameOutsideCluster, change_end}
+use Rattle.qcow2_session.specs.Session.Edits.{are_some}
 use Rattle.qcow2_session.specs.declared.session.edits.Edit.{Edit}
 
 -- there is no edit where not some are there
@@ -77,14 +77,14 @@ pub change-unplaced : {T End : Type 0} (fault : Fault) (header : HeaderRecord) (
 change-unplaced fault header change old new a b refused failed same = record {
   lines = tt;
   written = λ made. absurd (failed made.0 made.1);
-  refused = refusal-of fault (end_of change old.byte_at) old new (λ told. elim (refused told) [
+  refused = refusal-of fault (change_end change old.byte_at) old new (λ told. elim (refused told) [
     | inl storage ↦ inl storage
     | inr (inl memory) ↦ inr (inl memory)
     | inr (inr bad) ↦ inr (inr (rw bad refl))
   ]) failed;
   unchanged = λ other. same;
   torn = λ told call. inl same;
-  idle = λ told. of-any (end_of change old.byte_at) (λ left writes. same);
+  idle = λ told. of-any (change_end change old.byte_at) (λ left writes. same);
   others = λ told. unchanged-anywhere header (change.place old.byte_at) old.byte_at new.byte_at same;
 }
 
@@ -100,7 +100,7 @@ pub change-refused : {T End : Type 0} (fault : Fault) (header : HeaderRecord) (c
 change-refused fault header change cluster old new a b named refused failed unchanged torn idle outside = record {
   lines = tt;
   written = λ made. absurd (failed made.0 made.1);
-  refused = refusal-of fault (end_of change old.byte_at) old new (λ told. rw (named told) (refused told)) failed;
+  refused = refusal-of fault (change_end change old.byte_at) old new (λ told. rw (named told) (refused told)) failed;
   unchanged = unchanged;
   torn = λ told call. rw (named told) (torn told call);
   idle = λ told. rw (named told) (idle told);

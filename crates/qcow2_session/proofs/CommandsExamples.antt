@@ -1,6 +1,6 @@
 use Rattle.std.proofs.Common.{◌≡◌, [], ◌∷◌, true, false, Some, None, refl}
 use Rattle.std.specs.Prelude.{codes}
-use Rattle.qcow2_session.specs.Commands.{command_of, count_steps, edit_entries, edit_of, info, l2, list_tables, mapping_at, number_of, step_of}
+use Rattle.qcow2_session.specs.Commands.{command_of, count_steps, edit_entries, edit_of, info, l2, list_tables, mapping_at, word_number, step_of}
 use Rattle.qcow2_session.specs.declared.session.edits.Edit.TheVariants.{Discard, Map, Zero}
 use Rattle.qcow2_session.specs.declared.session.steps.Step.TheVariants.{Dec, Inc}
 
@@ -13,13 +13,13 @@ cluster_bits_8 = refl
 pub too_few_words : command_of (codes "l2" ∷ codes "a.img" ∷ codes "9" ∷ []) ≡ None
 too_few_words = refl
 
-pub greatest_number : number_of (codes "18446744073709551615") ≡ Some 18446744073709551615
+pub greatest_number : word_number (codes "18446744073709551615") ≡ Some 18446744073709551615
 greatest_number = refl
 
-pub number_past_64_bits : number_of (codes "18446744073709551616") ≡ None
+pub number_past_64_bits : word_number (codes "18446744073709551616") ≡ None
 number_past_64_bits = refl
 
-pub a_sign_is_no_digit : number_of (codes "+2") ≡ None
+pub a_sign_is_no_digit : word_number (codes "+2") ≡ None
 a_sign_is_no_digit = refl
 
 -- the other commands

@@ -7,7 +7,7 @@ use Rattle.qcow2_base.specs.declared.fault.Fault.{Fault}
 use Rattle.std.specs.Result.{IfErr, IsErr, result_ok}
 use Rattle.std.specs.Str.{all_ascii_digits}
 use Rattle.std.specs.Str.Parse.{ParsesUnsigned, digits_value}
-use Rattle.qcow2_session.specs.Commands.{command_of, number_of}
+use Rattle.qcow2_session.specs.Commands.{command_of, word_number}
 
 digits : IsNumeralModel (λ word. all_ascii_digits word ≡ true) (digits_value 10)
 digits = numerals_by_value _ tells_all_ascii_digits
@@ -24,7 +24,7 @@ one_fails d n v m h = grind (arith, nat_tests, h)
 -- a word of at most 20 bytes that doesn't begin with a plus is the number that `parse` finds, or
 -- none where it finds none
 pub number_of_parsed : (E : Type 0) (word : List ℕ) (r : Result ℕ E) → get_or word 0 0 ≢ 43 →
-    length word ≤ 20 → ParsesUnsigned 64 10 word r → result_ok r ≡ number_of word
+    length word ≤ 20 → ParsesUnsigned 64 10 word r → result_ok r ≡ word_number word
 number_of_parsed E word (Ok n) plain short parsed =
     let found = parse_plain digits {E = E} 64 word (Ok n) parsed plain in
     let value = digits_value 10 word in

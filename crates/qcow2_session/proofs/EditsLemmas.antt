@@ -9,13 +9,13 @@ use Rattle.std.specs.List.{list_all}
 use Rattle.qcow2_base.specs.Types.{IsClusterBits}
 use Rattle.qcow2_base.specs.declared.types.HostCluster.{HostCluster}
 use Rattle.qcow2_metadata.proofs.EditsLemmas.{balance-run}
-use Rattle.qcow2_metadata.specs.Edits.{RunEnd, TableEdit, after_edit, data_entry, fits_table, handed_back, is_just, is_mappable, references, run_of, times_gained, to_data}
-use Rattle.qcow2_metadata.specs.Entries.{allocation}
+use Rattle.qcow2_metadata.specs.Table.L2Guards.{RunEnd, TableEdit, after_edit, data_entry, fits_table, handed_back, is_just, is_mappable, references, run_of, times_gained, to_data}
+use Rattle.qcow2_metadata.specs.Entries.L2Entry.{allocation}
 use Rattle.qcow2_metadata.specs.Header.{Geometry}
 use Rattle.qcow2_metadata.specs.Table.{TableState, edited}
 use Rattle.qcow2_metadata.specs.declared.entries.ClustersToFreeEntry.{ClustersToFreeEntry}
 use Rattle.qcow2_session.proofs.FirstLemmas.{all_pass, each_passes}
-use Rattle.qcow2_session.specs.Edits.{Balances, HasRoom, Makes, are_some, end_of, first_unfit, fits, left_by, numbers_of, table_edit, table_edits}
+use Rattle.qcow2_session.specs.Session.Edits.{Balances, HasRoom, Makes, are_some, edits_left, first_unfit_edit, edit_fits, table_left, cluster_numbers, table_edit, table_edits}
 use Rattle.qcow2_session.specs.declared.session.edits.Change.{Change}
 use Rattle.qcow2_session.specs.declared.session.edits.Edit.{Edit}
 use Rattle.qcow2_session.specs.declared.session.edits.Outcome.{Outcome}
@@ -46,9 +46,9 @@ joined freed gained rest = record { numbers = rest.numbers; freed = freed ++ res
 
 -- so many of the edits are made, and those that are left lead from the table as it is to the end of all
 pub record IsPartWay (edits : List Edit) (done : ℕ) (before now : TableState) (outcome : Outcome) : Type 0 where
-  pub run : joined outcome.freed.items (numbers_of outcome.gained.items) (run_of before.geometry (table_edits (drop done edits)) now.numbers)
+  pub run : joined outcome.freed.items (cluster_numbers outcome.gained.items) (run_of before.geometry (table_edits (drop done edits)) now.numbers)
       ≡ run_of before.geometry (table_edits edits) before.numbers
-  pub table : now ≡ left_by (take done edits) before now.numbers
+  pub table : now ≡ table_left (take done edits) before now.numbers
   pub entries : length now.numbers ≡ length before.numbers
   pub room : HasRoom (length edits - done) outcome
 
@@ -57,8 +57,8 @@ joined-more : (freed : List ClustersToFreeEntry) (gained : List ℕ) (one : Opti
 joined-more freed gained one other rest = rw (append_assoc freed (option_to_list one) rest.freed, append_assoc gained (option_to_list other) rest.gained) refl
 
 -- the numbers of one more cluster, if there is one
-numbers_of-more : (clusters : List HostCluster) (other : Option HostCluster) → numbers_of (clusters ++ option_to_list other) ≡ numbers_of clusters ++ option_to_list (option_map (λ (cluster : HostCluster). cluster.0) other)
-numbers_of-more clusters None = rw (append-nil (numbers_of clusters), append-nil clusters) refl
+numbers_of-more : (clusters : List HostCluster) (other : Option HostCluster) → cluster_numbers (clusters ++ option_to_list other) ≡ cluster_numbers clusters ++ option_to_list (option_map (λ (cluster : HostCluster). cluster.0) other)
+numbers_of-more clusters None = rw (append-nil (cluster_numbers clusters), append-nil clusters) refl
 numbers_of-more clusters (Some cluster) = map-append (λ (c : HostCluster). c.0) clusters (cluster ∷ [])
 
 -- some edits are made once one more is
@@ -77,28 +77,28 @@ part_way-next edits done default before now next change outcome after below way 
     let changed : next.numbers ≡ after_edit now.geometry e now.numbers = ap (λ (table : TableState). table.numbers) made.table in
     let numbers : next.numbers ≡ after_edit before.geometry e now.numbers = rw (← geometry) changed in
     let left : drop done edits ≡ get_or edits done default ∷ drop (suc done) edits = drop-cons edits done default below in
-    let run : joined outcome.freed.items (numbers_of outcome.gained.items) (run_of before.geometry (e ∷ table_edits (drop (suc done) edits)) now.numbers) ≡ run_of before.geometry (table_edits edits) before.numbers = rw left at way.run in
-    let left_is : (v : ℕ) → edited now e.index v ≡ left_by (take (done + 1) edits) before (edited now e.index v).numbers = λ v. rw (are_some-take edits done below, cluster, geometry) refl in
+    let run : joined outcome.freed.items (cluster_numbers outcome.gained.items) (run_of before.geometry (e ∷ table_edits (drop (suc done) edits)) now.numbers) ≡ run_of before.geometry (table_edits edits) before.numbers = rw left at way.run in
+    let left_is : (v : ℕ) → edited now e.index v ≡ table_left (take (done + 1) edits) before (edited now e.index v).numbers = λ v. rw (are_some-take edits done below, cluster, geometry) refl in
     record {
       run = rw (freed, gained, numbers_of-more, joined-more, made.freed, made.gained, geometry, numbers, one_more) run;
-      table = subst (λ (table : TableState). table ≡ left_by (take (done + 1) edits) before table.numbers) (sym made.table) (left_is _);
+      table = subst (λ (table : TableState). table ≡ table_left (take (done + 1) edits) before table.numbers) (sym made.table) (left_is _);
       entries = ap length changed ∙ length-set now.numbers e.index _ ∙ way.entries;
       room = room (length edits - (done + 1)) (rw enough way.room);
     }
 
 -- where none is the first that doesn't fit, all edits fit
-pub all_fit : (table : TableState) (edits : List Edit) → first_unfit table edits ≡ None → list_all (fits_table table.geometry (length table.numbers)) (table_edits edits) ≡ true
+pub all_fit : (table : TableState) (edits : List Edit) → first_unfit_edit table edits ≡ None → list_all (fits_table table.geometry (length table.numbers)) (table_edits edits) ≡ true
 all_fit table edits none =
-    list_all-map (fits_table table.geometry (length table.numbers)) table_edit edits ∙ all_pass (fits table) edits none
+    list_all-map (fits_table table.geometry (length table.numbers)) table_edit edits ∙ all_pass (edit_fits table) edits none
 
 -- what is left fits the table as it is
-pub part_way-fits : (edits : List Edit) (done : ℕ) (default : Edit) (before now : TableState) (outcome : Outcome) → first_unfit before edits ≡ None → done < length edits → IsPartWay edits done before now outcome → fits now (get_or edits done default) ≡ true
+pub part_way-fits : (edits : List Edit) (done : ℕ) (default : Edit) (before now : TableState) (outcome : Outcome) → first_unfit_edit before edits ≡ None → done < length edits → IsPartWay edits done before now outcome → edit_fits now (get_or edits done default) ≡ true
 part_way-fits edits done default before now outcome none below way =
     let geometry : now.geometry ≡ before.geometry = ap (λ (table : TableState). table.geometry) way.table in
-    rw (geometry, way.entries) (each_passes (fits before) edits done default (all_pass (fits before) edits none) below)
+    rw (geometry, way.entries) (each_passes (edit_fits before) edits done default (all_pass (edit_fits before) edits none) below)
 
 -- what a run of edits that fit leaves and hands back is in balance
-pub run-balances : (edits : List Edit) (outcome : Outcome) (old new : TableState) → IsClusterBits old.geometry.cluster_bits → first_unfit old edits ≡ None → end_of new outcome ≡ run_of old.geometry (table_edits edits) old.numbers → new ≡ left_by edits old new.numbers → Balances outcome old new
+pub run-balances : (edits : List Edit) (outcome : Outcome) (old new : TableState) → IsClusterBits old.geometry.cluster_bits → first_unfit_edit old edits ≡ None → edits_left new outcome ≡ run_of old.geometry (table_edits edits) old.numbers → new ≡ table_left edits old new.numbers → Balances outcome old new
 run-balances edits outcome old new bits none run left = λ cluster.
     let geometry : new.geometry ≡ old.geometry = ap (λ (table : TableState). table.geometry) left in
     let balance = balance-run old.geometry (table_edits edits) old.numbers cluster bits (all_fit old edits none) in

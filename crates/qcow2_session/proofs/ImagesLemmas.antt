@@ -6,18 +6,18 @@ use Rattle.qcow2_base.specs.declared.fault.Fault.TheVariants.{BadEdit, BadStep}
 use Rattle.qcow2_base.specs.declared.types.HostCluster.{HostCluster}
 use Rattle.qcow2_metadata.proofs.PackingLemmas.{counters_at-length}
 use Rattle.qcow2_metadata.proofs.TableLemmas.{length-table_numbers}
-use Rattle.qcow2_metadata.specs.Answers.{result_map, unless_refused}
-use Rattle.qcow2_metadata.specs.Edits.{RunEnd, handed_back, references, times_gained}
+use Rattle.qcow2_metadata.specs.Results.{result_map, unless_refused}
+use Rattle.qcow2_metadata.specs.Table.L2Guards.{RunEnd, handed_back, references, times_gained}
 use Rattle.qcow2_metadata.specs.Header.{Geometry, HeaderRecord, geometry_of}
 use Rattle.qcow2_metadata.specs.Header.Grammar.{header_of}
 use Rattle.qcow2_metadata.proofs.GrammarLemmas.{header_of-is}
 use Rattle.qcow2_session.proofs.WholeImageLemmas.{balances-image, changes-own-lookups, avoids-others, stays-sound}
-use Rattle.qcow2_session.specs.WholeImage.{ChangesL2Table, AvoidsHeaderAndL1Table, l2_bytes}
+use Rattle.qcow2_session.specs.Session.WholeImage.{ChangesL2Table, AvoidsHeaderAndL1Table, l2_bytes}
 use Rattle.qcow2_metadata.specs.Refblock.{BlockState, block_entries, block_offset}
 use Rattle.qcow2_metadata.specs.Table.{IsTorn, TableState, l2_table_at, loaded_l2_table, most_l2_entries, numbers_at, offset_of, place_fault, place_of}
-use Rattle.qcow2_session.specs.Edits.{Balances, end_of, first_unfit, numbers_of, run_or_refusal}
-use Rattle.qcow2_session.specs.Images.{EditsImage, block_in, edits_end, table_in}
-use Rattle.qcow2_session.specs.Steps.{first_unfit as first_unfit_step, run_or_refusal as steps_or_refusal}
+use Rattle.qcow2_session.specs.Session.Edits.{Balances, edits_left, first_unfit_edit, cluster_numbers, edits_or_refusal}
+use Rattle.qcow2_session.specs.Session.Images.{EditsImage, block_in, edits_end, table_in}
+use Rattle.qcow2_session.specs.Session.Steps.{first_unfit_step, steps_or_refusal}
 use Rattle.qcow2_session.specs.declared.session.edits.Edit.{Edit}
 use Rattle.qcow2_session.specs.declared.session.edits.Outcome.{Outcome}
 use Rattle.qcow2_session.specs.declared.session.steps.Step.{Step}
@@ -69,7 +69,7 @@ changed-by header own cluster old new begins same avoids outside = record {
 -- edits of a table that was loaded from a cluster, and that stands there afterwards
 pub image-edited : (header : HeaderRecord) (cluster : HostCluster) (edits : List Edit) (outcome : Outcome) (before after : TableState) (old new : Image)
     → before.geometry ≡ geometry_of header → after.geometry ≡ geometry_of header → before.numbers ≡ numbers_at (l2_table_at (geometry_of header) cluster) old
-    → edits_end header cluster edits old ≡ Ok (end_of after outcome) → loaded_l2_table after.geometry cluster new ≡ Ok after.numbers
+    → edits_end header cluster edits old ≡ Ok (edits_left after outcome) → loaded_l2_table after.geometry cluster new ≡ Ok after.numbers
     → SameOutside (cluster.0 * 2 ^ header.v2.cluster_bits) (2 ^ header.v2.cluster_bits) old new
     → Balances outcome before after → EditsImage header cluster edits outcome old new
 image-edited header cluster edits outcome before after old new g g' is end stands outside balance =
@@ -84,15 +84,15 @@ image-edited header cluster edits outcome before after old new g g' is end stand
           let avoids = avoids-others own l1 cluster found.0 sound.apart found.1 in
           let change = changed-by header own cluster old new sound.tables.begins same avoids outside in (
             stays-sound own l1 cluster after.numbers old new sound change (subst (λ g. loaded_l2_table g cluster new ≡ Ok after.numbers) (sym same) there),
-            balances-image own l1 cluster found.0 outcome.freed.items (numbers_of outcome.gained.items) old new sound.apart found.1 change
+            balances-image own l1 cluster found.0 outcome.freed.items (cluster_numbers outcome.gained.items) old new sound.apart found.1 change
                 (λ c. subst (λ (g : Geometry). references g (numbers_at (l2_table_at g cluster) new) c + handed_back outcome.freed.items c
-                ≡ references g (numbers_at (l2_table_at g cluster) old) c + times_gained (numbers_of outcome.gained.items) c) (sym same) (balances c)),
+                ≡ references g (numbers_at (l2_table_at g cluster) old) c + times_gained (cluster_numbers outcome.gained.items) c) (sym same) (balances c)),
           );
     }
 
 -- edits of a table whose write failed at a piece
 pub image-torn : (header : HeaderRecord) (cluster : HostCluster) (edits : List Edit) (outcome : Outcome) (after : TableState) (between old new : Image)
-    → after.geometry ≡ geometry_of header → between ≡ old → edits_end header cluster edits old ≡ Ok (end_of after outcome)
+    → after.geometry ≡ geometry_of header → between ≡ old → edits_end header cluster edits old ≡ Ok (edits_left after outcome)
     → IsTorn after.numbers (cluster.0 * 2 ^ after.geometry.cluster_bits) between new
     → IsOkAnd (edits_end header cluster edits old) (λ end. IsTorn end.numbers (cluster.0 * 2 ^ header.v2.cluster_bits) old new)
 image-torn header cluster edits outcome after between old new g same is torn = rw is (rw (g, same) at torn)
@@ -105,10 +105,10 @@ refused-by (Some first) value fault is = cc
 -- the refusal of edits that can't be made of a table is the one by its geometry and the number of its entries
 pub refused-edits : (header : HeaderRecord) (cluster : HostCluster) (table : TableState) (edits : List Edit) (image : Image) (fault : Fault)
     → table.geometry ≡ geometry_of header → length table.numbers ≡ 2 ^ (header.v2.cluster_bits - 3)
-    → run_or_refusal table edits ≡ Err fault → option_map BadEdit (first_unfit (table_in header cluster image) edits) ≡ Some fault
+    → edits_or_refusal table edits ≡ Err fault → option_map BadEdit (first_unfit_edit (table_in header cluster image) edits) ≡ Some fault
 refused-edits header cluster table edits image fault g full refused =
     let count = length-table_numbers image (offset_of (l2_table_at (geometry_of header) cluster)) (2 ^ (header.v2.cluster_bits - 3)) in
-    rw (g, full, ← count) at (refused-by (option_map BadEdit (first_unfit table edits)) _ fault refused)
+    rw (g, full, ← count) at (refused-by (option_map BadEdit (first_unfit_edit table edits)) _ fault refused)
 
 -- the refusal of steps that aren't in a block's bounds is the one by the number of its counters
 pub refused-steps : (header : HeaderRecord) (cluster : HostCluster) (block : BlockState) (steps : List Step) (image : Image) (fault : Fault)

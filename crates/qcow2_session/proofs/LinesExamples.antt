@@ -2,7 +2,7 @@ use Rattle.std.proofs.Common.{◌≡◌, [], ◌∷◌, false, refl}
 use Rattle.std.specs.Prelude.{codes}
 use Rattle.std.specs.Fmt.{decimal, digits}
 use Rattle.qcow2_metadata.specs.Header.{geometry}
-use Rattle.qcow2_metadata.specs.Entries.{mapping}
+use Rattle.qcow2_metadata.specs.Entries.L2Mapping.{mapping}
 use Rattle.qcow2_session.specs.Lines.{entry_line, entry_lines, mapping_text, offset_text}
 
 -- the lines of entries that were worked out by hand

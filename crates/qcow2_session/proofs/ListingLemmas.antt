@@ -7,16 +7,16 @@ use Rattle.std.proofs.lemmas.Nat.{mod-mul-add, mul-add-lt, mul-lt}
 use Rattle.qcow2_base.specs.Storage.{Image, StorageState}
 use Rattle.qcow2_base.specs.declared.fault.Fault.{Fault}
 use Rattle.qcow2_base.specs.declared.fault.Fault.TheVariants.{NoMemory, Storage}
-use Rattle.qcow2_metadata.specs.Answers.{and_then, result_map}
+use Rattle.qcow2_metadata.specs.Results.{and_then, result_map}
 use Rattle.qcow2_metadata.specs.Header.{Geometry, HeaderRecord}
 use Rattle.qcow2_metadata.specs.Header.Grammar.{header_of}
 use Rattle.qcow2_metadata.specs.Table.{loaded_l1_table}
-use Rattle.qcow2_metadata.specs.Entries.{Mapping, mapping}
+use Rattle.qcow2_metadata.specs.Entries.L2Mapping.{Mapping, mapping}
 use Rattle.qcow2_session.proofs.LinesLemmas.{entry_lines-take-suc}
 use Rattle.qcow2_session.proofs.PrintingLemmas.{PrintsSome-none}
 use Rattle.qcow2_session.specs.Lines.{entry_line, entry_lines}
-use Rattle.qcow2_session.specs.Listing.{lines_before, lines_by, lines_kept, lines_kept_of_image, lines_of_image, lines_of_tables}
-use Rattle.qcow2_session.specs.Lookups.{l1_place, named_cluster}
+use Rattle.qcow2_session.specs.Commands.Listing.{lines_before, lines_by, lines_kept, lines_kept_of_image, lines_of_image, lines_of_tables}
+use Rattle.qcow2_session.specs.Session.Lookups.{l1_place, named_cluster}
 use Rattle.qcow2_session.specs.Printing.{PrintsSome}
 
 -- the offset of each guest cluster that an L1 table of the most entries leads to fits 64 bits

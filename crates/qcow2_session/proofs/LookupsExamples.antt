@@ -1,10 +1,10 @@
 use Rattle.std.proofs.Common.{◌≡◌, ℕ, ◌∷◌, ◌++◌, [], List, false, true, Some, None, Ok, Err, refl}
 use Rattle.qcow2_base.specs.declared.fault.Fault.{Fault}
 use Rattle.qcow2_base.specs.declared.fault.Fault.TheVariants.{EntryReserved, EntryUnaligned, NotQcow2, TablePlace, TableTooBig}
-use Rattle.qcow2_metadata.specs.Entries.{Mapping, backing, compressed, data_file, zeros}
+use Rattle.qcow2_metadata.specs.Entries.L2Mapping.{Mapping, backing, compressed, data_file, zeros}
 use Rattle.qcow2_metadata.specs.Header.{geometry}
 use Rattle.qcow2_session.proofs.SampleImage.{Part, byte, computing, entry, laid, plain, sample}
-use Rattle.qcow2_session.specs.Lookups.{guest_mapping, image_mapping}
+use Rattle.qcow2_session.specs.Session.Lookups.{guest_mapping, image_mapping}
 
 -- with these changes, the cluster of an offset reads so, or the lookup is refused
 abbrev ReadsAs : ℕ → List Part → Mapping → Type 0

@@ -5,10 +5,11 @@ use Rattle.qcow2_base.specs.Storage.{OnlyReads, ReadsFor, StorageState}
 use Rattle.qcow2_base.specs.Types.{IsClusterBits}
 use Rattle.qcow2_base.specs.declared.fault.Fault.{Fault}
 use Rattle.qcow2_base.specs.declared.types.HostOffset.{HostOffset}
-use Rattle.qcow2_metadata.specs.Entries.{entry_fault, l1_fault, l1_reserved_bits, offset_field, offset_unless_zero}
+use Rattle.qcow2_metadata.specs.Entries.{entry_fault, offset_field, offset_unless_zero}
+use Rattle.qcow2_metadata.specs.Entries.L1Entry.{l1_fault, l1_reserved_bits}
 use Rattle.qcow2_metadata.specs.Header.{HeaderRecord}
 use Rattle.qcow2_metadata.specs.Table.{TablePlace, most_l2_entries, offset_of, place_fault}
-use Rattle.qcow2_session.specs.Lookups.{l1_place}
+use Rattle.qcow2_session.specs.Session.Lookups.{l1_place}
 
 -- the L1 table of a lawful header begins at the offset that the header says
 pub l1_place-offset : (header : HeaderRecord) → header.v2.l1_table_offset % 2 ^ header.v2.cluster_bits ≡ 0 →

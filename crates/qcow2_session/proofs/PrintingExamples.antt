@@ -3,7 +3,7 @@ use Rattle.std.specs.Prelude.{codes}
 use Rattle.std.specs.Fmt.{digits}
 use Rattle.qcow2_base.specs.declared.fault.Fault.TheVariants.{EntryReserved, NotQcow2}
 use Rattle.qcow2_session.proofs.SampleImage.{byte, computing, entry, laid, plain, sample}
-use Rattle.qcow2_session.specs.Listing.{lines_kept_of_image, lines_of_image}
+use Rattle.qcow2_session.specs.Commands.Listing.{lines_kept_of_image, lines_of_image}
 use Rattle.qcow2_session.specs.Printing.{line_at, lines_of_info, lines_of_l2_table}
 
 -- what each command prints of the sample image

@@ -2,7 +2,7 @@ use Rattle.std.proofs.Common.{◌≡◌, ◌⊎◌, ℕ, Bool, true, false, ◌=
 use Rattle.std.proofs.lemmas.List.Sums.{sum_by-cons, sum_by_more, sum_by_more_le}
 use Rattle.qcow2_base.specs.declared.types.HostCluster.{HostCluster}
 use Rattle.qcow2_metadata.specs.Table.{TableState}
-use Rattle.qcow2_session.specs.Edits.{Balances, numbers_of}
+use Rattle.qcow2_session.specs.Session.Edits.{Balances, cluster_numbers}
 use Rattle.qcow2_session.specs.declared.session.edits.Outcome.{Outcome}
 use Rattle.std.proofs.lemmas.Bool.{cases_eq, cases_lt}
 use Rattle.std.proofs.lemmas.Bool.Decides.{nat_tests}
@@ -11,13 +11,15 @@ use Rattle.std.proofs.lemmas.List.FromFn.{get_or-map-range_with_len, length-map-
 use Rattle.std.specs.List.{range_with_len}
 use Rattle.qcow2_base.specs.declared.fault.Fault.{Fault}
 use Rattle.qcow2_base.specs.declared.fault.Fault.TheVariants.{CounterRange}
-use Rattle.qcow2_metadata.specs.Edits.{handed_back, one_if, times_gained}
+use Rattle.qcow2_metadata.specs.Table.L2Guards.{handed_back, one_if, times_gained}
 use Rattle.std.proofs.lemmas.Grind.{same_number_lists}
 use Rattle.std.proofs.lemmas.Option.{none-some, same_Some}
 use Rattle.qcow2_metadata.specs.Entries.{is_among}
-use Rattle.qcow2_metadata.specs.Refblock.{AreCounters, BlockState, CounterChange, Decrement, Increment, Steps, greatest_counter, stepped, stepped_block}
+use Rattle.qcow2_metadata.specs.Refblock.Counters.{AreCounters}
+use Rattle.qcow2_metadata.specs.Refblock.{BlockState, greatest_counter, stepped_block}
+use Rattle.qcow2_metadata.specs.Refblock.Guard.{Decrement, Increment, CounterChange, Steps, stepped}
 use Rattle.qcow2_metadata.specs.declared.entries.ClustersToFreeEntry.{ClustersToFreeEntry}
-use Rattle.qcow2_session.specs.Settled.{CanSettle, CoversReferences, MarksModified, FollowsReferences, IsSameButFlag, IsChangedBy, LeavesRange, ChangesCounters, Settles, SomeCannotGain, SomeLeavesRange, opposite, is_between, alone, times_among}
+use Rattle.qcow2_session.specs.Session.Settled.{CanSettle, CoversReferences, MarksModified, FollowsReferences, IsSameButFlag, IsChangedBy, LeavesRange, ChangesCounters, Settles, SomeCannotGain, SomeLeavesRange, opposite, is_between, range_of_one, times_among}
 
 -- a counter that moved by nothing
 still : (change : CounterChange) (counter : ℕ) → IsChangedBy change 0 counter counter
@@ -220,19 +222,19 @@ range-stops change start at fault answer a b c below moves steps is =
     unmoved Decrement v w moved = omega (arith, moved)
 
 -- a cluster is among itself alone
-one-among : (cluster : HostCluster) (c : ℕ) → one_if (is_among (alone cluster) c) ≡ one_if (cluster.0 == c)
+one-among : (cluster : HostCluster) (c : ℕ) → one_if (is_among (range_of_one cluster) c) ≡ one_if (cluster.0 == c)
 one-among cluster c = elim (cases_eq c cluster.0) [
   | inl same ↦ grind (arith, nat_tests, same)
   | inr other ↦ grind (arith, nat_tests, other)
 ]
 
 -- gains are counted by clusters or by their numbers
-times-gained : (gained : List HostCluster) (c : ℕ) → times_among alone gained c ≡ times_gained (numbers_of gained) c
+times-gained : (gained : List HostCluster) (c : ℕ) → times_among range_of_one gained c ≡ times_gained (cluster_numbers gained) c
 times-gained [] c = refl
 times-gained (cluster ∷ gained) c = omega (
   arith,
-  sum_by-cons (λ (item : HostCluster). one_if (is_among (alone item) c)) cluster gained,
-  sum_by-cons (λ (number : ℕ). one_if (number == c)) cluster.0 (numbers_of gained),
+  sum_by-cons (λ (item : HostCluster). one_if (is_among (range_of_one item) c)) cluster gained,
+  sum_by-cons (λ (number : ℕ). one_if (number == c)) cluster.0 (cluster_numbers gained),
   one-among cluster c,
   times-gained gained c,
 )
@@ -246,26 +248,26 @@ order-kept change by a b moves = ap (λ (block : BlockState). block.refcount_ord
 
 -- counters that gained all and then lost all
 pub settled-by : (first : ℕ) (gained : List HostCluster) (freed : List ClustersToFreeEntry) (a b c : BlockState)
-    → ChangesCounters Increment (λ i. times_among alone gained (first + i)) a b → MarksModified (λ i. times_among alone gained (first + i)) a b
+    → ChangesCounters Increment (λ i. times_among range_of_one gained (first + i)) a b → MarksModified (λ i. times_among range_of_one gained (first + i)) a b
     → ChangesCounters Decrement (λ i. times_among (λ (item : ClustersToFreeEntry). item) freed (first + i)) b c → MarksModified (λ i. times_among (λ (item : ClustersToFreeEntry). item) freed (first + i)) b c
-    → Settles first freed (numbers_of gained) a c
+    → Settles first freed (cluster_numbers gained) a c
 settled-by first gained freed a b c up up_flag down down_flag = record {
   counters = λ i below. omega (arith, up.counters i below, down.counters i (omega (arith, below, up.entries)), times-gained gained (first + i));
   entries = down.entries ∙ up.entries;
-  flag = flags-twice (λ i. times_among alone gained (first + i)) (λ i. handed_back freed (first + i))
-      (λ i. times_gained (numbers_of gained) (first + i) + handed_back freed (first + i)) a b c
+  flag = flags-twice (λ i. times_among range_of_one gained (first + i)) (λ i. handed_back freed (first + i))
+      (λ i. times_gained (cluster_numbers gained) (first + i) + handed_back freed (first + i)) a b c
       (λ i below. omega (arith, times-gained gained (first + i))) up.entries up_flag down_flag;
   others = down.others ∙ ap (λ (block : BlockState). record block { counters = c.counters; modified = c.modified }) up.others;
 }
 
 -- and that could
 pub can-settle : (first : ℕ) (gained : List HostCluster) (freed : List ClustersToFreeEntry) (a b c : BlockState)
-    → ChangesCounters Increment (λ i. times_among alone gained (first + i)) a b → AreCounters b.refcount_order b.counters
+    → ChangesCounters Increment (λ i. times_among range_of_one gained (first + i)) a b → AreCounters b.refcount_order b.counters
     → ChangesCounters Decrement (λ i. times_among (λ (item : ClustersToFreeEntry). item) freed (first + i)) b c
-    → (index : ℕ) → index < length a.counters → CanSettle a first freed (numbers_of gained) index
+    → (index : ℕ) → index < length a.counters → CanSettle a first freed (cluster_numbers gained) index
 can-settle first gained freed a b c up fit down = λ i below.
     let within : i < length b.counters = omega (arith, below, up.entries) in
-    let order = order-kept Increment (λ i. times_among alone gained (first + i)) a b up in
+    let order = order-kept Increment (λ i. times_among range_of_one gained (first + i)) a b up in
     let most = rw order at (fits b.refcount_order b.counters i fit within) in
     let is = up.counters i below in
     let down_is = down.counters i within in
@@ -273,22 +275,22 @@ can-settle first gained freed a b c up fit down = λ i below.
 
 -- gains that don't fit
 pub gains-short : (first : ℕ) (gained : List HostCluster) (freed : List ClustersToFreeEntry) (a : BlockState)
-    → SomeLeavesRange Increment (λ i. times_among alone gained (first + i)) a
-    → (index : ℕ) × (index < length a.counters) × (CanSettle a first freed (numbers_of gained) index → ⊥)
+    → SomeLeavesRange Increment (λ i. times_among range_of_one gained (first + i)) a
+    → (index : ℕ) × (index < length a.counters) × (CanSettle a first freed (cluster_numbers gained) index → ⊥)
 gains-short first gained freed a (i, below, short) = (i, below, λ can. omega (arith, short, can.0, times-gained gained (first + i)))
 
 -- losses that don't fit
 pub losses-short : (first : ℕ) (gained : List HostCluster) (freed : List ClustersToFreeEntry) (a b : BlockState)
-    → ChangesCounters Increment (λ i. times_among alone gained (first + i)) a b
+    → ChangesCounters Increment (λ i. times_among range_of_one gained (first + i)) a b
     → SomeLeavesRange Decrement (λ i. times_among (λ (item : ClustersToFreeEntry). item) freed (first + i)) b
-    → (index : ℕ) × (index < length a.counters) × (CanSettle a first freed (numbers_of gained) index → ⊥)
+    → (index : ℕ) × (index < length a.counters) × (CanSettle a first freed (cluster_numbers gained) index → ⊥)
 losses-short first gained freed a b up (i, below, short) =
     let within : i < length a.counters = omega (arith, below, up.entries) in
     (i, within, λ can. omega (arith, short, can.1, up.counters i within, times-gained gained (first + i)))
 
 -- counters of a table that was edited in balance follow its references
 pub follows-by : (first : ℕ) (outcome : Outcome) (old new : TableState) (a b : BlockState) → new.geometry ≡ old.geometry
-    → Balances outcome old new → Settles first outcome.freed.items (numbers_of outcome.gained.items) a b → FollowsReferences first old a new b
+    → Balances outcome old new → Settles first outcome.freed.items (cluster_numbers outcome.gained.items) a b → FollowsReferences first old a new b
 follows-by first outcome old new a b same balance settles = λ i below.
     omega (arith, balance (first + i), settles.counters i below)
 
@@ -405,10 +407,10 @@ between-end start end at i past (inr is) = elim (cases_lt i start) [
 
 -- where counters cover the references, only gains can be too many
 pub covered-short : (first : ℕ) (outcome : Outcome) (old new : TableState) (a : BlockState) → Balances outcome old new → CoversReferences first a old
-    → ((index : ℕ) × (index < length a.counters) × (CanSettle a first outcome.freed.items (numbers_of outcome.gained.items) index → ⊥))
-    → SomeCannotGain first a (numbers_of outcome.gained.items)
+    → ((index : ℕ) × (index < length a.counters) × (CanSettle a first outcome.freed.items (cluster_numbers outcome.gained.items) index → ⊥))
+    → SomeCannotGain first a (cluster_numbers outcome.gained.items)
 covered-short first outcome old new a balance covers (i, below, cant) =
-    elim (cases_lt (greatest_counter a.refcount_order) (slice_index a.counters i + times_gained (numbers_of outcome.gained.items) (first + i))) [
+    elim (cases_lt (greatest_counter a.refcount_order) (slice_index a.counters i + times_gained (cluster_numbers outcome.gained.items) (first + i))) [
       | inl over ↦ (i, below, over)
       | inr most ↦ absurd (cant (most, omega (arith, balance (first + i), covers i below)))
     ]

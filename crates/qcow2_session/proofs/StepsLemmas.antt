@@ -6,9 +6,10 @@ use Rattle.std.proofs.lemmas.Bool.Decides.{nat_tests}
 use Rattle.std.proofs.lemmas.List.{drop_all, length-set, set-get_or, set-set}
 use Rattle.std.proofs.lemmas.Option.{none-some}
 use Rattle.std.specs.List.{list_all}
-use Rattle.qcow2_metadata.specs.Refblock.{BlockState, after_change, greatest_counter, stepped}
+use Rattle.qcow2_metadata.specs.Refblock.{BlockState, greatest_counter}
+use Rattle.qcow2_metadata.specs.Refblock.Guard.{after_change, stepped}
 use Rattle.qcow2_session.proofs.FirstLemmas.{all_pass, each_passes}
-use Rattle.qcow2_session.specs.Steps.{Counts, MakesStep, StepsEnd, Undoes, are_some_done, change_of, decrements, end_of, first_unfit, increments, index_of, is_done, left_by, reply_of, run_of_steps, times_made}
+use Rattle.qcow2_session.specs.Session.Steps.{Counts, MakesStep, StepsEnd, Undoes, are_some_done, change_of, decrements, steps_left, first_unfit_step, increments, index_of, is_done, block_left, reply_of, run_of_steps, times_made}
 use Rattle.qcow2_session.specs.declared.session.steps.Step.{Step}
 use Rattle.qcow2_session.specs.declared.session.steps.Step.TheVariants.{Dec, Inc}
 use Rattle.qcow2_session.specs.declared.session.steps.StepReply.{StepReply}
@@ -22,7 +23,7 @@ joined replies rest = record { counters = rest.counters; replies = replies ++ re
 pub record IsPartWay (steps : List Step) (made : ℕ) (before now : BlockState) (replies : List StepReply) : Type 0 where
   pub run : joined replies (run_of_steps before.refcount_order (drop made steps) now.counters)
       ≡ run_of_steps before.refcount_order steps before.counters
-  pub block : now ≡ left_by replies before now.counters
+  pub block : now ≡ block_left replies before now.counters
   pub entries : length now.counters ≡ length before.counters
 
 length-after_change : (counters : List ℕ) (index : ℕ) (after : Option ℕ) → length (after_change counters index after) ≡ length counters
@@ -55,26 +56,26 @@ part_way-next steps made default before now next reply replies below way makes =
     let after = stepped now.refcount_order (change_of step) (slice_index now.counters (index_of step)) in
     let changed : next.counters ≡ after_change now.counters (index_of step) after = ap (λ (block : BlockState). block.counters) makes.block in
     let run : joined replies (run_of_steps before.refcount_order (step ∷ drop (suc made) steps) now.counters) ≡ run_of_steps before.refcount_order steps before.counters = rw left at way.run in
-    let left_is : (counters : List ℕ) → left_by (reply ∷ []) now counters ≡ left_by (replies ++ reply ∷ []) before counters =
+    let left_is : (counters : List ℕ) → block_left (reply ∷ []) now counters ≡ block_left (replies ++ reply ∷ []) before counters =
     λ counters. rw (modified, cluster, bits, order, done-more replies reply, or_assoc (is_done reply || false) (are_some_done replies) before.modified) refl in
     record {
       run = rw (append_assoc replies (reply ∷ []), changed, makes.replies, order, one_more) run;
-      block = subst (λ (block : BlockState). block ≡ left_by (replies ++ reply ∷ []) before block.counters) (sym makes.block) (left_is (after_change now.counters (index_of step) after));
+      block = subst (λ (block : BlockState). block ≡ block_left (replies ++ reply ∷ []) before block.counters) (sym makes.block) (left_is (after_change now.counters (index_of step) after));
       entries = ap length changed ∙ length-after_change now.counters (index_of step) _ ∙ way.entries;
     }
 
 -- all steps are made
-pub part_way-end : (steps : List Step) (made : ℕ) (before now : BlockState) (replies : List StepReply) → length steps ≤ made → IsPartWay steps made before now replies → end_of now replies ≡ run_of_steps before.refcount_order steps before.counters
+pub part_way-end : (steps : List Step) (made : ℕ) (before now : BlockState) (replies : List StepReply) → length steps ≤ made → IsPartWay steps made before now replies → steps_left now replies ≡ run_of_steps before.refcount_order steps before.counters
 part_way-end steps made before now replies all way =
     let none_left : drop made steps ≡ [] = drop_all made steps all in
     let run = rw none_left at way.run in
-    ap (λ (list : List StepReply). end_of now list) (sym (append-nil replies)) ∙ run
+    ap (λ (list : List StepReply). steps_left now list) (sym (append-nil replies)) ∙ run
 
 -- where no index is the first out of bounds, all are in bounds
 abbrev in_bounds : ℕ → Step → Bool
 in_bounds entries step = nat_lt (index_of step) entries
 
-pub all_in_bounds : (block : BlockState) (steps : List Step) → first_unfit block steps ≡ None → list_all (in_bounds (length block.counters)) steps ≡ true
+pub all_in_bounds : (block : BlockState) (steps : List Step) → first_unfit_step block steps ≡ None → list_all (in_bounds (length block.counters)) steps ≡ true
 all_in_bounds block steps none = all_pass (in_bounds (length block.counters)) steps none
 
 -- and so is each of them
@@ -166,18 +167,18 @@ undone_first counters i before false below made =
     let is : slice_index counters i ≡ before = cc in
     undone_at counters i (slice_index counters i + 1) false below refl ∙ ap (two_done counters) is
 
-run-undoes : (steps : List Step) (replies : List StepReply) (old new : BlockState) → list_all (in_bounds (length old.counters)) steps ≡ true → new.refcount_order ≡ old.refcount_order → end_of new replies ≡ run_of_steps old.refcount_order steps old.counters → Undoes steps replies old new
+run-undoes : (steps : List Step) (replies : List StepReply) (old new : BlockState) → list_all (in_bounds (length old.counters)) steps ≡ true → new.refcount_order ≡ old.refcount_order → steps_left new replies ≡ run_of_steps old.refcount_order steps old.counters → Undoes steps replies old new
 run-undoes steps replies old new all order run = λ index before is made.
     let all_two : list_all (in_bounds (length old.counters)) (Inc index ∷ Dec index ∷ []) ≡ true = rw is at all in
     let below : index < length old.counters = each_in_bounds (length old.counters) (Inc index ∷ Dec index ∷ []) 0 (Inc index) all_two (omega arith) in
-    let run_two : end_of new replies ≡ run_of_steps old.refcount_order (Inc index ∷ Dec index ∷ []) old.counters = rw is at run in
+    let run_two : steps_left new replies ≡ run_of_steps old.refcount_order (Inc index ∷ Dec index ∷ []) old.counters = rw is at run in
     let first = subst (λ (end : StepsEnd). slice_get end.replies 0 ≡ Some (Done before)) run_two made in
     let end = run_two ∙ undone_first old.counters index before (slice_index old.counters index == greatest_counter old.refcount_order) below first in
     let counters : new.counters ≡ old.counters = ap (λ (end : StepsEnd). end.counters) end in
     (ap (λ (end : StepsEnd). end.replies) end, rw (order, counters) refl)
 
 -- a block that a run led to
-pub run-counts : (steps : List Step) (replies : List StepReply) (old new : BlockState) → first_unfit old steps ≡ None → new.refcount_order ≡ old.refcount_order → end_of new replies ≡ run_of_steps old.refcount_order steps old.counters → Counts steps replies old new
+pub run-counts : (steps : List Step) (replies : List StepReply) (old new : BlockState) → first_unfit_step old steps ≡ None → new.refcount_order ≡ old.refcount_order → steps_left new replies ≡ run_of_steps old.refcount_order steps old.counters → Counts steps replies old new
 run-counts steps replies old new none order run = record {
   balance = λ index.
       subst (λ (end : StepsEnd). slice_index end.counters index + times_made (decrements index) steps end.replies ≡ slice_index old.counters index + times_made (increments index) steps end.replies)
@@ -208,7 +209,7 @@ neither true b none = cc
 neither false b none = refl
 
 -- and so do those of a block that isn't modified
-pub block-idle : (steps : List Step) (replies : List StepReply) (old new : BlockState) → end_of new replies ≡ run_of_steps old.refcount_order steps old.counters → new ≡ left_by replies old new.counters → new.modified ≡ false → new.counters ≡ old.counters
+pub block-idle : (steps : List Step) (replies : List StepReply) (old new : BlockState) → steps_left new replies ≡ run_of_steps old.refcount_order steps old.counters → new ≡ block_left replies old new.counters → new.modified ≡ false → new.counters ≡ old.counters
 block-idle steps replies old new run left unmodified =
     let none : (are_some_done replies || old.modified) ≡ false = sym (ap (λ (block : BlockState). block.modified) left) ∙ unmodified in
     let made : replies ≡ (run_of_steps old.refcount_order steps old.counters).replies = ap (λ (end : StepsEnd). end.replies) run in

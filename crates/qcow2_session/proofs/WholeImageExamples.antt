@@ -1,11 +1,11 @@
 use Rattle.std.proofs.Common.{◌≡◌, ℕ, ◌+◌, ◌∷◌, ◌++◌, [], List, false, true, Ok, refl}
-use Rattle.qcow2_metadata.specs.Edits.{handed_back, times_gained}
-use Rattle.qcow2_metadata.specs.Entries.{Mapping, backing, data_file}
+use Rattle.qcow2_metadata.specs.Table.L2Guards.{handed_back, times_gained}
+use Rattle.qcow2_metadata.specs.Entries.L2Mapping.{Mapping, backing, data_file}
 use Rattle.qcow2_metadata.specs.Header.{geometry}
 use Rattle.qcow2_metadata.specs.declared.entries.ClustersToFreeEntry.{ClustersToFreeEntry}
 use Rattle.qcow2_session.proofs.SampleImage.{Part, byte, computing, entry, laid, sample}
-use Rattle.qcow2_session.specs.Lookups.{image_mapping}
-use Rattle.qcow2_session.specs.WholeImage.{image_references, l2_clusters}
+use Rattle.qcow2_session.specs.Session.Lookups.{image_mapping}
+use Rattle.qcow2_session.specs.Session.WholeImage.{image_references, l2_clusters}
 
 -- with these changes of the sample image, the cluster of an offset reads so
 abbrev ReadsAs : ℕ → List Part → Mapping → Type 0

@@ -9,13 +9,15 @@ use Rattle.qcow2_base.specs.Storage.{Image, SameOutside, be}
 use Rattle.qcow2_base.specs.declared.fault.Fault.{Fault}
 use Rattle.qcow2_base.specs.declared.on_disk_struct.v2_header.V2Header.{V2Header}
 use Rattle.qcow2_base.specs.declared.types.HostCluster.{HostCluster}
-use Rattle.qcow2_metadata.specs.Answers.{and_then, result_map, unless_refused}
-use Rattle.qcow2_session.specs.WholeImage.{AreApart, BalancesImage, ChangesOwnLookups, ChangesL2Table, HasL1Table, AvoidsHeaderAndL1Table, IsSoundImage, IsWithin, ShareNoByte, first_cluster_bytes, l2_bytes, l2_cluster_in, l2_clusters, table_bytes, bytes_of_tables}
-use Rattle.qcow2_metadata.specs.Edits.{handed_back, references, times_gained}
-use Rattle.qcow2_metadata.specs.Entries.{ByteRange, Mapping, l1_fault, l2_fault, mapping}
+use Rattle.qcow2_metadata.specs.Results.{and_then, result_map, unless_refused}
+use Rattle.qcow2_session.specs.Session.WholeImage.{AreApart, BalancesImage, ChangesOwnLookups, ChangesL2Table, HasL1Table, AvoidsHeaderAndL1Table, IsSoundImage, IsWithin, ShareNoByte, first_cluster_bytes, l2_bytes, l2_cluster_in, l2_clusters, table_bytes, bytes_of_tables}
+use Rattle.qcow2_metadata.specs.Table.L2Guards.{handed_back, references, times_gained}
+use Rattle.qcow2_metadata.specs.Entries.L2Entry.{ByteRange, l2_fault}
+use Rattle.qcow2_metadata.specs.Entries.L2Mapping.{Mapping, mapping}
+use Rattle.qcow2_metadata.specs.Entries.L1Entry.{l1_fault}
 use Rattle.qcow2_metadata.specs.Header.{Geometry, HeaderRecord, geometry_of}
 use Rattle.qcow2_metadata.specs.Header.Grammar.{header_of}
-use Rattle.qcow2_session.specs.Lookups.{guest_mapping, image_mapping, l1_place, l2_cluster, mapping_by}
+use Rattle.qcow2_session.specs.Session.Lookups.{guest_mapping, image_mapping, l1_place, l2_cluster, mapping_by}
 use Rattle.qcow2_metadata.specs.Table.{TablePlace, decoded, l2_table_at, loaded_l1_table, loaded_l2_table, most_l1_entries, most_l2_entries, numbers_at, offset_of, place_fault}
 use Rattle.qcow2_metadata.specs.declared.entries.ClustersToFreeEntry.{ClustersToFreeEntry}
 use Rattle.qcow2_metadata.proofs.ClusterLemmas.{header_of-same}

@@ -4,19 +4,19 @@ use Rattle.qcow2_base.specs.Storage.{Image, SameOutside, StorageState}
 use Rattle.qcow2_base.specs.declared.fault.Fault.{Fault}
 use Rattle.qcow2_base.specs.declared.fault.Fault.TheVariants.{NotPlaced, Storage}
 use Rattle.qcow2_base.specs.declared.types.HostCluster.{HostCluster}
-use Rattle.qcow2_metadata.specs.Answers.{Answers, and_then, result_map}
-use Rattle.qcow2_metadata.specs.Edits.{RunEnd}
+use Rattle.qcow2_metadata.specs.Results.{Answers, and_then, result_map}
+use Rattle.qcow2_metadata.specs.Table.L2Guards.{RunEnd}
 use Rattle.qcow2_metadata.specs.Header.{HeaderRecord, geometry_of}
 use Rattle.qcow2_metadata.specs.Header.Grammar.{header_of}
 use Rattle.qcow2_metadata.specs.Header.Open.{Opens, opened}
 use Rattle.qcow2_metadata.specs.Refblock.{IsTornBlock, block_offset, loaded_block}
 use Rattle.qcow2_metadata.specs.Table.{IsTorn, loaded_l1_table, loaded_l2_table}
-use Rattle.qcow2_session.specs.Edits.{are_some}
-use Rattle.qcow2_session.specs.Images.{block_from, edits_end, steps_end}
+use Rattle.qcow2_session.specs.Session.Edits.{are_some}
+use Rattle.qcow2_session.specs.Session.Images.{block_from, edits_end, steps_end}
 use Rattle.qcow2_session.specs.Lines.{freed_lines, gained_lines, reply_lines}
-use Rattle.qcow2_session.specs.Lookups.{l1_place, named_cluster}
+use Rattle.qcow2_session.specs.Session.Lookups.{l1_place, named_cluster}
 use Rattle.qcow2_session.specs.Printing.{IsRefusal}
-use Rattle.qcow2_session.specs.Steps.{StepsEnd, are_some_done}
+use Rattle.qcow2_session.specs.Session.Steps.{StepsEnd, are_some_done}
 use Rattle.qcow2_session.specs.declared.session.edits.Edit.{Edit}
 use Rattle.qcow2_session.specs.declared.session.steps.Step.{Step}
 
@@ -52,8 +52,8 @@ pub record Change (End : Type 0) : Type 1 where
   pub lines : End → List ℕ
 
 -- what a change of an image comes to, or why it is refused
-abbrev pub end_of : {End : Type 0} → Change End → Image → Result End Fault
-end_of change image = and_then (change.place image) (λ cluster. change.run cluster image)
+abbrev pub change_end : {End : Type 0} → Change End → Image → Result End Fault
+change_end change image = and_then (change.place image) (λ cluster. change.run cluster image)
 
 -- edits of the L2 table that an L1 entry names, told by the clusters that lost a reference, and then by those that
 -- gained one
@@ -90,15 +90,15 @@ IsMade answer old new = IfErr answer (λ fault. (fault ≡ Storage) × (new.fail
 -- where there is no cluster, nothing is to be written, or a fault but the storage fault is answered. Where a call of
 -- the image failed, no byte changed, or what the change leaves is written up to a piece
 pub record PrintsChange {T End : Type 0} (answer : Result T Fault) (header : HeaderRecord) (change : Change End) (old new : StorageState) (before after : Option (List ℕ)) : Type 0 where
-  pub lines : OnOk answer (IsTrue old.tells → IsOkAnd (end_of change old.byte_at) (λ left. Appends before after (change.lines left)))
+  pub lines : OnOk answer (IsTrue old.tells → IsOkAnd (change_end change old.byte_at) (λ left. Appends before after (change.lines left)))
   pub written : IsMade answer old new → IsTrue old.tells → IsOkAnd (change.place old.byte_at) (λ cluster.
-      change.loaded cluster new.byte_at ≡ result_map change.numbers (end_of change old.byte_at))
-  pub refused : IfErr answer (IsRefusal (end_of change old.byte_at) old new)
+      change.loaded cluster new.byte_at ≡ result_map change.numbers (change_end change old.byte_at))
+  pub refused : IfErr answer (IsRefusal (change_end change old.byte_at) old new)
   pub unchanged : IfErr answer (λ fault. fault ≢ Storage → new.byte_at ≡ old.byte_at)
   pub torn : IsTrue old.tells → new.failures ≢ old.failures → (new.byte_at ≡ old.byte_at)
-      ⊎ IsOkAnd (change.place old.byte_at) (λ cluster. IsOkAnd (end_of change old.byte_at) (λ left.
+      ⊎ IsOkAnd (change.place old.byte_at) (λ cluster. IsOkAnd (change_end change old.byte_at) (λ left.
       change.Torn cluster left old.byte_at new.byte_at))
-  pub idle : IsTrue old.tells → IfOk (end_of change old.byte_at) (λ left. change.writes left ≡ false → new.byte_at ≡ old.byte_at)
+  pub idle : IsTrue old.tells → IfOk (change_end change old.byte_at) (λ left. change.writes left ≡ false → new.byte_at ≡ old.byte_at)
   pub others : IsTrue old.tells → MatchResult (change.place old.byte_at)
       (λ cluster. SameOutsideCluster header cluster old.byte_at new.byte_at) (λ fault. new.byte_at ≡ old.byte_at)
 

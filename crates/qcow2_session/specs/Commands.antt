@@ -1,3 +1,8 @@
+pub mod Info
+pub mod Listing
+pub mod Report
+pub mod Running
+pub mod Words
 use Rattle.std.specs.Prelude.{ℕ, ◌^◌, Bool, true, false, ◌&&◌, nat_lt, nat_le, ◌==◌, if◌then◌else◌, List, [], ◌∷◌, length, Option, Some, None, option_map, is_some, codes, bytes_eq}
 use Rattle.std.specs.List.{after_first, before_first, filter_map, list_all, position_or_len}
 use Rattle.std.specs.Str.{all_ascii_digits}
@@ -17,12 +22,12 @@ is_number word =
     && nat_lt (digits_value 10 word) (2 ^ 64)
 
 -- the number that a word says, if it says one
-abbrev pub number_of : List ℕ → Option ℕ
-number_of word = if is_number word then Some (digits_value 10 word) else None
+abbrev pub word_number : List ℕ → Option ℕ
+word_number word = if is_number word then Some (digits_value 10 word) else None
 
 -- the number of cluster bits that a word says, from 9 to 21
 abbrev pub cluster_bits_of : List ℕ → Option ℕ
-cluster_bits_of word = in_range (number_of word)
+cluster_bits_of word = in_range (word_number word)
   where
     in_range : Option ℕ → Option ℕ
     in_range None = None
@@ -37,7 +42,7 @@ parts_of word =
 -- an edit that maps, where both of its numbers are there
 abbrev pub map_of : Option (List ℕ × List ℕ) → Option Edit
 map_of None = None
-map_of (Some words) = with_numbers (number_of words.0) (number_of words.1)
+map_of (Some words) = with_numbers (word_number words.0) (word_number words.1)
   where
     with_numbers : Option ℕ → Option ℕ → Option Edit
     with_numbers (Some index) (Some cluster) = Some (Map index (record { 0 = cluster }))
@@ -51,9 +56,9 @@ edit_of word = of_parts (parts_of word)
     of_parts None = None
     of_parts (Some parts) =
         if bytes_eq parts.0 (codes "map") then map_of (parts_of parts.1)
-        else if bytes_eq parts.0 (codes "zero") then option_map (λ index. Zero index false) (number_of parts.1)
-        else if bytes_eq parts.0 (codes "keep") then option_map (λ index. Zero index true) (number_of parts.1)
-        else if bytes_eq parts.0 (codes "discard") then option_map Discard (number_of parts.1) else None
+        else if bytes_eq parts.0 (codes "zero") then option_map (λ index. Zero index false) (word_number parts.1)
+        else if bytes_eq parts.0 (codes "keep") then option_map (λ index. Zero index true) (word_number parts.1)
+        else if bytes_eq parts.0 (codes "discard") then option_map Discard (word_number parts.1) else None
 
 -- the step that a word says, if it says one
 abbrev pub step_of : List ℕ → Option Step
@@ -62,8 +67,8 @@ step_of word = of_parts (parts_of word)
     of_parts : Option (List ℕ × List ℕ) → Option Step
     of_parts None = None
     of_parts (Some parts) =
-        if bytes_eq parts.0 (codes "inc") then option_map Inc (number_of parts.1)
-        else if bytes_eq parts.0 (codes "dec") then option_map Dec (number_of parts.1) else None
+        if bytes_eq parts.0 (codes "inc") then option_map Inc (word_number parts.1)
+        else if bytes_eq parts.0 (codes "dec") then option_map Dec (word_number parts.1) else None
 
 -- whether a word says an edit, or a step, and whether all words do
 abbrev pub is_edit : List ℕ → Bool
@@ -95,13 +100,13 @@ pub data CommandLine : Type 0 where
   count_steps : (image : List ℕ) (cluster : ℕ) (steps : List Step) → CommandLine
 
 -- the image that a command is about
-abbrev pub image_of : CommandLine → List ℕ
-image_of (l2 image cluster_bits cluster) = image
-image_of (info image) = image
-image_of (list_tables image) = image
-image_of (mapping_at image guest_offset) = image
-image_of (edit_entries image l1_index edits) = image
-image_of (count_steps image cluster steps) = image
+abbrev pub named_image : CommandLine → List ℕ
+named_image (l2 image cluster_bits cluster) = image
+named_image (info image) = image
+named_image (list_tables image) = image
+named_image (mapping_at image guest_offset) = image
+named_image (edit_entries image l1_index edits) = image
+named_image (count_steps image cluster steps) = image
 
 -- whether a command may change its image
 abbrev pub changes_image : CommandLine → Bool
@@ -117,17 +122,17 @@ l2_with image _ _ = None
 -- the command `l2` by the words after its image
 abbrev pub l2_of : List ℕ → List (List ℕ) → Option CommandLine
 l2_of image (cluster_bits ∷ cluster ∷ []) =
-    l2_with image (cluster_bits_of cluster_bits) (number_of cluster)
+    l2_with image (cluster_bits_of cluster_bits) (word_number cluster)
 l2_of image _ = None
 
 -- a command that has no words after its image
-abbrev pub alone : CommandLine → List (List ℕ) → Option CommandLine
-alone command [] = Some command
-alone command (word ∷ words) = None
+abbrev pub without_arguments : CommandLine → List (List ℕ) → Option CommandLine
+without_arguments command [] = Some command
+without_arguments command (word ∷ words) = None
 
 -- the command `at`, by the words after its image
 abbrev pub at_of : List ℕ → List (List ℕ) → Option CommandLine
-at_of image (offset ∷ []) = option_map (λ number. mapping_at image number) (number_of offset)
+at_of image (offset ∷ []) = option_map (λ number. mapping_at image number) (word_number offset)
 at_of image _ = None
 
 -- the command `edit`, by the words after its image
@@ -135,21 +140,21 @@ abbrev pub edits_at : List ℕ → List (List ℕ) → Option CommandLine
 edits_at image [] = None
 edits_at image (l1_index ∷ words) =
     if all_edits words
-    then option_map (λ index. edit_entries image index (edits_of words)) (number_of l1_index) else None
+    then option_map (λ index. edit_entries image index (edits_of words)) (word_number l1_index) else None
 
 -- the command `count`, by the words after its image
 abbrev pub steps_at : List ℕ → List (List ℕ) → Option CommandLine
 steps_at image [] = None
 steps_at image (cluster ∷ words) =
     if all_steps words
-    then option_map (λ number. count_steps image number (steps_of words)) (number_of cluster) else None
+    then option_map (λ number. count_steps image number (steps_of words)) (word_number cluster) else None
 
 -- the command that a line of words asks for, if it asks for one
 abbrev pub command_of : List (List ℕ) → Option CommandLine
 command_of (name ∷ image ∷ arguments) =
     if bytes_eq name (codes "l2") then l2_of image arguments
-    else if bytes_eq name (codes "info") then alone (info image) arguments
-    else if bytes_eq name (codes "list") then alone (list_tables image) arguments
+    else if bytes_eq name (codes "info") then without_arguments (info image) arguments
+    else if bytes_eq name (codes "list") then without_arguments (list_tables image) arguments
     else if bytes_eq name (codes "at") then at_of image arguments
     else if bytes_eq name (codes "edit") then edits_at image arguments
     else if bytes_eq name (codes "count") then steps_at image arguments else None

@@ -1,15 +1,5 @@
 pub mod Changing
 pub mod Commands
-pub mod Edits
-pub mod Images
-pub mod Info
 pub mod Lines
-pub mod Listing
-pub mod Lookups
 pub mod Printing
-pub mod Report
-pub mod Running
-pub mod Settled
-pub mod Steps
-pub mod WholeImage
-pub mod Words
+pub mod Session

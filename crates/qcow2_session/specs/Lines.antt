@@ -1,12 +1,12 @@
 use Rattle.std.specs.Prelude.{ℕ, ◌+◌, ◌*◌, ◌^◌, Bool, true, false, List, [], ◌∷◌, ◌++◌, Some, None, flat_map, codes}
 use Rattle.std.specs.Fmt.{decimal, digits}
-use Rattle.qcow2_base.specs.Fault.{number_of}
+use Rattle.qcow2_base.specs.Fault.{fault_number}
 use Rattle.qcow2_base.specs.declared.fault.Fault.{Fault}
 use Rattle.qcow2_metadata.specs.declared.entries.ClustersToFreeEntry.{ClustersToFreeEntry}
 use Rattle.qcow2_session.specs.declared.session.steps.StepReply.{StepReply}
 use Rattle.qcow2_session.specs.declared.session.steps.StepReply.TheVariants.{Done, Refused}
 use Rattle.qcow2_metadata.specs.Header.{Geometry}
-use Rattle.qcow2_metadata.specs.Entries.{Mapping, data_file, backing, zeros, compressed, mapping}
+use Rattle.qcow2_metadata.specs.Entries.L2Mapping.{Mapping, mapping, data_file, backing, zeros, compressed}
 
 -- an offset, in hexadecimal
 abbrev pub offset_text : ℕ → List ℕ
@@ -67,7 +67,7 @@ gained_lines gained = flat_map gained_line gained
 
 -- the line of a fault
 abbrev pub fault_line : Fault → List ℕ
-fault_line fault = codes "qmeta: fault " ++ decimal (number_of fault) ++ codes "\n"
+fault_line fault = codes "qmeta: fault " ++ decimal (fault_number fault) ++ codes "\n"
 
 -- the line for words that are no command
 abbrev pub usage_line : List ℕ

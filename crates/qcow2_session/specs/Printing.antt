@@ -5,13 +5,13 @@ use Rattle.qcow2_base.specs.Storage.{Image, SameDevice, StorageState}
 use Rattle.qcow2_base.specs.declared.fault.Fault.{Fault}
 use Rattle.qcow2_base.specs.declared.fault.Fault.TheVariants.{NoMemory, Storage}
 use Rattle.qcow2_base.specs.declared.types.HostCluster.{HostCluster}
-use Rattle.qcow2_metadata.specs.Answers.{and_then, result_map}
+use Rattle.qcow2_metadata.specs.Results.{and_then, result_map}
 use Rattle.qcow2_metadata.specs.Header.{geometry}
 use Rattle.qcow2_metadata.specs.Header.Grammar.{header_of}
 use Rattle.qcow2_metadata.specs.Table.{loaded_l2_table}
-use Rattle.qcow2_session.specs.Info.{info_lines}
+use Rattle.qcow2_session.specs.Commands.Info.{info_lines}
 use Rattle.qcow2_session.specs.Lines.{entry_lines, mapping_line}
-use Rattle.qcow2_session.specs.Lookups.{image_mapping}
+use Rattle.qcow2_session.specs.Session.Lookups.{image_mapping}
 
 -- calls over an image that was so before and is so now ended in this fault: it is the one that is meant, want of memory,
 -- or a failed storage, which is that of the image or, where no fault is meant, of the output

@@ -5,8 +5,8 @@ ghost use Rattle.std.specs.Prelude.{◌≡◌, ◌≢◌, ◌≤◌, ◌↔◌, 
 ghost use Rattle.std.specs.Io.KnownBytes.{Keeps};
 ghost use Rattle.qcow2_base.specs.declared.fault.Fault.TheVariants.{Storage as StorageFailed};
 ghost use Rattle.qcow2_session.specs.Commands.{command_of, is_silent_on_faults, place_fault_of};
-ghost use Rattle.qcow2_session.specs.Report.{Reports};
-ghost use Rattle.qcow2_session.specs.Words.{line_of};
+ghost use Rattle.qcow2_session.specs.Commands.Report.{Reports};
+ghost use Rattle.qcow2_session.specs.Commands.Words.{line_of};
 
 use qcow2_base::{Fault, FileStorage};
 use std::io;

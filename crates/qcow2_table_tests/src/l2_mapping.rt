@@ -2,7 +2,7 @@
 
 ghost use Rattle.std.specs.Prelude.{◌*◌, ◌^◌, ◌<◌, ◌↔◌, IsTrue};
 ghost use Rattle.qcow2_base.specs.Types.{IsClusterBits};
-ghost use Rattle.qcow2_metadata.specs.Entries.{FitsEntry, IsPlaced};
+ghost use Rattle.qcow2_metadata.specs.Entries.L2Mapping.{FitsEntry, IsPlaced};
 
 use qcow2_base::{GuestCluster, HostCluster, HostOffset};
 use qcow2_metadata::{L2Entry, L2Mapping, TableEntry};

@@ -16,8 +16,8 @@ abbrev pub calls_of : {S : Type 0} → FailingStorage S → List StorageCall
 calls_of storage = storage.calls.items
 
 -- how many calls have failed, modulo 2^64
-abbrev pub failure_count : {S : Type 0} → FailingStorage S → ℕ
-failure_count storage = storage.failures
+abbrev pub failures_made : {S : Type 0} → FailingStorage S → ℕ
+failures_made storage = storage.failures
 
 -- what it says as a storage: the same as the other, but for its own count of failures
 abbrev pub seen_as : {S : Type 0} → (S → StorageState) → FailingStorage S → StorageState

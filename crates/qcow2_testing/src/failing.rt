@@ -2,7 +2,7 @@
 
 ghost use Rattle.std.specs.Prelude.{◌≡◌, ◌+◌, ◌^◌, ◌%◌, ◌≤◌, [], ◌∷◌, ◌++◌, false, length, None, Some, IsTrue, IsErr};
 ghost use Rattle.qcow2_base.specs.Storage.{ReadsBytes, WritesBytes};
-ghost use Rattle.qcow2_testing.specs.Failing.{inner_of, seen_as, plan_of, calls_of, failure_count, plan_after, FollowsPlan};
+ghost use Rattle.qcow2_testing.specs.Failing.{inner_of, seen_as, plan_of, calls_of, failures_made, plan_after, FollowsPlan};
 
 use qcow2_base::{Storage, StorageFault};
 use std::alloc::Global;
@@ -32,7 +32,7 @@ impl<S> FailingStorage<S> {
         ensures inner { inner_of result ≡ inner }
         ensures plan { plan_of result ≡ None }
         ensures calls { calls_of result ≡ [] }
-        ensures failures { failure_count result ≡ 0 }
+        ensures failures { failures_made result ≡ 0 }
     {
         FailingStorage {
             inner,
@@ -47,7 +47,7 @@ impl<S> FailingStorage<S> {
         ensures plan { plan_of self.new ≡ Some passes }
         ensures inner { inner_of self.new ≡ inner_of self.old }
         ensures calls { calls_of self.new ≡ calls_of self.old }
-        ensures failures { failure_count self.new ≡ failure_count self.old }
+        ensures failures { failures_made self.new ≡ failures_made self.old }
     {
         self.plan = Some(passes);
     }
@@ -71,14 +71,14 @@ impl<S> FailingStorage<S> {
         ensures calls { calls_of self.new ≡ [] }
         ensures inner { inner_of self.new ≡ inner_of self.old }
         ensures plan { plan_of self.new ≡ plan_of self.old }
-        ensures failures { failure_count self.new ≡ failure_count self.old }
+        ensures failures { failures_made self.new ≡ failures_made self.old }
     {
         self.calls.clear();
     }
 
     /// How many calls have failed, modulo 2^64.
     pub fn failures(&self) -> u64
-        ensures { result ≡ failure_count self.now }
+        ensures { result ≡ failures_made self.now }
     {
         self.failures
     }
@@ -90,7 +90,7 @@ impl<S> FailingStorage<S> {
         ensures planned { plan_of self.old ≡ Some 0 → result ≡ false }
         ensures plan { plan_of self.new ≡ plan_after (plan_of self.old) }
         ensures inner { inner_of self.new ≡ inner_of self.old }
-        ensures failures { failure_count self.new ≡ failure_count self.old }
+        ensures failures { failures_made self.new ≡ failures_made self.old }
     {
         let passes = take_turn(&mut self.plan);
         self.calls.push(call).is_ok() && passes
@@ -99,7 +99,7 @@ impl<S> FailingStorage<S> {
     // Counts one more failed call.
     fn fail(&mut self) -> Result<(), StorageFault>
         ensures err { IsErr result }
-        ensures failures { failure_count self.new ≡ (failure_count self.old + 1) % 2 ^ 64 }
+        ensures failures { failures_made self.new ≡ (failures_made self.old + 1) % 2 ^ 64 }
         ensures inner { inner_of self.new ≡ inner_of self.old }
         ensures plan { plan_of self.new ≡ plan_of self.old }
         ensures calls { calls_of self.new ≡ calls_of self.old }

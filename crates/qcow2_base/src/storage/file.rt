@@ -5,7 +5,7 @@ ghost use Rattle.std.specs.Fs.{new_options, with_read, with_write, IsDir, file_t
 ghost use Rattle.std.specs.Io.KnownBytes.{Keeps};
 ghost use Rattle.std.specs.Io.Seek.{MovesTo};
 ghost use Rattle.std.proofs.Common.{rules};
-ghost use Rattle.qcow2_base.specs.FileStorage.{file_of, failure_count, state_of};
+ghost use Rattle.qcow2_base.specs.Storage.File.{file_of, file_failures, file_state};
 ghost use Rattle.qcow2_base.specs.Storage.{TellsReads, ReadsBytes, WritesBytes, Holds, image_of};
 
 use super::{Storage, StorageFault};
@@ -32,7 +32,7 @@ impl<F: Read + Write + Seek + OpenFile + Drop> FileStorage<F> {
         writable: bool,
     ) -> Result<FileStorage<F>, Fault>
         ensures fault { IsOkUnless result Fault.Storage }
-        ensures failures { IfOk result (λ storage. failure_count storage ≡ 0) }
+        ensures failures { IfOk result (λ storage. file_failures storage ≡ 0) }
     {
         match open_file(rt, path, writable) {
             Ok(file) => Ok(FileStorage { file, failures: 0 }),
@@ -66,7 +66,7 @@ fn refuse_directory(metadata: &Metadata) -> io::Result<()>
 }
 
 impl<F: Read + Write + Seek> Storage for FileStorage<F> {
-    ghost state = { state_of };
+    ghost state = { file_state };
 
     fn mem_align(&self) -> usize {
         1
@@ -79,7 +79,7 @@ impl<F: Read + Write + Seek> Storage for FileStorage<F> {
     /// Where the type of the file tells its bytes, as one in memory may, an `Ok` gives those.
     fn read(&mut self, buf: &mut [u8], offset: u64) -> Result<(), StorageFault>
         requires { offset + length buf.old ≤ 2 ^ 56 }
-        ensures bytes { ReadsBytes result offset buf.new (state_of self.old) (state_of self.new) }
+        ensures bytes { ReadsBytes result offset buf.new (file_state self.old) (file_state self.new) }
         ensures read { TellsReads F.stream_bytes F.stream_position F.remaining →
             IfSome (F.stream_bytes (file_of self.old))
             (λ bytes. OnOk result (Holds (image_of bytes) offset buf.new)) }
@@ -90,7 +90,7 @@ impl<F: Read + Write + Seek> Storage for FileStorage<F> {
     /// An empty write succeeds and asks nothing of the file.
     fn write(&mut self, buf: &[u8], offset: u64) -> Result<(), StorageFault>
         requires { offset + length buf.now ≤ 2 ^ 56 }
-        ensures bytes { WritesBytes result offset buf.now (state_of self.old) (state_of self.new) }
+        ensures bytes { WritesBytes result offset buf.now (file_state self.old) (file_state self.new) }
         ensures empty { length buf.now ≡ 0 → IsOk result × (self.new ≡ self.old) }
     {
         count(write_at(&mut self.file, buf, offset), &mut self.failures)

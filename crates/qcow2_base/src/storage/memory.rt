@@ -1,7 +1,7 @@
 //! An image in memory.
 
 ghost use Rattle.std.specs.Prelude.{◌≡◌, ℕ, ◌+◌, ◌^◌, ◌<◌, ◌≤◌, max, length, slice_index, IsOk, OnOk, OnErr};
-ghost use Rattle.qcow2_base.specs.Growth.{GrowsToFit};
+ghost use Rattle.qcow2_base.specs.Storage.Growth.{GrowsToFit};
 ghost use Rattle.qcow2_base.specs.Storage.{IsPowerOfTwo, power_of_two_once, Holds, SameOutside, WritesBytes, image_of, image_of_ends};
 
 use super::{Storage, StorageFault};
@@ -18,13 +18,13 @@ pub struct MemStorage {
 }
 
 impl MemStorage {
-    ghost use Rattle.qcow2_base.specs.MemStorage.{memory_bytes, alignment, failure_count};
+    ghost use Rattle.qcow2_base.specs.Storage.Memory.{memory_bytes, alignment, memory_failures};
 
     /// An image of these bytes, with both alignments 1. It keeps the vector's allocator.
     pub fn new(bytes: Vec<u8>) -> MemStorage
         ensures bytes { memory_bytes result ≡ bytes.items }
         ensures align { alignment result ≡ 1 }
-        ensures failures { failure_count result ≡ 0 }
+        ensures failures { memory_failures result ≡ 0 }
     {
         MemStorage {
             bytes,
@@ -38,7 +38,7 @@ impl MemStorage {
         requires { IsPowerOfTwo align }
         ensures bytes { memory_bytes result ≡ memory_bytes self }
         ensures align { alignment result ≡ align }
-        ensures failures { failure_count result ≡ failure_count self }
+        ensures failures { memory_failures result ≡ memory_failures self }
     {
         MemStorage {
             bytes: self.bytes,
@@ -56,9 +56,9 @@ impl MemStorage {
 }
 
 impl Storage for MemStorage {
-    ghost use Rattle.qcow2_base.specs.MemStorage.{memory_bytes, state_of};
+    ghost use Rattle.qcow2_base.specs.Storage.Memory.{memory_bytes, memory_state};
 
-    ghost state = { state_of };
+    ghost state = { memory_state };
 
     fn mem_align(&self) -> usize {
         self.align
@@ -82,7 +82,7 @@ impl Storage for MemStorage {
     /// Fails only where memory for a longer image is refused, and then nothing has changed.
     fn write(&mut self, buf: &[u8], offset: u64) -> Result<(), StorageFault>
         requires { offset + length buf.now ≤ 2 ^ 56 }
-        ensures bytes { WritesBytes result offset buf.now (state_of self.old) (state_of self.new) }
+        ensures bytes { WritesBytes result offset buf.now (memory_state self.old) (memory_state self.new) }
         ensures growth { GrowsToFit result offset (length buf.now)
             (memory_bytes self.old) (memory_bytes self.new) }
     {

@@ -4,7 +4,7 @@ use Rattle.qcow2_base.specs.Storage.{Image, be}
 use Rattle.qcow2_base.specs.declared.fault.Fault.{Fault}
 use Rattle.qcow2_base.specs.declared.fault.Fault.TheVariants.{ExtensionsExceed}
 use Rattle.qcow2_base.specs.declared.on_disk_struct.header_extension_header.HeaderExtensionHeader.{HeaderExtensionHeader}
-use Rattle.qcow2_metadata.specs.Answers.{and_then, provided, result_map}
+use Rattle.qcow2_metadata.specs.Results.{and_then, provided, result_map}
 use Rattle.qcow2_metadata.specs.Header.Extensions.{Extension, parsed}
 use Rattle.qcow2_metadata.specs.Range.{bytes_at}
 
@@ -23,8 +23,8 @@ abbrev pub extension_header_at : Image → ℕ → HeaderExtensionHeader
 extension_header_at image place = record { extension_type = be image place 4; length = be image (place + 4) 4 }
 
 -- where its data ends
-abbrev pub end_of : Link → ℕ
-end_of link = link.place + 8 + link.size
+abbrev pub data_end : Link → ℕ
+data_end link = link.place + 8 + link.size
 
 -- where the next one stands: its data is padded to a multiple of 8 bytes
 abbrev pub next_place : Link → ℕ
@@ -39,19 +39,19 @@ said image link = parsed link.number (bytes_at image (link.place + 8) link.size)
 abbrev pub IsChain : Image → ℕ → ℕ → List Link → Link → Type 0
 IsChain image len place [] last = last ≡ link_at image place
 IsChain image len place (link ∷ links) last =
-    (link ≡ link_at image place) × (end_of link ≤ len) × (link.number ≢ 0) × IsOk (said image link)
+    (link ≡ link_at image place) × (data_end link ≤ len) × (link.number ≢ 0) × IsOk (said image link)
     × IsChain image len (next_place link) links last
 
 -- the chain is complete: its last extension is End, and ends within so many bytes
 pub record IsEnd (len : ℕ) (last : Link) : Type 0 where
-  pub bounded : end_of last ≤ len
+  pub bounded : data_end last ≤ len
   pub end : last.number ≡ 0
 
 -- the chain is broken: its last extension ends past so many bytes, or has data that its type can't read
 abbrev pub IsBroken : Image → ℕ → Link → Fault → Type 0
 IsBroken image len last fault =
-    ((len < end_of last) × (fault ≡ ExtensionsExceed))
-    ⊎ ((end_of last ≤ len) × (last.number ≢ 0) × (said image last ≡ Err fault))
+    ((len < data_end last) × (fault ≡ ExtensionsExceed))
+    ⊎ ((data_end last ≤ len) × (last.number ≢ 0) × (said image last ≡ Err fault))
 
 -- the extensions that a complete chain from a place on says
 pub record SaysExtensions (image : Image) (len place : ℕ) (extensions : List Extension) : Type 0 where
@@ -72,7 +72,7 @@ pub record BreaksWith (image : Image) (len place : ℕ) (fault : Fault) : Type 0
 abbrev pub extension_at : Image → ℕ → ℕ → Result (Option (Extension × ℕ)) Fault
 extension_at image len place =
     let link = link_at image place in
-    provided ((nat_le (end_of link) len, ExtensionsExceed) ∷ []) (λ _.
+    provided ((nat_le (data_end link) len, ExtensionsExceed) ∷ []) (λ _.
     elim (link.number == 0) [
       | true ↦ Ok None
       | false ↦ result_map (λ extension. Some (extension, next_place link)) (said image link)

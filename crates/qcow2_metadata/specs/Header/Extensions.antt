@@ -9,13 +9,13 @@ use Rattle.std.specs.Str.Lossy.{utf8_lossy}
 use Rattle.qcow2_base.specs.declared.fault.Fault.{Fault}
 use Rattle.qcow2_base.specs.declared.fault.Fault.TheVariants.{ExtensionText, FeatureNameCut}
 use Rattle.qcow2_metadata.specs.Header.Features.{feature_type_number, feature_type_of}
-use Rattle.qcow2_metadata.specs.declared.header.extension.HeaderExtension.{HeaderExtension}
-use Rattle.qcow2_metadata.specs.declared.header.extension.HeaderExtension.TheVariants as held
-use Rattle.qcow2_metadata.specs.declared.header.extension.HeaderExtensionType.{HeaderExtensionType}
-use Rattle.qcow2_metadata.specs.declared.header.extension.HeaderExtensionType.TheVariants as kind
-use Rattle.qcow2_metadata.specs.declared.header.feature.FeatureType.{FeatureType}
-use Rattle.qcow2_metadata.specs.contracts.header.feature.FeatureTypeOrd.TheImpl as feature_type_ord
-use Rattle.qcow2_metadata.specs.Answers.{and_then, result_map}
+use Rattle.qcow2_metadata.specs.declared.header.extensions.HeaderExtension.{HeaderExtension}
+use Rattle.qcow2_metadata.specs.declared.header.extensions.HeaderExtension.TheVariants as held
+use Rattle.qcow2_metadata.specs.declared.header.extensions.HeaderExtensionType.{HeaderExtensionType}
+use Rattle.qcow2_metadata.specs.declared.header.extensions.HeaderExtensionType.TheVariants as kind
+use Rattle.qcow2_metadata.specs.declared.header.features.FeatureType.{FeatureType}
+use Rattle.qcow2_metadata.specs.contracts.header.features.FeatureTypeOrd.TheImpl as feature_type_ord
+use Rattle.qcow2_metadata.specs.Results.{and_then, result_map}
 
 -- the key of a feature's name: its type and its bit
 abbrev pub FeatureKey : Type 0

@@ -1,12 +1,12 @@
 use Rattle.std.specs.Prelude.{◌≡◌, ◌≢◌, ℕ, ◌==◌, if◌then◌else◌, Option, Some, None, Result, MatchResult}
-use Rattle.qcow2_metadata.specs.declared.header.feature.AutoclearFeatures.{AutoclearFeatures}
-use Rattle.qcow2_metadata.specs.declared.header.feature.AutoclearFeatures.TheVariants.{Bitmaps, RawExternalData}
-use Rattle.qcow2_metadata.specs.declared.header.feature.CompatibleFeatures.{CompatibleFeatures}
-use Rattle.qcow2_metadata.specs.declared.header.feature.CompatibleFeatures.TheVariants.{LazyRefcounts}
-use Rattle.qcow2_metadata.specs.declared.header.feature.FeatureType.{FeatureType}
-use Rattle.qcow2_metadata.specs.declared.header.feature.FeatureType.TheVariants.{Incompatible, Compatible, Autoclear}
-use Rattle.qcow2_metadata.specs.declared.header.feature.IncompatibleFeatures.{IncompatibleFeatures}
-use Rattle.qcow2_metadata.specs.declared.header.feature.IncompatibleFeatures.TheVariants.{Dirty, Corrupt, ExternalDataFile, CompressionType, ExtendedL2Entries}
+use Rattle.qcow2_metadata.specs.declared.header.features.AutoclearFeatures.{AutoclearFeatures}
+use Rattle.qcow2_metadata.specs.declared.header.features.AutoclearFeatures.TheVariants.{Bitmaps, RawExternalData}
+use Rattle.qcow2_metadata.specs.declared.header.features.CompatibleFeatures.{CompatibleFeatures}
+use Rattle.qcow2_metadata.specs.declared.header.features.CompatibleFeatures.TheVariants.{LazyRefcounts}
+use Rattle.qcow2_metadata.specs.declared.header.features.FeatureType.{FeatureType}
+use Rattle.qcow2_metadata.specs.declared.header.features.FeatureType.TheVariants.{Incompatible, Compatible, Autoclear}
+use Rattle.qcow2_metadata.specs.declared.header.features.IncompatibleFeatures.{IncompatibleFeatures}
+use Rattle.qcow2_metadata.specs.declared.header.features.IncompatibleFeatures.TheVariants.{Dirty, Corrupt, ExternalDataFile, CompressionType, ExtendedL2Entries}
 
 -- the number of a feature's type in feature name tables
 abbrev pub feature_type_number : FeatureType → ℕ

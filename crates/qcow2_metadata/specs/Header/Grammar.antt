@@ -2,19 +2,19 @@ use Rattle.std.specs.Prelude.{◌≡◌, ◌≢◌, ◌⊎◌, ℕ, ◌+◌, ◌
 use Rattle.std.specs.List.{IsAmong}
 use Rattle.std.specs.Str.{IsUtf8}
 use Rattle.qcow2_base.specs.OnDiskStruct.{HoldsLayout, moved, v2_header, v3_header_base}
-use Rattle.qcow2_base.specs.Fault.{number_of}
+use Rattle.qcow2_base.specs.Fault.{fault_number}
 use Rattle.qcow2_base.specs.Storage.{Image, be}
 use Rattle.qcow2_base.specs.Types.{IsClusterBits}
 use Rattle.qcow2_base.specs.declared.fault.Fault.{Fault}
 use Rattle.qcow2_base.specs.declared.fault.Fault.TheVariants.{NotQcow2, Version, ClusterSize, HeaderShort, HeaderBig, L1Unaligned, ReftableUnaligned, RefcountWidth, BackingNameLong, BackingNamePlace, BackingNameText, FormatConflict, DataFileConflict, Incompatible, NoMemory, Storage}
 use Rattle.qcow2_base.specs.declared.on_disk_struct.v2_header.V2Header.{V2Header}
 use Rattle.qcow2_base.specs.declared.on_disk_struct.v3_header_base.V3HeaderBase.{V3HeaderBase}
-use Rattle.qcow2_metadata.specs.Answers.{and_then, provided, result_map}
+use Rattle.qcow2_metadata.specs.Results.{and_then, provided, result_map}
 use Rattle.qcow2_metadata.specs.Header.{HeaderRecord, all_same, default_base, magic, name_in, names_by, other_features}
 use Rattle.qcow2_metadata.specs.Header.Chain.{SaysExtensions, extensions_at}
 use Rattle.qcow2_metadata.specs.Header.Extensions.{Extension, text}
 use Rattle.qcow2_metadata.specs.Range.{bytes_at}
-use Rattle.qcow2_metadata.specs.declared.header.extension.HeaderExtensionType.TheVariants as kind
+use Rattle.qcow2_metadata.specs.declared.header.extensions.HeaderExtensionType.TheVariants as kind
 
 -- the part of a header that each version has
 abbrev pub v2_at : Image → V2Header
@@ -151,7 +151,7 @@ pub record IsHeader (image : Image) (header : HeaderRecord) : Type 0 where
 
 -- the faults of a load, whatever the storage tells: those of the grammar, want of memory, a failed storage
 abbrev pub IsHeaderFault : Fault → Type 0
-IsHeaderFault fault = (number_of fault ≤ 17) ⊎ (fault ≡ NoMemory) ⊎ (fault ≡ Storage)
+IsHeaderFault fault = (fault_number fault ≤ 17) ⊎ (fault ≡ NoMemory) ⊎ (fault ≡ Storage)
 
 -- a load that ended in this answer follows the grammar: an Ok is the image's header, and after a fault but a
 -- failed storage and want of memory the image has none

@@ -2,10 +2,10 @@ use Rattle.std.specs.Prelude.{◌≡◌, ◌⊎◌, ℕ, ◌==◌, ◌&&◌, Boo
 use Rattle.qcow2_base.specs.Storage.{Holds, OnlyReads, OnlyWrites, StorageState}
 use Rattle.qcow2_base.specs.declared.fault.Fault.{Fault}
 use Rattle.qcow2_base.specs.declared.fault.Fault.TheVariants.{HeaderTooLong}
-use Rattle.qcow2_metadata.specs.Answers.{and_then}
+use Rattle.qcow2_metadata.specs.Results.{and_then}
 use Rattle.qcow2_metadata.specs.Header.{HeaderRecord}
 use Rattle.qcow2_metadata.specs.Header.Grammar.{IsHeaderFault, header_of}
-use Rattle.qcow2_metadata.specs.Header.Text.{IsSettled, IsWritten, chosen_text, kept}
+use Rattle.qcow2_metadata.specs.Header.Text.{IsSettled, IsWrittenHeader, chosen_text, kept}
 
 -- the header with no autoclear feature
 abbrev pub without_autoclear : HeaderRecord → HeaderRecord
@@ -46,5 +46,5 @@ pub record Opens (writable : Bool) (answer : Result HeaderRecord Fault) (old new
   pub reads : writable ≡ false → OnlyReads answer old new
   pub writes : OnlyWrites answer (Some 0) (length (opened_text writable (header_of old.byte_at))) old new
   pub placed : IsTrue old.tells → OnOk answer (Holds new.byte_at 0 (opened_text writable (header_of old.byte_at)))
-  pub written : HadToWrite writable old → IfOk answer (IsWritten new.byte_at)
+  pub written : HadToWrite writable old → IfOk answer (IsWrittenHeader new.byte_at)
   pub settled : HadToWrite writable old → IfOk answer IsSettled

@@ -40,12 +40,12 @@ pointer_fault table count = elim table.cluster [
 ]
 
 -- how many clusters a table takes
-abbrev pub clusters_of : TableState → ℕ
-clusters_of table = div_ceil (8 * length table.numbers) (2 ^ table.geometry.cluster_bits)
+abbrev pub table_clusters : TableState → ℕ
+table_clusters table = div_ceil (8 * length table.numbers) (2 ^ table.geometry.cluster_bits)
 
 -- the pending clusters are all those that a table with this first cluster takes
 abbrev pub ArePendingFor : TableState → HostCluster → ClustersToFreeEntry → Type 0
-ArePendingFor table cluster pending = (pending.first ≡ cluster) × (pending.count.0 ≡ clusters_of table)
+ArePendingFor table cluster pending = (pending.first ≡ cluster) × (pending.count.0 ≡ table_clusters table)
 
 -- the image has the fields that lie between two places
 abbrev pub HoldsBetween : Image → ℕ → ℕ → List LayoutField → Type 0

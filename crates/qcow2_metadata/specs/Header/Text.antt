@@ -9,13 +9,13 @@ use Rattle.qcow2_base.specs.declared.fault.Fault.TheVariants.{HeaderTooLong, Nam
 use Rattle.qcow2_base.specs.declared.on_disk_struct.header_extension_header.HeaderExtensionHeader.{HeaderExtensionHeader}
 use Rattle.qcow2_base.specs.declared.on_disk_struct.v2_header.V2Header.{V2Header}
 use Rattle.qcow2_base.specs.declared.on_disk_struct.v3_header_base.V3HeaderBase.{V3HeaderBase}
-use Rattle.qcow2_metadata.specs.Answers.{provided}
+use Rattle.qcow2_metadata.specs.Results.{provided}
 use Rattle.qcow2_metadata.specs.Header.{HeaderRecord}
 use Rattle.qcow2_metadata.specs.Header.Extensions.{BackingFileFormat, Extension, ExternalDataFileName, FeatureKey, FeatureNameTable, Unknown, extension_number, until_zero}
 use Rattle.qcow2_metadata.specs.Header.Features.{feature_type_number}
 use Rattle.qcow2_metadata.specs.Header.Grammar.{IsHeader}
 use Rattle.qcow2_metadata.specs.declared.header.text.Layout.{Layout}
-use Rattle.qcow2_metadata.specs.declared.header.extension.HeaderExtensionType.TheVariants as kind
+use Rattle.qcow2_metadata.specs.declared.header.extensions.HeaderExtensionType.TheVariants as kind
 
 -- the bytes of fields that follow one another, the most significant one of each first
 abbrev pub fields_text : List LayoutField → List ℕ
@@ -34,11 +34,11 @@ abbrev pub name_chunk : FeatureKey × List ℕ → List ℕ
 name_chunk named = feature_type_number named.0.0 ∷ named.0.1 ∷ take 46 named.1 ++ replicate (46 - length named.1) 0
 
 -- the number of an extension's type
-abbrev pub number_of : Extension → ℕ
-number_of (BackingFileFormat name) = extension_number kind.BackingFileFormat
-number_of (FeatureNameTable names) = extension_number kind.FeatureNameTable
-number_of (ExternalDataFileName name) = extension_number kind.ExternalDataFileName
-number_of (Unknown number content) = number
+abbrev pub type_number : Extension → ℕ
+type_number (BackingFileFormat name) = extension_number kind.BackingFileFormat
+type_number (FeatureNameTable names) = extension_number kind.FeatureNameTable
+type_number (ExternalDataFileName name) = extension_number kind.ExternalDataFileName
+type_number (Unknown number content) = number
 
 -- the data of an extension
 abbrev pub data_of : Extension → List ℕ
@@ -49,7 +49,7 @@ data_of (Unknown number content) = content
 
 -- what stands before its data
 abbrev pub extension_header_of : Extension → HeaderExtensionHeader
-extension_header_of extension = record { extension_type = number_of extension; length = length (data_of extension) }
+extension_header_of extension = record { extension_type = type_number extension; length = length (data_of extension) }
 
 -- an extension in the image: its type, its length, and its data with the padding
 abbrev pub extension_text : Extension → List ℕ
@@ -136,8 +136,8 @@ chosen with_names header =
     record header { extensions = chosen_extensions with_names header.extensions }
 
 -- whether its text fits the first cluster
-abbrev pub fits : HeaderRecord → Bool
-fits header = nat_le (length (header_text header)) (2 ^ header.v2.cluster_bits)
+abbrev pub fits_first_cluster : HeaderRecord → Bool
+fits_first_cluster header = nat_le (length (header_text header)) (2 ^ header.v2.cluster_bits)
 
 -- whether the backing file's name is one that an image can have
 abbrev pub is_short : Option (List ℕ) → Bool
@@ -149,9 +149,9 @@ is_short (Some name) = nat_le (length name) 1023
 unfoldable pub kept : HeaderRecord → Result HeaderRecord Fault
 kept header =
     provided ((is_short header.backing_filename, NameTooLong) ∷ []) (λ _.
-    elim (fits header) [
+    elim (fits_first_cluster header) [
       | true ↦ Ok (placed header)
-      | false ↦ provided ((fits (bare header), HeaderTooLong) ∷ []) (λ _. Ok (placed (bare header)))
+      | false ↦ provided ((fits_first_cluster (bare header), HeaderTooLong) ∷ []) (λ _. Ok (placed (bare header)))
     ])
 
 -- the bytes of a header that is written
@@ -188,7 +188,7 @@ pub record IsLayout (header : HeaderRecord) (layout : Layout) : Type 0 where
   pub v2 : layout.v2 ≡ placed_v2 header
   pub base : layout.base ≡ placed_base header
   pub len : layout.len ≡ length (header_text header)
-  pub fits : fits header ≡ true
+  pub fits : fits_first_cluster header ≡ true
 
 -- the layout that is written, or why there is none
 abbrev pub IsChosen : HeaderRecord → Result Layout Fault → Type 0
@@ -197,7 +197,7 @@ IsChosen header answer = MatchResult answer
     (λ fault. kept header ≡ Err fault)
 
 -- a header that was written: its text stands at the image's start, and is read back as the normal form
-pub record IsWritten (image : Image) (header : HeaderRecord) : Type 0 where
+pub record IsWrittenHeader (image : Image) (header : HeaderRecord) : Type 0 where
   pub text : Holds image 0 (header_text header)
   pub reads_back : IsHeader image (normal header)
 

@@ -19,8 +19,8 @@ pub record EntryRange : Type 0 where
   pub count : ℕ
 
 -- the entries in the aligned bytes of the one at an index, counted from the table's first
-abbrev pub range_of : ℕ → StorageState → ℕ → EntryRange
-range_of cb storage index =
+abbrev pub entries_together : ℕ → StorageState → ℕ → EntryRange
+entries_together cb storage index =
     let count = entry_alignment cb storage / 8 in
     record { first = index / count * count; count = count }
 

@@ -28,7 +28,8 @@ impl Model for L1Entry {
 }
 
 impl L1Entry {
-    ghost use Rattle.qcow2_metadata.specs.Entries.{is_copied, l1_entry_for, l1_fault, l1_reserved_bits, offset_field, offset_unless_zero};
+    ghost use Rattle.qcow2_metadata.specs.Entries.{is_copied, offset_field, offset_unless_zero};
+    ghost use Rattle.qcow2_metadata.specs.Entries.L1Entry.{l1_entry_for, l1_fault, l1_reserved_bits};
 
     /// The entry 0: there is no L2 table.
     pub(crate) const NONE: L1Entry = L1Entry { value: 0 };
@@ -75,7 +76,7 @@ impl L1Entry {
 }
 
 impl TableEntry for L1Entry {
-    ghost use Rattle.qcow2_metadata.specs.Entries.{l1_fault};
+    ghost use Rattle.qcow2_metadata.specs.Entries.L1Entry.{l1_fault};
 
     ghost plain = { λ entry. entry };
 

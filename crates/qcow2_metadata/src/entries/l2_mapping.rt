@@ -3,7 +3,8 @@
 ghost use Rattle.std.specs.Prelude.{◌≡◌, ℕ, Bool, ◌-◌, ◌^◌, ◌<◌, None};
 ghost use Rattle.qcow2_base.specs.Types.{IsClusterBits};
 ghost use Rattle.qcow2_metadata.specs.Header.{geometry};
-ghost use Rattle.qcow2_metadata.specs.Entries as spec;
+ghost use Rattle.qcow2_metadata.specs.Entries.L2Entry.{l2_fault};
+ghost use Rattle.qcow2_metadata.specs.Entries.L2Mapping as spec;
 
 use super::L2Entry;
 use qcow2_base::{HostCluster, HostOffset};
@@ -96,7 +97,7 @@ impl L2Entry {
         requires placed { spec.IsPlaced cluster_bits mapping }
         requires fits { spec.FitsEntry cluster_bits mapping }
         ensures number { result ≡ spec.entry_of cluster_bits (spec.meaning mapping) }
-        ensures lawful { spec.l2_fault cluster_bits result ≡ None }
+        ensures lawful { l2_fault cluster_bits result ≡ None }
         ensures reads_back { (guest_cluster : ℕ) → (external : Bool) →
             spec.mapping (geometry cluster_bits external) guest_cluster result
             ≡ spec.stored_mapping (geometry cluster_bits external) guest_cluster (spec.meaning mapping) }

@@ -27,7 +27,8 @@ impl Model for RefTableEntry {
 }
 
 impl RefTableEntry {
-    ghost use Rattle.qcow2_metadata.specs.Entries.{offset_unless_zero, ref_fault, ref_reserved_bits, refblock_offset_field};
+    ghost use Rattle.qcow2_metadata.specs.Entries.{offset_unless_zero};
+    ghost use Rattle.qcow2_metadata.specs.Entries.RefTableEntry.{ref_fault, ref_reserved_bits, refblock_offset_field};
 
     /// The entry 0: there is no refcount block.
     pub(crate) const NONE: RefTableEntry = RefTableEntry { value: 0 };
@@ -66,7 +67,7 @@ impl RefTableEntry {
 }
 
 impl TableEntry for RefTableEntry {
-    ghost use Rattle.qcow2_metadata.specs.Entries.{ref_fault};
+    ghost use Rattle.qcow2_metadata.specs.Entries.RefTableEntry.{ref_fault};
 
     ghost plain = { λ entry. entry };
 

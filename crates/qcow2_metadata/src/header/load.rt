@@ -3,9 +3,9 @@
 ghost use Rattle.std.specs.Prelude.{All, ◌≡◌, ◌≢◌, ◌⊎◌, ◌+◌, ◌%◌, ◌^◌, ◌≤◌, nat_le, [], ◌∷◌, false, true, IfErr, IfOk, IfSome, IsTrue, Ok, OnOk, length, map, option_map, string_bytes};
 ghost use Rattle.qcow2_base.specs.Storage.{Image, OnlyReads};
 ghost use Rattle.qcow2_base.specs.Types.{IsClusterBits};
-ghost use Rattle.qcow2_metadata.specs.Answers.{Answers, provided};
+ghost use Rattle.qcow2_metadata.specs.Results.{Answers, provided};
 ghost use Rattle.qcow2_metadata.specs.Header.{IsStorable, magic};
-ghost use Rattle.qcow2_metadata.specs.Header.Chain.{end_of, extension_at, extension_header_at, extensions_at, link_at};
+ghost use Rattle.qcow2_metadata.specs.Header.Chain.{data_end, extension_at, extension_header_at, extensions_at, link_at};
 ghost use Rattle.qcow2_metadata.specs.Header.Open.{IsOpenFault, Opens, opened};
 ghost use Rattle.qcow2_metadata.specs.Header.Extensions.{FeatureNameTable, extension_of, feature_names, names_of, parsed};
 ghost use Rattle.qcow2_metadata.specs.Header.Grammar.{AreLawfulParts, FollowsGrammar, IsHeaderFault, SameFirstCluster, backing_name, field_conditions, fixed_parts, header_extensions, header_of, last_conditions, version_conditions};
@@ -13,7 +13,7 @@ ghost use Rattle.qcow2_metadata.specs.Header.Text.{is_short};
 ghost use Rattle.qcow2_metadata.specs.Range.{bytes_at};
 ghost use Rattle.qcow2_metadata.specs.ReadAhead.{ReadsThrough};
 
-use super::extension::{
+use super::extensions::{
     FEATURE_NAME_BYTES, HeaderExtension, HeaderExtensionType, add_feature_name, parse, parse_text,
 };
 use super::{FeatureType, Header, same_names};
@@ -375,7 +375,7 @@ fn read_extension_header<S: Storage>(
     requires { len ≤ 2 ^ 21 }
     ensures exact { IsTrue (S.state image.old.image.now).tells → Answers (λ header. header) result
         (provided ((
-          nat_le (end_of (link_at (S.state image.old.image.now).byte_at place)) len,
+          nat_le (data_end (link_at (S.state image.old.image.now).byte_at place)) len,
           Fault.ExtensionsExceed,
         ) ∷ [])
         (λ _. Ok (extension_header_at (S.state image.old.image.now).byte_at place))) }

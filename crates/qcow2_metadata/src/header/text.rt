@@ -6,9 +6,9 @@ ghost use Rattle.qcow2_base.specs.OnDiskStruct.{header_extension_header, v2_head
 ghost use Rattle.qcow2_base.specs.Storage.{IsBytes, image_of};
 ghost use Rattle.qcow2_metadata.specs.Header.{IsLawfulHeader};
 ghost use Rattle.qcow2_metadata.specs.Header.Extensions.{extension_of, names_of};
-ghost use Rattle.qcow2_metadata.specs.Header.Text.{AreFitting, base_with_length, parts_text, name_text, header_end, v2_with_name, number_of, IsLayout, chosen, chosen_extensions, data_of, extension_text, extensions_text, fields_text, fits, header_text, is_other, name_chunk, padded, placed_base, placed_v2, written_text};
+ghost use Rattle.qcow2_metadata.specs.Header.Text.{AreFitting, base_with_length, parts_text, name_text, header_end, v2_with_name, type_number, IsLayout, chosen, chosen_extensions, data_of, extension_text, extensions_text, fields_text, fits_first_cluster, header_text, is_other, name_chunk, padded, placed_base, placed_v2, written_text};
 
-use super::extension::FEATURE_NAME_BYTES;
+use super::extensions::FEATURE_NAME_BYTES;
 use super::load::FIXED_BYTES;
 use super::{FeatureType, Header, HeaderExtension, HeaderExtensionType};
 use qcow2_base::{HeaderExtensionHeader, OnDiskStruct, V2Header, V3HeaderBase, write_be};
@@ -35,7 +35,7 @@ impl Header {
     // The layout of its text, with feature names or without; none where the text doesn't fit the first
     // cluster.
     pub(super) fn layout(&self, with_names: bool) -> Option<Layout>
-        ensures layout { MatchOption result (fits (chosen with_names self.now) ≡ false)
+        ensures layout { MatchOption result (fits_first_cluster (chosen with_names self.now) ≡ false)
             (IsLayout (chosen with_names self.now)) }
         ensures names { IfSome result (λ layout. layout.with_names ≡ with_names) }
     {
@@ -166,7 +166,7 @@ impl HeaderExtension {
 
     // The number of its type.
     fn number(&self) -> u32
-        ensures { result ≡ number_of (extension_of self.now) }
+        ensures { result ≡ type_number (extension_of self.now) }
     {
         match self {
             HeaderExtension::BackingFileFormat(_) => HeaderExtensionType::BackingFileFormat as u32,

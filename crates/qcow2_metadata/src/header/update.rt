@@ -1,7 +1,7 @@
 //! Taking over what changed in another header of the same image.
 
 ghost use Rattle.std.specs.Prelude.{◌≡◌, IfErr, OnErr, OnOk, Ok};
-ghost use Rattle.qcow2_metadata.specs.Answers.{provided};
+ghost use Rattle.qcow2_metadata.specs.Results.{provided};
 ghost use Rattle.qcow2_metadata.specs.Header.Update.{IsFirstChange, agreements, same_value, value_in, with_header_length, with_size_and_tables};
 
 use super::Header;

@@ -2,9 +2,9 @@
 
 ghost use Rattle.std.specs.Prelude.{◌≡◌, IfOk, IsTrue, OnErr, OnOk, Ok, Some, true, length};
 ghost use Rattle.qcow2_base.specs.Storage.{Holds, OnlyWrites};
-ghost use Rattle.qcow2_metadata.specs.Answers.{RefusesFirst};
+ghost use Rattle.qcow2_metadata.specs.Results.{RefusesFirst};
 ghost use Rattle.qcow2_metadata.specs.Header.Open.{is_rewritten, opened, opened_text, without_autoclear};
-ghost use Rattle.qcow2_metadata.specs.Header.Text.{IsChosen, IsLayout, IsSettled, IsWritten, chosen, chosen_text, kept, placed};
+ghost use Rattle.qcow2_metadata.specs.Header.Text.{IsChosen, IsLayout, IsSettled, IsWrittenHeader, chosen, chosen_text, kept, placed};
 
 use super::Header;
 use super::load::MAX_BACKING_FILENAME;
@@ -26,7 +26,7 @@ impl Header {
         ensures exact { RefusesFirst (λ _. self.new) result (kept self.old) }
         ensures unchanged { OnErr result (self.new ≡ self.old) }
         ensures written { OnOk result (IsTrue (S.state image.old).tells →
-            IsWritten (S.state image.new).byte_at self.new) }
+            IsWrittenHeader (S.state image.new).byte_at self.new) }
         ensures settled { OnOk result (IsSettled self.new) }
         ensures storage { OnlyWrites result (Some 0) (length (chosen_text self.old))
             (S.state image.old) (S.state image.new) }
@@ -69,7 +69,7 @@ impl Header {
         ensures placed { OnOk result (IsTrue (S.state image.old).tells →
             Holds (S.state image.new).byte_at 0 (opened_text true (Ok self))) }
         ensures written { IsTrue (is_rewritten true self) → IsTrue (S.state image.old).tells →
-            IfOk result (IsWritten (S.state image.new).byte_at) }
+            IfOk result (IsWrittenHeader (S.state image.new).byte_at) }
         ensures settled { IsTrue (is_rewritten true self) → IfOk result IsSettled }
         ensures storage { OnlyWrites result (Some 0) (length (opened_text true (Ok self)))
             (S.state image.old) (S.state image.new) }

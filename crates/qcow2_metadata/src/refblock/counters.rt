@@ -2,7 +2,8 @@
 
 ghost use Rattle.std.specs.Prelude.{◌≡◌, ℕ, ◌++◌, ◌*◌, ◌/◌, ◌%◌, ◌+◌, ◌-◌, ◌^◌, ◌<◌, ◌≤◌, IfOk, OnOk, [], length, replicate, slice_index, slice_set};
 ghost use Rattle.qcow2_base.specs.Storage.{image_of};
-ghost use Rattle.qcow2_metadata.specs.Refblock.{AreCounters, CanHold, IsOfOrder, counters_at, numbers_of, packed, width};
+ghost use Rattle.qcow2_metadata.specs.Refblock.Counters.{AreCounters, CanHold, IsOfOrder, kept_counters};
+ghost use Rattle.qcow2_metadata.specs.Refblock.Packing.{counters_at, packed, width};
 
 use super::packing::{pack_narrow, pack_wide, unpack_narrow, unpack_wide};
 use crate::pieces::PIECE_BYTES;
@@ -21,7 +22,7 @@ impl Counters {
     // So many counters that are 0.
     pub(super) fn zeros(alloc: Global, order: u32, count: usize) -> Result<Counters, AllocError>
         requires { order ≤ 6 }
-        ensures numbers { IfOk result (λ counters. numbers_of counters ≡ replicate count 0) }
+        ensures numbers { IfOk result (λ counters. kept_counters counters ≡ replicate count 0) }
         ensures order { IfOk result (IsOfOrder order) }
     {
         match order {
@@ -39,7 +40,7 @@ impl Counters {
         count: usize,
     ) -> Result<Counters, AllocError>
         requires { order ≤ 6 }
-        ensures numbers { IfOk result (λ counters. numbers_of counters ≡ []) }
+        ensures numbers { IfOk result (λ counters. kept_counters counters ≡ []) }
         ensures order { IfOk result (IsOfOrder order) }
     {
         match order {
@@ -63,8 +64,8 @@ impl Counters {
     // The counter at an index.
     #[inline]
     pub(super) fn get(&self, index: usize) -> u64
-        requires { index < length (numbers_of self.now) }
-        ensures { result ≡ slice_index (numbers_of self.now) index }
+        requires { index < length (kept_counters self.now) }
+        ensures { result ≡ slice_index (kept_counters self.now) index }
     {
         match self {
             Counters::U8(list) => u64::from(list[index]),
@@ -77,9 +78,9 @@ impl Counters {
     // Puts a number of the counters' width in the place of one.
     #[inline]
     pub(super) fn set(&mut self, index: usize, counter: u64)
-        requires index { index < length (numbers_of self.old) }
+        requires index { index < length (kept_counters self.old) }
         requires fits { CanHold self.old counter }
-        ensures numbers { numbers_of self.new ≡ slice_set (numbers_of self.old) index counter }
+        ensures numbers { kept_counters self.new ≡ slice_set (kept_counters self.old) index counter }
         ensures order { (order : ℕ) → IsOfOrder order self.old → IsOfOrder order self.new }
     {
         match self {
@@ -94,7 +95,7 @@ impl Counters {
     pub(super) fn unpack(&mut self, order: u32, bytes: &[u8]) -> Result<(), AllocError>
         requires order { order ≤ 6 }
         requires kind { IsOfOrder order self.old }
-        ensures numbers { OnOk result (numbers_of self.new ≡ numbers_of self.old
+        ensures numbers { OnOk result (kept_counters self.new ≡ kept_counters self.old
             ++ counters_at order (image_of bytes.now) 0 (8 * length bytes.now / width order)) }
         ensures kind { IsOfOrder order self.new }
     {
@@ -110,12 +111,12 @@ impl Counters {
     pub(super) fn pack(&self, order: u32, piece: usize, buffer: &mut [u8])
         requires kind { IsOfOrder order self.now }
         requires piece { 4096 * piece < 2 ^ 21 }
-        requires small { AreCounters order (numbers_of self.now) }
+        requires small { AreCounters order (kept_counters self.now) }
         requires within { 8 * (4096 * piece + length buffer.old)
-            ≤ width order * length (numbers_of self.now) }
+            ≤ width order * length (kept_counters self.now) }
         requires whole { length buffer.old % 8 ≡ 0 }
         ensures packed { (i : ℕ) → i < length buffer.new → slice_index buffer.new i
-            ≡ packed order (numbers_of self.now) (4096 * piece + i) }
+            ≡ packed order (kept_counters self.now) (4096 * piece + i) }
         ensures len { length buffer.new ≡ length buffer.old }
     {
         let first = PIECE_BYTES * piece;

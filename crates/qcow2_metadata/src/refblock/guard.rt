@@ -1,8 +1,7 @@
 //! The guard of refcount blocks: leave to change counters.
 
 ghost use Rattle.std.specs.Prelude.{◌≡◌, ◌<◌, ◌==◌, length, slice_index};
-ghost use Rattle.qcow2_metadata.specs.RefblockGuard.{IsSameBlock, guarded};
-ghost use Rattle.qcow2_metadata.specs.Refblock.{Steps, Increment, Decrement};
+ghost use Rattle.qcow2_metadata.specs.Refblock.Guard.{IsSameBlock, guarded_block, Steps, Increment, Decrement};
 
 use super::RefBlock;
 use qcow2_base::Fault;
@@ -17,8 +16,8 @@ impl RefBlockWriteGuard<'_> {
     /// Whether the cluster has no reference that the counter at an index is for.
     #[inline]
     pub fn is_zero(&self, index: usize) -> bool
-        requires { index < length (guarded self.now).counters }
-        ensures { result ≡ (slice_index (guarded self.now).counters index == 0) }
+        requires { index < length (guarded_block self.now).counters }
+        ensures { result ≡ (slice_index (guarded_block self.now).counters index == 0) }
     {
         self.block.is_zero(index)
     }
@@ -26,9 +25,9 @@ impl RefBlockWriteGuard<'_> {
     /// Counts one reference more, and answers how many there were. The block then counts as modified. A
     /// counter at the greatest number that it holds is refused, and nothing has changed.
     pub fn increment(&mut self, index: usize) -> Result<u64, Fault>
-        requires { index < length (guarded self.old).counters }
+        requires { index < length (guarded_block self.old).counters }
         ensures same_block { IsSameBlock self.old self.new }
-        ensures step { Steps Increment index result (guarded self.old) (guarded self.new) }
+        ensures step { Steps Increment index result (guarded_block self.old) (guarded_block self.new) }
     {
         let before = self.block.get(index);
         if before == self.block.greatest() {
@@ -41,9 +40,9 @@ impl RefBlockWriteGuard<'_> {
     /// Counts one reference less, and answers how many there were. The block then counts as modified. A
     /// counter at 0 is refused, and nothing has changed.
     pub fn decrement(&mut self, index: usize) -> Result<u64, Fault>
-        requires { index < length (guarded self.old).counters }
+        requires { index < length (guarded_block self.old).counters }
         ensures same_block { IsSameBlock self.old self.new }
-        ensures step { Steps Decrement index result (guarded self.old) (guarded self.new) }
+        ensures step { Steps Decrement index result (guarded_block self.old) (guarded_block self.new) }
     {
         let before = self.block.get(index);
         if before == 0 {

@@ -4,7 +4,8 @@ ghost use Rattle.std.specs.Prelude.{◌≡◌, ℕ, ◌+◌, ◌-◌, ◌*◌, �
 ghost use Rattle.std.proofs.Common.{lit≤};
 ghost use Rattle.qcow2_base.specs.Storage.{image_of};
 ghost use Rattle.qcow2_base.specs.OnDiskStruct.{Big, big};
-ghost use Rattle.qcow2_metadata.specs.Refblock.{AreCounters, counters_at, from_digits, packed, per_byte, width};
+ghost use Rattle.qcow2_metadata.specs.Refblock.Counters.{AreCounters};
+ghost use Rattle.qcow2_metadata.specs.Refblock.Packing.{counters_at, from_digits, packed, per_byte, width};
 
 use qcow2_base::{OnDiskStruct, read_be, write_be};
 use std::alloc::AllocError;

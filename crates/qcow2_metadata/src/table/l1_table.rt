@@ -3,7 +3,8 @@
 ghost use Rattle.std.specs.Prelude.{◌≡◌, ◌⊎◌, ◌*◌, ◌^◌, ◌<◌, ◌↔◌, length, slice_set, true, None, Ok, Err, IfSome, IfOk, IfErr, MatchOption, IsErrOf, OnErr, OnOk};
 ghost use Rattle.std.proofs.Common.{lit≤};
 ghost use Rattle.qcow2_base.specs.declared.fault.Fault.TheVariants.{NoMemory, NotPlaced};
-ghost use Rattle.qcow2_metadata.specs.Entries.{IsOneCluster, l1_entry_for};
+ghost use Rattle.qcow2_metadata.specs.Entries.PendingClusters.{IsOneCluster};
+ghost use Rattle.qcow2_metadata.specs.Entries.L1Entry.{l1_entry_for};
 ghost use Rattle.qcow2_metadata.specs.Header.Pointers.{ArePendingFor, pointer_fault, with_l1_table};
 ghost use Rattle.qcow2_metadata.specs.Table.{IsReferable, edited, most_l1_entries, new_table};
 ghost use Rattle.qcow2_metadata.specs.Table.Growth.{grown_count, grown_numbers};

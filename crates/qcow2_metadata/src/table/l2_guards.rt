@@ -1,8 +1,10 @@
 //! Guards of L2 tables: leave to change one, and to read compressed data that one refers to.
 
 ghost use Rattle.std.specs.Prelude.{◌≡◌, ◌↔◌, ◌*◌, ◌^◌, ◌<◌, IfOk, IfSome, IsOkAnd, length, option_map, slice_index, true};
-ghost use Rattle.qcow2_metadata.specs.Edits.{MakesEdit, MeetsJust, is_mappable, keeps, to_data, to_zeros};
-ghost use Rattle.qcow2_metadata.specs.Entries.{IsAllocation, IsOneCluster, IsPlaced, meaning};
+ghost use Rattle.qcow2_metadata.specs.Table.L2Guards.{MakesEdit, MeetsJust, is_mappable, keeps, to_data, to_zeros};
+ghost use Rattle.qcow2_metadata.specs.Entries.L2Entry.{IsAllocation};
+ghost use Rattle.qcow2_metadata.specs.Entries.PendingClusters.{IsOneCluster};
+ghost use Rattle.qcow2_metadata.specs.Entries.L2Mapping.{IsPlaced, meaning};
 ghost use Rattle.qcow2_metadata.specs.Table.{edited, mapping_at};
 
 use super::{L2Table, Table, TableKind};
@@ -17,14 +19,14 @@ pub struct L2TableWriteGuard<'a> {
 }
 
 impl L2TableWriteGuard<'_> {
-    ghost use Rattle.qcow2_metadata.specs.L2Table.{IsSameTable, compressed_at, guarded, range_of};
+    ghost use Rattle.qcow2_metadata.specs.Table.L2Table.{IsSameTable, compressed_at, guarded_table, guarded_range};
 
     /// What a guest cluster reads as, as `L2Table::get_mapping` says it.
     pub fn get_mapping(&self, guest_cluster: GuestCluster) -> Result<L2Mapping, Fault>
-        requires { guest_cluster.0 * 2 ^ (guarded self.now).geometry.cluster_bits < 2 ^ 64 }
+        requires { guest_cluster.0 * 2 ^ (guarded_table self.now).geometry.cluster_bits < 2 ^ 64 }
         ensures mapping { IsOkAnd result (λ found.
-            meaning found ≡ mapping_at (guarded self.now) guest_cluster.0) }
-        ensures placed { IfOk result (IsPlaced (guarded self.now).geometry.cluster_bits) }
+            meaning found ≡ mapping_at (guarded_table self.now) guest_cluster.0) }
+        ensures placed { IfOk result (IsPlaced (guarded_table self.now).geometry.cluster_bits) }
     {
         self.table.get_mapping(guest_cluster)
     }
@@ -35,9 +37,9 @@ impl L2TableWriteGuard<'_> {
         &self,
         guest_cluster: GuestCluster,
     ) -> Result<Option<CompressedClusterReadGuard<'_>>, Fault>
-        requires { guest_cluster.0 * 2 ^ (guarded self.now).geometry.cluster_bits < 2 ^ 64 }
+        requires { guest_cluster.0 * 2 ^ (guarded_table self.now).geometry.cluster_bits < 2 ^ 64 }
         ensures { IsOkAnd result (λ guard.
-            option_map range_of guard ≡ compressed_at (guarded self.now) guest_cluster.0) }
+            option_map guarded_range guard ≡ compressed_at (guarded_table self.now) guest_cluster.0) }
     {
         self.table.lock_compressed_read(guest_cluster)
     }
@@ -55,12 +57,13 @@ impl L2TableWriteGuard<'_> {
         host_cluster: HostCluster,
         new_allocation: Option<PendingClusters>,
     ) -> Option<ClustersToFreeEntry>
-        requires index { index < length (guarded self.old).numbers }
-        requires cluster { is_mappable (guarded self.old).geometry host_cluster.0 ≡ true }
+        requires index { index < length (guarded_table self.old).numbers }
+        requires cluster { is_mappable (guarded_table self.old).geometry host_cluster.0 ≡ true }
         requires pending { IfSome new_allocation (λ pending. IsOneCluster pending host_cluster) }
         ensures same_table { IsSameTable self.old self.new }
-        ensures edit { MakesEdit (to_data host_cluster.0) index result (guarded self.old) (guarded self.new) }
-        ensures kept { let table = guarded self.old in
+        ensures edit { MakesEdit (to_data host_cluster.0) index result
+            (guarded_table self.old) (guarded_table self.new) }
+        ensures kept { let table = guarded_table self.old in
             (keeps table.geometry (to_data host_cluster.0) (slice_index table.numbers index) ≡ true)
             ↔ MeetsJust table.geometry (slice_index table.numbers index) host_cluster.0 }
     {
@@ -90,10 +93,11 @@ impl L2TableWriteGuard<'_> {
         index: usize,
         keep_allocation: bool,
     ) -> Result<Option<ClustersToFreeEntry>, Fault>
-        requires { index < length (guarded self.old).numbers }
+        requires { index < length (guarded_table self.old).numbers }
         ensures same_table { IsSameTable self.old self.new }
         ensures edit { IsOkAnd result (λ freed.
-            MakesEdit (to_zeros keep_allocation) index freed (guarded self.old) (guarded self.new)) }
+            MakesEdit (to_zeros keep_allocation) index freed
+            (guarded_table self.old) (guarded_table self.new)) }
     {
         let before = self.table.entry_within(index);
         if keep_allocation && before.has_host_cluster(self.table.external_data_file()) {
@@ -111,10 +115,10 @@ impl L2TableWriteGuard<'_> {
     /// counts as modified.
     #[must_use]
     pub fn discard_cluster(&mut self, index: usize) -> Option<ClustersToFreeEntry>
-        requires { index < length (guarded self.old).numbers }
+        requires { index < length (guarded_table self.old).numbers }
         ensures same_table { IsSameTable self.old self.new }
-        ensures edit { guarded self.new ≡ edited (guarded self.old) index 0 }
-        ensures freed { let table = guarded self.old in
+        ensures edit { guarded_table self.new ≡ edited (guarded_table self.old) index 0 }
+        ensures freed { let table = guarded_table self.old in
             IsAllocation table.geometry (slice_index table.numbers index) result }
     {
         let before = self.table.replace_entry(index, AtomicL2Entry::cleared());
@@ -123,7 +127,7 @@ impl L2TableWriteGuard<'_> {
 
     // The host clusters that an entry of the table refers to.
     fn allocation_of(&self, entry: L2Entry) -> Option<ClustersToFreeEntry>
-        ensures { IsAllocation (guarded self.now).geometry entry result }
+        ensures { IsAllocation (guarded_table self.now).geometry entry result }
     {
         let external_data_file = self.table.external_data_file();
         let (first, count) = entry.allocation(self.table.cluster_bits(), external_data_file)?;
@@ -142,12 +146,12 @@ pub struct CompressedClusterReadGuard<'a> {
 
 impl CompressedClusterReadGuard<'_> {
     ghost use Rattle.std.specs.Int.NonZero.{non_zero_u64_get};
-    ghost use Rattle.qcow2_metadata.specs.L2Table.{range_of};
+    ghost use Rattle.qcow2_metadata.specs.Table.L2Table.{guarded_range};
 
     /// Where the data begins in the image.
     #[inline]
     pub fn offset(&self) -> HostOffset
-        ensures { result.0 ≡ (range_of self.now).0 }
+        ensures { result.0 ≡ (guarded_range self.now).0 }
     {
         self.offset
     }
@@ -155,7 +159,7 @@ impl CompressedClusterReadGuard<'_> {
     /// At most how many bytes the data takes.
     #[inline]
     pub fn length(&self) -> NonZero<u64>
-        ensures { non_zero_u64_get result ≡ (range_of self.now).1 }
+        ensures { non_zero_u64_get result ≡ (guarded_range self.now).1 }
     {
         self.length
     }

@@ -2,9 +2,10 @@
 
 ghost use Rattle.std.specs.Prelude.{◌≡◌, ℕ, ◌-◌, ◌*◌, ◌%◌, ◌^◌, ◌==◌, ◌<◌, IfOk, IsOk, IsOkAnd, IsOkUnless, length, map, replicate, slice_index, true, false};
 ghost use Rattle.std.proofs.Common.{lit≤};
-ghost use Rattle.qcow2_metadata.specs.Edits.{references};
-ghost use Rattle.qcow2_metadata.specs.Entries.{IsPlaced, l2_fault, meaning, shared};
-ghost use Rattle.qcow2_metadata.specs.Table.{WritesTable, elsewhere, mapping_at, most_l2_entries, new_table, on_storage};
+ghost use Rattle.qcow2_metadata.specs.Table.L2Guards.{references};
+ghost use Rattle.qcow2_metadata.specs.Entries.L2Mapping.{IsPlaced, meaning};
+ghost use Rattle.qcow2_metadata.specs.Entries.L2Entry.{l2_fault, shared};
+ghost use Rattle.qcow2_metadata.specs.Table.{WritesTable, elsewhere, mapping_at, most_l2_entries, new_table, table_on_storage};
 
 use super::{CompressedClusterReadGuard, EntryTable, L2TableWriteGuard, Table, TableKind};
 use crate::{AtomicL2Entry, Header, L2Entry, L2Mapping};
@@ -57,7 +58,7 @@ fn shared_entries(
 
 impl EntryTable<AtomicL2Entry> {
     ghost use Rattle.std.specs.Prelude.{option_map};
-    ghost use Rattle.qcow2_metadata.specs.L2Table.{IsGuardOf, compressed_at, range_of};
+    ghost use Rattle.qcow2_metadata.specs.Table.L2Table.{IsTableGuard, compressed_at, guarded_range};
 
     /// A table of an image with this header in which no cluster has data. It has no cluster, and
     /// counts as modified. Fails only for want of memory.
@@ -104,7 +105,7 @@ impl EntryTable<AtomicL2Entry> {
             IsOk result × (self.new ≡ self.old) × (image.new ≡ image.old) }
         ensures modified { self.old.modified ≡ true →
             WritesTable most_l2_entries l2_fault result
-            (on_storage self.old (S.state image.old)) (on_storage self.new (S.state image.new)) }
+            (table_on_storage self.old (S.state image.old)) (table_on_storage self.new (S.state image.new)) }
     {
         // The caller's word for the cluster is in the contract alone.
         let _ = cluster;
@@ -122,7 +123,7 @@ impl EntryTable<AtomicL2Entry> {
     ) -> Result<Option<CompressedClusterReadGuard<'_>>, Fault>
         requires { guest_cluster.0 * 2 ^ self.now.geometry.cluster_bits < 2 ^ 64 }
         ensures { IsOkAnd result (λ guard.
-            option_map range_of guard ≡ compressed_at self.now guest_cluster.0) }
+            option_map guarded_range guard ≡ compressed_at self.now guest_cluster.0) }
     {
         match self.get_mapping(guest_cluster)? {
             L2Mapping::Compressed {
@@ -156,7 +157,7 @@ impl EntryTable<AtomicL2Entry> {
 
     /// Leave to change the table's mappings.
     pub fn lock_write(&mut self) -> L2TableWriteGuard<'_>
-        ensures table { IsGuardOf self.entry result }
+        ensures table { IsTableGuard self.entry result }
     {
         L2TableWriteGuard { table: self }
     }

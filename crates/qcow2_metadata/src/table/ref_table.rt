@@ -2,7 +2,7 @@
 
 ghost use Rattle.std.specs.Prelude.{◌≡◌, ◌*◌, ◌^◌, true, IfSome, MatchOption, OnErr, OnOk, Err, Ok};
 ghost use Rattle.std.proofs.Common.{lit≤};
-ghost use Rattle.qcow2_metadata.specs.Header.Pointers.{clusters_of, pointer_fault, with_reftable};
+ghost use Rattle.qcow2_metadata.specs.Header.Pointers.{table_clusters, pointer_fault, with_reftable};
 ghost use Rattle.qcow2_metadata.specs.Table.{most_reftable_entries};
 
 use super::growth::entries_with;
@@ -39,7 +39,7 @@ impl TableKind for RefTableEntry {
 impl EntryTable<RefTableEntry> {
     ghost use Rattle.std.specs.Prelude.{◌≡◌, ◌⊎◌, ◌*◌, ◌^◌, ◌<◌, ◌↔◌, length, IfErr, IfOk, IsErrOf};
     ghost use Rattle.qcow2_base.specs.declared.fault.Fault.TheVariants.{NoMemory, NotPlaced};
-    ghost use Rattle.qcow2_metadata.specs.Entries.{IsOneCluster};
+    ghost use Rattle.qcow2_metadata.specs.Entries.PendingClusters.{IsOneCluster};
     ghost use Rattle.qcow2_metadata.specs.Table.{IsReferable, edited, most_reftable_entries, new_table};
     ghost use Rattle.qcow2_metadata.specs.Table.Growth.{grown_numbers, grown_reftable_count, growth_of};
 
@@ -111,11 +111,11 @@ impl Header {
     /// changed then.
     pub fn set_reftable(&mut self, reftable: &RefTable) -> Result<(), Fault>
         requires cluster_bits { reftable.now.geometry.cluster_bits ≡ self.old.v2.cluster_bits }
-        ensures answer { MatchOption (pointer_fault reftable.now (clusters_of reftable.now))
+        ensures answer { MatchOption (pointer_fault reftable.now (table_clusters reftable.now))
             (result ≡ Ok tt) (λ fault. result ≡ Err fault) }
         ensures set { OnOk result (IfSome reftable.now.cluster (λ cluster.
             self.new ≡ with_reftable self.old (cluster.0 * 2 ^ self.old.v2.cluster_bits)
-            (clusters_of reftable.now))) }
+            (table_clusters reftable.now))) }
         ensures unchanged { OnErr result (self.new ≡ self.old) }
     {
         let Some(offset) = reftable.get_offset() else {

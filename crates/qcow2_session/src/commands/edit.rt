@@ -3,9 +3,9 @@
 ghost use Rattle.std.specs.Prelude.{◌≡◌, ◌++◌, IsOkUnless, IsTrue, OnOk};
 ghost use Rattle.std.specs.Io.KnownBytes.{Appends};
 ghost use Rattle.qcow2_base.specs.Storage.{OnlyReads};
-ghost use Rattle.qcow2_metadata.specs.Answers.{Answers};
+ghost use Rattle.qcow2_metadata.specs.Results.{Answers};
 ghost use Rattle.qcow2_session.specs.Changing.{LoadsAndChanges, edits_of_table, named_table};
-ghost use Rattle.qcow2_session.specs.Edits.{numbers_of};
+ghost use Rattle.qcow2_session.specs.Session.Edits.{cluster_numbers};
 ghost use Rattle.qcow2_session.specs.Lines.{freed_line, freed_lines, gained_line, gained_lines};
 ghost use Rattle.qcow2_session.specs.Printing.{PrintsLast};
 
@@ -59,7 +59,7 @@ fn named_table<S: Storage>(
 fn print_outcome<O: Write>(outcome: &Outcome, out: &mut O) -> Result<(), Fault>
     ensures fault { IsOkUnless result Fault.Storage }
     ensures lines { OnOk result (Appends (O.contents out.old) (O.contents out.new)
-        (freed_lines outcome.now.freed.items ++ gained_lines (numbers_of outcome.now.gained.items))) }
+        (freed_lines outcome.now.freed.items ++ gained_lines (cluster_numbers outcome.now.gained.items))) }
 {
     print_freed(outcome.freed.as_slice(), out)?;
     print_gained(outcome.gained.as_slice(), out)
@@ -91,7 +91,7 @@ fn print_freed_range<O: Write>(clusters: ClustersToFreeEntry, out: &mut O) -> Re
 fn print_gained<O: Write>(gained: &[HostCluster], out: &mut O) -> Result<(), Fault>
     ensures fault { IsOkUnless result Fault.Storage }
     ensures lines { OnOk result
-        (Appends (O.contents out.old) (O.contents out.new) (gained_lines (numbers_of gained.now))) }
+        (Appends (O.contents out.old) (O.contents out.new) (gained_lines (cluster_numbers gained.now))) }
 {
     for cluster in gained {
         print_gained_cluster(*cluster, out)?;

@@ -2,7 +2,7 @@
 
 ghost use Rattle.std.specs.Prelude.{◌≡◌, ◌++◌, option_map, string_bytes, IsOkUnless, OnOk};
 ghost use Rattle.std.specs.Io.KnownBytes.{Appends};
-ghost use Rattle.qcow2_session.specs.Info.{backing_lines, answer_text, data_file_lines, info_lines, name_line, place_line, place_lines, size_lines, version_lines, version_of};
+ghost use Rattle.qcow2_session.specs.Commands.Info.{backing_lines, answer_text, data_file_lines, info_lines, name_line, place_line, place_lines, size_lines, version_lines, version_of};
 ghost use Rattle.qcow2_session.specs.Printing.{Prints, PrintsLast, lines_of_info};
 
 use qcow2_base::{Fault, HostOffset, Storage};

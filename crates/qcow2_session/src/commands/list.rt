@@ -5,8 +5,8 @@ ghost use Rattle.std.specs.Io.KnownBytes.{Appends};
 ghost use Rattle.qcow2_base.specs.Storage.{ReadsFor};
 ghost use Rattle.qcow2_base.specs.declared.fault.Fault.TheVariants.{Storage as StorageFailed};
 ghost use Rattle.qcow2_metadata.specs.Header.{geometry_of};
-ghost use Rattle.qcow2_session.specs.Listing.{lines_before, lines_by, lines_kept_of_image, lines_of_image, lines_of_tables, table_lines};
-ghost use Rattle.qcow2_session.specs.Lookups.{named_cluster};
+ghost use Rattle.qcow2_session.specs.Commands.Listing.{lines_before, lines_by, lines_kept_of_image, lines_of_image, lines_of_tables, table_lines};
+ghost use Rattle.qcow2_session.specs.Session.Lookups.{named_cluster};
 ghost use Rattle.qcow2_session.specs.Printing.{PrintsSome};
 
 use crate::lines::print_entry;

@@ -4,8 +4,8 @@ ghost use Rattle.std.specs.Prelude.{◌≡◌, IfSome, IsErr, map, string_bytes}
 ghost use Rattle.qcow2_session.specs.Changing.{LoadsAndChanges, edits_of_table, steps_of_block};
 ghost use Rattle.qcow2_session.specs.Commands.{edits_of, place_fault_of, steps_of};
 ghost use Rattle.qcow2_session.specs.Printing.{PrintsLast};
-ghost use Rattle.qcow2_session.specs.Running.{PrintsAtOnce, Runs};
-ghost use Rattle.qcow2_session.specs.Words.{line_of};
+ghost use Rattle.qcow2_session.specs.Commands.Running.{PrintsAtOnce, Runs};
+ghost use Rattle.qcow2_session.specs.Commands.Words.{line_of};
 
 use super::words::{Command, edits_of, steps_of};
 use super::{

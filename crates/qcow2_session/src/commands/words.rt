@@ -51,7 +51,7 @@ pub(super) struct L2Words<'a> {
 }
 
 impl<'a> Command<'a> {
-    ghost use Rattle.qcow2_session.specs.Words.{line_of};
+    ghost use Rattle.qcow2_session.specs.Commands.Words.{line_of};
 
     /// The command that the words ask for, if they ask for one.
     pub(super) fn read(words: &'a [String]) -> Option<Command<'a>>
@@ -74,7 +74,7 @@ impl<'a> Command<'a> {
 
     /// The image that the command is about.
     pub(super) fn image(&self) -> &'a str
-        ensures { result.now ≡ spec.image_of (line_of self.now) }
+        ensures { result.now ≡ spec.named_image (line_of self.now) }
     {
         match *self {
             Command::L2(words) => words.image,
@@ -96,7 +96,7 @@ impl<'a> Command<'a> {
     // The command, if there are no words after its image.
     fn alone(self, arguments: &[String]) -> Option<Command<'a>>
         ensures { option_map line_of result
-            ≡ spec.alone (line_of self.entry) (map string_bytes arguments.now) }
+            ≡ spec.without_arguments (line_of self.entry) (map string_bytes arguments.now) }
     {
         if arguments.is_empty() {
             Some(self)
@@ -157,7 +157,7 @@ impl<'a> Command<'a> {
 }
 
 impl<'a> L2Words<'a> {
-    ghost use Rattle.qcow2_session.specs.Words.{l2_line};
+    ghost use Rattle.qcow2_session.specs.Commands.Words.{l2_line};
 
     // What the words after the image's name say.
     fn read(image: &'a str, arguments: &[String]) -> Option<L2Words<'a>>
@@ -188,7 +188,7 @@ fn cluster_bits_of(word: &str) -> Option<u32>
 
 // The number that 1 to 20 decimal digits say, if it fits 64 bits. There is no sign.
 fn number(word: &str) -> Option<u64>
-    ensures { result ≡ spec.number_of word.now }
+    ensures { result ≡ spec.word_number word.now }
 {
     // `parse` takes a plus in front.
     if word.len() > 20 || word.starts_with('+') {

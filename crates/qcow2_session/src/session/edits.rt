@@ -5,9 +5,9 @@ ghost use Rattle.std.specs.Vec.{vec_capacity};
 ghost use Rattle.qcow2_base.specs.Types.{IsClusterBits};
 ghost use Rattle.qcow2_base.specs.declared.fault.Fault.TheVariants.{BadEdit};
 ghost use Rattle.qcow2_base.specs.declared.types.HostCluster.{HostCluster as Cluster};
-ghost use Rattle.qcow2_metadata.specs.Answers.{Computes};
-ghost use Rattle.qcow2_metadata.specs.Edits.{is_just, is_mappable, run_of};
-ghost use Rattle.qcow2_session.specs.Edits.{Balances, HasRoom, Makes, end_of, first_unfit, fits, left_by, run_or_refusal, table_edit, table_edits};
+ghost use Rattle.qcow2_metadata.specs.Results.{Computes};
+ghost use Rattle.qcow2_metadata.specs.Table.L2Guards.{is_just, is_mappable, run_of};
+ghost use Rattle.qcow2_session.specs.Session.Edits.{Balances, HasRoom, Makes, edits_left, first_unfit_edit, edit_fits, table_left, edits_or_refusal, table_edit, table_edits};
 
 use qcow2_base::{ClusterCount, Fault, HostCluster};
 use qcow2_metadata::{ClustersToFreeEntry, L2Table, MAX_OFFSET, Table};
@@ -58,7 +58,7 @@ impl Edit {
     // greatest.
     fn fits(&self, table: &L2Table, greatest: HostCluster) -> bool
         requires { greatest.0 ≡ (2 ^ 56 - 512) / 2 ^ table.now.geometry.cluster_bits }
-        ensures { result ≡ fits table.now self.now }
+        ensures { result ≡ edit_fits table.now self.now }
     {
         match *self {
             Edit::Map {
@@ -71,7 +71,7 @@ impl Edit {
 
     // Makes the edit, which fits the table.
     fn make(&self, table: &mut L2Table) -> Change
-        requires { fits table.old self.now ≡ true }
+        requires { edit_fits table.old self.now ≡ true }
         ensures { Makes (table_edit self.now) result table.old table.new }
     {
         let mut guard = table.lock_write();
@@ -177,7 +177,7 @@ impl Outcome {
 
 // The position of the first edit that can't be made of the table.
 fn first_unfit(table: &L2Table, edits: &[Edit]) -> Option<usize>
-    ensures position { result ≡ first_unfit table.now edits.now }
+    ensures position { result ≡ first_unfit_edit table.now edits.now }
     ensures bits { IsClusterBits table.now.geometry.cluster_bits }
 {
     // A cluster's offset may not fit 64 bits, so the greatest cluster is computed instead.
@@ -185,7 +185,7 @@ fn first_unfit(table: &L2Table, edits: &[Edit]) -> Option<usize>
     edits.iter().position(
         |edit: &Edit| -> bool
             requires { greatest.0 ≡ (2 ^ 56 - 512) / 2 ^ table.now.geometry.cluster_bits }
-            ensures { result ≡ not (fits table.entry.now edit.now) }
+            ensures { result ≡ not (edit_fits table.entry.now edit.now) }
         { !edit.fits(table, greatest) },
     )
 }
@@ -196,8 +196,8 @@ fn first_unfit(table: &L2Table, edits: &[Edit]) -> Option<usize>
 /// looked at.
 pub fn edits_fit(table: &L2Table, edits: &[Edit]) -> Result<(), usize>
     ensures { MatchResult result
-        (λ fit. first_unfit table.now edits.now ≡ None)
-        (λ at. first_unfit table.now edits.now ≡ Some at) }
+        (λ fit. first_unfit_edit table.now edits.now ≡ None)
+        (λ at. first_unfit_edit table.now edits.now ≡ Some at) }
 {
     match first_unfit(table, edits) {
         None => Ok(()),
@@ -207,13 +207,13 @@ pub fn edits_fit(table: &L2Table, edits: &[Edit]) -> Result<(), usize>
 
 // Makes the edits, which all fit the table, one after the other. The outcome has room for what they do.
 fn make_edits(table: &mut L2Table, edits: &[Edit], outcome: &mut Outcome)
-    requires fit { first_unfit table.old edits.now ≡ None }
+    requires fit { first_unfit_edit table.old edits.now ≡ None }
     requires gained { outcome.old.gained.items ≡ [] }
     requires freed { outcome.old.freed.items ≡ [] }
     requires room { HasRoom (length edits.now) outcome.old }
-    ensures run { end_of table.new outcome.new
+    ensures run { edits_left table.new outcome.new
         ≡ run_of table.old.geometry (table_edits edits.now) table.old.numbers }
-    ensures table { table.new ≡ left_by edits.now table.old table.new.numbers }
+    ensures table { table.new ≡ table_left edits.now table.old table.new.numbers }
 {
     for edit in edits {
         outcome.push(edit.make(table));
@@ -228,10 +228,10 @@ fn make_edits(table: &mut L2Table, edits: &[Edit], outcome: &mut Outcome)
 /// Refuses edits that don't all fit, by the position of the first that `edits_fit` names. Takes memory for
 /// the outcome before the first edit. After any refusal the table is as before. Its cluster stays.
 pub fn edit_table(alloc: Global, table: &mut L2Table, edits: &[Edit]) -> Result<Outcome, Fault>
-    ensures unfit { IfSome (first_unfit table.old edits.now) (λ at. result ≡ Err (BadEdit at)) }
-    ensures exact { Computes (end_of table.new) result (run_or_refusal table.old edits.now) }
+    ensures unfit { IfSome (first_unfit_edit table.old edits.now) (λ at. result ≡ Err (BadEdit at)) }
+    ensures exact { Computes (edits_left table.new) result (edits_or_refusal table.old edits.now) }
     ensures unchanged { IfErr result (λ fault. table.new ≡ table.old) }
-    ensures table { IfOk result (λ outcome. table.new ≡ left_by edits.now table.old table.new.numbers) }
+    ensures table { IfOk result (λ outcome. table.new ≡ table_left edits.now table.old table.new.numbers) }
     ensures balance { IfOk result (λ outcome. Balances outcome table.old table.new) }
 {
     if let Some(position) = first_unfit(table, edits) {

@@ -4,12 +4,12 @@ ghost use Rattle.std.specs.Prelude.{◌≡◌, ◌-◌, ◌*◌, ◌^◌, [], fa
 ghost use Rattle.qcow2_base.specs.Storage.{OnlyWrites};
 ghost use Rattle.qcow2_base.specs.Types.{IsClusterBits};
 ghost use Rattle.qcow2_base.specs.declared.fault.Fault.TheVariants.{Storage as StorageFailed};
-ghost use Rattle.qcow2_metadata.specs.Answers.{Answers};
+ghost use Rattle.qcow2_metadata.specs.Results.{Answers};
 ghost use Rattle.qcow2_metadata.specs.Refblock.{IsTornBlock, block_counters, block_fault, block_offset};
 ghost use Rattle.qcow2_metadata.specs.Table.{IsTorn, l2_table_at, loaded_l2_table, most_l2_entries, place_fault};
-ghost use Rattle.qcow2_session.specs.Edits.{end_of as edits_left};
-ghost use Rattle.qcow2_session.specs.Images.{EditsImage, RefusesEdits, RefusesSteps, StepsImage, block_in, edits_end, steps_end, table_in};
-ghost use Rattle.qcow2_session.specs.Steps.{are_some_done, end_of as steps_left};
+ghost use Rattle.qcow2_session.specs.Session.Edits.{edits_left};
+ghost use Rattle.qcow2_session.specs.Session.Images.{EditsImage, RefusesEdits, RefusesSteps, StepsImage, block_in, edits_end, steps_end, table_in};
+ghost use Rattle.qcow2_session.specs.Session.Steps.{are_some_done, steps_left};
 
 use super::{Edit, Outcome, Step, StepReply, edit_table, step_block};
 use qcow2_base::{Fault, HostCluster, Storage};

@@ -2,12 +2,12 @@
 
 ghost use Rattle.std.specs.Prelude.{◌≡◌, ◌+◌, ◌*◌, ◌/◌, ◌^◌, ◌≤◌, None, Ok, IfErr, IfOk, IfSome, IsOkAnd, IsTrue};
 ghost use Rattle.qcow2_base.specs.Storage.{OnlyReads};
-ghost use Rattle.qcow2_metadata.specs.Answers.{Answers};
-ghost use Rattle.qcow2_metadata.specs.Entries.{IsPlaced, backing, meaning};
+ghost use Rattle.qcow2_metadata.specs.Results.{Answers};
+ghost use Rattle.qcow2_metadata.specs.Entries.L2Mapping.{IsPlaced, meaning, backing};
 ghost use Rattle.qcow2_metadata.specs.Header.{geometry_of};
 ghost use Rattle.qcow2_metadata.specs.Header.Grammar.{header_of};
 ghost use Rattle.qcow2_metadata.specs.Table.{IsLoadFault, IsLoaded, LoadRefuses, loaded_l1_table, most_l1_entries, place_fault};
-ghost use Rattle.qcow2_session.specs.Lookups.{IsLookupFault, guest_mapping, image_mapping, l1_place, l2_cluster};
+ghost use Rattle.qcow2_session.specs.Session.Lookups.{IsLookupFault, guest_mapping, image_mapping, l1_place, l2_cluster};
 
 use qcow2_base::{Fault, GuestCluster, GuestOffset, HostCluster, Storage};
 use qcow2_metadata::{Header, L1Table, L2Mapping, L2Table, Table};

@@ -2,13 +2,14 @@
 
 ghost use Rattle.std.specs.Prelude.{◌≡◌, ℕ, ◌+◌, ◌<◌, ◌≤◌, Err, IfErr, IfOk, IfSome, MatchResult, None, OnOk, false, length, nat_lt, slice_index, take, true};
 ghost use Rattle.qcow2_base.specs.declared.fault.Fault.TheVariants.{CounterRange, ExternalData};
-ghost use Rattle.qcow2_metadata.specs.Edits.{one_if};
+ghost use Rattle.qcow2_metadata.specs.Table.L2Guards.{one_if};
 ghost use Rattle.qcow2_metadata.specs.Entries.{is_among};
 ghost use Rattle.qcow2_metadata.specs.Header.{geometry_of, uses_external_data};
-ghost use Rattle.qcow2_metadata.specs.Refblock.{AreCounters, Steps, stepped};
+ghost use Rattle.qcow2_metadata.specs.Refblock.Counters.{AreCounters};
+ghost use Rattle.qcow2_metadata.specs.Refblock.Guard.{Steps, stepped};
 ghost use Rattle.qcow2_metadata.specs.declared.entries.ClustersToFreeEntry.{ClustersToFreeEntry as Clusters};
-ghost use Rattle.qcow2_session.specs.Edits.{numbers_of};
-ghost use Rattle.qcow2_session.specs.Settled.{ChangesCounters, CoversReferences, EditsAndSettles, EditsSettleOrRefuse, IsSameButFlag, MarksModified, Settles, SettlesOrRefuses, SomeCannotGain, SomeLeavesRange, change_in, first_counted, first_refusal, is_between, alone, opposite, run_of_table, times_among};
+ghost use Rattle.qcow2_session.specs.Session.Edits.{cluster_numbers};
+ghost use Rattle.qcow2_session.specs.Session.Settled.{ChangesCounters, CoversReferences, EditsAndSettles, EditsSettleOrRefuse, IsSameButFlag, MarksModified, Settles, SettlesOrRefuses, SomeCannotGain, SomeLeavesRange, change_in, first_counted, first_refusal, is_between, range_of_one, opposite, run_of_table, times_among};
 
 use super::{Edit, Outcome, edit_table, edits_fit};
 use qcow2_base::{ClusterCount, Fault, HostCluster};
@@ -124,7 +125,7 @@ trait Counted {
 }
 
 impl Counted for HostCluster {
-    ghost clusters = { alone };
+    ghost clusters = { range_of_one };
 
     fn clusters(&self) -> ClustersToFreeEntry {
         let count = ClusterCount(1);
@@ -201,9 +202,9 @@ fn count_all<C: Counted>(
 // flag may be another after a refusal.
 fn count_outcome(block: &mut RefBlock, first: u128, outcome: &Outcome) -> Result<(), Fault>
     ensures answer { SettlesOrRefuses block.old first outcome.now.freed.items
-        (numbers_of outcome.now.gained.items) result }
+        (cluster_numbers outcome.now.gained.items) result }
     ensures settled { OnOk result (Settles first outcome.now.freed.items
-        (numbers_of outcome.now.gained.items) block.old block.new) }
+        (cluster_numbers outcome.now.gained.items) block.old block.new) }
     ensures back { IfErr result (λ fault. IsSameButFlag block.old block.new) }
 {
     let gained = outcome.gained.as_slice();
@@ -239,9 +240,9 @@ pub fn settle(
     ensures external { uses_external_data header.now ≡ true → result ≡ Err ExternalData }
     ensures answer { uses_external_data header.now ≡ false → SettlesOrRefuses block.old
         (first_counted block.old rt_index) outcome.now.freed.items
-        (numbers_of outcome.now.gained.items) result }
+        (cluster_numbers outcome.now.gained.items) result }
     ensures settled { OnOk result (Settles (first_counted block.old rt_index) outcome.now.freed.items
-        (numbers_of outcome.now.gained.items) block.old block.new) }
+        (cluster_numbers outcome.now.gained.items) block.old block.new) }
     ensures unchanged { IfErr result (λ fault. block.new ≡ block.old) }
 {
     if header.external_data_file() {

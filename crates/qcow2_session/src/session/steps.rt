@@ -2,8 +2,8 @@
 
 ghost use Rattle.std.specs.Prelude.{◌≡◌, ◌<◌, Err, IfErr, IfOk, IfSome, length, nat_lt, not};
 ghost use Rattle.qcow2_base.specs.declared.fault.Fault.TheVariants.{BadStep};
-ghost use Rattle.qcow2_metadata.specs.Answers.{Computes};
-ghost use Rattle.qcow2_session.specs.Steps.{Counts, MakesStep, end_of, first_unfit, index_of, left_by, run_or_refusal};
+ghost use Rattle.qcow2_metadata.specs.Results.{Computes};
+ghost use Rattle.qcow2_session.specs.Session.Steps.{Counts, MakesStep, steps_left, first_unfit_step, index_of, block_left, steps_or_refusal};
 
 use qcow2_base::Fault;
 use qcow2_metadata::RefBlock;
@@ -57,7 +57,7 @@ impl Step {
 
 // The position of the first step whose index is past the block's end.
 fn first_unfit(block: &RefBlock, steps: &[Step]) -> Option<usize>
-    ensures { result ≡ first_unfit block.now steps.now }
+    ensures { result ≡ first_unfit_step block.now steps.now }
 {
     let entries = block.entries();
     steps.iter().position(
@@ -78,11 +78,12 @@ pub fn step_block(
     block: &mut RefBlock,
     steps: &[Step],
 ) -> Result<Vec<StepReply>, Fault>
-    ensures unfit { IfSome (first_unfit block.old steps.now) (λ at. result ≡ Err (BadStep at)) }
-    ensures exact { Computes (λ replies. end_of block.new replies.items) result
-        (run_or_refusal block.old steps.now) }
+    ensures unfit { IfSome (first_unfit_step block.old steps.now) (λ at. result ≡ Err (BadStep at)) }
+    ensures exact { Computes (λ replies. steps_left block.new replies.items) result
+        (steps_or_refusal block.old steps.now) }
     ensures unchanged { IfErr result (λ fault. block.new ≡ block.old) }
-    ensures block { IfOk result (λ replies. block.new ≡ left_by replies.items block.old block.new.counters) }
+    ensures block { IfOk result (λ replies.
+        block.new ≡ block_left replies.items block.old block.new.counters) }
     ensures counts { IfOk result (λ replies. Counts steps.now replies.items block.old block.new) }
 {
     if let Some(position) = first_unfit(block, steps) {

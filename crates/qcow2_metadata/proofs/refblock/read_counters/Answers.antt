@@ -4,7 +4,9 @@ use Rattle.std.proofs.lemmas.List.Elements.{All-append}
 use Rattle.qcow2_base.specs.Storage.{Holds, image_of}
 use Rattle.qcow2_metadata.proofs.PackingLemmas.{counters_at-length, counters_at-small}
 use Rattle.qcow2_metadata.proofs.RefblockLemmas.{block_bytes, count-more, counters-more, piece_in_eights, same_count}
-use Rattle.qcow2_metadata.specs.Refblock.{block_entries, counters_at, numbers_of, width}
+use Rattle.qcow2_metadata.specs.Refblock.{block_entries}
+use Rattle.qcow2_metadata.specs.Refblock.Packing.{counters_at, width}
+use Rattle.qcow2_metadata.specs.Refblock.Counters.{kept_counters}
 use Rattle.qcow2_metadata.proofs.refblock.read_counters.Goals as goal
 
 pub loop-piece-preserved : goal.loop-piece-preserved
@@ -16,8 +18,8 @@ loop-piece-preserved g c =
     let size = c.cluster_size-size.result in
     let first = 4096 * c.loop-piece.piece in
     let before = c.loop-piece.invariant in
-    let list = numbers_of c.loop-piece.counters in
-    let new = numbers_of c.unpack.new.self in
+    let list = kept_counters c.loop-piece.counters in
+    let new = kept_counters c.unpack.new.self in
     let buffer = c.read_range.new.buffer in
     let m = 8 * length buffer / width order in
     let len : length buffer ≡ min (size - first) 4096 = search rules in
@@ -43,7 +45,7 @@ pub returns-clause-lawful : goal.returns-clause-lawful
 returns-clause-lawful g c =
     let order = c.refcount_order-order.result in
     let cb = c.args.header.now.v2.cluster_bits in
-    let list = numbers_of c.loop-piece.counters in
+    let list = kept_counters c.loop-piece.counters in
     let all : min (4096 * c.loop-piece.piece) c.cluster_size-size.result ≡ c.cluster_size-size.result = omega arith in
     let whole : width order * length list ≡ 8 * 2 ^ cb = c.loop-piece.invariant.whole ∙ ap (λ n. 8 * n) (all ∙ c.cluster_size-size.ensures.value) in
     let count = same_count order (length list) (block_entries cb order) (2 ^ cb) whole (block_bytes cb order c.requires.bits c.refcount_order-order.ensures.range) in

@@ -1,12 +1,13 @@
 use Rattle.std.proofs.Common.{◌≡◌, ◌*◌, IsTrue, length, min}
 use Rattle.qcow2_base.specs.Storage.{SameDevice}
-use Rattle.qcow2_metadata.specs.Refblock.{AreCounters, IsOfOrder, counters_at, numbers_of, width}
+use Rattle.qcow2_metadata.specs.Refblock.Counters.{AreCounters, IsOfOrder, kept_counters}
+use Rattle.qcow2_metadata.specs.Refblock.Packing.{counters_at, width}
 use Rattle.qcow2_metadata.proofs.refblock.read_counters.Given as goal
 
 -- the counters of the pieces before this one are there, and no call has failed
 abbrev pub invariant-loop-piece : goal.invariant-loop-piece
 invariant-loop-piece g l =
-    let counters = numbers_of l.counters in
+    let counters = kept_counters l.counters in
     let old = g.S.Storage.state l.initial.image in
     let new = g.S.Storage.state l.image in
     record {

@@ -1,6 +1,6 @@
 use Rattle.qcow2_session.proofs.CommandsLemmas.{IfSome-follows, own-refused}
 use Rattle.qcow2_session.specs.Commands.{place_fault_of}
-use Rattle.qcow2_session.specs.Words.{line_of}
+use Rattle.qcow2_session.specs.Commands.Words.{line_of}
 use Rattle.qcow2_session.proofs.commands.run.Goals as goal
 
 pub returns-clause-place : goal.returns-clause-place

@@ -1,7 +1,7 @@
 use Rattle.std.proofs.Common.{ap, arith, length, ◌∙◌, rules, subst, sym}
 use Rattle.std.proofs.lemmas.Result.{err_from_is_err_and}
 use Rattle.qcow2_base.specs.Storage.{Holds}
-use Rattle.qcow2_metadata.specs.Header.Text.{IsSettled, IsWritten, chosen, chosen_text, placed}
+use Rattle.qcow2_metadata.specs.Header.Text.{IsSettled, IsWrittenHeader, chosen, chosen_text, placed}
 use Rattle.qcow2_metadata.proofs.SettledLemmas.{kept-settled}
 use Rattle.qcow2_metadata.proofs.WriteLemmas.{chosen_text-placed, kept-fault, refused-writes, text-short, written-header}
 use Rattle.qcow2_metadata.proofs.header.Header.write.Goals as goal
@@ -30,7 +30,7 @@ returns-clause-written g c told =
     let image = (g.S.Storage.state c.write.new.self).byte_at in
     let text = c.deref.ensures.value ∙ c.in_ok-text.ensures.text in
     let held = subst (Holds image 0) text (c.in_ok-write.ensures.written told) in
-    subst (IsWritten image) (sym c.take_over.ensures)
+    subst (IsWrittenHeader image) (sym c.take_over.ensures)
     (written-header image c.args.self.now c.in_ok-layout.layout c.in_ok-text.ensures.lawful c.in_ok-layout.ensures.0
     c.in_ok-layout.ensures.1 c.in_ok-text.ensures.v2_fits c.in_ok-text.ensures.base_fits held)
 

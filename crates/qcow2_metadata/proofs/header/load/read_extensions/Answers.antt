@@ -3,7 +3,7 @@ use Rattle.std.proofs.lemmas.List.{map-append}
 use Rattle.std.proofs.lemmas.List.Elements.{All-push}
 use Rattle.std.proofs.lemmas.Result.{err_from_is_err_and}
 use Rattle.qcow2_metadata.proofs.LoadLemmas.{extensions_at-end, extensions_at-fault, extensions_at-more}
-use Rattle.qcow2_metadata.specs.Answers.{result_map}
+use Rattle.qcow2_metadata.specs.Results.{result_map}
 use Rattle.qcow2_metadata.specs.Header.{IsStorable}
 use Rattle.qcow2_metadata.specs.Header.Extensions.{Extension, extension_of}
 use Rattle.qcow2_metadata.proofs.header.load.read_extensions.Goals as goal

@@ -1,7 +1,7 @@
 use Rattle.std.proofs.Common.{◌≡◌, List, Result, map, sym, ap, ◌∙◌, subst, arith}
 use Rattle.qcow2_base.specs.declared.fault.Fault.{Fault}
 use Rattle.qcow2_metadata.proofs.LoadLemmas.{header_extensions-newer}
-use Rattle.qcow2_metadata.specs.Answers.{Answers}
+use Rattle.qcow2_metadata.specs.Results.{Answers}
 use Rattle.qcow2_metadata.specs.Header.Chain.{extensions_at}
 use Rattle.qcow2_metadata.specs.Header.Extensions.{Extension, extension_of}
 use Rattle.qcow2_metadata.proofs.header.load.read_header_extensions.Goals as goal

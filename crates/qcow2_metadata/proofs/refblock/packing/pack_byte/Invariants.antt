@@ -1,5 +1,5 @@
 use Rattle.std.proofs.Common.{◌≡◌, ◌*◌, ◌^◌, ◌<◌, take}
-use Rattle.qcow2_metadata.specs.Refblock.{from_digits, width}
+use Rattle.qcow2_metadata.specs.Refblock.Packing.{from_digits, width}
 use Rattle.qcow2_metadata.proofs.refblock.packing.pack_byte.Given as goal
 
 -- the counters so far stand in the byte's lowest bits

@@ -1,6 +1,6 @@
 use Rattle.std.proofs.Common.{◌≡◌, ℕ, ◌+◌, ◌∙◌, length-set, arith}
 use Rattle.std.proofs.lemmas.List.Edits.{fill_by_more}
-use Rattle.qcow2_metadata.specs.Refblock.{packed}
+use Rattle.qcow2_metadata.specs.Refblock.Packing.{packed}
 use Rattle.qcow2_metadata.proofs.NarrowLemmas.{packed_part}
 use Rattle.qcow2_metadata.proofs.refblock.packing.pack_bytes.Goals as goal
 

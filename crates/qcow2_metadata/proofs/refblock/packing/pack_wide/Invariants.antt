@@ -1,5 +1,5 @@
 use Rattle.std.proofs.Common.{◌≡◌, ℕ, ◌+◌, ◌*◌, ◌<◌, length, map, slice_index}
-use Rattle.qcow2_metadata.specs.Refblock.{packed}
+use Rattle.qcow2_metadata.specs.Refblock.Packing.{packed}
 use Rattle.qcow2_metadata.proofs.refblock.packing.pack_wide.Given as goal
 
 -- the bytes of the counters so far stand in the buffer

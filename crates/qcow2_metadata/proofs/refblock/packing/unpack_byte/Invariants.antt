@@ -1,6 +1,6 @@
 use Rattle.std.proofs.Common.{◌≡◌, ℕ, ◌*◌, ◌<◌, length, slice_index}
 use Rattle.qcow2_base.specs.Bits.{field}
-use Rattle.qcow2_metadata.specs.Refblock.{width}
+use Rattle.qcow2_metadata.specs.Refblock.Packing.{width}
 use Rattle.qcow2_metadata.proofs.refblock.packing.unpack_byte.Given as goal
 
 -- the counters so far stand in the array

@@ -1,6 +1,6 @@
 use Rattle.std.proofs.Common.{◌≡◌, ◌++◌, map}
 use Rattle.qcow2_base.specs.Storage.{image_of}
-use Rattle.qcow2_metadata.specs.Refblock.{counters_at}
+use Rattle.qcow2_metadata.specs.Refblock.Packing.{counters_at}
 use Rattle.qcow2_metadata.proofs.refblock.packing.unpack_wide.Given as goal
 
 -- the list has the counters so far

@@ -1,8 +1,8 @@
 use Rattle.std.proofs.Common.{ap}
-use Rattle.qcow2_metadata.specs.Answers.{result_map}
+use Rattle.qcow2_metadata.specs.Results.{result_map}
 use Rattle.qcow2_metadata.specs.Header.Grammar.{header_of}
 use Rattle.qcow2_session.proofs.PrintingLemmas.{Prints-lines, header_read}
-use Rattle.qcow2_session.specs.Info.{info_lines}
+use Rattle.qcow2_session.specs.Commands.Info.{info_lines}
 use Rattle.qcow2_session.proofs.commands.info.print_info.Goals as goal
 
 pub returns-clause-prints : goal.returns-clause-prints

@@ -1,7 +1,7 @@
 use Rattle.std.proofs.Common.{arith}
 use Rattle.std.specs.Fmt.{decimal}
 use Rattle.qcow2_session.proofs.LinesLemmas.{entry_lines_more}
-use Rattle.qcow2_metadata.specs.Entries.{meaning}
+use Rattle.qcow2_metadata.specs.Entries.L2Mapping.{meaning}
 use Rattle.qcow2_session.proofs.commands.l2.print_table.Goals as goal
 
 pub loop-index-preserved : goal.loop-index-preserved

@@ -6,8 +6,8 @@ use Rattle.std.proofs.lemmas.Result.{err_from_is_err_and}
 use Rattle.qcow2_session.proofs.ListingLemmas.{header-refused, l1-refused}
 use Rattle.qcow2_session.proofs.LookupsLemmas.{reads-then_for}
 use Rattle.qcow2_session.proofs.PrintingLemmas.{PrintsSome-same, header_read}
-use Rattle.qcow2_session.specs.Listing.{lines_before, lines_kept_of_image, lines_of_image, lines_of_tables}
-use Rattle.qcow2_session.specs.Lookups.{l1_place}
+use Rattle.qcow2_session.specs.Commands.Listing.{lines_before, lines_kept_of_image, lines_of_image, lines_of_tables}
+use Rattle.qcow2_session.specs.Session.Lookups.{l1_place}
 use Rattle.qcow2_session.proofs.commands.list.list_tables.Goals as goal
 
 pub returns-clause-storage : goal.returns-clause-storage

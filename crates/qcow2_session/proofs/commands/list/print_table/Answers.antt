@@ -1,5 +1,5 @@
 use Rattle.std.proofs.Common.{◌-◌, ◌*◌, ◌^◌, ◌<◌, arith}
-use Rattle.qcow2_metadata.specs.Entries.{meaning}
+use Rattle.qcow2_metadata.specs.Entries.L2Mapping.{meaning}
 use Rattle.qcow2_session.proofs.ListingLemmas.{guest_offset-fits, table_lines-more}
 use Rattle.qcow2_session.specs.Lines.{offset_text}
 use Rattle.qcow2_session.proofs.commands.list.print_table.Goals as goal

@@ -1,6 +1,6 @@
 use Rattle.std.proofs.Common.{take}
 use Rattle.std.specs.Io.KnownBytes.{Appends}
-use Rattle.qcow2_session.specs.Listing.{table_lines}
+use Rattle.qcow2_session.specs.Commands.Listing.{table_lines}
 use Rattle.qcow2_session.proofs.commands.list.print_table.Given as goal
 
 -- the lines of the entries before this one are printed

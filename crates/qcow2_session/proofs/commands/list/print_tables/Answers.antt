@@ -3,8 +3,8 @@ use Rattle.std.proofs.lemmas.List.{length-take, take_more}
 use Rattle.std.proofs.lemmas.Result.{err_from_is_err_and}
 use Rattle.qcow2_metadata.specs.Header.{geometry_of}
 use Rattle.qcow2_session.proofs.ListingLemmas.{lines_of_tables-more, printed-table, refused-at}
-use Rattle.qcow2_session.specs.Listing.{lines_by, lines_of_tables}
-use Rattle.qcow2_session.specs.Lookups.{named_cluster}
+use Rattle.qcow2_session.specs.Commands.Listing.{lines_by, lines_of_tables}
+use Rattle.qcow2_session.specs.Session.Lookups.{named_cluster}
 use Rattle.qcow2_session.proofs.commands.list.print_tables.Goals as goal
 
 pub returns-in_err-print_table_of-clause-prints : goal.returns-in_err-print_table_of-clause-prints

@@ -3,7 +3,7 @@ use Rattle.std.specs.Result.{IsOkAnd}
 use Rattle.std.specs.Io.KnownBytes.{Appends}
 use Rattle.qcow2_base.specs.Storage.{ReadsFor}
 use Rattle.qcow2_metadata.specs.Header.{geometry_of}
-use Rattle.qcow2_session.specs.Listing.{lines_of_tables}
+use Rattle.qcow2_session.specs.Commands.Listing.{lines_of_tables}
 use Rattle.qcow2_session.proofs.commands.list.print_tables.Given as goal
 
 -- the lines of the tables before this one are printed, and no call of the image has failed

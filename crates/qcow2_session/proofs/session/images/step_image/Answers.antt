@@ -1,5 +1,5 @@
 use Rattle.std.proofs.Common.{◌≡◌, rules, inl, inr, sym}
-use Rattle.qcow2_session.specs.Images.{block_in}
+use Rattle.qcow2_session.specs.Session.Images.{block_in}
 use Rattle.std.proofs.lemmas.Result.{err_from_is_err_and}
 use Rattle.qcow2_session.proofs.ImagesLemmas.{refused-steps}
 use Rattle.qcow2_session.proofs.StepsLemmas.{block-idle, counts-same}

@@ -1,5 +1,5 @@
 use Rattle.std.proofs.Common.{ap, map-id, ◌∙◌}
-use Rattle.qcow2_metadata.specs.Entries.{l2_fault}
+use Rattle.qcow2_metadata.specs.Entries.L2Entry.{l2_fault}
 use Rattle.qcow2_metadata.specs.Header.{Geometry}
 use Rattle.qcow2_metadata.specs.Table.{first_fault}
 use Rattle.qcow2_session.proofs.session.settled.copy_of.Goals as goal

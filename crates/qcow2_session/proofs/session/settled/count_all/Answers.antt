@@ -1,6 +1,6 @@
 use Rattle.std.proofs.Common.{ℕ, ◌+◌, refl, subst, take}
-use Rattle.qcow2_metadata.specs.Refblock.{CounterChange}
-use Rattle.qcow2_session.specs.Settled.{ChangesCounters, change_in, times_among}
+use Rattle.qcow2_metadata.specs.Refblock.Guard.{CounterChange}
+use Rattle.qcow2_session.specs.Session.Settled.{ChangesCounters, change_in, times_among}
 use Rattle.qcow2_session.proofs.SettledLemmas.{moves-back}
 use Rattle.qcow2_session.proofs.session.settled.count_all.Goals as goal
 

@@ -1,9 +1,9 @@
 use Rattle.std.proofs.Common.{◌≡◌, ℕ, ◌+◌, ◌<◌, length, refl, subst, arith, rules, ◌∙◌}
 use Rattle.std.proofs.lemmas.Bool.Decides.{nat_tests}
-use Rattle.qcow2_metadata.specs.Edits.{one_if}
+use Rattle.qcow2_metadata.specs.Table.L2Guards.{one_if}
 use Rattle.qcow2_metadata.specs.Entries.{is_among}
-use Rattle.qcow2_metadata.specs.Refblock.{CounterChange}
-use Rattle.qcow2_session.specs.Settled.{ChangesCounters, change_in, is_between}
+use Rattle.qcow2_metadata.specs.Refblock.Guard.{CounterChange}
+use Rattle.qcow2_session.specs.Session.Settled.{ChangesCounters, change_in, is_between}
 use Rattle.qcow2_session.proofs.SettledLemmas.{among-between, clusters-short, flags-as, moves-as, moves-back}
 use Rattle.qcow2_session.proofs.session.settled.count_clusters.Goals as goal
 

@@ -1,8 +1,8 @@
 use Rattle.std.proofs.Common.{ℕ, ◌+◌, ◌<◌, length, subst, take, rules}
-use Rattle.qcow2_metadata.specs.Edits.{one_if}
+use Rattle.qcow2_metadata.specs.Table.L2Guards.{one_if}
 use Rattle.qcow2_metadata.specs.Entries.{is_among}
 use Rattle.qcow2_metadata.specs.declared.entries.ClustersToFreeEntry.{ClustersToFreeEntry}
-use Rattle.qcow2_session.specs.Settled.{MarksModified, ChangesCounters, SomeLeavesRange, change_in, times_among}
+use Rattle.qcow2_session.specs.Session.Settled.{MarksModified, ChangesCounters, SomeLeavesRange, change_in, times_among}
 use Rattle.qcow2_session.proofs.SettledLemmas.{flags-twice, list-short, moves-twice, times-more, times-within}
 use Rattle.qcow2_session.proofs.session.settled.count_list.Goals as goal
 

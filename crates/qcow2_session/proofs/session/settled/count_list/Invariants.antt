@@ -1,5 +1,5 @@
 use Rattle.std.proofs.Common.{take, ◌+◌}
-use Rattle.qcow2_session.specs.Settled.{MarksModified, ChangesCounters, change_in, times_among}
+use Rattle.qcow2_session.specs.Session.Settled.{MarksModified, ChangesCounters, change_in, times_among}
 use Rattle.qcow2_session.proofs.session.settled.count_list.Given as goal
 
 -- the counters of the clusters before this one are changed

@@ -1,12 +1,12 @@
 use Rattle.std.proofs.Common.{ℕ, ◌+◌}
-use Rattle.qcow2_metadata.specs.Refblock.{Increment}
-use Rattle.qcow2_session.specs.Settled.{ChangesCounters, alone, times_among}
+use Rattle.qcow2_metadata.specs.Refblock.Guard.{Increment}
+use Rattle.qcow2_session.specs.Session.Settled.{ChangesCounters, range_of_one, times_among}
 use Rattle.qcow2_session.proofs.SettledLemmas.{can-settle, losses-short, moves-back, moves-flagged, settled-by}
 use Rattle.qcow2_session.proofs.session.settled.count_outcome.Goals as goal
 
 pub returns-clause-back : goal.returns-clause-back
 returns-clause-back c =
-    let by = λ (i : ℕ). times_among alone c.args.outcome.now.gained.items (c.args.first + i) in
+    let by = λ (i : ℕ). times_among range_of_one c.args.outcome.now.gained.items (c.args.first + i) in
     let up : ChangesCounters Increment by c.args.block.now c.count_all.new.block = rw c.as_slice-gained.ensures.value at c.in_default.ensures.changed in
     moves-back Increment by c.args.block.now c.count_all-2.new.block c.count_list.new.block
     (moves-flagged Increment by c.args.block.now c.count_all.new.block c.count_all-2.new.block c.in-Err-count_all.ensures.back.1 up)
@@ -14,7 +14,7 @@ returns-clause-back c =
 
 pub returns-clause-answer : goal.returns-clause-answer
 returns-clause-answer c =
-    let by = λ (i : ℕ). times_among alone c.args.outcome.now.gained.items (c.args.first + i) in
+    let by = λ (i : ℕ). times_among range_of_one c.args.outcome.now.gained.items (c.args.first + i) in
     let up : ChangesCounters Increment by c.args.block.now c.count_all.new.block = rw c.as_slice-gained.ensures.value at c.in_default.ensures.changed in (
       c.in-Err-count_all.ensures.back.0,
       losses-short c.args.first c.args.outcome.now.gained.items c.args.outcome.now.freed.items c.args.block.now c.count_all.new.block up

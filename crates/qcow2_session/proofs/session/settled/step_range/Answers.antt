@@ -1,6 +1,6 @@
 use Rattle.std.proofs.Common.{arith, inl}
-use Rattle.qcow2_metadata.specs.Edits.{one_if}
-use Rattle.qcow2_session.specs.Settled.{change_in, is_between}
+use Rattle.qcow2_metadata.specs.Table.L2Guards.{one_if}
+use Rattle.qcow2_session.specs.Session.Settled.{change_in, is_between}
 use Rattle.qcow2_session.proofs.SettledLemmas.{between-end, flags-as, moves-as, range-next, range-stops}
 use Rattle.qcow2_session.proofs.session.settled.step_range.Goals as goal
 

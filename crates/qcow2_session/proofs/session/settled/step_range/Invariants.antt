@@ -1,6 +1,6 @@
 use Rattle.std.proofs.Common.{◌≡◌, ◌≤◌, ◌⊎◌}
-use Rattle.qcow2_metadata.specs.Edits.{one_if}
-use Rattle.qcow2_session.specs.Settled.{MarksModified, ChangesCounters, change_in, is_between}
+use Rattle.qcow2_metadata.specs.Table.L2Guards.{one_if}
+use Rattle.qcow2_session.specs.Session.Settled.{MarksModified, ChangesCounters, change_in, is_between}
 use Rattle.qcow2_session.proofs.session.settled.step_range.Given as goal
 
 -- the counters before this one are changed

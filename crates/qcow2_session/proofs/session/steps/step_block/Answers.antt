@@ -1,14 +1,14 @@
 use Rattle.std.proofs.Common.{◌≡◌, ◌++◌, [], ◌∷◌, ◌∙◌, None, length, length-append, ap, sym, arith, rules}
 use Rattle.qcow2_session.proofs.StepsLemmas.{all_in_bounds, each_in_bounds, part_way-end, part_way-next, run-counts}
 use Rattle.qcow2_metadata.specs.Refblock.{BlockState}
-use Rattle.qcow2_session.specs.Steps.{first_unfit}
+use Rattle.qcow2_session.specs.Session.Steps.{first_unfit_step}
 use Rattle.qcow2_session.proofs.session.steps.step_block.Goals as goal
 
 pub make-requires : goal.make-requires
 make-requires c =
     let steps = c.args.steps.now in
     let before = c.args.block.now in
-    let none : first_unfit before steps ≡ None = sym c.first_unfit.ensures ∙ c.in_default.is in
+    let none : first_unfit_step before steps ≡ None = sym c.first_unfit.ensures ∙ c.in_default.is in
     rw c.loop-step.invariant.way.entries (each_in_bounds (length before.counters) steps c.loop-step.step-index _ (all_in_bounds before steps none) c.loop-step-test.true)
 
 pub loop-step-preserved : goal.loop-step-preserved
@@ -22,7 +22,7 @@ loop-step-preserved c =
 
 pub returns-clause-counts : goal.returns-clause-counts
 returns-clause-counts c =
-    let none : first_unfit c.args.block.now c.args.steps.now ≡ None = sym c.first_unfit.ensures ∙ c.in_default.is in
+    let none : first_unfit_step c.args.block.now c.args.steps.now ≡ None = sym c.first_unfit.ensures ∙ c.in_default.is in
     let order = ap (λ (block : BlockState). block.refcount_order) c.loop-step.invariant.way.block in
     run-counts c.args.steps.now c.loop-step.replies.items c.args.block.now c.loop-step.block none order
     (part_way-end c.args.steps.now c.loop-step.step-index c.args.block.now c.loop-step.block c.loop-step.replies.items (omega arith) c.loop-step.invariant.way)

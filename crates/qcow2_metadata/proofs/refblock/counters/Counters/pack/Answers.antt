@@ -1,5 +1,5 @@
 use Rattle.std.proofs.Common.{◌+◌, ◌*◌, ◌≤◌, length}
-use Rattle.qcow2_metadata.specs.Refblock.{width}
+use Rattle.qcow2_metadata.specs.Refblock.Packing.{width}
 use Rattle.qcow2_metadata.proofs.RefblockLemmas.{narrow_within}
 use Rattle.qcow2_metadata.proofs.refblock.counters.Counters.pack.Goals as goal
 

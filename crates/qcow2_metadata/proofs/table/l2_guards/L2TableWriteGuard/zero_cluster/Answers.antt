@@ -1,9 +1,9 @@
 use Rattle.std.proofs.Common.{◌≡◌, ◌&&◌, Bool, ℕ, ap, ◌∙◌, refl, rules, subst, sym, true, false}
 use Rattle.std.specs.Prelude.{slice_index}
-use Rattle.qcow2_metadata.specs.Edits.{has_host_cluster, with_zero_flag}
-use Rattle.qcow2_metadata.specs.Entries.{IsAllocation}
+use Rattle.qcow2_metadata.specs.Table.L2Guards.{has_host_cluster, with_zero_flag}
+use Rattle.qcow2_metadata.specs.Entries.L2Entry.{IsAllocation}
 use Rattle.qcow2_metadata.specs.Header.{Geometry, geometry}
-use Rattle.qcow2_metadata.specs.L2Table.{guarded}
+use Rattle.qcow2_metadata.specs.Table.L2Table.{guarded_table}
 use Rattle.qcow2_metadata.specs.Table.{TableState, edited}
 use Rattle.qcow2_metadata.proofs.GuardLemmas.{zeros-dropped, zeros-kept, zeros-lawful}
 use Rattle.qcow2_metadata.proofs.table.l2_guards.L2TableWriteGuard.zero_cluster.Goals as goal
@@ -11,7 +11,7 @@ use Rattle.qcow2_metadata.proofs.table.l2_guards.L2TableWriteGuard.zero_cluster.
 
 pub replace_entry-requires-clause-valid : goal.replace_entry-requires-clause-valid
 replace_entry-requires-clause-valid c =
-    let table = guarded c.args.self.now in
+    let table = guarded_table c.args.self.now in
     let v = c.entry_within-before.result in
     let cb = table.geometry.cluster_bits in
     let has : has_host_cluster table.geometry v ≡ true =
@@ -22,7 +22,7 @@ replace_entry-requires-clause-valid c =
 
 pub returns-then-has_host_cluster-clause-edit : goal.returns-then-has_host_cluster-clause-edit
 returns-then-has_host_cluster-clause-edit c =
-    let table = guarded c.args.self.now in
+    let table = guarded_table c.args.self.now in
     let v = c.entry_within-before.result in
     let cb = table.geometry.cluster_bits in
     let number : v ≡ slice_index table.numbers c.args.index = search rules in
@@ -37,7 +37,7 @@ returns-then-has_host_cluster-clause-edit c =
 
 pub returns-clause-edit : goal.returns-clause-edit
 returns-clause-edit c =
-    let table = guarded c.args.self.now in
+    let table = guarded_table c.args.self.now in
     let v = c.entry_within-before.result in
     let cb = table.geometry.cluster_bits in
     let number : v ≡ slice_index table.numbers c.args.index = search rules in

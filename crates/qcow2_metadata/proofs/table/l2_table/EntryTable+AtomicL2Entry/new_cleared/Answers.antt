@@ -1,5 +1,5 @@
 use Rattle.std.proofs.Common.{◌≡◌, ℕ, replicate}
-use Rattle.qcow2_metadata.specs.Entries.{l2_fault}
+use Rattle.qcow2_metadata.specs.Entries.L2Entry.{l2_fault}
 use Rattle.qcow2_metadata.proofs.TableLemmas.{first_fault-map-replicate}
 use Rattle.qcow2_metadata.proofs.table.l2_table.EntryTable+AtomicL2Entry.new_cleared.Goals as goal
 

@@ -1,7 +1,7 @@
 use Rattle.std.proofs.Common.{◌∙◌, ap, sym, arith}
 use Rattle.std.proofs.lemmas.List.{map-id}
-use Rattle.qcow2_metadata.specs.Edits.{references}
-use Rattle.qcow2_metadata.specs.Entries.{l2_fault}
+use Rattle.qcow2_metadata.specs.Table.L2Guards.{references}
+use Rattle.qcow2_metadata.specs.Entries.L2Entry.{l2_fault}
 use Rattle.qcow2_metadata.specs.Table.{TableState, first_fault}
 use Rattle.qcow2_metadata.proofs.SharedLemmas.{references-shared, shared-lawful}
 use Rattle.qcow2_metadata.proofs.table.l2_table.EntryTable+AtomicL2Entry.try_clone.Goals as goal

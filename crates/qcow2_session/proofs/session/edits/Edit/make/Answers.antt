@@ -1,7 +1,7 @@
 use Rattle.std.proofs.Common.{subst, rules}
-use Rattle.qcow2_metadata.specs.Edits.{TableEdit, to_data}
+use Rattle.qcow2_metadata.specs.Table.L2Guards.{TableEdit, to_data}
 use Rattle.qcow2_metadata.specs.Table.{TableState}
-use Rattle.qcow2_session.specs.Edits.{Makes}
+use Rattle.qcow2_session.specs.Session.Edits.{Makes}
 use Rattle.qcow2_session.proofs.EditsLemmas.{Makes-mapping}
 use Rattle.qcow2_session.proofs.session.edits.Edit.make.Goals as goal
 

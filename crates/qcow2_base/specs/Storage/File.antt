@@ -1,0 +1,21 @@
+use Rattle.std.specs.Prelude.{ℕ, false}
+use Rattle.qcow2_base.specs.Storage.{StorageState}
+use Rattle.qcow2_base.specs.declared.storage.file.FileStorage.{FileStorage}
+
+-- the open file
+abbrev pub file_of : {F : Type 0} → FileStorage F → F
+file_of storage = storage.file
+
+-- how many calls have failed, modulo 2^64
+abbrev pub file_failures : {F : Type 0} → FileStorage F → ℕ
+file_failures storage = storage.failures
+
+-- what it says as a storage: nothing of its bytes
+abbrev pub file_state : {F : Type 0} → FileStorage F → StorageState
+file_state storage = record {
+  tells = false;
+  byte_at = λ _. 0;
+  failures = file_failures storage;
+  mem_align = 1;
+  req_align = 1;
+}

@@ -1,0 +1,25 @@
+use Rattle.std.specs.Prelude.{ℕ, true, List}
+use Rattle.qcow2_base.specs.Storage.{StorageState, image_of}
+use Rattle.qcow2_base.specs.declared.storage.memory.MemStorage.{MemStorage}
+
+-- the bytes up to the end
+abbrev pub memory_bytes : MemStorage → List ℕ
+memory_bytes m = m.bytes.items
+
+-- both alignments
+abbrev pub alignment : MemStorage → ℕ
+alignment m = m.align
+
+-- how many calls have failed, modulo 2^64
+abbrev pub memory_failures : MemStorage → ℕ
+memory_failures m = m.failures
+
+-- what it says as a storage
+abbrev pub memory_state : MemStorage → StorageState
+memory_state m = record {
+  tells = true;
+  byte_at = image_of (memory_bytes m);
+  failures = memory_failures m;
+  mem_align = alignment m;
+  req_align = alignment m;
+}

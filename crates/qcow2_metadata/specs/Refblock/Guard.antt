@@ -1,0 +1,41 @@
+use Rattle.std.specs.Prelude.{◌≡◌, ◌==◌, MatchOption, Result, Ok, Err, ℕ, ◌+◌, ◌-◌, if◌then◌else◌, List, slice_index, slice_set, Option, Some, None}
+use Rattle.std.specs.Borrow.{MutBor}
+use Rattle.qcow2_metadata.specs.Refblock.{BlockState, greatest_counter, stepped_block}
+use Rattle.qcow2_metadata.specs.declared.refblock.guard.RefBlockWriteGuard.{RefBlockWriteGuard}
+use Rattle.qcow2_base.specs.declared.fault.Fault.{Fault}
+use Rattle.qcow2_base.specs.declared.fault.Fault.TheVariants.{CounterRange}
+
+-- the block that a guard has leave to change
+abbrev pub guarded_block : RefBlockWriteGuard → BlockState
+guarded_block guard = guard.block.now
+
+-- two guards of one block
+abbrev pub IsSameBlock : RefBlockWriteGuard → RefBlockWriteGuard → Type 0
+IsSameBlock old new = new.block.ghost_name ≡ old.block.ghost_name
+
+-- a guard that begins with a block as it is lent, and ends with what the block is afterwards
+pub record IsBlockGuard (lent : MutBor BlockState) (guard : RefBlockWriteGuard) : Type 0 where
+  pub block : guarded_block guard ≡ lent.now
+  pub same : guard.block.ghost_name ≡ lent.ghost_name
+
+-- a change of a counter: one more reference, or one less
+pub data CounterChange : Type 0 where
+  Increment : CounterChange
+  Decrement : CounterChange
+
+-- the counter after a change, where that can be made
+abbrev pub stepped : ℕ → CounterChange → ℕ → Option ℕ
+stepped order Increment counter = if counter == greatest_counter order then None else Some (counter + 1)
+stepped order Decrement counter = if counter == 0 then None else Some (counter - 1)
+
+-- the counters after a change of the one at an index, which became this if the change was made
+abbrev pub after_change : List ℕ → ℕ → Option ℕ → List ℕ
+after_change counters index None = counters
+after_change counters index (Some counter) = slice_set counters index counter
+
+-- a change of the counter at an index, which answered the number before it, or was refused and changed nothing
+pub record Steps (change : CounterChange) (index : ℕ) (answer : Result ℕ Fault) (old new : BlockState) : Type 0 where
+  pub answers : MatchOption (stepped old.refcount_order change (slice_index old.counters index))
+      (answer ≡ Err CounterRange) (λ counter. answer ≡ Ok (slice_index old.counters index))
+  pub steps : MatchOption (stepped old.refcount_order change (slice_index old.counters index))
+      (new ≡ old) (λ counter. new ≡ stepped_block old index counter)

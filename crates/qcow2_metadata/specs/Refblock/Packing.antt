@@ -1,0 +1,45 @@
+use Rattle.std.specs.Prelude.{ℕ, Bool, ◌+◌, ◌-◌, ◌*◌, ◌/◌, ◌%◌, ◌^◌, nat_le, if◌then◌else◌, List, [], ◌∷◌, map, take, drop, slice_index}
+use Rattle.std.specs.List.{range_with_len}
+use Rattle.qcow2_base.specs.Bits.{field}
+use Rattle.qcow2_base.specs.Storage.{Image, be}
+
+-- by the refcount order: how many bits a counter has
+abbrev pub width : ℕ → ℕ
+width order = 2 ^ order
+
+-- whether a counter is no wider than a byte
+abbrev pub is_narrow : ℕ → Bool
+is_narrow order = nat_le order 3
+
+-- how many counters a byte has, where they are no wider than it
+abbrev pub per_byte : ℕ → ℕ
+per_byte order = 2 ^ (3 - order)
+
+-- how many bytes a counter has, where it is wider than one
+abbrev pub bytes_each : ℕ → ℕ
+bytes_each order = 2 ^ (order - 3)
+
+-- counter i of the block that begins at an offset of an image: a digit of a byte, the first one the lowest, or
+-- a big-endian number of whole bytes
+abbrev pub counter_at : ℕ → Image → ℕ → ℕ → ℕ
+counter_at order image offset i =
+    if is_narrow order
+    then field (image (offset + i / per_byte order)) (width order * (i % per_byte order)) (width order)
+    else be image (offset + bytes_each order * i) (bytes_each order)
+
+-- the first n counters of the block that begins at an offset of an image
+abbrev pub counters_at : ℕ → Image → ℕ → ℕ → List ℕ
+counters_at order image offset n = map (counter_at order image offset) (range_with_len 0 n)
+
+-- the number with these digits to a base, the lowest digit first
+abbrev pub from_digits : ℕ → List ℕ → ℕ
+from_digits base [] = 0
+from_digits base (digit ∷ digits) = digit + base * from_digits base digits
+
+-- the bytes that counters take in an image: each is the sum of its counters, shifted to their places, or a part
+-- of one big-endian counter
+abbrev pub packed : ℕ → List ℕ → Image
+packed order counters j =
+    if is_narrow order
+    then from_digits (2 ^ width order) (take (per_byte order) (drop (per_byte order * j) counters))
+    else slice_index counters (j / bytes_each order) / 256 ^ (bytes_each order - 1 - j % bytes_each order) % 256

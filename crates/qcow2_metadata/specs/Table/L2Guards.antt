@@ -1,0 +1,142 @@
+use Rattle.std.specs.Prelude.{◌≡◌, ◌≢◌, ℕ, Bool, true, false, not, ◌&&◌, ◌==◌, ◌+◌, ◌-◌, ◌*◌, ◌%◌, ◌^◌, List, [], ◌∷◌, ◌++◌, length, slice_get, slice_index, slice_set, if◌then◌else◌, Option, Some, None, option_to_list, nat_le}
+use Rattle.std.specs.List.{sum_by}
+use Rattle.qcow2_metadata.specs.Entries.L2Entry.{IsAllocation, Meets, allocation, is_allocated, is_compressed, meets}
+use Rattle.qcow2_metadata.specs.Entries.{is_among}
+use Rattle.qcow2_metadata.specs.Header.{Geometry}
+use Rattle.qcow2_metadata.specs.Table.{TableState, edited}
+use Rattle.qcow2_metadata.specs.declared.entries.ClustersToFreeEntry.{ClustersToFreeEntry}
+
+-- a change of an L2 entry: to data in a host cluster, to zeros, which may keep its cluster, or to nothing
+pub data EntryEdit : Type 0 where
+  to_data : (cluster : ℕ) → EntryEdit
+  to_zeros : (keep : Bool) → EntryEdit
+  to_nothing : EntryEdit
+
+-- the entry of data in a host cluster that has no other reference
+abbrev pub data_entry : ℕ → ℕ → ℕ
+data_entry cb cluster = 2 ^ 63 + cluster * 2 ^ cb
+
+-- whether the entry has a host cluster that zeros can keep: it is a standard one that refers to a cluster
+abbrev pub has_host_cluster : Geometry → ℕ → Bool
+has_host_cluster g v = not (is_compressed v) && is_allocated g.external_data_file v
+
+-- the entry with the zero flag
+abbrev pub with_zero_flag : ℕ → ℕ
+with_zero_flag v = v - v % 2 + 1
+
+-- the entry after the change
+abbrev pub changed : Geometry → EntryEdit → ℕ → ℕ
+changed g (to_data cluster) v = data_entry g.cluster_bits cluster
+changed g (to_zeros keep) v = if keep && has_host_cluster g v then with_zero_flag v else 1
+changed g to_nothing v = 0
+
+-- whether these clusters are just the one
+abbrev pub is_just : ℕ → Option ClustersToFreeEntry → Bool
+is_just cluster None = false
+is_just cluster (Some clusters) = clusters.first.0 == cluster && clusters.count.0 == 1
+
+-- whether the entry goes on referring to all that it refers to
+abbrev pub keeps : Geometry → EntryEdit → ℕ → Bool
+keeps g (to_data cluster) v = is_just cluster (allocation g v)
+keeps g (to_zeros keep) v = keep && has_host_cluster g v
+keeps g to_nothing v = false
+
+-- the host clusters that the change hands back: all that the entry referred to, unless it goes on doing so
+abbrev pub dropped : Geometry → EntryEdit → ℕ → Option ClustersToFreeEntry
+dropped g edit v = if keeps g edit v then None else allocation g v
+
+-- the host cluster that gains a reference, if one does
+abbrev pub gained : Geometry → EntryEdit → ℕ → Option ℕ
+gained g (to_data cluster) v = if keeps g (to_data cluster) v then None else Some cluster
+gained g (to_zeros keep) v = None
+gained g to_nothing v = None
+
+-- one, where the test holds
+abbrev pub one_if : Bool → ℕ
+one_if test = if test then 1 else 0
+
+-- how many of the entries refer to a cluster
+abbrev pub references : Geometry → List ℕ → ℕ → ℕ
+references g numbers cluster = sum_by (λ v. one_if (meets g v cluster)) numbers
+
+-- how many references to a cluster are handed back
+abbrev pub handed_back : List ClustersToFreeEntry → ℕ → ℕ
+handed_back freed cluster = sum_by (λ clusters. one_if (is_among clusters cluster)) freed
+
+-- how many references a cluster gains
+abbrev pub times_gained : List ℕ → ℕ → ℕ
+times_gained clusters cluster = sum_by (λ c. one_if (c == cluster)) clusters
+
+-- a change of the entry at an index
+pub record TableEdit : Type 0 where
+  pub index : ℕ
+  pub edit : EntryEdit
+
+-- what edits leave: the table's numbers, and in order what was handed back and what gained a reference
+pub record RunEnd : Type 0 where
+  pub numbers : List ℕ
+  pub freed : List ClustersToFreeEntry
+  pub gained : List ℕ
+
+-- the numbers after one edit
+abbrev pub after_edit : Geometry → TableEdit → List ℕ → List ℕ
+after_edit g e numbers = slice_set numbers e.index (changed g e.edit (slice_index numbers e.index))
+
+-- what edits leave of a table, one after the other
+abbrev pub run_of : Geometry → List TableEdit → List ℕ → RunEnd
+run_of g [] numbers = record { numbers = numbers; freed = []; gained = [] }
+run_of g (e ∷ edits) numbers =
+    let v = slice_index numbers e.index in
+    let rest = run_of g edits (after_edit g e numbers) in
+    record {
+      numbers = rest.numbers;
+      freed = option_to_list (dropped g e.edit v) ++ rest.freed;
+      gained = option_to_list (gained g e.edit v) ++ rest.gained;
+    }
+
+-- one edit of a table: the entry at its index is the changed one, and all others are as they were
+pub record IsEdit (g : Geometry) (e : TableEdit) (old new : List ℕ) : Type 0 where
+  pub entry : slice_index new e.index ≡ changed g e.edit (slice_index old e.index)
+  pub others : (i : ℕ) → i ≢ e.index → slice_index new i ≡ slice_index old i
+  pub entries : length new ≡ length old
+
+-- a run of edits in steps from the numbers before to those after: each edit leads from one step to the next
+pub record IsRun (g : Geometry) (edits : List TableEdit) (before : List ℕ) (steps : List (List ℕ))
+    (after : List ℕ) : Type 0 where
+  pub count : length steps ≡ length edits + 1
+  pub first : slice_get steps 0 ≡ Some before
+  pub last : slice_get steps (length edits) ≡ Some after
+  pub each : (i : ℕ) (e : TableEdit) (old new : List ℕ) → slice_get edits i ≡ Some e →
+      slice_get steps i ≡ Some old → slice_get steps (i + 1) ≡ Some new → IsEdit g e old new
+
+-- some run of the edits leads from the numbers before to those after
+abbrev pub RunsTo : Geometry → List TableEdit → List ℕ → List ℕ → Type 0
+RunsTo g edits before after = (steps : List (List ℕ)) × IsRun g edits before steps after
+
+-- whether an entry can hold a host cluster's offset, and it isn't the header's, but in an external data file
+abbrev pub is_mappable : Geometry → ℕ → Bool
+is_mappable g cluster =
+    nat_le (cluster * 2 ^ g.cluster_bits) (2 ^ 56 - 512)
+    && (if g.external_data_file then true else not (cluster == 0))
+
+-- whether a change can be made: the host cluster that it maps to, if it does, can be mapped to
+abbrev pub can_be_made : Geometry → EntryEdit → Bool
+can_be_made g (to_data cluster) = is_mappable g cluster
+can_be_made g (to_zeros keep) = true
+can_be_made g to_nothing = true
+
+-- whether an edit can be made of a table with so many entries
+abbrev pub fits_table : Geometry → ℕ → TableEdit → Bool
+fits_table g entries e = nat_le (e.index + 1) entries && can_be_made g e.edit
+
+-- a change of the entry at an index of a table, which handed these clusters back: all that the entry referred to,
+-- unless it goes on doing so
+pub record MakesEdit (edit : EntryEdit) (index : ℕ) (freed : Option ClustersToFreeEntry) (old new : TableState) : Type 0 where
+  pub table : new ≡ edited old index (changed old.geometry edit (slice_index old.numbers index))
+  pub freed_is : freed ≡ dropped old.geometry edit (slice_index old.numbers index)
+  pub met : keeps old.geometry edit (slice_index old.numbers index) ≡ false
+      → IsAllocation old.geometry (slice_index old.numbers index) freed
+
+-- the entry refers to this cluster and to no other
+abbrev pub MeetsJust : Geometry → ℕ → ℕ → Type 0
+MeetsJust g v cluster = Meets g v cluster × ((c : ℕ) → Meets g v c → c ≡ cluster)

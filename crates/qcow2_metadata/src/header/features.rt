@@ -1,0 +1,193 @@
+//! Features: optional properties of an image. Each has a bit in one of three fields of the header.
+
+ghost use Rattle.std.specs.Prelude.{◌≡◌, ◌^◌};
+ghost use Rattle.qcow2_metadata.specs.declared.header.features.FeatureType.TheVariants.{Autoclear, Compatible, Incompatible};
+ghost use Rattle.qcow2_metadata.specs.Header.Features.{HasNumber, autoclear_bit, compatible_bit, feature_type_number, incompatible_bit};
+
+use thiserror::Error;
+
+/// A number that stands for no value of the type.
+#[derive(Clone, Copy, Debug, PartialEq, Eq, Error)]
+#[error("the number stands for no value of this type")]
+pub struct UnknownValue;
+
+/// The field of the header that a feature's bit belongs to, by its number in feature name tables.
+#[derive(Clone, Copy, Debug, PartialEq, Eq, PartialOrd, Ord)]
+pub enum FeatureType {
+    /// An image with such a feature can only be opened by who knows it.
+    Incompatible = 0,
+    /// Such a feature may be left aside.
+    Compatible = 1,
+    /// Who doesn't know such a feature clears its bit before writing to the image.
+    Autoclear = 2,
+}
+
+impl TryFrom<u8> for FeatureType {
+    type Error = UnknownValue;
+
+    ghost try_from_gives = { λ number result.
+        HasNumber feature_type_number result number };
+
+    fn try_from(number: u8) -> Result<FeatureType, UnknownValue> {
+        match number {
+            0 => Ok(FeatureType::Incompatible),
+            1 => Ok(FeatureType::Compatible),
+            2 => Ok(FeatureType::Autoclear),
+            _ => Err(UnknownValue),
+        }
+    }
+}
+
+/// The field's number.
+impl From<FeatureType> for u8 {
+    ghost from_gives = { λ value number. number ≡ feature_type_number value };
+
+    fn from(value: FeatureType) -> u8 {
+        value as u8
+    }
+}
+
+/// Incompatible features, by their bits' numbers.
+#[derive(Clone, Copy, Debug, PartialEq, Eq)]
+pub enum IncompatibleFeatures {
+    /// Refcounts may be wrong.
+    Dirty = 1,
+    /// Any structure may be wrong.
+    Corrupt = 2,
+    /// Guest data lies in another file.
+    ExternalDataFile = 4,
+    /// Compressed clusters aren't compressed in the default way.
+    CompressionType = 8,
+    /// Entries of L2 tables have 16 bytes.
+    ExtendedL2Entries = 16,
+}
+
+impl TryFrom<u64> for IncompatibleFeatures {
+    type Error = UnknownValue;
+
+    ghost try_from_gives = { λ number result.
+        HasNumber (λ feature. 2 ^ incompatible_bit feature) result number };
+
+    fn try_from(number: u64) -> Result<IncompatibleFeatures, UnknownValue> {
+        match number {
+            1 => Ok(IncompatibleFeatures::Dirty),
+            2 => Ok(IncompatibleFeatures::Corrupt),
+            4 => Ok(IncompatibleFeatures::ExternalDataFile),
+            8 => Ok(IncompatibleFeatures::CompressionType),
+            16 => Ok(IncompatibleFeatures::ExtendedL2Entries),
+            _ => Err(UnknownValue),
+        }
+    }
+}
+
+/// The number of the feature's bit.
+impl From<IncompatibleFeatures> for u64 {
+    ghost from_gives = { λ value number. number ≡ 2 ^ incompatible_bit value };
+
+    fn from(value: IncompatibleFeatures) -> u64 {
+        value as u64
+    }
+}
+
+/// The feature's key in feature name tables.
+impl From<IncompatibleFeatures> for (FeatureType, u8) {
+    ghost from_gives = { λ feature key. key ≡ (Incompatible, incompatible_bit feature) };
+
+    fn from(feature: IncompatibleFeatures) -> (FeatureType, u8) {
+        let bit = match feature {
+            IncompatibleFeatures::Dirty => 0,
+            IncompatibleFeatures::Corrupt => 1,
+            IncompatibleFeatures::ExternalDataFile => 2,
+            IncompatibleFeatures::CompressionType => 3,
+            IncompatibleFeatures::ExtendedL2Entries => 4,
+        };
+        (FeatureType::Incompatible, bit)
+    }
+}
+
+/// Compatible features, by their bits' numbers.
+#[derive(Clone, Copy, Debug, PartialEq, Eq)]
+pub enum CompatibleFeatures {
+    /// Refcounts may be written late.
+    LazyRefcounts = 1,
+}
+
+impl TryFrom<u64> for CompatibleFeatures {
+    type Error = UnknownValue;
+
+    ghost try_from_gives = { λ number result.
+        HasNumber (λ feature. 2 ^ compatible_bit feature) result number };
+
+    fn try_from(number: u64) -> Result<CompatibleFeatures, UnknownValue> {
+        match number {
+            1 => Ok(CompatibleFeatures::LazyRefcounts),
+            _ => Err(UnknownValue),
+        }
+    }
+}
+
+/// The number of the feature's bit.
+impl From<CompatibleFeatures> for u64 {
+    ghost from_gives = { λ value number. number ≡ 2 ^ compatible_bit value };
+
+    fn from(value: CompatibleFeatures) -> u64 {
+        value as u64
+    }
+}
+
+/// The feature's key in feature name tables.
+impl From<CompatibleFeatures> for (FeatureType, u8) {
+    ghost from_gives = { λ feature key. key ≡ (Compatible, compatible_bit feature) };
+
+    fn from(feature: CompatibleFeatures) -> (FeatureType, u8) {
+        match feature {
+            CompatibleFeatures::LazyRefcounts => (FeatureType::Compatible, 0),
+        }
+    }
+}
+
+/// Autoclear features, by their bits' numbers.
+#[derive(Clone, Copy, Debug, PartialEq, Eq)]
+pub enum AutoclearFeatures {
+    /// The image's bitmaps are consistent.
+    Bitmaps = 1,
+    /// The external data file is a raw image of the guest's disk.
+    RawExternalData = 2,
+}
+
+impl TryFrom<u64> for AutoclearFeatures {
+    type Error = UnknownValue;
+
+    ghost try_from_gives = { λ number result.
+        HasNumber (λ feature. 2 ^ autoclear_bit feature) result number };
+
+    fn try_from(number: u64) -> Result<AutoclearFeatures, UnknownValue> {
+        match number {
+            1 => Ok(AutoclearFeatures::Bitmaps),
+            2 => Ok(AutoclearFeatures::RawExternalData),
+            _ => Err(UnknownValue),
+        }
+    }
+}
+
+/// The number of the feature's bit.
+impl From<AutoclearFeatures> for u64 {
+    ghost from_gives = { λ value number. number ≡ 2 ^ autoclear_bit value };
+
+    fn from(value: AutoclearFeatures) -> u64 {
+        value as u64
+    }
+}
+
+/// The feature's key in feature name tables.
+impl From<AutoclearFeatures> for (FeatureType, u8) {
+    ghost from_gives = { λ feature key. key ≡ (Autoclear, autoclear_bit feature) };
+
+    fn from(feature: AutoclearFeatures) -> (FeatureType, u8) {
+        let bit = match feature {
+            AutoclearFeatures::Bitmaps => 0,
+            AutoclearFeatures::RawExternalData => 1,
+        };
+        (FeatureType::Autoclear, bit)
+    }
+}

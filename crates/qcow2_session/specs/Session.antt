@@ -1,0 +1,6 @@
+pub mod Edits
+pub mod Images
+pub mod Lookups
+pub mod Settled
+pub mod Steps
+pub mod WholeImage

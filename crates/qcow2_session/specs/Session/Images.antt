@@ -1,0 +1,95 @@
+use Rattle.std.specs.Prelude.{◌≡◌, ◌⊎◌, ℕ, ◌*◌, ◌^◌, false, IfErr, IfSome, IsErrOf, IsOkAnd, IsTrue, List, Option, Some, option_map, Result, Ok, Err}
+use Rattle.qcow2_base.specs.Storage.{Image, StorageState}
+use Rattle.qcow2_base.specs.declared.fault.Fault.{Fault}
+use Rattle.qcow2_base.specs.declared.fault.Fault.TheVariants.{BadEdit, BadStep, NoMemory, Storage}
+use Rattle.qcow2_base.specs.declared.types.HostCluster.{HostCluster}
+use Rattle.qcow2_metadata.specs.Results.{and_then, result_map}
+use Rattle.qcow2_metadata.specs.Table.L2Guards.{RunEnd}
+use Rattle.qcow2_metadata.specs.Header.{HeaderRecord, geometry_of}
+use Rattle.qcow2_metadata.specs.Refblock.{BlockState, IsTornBlock, block_counters, block_fault, block_of, block_offset, loaded_block}
+use Rattle.qcow2_metadata.specs.Table.{IsLoadFault, IsTorn, TableState, l2_table_at, loaded_l2_table, most_l2_entries, numbers_at, place_fault}
+use Rattle.qcow2_metadata.specs.Header.Grammar.{header_of}
+use Rattle.qcow2_session.specs.Session.WholeImage.{BalancesImage, ChangesOwnLookups, AvoidsHeaderAndL1Table, IsL2Table, IsSoundImage, l2_bytes}
+use Rattle.qcow2_session.specs.Session.Edits.{Balances, first_unfit_edit, cluster_numbers, edits_or_refusal}
+use Rattle.qcow2_session.specs.Session.Steps.{Counts, StepsEnd, first_unfit_step, steps_or_refusal}
+use Rattle.qcow2_session.specs.declared.session.edits.Edit.{Edit}
+use Rattle.qcow2_session.specs.declared.session.edits.Outcome.{Outcome}
+use Rattle.qcow2_session.specs.declared.session.steps.Step.{Step}
+use Rattle.qcow2_session.specs.declared.session.steps.StepReply.{StepReply}
+
+-- the L2 table of these numbers, as it is loaded from a cluster of an image with this header
+abbrev pub table_from : HeaderRecord → HostCluster → List ℕ → TableState
+table_from header cluster numbers = record { numbers = numbers; cluster = Some cluster; modified = false; geometry = geometry_of header }
+
+-- the L2 table that stands at a cluster of an image
+abbrev pub table_in : HeaderRecord → HostCluster → Image → TableState
+table_in header cluster image = table_from header cluster (numbers_at (l2_table_at (geometry_of header) cluster) image)
+
+-- what edits leave of the L2 table that begins with a cluster of an image, or the refusal: that of the load, else
+-- that of the first edit that can't be made
+abbrev pub edits_end : HeaderRecord → HostCluster → List Edit → Image → Result RunEnd Fault
+edits_end header cluster edits image = and_then (loaded_l2_table (geometry_of header) cluster image)
+    (λ numbers. edits_or_refusal (table_from header cluster numbers) edits)
+
+-- edits of an image with this outcome: what loads from it then is the table that they left, and no reference is lost.
+-- Where the image's own header has the same geometry: a table that neither it nor the L1 table lies in changes the
+-- lookups of its own offsets alone, and where no two tables share a byte, no reference of the whole image is lost
+pub record EditsImage (header : HeaderRecord) (cluster : HostCluster) (edits : List Edit) (outcome : Outcome) (old new : Image) : Type 0 where
+  pub decoded : loaded_l2_table (geometry_of header) cluster new
+      ≡ result_map (λ (end : RunEnd). end.numbers) (edits_end header cluster edits old)
+  pub balance : Balances outcome (table_in header cluster old) (table_in header cluster new)
+  pub lookups : (own : HeaderRecord) → header_of old ≡ Ok own → geometry_of own ≡ geometry_of header →
+      AvoidsHeaderAndL1Table own (l2_bytes (geometry_of own) cluster) → ChangesOwnLookups own cluster old new
+  pub whole : (own : HeaderRecord) (l1 : List ℕ) → IsSoundImage old own l1 → geometry_of own ≡ geometry_of header →
+      IsL2Table own l1 cluster → IsSoundImage new own l1
+      × BalancesImage (geometry_of own) l1 outcome.freed.items (cluster_numbers outcome.gained.items) old new
+
+-- why no L2 table can begin with a cluster
+abbrev pub table_fault : HeaderRecord → HostCluster → Option Fault
+table_fault header cluster = place_fault most_l2_entries (l2_table_at (geometry_of header) cluster)
+
+-- edits of an image that ended in this answer, whatever its storage tells: the fault of the table's place comes before
+-- all others, which are those of the load, and that of the first edit that can't be made. After the storage fault the
+-- image is as before, or the table that the edits leave is written up to a piece
+pub record RefusesEdits {T : Type 0} (header : HeaderRecord) (cluster : HostCluster) (edits : List Edit) (answer : Result T Fault) (old new : StorageState) : Type 0 where
+  pub place : IfSome (table_fault header cluster) (λ fault. answer ≡ Err fault)
+  pub faults : IfErr answer (λ fault. IsLoadFault (table_fault header cluster) fault
+      ⊎ (option_map BadEdit (first_unfit_edit (table_in header cluster old.byte_at) edits) ≡ Some fault))
+  pub torn : IsTrue old.tells → IsErrOf answer Storage → (new.byte_at ≡ old.byte_at)
+      ⊎ IsOkAnd (edits_end header cluster edits old.byte_at) (λ end.
+      IsTorn end.numbers (cluster.0 * 2 ^ header.v2.cluster_bits) old.byte_at new.byte_at)
+
+-- the block of these counters, as it is loaded from a cluster of an image with this header
+abbrev pub block_from : HeaderRecord → HostCluster → List ℕ → BlockState
+block_from header cluster counters = block_of header counters (Some cluster) false
+
+-- the block that stands at a cluster of an image
+abbrev pub block_in : HeaderRecord → HostCluster → Image → BlockState
+block_in header cluster image = block_from header cluster
+    (block_counters header.v2.cluster_bits header.base.refcount_order cluster image)
+
+-- what steps leave of the block that begins with a cluster of an image, or the refusal: that of the load, else that of
+-- the first step whose index is past the block's end
+abbrev pub steps_end : HeaderRecord → HostCluster → List Step → Image → Result StepsEnd Fault
+steps_end header cluster steps image = and_then (loaded_block header cluster image)
+    (λ counters. steps_or_refusal (block_from header cluster counters) steps)
+
+-- steps of an image that these replies came of: what loads from it then is the block that they left, and each counter
+-- is as before, plus the increments that were made, minus the decrements that were
+pub record StepsImage (header : HeaderRecord) (cluster : HostCluster) (steps : List Step) (replies : List StepReply) (old new : Image) : Type 0 where
+  pub decoded : loaded_block header cluster new
+      ≡ result_map (λ (end : StepsEnd). end.counters) (steps_end header cluster steps old)
+  pub counts : Counts steps replies (block_in header cluster old) (block_in header cluster new)
+
+-- steps of an image that ended in this answer, whatever its storage tells: the fault of the block's place comes before
+-- all others, which are those of the load, and that of the first step whose index is past the block's end. After the
+-- storage fault the image is as before, or the block that the steps leave is written up to a piece
+pub record RefusesSteps {T : Type 0} (header : HeaderRecord) (cluster : HostCluster) (steps : List Step) (answer : Result T Fault) (old new : StorageState) : Type 0 where
+  pub place : IfSome (block_fault header.v2.cluster_bits cluster) (λ fault. answer ≡ Err fault)
+  pub faults : IfErr answer (λ fault.
+      (block_fault header.v2.cluster_bits cluster ≡ Some fault) ⊎ (fault ≡ NoMemory) ⊎ (fault ≡ Storage)
+      ⊎ (option_map BadStep (first_unfit_step (block_in header cluster old.byte_at) steps) ≡ Some fault))
+  pub torn : IsTrue old.tells → IsErrOf answer Storage → (new.byte_at ≡ old.byte_at)
+      ⊎ IsOkAnd (steps_end header cluster steps old.byte_at) (λ end.
+      IsTornBlock (block_from header cluster end.counters) (block_offset header.v2.cluster_bits cluster)
+      old.byte_at new.byte_at)

@@ -1,0 +1,55 @@
+use Rattle.std.specs.Prelude.{◌≡◌, ◌⊎◌, ◌≤◌, ℕ, ◌-◌, ◌*◌, ◌/◌, ◌%◌, ◌^◌, List, slice_index, Option, Some, None, option_map, Result, Ok}
+use Rattle.qcow2_base.specs.Fault.{fault_number}
+use Rattle.qcow2_base.specs.Storage.{Image}
+use Rattle.qcow2_base.specs.declared.fault.Fault.{Fault}
+use Rattle.qcow2_base.specs.declared.fault.Fault.TheVariants.{NoMemory, Storage}
+use Rattle.qcow2_base.specs.declared.types.HostCluster.{HostCluster}
+use Rattle.qcow2_base.specs.declared.types.HostOffset.{HostOffset}
+use Rattle.qcow2_metadata.specs.Results.{and_then, result_map}
+use Rattle.qcow2_metadata.specs.Entries.L2Mapping.{Mapping, mapping, backing}
+use Rattle.qcow2_metadata.specs.Entries.{offset_field, offset_unless_zero}
+use Rattle.qcow2_metadata.specs.Header.{Geometry, HeaderRecord, geometry_of}
+use Rattle.qcow2_metadata.specs.Header.Grammar.{header_of}
+use Rattle.qcow2_metadata.specs.Table.{TablePlace, loaded_l1_table, loaded_l2_table, table_at}
+
+-- the place of an image's L1 table, by its header
+abbrev pub l1_place : HeaderRecord → TablePlace
+l1_place header =
+    table_at header (record { 0 = header.v2.l1_table_offset / 2 ^ header.v2.cluster_bits }) header.v2.l1_size
+
+-- the number of the L1 entry for a guest cluster; past the table's end, the entry 0
+abbrev pub l1_number : ℕ → List ℕ → ℕ → ℕ
+l1_number cb l1 guest_cluster = slice_index l1 (guest_cluster / 2 ^ (cb - 3))
+
+-- the cluster that the L2 table of an L1 entry begins with, if there is one
+abbrev pub named_cluster : ℕ → ℕ → Option HostCluster
+named_cluster cb v = option_map (λ (offset : HostOffset). record { 0 = offset.0 / 2 ^ cb }) (offset_unless_zero (offset_field v))
+
+-- and that of a guest cluster
+abbrev pub l2_cluster : ℕ → List ℕ → ℕ → Option HostCluster
+l2_cluster cb l1 guest_cluster = named_cluster cb (l1_number cb l1 guest_cluster)
+
+-- what a guest cluster reads as by the L2 table that begins with a cluster, or where there is none
+abbrev pub mapping_by : Geometry → Option HostCluster → ℕ → Image → Result Mapping Fault
+mapping_by g None guest_cluster image = Ok (backing (guest_cluster * 2 ^ g.cluster_bits))
+mapping_by g (Some cluster) guest_cluster image = result_map
+    (λ numbers. mapping g guest_cluster (slice_index numbers (guest_cluster % 2 ^ (g.cluster_bits - 3))))
+    (loaded_l2_table g cluster image)
+
+-- what the cluster of a guest offset reads as, in an image with this L1 table
+abbrev pub guest_mapping : Geometry → List ℕ → ℕ → Image → Result Mapping Fault
+guest_mapping g l1 offset image =
+    let guest_cluster = offset / 2 ^ g.cluster_bits in
+    mapping_by g (l2_cluster g.cluster_bits l1 guest_cluster) guest_cluster image
+
+-- what the cluster of a guest offset reads as, by an image's bytes alone
+abbrev pub image_mapping : ℕ → Image → Result Mapping Fault
+image_mapping offset image =
+    and_then (header_of image) (λ header.
+    and_then (loaded_l1_table (l1_place header) image) (λ l1.
+    guest_mapping (geometry_of header) l1 offset image))
+
+-- the faults of a lookup by an image alone, whatever the storage tells: those of a header and of a table, want of
+-- memory, a failed storage
+abbrev pub IsLookupFault : Fault → Type 0
+IsLookupFault fault = (fault_number fault ≤ 21) ⊎ (fault ≡ NoMemory) ⊎ (fault ≡ Storage)

@@ -1,0 +1,102 @@
+use Rattle.std.specs.Prelude.{◌≡◌, ◌≢◌, ℕ, ◌+◌, ◌*◌, ◌/◌, ◌^◌, ◌<◌, ◌≤◌, List, ◌∷◌, map, slice_get, Option, Some, Result, Ok}
+use Rattle.std.specs.List.{filter_map, sum_by}
+use Rattle.qcow2_base.specs.Storage.{Image, SameOutside}
+use Rattle.qcow2_base.specs.declared.fault.Fault.{Fault}
+use Rattle.qcow2_base.specs.declared.types.HostCluster.{HostCluster}
+use Rattle.qcow2_metadata.specs.Results.{and_then}
+use Rattle.qcow2_metadata.specs.Table.L2Guards.{handed_back, references, times_gained}
+use Rattle.qcow2_metadata.specs.Entries.L2Entry.{ByteRange}
+use Rattle.qcow2_metadata.specs.Entries.L2Mapping.{Mapping}
+use Rattle.qcow2_metadata.specs.Header.{Geometry, HeaderRecord, geometry_of}
+use Rattle.qcow2_metadata.specs.Header.Grammar.{header_of}
+use Rattle.qcow2_session.specs.Session.Lookups.{image_mapping, l1_place, l2_cluster, mapping_by, named_cluster}
+use Rattle.qcow2_metadata.specs.Table.{TablePlace, l2_table_at, loaded_l1_table, numbers_at, offset_of}
+use Rattle.qcow2_metadata.specs.declared.entries.ClustersToFreeEntry.{ClustersToFreeEntry}
+
+-- the byte at an offset is one of the range's
+abbrev pub IsWithin : ByteRange → ℕ → Type 0
+IsWithin range o = (range.start ≤ o) × (o < range.end)
+
+-- no byte lies in both ranges
+abbrev pub ShareNoByte : ByteRange → ByteRange → Type 0
+ShareNoByte one other = (o : ℕ) → IsWithin one o → IsWithin other o → ⊥
+
+-- no two of the ranges share a byte
+abbrev pub AreApart : List ByteRange → Type 0
+AreApart ranges = (i j : ℕ) (one other : ByteRange) → i ≢ j →
+    slice_get ranges i ≡ Some one → slice_get ranges j ≡ Some other → ShareNoByte one other
+
+-- the bytes of an image's first cluster
+abbrev pub first_cluster_bytes : HeaderRecord → ByteRange
+first_cluster_bytes header = record { start = 0; end = 2 ^ header.v2.cluster_bits }
+
+-- the bytes of the table at a place
+abbrev pub table_bytes : TablePlace → ByteRange
+table_bytes place = record { start = offset_of place; end = offset_of place + 8 * place.entries }
+
+-- the bytes of the L2 table that begins with a cluster
+abbrev pub l2_bytes : Geometry → HostCluster → ByteRange
+l2_bytes g cluster = table_bytes (l2_table_at g cluster)
+
+-- an image begins with this header and has this L1 table
+pub record HasL1Table (image : Image) (header : HeaderRecord) (l1 : List ℕ) : Type 0 where
+  pub begins : header_of image ≡ Ok header
+  pub l1_table : loaded_l1_table (l1_place header) image ≡ Ok l1
+
+-- bytes that are none of the first cluster's, and none of the L1 table's
+pub record AvoidsHeaderAndL1Table (header : HeaderRecord) (bytes : ByteRange) : Type 0 where
+  pub first_cluster : ShareNoByte (first_cluster_bytes header) bytes
+  pub l1_table : ShareNoByte (table_bytes (l1_place header)) bytes
+
+-- two images agree but in an L2 table's cluster, and that is neither the header's nor the L1 table's
+pub record ChangesL2Table (header : HeaderRecord) (cluster : HostCluster) (old new : Image) : Type 0 where
+  pub same : SameOutside (l2_bytes (geometry_of header) cluster).start (2 ^ header.v2.cluster_bits) old new
+  pub bits : 9 ≤ header.v2.cluster_bits
+  pub avoids : AvoidsHeaderAndL1Table header (l2_bytes (geometry_of header) cluster)
+
+-- the cluster that the L2 table of a guest offset begins with in an image, if there is one
+abbrev pub l2_cluster_in : ℕ → Image → Result (Option HostCluster) Fault
+l2_cluster_in offset image =
+    and_then (header_of image) (λ header.
+    and_then (loaded_l1_table (l1_place header) image) (λ l1.
+    let cb = header.v2.cluster_bits in Ok (l2_cluster cb l1 (offset / 2 ^ cb))))
+
+-- what lookups answer after a change of the L2 table that begins with a cluster: an offset whose own L2 table shares no
+-- byte with it reads as before, and one whose L2 table it is reads as that table says now
+pub record ChangesOwnLookups (header : HeaderRecord) (cluster : HostCluster) (old new : Image) : Type 0 where
+  pub others : (offset : ℕ) →
+      ((other : HostCluster) → l2_cluster_in offset old ≡ Ok (Some other) →
+      ShareNoByte (l2_bytes (geometry_of header) other) (l2_bytes (geometry_of header) cluster)) →
+      image_mapping offset new ≡ image_mapping offset old
+  pub own : (offset : ℕ) → l2_cluster_in offset old ≡ Ok (Some cluster) →
+      image_mapping offset new
+      ≡ mapping_by (geometry_of header) (Some cluster) (offset / 2 ^ header.v2.cluster_bits) new
+
+-- the clusters that the L2 tables of an L1 table begin with, in its order
+abbrev pub l2_clusters : ℕ → List ℕ → List HostCluster
+l2_clusters cb l1 = filter_map (named_cluster cb) l1
+
+-- an L2 table of the L1 table begins with the cluster
+abbrev pub IsL2Table : HeaderRecord → List ℕ → HostCluster → Type 0
+IsL2Table header l1 cluster = (k : ℕ) × (slice_get (l2_clusters header.v2.cluster_bits l1) k ≡ Some cluster)
+
+-- how many entries of all of an image's L2 tables refer to a cluster
+abbrev pub image_references : Geometry → List ℕ → Image → ℕ → ℕ
+image_references g l1 image c =
+    sum_by (λ table. references g (numbers_at (l2_table_at g table) image) c) (l2_clusters g.cluster_bits l1)
+
+-- the bytes of the first cluster, of the L1 table and of each L2 table
+abbrev pub bytes_of_tables : HeaderRecord → List ℕ → List ByteRange
+bytes_of_tables header l1 = first_cluster_bytes header ∷ table_bytes (l1_place header)
+    ∷ map (l2_bytes (geometry_of header)) (l2_clusters header.v2.cluster_bits l1)
+
+-- an image with this header and this L1 table in which each guest offset can be looked up, and no two tables share a byte
+pub record IsSoundImage (image : Image) (header : HeaderRecord) (l1 : List ℕ) : Type 0 where
+  pub tables : HasL1Table image header l1
+  pub readable : (offset : ℕ) → (found : Mapping) × (image_mapping offset image ≡ Ok found)
+  pub apart : AreApart (bytes_of_tables header l1)
+
+-- references in a whole image: those after a change and those handed back are those before and those gained
+abbrev pub BalancesImage : Geometry → List ℕ → List ClustersToFreeEntry → List ℕ → Image → Image → Type 0
+BalancesImage g l1 freed gained old new = (c : ℕ) →
+    image_references g l1 new c + handed_back freed c ≡ image_references g l1 old c + times_gained gained c
