@@ -11,6 +11,7 @@ pub mod ChangingLemmas
 pub mod CommandsLemmas
 pub mod EditsLemmas
 pub mod FirstLemmas
+pub mod HexLemmas
 pub mod ImagesLemmas
 pub mod LinesLemmas
 pub mod ListingLemmas

@@ -1,19 +1,53 @@
 //! The lines that several commands print: what a mapping is, and the line of an entry.
 
-ghost use Rattle.std.specs.Prelude.{◌≡◌, IfSome, OnOk, IsOkUnless};
+ghost use Rattle.std.specs.Prelude.{◌≡◌, ◌+◌, ◌≤◌, ◌++◌, ℕ, List, length, IsOkUnless, OnOk};
+ghost use Rattle.std.specs.Fmt.{decimal};
 ghost use Rattle.std.specs.Io.KnownBytes.{Appends};
 ghost use Rattle.qcow2_base.specs.Types.{IsClusterBits};
 ghost use Rattle.qcow2_metadata.specs.Entries.L2Mapping.{IsPlaced, meaning};
-ghost use Rattle.qcow2_session.specs.Lines.{copied_text, entry_line, mapping_text};
+ghost use Rattle.qcow2_session.specs.Lines.{copied_text, entry_line, mapping_text, offset_text};
 
-use qcow2_base::{Fault, HostOffset};
+mod line_buffer;
+
+pub(crate) use line_buffer::LineBuffer;
+use qcow2_base::{Fault, GuestOffset};
 use qcow2_metadata::L2Mapping;
-use std::fmt::Display;
 use std::io::Write;
+
+/// What stands before the mapping of an entry.
+pub(crate) trait Label: Copy {
+    /// How it is printed.
+    ghost text: { Self → List ℕ };
+
+    /// Puts it in front of a line.
+    fn prepend_to(self, line: &mut LineBuffer)
+        requires { length line.old ≤ 200 }
+        ensures { line.new ≡ text self ++ line.old };
+}
+
+/// The index of an entry, in decimal.
+impl Label for usize {
+    ghost text = { decimal };
+
+    #[inline]
+    fn prepend_to(self, line: &mut LineBuffer) {
+        line.prepend_decimal(self as u64);
+    }
+}
+
+/// The guest offset of an entry's cluster, in hexadecimal.
+impl Label for GuestOffset {
+    ghost text = { λ offset. offset_text offset.0 };
+
+    #[inline]
+    fn prepend_to(self, line: &mut LineBuffer) {
+        line.prepend_offset(self.0);
+    }
+}
 
 /// Prints the line of an entry: a label, a space, and its mapping. An entry that is left to the
 /// backing file has no line.
-pub(crate) fn print_entry<L: Display + Drop, O: Write>(
+pub(crate) fn print_entry<L: Label, O: Write>(
     label: L,
     mapping: &L2Mapping,
     cluster_bits: u32,
@@ -22,16 +56,18 @@ pub(crate) fn print_entry<L: Display + Drop, O: Write>(
     requires bits { IsClusterBits cluster_bits }
     requires placed { IsPlaced cluster_bits mapping.now }
     ensures fault { IsOkUnless result Fault.Storage }
-    ensures line { OnOk result (IfSome (L.output label) (λ text.
-        Appends (O.contents out.old) (O.contents out.new)
-        (entry_line cluster_bits text (meaning mapping.now)))) }
+    ensures line { OnOk result (Appends (O.contents out.old) (O.contents out.new)
+        (entry_line cluster_bits (L.text label) (meaning mapping.now))) }
 {
     if let L2Mapping::Backing { .. } = mapping {
         return Ok(());
     }
-    write!(out, "{label} ").map_err(|_| Fault::Storage)?;
-    print_mapping(mapping, cluster_bits, out)?;
-    writeln!(out).map_err(|_| Fault::Storage)
+    let mut line = LineBuffer::new();
+    line.prepend("\n");
+    prepend_mapping(&mut line, mapping, cluster_bits);
+    line.prepend(" ");
+    label.prepend_to(&mut line);
+    out.write_all(line.as_bytes()).map_err(|_| Fault::Storage)
 }
 
 /// Prints a mapping: what it is, its offset, and its length or whether it is copied.
@@ -46,40 +82,63 @@ pub(crate) fn print_mapping<O: Write>(
     ensures text { OnOk result (Appends (O.contents out.old) (O.contents out.new)
         (mapping_text cluster_bits (meaning mapping.now))) }
 {
-    let written = match mapping {
+    let mut line = LineBuffer::new();
+    prepend_mapping(&mut line, mapping, cluster_bits);
+    out.write_all(line.as_bytes()).map_err(|_| Fault::Storage)
+}
+
+// Puts a mapping in front of a line.
+fn prepend_mapping(line: &mut LineBuffer, mapping: &L2Mapping, cluster_bits: u32)
+    requires bits { IsClusterBits cluster_bits }
+    requires placed { IsPlaced cluster_bits mapping.now }
+    requires room { length line.old ≤ 100 }
+    ensures text { line.new ≡ mapping_text cluster_bits (meaning mapping.now) ++ line.old }
+    ensures bound { length line.new ≤ length line.old + 50 }
+{
+    match mapping {
         L2Mapping::DataFile {
             host_cluster,
             copied,
         } => {
-            let offset = host_cluster.offset(cluster_bits);
-            write!(out, "data {offset}{}", copied_mark(*copied))
+            prepend_place(line, host_cluster.offset(cluster_bits).0, *copied);
+            line.prepend("data ");
         }
         L2Mapping::Zero {
             host_cluster: Some(cluster),
             copied,
         } => {
-            let offset = cluster.offset(cluster_bits);
-            write!(out, "zero {offset}{}", copied_mark(*copied))
+            prepend_place(line, cluster.offset(cluster_bits).0, *copied);
+            line.prepend("zero ");
         }
         L2Mapping::Zero {
             host_cluster: None,
             copied: _,
-        } => write!(out, "zero"),
+        } => line.prepend("zero"),
         L2Mapping::Compressed {
             host_offset,
             length,
-        } => write!(out, "compressed {host_offset} {length}"),
-        L2Mapping::Backing { backing_offset } => {
-            let offset = HostOffset(*backing_offset);
-            write!(out, "backing {offset}")
+        } => {
+            line.prepend_decimal(length.get());
+            line.prepend(" ");
+            line.prepend_offset(host_offset.0);
+            line.prepend("compressed ");
         }
-    };
-    written.map_err(|_| Fault::Storage)
+        L2Mapping::Backing { backing_offset } => {
+            line.prepend_offset(*backing_offset);
+            line.prepend("backing ");
+        }
+    }
 }
 
-// What is printed after the offset of a cluster whose refcount is exactly one.
-fn copied_mark(copied: bool) -> &'static str
-    ensures { result.now ≡ copied_text copied }
+// Puts the offset of a cluster in front of a line, and its mark where its refcount is exactly one.
+#[inline]
+fn prepend_place(line: &mut LineBuffer, offset: u64, copied: bool)
+    requires { length line.old ≤ 100 }
+    ensures text { line.new ≡ offset_text offset ++ copied_text copied ++ line.old }
+    ensures bound { length line.new ≤ length line.old + 25 }
 {
-    if copied { " copied" } else { "" }
+    if copied {
+        line.prepend(" copied");
+    }
+    line.prepend_offset(offset);
 }
