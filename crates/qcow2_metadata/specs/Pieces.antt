@@ -1,9 +1,13 @@
-use Rattle.std.specs.Prelude.{◌≡◌, ℕ, ◌+◌, ◌*◌, ◌<◌, ◌≤◌, Result, OnOk, OnErr, IsTrue}
+use Rattle.std.specs.Prelude.{◌≡◌, ℕ, ◌+◌, ◌-◌, ◌*◌, ◌/◌, ◌%◌, ◌^◌, ◌<◌, ◌≤◌, List, slice_index, Result, OnOk, OnErr, IsTrue}
 use Rattle.qcow2_base.specs.Storage.{CountsFailure, Image, SameDevice, SameOutside, StorageState}
 
 -- the first so many bytes stand in an image from an offset on
 abbrev pub Stand : Image → ℕ → Image → ℕ → Type 0
 Stand bytes len image offset = (i : ℕ) → i < len → image (offset + i) ≡ bytes i
+
+-- the bytes of numbers one after another, eight for each, the most significant one first
+abbrev pub number_bytes : List ℕ → Image
+number_bytes numbers j = slice_index numbers (j / 8) / 256 ^ (7 - j % 8) % 256
 
 -- a write of bytes from an offset on, in pieces of 4096 bytes, that failed at a piece: the bytes before that
 -- piece are written, and after it each byte is the old one
@@ -12,10 +16,14 @@ pub record IsTornAtPiece (piece : ℕ) (bytes : Image) (len offset : ℕ) (old n
   pub before : Stand bytes (4096 * piece) new offset
   pub after : (o : ℕ) → offset + 4096 * (piece + 1) ≤ o → new o ≡ old o
 
+-- the write failed at some piece
+abbrev pub IsTornBytes : Image → ℕ → ℕ → Image → Image → Type 0
+IsTornBytes bytes len offset old new = (piece : ℕ) × IsTornAtPiece piece bytes len offset old new
+
 -- a write of so many bytes from an offset on, in pieces of 4096 bytes, that ended in this answer
 pub record WritesInPieces {T E : Type 0} (answer : Result T E) (offset : ℕ) (bytes : Image) (len : ℕ) (old new : StorageState) : Type 0 where
   pub written : OnOk answer (IsTrue old.tells → Stand bytes len new.byte_at offset)
-  pub torn : OnErr answer (IsTrue old.tells → (piece : ℕ) × IsTornAtPiece piece bytes len offset old.byte_at new.byte_at)
+  pub torn : OnErr answer (IsTrue old.tells → IsTornBytes bytes len offset old.byte_at new.byte_at)
   pub others : IsTrue old.tells → SameOutside offset len old.byte_at new.byte_at
   pub failures : CountsFailure answer old new
   pub device : SameDevice old new

@@ -9,7 +9,7 @@ use Rattle.qcow2_base.specs.declared.fault.Fault.TheVariants.{NoMemory, NoOffset
 use Rattle.qcow2_base.specs.declared.types.HostCluster.{HostCluster}
 use Rattle.qcow2_metadata.specs.Results.{unless_refused}
 use Rattle.qcow2_metadata.specs.Header.{HeaderRecord}
-use Rattle.qcow2_metadata.specs.Pieces.{IsTornAtPiece}
+use Rattle.qcow2_metadata.specs.Pieces.{IsTornBytes}
 use Rattle.qcow2_metadata.specs.Range.{FlagTells, IsWriteFault, range_fault}
 use Rattle.qcow2_metadata.specs.Refblock.Packing.{counters_at, packed, width}
 use Rattle.qcow2_metadata.specs.Refblock.Counters.{AreCounters}
@@ -92,8 +92,7 @@ pub record IsWrittenBlock (block : BlockState) (old new : Image) : Type 0 where
 
 -- a write of a block from an offset on, in pieces of 4096 bytes, that failed at a piece
 abbrev pub IsTornBlock : BlockState → ℕ → Image → Image → Type 0
-IsTornBlock block offset old new = (piece : ℕ)
-    × IsTornAtPiece piece (packed block.refcount_order block.counters) (2 ^ block.cluster_bits) offset old new
+IsTornBlock block offset old new = IsTornBytes (packed block.refcount_order block.counters) (2 ^ block.cluster_bits) offset old new
 
 -- a block, and the storage that it is written to
 pub record BlockOnStorage : Type 0 where

@@ -15,6 +15,7 @@ use Rattle.qcow2_metadata.specs.Entries.L1Entry.{l1_fault}
 use Rattle.qcow2_metadata.specs.Entries.L2Entry.{l2_fault}
 use Rattle.qcow2_metadata.specs.Header.{Geometry, HeaderRecord, geometry_of}
 use Rattle.qcow2_metadata.specs.Results.{unless_refused}
+use Rattle.qcow2_metadata.specs.Pieces.{IsTornBytes, number_bytes}
 use Rattle.qcow2_metadata.specs.Range.{FlagTells, IsWriteFault, range_fault}
 
 -- how many entries a table of each kind may have
@@ -160,24 +161,9 @@ pub record IsWrittenTable (fault_of : ℕ → ℕ → Option Fault) (table : Tab
   pub decoded : IfSome (place_of table) (λ place. decoded_table fault_of place new ≡ Ok table.numbers)
   pub same : IfSome (place_of table) (λ place. numbers_at place old ≡ table.numbers → new ≡ old)
 
--- a write of these numbers from an offset on, in pieces of 4096 bytes, that failed at a piece: the numbers
--- before that piece are written, and after it each byte is the old one
-pub record IsTornAt (piece : ℕ) (numbers : List ℕ) (offset : ℕ) (old new : Image) : Type 0 where
-  pub within : 512 * piece < length numbers
-  pub before : table_numbers new offset (512 * piece) ≡ take (512 * piece) numbers
-  pub after : (o : ℕ) → offset + 4096 * (piece + 1) ≤ o → new o ≡ old o
-
--- the write failed at some piece
+-- a write of a table's numbers from an offset on, in pieces of 4096 bytes, that failed at a piece
 abbrev pub IsTorn : List ℕ → ℕ → Image → Image → Type 0
-IsTorn numbers offset old new = (piece : ℕ) × IsTornAt piece numbers offset old new
-
--- a write of these numbers from an offset on, in pieces of 4096 bytes, that ended in this answer
-pub record WritesPieces {T E : Type 0} (answer : Result T E) (offset : ℕ) (numbers : List ℕ) (old new : StorageState) : Type 0 where
-  pub written : OnOk answer (IsTrue old.tells → table_numbers new.byte_at offset (length numbers) ≡ numbers)
-  pub torn : OnErr answer (IsTrue old.tells → IsTorn numbers offset old.byte_at new.byte_at)
-  pub others : IsTrue old.tells → SameOutside offset (8 * length numbers) old.byte_at new.byte_at
-  pub failures : CountsFailure answer old new
-  pub device : SameDevice old new
+IsTorn numbers offset old new = IsTornBytes (number_bytes numbers) (8 * length numbers) offset old new
 
 -- a table, and the storage that it is written to
 pub record TableOnStorage : Type 0 where

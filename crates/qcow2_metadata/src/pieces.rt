@@ -24,6 +24,7 @@ pub(crate) trait Packed {
     /// Puts the bytes of a piece into the buffer, which is as long as that piece.
     fn pack(&self, piece: usize, buffer: &mut [u8])
         requires piece { 4096 * piece < byte_count self.now }
+        requires bound { byte_count self.now ≤ 2 ^ 56 }
         requires len { length buffer.old ≡ min (byte_count self.now - 4096 * piece) 4096 }
         ensures packed { (i : ℕ) → i < length buffer.new →
             slice_index buffer.new i ≡ bytes self.now (4096 * piece + i) }

@@ -4,10 +4,11 @@ ghost use Rattle.std.specs.Prelude.{◌≡◌, ℕ, ◌⊎◌, ◌+◌, ◌++◌
 ghost use Rattle.qcow2_base.specs.Storage.{OnlyReads, be, image_of};
 ghost use Rattle.qcow2_base.specs.declared.fault.Fault.TheVariants.{EntryReserved, EntryUnaligned, NoMemory, Storage as StorageFailed};
 ghost use Rattle.qcow2_metadata.specs.Results.{Answers};
-ghost use Rattle.qcow2_metadata.specs.Table.{WritesPieces, chunk_numbers, decoded, first_fault, table_numbers};
+ghost use Rattle.qcow2_metadata.specs.Pieces.{WritesInPieces, number_bytes};
+ghost use Rattle.qcow2_metadata.specs.Table.{chunk_numbers, decoded, first_fault, table_numbers};
 
 use super::Table;
-use crate::pieces::PIECE_BYTES;
+use crate::pieces::{PIECE_BYTES, Packed, write_in_pieces};
 use crate::range::read_range;
 use crate::{Header, TableEntry};
 use qcow2_base::{Fault, HostOffset, Storage, StorageFault, write_be};
@@ -130,6 +131,29 @@ fn append<E: TableEntry + Drop>(
     )
 }
 
+// A table as the bytes that it takes in an image.
+#[derive(Drop)]
+struct TableBytes<'a, T: Table> {
+    table: &'a T,
+}
+
+impl<'a, T: Table> Packed for TableBytes<'a, T> {
+    ghost use Rattle.std.specs.Prelude.{◌*◌, length};
+    ghost use Rattle.qcow2_metadata.specs.Pieces.{number_bytes};
+
+    ghost bytes = { λ t. number_bytes (T.state t.table.now).numbers };
+
+    ghost byte_count = { λ t. 8 * length (T.state t.table.now).numbers };
+
+    fn byte_count(&self) -> usize {
+        self.table.byte_size()
+    }
+
+    fn pack(&self, piece: usize, buffer: &mut [u8]) {
+        encode(self.table, PIECE_ENTRIES * piece, buffer);
+    }
+}
+
 // Writes the table to the image from an offset on, in pieces of 4096 bytes.
 pub(super) fn write_pieces<T: Table, S: Storage>(
     table: &T,
@@ -137,25 +161,17 @@ pub(super) fn write_pieces<T: Table, S: Storage>(
     offset: HostOffset,
 ) -> Result<(), StorageFault>
     requires { offset.0 + 8 * length (T.state table.now).numbers ≤ 2 ^ 56 }
-    ensures { WritesPieces result offset.0 (T.state table.now).numbers
+    ensures { let numbers = (T.state table.now).numbers in
+        WritesInPieces result offset.0 (number_bytes numbers) (8 * length numbers)
         (S.state image.old) (S.state image.new) }
 {
-    let mut buffer = [0u8; PIECE_BYTES];
-    let entries = table.entries();
-    for piece in 0..entries.div_ceil(PIECE_ENTRIES) {
-        let first = PIECE_ENTRIES * piece;
-        let count = (entries - first).min(PIECE_ENTRIES);
-        let bytes = &mut buffer[..8 * count];
-        encode(table, first, bytes);
-        image.write(bytes, offset.0 + 8 * first as u64)?;
-    }
-    Ok(())
+    write_in_pieces(&TableBytes { table }, image, offset)
 }
 
 // Puts the numbers of the table's entries from an index on into the bytes, as many as these hold, and
 // zeros past the table's end.
 pub(super) fn encode<T: Table>(table: &T, first: usize, bytes: &mut [u8])
-    requires { first ≤ 2 ^ 48 }
+    requires { first ≤ 2 ^ 56 }
     ensures written { (i : ℕ) → 8 * i + 8 ≤ length bytes.new →
         be (image_of bytes.new) (8 * i) 8 ≡ slice_index (T.state table.now).numbers (first + i) }
     ensures len { length bytes.new ≡ length bytes.old }
@@ -170,7 +186,7 @@ pub(super) fn encode<T: Table>(table: &T, first: usize, bytes: &mut [u8])
 fn encode_held<T: Table>(table: &T, first: usize, bytes: &mut [u8])
     requires within { (i : ℕ) → 8 * i + 8 ≤ length bytes.old →
         first + i < length (T.state table.now).numbers }
-    requires bound { first ≤ 2 ^ 48 }
+    requires bound { first ≤ 2 ^ 56 }
     ensures written { (i : ℕ) → 8 * i + 8 ≤ length bytes.new →
         be (image_of bytes.new) (8 * i) 8 ≡ slice_index (T.state table.now).numbers (first + i) }
     ensures len { length bytes.new ≡ length bytes.old }
