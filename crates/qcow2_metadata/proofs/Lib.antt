@@ -30,6 +30,7 @@ pub mod PiecesLemmas
 pub mod PointerLemmas
 pub mod RangeLemmas
 pub mod RefblockLemmas
+pub mod RunsLemmas
 pub mod SettledLemmas
 pub mod SharedLemmas
 pub mod StorableLemmas

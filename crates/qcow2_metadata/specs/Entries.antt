@@ -3,6 +3,7 @@ pub mod L2Entry
 pub mod L2Mapping
 pub mod PendingClusters
 pub mod RefTableEntry
+pub mod Runs
 use Rattle.std.specs.Prelude.{ℕ, Bool, true, false, ◌&&◌, ◌==◌, ◌+◌, ◌*◌, ◌<◌, ◌≤◌, nat_le, nat_lt, if◌then◌else◌, Option, Some, None}
 use Rattle.qcow2_base.specs.Bits.{field}
 use Rattle.qcow2_base.specs.declared.fault.Fault.{Fault}

@@ -12,6 +12,7 @@ mod l2_entry;
 mod l2_mapping;
 mod pending_clusters;
 mod ref_table_entry;
+mod runs;
 
 pub use l1_entry::L1Entry;
 pub use l2_entry::{AtomicL2Entry, L2Entry};
@@ -19,6 +20,7 @@ pub use l2_mapping::L2Mapping;
 pub(crate) use pending_clusters::refuse;
 pub use pending_clusters::{PendingClusters, Refused};
 pub use ref_table_entry::RefTableEntry;
+pub(crate) use runs::RunPattern;
 
 /// Host clusters that a dropped entry referred to. Each has one reference less to it.
 #[derive(Clone, Copy, Debug, PartialEq, Eq)]

@@ -1,7 +1,8 @@
-use Rattle.std.specs.Prelude.{◌≡◌, ℕ, Option, Some, None}
+use Rattle.std.specs.Prelude.{◌≡◌, ℕ, ◌+◌, ◌-◌, ◌%◌, ◌^◌, ◌<◌, ◌≤◌, Option, Some, None, true, false}
 use Rattle.std.specs.Int.NonZero.{non_zero_u64_get}
 use Rattle.std.specs.Borrow.{MutBor}
 use Rattle.qcow2_metadata.specs.Entries.L2Mapping.{Mapping, compressed}
+use Rattle.qcow2_metadata.specs.Entries.Runs.{goes_on}
 use Rattle.qcow2_metadata.specs.Table.{TableState, mapping_at}
 use Rattle.qcow2_metadata.specs.declared.table.l2_guards.L2TableWriteGuard.{L2TableWriteGuard}
 use Rattle.qcow2_metadata.specs.declared.table.l2_guards.CompressedClusterReadGuard.{CompressedClusterReadGuard}
@@ -31,3 +32,11 @@ compressed_range _ = None
 -- where the compressed data of a guest cluster lies, by its entry in a table
 abbrev pub compressed_at : TableState → ℕ → Option (ℕ × ℕ)
 compressed_at table guest_cluster = compressed_range (mapping_at table guest_cluster)
+
+-- so many guest clusters from one on go on from what that one reads as by a table, and the next one of the table doesn't
+pub record IsRun (table : TableState) (first count : ℕ) : Type 0 where
+  pub some : 1 ≤ count
+  pub within : first % 2 ^ (table.geometry.cluster_bits - 3) + count ≤ 2 ^ (table.geometry.cluster_bits - 3)
+  pub each : (k : ℕ) → k < count → goes_on k (mapping_at table first) (mapping_at table (first + k)) ≡ true
+  pub ends : first % 2 ^ (table.geometry.cluster_bits - 3) + count < 2 ^ (table.geometry.cluster_bits - 3) →
+      goes_on count (mapping_at table first) (mapping_at table (first + count)) ≡ false

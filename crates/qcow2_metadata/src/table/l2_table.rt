@@ -8,8 +8,9 @@ ghost use Rattle.qcow2_metadata.specs.Entries.L2Entry.{l2_fault, shared};
 ghost use Rattle.qcow2_metadata.specs.Table.{WritesTable, elsewhere, mapping_at, most_l2_entries, new_table, table_on_storage};
 
 use super::{CompressedClusterReadGuard, EntryTable, L2TableWriteGuard, Table, TableKind};
+use crate::entries::RunPattern;
 use crate::{AtomicL2Entry, Header, L2Entry, L2Mapping};
-use qcow2_base::{Fault, GuestCluster, HostCluster, Storage};
+use qcow2_base::{ClusterCount, Fault, GuestCluster, HostCluster, Storage};
 use std::alloc::{AllocError, Global};
 
 /// A table of L2 entries, one for each guest cluster of its part of the disk: it fills one cluster.
@@ -58,7 +59,7 @@ fn shared_entries(
 
 impl EntryTable<AtomicL2Entry> {
     ghost use Rattle.std.specs.Prelude.{option_map};
-    ghost use Rattle.qcow2_metadata.specs.Table.L2Table.{IsTableGuard, compressed_at, guarded_range};
+    ghost use Rattle.qcow2_metadata.specs.Table.L2Table.{IsRun, IsTableGuard, compressed_at, guarded_range};
 
     /// A table of an image with this header in which no cluster has data. It has no cluster, and
     /// counts as modified. Fails only for want of memory.
@@ -91,6 +92,19 @@ impl EntryTable<AtomicL2Entry> {
         let cluster_bits = self.cluster_bits();
         let entry = self.get(guest_cluster.l2_index(cluster_bits));
         entry.into_mapping(guest_cluster, cluster_bits, self.has_external_data_file())
+    }
+
+    /// How many guest clusters, from one on, read on as one by their entries in this table, to its end at most:
+    /// data in one host cluster after another, zeros in one after another, zeros without any, compressed data,
+    /// or what the backing file has. Whether host clusters are copied makes no difference.
+    pub fn run_length(&self, guest_cluster: GuestCluster) -> ClusterCount
+        ensures { IsRun self.now guest_cluster.0 result.0 }
+    {
+        let cluster_bits = self.cluster_bits();
+        let index = guest_cluster.l2_index(cluster_bits);
+        let pattern = RunPattern::of(self.get(index), cluster_bits, self.has_external_data_file());
+        let (entries, end) = (self.as_slice(), self.entries());
+        ClusterCount(1 + pattern.count(&entries[index + 1..end]) as u64)
     }
 
     /// Writes the table to the image, as `write` does, if it counts as modified. The table must then

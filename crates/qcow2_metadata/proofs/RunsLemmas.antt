@@ -1,0 +1,373 @@
+use Rattle.std.proofs.Common.{◌≡◌, ℕ, Bool, true, false, not, ◌&&◌, ◌||◌, nat_eq, nat_lt, if◌then◌else◌, ◌≢◌, ◌⊎◌, ◌+◌, ◌-◌, ◌*◌, ◌/◌, ◌%◌, ◌^◌, ◌<◌, ◌≤◌, List, length, get_or, take, drop, IsTrue, Option, Some, None, refl, ap, sym, ◌∙◌, inl, inr, arith, eq-eqb}
+use Rattle.std.specs.Prelude.{bit_and, is_some}
+use Rattle.std.proofs.lemmas.Bool.{cases_Bool, ne_eqb, eqb-false}
+use Rattle.std.proofs.lemmas.Bool.Decides.{same_from_decides, Decides-eqb, nat_tests}
+use Rattle.std.proofs.lemmas.Nat.{and_mask, pow_pos, mul-le, mod-mul-add, same_from_place, div-add-mod'}
+use Rattle.std.proofs.lemmas.Nat.Bits.{and_pow}
+use Rattle.std.proofs.Math.Nat.{mod-eq_of_lt, mod-lt}
+use Rattle.std.proofs.Math.Pow.{pow_mono}
+use Rattle.std.specs.List.{All}
+use Rattle.std.proofs.lemmas.List.{get_or-drop, get_or-take, map-id, length-take}
+use Rattle.std.proofs.lemmas.List.Elements.{All-get_or}
+use Rattle.std.proofs.Common.{length-drop, zero, suc}
+use Rattle.qcow2_base.specs.Bits.{field}
+use Rattle.qcow2_base.specs.Types.{IsClusterBits}
+use Rattle.qcow2_base.specs.declared.types.HostOffset.{HostOffset}
+use Rattle.qcow2_metadata.specs.Header.{geometry}
+use Rattle.qcow2_metadata.specs.Entries.L2Mapping.{Mapping, backing, compressed, data_file, zeros, mapping, standard_mapping, host_cluster}
+use Rattle.qcow2_metadata.specs.Entries.{entry_fault, is_copied, offset_field}
+use Rattle.qcow2_metadata.specs.Entries.L2Entry.{compressed_length, compressed_offset, host_offset, is_allocated, is_compressed, is_zero, l2_fault}
+use Rattle.qcow2_metadata.specs.Entries.Runs.{follows, goes_on}
+use Rattle.qcow2_metadata.specs.Table.{TableState, first_fault, mapping_at}
+use Rattle.qcow2_metadata.specs.Table.L2Table.{IsRun}
+use Rattle.qcow2_metadata.specs.declared.entries.runs.RunPattern.{RunPattern}
+use Rattle.qcow2_metadata.proofs.TableLemmas.{no_fault_item}
+
+-- the number of a flag
+abbrev bit : Bool → ℕ
+bit true = 1
+bit false = 0
+
+flag_of : (n : ℕ) → n < 2 → n ≡ bit (nat_eq n 1)
+flag_of n below = elim (cases_Bool (nat_eq n 1)) [
+  | inl one ↦ rw one (grind (arith, nat_tests))
+  | inr other ↦ let not_one = eqb-false n 1 other in rw other (omega arith)
+]
+
+-- a compressed entry goes on at each compressed one
+after_compressed : (b z cp : Bool) (h : Option ℕ) (k a l o m p : ℕ) → goes_on k (compressed a l) (if b then compressed o m else standard_mapping z h cp p) ≡ b
+after_compressed true z cp h k a l o m p = refl
+after_compressed false true cp (Some c) k a l o m p = refl
+after_compressed false true cp None k a l o m p = refl
+after_compressed false false cp (Some c) k a l o m p = refl
+after_compressed false false cp None k a l o m p = refl
+
+-- and no other at one
+before_compressed : (z cp : Bool) (h : Option ℕ) (k p o m : ℕ) → goes_on k (standard_mapping z h cp p) (compressed o m) ≡ false
+before_compressed true cp (Some c) k p o m = refl
+before_compressed true cp None k p o m = refl
+before_compressed false cp (Some c) k p o m = refl
+before_compressed false cp None k p o m = refl
+
+-- an entry with a cluster, and one after it
+further : (n q q0 k z : ℕ) → 2 ≤ n → nat_eq (q * n + z) (q0 * n + z + k * n) ≡ nat_eq q (q0 + k)
+further n q q0 k z some =
+    same_from_decides _ _ (Decides-eqb (q * n + z) (q0 * n + z + k * n)) (
+      λ t. let same = (Decides-eqb q (q0 + k)).0 t in rw same (omega arith),
+      λ e. (Decides-eqb q (q0 + k)).1 (same_from_place q 0 (q0 + k) 0 n (omega arith) (omega arith) (omega (arith, e))).0,
+    )
+
+-- with another zero flag it isn't one, and without a cluster neither
+flag_differs : (n q q0 k : ℕ) → 2 ≤ n → (nat_eq (q * n + 1) (q0 * n + 0 + k * n) ≡ false) × (nat_eq (q * n + 0) (q0 * n + 1 + k * n) ≡ false)
+flag_differs n q q0 k some = (
+  ne_eqb _ _ (λ e. let parts = same_from_place q 1 (q0 + k) 0 n (omega arith) (omega arith) (omega (arith, e)) in omega (arith, parts.1)),
+  ne_eqb _ _ (λ e. let parts = same_from_place q 0 (q0 + k) 1 n (omega arith) (omega arith) (omega (arith, e)) in omega (arith, parts.1)),
+)
+
+no_cluster_differs : (n q q0 k z : ℕ) → 2 ≤ n → 1 ≤ k → q ≡ 0 → nat_eq (q * n + z) (q0 * n + z + k * n) ≡ false
+no_cluster_differs n q q0 k z some far none =
+    ne_eqb _ _ (λ e. let parts = same_from_place q 0 (q0 + k) 0 n (omega arith) (omega arith) (omega (arith, e)) in omega (arith, parts.0))
+
+none_if : (q : ℕ) → (1 ≤ q → false ≡ true) → q ≡ 0
+none_if q told = elim (cases_Bool (nat_eq q 0)) [
+  | inl nothing ↦ (Decides-eqb q 0).0 nothing
+  | inr some ↦ let above = eqb-false q 0 some in let bad = told (omega arith) in cc
+]
+
+after_cluster : (zb zb0 alloc cp cp0 : Bool) (n q q0 k o p : ℕ) → 2 ≤ n → 1 ≤ k → (1 ≤ q → alloc ≡ true)
+    → nat_eq (q * n + bit zb) (q0 * n + bit zb0 + k * n)
+    ≡ goes_on k (standard_mapping zb0 (Some q0) cp0 o) (standard_mapping zb (if alloc then Some q else None) cp p)
+after_cluster true true true cp cp0 n q q0 k o p some far told = further n q q0 k 1 some
+after_cluster false false true cp cp0 n q q0 k o p some far told = further n q q0 k 0 some
+after_cluster true false true cp cp0 n q q0 k o p some far told = (flag_differs n q q0 k some).0
+after_cluster true false false cp cp0 n q q0 k o p some far told = (flag_differs n q q0 k some).0
+after_cluster false true true cp cp0 n q q0 k o p some far told = (flag_differs n q q0 k some).1
+after_cluster false true false cp cp0 n q q0 k o p some far told = (flag_differs n q q0 k some).1
+after_cluster true true false cp cp0 n q q0 k o p some far told = no_cluster_differs n q q0 k 1 some far (none_if q told)
+after_cluster false false false cp cp0 n q q0 k o p some far told = no_cluster_differs n q q0 k 0 some far (none_if q told)
+
+-- an entry without one, and one after it
+large_differs : (x k : ℕ) (b : Bool) → 2 ≤ x → nat_eq x (bit b + k * 0) ≡ false
+large_differs x k true large = ne_eqb _ _ (λ e. omega (arith, e))
+large_differs x k false large = ne_eqb _ _ (λ e. omega (arith, e))
+
+same_flag : (x k z : ℕ) → x ≡ z → nat_eq x (z + k * 0) ≡ true
+same_flag x k z is = eq-eqb _ _ (omega arith)
+
+other_flag : (x k : ℕ) → (x ≡ 1 → nat_eq x (0 + k * 0) ≡ false) × (x ≡ 0 → nat_eq x (1 + k * 0) ≡ false)
+other_flag x k = (λ one. ne_eqb _ _ (λ e. omega (arith, e)), λ none. ne_eqb _ _ (λ e. omega (arith, e)))
+
+after_no_cluster : (zb zb0 alloc cp cp0 : Bool) (x q k o p : ℕ) → (alloc ≡ true → 2 ≤ x) → (alloc ≡ false → x ≡ bit zb)
+    → nat_eq x (bit zb0 + k * 0)
+    ≡ goes_on k (standard_mapping zb0 None cp0 o) (standard_mapping zb (if alloc then Some q else None) cp p)
+after_no_cluster true true true cp cp0 x q k o p large small = large_differs x k true (large refl)
+after_no_cluster true false true cp cp0 x q k o p large small = large_differs x k false (large refl)
+after_no_cluster false true true cp cp0 x q k o p large small = large_differs x k true (large refl)
+after_no_cluster false false true cp cp0 x q k o p large small = large_differs x k false (large refl)
+after_no_cluster true true false cp cp0 x q k o p large small = same_flag x k 1 (small refl)
+after_no_cluster false false false cp cp0 x q k o p large small = same_flag x k 0 (small refl)
+after_no_cluster true false false cp cp0 x q k o p large small = (other_flag x k).0 (small refl)
+after_no_cluster false true false cp cp0 x q k o p large small = (other_flag x k).1 (small refl)
+
+-- the parts of a lawful standard entry
+standard_by_fault : (kind below aligned : Bool) (high rest : ℕ) → entry_fault (not (nat_eq (if kind then high else rest) 0) || (kind && not below)) (not kind && not aligned) ≡ None → kind ≡ false → (nat_eq rest 0 ≡ true) × (aligned ≡ true)
+standard_by_fault true below aligned high rest lawful is = cc
+standard_by_fault false below aligned high rest lawful is = by_tests (nat_eq rest 0) aligned lawful
+  where
+    by_tests : (clear aligned : Bool) → entry_fault (not clear || false) (not aligned) ≡ None → (clear ≡ true) × (aligned ≡ true)
+    by_tests true true lawful = (refl, refl)
+    by_tests true false lawful = cc
+    by_tests false true lawful = cc
+    by_tests false false lawful = cc
+
+record Parts (cb v : ℕ) : Type 0 where
+  lower : v % 2 ^ 63 ≡ offset_field v / 2 ^ cb * 2 ^ cb + bit (is_zero v)
+  offset : offset_field v ≡ offset_field v / 2 ^ cb * 2 ^ cb
+  small : offset_field v < 2 ^ 56
+
+parts_of : (cb v : ℕ) → l2_fault cb v ≡ None → is_compressed v ≡ false → Parts cb v
+parts_of cb v lawful standard =
+    let tests = standard_by_fault (is_compressed v) (nat_lt (v % 2 ^ (70 - cb)) (2 ^ 56)) (nat_eq (offset_field v % 2 ^ cb) 0) (field v 63 1 * 2 ^ 63) (field v 1 8 * 2 ^ 1 + field v 56 6 * 2 ^ 56) lawful standard in
+    let reserved : field v 1 8 * 2 ^ 1 + field v 56 6 * 2 ^ 56 ≡ 0 = (Decides-eqb _ 0).0 tests.0 in
+    let aligned : offset_field v % 2 ^ cb ≡ 0 = (Decides-eqb _ 0).0 tests.1 in
+    let kind : field v 62 1 ≢ 1 = eqb-false (field v 62 1) 1 standard in
+    let flag : field v 0 1 ≡ bit (is_zero v) = flag_of (field v 0 1) (omega arith) in
+    let offset : offset_field v ≡ offset_field v / 2 ^ cb * 2 ^ cb = omega (arith, div-add-mod' (offset_field v) (2 ^ cb)) in
+    let fields : v % 2 ^ 63 ≡ offset_field v + field v 0 1 = omega (arith, reserved, kind) in
+    record {
+      lower = rw (← offset, ← flag) fields;
+      offset = offset;
+      small = omega arith;
+    }
+
+-- whether a number has a cluster tells how large it is
+some_if : (zero told : Bool) → (not zero || told) ≡ true → (zero ≡ false) ⊎ (told ≡ true)
+some_if true true is = inr refl
+some_if true false is = cc
+some_if false told is = inl refl
+
+none_both : (zero told : Bool) → (not zero || told) ≡ false → (zero ≡ true) × (told ≡ false)
+none_both true true is = cc
+none_both true false is = (refl, refl)
+none_both false told is = cc
+
+offset_of_zero : (v : ℕ) → nat_eq (offset_field v) 0 ≡ true → offset_field v ≡ 0
+offset_of_zero v is = (Decides-eqb (offset_field v) 0).0 is
+
+offset_of_some : (v : ℕ) → nat_eq (offset_field v) 0 ≡ false → 512 ≤ offset_field v
+offset_of_some v is = let some = eqb-false (offset_field v) 0 is in omega (arith, some)
+
+plain_large : (cb v : ℕ) → Parts cb v → is_allocated false v ≡ true → 2 ≤ v % 2 ^ 63
+plain_large cb v parts is = elim (some_if (nat_eq (offset_field v) 0) false is) [
+  | inl some ↦ omega (arith, parts.lower, parts.offset, offset_of_some v some)
+  | inr told ↦ cc
+]
+
+plain_small : (cb v : ℕ) → Parts cb v → is_allocated false v ≡ false → v % 2 ^ 63 ≡ bit (is_zero v)
+plain_small cb v parts is =
+    let none = offset_of_zero v (none_both (nat_eq (offset_field v) 0) false is).0 in
+    omega (arith, parts.lower, parts.offset, none)
+
+external_large : (cb v : ℕ) → Parts cb v → is_allocated true v ≡ true → 2 ≤ v
+external_large cb v parts is = elim (some_if (nat_eq (offset_field v) 0) (is_copied v) is) [
+  | inl some ↦ let above = offset_of_some v some in omega (arith, parts.lower, parts.offset, above)
+  | inr told ↦ let copied : field v 63 1 ≡ 1 = (Decides-eqb (field v 63 1) 1).0 told in omega (arith, copied)
+]
+
+external_small : (cb v : ℕ) → v < 2 ^ 64 → Parts cb v → is_allocated true v ≡ false → v ≡ bit (is_zero v)
+external_small cb v fits parts is =
+    let both = none_both (nat_eq (offset_field v) 0) (is_copied v) is in
+    let none = offset_of_zero v both.0 in
+    let not_copied = eqb-false (field v 63 1) 1 both.1 in
+    let same : v ≡ v % 2 ^ 63 = omega (arith, not_copied) in
+    omega (arith, same, parts.lower, parts.offset, none)
+
+no_offset : (external : Bool) (cb v : ℕ) → Parts cb v → is_allocated external v ≡ false → v % 2 ^ 63 ≡ bit (is_zero v)
+no_offset external cb v parts is =
+    let none = offset_of_zero v (none_both (nat_eq (offset_field v) 0) (external && is_copied v) is).0 in
+    omega (arith, parts.lower, parts.offset, none)
+
+-- a compressed number is larger than those that go on from a standard one
+compressed_large : (v : ℕ) → is_compressed v ≡ true → 2 ^ 62 ≤ v % 2 ^ 63
+compressed_large v is = let kind : field v 62 1 ≡ 1 = (Decides-eqb (field v 62 1) 1).0 is in omega (arith, kind)
+
+standard_low : (cb v k : ℕ) → cb ≤ 21 → k ≤ 262144 → Parts cb v → v % 2 ^ 63 + k * 2 ^ cb < 2 ^ 62
+standard_low cb v k high few parts =
+    let power : 2 ^ cb ≤ 2 ^ 21 = pow_mono high in
+    let grown = mul-le k (2 ^ cb) 262144 (2 ^ 21) few power in
+    let flag : bit (is_zero v) ≤ 1 = bit_low (is_zero v) in
+    omega (arith, grown, parts.lower, parts.offset, parts.small, flag)
+  where
+    bit_low : (b : Bool) → bit b ≤ 1
+    bit_low true = omega arith
+    bit_low false = omega arith
+
+-- what a test of an entry's offset says
+pub has_offset : (external : Bool) (v : ℕ) (found : Option HostOffset) (test : Bool) → found ≡ host_offset external v → test ≡ is_some found → test ≡ is_allocated external v
+has_offset external v found test is same = same ∙ ap is_some is ∙ some_just_if (is_allocated external v)
+  where
+    some_just_if : (b : Bool) → is_some {T = HostOffset} (if b then Some (record { 0 = offset_field v }) else None) ≡ b
+    some_just_if true = refl
+    some_just_if false = refl
+
+-- the patterns tell just the entries that go on
+pub after_a_compressed_entry : (cb : ℕ) (external : Bool) (k v v0 c other : ℕ) → is_compressed v0 ≡ true
+    → nat_eq (bit_and v 4611686018427387904) (4611686018427387904 + k * 0) ≡ goes_on k (mapping (geometry cb external) c v0) (mapping (geometry cb external) other v)
+after_a_compressed_entry cb external k v v0 c other is =
+    let test : nat_eq (bit_and v 4611686018427387904) (4611686018427387904 + k * 0) ≡ is_compressed v =
+    same_from_decides _ _ (Decides-eqb (bit_and v 4611686018427387904) (4611686018427387904 + k * 0)) (
+      λ t. let kind : field v 62 1 ≡ 1 = (Decides-eqb (field v 62 1) 1).0 t in omega (arith, and_pow v 62, kind),
+      λ e. (Decides-eqb (field v 62 1) 1).1 (omega (arith, and_pow v 62, e)),
+    ) in
+    rw is (test ∙ sym (after_compressed (is_compressed v) (is_zero v) (is_copied v) (host_cluster (geometry cb external) v) k (compressed_offset cb v0) (compressed_length cb v0) (compressed_offset cb v) (compressed_length cb v) (other * 2 ^ cb)))
+
+pub after_an_entry_with_a_cluster : (cb : ℕ) (external : Bool) (k v v0 c other : ℕ) → cb ≤ 21 → 9 ≤ cb → 1 ≤ k → k ≤ 262144 → v < 2 ^ 64
+    → l2_fault cb v ≡ None → l2_fault cb v0 ≡ None → is_compressed v0 ≡ false → is_allocated external v0 ≡ true
+    → nat_eq (bit_and v 9223372036854775807) (v0 % 2 ^ 63 + k * 2 ^ cb) ≡ goes_on k (mapping (geometry cb external) c v0) (mapping (geometry cb external) other v)
+after_an_entry_with_a_cluster cb external k v v0 c other high low far few fits lawful lawful0 standard0 allocated =
+    let parts0 = parts_of cb v0 lawful0 standard0 in
+    let masked : bit_and v 9223372036854775807 ≡ v % 2 ^ 63 = and_mask v 63 in
+    elim (cases_Bool (is_compressed v)) [
+      | inl packed ↦
+          let large = compressed_large v packed in
+          let below = standard_low cb v0 k high few parts0 in
+          let differs : nat_eq (bit_and v 9223372036854775807) (v0 % 2 ^ 63 + k * 2 ^ cb) ≡ false = ne_eqb _ _ (λ e. omega (arith, e, masked, large, below)) in
+          differs ∙ rw (packed, standard0) (sym (before_compressed (is_zero v0) (is_copied v0) (host_cluster (geometry cb external) v0) k (c * 2 ^ cb) (compressed_offset cb v) (compressed_length cb v)))
+      | inr standard ↦
+          let parts = parts_of cb v lawful standard in
+          let power : 2 ^ 9 ≤ 2 ^ cb = pow_mono low in
+          let size : 2 ≤ 2 ^ cb = omega (arith, power) in
+          let told : 1 ≤ offset_field v / 2 ^ cb → is_allocated external v ≡ true = λ some. has_cluster external cb v parts some in
+          let tests : nat_eq (bit_and v 9223372036854775807) (v0 % 2 ^ 63 + k * 2 ^ cb) ≡ nat_eq (offset_field v / 2 ^ cb * 2 ^ cb + bit (is_zero v)) (offset_field v0 / 2 ^ cb * 2 ^ cb + bit (is_zero v0) + k * 2 ^ cb) =
+          rw (masked, parts.lower, parts0.lower) refl in
+          tests ∙ after_cluster (is_zero v) (is_zero v0) (is_allocated external v) (is_copied v) (is_copied v0) (2 ^ cb) (offset_field v / 2 ^ cb) (offset_field v0 / 2 ^ cb) k (c * 2 ^ cb) (other * 2 ^ cb) size far told
+          ∙ rw (standard, standard0, allocated) refl
+    ]
+  where
+    has_cluster : (external : Bool) (cb v : ℕ) → Parts cb v → 1 ≤ offset_field v / 2 ^ cb → is_allocated external v ≡ true
+    has_cluster external cb v parts some =
+        let above : offset_field v ≢ 0 = λ zero. omega (arith, mul-le 1 1 (offset_field v / 2 ^ cb) (2 ^ cb) some (pow_pos cb), parts.offset, zero) in
+        rw (ne_eqb (offset_field v) 0 above) refl
+
+pub after_an_entry_without : (cb : ℕ) (external : Bool) (x k v v0 c other : ℕ) → (is_compressed v ≡ true → 2 ≤ x)
+    → (is_compressed v ≡ false → (is_allocated external v ≡ true → 2 ≤ x) × (is_allocated external v ≡ false → x ≡ bit (is_zero v)))
+    → l2_fault cb v0 ≡ None → is_compressed v0 ≡ false → is_allocated external v0 ≡ false
+    → nat_eq x (v0 % 2 ^ 63 + k * 0) ≡ goes_on k (mapping (geometry cb external) c v0) (mapping (geometry cb external) other v)
+after_an_entry_without cb external x k v v0 c other packed_large tested lawful0 standard0 none =
+    let parts0 = parts_of cb v0 lawful0 standard0 in
+    let value = no_offset external cb v0 parts0 none in
+    elim (cases_Bool (is_compressed v)) [
+      | inl packed ↦
+          let differs : nat_eq x (v0 % 2 ^ 63 + k * 0) ≡ false = rw value (large_differs x k (is_zero v0) (packed_large packed)) in
+          differs ∙ rw (packed, standard0) (sym (before_compressed (is_zero v0) (is_copied v0) (host_cluster (geometry cb external) v0) k (c * 2 ^ cb) (compressed_offset cb v) (compressed_length cb v)))
+      | inr standard ↦
+          let sizes = tested standard in
+          let tests : nat_eq x (v0 % 2 ^ 63 + k * 0) ≡ nat_eq x (bit (is_zero v0) + k * 0) = rw value refl in
+          tests ∙ after_no_cluster (is_zero v) (is_zero v0) (is_allocated external v) (is_copied v) (is_copied v0) x (offset_field v / 2 ^ cb) k (c * 2 ^ cb) (other * 2 ^ cb) sizes.0 sizes.1
+          ∙ rw (standard, standard0, none) refl
+    ]
+
+pub after_an_entry_without_one : (cb k v v0 c other : ℕ) → l2_fault cb v ≡ None → l2_fault cb v0 ≡ None → is_compressed v0 ≡ false → is_allocated false v0 ≡ false
+    → nat_eq (bit_and v 9223372036854775807) (v0 % 2 ^ 63 + k * 0) ≡ goes_on k (mapping (geometry cb false) c v0) (mapping (geometry cb false) other v)
+after_an_entry_without_one cb k v v0 c other lawful lawful0 standard0 none =
+    let masked : bit_and v 9223372036854775807 ≡ v % 2 ^ 63 = and_mask v 63 in
+    rw masked (after_an_entry_without cb false (v % 2 ^ 63) k v v0 c other
+    (λ packed. omega (arith, compressed_large v packed))
+    (λ standard. let parts = parts_of cb v lawful standard in (plain_large cb v parts, plain_small cb v parts)) lawful0 standard0 none)
+
+pub after_an_external_entry_without_one : (cb k v v0 c other : ℕ) → v < 2 ^ 64 → l2_fault cb v ≡ None → l2_fault cb v0 ≡ None → is_compressed v0 ≡ false → is_allocated true v0 ≡ false
+    → nat_eq (bit_and v 18446744073709551615) (v0 % 2 ^ 63 + k * 0) ≡ goes_on k (mapping (geometry cb true) c v0) (mapping (geometry cb true) other v)
+after_an_external_entry_without_one cb k v v0 c other fits lawful lawful0 standard0 none =
+    let whole : v % 2 ^ 64 ≡ v = mod-eq_of_lt fits in
+    let masked : bit_and v 18446744073709551615 ≡ v = and_mask v 64 ∙ whole in
+    rw masked (after_an_entry_without cb true v k v v0 c other
+    (λ packed. omega (arith, compressed_large v packed))
+    (λ standard. let parts = parts_of cb v lawful standard in (external_large cb v parts, external_small cb v fits parts)) lawful0 standard0 none)
+
+pub step_fits : (cb : ℕ) → cb ≤ 21 → 1 * 2 ^ cb % 2 ^ 64 ≡ 2 ^ cb
+step_fits cb high = let power : 2 ^ cb ≤ 2 ^ 21 = pow_mono high in let one : 1 * 2 ^ cb ≡ 2 ^ cb = omega arith in rw one (mod-eq_of_lt (omega (arith, power)))
+
+-- what each cluster reads as goes on from itself
+goes_on_itself : (m : Mapping) → goes_on 0 m m ≡ true
+goes_on_itself (data_file cluster copied) = eq-eqb _ _ (omega arith)
+goes_on_itself (backing offset) = refl
+goes_on_itself (zeros (Some cluster) copied) = eq-eqb _ _ (omega arith)
+goes_on_itself (zeros None copied) = refl
+goes_on_itself (compressed offset length) = refl
+
+-- the entries after the one at i
+record Rest (numbers : List ℕ) (i : ℕ) (rest : List ℕ) : Type 0 where
+  count : length rest ≡ length numbers - (i + 1)
+  at : (k : ℕ) → k < length rest → get_or rest k 0 ≡ get_or numbers (i + 1 + k) 0
+
+rest_of : (numbers : List ℕ) (i : ℕ) → i < length numbers → Rest numbers i (take (length numbers - (i + 1)) (drop (i + 1) numbers))
+rest_of numbers i within =
+    let after : length (drop (i + 1) numbers) ≡ length numbers - (i + 1) = length-drop (i + 1) numbers in
+    let many : length (take (length numbers - (i + 1)) (drop (i + 1) numbers)) ≡ length numbers - (i + 1) = rw length-take (omega (arith, after)) in
+    record {
+      count = many;
+      at = λ k below. get_or-take (length numbers - (i + 1)) (drop (i + 1) numbers) k 0 (omega (arith, many, below)) ∙ get_or-drop (i + 1) numbers k 0;
+    }
+
+-- the place in its table of a guest cluster further on
+place_further : (first size i k : ℕ) → i ≡ first % size → i + k < size → (first + k) % size ≡ i + k
+place_further first size i k is below =
+    let whole : first + k ≡ first / size * size + (i + k) = omega (arith, div-add-mod' first size, is) in
+    rw whole (mod-mul-add (first / size) size (i + k) below)
+
+-- the entries of a table that follow a pattern are a run
+pub run_of_pattern : (table : TableState) (first count i : ℕ) (entries rest : List ℕ) (pattern : RunPattern)
+    → IsClusterBits table.geometry.cluster_bits → i ≡ first % 2 ^ (table.geometry.cluster_bits - 3)
+    → length table.numbers ≡ 2 ^ (table.geometry.cluster_bits - 3) → All (λ v. v < 2 ^ 64) table.numbers
+    → first_fault (l2_fault table.geometry.cluster_bits) table.numbers ≡ None → entries ≡ table.numbers
+    → rest ≡ take (length entries - (i + 1)) (drop (i + 1) entries)
+    → ((k v c other : ℕ) → 1 ≤ k → k ≤ 262144 → v < 2 ^ 64 → l2_fault table.geometry.cluster_bits v ≡ None
+    → follows pattern k v ≡ goes_on k (mapping table.geometry c (get_or table.numbers i 0)) (mapping table.geometry other v))
+    → count ≤ length rest
+    → ((k : ℕ) → k < count → follows pattern (k + 1) (get_or rest k 0) ≡ true)
+    → (count < length rest → follows pattern (count + 1) (get_or rest count 0) ≡ false)
+    → IsRun table first (1 + count)
+run_of_pattern table first count i entries rest pattern bits is full fits lawful same is_rest exact within each ends =
+    let cb = table.geometry.cluster_bits in
+    let size = 2 ^ (cb - 3) in
+    let small : cb - 3 ≤ 18 = omega (arith, bits.1) in
+    let few : 2 ^ (cb - 3) ≤ 2 ^ 18 = pow_mono small in
+    let some : 0 < size = pow_pos (cb - 3) in
+    let here : i < length table.numbers = rw (is, full) (mod-lt first some) in
+    let told : Rest table.numbers i rest = rw (is_rest, same) (rest_of table.numbers i here) in
+    let before : mapping_at table first ≡ mapping table.geometry first (get_or table.numbers i 0) = rw is refl in
+    let further : (k : ℕ) → k < length rest → follows pattern (k + 1) (get_or rest k 0) ≡ goes_on (k + 1) (mapping_at table first) (mapping_at table (first + (k + 1))) =
+    λ k below.
+    let inside : i + (k + 1) < size = omega (arith, told.count, full, below) in
+    let item : get_or rest k 0 ≡ get_or table.numbers (i + (k + 1)) 0 = told.at k below ∙ ap (λ n. get_or table.numbers n 0) (omega arith) in
+    let valid : l2_fault cb (get_or table.numbers (i + (k + 1)) 0) ≡ None =
+    no_fault_item (λ (v : ℕ). v) (l2_fault cb) table.numbers (i + (k + 1)) 0 (rw (map-id table.numbers) lawful) (omega (arith, full, inside)) in
+    let low : get_or table.numbers (i + (k + 1)) 0 < 2 ^ 64 = All-get_or (λ v. v < 2 ^ 64) table.numbers (i + (k + 1)) 0 (omega (arith, full, inside)) fits in
+    rw (item, before, place_further first size i (k + 1) is inside)
+    (exact (k + 1) (get_or table.numbers (i + (k + 1)) 0) first (first + (k + 1)) (omega arith) (omega (arith, inside, few)) low valid) in
+    record {
+      some = omega arith;
+      within = rw (← is) (omega (arith, told.count, full, within, here));
+      each = λ k below. each_of table first count k (goes_on_itself (mapping_at table first)) (λ j less. sym (further j (omega (arith, less, within))) ∙ each j less) below;
+      ends = λ more. let inside : count < length rest = omega (arith, told.count, full, within, rw (← is) at more) in
+          let same : 1 + count ≡ count + 1 = omega arith in
+          rw same (sym (further count inside) ∙ ends inside);
+    }
+  where
+    each_of : (table : TableState) (first count k : ℕ) → goes_on 0 (mapping_at table first) (mapping_at table first) ≡ true
+        → ((j : ℕ) → j < count → goes_on (j + 1) (mapping_at table first) (mapping_at table (first + (j + 1))) ≡ true)
+        → k < 1 + count → goes_on k (mapping_at table first) (mapping_at table (first + k)) ≡ true
+    each_of table first count zero itself others below = let same : first + 0 ≡ first = omega arith in rw same itself
+    each_of table first count (suc j) itself others below =
+        let same : suc j ≡ j + 1 = omega arith in rw same (others j (omega (arith, below)))
+
+-- a pattern's values fit 64 bits for as many entries as a table has
+pub pattern_fits : (cb value step n : ℕ) (xs : List ℕ) → cb ≤ 21 → n ≤ 2 ^ (cb - 3) → value + 262144 * step < 2 ^ 64 → value + length (take n xs) * step < 2 ^ 64
+pattern_fits cb value step n xs high below fits =
+    let small : cb - 3 ≤ 18 = omega (arith, high) in
+    let few : 2 ^ (cb - 3) ≤ 2 ^ 18 = pow_mono small in
+    let count : length (take n xs) ≤ 262144 = rw length-take (omega (arith, few, below)) in
+    omega (arith, mul-le (length (take n xs)) step 262144 step count (omega arith), fits)
+
+pub count_of : (n m : ℕ) → IsTrue (nat_eq n m) → n ≡ m
+count_of n m told = grind (arith, nat_tests)

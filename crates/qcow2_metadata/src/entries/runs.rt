@@ -1,0 +1,84 @@
+//! Runs of L2 entries: how the entries go on that read as one with the first.
+
+ghost use Rattle.std.specs.Prelude.{◌≡◌, ℕ, ◌+◌, ◌*◌, ◌^◌, ◌<◌, ◌≤◌, None, false, true, length, slice_index};
+ghost use Rattle.qcow2_base.specs.Types.{IsClusterBits};
+ghost use Rattle.qcow2_metadata.specs.Header.{geometry};
+ghost use Rattle.qcow2_metadata.specs.Entries.L2Entry.{l2_fault};
+ghost use Rattle.qcow2_metadata.specs.Entries.L2Mapping.{mapping};
+ghost use Rattle.qcow2_metadata.specs.Entries.Runs.{follows, goes_on};
+
+use super::{AtomicL2Entry, L2Entry, TableEntry};
+
+/// What the entries of a run have in common: in the bits of the mask a value, which grows by a step from one
+/// entry to the next.
+#[derive(Clone, Copy)]
+pub(crate) struct RunPattern {
+    mask: u64,
+    value: u64,
+    step: u64,
+}
+
+impl RunPattern {
+    /// The pattern of the entries that go on from this one, which is lawful.
+    ///
+    /// Compressed entries have bit 62. Entries with a host cluster have the offset of the next one each time,
+    /// and the same zero flag; entries without have none. The copied flag tells nothing, but where it tells
+    /// cluster 0 of an external data file from none.
+    #[inline]
+    pub(crate) fn of(entry: L2Entry, cluster_bits: u32, external_data_file: bool) -> RunPattern
+        requires cluster_bits { IsClusterBits cluster_bits }
+        requires lawful { l2_fault cluster_bits entry ≡ None }
+        ensures exact { (k v c other : ℕ) → 1 ≤ k → k ≤ 262144 → v < 2 ^ 64 → l2_fault cluster_bits v ≡ None →
+            follows result k v ≡ goes_on k (mapping (geometry cluster_bits external_data_file) c entry)
+            (mapping (geometry cluster_bits external_data_file) other v) }
+        ensures fits { result.value + 262144 * result.step < 2 ^ 64 }
+    {
+        if entry.is_compressed() {
+            return RunPattern {
+                mask: 1 << 62,
+                value: 1 << 62,
+                step: 0,
+            };
+        }
+        let has_cluster = entry.cluster_offset(external_data_file).is_some();
+        let value = entry.without_copied().to_plain();
+        if has_cluster {
+            RunPattern {
+                mask: (1 << 63) - 1,
+                value,
+                step: 1 << cluster_bits,
+            }
+        } else if external_data_file {
+            RunPattern {
+                mask: u64::MAX,
+                value,
+                step: 0,
+            }
+        } else {
+            RunPattern {
+                mask: (1 << 63) - 1,
+                value,
+                step: 0,
+            }
+        }
+    }
+
+    /// How many entries follow the pattern, of these that come after its first.
+    #[inline]
+    pub(crate) fn count(&self, entries: &[AtomicL2Entry]) -> usize
+        requires { self.now.value + length entries.now * self.now.step < 2 ^ 64 }
+        ensures within { result ≤ length entries.now }
+        ensures each { (k : ℕ) → k < result → follows self.now (k + 1) (slice_index entries.now k) ≡ true }
+        ensures ends { result < length entries.now →
+            follows self.now (result + 1) (slice_index entries.now result) ≡ false }
+    {
+        let mut expected = self.value;
+        for (index, entry) in entries.iter().enumerate() {
+            expected += self.step;
+            if entry.to_plain() & self.mask != expected {
+                return index;
+            }
+        }
+        entries.len()
+    }
+}
