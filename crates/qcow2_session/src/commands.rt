@@ -60,7 +60,7 @@ pub fn run_words<R: Files + AllocGlobal, O: Write, E: Write>(
     let [name, image, arguments @ ..] = words else {
         return refuse_words(err);
     };
-    match Command::read(rt.alloc(), name.as_str(), arguments) {
+    match Command::parse(rt.alloc(), name.as_str(), arguments) {
         Some(Ok(command)) => status_of(run_and_flush(rt, image.as_str(), &command, out), err),
         Some(Err(error)) => report_fault(Fault::from(error), err),
         None => refuse_words(err),

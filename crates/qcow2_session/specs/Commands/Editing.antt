@@ -17,11 +17,11 @@ use Rattle.qcow2_session.specs.declared.session.edits.Edit.{Edit}
 -- the cluster that the L2 table of an L1 entry begins with, or why there is none
 abbrev pub named_table : HeaderRecord → ℕ → Image → Result HostCluster Fault
 named_table header l1_index image = and_then (loaded_l1_table (l1_place header) image) (λ l1.
-    placed (named_cluster header.v2.cluster_bits (slice_index l1 l1_index)))
+    or_not_placed (named_cluster header.v2.cluster_bits (slice_index l1 l1_index)))
   where
-    placed : Option HostCluster → Result HostCluster Fault
-    placed None = Err NotPlaced
-    placed (Some cluster) = Ok cluster
+    or_not_placed : Option HostCluster → Result HostCluster Fault
+    or_not_placed None = Err NotPlaced
+    or_not_placed (Some cluster) = Ok cluster
 
 -- how L2 tables stand in an image with this header
 abbrev pub table_format : HeaderRecord → ClusterFormat

@@ -117,11 +117,11 @@ abbrev pub command_of : List (List ℕ) → Option Command
 command_of (name ∷ image ∷ arguments) = asked_for name arguments
 command_of _ = None
 
--- words were read: they mean this, or what there is no memory for, or nothing
-abbrev pub Reads : {T E : Type 0} → Option (Result T E) → Option T → Type 0
-Reads None meant = meant ≡ None
-Reads (Some (Ok value)) meant = meant ≡ Some value
-Reads (Some (Err error)) meant = IsSome meant
+-- words were parsed: they mean this, or what there is no memory for, or nothing
+abbrev pub Parses : {T E : Type 0} → Option (Result T E) → Option T → Type 0
+Parses None meant = meant ≡ None
+Parses (Some (Ok value)) meant = meant ≡ Some value
+Parses (Some (Err error)) meant = IsSome meant
 
 -- whether a command may change its image
 abbrev pub changes_image : Command → Bool

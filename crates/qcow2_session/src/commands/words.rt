@@ -2,7 +2,7 @@
 
 ghost use Rattle.std.specs.Prelude.{◌≡◌, ℕ, List, Option, map, option_map, string_bytes};
 ghost use Rattle.qcow2_session.specs.Commands.Words as spec;
-ghost use Rattle.qcow2_session.specs.Commands.Words.{Reads};
+ghost use Rattle.qcow2_session.specs.Commands.Words.{Parses};
 
 use crate::session::{Edit, Step};
 use qcow2_base::{GuestOffset, HostCluster};
@@ -73,12 +73,12 @@ impl<T> Model for Changes<T> {
 impl Command {
     /// The command that a name and the words after the image's name ask for, if they ask for one. Fails
     /// only for want of memory, and only where they do.
-    pub fn read(
+    pub fn parse(
         alloc: Global,
         name: &str,
         arguments: &[String],
     ) -> Option<Result<Command, AllocError>>
-        ensures { Reads result (spec.asked_for name.now (map string_bytes arguments.now)) }
+        ensures { Parses result (spec.asked_for name.now (map string_bytes arguments.now)) }
     {
         match name {
             "l2" => Command::of_table(arguments),
@@ -103,7 +103,7 @@ impl Command {
 
     // The command, if there are no words after its image.
     fn alone(self, arguments: &[String]) -> Option<Result<Command, AllocError>>
-        ensures { Reads result (spec.without_arguments self (map string_bytes arguments.now)) }
+        ensures { Parses result (spec.without_arguments self (map string_bytes arguments.now)) }
     {
         if arguments.is_empty() {
             Some(Ok(self))
@@ -114,20 +114,20 @@ impl Command {
 
     // What the words of the command `l2` ask for.
     fn of_table(arguments: &[String]) -> Option<Result<Command, AllocError>>
-        ensures { Reads result (spec.table_of (map string_bytes arguments.now)) }
+        ensures { Parses result (spec.table_of (map string_bytes arguments.now)) }
     {
         let [cluster_bits, cluster] = arguments else {
             return None;
         };
         Some(Ok(Command::ListTable {
-            cluster_bits: ClusterBits::read(cluster_bits.as_str())?,
+            cluster_bits: ClusterBits::parse(cluster_bits.as_str())?,
             cluster: HostCluster(number(cluster.as_str())?),
         }))
     }
 
     // What the words of the command `at` ask for.
     fn of_mapping(arguments: &[String]) -> Option<Result<Command, AllocError>>
-        ensures { Reads result (spec.mapping_of (map string_bytes arguments.now)) }
+        ensures { Parses result (spec.mapping_of (map string_bytes arguments.now)) }
     {
         let [guest_offset] = arguments else {
             return None;
@@ -138,13 +138,13 @@ impl Command {
 
     // What the words of the command `edit` ask for.
     fn of_edits(alloc: Global, arguments: &[String]) -> Option<Result<Command, AllocError>>
-        ensures { Reads result (spec.edits_of (map string_bytes arguments.now)) }
+        ensures { Parses result (spec.edits_of (map string_bytes arguments.now)) }
     {
         let [l1_index, words @ ..] = arguments else {
             return None;
         };
         let l1_index = number(l1_index.as_str())? as usize;
-        match Changes::read(alloc, words)? {
+        match Changes::parse(alloc, words)? {
             Ok(edits) => Some(Ok(Command::EditEntries { l1_index, edits })),
             Err(error) => Some(Err(error)),
         }
@@ -152,13 +152,13 @@ impl Command {
 
     // What the words of the command `count` ask for.
     fn of_steps(alloc: Global, arguments: &[String]) -> Option<Result<Command, AllocError>>
-        ensures { Reads result (spec.steps_of (map string_bytes arguments.now)) }
+        ensures { Parses result (spec.steps_of (map string_bytes arguments.now)) }
     {
         let [cluster, words @ ..] = arguments else {
             return None;
         };
         let cluster = HostCluster(number(cluster.as_str())?);
-        match Changes::read(alloc, words)? {
+        match Changes::parse(alloc, words)? {
             Ok(steps) => Some(Ok(Command::CountReferences { cluster, steps })),
             Err(error) => Some(Err(error)),
         }
@@ -177,7 +177,7 @@ impl ClusterBits {
     }
 
     // The number that a word says, if it is one of cluster bits.
-    fn read(word: &str) -> Option<ClusterBits>
+    fn parse(word: &str) -> Option<ClusterBits>
         ensures { result ≡ spec.cluster_bits_of word.now }
     {
         match number(word)? {
@@ -247,8 +247,8 @@ impl<T> Changes<T> {
 
 impl<T: Said> Changes<T> {
     // The changes that words say, if each says one.
-    fn read(alloc: Global, words: &[String]) -> Option<Result<Changes<T>, AllocError>>
-        ensures { Reads result (spec.all_of T.said (map string_bytes words.now)) }
+    fn parse(alloc: Global, words: &[String]) -> Option<Result<Changes<T>, AllocError>>
+        ensures { Parses result (spec.all_of T.said (map string_bytes words.now)) }
     {
         let mut list = Vec::with_capacity(alloc, words.len());
         for word in words {

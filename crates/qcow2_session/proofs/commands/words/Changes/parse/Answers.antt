@@ -2,8 +2,8 @@ use Rattle.std.proofs.Common.{◌≡◌, ◌+◌, ◌-◌, ◌≤◌, ◌++◌, 
 use Rattle.qcow2_session.specs.Commands.Words.{all_of}
 use Rattle.std.specs.Vec.{vec_capacity}
 use Rattle.qcow2_session.proofs.WordsLemmas.{said-kept, said-more, said-none}
-use Rattle.qcow2_session.proofs.commands.words.Changes.read.Goals as goal
-use Rattle.qcow2_session.proofs.commands.words.Changes.read.Goals.{in-Ok, in_default}
+use Rattle.qcow2_session.proofs.commands.words.Changes.parse.Goals as goal
+use Rattle.qcow2_session.proofs.commands.words.Changes.parse.Goals.{in-Ok, in_default}
 
 pub returns-in_err-change : goal.returns-in_err-change
 returns-in_err-change g c =
