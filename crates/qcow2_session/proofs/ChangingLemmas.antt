@@ -1,14 +1,13 @@
 use Rattle.std.proofs.Common.{◌≡◌, ◌≢◌, ◌⊎◌, ℕ, false, List, [], ◌∷◌, Option, Result, Ok, Err, OnOk, IsTrue, inl, inr, refl, true≢false}
 use Rattle.std.specs.Result.{IfOk, IsOkAnd, IsOkUnless, MatchResult}
 use Rattle.std.specs.Io.KnownBytes.{Appends}
+use Rattle.std.proofs.lemmas.Bool.{cases_eq}
 use Rattle.qcow2_base.specs.Storage.{Image, StorageState}
 use Rattle.qcow2_base.specs.declared.fault.Fault.{Fault}
 use Rattle.qcow2_base.specs.declared.fault.Fault.TheVariants.{NoMemory, Storage}
-use Rattle.qcow2_base.specs.declared.types.HostCluster.{HostCluster}
 use Rattle.qcow2_metadata.specs.Results.{result_map}
-use Rattle.qcow2_metadata.specs.Header.{HeaderRecord}
 use Rattle.qcow2_session.proofs.PrintingLemmas.{refusal-of}
-use Rattle.qcow2_session.specs.Changing.{Change, PrintsChange, SameOutsideCluster, change_end}
+use Rattle.qcow2_session.specs.Commands.{ChangeEnd, ClusterFormat, PrintsChange, SameOutsideCluster}
 use Rattle.qcow2_session.specs.Session.Edits.{are_some}
 use Rattle.qcow2_session.specs.declared.session.edits.Edit.{Edit}
 
@@ -17,92 +16,143 @@ none-of : (edits : List Edit) → are_some edits ≡ false → edits ≡ []
 none-of [] none = refl
 none-of (edit ∷ edits) none = absurd (true≢false none)
 
--- which bytes stay where nothing is to be written
-abbrev StaysIdle : {End : Type 0} → Change End → Result End Fault → Image → Image → Type 0
-StaysIdle change end old new = IfOk end (λ left. change.writes left ≡ false → new ≡ old)
-
--- which bytes stay where a call of the image failed
-abbrev LeavesTorn : {End : Type 0} → Change End → HostCluster → Result End Fault → Image → Image → Type 0
-LeavesTorn change cluster end old new = (new ≡ old) ⊎ IsOkAnd end (λ left. change.Torn cluster left old new)
-
--- a change was made, and then printed, if the output didn't fail
-pub change-printed : {T End : Type 0} (answer : Result T Fault) (header : HeaderRecord) (change : Change End) (cluster : HostCluster) (left : End) (old new : StorageState) (a b : Option (List ℕ))
-    → (IsTrue old.tells → change.place old.byte_at ≡ Ok cluster)
-    → (IsTrue old.tells → change.run cluster old.byte_at ≡ Ok left)
-    → (IsTrue old.tells → change.loaded cluster new.byte_at ≡ result_map change.numbers (change.run cluster old.byte_at))
-    → new.failures ≡ old.failures
-    → (IsTrue old.tells → StaysIdle change (change.run cluster old.byte_at) old.byte_at new.byte_at)
-    → (IsTrue old.tells → SameOutsideCluster header cluster old.byte_at new.byte_at)
-    → IsOkUnless answer Storage → OnOk answer (Appends a b (change.lines left)) → PrintsChange answer header change old new a b
-change-printed (Ok value) header change cluster left old new a b named is written calm idle outside fault printed = record {
-  lines = λ told. rw (named told, is told) printed;
-  written = λ made told. rw (named told) (written told);
-  refused = tt;
-  unchanged = tt;
-  torn = λ told failed. absurd (failed calm);
-  idle = λ told. rw (named told) (idle told);
-  others = λ told. rw (named told) (outside told);
-}
-change-printed (Err error) header change cluster left old new a b named is written calm idle outside fault printed = record {
-  lines = tt;
-  written = λ made told. rw (named told) (written told);
-  refused = λ told. inr (inr (fault, inr (rw (named told, is told) refl)));
-  unchanged = λ other. absurd (other fault);
-  torn = λ told failed. absurd (failed calm);
-  idle = λ told. rw (named told) (idle told);
-  others = λ told. rw (named told) (outside told);
-}
-
 -- what holds of any value holds of that of an answer
-of-any : {V E : Type 0} {P : V → Type 0} (answer : Result V E) → ((value : V) → P value) → IfOk answer P
+pub of-any : {V E : Type 0} {P : V → Type 0} (answer : Result V E) → ((value : V) → P value) → IfOk answer P
 of-any (Ok value) all = all value
 of-any (Err error) all = tt
-
--- no byte changed, wherever the change was to be
-unchanged-anywhere : (header : HeaderRecord) (place : Result HostCluster Fault) (old new : Image) → new ≡ old
-    → MatchResult place (λ cluster. SameOutsideCluster header cluster old new) (λ fault. new ≡ old)
-unchanged-anywhere header (Ok cluster) old new same = rw same (record { before = λ o below. refl; after = λ o past. refl })
-unchanged-anywhere header (Err fault) old new same = same
 
 -- a list without an edit leaves an image as it was
 pub idle-edits : {End : Type 0} (edits : List Edit) (end : Result End Fault) (old new : Image) → (edits ≡ [] → new ≡ old)
     → IfOk end (λ left. are_some edits ≡ false → new ≡ old)
 idle-edits edits end old new idle = of-any end (λ left none. idle (none-of edits none))
 
--- there is no place for a change, so none is made
-pub change-unplaced : {T End : Type 0} (fault : Fault) (header : HeaderRecord) (change : Change End) (old new : StorageState) (a b : Option (List ℕ))
-    → (IsTrue old.tells → (fault ≡ Storage) ⊎ (fault ≡ NoMemory) ⊎ (change.place old.byte_at ≡ Err fault))
-    → (fault ≡ Storage → new.failures ≢ old.failures) → new.byte_at ≡ old.byte_at
-    → PrintsChange {T = T} (Err fault) header change old new a b
-change-unplaced fault header change old new a b refused failed same = record {
+-- a run of which a part is known left something
+ok-left : {E V : Type 0} (run : Result E Fault) (part : E → V) (value : V) → result_map part run ≡ Ok value → (left : E) × (run ≡ Ok left) × (part left ≡ value)
+ok-left (Ok left) part value is = (left, refl, cc)
+ok-left (Err fault) part value is = cc
+
+-- what follows from a part of what a run left
+pub part-follows : {E V L : Type 0} (run : Result E Fault) (part : E → V) (next : V → L) (value : V) → result_map part run ≡ Ok value
+    → result_map (λ left. next (part left)) run ≡ Ok (next value)
+part-follows (Ok left) part next value is = let same : part left ≡ value = cc in rw same refl
+part-follows (Err fault) part next value is = cc
+
+-- a run is refused where a part of what it leaves is
+pub part-refused : {E V : Type 0} (run : Result E Fault) (part : E → V) (fault : Fault) → result_map part run ≡ Err fault → run ≡ Err fault
+part-refused (Ok left) part fault is = cc
+part-refused (Err other) part fault is = cc
+
+-- the numbers that load are those that a run left
+pub loads-part : {E : Type 0} (run : Result E Fault) (part : E → List ℕ) (loaded : Result (List ℕ) Fault) → loaded ≡ result_map part run
+    → IfOk run (λ left. loaded ≡ Ok (part left))
+loads-part (Ok left) part loaded is = is
+loads-part (Err fault) part loaded is = tt
+
+-- which bytes stay, and which are written, where a change is told by what its run left
+abbrev Loads : {E : Type 0} → ClusterFormat → (E → ChangeEnd) → Result E Fault → Image → Type 0
+Loads format tell run new = IfOk run (λ left. format.loaded (tell left).cluster new ≡ Ok (tell left).numbers)
+
+abbrev StaysIdle : {E : Type 0} → (E → ChangeEnd) → Result E Fault → Image → Image → Type 0
+StaysIdle tell run old new = IfOk run (λ left. (tell left).is_written ≡ false → new ≡ old)
+
+abbrev StaysOutside : {E : Type 0} → ClusterFormat → (E → ChangeEnd) → Result E Fault → Image → Image → Type 0
+StaysOutside format tell run old new = IfOk run (λ left. SameOutsideCluster format.cluster_bits (tell left).cluster old new)
+
+abbrev LeavesTorn : {E : Type 0} → ClusterFormat → (E → ChangeEnd) → Result E Fault → Image → Image → Type 0
+LeavesTorn format tell run old new = (new ≡ old) ⊎ IsOkAnd run (λ left. format.Torn (tell left).cluster (tell left).numbers old new)
+
+-- a change was made, and then printed, if the output didn't fail
+pub change-printed : {T E : Type 0} (answer : Result T Fault) (format : ClusterFormat) (tell : E → ChangeEnd) (end : Result ChangeEnd Fault) (run : Result E Fault) (lines : List ℕ) (old new : StorageState) (a b : Option (List ℕ))
+    → (IsTrue old.tells → end ≡ result_map tell run)
+    → (IsTrue old.tells → result_map (λ left. (tell left).lines) run ≡ Ok lines)
+    → (IsTrue old.tells → Loads format tell run new.byte_at)
+    → new.failures ≡ old.failures
+    → (IsTrue old.tells → StaysIdle tell run old.byte_at new.byte_at)
+    → (IsTrue old.tells → StaysOutside format tell run old.byte_at new.byte_at)
+    → IsOkUnless answer Storage → OnOk answer (Appends a b lines) → PrintsChange answer format end old new a b
+change-printed (Ok value) format tell end run lines old new a b is made loads calm idle outside fault printed = record {
+  lines = λ told. let found = ok-left run (λ left. (tell left).lines) lines (made told) in rw (is told, found.1) (rw found.2 printed);
+  refused = tt;
+  written = λ calls told. let found = ok-left run (λ left. (tell left).lines) lines (made told) in rw (is told, found.1) (rw found.1 at (loads told));
+  unchanged = tt;
+  idle = λ told. let found = ok-left run (λ left. (tell left).lines) lines (made told) in rw (is told, found.1) (rw found.1 at (idle told));
+  others = λ told. let found = ok-left run (λ left. (tell left).lines) lines (made told) in rw (is told, found.1) (rw found.1 at (outside told));
+  torn = λ told failed. absurd (failed calm);
+}
+change-printed (Err error) format tell end run lines old new a b is made loads calm idle outside fault printed = record {
   lines = tt;
-  written = λ made. absurd (failed made.0 made.1);
-  refused = refusal-of fault (change_end change old.byte_at) old new (λ told. elim (refused told) [
-    | inl storage ↦ inl storage
-    | inr (inl memory) ↦ inr (inl memory)
-    | inr (inr bad) ↦ inr (inr (rw bad refl))
-  ]) failed;
-  unchanged = λ other. same;
-  torn = λ told call. inl same;
-  idle = λ told. of-any (change_end change old.byte_at) (λ left writes. same);
-  others = λ told. unchanged-anywhere header (change.place old.byte_at) old.byte_at new.byte_at same;
+  refused = λ told. let found = ok-left run (λ left. (tell left).lines) lines (made told) in inr (inr (fault, inr (rw (is told, found.1) refl)));
+  written = λ calls told. let found = ok-left run (λ left. (tell left).lines) lines (made told) in rw (is told, found.1) (rw found.1 at (loads told));
+  unchanged = λ other. absurd (other fault);
+  idle = λ told. let found = ok-left run (λ left. (tell left).lines) lines (made told) in rw (is told, found.1) (rw found.1 at (idle told));
+  others = λ told. let found = ok-left run (λ left. (tell left).lines) lines (made told) in rw (is told, found.1) (rw found.1 at (outside told));
+  torn = λ told failed. absurd (failed calm);
 }
 
--- there is a place for a change, which is refused
-pub change-refused : {T End : Type 0} (fault : Fault) (header : HeaderRecord) (change : Change End) (cluster : HostCluster) (old new : StorageState) (a b : Option (List ℕ))
-    → (IsTrue old.tells → change.place old.byte_at ≡ Ok cluster)
-    → (IsTrue old.tells → (fault ≡ Storage) ⊎ (fault ≡ NoMemory) ⊎ (change.run cluster old.byte_at ≡ Err fault))
-    → (fault ≡ Storage → new.failures ≢ old.failures) → (fault ≢ Storage → new.byte_at ≡ old.byte_at)
-    → (IsTrue old.tells → new.failures ≢ old.failures → LeavesTorn change cluster (change.run cluster old.byte_at) old.byte_at new.byte_at)
-    → (IsTrue old.tells → StaysIdle change (change.run cluster old.byte_at) old.byte_at new.byte_at)
-    → (IsTrue old.tells → SameOutsideCluster header cluster old.byte_at new.byte_at)
-    → PrintsChange {T = T} (Err fault) header change old new a b
-change-refused fault header change cluster old new a b named refused failed unchanged torn idle outside = record {
+-- there is no place for a change, so none is made
+pub change-unplaced : {T : Type 0} (fault : Fault) (format : ClusterFormat) (end : Result ChangeEnd Fault) (old new : StorageState) (a b : Option (List ℕ))
+    → (IsTrue old.tells → (fault ≡ Storage) ⊎ (fault ≡ NoMemory) ⊎ (end ≡ Err fault))
+    → (fault ≡ Storage → new.failures ≢ old.failures) → new.byte_at ≡ old.byte_at
+    → PrintsChange {T = T} (Err fault) format end old new a b
+change-unplaced fault format end old new a b refused failed same = record {
   lines = tt;
+  refused = refusal-of fault end old new refused failed;
   written = λ made. absurd (failed made.0 made.1);
-  refused = refusal-of fault (change_end change old.byte_at) old new (λ told. rw (named told) (refused told)) failed;
+  unchanged = λ other. same;
+  idle = λ told. of-any end (λ left writes. same);
+  others = λ told. unchanged-anywhere format end old.byte_at new.byte_at same;
+  torn = λ told call. inl same;
+}
+  where
+    unchanged-anywhere : (format : ClusterFormat) (end : Result ChangeEnd Fault) (old new : Image) → new ≡ old
+        → MatchResult end (λ left. SameOutsideCluster format.cluster_bits left.cluster old new) (λ fault. new ≡ old)
+    unchanged-anywhere format (Ok left) old new same = rw same (record { before = λ o below. refl; after = λ o past. refl })
+    unchanged-anywhere format (Err fault) old new same = same
+
+-- what a refused change leaves outside its cluster, where there is one
+outside-refused : {E : Type 0} (fault : Fault) (format : ClusterFormat) (tell : E → ChangeEnd) (run : Result E Fault) (old new : StorageState)
+    → (fault ≡ Storage → new.failures ≢ old.failures) → (fault ≢ Storage → new.byte_at ≡ old.byte_at)
+    → (new.failures ≢ old.failures → LeavesTorn format tell run old.byte_at new.byte_at)
+    → StaysOutside format tell run old.byte_at new.byte_at
+    → MatchResult (result_map tell run) (λ left. SameOutsideCluster format.cluster_bits left.cluster old.byte_at new.byte_at) (λ other. new.byte_at ≡ old.byte_at)
+outside-refused fault format tell (Ok left) old new failed unchanged torn outside = outside
+outside-refused fault format tell (Err other) old new failed unchanged torn outside = elim (cases_eq new.failures old.failures) [
+  | inl calm ↦ unchanged (λ storage. failed storage calm)
+  | inr moved ↦ elim (torn moved) [
+    | inl same ↦ same
+    | inr none ↦ absurd none
+  ]
+]
+
+told-torn : {E : Type 0} (format : ClusterFormat) (tell : E → ChangeEnd) (run : Result E Fault) (old new : Image) → LeavesTorn format tell run old new
+    → (new ≡ old) ⊎ IsOkAnd (result_map tell run) (λ left. format.Torn left.cluster left.numbers old new)
+told-torn format tell (Ok left) old new torn = torn
+told-torn format tell (Err fault) old new torn = torn
+
+told-idle : {E : Type 0} (tell : E → ChangeEnd) (run : Result E Fault) (old new : Image) → StaysIdle tell run old new
+    → IfOk (result_map tell run) (λ left. left.is_written ≡ false → new ≡ old)
+told-idle tell (Ok left) old new idle = idle
+told-idle tell (Err fault) old new idle = tt
+
+-- there is a place for a change, which is refused
+pub change-refused : {T E : Type 0} (fault : Fault) (format : ClusterFormat) (tell : E → ChangeEnd) (end : Result ChangeEnd Fault) (run : Result E Fault) (old new : StorageState) (a b : Option (List ℕ))
+    → (IsTrue old.tells → end ≡ result_map tell run)
+    → (IsTrue old.tells → (fault ≡ Storage) ⊎ (fault ≡ NoMemory) ⊎ (run ≡ Err fault))
+    → (fault ≡ Storage → new.failures ≢ old.failures) → (fault ≢ Storage → new.byte_at ≡ old.byte_at)
+    → (IsTrue old.tells → new.failures ≢ old.failures → LeavesTorn format tell run old.byte_at new.byte_at)
+    → (IsTrue old.tells → StaysIdle tell run old.byte_at new.byte_at)
+    → (IsTrue old.tells → StaysOutside format tell run old.byte_at new.byte_at)
+    → PrintsChange {T = T} (Err fault) format end old new a b
+change-refused fault format tell end run old new a b is refused failed unchanged torn idle outside = record {
+  lines = tt;
+  refused = refusal-of fault end old new (λ told. elim (refused told) [
+    | inl storage ↦ inl storage
+    | inr (inl memory) ↦ inr (inl memory)
+    | inr (inr bad) ↦ inr (inr (rw (is told, bad) refl))
+  ]) failed;
+  written = λ made. absurd (failed made.0 made.1);
   unchanged = unchanged;
-  torn = λ told call. rw (named told) (torn told call);
-  idle = λ told. rw (named told) (idle told);
-  others = λ told. rw (named told) (outside told);
+  idle = λ told. rw (is told) (told-idle tell run old.byte_at new.byte_at (idle told));
+  others = λ told. rw (is told) (outside-refused fault format tell run old new failed unchanged (torn told) (outside told));
+  torn = λ told call. rw (is told) (told-torn format tell run old.byte_at new.byte_at (torn told call));
 }

@@ -1,13 +1,12 @@
-use Rattle.std.proofs.Common.{◌≡◌, ◌≢◌, ℕ, ◌^◌, ◌<◌, ◌≤◌, Bool, true, false, ◌&&◌, nat_lt, nat_le, map, Option, List, [], ◌∷◌, length, get_or, Some, None, Result, Ok, Err, ap, refl, sym, ◌∙◌, arith, if◌then◌else◌}
+use Rattle.std.proofs.Common.{◌≡◌, ◌≢◌, ℕ, ◌^◌, ◌<◌, ◌≤◌, Bool, true, false, ◌&&◌, nat_lt, nat_le, Option, List, [], ◌∷◌, length, get_or, Some, None, Result, Ok, Err, ap, refl, sym, ◌∙◌, arith, if◌then◌else◌}
 use Rattle.std.proofs.lemmas.Bool.Decides.{nat_tests}
 use Rattle.std.proofs.lemmas.Str.Parse.{IsNumeralModel, numerals_by_value, tells_all_ascii_digits, parse_plain}
-use Rattle.std.specs.List.{cons_option, filter_map}
 use Rattle.std.specs.Option.{IfSome}
 use Rattle.qcow2_base.specs.declared.fault.Fault.{Fault}
 use Rattle.std.specs.Result.{IfErr, IsErr, result_ok}
 use Rattle.std.specs.Str.{all_ascii_digits}
 use Rattle.std.specs.Str.Parse.{ParsesUnsigned, digits_value}
-use Rattle.qcow2_session.specs.Commands.{command_of, word_number}
+use Rattle.qcow2_session.specs.Commands.Words.{command_of, word_number}
 
 digits : IsNumeralModel (λ word. all_ascii_digits word ≡ true) (digits_value 10)
 digits = numerals_by_value _ tells_all_ascii_digits
@@ -39,15 +38,10 @@ number_of_parsed E word (Err e) plain short parsed =
     ap (λ (b : Bool). if b then Some value else None) (sym fails)
 
 -- a command has a name and an image
-pub too_few_words : (words : List (List ℕ)) → length words < 2 → None ≡ command_of words
+pub too_few_words : (words : List (List ℕ)) → length words < 2 → command_of words ≡ None
 too_few_words [] few = refl
 too_few_words (word ∷ []) few = refl
 too_few_words (word ∷ other ∷ words) few = absurd (omega (arith, few))
-
--- what is found in changed items is found by the change and then the search
-pub filter_map-map : {X Y Z : Type 0} (h : Y → Option Z) (f : X → Y) (xs : List X) → filter_map h (map f xs) ≡ filter_map (λ x. h (f x)) xs
-filter_map-map h f [] = refl
-filter_map-map h f (x ∷ xs) = ap (cons_option (h (f x))) (filter_map-map h f xs)
 
 -- what holds where there is a place's fault, and what follows from it
 pub IfSome-follows : {X : Type 0} {P Q : X → Type 0} (found : Option X) → ((x : X) → P x → Q x) → IfSome found P → IfSome found Q

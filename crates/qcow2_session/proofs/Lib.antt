@@ -18,6 +18,8 @@ pub mod ListingLemmas
 pub mod LookupsLemmas
 pub mod PrintingLemmas
 pub mod ReportLemmas
+pub mod RunningLemmas
 pub mod SettledLemmas
 pub mod StepsLemmas
 pub mod WholeImageLemmas
+pub mod WordsLemmas

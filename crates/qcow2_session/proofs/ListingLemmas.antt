@@ -15,9 +15,9 @@ use Rattle.qcow2_metadata.specs.Entries.L2Mapping.{Mapping, mapping}
 use Rattle.qcow2_session.proofs.LinesLemmas.{entry_lines-take-suc}
 use Rattle.qcow2_session.proofs.PrintingLemmas.{PrintsSome-none}
 use Rattle.qcow2_session.specs.Lines.{entry_line, entry_lines}
-use Rattle.qcow2_session.specs.Commands.Listing.{lines_before, lines_by, lines_kept, lines_kept_of_image, lines_of_image, lines_of_tables}
+use Rattle.qcow2_session.specs.Commands.Listing.{lines_before, lines_before_fault, lines_by, lines_kept, lines_kept_of_image, lines_of_image, lines_of_tables, listed_lines}
 use Rattle.qcow2_session.specs.Session.Lookups.{l1_place, named_cluster}
-use Rattle.qcow2_session.specs.Printing.{PrintsSome}
+use Rattle.qcow2_session.specs.Commands.{PrintsSome}
 
 -- the offset of each guest cluster that an L1 table of the most entries leads to fits 64 bits
 pub guest_offset-fits : (cb index l2_index : ℕ) → cb ≤ 21 → index < 4194304 → l2_index < 2 ^ (cb - 3) → (index * 2 ^ (cb - 3) + l2_index) * 2 ^ cb < 2 ^ 64
@@ -143,11 +143,10 @@ header-refused fault image a refused = PrintsSome-none fault (lines_of_image ima
 ])
 
 pub l1-refused : {T : Type 0} (fault : Fault) (header : HeaderRecord) (image : StorageState) (a : Option (List ℕ))
-    → (IsTrue image.tells → header_of image.byte_at ≡ Ok header)
     → (IsTrue image.tells → (fault ≡ Storage) ⊎ (fault ≡ NoMemory) ⊎ (loaded_l1_table (l1_place header) image.byte_at ≡ Err fault))
-    → PrintsSome {T = T} (Err fault) (lines_of_image image.byte_at) (lines_kept_of_image image.byte_at) image a a
-l1-refused fault header image a read refused = PrintsSome-none fault (lines_of_image image.byte_at) (lines_kept_of_image image.byte_at) image a (λ told. elim (refused told) [
+    → PrintsSome {T = T} (Err fault) (listed_lines header image.byte_at) (lines_before_fault header image.byte_at) image a a
+l1-refused fault header image a refused = PrintsSome-none fault (listed_lines header image.byte_at) (lines_before_fault header image.byte_at) image a (λ told. elim (refused told) [
   | inl storage ↦ inl storage
   | inr (inl memory) ↦ inr (inl memory)
-  | inr (inr bad) ↦ inr (inr (rw (read told, bad) refl, rw (read told, bad) refl))
+  | inr (inr bad) ↦ inr (inr (rw bad refl, rw bad refl))
 ])

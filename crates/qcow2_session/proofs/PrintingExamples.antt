@@ -4,26 +4,27 @@ use Rattle.std.specs.Fmt.{digits}
 use Rattle.qcow2_base.specs.declared.fault.Fault.TheVariants.{EntryReserved, NotQcow2}
 use Rattle.qcow2_session.proofs.SampleImage.{byte, computing, entry, laid, plain, sample}
 use Rattle.qcow2_session.specs.Commands.Listing.{lines_kept_of_image, lines_of_image}
-use Rattle.qcow2_session.specs.Printing.{line_at, lines_of_info, lines_of_l2_table}
+use Rattle.qcow2_session.specs.Commands.L2.{lines_of_l2_table}
+use Rattle.qcow2_session.specs.Commands.Running.{line_in_image, lines_of_info}
 
 -- what each command prints of the sample image
 pub info_of_the_sample : lines_of_info (laid sample) ≡ Ok (codes "version 3\ncluster-bits 9\nsize 32768\nrefcount-order 4\nl1 0x200 1\nrefcount-table 0x0 0\nbacking none\nformat none\nexternal no\ndata-file none\n")
 unfolding computing digits
 info_of_the_sample = refl
 
-pub at_an_offset_with_data : line_at 1543 (laid sample) ≡ Ok (codes "data 0xa00 copied\n")
+pub at_an_offset_with_data : line_in_image 1543 (laid sample) ≡ Ok (codes "data 0xa00 copied\n")
 unfolding computing digits
 at_an_offset_with_data = refl
 
-pub at_offset_0 : line_at 0 (laid sample) ≡ Ok (codes "backing 0x0\n")
+pub at_offset_0 : line_in_image 0 (laid sample) ≡ Ok (codes "backing 0x0\n")
 unfolding computing digits
 at_offset_0 = refl
 
-pub at_the_end_of_the_disk : line_at 32768 (laid sample) ≡ Ok (codes "backing 0x8000\n")
+pub at_the_end_of_the_disk : line_in_image 32768 (laid sample) ≡ Ok (codes "backing 0x8000\n")
 unfolding computing digits
 at_the_end_of_the_disk = refl
 
-pub at_the_last_offset : line_at 18446744073709551615 (laid sample) ≡ Ok (codes "backing 0xfffffffffffffe00\n")
+pub at_the_last_offset : line_in_image 18446744073709551615 (laid sample) ≡ Ok (codes "backing 0xfffffffffffffe00\n")
 unfolding computing digits
 at_the_last_offset = refl
 

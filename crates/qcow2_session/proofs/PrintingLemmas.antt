@@ -4,13 +4,14 @@ use Rattle.std.specs.Io.KnownBytes.{Appends}
 use Rattle.std.proofs.KnownBytes.{Appends-nil, Appends-trans}
 use Rattle.std.proofs.lemmas.Grind.{flat_map-append}
 use Rattle.std.proofs.lemmas.List.{take_more}
-use Rattle.qcow2_base.specs.Storage.{StorageState}
+use Rattle.std.proofs.lemmas.Bool.{cases_eq}
+use Rattle.qcow2_base.specs.Storage.{OnlyReads, StorageState}
 use Rattle.qcow2_base.specs.declared.fault.Fault.{Fault}
 use Rattle.qcow2_base.specs.declared.fault.Fault.TheVariants.{NoMemory, Storage}
 use Rattle.qcow2_metadata.specs.Results.{result_map}
 use Rattle.qcow2_metadata.specs.Header.{HeaderRecord}
 use Rattle.qcow2_metadata.specs.Header.Open.{opened}
-use Rattle.qcow2_session.specs.Printing.{IsRefusal, Prints, PrintsSome}
+use Rattle.qcow2_session.specs.Commands.{IsRefusal, Prints, PrintsSome}
 
 -- what was printed before, and then these lines, if the print of these succeeds
 pub then_prints : {T E : Type 0} (answer : Result T E) (a b c : Option (List ℕ)) (lines more : List ℕ) → Appends a b lines → OnOk answer (Appends b c more) → OnOk answer (Appends a c (lines ++ more))
@@ -60,6 +61,24 @@ pub printed-more : {X : Type 0} (line : X → List ℕ) (items : List X) (i : �
 printed-more line items i default a b c below before here =
     rw (take_more items i default below, flat_map-append line (take i items) (get_or items i default ∷ []), append-nil (line (get_or items i default)))
     (Appends-trans a b c _ _ before here)
+
+-- what is meant by the bytes, after a header was loaded by who only reads
+pub Prints-after : {T : Type 0} (header : HeaderRecord) (answer : Result T Fault) (meant same : Result (List ℕ) Fault) (old between new : StorageState) (a b : Option (List ℕ))
+    → (IsTrue old.tells → meant ≡ same) → OnlyReads (Ok header) old between → Prints answer same between new a b → Prints answer meant old new a b
+Prints-after header (Ok value) meant same old between new a b is reads prints = record {
+  lines = λ told. rw (is told) (prints.lines (reads.device.tells ∙ told));
+  refused = tt;
+}
+Prints-after header (Err fault) meant same old between new a b is reads prints = record {
+  lines = tt;
+  refused = λ told. rw (is told, ← calm header old between reads) (prints.refused (reads.device.tells ∙ told));
+}
+  where
+    calm : (header : HeaderRecord) (old between : StorageState) → OnlyReads (Ok header) old between → between.failures ≡ old.failures
+    calm header old between reads = elim (cases_eq between.failures old.failures) [
+      | inl same ↦ same
+      | inr moved ↦ let failed = reads.told.1 moved in cc
+    ]
 
 -- what is meant by the bytes, in other words
 pub PrintsSome-same : {T : Type 0} (answer : Result T Fault) (meant same : Result (List ℕ) Fault) (kept same_kept : List ℕ) (old new : StorageState) (a b : Option (List ℕ))

@@ -1,12 +1,12 @@
 //! The commands of the program `qmeta`: reading a command line, running it over a storage, and what
 //! it answers.
 
-ghost use Rattle.std.specs.Prelude.{◌≡◌, ◌≢◌, ◌≤◌, ◌↔◌, None, Err, map, string_bytes, IsErr, IsOk, IsTrue, IfErr, IfSome, OnOk, MatchResult};
+ghost use Rattle.std.specs.Prelude.{◌≡◌, ◌≢◌, ◌≤◌, ◌↔◌, None, Ok, Err, map, string_bytes, IsErr, IsOk, IsTrue, IfErr, IfSome, OnOk, MatchResult};
 ghost use Rattle.std.specs.Io.KnownBytes.{Keeps};
 ghost use Rattle.qcow2_base.specs.declared.fault.Fault.TheVariants.{Storage as StorageFailed};
-ghost use Rattle.qcow2_session.specs.Commands.{command_of, is_silent_on_faults, place_fault_of};
 ghost use Rattle.qcow2_session.specs.Commands.Report.{Reports};
-ghost use Rattle.qcow2_session.specs.Commands.Words.{line_of};
+ghost use Rattle.qcow2_session.specs.Commands.Running.{is_silent_on_faults, place_fault_of};
+ghost use Rattle.qcow2_session.specs.Commands.Words.{command_of};
 
 use qcow2_base::{Fault, FileStorage};
 use std::io;
@@ -16,6 +16,7 @@ use std::rt::Files;
 mod at;
 mod count;
 mod edit;
+mod entries;
 mod info;
 mod l2;
 mod list;
@@ -31,8 +32,8 @@ pub use l2::list_l2_table;
 pub use list::list_tables;
 use report::refuse_words;
 pub use report::report_fault;
-use running::run_command;
-use words::Command;
+pub use running::run;
+pub use words::{Changes, ClusterBits, Command};
 
 /// Runs a command line, the words after the program's name, and answers the program's status: 0 for
 /// success, 1 for a fault and 2 for words that are no command.
@@ -52,12 +53,16 @@ pub fn run_words<R: Files + AllocGlobal, O: Write, E: Write>(
     ensures reports { Reports result E.contents err.old err.new }
 
     // A table at a place that isn't lawful is a fault whatever the image, and no line is printed.
-    ensures place { IfSome (command_of (map string_bytes words.now)) (λ line.
-        IfSome (place_fault_of line) (λ fault.
+    ensures place { IfSome (command_of (map string_bytes words.now)) (λ command.
+        IfSome (place_fault_of command) (λ fault.
         (result ≡ 1) × Keeps (O.contents out.old) (O.contents out.new))) }
 {
-    match Command::read(words) {
-        Some(command) => status_of(run(rt, &command, out), err),
+    let [name, image, arguments @ ..] = words else {
+        return refuse_words(err);
+    };
+    match Command::parse(rt.alloc(), name.as_str(), arguments) {
+        Some(Ok(command)) => status_of(run_and_flush(rt, image.as_str(), &command, out), err),
+        Some(Err(error)) => report_fault(Fault::from(error), err),
         None => refuse_words(err),
     }
 }
@@ -73,18 +78,19 @@ fn status_of<E: Write>(ran: Result<(), Fault>, err: &mut E) -> u8
     }
 }
 
-// Runs the command over its image, and flushes what it printed, also before a fault.
-fn run<R: Files + AllocGlobal, O: Write>(
+// Runs a command over the image of a file, and flushes what it printed, also before a fault.
+fn run_and_flush<R: Files + AllocGlobal, O: Write>(
     rt: &R,
-    command: &Command<'_>,
+    path: &str,
+    command: &Command,
     out: &mut O,
 ) -> Result<(), Fault>
-    ensures place { IfSome (place_fault_of (line_of command.now)) (λ fault.
+    ensures place { IfSome (place_fault_of command.now) (λ fault.
         IsErr result × Keeps (O.contents out.old) (O.contents out.new)) }
-    ensures before_any_line { IsTrue (is_silent_on_faults (line_of command.now)) → IfErr result (λ fault.
+    ensures before_any_line { IsTrue (is_silent_on_faults command.now) → IfErr result (λ fault.
         fault ≢ StorageFailed → Keeps (O.contents out.old) (O.contents out.new)) }
 {
-    let ran = run_over(rt, command, out);
+    let ran = run_over(rt, path, command, out);
     after_flush(ran, out.flush())
 }
 
@@ -97,17 +103,18 @@ fn after_flush(ran: Result<(), Fault>, flushed: io::Result<()>) -> Result<(), Fa
     flushed.map_err(|_| Fault::Storage)
 }
 
-// Opens the image, for writing where the command may change it, and runs the command over it.
+// Opens the image of a file, for writing where the command may change it, and runs the command over it.
 fn run_over<R: Files + AllocGlobal, O: Write>(
     rt: &R,
-    command: &Command<'_>,
+    path: &str,
+    command: &Command,
     out: &mut O,
 ) -> Result<(), Fault>
-    ensures place { IfSome (place_fault_of (line_of command.now)) (λ fault.
+    ensures place { IfSome (place_fault_of command.now) (λ fault.
         IsErr result × (out.new ≡ out.old)) }
-    ensures before_any_line { IsTrue (is_silent_on_faults (line_of command.now)) → IfErr result (λ fault.
+    ensures before_any_line { IsTrue (is_silent_on_faults command.now) → IfErr result (λ fault.
         fault ≢ StorageFailed → out.new ≡ out.old) }
 {
-    let mut image = FileStorage::open(rt, command.image(), command.is_writer())?;
-    run_command(rt.alloc(), &mut image, command, out)
+    let mut image = FileStorage::open(rt, path, command.changes_image())?;
+    run(rt.alloc(), &mut image, command, out)
 }

@@ -9,7 +9,7 @@ mod steps;
 
 pub use edits::{Edit, Outcome, edit_table, edits_fit};
 pub use images::{edit_image, step_image};
-pub(crate) use lookups::{load_l1_table, lookup_with_header};
+pub(crate) use lookups::{load_l1_table, load_l2_table, lookup_with_header, named_cluster};
 pub use lookups::{lookup, lookup_image};
 pub use settled::{edit_settled, settle};
 pub use steps::{Step, StepReply, step_block};

@@ -1,4 +1,4 @@
-use Rattle.std.specs.Prelude.{◌≡◌, ◌⊎◌, ℕ, ◌*◌, ◌^◌, false, IfErr, IfSome, IsErrOf, IsOkAnd, IsTrue, List, Option, Some, option_map, Result, Ok, Err}
+use Rattle.std.specs.Prelude.{◌≡◌, ◌⊎◌, ℕ, ◌*◌, ◌^◌, false, IfErr, IfSome, IsErrOf, IsOkAnd, IsTrue, List, Some, option_map, Result, Ok, Err}
 use Rattle.qcow2_base.specs.Storage.{Image, StorageState}
 use Rattle.qcow2_base.specs.declared.fault.Fault.{Fault}
 use Rattle.qcow2_base.specs.declared.fault.Fault.TheVariants.{BadEdit, BadStep, NoMemory, Storage}
@@ -7,11 +7,13 @@ use Rattle.qcow2_metadata.specs.Results.{and_then, result_map}
 use Rattle.qcow2_metadata.specs.Table.L2Guards.{RunEnd}
 use Rattle.qcow2_metadata.specs.Header.{HeaderRecord, geometry_of}
 use Rattle.qcow2_metadata.specs.Refblock.{BlockState, IsTornBlock, block_counters, block_fault, block_of, block_offset, loaded_block}
-use Rattle.qcow2_metadata.specs.Table.{IsLoadFault, IsTorn, TableState, l2_table_at, loaded_l2_table, most_l2_entries, numbers_at, place_fault}
+use Rattle.qcow2_metadata.specs.Table.{IsLoadFault, IsTorn, TableState, l2_table_at, loaded_l2_table, numbers_at}
 use Rattle.qcow2_metadata.specs.Header.Grammar.{header_of}
 use Rattle.qcow2_session.specs.Session.WholeImage.{BalancesImage, ChangesOwnLookups, AvoidsHeaderAndL1Table, IsL2Table, IsSoundImage, l2_bytes}
+use Rattle.qcow2_session.specs.Session.Lookups.{table_fault}
 use Rattle.qcow2_session.specs.Session.Edits.{Balances, first_unfit_edit, cluster_numbers, edits_or_refusal}
 use Rattle.qcow2_session.specs.Session.Steps.{Counts, StepsEnd, first_unfit_step, steps_or_refusal}
+use Rattle.qcow2_metadata.specs.declared.entries.ClustersToFreeEntry.{ClustersToFreeEntry}
 use Rattle.qcow2_session.specs.declared.session.edits.Edit.{Edit}
 use Rattle.qcow2_session.specs.declared.session.edits.Outcome.{Outcome}
 use Rattle.qcow2_session.specs.declared.session.steps.Step.{Step}
@@ -31,6 +33,11 @@ abbrev pub edits_end : HeaderRecord → HostCluster → List Edit → Image → 
 edits_end header cluster edits image = and_then (loaded_l2_table (geometry_of header) cluster image)
     (λ numbers. edits_or_refusal (table_from header cluster numbers) edits)
 
+-- what edits of the L2 table that begins with a cluster of an image do to references: the clusters that lose one, and the
+-- numbers of those that gain one; or the refusal
+abbrev pub references_of : HeaderRecord → HostCluster → List Edit → Image → Result (List ClustersToFreeEntry × List ℕ) Fault
+references_of header cluster edits image = result_map (λ (end : RunEnd). (end.freed, end.gained)) (edits_end header cluster edits image)
+
 -- edits of an image with this outcome: what loads from it then is the table that they left, and no reference is lost.
 -- Where the image's own header has the same geometry: a table that neither it nor the L1 table lies in changes the
 -- lookups of its own offsets alone, and where no two tables share a byte, no reference of the whole image is lost
@@ -43,10 +50,6 @@ pub record EditsImage (header : HeaderRecord) (cluster : HostCluster) (edits : L
   pub whole : (own : HeaderRecord) (l1 : List ℕ) → IsSoundImage old own l1 → geometry_of own ≡ geometry_of header →
       IsL2Table own l1 cluster → IsSoundImage new own l1
       × BalancesImage (geometry_of own) l1 outcome.freed.items (cluster_numbers outcome.gained.items) old new
-
--- why no L2 table can begin with a cluster
-abbrev pub table_fault : HeaderRecord → HostCluster → Option Fault
-table_fault header cluster = place_fault most_l2_entries (l2_table_at (geometry_of header) cluster)
 
 -- edits of an image that ended in this answer, whatever its storage tells: the fault of the table's place comes before
 -- all others, which are those of the load, and that of the first edit that can't be made. After the storage fault the
@@ -73,6 +76,10 @@ block_in header cluster image = block_from header cluster
 abbrev pub steps_end : HeaderRecord → HostCluster → List Step → Image → Result StepsEnd Fault
 steps_end header cluster steps image = and_then (loaded_block header cluster image)
     (λ counters. steps_or_refusal (block_from header cluster counters) steps)
+
+-- what comes of each of the steps of the block that begins with a cluster of an image, or the refusal
+abbrev pub replies_of : HeaderRecord → HostCluster → List Step → Image → Result (List StepReply) Fault
+replies_of header cluster steps image = result_map (λ (end : StepsEnd). end.replies) (steps_end header cluster steps image)
 
 -- steps of an image that these replies came of: what loads from it then is the block that they left, and each counter
 -- is as before, plus the increments that were made, minus the decrements that were

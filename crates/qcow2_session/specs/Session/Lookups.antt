@@ -10,12 +10,16 @@ use Rattle.qcow2_metadata.specs.Entries.L2Mapping.{Mapping, mapping, backing}
 use Rattle.qcow2_metadata.specs.Entries.{offset_field, offset_unless_zero}
 use Rattle.qcow2_metadata.specs.Header.{Geometry, HeaderRecord, geometry_of}
 use Rattle.qcow2_metadata.specs.Header.Grammar.{header_of}
-use Rattle.qcow2_metadata.specs.Table.{TablePlace, loaded_l1_table, loaded_l2_table, table_at}
+use Rattle.qcow2_metadata.specs.Table.{TablePlace, l2_table_at, loaded_l1_table, loaded_l2_table, most_l2_entries, place_fault, table_at}
 
 -- the place of an image's L1 table, by its header
 abbrev pub l1_place : HeaderRecord → TablePlace
 l1_place header =
     table_at header (record { 0 = header.v2.l1_table_offset / 2 ^ header.v2.cluster_bits }) header.v2.l1_size
+
+-- why no L2 table can begin with a cluster
+abbrev pub table_fault : HeaderRecord → HostCluster → Option Fault
+table_fault header cluster = place_fault most_l2_entries (l2_table_at (geometry_of header) cluster)
 
 -- the number of the L1 entry for a guest cluster; past the table's end, the entry 0
 abbrev pub l1_number : ℕ → List ℕ → ℕ → ℕ
@@ -42,12 +46,14 @@ guest_mapping g l1 offset image =
     let guest_cluster = offset / 2 ^ g.cluster_bits in
     mapping_by g (l2_cluster g.cluster_bits l1 guest_cluster) guest_cluster image
 
+-- what the cluster of a guest offset reads as, in an image with this header
+abbrev pub mapping_in : HeaderRecord → ℕ → Image → Result Mapping Fault
+mapping_in header offset image = and_then (loaded_l1_table (l1_place header) image) (λ l1.
+    guest_mapping (geometry_of header) l1 offset image)
+
 -- what the cluster of a guest offset reads as, by an image's bytes alone
 abbrev pub image_mapping : ℕ → Image → Result Mapping Fault
-image_mapping offset image =
-    and_then (header_of image) (λ header.
-    and_then (loaded_l1_table (l1_place header) image) (λ l1.
-    guest_mapping (geometry_of header) l1 offset image))
+image_mapping offset image = and_then (header_of image) (λ header. mapping_in header offset image)
 
 -- the faults of a lookup by an image alone, whatever the storage tells: those of a header and of a table, want of
 -- memory, a failed storage

@@ -1,31 +1,34 @@
 //! The command `at`: what a guest offset reads as.
 
 ghost use Rattle.std.specs.Prelude.{◌≡◌};
-ghost use Rattle.qcow2_session.specs.Printing.{Prints, PrintsLast, line_at};
+ghost use Rattle.qcow2_session.specs.Commands.{Prints, PrintsLast};
+ghost use Rattle.qcow2_session.specs.Commands.At.{line_at};
 
 use crate::lines::print_mapping;
 use crate::session::lookup_with_header;
 use qcow2_base::{Fault, GuestOffset, Storage};
+use qcow2_metadata::Header;
 use std::alloc::Global;
 use std::io::Write;
 
-/// Prints what the cluster of a guest offset reads as, by the image alone. The size of the guest's disk isn't
-/// looked at.
+/// Prints what the cluster of a guest offset reads as, in an image with this header. The size of the guest's
+/// disk isn't looked at.
 ///
-/// Answers the fault of the first part that is refused, header, L1 table or L2 table, before the line; a
-/// failed write to `out` is the storage fault. Changes no byte of the image.
+/// Answers the fault of the L1 table or the L2 table, whichever is refused first, before the line; a failed
+/// write to `out` is the storage fault. Changes no byte of the image.
 pub fn print_mapping_at<S: Storage, O: Write>(
     alloc: Global,
     image: &mut S,
+    header: &Header,
     guest_offset: GuestOffset,
     out: &mut O,
 ) -> Result<(), Fault>
-    ensures prints { Prints result (line_at guest_offset.0 (S.state image.old).byte_at)
+    ensures prints { Prints result (line_at header.now guest_offset.0 (S.state image.old).byte_at)
         (S.state image.old) (S.state image.new) (O.contents out.old) (O.contents out.new) }
     ensures last { PrintsLast result (S.state image.old) (S.state image.new) out.old out.new }
     ensures unchanged { (S.state image.new).byte_at ≡ (S.state image.old).byte_at }
 {
-    let (header, mapping) = lookup_with_header(alloc, image, guest_offset)?;
+    let mapping = lookup_with_header(alloc, image, header, guest_offset)?;
     print_mapping(&mapping, header.cluster_bits(), out)?;
     writeln!(out).map_err(|_| Fault::Storage)
 }

@@ -2,9 +2,9 @@
 
 ghost use Rattle.std.specs.Prelude.{◌≡◌, IsOkUnless, OnOk};
 ghost use Rattle.std.specs.Io.KnownBytes.{Appends};
-ghost use Rattle.qcow2_session.specs.Changing.{LoadsAndChanges, steps_of_block};
+ghost use Rattle.qcow2_session.specs.Commands.{PrintsChange, PrintsLast};
+ghost use Rattle.qcow2_session.specs.Commands.Counting.{block_format, end_of_steps};
 ghost use Rattle.qcow2_session.specs.Lines.{reply_line, reply_lines};
-ghost use Rattle.qcow2_session.specs.Printing.{PrintsLast};
 
 use crate::session::{Step, StepReply, step_image};
 use qcow2_base::{Fault, HostCluster, Storage};
@@ -12,26 +12,26 @@ use qcow2_metadata::Header;
 use std::alloc::Global;
 use std::io::Write;
 
-/// Makes steps of the counters of the refcount block that begins with a cluster, and prints for each `ok` and
-/// the number before it, or `refused`. The header is loaded by who writes to the image.
+/// Makes steps of the counters of the refcount block that begins with a cluster of an image with this header,
+/// and prints for each `ok` and the number before it, or `refused`.
 ///
-/// Answers the fault of the header, of the block's place or of the first step whose index is past the block's
-/// end before any line. It has changed nothing then but the header, which such a load writes anew where it
-/// has autoclear features: its faults are those of `Header::load`. A failed write to `out` is the storage
-/// fault: the block is written by then.
+/// Answers the fault of the block's place or of the first step whose index is past the block's end before any
+/// line, and has changed no byte then. A failed write to `out` is the storage fault: the block is written by
+/// then. After a storage fault of the image some pieces of the block may be written.
 pub fn count_references<S: Storage, O: Write>(
     alloc: Global,
     image: &mut S,
+    header: &Header,
     cluster: HostCluster,
     steps: &[Step],
     out: &mut O,
 ) -> Result<(), Fault>
-    ensures counts { LoadsAndChanges result (steps_of_block cluster steps.now)
+    ensures counts { PrintsChange result (block_format header.now)
+        (end_of_steps cluster steps.now header.now (S.state image.old).byte_at)
         (S.state image.old) (S.state image.new) (O.contents out.old) (O.contents out.new) }
     ensures last { PrintsLast result (S.state image.old) (S.state image.new) out.old out.new }
 {
-    let header = Header::load(alloc, image, true)?;
-    let replies = step_image(alloc, image, &header, cluster, steps)?;
+    let replies = step_image(alloc, image, header, cluster, steps)?;
     print_replies(replies.as_slice(), out)
 }
 

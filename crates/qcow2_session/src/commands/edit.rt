@@ -4,43 +4,44 @@ ghost use Rattle.std.specs.Prelude.{◌≡◌, ◌++◌, IsOkUnless, IsTrue, OnO
 ghost use Rattle.std.specs.Io.KnownBytes.{Appends};
 ghost use Rattle.qcow2_base.specs.Storage.{OnlyReads};
 ghost use Rattle.qcow2_metadata.specs.Results.{Answers};
-ghost use Rattle.qcow2_session.specs.Changing.{LoadsAndChanges, edits_of_table, named_table};
+ghost use Rattle.qcow2_session.specs.Commands.{PrintsChange, PrintsLast};
+ghost use Rattle.qcow2_session.specs.Commands.Editing.{end_of_edits, named_table, table_format};
 ghost use Rattle.qcow2_session.specs.Session.Edits.{cluster_numbers};
 ghost use Rattle.qcow2_session.specs.Lines.{freed_line, freed_lines, gained_line, gained_lines};
-ghost use Rattle.qcow2_session.specs.Printing.{PrintsLast};
 
-use crate::session::{Edit, Outcome, edit_image, load_l1_table};
+use crate::session::{Edit, Outcome, edit_image, load_l1_table, named_cluster};
 use qcow2_base::{Fault, HostCluster, Storage};
-use qcow2_metadata::{ClustersToFreeEntry, Header, Table};
+use qcow2_metadata::{ClustersToFreeEntry, Header};
 use std::alloc::Global;
 use std::io::Write;
 
-/// Makes edits of the L2 table that an L1 entry names, and prints the clusters that lost a reference, and
-/// then those that gained one. The header is loaded by who writes to the image.
+/// Makes edits of the L2 table that an L1 entry names, in an image with this header, and prints the clusters
+/// that lost a reference, and then those that gained one.
 ///
-/// Answers the fault of the header, of the L1 table, 23 where the L1 entry names no table, the fault of the
-/// L2 table or of the first edit that doesn't fit before any line. It has changed nothing then but the
-/// header, which such a load writes anew where it has autoclear features: its faults are those of
-/// `Header::load`. A failed write to `out` is the storage fault: the table is written by then.
+/// Answers the fault of the L1 table, 23 where the L1 entry names no table, the fault of the L2 table or of
+/// the first edit that doesn't fit before any line, and has changed no byte then. A failed write to `out` is
+/// the storage fault: the table is written by then. After a storage fault of the image some pieces of the
+/// table may be written.
 pub fn edit_entries<S: Storage, O: Write>(
     alloc: Global,
     image: &mut S,
+    header: &Header,
     l1_index: usize,
     edits: &[Edit],
     out: &mut O,
 ) -> Result<(), Fault>
-    ensures edits { LoadsAndChanges result (edits_of_table l1_index edits.now)
+    ensures edits { PrintsChange result (table_format header.now)
+        (end_of_edits l1_index edits.now header.now (S.state image.old).byte_at)
         (S.state image.old) (S.state image.new) (O.contents out.old) (O.contents out.new) }
     ensures last { PrintsLast result (S.state image.old) (S.state image.new) out.old out.new }
 {
-    let header = Header::load(alloc, image, true)?;
-    let cluster = named_table(alloc, image, &header, l1_index)?;
-    let outcome = edit_image(alloc, image, &header, cluster, edits)?;
+    let cluster = table_of_entry(alloc, image, header, l1_index)?;
+    let outcome = edit_image(alloc, image, header, cluster, edits)?;
     print_outcome(&outcome, out)
 }
 
 // The cluster that the L2 table of an L1 entry begins with.
-fn named_table<S: Storage>(
+fn table_of_entry<S: Storage>(
     alloc: Global,
     image: &mut S,
     header: &Header,
@@ -51,8 +52,7 @@ fn named_table<S: Storage>(
     ensures storage { OnlyReads result (S.state image.old) (S.state image.new) }
 {
     let l1_table = load_l1_table(alloc, image, header)?;
-    let offset = l1_table.get(l1_index).l2_offset().ok_or(Fault::NotPlaced)?;
-    Ok(offset.cluster(header.cluster_bits()))
+    named_cluster(&l1_table, l1_index).ok_or(Fault::NotPlaced)
 }
 
 // Prints what edits did to references.

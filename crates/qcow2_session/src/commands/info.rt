@@ -3,30 +3,25 @@
 ghost use Rattle.std.specs.Prelude.{◌≡◌, ◌++◌, option_map, string_bytes, IsOkUnless, OnOk};
 ghost use Rattle.std.specs.Io.KnownBytes.{Appends};
 ghost use Rattle.qcow2_session.specs.Commands.Info.{backing_lines, answer_text, data_file_lines, info_lines, name_line, place_line, place_lines, size_lines, version_lines, version_of};
-ghost use Rattle.qcow2_session.specs.Printing.{Prints, PrintsLast, lines_of_info};
 
-use qcow2_base::{Fault, HostOffset, Storage};
+use qcow2_base::{Fault, HostOffset};
 use qcow2_metadata::Header;
-use std::alloc::Global;
 use std::io::Write;
 
-/// Prints ten lines on the image's header: its version, the size of its clusters, of the guest's disk and of
-/// its refcounts, where its tables lie, and its names.
+/// Prints ten lines on a header: its version, the size of its clusters, of the guest's disk and of its
+/// refcounts, where its tables lie, and its names.
 ///
-/// Answers the header's fault before any line; a failed write to `out` is the storage fault. Changes no byte
-/// of the image.
-pub fn print_info<S: Storage, O: Write>(
-    alloc: Global,
-    image: &mut S,
-    out: &mut O,
-) -> Result<(), Fault>
-    ensures prints { Prints result (lines_of_info (S.state image.old).byte_at)
-        (S.state image.old) (S.state image.new) (O.contents out.old) (O.contents out.new) }
-    ensures last { PrintsLast result (S.state image.old) (S.state image.new) out.old out.new }
-    ensures unchanged { (S.state image.new).byte_at ≡ (S.state image.old).byte_at }
+/// A failed write to `out` is the storage fault.
+pub fn print_info<O: Write>(header: &Header, out: &mut O) -> Result<(), Fault>
+    ensures fault { IsOkUnless result Fault.Storage }
+    ensures lines { OnOk result
+        (Appends (O.contents out.old) (O.contents out.new) (info_lines header.now)) }
 {
-    let header = Header::load(alloc, image, false)?;
-    print_header(&header, out)
+    print_version(header, out)?;
+    print_sizes(header, out)?;
+    print_places(header, out)?;
+    print_backing(header, out)?;
+    print_data_file(header, out)
 }
 
 // The version that is printed: 3 for each one from 3 on.
@@ -84,19 +79,6 @@ fn print_place<O: Write>(
         (place_line label.now offset.0 count)) }
 {
     writeln!(out, "{label} {offset} {count}").map_err(|_| Fault::Storage)
-}
-
-// Prints what a header says.
-fn print_header<O: Write>(header: &Header, out: &mut O) -> Result<(), Fault>
-    ensures fault { IsOkUnless result Fault.Storage }
-    ensures lines { OnOk result
-        (Appends (O.contents out.old) (O.contents out.new) (info_lines header.now)) }
-{
-    print_version(header, out)?;
-    print_sizes(header, out)?;
-    print_places(header, out)?;
-    print_backing(header, out)?;
-    print_data_file(header, out)
 }
 
 // Prints the name of the backing file and its format.

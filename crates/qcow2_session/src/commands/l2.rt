@@ -1,18 +1,17 @@
 //! The command `l2`: what one L2 table maps.
 
-ghost use Rattle.std.specs.Prelude.{◌≡◌, ◌⊎◌, length, false, ◌-◌, ◌^◌, Err, IfSome, OnOk, IsOkUnless};
+ghost use Rattle.std.specs.Prelude.{◌≡◌, ◌⊎◌, false, Err, IfSome};
 ghost use Rattle.qcow2_base.specs.declared.fault.Fault.TheVariants.{NoMemory};
 ghost use Rattle.qcow2_base.specs.Types.{IsClusterBits};
-ghost use Rattle.std.specs.Fmt.{decimal};
-ghost use Rattle.std.specs.Io.KnownBytes.{Appends};
 ghost use Rattle.qcow2_metadata.specs.Header.{geometry};
 ghost use Rattle.qcow2_metadata.specs.Table.{l2_table_at, most_l2_entries, place_fault};
-ghost use Rattle.qcow2_session.specs.Lines.{entry_lines};
-ghost use Rattle.qcow2_session.specs.Printing.{Prints, PrintsLast, lines_of_l2_table};
+ghost use Rattle.qcow2_session.specs.Commands.{Prints, PrintsLast};
+ghost use Rattle.qcow2_session.specs.Commands.L2.{lines_of_l2_table};
 
-use crate::lines::print_entry;
-use qcow2_base::{Fault, GuestCluster, HostCluster, Storage};
-use qcow2_metadata::{Header, L2Table, Table};
+use super::entries::{Label, print_entries};
+use crate::session::load_l2_table;
+use qcow2_base::{Fault, HostCluster, Storage};
+use qcow2_metadata::Header;
 use std::alloc::Global;
 use std::io::Write;
 
@@ -44,21 +43,6 @@ pub fn list_l2_table<S: Storage, O: Write>(
     ensures unchanged { (S.state image.new).byte_at ≡ (S.state image.old).byte_at }
 {
     let header = Header::new(alloc, cluster_bits, REFCOUNT_ORDER, None, None, None)?;
-    let table = L2Table::load(alloc, image, &header, cluster, header.l2_entries())?;
-    print_table(&table, out)
-}
-
-// Prints the line of each entry that isn't left to the backing file.
-fn print_table<O: Write>(table: &L2Table, out: &mut O) -> Result<(), Fault>
-    requires { length table.now.numbers ≡ 2 ^ (table.now.geometry.cluster_bits - 3) }
-    ensures fault { IsOkUnless result Fault.Storage }
-    ensures lines { OnOk result (Appends (O.contents out.old) (O.contents out.new)
-        (entry_lines decimal table.now.geometry 0 table.now.numbers)) }
-{
-    let cluster_bits = table.cluster_bits();
-    for index in 0..table.entries() {
-        let mapping = table.get_mapping(GuestCluster(index as u64))?;
-        print_entry(index, &mapping, cluster_bits, out)?;
-    }
-    Ok(())
+    let table = load_l2_table(alloc, image, &header, cluster)?;
+    print_entries(&table, 0, Label::Index, out)
 }

@@ -1,188 +1,266 @@
 //! The words of a command line.
 
-ghost use Rattle.std.specs.Prelude.{◌≡◌, IfOk, IfSome, map, option_map, string_bytes};
-ghost use Rattle.qcow2_base.specs.Types.{IsClusterBits};
-ghost use Rattle.qcow2_session.specs.Commands as spec;
+ghost use Rattle.std.specs.Prelude.{◌≡◌, ℕ, List, Option, map, option_map, string_bytes};
+ghost use Rattle.qcow2_session.specs.Commands.Words as spec;
+ghost use Rattle.qcow2_session.specs.Commands.Words.{Parses};
 
 use crate::session::{Edit, Step};
 use qcow2_base::{GuestOffset, HostCluster};
 use std::alloc::{AllocError, Global};
+use std::marker::Model;
 
-/// A command that a line of words asks for.
-#[derive(Clone, Copy, Debug, PartialEq, Eq)]
-pub(super) enum Command<'a> {
+/// What a line of words asks for, of the image that it names.
+#[derive(Drop)]
+pub enum Command {
     /// `l2 IMAGE CLUSTER_BITS CLUSTER`: what the L2 table that begins with a cluster maps.
-    L2(L2Words<'a>),
+    ListTable {
+        cluster_bits: ClusterBits,
+        cluster: HostCluster,
+    },
     /// `info IMAGE`: what the header says.
-    Info {
-        image: &'a str,
-    },
+    PrintInfo,
     /// `list IMAGE`: what all L2 tables map.
-    List {
-        image: &'a str,
-    },
+    ListTables,
     /// `at IMAGE OFFSET`: what a guest offset reads as.
-    At {
-        image: &'a str,
+    PrintMapping {
         guest_offset: GuestOffset,
     },
-    /// `edit IMAGE L1INDEX EDIT..`: edits of the L2 table of an L1 entry. Each word says one.
-    Edit {
-        image: &'a str,
+    /// `edit IMAGE L1INDEX EDIT..`: edits of the L2 table of an L1 entry.
+    EditEntries {
         l1_index: usize,
-        edits: &'a [String],
+        edits: Changes<Edit>,
     },
-    /// `count IMAGE CLUSTER STEP..`: steps of the refcount block that begins with a cluster. Each word
-    /// says one.
-    Count {
-        image: &'a str,
+    /// `count IMAGE CLUSTER STEP..`: steps of the refcount block that begins with a cluster.
+    CountReferences {
         cluster: HostCluster,
-        steps: &'a [String],
+        steps: Changes<Step>,
     },
 }
 
-/// What the words of the command `l2` say.
-#[derive(Clone, Copy, Debug, PartialEq, Eq)]
-pub(super) struct L2Words<'a> {
-    pub(super) image: &'a str,
-    pub(super) cluster_bits: u32,
-    pub(super) cluster: HostCluster,
-    ghost lawful: { IsClusterBits cluster_bits },
+/// A number of cluster bits, from 9 to 21.
+#[derive(Clone, Copy)]
+pub struct ClusterBits {
+    bits: u32,
 }
 
-impl<'a> Command<'a> {
-    ghost use Rattle.qcow2_session.specs.Commands.Words.{line_of};
+impl Model for ClusterBits {
+    ghost use Rattle.std.specs.Prelude.{ℕ};
+    ghost use Rattle.qcow2_base.specs.Types.{IsClusterBits};
 
-    /// The command that the words ask for, if they ask for one.
-    pub(super) fn read(words: &'a [String]) -> Option<Command<'a>>
-        ensures { option_map line_of result ≡ spec.command_of (map string_bytes words.now) }
+    ghost Value = { ℕ };
+
+    ghost view = { λ number. number.bits };
+
+    ghost inverse = { λ number. record { bits = number } };
+
+    ghost invariant = { λ number. IsClusterBits number.bits };
+}
+
+/// Edits, or steps, in their order. Contracts see the list of them.
+#[derive(Drop)]
+pub struct Changes<T> {
+    list: Vec<T>,
+}
+
+impl<T> Model for Changes<T> {
+    ghost use Rattle.std.specs.Prelude.{List};
+
+    ghost Value = { List T };
+
+    ghost view = { λ changes. changes.list.items };
+}
+
+impl Command {
+    /// The command that a name and the words after the image's name ask for, if they ask for one. Fails
+    /// only for want of memory, and only where they do.
+    pub fn parse(
+        alloc: Global,
+        name: &str,
+        arguments: &[String],
+    ) -> Option<Result<Command, AllocError>>
+        ensures { Parses result (spec.asked_for name.now (map string_bytes arguments.now)) }
     {
-        let [name, image, arguments @ ..] = words else {
-            return None;
-        };
-        let image = image.as_str();
-        match name.as_str() {
-            "l2" => Some(Command::L2(L2Words::read(image, arguments)?)),
-            "info" => Command::Info { image }.alone(arguments),
-            "list" => Command::List { image }.alone(arguments),
-            "at" => Command::at(image, arguments),
-            "edit" => Command::edit(image, arguments),
-            "count" => Command::count(image, arguments),
+        match name {
+            "l2" => Command::of_table(arguments),
+            "info" => Command::PrintInfo.alone(arguments),
+            "list" => Command::ListTables.alone(arguments),
+            "at" => Command::of_mapping(arguments),
+            "edit" => Command::of_edits(alloc, arguments),
+            "count" => Command::of_steps(alloc, arguments),
             _ => None,
         }
     }
 
-    /// The image that the command is about.
-    pub(super) fn image(&self) -> &'a str
-        ensures { result.now ≡ spec.named_image (line_of self.now) }
+    /// Whether the command may change its image.
+    pub fn changes_image(&self) -> bool
+        ensures { result ≡ spec.changes_image self.now }
     {
-        match *self {
-            Command::L2(words) => words.image,
-            Command::Info { image }
-            | Command::List { image }
-            | Command::At { image, .. }
-            | Command::Edit { image, .. }
-            | Command::Count { image, .. } => image,
-        }
-    }
-
-    /// Whether the command may change the image.
-    pub(super) fn is_writer(&self) -> bool
-        ensures { result ≡ spec.changes_image (line_of self.now) }
-    {
-        matches!(self, Command::Edit { .. } | Command::Count { .. })
+        matches!(
+            self,
+            Command::EditEntries { .. } | Command::CountReferences { .. }
+        )
     }
 
     // The command, if there are no words after its image.
-    fn alone(self, arguments: &[String]) -> Option<Command<'a>>
-        ensures { option_map line_of result
-            ≡ spec.without_arguments (line_of self.entry) (map string_bytes arguments.now) }
+    fn alone(self, arguments: &[String]) -> Option<Result<Command, AllocError>>
+        ensures { Parses result (spec.without_arguments self (map string_bytes arguments.now)) }
     {
         if arguments.is_empty() {
-            Some(self)
+            Some(Ok(self))
         } else {
             None
         }
     }
 
-    // What the words of the command `at` after the image's name ask for.
-    fn at(image: &'a str, arguments: &[String]) -> Option<Command<'a>>
-        ensures { option_map line_of result ≡ spec.at_of image.now (map string_bytes arguments.now) }
+    // What the words of the command `l2` ask for.
+    fn of_table(arguments: &[String]) -> Option<Result<Command, AllocError>>
+        ensures { Parses result (spec.table_of (map string_bytes arguments.now)) }
+    {
+        let [cluster_bits, cluster] = arguments else {
+            return None;
+        };
+        Some(Ok(Command::ListTable {
+            cluster_bits: ClusterBits::parse(cluster_bits.as_str())?,
+            cluster: HostCluster(number(cluster.as_str())?),
+        }))
+    }
+
+    // What the words of the command `at` ask for.
+    fn of_mapping(arguments: &[String]) -> Option<Result<Command, AllocError>>
+        ensures { Parses result (spec.mapping_of (map string_bytes arguments.now)) }
     {
         let [guest_offset] = arguments else {
             return None;
         };
         let guest_offset = GuestOffset(number(guest_offset.as_str())?);
-        Some(Command::At {
-            image,
-            guest_offset,
-        })
+        Some(Ok(Command::PrintMapping { guest_offset }))
     }
 
-    // What the words of the command `edit` after the image's name ask for.
-    fn edit(image: &'a str, arguments: &'a [String]) -> Option<Command<'a>>
-        ensures { option_map line_of result ≡ spec.edits_at image.now (map string_bytes arguments.now) }
+    // What the words of the command `edit` ask for.
+    fn of_edits(alloc: Global, arguments: &[String]) -> Option<Result<Command, AllocError>>
+        ensures { Parses result (spec.edits_of (map string_bytes arguments.now)) }
     {
-        let [l1_index, edits @ ..] = arguments else {
+        let [l1_index, words @ ..] = arguments else {
             return None;
         };
-        if !are_edits(edits) {
-            return None;
-        }
         let l1_index = number(l1_index.as_str())? as usize;
-        Some(Command::Edit {
-            image,
-            l1_index,
-            edits,
-        })
-    }
-
-    // What the words of the command `count` after the image's name ask for.
-    fn count(image: &'a str, arguments: &'a [String]) -> Option<Command<'a>>
-        ensures { option_map line_of result ≡ spec.steps_at image.now (map string_bytes arguments.now) }
-    {
-        let [cluster, steps @ ..] = arguments else {
-            return None;
-        };
-        if !are_steps(steps) {
-            return None;
+        match Changes::parse(alloc, words)? {
+            Ok(edits) => Some(Ok(Command::EditEntries { l1_index, edits })),
+            Err(error) => Some(Err(error)),
         }
-        let cluster = HostCluster(number(cluster.as_str())?);
-        Some(Command::Count {
-            image,
-            cluster,
-            steps,
-        })
     }
-}
 
-impl<'a> L2Words<'a> {
-    ghost use Rattle.qcow2_session.specs.Commands.Words.{l2_line};
-
-    // What the words after the image's name say.
-    fn read(image: &'a str, arguments: &[String]) -> Option<L2Words<'a>>
-        ensures { option_map l2_line result
-            ≡ spec.l2_of image.now (map string_bytes arguments.now) }
+    // What the words of the command `count` ask for.
+    fn of_steps(alloc: Global, arguments: &[String]) -> Option<Result<Command, AllocError>>
+        ensures { Parses result (spec.steps_of (map string_bytes arguments.now)) }
     {
-        let [cluster_bits, cluster] = arguments else {
+        let [cluster, words @ ..] = arguments else {
             return None;
         };
-        Some(L2Words {
-            image,
-            cluster_bits: cluster_bits_of(cluster_bits.as_str())?,
-            cluster: HostCluster(number(cluster.as_str())?),
-        })
+        let cluster = HostCluster(number(cluster.as_str())?);
+        match Changes::parse(alloc, words)? {
+            Ok(steps) => Some(Ok(Command::CountReferences { cluster, steps })),
+            Err(error) => Some(Err(error)),
+        }
     }
 }
 
-// The number of cluster bits that a word says, from 9 to 21.
-fn cluster_bits_of(word: &str) -> Option<u32>
-    ensures value { result ≡ spec.cluster_bits_of word.now }
-    ensures range { IfSome result IsClusterBits }
-{
-    match number(word)? {
-        bits @ 9..=21 => Some(bits as u32),
-        _ => None,
+impl ClusterBits {
+    ghost use Rattle.qcow2_base.specs.Types.{IsClusterBits};
+
+    /// The number.
+    pub fn get(self) -> u32
+        ensures value { result ≡ self }
+        ensures range { IsClusterBits result }
+    {
+        self.bits
+    }
+
+    // The number that a word says, if it is one of cluster bits.
+    fn parse(word: &str) -> Option<ClusterBits>
+        ensures { result ≡ spec.cluster_bits_of word.now }
+    {
+        match number(word)? {
+            bits @ 9..=21 => Some(ClusterBits { bits: bits as u32 }),
+            _ => None,
+        }
+    }
+}
+
+// A change that a word can say.
+trait Said: Copy {
+    ghost said: { List ℕ → Option Self };
+
+    // The change that a word says, if it says one.
+    fn said(word: &str) -> Option<Self>
+        ensures { result ≡ said word.now };
+}
+
+impl Said for Edit {
+    ghost said = { spec.edit_of };
+
+    fn said(word: &str) -> Option<Edit> {
+        let (name, numbers) = parts(word)?;
+        match name {
+            "map" => map_of(numbers),
+            "zero" => Some(Edit::Zero {
+                index: number(numbers)? as usize,
+                keep_allocation: false,
+            }),
+            "keep" => Some(Edit::Zero {
+                index: number(numbers)? as usize,
+                keep_allocation: true,
+            }),
+            "discard" => Some(Edit::Discard {
+                index: number(numbers)? as usize,
+            }),
+            _ => None,
+        }
+    }
+}
+
+impl Said for Step {
+    ghost said = { spec.step_of };
+
+    fn said(word: &str) -> Option<Step> {
+        let (name, index) = parts(word)?;
+        match name {
+            "inc" => Some(Step::Inc {
+                index: number(index)? as usize,
+            }),
+            "dec" => Some(Step::Dec {
+                index: number(index)? as usize,
+            }),
+            _ => None,
+        }
+    }
+}
+
+impl<T> Changes<T> {
+    /// The edits or steps.
+    pub fn as_slice(&self) -> &[T]
+        ensures { result.now ≡ self.now }
+    {
+        self.list.as_slice()
+    }
+}
+
+impl<T: Said> Changes<T> {
+    // The changes that words say, if each says one.
+    fn parse(alloc: Global, words: &[String]) -> Option<Result<Changes<T>, AllocError>>
+        ensures { Parses result (spec.all_of T.said (map string_bytes words.now)) }
+    {
+        let mut list = Vec::with_capacity(alloc, words.len());
+        for word in words {
+            let change = T::said(word.as_str())?;
+            if let Ok(list) = &mut list {
+                list.push(change).unwrap();
+            }
+        }
+        match list {
+            Ok(list) => Some(Ok(Changes { list })),
+            Err(error) => Some(Err(error)),
+        }
     }
 }
 
@@ -204,28 +282,6 @@ fn parts(word: &str) -> Option<(&str, &str)>
     word.split_once(':')
 }
 
-// The edit that a word says, if it says one.
-fn edit_of(word: &str) -> Option<Edit>
-    ensures { result ≡ spec.edit_of word.now }
-{
-    let (name, numbers) = parts(word)?;
-    match name {
-        "map" => map_of(numbers),
-        "zero" => Some(Edit::Zero {
-            index: number(numbers)? as usize,
-            keep_allocation: false,
-        }),
-        "keep" => Some(Edit::Zero {
-            index: number(numbers)? as usize,
-            keep_allocation: true,
-        }),
-        "discard" => Some(Edit::Discard {
-            index: number(numbers)? as usize,
-        }),
-        _ => None,
-    }
-}
-
 // The edit that maps by the numbers of an index and a host cluster, if they are these.
 fn map_of(numbers: &str) -> Option<Edit>
     ensures { result ≡ spec.map_of (spec.parts_of numbers.now) }
@@ -235,70 +291,4 @@ fn map_of(numbers: &str) -> Option<Edit>
         index: number(index)? as usize,
         host_cluster: HostCluster(number(cluster)?),
     })
-}
-
-// The step that a word says, if it says one.
-fn step_of(word: &str) -> Option<Step>
-    ensures { result ≡ spec.step_of word.now }
-{
-    let (name, index) = parts(word)?;
-    match name {
-        "inc" => Some(Step::Inc {
-            index: number(index)? as usize,
-        }),
-        "dec" => Some(Step::Dec {
-            index: number(index)? as usize,
-        }),
-        _ => None,
-    }
-}
-
-// Whether each word says an edit.
-fn are_edits(words: &[String]) -> bool
-    ensures { result ≡ spec.all_edits (map string_bytes words.now) }
-{
-    words.iter().all(
-        |word: &String| -> bool
-            ensures { result ≡ spec.is_edit (string_bytes word.now) }
-        { edit_of(word.as_str()).is_some() },
-    )
-}
-
-// Whether each word says a step.
-fn are_steps(words: &[String]) -> bool
-    ensures { result ≡ spec.all_steps (map string_bytes words.now) }
-{
-    words.iter().all(
-        |word: &String| -> bool
-            ensures { result ≡ spec.is_step (string_bytes word.now) }
-        { step_of(word.as_str()).is_some() },
-    )
-}
-
-/// The edits that words say, each of them one.
-pub(super) fn edits_of(alloc: Global, words: &[String]) -> Result<Vec<Edit>, AllocError>
-    ensures { IfOk result (λ edits. edits.items ≡ spec.edits_of (map string_bytes words.now)) }
-{
-    words
-        .iter()
-        .filter_map(
-            |word: &String| -> Option<Edit>
-                ensures { result ≡ spec.edit_of (string_bytes word.now) }
-            { edit_of(word.as_str()) },
-        )
-        .collect(alloc)
-}
-
-/// The steps that words say, each of them one.
-pub(super) fn steps_of(alloc: Global, words: &[String]) -> Result<Vec<Step>, AllocError>
-    ensures { IfOk result (λ steps. steps.items ≡ spec.steps_of (map string_bytes words.now)) }
-{
-    words
-        .iter()
-        .filter_map(
-            |word: &String| -> Option<Step>
-                ensures { result ≡ spec.step_of (string_bytes word.now) }
-            { step_of(word.as_str()) },
-        )
-        .collect(alloc)
 }

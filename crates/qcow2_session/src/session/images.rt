@@ -7,11 +7,11 @@ ghost use Rattle.qcow2_base.specs.declared.fault.Fault.TheVariants.{Storage as S
 ghost use Rattle.qcow2_metadata.specs.Results.{Answers};
 ghost use Rattle.qcow2_metadata.specs.Refblock.{IsTornBlock, block_counters, block_fault, block_offset};
 ghost use Rattle.qcow2_metadata.specs.Table.{IsTorn, l2_table_at, loaded_l2_table, most_l2_entries, place_fault};
-ghost use Rattle.qcow2_session.specs.Session.Edits.{edits_left};
-ghost use Rattle.qcow2_session.specs.Session.Images.{EditsImage, RefusesEdits, RefusesSteps, StepsImage, block_in, edits_end, steps_end, table_in};
-ghost use Rattle.qcow2_session.specs.Session.Steps.{are_some_done, steps_left};
+ghost use Rattle.qcow2_session.specs.Session.Edits.{cluster_numbers};
+ghost use Rattle.qcow2_session.specs.Session.Images.{EditsImage, RefusesEdits, RefusesSteps, StepsImage, references_of, replies_of, steps_end};
+ghost use Rattle.qcow2_session.specs.Session.Steps.{are_some_done};
 
-use super::{Edit, Outcome, Step, StepReply, edit_table, step_block};
+use super::{Edit, Outcome, Step, StepReply, edit_table, load_l2_table, step_block};
 use qcow2_base::{Fault, HostCluster, Storage};
 use qcow2_metadata::{Header, L2Table, RefBlock, Table};
 use std::alloc::Global;
@@ -40,8 +40,8 @@ pub fn edit_image<S: Storage>(
     edits: &[Edit],
 ) -> Result<Outcome, Fault>
     ensures exact { IsTrue (S.state image.old).tells →
-        Answers (edits_left (table_in header.now cluster (S.state image.new).byte_at)) result
-        (edits_end header.now cluster edits.now (S.state image.old).byte_at) }
+        Answers (λ outcome. (outcome.freed.items, cluster_numbers outcome.gained.items)) result
+        (references_of header.now cluster edits.now (S.state image.old).byte_at) }
     ensures written { IsTrue (S.state image.old).tells → IfOk result (λ outcome. EditsImage header.now cluster
         edits.now outcome (S.state image.old).byte_at (S.state image.new).byte_at) }
     ensures idle { edits.now ≡ [] → (S.state image.new).byte_at ≡ (S.state image.old).byte_at }
@@ -50,7 +50,7 @@ pub fn edit_image<S: Storage>(
     ensures storage { OnlyWrites result (Some (cluster.0 * 2 ^ header.now.v2.cluster_bits))
         (2 ^ header.now.v2.cluster_bits) (S.state image.old) (S.state image.new) }
 {
-    let mut table = L2Table::load(alloc, image, header, cluster, header.l2_entries())?;
+    let mut table = load_l2_table(alloc, image, header, cluster)?;
     let outcome = edit_table(alloc, &mut table, edits)?;
     write_table_back(&mut table, image, cluster)?;
     Ok(outcome)
@@ -72,10 +72,8 @@ pub fn step_image<S: Storage>(
     cluster: HostCluster,
     steps: &[Step],
 ) -> Result<Vec<StepReply>, Fault>
-    ensures exact { IsTrue (S.state image.old).tells →
-        let block = block_in header.now cluster (S.state image.new).byte_at in
-        Answers (λ replies. steps_left block replies.items) result
-        (steps_end header.now cluster steps.now (S.state image.old).byte_at) }
+    ensures exact { IsTrue (S.state image.old).tells → Answers (λ replies. replies.items) result
+        (replies_of header.now cluster steps.now (S.state image.old).byte_at) }
     ensures written { IsTrue (S.state image.old).tells → IfOk result (λ replies. StepsImage header.now cluster
         steps.now replies.items (S.state image.old).byte_at (S.state image.new).byte_at) }
     ensures idle { IsTrue (S.state image.old).tells →

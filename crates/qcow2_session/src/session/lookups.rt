@@ -1,15 +1,14 @@
 //! What a guest offset reads as, by an image's header, L1 table and L2 table.
 
-ghost use Rattle.std.specs.Prelude.{◌≡◌, ◌+◌, ◌*◌, ◌/◌, ◌^◌, ◌≤◌, None, Ok, IfErr, IfOk, IfSome, IsOkAnd, IsTrue};
+ghost use Rattle.std.specs.Prelude.{◌≡◌, ◌+◌, ◌*◌, ◌/◌, ◌^◌, ◌≤◌, None, IfErr, IfOk, IfSome, IsOkAnd, IsTrue, slice_index};
 ghost use Rattle.qcow2_base.specs.Storage.{OnlyReads};
 ghost use Rattle.qcow2_metadata.specs.Results.{Answers};
 ghost use Rattle.qcow2_metadata.specs.Entries.L2Mapping.{IsPlaced, meaning, backing};
 ghost use Rattle.qcow2_metadata.specs.Header.{geometry_of};
-ghost use Rattle.qcow2_metadata.specs.Header.Grammar.{header_of};
-ghost use Rattle.qcow2_metadata.specs.Table.{IsLoadFault, IsLoaded, LoadRefuses, loaded_l1_table, most_l1_entries, place_fault};
-ghost use Rattle.qcow2_session.specs.Session.Lookups.{IsLookupFault, guest_mapping, image_mapping, l1_place, l2_cluster};
+ghost use Rattle.qcow2_metadata.specs.Table.{IsLoadFault, IsLoaded, LoadRefuses, l2_table_at, loaded_l1_table, loaded_l2_table, most_l1_entries, place_fault};
+ghost use Rattle.qcow2_session.specs.Session.Lookups.{IsLookupFault, guest_mapping, image_mapping, l1_place, l2_cluster, mapping_in, named_cluster, table_fault};
 
-use qcow2_base::{Fault, GuestCluster, GuestOffset, HostCluster, Storage};
+use qcow2_base::{Fault, GuestOffset, HostCluster, Storage};
 use qcow2_metadata::{Header, L1Table, L2Mapping, L2Table, Table};
 use std::alloc::Global;
 
@@ -42,11 +41,11 @@ pub fn lookup<S: Storage>(
 {
     let cluster_bits = header.cluster_bits();
     let guest_cluster = guest_offset.cluster(cluster_bits);
-    let Some(cluster) = l2_cluster(l1_table, guest_cluster) else {
+    let Some(cluster) = named_cluster(l1_table, guest_cluster.l1_index(cluster_bits)) else {
         let backing_offset = guest_cluster.offset(cluster_bits).0;
         return Ok(L2Mapping::Backing { backing_offset });
     };
-    let l2_table = L2Table::load(alloc, image, header, cluster, header.l2_entries())?;
+    let l2_table = load_l2_table(alloc, image, header, cluster)?;
     l2_table.get_mapping(guest_cluster)
 }
 
@@ -65,28 +64,25 @@ pub fn lookup_image<S: Storage>(
     ensures faults { IfErr result IsLookupFault }
     ensures storage { OnlyReads result (S.state image.old) (S.state image.new) }
 {
-    let (_, mapping) = lookup_with_header(alloc, image, guest_offset)?;
-    Ok(mapping)
+    let header = Header::load(alloc, image, false)?;
+    lookup_with_header(alloc, image, &header, guest_offset)
 }
 
-/// The image's header, and what the cluster of a guest offset reads as by the image alone.
+/// What the cluster of a guest offset reads as, in an image with this header.
 pub(crate) fn lookup_with_header<S: Storage>(
     alloc: Global,
     image: &mut S,
+    header: &Header,
     guest_offset: GuestOffset,
-) -> Result<(Header, L2Mapping), Fault>
-    ensures header { IfOk result (λ found.
-        IsTrue (S.state image.old).tells → header_of (S.state image.old).byte_at ≡ Ok found.0) }
-    ensures exact { IsTrue (S.state image.old).tells → Answers (λ found. meaning found.1) result
-        (image_mapping guest_offset.0 (S.state image.old).byte_at) }
-    ensures placed { IfOk result (λ found. IsPlaced found.0.v2.cluster_bits found.1) }
+) -> Result<L2Mapping, Fault>
+    ensures exact { IsTrue (S.state image.old).tells → Answers meaning result
+        (mapping_in header.now guest_offset.0 (S.state image.old).byte_at) }
+    ensures placed { IfOk result (IsPlaced header.now.v2.cluster_bits) }
     ensures faults { IfErr result IsLookupFault }
     ensures storage { OnlyReads result (S.state image.old) (S.state image.new) }
 {
-    let header = Header::load(alloc, image, false)?;
-    let l1_table = load_l1_table(alloc, image, &header)?;
-    let mapping = lookup(alloc, image, &header, &l1_table, guest_offset)?;
-    Ok((header, mapping))
+    let l1_table = load_l1_table(alloc, image, header)?;
+    lookup(alloc, image, header, &l1_table, guest_offset)
 }
 
 /// The L1 table of an image with this header, as `L1Table::load` loads it.
@@ -105,15 +101,31 @@ pub(crate) fn load_l1_table<S: Storage>(
     L1Table::load(alloc, image, header, cluster, header.l1_table_entries())
 }
 
-// The cluster that the L2 table of a guest cluster begins with, if there is one. It ends by 2^56.
-fn l2_cluster(l1_table: &L1Table, guest_cluster: GuestCluster) -> Option<HostCluster>
+/// The L2 table that begins with a cluster of an image with this header, as `L2Table::load` loads it.
+pub(crate) fn load_l2_table<S: Storage>(
+    alloc: Global,
+    image: &mut S,
+    header: &Header,
+    cluster: HostCluster,
+) -> Result<L2Table, Fault>
+    ensures refused { LoadRefuses (table_fault header.now cluster) result }
+    ensures exact { IsTrue (S.state image.old).tells → Answers (λ table. table.numbers) result
+        (loaded_l2_table (geometry_of header.now) cluster (S.state image.old).byte_at) }
+    ensures loaded { IfOk result
+        (IsLoaded (l2_table_at (geometry_of header.now) cluster) (S.state image.old)) }
+    ensures storage { OnlyReads result (S.state image.old) (S.state image.new) }
+{
+    L2Table::load(alloc, image, header, cluster, header.l2_entries())
+}
+
+/// The cluster that the L2 table of the L1 entry at an index begins with, if the entry names one. It ends by
+/// 2^56. Past the L1 table's end there is none.
+pub(crate) fn named_cluster(l1_table: &L1Table, index: usize) -> Option<HostCluster>
     ensures value { let cb = l1_table.now.geometry.cluster_bits in
-        result ≡ l2_cluster cb l1_table.now.numbers guest_cluster.0 }
+        result ≡ named_cluster cb (slice_index l1_table.now.numbers index) }
     ensures end { let cb = l1_table.now.geometry.cluster_bits in
         IfSome result (λ cluster. cluster.0 * 2 ^ cb + 2 ^ cb ≤ 2 ^ 56) }
 {
-    let cluster_bits = l1_table.cluster_bits();
-    let entry = l1_table.get(guest_cluster.l1_index(cluster_bits));
-    let offset = entry.l2_offset()?;
-    Some(offset.cluster(cluster_bits))
+    let offset = l1_table.get(index).l2_offset()?;
+    Some(offset.cluster(l1_table.cluster_bits()))
 }

@@ -1,51 +1,71 @@
-use Rattle.std.proofs.Common.{arith, inr, rules, ◌∙◌}
+use Rattle.std.proofs.Common.{ℕ, List, ◌++◌, arith, inl, inr, refl, rules, ◌∙◌}
 use Rattle.std.proofs.lemmas.Result.{err_from_is_err_and}
-use Rattle.qcow2_session.proofs.ChangingLemmas.{change-printed, change-refused, change-unplaced, idle-edits}
-use Rattle.qcow2_session.specs.Changing.{edits_of_table}
+use Rattle.qcow2_session.proofs.ChangingLemmas.{change-printed, change-refused, change-unplaced, idle-edits, loads-part, of-any, part-follows, part-refused}
+use Rattle.qcow2_session.specs.Commands.Editing.{end_of_edits, table_format, told_edits}
+use Rattle.qcow2_metadata.specs.Table.L2Guards.{RunEnd}
+use Rattle.qcow2_metadata.specs.declared.entries.ClustersToFreeEntry.{ClustersToFreeEntry}
+use Rattle.qcow2_session.specs.Lines.{freed_lines, gained_lines}
+use Rattle.qcow2_session.specs.Session.Images.{edits_end}
 use Rattle.qcow2_session.proofs.commands.edit.edit_entries.Goals as goal
+
+-- what edits did to references, and the lines that tell of it
+abbrev References : Type 0
+References = List ClustersToFreeEntry × List ℕ
+
+abbrev references : RunEnd → References
+references left = (left.freed, left.gained)
+
+abbrev references_lines : References → List ℕ
+references_lines both = freed_lines both.0 ++ gained_lines both.1
 
 pub returns-in_err-cluster-clause-edits : goal.returns-in_err-cluster-clause-edits
 returns-in_err-cluster-clause-edits g c =
-    let left = err_from_is_err_and c.from_residual-in_err-cluster.result c.from_residual-in_err-cluster.ensures.1 in
+    let exit = err_from_is_err_and c.from_residual.result c.from_residual.ensures.1 in
     let ran = c.in_err-cluster.ensures in
-    rw (left.1, left.2) (inr (
-      c.in_ok-header.header,
-      g.S.Storage.state c.load.new.image,
-      record { exact = c.in_ok-header.ensures.exact; storage = c.in_ok-header.ensures.storage },
-      change-unplaced _ _ (edits_of_table c.args.l1_index c.args.edits.now c.in_ok-header.header) _ _ _ _ ran.exact (λ storage. search rules) ran.storage.bytes,
-    ))
+    let header = c.args.header.now in
+    let image = (g.S.Storage.state c.args.image.now).byte_at in
+    rw (exit.1, exit.2) (change-unplaced _ (table_format header) (end_of_edits c.args.l1_index c.args.edits.now header image) _ _ _ _
+    (λ told. elim (ran.exact told) [
+      | inl storage ↦ inl storage
+      | inr (inl memory) ↦ inr (inl memory)
+      | inr (inr bad) ↦ inr (inr (rw bad refl))
+    ]) (λ storage. search rules) ran.storage.bytes)
 
 pub returns-in_err-outcome-clause-edits : goal.returns-in_err-outcome-clause-edits
 returns-in_err-outcome-clause-edits g c =
-    let left = err_from_is_err_and c.from_residual-in_err-outcome.result c.from_residual-in_err-outcome.ensures.1 in
+    let exit = err_from_is_err_and c.from_residual-in_err-outcome.result c.from_residual-in_err-outcome.ensures.1 in
     let named = c.in_ok-cluster.ensures in
     let ran = c.in_err-outcome.ensures in
-    rw (left.1, left.2) (inr (
-      c.in_ok-header.header,
-      g.S.Storage.state c.load.new.image,
-      record { exact = c.in_ok-header.ensures.exact; storage = c.in_ok-header.ensures.storage },
-      change-refused _ _ (edits_of_table c.args.l1_index c.args.edits.now c.in_ok-header.header) c.in_ok-cluster.cluster _ _ _ _ named.exact
-          (λ told. rw named.storage.bytes at (ran.exact (named.storage.device.tells ∙ told)))
-          (λ storage. grind (arith, storage, named.storage.told, ran.storage.told))
-          (λ other. ran.storage.refused other ∙ named.storage.bytes)
-          (λ told failed. rw named.storage.bytes at (ran.faults.torn (named.storage.device.tells ∙ told) (grind (arith, failed, named.storage.told, ran.storage.told))))
-          (λ told. idle-edits c.args.edits.now _ _ _ (λ none. ran.idle none ∙ named.storage.bytes))
-          (λ told. rw named.storage.bytes at (ran.storage.others (named.storage.device.tells ∙ told))),
-    ))
+    let header = c.args.header.now in
+    let cluster = c.in_ok-cluster.cluster in
+    let edits = c.args.edits.now in
+    let image = (g.S.Storage.state c.args.image.now).byte_at in
+    rw (exit.1, exit.2) (change-refused _ (table_format header) (told_edits cluster edits) (end_of_edits c.args.l1_index edits header image) (edits_end header cluster edits image) _ _ _ _
+    (λ told. rw (named.exact told) refl)
+    (λ told. elim (ran.exact (named.storage.device.tells ∙ told)) [
+      | inl storage ↦ inl storage
+      | inr (inl memory) ↦ inr (inl memory)
+      | inr (inr bad) ↦ inr (inr (part-refused _ references _ (rw named.storage.bytes at bad)))
+    ])
+    (λ storage. grind (arith, storage, named.storage.told, ran.storage.told))
+    (λ other. ran.storage.refused other ∙ named.storage.bytes)
+    (λ told failed. rw named.storage.bytes at (ran.faults.torn (named.storage.device.tells ∙ told) (grind (arith, failed, named.storage.told, ran.storage.told))))
+    (λ told. idle-edits edits _ _ _ (λ none. ran.idle none ∙ named.storage.bytes))
+    (λ told. of-any (edits_end header cluster edits image) (λ left. rw named.storage.bytes at (ran.storage.others (named.storage.device.tells ∙ told)))))
 
 pub returns-clause-edits : goal.returns-clause-edits
 returns-clause-edits g c =
     let named = c.in_ok-cluster.ensures in
     let ran = c.in_ok-outcome.ensures in
-    inr (
-      c.in_ok-header.header,
-      g.S.Storage.state c.load.new.image,
-      record { exact = c.in_ok-header.ensures.exact; storage = c.in_ok-header.ensures.storage },
-      change-printed c.print_outcome.result _ (edits_of_table c.args.l1_index c.args.edits.now c.in_ok-header.header) c.in_ok-cluster.cluster _ _ _ _ _ named.exact
-          (λ told. rw named.storage.bytes at (ran.exact (named.storage.device.tells ∙ told)))
-          (λ told. rw named.storage.bytes at (ran.written (named.storage.device.tells ∙ told)).decoded)
-          (grind (arith, named.storage.told, ran.storage.told))
-          (λ told. idle-edits c.args.edits.now _ _ _ (λ none. ran.idle none ∙ named.storage.bytes))
-          (λ told. rw named.storage.bytes at (ran.storage.others (named.storage.device.tells ∙ told)))
-          c.print_outcome.ensures.fault c.print_outcome.ensures.lines,
-    )
+    let header = c.args.header.now in
+    let cluster = c.in_ok-cluster.cluster in
+    let edits = c.args.edits.now in
+    let image = (g.S.Storage.state c.args.image.now).byte_at in
+    change-printed c.print_outcome.result (table_format header) (told_edits cluster edits) (end_of_edits c.args.l1_index edits header image) (edits_end header cluster edits image) _ _ _ _ _
+    (λ told. rw (named.exact told) refl)
+    (λ told. part-follows (edits_end header cluster edits image) references references_lines _ (rw named.storage.bytes at (ran.exact (named.storage.device.tells ∙ told))))
+    (λ told. loads-part (edits_end header cluster edits image) (λ (left : RunEnd). left.numbers) _ (rw named.storage.bytes at (ran.written (named.storage.device.tells ∙ told)).decoded))
+    (grind (arith, named.storage.told, ran.storage.told))
+    (λ told. idle-edits edits _ _ _ (λ none. ran.idle none ∙ named.storage.bytes))
+    (λ told. of-any (edits_end header cluster edits image) (λ left. rw named.storage.bytes at (ran.storage.others (named.storage.device.tells ∙ told))))
+    c.print_outcome.ensures.fault c.print_outcome.ensures.lines

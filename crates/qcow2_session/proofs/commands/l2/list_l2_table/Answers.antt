@@ -1,10 +1,10 @@
 use Rattle.std.proofs.Common.{false, rules}
-use Rattle.std.specs.Fmt.{decimal}
 use Rattle.std.proofs.lemmas.Result.{err_from_is_err_and}
 use Rattle.qcow2_metadata.specs.Header.{geometry}
 use Rattle.qcow2_metadata.specs.Table.{loaded_l2_table}
 use Rattle.qcow2_session.proofs.PrintingLemmas.{Prints-refused}
-use Rattle.qcow2_session.specs.Lines.{entry_lines}
+use Rattle.qcow2_session.specs.Commands.Entries.{table_lines}
+use Rattle.qcow2_session.specs.declared.commands.entries.Label.TheVariants.{Index}
 use Rattle.qcow2_session.proofs.commands.l2.list_l2_table.Goals as goal
 
 pub returns-in_err-table-clause-prints : goal.returns-in_err-table-clause-prints
@@ -12,5 +12,5 @@ returns-in_err-table-clause-prints g c =
     let left = err_from_is_err_and c.from_residual-in_err-table.result c.from_residual-in_err-table.ensures.1 in
     let bits = geometry c.args.cluster_bits false in
     let image = (g.S.Storage.state c.args.image.now).byte_at in
-    rw left.1 (Prints-refused _ (loaded_l2_table bits c.args.cluster image) (entry_lines decimal bits 0) _ _ _ _
+    rw left.1 (Prints-refused _ (loaded_l2_table bits c.args.cluster image) (table_lines Index bits 0) _ _ _ _
     (λ told. search rules) (λ storage. search rules))

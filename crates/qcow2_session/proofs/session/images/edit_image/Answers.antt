@@ -15,7 +15,7 @@ returns-in_err-outcome-clause-faults g c =
         | inr refused ↦ inr (refused-edits c.args.header.now c.args.cluster c.in_ok-table.table c.args.edits.now image
             c.in_err-outcome.field-0.0 (search rules) (search rules) refused)
       ]);
-      torn = λ told failed. inl c.load.ensures.storage.bytes;
+      torn = λ told failed. inl c.load_l2_table.ensures.storage.bytes;
     }
 
 pub returns-in_err-write_table_back-clause-faults : goal.returns-in_err-write_table_back-clause-faults
@@ -29,17 +29,17 @@ returns-in_err-write_table_back-clause-faults g c =
           let old = (g.S.Storage.state c.args.image.now).byte_at in
           let new = (g.S.Storage.state c.write_table_back.new.image).byte_at in
           inr (image-torn c.args.header.now c.args.cluster c.args.edits.now c.in_ok-outcome.outcome c.edit_table.new.table _ old new
-          (search rules) c.load.ensures.storage.bytes (search rules) (failed.torn (rw c.load.ensures.storage.device.tells told) (ap Err failed.fault)));
+          (search rules) c.load_l2_table.ensures.storage.bytes (search rules) (failed.torn (rw c.load_l2_table.ensures.storage.device.tells told) (ap Err failed.fault)));
     }
 
 pub returns-clause-written : goal.returns-clause-written
 returns-clause-written g c = λ told.
     let old = (g.S.Storage.state c.args.image.now).byte_at in
     let new = (g.S.Storage.state c.write_table_back.new.image).byte_at in
-    let stands = c.in_ok-write_table_back.ensures.stands (rw c.load.ensures.storage.device.tells told) in
+    let stands = c.in_ok-write_table_back.ensures.stands (rw c.load_l2_table.ensures.storage.device.tells told) in
     let same : c.edit_table.new.table.geometry ≡ geometry_of c.args.header.now = search rules in
     let bits = ap (λ (g : Geometry). g.cluster_bits) same in
     image-edited c.args.header.now c.args.cluster c.args.edits.now c.in_ok-outcome.outcome c.in_ok-table.table c.edit_table.new.table old new
     (search rules) (search rules) (search rules) (search rules) stands
-    (rw (c.load.ensures.storage.bytes, bits) at (c.in_ok-write_table_back.ensures.storage.others (rw c.load.ensures.storage.device.tells told)))
+    (rw (c.load_l2_table.ensures.storage.bytes, bits) at (c.in_ok-write_table_back.ensures.storage.others (rw c.load_l2_table.ensures.storage.device.tells told)))
     c.in_ok-outcome.ensures.balance

@@ -1,10 +1,10 @@
 use Rattle.std.proofs.Common.{take}
 use Rattle.std.specs.Io.KnownBytes.{Appends}
-use Rattle.qcow2_session.specs.Commands.Listing.{table_lines}
-use Rattle.qcow2_session.proofs.commands.list.print_table.Given as goal
+use Rattle.qcow2_session.specs.Commands.Entries.{table_lines}
+use Rattle.qcow2_session.proofs.commands.entries.print_entries.Given as goal
 
 -- the lines of the entries before this one are printed
 abbrev pub invariant-loop-l2_index : goal.invariant-loop-l2_index
 invariant-loop-l2_index g l =
     Appends (g.O.Write.contents l.fn.out) (g.O.Write.contents l.out)
-    (table_lines l.l2_table.geometry l.index (take l.l2_index l.l2_table.numbers))
+    (table_lines l.label l.table.geometry l.l1_index (take l.l2_index l.table.numbers))

@@ -1,0 +1,47 @@
+use Rattle.std.specs.Prelude.{ℕ, ◌*◌, ◌^◌, List, ◌++◌, slice_index, Option, Some, None, Result, Ok, Err}
+use Rattle.qcow2_base.specs.Storage.{Image}
+use Rattle.qcow2_base.specs.declared.fault.Fault.{Fault}
+use Rattle.qcow2_base.specs.declared.fault.Fault.TheVariants.{NotPlaced}
+use Rattle.qcow2_base.specs.declared.types.HostCluster.{HostCluster}
+use Rattle.qcow2_metadata.specs.Results.{and_then, result_map}
+use Rattle.qcow2_metadata.specs.Table.L2Guards.{RunEnd}
+use Rattle.qcow2_metadata.specs.Header.{HeaderRecord, geometry_of}
+use Rattle.qcow2_metadata.specs.Table.{IsTorn, loaded_l1_table, loaded_l2_table}
+use Rattle.qcow2_session.specs.Commands.{ChangeEnd, ClusterFormat}
+use Rattle.qcow2_session.specs.Lines.{freed_lines, gained_lines}
+use Rattle.qcow2_session.specs.Session.Edits.{are_some}
+use Rattle.qcow2_session.specs.Session.Images.{edits_end}
+use Rattle.qcow2_session.specs.Session.Lookups.{l1_place, named_cluster}
+use Rattle.qcow2_session.specs.declared.session.edits.Edit.{Edit}
+
+-- the cluster that the L2 table of an L1 entry begins with, or why there is none
+abbrev pub named_table : HeaderRecord → ℕ → Image → Result HostCluster Fault
+named_table header l1_index image = and_then (loaded_l1_table (l1_place header) image) (λ l1.
+    or_not_placed (named_cluster header.v2.cluster_bits (slice_index l1 l1_index)))
+  where
+    or_not_placed : Option HostCluster → Result HostCluster Fault
+    or_not_placed None = Err NotPlaced
+    or_not_placed (Some cluster) = Ok cluster
+
+-- how L2 tables stand in an image with this header
+abbrev pub table_format : HeaderRecord → ClusterFormat
+table_format header = record {
+  cluster_bits = header.v2.cluster_bits;
+  loaded = loaded_l2_table (geometry_of header);
+  Torn = λ cluster numbers. IsTorn numbers (cluster.0 * 2 ^ header.v2.cluster_bits);
+}
+
+-- what edits of the table at a cluster come to, by what they leave: the lines tell of the clusters that lost a
+-- reference, and then of those that gained one
+abbrev pub told_edits : HostCluster → List Edit → RunEnd → ChangeEnd
+told_edits cluster edits left = record {
+  cluster = cluster;
+  numbers = left.numbers;
+  is_written = are_some edits;
+  lines = freed_lines left.freed ++ gained_lines left.gained;
+}
+
+-- what edits of the L2 table that an L1 entry names come to, in an image with this header, or why they are refused
+abbrev pub end_of_edits : ℕ → List Edit → HeaderRecord → Image → Result ChangeEnd Fault
+end_of_edits l1_index edits header image = and_then (named_table header l1_index image) (λ cluster.
+    result_map (told_edits cluster edits) (edits_end header cluster edits image))

@@ -1,0 +1,68 @@
+//! The lines of an L2 table's entries, which the commands `l2` and `list` print.
+
+ghost use Rattle.std.specs.Prelude.{◌≡◌, ◌-◌, ◌*◌, ◌^◌, ◌<◌, IsOkUnless, OnOk, length};
+ghost use Rattle.std.specs.Io.KnownBytes.{Appends};
+ghost use Rattle.qcow2_base.specs.Types.{IsClusterBits};
+ghost use Rattle.qcow2_metadata.specs.Entries.L2Mapping.{IsPlaced, meaning};
+ghost use Rattle.qcow2_session.specs.Commands.Entries.{label_text, table_lines};
+ghost use Rattle.qcow2_session.specs.Lines.{entry_line};
+
+use crate::lines::print_entry;
+use qcow2_base::{Fault, GuestCluster};
+use qcow2_metadata::{L2Mapping, L2Table, Table};
+use std::io::Write;
+
+// What the line of an entry begins with: the number of its guest cluster, which is the entry's index in the
+// table of L1 entry 0, or its guest offset.
+#[derive(Clone, Copy)]
+pub(super) enum Label {
+    Index,
+    Offset,
+}
+
+/// Prints the lines of the L2 table of the L1 entry at an index, one for each entry that isn't left to the
+/// backing file.
+pub(super) fn print_entries<O: Write>(
+    table: &L2Table,
+    l1_index: usize,
+    label: Label,
+    out: &mut O,
+) -> Result<(), Fault>
+    requires entries { length table.now.numbers ≡ 2 ^ (table.now.geometry.cluster_bits - 3) }
+    requires index { l1_index < 4194304 }
+    ensures fault { IsOkUnless result Fault.Storage }
+    ensures lines { OnOk result (Appends (O.contents out.old) (O.contents out.new)
+        (table_lines label table.now.geometry l1_index table.now.numbers)) }
+{
+    let cluster_bits = table.cluster_bits();
+    for l2_index in 0..table.entries() {
+        let guest_cluster = GuestCluster::from_l1_l2_indices(l1_index, l2_index, cluster_bits);
+        let mapping = table.get_mapping(guest_cluster)?;
+        print_labelled(guest_cluster, label, &mapping, cluster_bits, out)?;
+    }
+    Ok(())
+}
+
+// Prints the line of the entry of a guest cluster, if its mapping has one.
+fn print_labelled<O: Write>(
+    guest_cluster: GuestCluster,
+    label: Label,
+    mapping: &L2Mapping,
+    cluster_bits: u32,
+    out: &mut O,
+) -> Result<(), Fault>
+    requires bits { IsClusterBits cluster_bits }
+    requires placed { IsPlaced cluster_bits mapping.now }
+    requires fits { guest_cluster.0 * 2 ^ cluster_bits < 2 ^ 64 }
+    ensures fault { IsOkUnless result Fault.Storage }
+    ensures line { OnOk result (Appends (O.contents out.old) (O.contents out.new)
+        (entry_line cluster_bits (label_text label cluster_bits guest_cluster.0) (meaning mapping.now))) }
+{
+    match label {
+        Label::Index => print_entry(guest_cluster.0, mapping, cluster_bits, out),
+        Label::Offset => {
+            let offset = guest_cluster.offset(cluster_bits);
+            print_entry(offset, mapping, cluster_bits, out)
+        }
+    }
+}
