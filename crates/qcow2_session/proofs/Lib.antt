@@ -12,6 +12,7 @@ pub mod CommandsLemmas
 pub mod EditsLemmas
 pub mod FirstLemmas
 pub mod HexLemmas
+pub mod PrintedExtentsLemmas
 pub mod ImagesLemmas
 pub mod LinesLemmas
 pub mod ListingLemmas

@@ -2,6 +2,7 @@ pub mod At
 pub mod Counting
 pub mod Editing
 pub mod Entries
+pub mod Extents
 pub mod Info
 pub mod L2
 pub mod Listing

@@ -15,7 +15,7 @@ use qcow2_metadata::L2Mapping;
 use std::io::Write;
 
 /// What stands before the mapping of an entry.
-pub(crate) trait Label: Copy {
+pub(crate) trait EntryLabel: Copy {
     /// How it is printed.
     ghost text: { Self → List ℕ };
 
@@ -25,18 +25,18 @@ pub(crate) trait Label: Copy {
         ensures { line.new ≡ text self ++ line.old };
 }
 
-/// The index of an entry, in decimal.
-impl Label for usize {
+/// The number of an entry, in decimal.
+impl EntryLabel for u64 {
     ghost text = { decimal };
 
     #[inline]
     fn prepend_to(self, line: &mut LineBuffer) {
-        line.prepend_decimal(self as u64);
+        line.prepend_decimal(self);
     }
 }
 
 /// The guest offset of an entry's cluster, in hexadecimal.
-impl Label for GuestOffset {
+impl EntryLabel for GuestOffset {
     ghost text = { λ offset. offset_text offset.0 };
 
     #[inline]
@@ -47,7 +47,7 @@ impl Label for GuestOffset {
 
 /// Prints the line of an entry: a label, a space, and its mapping. An entry that is left to the
 /// backing file has no line.
-pub(crate) fn print_entry<L: Label, O: Write>(
+pub(crate) fn print_entry<L: EntryLabel, O: Write>(
     label: L,
     mapping: &L2Mapping,
     cluster_bits: u32,

@@ -8,7 +8,7 @@ ghost use Rattle.qcow2_metadata.specs.Header.{geometry_of};
 ghost use Rattle.qcow2_metadata.specs.Table.{IsLoadFault, IsLoaded, LoadRefuses, l2_table_at, loaded_l1_table, loaded_l2_table, most_l1_entries, place_fault};
 ghost use Rattle.qcow2_session.specs.Session.Lookups.{IsLookupFault, guest_mapping, image_mapping, l1_place, l2_cluster, mapping_in, named_cluster, table_fault};
 
-use qcow2_base::{Fault, GuestOffset, HostCluster, Storage};
+use qcow2_base::{Fault, GuestCluster, GuestOffset, HostCluster, Storage};
 use qcow2_metadata::{Header, L1Table, L2Mapping, L2Table, Table};
 use std::alloc::Global;
 
@@ -41,7 +41,7 @@ pub fn lookup<S: Storage>(
 {
     let cluster_bits = header.cluster_bits();
     let guest_cluster = guest_offset.cluster(cluster_bits);
-    let Some(cluster) = named_cluster(l1_table, guest_cluster.l1_index(cluster_bits)) else {
+    let Some(cluster) = l2_cluster(l1_table, guest_cluster) else {
         let backing_offset = guest_cluster.offset(cluster_bits).0;
         return Ok(L2Mapping::Backing { backing_offset });
     };
@@ -128,4 +128,14 @@ pub(crate) fn named_cluster(l1_table: &L1Table, index: usize) -> Option<HostClus
 {
     let offset = l1_table.get(index).l2_offset()?;
     Some(offset.cluster(l1_table.cluster_bits()))
+}
+
+/// The cluster that the L2 table of a guest cluster begins with, if there is one. It ends by 2^56.
+pub(super) fn l2_cluster(l1_table: &L1Table, guest_cluster: GuestCluster) -> Option<HostCluster>
+    ensures value { let cb = l1_table.now.geometry.cluster_bits in
+        result ≡ l2_cluster cb l1_table.now.numbers guest_cluster.0 }
+    ensures end { let cb = l1_table.now.geometry.cluster_bits in
+        IfSome result (λ cluster. cluster.0 * 2 ^ cb + 2 ^ cb ≤ 2 ^ 56) }
+{
+    named_cluster(l1_table, guest_cluster.l1_index(l1_table.cluster_bits()))
 }

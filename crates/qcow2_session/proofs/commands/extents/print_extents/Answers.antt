@@ -1,0 +1,27 @@
+use Rattle.std.proofs.Common.{◌≡◌, Ok, ap, inl, inr, rules, ◌∙◌}
+use Rattle.std.proofs.KnownBytes.{Appends-trans}
+use Rattle.std.proofs.lemmas.Result.{err_from_is_err_and}
+use Rattle.qcow2_session.proofs.LookupsLemmas.{reads-then_for}
+use Rattle.qcow2_session.proofs.commands.extents.print_extents.Goals as goal
+
+pub returns-in_err-print_all-clause-prints : goal.returns-in_err-print_all-clause-prints
+returns-in_err-print_all-clause-prints g c =
+    let left = err_from_is_err_and c.from_residual-in_err-print_all.result c.from_residual-in_err-print_all.ensures.1 in
+    let reads = c.in_ok-extents.ensures.storage in
+    rw (left.1, left.2) (record {
+      extents = tt;
+      refused = λ told.
+          let loaded = c.in_ok-extents.ensures.exact told in
+          let printed = rw (c.in_ok-extents.ensures.begun, reads.bytes) at (c.in_err-print_all.ensures.prints.refused (reads.device.tells ∙ told)) in
+          elim printed [
+            | inl storage ↦ inl storage
+            | inr (inl memory) ↦ inr (inl memory)
+            | inr (inr rest) ↦ inr (inr (inr (rw loaded (rest.0, (rest.1, rest.2, rest.3),
+                Appends-trans _ _ _ _ _ (rw c.opening.ensures at c.in_ok-print_text.ensures.text) rest.4))))
+          ];
+    })
+
+pub returns-in_err-print_all-clause-storage : goal.returns-in_err-print_all-clause-storage
+returns-in_err-print_all-clause-storage g c =
+    let left = err_from_is_err_and c.from_residual-in_err-print_all.result c.from_residual-in_err-print_all.ensures.1 in
+    rw (left.1, left.2) (reads-then_for _ _ _ _ c.in_ok-extents.ensures.storage c.in_err-print_all.ensures.storage)

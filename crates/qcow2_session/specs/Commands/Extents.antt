@@ -1,0 +1,128 @@
+use Rattle.std.specs.Prelude.{◌≡◌, ◌⊎◌, ℕ, ◌==◌, if◌then◌else◌, IsTrue, List, [], ◌++◌, flat_map, Option, Result, Err, IfErr, IsOkAnd, OnOk, codes}
+use Rattle.std.specs.Fmt.{decimal}
+use Rattle.std.specs.Io.KnownBytes.{Appends}
+use Rattle.qcow2_base.specs.Storage.{Image, StorageState}
+use Rattle.qcow2_base.specs.declared.fault.Fault.{Fault}
+use Rattle.qcow2_base.specs.declared.fault.Fault.TheVariants.{NoMemory, Storage}
+use Rattle.qcow2_metadata.specs.Header.{HeaderRecord, geometry_of}
+use Rattle.qcow2_metadata.specs.Results.{and_then, result_map}
+use Rattle.qcow2_metadata.specs.Header.Grammar.{header_of}
+use Rattle.qcow2_metadata.specs.Table.{loaded_l1_table}
+use Rattle.qcow2_session.specs.Session.Extents.{AreExtents, Contents, ExtentsState, IsMap, IsMapBefore, IsRefusedFrom, contents_for, contents_of}
+use Rattle.qcow2_session.specs.Session.Lookups.{l1_place}
+use Rattle.qcow2_session.specs.Lines.{offset_text}
+use Rattle.qcow2_session.specs.declared.commands.extents.ExtentFormat.{ExtentFormat}
+use Rattle.qcow2_session.specs.declared.commands.extents.ExtentFormat.TheVariants.{Json, Lines}
+use Rattle.qcow2_session.specs.declared.session.extents.Content.{Content}
+use Rattle.qcow2_session.specs.declared.session.extents.Content.TheVariants.{Absent, AllocatedZeros, Compressed, Data, Zeros}
+use Rattle.qcow2_session.specs.declared.session.extents.Extent.{Extent}
+
+-- what a line says of an extent's content
+abbrev pub content_text : Content → List ℕ
+content_text (Data offset) = codes "data " ++ offset_text offset.0
+content_text Zeros = codes "zero"
+content_text (AllocatedZeros offset) = codes "zero " ++ offset_text offset.0
+content_text Compressed = codes "compressed"
+content_text Absent = codes "backing"
+
+-- the line of an extent: its guest offset, its length, and its content
+abbrev pub extent_line : Extent → List ℕ
+extent_line extent = offset_text extent.start.0 ++ codes " " ++ offset_text extent.length ++ codes " "
+    ++ content_text extent.content ++ codes "\n"
+
+-- what JSON says of a content: whether it is in the image, whether it reads as zeros, and whether it is data
+abbrev pub json_flags : Content → List ℕ
+json_flags (Data offset) = codes "\"present\": true, \"zero\": false, \"data\": true"
+json_flags Zeros = codes "\"present\": true, \"zero\": true, \"data\": false"
+json_flags (AllocatedZeros offset) = codes "\"present\": true, \"zero\": true, \"data\": false"
+json_flags Compressed = codes "\"present\": true, \"zero\": false, \"data\": true"
+json_flags Absent = codes "\"present\": false, \"zero\": true, \"data\": false"
+
+-- and where its clusters lie, if they are whole ones
+abbrev pub json_offset : Content → List ℕ
+json_offset (Data offset) = codes ", \"offset\": " ++ decimal offset.0
+json_offset (AllocatedZeros offset) = codes ", \"offset\": " ++ decimal offset.0
+json_offset _ = []
+
+-- all that JSON says of a content
+abbrev pub json_content : Content → List ℕ
+json_content content = codes ", \"depth\": 0, " ++ json_flags content ++ json_offset content ++ codes "}"
+
+-- how long it goes on
+abbrev pub json_length : ℕ → List ℕ
+json_length length = codes ", \"length\": " ++ decimal length
+
+-- an extent in JSON
+abbrev pub json_object : Extent → List ℕ
+json_object extent = codes "{ \"start\": " ++ decimal extent.start.0 ++ json_length extent.length ++ json_content extent.content
+
+-- what stands between an extent and the one before it: nothing before the first, which begins at 0
+abbrev pub json_separator : ℕ → List ℕ
+json_separator start = if start == 0 then [] else codes ",\n"
+
+-- an extent in a list of JSON
+abbrev pub json_row : Extent → List ℕ
+json_row extent = json_separator extent.start.0 ++ json_object extent
+
+-- the text of an extent, and what stands before the first and after the last
+abbrev pub extent_text : ExtentFormat → Extent → List ℕ
+extent_text Lines extent = extent_line extent
+extent_text Json extent = json_row extent
+
+abbrev pub opening : ExtentFormat → List ℕ
+opening Lines = []
+opening Json = codes "["
+
+abbrev pub closing : ExtentFormat → List ℕ
+closing Lines = []
+closing Json = codes "]\n"
+
+-- the text of extents
+abbrev pub extents_text : ExtentFormat → List Extent → List ℕ
+extents_text format extents = flat_map (extent_text format) extents
+
+-- the text of all extents of a disk
+abbrev pub map_text : ExtentFormat → List Extent → List ℕ
+map_text format extents = opening format ++ extents_text format extents ++ closing format
+
+-- a guest's disk: what each byte reads as, and how many they are
+pub record Disk : Type 0 where
+  pub contents : Contents
+  pub size : ℕ
+
+-- the disk of an image with this header, or why its L1 table can't be loaded
+abbrev pub disk_of : HeaderRecord → Image → Result Disk Fault
+disk_of header image = result_map (λ l1. record { contents = contents_of (geometry_of header) l1 image; size = header.v2.size })
+    (loaded_l1_table (l1_place header) image)
+
+-- the disk of an image, by its bytes alone
+abbrev pub disk_in : Image → Result Disk Fault
+disk_in image = and_then (header_of image) (λ header. disk_of header image)
+
+-- the output got the text of all extents of a disk
+abbrev pub PrintsMap : ExtentFormat → Option (List ℕ) → Option (List ℕ) → Disk → Type 0
+PrintsMap format before after disk = (extents : List Extent)
+    × IsMap disk.contents disk.size extents × Appends before after (map_text format extents)
+
+-- the output got the text of the extents before one that can't be told for this fault
+abbrev pub PrintsMapBefore : ExtentFormat → Fault → Option (List ℕ) → Option (List ℕ) → Disk → Type 0
+PrintsMapBefore format fault before after disk = (extents : List Extent)
+    × IsMapBefore disk.contents disk.size fault extents × Appends before after (opening format ++ extents_text format extents)
+
+-- the extents from a reader's offset on were printed up to the disk's size, or up to one that can't be told
+pub record PrintsRest {T : Type 0} (answer : Result T Fault) (format : ExtentFormat) (reader : ExtentsState) (image : StorageState) (before after : Option (List ℕ)) : Type 0 where
+  pub extents : OnOk answer (IsTrue image.tells → (extents : List Extent)
+      × AreExtents (contents_for reader image.byte_at) reader.header.v2.size reader.position extents reader.header.v2.size
+      × Appends before after (extents_text format extents))
+  pub refused : IfErr answer (λ fault. IsTrue image.tells → (fault ≡ Storage) ⊎ (fault ≡ NoMemory)
+      ⊎ ((extents : List Extent) × (to : ℕ)
+      × AreExtents (contents_for reader image.byte_at) reader.header.v2.size reader.position extents to
+      × IsRefusedFrom (contents_for reader image.byte_at) reader.header.v2.size to fault
+      × Appends before after (extents_text format extents)))
+
+-- the command `map` of a disk ended in this answer: it printed all extents, or it was refused. The extents before an L2
+-- table that is refused stay, and nothing is printed where the disk can't be told at all
+pub record PrintsExtents {T : Type 0} (answer : Result T Fault) (format : ExtentFormat) (disk : Result Disk Fault) (image : StorageState) (before after : Option (List ℕ)) : Type 0 where
+  pub extents : OnOk answer (IsTrue image.tells → IsOkAnd disk (PrintsMap format before after))
+  pub refused : IfErr answer (λ fault. IsTrue image.tells → (fault ≡ Storage) ⊎ (fault ≡ NoMemory)
+      ⊎ ((disk ≡ Err fault) × Appends before after []) ⊎ IsOkAnd disk (PrintsMapBefore format fault before after))
