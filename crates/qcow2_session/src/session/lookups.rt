@@ -106,7 +106,7 @@ pub(crate) fn load_l1_table<S: Storage>(
 }
 
 // The cluster that the L2 table of a guest cluster begins with, if there is one. It ends by 2^56.
-fn l2_cluster(l1_table: &L1Table, guest_cluster: GuestCluster) -> Option<HostCluster>
+pub(super) fn l2_cluster(l1_table: &L1Table, guest_cluster: GuestCluster) -> Option<HostCluster>
     ensures value { let cb = l1_table.now.geometry.cluster_bits in
         result ≡ l2_cluster cb l1_table.now.numbers guest_cluster.0 }
     ensures end { let cb = l1_table.now.geometry.cluster_bits in
