@@ -19,7 +19,7 @@ use Rattle.qcow2_metadata.specs.Entries.{entry_fault, is_copied, offset_field}
 use Rattle.qcow2_metadata.specs.Entries.L2Entry.{compressed_length, compressed_offset, host_offset, is_allocated, is_compressed, is_zero, l2_fault}
 use Rattle.qcow2_metadata.specs.Entries.Runs.{follows, goes_on}
 use Rattle.qcow2_metadata.specs.Table.{TableState, first_fault, mapping_at}
-use Rattle.qcow2_metadata.specs.Table.L2Table.{IsRun}
+use Rattle.qcow2_metadata.specs.Table.L2Table.{IsMappedRun}
 use Rattle.qcow2_metadata.specs.declared.entries.runs.RunPattern.{RunPattern}
 use Rattle.qcow2_metadata.proofs.TableLemmas.{no_fault_item}
 
@@ -326,7 +326,7 @@ pub run_of_pattern : (table : TableState) (first count i : ℕ) (entries rest : 
     → count ≤ length rest
     → ((k : ℕ) → k < count → follows pattern (k + 1) (get_or rest k 0) ≡ true)
     → (count < length rest → follows pattern (count + 1) (get_or rest count 0) ≡ false)
-    → IsRun table first (1 + count)
+    → IsMappedRun table first (1 + count)
 run_of_pattern table first count i entries rest pattern bits is full fits lawful same is_rest exact within each ends =
     let cb = table.geometry.cluster_bits in
     let size = 2 ^ (cb - 3) in

@@ -1,6 +1,7 @@
 mod ChangingExamples
 mod CommandsExamples
 mod EditsExamples
+mod ExtentsExamples
 mod LinesExamples
 mod LookupsExamples
 mod PrintingExamples
@@ -10,6 +11,7 @@ mod WholeImageExamples
 pub mod ChangingLemmas
 pub mod CommandsLemmas
 pub mod EditsLemmas
+pub mod ExtentsLemmas
 pub mod FirstLemmas
 pub mod HexLemmas
 pub mod PrintedExtentsLemmas

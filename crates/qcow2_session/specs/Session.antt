@@ -1,4 +1,5 @@
 pub mod Edits
+pub mod Extents
 pub mod Images
 pub mod Lookups
 pub mod Settled

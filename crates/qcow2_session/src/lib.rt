@@ -11,6 +11,6 @@ pub use commands::{
     print_info, print_mapping_at, report_fault, run, run_words,
 };
 pub use session::{
-    Edit, Outcome, Step, StepReply, edit_image, edit_settled, edit_table, edits_fit, lookup,
-    lookup_image, settle, step_block, step_image,
+    Content, Edit, Extent, Extents, Outcome, Step, StepReply, edit_image, edit_settled, edit_table,
+    edits_fit, lookup, lookup_image, settle, step_block, step_image,
 };

@@ -2,12 +2,14 @@
 //! image. Counters that follow what edits did to references. What a guest offset reads as.
 
 mod edits;
+mod extents;
 mod images;
 mod lookups;
 mod settled;
 mod steps;
 
 pub use edits::{Edit, Outcome, edit_table, edits_fit};
+pub use extents::{Content, Extent, Extents};
 pub use images::{edit_image, step_image};
 pub(crate) use lookups::{load_l1_table, load_l2_table, lookup_with_header, named_cluster};
 pub use lookups::{lookup, lookup_image};

@@ -34,7 +34,7 @@ abbrev pub compressed_at : TableState → ℕ → Option (ℕ × ℕ)
 compressed_at table guest_cluster = compressed_range (mapping_at table guest_cluster)
 
 -- so many guest clusters from one on go on from what that one reads as by a table, and the next one of the table doesn't
-pub record IsRun (table : TableState) (first count : ℕ) : Type 0 where
+pub record IsMappedRun (table : TableState) (first count : ℕ) : Type 0 where
   pub some : 1 ≤ count
   pub within : first % 2 ^ (table.geometry.cluster_bits - 3) + count ≤ 2 ^ (table.geometry.cluster_bits - 3)
   pub each : (k : ℕ) → k < count → goes_on k (mapping_at table first) (mapping_at table (first + k)) ≡ true

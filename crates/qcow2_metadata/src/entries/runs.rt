@@ -1,6 +1,6 @@
 //! Runs of L2 entries: how the entries go on that read as one with the first.
 
-ghost use Rattle.std.specs.Prelude.{◌≡◌, ℕ, ◌+◌, ◌*◌, ◌^◌, ◌<◌, ◌≤◌, None, false, true, length, slice_index};
+ghost use Rattle.std.specs.Prelude.{◌≡◌, ℕ, ◌+◌, ◌*◌, ◌^◌, ◌<◌, ◌≤◌, IsTrue, None, false, true, length, slice_index};
 ghost use Rattle.qcow2_base.specs.Types.{IsClusterBits};
 ghost use Rattle.qcow2_metadata.specs.Header.{geometry};
 ghost use Rattle.qcow2_metadata.specs.Entries.L2Entry.{l2_fault};
@@ -8,6 +8,9 @@ ghost use Rattle.qcow2_metadata.specs.Entries.L2Mapping.{mapping};
 ghost use Rattle.qcow2_metadata.specs.Entries.Runs.{follows, goes_on};
 
 use super::{AtomicL2Entry, L2Entry, TableEntry};
+
+// How many entries are tested together.
+const BLOCK: usize = 64;
 
 /// What the entries of a run have in common: in the bits of the mask a value, which grows by a step from one
 /// entry to the next.
@@ -72,10 +75,48 @@ impl RunPattern {
         ensures ends { result < length entries.now →
             follows self.now (result + 1) (slice_index entries.now result) ≡ false }
     {
-        let mut expected = self.value;
-        for (index, entry) in entries.iter().enumerate() {
+        let mut done = 0;
+        while done + BLOCK <= entries.len() {
+            if !self.all_follow(entries, done, done + BLOCK) {
+                break;
+            }
+            done += BLOCK;
+        }
+        self.count_from(entries, done)
+    }
+
+    // Whether the entries from one on up to another follow the pattern. It has no early exit, so that a
+    // compiler tests several at once.
+    fn all_follow(&self, entries: &[AtomicL2Entry], first: usize, end: usize) -> bool
+        requires fits { self.now.value + length entries.now * self.now.step < 2 ^ 64 }
+        requires order { first ≤ end }
+        requires within { end ≤ length entries.now }
+        ensures { IsTrue result → (k : ℕ) → first ≤ k → k < end →
+            follows self.now (k + 1) (slice_index entries.now k) ≡ true }
+    {
+        let mut expected = self.value + first as u64 * self.step;
+        let mut all = true;
+        for index in first..end {
             expected += self.step;
-            if entry.to_plain() & self.mask != expected {
+            all &= entries[index].to_plain() & self.mask == expected;
+        }
+        all
+    }
+
+    // How many entries follow the pattern, where those before the first do.
+    fn count_from(&self, entries: &[AtomicL2Entry], first: usize) -> usize
+        requires fits { self.now.value + length entries.now * self.now.step < 2 ^ 64 }
+        requires within { first ≤ length entries.now }
+        requires before { (k : ℕ) → k < first → follows self.now (k + 1) (slice_index entries.now k) ≡ true }
+        ensures within { result ≤ length entries.now }
+        ensures each { (k : ℕ) → k < result → follows self.now (k + 1) (slice_index entries.now k) ≡ true }
+        ensures ends { result < length entries.now →
+            follows self.now (result + 1) (slice_index entries.now result) ≡ false }
+    {
+        let mut expected = self.value + first as u64 * self.step;
+        for index in first..entries.len() {
+            expected += self.step;
+            if entries[index].to_plain() & self.mask != expected {
                 return index;
             }
         }

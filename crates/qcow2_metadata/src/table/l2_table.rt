@@ -59,7 +59,7 @@ fn shared_entries(
 
 impl EntryTable<AtomicL2Entry> {
     ghost use Rattle.std.specs.Prelude.{option_map};
-    ghost use Rattle.qcow2_metadata.specs.Table.L2Table.{IsRun, IsTableGuard, compressed_at, guarded_range};
+    ghost use Rattle.qcow2_metadata.specs.Table.L2Table.{IsMappedRun, IsTableGuard, compressed_at, guarded_range};
 
     /// A table of an image with this header in which no cluster has data. It has no cluster, and
     /// counts as modified. Fails only for want of memory.
@@ -94,11 +94,12 @@ impl EntryTable<AtomicL2Entry> {
         entry.into_mapping(guest_cluster, cluster_bits, self.has_external_data_file())
     }
 
-    /// How many guest clusters, from one on, read on as one by their entries in this table, to its end at most:
-    /// data in one host cluster after another, zeros in one after another, zeros without any, compressed data,
-    /// or what the backing file has. Whether host clusters are copied makes no difference.
+    /// How many guest clusters, from one on, read on as one by their entries in this table, to its end
+    /// at most: data in one host cluster after another, zeros in one after another, zeros without any,
+    /// compressed data, or what the backing file has. Whether host clusters are copied makes no
+    /// difference.
     pub fn run_length(&self, guest_cluster: GuestCluster) -> ClusterCount
-        ensures { IsRun self.now guest_cluster.0 result.0 }
+        ensures { IsMappedRun self.now guest_cluster.0 result.0 }
     {
         let cluster_bits = self.cluster_bits();
         let index = guest_cluster.l2_index(cluster_bits);

@@ -1,9 +1,11 @@
-use Rattle.std.proofs.Common.{◌≡◌, ◌≤◌, ℕ, true, ◌+◌, ◌*◌, ◌<◌, get_or, length}
+use Rattle.std.proofs.Common.{◌≡◌, ◌≤◌, ◌-◌, ℕ, true, ◌+◌, ◌<◌, get_or, length}
 use Rattle.qcow2_metadata.specs.Entries.Runs.{follows}
 use Rattle.qcow2_metadata.proofs.entries.runs.RunPattern.count.Given as goal
 
--- the entries before this one follow the pattern, and the value has grown by a step for each
-abbrev pub invariant-loop-index : goal.invariant-loop-index
-invariant-loop-index l =
-    (l.expected ≡ l.self.value + l.index * l.self.step) × (l.index ≤ length l.entries)
-    × ((k : ℕ) → k < l.index → follows l.self (k + 1) (get_or l.entries k 0) ≡ true)
+-- the entries of the blocks before this one follow the pattern
+abbrev pub invariant-loop-done : goal.invariant-loop-done
+invariant-loop-done l =
+    (l.done ≤ length l.entries) × ((k : ℕ) → k < l.done → follows l.self (k + 1) (get_or l.entries k 0) ≡ true)
+
+abbrev pub decreases-loop-done : goal.decreases-loop-done
+decreases-loop-done l = length l.entries - l.done

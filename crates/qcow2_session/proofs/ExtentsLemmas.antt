@@ -1,0 +1,424 @@
+use Rattle.std.proofs.Common.{◌≡◌, ◌⊎◌, ℕ, true, ◌+◌, ◌-◌, ◌*◌, ◌/◌, ◌%◌, ◌^◌, ◌<◌, ◌≤◌, min, List, [], ◌∷◌, ◌++◌, length, get_or, Some, None, Result, Ok, Err, refl, ap, subst, sym, ◌∙◌, inl, inr, arith}
+use Rattle.std.proofs.lemmas.Bool.{cases_lt}
+use Rattle.std.proofs.lemmas.Bool.Decides.{Decides-eqb}
+use Rattle.std.proofs.lemmas.List.{get_or_past}
+use Rattle.std.proofs.lemmas.Nat.{div-add-mod', div-mul-add, mod-mul-add, mul-le, pow_pos, pow-add}
+use Rattle.std.proofs.Math.Nat.{le-div_iff_mul-le, div-mul-le_self, mod-eq_of_lt, mod-lt, mul_assoc}
+use Rattle.std.proofs.Math.Pow.{pow_mono}
+use Rattle.qcow2_base.specs.Storage.{Image, OnlyReads, StorageState}
+use Rattle.qcow2_base.specs.declared.fault.Fault.{Fault}
+use Rattle.qcow2_base.specs.declared.fault.Fault.TheVariants.{NoMemory, Storage}
+use Rattle.qcow2_base.specs.declared.types.HostCluster.{HostCluster}
+use Rattle.qcow2_metadata.specs.Entries.L2Mapping.{Mapping, backing, compressed, data_file, zeros}
+use Rattle.qcow2_metadata.specs.Entries.Runs.{goes_on}
+use Rattle.qcow2_metadata.specs.Header.{Geometry}
+use Rattle.qcow2_metadata.specs.Table.{TableState, loaded_l2_table, mapping_at}
+use Rattle.qcow2_metadata.specs.Table.L2Table.{IsMappedRun}
+use Rattle.qcow2_session.specs.Session.Lookups.{l2_cluster, named_cluster}
+use Rattle.qcow2_session.specs.Session.Extents.{AreExtents, AreInOneTable, ComesTo, Contents, ExtentsState, HasNoTable, IsExtent, IsMap, IsMapBefore, IsPiece, IsRefusedFrom, KeepsTableOf, ReadAsOne, RefusesExtent, StaysReader, TellsExtent, content_in, contents_for, contents_in, contents_of, extent_of, moved_on}
+use Rattle.qcow2_session.specs.declared.session.extents.Extent.{Extent}
+use Rattle.qcow2_session.specs.declared.session.extents.Content.{Content}
+use Rattle.qcow2_session.specs.declared.session.extents.Content.TheVariants.{Absent, AllocatedZeros, Compressed, Data, Zeros}
+
+-- an offset's distance from its cluster's begin is less than the largest cluster
+pub distance_below : (cb offset distance : ℕ) → cb ≤ 21 → distance ≡ offset % 2 ^ cb → distance < 2 ^ 21
+distance_below cb offset distance high is =
+    let power : 2 ^ cb ≤ 2 ^ 21 = pow_mono high in
+    omega (arith, is, mod-lt offset (pow_pos cb), power)
+
+-- past the L1 table's end no L2 table is named
+pub unnamed_from : (cb : ℕ) (l1 : List ℕ) (first index : ℕ) → length l1 ≤ index → ((k : ℕ) → first ≤ k → k < index → named_cluster cb (get_or l1 k 0) ≡ None)
+    → (k : ℕ) → first ≤ k → named_cluster cb (get_or l1 k 0) ≡ None
+unnamed_from cb l1 first index past before k from = elim (cases_lt k index) [
+  | inl below ↦ before k from below
+  | inr above ↦ rw (get_or_past l1 k 0 (omega arith)) refl
+]
+
+-- the parts of the disk that so many L2 tables are for
+tables_size : (cb n : ℕ) → 9 ≤ cb → n * 2 ^ (2 * cb - 3) ≡ n * 2 ^ (cb - 3) * 2 ^ cb
+tables_size cb n low =
+    let whole : cb - 3 + cb ≡ 2 * cb - 3 = omega arith in
+    ap (λ x. n * x) (rw whole at (pow-add 2 (cb - 3) cb)) ∙ sym (mul_assoc n (2 ^ (cb - 3)) (2 ^ cb))
+
+-- a guest cluster's place in the L1 table, by the offset
+below_next : (cb offset next : ℕ) → 9 ≤ cb → offset < next * 2 ^ (2 * cb - 3) → offset / 2 ^ cb / 2 ^ (cb - 3) < next
+below_next cb offset next low below = elim (cases_lt (offset / 2 ^ cb / 2 ^ (cb - 3)) next) [
+  | inl less ↦ less
+  | inr more ↦
+      let clusters : next * 2 ^ (cb - 3) ≤ offset / 2 ^ cb = (le-div_iff_mul-le (pow_pos (cb - 3))).0 more in
+      let bytes : next * 2 ^ (cb - 3) * 2 ^ cb ≤ offset = (le-div_iff_mul-le (pow_pos cb)).0 clusters in
+      absurd (omega (arith, bytes, below, tables_size cb next low))
+]
+
+quotient_rises : (a b k : ℕ) → 0 < k → a ≤ b → a / k ≤ b / k
+quotient_rises a b k some h = (le-div_iff_mul-le some).1 (omega (arith, div-mul-le_self a k))
+
+pub reaches_next : (cb from next : ℕ) → 9 ≤ cb → from / 2 ^ cb / 2 ^ (cb - 3) + 1 ≤ next → from < next * 2 ^ (2 * cb - 3)
+reaches_next cb from next low above = elim (cases_lt from (next * 2 ^ (2 * cb - 3))) [
+  | inl less ↦ less
+  | inr more ↦
+      let bytes : next * 2 ^ (cb - 3) * 2 ^ cb ≤ from = omega (arith, more, tables_size cb next low) in
+      let clusters : next * 2 ^ (cb - 3) ≤ from / 2 ^ cb = (le-div_iff_mul-le (pow_pos cb)).1 bytes in
+      let tables : next ≤ from / 2 ^ cb / 2 ^ (cb - 3) = (le-div_iff_mul-le (pow_pos (cb - 3))).1 clusters in
+      absurd (omega (arith, tables, above))
+]
+
+-- no L2 table is for the bytes up to the next L1 entry that names one
+pub no_table_before : (cb : ℕ) (l1 : List ℕ) (from next to : ℕ) → 9 ≤ cb → l2_cluster cb l1 (from / 2 ^ cb) ≡ None → to ≤ next * 2 ^ (2 * cb - 3)
+    → ((k : ℕ) → from / 2 ^ cb / 2 ^ (cb - 3) + 1 ≤ k → k < next → named_cluster cb (get_or l1 k 0) ≡ None)
+    → HasNoTable cb l1 from to
+no_table_before cb l1 from next to low here end none = λ offset above below.
+    let k = offset / 2 ^ cb / 2 ^ (cb - 3) in
+    let less : k < next = below_next cb offset next low (omega (arith, below, end)) in
+    let more = quotient_rises (from / 2 ^ cb) (offset / 2 ^ cb) (2 ^ (cb - 3)) (pow_pos (cb - 3)) (quotient_rises from offset (2 ^ cb) (pow_pos cb) above) in
+    elim (cases_lt (from / 2 ^ cb / 2 ^ (cb - 3)) k) [
+      | inl later ↦ none k (omega (arith, later)) less
+      | inr same ↦ let is : k ≡ from / 2 ^ cb / 2 ^ (cb - 3) = omega (arith, same, more) in rw is here
+    ]
+
+pub no_table_after : (cb : ℕ) (l1 : List ℕ) (from to : ℕ) → l2_cluster cb l1 (from / 2 ^ cb) ≡ None
+    → ((k : ℕ) → from / 2 ^ cb / 2 ^ (cb - 3) + 1 ≤ k → named_cluster cb (get_or l1 k 0) ≡ None)
+    → HasNoTable cb l1 from to
+no_table_after cb l1 from to here none = λ offset above below.
+    let k = offset / 2 ^ cb / 2 ^ (cb - 3) in
+    let more = quotient_rises (from / 2 ^ cb) (offset / 2 ^ cb) (2 ^ (cb - 3)) (pow_pos (cb - 3)) (quotient_rises from offset (2 ^ cb) (pow_pos cb) above) in
+    elim (cases_lt (from / 2 ^ cb / 2 ^ (cb - 3)) k) [
+      | inl later ↦ none k (omega (arith, later))
+      | inr same ↦ let is : k ≡ from / 2 ^ cb / 2 ^ (cb - 3) = omega (arith, same, more) in rw is here
+    ]
+
+-- what clusters read as goes on byte by byte
+data_moves : (cb k before cluster d e n : ℕ) → cluster ≡ before + k → k * 2 ^ cb + e ≡ d + n → cluster * 2 ^ cb + e ≡ before * 2 ^ cb + d + n
+data_moves cb k before cluster d e n is on = rw is (omega (arith, on))
+
+content_moves : (cb k d e n : ℕ) (m m' : Mapping) → goes_on k m m' ≡ true → k * 2 ^ cb + e ≡ d + n → content_in cb e m' ≡ moved_on n (content_in cb d m)
+content_moves cb k d e n (data_file before was) (data_file cluster copied) goes on =
+    rw (data_moves cb k before cluster d e n ((Decides-eqb cluster (before + k)).0 goes) on) refl
+content_moves cb k d e n (zeros (Some before) was) (zeros (Some cluster) copied) goes on =
+    rw (data_moves cb k before cluster d e n ((Decides-eqb cluster (before + k)).0 goes) on) refl
+content_moves cb k d e n (zeros None was) (zeros None copied) goes on = refl
+content_moves cb k d e n (compressed o l) (compressed p m) goes on = refl
+content_moves cb k d e n (backing o) (backing p) goes on = refl
+content_moves cb k d e n (data_file before was) (backing p) goes on = cc
+content_moves cb k d e n (data_file before was) (compressed p m) goes on = cc
+content_moves cb k d e n (data_file before was) (zeros h copied) goes on = cc
+content_moves cb k d e n (backing o) (data_file cluster copied) goes on = cc
+content_moves cb k d e n (backing o) (compressed p m) goes on = cc
+content_moves cb k d e n (backing o) (zeros h copied) goes on = cc
+content_moves cb k d e n (compressed o l) (data_file cluster copied) goes on = cc
+content_moves cb k d e n (compressed o l) (backing p) goes on = cc
+content_moves cb k d e n (compressed o l) (zeros h copied) goes on = cc
+content_moves cb k d e n (zeros (Some before) was) (data_file cluster copied) goes on = cc
+content_moves cb k d e n (zeros (Some before) was) (backing p) goes on = cc
+content_moves cb k d e n (zeros (Some before) was) (compressed p m) goes on = cc
+content_moves cb k d e n (zeros (Some before) was) (zeros None copied) goes on = cc
+content_moves cb k d e n (zeros None was) (data_file cluster copied) goes on = cc
+content_moves cb k d e n (zeros None was) (backing p) goes on = cc
+content_moves cb k d e n (zeros None was) (compressed p m) goes on = cc
+content_moves cb k d e n (zeros None was) (zeros (Some cluster) copied) goes on = cc
+
+-- the byte n bytes after another: its cluster, and its distance in it
+record IsFurther (size from n k e : ℕ) : Type 0 where
+  cluster : (from + n) / size ≡ from / size + k
+  distance : (from + n) % size ≡ e
+  on : k * size + e ≡ from % size + n
+
+further : (size from n : ℕ) → 0 < size → IsFurther size from n ((from % size + n) / size) ((from % size + n) % size)
+further size from n some =
+    let parts = div-add-mod' from size in
+    let moved = div-add-mod' (from % size + n) size in
+    let less = mod-lt (from % size + n) some in
+    let whole : from + n ≡ (from / size + (from % size + n) / size) * size + (from % size + n) % size = omega (arith, parts, moved) in
+    record {
+      cluster = rw whole (div-mul-add (from / size + (from % size + n) / size) size ((from % size + n) % size) less);
+      distance = rw whole (mod-mul-add (from / size + (from % size + n) / size) size ((from % size + n) % size) less);
+      on = moved;
+    }
+
+clusters_below : (size n count : ℕ) → 0 < size → n < count * size → n / size < count
+clusters_below size n count some below = elim (cases_lt (n / size) count) [
+  | inl less ↦ less
+  | inr more ↦ absurd (omega (arith, (le-div_iff_mul-le some).0 more, below))
+]
+
+-- a run in a table is a piece: its bytes read as one, and their entries are in that table
+pub run_reads_as_one : (table : TableState) (from count length : ℕ) → IsMappedRun table (from / 2 ^ table.geometry.cluster_bits) count
+    → from % 2 ^ table.geometry.cluster_bits + length ≤ count * 2 ^ table.geometry.cluster_bits
+    → ReadAsOne (contents_in table) from length (content_in table.geometry.cluster_bits (from % 2 ^ table.geometry.cluster_bits) (mapping_at table (from / 2 ^ table.geometry.cluster_bits)))
+run_reads_as_one table from count length run fits = λ n below.
+    let cb = table.geometry.cluster_bits in
+    let k = (from % 2 ^ cb + n) / 2 ^ cb in
+    let e = (from % 2 ^ cb + n) % 2 ^ cb in
+    let at : IsFurther (2 ^ cb) from n k e = further (2 ^ cb) from n (pow_pos cb) in
+    let few : k < count = clusters_below (2 ^ cb) (from % 2 ^ cb + n) count (pow_pos cb) (omega (arith, below, fits)) in
+    rw (at.cluster, at.distance) (ap (λ content. Ok content) (content_moves cb k (from % 2 ^ cb) e n _ _ (run.each k few) at.on))
+
+pub run_is_in_one_table : (table : TableState) (from count to : ℕ) → IsMappedRun table (from / 2 ^ table.geometry.cluster_bits) count
+    → from % 2 ^ table.geometry.cluster_bits + (to - from) ≤ count * 2 ^ table.geometry.cluster_bits
+    → AreInOneTable table.geometry.cluster_bits from to
+run_is_in_one_table table from count to run fits = λ offset above below.
+    let cb = table.geometry.cluster_bits in
+    let size = 2 ^ (cb - 3) in
+    let n = offset - from in
+    let k = (from % 2 ^ cb + n) / 2 ^ cb in
+    let e = (from % 2 ^ cb + n) % 2 ^ cb in
+    let at : IsFurther (2 ^ cb) from n k e = further (2 ^ cb) from n (pow_pos cb) in
+    let same : from + n ≡ offset = omega (arith, above) in
+    let cluster : offset / 2 ^ cb ≡ from / 2 ^ cb + k = rw same at at.cluster in
+    let few : k < count = clusters_below (2 ^ cb) (from % 2 ^ cb + n) count (pow_pos cb) (omega (arith, above, below, fits)) in
+    let first = from / 2 ^ cb in
+    let whole : first + k ≡ first / size * size + (first % size + k) = omega (arith, div-add-mod' first size) in
+    rw (cluster, whole) (div-mul-add (first / size) size (first % size + k) (omega (arith, run.within, few)))
+
+pub piece_of_run : (table : TableState) (from size cb cluster distance count step : ℕ) (found : Mapping) (content : Content) → from < size → cb ≡ table.geometry.cluster_bits
+    → cluster ≡ from / 2 ^ table.geometry.cluster_bits → distance ≡ from % 2 ^ table.geometry.cluster_bits → IsMappedRun table cluster count → found ≡ mapping_at table cluster
+    → content ≡ content_in cb distance found → step ≡ min (count * 2 ^ table.geometry.cluster_bits - distance) (size - from)
+    → IsPiece (contents_in table) size from (content, from + step) × AreInOneTable table.geometry.cluster_bits from (from + step)
+piece_of_run table from size cb cluster distance count step found content below bits at far run reads is steps =
+    let power = pow_pos table.geometry.cluster_bits in
+    let own : IsMappedRun table (from / 2 ^ table.geometry.cluster_bits) count = rw at at run in
+    let room : 1 * 2 ^ table.geometry.cluster_bits ≤ count * 2 ^ table.geometry.cluster_bits = mul-le _ _ _ _ own.some (omega arith) in
+    let inside = mod-lt from power in
+    let short : from % 2 ^ table.geometry.cluster_bits + step ≤ count * 2 ^ table.geometry.cluster_bits = omega (arith, steps, far, room, inside) in
+    let back : from + step - from ≡ step = omega arith in
+    let same : content ≡ content_in table.geometry.cluster_bits (from % 2 ^ table.geometry.cluster_bits) (mapping_at table (from / 2 ^ table.geometry.cluster_bits)) = rw (bits, far, reads, at) at is in (
+      (omega (arith, steps, far, room, inside, below), omega (arith, steps, below), rw (back, same) (run_reads_as_one table from count step own short)),
+      run_is_in_one_table table from count (from + step) own (rw back short),
+    )
+
+-- what an offset reads as in an image, by the L2 table for it, or where that is refused, or where there is none
+in_its_table : (g : Geometry) (l1 : List ℕ) (image : Image) (offset : ℕ) (table : TableState) (cluster : HostCluster) → table.geometry ≡ g
+    → l2_cluster g.cluster_bits l1 (offset / 2 ^ g.cluster_bits) ≡ Some cluster → loaded_l2_table g cluster image ≡ Ok table.numbers
+    → contents_of g l1 image offset ≡ contents_in table offset
+in_its_table g l1 image offset table cluster same named loaded = rw (named, loaded, same) refl
+
+pub refused_table : (g : Geometry) (l1 : List ℕ) (image : Image) (offset : ℕ) (cluster : HostCluster) (fault : Fault)
+    → l2_cluster g.cluster_bits l1 (offset / 2 ^ g.cluster_bits) ≡ Some cluster → loaded_l2_table g cluster image ≡ Err fault
+    → contents_of g l1 image offset ≡ Err fault
+refused_table g l1 image offset cluster fault named refused = rw (named, refused) refl
+
+pub piece_in_image : (g : Geometry) (l1 : List ℕ) (image : Image) (size from : ℕ) (table : TableState) (cluster : HostCluster) (piece : Content × ℕ) → table.geometry ≡ g
+    → l2_cluster g.cluster_bits l1 (from / 2 ^ g.cluster_bits) ≡ Some cluster → loaded_l2_table g cluster image ≡ Ok table.numbers
+    → IsPiece (contents_in table) size from piece → AreInOneTable g.cluster_bits from piece.1
+    → IsPiece (contents_of g l1 image) size from piece
+piece_in_image g l1 image size from table cluster piece same named loaded told inside = (
+  told.0,
+  told.1,
+  λ n below.
+      let cb = g.cluster_bits in
+      let index = inside (from + n) (omega arith) (omega (arith, below)) in
+      let here : l2_cluster cb l1 ((from + n) / 2 ^ cb) ≡ Some cluster = rw index named in
+      in_its_table g l1 image (from + n) table cluster same here loaded ∙ told.2 n below,
+)
+
+pub gap_in_image : (g : Geometry) (l1 : List ℕ) (image : Image) (size from to : ℕ) → from < to → to ≤ size → HasNoTable g.cluster_bits l1 from to
+    → IsPiece (contents_of g l1 image) size from (Absent, to)
+gap_in_image g l1 image size from to some within none = (
+  some,
+  within,
+  λ n below.
+      rw (none (from + n) (omega arith) (omega (arith, below))) refl,
+)
+
+-- a piece and one that goes on from it
+moved_twice : (m n : ℕ) (content : Content) → moved_on n (moved_on m content) ≡ moved_on (m + n) content
+moved_twice m n (Data offset) = let same : offset.0 + m + n ≡ offset.0 + (m + n) = omega arith in rw same refl
+moved_twice m n Zeros = refl
+moved_twice m n (AllocatedZeros offset) = let same : offset.0 + m + n ≡ offset.0 + (m + n) = omega arith in rw same refl
+moved_twice m n Compressed = refl
+moved_twice m n Absent = refl
+
+pub pieces_join : (contents : Contents) (from middle to : ℕ) (content next : Content) → from < middle → middle < to
+    → ReadAsOne contents from (middle - from) content → next ≡ moved_on (middle - from) content → ReadAsOne contents middle (to - middle) next
+    → ReadAsOne contents from (to - from) content
+pieces_join contents from middle to content next some more first goes second = λ n below. elim (cases_lt n (middle - from)) [
+  | inl before ↦ first n before
+  | inr after ↦
+      let rest = n - (middle - from) in
+      let place : from + n ≡ middle + rest = omega (arith, some, after) in
+      let on : middle - from + rest ≡ n = omega (arith, after) in
+      rw place (second rest (omega (arith, below, after, some, more)) ∙ ap (λ c. Ok c) (ap (moved_on rest) goes ∙ moved_twice (middle - from) rest content ∙ ap (λ m. moved_on m content) on))
+]
+
+pub shift_fits : (cb : ℕ) → cb ≤ 21 → 1 * 2 ^ (2 * cb - 3) % 2 ^ 64 ≡ 2 ^ (2 * cb - 3)
+shift_fits cb high =
+    let small : 2 * cb - 3 ≤ 39 = omega (arith, high) in
+    let power : 2 ^ (2 * cb - 3) ≤ 2 ^ 39 = pow_mono small in
+    let one : 1 * 2 ^ (2 * cb - 3) ≡ 2 ^ (2 * cb - 3) = omega arith in
+    rw one (mod-eq_of_lt (omega (arith, power)))
+
+-- where an extent ends
+moved_nowhere : (content : Content) → moved_on 0 content ≡ content
+moved_nowhere (Data offset) = let same : offset.0 + 0 ≡ offset.0 = omega arith in rw same refl
+moved_nowhere Zeros = refl
+moved_nowhere (AllocatedZeros offset) = let same : offset.0 + 0 ≡ offset.0 = omega arith in rw same refl
+moved_nowhere Compressed = refl
+moved_nowhere Absent = refl
+
+piece_begins : (contents : Contents) (size from : ℕ) (piece : Content × ℕ) → IsPiece contents size from piece → contents from ≡ Ok piece.0
+piece_begins contents size from piece told =
+    let place : from + 0 ≡ from = omega arith in
+    rw (place, moved_nowhere piece.0) at (told.2 0 (omega (arith, told.0)))
+
+pub extent_to_the_end : (contents : Contents) (size start : ℕ) (found : Content × ℕ) → start < found.1 → found.1 ≤ size → size ≤ found.1 → ReadAsOne contents start (found.1 - start) found.0
+    → IsExtent contents size start (extent_of start found)
+extent_to_the_end contents size start found some within last reads = record {
+  start = refl;
+  some = omega (arith, some);
+  within = omega (arith, some, within);
+  reads = reads;
+  ends = λ more. absurd (omega (arith, more, last, some));
+}
+
+pub extent_that_ends : (contents : Contents) (size start : ℕ) (found : Content × ℕ) (next : Content × ℕ) → start < found.1 → found.1 ≤ size → ReadAsOne contents start (found.1 - start) found.0
+    → IsPiece contents size found.1 next → (next.0 ≡ moved_on (found.1 - start) found.0 → ⊥) → IsExtent contents size start (extent_of start found)
+extent_that_ends contents size start found next some within reads piece differs =
+    let end : start + (found.1 - start) ≡ found.1 = omega (arith, some) in
+    record {
+      start = refl;
+      some = omega (arith, some);
+      within = omega (arith, some, within);
+      reads = reads;
+      ends = λ more. (next.0, rw end (piece_begins contents size found.1 next piece), differs);
+    }
+
+pub refused_at_end : (contents : Contents) (size start end : ℕ) (content : Content) (fault : Fault) → start < end → end < size → ReadAsOne contents start (end - start) content → contents end ≡ Err fault
+    → IsRefusedFrom contents size start fault
+refused_at_end contents size start end content fault some within reads refused =
+    let at : start + (end - start) ≡ end = omega (arith, some) in
+    (end - start, content, omega (arith, at, within), reads, rw at refused)
+
+pub refused_at_start : (contents : Contents) (size start : ℕ) (fault : Fault) → start < size → contents start ≡ Err fault → IsRefusedFrom contents size start fault
+refused_at_start contents size start fault within refused =
+    let at : start + 0 ≡ start = omega arith in
+    (0, Absent, omega (arith, within), λ n none. absurd (omega (arith, none)), rw at refused)
+
+-- a piece that was refused, as the extent's refusal
+pub refusal_of_piece : (contents : Contents) (size start end : ℕ) (fault : Fault) → (contents end ≡ Err fault → IsRefusedFrom contents size start fault)
+    → (fault ≡ Storage) ⊎ (fault ≡ NoMemory) ⊎ (contents end ≡ Err fault) → RefusesExtent contents size start fault
+refusal_of_piece contents size start end fault refuses (inl storage) = inl storage
+refusal_of_piece contents size start end fault refuses (inr (inl memory)) = inr (inl memory)
+refusal_of_piece contents size start end fault refuses (inr (inr bad)) = inr (inr (refuses bad))
+
+-- what holds of an image by a reader holds later too, where both stay
+pub carried : (old new : Image) (reader later : ExtentsState) (P : Contents → ℕ → Type 0) → later ≡ record reader { table = later.table } → new ≡ old
+    → P (contents_for later new) later.header.v2.size → P (contents_for reader old) reader.header.v2.size
+carried old new reader later P same bytes holds =
+    let known = subst (λ (r : ExtentsState). P (contents_for r new) r.header.v2.size) same holds in
+    subst (λ (image : Image). P (contents_for reader image) reader.header.v2.size) bytes known
+
+pub size_stays : (reader later : ExtentsState) → later ≡ record reader { table = later.table } → later.header.v2.size ≡ reader.header.v2.size
+size_stays reader later same = ap (λ (r : ExtentsState). r.header.v2.size) same
+
+pub stays_twice : (old new : StorageState) (first second third : ExtentsState) → OnlyReads {T = ℕ} (Ok 0) old new → StaysReader old first second → StaysReader new second third → StaysReader old first third
+stays_twice old new first second third reads one other = record {
+  same = other.same ∙ ap (λ (r : ExtentsState). record r { table = third.table }) one.same;
+  kept = λ told. kept_in old.byte_at new.byte_at third reads.bytes (other.kept (reads.device.tells ∙ told));
+}
+  where
+    kept_in : (before after : Image) (reader : ExtentsState) → after ≡ before → KeepsTableOf after reader → KeepsTableOf before reader
+    kept_in before after reader same holds = subst (λ (image : Image). KeepsTableOf image reader) same holds
+
+-- reads that were answered, whatever the answer
+pub reads_any : {A B : Type 0} (value : A) (other : B) (old new : StorageState) → OnlyReads (Ok value) old new → OnlyReads (Ok other) old new
+reads_any value other old new reads = record { told = (λ failed. cc, λ moved. let failed = reads.told.1 moved in cc); bytes = reads.bytes; device = reads.device }
+
+-- extents are determined by where they begin
+abbrev extent_with : ℕ → ℕ → Content → Extent
+extent_with start length content = record { start = record { 0 = start }; length = length; content = content }
+
+same_extent : (one other : Extent) → one.start.0 ≡ other.start.0 → one.length ≡ other.length → one.content ≡ other.content → one ≡ other
+same_extent one other starts lengths contents =
+    ap (λ (s : ℕ). extent_with s one.length one.content) starts
+    ∙ ap (λ (n : ℕ). extent_with other.start.0 n one.content) lengths
+    ∙ ap (λ (c : Content). extent_with other.start.0 other.length c) contents
+
+-- what an offset reads as is one content, and no fault
+abbrev told : Content → Result Content Fault
+told content = Ok content
+
+told_once : (x y : Content) → told x ≡ told y → x ≡ y
+told_once x y same = cc
+
+told_or_refused : (x : Content) (fault : Fault) → told x ≡ Err fault → ⊥
+told_or_refused x fault same = cc
+
+extent_begins : (contents : Contents) (size from : ℕ) (extent : Extent) → IsExtent contents size from extent → contents from ≡ Ok extent.content
+extent_begins contents size from extent is =
+    let place : from + 0 ≡ from = omega arith in
+    rw (place, moved_nowhere extent.content) at (is.reads 0 is.some)
+
+no_shorter : (contents : Contents) (size from length : ℕ) (content : Content) (extent : Extent) → IsExtent contents size from extent → extent.content ≡ content
+    → ReadAsOne contents from length content → from + length ≤ size → extent.length < length → ⊥
+no_shorter contents size from length content extent is same reads within less =
+    let differs = is.ends (omega (arith, within, less)) in
+    let known : contents (from + extent.length) ≡ Ok (moved_on extent.length extent.content) = rw same (reads extent.length less) in
+    differs.2 (told_once _ _ (sym differs.1 ∙ known))
+
+pub extent_once : (contents : Contents) (size from : ℕ) (one other : Extent) → IsExtent contents size from one → IsExtent contents size from other → one ≡ other
+extent_once contents size from one other first second =
+    let content : one.content ≡ other.content = told_once _ _ (sym (extent_begins contents size from one first) ∙ extent_begins contents size from other second) in
+    let lengths : one.length ≡ other.length = elim (cases_lt one.length other.length) [
+      | inl less ↦ absurd (no_shorter contents size from other.length other.content one first content second.reads second.within less)
+      | inr more ↦ elim (cases_lt other.length one.length) [
+        | inl less ↦ absurd (no_shorter contents size from one.length one.content other second (sym content) first.reads first.within less)
+        | inr least ↦ omega (arith, more, least)
+      ]
+    ] in
+    same_extent one other (first.start ∙ sym second.start) lengths content
+
+-- a disk has one map
+pub map_once : (contents : Contents) (size from : ℕ) (xs ys : List Extent) → AreExtents contents size from xs size → AreExtents contents size from ys size → xs ≡ ys
+map_once contents size from [] [] one other = refl
+map_once contents size from [] (y ∷ ys) one other = absurd (omega (arith, one, other.0.some, other.0.within))
+map_once contents size from (x ∷ xs) [] one other = absurd (omega (arith, other, one.0.some, one.0.within))
+map_once contents size from (x ∷ xs) (y ∷ ys) one other =
+    let same = extent_once contents size from x y one.0 other.0 in
+    let rest : AreExtents contents size (from + x.length) ys size = subst (λ (e : Extent). AreExtents contents size (from + e.length) ys size) (sym same) other.1 in
+    let tails = map_once contents size (from + x.length) xs ys one.1 rest in
+    rw (same, tails) refl
+
+-- where an extent begins no fault is told
+pub extent_or_refusal : (contents : Contents) (size from : ℕ) (extent : Extent) (fault : Fault) → IsExtent contents size from extent → IsRefusedFrom contents size from fault → ⊥
+extent_or_refusal contents size from extent fault is refused = elim (cases_lt refused.0 extent.length) [
+  | inl inside ↦ let known = is.reads refused.0 inside in let refusal = refused.4 in told_or_refused _ fault (sym known ∙ refusal)
+  | inr past ↦ elim (cases_lt extent.length refused.0) [
+    | inl before ↦
+        let place : from + 0 ≡ from = omega arith in
+        let begins : contents from ≡ Ok refused.1 = rw (place, moved_nowhere refused.1) at (refused.3 0 (omega (arith, before))) in
+        let own = extent_begins contents size from extent is in
+        no_shorter contents size from refused.0 refused.1 extent is (told_once _ _ (sym own ∙ begins)) refused.3 (omega (arith, refused.2)) before
+    | inr least ↦
+        let end : refused.0 ≡ extent.length = omega (arith, past, least) in
+        let differs = is.ends (omega (arith, refused.2, end)) in
+        let refusal : contents (from + extent.length) ≡ Err fault = rw end at refused.4 in
+        told_or_refused _ fault (sym differs.1 ∙ refusal)
+  ]
+]
+
+-- extents, and one more
+pub extents_more : (contents : Contents) (size from to : ℕ) (extents : List Extent) (extent : Extent) → AreExtents contents size from extents to → IsExtent contents size to extent
+    → AreExtents contents size from (extents ++ extent ∷ []) (to + extent.length)
+extents_more contents size from to [] extent same is = (rw same is, rw same refl)
+extents_more contents size from to (x ∷ xs) extent are is = (are.0, extents_more contents size (from + x.length) to xs extent are.1 is)
+
+-- a reader that tells extents from the disk's begin on: those told so far, all of them, or those before a refusal
+pub map_grows : (contents : Contents) (size from to : ℕ) (extents : List Extent) (extent : Extent) → AreExtents contents size 0 extents from
+    → TellsExtent contents size from (Ok (Some extent)) → ComesTo size from (Ok (Some extent)) to → AreExtents contents size 0 (extents ++ extent ∷ []) to
+map_grows contents size from to extents extent are told comes = rw comes.2 (extents_more contents size 0 from extents extent are told)
+
+pub map_ends : (contents : Contents) (size from to : ℕ) (extents : List Extent) → AreExtents contents size 0 extents from
+    → ComesTo size from (Ok None) to → IsMap contents size extents
+map_ends contents size from to extents are comes = subst (λ (end : ℕ). AreExtents contents size 0 extents end) comes.0 are
+
+pub map_refused : (contents : Contents) (size from : ℕ) (extents : List Extent) (fault : Fault) → AreExtents contents size 0 extents from
+    → RefusesExtent contents size from fault → (fault ≡ Storage) ⊎ (fault ≡ NoMemory) ⊎ IsMapBefore contents size fault extents
+map_refused contents size from extents fault are (inl storage) = inl storage
+map_refused contents size from extents fault are (inr (inl memory)) = inr (inl memory)
+map_refused contents size from extents fault are (inr (inr refused)) = inr (inr (from, are, refused))
+
+-- what a reader's image reads as stays, from one extent to the next
+pub contents_stay : (old new : Image) (reader later : ExtentsState) → later ≡ record reader { position = later.position; table = later.table } → new ≡ old
+    → contents_for later new ≡ contents_for reader old
+contents_stay old new reader later same bytes =
+    ap (λ (r : ExtentsState). contents_for r new) same ∙ ap (λ (image : Image). contents_for reader image) bytes
