@@ -7,8 +7,8 @@ mod lines;
 mod session;
 
 pub use commands::{
-    Changes, ClusterBits, Command, count_references, edit_entries, list_l2_table, list_tables,
-    print_info, print_mapping_at, report_fault, run, run_words,
+    Changes, ClusterBits, Command, ExtentFormat, count_references, edit_entries, list_l2_table,
+    list_tables, print_extents, print_info, print_mapping_at, report_fault, run, run_words,
 };
 pub use session::{
     Content, Edit, Extent, Extents, Outcome, Step, StepReply, edit_image, edit_settled, edit_table,

@@ -12,11 +12,12 @@ use Rattle.qcow2_session.specs.Commands.{ChangeEnd, ClusterFormat, Prints, Print
 use Rattle.qcow2_session.specs.Commands.At.{line_at}
 use Rattle.qcow2_session.specs.Commands.Counting.{block_format, end_of_steps}
 use Rattle.qcow2_session.specs.Commands.Editing.{end_of_edits, table_format}
+use Rattle.qcow2_session.specs.Commands.Extents.{PrintsExtents, disk_in}
 use Rattle.qcow2_session.specs.Commands.Info.{info_lines}
 use Rattle.qcow2_session.specs.Commands.L2.{lines_of_l2_table}
 use Rattle.qcow2_session.specs.Commands.Listing.{lines_kept_of_image, lines_of_image}
 use Rattle.qcow2_session.specs.declared.commands.words.Command.{Command}
-use Rattle.qcow2_session.specs.declared.commands.words.Command.TheVariants.{CountReferences, EditEntries, ListTable, ListTables, PrintInfo, PrintMapping}
+use Rattle.qcow2_session.specs.declared.commands.words.Command.TheVariants.{CountReferences, EditEntries, ListTable, ListTables, PrintExtents, PrintInfo, PrintMapping}
 
 -- why the table that a command names can't lie in any image, as far as the words tell
 abbrev pub place_fault_of : Command → Option Fault
@@ -24,9 +25,11 @@ place_fault_of (ListTable cluster_bits cluster) =
     place_fault most_l2_entries (l2_table_at (geometry cluster_bits false) cluster)
 place_fault_of _ = None
 
--- whether a command prints nothing before a fault other than a failed storage: `list` prints table by table
+-- whether a command prints nothing before a fault other than a failed storage: `list` prints table by table, and `map`
+-- extent by extent
 abbrev pub is_silent_on_faults : Command → Bool
 is_silent_on_faults ListTables = false
+is_silent_on_faults (PrintExtents format) = false
 is_silent_on_faults _ = true
 
 -- a command that prints at once, when it knows all of its lines: a fault other than the storage fault comes before any line
@@ -82,6 +85,8 @@ Runs ListTables answer old new before after =
     × ReadsFor (IsErrOf answer Storage) old new
 Runs (PrintMapping guest_offset) answer old new before after =
     Prints answer (line_in_image guest_offset.0 old.byte_at) old new before after
+Runs (PrintExtents format) answer old new before after =
+    PrintsExtents answer format (disk_in old.byte_at) old before after × ReadsFor (IsErrOf answer Storage) old new
 Runs (EditEntries l1_index edits) answer old new before after =
     OpensAndChanges answer table_format (end_of_edits l1_index edits) old new before after
 Runs (CountReferences cluster steps) answer old new before after =

@@ -3,7 +3,8 @@ use Rattle.std.specs.List.{after_first, before_first, position_or_len}
 use Rattle.std.specs.Str.{all_ascii_digits}
 use Rattle.std.specs.Str.Parse.{digits_value}
 use Rattle.qcow2_session.specs.declared.commands.words.Command.{Command}
-use Rattle.qcow2_session.specs.declared.commands.words.Command.TheVariants.{CountReferences, EditEntries, ListTable, ListTables, PrintInfo, PrintMapping}
+use Rattle.qcow2_session.specs.declared.commands.words.Command.TheVariants.{CountReferences, EditEntries, ListTable, ListTables, PrintExtents, PrintInfo, PrintMapping}
+use Rattle.qcow2_session.specs.declared.commands.extents.ExtentFormat.TheVariants.{Json, Lines}
 use Rattle.qcow2_session.specs.declared.session.edits.Edit.{Edit}
 use Rattle.qcow2_session.specs.declared.session.edits.Edit.TheVariants.{Discard, Map, Zero}
 use Rattle.qcow2_session.specs.declared.session.steps.Step.{Step}
@@ -90,6 +91,12 @@ abbrev pub mapping_of : List (List ℕ) → Option Command
 mapping_of (offset ∷ []) = option_map (λ number. PrintMapping (record { 0 = number })) (word_number offset)
 mapping_of _ = None
 
+-- the command `map`, by the words after its image
+abbrev pub extents_of : List (List ℕ) → Option Command
+extents_of [] = Some (PrintExtents Lines)
+extents_of (format ∷ []) = if bytes_eq format (codes "json") then Some (PrintExtents Json) else None
+extents_of _ = None
+
 -- the command `edit`, by the words after its image
 abbrev pub edits_of : List (List ℕ) → Option Command
 edits_of [] = None
@@ -108,6 +115,7 @@ asked_for name arguments =
     else if bytes_eq name (codes "info") then without_arguments PrintInfo arguments
     else if bytes_eq name (codes "list") then without_arguments ListTables arguments
     else if bytes_eq name (codes "at") then mapping_of arguments
+    else if bytes_eq name (codes "map") then extents_of arguments
     else if bytes_eq name (codes "edit") then edits_of arguments
     else if bytes_eq name (codes "count") then steps_of arguments else None
 

@@ -6,7 +6,8 @@ ghost use Rattle.qcow2_session.specs.Commands.Running.{PrintsAtOnce, Runs, place
 
 use super::words::Command;
 use super::{
-    count_references, edit_entries, list_l2_table, list_tables, print_info, print_mapping_at,
+    count_references, edit_entries, list_l2_table, list_tables, print_extents, print_info,
+    print_mapping_at,
 };
 use qcow2_base::{Fault, Storage};
 use qcow2_metadata::Header;
@@ -48,6 +49,10 @@ pub fn run<S: Storage, O: Write>(
         Command::PrintMapping { guest_offset } => {
             let header = Header::load(alloc, image, false)?;
             print_mapping_at(alloc, image, &header, *guest_offset, out)
+        }
+        Command::PrintExtents { format } => {
+            let header = Header::load(alloc, image, false)?;
+            print_extents(alloc, image, &header, *format, out)
         }
         Command::EditEntries { l1_index, edits } => {
             let header = Header::load(alloc, image, true)?;

@@ -4,6 +4,7 @@ ghost use Rattle.std.specs.Prelude.{◌≡◌, ℕ, List, Option, map, option_ma
 ghost use Rattle.qcow2_session.specs.Commands.Words as spec;
 ghost use Rattle.qcow2_session.specs.Commands.Words.{Parses};
 
+use super::ExtentFormat;
 use crate::session::{Edit, Step};
 use qcow2_base::{GuestOffset, HostCluster};
 use std::alloc::{AllocError, Global};
@@ -24,6 +25,10 @@ pub enum Command {
     /// `at IMAGE OFFSET`: what a guest offset reads as.
     PrintMapping {
         guest_offset: GuestOffset,
+    },
+    /// `map IMAGE`, or `map IMAGE json`: what the guest's disk reads as, extent by extent.
+    PrintExtents {
+        format: ExtentFormat,
     },
     /// `edit IMAGE L1INDEX EDIT..`: edits of the L2 table of an L1 entry.
     EditEntries {
@@ -85,6 +90,7 @@ impl Command {
             "info" => Command::PrintInfo.alone(arguments),
             "list" => Command::ListTables.alone(arguments),
             "at" => Command::of_mapping(arguments),
+            "map" => Command::of_extents(arguments),
             "edit" => Command::of_edits(alloc, arguments),
             "count" => Command::of_steps(alloc, arguments),
             _ => None,
@@ -134,6 +140,18 @@ impl Command {
         };
         let guest_offset = GuestOffset(number(guest_offset.as_str())?);
         Some(Ok(Command::PrintMapping { guest_offset }))
+    }
+
+    // What the words of the command `map` ask for.
+    fn of_extents(arguments: &[String]) -> Option<Result<Command, AllocError>>
+        ensures { Parses result (spec.extents_of (map string_bytes arguments.now)) }
+    {
+        let format = match arguments {
+            [] => ExtentFormat::Lines,
+            [word] if word.as_str() == "json" => ExtentFormat::Json,
+            _ => return None,
+        };
+        Some(Ok(Command::PrintExtents { format }))
     }
 
     // What the words of the command `edit` ask for.

@@ -5,10 +5,12 @@ use Rattle.qcow2_metadata.specs.Header.Grammar.{header_of}
 use Rattle.qcow2_session.proofs.ListingLemmas.{header-refused}
 use Rattle.qcow2_session.proofs.LookupsLemmas.{reads-then_for}
 use Rattle.qcow2_session.proofs.PrintingLemmas.{Prints-after, Prints-lines, PrintsSome-same, header_read}
+use Rattle.qcow2_session.proofs.PrintedExtentsLemmas.{PrintsExtents-none, PrintsExtents-same}
 use Rattle.qcow2_session.proofs.RunningLemmas.{opened-changes}
 use Rattle.qcow2_session.specs.Commands.At.{line_at}
 use Rattle.qcow2_session.specs.Commands.Counting.{block_format, end_of_steps}
 use Rattle.qcow2_session.specs.Commands.Editing.{end_of_edits, table_format}
+use Rattle.qcow2_session.specs.Commands.Extents.{disk_in, disk_of}
 use Rattle.qcow2_session.specs.Commands.Info.{info_lines}
 use Rattle.qcow2_session.specs.Commands.Listing.{lines_before_fault, lines_kept_of_image, lines_of_image, listed_lines}
 use Rattle.qcow2_session.specs.Commands.Running.{line_in_image}
@@ -56,6 +58,27 @@ returns-in_ok-header-in-PrintMapping-clause-runs g c =
     let read : header_of image ≡ Ok header = header_read (header_of image) header (c.in_ok-header-in-PrintMapping.ensures.exact told) in
     rw read refl)
     reads (rw reads.bytes at c.print_mapping_at.ensures.prints))
+
+pub returns-in_err-header-in-PrintExtents-clause-runs : goal.returns-in_err-header-in-PrintExtents-clause-runs
+returns-in_err-header-in-PrintExtents-clause-runs g c =
+    let exit = err_from_is_err_and c.from_residual-in_err-header-in-PrintExtents.result c.from_residual-in_err-header-in-PrintExtents.ensures.1 in
+    let reads = c.in_err-header-in-PrintExtents.ensures.storage.reads refl in
+    rw (c.in-PrintExtents.is, exit.1, exit.2)
+    (PrintsExtents-none _ c.in-PrintExtents.format (g.S.Storage.state c.args.image.now) _ (λ told. search rules), search rules)
+
+pub returns-in_ok-header-in-PrintExtents-clause-runs : goal.returns-in_ok-header-in-PrintExtents-clause-runs
+returns-in_ok-header-in-PrintExtents-clause-runs g c =
+    let image = (g.S.Storage.state c.args.image.now).byte_at in
+    let header = c.in_ok-header-in-PrintExtents.header in
+    let reads = c.in_ok-header-in-PrintExtents.ensures.storage.reads refl in
+    rw c.in-PrintExtents.is (
+      PrintsExtents-same c.print_extents.result c.in-PrintExtents.format (disk_in image) (disk_of header image) _ (g.S.Storage.state c.load-in-PrintExtents.new.image) _ _
+          (λ told.
+          let read : header_of image ≡ Ok header = header_read (header_of image) header (c.in_ok-header-in-PrintExtents.ensures.exact told) in
+          rw read refl)
+          reads.device.tells (rw reads.bytes at c.print_extents.ensures.prints),
+      reads-then_for _ _ _ _ reads c.print_extents.ensures.storage,
+    )
 
 pub returns-in_ok-header-in-EditEntries-clause-runs : goal.returns-in_ok-header-in-EditEntries-clause-runs
 returns-in_ok-header-in-EditEntries-clause-runs g c =
