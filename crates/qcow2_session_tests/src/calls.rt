@@ -4,7 +4,7 @@
 use crate::tables::References;
 use qcow2_base::{ClusterCount, Fault, GuestOffset, HostCluster, MemStorage, Storage};
 use qcow2_metadata::{ClustersToFreeEntry, Header, L1Table, L2Mapping, L2Table, RefBlock, Table};
-use qcow2_session::{Edit, Outcome, Step, StepReply};
+use qcow2_session::{Edit, Extent, Extents, Outcome, Step, StepReply};
 use std::alloc::Global;
 
 pub(crate) fn edits_fit(table: &L2Table, edits: &[Edit]) -> Result<(), usize> {
@@ -88,6 +88,26 @@ pub(crate) fn load_l2_table(
 pub(crate) fn load_block(alloc: Global, bytes: &[u8], header: &Header) -> Result<RefBlock, Fault> {
     let mut image = MemStorage::new(Vec::from_slice(alloc, bytes)?);
     RefBlock::load(alloc, &mut image, header, HostCluster(0))
+}
+
+/// The extents of an image with this header, and the faults on the way. A call that is refused is made again,
+/// and the second refusal ends the extents.
+pub(crate) fn extents_of<S: Storage>(
+    alloc: Global,
+    image: &mut S,
+    header: &Header,
+) -> Result<(Vec<Extent>, Vec<Fault>), Fault> {
+    let mut extents = Extents::new(alloc, image, header)?;
+    let mut told = Vec::new(alloc);
+    let mut faults = Vec::new(alloc);
+    while faults.len() < 2 {
+        match extents.next(image) {
+            Ok(Some(extent)) => told.push(extent)?,
+            Ok(None) => break,
+            Err(fault) => faults.push(fault)?,
+        }
+    }
+    Ok((told, faults))
 }
 
 /// Settles what edits did to references.

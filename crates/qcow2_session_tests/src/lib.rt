@@ -10,6 +10,8 @@ mod calls;
 mod commands;
 #[cfg(test)]
 mod edits;
+#[cfg(test)]
+mod extents;
 mod failing_output;
 #[cfg(test)]
 mod image_edits;
