@@ -70,24 +70,26 @@ pub change-printed : {T E : Type 0} (answer : Result T Fault) (format : ClusterF
     → (IsTrue old.tells → StaysIdle tell run old.byte_at new.byte_at)
     → (IsTrue old.tells → StaysOutside format tell run old.byte_at new.byte_at)
     → IsOkUnless answer Storage → OnOk answer (Appends a b lines) → PrintsChange answer format end old new a b
-change-printed (Ok value) format tell end run lines old new a b is made loads calm idle outside fault printed = record {
-  lines = λ told. let found = ok-left run (λ left. (tell left).lines) lines (made told) in rw (is told, found.1) (rw found.2 printed);
-  refused = tt;
-  written = λ calls told. let found = ok-left run (λ left. (tell left).lines) lines (made told) in rw (is told, found.1) (rw found.1 at (loads told));
-  unchanged = tt;
-  idle = λ told. let found = ok-left run (λ left. (tell left).lines) lines (made told) in rw (is told, found.1) (rw found.1 at (idle told));
-  others = λ told. let found = ok-left run (λ left. (tell left).lines) lines (made told) in rw (is told, found.1) (rw found.1 at (outside told));
-  torn = λ told failed. absurd (failed calm);
-}
-change-printed (Err error) format tell end run lines old new a b is made loads calm idle outside fault printed = record {
-  lines = tt;
-  refused = λ told. let found = ok-left run (λ left. (tell left).lines) lines (made told) in inr (inr (fault, inr (rw (is told, found.1) refl)));
-  written = λ calls told. let found = ok-left run (λ left. (tell left).lines) lines (made told) in rw (is told, found.1) (rw found.1 at (loads told));
-  unchanged = λ other. absurd (other fault);
-  idle = λ told. let found = ok-left run (λ left. (tell left).lines) lines (made told) in rw (is told, found.1) (rw found.1 at (idle told));
-  others = λ told. let found = ok-left run (λ left. (tell left).lines) lines (made told) in rw (is told, found.1) (rw found.1 at (outside told));
-  torn = λ told failed. absurd (failed calm);
-}
+change-printed (Ok value) format tell end run lines old new a b is made loads calm idle outside fault printed =
+    let found = λ (told : IsTrue old.tells). ok-left run (λ left. (tell left).lines) lines (made told) in record {
+      lines = λ told. rw (is told, (found told).1) (rw (found told).2 printed);
+      refused = tt;
+      written = λ calls told. rw (is told, (found told).1) (rw (found told).1 at (loads told));
+      unchanged = tt;
+      idle = λ told. rw (is told, (found told).1) (rw (found told).1 at (idle told));
+      others = λ told. rw (is told, (found told).1) (rw (found told).1 at (outside told));
+      torn = λ told failed. absurd (failed calm);
+    }
+change-printed (Err error) format tell end run lines old new a b is made loads calm idle outside fault printed =
+    let found = λ (told : IsTrue old.tells). ok-left run (λ left. (tell left).lines) lines (made told) in record {
+      lines = tt;
+      refused = λ told. inr (inr (fault, inr (rw (is told, (found told).1) refl)));
+      written = λ calls told. rw (is told, (found told).1) (rw (found told).1 at (loads told));
+      unchanged = λ other. absurd (other fault);
+      idle = λ told. rw (is told, (found told).1) (rw (found told).1 at (idle told));
+      others = λ told. rw (is told, (found told).1) (rw (found told).1 at (outside told));
+      torn = λ told failed. absurd (failed calm);
+    }
 
 -- there is no place for a change, so none is made
 pub change-unplaced : {T : Type 0} (fault : Fault) (format : ClusterFormat) (end : Result ChangeEnd Fault) (old new : StorageState) (a b : Option (List ℕ))

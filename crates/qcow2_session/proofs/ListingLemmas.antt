@@ -15,7 +15,7 @@ use Rattle.qcow2_metadata.specs.Entries.L2Mapping.{Mapping, mapping}
 use Rattle.qcow2_session.proofs.LinesLemmas.{entry_lines-take-suc}
 use Rattle.qcow2_session.proofs.PrintingLemmas.{PrintsSome-none}
 use Rattle.qcow2_session.specs.Lines.{entry_line, entry_lines}
-use Rattle.qcow2_session.specs.Commands.Listing.{lines_before, lines_before_fault, lines_by, lines_kept, lines_kept_of_image, lines_of_image, lines_of_tables, listed_lines}
+use Rattle.qcow2_session.specs.Commands.Listing.{lines_before, lines_before_fault, lines_by, lines_or_none, image_lines_before_fault, lines_of_image, lines_of_tables, listed_lines}
 use Rattle.qcow2_session.specs.Session.Lookups.{l1_place, named_cluster}
 use Rattle.qcow2_session.specs.Commands.{PrintsSome}
 
@@ -99,7 +99,7 @@ is_ok-printed (Err fault) a b printed = absurd printed
 
 -- the lines before a table that can't be loaded are those of the tables before it
 before_first : (first some : Result (List ℕ) Fault) (before lines : List ℕ) → and_then first (λ own. result_map (λ more. own ++ more) some) ≡ Ok lines
-    → ((more : List ℕ) → some ≡ Ok more → before ≡ more) → lines_kept first (λ own. own ++ before) ≡ lines
+    → ((more : List ℕ) → some ≡ Ok more → before ≡ more) → lines_or_none first (λ own. own ++ before) ≡ lines
 before_first (Err fault) some before lines is later = cc
 before_first (Ok own) (Err fault) before lines is later = cc
 before_first (Ok own) (Ok more) before lines is later = rw (later more refl) cc
@@ -135,8 +135,8 @@ refused-at g xs i image fault a b c below printed bad none =
 -- a header that can't be read, or an L1 table that can't be loaded, ends the list before its first line
 pub header-refused : {T : Type 0} (fault : Fault) (image : StorageState) (a : Option (List ℕ))
     → (IsTrue image.tells → (fault ≡ Storage) ⊎ (fault ≡ NoMemory) ⊎ (header_of image.byte_at ≡ Err fault))
-    → PrintsSome {T = T} (Err fault) (lines_of_image image.byte_at) (lines_kept_of_image image.byte_at) image a a
-header-refused fault image a refused = PrintsSome-none fault (lines_of_image image.byte_at) (lines_kept_of_image image.byte_at) image a (λ told. elim (refused told) [
+    → PrintsSome {T = T} (Err fault) (lines_of_image image.byte_at) (image_lines_before_fault image.byte_at) image a a
+header-refused fault image a refused = PrintsSome-none fault (lines_of_image image.byte_at) (image_lines_before_fault image.byte_at) image a (λ told. elim (refused told) [
   | inl storage ↦ inl storage
   | inr (inl memory) ↦ inr (inl memory)
   | inr (inr bad) ↦ inr (inr (rw bad refl, rw bad refl))

@@ -3,7 +3,7 @@ use Rattle.std.specs.Prelude.{codes}
 use Rattle.std.specs.Fmt.{digits}
 use Rattle.qcow2_base.specs.declared.fault.Fault.TheVariants.{EntryReserved, NotQcow2}
 use Rattle.qcow2_session.proofs.SampleImage.{byte, computing, entry, laid, plain, sample}
-use Rattle.qcow2_session.specs.Commands.Listing.{lines_kept_of_image, lines_of_image}
+use Rattle.qcow2_session.specs.Commands.Listing.{image_lines_before_fault, lines_of_image}
 use Rattle.qcow2_session.specs.Commands.L2.{lines_of_l2_table}
 use Rattle.qcow2_session.specs.Commands.Running.{line_in_image, lines_of_info}
 
@@ -55,10 +55,10 @@ pub list_with_a_bad_table : lines_of_image (laid (byte 39 2 ++ entry 520 0x80 6 
 unfolding computing digits
 list_with_a_bad_table = refl
 
-pub kept_before_a_bad_table : lines_kept_of_image (laid (byte 39 2 ++ entry 520 0x80 6 0 ++ entry 2040 0 0 2 ++ sample)) ≡ codes "0x600 data 0xa00 copied\n"
+pub kept_before_a_bad_table : image_lines_before_fault (laid (byte 39 2 ++ entry 520 0x80 6 0 ++ entry 2040 0 0 2 ++ sample)) ≡ codes "0x600 data 0xa00 copied\n"
 unfolding computing digits
 kept_before_a_bad_table = refl
 
-pub kept_of_no_image : lines_kept_of_image (laid []) ≡ []
+pub kept_of_no_image : image_lines_before_fault (laid []) ≡ []
 unfolding computing
 kept_of_no_image = refl

@@ -1,10 +1,11 @@
 //! The calls that are tested, without their clauses: tests compare what comes of a call with their
 //! tables, and no proof about a test has to read what the call ensures.
 
+use crate::FailingOutput;
 use crate::tables::References;
 use qcow2_base::{ClusterCount, Fault, GuestOffset, HostCluster, MemStorage, Storage};
 use qcow2_metadata::{ClustersToFreeEntry, Header, L1Table, L2Mapping, L2Table, RefBlock, Table};
-use qcow2_session::{Edit, Extent, Extents, Outcome, Step, StepReply};
+use qcow2_session::{Command, Edit, Extent, Extents, Outcome, Step, StepReply};
 use std::alloc::Global;
 
 pub(crate) fn edits_fit(table: &L2Table, edits: &[Edit]) -> Result<(), usize> {
@@ -157,4 +158,17 @@ pub(crate) fn edit_settled(
         return Err(Fault::WrongLength);
     }
     qcow2_session::edit_settled(table.allocator(), table, block, header, rt_index, edits)
+}
+
+/// Runs the command that a name and arguments ask for, if they ask for one.
+pub(crate) fn run_command(
+    alloc: Global,
+    image: &mut MemStorage,
+    (name, arguments): (&str, &[String]),
+    out: &mut FailingOutput,
+) -> Option<Result<(), Fault>> {
+    match Command::parse(alloc, name, arguments)? {
+        Ok(command) => Some(qcow2_session::run(alloc, image, &command, out)),
+        Err(error) => Some(Err(Fault::from(error))),
+    }
 }

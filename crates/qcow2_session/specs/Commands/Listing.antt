@@ -23,15 +23,15 @@ lines_of_tables g index (v ∷ vs) image =
     result_map (λ rest. lines ++ rest) (lines_of_tables g (index + 1) vs image))
 
 -- what follows from what was read, or no lines where that was refused
-abbrev pub lines_kept : {V : Type 0} → Result V Fault → (V → List ℕ) → List ℕ
-lines_kept (Ok value) next = next value
-lines_kept (Err fault) next = []
+abbrev pub lines_or_none : {V : Type 0} → Result V Fault → (V → List ℕ) → List ℕ
+lines_or_none (Ok value) next = next value
+lines_or_none (Err fault) next = []
 
 -- the lines of the L2 tables that L1 entries name, from an index on, before the first that can't be loaded
 abbrev pub lines_before : Geometry → ℕ → List ℕ → Image → List ℕ
 lines_before g index [] image = []
 lines_before g index (v ∷ vs) image =
-    lines_kept (lines_by g index (named_cluster g.cluster_bits v) image) (λ lines. lines ++ lines_before g (index + 1) vs image)
+    lines_or_none (lines_by g index (named_cluster g.cluster_bits v) image) (λ lines. lines ++ lines_before g (index + 1) vs image)
 
 -- the lines of the command `list` for an image with this header: what all of its L2 tables map
 abbrev pub listed_lines : HeaderRecord → Image → Result (List ℕ) Fault
@@ -40,7 +40,7 @@ listed_lines header image = and_then (loaded_l1_table (l1_place header) image) (
 
 -- those of its lines that stay where a table is refused: none where that is the L1 table
 abbrev pub lines_before_fault : HeaderRecord → Image → List ℕ
-lines_before_fault header image = lines_kept (loaded_l1_table (l1_place header) image) (λ l1.
+lines_before_fault header image = lines_or_none (loaded_l1_table (l1_place header) image) (λ l1.
     lines_before (geometry_of header) 0 l1 image)
 
 -- the lines of the command `list`, by an image's bytes alone
@@ -48,5 +48,5 @@ abbrev pub lines_of_image : Image → Result (List ℕ) Fault
 lines_of_image image = and_then (header_of image) (λ header. listed_lines header image)
 
 -- those of its lines that stay where a part of the image is refused: none where that is the header
-abbrev pub lines_kept_of_image : Image → List ℕ
-lines_kept_of_image image = lines_kept (header_of image) (λ header. lines_before_fault header image)
+abbrev pub image_lines_before_fault : Image → List ℕ
+image_lines_before_fault image = lines_or_none (header_of image) (λ header. lines_before_fault header image)

@@ -44,7 +44,8 @@ fn run_line(
     Ok(Run { status, out, err })
 }
 
-fn words_of(alloc: Global, words: &[&str], image: &str) -> Result<Vec<String>, Fail> {
+// These words, with the path of an image in place of the word `IMAGE`.
+pub(crate) fn words_of(alloc: Global, words: &[&str], image: &str) -> Result<Vec<String>, Fail> {
     let mut list = Vec::new(alloc);
     for word in words {
         let word = if *word == "IMAGE" { image } else { word };

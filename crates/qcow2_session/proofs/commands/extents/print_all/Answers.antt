@@ -1,4 +1,4 @@
-use Rattle.std.proofs.Common.{◌≡◌, ◌++◌, [], ◌∷◌, ap, inl, inr, rules, subst, ◌∙◌}
+use Rattle.std.proofs.Common.{◌++◌, [], ◌∷◌, ap, inl, inr, rules, subst, ◌∙◌}
 use Rattle.std.proofs.lemmas.Result.{err_from_is_err_and}
 use Rattle.qcow2_session.specs.Session.Extents.{ExtentsState, IsExtent, RefusesExtent, contents_for}
 use Rattle.qcow2_session.proofs.PrintedExtentsLemmas.{AreExtents-more, extents_text-more}

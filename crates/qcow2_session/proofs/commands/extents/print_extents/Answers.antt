@@ -1,4 +1,4 @@
-use Rattle.std.proofs.Common.{◌≡◌, Ok, ap, inl, inr, rules, ◌∙◌}
+use Rattle.std.proofs.Common.{inl, inr, ◌∙◌}
 use Rattle.std.proofs.KnownBytes.{Appends-trans}
 use Rattle.std.proofs.lemmas.Result.{err_from_is_err_and}
 use Rattle.qcow2_session.proofs.LookupsLemmas.{reads-then_for}

@@ -12,7 +12,7 @@ use Rattle.qcow2_session.specs.Commands.Counting.{block_format, end_of_steps}
 use Rattle.qcow2_session.specs.Commands.Editing.{end_of_edits, table_format}
 use Rattle.qcow2_session.specs.Commands.Extents.{disk_in, disk_of}
 use Rattle.qcow2_session.specs.Commands.Info.{info_lines}
-use Rattle.qcow2_session.specs.Commands.Listing.{lines_before_fault, lines_kept_of_image, lines_of_image, listed_lines}
+use Rattle.qcow2_session.specs.Commands.Listing.{lines_before_fault, image_lines_before_fault, lines_of_image, listed_lines}
 use Rattle.qcow2_session.specs.Commands.Running.{line_in_image}
 use Rattle.qcow2_session.proofs.commands.running.run.Goals as goal
 
@@ -39,7 +39,7 @@ returns-in_ok-header-in-ListTables-clause-runs g c =
     let header = c.in_ok-header-in-ListTables.header in
     let reads = c.in_ok-header-in-ListTables.ensures.storage.reads refl in
     rw c.in-ListTables.is (
-      PrintsSome-same c.list_tables.result (lines_of_image image) (listed_lines header image) (lines_kept_of_image image) (lines_before_fault header image) _ (g.S.Storage.state c.load-in-ListTables.new.image) _ _
+      PrintsSome-same c.list_tables.result (lines_of_image image) (listed_lines header image) (image_lines_before_fault image) (lines_before_fault header image) _ (g.S.Storage.state c.load-in-ListTables.new.image) _ _
           (λ told.
           let read : header_of image ≡ Ok header = header_read (header_of image) header (c.in_ok-header-in-ListTables.ensures.exact told) in
           (rw read refl, rw read refl))
