@@ -4,127 +4,145 @@
 //! With no word, it refuses each call of the storage and each write of the output in turn, and prints a line
 //! for each run with how many there are; then it makes each run where nothing is refused, and prints how many
 //! runs there are. `scripts/refuse-each-allocation` runs it with other words: with `memory` it does the
-//! latter alone, and each of its requests for memory is refused in turn; with `without-memory` and a number
-//! it makes the calls that take no memory so many times; with `settled` and 0 or 1 it makes one list of edits
-//! that the counters can't follow, or one that they can: all memory is taken before they are looked at.
+//! latter alone, and each of its requests for memory is refused in turn; with `once` and with `often` it
+//! makes the calls that take no memory, once or a thousand times; with `settled` and with `refused` it makes
+//! edits that the counters follow, or can't: all memory is taken before they are looked at.
 #![tactic(auto)]
 
+mod attempts;
+mod calls;
+mod held;
 mod memory;
 mod outputs;
+mod refusals;
 mod runs;
-mod storage_calls;
 mod without_memory;
-mod wrong;
 
-use crate::memory::Memory;
-use crate::storage_calls::StorageCalls;
-use std::io::{ErrorKind, Write};
+use crate::attempts::begin;
+use crate::calls::Answer;
+use crate::memory::{Memory, again};
+use crate::refusals::{Refusals, Refused};
+use crate::runs::{Each, Run, take_all};
+use qcow2_base::MemStorage;
+use std::alloc::Global;
+use std::io::Write;
 use std::process::ExitCode;
 use std::{env, fs, io, process};
 
 fn main(rt: HostRuntime) -> ExitCode {
     let mut out = rt.stdout();
-    let part = match wanted_part(&rt) {
-        Err(_) => wanted_part(&rt),
-        part => part,
+    let word = again(|| first_word(&rt));
+    let table = again(|| fs::read_to_string(&rt, "runs.txt"));
+    let (Ok(word), Ok(table)) = (word, table) else {
+        return ExitCode::FAILURE;
     };
-    let all_right = match part {
-        Ok(Part::All) => refuse_storage_calls(&rt, &mut out) && make_each(&rt, &mut out),
-        Ok(Part::Memory) => make_each(&rt, &mut out),
-        Ok(Part::WithoutMemory(turns)) => make_calls(&rt, turns, &mut out),
-        Ok(Part::Settled(counted)) => runs::settle_once(rt.alloc(), counted).is_ok(),
-        Err(_) => false,
-    };
-    if all_right {
+    if does(&rt, &word, &table, &mut out) {
         ExitCode::SUCCESS
     } else {
         ExitCode::FAILURE
     }
 }
 
-/// What the program is to do.
-#[derive(Clone, Copy)]
-enum Part {
-    All,
-    Memory,
-    /// The calls that take no memory, so many times.
-    WithoutMemory(u64),
-    /// One list of edits that the counters follow, or one that they can't.
-    Settled(bool),
+// The word behind the program's name, or an empty one.
+fn first_word(rt: &HostRuntime) -> io::Result<String> {
+    let word = env::args(rt)?.nth(1);
+    Ok(word.unwrap_or(String::new(rt.alloc())))
 }
 
-// What the word behind the program's name says.
-fn wanted_part(rt: &HostRuntime) -> io::Result<Part> {
-    let mut words = env::args(rt)?.skip(1);
-    let Some(word) = words.next() else {
-        return Ok(Part::All);
-    };
-    match word.as_str() {
-        "memory" => Ok(Part::Memory),
-        "without-memory" => Ok(Part::WithoutMemory(number(words.next())?)),
-        "settled" => Ok(Part::Settled(number(words.next())? > 0)),
-        _ => Err(ErrorKind::InvalidInput.into()),
+// Does what the word says, and answers whether all was as it must be.
+fn does<O: Write>(rt: &HostRuntime, word: &str, table: &str, out: &mut O) -> bool {
+    match word {
+        "" => refuse_all(rt.alloc(), table, out) && make_each(rt, table, out),
+        "memory" => make_each(rt, table, out),
+        "once" => make_calls(rt.alloc(), 1, out),
+        "often" => make_calls(rt.alloc(), 1000, out),
+        "settled" => make_only(rt.alloc(), "edit_settled", table),
+        "refused" => make_only(rt.alloc(), "edit_settled in vain", table),
+        _ => false,
     }
 }
 
-// The number that a word says.
-fn number(word: Option<String>) -> io::Result<u64> {
-    let Some(word) = word else {
-        return Err(ErrorKind::InvalidInput.into());
-    };
-    word.parse::<u64>()
-        .map_err(|_| ErrorKind::InvalidInput.into())
-}
-
-fn refuse_storage_calls<O: Write>(rt: &HostRuntime, out: &mut O) -> bool {
-    let mut calls = StorageCalls {
-        alloc: rt.alloc(),
+fn refuse_all<O: Write>(alloc: Global, table: &str, out: &mut O) -> bool {
+    let mut refusals = Refusals {
+        alloc,
         out,
-        wrong: 0,
+        refused: Refused::Calls,
+        all_right: true,
     };
-    runs::take_all(&mut calls);
-    calls.take_call_20();
-    calls.take_writes();
-    calls.wrong == 0
+    take_all(table, &mut refusals);
+    refusals.refused = Refused::Writes;
+    take_all(table, &mut refusals);
+    refusals.all_right
 }
 
-fn make_calls<O: Write>(rt: &HostRuntime, turns: u64, out: &mut O) -> bool {
-    match without_memory::make_calls(rt.alloc(), turns) {
-        Ok(sum) => writeln!(out, "{turns} turns: {sum:?}").is_ok(),
-        Err(_) => false,
-    }
+fn make_each<O: Write>(rt: &HostRuntime, table: &str, out: &mut O) -> bool {
+    let Ok(path) = again(|| temporary_path(rt)) else {
+        return false;
+    };
+    let mut memory = Memory {
+        rt,
+        out,
+        path: path.as_str(),
+        runs: 0,
+        all_right: true,
+    };
+    take_all(table, &mut memory);
+    let (runs, all_right) = (memory.runs, memory.all_right);
+    let _ = fs::remove_file(rt, path.as_str());
+    writeln!(out, "{runs} runs").is_ok() && all_right
 }
 
 // Where the file of a run lies.
 fn temporary_path(rt: &HostRuntime) -> io::Result<String> {
     let id = process::id(rt.process());
     let name = format!(in rt.alloc(); "qcow2-refusals-{id}")?;
-    Ok(
-        env::temp_dir(rt)?
-            .join(rt.alloc(), name.as_str())?
-            .into_string(),
-    )
+    let path = env::temp_dir(rt)?.join(rt.alloc(), name.as_str())?;
+    Ok(path.into_string())
 }
 
-fn make_each<O: Write>(rt: &HostRuntime, out: &mut O) -> bool {
-    let path = match temporary_path(rt) {
-        Err(_) => temporary_path(rt),
-        path => path,
-    };
-    let Ok(path) = path else {
+fn make_calls<O: Write>(alloc: Global, turns: u64, out: &mut O) -> bool {
+    match without_memory::make_calls(alloc, turns) {
+        Ok(sum) => writeln!(out, "{turns} turns: {sum:?}").is_ok(),
+        Err(_) => false,
+    }
+}
+
+/// Makes the runs of one call, which takes no image, and counts them and those that were refused nothing.
+#[derive(Drop)]
+struct Only<'a> {
+    alloc: Global,
+    call: &'a str,
+    runs: u64,
+    done: u64,
+}
+
+impl Each for Only<'_> {
+    fn take(&mut self, run: &Run<'_>) {
+        if run.call != self.call {
+            return;
+        }
+        self.runs = self.runs.saturating_add(1);
+        if makes(self.alloc, run) {
+            self.done = self.done.saturating_add(1);
+        }
+    }
+}
+
+fn makes(alloc: Global, run: &Run<'_>) -> bool {
+    let Ok(mut attempt) = begin(alloc, run) else {
         return false;
     };
-    let mut memory = Memory {
-        rt,
-        path: path.as_str(),
+    let mut image = MemStorage::new(Vec::new(alloc));
+    attempt.make(alloc, run, &mut image) == Answer::Done
+}
+
+fn make_only(alloc: Global, call: &str, table: &str) -> bool {
+    let mut only = Only {
+        alloc,
+        call,
         runs: 0,
-        wrong: None,
+        done: 0,
     };
-    runs::take_all(&mut memory);
-    let (runs, wrong) = (memory.runs, memory.wrong);
-    let _ = fs::remove_file(rt, path.as_str());
-    if let Some(((call, of), wrong)) = wrong {
-        let _ = writeln!(out, "{call} {of}: {wrong:?}");
-    }
-    writeln!(out, "{runs} runs").is_ok() && wrong.is_none()
+    take_all(table, &mut only);
+    only.runs > 0 && only.done == only.runs
 }

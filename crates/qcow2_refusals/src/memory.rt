@@ -3,125 +3,110 @@
 //! A refusal comes from outside, once in the life of the program: what a run begins with is made once more
 //! too, so that all runs are made whichever request it meets.
 
+use crate::attempts::{Attempt, Wrong, begin, unless};
+use crate::calls::Answer;
 use crate::runs::{Each, Run};
-use crate::wrong::{Wrong, is_torn, unless};
-use qcow2_base::{Fault, FileStorage, MemStorage, Storage};
+use qcow2_base::{FileStorage, MemStorage, Storage};
 use std::alloc::Global;
 use std::fs;
+use std::io::Write;
 
-/// Makes each run, and keeps count of them.
+/// Makes each run, and tells of those that aren't as they must be.
 #[derive(Drop)]
-pub(crate) struct Memory<'a> {
+pub(crate) struct Memory<'a, O> {
     pub(crate) rt: &'a HostRuntime,
+    pub(crate) out: &'a mut O,
     /// Where the file of a run lies.
     pub(crate) path: &'a str,
     pub(crate) runs: u64,
-    /// The first run that wasn't as it must be.
-    pub(crate) wrong: Option<((&'static str, &'static str), Wrong)>,
+    pub(crate) all_right: bool,
 }
 
-impl Each for Memory<'_> {
-    fn take<R: Run>(&mut self, run: &R) {
+impl<O: Write> Each for Memory<'_, O> {
+    fn take(&mut self, run: &Run<'_>) {
         self.runs = self.runs.saturating_add(1);
         let made = match over_memory(self.rt.alloc(), run) {
-            Ok(()) if run.images().is_in_a_file() => over_file(self.rt, self.path, run),
+            Ok(()) if run.is_in_a_file() => over_file(self.rt, self.path, run),
             made => made,
         };
-        if let Err(wrong) = made
-            && self.wrong.is_none()
-        {
-            self.wrong = Some((run.name(), wrong));
+        if let Err(wrong) = made {
+            self.all_right = false;
+            let _ = writeln!(self.out, "{} {}: {wrong:?} is wrong", run.call, run.of);
         }
     }
 }
 
-/// What a run begins with, and its image before the call and after it.
-#[derive(Drop)]
-struct Begun<B> {
-    with: B,
-    before: MemStorage,
-    after: MemStorage,
-}
-
-fn begin<R: Run>(alloc: Global, run: &R) -> Result<Begun<R::Begun>, Fault> {
-    let images = run.images();
-    Ok(Begun {
-        with: run.begin(alloc)?,
-        before: images.before(alloc)?,
-        after: images.after(alloc)?,
-    })
-}
-
-// The same, once more where memory was refused.
-fn begin_again<R: Run>(alloc: Global, run: &R) -> Result<Begun<R::Begun>, Fault> {
-    match begin(alloc, run) {
-        Err(_) => begin(alloc, run),
-        begun => begun,
+/// Makes something, once more where memory was refused the first time.
+pub(crate) fn again<T, E: Drop, F: Fn() -> Result<T, E>>(make: F) -> Result<T, E>
+    requires { F.IsAlwaysCallable make }
+{
+    match make() {
+        Err(_) => make(),
+        made => made,
     }
 }
 
-// The image before the call, once more where memory was refused.
-fn image_again<R: Run>(alloc: Global, run: &R) -> Result<MemStorage, Fault> {
-    match run.images().before(alloc) {
-        Err(_) => run.images().before(alloc),
-        image => image,
-    }
-}
-
-fn over_memory<R: Run>(alloc: Global, run: &R) -> Result<(), Wrong> {
-    let mut begun = begin_again(alloc, run)?;
-    let mut image = image_again(alloc, run)?;
-    let answer = run.call(alloc, &mut begun.with, &mut image);
-    has_answered(run, &begun, answer, image.bytes())?;
-    if answer == Ok(()) {
+fn over_memory(alloc: Global, run: &Run<'_>) -> Result<(), Wrong> {
+    let mut attempt = again(|| begin(alloc, run))?;
+    let mut image = again(|| run.before(alloc))?;
+    if make_in_memory(alloc, run, &mut attempt, &mut image)? == Answer::Done {
         return Ok(());
     }
-    let again = run.call(alloc, &mut begun.with, &mut image);
-    unless(again == Ok(()), Wrong::Answer(again))?;
-    has_answered(run, &begun, again, image.bytes())
+    is_done(make_in_memory(alloc, run, &mut attempt, &mut image)?)
+}
+
+fn make_in_memory(
+    alloc: Global,
+    run: &Run<'_>,
+    attempt: &mut Attempt,
+    image: &mut MemStorage,
+) -> Result<Answer, Wrong> {
+    let answer = attempt.make(alloc, run, image);
+    has_answered(run, attempt, answer, image.bytes())?;
+    Ok(answer)
+}
+
+fn over_file(rt: &HostRuntime, path: &str, run: &Run<'_>) -> Result<(), Wrong> {
+    let mut attempt = again(|| begin(rt.alloc(), run))?;
+    let is_written = fs::write(rt, path, attempt.before.bytes()).is_ok();
+    unless(is_written, Wrong::Beginning)?;
+    let mut file = again(|| FileStorage::open(rt, path, true))?;
+    if make_in_file(rt, path, run, &mut attempt, &mut file)? == Answer::Done {
+        return Ok(());
+    }
+    is_done(make_in_file(rt, path, run, &mut attempt, &mut file)?)
+}
+
+fn make_in_file(
+    rt: &HostRuntime,
+    path: &str,
+    run: &Run<'_>,
+    attempt: &mut Attempt,
+    file: &mut FileStorage,
+) -> Result<Answer, Wrong> {
+    let answer = attempt.make(rt.alloc(), run, file);
+    let Ok(bytes) = again(|| fs::read(rt, path)) else {
+        return Err(Wrong::Beginning);
+    };
+    has_answered(run, attempt, answer, &bytes)?;
+    Ok(answer)
+}
+
+fn is_done(answer: Answer) -> Result<(), Wrong> {
+    unless(answer == Answer::Done, Wrong::Answer)
 }
 
 // Fails unless all stands that must after this answer: a refusal of memory, which is one of the storage where
 // that had to grow, or none.
-fn has_answered<R: Run>(
-    run: &R,
-    begun: &Begun<R::Begun>,
-    answer: Result<(), Fault>,
-    found: &[u8],
+fn has_answered(
+    run: &Run<'_>,
+    attempt: &mut Attempt,
+    answer: Answer,
+    image: &[u8],
 ) -> Result<(), Wrong> {
-    let (before, after) = (begun.before.bytes(), begun.after.bytes());
-    let image_stands = match answer {
-        Ok(()) => found == after,
-        Err(Fault::NoMemory) => found == before,
-        Err(Fault::Storage) if before.len() < after.len() => is_torn(found, before, after),
-        Err(_) => return Err(Wrong::Answer(answer)),
-    };
-    unless(image_stands, Wrong::Image(answer))?;
-    unless(run.stands(&begun.with, answer, before), Wrong::Left(answer))
-}
-
-fn over_file<R: Run>(rt: &HostRuntime, path: &str, run: &R) -> Result<(), Wrong> {
-    let mut begun = begin_again(rt.alloc(), run)?;
-    fs::write(rt, path, begun.before.bytes())?;
-    let mut file = match FileStorage::open(rt, path, true) {
-        Err(Fault::Storage) => FileStorage::open(rt, path, true)?,
-        Err(fault) => return Err(Wrong::Beginning(fault)),
-        Ok(file) => file,
-    };
-    let answer = run.call(rt.alloc(), &mut begun.with, &mut file);
-    has_answered(run, &begun, answer, contents(rt, path)?.as_slice())?;
-    if answer == Ok(()) {
-        return Ok(());
-    }
-    let again = run.call(rt.alloc(), &mut begun.with, &mut file);
-    unless(again == Ok(()), Wrong::Answer(again))?;
-    has_answered(run, &begun, again, contents(rt, path)?.as_slice())
-}
-
-// The file's bytes, once more where memory was refused.
-fn contents(rt: &HostRuntime, path: &str) -> Result<Vec<u8>, Wrong> {
-    if let Ok(bytes) = fs::read(rt, path) {
-        return Ok(bytes);
-    }
-    Ok(fs::read(rt, path)?)
+    let may_fail = answer != Answer::StorageFailed || attempt.grows();
+    unless(may_fail, Wrong::Answer)?;
+    let is_whole = answer == Answer::Done || image == attempt.before.bytes();
+    unless(is_whole, Wrong::Image)?;
+    attempt.check(run, answer, image)
 }

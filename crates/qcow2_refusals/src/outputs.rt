@@ -1,27 +1,24 @@
-//! An output whose write fails where it is planned, and each command with each of its writes refused in turn.
+//! An output that keeps what is written to it, and fails where that is planned.
 
 ghost use Rattle.std.specs.Prelude.{None};
 
-use crate::runs::{CommandRun, Run};
-use crate::wrong::{Wrong, unless};
 use qcow2_base::Fault;
 use qcow2_testing::take_turn;
 use std::alloc::{AllocError, Global};
+use std::fmt::Debug;
 use std::io;
 use std::io::{ErrorKind, Write};
 
-/// More bytes than any command of the table prints, so that no write asks for memory.
+/// More bytes than any call answers, so that no write asks for memory.
 const CAPACITY: usize = 1024;
 
-/// More writes than any command of the table makes.
-const MOST_WRITES: u64 = 1000;
-
-/// An output that keeps what is written to it. A write that fails keeps nothing, and later ones pass again.
+/// An output. A write that fails keeps nothing, and later ones pass again.
 #[derive(Drop)]
 pub(crate) struct Output {
     bytes: Vec<u8>,
-    plan: Option<u64>,
-    has_failed: bool,
+    /// How many writes pass before the one that fails; without it none fails.
+    pub(crate) plan: Option<u64>,
+    pub(crate) has_failed: bool,
 }
 
 impl Output {
@@ -61,39 +58,10 @@ impl Write for Output {
     }
 }
 
-/// Makes the command with its first write refused, then with its second, until none is. Answers how many
-/// there are, or the write whose refusal was not as it must be.
-pub(crate) fn refuse_each_write(alloc: Global, run: &CommandRun) -> Result<u64, (u64, Wrong)> {
-    for passes in 0..MOST_WRITES {
-        match refuse_write(alloc, run, passes) {
-            Ok(true) => (),
-            Ok(false) => return Ok(passes),
-            Err(wrong) => return Err((passes, wrong)),
-        }
+/// Writes what a value prints as by `Debug`.
+pub(crate) fn tell<T: Debug>(out: &mut Output, value: &T) -> Result<(), Fault> {
+    match write!(out, "{value:?}") {
+        Ok(()) => Ok(()),
+        Err(_) => Err(Fault::WrongLength),
     }
-    Err((MOST_WRITES, Wrong::Endless))
-}
-
-// Makes the command with so many writes passed and the next one refused, if there is a next one, and then
-// once more. What it changes in the image is written by the time that it prints.
-fn refuse_write(alloc: Global, run: &CommandRun, passes: u64) -> Result<bool, Wrong> {
-    let mut out = run.begin(alloc)?;
-    let after = run.images().after(alloc)?;
-    let mut image = run.images().before(alloc)?;
-    out.plan = Some(passes);
-    let answer = run.call(alloc, &mut out, &mut image);
-    unless(image.bytes() == after.bytes(), Wrong::Image(answer))?;
-    unless(run.stands(&out, answer, &[]), Wrong::Left(answer))?;
-    if !out.has_failed {
-        unless(answer == Ok(()), Wrong::Answer(answer))?;
-        return Ok(false);
-    }
-    unless(answer == Err(Fault::Storage), Wrong::Answer(answer))?;
-    let again = run.call(alloc, &mut out, &mut image);
-    unless(again == Ok(()), Wrong::Answer(again))?;
-    unless(
-        out.bytes() == run.printed_again().as_bytes(),
-        Wrong::Left(again),
-    )?;
-    Ok(true)
 }

@@ -1,126 +1,167 @@
-//! The table of runs: what a run is, and all of them.
+//! What a run is, and how it stands in a line of the table of runs, `data/runs.txt`, which says what the
+//! columns mean.
 
-mod blocks;
-mod commands;
-mod copies;
-mod headers;
-mod session;
-mod tables;
-
-pub(crate) use commands::{COMMANDS, CommandRun};
-pub(crate) use headers::disk_header;
-use qcow2_base::{Fault, MemStorage, Storage};
-use qcow2_testing::put_bytes;
-pub(crate) use session::{EditRun, settle_once};
+use qcow2_base::{Fault, MemStorage};
+use qcow2_testing::put;
 use std::alloc::Global;
 
-/// Bytes, and where they stand in an image.
-pub(crate) type Parts = &'static [(u64, &'static [u8])];
-
-/// What an image holds before a call and after one that succeeds: so many bytes of 0xa5, zeros in place of
-/// those between two places, and then its own parts and these.
+/// What the runs below a line of the table begin with.
 #[derive(Clone, Copy)]
-pub(crate) struct Images {
-    pub(crate) len: usize,
-    pub(crate) zeros: (usize, usize),
-    pub(crate) own: Parts,
-    pub(crate) before: Parts,
-    pub(crate) after: Parts,
-    /// The logarithm of the alignments that a storage in memory has.
-    pub(crate) alignment_bits: u32,
+pub(crate) struct Setup<'a> {
+    pub(crate) header: &'a str,
+    /// The image that tables and block are loaded from.
+    pub(crate) source: &'a str,
+    image: &'a str,
 }
 
-/// The images of a call that takes none.
-pub(crate) const NO_IMAGES: Images = Images {
-    len: 0,
-    zeros: (0, 0),
-    own: &[],
-    before: &[],
-    after: &[],
-    alignment_bits: 0,
-};
+/// A call of the library, with what it begins with and what must stand after it.
+#[derive(Clone, Copy)]
+pub(crate) struct Run<'a> {
+    pub(crate) setup: Setup<'a>,
+    pub(crate) call: &'a str,
+    /// What it is made on.
+    pub(crate) of: &'a str,
+    /// Whether tables and block count as modified.
+    pub(crate) is_modified: bool,
+    before: &'a str,
+    after: &'a str,
+    /// The numbers that it changes where the storage refuses.
+    pub(crate) refused: &'a str,
+    /// Those that it changes where it succeeds.
+    pub(crate) done: &'a str,
+    told: &'a str,
+    told_again: &'a str,
+}
 
-impl Images {
+/// What is done with each run.
+pub(crate) trait Each {
+    /// Does it with this run.
+    fn take(&mut self, run: &Run<'_>);
+}
+
+/// Does it with each run of the table in turn.
+pub(crate) fn take_all<E: Each>(table: &str, each: &mut E) {
+    let mut setup = Setup {
+        header: "",
+        source: "",
+        image: "",
+    };
+    for line in table.lines() {
+        if let Some(columns) = line.strip_prefix("= ") {
+            setup = setup_of(columns);
+        } else if !line.is_empty() && !line.starts_with("#") {
+            each.take(&run_of(setup, line));
+        }
+    }
+}
+
+fn setup_of(line: &str) -> Setup<'_> {
+    let mut columns = line.split('|');
+    Setup {
+        header: columns.next().unwrap_or("").trim(),
+        source: columns.next().unwrap_or("").trim(),
+        image: columns.next().unwrap_or("").trim(),
+    }
+}
+
+fn run_of<'a>(setup: Setup<'a>, line: &'a str) -> Run<'a> {
+    let mut columns = line.split('|');
+    Run {
+        setup,
+        call: columns.next().unwrap_or("").trim(),
+        of: columns.next().unwrap_or("").trim(),
+        is_modified: columns.next().unwrap_or("").trim() == "1",
+        before: columns.next().unwrap_or("").trim(),
+        after: columns.next().unwrap_or("").trim(),
+        refused: columns.next().unwrap_or("").trim(),
+        done: columns.next().unwrap_or("").trim(),
+        told: columns.next().unwrap_or("").trim(),
+        told_again: columns.next().unwrap_or("").trim(),
+    }
+}
+
+impl Run<'_> {
     /// The image before the call.
     pub(crate) fn before(&self, alloc: Global) -> Result<MemStorage, Fault> {
-        self.with(alloc, self.before)
+        let image = image_of(alloc, self.setup.image, self.before)?;
+        let alignment_bits = if self.is_aligned() { 13 } else { 0 };
+        Ok(image.with_align(1 << alignment_bits))
     }
 
     /// The image after a call that succeeds.
     pub(crate) fn after(&self, alloc: Global) -> Result<MemStorage, Fault> {
-        self.with(alloc, self.after)
+        image_of(alloc, self.setup.image, self.after)
     }
 
-    fn with(&self, alloc: Global, parts: Parts) -> Result<MemStorage, Fault> {
-        let mut image = self.filled(alloc)?;
-        put_parts(&mut image, self.own)?;
-        put_parts(&mut image, parts)?;
-        Ok(image)
-    }
-
-    // The image without its parts.
-    fn filled(&self, alloc: Global) -> Result<MemStorage, Fault> {
-        let mut bytes = Vec::with_capacity(alloc, self.len)?;
-        bytes.resize(self.zeros.0, 0xa5)?;
-        bytes.resize(self.zeros.1, 0)?;
-        bytes.resize(self.len, 0xa5)?;
-        Ok(MemStorage::new(bytes).with_align(1 << self.alignment_bits.min(30)))
-    }
-
-    /// Whether the call takes an image that a file can hold.
+    /// Whether the call takes an image that a file can hold, which has no alignment.
     pub(crate) fn is_in_a_file(&self) -> bool {
-        self.alignment_bits == 0 && (self.len > 0 || !self.after.is_empty())
+        !self.setup.image.is_empty() && !self.is_aligned()
+    }
+
+    // Whether the storage is to have an alignment of 8192 bytes.
+    fn is_aligned(&self) -> bool {
+        self.call == "aligned write_entry"
+    }
+
+    /// Whether the call is the function of a command.
+    pub(crate) fn is_command(&self) -> bool {
+        self.of == "over a disk"
+    }
+
+    /// What the call must tell, over an image that it has changed before or not.
+    pub(crate) fn told(&self, is_again: bool) -> &str {
+        if is_again && !self.told_again.is_empty() {
+            return self.told_again;
+        }
+        self.told
     }
 }
 
-fn put_parts(image: &mut MemStorage, parts: Parts) -> Result<(), Fault> {
-    for (place, part) in parts {
-        put_bytes(image, *place, part)?;
+/// The image that a column describes, with the numbers of another column too.
+pub(crate) fn image_of(alloc: Global, image: &str, numbers: &str) -> Result<MemStorage, Fault> {
+    let mut bytes = filled(alloc, image)?;
+    match put_numbers(&mut bytes, image).and_then(|()| put_numbers(&mut bytes, numbers)) {
+        Ok(()) => Ok(bytes),
+        Err(fault) => Err(fault),
+    }
+}
+
+// The image without its numbers.
+fn filled(alloc: Global, image: &str) -> Result<MemStorage, Fault> {
+    let mut words = image.split_whitespace();
+    let len = usize_of(words.next());
+    let (start, end) = (usize_of(words.next()), usize_of(words.next()));
+    let mut bytes = vec![in alloc; 0xa5; len]?;
+    for place in start..end {
+        if let Some(byte) = bytes.get_mut(place) {
+            *byte = 0;
+        }
+    }
+    Ok(MemStorage::new(bytes))
+}
+
+/// The number that a word says, or 0.
+pub(crate) fn usize_of(word: Option<&str>) -> usize {
+    match word {
+        Some(word) => word.parse::<usize>().unwrap_or(0),
+        None => 0,
+    }
+}
+
+fn put_numbers(image: &mut MemStorage, numbers: &str) -> Result<(), Fault> {
+    for word in numbers.split_whitespace() {
+        if let Some((place, number)) = number_of(word) {
+            put(image, place as u64, number)?;
+        }
     }
     Ok(())
 }
 
-/// A call of the library, with what it begins with and what must stand after it.
-pub(crate) trait Run {
-    /// What the call works on beside the image, and what it has answered.
-    type Begun: Drop;
-
-    /// The call, and what it is made on.
-    fn name(&self) -> (&'static str, &'static str);
-
-    /// The image before and after it.
-    fn images(&self) -> Images;
-
-    /// What it begins with.
-    fn begin(&self, alloc: Global) -> Result<Self::Begun, Fault>;
-
-    /// Makes the call.
-    fn call<S: Storage>(
-        &self,
-        alloc: Global,
-        begun: &mut Self::Begun,
-        image: &mut S,
-    ) -> Result<(), Fault>;
-
-    /// Whether all stands beside the image that must, once the call has answered this over an image of
-    /// these bytes.
-    fn stands(&self, begun: &Self::Begun, answer: Result<(), Fault>, before: &[u8]) -> bool;
-}
-
-/// What is done with each run of the table.
-pub(crate) trait Each {
-    /// Does it with this run.
-    fn take<R: Run>(&mut self, run: &R);
-}
-
-/// Does it with each run in turn.
-pub(crate) fn take_all<E: Each>(each: &mut E) {
-    headers::take_each(each);
-    tables::take_each(each);
-    blocks::take_each(each);
-    copies::take_each(each);
-    session::take_each(each);
-    for command in &COMMANDS {
-        each.take(command);
-    }
+/// A place and the number there, if a word says them.
+pub(crate) fn number_of(word: &str) -> Option<(usize, u64)> {
+    let (place, number) = word.split_once('=')?;
+    let Ok(number) = u64::from_str_radix(number, 16) else {
+        return None;
+    };
+    Some((usize_of(Some(place)), number))
 }

@@ -25,16 +25,14 @@ fn l1_entry(number: u64, header: &Header, sum: &mut Sum) {
     if let Ok(entry) = L1Entry::try_from_plain(number, header) {
         sum.note(entry.l2_offset().is_some());
         sum.note(entry.is_copied());
-        sum.add(entry.reserved_bits());
-        sum.add(entry.to_plain());
+        sum.add(entry.reserved_bits() ^ entry.to_plain());
     }
 }
 
 fn reftable_entry(number: u64, header: &Header, sum: &mut Sum) {
     if let Ok(entry) = RefTableEntry::try_from_plain(number, header) {
         sum.note(entry.refblock_offset().is_some());
-        sum.add(entry.reserved_bits());
-        sum.add(entry.to_plain());
+        sum.add(entry.reserved_bits() ^ entry.to_plain());
     }
 }
 
@@ -42,28 +40,23 @@ fn l2_entry(number: u64, header: &Header, sum: &mut Sum) {
     let Ok(entry) = L2Entry::try_from_plain(number, header) else {
         return;
     };
+    let bits = header.cluster_bits();
     if !entry.is_compressed() {
         sum.note(entry.cluster_offset(false).is_some());
     }
     sum.note(entry.is_copied());
     sum.note(entry.is_zero());
-    sum.add(entry.without_copied().to_plain());
-    sum.add(entry.reserved_bits());
+    sum.add(entry.without_copied().to_plain() ^ entry.reserved_bits());
     sum.add(entry.compressed_descriptor());
-    sum.note(entry.compressed_range(header.cluster_bits()).is_some());
-    sum.note(entry.allocation(header.cluster_bits(), false).is_some());
-    sum.note(
-        entry
-            .into_mapping(GuestCluster(3), header.cluster_bits(), false)
-            .is_ok(),
-    );
+    sum.note(entry.compressed_range(bits).is_some());
+    sum.note(entry.allocation(bits, false).is_some());
+    sum.note(entry.into_mapping(GuestCluster(3), bits, false).is_ok());
 }
 
 fn cell(number: u64, header: &Header, sum: &mut Sum) {
     if let Ok(entry) = L2Entry::try_from_plain(number, header) {
         let mut cell = AtomicL2Entry::new(entry);
-        sum.add(cell.get().to_plain());
-        sum.add(cell.swap(entry).to_plain());
+        sum.add(cell.get().to_plain() ^ cell.swap(entry).to_plain());
     }
 }
 

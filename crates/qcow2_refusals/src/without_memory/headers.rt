@@ -1,7 +1,7 @@
 //! Calls of headers: getters, setters, `update` and the pointer writes.
 
 use super::Sum;
-use crate::runs::disk_header;
+use crate::held::disk_header;
 use qcow2_base::{Fault, MemStorage};
 use qcow2_metadata::{FeatureType, Header};
 use std::alloc::Global;
@@ -18,8 +18,8 @@ pub(super) struct Headers {
 pub(super) fn begin(alloc: Global) -> Result<Headers, Fault> {
     Ok(Headers {
         first: Header::new(alloc, 9, 4, None, None, None)?,
-        disk: disk_header(alloc)?,
-        other: disk_header(alloc)?,
+        disk: disk_header(alloc, 32768)?,
+        other: disk_header(alloc, 32768)?,
         image: MemStorage::new(vec![in alloc; 0; 512]?),
     })
 }
@@ -35,13 +35,9 @@ pub(super) fn make(turn: u64, headers: &mut Headers, sum: &mut Sum) {
 }
 
 fn getters(header: &Header, sum: &mut Sum) {
-    sum.add(header.size());
-    sum.add(header.cluster_bits() as u64);
-    sum.add(header.cluster_size() as u64);
-    sum.add(header.l2_entries() as u64);
-    sum.add(header.refcount_order() as u64);
-    sum.add(header.rb_bits() as u64);
-    sum.add(header.rb_entries() as u64);
+    sum.add(header.size() ^ header.cluster_bits() as u64 ^ header.cluster_size() as u64);
+    sum.add(header.l2_entries() as u64 ^ header.refcount_order() as u64);
+    sum.add(header.rb_bits() as u64 ^ header.rb_entries() as u64);
     sum.note(header.external_data_file());
     sum.note(header.require_version(3).is_ok());
 }
@@ -54,10 +50,8 @@ fn names(header: &Header, sum: &mut Sum) {
 }
 
 fn places(header: &Header, sum: &mut Sum) {
-    sum.add(header.l1_table_offset().0);
-    sum.add(header.l1_table_entries() as u64);
-    sum.add(header.reftable_offset().0);
-    sum.add(header.reftable_clusters().0);
+    sum.add(header.l1_table_offset().0 ^ header.l1_table_entries() as u64);
+    sum.add(header.reftable_offset().0 ^ header.reftable_clusters().0);
     sum.add(header.reftable_entries() as u64);
 }
 

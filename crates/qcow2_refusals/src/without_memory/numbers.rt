@@ -16,40 +16,34 @@ pub(super) fn make(turn: u64, sum: &mut Sum) {
     host_offset(turn, sum);
     host_cluster(turn, sum);
     counts(turn, sum);
-    layouts(sum);
+    stored::<V2Header>(sum);
+    stored::<V3HeaderBase>(sum);
+    stored::<HeaderExtensionHeader>(sum);
     integers(turn as u32, sum);
-    faults(sum);
+    sum.add(V3HeaderBase::default().header_length as u64 ^ Fault::Storage.number() as u64);
+    sum.note(Fault::NoMemory.kind() == FaultKind::Other);
 }
 
 fn guest_offset(turn: u64, sum: &mut Sum)
     requires { turn < 1024 }
 {
     let offset = GuestOffset(turn);
-    sum.add(offset.in_cluster_offset(9));
-    sum.add(offset.cluster(9).0);
+    sum.add(offset.in_cluster_offset(9) ^ offset.cluster(9).0 ^ offset.l2_index(9) as u64);
+    sum.add(offset.l1_index(9) as u64 ^ offset.remaining_in_cluster(9));
+    sum.add(offset.remaining_in_l2_table(9) ^ (offset + 512).0);
+    sum.add((GuestOffset(1024) - turn).0 ^ (GuestOffset(1024) - offset));
     sum.note(offset.checked_cluster(9).is_some());
-    sum.add(offset.l2_index(9) as u64);
-    sum.add(offset.l1_index(9) as u64);
-    sum.add(offset.remaining_in_cluster(9));
-    sum.add(offset.remaining_in_l2_table(9));
-    sum.add((offset + 512).0);
-    sum.add((GuestOffset(1024) - turn).0);
-    sum.add(GuestOffset(1024) - offset);
 }
 
 fn guest_cluster(turn: u64, sum: &mut Sum)
     requires { turn < 1024 }
 {
-    let mut cluster = GuestCluster(turn);
-    sum.add(cluster.offset(9).0);
-    sum.add(cluster.l2_index(9) as u64);
-    sum.add(cluster.l1_index(9) as u64);
+    let (mut cluster, last) = (GuestCluster(turn), GuestCluster(1024));
+    sum.add(cluster.offset(9).0 ^ cluster.l2_index(9) as u64 ^ cluster.l1_index(9) as u64);
     sum.add(GuestCluster::from_l1_l2_indices(3, turn as usize, 9).0);
+    sum.add(last.first_in_next_l2(9).0 ^ (last - cluster).0);
+    sum.add((last - ClusterCount(turn)).0 ^ (cluster + ClusterCount(1)).0);
     sum.note(cluster.next_in_l2(9).is_some());
-    sum.add(GuestCluster(1024).first_in_next_l2(9).0);
-    sum.add((GuestCluster(1024) - cluster).0);
-    sum.add((GuestCluster(1024) - ClusterCount(turn)).0);
-    sum.add((cluster + ClusterCount(1)).0);
     cluster += ClusterCount(2);
     cluster -= ClusterCount(1);
     sum.add(cluster.0);
@@ -59,28 +53,21 @@ fn host_offset(turn: u64, sum: &mut Sum)
     requires { turn < 1024 }
 {
     let offset = HostOffset(turn);
-    sum.add(offset.in_cluster_offset(9));
-    sum.add(offset.cluster(9).0);
+    sum.add(offset.in_cluster_offset(9) ^ offset.cluster(9).0 ^ (offset + 512).0);
+    sum.add((HostOffset(1024) - turn).0 ^ (HostOffset(1024) - offset));
     sum.note(offset.checked_cluster(9).is_some());
-    sum.add((offset + 512).0);
-    sum.add((HostOffset(1024) - turn).0);
-    sum.add(HostOffset(1024) - offset);
 }
 
 fn host_cluster(turn: u64, sum: &mut Sum)
     requires { turn < 1024 }
 {
-    let mut cluster = HostCluster(turn);
-    sum.add(cluster.offset(9).0);
-    sum.add(cluster.rb_index(8) as u64);
-    sum.add(cluster.rt_index(8) as u64);
+    let (mut cluster, last) = (HostCluster(turn), HostCluster(1024));
+    sum.add(cluster.offset(9).0 ^ cluster.rb_index(8) as u64 ^ cluster.rt_index(8) as u64);
     let (rt_index, rb_index) = cluster.rt_rb_indices(8);
     sum.add(rt_index as u64 ^ rb_index as u64);
     sum.add(HostCluster::from_ref_indices(3, turn as usize, 8).0);
-    sum.add(HostCluster(7).relative_offset(GuestOffset(turn), 9).0);
-    sum.add((HostCluster(1024) - cluster).0);
-    sum.add((HostCluster(1024) - ClusterCount(turn)).0);
-    sum.add((cluster + ClusterCount(1)).0);
+    sum.add(HostCluster(7).relative_offset(GuestOffset(turn), 9).0 ^ (last - cluster).0);
+    sum.add((last - ClusterCount(turn)).0 ^ (cluster + ClusterCount(1)).0);
     cluster += ClusterCount(2);
     cluster -= ClusterCount(1);
     sum.add(cluster.0);
@@ -89,25 +76,16 @@ fn host_cluster(turn: u64, sum: &mut Sum)
 fn counts(turn: u64, sum: &mut Sum)
     requires { turn < 1024 }
 {
-    let mut count = ClusterCount::from_byte_size(turn, 9);
+    let mut count = ClusterCount(turn);
+    sum.add(ClusterCount::from_byte_size(turn, 9).0 ^ count.byte_size(9));
+    sum.add((count + ClusterCount(1)).0 ^ (ClusterCount(1024) - count).0);
     sum.note(ClusterCount::checked_from_byte_size(turn, 9).is_some());
-    sum.add(ClusterCount(turn).byte_size(9));
-    sum.add((ClusterCount(turn) + ClusterCount(1)).0);
-    sum.add((ClusterCount(1024) - ClusterCount(turn)).0);
-    count = ClusterCount(turn);
     count += ClusterCount(2);
     count -= ClusterCount(1);
     sum.add(count.0);
 }
 
-// Loads each struct of the format from bytes, and stores it again.
-fn layouts(sum: &mut Sum) {
-    stored::<V2Header>(sum);
-    stored::<V3HeaderBase>(sum);
-    stored::<HeaderExtensionHeader>(sum);
-    sum.add(V3HeaderBase::default().header_length as u64);
-}
-
+// Loads a struct of the format from bytes, and stores it again.
 fn stored<T: OnDiskStruct + Drop>(sum: &mut Sum) {
     let mut bytes = [1u8; 72];
     if let Ok(value) = T::load_from_be(&bytes) {
@@ -131,18 +109,11 @@ fn integers(turn: u32, sum: &mut Sum) {
     sum.note(u64::load_from(&bytes).is_err());
 }
 
-fn faults(sum: &mut Sum) {
-    sum.add(Fault::Storage.number() as u64);
-    sum.note(Fault::NoMemory.kind() == FaultKind::Other);
-}
-
 // A storage in memory of no byte, which a read finds zero.
 pub(super) fn make_storage(alloc: Global, alignment_bits: u32, sum: &mut Sum) {
     let mut image = MemStorage::new(Vec::new(alloc)).with_align(1 << alignment_bits.min(30));
     let mut bytes = [1u8; 16];
     sum.note(image.read(&mut bytes, 3).is_ok());
-    sum.add(image.mem_align() as u64);
-    sum.add(image.req_align() as u64);
-    sum.add(bytes[0] as u64);
-    sum.add(image.bytes().len() as u64);
+    sum.add(image.mem_align() as u64 ^ image.req_align() as u64);
+    sum.add(bytes[0] as u64 ^ image.bytes().len() as u64);
 }

@@ -1,6 +1,8 @@
 //! Calls of tables and blocks, of their guards, of growth, and the calls of lists that take no memory.
 
 use super::Sum;
+use crate::calls::tables;
+use crate::held::{Held, TABLES, hold_over, l2_table, new_header};
 use qcow2_base::{ClusterCount, Fault, GuestCluster, HostCluster, MemStorage};
 use qcow2_metadata::{
     ClustersToFreeEntry, Header, L1Table, L2Table, MAX_OFFSET, PendingClusters, RefBlock, RefTable,
@@ -10,74 +12,63 @@ use qcow2_session::{Edit, Outcome, edits_fit, settle};
 use qcow2_testing::{fits, image_with};
 use std::alloc::Global;
 
-/// A header, tables and a block of it, an image that they are written to, and what edits did to references.
+/// Tables and a block, an image that they are written to, and what edits did to references.
 #[derive(Drop)]
 pub(super) struct Tables {
-    header: Header,
-    l1_table: L1Table,
-    l2_table: L2Table,
-    reftable: RefTable,
-    block: RefBlock,
+    held: Held,
     image: MemStorage,
     outcome: Outcome,
 }
-
-/// The cluster that each table and block begins with.
-const CLUSTER: HostCluster = HostCluster(1);
 
 /// Entry 3 of the L2 table: compressed data from byte 0x600 on, which no turn changes.
 const COMPRESSED: u64 = 0x4000_0000_0000_0600;
 
 pub(super) fn begin(alloc: Global) -> Result<Tables, Fault> {
-    let header = Header::new(alloc, 9, 4, None, None, None)?;
-    let mut image = image_with(alloc, 1024, &[(24, COMPRESSED)])?;
-    let entries = header.l2_entries();
-    let freed = ClustersToFreeEntry {
-        first: HostCluster(5),
-        count: ClusterCount(1),
-    };
-    let outcome = Outcome {
-        gained: Vec::from_slice(alloc, &[HostCluster(5)])?,
-        freed: Vec::from_slice(alloc, &[freed])?,
-    };
+    let outcome = begin_outcome(alloc)?;
+    let mut image = image_with(alloc, 1536, &[(536, COMPRESSED)])?;
+    let mut held = hold_empty(alloc)?;
+    held.l2_table = l2_table(alloc, &mut image, &held.header)?;
     Ok(Tables {
-        l1_table: L1Table::load(alloc, &mut image, &header, CLUSTER, entries)?,
-        l2_table: L2Table::load(alloc, &mut image, &header, HostCluster(0), entries)?,
-        reftable: RefTable::load(alloc, &mut image, &header, CLUSTER, entries)?,
-        block: RefBlock::load(alloc, &mut image, &header, CLUSTER)?,
-        header,
+        held,
         image,
         outcome,
     })
 }
 
+fn hold_empty(alloc: Global) -> Result<Held, Fault> {
+    let header = new_header(alloc, 9, 4)?;
+    hold_over(alloc, &mut MemStorage::new(Vec::new(alloc)), header)
+}
+
+fn begin_outcome(alloc: Global) -> Result<Outcome, Fault> {
+    let freed = ClustersToFreeEntry {
+        first: HostCluster(5),
+        count: ClusterCount(1),
+    };
+    let gained = Vec::from_slice(alloc, &[HostCluster(5)])?;
+    let freed = Vec::from_slice(alloc, &[freed])?;
+    Ok(Outcome { gained, freed })
+}
+
 pub(super) fn make(turn: u64, tables: &mut Tables, sum: &mut Sum) {
-    let Tables {
-        header,
-        l1_table,
-        l2_table,
-        reftable,
-        block,
-        image,
-        outcome,
-    } = tables;
     let index = (turn % 32 + 4) as usize;
-    look_at(l1_table, index, sum);
-    look_at(l2_table, index, sum);
-    look_at(reftable, index, sum);
-    sum.note(l1_table.in_bounds(index));
-    sum.note(reftable.in_bounds(index));
-    enter_l2_table(l1_table, l2_table, index, sum);
-    enter_refblock(reftable, block, index, sum);
-    point(header, l1_table, reftable, sum);
-    look_up(l2_table, sum);
-    change(l2_table, index, sum);
-    sum.note(edits_fit(l2_table, &[Edit::Discard { index }]).is_ok());
-    count(block, index, sum);
-    settle_outcome(block, header, outcome, sum);
-    grow(header, index, sum);
-    write(l1_table, l2_table, block, image, sum);
-    make_empty(l1_table.allocator(), header, sum);
+    make_in_memory(&mut tables.held, index, sum);
+    settle_outcome(&mut tables.held, &tables.outcome, sum);
+    write(&mut tables.held, &mut tables.image, sum);
+}
+
+fn make_in_memory(held: &mut Held, index: usize, sum: &mut Sum) {
+    look_at(&mut held.l1_table, index, sum);
+    look_at(&mut held.l2_table, index, sum);
+    look_at(&mut held.reftable, index, sum);
+    enter_l2_table(&mut held.l1_table, &mut held.l2_table, index, sum);
+    enter_refblock(&mut held.reftable, &mut held.block, index, sum);
+    point(held, sum);
+    look_up(&mut held.l2_table, sum);
+    change(&mut held.l2_table, index, sum);
+    count(&mut held.block, index, sum);
+    grow(&held.header, index, sum);
+    make_empty(held.l1_table.allocator(), &held.header, sum);
 }
 
 fn look_at<T: Table>(table: &mut T, index: usize, sum: &mut Sum) {
@@ -90,7 +81,7 @@ fn look_at<T: Table>(table: &mut T, index: usize, sum: &mut Sum) {
     sum.note(table.get_offset().is_some());
     sum.add(table.cluster_bits() as u64);
     table.unset_cluster();
-    table.set_cluster(CLUSTER);
+    table.set_cluster(TABLES);
     table.clear_modified();
     sum.note(table.is_modified());
     table.set_modified();
@@ -113,11 +104,11 @@ fn enter_l2_table(l1_table: &mut L1Table, l2_table: &mut L2Table, index: usize, 
     }
     l2_table.unset_cluster();
     note_answer(l1_table.enter_l2_table(index, l2_table, None), sum);
-    if CLUSTER.offset(l2_table.cluster_bits()) > MAX_OFFSET {
+    if TABLES.offset(l2_table.cluster_bits()) > MAX_OFFSET {
         return;
     }
-    l2_table.set_cluster(CLUSTER);
-    let pending = PendingClusters::new(CLUSTER, ClusterCount(1));
+    l2_table.set_cluster(TABLES);
+    let pending = PendingClusters::new(TABLES, ClusterCount(1));
     let answer = l1_table.enter_l2_table(index, l2_table, Some(pending));
     note_answer(answer, sum);
 }
@@ -126,15 +117,16 @@ fn enter_refblock(reftable: &mut RefTable, block: &mut RefBlock, index: usize, s
     if !reftable.in_bounds(index) || block.cluster_bits() != reftable.cluster_bits() {
         return;
     }
-    if CLUSTER.offset(block.cluster_bits()) > MAX_OFFSET {
+    if TABLES.offset(block.cluster_bits()) > MAX_OFFSET {
         return;
     }
-    block.set_cluster(CLUSTER);
-    let pending = PendingClusters::new(CLUSTER, ClusterCount(1));
+    block.set_cluster(TABLES);
+    let pending = PendingClusters::new(TABLES, ClusterCount(1));
     note_answer(reftable.enter_refblock(index, block, Some(pending)), sum);
 }
 
-fn point(header: &mut Header, l1_table: &L1Table, reftable: &RefTable, sum: &mut Sum) {
+fn point(held: &mut Held, sum: &mut Sum) {
+    let (header, l1_table, reftable) = (&mut held.header, &held.l1_table, &held.reftable);
     if header.cluster_bits() == l1_table.cluster_bits() {
         note_answer(header.set_l1_table(l1_table, None), sum);
     }
@@ -164,6 +156,7 @@ fn change(table: &mut L2Table, index: usize, sum: &mut Sum) {
     if index >= table.entries() || cluster.offset(table.cluster_bits()) > MAX_OFFSET {
         return;
     }
+    sum.note(edits_fit(table, &[Edit::Discard { index }]).is_ok());
     let mut guard = table.lock_write();
     sum.note(guard.map_cluster(index, cluster, None).is_some());
     sum.note(guard.zero_cluster(index, true).is_ok());
@@ -174,7 +167,9 @@ fn count(block: &mut RefBlock, index: usize, sum: &mut Sum) {
     sum.note(block.get_cluster().is_some());
     sum.note(block.get_offset().is_some());
     sum.add(block.cluster_bits() as u64);
+    block.clear_modified();
     sum.note(block.is_modified());
+    block.set_modified();
     if index >= block.entries() {
         return;
     }
@@ -186,7 +181,8 @@ fn count(block: &mut RefBlock, index: usize, sum: &mut Sum) {
     sum.note(guard.decrement(index).is_ok());
 }
 
-fn settle_outcome(block: &mut RefBlock, header: &Header, outcome: &Outcome, sum: &mut Sum) {
+fn settle_outcome(held: &mut Held, outcome: &Outcome, sum: &mut Sum) {
+    let (header, block) = (&held.header, &mut held.block);
     if header.cluster_bits() == block.cluster_bits()
         && header.refcount_order() == block.refcount_order()
     {
@@ -203,26 +199,13 @@ fn grow(header: &Header, index: usize, sum: &mut Sum) {
     sum.add(turns.count() as u64);
 }
 
-fn write(
-    l1_table: &mut L1Table,
-    l2_table: &mut L2Table,
-    block: &mut RefBlock,
-    image: &mut MemStorage,
-    sum: &mut Sum,
-) {
-    sum.note(l1_table.write(image).is_ok());
-    if 3 < l1_table.entries() {
-        sum.note(l1_table.write_entry(image, 3).is_ok());
+fn write(held: &mut Held, image: &mut MemStorage, sum: &mut Sum) {
+    for kind in ["L1 table", "L2 table", "Refcount table", "refcount block"] {
+        held.l2_table.set_modified();
+        sum.note(tables::write_if_modified(kind, held, image).is_ok());
+        sum.note(tables::write(kind, held, image).is_ok());
+        sum.note(tables::write_entry(kind, held, image).is_ok());
     }
-    if let Some(cluster) = l2_table.get_cluster() {
-        sum.note(l2_table.write_if_modified(image, cluster).is_ok());
-    }
-    if let Some(cluster) = block.get_cluster() {
-        block.clear_modified();
-        block.set_modified();
-        sum.note(block.write_if_modified(image, cluster).is_ok());
-    }
-    sum.note(block.write(image).is_ok());
 }
 
 fn make_empty(alloc: Global, header: &Header, sum: &mut Sum) {

@@ -1,0 +1,175 @@
+//! A run that has begun, and whether all stands that must after its call.
+
+use crate::calls::{Answer, make};
+use crate::held::{Held, Numbers, hold};
+use crate::runs::{Run, number_of};
+use qcow2_base::{Fault, MemStorage, Storage};
+use qcow2_testing::StorageCall;
+use std::alloc::Global;
+
+/// Why a run isn't as it must be.
+#[derive(Clone, Copy, Debug)]
+pub(crate) enum Wrong {
+    /// What it begins with could not be made.
+    Beginning,
+    /// No refusal explains what the call answered.
+    Answer,
+    /// The image's bytes.
+    Image,
+    /// What the call told.
+    Told,
+    /// What the call works on beside the image.
+    Held,
+    /// Each of its calls was refused, and there are ever more.
+    Endless,
+}
+
+impl From<Fault> for Wrong {
+    fn from(_fault: Fault) -> Wrong {
+        Wrong::Beginning
+    }
+}
+
+/// Says that this is wrong, unless it holds.
+pub(crate) fn unless(holds: bool, wrong: Wrong) -> Result<(), Wrong> {
+    if holds {
+        return Ok(());
+    }
+    Err(wrong)
+}
+
+/// What a run works on, the numbers that it told at first and those that it tells, and its image before the
+/// call and after it.
+#[derive(Drop)]
+pub(crate) struct Attempt {
+    pub(crate) held: Held,
+    first: Numbers,
+    numbers: Numbers,
+    pub(crate) before: MemStorage,
+    after: MemStorage,
+    /// Whether the image was changed by an earlier call.
+    is_again: bool,
+}
+
+/// Begins a run.
+pub(crate) fn begin(alloc: Global, run: &Run<'_>) -> Result<Attempt, Fault> {
+    let mut attempt = Attempt {
+        first: Numbers::new(alloc)?,
+        numbers: Numbers::new(alloc)?,
+        before: run.before(alloc)?,
+        after: run.after(alloc)?,
+        held: hold(alloc, run)?,
+        is_again: false,
+    };
+    attempt.held.tell(&mut attempt.first);
+    Ok(attempt)
+}
+
+impl Attempt {
+    /// Makes the call.
+    pub(crate) fn make<S: Storage>(
+        &mut self,
+        alloc: Global,
+        run: &Run<'_>,
+        image: &mut S,
+    ) -> Answer {
+        make(alloc, run, &mut self.held, image)
+    }
+
+    /// Fails unless all stands that must after this answer: what the call told, what it works on, and where
+    /// it succeeds the image, whose bytes are these now. Where a write of the output has failed, the image
+    /// was changed by then, and is changed once more.
+    pub(crate) fn check(
+        &mut self,
+        run: &Run<'_>,
+        answer: Answer,
+        image: &[u8],
+    ) -> Result<(), Wrong> {
+        unless(answer != Answer::Other, Wrong::Answer)?;
+        let may_differ = answer != Answer::Done || self.held.out.has_failed;
+        unless(may_differ || image == self.after.bytes(), Wrong::Image)?;
+        unless(self.told_stands(run, answer), Wrong::Told)?;
+        self.is_again = image != self.before.bytes();
+        let changes = match answer {
+            Answer::Done => run.done,
+            Answer::StorageFailed => run.refused,
+            _ => "",
+        };
+        unless(self.held_stands(changes), Wrong::Held)
+    }
+
+    /// The image's bytes where these calls have passed: those of after the call where they wrote.
+    pub(crate) fn written(&self, alloc: Global, calls: &[StorageCall]) -> Result<Vec<u8>, Fault> {
+        let mut bytes = Vec::from_slice(alloc, self.before.bytes())?;
+        for call in calls {
+            if let StorageCall::Write { offset, len } = call {
+                write_from(self.after.bytes(), &mut bytes, *offset as usize, *len)?;
+            }
+        }
+        Ok(bytes)
+    }
+
+    /// Whether the call lengthens the image.
+    pub(crate) fn grows(&self) -> bool {
+        self.before.bytes().len() < self.after.bytes().len()
+    }
+
+    // All is told, or a beginning of it where the call was refused.
+    fn told_stands(&self, run: &Run<'_>, answer: Answer) -> bool {
+        let (all, told) = (run.told(self.is_again), self.held.out.bytes());
+        let is_long_enough = answer != Answer::Done || told.len() == all.len();
+        is_long_enough && begins_with(all.as_bytes(), told)
+    }
+
+    // It tells the numbers that it told at first, but for these.
+    fn held_stands(&mut self, changes: &str) -> bool {
+        self.held.tell(&mut self.numbers);
+        for word in changes.split_whitespace() {
+            if !takes_back(&mut self.numbers.0, &self.first.0, word) {
+                return false;
+            }
+        }
+        self.numbers.0.as_slice() == self.first.0.as_slice()
+    }
+}
+
+// Puts the old number back where that stands which the word says.
+fn takes_back(numbers: &mut [u64], first: &[u64], word: &str) -> bool {
+    let Some((index, number)) = number_of(word) else {
+        return false;
+    };
+    let (Some(now), Some(old)) = (numbers.get_mut(index), first.get(index)) else {
+        return false;
+    };
+    let stands = *now == number;
+    *now = *old;
+    stands
+}
+
+// Whether the text, where / stands for a new line, begins with what was told.
+fn begins_with(text: &[u8], told: &[u8]) -> bool {
+    for index in 0..told.len() {
+        let byte = match told[index] {
+            b'\n' => b'/',
+            byte => byte,
+        };
+        if text.get(index) != Some(&byte) {
+            return false;
+        }
+    }
+    true
+}
+
+// Writes so many of the new bytes in their place, after zeros where the old ones end before it.
+fn write_from(new: &[u8], bytes: &mut Vec<u8>, place: usize, len: usize) -> Result<(), Fault> {
+    let end = place.saturating_add(len);
+    if bytes.len() < end {
+        bytes.resize(end, 0)?;
+    }
+    for at in place..end {
+        if let (Some(byte), Some(new)) = (bytes.get_mut(at), new.get(at)) {
+            *byte = *new;
+        }
+    }
+    Ok(())
+}

@@ -1,0 +1,226 @@
+//! What a call works on beside an image, and what it tells of itself.
+
+use crate::outputs::Output;
+use crate::runs::{Run, image_of, usize_of};
+use qcow2_base::{Fault, HostCluster, MemStorage, Storage};
+use qcow2_metadata::{
+    FeatureType, Header, L1Table, L2Table, RefBlock, RefTable, Table, TableEntry,
+};
+use std::alloc::{AllocError, Global};
+
+/// The cluster that each table begins with.
+pub(crate) const TABLES: HostCluster = HostCluster(1);
+
+/// The cluster that the block begins with.
+pub(crate) const BLOCK: HostCluster = HostCluster(2);
+
+/// More numbers than are told of any of them.
+const MOST_NUMBERS: usize = 1 << 17;
+
+/// A disk of 64 clusters of 512 bytes, of which guest cluster 3 is the data in host cluster 5.
+const DISK: &str = "2048 0 2048 0=514649fb00000003 16=9 24=8000 32=1 40=200 96=400000068 \
+    512=8000000000000400 1048=8000000000000a00";
+
+/// A header, a table of each kind and a block, and the text that a call has told.
+#[derive(Drop)]
+pub(crate) struct Held {
+    pub(crate) header: Header,
+    pub(crate) l1_table: L1Table,
+    pub(crate) l2_table: L2Table,
+    pub(crate) reftable: RefTable,
+    pub(crate) block: RefBlock,
+    pub(crate) out: Output,
+}
+
+/// What a run's call begins with.
+pub(crate) fn hold(alloc: Global, run: &Run<'_>) -> Result<Held, Fault> {
+    let mut image = image_of(alloc, run.setup.source, "")?;
+    let header = header_of(alloc, run.setup.header)?;
+    let mut held = hold_over(alloc, &mut image, header)?;
+    if run.is_modified {
+        set_flags(&mut held);
+    }
+    Ok(held)
+}
+
+/// The same over an image, by this header.
+pub(crate) fn hold_over(
+    alloc: Global,
+    image: &mut MemStorage,
+    header: Header,
+) -> Result<Held, Fault> {
+    Ok(Held {
+        l1_table: l1_table(alloc, image, &header)?,
+        l2_table: l2_table(alloc, image, &header)?,
+        reftable: reftable(alloc, image, &header)?,
+        block: block(alloc, image, &header)?,
+        out: Output::new(alloc)?,
+        header,
+    })
+}
+
+fn set_flags(held: &mut Held) {
+    held.l1_table.set_modified();
+    held.l2_table.set_modified();
+    held.reftable.set_modified();
+    held.block.set_modified();
+}
+
+// A new header of these cluster bits and this refcount order, a new one for the backing file backing.1, or
+// that of the disk where its size is this.
+fn header_of(alloc: Global, header: &str) -> Result<Header, Fault> {
+    let mut words = header.split_whitespace();
+    let kind = words.next();
+    let (first, second) = (usize_of(words.next()), usize_of(words.next()));
+    match kind {
+        Some("new") => new_header(alloc, first, second),
+        Some("disk") => disk_header(alloc, first as u64),
+        _ => named_header(alloc),
+    }
+}
+
+/// A new header of these cluster bits and this refcount order, or the nearest that there are.
+pub(crate) fn new_header(
+    alloc: Global,
+    cluster_bits: usize,
+    refcount_order: usize,
+) -> Result<Header, Fault> {
+    let cluster_bits = cluster_bits.clamp(9, 21) as u32;
+    let refcount_order = refcount_order.min(6) as u32;
+    Header::new(alloc, cluster_bits, refcount_order, None, None, None)
+}
+
+fn named_header(alloc: Global) -> Result<Header, Fault> {
+    let name = text(alloc, "backing.1")?;
+    Header::new(alloc, 9, 4, Some(name), None, None)
+}
+
+/// The header of the disk, where its size is this.
+pub(crate) fn disk_header(alloc: Global, size: u64) -> Result<Header, Fault> {
+    let mut image = image_of(alloc, DISK, "")?;
+    let mut header = load_header(alloc, &mut image, false)?;
+    header.set_size(size);
+    Ok(header)
+}
+
+pub(crate) fn text(alloc: Global, text: &str) -> Result<String, AllocError> {
+    String::from_str(alloc, text)
+}
+
+// ---- Loads of which no clause matters here
+
+pub(crate) fn load_header<S: Storage>(
+    alloc: Global,
+    image: &mut S,
+    writable: bool,
+) -> Result<Header, Fault> {
+    Header::load(alloc, image, writable)
+}
+
+pub(crate) fn l1_table<S: Storage>(
+    alloc: Global,
+    image: &mut S,
+    header: &Header,
+) -> Result<L1Table, Fault> {
+    L1Table::load(alloc, image, header, TABLES, header.l2_entries())
+}
+
+pub(crate) fn l2_table<S: Storage>(
+    alloc: Global,
+    image: &mut S,
+    header: &Header,
+) -> Result<L2Table, Fault> {
+    L2Table::load(alloc, image, header, TABLES, header.l2_entries())
+}
+
+pub(crate) fn reftable<S: Storage>(
+    alloc: Global,
+    image: &mut S,
+    header: &Header,
+) -> Result<RefTable, Fault> {
+    RefTable::load(alloc, image, header, TABLES, header.l2_entries())
+}
+
+pub(crate) fn block<S: Storage>(
+    alloc: Global,
+    image: &mut S,
+    header: &Header,
+) -> Result<RefBlock, Fault> {
+    RefBlock::load(alloc, image, header, BLOCK)
+}
+
+// ---- What it tells
+
+/// A list of numbers that has room for all that are told, so that none asks for memory.
+#[derive(Drop)]
+pub(crate) struct Numbers(pub(crate) Vec<u64>);
+
+impl Numbers {
+    pub(crate) fn new(alloc: Global) -> Result<Numbers, AllocError> {
+        Ok(Numbers(Vec::with_capacity(alloc, MOST_NUMBERS)?))
+    }
+
+    fn add(&mut self, number: u64) {
+        let _ = self.0.push(number);
+    }
+
+    fn note(&mut self, holds: bool) {
+        self.add(if holds { 1 } else { 0 });
+    }
+}
+
+impl Held {
+    /// Tells all that it says: the flags of L1 table, L2 table, refcount table and block, what the header
+    /// says from place 4 on, and then cluster and numbers of L2 table, block, L1 table and refcount table.
+    pub(crate) fn tell(&self, numbers: &mut Numbers) {
+        numbers.0.clear();
+        numbers.note(self.l1_table.is_modified());
+        numbers.note(self.l2_table.is_modified());
+        numbers.note(self.reftable.is_modified());
+        numbers.note(self.block.is_modified());
+        tell_header(&self.header, numbers);
+        tell_table(&self.l2_table, numbers);
+        tell_block(&self.block, numbers);
+        tell_table(&self.l1_table, numbers);
+        tell_table(&self.reftable, numbers);
+    }
+}
+
+fn tell_header(header: &Header, numbers: &mut Numbers) {
+    numbers.add(header.size());
+    numbers.add(header.l1_table_offset().0);
+    numbers.add(header.l1_table_entries() as u64);
+    numbers.add(header.reftable_offset().0);
+    numbers.add(header.reftable_clusters().0);
+    numbers.note(has_names(header));
+}
+
+// Whether a header has a name for the first incompatible feature.
+fn has_names(header: &Header) -> bool {
+    match header.feature_name(FeatureType::Incompatible, 0) {
+        Some(name) => name.as_str() == "dirty",
+        None => false,
+    }
+}
+
+fn tell_table<T: Table>(table: &T, numbers: &mut Numbers) {
+    tell_cluster(table.get_cluster(), numbers);
+    for index in 0..table.entries() {
+        numbers.add(table.get(index).to_plain());
+    }
+}
+
+fn tell_block(block: &RefBlock, numbers: &mut Numbers) {
+    tell_cluster(block.get_cluster(), numbers);
+    for index in 0..block.entries() {
+        numbers.add(block.get(index));
+    }
+}
+
+// Tells the number of a cluster, or a number that none has.
+fn tell_cluster(cluster: Option<HostCluster>, numbers: &mut Numbers) {
+    match cluster {
+        Some(cluster) => numbers.add(cluster.0),
+        None => numbers.add(u64::MAX),
+    }
+}
