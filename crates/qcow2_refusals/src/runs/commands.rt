@@ -4,6 +4,7 @@ use super::headers::DISK_IMAGES;
 use super::{Images, Run};
 use crate::outputs::Output;
 use qcow2_base::{Fault, GuestOffset, HostCluster, Storage};
+use qcow2_metadata::Header;
 use qcow2_session::{
     Edit, Step, count_references, edit_entries, list_l2_table, list_tables, print_info,
     print_mapping_at,
@@ -134,13 +135,17 @@ impl Run for CommandRun {
         image: &mut S,
     ) -> Result<(), Fault> {
         out.restart();
+        if let Command::ListTable = self.command {
+            return list_l2_table(alloc, image, 9, HostCluster(2), out);
+        }
+        let is_writer = matches!(self.command, Command::Edit | Command::Count);
+        let header = Header::load(alloc, image, is_writer)?;
         match self.command {
-            Command::Info => print_info(alloc, image, out),
-            Command::List => list_tables(alloc, image, out),
-            Command::At => print_mapping_at(alloc, image, GuestOffset(1543), out),
-            Command::ListTable => list_l2_table(alloc, image, 9, HostCluster(2), out),
-            Command::Edit => edit_entries(alloc, image, 0, &EDITS, out),
-            Command::Count => count_references(alloc, image, HostCluster(3), &STEPS, out),
+            Command::Info | Command::ListTable => print_info(&header, out),
+            Command::List => list_tables(alloc, image, &header, out),
+            Command::At => print_mapping_at(alloc, image, &header, GuestOffset(1543), out),
+            Command::Edit => edit_entries(alloc, image, &header, 0, &EDITS, out),
+            Command::Count => count_references(alloc, image, &header, HostCluster(3), &STEPS, out),
         }
     }
 
