@@ -3,11 +3,11 @@
 use crate::held::{BLOCK, Held, TABLES};
 use crate::outputs::{Output, tell};
 use qcow2_base::{Fault, GuestOffset, HostCluster, Storage};
-use qcow2_metadata::Table;
+use qcow2_metadata::{Header, Table};
 use qcow2_session::{
-    Edit, Step, count_references, edit_entries, edit_image, edit_settled, edit_table,
-    list_l2_table, list_tables, lookup, lookup_image, print_info, print_mapping_at, step_block,
-    step_image,
+    Edit, ExtentFormat, Step, count_references, edit_entries, edit_image, edit_settled, edit_table,
+    list_l2_table, list_tables, lookup, lookup_image, print_extents, print_info, print_mapping_at,
+    step_block, step_image,
 };
 use std::alloc::Global;
 
@@ -149,13 +149,19 @@ pub(super) fn run<S: Storage>(
     out: &mut Output,
     image: &mut S,
 ) -> Result<(), Fault> {
+    if command == "l2" {
+        return list_l2_table(alloc, image, 9, HostCluster(2), out);
+    }
+    let is_writable = matches!(command, "edit" | "count");
+    let header = Header::load(alloc, image, is_writable)?;
     match command {
-        "info" => print_info(alloc, image, out),
-        "list" => list_tables(alloc, image, out),
-        "at" => print_mapping_at(alloc, image, GUEST_OFFSET, out),
-        "l2" => list_l2_table(alloc, image, 9, HostCluster(2), out),
-        "edit" => edit_entries(alloc, image, 0, DISK_EDITS, out),
-        "count" => count_references(alloc, image, HostCluster(3), DISK_STEPS, out),
+        "info" => print_info(&header, out),
+        "list" => list_tables(alloc, image, &header, out),
+        "at" => print_mapping_at(alloc, image, &header, GUEST_OFFSET, out),
+        "map" => print_extents(alloc, image, &header, ExtentFormat::Lines, out),
+        "map json" => print_extents(alloc, image, &header, ExtentFormat::Json, out),
+        "edit" => edit_entries(alloc, image, &header, 0, DISK_EDITS, out),
+        "count" => count_references(alloc, image, &header, HostCluster(3), DISK_STEPS, out),
         _ => Err(Fault::WrongLength),
     }
 }
