@@ -1,5 +1,5 @@
-//! What disks read as, as extents: kinds of content beside each other, at the borders of clusters, of tables and
-//! of the disk, and by which fault a damaged table ends them.
+//! What disks read as, as extents: kinds of content beside each other, at the borders of clusters, of tables
+//! and of the disk, and by which fault a damaged table ends them.
 
 use crate::calls::{extents_of, load_header};
 use crate::sample_image::{COPIED, Numbers, sample_image};
@@ -313,8 +313,8 @@ fn part_of(extent: Extent) -> Part {
     }
 }
 
-// The extents of two tables of the sample image, and how many reads tell them: that of the L1 table, and one of each
-// L2 table.
+// The extents of two tables of the sample image, and how many reads tell them: that of the L1 table, and one
+// of each L2 table.
 const TWO_TABLES: &[Part] = &[Absent(1536), Data(512, 0xa00), Absent(63488)];
 
 const READS: u64 = 3;

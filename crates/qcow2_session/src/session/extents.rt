@@ -126,8 +126,8 @@ fn gap_end(l1_table: &L1Table, from: u64, size: u64) -> u64
     }
 }
 
-// What the byte at an offset reads as by the table that has its entry, and up to where it goes on in that table,
-// or the disk's size. Always `Ok`.
+// What the byte at an offset reads as by the table that has its entry, and up to where it goes on in that
+// table, or the disk's size. Always `Ok`.
 #[tactic(auto, using(crate::proofs::ExtentsLemmas::distance_below))]
 fn piece_of_table(table: &L2Table, from: u64, size: u64) -> Result<(Content, u64), Fault>
     requires { from < size }
@@ -290,8 +290,9 @@ impl<'a> Extents<'a> {
     /// The image must be the one that the reader was made for, unchanged since. Changes no byte.
     pub fn next<S: Storage>(&mut self, image: &mut S) -> Result<Option<Extent>, Fault>
         requires { IsTrue (S.state image.old).tells → KeepsTableOf (S.state image.old).byte_at self.old }
-        ensures told { IsTrue (S.state image.old).tells → TellsExtent
-            (contents_for self.old (S.state image.old).byte_at) self.old.header.v2.size self.old.position result }
+        ensures told { IsTrue (S.state image.old).tells →
+            let contents = contents_for self.old (S.state image.old).byte_at in
+            TellsExtent contents self.old.header.v2.size self.old.position result }
         ensures position { ComesTo self.old.header.v2.size self.old.position result self.new.position }
         ensures reader { MovesReader (S.state image.old) self.old self.new }
         ensures faults { IfErr result (IsLoadFault None) }
