@@ -94,11 +94,7 @@ fn print_text<O: Write>(text: &str, out: &mut O) -> Result<(), Fault>
 }
 
 // Prints an extent.
-fn print_extent<O: Write>(
-    extent: &Extent,
-    format: ExtentFormat,
-    out: &mut O,
-) -> Result<(), Fault>
+fn print_extent<O: Write>(extent: &Extent, format: ExtentFormat, out: &mut O) -> Result<(), Fault>
     ensures fault { IsOkUnless result Fault.Storage }
     ensures text { OnOk result
         (Appends (O.contents out.old) (O.contents out.new) (extent_text format extent.now)) }

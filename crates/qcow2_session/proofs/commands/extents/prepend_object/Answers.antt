@@ -11,4 +11,4 @@ returns-clause-text c =
     let content = json_content extent.content in
     let line = c.args.line.now in
     rw (c.prepend.ensures, c.prepend_decimal.ensures.text, c.prepend_json_length.ensures.text, c.prepend_json_content.ensures.text)
-        (sym (append_assoc (begun ++ count) content line ∙ append_assoc begun count (content ++ line)))
+    (sym (append_assoc (begun ++ count) content line ∙ append_assoc begun count (content ++ line)))

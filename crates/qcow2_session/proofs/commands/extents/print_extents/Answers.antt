@@ -16,8 +16,11 @@ returns-in_err-print_all-clause-prints g c =
           elim printed [
             | inl storage ↦ inl storage
             | inr (inl memory) ↦ inr (inl memory)
-            | inr (inr rest) ↦ inr (inr (inr (rw loaded (rest.0, (rest.1, rest.2, rest.3),
-                Appends-trans _ _ _ _ _ (rw c.opening.ensures at c.in_ok-print_text.ensures.text) rest.4))))
+            | inr (inr rest) ↦ inr (inr (inr (rw loaded (
+              rest.0,
+              (rest.1, rest.2, rest.3),
+              Appends-trans _ _ _ _ _ (rw c.opening.ensures at c.in_ok-print_text.ensures.text) rest.4,
+            ))))
           ];
     })
 
