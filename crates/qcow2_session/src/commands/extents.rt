@@ -47,9 +47,9 @@ impl ExtentFormat {
 
 /// Prints the extents of an image with this header, from offset 0 to the disk's size.
 ///
-/// Answers the fault of the L1 table before it prints anything. An L2 table that is refused ends the text: the
-/// extents that are known to end before its range stay. L2 tables past the disk's size aren't read. A failed
-/// write to `out` is the storage fault. Changes no byte of the image.
+/// Answers the fault of the L1 table before it prints anything. An L2 table that is refused ends the text:
+/// the extents that are known to end before its range stay. L2 tables past the disk's size aren't read. A
+/// failed write to `out` is the storage fault. Changes no byte of the image.
 pub fn print_extents<S: Storage, O: Write>(
     alloc: Global,
     image: &mut S,

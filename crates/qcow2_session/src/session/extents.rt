@@ -1,6 +1,6 @@
 //! What a whole disk reads as, told as extents: parts of it that read as one, as long as they go.
 
-ghost use Rattle.std.specs.Prelude.{◌≡◌, ℕ, ◌⊎◌, ◌+◌, ◌-◌, ◌*◌, ◌/◌, ◌%◌, ◌^◌, ◌<◌, ◌≤◌, ◌↔◌, None, Some, Ok, Err, IfErr, IfOk, IfSome, IsOkAnd, IsTrue, MatchOption, MatchResult, slice_index};
+ghost use Rattle.std.specs.Prelude.{◌≡◌, ℕ, ◌⊎◌, ◌+◌, ◌-◌, ◌*◌, ◌/◌, ◌%◌, ◌^◌, ◌<◌, ◌≤◌, ◌↔◌, None, Some, Ok, Err, IfErr, IfOk, IfSome, IsOkAnd, IsSome, IsTrue, MatchOption, MatchResult, slice_index};
 ghost use Rattle.qcow2_base.specs.Storage.{OnlyReads};
 ghost use Rattle.qcow2_base.specs.declared.fault.Fault.TheVariants.{NoMemory, Storage as StorageFailed};
 ghost use Rattle.qcow2_base.specs.Types.{IsClusterBits};
@@ -11,7 +11,7 @@ ghost use Rattle.qcow2_metadata.specs.Table.{IsLoadFault, LoadRefuses, loaded_l1
 ghost use Rattle.qcow2_session.specs.Session.Lookups.{l1_place, l2_cluster, named_cluster};
 ghost use Rattle.qcow2_session.specs.Session.Extents.{AreInOneTable, HasNoTable, IsKeptOf, IsPiece, content_in, contents_in, moved_on};
 
-use super::lookups::{l2_cluster, load_l1_table, load_l2_table};
+use super::lookups::{l2_cluster, load_l1_table, load_l2_table, named_cluster};
 use qcow2_base::{Fault, GuestOffset, HostCluster, HostOffset, Storage};
 use qcow2_metadata::{Header, L1Table, L2Mapping, L2Table, Table};
 use std::alloc::Global;
@@ -96,11 +96,12 @@ fn next_named(l1_table: &L1Table, first: usize) -> Option<usize>
     ensures { let cb = l1_table.now.geometry.cluster_bits in
         MatchOption result
         ((k : ℕ) → first ≤ k → named_cluster cb (slice_index l1_table.now.numbers k) ≡ None)
-        (λ next. (first ≤ next) × ((k : ℕ) → first ≤ k → k < next →
+        (λ next. (first ≤ next) × IsSome (named_cluster cb (slice_index l1_table.now.numbers next))
+        × ((k : ℕ) → first ≤ k → k < next →
         named_cluster cb (slice_index l1_table.now.numbers k) ≡ None)) }
 {
     for index in first..l1_table.entries() {
-        if l1_table.get(index).l2_offset().is_some() {
+        if named_cluster(l1_table, index).is_some() {
             return Some(index);
         }
     }

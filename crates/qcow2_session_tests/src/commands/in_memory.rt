@@ -21,6 +21,11 @@ type Row = (
 const INFO: &str = "version 3\ncluster-bits 9\nsize 32768\nrefcount-order 4\nl1 0x200 1\n\
     refcount-table 0x0 0\nbacking none\nformat none\nexternal no\ndata-file none\n";
 
+const JSON: &str =
+    "[{ \"start\": 0, \"length\": 1536, \"depth\": 0, \"present\": false, \"zero\": true, \"data\": false},\n\
+    { \"start\": 1536, \"length\": 512, \"depth\": 0, \"present\": true, \"zero\": false, \"data\": true, \"offset\": 2560},\n\
+    { \"start\": 2048, \"length\": 30720, \"depth\": 0, \"present\": false, \"zero\": true, \"data\": false}]\n";
+
 const ROWS: &[Row] = &[
     (
         ("l2", &["9", "2"]),
@@ -65,6 +70,25 @@ const ROWS: &[Row] = &[
         (Some(Err(Fault::NotQcow2)), ""),
         &[(0, 0)],
     ),
+    (
+        ("map", &[]),
+        &[],
+        (
+            Some(Ok(())),
+            "0x0 0x600 backing\n0x600 0x200 data 0xa00\n0x800 0x7800 backing\n",
+        ),
+        &[],
+    ),
+    (("map", &["json"]), &[], (Some(Ok(())), JSON), &[]),
+    // a bit that is reserved in the last entry of the L2 table: `[` is printed, and no extent
+    (
+        ("map", &["json"]),
+        &[(1528, 2)],
+        (Some(Err(Fault::EntryReserved)), "["),
+        &[(1528, 2)],
+    ),
+    (("map", &["yaml"]), &[], (None, ""), &[]),
+    (("map", &["json", "json"]), &[], (None, ""), &[]),
     (("at", &[]), &[], (None, ""), &[]),
     (("edit", &["0", "map:3"]), &[], (None, ""), &[]),
 ];

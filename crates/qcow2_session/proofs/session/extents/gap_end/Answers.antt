@@ -15,7 +15,7 @@ pub returns-in-Some-clause-none : goal.returns-in-Some-clause-none
 returns-in-Some-clause-none c =
     let bits = c.cluster_bits-cluster_bits.ensures in
     let cb = c.args.l1_table.now.geometry.cluster_bits in
-    let told = rw (c.l1_index-index.ensures, bits.value) at c.in-Some.ensures.1 in
+    let told = rw (c.l1_index-index.ensures, bits.value) at c.in-Some.ensures.2 in
     let shift = shift_fits c.cluster_bits-cluster_bits.result bits.range.1 in
     let end : c.min.result ≤ c.in-Some.next * 2 ^ (2 * c.cluster_bits-cluster_bits.result - 3) = omega (arith, rw shift at c.saturating_mul.ensures, c.min.ensures) in
     no_table_before cb c.args.l1_table.now.numbers c.args.from c.in-Some.next c.min.result (rw bits.value at bits.range.0) c.requires.none
