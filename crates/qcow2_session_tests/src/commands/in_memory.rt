@@ -21,10 +21,12 @@ type Row = (
 const INFO: &str = "version 3\ncluster-bits 9\nsize 32768\nrefcount-order 4\nl1 0x200 1\n\
     refcount-table 0x0 0\nbacking none\nformat none\nexternal no\ndata-file none\n";
 
-const JSON: &str =
-    "[{ \"start\": 0, \"length\": 1536, \"depth\": 0, \"present\": false, \"zero\": true, \"data\": false},\n\
-    { \"start\": 1536, \"length\": 512, \"depth\": 0, \"present\": true, \"zero\": false, \"data\": true, \"offset\": 2560},\n\
-    { \"start\": 2048, \"length\": 30720, \"depth\": 0, \"present\": false, \"zero\": true, \"data\": false}]\n";
+const JSON: &str = "[{ \"start\": 0, \"length\": 1536, \"depth\": 0, \
+    \"present\": false, \"zero\": true, \"data\": false},\n\
+    { \"start\": 1536, \"length\": 512, \"depth\": 0, \
+    \"present\": true, \"zero\": false, \"data\": true, \"offset\": 2560},\n\
+    { \"start\": 2048, \"length\": 30720, \"depth\": 0, \
+    \"present\": false, \"zero\": true, \"data\": false}]\n";
 
 const ROWS: &[Row] = &[
     (
