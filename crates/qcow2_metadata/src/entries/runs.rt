@@ -75,6 +75,10 @@ impl RunPattern {
         ensures ends { result < length entries.now →
             follows self.now (result + 1) (slice_index entries.now result) ≡ false }
     {
+        // On a mixed disk most runs end at once.
+        if !self.is_followed_by_first(entries) {
+            return 0;
+        }
         let mut done = 0;
         while done + BLOCK <= entries.len() {
             if !self.all_follow(entries, done, done + BLOCK) {
@@ -83,6 +87,19 @@ impl RunPattern {
             done += BLOCK;
         }
         self.count_from(entries, done)
+    }
+
+    // Whether there is a first entry, and it follows the pattern.
+    #[inline]
+    fn is_followed_by_first(&self, entries: &[AtomicL2Entry]) -> bool
+        requires { self.now.value + length entries.now * self.now.step < 2 ^ 64 }
+        ensures { result ≡ false → 0 < length entries.now →
+            follows self.now 1 (slice_index entries.now 0) ≡ false }
+    {
+        match entries.first() {
+            Some(first) => first.to_plain() & self.mask == self.value + self.step,
+            None => false,
+        }
     }
 
     // Whether the entries from one on up to another follow the pattern. It has no early exit, so that a
