@@ -117,6 +117,7 @@ pow_once i j e = elim (cases_lt i j) [
   ]
 ]
 
+-- a number is a power of two in one way
 pub power_of_two_once : (n : ℕ) → IsProp (IsPowerOfTwo n)
 power_of_two_once n a b = Σ_prop_path (λ k. Prim.hlevel props) (pow_once a.0 b.0 (omega (arith, a.1, b.1)))
 

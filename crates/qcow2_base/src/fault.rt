@@ -136,7 +136,7 @@ pub enum Fault {
 /// What sort of fault it is, for a caller that treats faults by their sort.
 #[derive(Clone, Copy, Debug, PartialEq, Eq)]
 pub enum FaultKind {
-    /// The image breaks a rule of the format.
+    /// The image breaks a rule of the format, or an argument a bound.
     InvalidData,
     /// The caller asked for something that can't be done.
     InvalidInput,

@@ -1,3 +1,5 @@
+//! Storages in memory, and what the tests of all storages share.
+
 ghost use Rattle.std.specs.Prelude.{◌+◌, ◌^◌, ◌<◌, ◌≤◌, length};
 
 mod files;

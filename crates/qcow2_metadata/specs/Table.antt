@@ -18,13 +18,15 @@ use Rattle.qcow2_metadata.specs.Results.{unless_refused}
 use Rattle.qcow2_metadata.specs.Pieces.{IsTornBytes, number_bytes}
 use Rattle.qcow2_metadata.specs.Range.{FlagTells, IsWriteFault, range_fault}
 
--- how many entries a table of each kind may have
+-- how many entries an L1 table may have
 abbrev pub most_l1_entries : ℕ
 most_l1_entries = 4194304
 
+-- how many an L2 table may have, in clusters of 2 MiB
 abbrev pub most_l2_entries : ℕ
 most_l2_entries = 262144
 
+-- how many a refcount table may have
 abbrev pub most_reftable_entries : ℕ
 most_reftable_entries = 4194304
 

@@ -6,7 +6,7 @@ ghost use Rattle.qcow2_metadata.specs.Pieces.{WritesInPieces};
 
 use qcow2_base::{HostOffset, Storage, StorageFault};
 
-/// How many bytes are read or written at once, at most.
+/// How many bytes of a table or of a block are read or written at once, at most.
 pub(crate) const PIECE_BYTES: usize = 4096;
 
 /// What takes a range of bytes in an image.

@@ -29,8 +29,8 @@ const GREATEST_COUNTERS: [u64; 7] = [1, 3, 15, 255, 65535, 4294967295, 184467440
 
 /// The reference counters of the host clusters of one part of an image: it fills one cluster.
 ///
-/// A counter has `2^refcount_order` bits. It may have a cluster in the image, where it begins, and it knows
-/// whether it was changed since it was last read or written.
+/// A counter has `2^refcount_order` bits. The block may have a cluster in the image, where it begins, and
+/// knows whether it was changed since it was last read or written.
 #[derive(Debug, Drop)]
 pub struct RefBlock {
     counters: Counters,
@@ -168,7 +168,7 @@ impl RefBlock {
     }
 
     /// Writes the block to the image, as `write` does, if it counts as modified. The block must then
-    /// begin with the given cluster. A block that doesn't is left alone, and so is the image.
+    /// begin with the given cluster. A block that doesn't count so is left alone, and so is the image.
     pub fn write_if_modified<S: Storage>(
         &mut self,
         image: &mut S,

@@ -1,5 +1,5 @@
-//! Tables of entries: L1 tables, L2 tables and refcount tables differ in their entries alone, so
-//! loading and writing stand in one trait and are proved once.
+//! Tables of entries: L1 tables, L2 tables and refcount tables differ in what their entries are and how many
+//! they may be, so loading and writing stand in one trait and are proved once.
 
 ghost use Rattle.std.specs.Prelude.{◌≡◌, ℕ, Bool, false, true, ◌+◌, ◌*◌, ◌^◌, ◌<◌, ◌≤◌, IsTrue, length, map, slice_index, slice_get, Option, Some, None, option_map, IfSome, IfOk, OnOk, MatchResult};
 ghost use Rattle.std.specs.Int.{div_ceil};

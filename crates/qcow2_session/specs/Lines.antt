@@ -43,25 +43,28 @@ entry_lines label g cluster [] = []
 entry_lines label g cluster (v ∷ vs) =
     entry_line g.cluster_bits (label cluster) (mapping g cluster v) ++ entry_lines label g (cluster + 1) vs
 
--- the line of what came of a step, and those of several
+-- the line of what came of a step
 abbrev pub reply_line : StepReply → List ℕ
 reply_line (Done before) = codes "ok " ++ decimal before ++ codes "\n"
 reply_line Refused = codes "refused\n"
 
+-- the lines of what came of steps
 abbrev pub reply_lines : List StepReply → List ℕ
 reply_lines replies = flat_map reply_line replies
 
--- the line of clusters that lost a reference: the first, and how many; and those of several
+-- the line of clusters that lost a reference: the first, and how many
 abbrev pub freed_line : ClustersToFreeEntry → List ℕ
 freed_line clusters = codes "freed " ++ decimal clusters.first.0 ++ codes " " ++ decimal clusters.count.0 ++ codes "\n"
 
+-- the lines of such clusters
 abbrev pub freed_lines : List ClustersToFreeEntry → List ℕ
 freed_lines freed = flat_map freed_line freed
 
--- the line of a cluster that gained a reference, and those of several
+-- the line of a cluster that gained a reference
 abbrev pub gained_line : ℕ → List ℕ
 gained_line cluster = codes "gained " ++ decimal cluster ++ codes "\n"
 
+-- the lines of such clusters, one after another
 abbrev pub gained_lines : List ℕ → List ℕ
 gained_lines gained = flat_map gained_line gained
 

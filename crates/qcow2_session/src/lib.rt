@@ -1,5 +1,5 @@
-//! Whole lists of changes to the tables and blocks of a qcow2 image, counters that follow them, and the
-//! commands of `qmeta`.
+//! Whole lists of changes to the tables and blocks of a qcow2 image, counters that follow them, what a
+//! guest offset and the whole disk read as, and the commands of `qmeta`.
 #![tactic(auto)]
 
 mod commands;

@@ -1,5 +1,6 @@
 //! Whole lists of changes: edits of an L2 table, and counter steps of a refcount block, in memory and in an
-//! image. Counters that follow what edits did to references. What a guest offset reads as.
+//! image. Counters that follow what edits did to references. What a guest offset reads as, and what the
+//! whole disk does.
 
 mod edits;
 mod extents;

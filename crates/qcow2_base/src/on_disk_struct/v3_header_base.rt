@@ -21,7 +21,7 @@ pub struct V3HeaderBase {
     pub header_length: u32,
 }
 
-/// Of an image of version 3 without features, with refcounts of 16 bits.
+/// Of a new image: no features, with refcounts of 16 bits.
 impl Default for V3HeaderBase {
     ghost is_default = { λ header. header ≡ record {
       incompatible_features = 0;

@@ -1,3 +1,5 @@
+//! Storages over real files, and over ones that fail.
+
 use super::{LIMIT, has_failed, read_fails, reads, write_fails};
 use qcow2_base::{Fault, FileStorage, Storage};
 use qcow2_testing::{

@@ -3,8 +3,7 @@ use Rattle.qcow2_base.specs.Bits.{field}
 use Rattle.qcow2_base.specs.declared.fault.Fault.{Fault}
 use Rattle.qcow2_metadata.specs.Entries.{entry_fault, offset_field}
 
--- L1 entries: bits 0 to 8 and 56 to 62 are reserved, at their places
-
+-- the bits that are reserved in an L1 entry, 0 to 8 and 56 to 62, at their places
 abbrev pub l1_reserved_bits : ℕ → ℕ
 l1_reserved_bits v = field v 0 9 + field v 56 7 * 2 ^ 56
 

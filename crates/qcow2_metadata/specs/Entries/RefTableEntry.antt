@@ -3,11 +3,11 @@ use Rattle.qcow2_base.specs.Bits.{field}
 use Rattle.qcow2_base.specs.declared.fault.Fault.{Fault}
 use Rattle.qcow2_metadata.specs.Entries.{entry_fault}
 
--- refcount table entries: bits 9 to 63 are the offset of the block, bits 0 to 8 are reserved
-
+-- the offset of the block of a refcount table entry, which is in bits 9 to 63
 abbrev pub refblock_offset_field : ℕ → ℕ
 refblock_offset_field v = 512 * field v 9 55
 
+-- its reserved bits, 0 to 8
 abbrev pub ref_reserved_bits : ℕ → ℕ
 ref_reserved_bits v = field v 0 9
 

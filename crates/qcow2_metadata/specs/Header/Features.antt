@@ -22,9 +22,11 @@ incompatible_bit ExternalDataFile = 2
 incompatible_bit CompressionType = 3
 incompatible_bit ExtendedL2Entries = 4
 
+-- the same of a compatible feature
 abbrev pub compatible_bit : CompatibleFeatures → ℕ
 compatible_bit LazyRefcounts = 0
 
+-- the same of an autoclear feature
 abbrev pub autoclear_bit : AutoclearFeatures → ℕ
 autoclear_bit Bitmaps = 0
 autoclear_bit RawExternalData = 1

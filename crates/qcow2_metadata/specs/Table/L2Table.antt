@@ -33,7 +33,8 @@ compressed_range _ = None
 abbrev pub compressed_at : TableState → ℕ → Option (ℕ × ℕ)
 compressed_at table guest_cluster = compressed_range (mapping_at table guest_cluster)
 
--- so many guest clusters from one on go on from what that one reads as by a table, and the next one of the table doesn't
+-- so many guest clusters from one on, one at least, go on from what that one reads as by a table. All are in the part of
+-- the disk that the table is for, and the next one of that part, if there is one, doesn't go on
 pub record IsMappedRun (table : TableState) (first count : ℕ) : Type 0 where
   pub some : 1 ≤ count
   pub within : first % 2 ^ (table.geometry.cluster_bits - 3) + count ≤ 2 ^ (table.geometry.cluster_bits - 3)

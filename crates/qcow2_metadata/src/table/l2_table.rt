@@ -109,7 +109,7 @@ impl EntryTable<AtomicL2Entry> {
     }
 
     /// Writes the table to the image, as `write` does, if it counts as modified. The table must then
-    /// begin with the given cluster. A table that doesn't is left alone, and so is the image.
+    /// begin with the given cluster. A table that doesn't count so is left alone, and so is the image.
     pub fn write_if_modified<S: Storage>(
         &mut self,
         image: &mut S,

@@ -38,7 +38,7 @@ json_flags (AllocatedZeros offset) = codes "\"present\": true, \"zero\": true, \
 json_flags Compressed = codes "\"present\": true, \"zero\": false, \"data\": true"
 json_flags Absent = codes "\"present\": false, \"zero\": true, \"data\": false"
 
--- and where its clusters lie, if they are whole ones
+-- what JSON says of where a content lies, which is nothing where it has no clusters of its own
 abbrev pub json_offset : Content → List ℕ
 json_offset (Data offset) = codes ", \"offset\": " ++ decimal offset.0
 json_offset (AllocatedZeros offset) = codes ", \"offset\": " ++ decimal offset.0
@@ -64,15 +64,17 @@ json_separator start = if start == 0 then [] else codes ",\n"
 abbrev pub json_row : Extent → List ℕ
 json_row extent = json_separator extent.start.0 ++ json_object extent
 
--- the text of an extent, and what stands before the first and after the last
+-- the text of an extent
 abbrev pub extent_text : ExtentFormat → Extent → List ℕ
 extent_text Lines extent = extent_line extent
 extent_text Json extent = json_row extent
 
+-- what stands before the first extent
 abbrev pub opening : ExtentFormat → List ℕ
 opening Lines = []
 opening Json = codes "["
 
+-- what stands after the last
 abbrev pub closing : ExtentFormat → List ℕ
 closing Lines = []
 closing Json = codes "]\n"
@@ -109,7 +111,8 @@ abbrev pub PrintsMapBefore : ExtentFormat → Fault → Option (List ℕ) → Op
 PrintsMapBefore format fault before after disk = (extents : List Extent)
     × IsMapBefore disk.contents disk.size fault extents × Appends before after (opening format ++ extents_text format extents)
 
--- the extents from a reader's offset on were printed up to the disk's size, or up to one that can't be told
+-- the extents from a reader's offset on were printed: up to the disk's size after `Ok`, and after a fault of the image up
+-- to the extent that can't be told. After 34 or 35 nothing is said of the output
 pub record PrintsRest {T : Type 0} (answer : Result T Fault) (format : ExtentFormat) (reader : ExtentsState) (image : StorageState) (before after : Option (List ℕ)) : Type 0 where
   pub extents : OnOk answer (IsTrue image.tells → (extents : List Extent)
       × AreExtents (contents_for reader image.byte_at) reader.header.v2.size reader.position extents reader.header.v2.size

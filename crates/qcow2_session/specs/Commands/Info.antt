@@ -8,11 +8,12 @@ use Rattle.qcow2_session.specs.Lines.{offset_text}
 abbrev pub version_of : HeaderRecord → ℕ
 version_of header = if nat_le 3 header.v2.version then 3 else 2
 
--- the lines of the version and the cluster size, and of the sizes of the guest's disk and of a refcount
+-- the lines of the version and the cluster size
 abbrev pub version_lines : HeaderRecord → List ℕ
 version_lines header =
     codes "version " ++ decimal (version_of header) ++ codes "\ncluster-bits " ++ decimal header.v2.cluster_bits ++ codes "\n"
 
+-- the lines of the sizes of the guest's disk and of a refcount
 abbrev pub size_lines : HeaderRecord → List ℕ
 size_lines header =
     codes "size " ++ decimal header.v2.size ++ codes "\nrefcount-order " ++ decimal header.base.refcount_order ++ codes "\n"
@@ -21,6 +22,7 @@ size_lines header =
 abbrev pub place_line : List ℕ → ℕ → ℕ → List ℕ
 place_line label offset count = label ++ codes " " ++ offset_text offset ++ codes " " ++ decimal count ++ codes "\n"
 
+-- the lines of where the tables lie
 abbrev pub place_lines : HeaderRecord → List ℕ
 place_lines header =
     place_line (codes "l1") header.v2.l1_table_offset header.v2.l1_size
@@ -36,12 +38,13 @@ abbrev pub answer_text : Bool → List ℕ
 answer_text true = codes "yes"
 answer_text false = codes "no"
 
--- the lines of the names
+-- the lines of the backing file's name and format
 abbrev pub backing_lines : HeaderRecord → List ℕ
 backing_lines header =
     name_line (codes "backing") header.backing_filename
     ++ name_line (codes "format") (first_by (name_in kind.BackingFileFormat) header.extensions)
 
+-- the lines of the external data file
 abbrev pub data_file_lines : HeaderRecord → List ℕ
 data_file_lines header =
     (codes "external " ++ answer_text (uses_external_data header) ++ codes "\n")

@@ -18,6 +18,7 @@ table_edit (Map index host_cluster) = record { index = index; edit = to_data hos
 table_edit (Zero index keep_allocation) = record { index = index; edit = to_zeros keep_allocation }
 table_edit (Discard index) = record { index = index; edit = to_nothing }
 
+-- the changes that edits are
 abbrev pub table_edits : List Edit → List TableEdit
 table_edits edits = map table_edit edits
 

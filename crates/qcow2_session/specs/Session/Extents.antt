@@ -15,7 +15,7 @@ use Rattle.qcow2_session.specs.declared.session.extents.Extent.{Extent}
 abbrev pub Contents : Type 0
 Contents = ℕ → Result Content Fault
 
--- what the byte at a distance from its cluster's begin reads as, by what the cluster does
+-- what the byte at a distance from its cluster's begin reads as, by what its cluster reads as
 abbrev pub content_in : ℕ → ℕ → Mapping → Content
 content_in cb distance (data_file cluster copied) = Data (record { 0 = cluster * 2 ^ cb + distance })
 content_in cb distance (backing offset) = Absent
@@ -36,7 +36,7 @@ moved_on distance (AllocatedZeros offset) = AllocatedZeros (record { 0 = offset.
 moved_on distance Compressed = Compressed
 moved_on distance Absent = Absent
 
--- so many bytes from an offset on read as one, from this content on
+-- so many bytes from an offset on read as one: the first as this content, each later one as it moved on so far
 abbrev pub ReadAsOne : Contents → ℕ → ℕ → Content → Type 0
 ReadAsOne contents from length content = (n : ℕ) → n < length → contents (from + n) ≡ Ok (moved_on n content)
 
@@ -44,8 +44,8 @@ ReadAsOne contents from length content = (n : ℕ) → n < length → contents (
 abbrev pub Differs : Contents → ℕ → Content → Type 0
 Differs contents offset content = (other : Content) × (contents offset ≡ Ok other) × (other ≢ content)
 
--- an extent of a disk of this size that begins at an offset: its bytes read as one, and either the disk ends with them,
--- or the next byte doesn't go on from them
+-- an extent of a disk of this size that begins at an offset: it has bytes, all of them of the disk, which read as one. It
+-- ends with the disk, or the next byte reads as something that doesn't go on from them
 pub record IsExtent (contents : Contents) (size from : ℕ) (extent : Extent) : Type 0 where
   pub start : extent.start.0 ≡ from
   pub some : 0 < extent.length
@@ -64,12 +64,13 @@ AreExtents contents size from (extent ∷ extents) to =
 abbrev pub IsMap : Contents → ℕ → List Extent → Type 0
 IsMap contents size extents = AreExtents contents size 0 extents size
 
--- the bytes from an offset on read as one up to one that this fault is told of
+-- no extent can be told at an offset: the bytes from there on, perhaps none, read as one up to a byte of the disk whose
+-- L2 table is refused by this fault
 abbrev pub IsRefusedFrom : Contents → ℕ → ℕ → Fault → Type 0
 IsRefusedFrom contents size from fault = (length : ℕ) × (content : Content) × (from + length < size)
     × ReadAsOne contents from length content × (contents (from + length) ≡ Err fault)
 
--- the first extents of a disk, up to an offset from which on it is refused
+-- the extents of a disk up to an offset at which none can be told, for this fault
 abbrev pub IsMapBefore : Contents → ℕ → Fault → List Extent → Type 0
 IsMapBefore contents size fault extents = (to : ℕ) × AreExtents contents size 0 extents to × IsRefusedFrom contents size to fault
 
@@ -88,10 +89,11 @@ extents_begun header l1 = record { header = header; l1 = l1; position = 0; table
 abbrev pub contents_for : ExtentsState → Image → Contents
 contents_for reader image = contents_of (geometry_of reader.header) reader.l1 image
 
--- the table that a reader keeps is the one that stands in the image
+-- a table is the one that stands at its cluster in the image
 abbrev pub IsKeptOf : Geometry → Image → TableState → Type 0
 IsKeptOf g image table = IfSome table.cluster (λ cluster. loaded_l2_table g cluster image ≡ Ok table.numbers)
 
+-- the table that a reader keeps, if it keeps one, is as it stands in the image
 abbrev pub KeepsTableOf : Image → ExtentsState → Type 0
 KeepsTableOf image reader = IfSome reader.table (IsKeptOf (geometry_of reader.header) image)
 
@@ -100,13 +102,13 @@ pub record StaysReader (image : StorageState) (old new : ExtentsState) : Type 0 
   pub same : new ≡ record old { table = new.table }
   pub kept : IsTrue image.tells → KeepsTableOf image.byte_at new
 
--- a reader comes to another offset, and else stays so
+-- a reader stays as it is, but for its offset, and that it may keep another table of the image
 pub record MovesReader (image : StorageState) (old new : ExtentsState) : Type 0 where
   pub same : new ≡ record old { position = new.position; table = new.table }
   pub kept : IsTrue image.tells → KeepsTableOf image.byte_at new
 
--- how far a reader comes by an answer: by the extent that it tells, which begins where the reader was and has bytes of
--- the disk, and else it stays there. Nothing is answered just at the disk's end
+-- how far a reader comes by an answer. `None` comes at the disk's end, and only there. An extent begins where the reader
+-- was, has bytes, and ends in the disk or with it. After a fault the reader is where it was
 abbrev pub ComesTo : ℕ → ℕ → Result (Option Extent) Fault → ℕ → Type 0
 ComesTo size from (Ok None) to = (from ≡ size) × (to ≡ from)
 ComesTo size from (Ok (Some extent)) to =
@@ -117,7 +119,7 @@ ComesTo size from (Err fault) to = (to ≡ from) × (from < size)
 abbrev pub RefusesExtent : Contents → ℕ → ℕ → Fault → Type 0
 RefusesExtent contents size from fault = (fault ≡ Storage) ⊎ (fault ≡ NoMemory) ⊎ IsRefusedFrom contents size from fault
 
--- what a reader tells at an offset: the extent that begins there, or why it can't be told
+-- what a reader tells at an offset: the extent that begins there, or why it can't be told (when `None` comes is above)
 abbrev pub TellsExtent : Contents → ℕ → ℕ → Result (Option Extent) Fault → Type 0
 TellsExtent contents size from (Ok None) = ⊤
 TellsExtent contents size from (Ok (Some extent)) = IsExtent contents size from extent
@@ -127,12 +129,12 @@ TellsExtent contents size from (Err fault) = RefusesExtent contents size from fa
 abbrev pub extent_of : ℕ → Content × ℕ → Extent
 extent_of start found = record { start = record { 0 = start }; length = found.1 - start; content = found.0 }
 
--- what each guest byte reads as by the entries of one table, for the part of the disk that it is for
+-- what each guest byte reads as by the entries of one table, if it is in the part of the disk that the table is for
 abbrev pub contents_in : TableState → Contents
 contents_in table offset =
     let cb = table.geometry.cluster_bits in Ok (content_in cb (offset % 2 ^ cb) (mapping_at table (offset / 2 ^ cb)))
 
--- a content and an end: the bytes from an offset on up to there read as one, from this content on
+-- a content and an end: the bytes from an offset on up to there, one at least, read as one, the first as this content
 abbrev pub IsPiece : Contents → ℕ → ℕ → Content × ℕ → Type 0
 IsPiece contents size from piece = (from < piece.1) × (piece.1 ≤ size) × ReadAsOne contents from (piece.1 - from) piece.0
 

@@ -79,11 +79,12 @@ abbrev pub times_made : (Step → Bool) → List Step → List StepReply → ℕ
 times_made is_one (step ∷ steps) (reply ∷ replies) = (if is_one step && is_done reply then 1 else 0) + times_made is_one steps replies
 times_made is_one _ _ = 0
 
--- whether a step increments, or decrements, the counter at an index
+-- whether a step increments the counter at an index
 abbrev pub increments : ℕ → Step → Bool
 increments at (Inc index) = index == at
 increments at (Dec index) = false
 
+-- whether it decrements that counter
 abbrev pub decrements : ℕ → Step → Bool
 decrements at (Inc index) = false
 decrements at (Dec index) = index == at

@@ -287,8 +287,8 @@ impl<'a> Extents<'a> {
     /// after another, and other content of one kind.
     ///
     /// Answers the fault of an L2 table that has to be read to know where the extent ends. The reader then
-    /// stays before that extent, and the call can be made again. L2 tables past the disk's size aren't read.
-    /// The image must be the one that the reader was made for, unchanged since. Changes no byte.
+    /// stays before that extent, and the call can be made again. No fault of a table past the disk's size is
+    /// told. The image must be the one that the reader was made for, unchanged since. Changes no byte.
     pub fn next<S: Storage>(&mut self, image: &mut S) -> Result<Option<Extent>, Fault>
         requires { IsTrue (S.state image.old).tells → KeepsTableOf (S.state image.old).byte_at self.old }
         ensures told { IsTrue (S.state image.old).tells →
