@@ -1,4 +1,4 @@
-use Rattle.std.proofs.Common.{◌≡◌, ◌⊎◌, ℕ, true, ◌+◌, ◌-◌, ◌*◌, ◌/◌, ◌%◌, ◌^◌, ◌<◌, ◌≤◌, min, List, [], ◌∷◌, ◌++◌, length, get_or, Some, None, Result, Ok, Err, refl, ap, subst, sym, ◌∙◌, inl, inr, arith}
+use Rattle.std.proofs.Common.{◌≡◌, ◌⊎◌, ℕ, true, ◌+◌, ◌-◌, ◌*◌, ◌/◌, ◌%◌, ◌^◌, ◌<◌, ◌≤◌, min, List, [], ◌∷◌, ◌++◌, length, get_or, Some, None, Result, Ok, Err, IsOkAnd, MatchResult, refl, ap, subst, sym, ◌∙◌, inl, inr, arith}
 use Rattle.std.proofs.lemmas.Bool.{cases_lt}
 use Rattle.std.proofs.lemmas.Bool.Decides.{Decides-eqb}
 use Rattle.std.proofs.lemmas.List.{get_or_past}
@@ -15,7 +15,7 @@ use Rattle.qcow2_metadata.specs.Header.{Geometry}
 use Rattle.qcow2_metadata.specs.Table.{TableState, loaded_l2_table, mapping_at}
 use Rattle.qcow2_metadata.specs.Table.L2Table.{IsMappedRun}
 use Rattle.qcow2_session.specs.Session.Lookups.{l2_cluster, named_cluster}
-use Rattle.qcow2_session.specs.Session.Extents.{AreExtents, AreInOneTable, ComesTo, Contents, ExtentsState, HasNoTable, IsExtent, IsMap, IsMapBefore, IsPiece, IsRefusedFrom, KeepsTableOf, ReadAsOne, RefusesExtent, StaysReader, TellsExtent, content_in, contents_for, contents_in, contents_of, extent_of, moved_on}
+use Rattle.qcow2_session.specs.Session.Extents.{AreExtents, AreInOneTable, ComesTo, Contents, ExtentsState, HasNoTable, IsExtent, IsMap, IsPiece, IsRefusedFrom, KeepsTableOf, ReadAsOne, RefusesExtent, StaysReader, TellsExtent, content_in, contents_for, contents_in, contents_of, extent_of, moved_on}
 use Rattle.qcow2_session.specs.declared.session.extents.Extent.{Extent}
 use Rattle.qcow2_session.specs.declared.session.extents.Content.{Content}
 use Rattle.qcow2_session.specs.declared.session.extents.Content.TheVariants.{Absent, AllocatedZeros, Compressed, Data, Zeros}
@@ -220,6 +220,11 @@ gap_in_image g l1 image size from to some within none = (
       rw (none (from + n) (omega arith) (omega (arith, below))) refl,
 )
 
+-- what an answer that is `Ok` leads to
+pub ok_and_then : {T E : Type 0} (P Q : T → Type 0) (R : E → Type 0) (result : Result T E) → IsOkAnd result P → ((value : T) → P value → Q value) → MatchResult result Q R
+ok_and_then P Q R (Ok value) holds leads = leads value holds
+ok_and_then P Q R (Err error) holds leads = absurd holds
+
 -- a piece and one that goes on from it
 moved_twice : (m n : ℕ) (content : Content) → moved_on n (moved_on m content) ≡ moved_on (m + n) content
 moved_twice m n (Data offset) = let same : offset.0 + m + n ≡ offset.0 + (m + n) = omega arith in rw same refl
@@ -411,14 +416,8 @@ pub map_ends : (contents : Contents) (size from to : ℕ) (extents : List Extent
     → ComesTo size from (Ok None) to → IsMap contents size extents
 map_ends contents size from to extents are comes = subst (λ (end : ℕ). AreExtents contents size 0 extents end) comes.0 are
 
-pub map_refused : (contents : Contents) (size from : ℕ) (extents : List Extent) (fault : Fault) → AreExtents contents size 0 extents from
-    → RefusesExtent contents size from fault → (fault ≡ Storage) ⊎ (fault ≡ NoMemory) ⊎ IsMapBefore contents size fault extents
-map_refused contents size from extents fault are (inl storage) = inl storage
-map_refused contents size from extents fault are (inr (inl memory)) = inr (inl memory)
-map_refused contents size from extents fault are (inr (inr refused)) = inr (inr (from, are, refused))
-
 -- what a reader's image reads as stays, from one extent to the next
-pub contents_stay : (old new : Image) (reader later : ExtentsState) → later ≡ record reader { position = later.position; table = later.table } → new ≡ old
+pub contents_stay : (old new : Image) (reader later : ExtentsState) → later ≡ record reader { position = later.position; table = later.table; ahead = later.ahead } → new ≡ old
     → contents_for later new ≡ contents_for reader old
 contents_stay old new reader later same bytes =
     ap (λ (r : ExtentsState). contents_for r new) same ∙ ap (λ (image : Image). contents_for reader image) bytes

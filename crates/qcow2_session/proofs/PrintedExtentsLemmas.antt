@@ -1,26 +1,18 @@
-use Rattle.std.proofs.Common.{◌≡◌, ◌⊎◌, ℕ, ◌+◌, IsTrue, Result, Ok, Err, inl, inr, List, [], ◌∷◌, ◌++◌, append-nil, Option, refl, sym, subst, ◌∙◌}
+use Rattle.std.proofs.Common.{◌≡◌, ◌≢◌, ◌⊎◌, ℕ, IsTrue, Result, Ok, Err, inl, inr, List, [], ◌∷◌, ◌++◌, append-nil, Option, refl, ◌∙◌}
 use Rattle.std.specs.Io.KnownBytes.{Appends}
 use Rattle.std.proofs.KnownBytes.{Appends-nil, Appends-trans}
 use Rattle.std.proofs.lemmas.Grind.{flat_map-append}
-use Rattle.qcow2_base.specs.Storage.{StorageState}
+use Rattle.qcow2_base.specs.Storage.{OnlyReads, StorageState}
 use Rattle.qcow2_base.specs.declared.fault.Fault.{Fault}
 use Rattle.qcow2_base.specs.declared.fault.Fault.TheVariants.{NoMemory, Storage}
+use Rattle.qcow2_metadata.specs.Header.{HeaderRecord}
 use Rattle.qcow2_metadata.specs.Header.Grammar.{header_of}
 use Rattle.qcow2_session.specs.Commands.Extents.{Disk, PrintsExtents, disk_in, extent_text, extents_text}
-use Rattle.qcow2_session.specs.Session.Extents.{AreExtents, Contents, IsExtent}
 use Rattle.qcow2_session.specs.declared.commands.extents.ExtentFormat.{ExtentFormat}
 use Rattle.qcow2_session.specs.declared.session.extents.Extent.{Extent}
+use Rattle.qcow2_session.proofs.PrintingLemmas.{reads-calm, refusal-of}
 
--- one extent more
-pub AreExtents-more : (contents : Contents) (size from : ℕ) (extents : List Extent) (to : ℕ) (extent : Extent)
-    → AreExtents contents size from extents to → IsExtent contents size to extent
-    → AreExtents contents size from (extents ++ (extent ∷ [])) (to + extent.length)
-AreExtents-more contents size from [] to extent are is =
-    subst (λ (at : ℕ). IsExtent contents size at extent × (at + extent.length ≡ to + extent.length)) (sym are) (is, refl)
-AreExtents-more contents size from (first ∷ extents) to extent are is =
-    (are.0, AreExtents-more contents size (from + first.length) extents to extent are.1 is)
-
--- and its text
+-- the text of extents, and of one more
 pub extents_text-more : (format : ExtentFormat) (extents : List Extent) (extent : Extent) (a b c : Option (List ℕ))
     → Appends a b (extents_text format extents) → Appends b c (extent_text format extent)
     → Appends a c (extents_text format (extents ++ (extent ∷ [])))
@@ -29,26 +21,26 @@ extents_text-more format extents extent a b c before here =
     (Appends-trans a b c _ _ before here)
 
 -- a disk that can't be told: nothing is printed
-pub PrintsExtents-none : {T : Type 0} (fault : Fault) (format : ExtentFormat) (image : StorageState) (a : Option (List ℕ))
-    → (IsTrue image.tells → (fault ≡ Storage) ⊎ (fault ≡ NoMemory) ⊎ (header_of image.byte_at ≡ Err fault))
-    → PrintsExtents {T = T} (Err fault) format (disk_in image.byte_at) image a a
-PrintsExtents-none fault format image a refused = record {
+pub PrintsExtents-none : {T : Type 0} (fault : Fault) (format : ExtentFormat) (old new : StorageState) (a : Option (List ℕ))
+    → (IsTrue old.tells → (fault ≡ Storage) ⊎ (fault ≡ NoMemory) ⊎ (header_of old.byte_at ≡ Err fault))
+    → (fault ≡ Storage → new.failures ≢ old.failures) → PrintsExtents {T = T} (Err fault) format (disk_in old.byte_at) old new a a
+PrintsExtents-none fault format old new a refused failed = record {
   extents = tt;
-  refused = λ told. elim (refused told) [
+  refused = λ told. inl (refusal-of fault (disk_in old.byte_at) old new (λ told. elim (refused told) [
     | inl storage ↦ inl storage
     | inr (inl memory) ↦ inr (inl memory)
-    | inr (inr bad) ↦ inr (inr (inl (rw bad (refl, Appends-nil a))))
-  ];
+    | inr (inr bad) ↦ inr (inr (rw bad refl))
+  ]) failed, Appends-nil a);
 }
 
--- the same disk of another state of the image's storage
-pub PrintsExtents-same : {T : Type 0} (answer : Result T Fault) (format : ExtentFormat) (disk same : Result Disk Fault) (old new : StorageState) (a b : Option (List ℕ))
-    → (IsTrue old.tells → disk ≡ same) → new.tells ≡ old.tells → PrintsExtents answer format same new a b → PrintsExtents answer format disk old a b
-PrintsExtents-same (Ok value) format disk same old new a b is tells prints = record {
-  extents = λ told. rw (is told) (prints.extents (tells ∙ told));
+-- the disk of an image, after a header was loaded by who only reads
+pub PrintsExtents-after : {T : Type 0} (header : HeaderRecord) (answer : Result T Fault) (format : ExtentFormat) (disk same : Result Disk Fault) (old between new : StorageState)
+    (a b : Option (List ℕ)) → (IsTrue old.tells → disk ≡ same) → OnlyReads (Ok header) old between → PrintsExtents answer format same between new a b → PrintsExtents answer format disk old new a b
+PrintsExtents-after header (Ok value) format disk same old between new a b is reads prints = record {
+  extents = λ told. rw (is told) (prints.extents (reads.device.tells ∙ told));
   refused = tt;
 }
-PrintsExtents-same (Err fault) format disk same old new a b is tells prints = record {
+PrintsExtents-after header (Err fault) format disk same old between new a b is reads prints = record {
   extents = tt;
-  refused = λ told. rw (is told) (prints.refused (tells ∙ told));
+  refused = λ told. rw (is told, ← reads-calm header old between reads, ← reads.device.tells) (prints.refused (reads.device.tells ∙ told));
 }

@@ -62,6 +62,13 @@ printed-more line items i default a b c below before here =
     rw (take_more items i default below, flat_map-append line (take i items) (get_or items i default ∷ []), append-nil (line (get_or items i default)))
     (Appends-trans a b c _ _ before here)
 
+-- reads that were answered leave no failure
+pub reads-calm : {T : Type 0} (value : T) (old new : StorageState) → OnlyReads (Ok value) old new → new.failures ≡ old.failures
+reads-calm value old new reads = elim (cases_eq new.failures old.failures) [
+  | inl same ↦ same
+  | inr moved ↦ let failed = reads.told.1 moved in cc
+]
+
 -- what is meant by the bytes, after a header was loaded by who only reads
 pub Prints-after : {T : Type 0} (header : HeaderRecord) (answer : Result T Fault) (meant same : Result (List ℕ) Fault) (old between new : StorageState) (a b : Option (List ℕ))
     → (IsTrue old.tells → meant ≡ same) → OnlyReads (Ok header) old between → Prints answer same between new a b → Prints answer meant old new a b
@@ -71,14 +78,8 @@ Prints-after header (Ok value) meant same old between new a b is reads prints = 
 }
 Prints-after header (Err fault) meant same old between new a b is reads prints = record {
   lines = tt;
-  refused = λ told. rw (is told, ← calm header old between reads) (prints.refused (reads.device.tells ∙ told));
+  refused = λ told. rw (is told, ← reads-calm header old between reads) (prints.refused (reads.device.tells ∙ told));
 }
-  where
-    calm : (header : HeaderRecord) (old between : StorageState) → OnlyReads (Ok header) old between → between.failures ≡ old.failures
-    calm header old between reads = elim (cases_eq between.failures old.failures) [
-      | inl same ↦ same
-      | inr moved ↦ let failed = reads.told.1 moved in cc
-    ]
 
 -- what is meant by the bytes, in other words
 pub PrintsSome-same : {T : Type 0} (answer : Result T Fault) (meant same : Result (List ℕ) Fault) (kept same_kept : List ℕ) (old new : StorageState) (a b : Option (List ℕ))

@@ -22,6 +22,10 @@ abbrev pub IsRefusal : {V : Type 0} → Result V Fault → StorageState → Stor
 IsRefusal meant old new fault = IsTrue old.tells → (meant ≡ Err fault) ⊎ (fault ≡ NoMemory)
     ⊎ ((fault ≡ Storage) × ((new.failures ≢ old.failures) ⊎ (is_ok meant ≡ true)))
 
+-- the fault is that of a failed output: the storage fault, where no call of the image failed
+abbrev pub IsOutputFault : Fault → StorageState → StorageState → Type 0
+IsOutputFault fault old new = (fault ≡ Storage) × (new.failures ≡ old.failures)
+
 -- a command that prints last ended in this answer: a fault other than the storage fault comes before any line, and so
 -- does a failed call of the image, which is that fault
 pub record PrintsLast {T O : Type 0} (answer : Result T Fault) (old new : StorageState) (before after : O) : Type 0 where
@@ -60,10 +64,9 @@ pub record ClusterFormat : Type 1 where
 abbrev pub SameOutsideCluster : ℕ → HostCluster → Image → Image → Type 0
 SameOutsideCluster cb cluster old new = SameOutside (cluster.0 * 2 ^ cb) (2 ^ cb) old new
 
--- a change was made, though the output may have failed then: the storage fault is answered where no call of the image
--- failed
+-- a change was made, though the output may have failed then
 abbrev pub IsMade : {T : Type 0} → Result T Fault → StorageState → StorageState → Type 0
-IsMade answer old new = IfErr answer (λ fault. (fault ≡ Storage) × (new.failures ≡ old.failures))
+IsMade answer old new = IfErr answer (λ fault. IsOutputFault fault old new)
 
 -- a change of an image ended in this answer, which by the old bytes comes to that end, or is refused by that fault: the
 -- lines tell of it, or this is why it was refused, or the output failed. The new image has its numbers, once it is made;

@@ -10,7 +10,7 @@ ghost use Rattle.qcow2_metadata.specs.Entries.Runs.{follows, goes_on};
 use super::{AtomicL2Entry, L2Entry, TableEntry};
 
 // How many entries are tested together.
-const BLOCK: usize = 64;
+const BLOCK: usize = 16;
 
 /// What the entries of a run have in common: in the bits of the mask a value, which grows by a step from one
 /// entry to the next.

@@ -1,4 +1,5 @@
-use Rattle.std.specs.Prelude.{List, Result}
+use Rattle.std.specs.Prelude.{ℕ, List, ◌++◌, Result, flat_map, codes}
+use Rattle.std.specs.Fmt.{decimal}
 use Rattle.qcow2_base.specs.Storage.{Image}
 use Rattle.qcow2_base.specs.declared.fault.Fault.{Fault}
 use Rattle.qcow2_base.specs.declared.types.HostCluster.{HostCluster}
@@ -6,10 +7,20 @@ use Rattle.qcow2_metadata.specs.Results.{result_map}
 use Rattle.qcow2_metadata.specs.Header.{HeaderRecord}
 use Rattle.qcow2_metadata.specs.Refblock.{IsTornBlock, block_offset, loaded_block}
 use Rattle.qcow2_session.specs.Commands.{ChangeEnd, ClusterFormat}
-use Rattle.qcow2_session.specs.Lines.{reply_lines}
 use Rattle.qcow2_session.specs.Session.Images.{block_from, steps_end}
 use Rattle.qcow2_session.specs.Session.Steps.{StepsEnd, are_some_done}
 use Rattle.qcow2_session.specs.declared.session.steps.Step.{Step}
+use Rattle.qcow2_session.specs.declared.session.steps.StepReply.{StepReply}
+use Rattle.qcow2_session.specs.declared.session.steps.StepReply.TheVariants.{Done, Refused}
+
+-- the line of what came of a step
+abbrev pub reply_line : StepReply → List ℕ
+reply_line (Done before) = codes "ok " ++ decimal before ++ codes "\n"
+reply_line Refused = codes "refused\n"
+
+-- the lines of what came of steps
+abbrev pub reply_lines : List StepReply → List ℕ
+reply_lines replies = flat_map reply_line replies
 
 -- how refcount blocks stand in an image with this header
 abbrev pub block_format : HeaderRecord → ClusterFormat

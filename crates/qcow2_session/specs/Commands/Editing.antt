@@ -1,18 +1,35 @@
-use Rattle.std.specs.Prelude.{ℕ, ◌*◌, ◌^◌, List, ◌++◌, slice_index, Option, Some, None, Result, Ok, Err}
+use Rattle.std.specs.Prelude.{ℕ, ◌*◌, ◌^◌, List, ◌++◌, slice_index, Option, Some, None, Result, Ok, Err, flat_map, codes}
+use Rattle.std.specs.Fmt.{decimal}
 use Rattle.qcow2_base.specs.Storage.{Image}
 use Rattle.qcow2_base.specs.declared.fault.Fault.{Fault}
 use Rattle.qcow2_base.specs.declared.fault.Fault.TheVariants.{NotPlaced}
 use Rattle.qcow2_base.specs.declared.types.HostCluster.{HostCluster}
 use Rattle.qcow2_metadata.specs.Results.{and_then, result_map}
+use Rattle.qcow2_metadata.specs.declared.entries.ClustersToFreeEntry.{ClustersToFreeEntry}
 use Rattle.qcow2_metadata.specs.Table.L2Guards.{RunEnd}
 use Rattle.qcow2_metadata.specs.Header.{HeaderRecord, geometry_of}
 use Rattle.qcow2_metadata.specs.Table.{IsTorn, loaded_l1_table, loaded_l2_table}
 use Rattle.qcow2_session.specs.Commands.{ChangeEnd, ClusterFormat}
-use Rattle.qcow2_session.specs.Lines.{freed_lines, gained_lines}
 use Rattle.qcow2_session.specs.Session.Edits.{are_some}
 use Rattle.qcow2_session.specs.Session.Images.{edits_end}
 use Rattle.qcow2_session.specs.Session.Lookups.{l1_place, named_cluster}
 use Rattle.qcow2_session.specs.declared.session.edits.Edit.{Edit}
+
+-- the line of clusters that lost a reference: the first, and how many
+abbrev pub freed_line : ClustersToFreeEntry → List ℕ
+freed_line clusters = codes "freed " ++ decimal clusters.first.0 ++ codes " " ++ decimal clusters.count.0 ++ codes "\n"
+
+-- the lines of such clusters
+abbrev pub freed_lines : List ClustersToFreeEntry → List ℕ
+freed_lines freed = flat_map freed_line freed
+
+-- the line of a cluster that gained a reference
+abbrev pub gained_line : ℕ → List ℕ
+gained_line cluster = codes "gained " ++ decimal cluster ++ codes "\n"
+
+-- the lines of such clusters, one after another
+abbrev pub gained_lines : List ℕ → List ℕ
+gained_lines gained = flat_map gained_line gained
 
 -- the cluster that the L2 table of an L1 entry begins with, or why there is none
 abbrev pub named_table : HeaderRecord → ℕ → Image → Result HostCluster Fault

@@ -1,15 +1,15 @@
-use Rattle.std.specs.Prelude.{◌≡◌, ◌⊎◌, ℕ, ◌==◌, if◌then◌else◌, IsTrue, List, [], ◌++◌, flat_map, Option, Result, Err, IfErr, IsOkAnd, OnOk, codes}
+use Rattle.std.specs.Prelude.{◌⊎◌, ℕ, ◌==◌, if◌then◌else◌, IsTrue, List, [], ◌++◌, flat_map, Option, Result, IfErr, IsOkAnd, OnOk, codes}
 use Rattle.std.specs.Fmt.{decimal}
 use Rattle.std.specs.Io.KnownBytes.{Appends}
 use Rattle.qcow2_base.specs.Storage.{Image, StorageState}
 use Rattle.qcow2_base.specs.declared.fault.Fault.{Fault}
-use Rattle.qcow2_base.specs.declared.fault.Fault.TheVariants.{NoMemory, Storage}
 use Rattle.qcow2_metadata.specs.Header.{HeaderRecord, geometry_of}
 use Rattle.qcow2_metadata.specs.Results.{and_then, result_map}
 use Rattle.qcow2_metadata.specs.Header.Grammar.{header_of}
 use Rattle.qcow2_metadata.specs.Table.{loaded_l1_table}
-use Rattle.qcow2_session.specs.Session.Extents.{AreExtents, Contents, ExtentsState, IsMap, IsMapBefore, IsRefusedFrom, contents_for, contents_of}
+use Rattle.qcow2_session.specs.Session.Extents.{AreExtents, AreExtentsBefore, Contents, ExtentsState, IsMap, contents_for, contents_of}
 use Rattle.qcow2_session.specs.Session.Lookups.{l1_place}
+use Rattle.qcow2_session.specs.Commands.{IsOutputFault, IsRefusal}
 use Rattle.qcow2_session.specs.Lines.{offset_text}
 use Rattle.qcow2_session.specs.declared.commands.extents.ExtentFormat.{ExtentFormat}
 use Rattle.qcow2_session.specs.declared.commands.extents.ExtentFormat.TheVariants.{Json, Lines}
@@ -109,23 +109,23 @@ PrintsMap format before after disk = (extents : List Extent)
 -- the output got the text of the extents before one that can't be told for this fault
 abbrev pub PrintsMapBefore : ExtentFormat → Fault → Option (List ℕ) → Option (List ℕ) → Disk → Type 0
 PrintsMapBefore format fault before after disk = (extents : List Extent)
-    × IsMapBefore disk.contents disk.size fault extents × Appends before after (opening format ++ extents_text format extents)
+    × AreExtentsBefore disk.contents disk.size 0 extents fault
+    × Appends before after (opening format ++ extents_text format extents)
 
--- the extents from a reader's offset on were printed: up to the disk's size after `Ok`, and after a fault of the image up
--- to the extent that can't be told. After 34 or 35 nothing is said of the output
-pub record PrintsRest {T : Type 0} (answer : Result T Fault) (format : ExtentFormat) (reader : ExtentsState) (image : StorageState) (before after : Option (List ℕ)) : Type 0 where
-  pub extents : OnOk answer (IsTrue image.tells → (extents : List Extent)
-      × AreExtents (contents_for reader image.byte_at) reader.header.v2.size reader.position extents reader.header.v2.size
+-- the extents from a reader's offset on were printed: up to the disk's size after `Ok`, and after a fault up to the extent
+-- that can't be told. Of what an output got that failed, nothing is said
+pub record PrintsRest {T : Type 0} (answer : Result T Fault) (format : ExtentFormat) (reader : ExtentsState) (old new : StorageState) (before after : Option (List ℕ)) : Type 0 where
+  pub extents : OnOk answer (IsTrue old.tells → (extents : List Extent)
+      × AreExtents (contents_for reader old.byte_at) reader.header.v2.size reader.position extents reader.header.v2.size
       × Appends before after (extents_text format extents))
-  pub refused : IfErr answer (λ fault. IsTrue image.tells → (fault ≡ Storage) ⊎ (fault ≡ NoMemory)
-      ⊎ ((extents : List Extent) × (to : ℕ)
-      × AreExtents (contents_for reader image.byte_at) reader.header.v2.size reader.position extents to
-      × IsRefusedFrom (contents_for reader image.byte_at) reader.header.v2.size to fault
+  pub refused : IfErr answer (λ fault. IsTrue old.tells → IsOutputFault fault old new ⊎ ((extents : List Extent)
+      × AreExtentsBefore (contents_for reader old.byte_at) reader.header.v2.size reader.position extents fault
       × Appends before after (extents_text format extents)))
 
--- the command `map` of a disk ended in this answer: it printed all extents, or it was refused. The extents before an L2
--- table that is refused stay, and nothing is printed where the disk can't be told at all
-pub record PrintsExtents {T : Type 0} (answer : Result T Fault) (format : ExtentFormat) (disk : Result Disk Fault) (image : StorageState) (before after : Option (List ℕ)) : Type 0 where
-  pub extents : OnOk answer (IsTrue image.tells → IsOkAnd disk (PrintsMap format before after))
-  pub refused : IfErr answer (λ fault. IsTrue image.tells → (fault ≡ Storage) ⊎ (fault ≡ NoMemory)
-      ⊎ ((disk ≡ Err fault) × Appends before after []) ⊎ IsOkAnd disk (PrintsMapBefore format fault before after))
+-- the command `map` of a disk ended in this answer: it printed all extents, or it was refused. Where the disk can't be told
+-- at all nothing is printed, else the extents before the one that can't be told. Of what an output got that failed, nothing
+-- is said
+pub record PrintsExtents {T : Type 0} (answer : Result T Fault) (format : ExtentFormat) (disk : Result Disk Fault) (old new : StorageState) (before after : Option (List ℕ)) : Type 0 where
+  pub extents : OnOk answer (IsTrue old.tells → IsOkAnd disk (PrintsMap format before after))
+  pub refused : IfErr answer (λ fault. IsTrue old.tells → (IsRefusal disk old new fault × Appends before after [])
+      ⊎ IsOkAnd disk (λ told. IsOutputFault fault old new ⊎ PrintsMapBefore format fault before after told))

@@ -1,7 +1,16 @@
-use Rattle.std.specs.Prelude.{◌≡◌, ℕ, List, Option, take}
+use Rattle.std.specs.Prelude.{◌≡◌, ℕ, List, ◌++◌, Option, take, codes}
+use Rattle.std.specs.Fmt.{decimal}
 use Rattle.std.specs.Io.KnownBytes.{Appends}
+use Rattle.qcow2_base.specs.Fault.{fault_number}
 use Rattle.qcow2_base.specs.declared.fault.Fault.{Fault}
-use Rattle.qcow2_session.specs.Lines.{fault_line, usage_line}
+
+-- the line of a fault
+abbrev pub fault_line : Fault → List ℕ
+fault_line fault = codes "qmeta: fault " ++ decimal (fault_number fault) ++ codes "\n"
+
+-- the line for words that are no command
+abbrev pub usage_line : List ℕ
+usage_line = codes "usage: qmeta COMMAND IMAGE ARGUMENTS\n"
 
 -- known bytes grow by a beginning of a line: all of it, or what was written before a write failed
 abbrev pub AppendsPart : Option (List ℕ) → Option (List ℕ) → List ℕ → Type 0

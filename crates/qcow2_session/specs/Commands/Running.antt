@@ -86,7 +86,7 @@ Runs ListTables answer old new before after =
 Runs (PrintMapping guest_offset) answer old new before after =
     Prints answer (line_in_image guest_offset.0 old.byte_at) old new before after
 Runs (PrintExtents format) answer old new before after =
-    PrintsExtents answer format (disk_in old.byte_at) old before after × ReadsFor (IsErrOf answer Storage) old new
+    PrintsExtents answer format (disk_in old.byte_at) old new before after × ReadsFor (IsErrOf answer Storage) old new
 Runs (EditEntries l1_index edits) answer old new before after =
     OpensAndChanges answer table_format (end_of_edits l1_index edits) old new before after
 Runs (CountReferences cluster steps) answer old new before after =

@@ -35,9 +35,9 @@ parts_of word =
     then Some (before_first (λ b. b == 58) word, after_first (λ b. b == 58) word) else None
 
 -- an edit that maps, where both of its numbers are there
-abbrev pub map_of : Option (List ℕ × List ℕ) → Option Edit
-map_of None = None
-map_of (Some words) = with_numbers (word_number words.0) (word_number words.1)
+abbrev pub map_edit_of : Option (List ℕ × List ℕ) → Option Edit
+map_edit_of None = None
+map_edit_of (Some words) = with_numbers (word_number words.0) (word_number words.1)
   where
     with_numbers : Option ℕ → Option ℕ → Option Edit
     with_numbers (Some index) (Some cluster) = Some (Map index (record { 0 = cluster }))
@@ -50,7 +50,7 @@ edit_of word = of_parts (parts_of word)
     of_parts : Option (List ℕ × List ℕ) → Option Edit
     of_parts None = None
     of_parts (Some parts) =
-        if bytes_eq parts.0 (codes "map") then map_of (parts_of parts.1)
+        if bytes_eq parts.0 (codes "map") then map_edit_of (parts_of parts.1)
         else if bytes_eq parts.0 (codes "zero") then option_map (λ index. Zero index false) (word_number parts.1)
         else if bytes_eq parts.0 (codes "keep") then option_map (λ index. Zero index true) (word_number parts.1)
         else if bytes_eq parts.0 (codes "discard") then option_map Discard (word_number parts.1) else None

@@ -70,20 +70,31 @@ abbrev pub IsRefusedFrom : Contents → ℕ → ℕ → Fault → Type 0
 IsRefusedFrom contents size from fault = (length : ℕ) × (content : Content) × (from + length < size)
     × ReadAsOne contents from length content × (contents (from + length) ≡ Err fault)
 
--- the extents of a disk up to an offset at which none can be told, for this fault
-abbrev pub IsMapBefore : Contents → ℕ → Fault → List Extent → Type 0
-IsMapBefore contents size fault extents = (to : ℕ) × AreExtents contents size 0 extents to × IsRefusedFrom contents size to fault
+-- why an extent can't be told
+abbrev pub RefusesExtent : Contents → ℕ → ℕ → Fault → Type 0
+RefusesExtent contents size from fault = (fault ≡ Storage) ⊎ (fault ≡ NoMemory) ⊎ IsRefusedFrom contents size from fault
 
--- what a reader of extents has: the image's header and L1 table, the offset that it has come to, and an L2 table that it keeps
+-- the extents from an offset on up to another, at which none can be told for this fault
+abbrev pub AreExtentsBefore : Contents → ℕ → ℕ → List Extent → Fault → Type 0
+AreExtentsBefore contents size from extents fault =
+    (to : ℕ) × AreExtents contents size from extents to × RefusesExtent contents size to fault
+
+-- a content and an end: the bytes from an offset on up to there, one at least, read as one, the first as this content
+abbrev pub IsPiece : Contents → ℕ → ℕ → Content × ℕ → Type 0
+IsPiece contents size from piece = (from < piece.1) × (piece.1 ≤ size) × ReadAsOne contents from (piece.1 - from) piece.0
+
+-- what a reader of extents has: the image's header and L1 table, the offset that it has come to, an L2 table that it keeps,
+-- and the piece at that offset, where it has looked at it already
 pub record ExtentsState : Type 0 where
   pub header : HeaderRecord
   pub l1 : List ℕ
   pub position : ℕ
   pub table : Option TableState
+  pub ahead : Option (Content × ℕ)
 
 -- a reader of an image with this header and this L1 table that has told no extent yet
 abbrev pub extents_begun : HeaderRecord → List ℕ → ExtentsState
-extents_begun header l1 = record { header = header; l1 = l1; position = 0; table = None }
+extents_begun header l1 = record { header = header; l1 = l1; position = 0; table = None; ahead = None }
 
 -- what each guest byte reads as in an image that a reader reads
 abbrev pub contents_for : ExtentsState → Image → Contents
@@ -93,19 +104,29 @@ contents_for reader image = contents_of (geometry_of reader.header) reader.l1 im
 abbrev pub IsKeptOf : Geometry → Image → TableState → Type 0
 IsKeptOf g image table = IfSome table.cluster (λ cluster. loaded_l2_table g cluster image ≡ Ok table.numbers)
 
+-- the numbers of the table that is kept, none if none is
+abbrev pub kept_numbers : Option TableState → List ℕ
+kept_numbers None = []
+kept_numbers (Some table) = table.numbers
+
 -- the table that a reader keeps, if it keeps one, is as it stands in the image
 abbrev pub KeepsTableOf : Image → ExtentsState → Type 0
 KeepsTableOf image reader = IfSome reader.table (IsKeptOf (geometry_of reader.header) image)
+
+-- a reader reads this image: what it keeps is as it stands there
+abbrev pub IsReaderOf : Image → ExtentsState → Type 0
+IsReaderOf image reader = KeepsTableOf image reader
+    × IfSome reader.ahead (IsPiece (contents_for reader image) reader.header.v2.size reader.position)
 
 -- a reader stays as it is, but that it may keep another table of the image
 pub record StaysReader (image : StorageState) (old new : ExtentsState) : Type 0 where
   pub same : new ≡ record old { table = new.table }
   pub kept : IsTrue image.tells → KeepsTableOf image.byte_at new
 
--- a reader stays as it is, but for its offset, and that it may keep another table of the image
+-- a reader stays as it is, but for its offset and what it keeps of the image
 pub record MovesReader (image : StorageState) (old new : ExtentsState) : Type 0 where
-  pub same : new ≡ record old { position = new.position; table = new.table }
-  pub kept : IsTrue image.tells → KeepsTableOf image.byte_at new
+  pub same : new ≡ record old { position = new.position; table = new.table; ahead = new.ahead }
+  pub kept : IsTrue image.tells → IsReaderOf image.byte_at new
 
 -- how far a reader comes by an answer. `None` comes at the disk's end, and only there. An extent begins where the reader
 -- was, has bytes, and ends in the disk or with it. After a fault the reader is where it was
@@ -114,10 +135,6 @@ ComesTo size from (Ok None) to = (from ≡ size) × (to ≡ from)
 ComesTo size from (Ok (Some extent)) to =
     (extent.start.0 ≡ from) × (from < to) × (to ≡ from + extent.length) × (to ≤ size)
 ComesTo size from (Err fault) to = (to ≡ from) × (from < size)
-
--- why an extent can't be told
-abbrev pub RefusesExtent : Contents → ℕ → ℕ → Fault → Type 0
-RefusesExtent contents size from fault = (fault ≡ Storage) ⊎ (fault ≡ NoMemory) ⊎ IsRefusedFrom contents size from fault
 
 -- what a reader tells at an offset: the extent that begins there, or why it can't be told (when `None` comes is above)
 abbrev pub TellsExtent : Contents → ℕ → ℕ → Result (Option Extent) Fault → Type 0
@@ -133,10 +150,6 @@ extent_of start found = record { start = record { 0 = start }; length = found.1 
 abbrev pub contents_in : TableState → Contents
 contents_in table offset =
     let cb = table.geometry.cluster_bits in Ok (content_in cb (offset % 2 ^ cb) (mapping_at table (offset / 2 ^ cb)))
-
--- a content and an end: the bytes from an offset on up to there, one at least, read as one, the first as this content
-abbrev pub IsPiece : Contents → ℕ → ℕ → Content × ℕ → Type 0
-IsPiece contents size from piece = (from < piece.1) × (piece.1 ≤ size) × ReadAsOne contents from (piece.1 - from) piece.0
 
 -- the bytes from an offset on up to another all have their entries in one table
 abbrev pub AreInOneTable : ℕ → ℕ → ℕ → Type 0

@@ -3,8 +3,7 @@
 ghost use Rattle.std.specs.Prelude.{◌≡◌, IsOkUnless, OnOk};
 ghost use Rattle.std.specs.Io.KnownBytes.{Appends};
 ghost use Rattle.qcow2_session.specs.Commands.{PrintsChange, PrintsLast};
-ghost use Rattle.qcow2_session.specs.Commands.Counting.{block_format, end_of_steps};
-ghost use Rattle.qcow2_session.specs.Lines.{reply_line, reply_lines};
+ghost use Rattle.qcow2_session.specs.Commands.Counting.{block_format, end_of_steps, reply_line, reply_lines};
 
 use crate::session::{Step, StepReply, step_image};
 use qcow2_base::{Fault, HostCluster, Storage};

@@ -5,9 +5,8 @@ ghost use Rattle.std.specs.Io.KnownBytes.{Appends};
 ghost use Rattle.qcow2_base.specs.Storage.{OnlyReads};
 ghost use Rattle.qcow2_metadata.specs.Results.{Answers};
 ghost use Rattle.qcow2_session.specs.Commands.{PrintsChange, PrintsLast};
-ghost use Rattle.qcow2_session.specs.Commands.Editing.{end_of_edits, named_table, table_format};
+ghost use Rattle.qcow2_session.specs.Commands.Editing.{end_of_edits, freed_line, freed_lines, gained_line, gained_lines, named_table, table_format};
 ghost use Rattle.qcow2_session.specs.Session.Edits.{cluster_numbers};
-ghost use Rattle.qcow2_session.specs.Lines.{freed_line, freed_lines, gained_line, gained_lines};
 
 use crate::session::{Edit, Outcome, edit_image, load_l1_table, named_cluster};
 use qcow2_base::{Fault, HostCluster, Storage};

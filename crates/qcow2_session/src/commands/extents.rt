@@ -1,10 +1,10 @@
 //! The command `map`: what the guest's disk reads as, extent after extent.
 
-ghost use Rattle.std.specs.Prelude.{◌≡◌, ◌≢◌, ◌⊎◌, ◌+◌, ◌≤◌, ◌++◌, IfErr, IsErrOf, IsOkUnless, IsTrue, OnOk, length};
+ghost use Rattle.std.specs.Prelude.{◌≡◌, ◌+◌, ◌≤◌, ◌++◌, IsErrOf, IsOkUnless, IsTrue, OnOk, length};
 ghost use Rattle.std.specs.Io.KnownBytes.{Appends};
 ghost use Rattle.qcow2_base.specs.Storage.{ReadsFor};
 ghost use Rattle.qcow2_base.specs.declared.fault.Fault.TheVariants.{Storage as StorageFailed};
-ghost use Rattle.qcow2_session.specs.Session.Extents.{KeepsTableOf};
+ghost use Rattle.qcow2_session.specs.Session.Extents.{IsReaderOf};
 ghost use Rattle.qcow2_session.specs.Commands.Extents.{PrintsExtents, PrintsRest, closing, content_text, disk_of, extent_line, extent_text, json_content, json_flags, json_length, json_object, json_offset, json_row, opening};
 
 use crate::lines::LineBuffer;
@@ -58,7 +58,7 @@ pub fn print_extents<S: Storage, O: Write>(
     out: &mut O,
 ) -> Result<(), Fault>
     ensures prints { PrintsExtents result format (disk_of header.now (S.state image.old).byte_at)
-        (S.state image.old) (O.contents out.old) (O.contents out.new) }
+        (S.state image.old) (S.state image.new) (O.contents out.old) (O.contents out.new) }
     ensures storage { ReadsFor (IsErrOf result StorageFailed) (S.state image.old) (S.state image.new) }
 {
     let mut extents = Extents::new(alloc, image, header)?;
@@ -74,13 +74,14 @@ fn print_all<S: Storage, O: Write>(
     format: ExtentFormat,
     out: &mut O,
 ) -> Result<(), Fault>
-    requires kept { IsTrue (S.state image.old).tells → KeepsTableOf (S.state image.old).byte_at extents.old }
-    ensures prints { PrintsRest result format extents.old (S.state image.old)
+    requires kept { IsTrue (S.state image.old).tells → IsReaderOf (S.state image.old).byte_at extents.old }
+    ensures prints { PrintsRest result format extents.old (S.state image.old) (S.state image.new)
         (O.contents out.old) (O.contents out.new) }
     ensures storage { ReadsFor (IsErrOf result StorageFailed) (S.state image.old) (S.state image.new) }
 {
+    let mut line = LineBuffer::new();
     while let Some(extent) = extents.next(image)? {
-        print_extent(&extent, format, out)?;
+        print_extent(&extent, format, &mut line, out)?;
     }
     Ok(())
 }
@@ -93,16 +94,21 @@ fn print_text<O: Write>(text: &str, out: &mut O) -> Result<(), Fault>
     out.write_all(text.as_bytes()).map_err(|_| Fault::Storage)
 }
 
-// Prints an extent.
-fn print_extent<O: Write>(extent: &Extent, format: ExtentFormat, out: &mut O) -> Result<(), Fault>
+// Prints an extent, put together in a line whose bytes no longer matter.
+fn print_extent<O: Write>(
+    extent: &Extent,
+    format: ExtentFormat,
+    line: &mut LineBuffer,
+    out: &mut O,
+) -> Result<(), Fault>
     ensures fault { IsOkUnless result Fault.Storage }
     ensures text { OnOk result
         (Appends (O.contents out.old) (O.contents out.new) (extent_text format extent.now)) }
 {
-    let mut line = LineBuffer::new();
+    line.clear();
     match format {
-        ExtentFormat::Lines => prepend_line(&mut line, extent),
-        ExtentFormat::Json => prepend_row(&mut line, extent),
+        ExtentFormat::Lines => prepend_line(line, extent),
+        ExtentFormat::Json => prepend_row(line, extent),
     }
     out.write_all(line.as_bytes()).map_err(|_| Fault::Storage)
 }

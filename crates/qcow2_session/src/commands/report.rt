@@ -2,8 +2,7 @@
 
 ghost use Rattle.std.specs.Prelude.{◌≡◌, ◌≤◌, IfOk, length, take};
 ghost use Rattle.std.specs.Io.KnownBytes.{Appends};
-ghost use Rattle.qcow2_session.specs.Lines.{fault_line, usage_line};
-ghost use Rattle.qcow2_session.specs.Commands.Report.{AppendsPart};
+ghost use Rattle.qcow2_session.specs.Commands.Report.{AppendsPart, fault_line, usage_line};
 
 use arrayvec::ArrayString;
 use qcow2_base::Fault;

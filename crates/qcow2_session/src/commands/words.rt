@@ -220,7 +220,7 @@ impl Said for Edit {
     fn said(word: &str) -> Option<Edit> {
         let (name, numbers) = parts(word)?;
         match name {
-            "map" => map_of(numbers),
+            "map" => map_edit_of(numbers),
             "zero" => Some(Edit::Zero {
                 index: number(numbers)? as usize,
                 keep_allocation: false,
@@ -301,8 +301,8 @@ fn parts(word: &str) -> Option<(&str, &str)>
 }
 
 // The edit that maps by the numbers of an index and a host cluster, if they are these.
-fn map_of(numbers: &str) -> Option<Edit>
-    ensures { result ≡ spec.map_of (spec.parts_of numbers.now) }
+fn map_edit_of(numbers: &str) -> Option<Edit>
+    ensures { result ≡ spec.map_edit_of (spec.parts_of numbers.now) }
 {
     let (index, cluster) = parts(numbers)?;
     Some(Edit::Map {

@@ -41,6 +41,14 @@ impl LineBuffer {
         }
     }
 
+    /// Takes out all that is written.
+    #[inline]
+    pub(crate) fn clear(&mut self)
+        ensures { self.new ≡ [] }
+    {
+        self.start = self.bytes.len();
+    }
+
     /// What is written.
     #[inline]
     pub(crate) fn as_bytes(&self) -> &[u8]

@@ -1,6 +1,6 @@
 //! What a whole disk reads as, told as extents: parts of it that read as one, as long as they go.
 
-ghost use Rattle.std.specs.Prelude.{◌≡◌, ℕ, ◌⊎◌, ◌+◌, ◌-◌, ◌*◌, ◌/◌, ◌%◌, ◌^◌, ◌<◌, ◌≤◌, ◌↔◌, None, Some, Ok, Err, IfErr, IfOk, IfSome, IsOkAnd, IsSome, IsTrue, MatchOption, MatchResult, slice_index};
+ghost use Rattle.std.specs.Prelude.{◌≡◌, ℕ, ◌⊎◌, ◌+◌, ◌-◌, ◌*◌, ◌/◌, ◌^◌, ◌<◌, ◌≤◌, ◌↔◌, None, Some, Ok, Err, IfErr, IfOk, IfSome, IsOkAnd, IsSome, IsSomeAnd, IsTrue, MatchOption, MatchResult, slice_index};
 ghost use Rattle.qcow2_base.specs.Storage.{OnlyReads};
 ghost use Rattle.qcow2_base.specs.declared.fault.Fault.TheVariants.{NoMemory, Storage as StorageFailed};
 ghost use Rattle.qcow2_base.specs.Types.{IsClusterBits};
@@ -9,7 +9,7 @@ ghost use Rattle.qcow2_metadata.specs.Entries.L2Mapping.{IsPlaced, meaning};
 ghost use Rattle.qcow2_metadata.specs.Header.{geometry_of};
 ghost use Rattle.qcow2_metadata.specs.Table.{IsLoadFault, LoadRefuses, loaded_l1_table, loaded_l2_table, most_l1_entries, place_fault};
 ghost use Rattle.qcow2_session.specs.Session.Lookups.{l1_place, l2_cluster, named_cluster};
-ghost use Rattle.qcow2_session.specs.Session.Extents.{AreInOneTable, HasNoTable, IsKeptOf, IsPiece, content_in, contents_in, moved_on};
+ghost use Rattle.qcow2_session.specs.Session.Extents.{AreInOneTable, HasNoTable, IsKeptOf, IsPiece, content_in, contents_in, kept_numbers, moved_on};
 
 use super::lookups::{l2_cluster, load_l1_table, load_l2_table, named_cluster};
 use qcow2_base::{Fault, GuestOffset, HostCluster, HostOffset, Storage};
@@ -132,8 +132,8 @@ fn gap_end(l1_table: &L1Table, from: u64, size: u64) -> u64
 #[tactic(auto, using(crate::proofs::ExtentsLemmas::distance_below))]
 fn piece_of_table(table: &L2Table, from: u64, size: u64) -> Result<(Content, u64), Fault>
     requires { from < size }
-    ensures piece { IsOkAnd result (IsPiece (contents_in table.now) size from) }
-    ensures table { IfOk result (λ piece. AreInOneTable table.now.geometry.cluster_bits from piece.1) }
+    ensures { IsOkAnd result (λ piece. IsPiece (contents_in table.now) size from piece
+        × AreInOneTable table.now.geometry.cluster_bits from piece.1) }
 {
     let cluster_bits = table.cluster_bits();
     let guest_cluster = GuestOffset(from).cluster(cluster_bits);
@@ -151,10 +151,12 @@ pub struct Extents<'a> {
     l1_table: L1Table,
     position: u64,
     table: Option<L2Table>,
+    // The piece at the position, where that was read to know that the extent before ends there.
+    ahead: Option<(Content, u64)>,
 }
 
 impl<'a> Model for Extents<'a> {
-    ghost use Rattle.std.specs.Prelude.{◌≡◌, ◌≤◌, IfSome};
+    ghost use Rattle.std.specs.Prelude.{◌≡◌, ◌<◌, ◌≤◌, IfSome};
     ghost use Rattle.qcow2_metadata.specs.Header.{geometry_of};
     ghost use Rattle.qcow2_session.specs.Session.Extents.{ExtentsState};
 
@@ -165,44 +167,51 @@ impl<'a> Model for Extents<'a> {
       l1 = e.l1_table.numbers;
       position = e.position;
       table = e.table;
+      ahead = e.ahead;
     } };
 
     ghost invariant = { λ e. (e.l1_table.geometry ≡ geometry_of e.header.now)
         × (e.position ≤ e.header.now.v2.size)
-        × IfSome e.table (λ table. table.geometry ≡ geometry_of e.header.now) };
+        × IfSome e.table (λ table. table.geometry ≡ geometry_of e.header.now)
+        × IfSome e.ahead (λ piece. (e.position < piece.1) × (piece.1 ≤ e.header.now.v2.size)) };
 }
 
-// The L2 table that begins with a cluster: the kept one, where that is it, or else as `L2Table::load` has it.
-fn table_for<S: Storage>(
-    kept: Option<L2Table>,
+// Keeps the L2 table that begins with a cluster: the one that is kept, where that is it, or else the one that
+// `L2Table::load` loads. After a fault none is kept.
+fn keep_table<S: Storage>(
+    kept: &mut Option<L2Table>,
     image: &mut S,
     header: &Header,
     alloc: Global,
     cluster: HostCluster,
-) -> Result<L2Table, Fault>
+) -> Result<(), Fault>
     requires kept { IsTrue (S.state image.old).tells →
-        IfSome kept (IsKeptOf (geometry_of header.now) (S.state image.old).byte_at) }
-    requires geometry { IfSome kept (λ table. table.geometry ≡ geometry_of header.now) }
+        IfSome kept.old (IsKeptOf (geometry_of header.now) (S.state image.old).byte_at) }
+    requires geometry { IfSome kept.old (λ table. table.geometry ≡ geometry_of header.now) }
     requires cluster_bits { IsClusterBits header.now.v2.cluster_bits }
     requires end { let cb = header.now.v2.cluster_bits in cluster.0 * 2 ^ cb + 2 ^ cb ≤ 2 ^ 56 }
-    ensures exact { IsTrue (S.state image.old).tells → Answers (λ table. table.numbers) result
+    ensures kept { MatchResult result
+        (λ done. IsSomeAnd kept.new (λ table. (table.cluster ≡ Some cluster)
+        × (table.geometry ≡ geometry_of header.now)))
+        (λ fault. kept.new ≡ None) }
+    ensures exact { IsTrue (S.state image.old).tells → Answers (λ done. kept_numbers kept.new) result
         (loaded_l2_table (geometry_of header.now) cluster (S.state image.old).byte_at) }
-    ensures cluster { IfOk result (λ table. table.cluster ≡ Some cluster) }
-    ensures geometry { IfOk result (λ table. table.geometry ≡ geometry_of header.now) }
     ensures faults { IfErr result (IsLoadFault None) }
     ensures storage { OnlyReads result (S.state image.old) (S.state image.new) }
 {
-    if let Some(table) = kept
-        && table.get_cluster() == Some(cluster)
-    {
-        return Ok(table);
+    let is_kept = match kept {
+        Some(table) => table.get_cluster() == Some(cluster),
+        None => false,
+    };
+    if !is_kept {
+        *kept = None;
+        *kept = Some(load_l2_table(alloc, image, header, cluster)?);
     }
-    load_l2_table(alloc, image, header, cluster)
+    Ok(())
 }
 
 impl<'a> Extents<'a> {
-    ghost use Rattle.std.specs.Prelude.{OnOk};
-    ghost use Rattle.qcow2_session.specs.Session.Extents.{ComesTo, IsExtent, KeepsTableOf, MovesReader, RefusesExtent, StaysReader, TellsExtent, contents_for, extent_of, extents_begun};
+    ghost use Rattle.qcow2_session.specs.Session.Extents.{ComesTo, IsExtent, IsReaderOf, KeepsTableOf, MovesReader, RefusesExtent, StaysReader, TellsExtent, contents_for, extent_of, extents_begun};
 
     /// A reader of the extents of an image with this header, from the disk's begin on. Reads the L1 table,
     /// and answers its fault where it is refused. Changes no byte.
@@ -223,6 +232,7 @@ impl<'a> Extents<'a> {
             l1_table,
             position: 0,
             table: None,
+            ahead: None,
         })
     }
 
@@ -246,40 +256,45 @@ impl<'a> Extents<'a> {
             return Ok((Content::Absent, gap_end(&self.l1_table, from, size)));
         };
         let alloc = self.l1_table.allocator();
-        let table = table_for(self.table.take(), image, self.header, alloc, cluster)?;
-        let piece = piece_of_table(&table, from, size)?;
-        self.table = Some(table);
-        Ok(piece)
+        keep_table(&mut self.table, image, self.header, alloc, cluster)?;
+        piece_of_table(self.table.as_ref().unwrap(), from, size)
     }
 
-    // The content at an offset, and where the extent from there on ends.
-    fn whole_extent<S: Storage>(
-        &mut self,
-        image: &mut S,
-        start: u64,
-    ) -> Result<(Content, u64), Fault>
-        requires within { start < self.old.header.v2.size }
-        requires kept { IsTrue (S.state image.old).tells → KeepsTableOf (S.state image.old).byte_at self.old }
+    // Goes past the extent at the position, and tells what it reads as.
+    fn pass_extent<S: Storage>(&mut self, image: &mut S) -> Result<Content, Fault>
+        requires within { self.old.position < self.old.header.v2.size }
+        requires kept { IsTrue (S.state image.old).tells → IsReaderOf (S.state image.old).byte_at self.old }
         ensures told { IsTrue (S.state image.old).tells →
             let contents = contents_for self.old (S.state image.old).byte_at in
             MatchResult result
-            (λ found. IsExtent contents self.old.header.v2.size start (extent_of start found))
-            (RefusesExtent contents self.old.header.v2.size start) }
-        ensures within { IfOk result (λ found. (start < found.1) × (found.1 ≤ self.old.header.v2.size)) }
-        ensures reader { StaysReader (S.state image.old) self.old self.new }
+            (λ content. IsExtent contents self.old.header.v2.size self.old.position
+            (extent_of self.old.position (content, self.new.position)))
+            (RefusesExtent contents self.old.header.v2.size self.old.position) }
+        ensures position { MatchResult result
+            (λ content. (self.old.position < self.new.position) × (self.new.position ≤ self.old.header.v2.size))
+            (λ fault. self.new.position ≡ self.old.position) }
+        ensures reader { MovesReader (S.state image.old) self.old self.new }
         ensures faults { IfErr result (IsLoadFault None) }
         ensures storage { OnlyReads result (S.state image.old) (S.state image.new) }
     {
+        let start = self.position;
         let size = self.header.size();
-        let (content, mut end) = self.piece(image, start)?;
+        let (content, mut end) = match self.ahead {
+            Some(piece) => piece,
+            None => self.piece(image, start)?,
+        };
         while end < size {
             let (next, next_end) = self.piece(image, end)?;
             if !content.goes_on_as(end - start, next) {
-                return Ok((content, end));
+                self.position = end;
+                self.ahead = Some((next, next_end));
+                return Ok(content);
             }
             end = next_end;
         }
-        Ok((content, end))
+        self.position = end;
+        self.ahead = None;
+        Ok(content)
     }
 
     /// The next extent, or nothing at the disk's end. The extents follow one another from offset 0 to the
@@ -290,7 +305,7 @@ impl<'a> Extents<'a> {
     /// stays before that extent, and the call can be made again. No fault of a table past the disk's size is
     /// told. The image must be the one that the reader was made for, unchanged since. Changes no byte.
     pub fn next<S: Storage>(&mut self, image: &mut S) -> Result<Option<Extent>, Fault>
-        requires { IsTrue (S.state image.old).tells → KeepsTableOf (S.state image.old).byte_at self.old }
+        requires { IsTrue (S.state image.old).tells → IsReaderOf (S.state image.old).byte_at self.old }
         ensures told { IsTrue (S.state image.old).tells →
             let contents = contents_for self.old (S.state image.old).byte_at in
             TellsExtent contents self.old.header.v2.size self.old.position result }
@@ -303,11 +318,10 @@ impl<'a> Extents<'a> {
         if start == self.header.size() {
             return Ok(None);
         }
-        let (content, end) = self.whole_extent(image, start)?;
-        self.position = end;
+        let content = self.pass_extent(image)?;
         Ok(Some(Extent {
             start: GuestOffset(start),
-            length: end - start,
+            length: self.position - start,
             content,
         }))
     }

@@ -1,13 +1,13 @@
 use Rattle.std.proofs.Common.{◌+◌, ◌-◌, ◌≤◌, IsTrue, vec_len}
-use Rattle.qcow2_session.specs.Session.Extents.{KeepsTableOf}
+use Rattle.qcow2_session.specs.Session.Extents.{IsReaderOf}
 use Rattle.qcow2_session_tests.proofs.calls.extents_of.Given as goal
 
--- the reader keeps a table of the image, and is no further than the disk's end
+-- the reader is one of the image, and is no further than the disk's end
 abbrev pub invariant-loop-extents : goal.invariant-loop-extents
 invariant-loop-extents g l =
     let image = g.S.Storage.state l.image in
     record {
-      kept : IsTrue image.tells → KeepsTableOf image.byte_at l.extents;
+      kept : IsTrue image.tells → IsReaderOf image.byte_at l.extents;
       within : l.extents.position ≤ l.extents.header.v2.size;
     }
 

@@ -1,8 +1,7 @@
 use Rattle.std.proofs.Common.{inl, inr, refl, rules}
 use Rattle.std.proofs.lemmas.Result.{err_from_is_err_and}
 use Rattle.qcow2_session.proofs.ChangingLemmas.{change-printed, change-refused, loads-part, of-any, part-follows, part-refused}
-use Rattle.qcow2_session.specs.Commands.Counting.{block_format, end_of_steps, told_steps}
-use Rattle.qcow2_session.specs.Lines.{reply_lines}
+use Rattle.qcow2_session.specs.Commands.Counting.{block_format, end_of_steps, reply_lines, told_steps}
 use Rattle.qcow2_session.specs.Session.Images.{steps_end}
 use Rattle.qcow2_session.specs.Session.Steps.{StepsEnd}
 use Rattle.qcow2_session.proofs.commands.count.count_references.Goals as goal

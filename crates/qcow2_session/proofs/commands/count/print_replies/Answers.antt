@@ -1,6 +1,6 @@
 use Rattle.std.proofs.Common.{rules}
 use Rattle.qcow2_session.proofs.PrintingLemmas.{printed-more}
-use Rattle.qcow2_session.specs.Lines.{reply_line}
+use Rattle.qcow2_session.specs.Commands.Counting.{reply_line}
 use Rattle.qcow2_session.proofs.commands.count.print_replies.Goals as goal
 
 pub loop-reply-preserved : goal.loop-reply-preserved

@@ -1,6 +1,6 @@
 use Rattle.std.proofs.Common.{take}
 use Rattle.std.specs.Io.KnownBytes.{Appends}
-use Rattle.qcow2_session.specs.Lines.{reply_lines}
+use Rattle.qcow2_session.specs.Commands.Counting.{reply_lines}
 use Rattle.qcow2_session.proofs.commands.count.print_replies.Given as goal
 
 -- the lines of those before this one are printed

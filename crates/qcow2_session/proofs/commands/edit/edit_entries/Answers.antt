@@ -1,10 +1,9 @@
 use Rattle.std.proofs.Common.{ℕ, List, ◌++◌, arith, inl, inr, refl, rules, ◌∙◌}
 use Rattle.std.proofs.lemmas.Result.{err_from_is_err_and}
 use Rattle.qcow2_session.proofs.ChangingLemmas.{change-printed, change-refused, change-unplaced, idle-edits, loads-part, of-any, part-follows, part-refused}
-use Rattle.qcow2_session.specs.Commands.Editing.{end_of_edits, table_format, told_edits}
+use Rattle.qcow2_session.specs.Commands.Editing.{end_of_edits, freed_lines, gained_lines, table_format, told_edits}
 use Rattle.qcow2_metadata.specs.Table.L2Guards.{RunEnd}
 use Rattle.qcow2_metadata.specs.declared.entries.ClustersToFreeEntry.{ClustersToFreeEntry}
-use Rattle.qcow2_session.specs.Lines.{freed_lines, gained_lines}
 use Rattle.qcow2_session.specs.Session.Images.{edits_end}
 use Rattle.qcow2_session.proofs.commands.edit.edit_entries.Goals as goal
 

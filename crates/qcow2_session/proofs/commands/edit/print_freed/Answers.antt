@@ -1,6 +1,6 @@
 use Rattle.std.proofs.Common.{rules}
 use Rattle.qcow2_session.proofs.PrintingLemmas.{printed-more}
-use Rattle.qcow2_session.specs.Lines.{freed_line}
+use Rattle.qcow2_session.specs.Commands.Editing.{freed_line}
 use Rattle.qcow2_session.proofs.commands.edit.print_freed.Goals as goal
 
 pub loop-clusters-preserved : goal.loop-clusters-preserved

@@ -1,6 +1,6 @@
 use Rattle.std.proofs.Common.{take}
 use Rattle.std.specs.Io.KnownBytes.{Appends}
-use Rattle.qcow2_session.specs.Lines.{freed_lines}
+use Rattle.qcow2_session.specs.Commands.Editing.{freed_lines}
 use Rattle.qcow2_session.proofs.commands.edit.print_freed.Given as goal
 
 -- the lines of those before this one are printed

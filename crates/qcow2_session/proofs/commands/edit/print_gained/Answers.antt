@@ -2,7 +2,7 @@ use Rattle.std.proofs.Common.{◌≤◌, arith, length, rules, take_all}
 use Rattle.std.proofs.lemmas.List.Folds.{flat_map-map}
 use Rattle.qcow2_base.specs.declared.types.HostCluster.{HostCluster}
 use Rattle.qcow2_session.proofs.PrintingLemmas.{printed-more}
-use Rattle.qcow2_session.specs.Lines.{gained_line}
+use Rattle.qcow2_session.specs.Commands.Editing.{gained_line}
 use Rattle.qcow2_session.proofs.commands.edit.print_gained.Goals as goal
 
 pub loop-cluster-preserved : goal.loop-cluster-preserved

@@ -1,7 +1,7 @@
 use Rattle.std.proofs.Common.{flat_map, take}
 use Rattle.std.specs.Io.KnownBytes.{Appends}
 use Rattle.qcow2_base.specs.declared.types.HostCluster.{HostCluster}
-use Rattle.qcow2_session.specs.Lines.{gained_line}
+use Rattle.qcow2_session.specs.Commands.Editing.{gained_line}
 use Rattle.qcow2_session.proofs.commands.edit.print_gained.Given as goal
 
 -- the lines of those before this one are printed

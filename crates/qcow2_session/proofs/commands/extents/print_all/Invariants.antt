@@ -2,7 +2,7 @@ use Rattle.std.proofs.Common.{◌≡◌, ◌-◌, IsTrue, List}
 use Rattle.std.specs.Io.KnownBytes.{Appends}
 use Rattle.qcow2_base.specs.Storage.{ReadsFor}
 use Rattle.qcow2_session.specs.Commands.Extents.{extents_text}
-use Rattle.qcow2_session.specs.Session.Extents.{AreExtents, KeepsTableOf, contents_for}
+use Rattle.qcow2_session.specs.Session.Extents.{AreExtents, IsReaderOf, contents_for}
 use Rattle.qcow2_session.specs.declared.session.extents.Extent.{Extent}
 use Rattle.qcow2_session.proofs.commands.extents.print_all.Given as goal
 
@@ -15,8 +15,8 @@ invariant-loop-extent g l =
       printed : IsTrue old.tells → (extents : List Extent)
           × AreExtents (contents_for reader old.byte_at) reader.header.v2.size reader.position extents l.extents.position
           × Appends (g.O.Write.contents l.fn.out) (g.O.Write.contents l.out) (extents_text l.format extents);
-      same : l.extents ≡ record reader { position = l.extents.position; table = l.extents.table };
-      kept : IsTrue old.tells → KeepsTableOf old.byte_at l.extents;
+      same : l.extents ≡ record reader { position = l.extents.position; table = l.extents.table; ahead = l.extents.ahead };
+      kept : IsTrue old.tells → IsReaderOf old.byte_at l.extents;
       reads : ReadsFor ⊥ old (g.S.Storage.state l.image);
     }
 

@@ -2,6 +2,7 @@ use Rattle.std.proofs.Common.{inl, inr, ◌∙◌}
 use Rattle.std.proofs.KnownBytes.{Appends-trans}
 use Rattle.std.proofs.lemmas.Result.{err_from_is_err_and}
 use Rattle.qcow2_session.proofs.LookupsLemmas.{reads-then_for}
+use Rattle.qcow2_session.proofs.PrintingLemmas.{reads-calm}
 use Rattle.qcow2_session.proofs.commands.extents.print_extents.Goals as goal
 
 pub returns-in_err-print_all-clause-prints : goal.returns-in_err-print_all-clause-prints
@@ -13,15 +14,10 @@ returns-in_err-print_all-clause-prints g c =
       refused = λ told.
           let loaded = c.in_ok-extents.ensures.exact told in
           let printed = rw (c.in_ok-extents.ensures.begun, reads.bytes) at (c.in_err-print_all.ensures.prints.refused (reads.device.tells ∙ told)) in
-          elim printed [
-            | inl storage ↦ inl storage
-            | inr (inl memory) ↦ inr (inl memory)
-            | inr (inr rest) ↦ inr (inr (inr (rw loaded (
-              rest.0,
-              (rest.1, rest.2, rest.3),
-              Appends-trans _ _ _ _ _ (rw c.opening.ensures at c.in_ok-print_text.ensures.text) rest.4,
-            ))))
-          ];
+          inr (rw loaded (elim printed [
+            | inl output ↦ inl (rw (reads-calm _ _ _ reads) at output)
+            | inr rest ↦ inr (rest.0, rest.1, Appends-trans _ _ _ _ _ (rw c.opening.ensures at c.in_ok-print_text.ensures.text) rest.2)
+          ]));
     })
 
 pub returns-in_err-print_all-clause-storage : goal.returns-in_err-print_all-clause-storage

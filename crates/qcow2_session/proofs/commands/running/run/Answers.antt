@@ -5,7 +5,7 @@ use Rattle.qcow2_metadata.specs.Header.Grammar.{header_of}
 use Rattle.qcow2_session.proofs.ListingLemmas.{header-refused}
 use Rattle.qcow2_session.proofs.LookupsLemmas.{reads-then_for}
 use Rattle.qcow2_session.proofs.PrintingLemmas.{Prints-after, Prints-lines, PrintsSome-same, header_read}
-use Rattle.qcow2_session.proofs.PrintedExtentsLemmas.{PrintsExtents-none, PrintsExtents-same}
+use Rattle.qcow2_session.proofs.PrintedExtentsLemmas.{PrintsExtents-after, PrintsExtents-none}
 use Rattle.qcow2_session.proofs.RunningLemmas.{opened-changes}
 use Rattle.qcow2_session.specs.Commands.At.{line_at}
 use Rattle.qcow2_session.specs.Commands.Counting.{block_format, end_of_steps}
@@ -64,7 +64,7 @@ returns-in_err-header-in-PrintExtents-clause-runs g c =
     let exit = err_from_is_err_and c.from_residual-in_err-header-in-PrintExtents.result c.from_residual-in_err-header-in-PrintExtents.ensures.1 in
     let reads = c.in_err-header-in-PrintExtents.ensures.storage.reads refl in
     rw (c.in-PrintExtents.is, exit.1, exit.2)
-    (PrintsExtents-none _ c.in-PrintExtents.format (g.S.Storage.state c.args.image.now) _ (λ told. search rules), search rules)
+    (PrintsExtents-none _ c.in-PrintExtents.format (g.S.Storage.state c.args.image.now) _ _ (λ told. search rules) (λ storage. search rules), search rules)
 
 pub returns-in_ok-header-in-PrintExtents-clause-runs : goal.returns-in_ok-header-in-PrintExtents-clause-runs
 returns-in_ok-header-in-PrintExtents-clause-runs g c =
@@ -72,11 +72,11 @@ returns-in_ok-header-in-PrintExtents-clause-runs g c =
     let header = c.in_ok-header-in-PrintExtents.header in
     let reads = c.in_ok-header-in-PrintExtents.ensures.storage.reads refl in
     rw c.in-PrintExtents.is (
-      PrintsExtents-same c.print_extents.result c.in-PrintExtents.format (disk_in image) (disk_of header image) _ (g.S.Storage.state c.load-in-PrintExtents.new.image) _ _
+      PrintsExtents-after header c.print_extents.result c.in-PrintExtents.format (disk_in image) (disk_of header image) _ (g.S.Storage.state c.load-in-PrintExtents.new.image) _ _ _
           (λ told.
           let read : header_of image ≡ Ok header = header_read (header_of image) header (c.in_ok-header-in-PrintExtents.ensures.exact told) in
           rw read refl)
-          reads.device.tells (rw reads.bytes at c.print_extents.ensures.prints),
+          reads (rw reads.bytes at c.print_extents.ensures.prints),
       reads-then_for _ _ _ _ reads c.print_extents.ensures.storage,
     )
 
