@@ -195,6 +195,18 @@ says_none image len place is = record {
   said = refl;
 }
 
+-- an extension and the chain after it are a chain
+chain_more : (image : Image) (len place next : ℕ) (extension : Extension) (links : List Link) (last : Link)
+    → IsFirst image len place extension next → IsChain image len next links last
+    → IsChain image len place (link_at image place ∷ links) last
+chain_more image len place next extension links last first rest = (
+  refl,
+  first.bounded,
+  first.more,
+  rw first.says refl,
+  subst (λ (n : ℕ). IsChain image len n links last) first.next_is rest,
+)
+
 -- what a chain says, by its first extension and the chain after it
 pub says_more : (image : Image) (len place next : ℕ) (extension : Extension) (others : List Extension)
     → IsFirst image len place extension next → SaysExtensions image len next others
@@ -202,13 +214,7 @@ pub says_more : (image : Image) (len place next : ℕ) (extension : Extension) (
 says_more image len place next extension others first rest = record {
   links = link_at image place ∷ rest.links;
   last = rest.last;
-  chain = (
-    refl,
-    first.bounded,
-    first.more,
-    rw first.says refl,
-    subst (λ (n : ℕ). IsChain image len n rest.links rest.last) first.next_is rest.chain,
-  );
+  chain = chain_more image len place next extension rest.links rest.last first rest.chain;
   complete = rest.complete;
   said = rw (first.says, rest.said) refl;
 }
@@ -230,13 +236,7 @@ breaks_more : (image : Image) (len place next : ℕ) (extension : Extension) (fa
 breaks_more image len place next extension fault first rest = record {
   links = link_at image place ∷ rest.links;
   last = rest.last;
-  chain = (
-    refl,
-    first.bounded,
-    first.more,
-    rw first.says refl,
-    subst (λ (n : ℕ). IsChain image len n rest.links rest.last) first.next_is rest.chain,
-  );
+  chain = chain_more image len place next extension rest.links rest.last first rest.chain;
   broken = rest.broken;
 }
 

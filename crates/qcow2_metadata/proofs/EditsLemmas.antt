@@ -14,12 +14,12 @@ use Rattle.qcow2_base.specs.Types.{IsClusterBits}
 use Rattle.qcow2_base.specs.declared.fault.Fault.{Fault}
 use Rattle.qcow2_metadata.specs.Header.{Geometry}
 use Rattle.qcow2_metadata.specs.declared.entries.ClustersToFreeEntry.{ClustersToFreeEntry}
-use Rattle.qcow2_metadata.specs.Entries.L2Entry.{ByteRange, Meets, allocation, byte_range, cluster_count, clusters_met, first_cluster, is_allocated, is_compressed, l2_fault, meets}
+use Rattle.qcow2_metadata.specs.Entries.L2Entry.{ByteRange, Meets, allocation, byte_range, cluster_count, clusters_met, first_cluster, has_host_cluster, is_allocated, is_compressed, l2_fault, meets, with_zero_flag}
 use Rattle.qcow2_metadata.specs.Entries.{is_among, offset_field}
 use Rattle.qcow2_metadata.proofs.EntriesLemmas.{l2_fault_zero, meets_is_met, offset_in_sectors}
 use Rattle.qcow2_metadata.proofs.TableLemmas.{first_fault-set, no_fault_item}
 use Rattle.qcow2_metadata.specs.Table.{first_fault}
-use Rattle.qcow2_metadata.specs.Table.L2Guards.{EntryEdit, IsEdit, IsRun, RunsTo, TableEdit, after_edit, can_be_made, changed, data_entry, dropped, fits_table, gained, handed_back, has_host_cluster, is_just, is_mappable, keeps, one_if, references, run_of, times_gained, to_data, to_nothing, to_zeros, with_zero_flag}
+use Rattle.qcow2_metadata.specs.Table.L2Guards.{EntryEdit, IsEdit, IsRun, RunsTo, TableEdit, after_edit, can_be_made, changed, data_entry, dropped, fits_table, gained, handed_back, is_just, is_mappable, keeps, one_if, references, run_of, times_gained, to_data, to_nothing, to_zeros}
 
 -- an entry of data in a host cluster at an offset: it is standard and copied, with no reserved bit
 record IsDataAt (v offset : ℕ) : Type 0 where

@@ -6,6 +6,7 @@ use Rattle.qcow2_metadata.specs.Entries.L2Entry.{allocation, compressed_length, 
 use Rattle.qcow2_metadata.specs.Entries.L2Mapping.{backing, compressed, data_file, zeros, entry_of, is_consecutive, mapping, stored_mapping}
 use Rattle.qcow2_metadata.specs.Entries.L1Entry.{l1_entry_for, l1_fault}
 use Rattle.qcow2_metadata.specs.Entries.RefTableEntry.{ref_fault}
+use Rattle.qcow2_metadata.specs.Entries.Runs.{reads_on}
 
 -- numbers that are no entries: a reserved bit, an offset inside a cluster
 pub reserved_bit_56 : l2_fault 9 0x4100000000000000 ≡ Some EntryReserved
@@ -110,6 +111,40 @@ zeros_go_on = refl
 
 pub data_after_zeros_does_not : is_consecutive 9 (zeros (Some 5) true) (data_file 6 true) ≡ false
 data_after_zeros_does_not = refl
+
+-- mappings that read on, so many guest clusters later
+pub data_reads_on : reads_on 3 (data_file 5 true) (data_file 8 false) ≡ true
+data_reads_on = refl
+
+pub data_elsewhere_does_not : reads_on 3 (data_file 5 true) (data_file 7 true) ≡ false
+data_elsewhere_does_not = refl
+
+pub data_reads_on_as_no_zeros : reads_on 1 (data_file 5 true) (zeros (Some 6) true) ≡ false
+data_reads_on_as_no_zeros = refl
+
+pub zeros_with_clusters_read_on : reads_on 2 (zeros (Some 5) false) (zeros (Some 7) true) ≡ true
+zeros_with_clusters_read_on = refl
+
+pub zeros_elsewhere_do_not : reads_on 2 (zeros (Some 5) true) (zeros (Some 5) true) ≡ false
+zeros_elsewhere_do_not = refl
+
+pub zeros_without_clusters_read_on : reads_on 2 (zeros None false) (zeros None false) ≡ true
+zeros_without_clusters_read_on = refl
+
+pub zeros_that_lose_their_cluster_do_not : reads_on 1 (zeros (Some 5) true) (zeros None false) ≡ false
+zeros_that_lose_their_cluster_do_not = refl
+
+pub zeros_that_gain_a_cluster_do_not : reads_on 1 (zeros None false) (zeros (Some 5) true) ≡ false
+zeros_that_gain_a_cluster_do_not = refl
+
+pub compressed_data_reads_on : reads_on 1 (compressed 0x10010 1008) (compressed 0x200 512) ≡ true
+compressed_data_reads_on = refl
+
+pub backing_reads_on : reads_on 3 (backing 1536) (backing 3072) ≡ true
+backing_reads_on = refl
+
+pub data_after_backing_does_not : reads_on 1 (backing 1536) (data_file 6 true) ≡ false
+data_after_backing_does_not = refl
 
 -- the clusters that an entry refers to
 abbrev clusters : ℕ → ℕ → ClustersToFreeEntry

@@ -10,7 +10,8 @@ use Rattle.qcow2_metadata.specs.Entries.{IsAmong, entry_fault, is_among, offset_
 use Rattle.qcow2_metadata.specs.Entries.L1Entry.{l1_entry_for, l1_fault, l1_reserved_bits}
 use Rattle.qcow2_metadata.specs.Entries.RefTableEntry.{ref_fault, ref_reserved_bits}
 
-div_rises : (a b k : ℕ) → 0 < k → a ≤ b → a / k ≤ b / k
+-- the quotients of numbers by one are in their order
+pub div_rises : (a b k : ℕ) → 0 < k → a ≤ b → a / k ≤ b / k
 div_rises a b k p h = (le-div_iff_mul-le p).1 (omega (arith, div-mul-le_self a k))
 
 div_above : (q n k : ℕ) → 0 < k → q * k ≤ n → q ≤ n / k
@@ -77,15 +78,6 @@ allocation_of_range g v start length is some short =
       none = tt;
       count = met_count g.cluster_bits range (omega arith) (omega arith);
     })
-
--- an entry that refers to no byte has none
-pub allocation_of_none : (g : Geometry) (v : ℕ) → byte_range g v ≡ None → IsAllocation g v None
-allocation_of_none g v is = record {
-  value = rw is refl;
-  met = tt;
-  none = λ c met. let no : None ≡ Some met.0 = cc in cc;
-  count = tt;
-}
 
 -- an entry refers to one byte at least, where it refers to any
 range_of_either : (compressed allocated : Bool) (a b range : ByteRange) → a.start < a.end → b.start < b.end → (if compressed then Some a else (if allocated then Some b else None)) ≡ Some range → range.start < range.end
@@ -175,7 +167,7 @@ same_test cb v low high =
     same_from_decides _ _ (Decides-eqb _ 0) (λ t. clear.1 (below.0 t), λ none. below.1 (clear.0 none))
 
 -- a number is lawful where its reserved bits are clear and its kind's offset is
-lawful_by_kind : (clear compressed low aligned : Bool) → IsTrue (clear && (if compressed then low else aligned)) ↔ (entry_fault (not clear || (compressed && not low)) (not compressed && not aligned) ≡ None)
+pub lawful_by_kind : (clear compressed low aligned : Bool) → IsTrue (clear && (if compressed then low else aligned)) ↔ (entry_fault (not clear || (compressed && not low)) (not compressed && not aligned) ≡ None)
 lawful_by_kind false compressed low aligned = (λ t. cc, λ e. cc)
 lawful_by_kind true true true aligned = (λ _. refl, λ _. refl)
 lawful_by_kind true true false aligned = (λ t. cc, λ e. cc)

@@ -3,7 +3,7 @@ use Rattle.std.specs.Prelude.{◌↔◌, Ok, Err}
 use Rattle.std.specs.BTreeMap.{insert_entry}
 use Rattle.std.specs.Str.{IsUtf8, is_utf8}
 use Rattle.std.specs.Str.Lossy.{utf8_lossy}
-use Rattle.std.proofs.lemmas.Str.{is_utf8-from_IsUtf8, IsUtf8-from_is_utf8}
+use Rattle.std.proofs.lemmas.Str.{IsUtf8-from_is_utf8}
 use Rattle.std.specs.Map.{lookup}
 use Rattle.std.specs.Int.{div_ceil}
 use Rattle.std.specs.Ordering.{is_eq, match_ordering}
@@ -43,10 +43,7 @@ until_zero-found bytes None nowhere =
 until_zero-found bytes (Some n) found =
     until_zero-take bytes n (omega (arith, found.0.high)) (λ k below zero. found.0.before k (omega arith) below (grind (arith, zero))) (λ below. grind (arith, found.1))
 
--- bytes that are text, and bytes that aren't
-pub text-valid : (fault : Fault) (bytes : List ℕ) → IsUtf8 bytes → text fault bytes ≡ Ok bytes
-text-valid fault bytes valid = rw (is_utf8-from_IsUtf8 bytes valid) refl
-
+-- bytes that are no text
 pub text-invalid : (fault : Fault) (bytes : List ℕ) → ¬ (IsUtf8 bytes) → text fault bytes ≡ Err fault
 text-invalid fault bytes invalid = by_test (is_utf8 bytes) refl
   where
@@ -63,21 +60,11 @@ feature_type_of-number Autoclear = refl
 feature_type_of-unknown : (number : ℕ) → ((kind : FeatureType) → feature_type_number kind ≢ number) → feature_type_of number ≡ None
 feature_type_of-unknown number unknown = grind (arith, unknown Incompatible, unknown Compatible, unknown Autoclear)
 
--- what a chunk does that is empty, of a type that isn't known, of one byte, or longer
-pub with_feature_name-empty : (names : FeatureNames) (chunk : List ℕ) → length chunk ≡ 0 → with_feature_name names chunk ≡ Ok names
-with_feature_name-empty names [] none = refl
-with_feature_name-empty names (number ∷ bytes) none = absurd (omega arith)
-
+-- what a chunk does that is of a type that isn't known, or of two bytes and more
 pub with_feature_name-unknown : (names : FeatureNames) (chunk : List ℕ)
     → ((kind : FeatureType) → feature_type_number kind ≢ slice_index chunk 0) → with_feature_name names chunk ≡ Ok names
 with_feature_name-unknown names [] unknown = refl
 with_feature_name-unknown names (number ∷ bytes) unknown = rw (feature_type_of-unknown number unknown) refl
-
-pub with_feature_name-cut : (names : FeatureNames) (kind : FeatureType) (chunk : List ℕ) → length chunk ≡ 1
-    → feature_type_number kind ≡ slice_index chunk 0 → with_feature_name names chunk ≡ Err FeatureNameCut
-with_feature_name-cut names kind [] one known = absurd (omega arith)
-with_feature_name-cut names kind (number ∷ []) one known = rw (← known, feature_type_of-number kind) refl
-with_feature_name-cut names kind (number ∷ bit ∷ name) one known = absurd (omega arith)
 
 pub with_feature_name-named : (names : FeatureNames) (kind : FeatureType) (chunk : List ℕ) → 2 ≤ length chunk
     → feature_type_number kind ≡ slice_index chunk 0 → with_feature_name names chunk

@@ -1,7 +1,7 @@
 use Rattle.std.proofs.Common.{◌≡◌, ℕ, Bool, true, false, ◌&&◌, Option, None, refl, sym, ◌∙◌}
 use Rattle.std.specs.Prelude.{slice_index}
-use Rattle.qcow2_metadata.specs.Table.L2Guards.{MakesEdit, has_host_cluster, to_zeros, with_zero_flag}
-use Rattle.qcow2_metadata.specs.Entries.L2Entry.{IsAllocation, l2_fault}
+use Rattle.qcow2_metadata.specs.Table.L2Guards.{MakesEdit, to_zeros}
+use Rattle.qcow2_metadata.specs.Entries.L2Entry.{IsAllocation, has_host_cluster, l2_fault, with_zero_flag}
 use Rattle.qcow2_metadata.specs.Header.{Geometry}
 use Rattle.qcow2_metadata.specs.Table.{TableState, edited}
 use Rattle.qcow2_metadata.specs.declared.entries.ClustersToFreeEntry.{ClustersToFreeEntry}

@@ -1,4 +1,4 @@
-use Rattle.std.proofs.Common.{◌≡◌, ℕ, zero, suc, ◌+◌, ◌-◌, ◌%◌, ◌^◌, ◌<◌, ◌≤◌, Bool, true, false, List, [], ◌∷◌, ◌++◌, length, get_or, map, take, replicate, refl, ap, sym, subst, ◌∙◌, add-one, append_assoc, append-nil, length-append, take_all, arith, min}
+use Rattle.std.proofs.Common.{◌≡◌, ℕ, ◌+◌, ◌-◌, ◌%◌, ◌^◌, ◌<◌, ◌≤◌, Bool, true, false, List, [], ◌∷◌, ◌++◌, length, get_or, map, take, replicate, refl, ap, sym, subst, ◌∙◌, append_assoc, append-nil, length-append, take_all, arith, min}
 use Rattle.std.specs.BTreeMap.{BTreeMap}
 use Rattle.std.specs.Global.{Global}
 use Rattle.std.specs.Int.{next_multiple_of}
@@ -39,15 +39,6 @@ chosen-parts false (extension ∷ extensions) =
 -- a table says as many names as it has
 pub length-names_of : (names : BTreeMap FeatureKey (String Global)) → length (names_of names) ≡ length names.entries
 length-names_of names = length-map names.entries (λ entry. (entry.0, string_bytes entry.1))
-
--- one more element puts what it gives at the end
-pub flat_map-more : {X : Type 0} (f : X → List ℕ) (xs : List X) (i : ℕ) (default : X) → i < length xs
-    → flat_map f (take (i + 1) xs) ≡ flat_map f (take i xs) ++ f (get_or xs i default)
-flat_map-more f [] i default below = absurd (omega arith)
-flat_map-more f (x ∷ xs) zero default below = append-nil (f x)
-flat_map-more f (x ∷ xs) (suc i) default below =
-    let rest = flat_map-more f xs i default (omega arith) in
-    rw (add-one, rw add-one at rest) (simp append_assoc)
 
 -- what is written of an extension in memory
 abbrev pub held_part : Bool → HeaderExtension → List ℕ

@@ -2,7 +2,7 @@ use Rattle.std.proofs.Common.{◌≡◌, ℕ, Bool, true, false, not, ◌&&◌, 
 use Rattle.std.proofs.lemmas.Bool.{lt-ltb, cases_Bool}
 use Rattle.std.proofs.lemmas.Bool.Decides.{same_from_decides, Decides-eqb}
 use Rattle.std.proofs.lemmas.Nat.{pow-add, shl-shr, mul-le, div-mul-add, mod-mul-add}
-use Rattle.std.proofs.Math.Nat.{mul_assoc, mul-mod_left, add-mod_left, mod-eq_of_lt, zero-mul, zero-div}
+use Rattle.std.proofs.Math.Nat.{mul-mod_left, add-mod_left, mod-eq_of_lt, zero-mul, zero-div}
 use Rattle.std.proofs.Math.Pow.{pow_mono}
 use Rattle.qcow2_base.specs.Bits.{field}
 use Rattle.qcow2_base.specs.declared.fault.Fault.TheVariants.{EntryReserved}
@@ -12,14 +12,14 @@ use Rattle.qcow2_metadata.specs.declared.entries.l2_mapping.L2Mapping.TheVariant
 use Rattle.qcow2_metadata.specs.Entries.L2Mapping.{FitsEntry, IsPlaced, copied_bit, entry_of, is_told, mapping, meaning, stored_mapping, sector_end, sectors_beyond, standard_mapping, backing, compressed, data_file, zeros}
 use Rattle.qcow2_metadata.specs.Entries.{entry_fault, offset_field}
 use Rattle.qcow2_metadata.specs.Entries.L2Entry.{is_compressed, l2_fault}
-use Rattle.qcow2_metadata.proofs.EntriesLemmas.{l2_fault_zero, sectors_fill_two_clusters}
+use Rattle.qcow2_metadata.proofs.EntriesLemmas.{l2_fault_zero, offset_in_sectors, sectors_fill_two_clusters}
 
 -- the number of a flag
-abbrev bit : Bool → ℕ
+abbrev pub bit : Bool → ℕ
 bit true = 1
 bit false = 0
 
-bit_below : (b : Bool) → bit b < 2
+pub bit_below : (b : Bool) → bit b < 2
 bit_below true = omega arith
 bit_below false = omega arith
 
@@ -48,21 +48,13 @@ standard_fields sectors copied flag below c z = record {
   lowest = omega arith;
 }
 
--- a cluster's offset is one of sectors of 512 bytes
-in_sectors : (cb cluster : ℕ) → 9 ≤ cb → cluster * 2 ^ cb ≡ cluster * 2 ^ (cb - 9) * 512
-in_sectors cb cluster low =
-    let power = pow-add 2 (cb - 9) 9 in
-    let whole : cb - 9 + 9 ≡ cb = omega arith in
-    let same : 2 ^ cb ≡ 2 ^ (cb - 9) * 512 = rw whole at power in
-    ap (λ x. cluster * x) same ∙ sym (mul_assoc cluster (2 ^ (cb - 9)) 512)
-
 -- the number of a mapping to a cluster
 abbrev standard_number : ℕ → ℕ → Bool → Bool → ℕ
 standard_number cb cluster copied flag = copied_bit copied + cluster * 2 ^ cb + bit flag
 
 is_standard : (cb cluster : ℕ) (copied flag : Bool) → 9 ≤ cb → cluster * 2 ^ cb < 2 ^ 56 → IsStandard (standard_number cb cluster copied flag) (cluster * 2 ^ cb) (bit copied) (bit flag)
 is_standard cb cluster copied flag low placed =
-    let sectors = in_sectors cb cluster low in
+    let sectors = offset_in_sectors cb cluster low in
     rw (copied_bit_is copied, sectors) (standard_fields (cluster * 2 ^ (cb - 9)) (bit copied) (bit flag) (rw sectors at placed) (bit_below copied) (bit_below flag))
 
 standard_is_lawful : (cb cluster : ℕ) (copied flag : Bool) → 9 ≤ cb → cluster * 2 ^ cb < 2 ^ 56 → l2_fault cb (standard_number cb cluster copied flag) ≡ None

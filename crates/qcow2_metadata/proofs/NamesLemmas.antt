@@ -1,6 +1,5 @@
-use Rattle.std.proofs.Common.{◌≡◌, ◌≢◌, ℕ, zero, suc, ◌+◌, ◌-◌, ◌*◌, ◌^◌, ◌<◌, List, [], ◌∷◌, ◌++◌, length, get_or, take, drop, map, replicate, refl, sym, ap, ◌∙◌, subst, inl, inr, arith, ◌≤◌, ◌==◌, false}
-use Rattle.std.specs.Prelude.{All, Ok, ⊤, String, string_bytes}
-use Rattle.std.specs.Global.{Global}
+use Rattle.std.proofs.Common.{◌≡◌, ◌≢◌, ℕ, zero, suc, ◌+◌, ◌-◌, ◌*◌, ◌^◌, ◌<◌, List, [], ◌∷◌, ◌++◌, length, take, drop, map, replicate, refl, sym, ap, ◌∙◌, subst, inl, inr, arith, ◌≤◌, ◌==◌, false}
+use Rattle.std.specs.Prelude.{All, Ok}
 use Rattle.std.specs.BTreeMap.{insert_entry}
 use Rattle.std.specs.Int.{div_ceil}
 use Rattle.std.specs.List.{AllByRecursion, flat_map}
@@ -12,19 +11,18 @@ use Rattle.std.specs.declared.cmp.Ordering.TheVariants.{Less, Greater}
 use Rattle.std.proofs.lemmas.Bool.{cases_Bool}
 use Rattle.std.proofs.lemmas.Cmp.{nat_cmp_total}
 use Rattle.std.proofs.lemmas.List.{append_assoc, drop_at, drop-drop, length-append, length-replicate, length-take, length_push, append-nil, take-take, take_all, take_at}
-use Rattle.std.proofs.lemmas.List.Elements.{All-head, All-map, All-tail}
-use Rattle.std.proofs.lemmas.Str.{IsUtf8-string_bytes, utf8_lossy-IsUtf8}
+use Rattle.std.proofs.lemmas.List.Elements.{All-head, All-tail}
+use Rattle.std.proofs.lemmas.Str.{utf8_lossy-IsUtf8}
 use Rattle.std.proofs.Math.Seq.{take-append-add}
 use Rattle.std.specs.Ordering.{ordering_reverse}
 use Rattle.qcow2_base.specs.declared.fault.Fault.TheVariants.{ExtensionText}
 use Rattle.qcow2_metadata.proofs.CutLemmas.{IsCutText, IsCutText-take, utf8_lossy-cut, utf8_lossy-replaced}
-use Rattle.qcow2_metadata.proofs.ExtensionsLemmas.{parsed-unknown, text-valid, with_feature_name-named}
+use Rattle.qcow2_metadata.proofs.ExtensionsLemmas.{parsed-unknown, with_feature_name-named}
+use Rattle.qcow2_metadata.proofs.GrammarLemmas.{IsUtf8-text}
 use Rattle.qcow2_metadata.specs.Header.{IsStorable}
-use Rattle.qcow2_metadata.specs.Header.Extensions.{BackingFileFormat, Extension, ExternalDataFileName, FeatureKey, FeatureNameTable, FeatureNames, Unknown, chunk_at, extension_of, feature_names, key_cmp, names_of_chunks, parsed, until_zero, with_feature_name}
+use Rattle.qcow2_metadata.specs.Header.Extensions.{BackingFileFormat, Extension, ExternalDataFileName, FeatureKey, FeatureNameTable, FeatureNames, Unknown, chunk_at, feature_names, key_cmp, names_of_chunks, parsed, until_zero, with_feature_name}
 use Rattle.qcow2_metadata.specs.Header.Text.{data_of, name_chunk, normal_extension, normal_name, type_number}
 use Rattle.qcow2_metadata.specs.Results.{result_map}
-use Rattle.qcow2_metadata.specs.declared.header.extensions.HeaderExtension.{HeaderExtension}
-use Rattle.qcow2_metadata.specs.declared.header.extensions.HeaderExtension.TheVariants as held
 use Rattle.qcow2_metadata.specs.declared.header.extensions.HeaderExtensionType.TheVariants as kind
 use Rattle.qcow2_metadata.specs.declared.header.features.FeatureType.TheVariants.{Autoclear, Compatible, Incompatible}
 
@@ -155,9 +153,9 @@ feature_names-chunks names sorted =
 -- an extension that can be stored reads back
 pub storable-reads_back : (extension : Extension) → IsStorable extension → ReadsBack extension
 storable-reads_back (BackingFileFormat name) text =
-    (omega arith, omega arith, ap (result_map BackingFileFormat) (text-valid ExtensionText name text))
+    (omega arith, omega arith, ap (result_map BackingFileFormat) (IsUtf8-text ExtensionText name text))
 storable-reads_back (ExternalDataFileName name) text =
-    (omega arith, omega arith, ap (result_map ExternalDataFileName) (text-valid ExtensionText name text))
+    (omega arith, omega arith, ap (result_map ExternalDataFileName) (IsUtf8-text ExtensionText name text))
 storable-reads_back (FeatureNameTable names) storable =
     (omega arith, omega arith, ap (result_map FeatureNameTable) (feature_names-chunks names storable.0))
 storable-reads_back (Unknown number content) storable =
@@ -277,20 +275,3 @@ pub normal_extensions-once : (extensions : List Extension) → All IsStorable ex
     → map normal_extension (map normal_extension extensions) ≡ map normal_extension extensions
 normal_extensions-once extensions all =
     map-once normal_extension IsStorable normal_extension-once extensions all
-
--- its texts are UTF-8
-abbrev pub HasTexts : Extension → Type 0
-HasTexts (BackingFileFormat name) = IsUtf8 name
-HasTexts (ExternalDataFileName name) = IsUtf8 name
-HasTexts (FeatureNameTable names) = All (λ named. IsUtf8 named.1) names
-HasTexts (Unknown number content) = ⊤
-
--- the texts of an extension in memory are UTF-8
-pub held-texts : (extension : HeaderExtension) → HasTexts (extension_of extension)
-held-texts (held.BackingFileFormat name) = IsUtf8-string_bytes name
-held-texts (held.ExternalDataFileName name) = IsUtf8-string_bytes name
-held-texts (held.FeatureNameTable names) =
-    let named : FeatureKey × String Global → FeatureKey × List ℕ = λ entry. (entry.0, string_bytes entry.1) in
-    All-map (λ (other : FeatureKey × List ℕ). IsUtf8 other.1) named names.entries
-    (λ k d below. IsUtf8-string_bytes (get_or names.entries k d).1)
-held-texts (held.Unknown number content) = tt

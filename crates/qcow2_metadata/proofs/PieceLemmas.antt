@@ -3,11 +3,10 @@ use Rattle.std.specs.List.{All}
 use Rattle.std.proofs.lemmas.List.{get_or-append_right, get_or-replicate, get_or_append_left, get_or_past, length-replicate, take_more}
 use Rattle.std.proofs.lemmas.Bool.{cases_lt}
 use Rattle.std.proofs.lemmas.Option.{slice_get-get_or}
-use Rattle.qcow2_base.specs.Storage.{Image, be, be_of_same, image_of}
-use Rattle.qcow2_base.specs.Storage.{IsBytes}
+use Rattle.qcow2_base.specs.Storage.{Image, IsBytes, be, be_of_same, image_of}
 use Rattle.qcow2_metadata.specs.Pieces.{Stand, number_bytes}
-use Rattle.qcow2_metadata.specs.Table.{table_numbers}
-use Rattle.qcow2_metadata.proofs.PackingLemmas.{byte_of_be}
+use Rattle.qcow2_metadata.specs.Table.{IsTorn, table_numbers}
+use Rattle.qcow2_metadata.proofs.PackingLemmas.{byte_of_be, counter_at-packed}
 use Rattle.qcow2_metadata.proofs.RefblockLemmas.{stand-decoded}
 use Rattle.qcow2_metadata.proofs.TableLemmas.{table_numbers_more}
 
@@ -27,6 +26,24 @@ pub table-stands : (numbers : List ℕ) (image : Image) (offset : ℕ) → All (
     → Stand (number_bytes numbers) (8 * length numbers) image offset → table_numbers image offset (length numbers) ≡ numbers
 table-stands numbers image offset fits stand =
     stand-decoded 6 (length numbers) (8 * length numbers) numbers image offset (lit≤ tt) fits refl (omega arith) stand
+
+-- where a write of a table failed, the numbers of the pieces before the failed one are the table's
+pub torn_numbers : (numbers : List ℕ) (offset : ℕ) (old new : Image) → All (λ v. v < 2 ^ 64) numbers
+    → IsTorn numbers offset old new
+    → (piece : ℕ) × (512 * piece < length numbers) × (table_numbers new offset (512 * piece) ≡ take (512 * piece) numbers)
+torn_numbers numbers offset old new fits torn =
+    let piece = torn.0 in
+    let within = torn.1.within in
+    let before = torn.1.before in (
+      piece,
+      omega (arith, within),
+      numbers_stand new offset (512 * piece) numbers (omega (arith, within)) (λ i below.
+          let same = be_of_same new (number_bytes numbers) 8 (offset + 8 * i) (0 + 8 * i) (λ k small.
+          let at : offset + 8 * i + k ≡ offset + (8 * i + k) = omega arith in
+          let from : 0 + 8 * i + k ≡ 8 * i + k = omega arith in
+          rw (at, from) (before (8 * i + k) (omega (arith, below, small)))) in
+          same ∙ counter_at-packed 6 numbers i (lit≤ tt) fits),
+    )
 
 -- the bytes of numbers that stand in eights are theirs
 pub piece_bytes : (bytes numbers : List ℕ) (first : ℕ) → IsBytes (image_of bytes) → length bytes % 8 ≡ 0

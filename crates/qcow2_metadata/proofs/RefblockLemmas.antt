@@ -47,9 +47,6 @@ counter_holds order (U64 list) number kind fits = let same = rw kind at fits in 
 below_width : (order number : ℕ) → number ≤ greatest_counter order → number < 2 ^ width order
 below_width order number fits = omega (arith, fits, pow_pos (width order))
 
-pub within_width : (order number : ℕ) → number < 2 ^ width order → number ≤ greatest_counter order
-within_width order number below = omega (arith, below)
-
 -- a block of zeros is lawful
 pub zeros-lawful : (cb order : ℕ) (counters : Counters) → IsClusterBits cb → order ≤ 6 → kept_counters counters ≡ replicate (block_entries cb order) 0 → IsLawfulBlock cb order None (kept_counters counters)
 zeros-lawful cb order counters bits orders zeros = record {

@@ -1,4 +1,4 @@
-use Rattle.std.proofs.Common.{◌≡◌, ℕ, Bool, true, false, not, ◌&&◌, ◌||◌, nat_eq, nat_lt, if◌then◌else◌, ◌≢◌, ◌⊎◌, ◌+◌, ◌-◌, ◌*◌, ◌/◌, ◌%◌, ◌^◌, ◌<◌, ◌≤◌, List, length, get_or, take, drop, IsTrue, Option, Some, None, refl, ap, sym, ◌∙◌, inl, inr, arith, eq-eqb}
+use Rattle.std.proofs.Common.{◌≡◌, ℕ, Bool, true, false, not, ◌&&◌, ◌||◌, nat_eq, nat_lt, if◌then◌else◌, ◌≢◌, ◌⊎◌, ◌+◌, ◌-◌, ◌*◌, ◌/◌, ◌%◌, ◌^◌, ◌<◌, ◌≤◌, List, length, get_or, take, drop, IsTrue, Option, Some, None, refl, ap, sym, ◌∙◌, inl, inr, arith, eq-eqb, length-drop, zero, suc}
 use Rattle.std.specs.Prelude.{bit_and, is_some}
 use Rattle.std.proofs.lemmas.Bool.{cases_Bool, ne_eqb, eqb-false}
 use Rattle.std.proofs.lemmas.Bool.Decides.{same_from_decides, Decides-eqb, nat_tests}
@@ -9,25 +9,22 @@ use Rattle.std.proofs.Math.Pow.{pow_mono}
 use Rattle.std.specs.List.{All}
 use Rattle.std.proofs.lemmas.List.{get_or-drop, get_or-take, map-id, length-take}
 use Rattle.std.proofs.lemmas.List.Elements.{All-get_or}
-use Rattle.std.proofs.Common.{length-drop, zero, suc}
 use Rattle.qcow2_base.specs.Bits.{field}
 use Rattle.qcow2_base.specs.Types.{IsClusterBits}
 use Rattle.qcow2_base.specs.declared.types.HostOffset.{HostOffset}
 use Rattle.qcow2_metadata.specs.Header.{geometry}
 use Rattle.qcow2_metadata.specs.Entries.L2Mapping.{Mapping, backing, compressed, data_file, zeros, mapping, standard_mapping, host_cluster}
-use Rattle.qcow2_metadata.specs.Entries.{entry_fault, is_copied, offset_field}
-use Rattle.qcow2_metadata.specs.Entries.L2Entry.{compressed_length, compressed_offset, host_offset, is_allocated, is_compressed, is_zero, l2_fault}
-use Rattle.qcow2_metadata.specs.Entries.Runs.{follows, goes_on}
+use Rattle.qcow2_metadata.specs.Entries.{is_copied, offset_field}
+use Rattle.qcow2_metadata.specs.Entries.L2Entry.{compressed_length, compressed_offset, host_offset, is_allocated, is_compressed, is_zero, l2_fault, l2_reserved_bits}
+use Rattle.qcow2_metadata.specs.Entries.Runs.{follows, reads_on}
 use Rattle.qcow2_metadata.specs.Table.{TableState, first_fault, mapping_at}
 use Rattle.qcow2_metadata.specs.Table.L2Table.{IsMappedRun}
 use Rattle.qcow2_metadata.specs.declared.entries.runs.RunPattern.{RunPattern}
+use Rattle.qcow2_metadata.proofs.EntriesLemmas.{lawful_by_kind}
+use Rattle.qcow2_metadata.proofs.MappingLemmas.{bit, bit_below}
 use Rattle.qcow2_metadata.proofs.TableLemmas.{no_fault_item}
 
--- the number of a flag
-abbrev bit : Bool → ℕ
-bit true = 1
-bit false = 0
-
+-- a bit as the number of a flag
 flag_of : (n : ℕ) → n < 2 → n ≡ bit (nat_eq n 1)
 flag_of n below = elim (cases_Bool (nat_eq n 1)) [
   | inl one ↦ rw one (grind (arith, nat_tests))
@@ -35,7 +32,7 @@ flag_of n below = elim (cases_Bool (nat_eq n 1)) [
 ]
 
 -- a compressed entry goes on at each compressed one
-after_compressed : (b z cp : Bool) (h : Option ℕ) (k a l o m p : ℕ) → goes_on k (compressed a l) (if b then compressed o m else standard_mapping z h cp p) ≡ b
+after_compressed : (b z cp : Bool) (h : Option ℕ) (k a l o m p : ℕ) → reads_on k (compressed a l) (if b then compressed o m else standard_mapping z h cp p) ≡ b
 after_compressed true z cp h k a l o m p = refl
 after_compressed false true cp (Some c) k a l o m p = refl
 after_compressed false true cp None k a l o m p = refl
@@ -43,7 +40,7 @@ after_compressed false false cp (Some c) k a l o m p = refl
 after_compressed false false cp None k a l o m p = refl
 
 -- and no other at one
-before_compressed : (z cp : Bool) (h : Option ℕ) (k p o m : ℕ) → goes_on k (standard_mapping z h cp p) (compressed o m) ≡ false
+before_compressed : (z cp : Bool) (h : Option ℕ) (k p o m : ℕ) → reads_on k (standard_mapping z h cp p) (compressed o m) ≡ false
 before_compressed true cp (Some c) k p o m = refl
 before_compressed true cp None k p o m = refl
 before_compressed false cp (Some c) k p o m = refl
@@ -76,7 +73,7 @@ none_if q told = elim (cases_Bool (nat_eq q 0)) [
 
 after_cluster : (zb zb0 alloc cp cp0 : Bool) (n q q0 k o p : ℕ) → 2 ≤ n → 1 ≤ k → (1 ≤ q → alloc ≡ true)
     → nat_eq (q * n + bit zb) (q0 * n + bit zb0 + k * n)
-    ≡ goes_on k (standard_mapping zb0 (Some q0) cp0 o) (standard_mapping zb (if alloc then Some q else None) cp p)
+    ≡ reads_on k (standard_mapping zb0 (Some q0) cp0 o) (standard_mapping zb (if alloc then Some q else None) cp p)
 after_cluster true true true cp cp0 n q q0 k o p some far told = further n q q0 k 1 some
 after_cluster false false true cp cp0 n q q0 k o p some far told = further n q q0 k 0 some
 after_cluster true false true cp cp0 n q q0 k o p some far told = (flag_differs n q q0 k some).0
@@ -99,7 +96,7 @@ other_flag x k = (λ one. ne_eqb _ _ (λ e. omega (arith, e)), λ none. ne_eqb _
 
 after_no_cluster : (zb zb0 alloc cp cp0 : Bool) (x q k o p : ℕ) → (alloc ≡ true → 2 ≤ x) → (alloc ≡ false → x ≡ bit zb)
     → nat_eq x (bit zb0 + k * 0)
-    ≡ goes_on k (standard_mapping zb0 None cp0 o) (standard_mapping zb (if alloc then Some q else None) cp p)
+    ≡ reads_on k (standard_mapping zb0 None cp0 o) (standard_mapping zb (if alloc then Some q else None) cp p)
 after_no_cluster true true true cp cp0 x q k o p large small = large_differs x k true (large refl)
 after_no_cluster true false true cp cp0 x q k o p large small = large_differs x k false (large refl)
 after_no_cluster false true true cp cp0 x q k o p large small = large_differs x k true (large refl)
@@ -110,16 +107,6 @@ after_no_cluster true false false cp cp0 x q k o p large small = (other_flag x k
 after_no_cluster false true false cp cp0 x q k o p large small = (other_flag x k).1 (small refl)
 
 -- the parts of a lawful standard entry
-standard_by_fault : (kind below aligned : Bool) (high rest : ℕ) → entry_fault (not (nat_eq (if kind then high else rest) 0) || (kind && not below)) (not kind && not aligned) ≡ None → kind ≡ false → (nat_eq rest 0 ≡ true) × (aligned ≡ true)
-standard_by_fault true below aligned high rest lawful is = cc
-standard_by_fault false below aligned high rest lawful is = by_tests (nat_eq rest 0) aligned lawful
-  where
-    by_tests : (clear aligned : Bool) → entry_fault (not clear || false) (not aligned) ≡ None → (clear ≡ true) × (aligned ≡ true)
-    by_tests true true lawful = (refl, refl)
-    by_tests true false lawful = cc
-    by_tests false true lawful = cc
-    by_tests false false lawful = cc
-
 record Parts (cb v : ℕ) : Type 0 where
   lower : v % 2 ^ 63 ≡ offset_field v / 2 ^ cb * 2 ^ cb + bit (is_zero v)
   offset : offset_field v ≡ offset_field v / 2 ^ cb * 2 ^ cb
@@ -127,9 +114,10 @@ record Parts (cb v : ℕ) : Type 0 where
 
 parts_of : (cb v : ℕ) → l2_fault cb v ≡ None → is_compressed v ≡ false → Parts cb v
 parts_of cb v lawful standard =
-    let tests = standard_by_fault (is_compressed v) (nat_lt (v % 2 ^ (70 - cb)) (2 ^ 56)) (nat_eq (offset_field v % 2 ^ cb) 0) (field v 63 1 * 2 ^ 63) (field v 1 8 * 2 ^ 1 + field v 56 6 * 2 ^ 56) lawful standard in
-    let reserved : field v 1 8 * 2 ^ 1 + field v 56 6 * 2 ^ 56 ≡ 0 = (Decides-eqb _ 0).0 tests.0 in
-    let aligned : offset_field v % 2 ^ cb ≡ 0 = (Decides-eqb _ 0).0 tests.1 in
+    let kinds = (lawful_by_kind (nat_eq (l2_reserved_bits v) 0) (is_compressed v) (nat_lt (v % 2 ^ (70 - cb)) (2 ^ 56)) (nat_eq (offset_field v % 2 ^ cb) 0)).1 lawful in
+    let tests : IsTrue (nat_eq (field v 1 8 * 2 ^ 1 + field v 56 6 * 2 ^ 56) 0 && nat_eq (offset_field v % 2 ^ cb) 0) = rw standard at kinds in
+    let reserved : field v 1 8 * 2 ^ 1 + field v 56 6 * 2 ^ 56 ≡ 0 = grind (arith, nat_tests, tests) in
+    let aligned : offset_field v % 2 ^ cb ≡ 0 = grind (arith, nat_tests, tests) in
     let kind : field v 62 1 ≢ 1 = eqb-false (field v 62 1) 1 standard in
     let flag : field v 0 1 ≡ bit (is_zero v) = flag_of (field v 0 1) (omega arith) in
     let offset : offset_field v ≡ offset_field v / 2 ^ cb * 2 ^ cb = omega (arith, div-add-mod' (offset_field v) (2 ^ cb)) in
@@ -195,12 +183,8 @@ standard_low : (cb v k : ℕ) → cb ≤ 21 → k ≤ 262144 → Parts cb v → 
 standard_low cb v k high few parts =
     let power : 2 ^ cb ≤ 2 ^ 21 = pow_mono high in
     let grown = mul-le k (2 ^ cb) 262144 (2 ^ 21) few power in
-    let flag : bit (is_zero v) ≤ 1 = bit_low (is_zero v) in
+    let flag : bit (is_zero v) ≤ 1 = omega (arith, bit_below (is_zero v)) in
     omega (arith, grown, parts.lower, parts.offset, parts.small, flag)
-  where
-    bit_low : (b : Bool) → bit b ≤ 1
-    bit_low true = omega arith
-    bit_low false = omega arith
 
 -- what a test of an entry's offset says
 pub has_offset : (external : Bool) (v : ℕ) (found : Option HostOffset) (test : Bool) → found ≡ host_offset external v → test ≡ is_some found → test ≡ is_allocated external v
@@ -212,7 +196,7 @@ has_offset external v found test is same = same ∙ ap is_some is ∙ some_just_
 
 -- the patterns tell just the entries that go on
 pub after_a_compressed_entry : (cb : ℕ) (external : Bool) (k v v0 c other : ℕ) → is_compressed v0 ≡ true
-    → nat_eq (bit_and v 4611686018427387904) (4611686018427387904 + k * 0) ≡ goes_on k (mapping (geometry cb external) c v0) (mapping (geometry cb external) other v)
+    → nat_eq (bit_and v 4611686018427387904) (4611686018427387904 + k * 0) ≡ reads_on k (mapping (geometry cb external) c v0) (mapping (geometry cb external) other v)
 after_a_compressed_entry cb external k v v0 c other is =
     let test : nat_eq (bit_and v 4611686018427387904) (4611686018427387904 + k * 0) ≡ is_compressed v =
     same_from_decides _ _ (Decides-eqb (bit_and v 4611686018427387904) (4611686018427387904 + k * 0)) (
@@ -223,7 +207,7 @@ after_a_compressed_entry cb external k v v0 c other is =
 
 pub after_an_entry_with_a_cluster : (cb : ℕ) (external : Bool) (k v v0 c other : ℕ) → cb ≤ 21 → 9 ≤ cb → 1 ≤ k → k ≤ 262144 → v < 2 ^ 64
     → l2_fault cb v ≡ None → l2_fault cb v0 ≡ None → is_compressed v0 ≡ false → is_allocated external v0 ≡ true
-    → nat_eq (bit_and v 9223372036854775807) (v0 % 2 ^ 63 + k * 2 ^ cb) ≡ goes_on k (mapping (geometry cb external) c v0) (mapping (geometry cb external) other v)
+    → nat_eq (bit_and v 9223372036854775807) (v0 % 2 ^ 63 + k * 2 ^ cb) ≡ reads_on k (mapping (geometry cb external) c v0) (mapping (geometry cb external) other v)
 after_an_entry_with_a_cluster cb external k v v0 c other high low far few fits lawful lawful0 standard0 allocated =
     let parts0 = parts_of cb v0 lawful0 standard0 in
     let masked : bit_and v 9223372036854775807 ≡ v % 2 ^ 63 = and_mask v 63 in
@@ -249,10 +233,10 @@ after_an_entry_with_a_cluster cb external k v v0 c other high low far few fits l
         let above : offset_field v ≢ 0 = λ zero. omega (arith, mul-le 1 1 (offset_field v / 2 ^ cb) (2 ^ cb) some (pow_pos cb), parts.offset, zero) in
         rw (ne_eqb (offset_field v) 0 above) refl
 
-pub after_an_entry_without : (cb : ℕ) (external : Bool) (x k v v0 c other : ℕ) → (is_compressed v ≡ true → 2 ≤ x)
+after_an_entry_without : (cb : ℕ) (external : Bool) (x k v v0 c other : ℕ) → (is_compressed v ≡ true → 2 ≤ x)
     → (is_compressed v ≡ false → (is_allocated external v ≡ true → 2 ≤ x) × (is_allocated external v ≡ false → x ≡ bit (is_zero v)))
     → l2_fault cb v0 ≡ None → is_compressed v0 ≡ false → is_allocated external v0 ≡ false
-    → nat_eq x (v0 % 2 ^ 63 + k * 0) ≡ goes_on k (mapping (geometry cb external) c v0) (mapping (geometry cb external) other v)
+    → nat_eq x (v0 % 2 ^ 63 + k * 0) ≡ reads_on k (mapping (geometry cb external) c v0) (mapping (geometry cb external) other v)
 after_an_entry_without cb external x k v v0 c other packed_large tested lawful0 standard0 none =
     let parts0 = parts_of cb v0 lawful0 standard0 in
     let value = no_offset external cb v0 parts0 none in
@@ -268,7 +252,7 @@ after_an_entry_without cb external x k v v0 c other packed_large tested lawful0 
     ]
 
 pub after_an_entry_without_one : (cb k v v0 c other : ℕ) → l2_fault cb v ≡ None → l2_fault cb v0 ≡ None → is_compressed v0 ≡ false → is_allocated false v0 ≡ false
-    → nat_eq (bit_and v 9223372036854775807) (v0 % 2 ^ 63 + k * 0) ≡ goes_on k (mapping (geometry cb false) c v0) (mapping (geometry cb false) other v)
+    → nat_eq (bit_and v 9223372036854775807) (v0 % 2 ^ 63 + k * 0) ≡ reads_on k (mapping (geometry cb false) c v0) (mapping (geometry cb false) other v)
 after_an_entry_without_one cb k v v0 c other lawful lawful0 standard0 none =
     let masked : bit_and v 9223372036854775807 ≡ v % 2 ^ 63 = and_mask v 63 in
     rw masked (after_an_entry_without cb false (v % 2 ^ 63) k v v0 c other
@@ -276,7 +260,7 @@ after_an_entry_without_one cb k v v0 c other lawful lawful0 standard0 none =
     (λ standard. let parts = parts_of cb v lawful standard in (plain_large cb v parts, plain_small cb v parts)) lawful0 standard0 none)
 
 pub after_an_external_entry_without_one : (cb k v v0 c other : ℕ) → v < 2 ^ 64 → l2_fault cb v ≡ None → l2_fault cb v0 ≡ None → is_compressed v0 ≡ false → is_allocated true v0 ≡ false
-    → nat_eq (bit_and v 18446744073709551615) (v0 % 2 ^ 63 + k * 0) ≡ goes_on k (mapping (geometry cb true) c v0) (mapping (geometry cb true) other v)
+    → nat_eq (bit_and v 18446744073709551615) (v0 % 2 ^ 63 + k * 0) ≡ reads_on k (mapping (geometry cb true) c v0) (mapping (geometry cb true) other v)
 after_an_external_entry_without_one cb k v v0 c other fits lawful lawful0 standard0 none =
     let whole : v % 2 ^ 64 ≡ v = mod-eq_of_lt fits in
     let masked : bit_and v 18446744073709551615 ≡ v = and_mask v 64 ∙ whole in
@@ -288,12 +272,12 @@ pub step_fits : (cb : ℕ) → cb ≤ 21 → 1 * 2 ^ cb % 2 ^ 64 ≡ 2 ^ cb
 step_fits cb high = let power : 2 ^ cb ≤ 2 ^ 21 = pow_mono high in let one : 1 * 2 ^ cb ≡ 2 ^ cb = omega arith in rw one (mod-eq_of_lt (omega (arith, power)))
 
 -- what each cluster reads as goes on from itself
-goes_on_itself : (m : Mapping) → goes_on 0 m m ≡ true
-goes_on_itself (data_file cluster copied) = eq-eqb _ _ (omega arith)
-goes_on_itself (backing offset) = refl
-goes_on_itself (zeros (Some cluster) copied) = eq-eqb _ _ (omega arith)
-goes_on_itself (zeros None copied) = refl
-goes_on_itself (compressed offset length) = refl
+reads_on_itself : (m : Mapping) → reads_on 0 m m ≡ true
+reads_on_itself (data_file cluster copied) = eq-eqb _ _ (omega arith)
+reads_on_itself (backing offset) = refl
+reads_on_itself (zeros (Some cluster) copied) = eq-eqb _ _ (omega arith)
+reads_on_itself (zeros None copied) = refl
+reads_on_itself (compressed offset length) = refl
 
 -- the entries after the one at i
 record Rest (numbers : List ℕ) (i : ℕ) (rest : List ℕ) : Type 0 where
@@ -322,7 +306,7 @@ pub run_of_pattern : (table : TableState) (first count i : ℕ) (entries rest : 
     → first_fault (l2_fault table.geometry.cluster_bits) table.numbers ≡ None → entries ≡ table.numbers
     → rest ≡ take (length entries - (i + 1)) (drop (i + 1) entries)
     → ((k v c other : ℕ) → 1 ≤ k → k ≤ 262144 → v < 2 ^ 64 → l2_fault table.geometry.cluster_bits v ≡ None
-    → follows pattern k v ≡ goes_on k (mapping table.geometry c (get_or table.numbers i 0)) (mapping table.geometry other v))
+    → follows pattern k v ≡ reads_on k (mapping table.geometry c (get_or table.numbers i 0)) (mapping table.geometry other v))
     → count ≤ length rest
     → ((k : ℕ) → k < count → follows pattern (k + 1) (get_or rest k 0) ≡ true)
     → (count < length rest → follows pattern (count + 1) (get_or rest count 0) ≡ false)
@@ -336,7 +320,7 @@ run_of_pattern table first count i entries rest pattern bits is full fits lawful
     let here : i < length table.numbers = rw (is, full) (mod-lt first some) in
     let told : Rest table.numbers i rest = rw (is_rest, same) (rest_of table.numbers i here) in
     let before : mapping_at table first ≡ mapping table.geometry first (get_or table.numbers i 0) = rw is refl in
-    let further : (k : ℕ) → k < length rest → follows pattern (k + 1) (get_or rest k 0) ≡ goes_on (k + 1) (mapping_at table first) (mapping_at table (first + (k + 1))) =
+    let further : (k : ℕ) → k < length rest → follows pattern (k + 1) (get_or rest k 0) ≡ reads_on (k + 1) (mapping_at table first) (mapping_at table (first + (k + 1))) =
     λ k below.
     let inside : i + (k + 1) < size = omega (arith, told.count, full, below) in
     let item : get_or rest k 0 ≡ get_or table.numbers (i + (k + 1)) 0 = told.at k below ∙ ap (λ n. get_or table.numbers n 0) (omega arith) in
@@ -348,15 +332,15 @@ run_of_pattern table first count i entries rest pattern bits is full fits lawful
     record {
       some = omega arith;
       within = rw (← is) (omega (arith, told.count, full, within, here));
-      each = λ k below. each_of table first count k (goes_on_itself (mapping_at table first)) (λ j less. sym (further j (omega (arith, less, within))) ∙ each j less) below;
+      each = λ k below. each_of table first count k (reads_on_itself (mapping_at table first)) (λ j less. sym (further j (omega (arith, less, within))) ∙ each j less) below;
       ends = λ more. let inside : count < length rest = omega (arith, told.count, full, within, rw (← is) at more) in
           let same : 1 + count ≡ count + 1 = omega arith in
           rw same (sym (further count inside) ∙ ends inside);
     }
   where
-    each_of : (table : TableState) (first count k : ℕ) → goes_on 0 (mapping_at table first) (mapping_at table first) ≡ true
-        → ((j : ℕ) → j < count → goes_on (j + 1) (mapping_at table first) (mapping_at table (first + (j + 1))) ≡ true)
-        → k < 1 + count → goes_on k (mapping_at table first) (mapping_at table (first + k)) ≡ true
+    each_of : (table : TableState) (first count k : ℕ) → reads_on 0 (mapping_at table first) (mapping_at table first) ≡ true
+        → ((j : ℕ) → j < count → reads_on (j + 1) (mapping_at table first) (mapping_at table (first + (j + 1))) ≡ true)
+        → k < 1 + count → reads_on k (mapping_at table first) (mapping_at table (first + k)) ≡ true
     each_of table first count zero itself others below = let same : first + 0 ≡ first = omega arith in rw same itself
     each_of table first count (suc j) itself others below =
         let same : suc j ≡ j + 1 = omega arith in rw same (others j (omega (arith, below)))
@@ -368,6 +352,3 @@ pattern_fits cb value step n xs high below fits =
     let few : 2 ^ (cb - 3) ≤ 2 ^ 18 = pow_mono small in
     let count : length (take n xs) ≤ 262144 = rw length-take (omega (arith, few, below)) in
     omega (arith, mul-le (length (take n xs)) step 262144 step count (omega arith), fits)
-
-pub count_of : (n m : ℕ) → IsTrue (nat_eq n m) → n ≡ m
-count_of n m told = grind (arith, nat_tests)

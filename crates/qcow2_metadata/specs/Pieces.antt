@@ -5,9 +5,13 @@ use Rattle.qcow2_base.specs.Storage.{CountsFailure, Image, SameDevice, SameOutsi
 abbrev pub Stand : Image → ℕ → Image → ℕ → Type 0
 Stand bytes len image offset = (i : ℕ) → i < len → image (offset + i) ≡ bytes i
 
--- the bytes of numbers one after another, eight for each, the most significant one first
+-- the bytes of numbers one after another, so many for each, the most significant one first
+abbrev pub big_endian_bytes : ℕ → List ℕ → Image
+big_endian_bytes width numbers j = slice_index numbers (j / width) / 256 ^ (width - 1 - j % width) % 256
+
+-- the bytes of numbers of 64 bits
 abbrev pub number_bytes : List ℕ → Image
-number_bytes numbers j = slice_index numbers (j / 8) / 256 ^ (7 - j % 8) % 256
+number_bytes numbers = big_endian_bytes 8 numbers
 
 -- a write of bytes from an offset on, in pieces of 4096 bytes, that failed at a piece: the bytes before that
 -- piece are written, and after it each byte is the old one

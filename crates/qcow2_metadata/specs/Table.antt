@@ -2,10 +2,10 @@ pub mod Growth
 pub mod L2Guards
 pub mod L2Table
 pub mod OneEntry
-use Rattle.std.specs.Prelude.{◌≡◌, false, true, OnOk, OnErr, IfErr, IsErrOf, ℕ, Bool, ◌⊎◌, ◌+◌, ◌-◌, ◌*◌, ◌%◌, ◌^◌, ◌<◌, ◌≤◌, max, nat_lt, if◌then◌else◌, List, [], ◌∷◌, ◌++◌, map, length, slice_index, slice_set, take, replicate, Option, Some, None, option_map, Result, Ok, Err, IfSome, IsTrue}
+use Rattle.std.specs.Prelude.{◌≡◌, false, true, OnOk, IfErr, IsErrOf, ℕ, Bool, ◌⊎◌, ◌+◌, ◌-◌, ◌*◌, ◌%◌, ◌^◌, ◌<◌, ◌≤◌, nat_lt, if◌then◌else◌, List, [], ◌∷◌, map, length, slice_index, slice_set, Option, Some, None, option_map, Result, Ok, Err, IfSome, IsTrue}
 use Rattle.std.specs.List.{All, range_with_len}
 use Rattle.std.specs.Option.{option_or}
-use Rattle.qcow2_base.specs.Storage.{CountsFailure, Image, OnlyWrites, SameDevice, SameOutside, StorageState, be, image_of}
+use Rattle.qcow2_base.specs.Storage.{Image, OnlyWrites, StorageState, be, image_of}
 use Rattle.qcow2_base.specs.Types.{IsClusterBits}
 use Rattle.qcow2_base.specs.declared.fault.Fault.{Fault}
 use Rattle.qcow2_base.specs.declared.fault.Fault.TheVariants.{EntryReserved, EntryUnaligned, NoMemory, NoOffset, Storage, TableTooBig}
@@ -25,6 +25,10 @@ most_l1_entries = 4194304
 -- how many an L2 table may have, in clusters of 2 MiB
 abbrev pub most_l2_entries : ℕ
 most_l2_entries = 262144
+
+-- how many an L2 table has, by cluster_bits
+abbrev pub l2_entries : ℕ → ℕ
+l2_entries cb = 2 ^ (cb - 3)
 
 -- how many a refcount table may have
 abbrev pub most_reftable_entries : ℕ
@@ -121,14 +125,18 @@ abbrev pub loaded_table : ℕ → (ℕ → ℕ → Option Fault) → TablePlace 
 loaded_table most fault_of place image =
     unless_refused (place_fault most place) (decoded_table fault_of place image)
 
+-- where the entry of a guest cluster stands in its L2 table
+abbrev pub place_in_table : TableState → ℕ → ℕ
+place_in_table table guest_cluster = guest_cluster % l2_entries table.geometry.cluster_bits
+
 -- what a guest cluster reads as by its entry in an L2 table
 abbrev pub mapping_at : TableState → ℕ → Mapping
 mapping_at table guest_cluster =
-    mapping table.geometry guest_cluster (slice_index table.numbers (guest_cluster % 2 ^ (table.geometry.cluster_bits - 3)))
+    mapping table.geometry guest_cluster (slice_index table.numbers (place_in_table table guest_cluster))
 
 -- the place of an L2 table, which fills one cluster with its entries
 abbrev pub l2_table_at : Geometry → HostCluster → TablePlace
-l2_table_at g cluster = record { geometry = g; cluster = cluster; entries = 2 ^ (g.cluster_bits - 3) }
+l2_table_at g cluster = record { geometry = g; cluster = cluster; entries = l2_entries g.cluster_bits }
 
 -- the L2 table that begins with a cluster
 abbrev pub loaded_l2_table : Geometry → HostCluster → Image → Result (List ℕ) Fault

@@ -38,7 +38,7 @@ pub trait TableEntry: Sized {
     ghost fault_of: { ℕ → ℕ → Option AnyFault };
 
     /// The entry with this number. Refuses a number with a reserved bit, and else one whose offset
-    /// is no multiple of the cluster size. Bits of an offset from 2^56 on count as reserved.
+    /// is no multiple of the cluster size. Bits of an L1 or L2 entry's offset from 2^56 on count as reserved.
     fn try_from_plain(value: u64, header: &Header) -> Result<Self, Fault>
         ensures accepted { OnOk result (fault_of header.now.v2.cluster_bits value ≡ None) }
         ensures number { IfOk result (λ entry. plain entry ≡ value) }

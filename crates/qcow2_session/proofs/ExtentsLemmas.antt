@@ -10,7 +10,7 @@ use Rattle.qcow2_base.specs.declared.fault.Fault.{Fault}
 use Rattle.qcow2_base.specs.declared.fault.Fault.TheVariants.{NoMemory, Storage}
 use Rattle.qcow2_base.specs.declared.types.HostCluster.{HostCluster}
 use Rattle.qcow2_metadata.specs.Entries.L2Mapping.{Mapping, backing, compressed, data_file, zeros}
-use Rattle.qcow2_metadata.specs.Entries.Runs.{goes_on}
+use Rattle.qcow2_metadata.specs.Entries.Runs.{reads_on}
 use Rattle.qcow2_metadata.specs.Header.{Geometry}
 use Rattle.qcow2_metadata.specs.Table.{TableState, loaded_l2_table, mapping_at}
 use Rattle.qcow2_metadata.specs.Table.L2Table.{IsMappedRun}
@@ -91,7 +91,7 @@ no_table_after cb l1 from to here none = λ offset above below.
 data_moves : (cb k before cluster d e n : ℕ) → cluster ≡ before + k → k * 2 ^ cb + e ≡ d + n → cluster * 2 ^ cb + e ≡ before * 2 ^ cb + d + n
 data_moves cb k before cluster d e n is on = rw is (omega (arith, on))
 
-content_moves : (cb k d e n : ℕ) (m m' : Mapping) → goes_on k m m' ≡ true → k * 2 ^ cb + e ≡ d + n → content_in cb e m' ≡ moved_on n (content_in cb d m)
+content_moves : (cb k d e n : ℕ) (m m' : Mapping) → reads_on k m m' ≡ true → k * 2 ^ cb + e ≡ d + n → content_in cb e m' ≡ moved_on n (content_in cb d m)
 content_moves cb k d e n (data_file before was) (data_file cluster copied) goes on =
     rw (data_moves cb k before cluster d e n ((Decides-eqb cluster (before + k)).0 goes) on) refl
 content_moves cb k d e n (zeros (Some before) was) (zeros (Some cluster) copied) goes on =

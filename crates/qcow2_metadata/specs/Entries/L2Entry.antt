@@ -48,6 +48,14 @@ is_allocated external v = not (offset_field v == 0) || (external && is_copied v)
 abbrev pub host_offset : Bool → ℕ → Option HostOffset
 host_offset external v = if is_allocated external v then Some (record { 0 = offset_field v }) else None
 
+-- whether the entry has a host cluster that zeros can keep: it is a standard one that refers to a cluster
+abbrev pub has_host_cluster : Geometry → ℕ → Bool
+has_host_cluster g v = not (is_compressed v) && is_allocated g.external_data_file v
+
+-- the entry with the zero flag
+abbrev pub with_zero_flag : ℕ → ℕ
+with_zero_flag v = v - v % 2 + 1
+
 -- an entry where a second table has it too: the copied flag is clear, but where it says that offset 0 is that of a
 -- cluster, in an external data file
 abbrev pub shared : Bool → ℕ → ℕ

@@ -2,15 +2,16 @@ use Rattle.std.specs.Prelude.{ℕ, Bool, true, false, ◌==◌, ◌+◌, ◌*◌
 use Rattle.qcow2_metadata.specs.Entries.L2Mapping.{Mapping, backing, compressed, data_file, zeros}
 use Rattle.qcow2_metadata.specs.declared.entries.runs.RunPattern.{RunPattern}
 
--- what a guest cluster reads as goes on from what the one so many clusters before it does: data or zeros in the host
--- cluster so many further on, zeros without a cluster, compressed data, or what the backing file has
-abbrev pub goes_on : ℕ → Mapping → Mapping → Bool
-goes_on distance (data_file before was_copied) (data_file cluster copied) = cluster == before + distance
-goes_on distance (backing before) (backing offset) = true
-goes_on distance (zeros (Some before) was_copied) (zeros (Some cluster) copied) = cluster == before + distance
-goes_on distance (zeros None was_copied) (zeros None copied) = true
-goes_on distance (compressed before before_length) (compressed offset length) = true
-goes_on distance before after = false
+-- a guest cluster reads on from the one so many clusters before it: data or zeros in the host cluster so many further
+-- on, zeros without a cluster, compressed data, or what the backing file has. Unlike for mappings that are consecutive,
+-- the copied flag makes no difference
+abbrev pub reads_on : ℕ → Mapping → Mapping → Bool
+reads_on distance (data_file before was_copied) (data_file cluster copied) = cluster == before + distance
+reads_on distance (backing before) (backing offset) = true
+reads_on distance (zeros (Some before) was_copied) (zeros (Some cluster) copied) = cluster == before + distance
+reads_on distance (zeros None was_copied) (zeros None copied) = true
+reads_on distance (compressed before before_length) (compressed offset length) = true
+reads_on distance before after = false
 
 -- the bits of an entry that a pattern looks at are those that it has so many entries on
 abbrev pub follows : RunPattern → ℕ → ℕ → Bool

@@ -1,7 +1,8 @@
-use Rattle.std.specs.Prelude.{ℕ, Bool, ◌+◌, ◌-◌, ◌*◌, ◌/◌, ◌%◌, ◌^◌, nat_le, if◌then◌else◌, List, [], ◌∷◌, map, take, drop, slice_index}
+use Rattle.std.specs.Prelude.{ℕ, Bool, ◌+◌, ◌-◌, ◌*◌, ◌/◌, ◌%◌, ◌^◌, nat_le, if◌then◌else◌, List, [], ◌∷◌, map, take, drop}
 use Rattle.std.specs.List.{range_with_len}
 use Rattle.qcow2_base.specs.Bits.{field}
 use Rattle.qcow2_base.specs.Storage.{Image, be}
+use Rattle.qcow2_metadata.specs.Pieces.{big_endian_bytes}
 
 -- by the refcount order: how many bits a counter has
 abbrev pub width : ℕ → ℕ
@@ -42,4 +43,4 @@ abbrev pub packed : ℕ → List ℕ → Image
 packed order counters j =
     if is_narrow order
     then from_digits (2 ^ width order) (take (per_byte order) (drop (per_byte order * j) counters))
-    else slice_index counters (j / bytes_each order) / 256 ^ (bytes_each order - 1 - j % bytes_each order) % 256
+    else big_endian_bytes (bytes_each order) counters j

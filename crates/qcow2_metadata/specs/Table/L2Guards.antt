@@ -1,10 +1,31 @@
-use Rattle.std.specs.Prelude.{◌≡◌, ◌≢◌, ℕ, Bool, true, false, not, ◌&&◌, ◌==◌, ◌+◌, ◌-◌, ◌*◌, ◌%◌, ◌^◌, List, [], ◌∷◌, ◌++◌, length, slice_get, slice_index, slice_set, if◌then◌else◌, Option, Some, None, option_to_list, nat_le}
+use Rattle.std.specs.Prelude.{◌≡◌, ◌≢◌, ℕ, Bool, true, false, not, ◌&&◌, ◌==◌, ◌+◌, ◌-◌, ◌*◌, ◌^◌, List, [], ◌∷◌, ◌++◌, length, slice_get, slice_index, slice_set, if◌then◌else◌, Option, Some, None, option_to_list, nat_le}
+use Rattle.std.specs.Borrow.{MutBor}
+use Rattle.std.specs.Int.NonZero.{non_zero_u64_get}
 use Rattle.std.specs.List.{sum_by}
-use Rattle.qcow2_metadata.specs.Entries.L2Entry.{IsAllocation, Meets, allocation, is_allocated, is_compressed, meets}
+use Rattle.qcow2_metadata.specs.Entries.L2Entry.{IsAllocation, Meets, allocation, has_host_cluster, meets, with_zero_flag}
 use Rattle.qcow2_metadata.specs.Entries.{is_among}
 use Rattle.qcow2_metadata.specs.Header.{Geometry}
 use Rattle.qcow2_metadata.specs.Table.{TableState, edited}
 use Rattle.qcow2_metadata.specs.declared.entries.ClustersToFreeEntry.{ClustersToFreeEntry}
+use Rattle.qcow2_metadata.specs.declared.table.l2_guards.L2TableWriteGuard.{L2TableWriteGuard}
+use Rattle.qcow2_metadata.specs.declared.table.l2_guards.CompressedClusterReadGuard.{CompressedClusterReadGuard}
+
+-- the table that a guard has leave to change
+abbrev pub guarded_table : L2TableWriteGuard → TableState
+guarded_table guard = guard.table.now
+
+-- two guards of one table
+abbrev pub IsSameTable : L2TableWriteGuard → L2TableWriteGuard → Type 0
+IsSameTable old new = new.table.ghost_name ≡ old.table.ghost_name
+
+-- a guard that begins with a table as it is lent, and ends with what the table is afterwards
+pub record IsTableGuard (lent : MutBor TableState) (guard : L2TableWriteGuard) : Type 0 where
+  pub table : guarded_table guard ≡ lent.now
+  pub same : guard.table.ghost_name ≡ lent.ghost_name
+
+-- where the data that a guard keeps begins, and how many bytes it takes at most
+abbrev pub guarded_range : CompressedClusterReadGuard → ℕ × ℕ
+guarded_range guard = (guard.offset.0, non_zero_u64_get guard.length)
 
 -- a change of an L2 entry: to data in a host cluster, to zeros, which may keep its cluster, or to nothing
 pub data EntryEdit : Type 0 where
@@ -15,14 +36,6 @@ pub data EntryEdit : Type 0 where
 -- the entry of data in a host cluster that has no other reference
 abbrev pub data_entry : ℕ → ℕ → ℕ
 data_entry cb cluster = 2 ^ 63 + cluster * 2 ^ cb
-
--- whether the entry has a host cluster that zeros can keep: it is a standard one that refers to a cluster
-abbrev pub has_host_cluster : Geometry → ℕ → Bool
-has_host_cluster g v = not (is_compressed v) && is_allocated g.external_data_file v
-
--- the entry with the zero flag
-abbrev pub with_zero_flag : ℕ → ℕ
-with_zero_flag v = v - v % 2 + 1
 
 -- the entry after the change
 abbrev pub changed : Geometry → EntryEdit → ℕ → ℕ

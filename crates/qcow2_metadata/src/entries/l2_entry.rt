@@ -37,8 +37,7 @@ impl Model for L2Entry {
 }
 
 impl L2Entry {
-    ghost use Rattle.qcow2_metadata.specs.Table.L2Guards.{has_host_cluster, with_zero_flag};
-    ghost use Rattle.qcow2_metadata.specs.Entries.L2Entry.{IsAllocation, byte_range, compressed_length, compressed_offset, from_pair, host_offset, is_compressed, is_zero, l2_fault, l2_reserved_bits, shared};
+    ghost use Rattle.qcow2_metadata.specs.Entries.L2Entry.{IsAllocation, byte_range, compressed_length, compressed_offset, from_pair, has_host_cluster, host_offset, is_compressed, is_zero, l2_fault, l2_reserved_bits, shared, with_zero_flag};
     ghost use Rattle.qcow2_metadata.specs.Entries.L2Mapping.{IsPlaced, host_cluster, mapping, meaning};
     ghost use Rattle.qcow2_metadata.specs.Entries.{is_copied};
 

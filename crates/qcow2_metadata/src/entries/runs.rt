@@ -1,11 +1,12 @@
 //! Runs of L2 entries: how the entries go on that read as one with the first.
 
-ghost use Rattle.std.specs.Prelude.{◌≡◌, ℕ, ◌+◌, ◌*◌, ◌^◌, ◌<◌, ◌≤◌, IsTrue, None, false, true, length, slice_index};
+ghost use Rattle.std.specs.Prelude.{◌≡◌, ℕ, ◌+◌, ◌*◌, ◌^◌, ◌<◌, ◌≤◌, ◌↔◌, IsTrue, None, false, true, length, slice_index};
 ghost use Rattle.qcow2_base.specs.Types.{IsClusterBits};
 ghost use Rattle.qcow2_metadata.specs.Header.{geometry};
 ghost use Rattle.qcow2_metadata.specs.Entries.L2Entry.{l2_fault};
 ghost use Rattle.qcow2_metadata.specs.Entries.L2Mapping.{mapping};
-ghost use Rattle.qcow2_metadata.specs.Entries.Runs.{follows, goes_on};
+ghost use Rattle.qcow2_metadata.specs.Entries.Runs.{follows, reads_on};
+ghost use Rattle.qcow2_metadata.specs.Table.{most_l2_entries};
 
 use super::{AtomicL2Entry, L2Entry, TableEntry};
 
@@ -31,10 +32,11 @@ impl RunPattern {
     pub(crate) fn of(entry: L2Entry, cluster_bits: u32, external_data_file: bool) -> RunPattern
         requires cluster_bits { IsClusterBits cluster_bits }
         requires lawful { l2_fault cluster_bits entry ≡ None }
-        ensures exact { (k v c other : ℕ) → 1 ≤ k → k ≤ 262144 → v < 2 ^ 64 → l2_fault cluster_bits v ≡ None →
-            follows result k v ≡ goes_on k (mapping (geometry cluster_bits external_data_file) c entry)
+        ensures exact { (k v c other : ℕ) → 1 ≤ k → k ≤ most_l2_entries → v < 2 ^ 64 →
+            l2_fault cluster_bits v ≡ None →
+            follows result k v ≡ reads_on k (mapping (geometry cluster_bits external_data_file) c entry)
             (mapping (geometry cluster_bits external_data_file) other v) }
-        ensures fits { result.value + 262144 * result.step < 2 ^ 64 }
+        ensures fits { result.value + most_l2_entries * result.step < 2 ^ 64 }
     {
         if entry.is_compressed() {
             return RunPattern {
@@ -89,12 +91,11 @@ impl RunPattern {
         self.count_from(entries, done)
     }
 
-    // Whether there is a first entry, and it follows the pattern.
+    // Whether the first entry, if there is one, follows the pattern.
     #[inline]
     fn is_followed_by_first(&self, entries: &[AtomicL2Entry]) -> bool
         requires { self.now.value + length entries.now * self.now.step < 2 ^ 64 }
-        ensures { result ≡ false → 0 < length entries.now →
-            follows self.now 1 (slice_index entries.now 0) ≡ false }
+        ensures { 0 < length entries.now → result ≡ follows self.now 1 (slice_index entries.now 0) }
     {
         match entries.first() {
             Some(first) => first.to_plain() & self.mask == self.value + self.step,
@@ -108,8 +109,8 @@ impl RunPattern {
         requires fits { self.now.value + length entries.now * self.now.step < 2 ^ 64 }
         requires order { first ≤ end }
         requires within { end ≤ length entries.now }
-        ensures { IsTrue result → (k : ℕ) → first ≤ k → k < end →
-            follows self.now (k + 1) (slice_index entries.now k) ≡ true }
+        ensures { IsTrue result ↔ ((k : ℕ) → first ≤ k → k < end →
+            follows self.now (k + 1) (slice_index entries.now k) ≡ true) }
     {
         let mut expected = self.value + first as u64 * self.step;
         let mut all = true;

@@ -19,7 +19,8 @@ pub struct L2TableWriteGuard<'a> {
 }
 
 impl L2TableWriteGuard<'_> {
-    ghost use Rattle.qcow2_metadata.specs.Table.L2Table.{IsSameTable, compressed_at, guarded_table, guarded_range};
+    ghost use Rattle.qcow2_metadata.specs.Table.L2Guards.{IsSameTable, guarded_range, guarded_table};
+    ghost use Rattle.qcow2_metadata.specs.Table.L2Table.{compressed_at};
 
     /// What a guest cluster reads as, as `L2Table::get_mapping` says it.
     pub fn get_mapping(&self, guest_cluster: GuestCluster) -> Result<L2Mapping, Fault>
@@ -146,7 +147,7 @@ pub struct CompressedClusterReadGuard<'a> {
 
 impl CompressedClusterReadGuard<'_> {
     ghost use Rattle.std.specs.Int.NonZero.{non_zero_u64_get};
-    ghost use Rattle.qcow2_metadata.specs.Table.L2Table.{guarded_range};
+    ghost use Rattle.qcow2_metadata.specs.Table.L2Guards.{guarded_range};
 
     /// Where the data begins in the image.
     #[inline]

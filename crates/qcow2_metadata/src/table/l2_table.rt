@@ -2,7 +2,6 @@
 
 ghost use Rattle.std.specs.Prelude.{◌≡◌, ℕ, ◌-◌, ◌*◌, ◌%◌, ◌^◌, ◌==◌, ◌<◌, IfOk, IsOk, IsOkAnd, IsOkUnless, length, map, replicate, slice_index, true, false};
 ghost use Rattle.std.proofs.Common.{lit≤};
-ghost use Rattle.qcow2_metadata.specs.Table.L2Guards.{references};
 ghost use Rattle.qcow2_metadata.specs.Entries.L2Mapping.{IsPlaced, meaning};
 ghost use Rattle.qcow2_metadata.specs.Entries.L2Entry.{l2_fault, shared};
 ghost use Rattle.qcow2_metadata.specs.Table.{WritesTable, elsewhere, mapping_at, most_l2_entries, new_table, table_on_storage};
@@ -59,7 +58,8 @@ fn shared_entries(
 
 impl EntryTable<AtomicL2Entry> {
     ghost use Rattle.std.specs.Prelude.{option_map};
-    ghost use Rattle.qcow2_metadata.specs.Table.L2Table.{IsMappedRun, IsTableGuard, compressed_at, guarded_range};
+    ghost use Rattle.qcow2_metadata.specs.Table.L2Guards.{IsTableGuard, guarded_range, references};
+    ghost use Rattle.qcow2_metadata.specs.Table.L2Table.{IsMappedRun, compressed_at};
 
     /// A table of an image with this header in which no cluster has data. It has no cluster, and
     /// counts as modified. Fails only for want of memory.

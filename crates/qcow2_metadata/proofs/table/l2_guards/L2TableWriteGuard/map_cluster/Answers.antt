@@ -1,5 +1,5 @@
 use Rattle.std.specs.Prelude.{slice_index}
-use Rattle.qcow2_metadata.specs.Table.L2Table.{guarded_table}
+use Rattle.qcow2_metadata.specs.Table.L2Guards.{guarded_table}
 use Rattle.qcow2_metadata.proofs.EditsLemmas.{keeps-just}
 use Rattle.qcow2_metadata.proofs.table.l2_guards.L2TableWriteGuard.map_cluster.Goals as goal
 

@@ -1,9 +1,8 @@
 use Rattle.std.proofs.Common.{◌≡◌, ◌&&◌, Bool, ℕ, ap, ◌∙◌, refl, rules, subst, sym, true, false}
 use Rattle.std.specs.Prelude.{slice_index}
-use Rattle.qcow2_metadata.specs.Table.L2Guards.{has_host_cluster, with_zero_flag}
-use Rattle.qcow2_metadata.specs.Entries.L2Entry.{IsAllocation}
+use Rattle.qcow2_metadata.specs.Entries.L2Entry.{IsAllocation, has_host_cluster, with_zero_flag}
 use Rattle.qcow2_metadata.specs.Header.{Geometry, geometry}
-use Rattle.qcow2_metadata.specs.Table.L2Table.{guarded_table}
+use Rattle.qcow2_metadata.specs.Table.L2Guards.{guarded_table}
 use Rattle.qcow2_metadata.specs.Table.{TableState, edited}
 use Rattle.qcow2_metadata.proofs.GuardLemmas.{zeros-dropped, zeros-kept, zeros-lawful}
 use Rattle.qcow2_metadata.proofs.table.l2_guards.L2TableWriteGuard.zero_cluster.Goals as goal

@@ -1,13 +1,14 @@
 use Rattle.std.proofs.Common.{◌≡◌, ◌+◌, ◌-◌, ◌%◌, ◌^◌, ◌≤◌, ◌∙◌, length, refl, sym, arith}
+use Rattle.std.proofs.lemmas.Bool.Decides.{Decides-eqb}
 use Rattle.std.proofs.lemmas.List.{map-id}
-use Rattle.qcow2_metadata.proofs.RunsLemmas.{count_of, pattern_fits, run_of_pattern}
+use Rattle.qcow2_metadata.proofs.RunsLemmas.{pattern_fits, run_of_pattern}
 use Rattle.qcow2_metadata.proofs.table.l2_table.EntryTable+AtomicL2Entry.run_length.Goals as goal
 
 pub count-requires : goal.count-requires
 count-requires c =
     let table = c.args.self.now in
     let bits = c.as_slice-entries.ensures.bits in
-    let full = count_of _ _ c.entries-end.ensures.lawful.count in
+    let full = (Decides-eqb _ _).0 c.entries-end.ensures.lawful.count in
     let few : c.entries-end.result - (c.l2_index-index.result + 1) ≤ 2 ^ (table.geometry.cluster_bits - 3) = omega (arith, c.entries-end.ensures.count, full) in
     pattern_fits table.geometry.cluster_bits c.of-pattern.result.value c.of-pattern.result.step _ _ bits.1 few c.of-pattern.ensures.fits
 
@@ -16,7 +17,7 @@ returns c =
     let table = c.args.self.now in
     let bits = c.as_slice-entries.ensures.bits in
     let lawful = c.entries-end.ensures.lawful in
-    let full = count_of _ _ lawful.count in
+    let full = (Decides-eqb _ _).0 lawful.count in
     let cb = c.cluster_bits-cluster_bits.ensures.value in
     let external = c.has_external_data_file.ensures in
     let own = sym (map-id c.as_slice-entries.result.now) ∙ c.as_slice-entries.ensures.numbers in
