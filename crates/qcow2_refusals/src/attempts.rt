@@ -124,13 +124,18 @@ impl Attempt {
     // It tells the numbers that it told at first, but for these.
     fn held_stands(&mut self, changes: &str) -> bool {
         self.held.tell(&mut self.numbers);
-        for word in changes.split_whitespace() {
-            if !takes_back(&mut self.numbers.0, &self.first.0, word) {
-                return false;
-            }
-        }
-        self.numbers.0.as_slice() == self.first.0.as_slice()
+        takes_all_back(&mut self.numbers.0, &self.first.0, changes)
     }
+}
+
+// Puts the old numbers back where those stand which the words say, and answers whether all are old then.
+fn takes_all_back(numbers: &mut [u64], first: &[u64], changes: &str) -> bool {
+    for word in changes.split_whitespace() {
+        if !takes_back(numbers, first, word) {
+            return false;
+        }
+    }
+    *numbers == *first
 }
 
 // Puts the old number back where that stands which the word says.
@@ -149,15 +154,19 @@ fn takes_back(numbers: &mut [u64], first: &[u64], word: &str) -> bool {
 // Whether the text, where / stands for a new line, begins with what was told.
 fn begins_with(text: &[u8], told: &[u8]) -> bool {
     for index in 0..told.len() {
-        let byte = match told[index] {
-            b'\n' => b'/',
-            byte => byte,
-        };
-        if text.get(index) != Some(&byte) {
+        if text.get(index).copied() != Some(shown(told[index])) {
             return false;
         }
     }
     true
+}
+
+// How a byte of what was told stands in the table of runs.
+fn shown(byte: u8) -> u8 {
+    match byte {
+        b'\n' => b'/',
+        byte => byte,
+    }
 }
 
 // Writes so many of the new bytes in their place, after zeros where the old ones end before it.

@@ -34,13 +34,17 @@ pub(crate) struct Held {
 
 /// What a run's call begins with.
 pub(crate) fn hold(alloc: Global, run: &Run<'_>) -> Result<Held, Fault> {
-    let mut image = image_of(alloc, run.setup.source, "")?;
-    let header = header_of(alloc, run.setup.header)?;
-    let mut held = hold_over(alloc, &mut image, header)?;
+    let mut held = hold_from(alloc, run.setup.source, run.setup.header)?;
     if run.is_modified {
         set_flags(&mut held);
     }
     Ok(held)
+}
+
+fn hold_from(alloc: Global, source: &str, header: &str) -> Result<Held, Fault> {
+    let header = header_of(alloc, header)?;
+    let mut image = image_of(alloc, source, "")?;
+    hold_over(alloc, &mut image, header)
 }
 
 /// The same over an image, by this header.

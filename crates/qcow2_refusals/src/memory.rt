@@ -6,7 +6,7 @@
 use crate::attempts::{Attempt, Wrong, begin, unless};
 use crate::calls::Answer;
 use crate::runs::{Each, Run};
-use qcow2_base::{FileStorage, MemStorage, Storage};
+use qcow2_base::{Fault, FileStorage, MemStorage, Storage};
 use std::alloc::Global;
 use std::fs;
 use std::io::Write;
@@ -46,13 +46,38 @@ pub(crate) fn again<T, E: Drop, F: Fn() -> Result<T, E>>(make: F) -> Result<T, E
     }
 }
 
+// Begins a run, once more where memory was refused the first time.
+fn begin_again(alloc: Global, run: &Run<'_>) -> Result<Attempt, Fault> {
+    match begin(alloc, run) {
+        Err(_) => begin(alloc, run),
+        begun => begun,
+    }
+}
+
+// The image before the call, made once more where memory was refused the first time.
+fn image_again(alloc: Global, run: &Run<'_>) -> Result<MemStorage, Fault> {
+    match run.before(alloc) {
+        Err(_) => run.before(alloc),
+        image => image,
+    }
+}
+
 fn over_memory(alloc: Global, run: &Run<'_>) -> Result<(), Wrong> {
-    let mut attempt = again(|| begin(alloc, run))?;
-    let mut image = again(|| run.before(alloc))?;
-    if make_in_memory(alloc, run, &mut attempt, &mut image)? == Answer::Done {
+    let mut attempt = begin_again(alloc, run)?;
+    let mut image = image_again(alloc, run)?;
+    make_over_memory(alloc, run, &mut attempt, &mut image)
+}
+
+fn make_over_memory(
+    alloc: Global,
+    run: &Run<'_>,
+    attempt: &mut Attempt,
+    image: &mut MemStorage,
+) -> Result<(), Wrong> {
+    if make_in_memory(alloc, run, attempt, image)? == Answer::Done {
         return Ok(());
     }
-    is_done(make_in_memory(alloc, run, &mut attempt, &mut image)?)
+    is_done(make_in_memory(alloc, run, attempt, image)?)
 }
 
 fn make_in_memory(
@@ -67,14 +92,41 @@ fn make_in_memory(
 }
 
 fn over_file(rt: &HostRuntime, path: &str, run: &Run<'_>) -> Result<(), Wrong> {
-    let mut attempt = again(|| begin(rt.alloc(), run))?;
+    let mut attempt = begin_again(rt.alloc(), run)?;
+    make_over_file(rt, path, run, &mut attempt)
+}
+
+fn make_over_file(
+    rt: &HostRuntime,
+    path: &str,
+    run: &Run<'_>,
+    attempt: &mut Attempt,
+) -> Result<(), Wrong> {
     let is_written = fs::write(rt, path, attempt.before.bytes()).is_ok();
     unless(is_written, Wrong::Beginning)?;
-    let mut file = again(|| FileStorage::open(rt, path, true))?;
-    if make_in_file(rt, path, run, &mut attempt, &mut file)? == Answer::Done {
+    let mut file = open_again(rt, path)?;
+    make_in_opened(rt, path, run, attempt, &mut file)
+}
+
+// Opens the file for writing, once more where memory was refused the first time.
+fn open_again(rt: &HostRuntime, path: &str) -> Result<FileStorage, Fault> {
+    match FileStorage::open(rt, path, true) {
+        Err(_) => Ok(FileStorage::open(rt, path, true)?),
+        Ok(file) => Ok(file),
+    }
+}
+
+fn make_in_opened(
+    rt: &HostRuntime,
+    path: &str,
+    run: &Run<'_>,
+    attempt: &mut Attempt,
+    file: &mut FileStorage,
+) -> Result<(), Wrong> {
+    if make_in_file(rt, path, run, attempt, file)? == Answer::Done {
         return Ok(());
     }
-    is_done(make_in_file(rt, path, run, &mut attempt, &mut file)?)
+    is_done(make_in_file(rt, path, run, attempt, file)?)
 }
 
 fn make_in_file(

@@ -33,23 +33,41 @@ impl<O: Write> Each for Refusals<'_, O> {
         if self.refused == Refused::Writes && !run.is_command() {
             return;
         }
-        let (call, of) = (run.call, run.of);
-        let kind = match self.refused {
-            Refused::Calls => "calls",
-            Refused::Writes => "writes",
-        };
-        let told = match refuse_each(self.alloc, self.refused, run) {
-            Ok(calls) => writeln!(self.out, "{call} {of}: {calls} {kind}"),
+        let is_told = match refuse_each(self.alloc, self.refused, run) {
+            Ok(calls) => tell_calls(self.out, run, self.refused, calls),
             Err((passes, wrong)) => {
                 self.all_right = false;
-                writeln!(
-                    self.out,
-                    "{call} {of}: {wrong:?} is wrong after {passes} {kind}"
-                )
+                tell_wrong(self.out, run, self.refused, passes, wrong)
             }
         };
-        self.all_right &= told.is_ok();
+        self.all_right &= is_told;
     }
+}
+
+impl Refused {
+    fn name(self) -> &'static str {
+        match self {
+            Refused::Calls => "calls",
+            Refused::Writes => "writes",
+        }
+    }
+}
+
+// Prints how many were refused, and answers whether it could be printed.
+fn tell_calls<O: Write>(out: &mut O, run: &Run<'_>, refused: Refused, calls: u64) -> bool {
+    let (call, of, kind) = (run.call, run.of, refused.name());
+    writeln!(out, "{call} {of}: {calls} {kind}").is_ok()
+}
+
+fn tell_wrong<O: Write>(
+    out: &mut O,
+    run: &Run<'_>,
+    refused: Refused,
+    passes: u64,
+    wrong: Wrong,
+) -> bool {
+    let (call, of, kind) = (run.call, run.of, refused.name());
+    writeln!(out, "{call} {of}: {wrong:?} is wrong after {passes} {kind}").is_ok()
 }
 
 // Makes the run with its first call refused, then with its second, until none is. Answers how many there are,
@@ -69,11 +87,22 @@ fn refuse_each(alloc: Global, refused: Refused, run: &Run<'_>) -> Result<u64, (u
 fn refuse(alloc: Global, refused: Refused, run: &Run<'_>, passes: u64) -> Result<bool, Wrong> {
     let mut attempt = begin(alloc, run)?;
     let mut image = FailingStorage::new(alloc, run.before(alloc)?);
+    refuse_in(alloc, refused, run, passes, &mut attempt, &mut image)
+}
+
+fn refuse_in(
+    alloc: Global,
+    refused: Refused,
+    run: &Run<'_>,
+    passes: u64,
+    attempt: &mut Attempt,
+    image: &mut FailingStorage<MemStorage>,
+) -> Result<bool, Wrong> {
     match refused {
         Refused::Calls => image.fail_after(passes),
         Refused::Writes => attempt.held.out.plan = Some(passes),
     }
-    make_twice(alloc, run, &mut attempt, &mut image)
+    make_twice(alloc, run, attempt, image)
 }
 
 // Makes the call, and once more where it was refused. Answers whether it was. The image holds what was

@@ -346,3 +346,31 @@ fn read_again(alloc: Global, mut image: MemStorage, failing: u64) -> Result<(), 
         }
     }
 }
+
+// Changes of the sample image, and how many calls of the storage tell its extents.
+const CALLS: &[(&str, Numbers<'static>, usize)] = &[
+    ("no L2 table", &[(512, 0)], 1),
+    ("two L2 tables", &[(24, 65536), (32, 2), (520, 0x600)], 3),
+    (
+        "one of them behind the disk's end",
+        &[(24, 32768), (32, 2), (520, 0x600)],
+        2,
+    ),
+    ("one L2 table twice", &[(24, 65536), (32, 2), (520, 0x400)], 2),
+];
+
+#[test]
+fn a_table_is_read_once_and_not_behind_the_disk(rt: HostRuntime) -> Result<(), Fail> {
+    for (name, changes, expected) in CALLS {
+        let image = sample_image(rt.alloc(), 9, changes)?;
+        same(calls_for_extents(rt.alloc(), image)?, *expected, *name)?;
+    }
+    Ok(())
+}
+
+fn calls_for_extents(alloc: Global, mut image: MemStorage) -> Result<usize, Fault> {
+    let header = load_header(alloc, &mut image)?;
+    let mut image = FailingStorage::new(alloc, image);
+    extents_of(alloc, &mut image, &header)?;
+    Ok(image.calls().len())
+}

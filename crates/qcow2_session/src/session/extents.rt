@@ -271,7 +271,8 @@ impl<'a> Extents<'a> {
             (extent_of self.old.position (content, self.new.position)))
             (RefusesExtent contents self.old.header.v2.size self.old.position) }
         ensures position { MatchResult result
-            (λ content. (self.old.position < self.new.position) × (self.new.position ≤ self.old.header.v2.size))
+            (λ content. (self.old.position < self.new.position)
+            × (self.new.position ≤ self.old.header.v2.size))
             (λ fault. self.new.position ≡ self.old.position) }
         ensures reader { MovesReader (S.state image.old) self.old self.new }
         ensures faults { IfErr result (IsLoadFault None) }
