@@ -26,11 +26,14 @@ pub PrintsExtents-none : {T : Type 0} (fault : Fault) (format : ExtentFormat) (o
     → (fault ≡ Storage → new.failures ≢ old.failures) → PrintsExtents {T = T} (Err fault) format (disk_in old.byte_at) old new a a
 PrintsExtents-none fault format old new a refused failed = record {
   extents = tt;
-  refused = λ told. inl (refusal-of fault (disk_in old.byte_at) old new (λ told. elim (refused told) [
-    | inl storage ↦ inl storage
-    | inr (inl memory) ↦ inr (inl memory)
-    | inr (inr bad) ↦ inr (inr (rw bad refl))
-  ]) failed, Appends-nil a);
+  refused = λ told. inl (
+    refusal-of fault (disk_in old.byte_at) old new (λ told. elim (refused told) [
+      | inl storage ↦ inl storage
+      | inr (inl memory) ↦ inr (inl memory)
+      | inr (inr bad) ↦ inr (inr (rw bad refl))
+    ]) failed,
+    Appends-nil a,
+  );
 }
 
 -- the disk of an image, after a header was loaded by who only reads
