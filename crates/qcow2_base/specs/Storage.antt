@@ -38,6 +38,14 @@ pub record StorageState : Type 0 where
   pub mem_align : ℕ
   pub req_align : ℕ
 
+-- where a storage tells its bytes, so much holds of them
+abbrev pub OnImage : StorageState → (Image → Type 0) → Type 0
+OnImage state Fact = IsTrue state.tells → Fact state.byte_at
+
+-- where a storage tells its bytes, so much holds of those before and those after
+abbrev pub OnImages : StorageState → StorageState → (Image → Image → Type 0) → Type 0
+OnImages old new Fact = IsTrue old.tells → Fact old.byte_at new.byte_at
+
 -- one more failed call is counted exactly where the answer is an error
 abbrev pub CountsFailure : {T E : Type 0} → Result T E → StorageState → StorageState → Type 0
 CountsFailure answer old new =
@@ -51,15 +59,15 @@ pub record SameDevice (old new : StorageState) : Type 0 where
 
 -- a read from an offset on that ended in this answer, and filled the buffer with these bytes
 pub record ReadsBytes {T E : Type 0} (answer : Result T E) (offset : ℕ) (bytes : List ℕ) (old new : StorageState) : Type 0 where
-  pub read : OnOk answer (IsTrue old.tells → Holds old.byte_at offset bytes)
+  pub read : OnOk answer (OnImage old (λ image. Holds image offset bytes))
   pub unchanged : new.byte_at ≡ old.byte_at
   pub failures : CountsFailure answer old new
   pub device : SameDevice old new
 
 -- a write of these bytes from an offset on that ended in this answer: no byte outside its range changes
 pub record WritesBytes {T E : Type 0} (answer : Result T E) (offset : ℕ) (bytes : List ℕ) (old new : StorageState) : Type 0 where
-  pub written : OnOk answer (IsTrue old.tells → Holds new.byte_at offset bytes)
-  pub others : IsTrue old.tells → SameOutside offset (length bytes) old.byte_at new.byte_at
+  pub written : OnOk answer (OnImages old new (λ _ after. Holds after offset bytes))
+  pub others : OnImages old new (λ before after. SameOutside offset (length bytes) before after)
   pub failures : CountsFailure answer old new
   pub device : SameDevice old new
 
@@ -80,7 +88,7 @@ pub record ReadsFor (told : Type 0) (old new : StorageState) : Type 0 where
 -- failed, an error changed none of them
 pub record OnlyWrites {T : Type 0} (answer : Result T Fault) (place : Option ℕ) (len : ℕ) (old new : StorageState) : Type 0 where
   pub told : IsErrOf answer StorageFailed ↔ (new.failures ≢ old.failures)
-  pub others : IsTrue old.tells → IfSome place (λ offset. SameOutside offset len old.byte_at new.byte_at)
+  pub others : OnImages old new (λ before after. IfSome place (λ offset. SameOutside offset len before after))
   pub refused : IfErr answer (λ fault. fault ≢ StorageFailed → new.byte_at ≡ old.byte_at)
   pub device : SameDevice old new
 

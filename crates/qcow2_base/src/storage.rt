@@ -2,6 +2,7 @@
 //! memory, and one over a file.
 
 ghost use Rattle.std.specs.Prelude.{◌≡◌, ℕ, Bool, ◌+◌, ◌^◌, ◌%◌, ◌<◌, ◌≤◌, length, IsTrue, OnOk, MatchResult};
+ghost use Rattle.qcow2_base.specs.Format.{max_file_length};
 ghost use Rattle.qcow2_base.specs.Storage.{StorageState, ReadsBytes, WritesBytes, IsPowerOfTwo, Ends};
 ghost use Rattle.qcow2_base.specs.declared.fault.Fault.TheVariants.{Storage as storage_fault};
 
@@ -47,13 +48,13 @@ pub trait Storage {
     /// Fills the buffer with the bytes from `offset` on. After a failure nothing is known of the
     /// buffer.
     fn read(&mut self, buf: &mut [u8], offset: u64) -> Result<(), StorageFault>
-        requires { offset + length buf.old ≤ 2 ^ 56 }
+        requires { offset + length buf.old ≤ max_file_length }
         ensures { ReadsBytes result offset buf.new (state self.old) (state self.new) };
 
     /// Replaces the bytes from `offset` on by the buffer's. After a failure any bytes may stand in
     /// that range; no other byte changes.
     fn write(&mut self, buf: &[u8], offset: u64) -> Result<(), StorageFault>
-        requires { offset + length buf.now ≤ 2 ^ 56 }
+        requires { offset + length buf.now ≤ max_file_length }
         ensures { WritesBytes result offset buf.now (state self.old) (state self.new) };
 
     ghost mem_align_is_power: { (s : Self) → IsPowerOfTwo (state s).mem_align };

@@ -5,7 +5,7 @@ use Rattle.std.proofs.lemmas.Bool.{cases_lt}
 use Rattle.std.proofs.lemmas.Bool.Decides.{nat_tests}
 use Rattle.std.proofs.lemmas.Grind.{div_ceil_times}
 use Rattle.std.proofs.lemmas.Nat.{mod_below}
-use Rattle.qcow2_metadata.specs.Table.{most_reftable_entries}
+use Rattle.qcow2_base.specs.Format.{most_reftable_entries}
 use Rattle.qcow2_metadata.specs.Table.Growth.{Growth, IsEnough, IsLeastSpare, clusters_with, entries_with, grown_reftable_count, least_spare, possible_spare}
 
 -- a quotient that is rounded up is at most a number exactly where the dividend is at most that many times the divisor

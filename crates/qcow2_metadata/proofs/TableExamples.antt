@@ -1,9 +1,10 @@
 use Rattle.std.proofs.Common.{◌≡◌, ℕ, ◌+◌, ◌-◌, ◌*◌, ◌^◌, ◌==◌, ◌∷◌, [], replicate, false, true, Some, None, Ok, Err, if◌then◌else◌, refl}
+use Rattle.qcow2_base.specs.Format.{most_l1_entries, most_l2_entries, most_reftable_entries}
 use Rattle.qcow2_base.specs.Storage.{Image, be}
 use Rattle.qcow2_base.specs.declared.fault.Fault.TheVariants.{EntryUnaligned, TableTooBig}
 use Rattle.qcow2_base.specs.declared.fault.Fault.TheVariants as fault
 use Rattle.qcow2_metadata.specs.Header.{geometry}
-use Rattle.qcow2_metadata.specs.Table.{TablePlace, TableState, edited, loaded_l1_table, loaded_l2_table, most_l1_entries, most_l2_entries, most_reftable_entries, place_fault}
+use Rattle.qcow2_metadata.specs.Table.{TablePlace, TableState, edited, loaded_l1_table, loaded_l2_table, place_fault}
 use Rattle.qcow2_metadata.specs.declared.range.TheConstants.{MAX_FILE_LENGTH, MAX_OFFSET}
 
 -- so many entries that begin with a cluster of 2 ^ cb bytes

@@ -13,6 +13,7 @@ use Rattle.std.specs.List.Sorted.{IsStrictlySortedBy}
 use Rattle.std.specs.Map.{keys_of, lookup}
 use Rattle.std.specs.Ordering.{is_eq}
 use Rattle.std.specs.Str.{IsUtf8}
+use Rattle.qcow2_base.specs.Format.{external_data_file_bit}
 use Rattle.qcow2_base.specs.Bits.{field}
 use Rattle.qcow2_base.specs.Types.{IsClusterBits}
 use Rattle.qcow2_base.specs.declared.on_disk_struct.v2_header.V2Header.{V2Header}
@@ -71,13 +72,13 @@ abbrev pub all_same : List (List ℕ) → Bool
 all_same [] = true
 all_same (first ∷ names) = list_all (pointwise nat_eq first) names
 
--- incompatible feature bit 2: guest data lies in another file
+-- the incompatible feature bit that says that guest data lies in another file
 abbrev pub external_data_bit : V3HeaderBase → ℕ
-external_data_bit base = field base.incompatible_features 2 1
+external_data_bit base = field base.incompatible_features external_data_file_bit 1
 
 -- the incompatible features but that one
 abbrev pub other_features : V3HeaderBase → ℕ
-other_features base = base.incompatible_features - 4 * external_data_bit base
+other_features base = base.incompatible_features - 2 ^ external_data_file_bit * external_data_bit base
 
 -- whether guest data lies in another file
 abbrev pub uses_external_data : HeaderRecord → Bool
@@ -116,7 +117,7 @@ new_header cluster_bits refcount_order backing_filename backing_format data_file
     snapshots_offset = 0;
   };
   base = record {
-    incompatible_features = (if is_some data_file then 4 else 0);
+    incompatible_features = (if is_some data_file then 2 ^ external_data_file_bit else 0);
     compatible_features = 0;
     autoclear_features = 0;
     refcount_order = refcount_order;

@@ -1,5 +1,9 @@
 use Rattle.std.specs.Prelude.{◌≡◌, ℕ, ◌+◌, ◌-◌, ◌*◌, ◌/◌, ◌%◌, ◌^◌, ◌<◌, ◌≤◌, List, slice_index, Result, OnOk, OnErr, IsTrue}
-use Rattle.qcow2_base.specs.Storage.{CountsFailure, Image, SameDevice, SameOutside, StorageState}
+use Rattle.qcow2_base.specs.Storage.{CountsFailure, Image, OnImages, SameDevice, SameOutside, StorageState}
+
+-- how many bytes of a table or a block are read or written at once
+abbrev pub piece_bytes : ℕ
+piece_bytes = 4096
 
 -- the first so many bytes stand in an image from an offset on
 abbrev pub Stand : Image → ℕ → Image → ℕ → Type 0
@@ -13,21 +17,21 @@ big_endian_bytes width numbers j = slice_index numbers (j / width) / 256 ^ (widt
 abbrev pub number_bytes : List ℕ → Image
 number_bytes numbers = big_endian_bytes 8 numbers
 
--- a write of bytes from an offset on, in pieces of 4096 bytes, that failed at a piece: the bytes before that
+-- a write of bytes from an offset on, in pieces, that failed at a piece: the bytes before that
 -- piece are written, and after it each byte is the old one
 pub record IsTornAtPiece (piece : ℕ) (bytes : Image) (len offset : ℕ) (old new : Image) : Type 0 where
-  pub within : 4096 * piece < len
-  pub before : Stand bytes (4096 * piece) new offset
-  pub after : (o : ℕ) → offset + 4096 * (piece + 1) ≤ o → new o ≡ old o
+  pub within : piece_bytes * piece < len
+  pub before : Stand bytes (piece_bytes * piece) new offset
+  pub after : (o : ℕ) → offset + piece_bytes * (piece + 1) ≤ o → new o ≡ old o
 
 -- the write failed at some piece
 abbrev pub IsTornBytes : Image → ℕ → ℕ → Image → Image → Type 0
 IsTornBytes bytes len offset old new = (piece : ℕ) × IsTornAtPiece piece bytes len offset old new
 
--- a write of so many bytes from an offset on, in pieces of 4096 bytes, that ended in this answer
+-- a write of so many bytes from an offset on, in pieces, that ended in this answer
 pub record WritesInPieces {T E : Type 0} (answer : Result T E) (offset : ℕ) (bytes : Image) (len : ℕ) (old new : StorageState) : Type 0 where
-  pub written : OnOk answer (IsTrue old.tells → Stand bytes len new.byte_at offset)
-  pub torn : OnErr answer (IsTrue old.tells → IsTornBytes bytes len offset old.byte_at new.byte_at)
-  pub others : IsTrue old.tells → SameOutside offset len old.byte_at new.byte_at
+  pub written : OnOk answer (OnImages old new (λ _ after. Stand bytes len after offset))
+  pub torn : OnErr answer (OnImages old new (λ before after. IsTornBytes bytes len offset before after))
+  pub others : OnImages old new (λ before after. SameOutside offset len before after)
   pub failures : CountsFailure answer old new
   pub device : SameDevice old new

@@ -1,12 +1,13 @@
 use Rattle.std.specs.Prelude.{◌≡◌, ◌≢◌, ◌⊎◌, ℕ, Bool, false, true, ◌+◌, ◌^◌, nat_lt, if◌then◌else◌, Option, Some, None, Result, List, map, OnOk, IfErr, IsErrOf}
 use Rattle.std.specs.List.{range_with_len}
+use Rattle.qcow2_base.specs.Format.{max_file_length}
 use Rattle.qcow2_base.specs.Storage.{Image}
 use Rattle.qcow2_base.specs.declared.fault.Fault.{Fault}
 use Rattle.qcow2_base.specs.declared.fault.Fault.TheVariants.{Storage, TablePlace}
 
--- why so many bytes can't lie in an image from an offset on: they would end past 2 ^ 56
+-- why so many bytes can't lie in an image from an offset on: they would end past the greatest end
 abbrev pub range_fault : ℕ → ℕ → Option Fault
-range_fault offset len = if nat_lt (2 ^ 56) (offset + len) then Some TablePlace else None
+range_fault offset len = if nat_lt max_file_length (offset + len) then Some TablePlace else None
 
 -- so many bytes of an image from an offset on
 abbrev pub bytes_at : Image → ℕ → ℕ → List ℕ

@@ -2,7 +2,7 @@ pub mod Counters
 pub mod Guard
 pub mod Packing
 use Rattle.std.specs.Prelude.{◌≡◌, ◌⊎◌, IfErr, IsErrOf, IsTrue, OnOk, Result, Ok, Err, option_map, ℕ, Bool, false, true, ◌+◌, ◌-◌, ◌*◌, ◌^◌, ◌<◌, ◌≤◌, List, length, slice_set, Option, Some, None, IfSome}
-use Rattle.qcow2_base.specs.Storage.{Image, OnlyWrites, StorageState}
+use Rattle.qcow2_base.specs.Storage.{Image, OnImage, OnImages, OnlyWrites, StorageState}
 use Rattle.qcow2_base.specs.Types.{IsClusterBits}
 use Rattle.qcow2_base.specs.declared.fault.Fault.{Fault}
 use Rattle.qcow2_base.specs.declared.fault.Fault.TheVariants.{NoMemory, NoOffset, Storage}
@@ -78,8 +78,8 @@ pub record RefusesBlock {T : Type 0} (of_place : Option Fault) (answer : Result 
 -- a block that was loaded from a cluster: it has that cluster, isn't modified, and has the counters that stand
 -- there, where the storage tells them
 pub record IsLoadedBlock (header : HeaderRecord) (cluster : HostCluster) (image : StorageState) (block : BlockState) : Type 0 where
-  pub counters : IsTrue image.tells → block.counters
-      ≡ block_counters header.v2.cluster_bits header.base.refcount_order cluster image.byte_at
+  pub counters : OnImage image (λ bytes.
+      block.counters ≡ block_counters header.v2.cluster_bits header.base.refcount_order cluster bytes)
   pub state : block ≡ block_of header block.counters (Some cluster) false
   pub entries : length block.counters ≡ block_entries header.v2.cluster_bits header.base.refcount_order
 
@@ -90,7 +90,7 @@ pub record IsWrittenBlock (block : BlockState) (old new : Image) : Type 0 where
   pub same : IfSome block.cluster (λ cluster.
       block_counters block.cluster_bits block.refcount_order cluster old ≡ block.counters → new ≡ old)
 
--- a write of a block from an offset on, in pieces of 4096 bytes, that failed at a piece
+-- a write of a block from an offset on, in pieces, that failed at a piece
 abbrev pub IsTornBlock : BlockState → ℕ → Image → Image → Type 0
 IsTornBlock block offset old new = IsTornBytes (packed block.refcount_order block.counters) (2 ^ block.cluster_bits) offset old new
 
@@ -108,9 +108,10 @@ pub record WritesBlock {T : Type 0} (answer : Result T Fault) (old new : BlockOn
   pub refused : IfSome (block_write_fault old.block) (λ fault. answer ≡ Err fault)
   pub faults : IfErr answer (IsWriteFault (block_write_fault old.block))
   pub flag : FlagTells flagged_block answer old.block new.block
-  pub written : IsTrue old.storage.tells → OnOk answer (IsWrittenBlock old.block old.storage.byte_at new.storage.byte_at)
-  pub torn : IsTrue old.storage.tells → IsErrOf answer Storage → IfSome old.block.cluster (λ cluster.
-      IsTornBlock old.block (block_offset old.block.cluster_bits cluster) old.storage.byte_at new.storage.byte_at)
+  pub written : OnImages old.storage new.storage (λ before after. OnOk answer (IsWrittenBlock old.block before after))
+  pub torn : OnImages old.storage new.storage (λ before after.
+      IsErrOf answer Storage → IfSome old.block.cluster
+      (λ cluster. IsTornBlock old.block (block_offset old.block.cluster_bits cluster) before after))
   pub storage : OnlyWrites answer (option_map (block_offset old.block.cluster_bits) old.block.cluster)
       (2 ^ old.block.cluster_bits) old.storage new.storage
 

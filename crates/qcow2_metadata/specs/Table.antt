@@ -5,7 +5,8 @@ pub mod OneEntry
 use Rattle.std.specs.Prelude.{◌≡◌, false, true, OnOk, IfErr, IsErrOf, ℕ, Bool, ◌⊎◌, ◌+◌, ◌-◌, ◌*◌, ◌%◌, ◌^◌, ◌<◌, ◌≤◌, nat_lt, if◌then◌else◌, List, [], ◌∷◌, map, length, slice_index, slice_set, Option, Some, None, option_map, Result, Ok, Err, IfSome, IsTrue}
 use Rattle.std.specs.List.{All, range_with_len}
 use Rattle.std.specs.Option.{option_or}
-use Rattle.qcow2_base.specs.Storage.{Image, OnlyWrites, StorageState, be, image_of}
+use Rattle.qcow2_base.specs.Format.{max_offset, most_entries_in_memory, most_l1_entries, most_l2_entries}
+use Rattle.qcow2_base.specs.Storage.{Image, OnImage, OnImages, OnlyWrites, StorageState, be, image_of}
 use Rattle.qcow2_base.specs.Types.{IsClusterBits}
 use Rattle.qcow2_base.specs.declared.fault.Fault.{Fault}
 use Rattle.qcow2_base.specs.declared.fault.Fault.TheVariants.{EntryReserved, EntryUnaligned, NoMemory, NoOffset, Storage, TableTooBig}
@@ -18,21 +19,9 @@ use Rattle.qcow2_metadata.specs.Results.{unless_refused}
 use Rattle.qcow2_metadata.specs.Pieces.{IsTornBytes, number_bytes}
 use Rattle.qcow2_metadata.specs.Range.{FlagTells, IsWriteFault, range_fault}
 
--- how many entries an L1 table may have
-abbrev pub most_l1_entries : ℕ
-most_l1_entries = 4194304
-
--- how many an L2 table may have, in clusters of 2 MiB
-abbrev pub most_l2_entries : ℕ
-most_l2_entries = 262144
-
 -- how many an L2 table has, by cluster_bits
 abbrev pub l2_entries : ℕ → ℕ
 l2_entries cb = 2 ^ (cb - 3)
-
--- how many a refcount table may have
-abbrev pub most_reftable_entries : ℕ
-most_reftable_entries = 4194304
 
 -- what a table in memory says: its entries' numbers, its cluster in the image if it has one, whether it was
 -- changed since it was last read or written, and the image's geometry
@@ -79,7 +68,7 @@ abbrev pub offset_of : TablePlace → ℕ
 offset_of place = place.cluster.0 * 2 ^ place.geometry.cluster_bits
 
 -- why n entries can't lie in an image from an offset on: they are more than the most of their kind, or their
--- bytes end past 2 ^ 56
+-- bytes end past the greatest end
 abbrev pub entries_fault : ℕ → ℕ → ℕ → Option Fault
 entries_fault most offset n = if nat_lt most n then Some TableTooBig else range_fault offset (8 * n)
 
@@ -160,7 +149,7 @@ pub record LoadRefuses {T : Type 0} (of_place : Option Fault) (answer : Result T
 -- a table that was loaded from a place: it has its cluster, isn't modified, and has the numbers that stand
 -- there, where the storage tells them
 pub record IsLoaded (place : TablePlace) (image : StorageState) (table : TableState) : Type 0 where
-  pub numbers : IsTrue image.tells → table.numbers ≡ numbers_at place image.byte_at
+  pub numbers : OnImage image (λ bytes. table.numbers ≡ numbers_at place bytes)
   pub entries : length table.numbers ≡ place.entries
   pub cluster : table.cluster ≡ Some place.cluster
   pub unmodified : table.modified ≡ false
@@ -171,7 +160,7 @@ pub record IsWrittenTable (fault_of : ℕ → ℕ → Option Fault) (table : Tab
   pub decoded : IfSome (place_of table) (λ place. decoded_table fault_of place new ≡ Ok table.numbers)
   pub same : IfSome (place_of table) (λ place. numbers_at place old ≡ table.numbers → new ≡ old)
 
--- a write of a table's numbers from an offset on, in pieces of 4096 bytes, that failed at a piece
+-- a write of a table's numbers from an offset on, in pieces, that failed at a piece
 abbrev pub IsTorn : List ℕ → ℕ → Image → Image → Type 0
 IsTorn numbers offset old new = IsTornBytes (number_bytes numbers) (8 * length numbers) offset old new
 
@@ -189,12 +178,14 @@ pub record WritesTable (most : ℕ) (fault_of : ℕ → ℕ → Option Fault) {T
   pub refused : IfSome (write_fault most old.table) (λ fault. answer ≡ Err fault)
   pub faults : IfErr answer (IsWriteFault (write_fault most old.table))
   pub flag : FlagTells flagged answer old.table new.table
-  pub written : IsTrue old.storage.tells → OnOk answer (IsWrittenTable fault_of old.table old.storage.byte_at new.storage.byte_at)
-  pub torn : IsTrue old.storage.tells → IsErrOf answer Storage → IfSome (place_of old.table) (λ place.
-      IsTorn old.table.numbers (offset_of place) old.storage.byte_at new.storage.byte_at)
+  pub written : OnImages old.storage new.storage (λ before after.
+      OnOk answer (IsWrittenTable fault_of old.table before after))
+  pub torn : OnImages old.storage new.storage (λ before after.
+      IsErrOf answer Storage → IfSome (place_of old.table)
+      (λ place. IsTorn old.table.numbers (offset_of place) before after))
   pub storage : OnlyWrites answer (option_map offset_of (place_of old.table)) (8 * length old.table.numbers) old.storage new.storage
 
--- what holds of every table: as many entries as its kind may have, 2 ^ 48 at most, each a number of 64 bits that is
+-- what holds of every table: as many entries as its kind and memory may have, each a number of 64 bits that is
 -- an entry of its kind, and a cluster whose offset fits 64 bits
 pub record IsLawful (fault_of : ℕ → ℕ → Option Fault) (has_lawful_count : ℕ → ℕ → Bool) (cb : ℕ) (cluster : Option HostCluster) (numbers : List ℕ) : Type 0 where
   pub bits : IsClusterBits cb
@@ -202,9 +193,9 @@ pub record IsLawful (fault_of : ℕ → ℕ → Option Fault) (has_lawful_count 
   pub valid : first_fault (fault_of cb) numbers ≡ None
   pub fits : All (λ v. v < 2 ^ 64) numbers
   pub count : IsTrue (has_lawful_count cb (length numbers))
-  pub bound : length numbers ≤ 2 ^ 48
+  pub bound : length numbers ≤ most_entries_in_memory
 
 -- a cluster that an entry may refer to: not the header's, and with an offset that the entry can hold
 pub record IsReferable (cb : ℕ) (cluster : HostCluster) : Type 0 where
   pub some : 0 < cluster.0
-  pub place : cluster.0 * 2 ^ cb ≤ 2 ^ 56 - 512
+  pub place : cluster.0 * 2 ^ cb ≤ max_offset

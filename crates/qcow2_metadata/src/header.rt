@@ -18,8 +18,9 @@ pub use extensions::{HeaderExtension, HeaderExtensionType};
 pub use features::{
     AutoclearFeatures, CompatibleFeatures, FeatureType, IncompatibleFeatures, UnknownValue,
 };
-use load::{EXTERNAL_DATA_FILE, MAGIC};
-use qcow2_base::{ClusterCount, Fault, HostOffset, V2Header, V3HeaderBase};
+use qcow2_base::{
+    ClusterCount, EXTERNAL_DATA_FILE_BIT, Fault, HostOffset, MAGIC, V2Header, V3HeaderBase,
+};
 use std::alloc::Global;
 use std::marker::Model;
 
@@ -84,7 +85,7 @@ impl Header {
             (option_map string_bytes external_data_file)) }
     {
         let incompatible_features = if external_data_file.is_some() {
-            EXTERNAL_DATA_FILE
+            1 << EXTERNAL_DATA_FILE_BIT
         } else {
             0
         };
@@ -144,7 +145,7 @@ impl Header {
     pub fn external_data_file(&self) -> bool
         ensures { result ≡ uses_external_data self.now }
     {
-        self.base.incompatible_features >> 2 & 1 == 1
+        self.base.incompatible_features >> EXTERNAL_DATA_FILE_BIT & 1 == 1
     }
 
     /// The size of the guest's disk, in bytes.

@@ -17,7 +17,7 @@ pub use header::{
     AutoclearFeatures, CompatibleFeatures, FeatureType, Header, HeaderExtension,
     HeaderExtensionType, IncompatibleFeatures, UnknownValue,
 };
-pub use range::{MAX_FILE_LENGTH, MAX_OFFSET};
+pub use qcow2_base::{MAX_FILE_LENGTH, MAX_OFFSET};
 pub use refblock::{RefBlock, RefBlockWriteGuard};
 pub use table::{
     CompressedClusterReadGuard, EntryTable, L1Table, L2Table, L2TableWriteGuard, RefTable, Table,

@@ -1,8 +1,9 @@
 //! What takes a range of bytes in an image is written there in pieces of 4096 bytes, through one array.
 
 ghost use Rattle.std.specs.Prelude.{◌≡◌, ℕ, ◌+◌, ◌-◌, ◌*◌, ◌^◌, ◌<◌, ◌≤◌, length, min, slice_index};
+ghost use Rattle.qcow2_base.specs.Format.{max_file_length};
 ghost use Rattle.qcow2_base.specs.Storage.{Image};
-ghost use Rattle.qcow2_metadata.specs.Pieces.{WritesInPieces};
+ghost use Rattle.qcow2_metadata.specs.Pieces.{WritesInPieces, piece_bytes};
 
 use qcow2_base::{HostOffset, Storage, StorageFault};
 
@@ -23,11 +24,11 @@ pub(crate) trait Packed {
 
     /// Puts the bytes of a piece into the buffer, which is as long as that piece.
     fn pack(&self, piece: usize, buffer: &mut [u8])
-        requires piece { 4096 * piece < byte_count self.now }
-        requires bound { byte_count self.now ≤ 2 ^ 56 }
-        requires len { length buffer.old ≡ min (byte_count self.now - 4096 * piece) 4096 }
+        requires piece { piece_bytes * piece < byte_count self.now }
+        requires bound { byte_count self.now ≤ max_file_length }
+        requires len { length buffer.old ≡ min (byte_count self.now - piece_bytes * piece) piece_bytes }
         ensures packed { (i : ℕ) → i < length buffer.new →
-            slice_index buffer.new i ≡ bytes self.now (4096 * piece + i) }
+            slice_index buffer.new i ≡ bytes self.now (piece_bytes * piece + i) }
         ensures len { length buffer.new ≡ length buffer.old };
 }
 
@@ -37,7 +38,7 @@ pub(crate) fn write_in_pieces<P: Packed, S: Storage>(
     image: &mut S,
     offset: HostOffset,
 ) -> Result<(), StorageFault>
-    requires { offset.0 + P.byte_count packed.now ≤ 2 ^ 56 }
+    requires { offset.0 + P.byte_count packed.now ≤ max_file_length }
     ensures { WritesInPieces result offset.0 (P.bytes packed.now) (P.byte_count packed.now)
         (S.state image.old) (S.state image.new) }
 {

@@ -1,17 +1,12 @@
 //! Ranges of an image's bytes: what tables, blocks and headers share.
 
 ghost use Rattle.std.specs.Prelude.{◌≡◌, ◌+◌, ◌*◌, ◌^◌, ◌≤◌, length, None, Some, IsTrue, IsOkUnless, IfOk, OnOk, MatchResult};
-ghost use Rattle.qcow2_base.specs.Storage.{Holds, OnlyReads};
+ghost use Rattle.qcow2_base.specs.Format.{max_file_length};
+ghost use Rattle.qcow2_base.specs.Storage.{Holds, OnImage, OnlyReads};
 ghost use Rattle.qcow2_base.specs.Types.{IsClusterBits};
 ghost use Rattle.qcow2_metadata.specs.Range.{range_fault};
 
-use qcow2_base::{Fault, HostCluster, HostOffset, Storage};
-
-/// The greatest end of a table or a block in an image, in bytes.
-pub const MAX_FILE_LENGTH: u64 = 1 << 56;
-
-/// The greatest offset that a cluster may have: a cluster of 512 bytes there ends at the greatest end.
-pub const MAX_OFFSET: HostOffset = HostOffset(MAX_FILE_LENGTH - 512);
+use qcow2_base::{Fault, HostCluster, HostOffset, MAX_FILE_LENGTH, Storage};
 
 // Where so many bytes begin that start with a cluster, or why they can't lie there.
 pub(crate) fn range_offset(
@@ -20,12 +15,12 @@ pub(crate) fn range_offset(
     len: u64,
 ) -> Result<HostOffset, Fault>
     requires cluster_bits { IsClusterBits cluster_bits }
-    requires len { len ≤ 2 ^ 56 }
+    requires len { len ≤ max_file_length }
     ensures place { MatchResult result
         (λ offset. range_fault (cluster.0 * 2 ^ cluster_bits) len ≡ None)
         (λ fault. range_fault (cluster.0 * 2 ^ cluster_bits) len ≡ Some fault) }
     ensures offset { IfOk result (λ offset. offset.0 ≡ cluster.0 * 2 ^ cluster_bits) }
-    ensures fits { IfOk result (λ offset. offset.0 + len ≤ 2 ^ 56) }
+    ensures fits { IfOk result (λ offset. offset.0 + len ≤ max_file_length) }
 {
     // The cluster's offset may not fit 64 bits, so the greatest cluster is computed instead.
     let greatest = (MAX_FILE_LENGTH - len) >> cluster_bits;
@@ -41,10 +36,9 @@ pub(crate) fn read_range<S: Storage>(
     offset: HostOffset,
     buffer: &mut [u8],
 ) -> Result<(), Fault>
-    requires { offset.0 + length buffer.old ≤ 2 ^ 56 }
+    requires { offset.0 + length buffer.old ≤ max_file_length }
     ensures fault { IsOkUnless result Fault.Storage }
-    ensures held { OnOk result (IsTrue (S.state image.old).tells →
-        Holds (S.state image.old).byte_at offset.0 buffer.new) }
+    ensures held { OnOk result (OnImage (S.state image.old) (λ bytes. Holds bytes offset.0 buffer.new)) }
     ensures storage { OnlyReads result (S.state image.old) (S.state image.new) }
 {
     image.read(buffer, offset.0)?;

@@ -1,13 +1,16 @@
 //! Reading ahead: many small reads of neighbouring bytes in few calls of the storage.
 
 ghost use Rattle.std.specs.Prelude.{◌≡◌, ◌+◌, ◌-◌, ◌^◌, min, ◌≤◌, ◌<◌, IsOkUnless, IsTrue, OnOk, length, take};
-ghost use Rattle.qcow2_base.specs.Storage.{Holds, OnlyReads, ReadsBytes};
+ghost use Rattle.qcow2_metadata.specs.Pieces.{piece_bytes};
+ghost use Rattle.qcow2_base.specs.Format.{max_file_length};
+ghost use Rattle.qcow2_base.specs.Storage.{Holds, OnImage, OnlyReads, ReadsBytes};
 
+use crate::pieces::PIECE_BYTES;
 use crate::range::read_range;
 use qcow2_base::{Fault, HostOffset, Storage, StorageFault};
 
 /// How many bytes are read ahead, at most.
-const AHEAD: usize = 4096;
+const AHEAD: usize = PIECE_BYTES;
 
 /// A storage that reads more than it is asked for, up to an end, and keeps that for the next read.
 #[derive(Drop)]
@@ -17,9 +20,8 @@ pub(crate) struct ReadAhead<'a, S: Storage> {
     start: u64,
     len: usize,
     bytes: [u8; AHEAD],
-    ghost kept: { IsTrue (S.state image.now).tells →
-        Holds (S.state image.now).byte_at start (take len bytes) },
-    ghost room: { len ≤ 4096 },
+    ghost kept: { OnImage (S.state image.now) (λ stored. Holds stored start (take len bytes)) },
+    ghost room: { len ≤ piece_bytes },
     ghost limit: { end ≤ 2 ^ 21 },
 }
 
@@ -48,10 +50,10 @@ impl<'a, S: Storage> ReadAhead<'a, S> {
 
     // Fills the buffer with the image's bytes from an offset on.
     pub(crate) fn read_range(&mut self, offset: HostOffset, buffer: &mut [u8]) -> Result<(), Fault>
-        requires { offset.0 + length buffer.old ≤ 2 ^ 56 }
+        requires { offset.0 + length buffer.old ≤ max_file_length }
         ensures fault { IsOkUnless result Fault.Storage }
-        ensures held { OnOk result (IsTrue (S.state self.old.image.now).tells →
-            Holds (S.state self.old.image.now).byte_at offset.0 buffer.new) }
+        ensures held { OnOk result (OnImage (S.state self.old.image.now) (λ bytes.
+            Holds bytes offset.0 buffer.new)) }
         ensures storage { OnlyReads result (S.state self.old.image.now) (S.state self.new.image.now) }
         ensures same { self.new.image.ghost_name ≡ self.old.image.ghost_name }
     {
@@ -73,7 +75,7 @@ impl<'a, S: Storage> ReadAhead<'a, S> {
         ensures read { ReadsBytes result offset (take self.new.len self.new.bytes)
             (S.state self.old.image.now) (S.state self.new.image.now) }
         ensures start { OnOk result (self.new.start ≡ offset) }
-        ensures len { OnOk result (self.new.len ≡ min (self.old.end - offset) 4096) }
+        ensures len { OnOk result (self.new.len ≡ min (self.old.end - offset) piece_bytes) }
         ensures same { self.new.image.ghost_name ≡ self.old.image.ghost_name }
     {
         let len = ((self.end - offset) as usize).min(AHEAD);
@@ -92,8 +94,8 @@ fn read_front<S: Storage>(
     len: usize,
     buffer: &mut [u8; AHEAD],
 ) -> Result<(), StorageFault>
-    requires room { len ≤ 4096 }
-    requires end { offset + len ≤ 2 ^ 56 }
+    requires room { len ≤ piece_bytes }
+    requires end { offset + len ≤ max_file_length }
     ensures { ReadsBytes result offset (take len buffer.new) (S.state image.old) (S.state image.new) }
 {
     image.read(&mut buffer[..len], offset)

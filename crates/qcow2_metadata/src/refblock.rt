@@ -1,7 +1,8 @@
 //! Refcount blocks: how many references each cluster of a part of the image has.
 
 ghost use Rattle.std.specs.Prelude.{◌≡◌, ℕ, ◌+◌, ◌-◌, ◌*◌, ◌^◌, ◌<◌, ◌≤◌, ◌⊎◌, ◌==◌, IfErr, IfOk, IsOk, IsOkUnless, IsTrue, None, Some, false, length, option_map, replicate, slice_index, true};
-ghost use Rattle.qcow2_base.specs.Storage.{OnlyReads};
+ghost use Rattle.qcow2_base.specs.Format.{max_file_length};
+ghost use Rattle.qcow2_base.specs.Storage.{OnImage, OnlyReads};
 ghost use Rattle.qcow2_base.specs.Types.{IsClusterBits};
 ghost use Rattle.qcow2_base.specs.declared.fault.Fault.TheVariants.{NoMemory, Storage as StorageFailed};
 ghost use Rattle.qcow2_base.specs.declared.types.HostOffset.{HostOffset as Offset};
@@ -66,11 +67,11 @@ fn read_counters<S: Storage>(
     offset: HostOffset,
 ) -> Result<Counters, Fault>
     requires bits { IsClusterBits header.now.v2.cluster_bits }
-    requires fits { offset.0 + 2 ^ header.now.v2.cluster_bits ≤ 2 ^ 56 }
+    requires fits { offset.0 + 2 ^ header.now.v2.cluster_bits ≤ max_file_length }
     ensures kind { IfOk result (IsOfOrder header.now.base.refcount_order) }
-    ensures counters { IfOk result (λ counters. IsTrue (S.state image.old).tells → kept_counters counters
-        ≡ counters_at header.now.base.refcount_order (S.state image.old).byte_at offset.0
-        (block_entries header.now.v2.cluster_bits header.now.base.refcount_order)) }
+    ensures counters { IfOk result (λ counters. OnImage (S.state image.old) (λ bytes.
+        kept_counters counters ≡ counters_at header.now.base.refcount_order bytes offset.0
+        (block_entries header.now.v2.cluster_bits header.now.base.refcount_order))) }
     ensures lawful { IfOk result (λ counters. let header = header.now in
         (length (kept_counters counters) ≡ block_entries header.v2.cluster_bits header.base.refcount_order)
         × AreCounters header.base.refcount_order (kept_counters counters)) }
@@ -124,8 +125,8 @@ impl RefBlock {
         cluster: HostCluster,
     ) -> Result<RefBlock, Fault>
         ensures refused { RefusesBlock (block_fault header.now.v2.cluster_bits cluster) result }
-        ensures exact { IsTrue (S.state image.old).tells → Answers (λ block. block.counters) result
-            (loaded_block header.now cluster (S.state image.old).byte_at) }
+        ensures exact { OnImage (S.state image.old) (λ bytes.
+            Answers (λ block. block.counters) result (loaded_block header.now cluster bytes)) }
         ensures loaded { IfOk result (IsLoadedBlock header.now cluster (S.state image.old)) }
         ensures storage { OnlyReads result (S.state image.old) (S.state image.new) }
     {

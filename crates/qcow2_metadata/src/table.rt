@@ -3,7 +3,8 @@
 
 ghost use Rattle.std.specs.Prelude.{◌≡◌, ℕ, Bool, false, true, ◌+◌, ◌*◌, ◌^◌, ◌<◌, ◌≤◌, IsTrue, length, map, slice_index, slice_get, Option, Some, None, option_map, IfSome, IfOk, OnOk, MatchResult};
 ghost use Rattle.std.specs.Int.{div_ceil};
-ghost use Rattle.qcow2_base.specs.Storage.{OnlyReads};
+ghost use Rattle.qcow2_base.specs.Format.{max_file_length, most_entries_in_memory};
+ghost use Rattle.qcow2_base.specs.Storage.{OnImage, OnlyReads};
 ghost use Rattle.qcow2_base.specs.Types.{IsClusterBits};
 ghost use Rattle.qcow2_base.specs.declared.types.HostOffset.{HostOffset as Offset};
 ghost use Rattle.qcow2_metadata.specs.Results.{Answers};
@@ -61,7 +62,7 @@ pub trait Table: Sized {
         requires valid { first_fault (Self.InternalEntry.fault_of header.now.v2.cluster_bits)
             (map Self.InternalEntry.plain list.items) ≡ None }
         requires count { IsTrue (has_lawful_count header.now.v2.cluster_bits (length list.items)) }
-        requires bound { length list.items ≤ 2 ^ 48 }
+        requires bound { length list.items ≤ most_entries_in_memory }
         ensures { state result ≡ new_table (map Self.InternalEntry.plain list.items) header.now };
 
     /// The number of entries.
@@ -154,9 +155,10 @@ pub trait Table: Sized {
     ) -> Result<Self, Fault>
         requires { IsTrue (has_lawful_count header.now.v2.cluster_bits entries) }
         ensures refused { LoadRefuses (place_fault MAX_ENTRIES (table_at header.now cluster entries)) result }
-        ensures exact { IsTrue (S.state image.old).tells → Answers (λ table. (state table).numbers) result
-            (loaded_table MAX_ENTRIES Self.InternalEntry.fault_of (table_at header.now cluster entries)
-            (S.state image.old).byte_at) }
+        ensures exact { OnImage (S.state image.old) (λ bytes.
+            Answers (λ table. (state table).numbers) result
+            (loaded_table MAX_ENTRIES Self.InternalEntry.fault_of
+            (table_at header.now cluster entries) bytes)) }
         ensures loaded { IfOk result (λ table.
             IsLoaded (table_at header.now cluster entries) (S.state image.old) (state table)) }
         ensures storage { OnlyReads result (S.state image.old) (S.state image.new) }
@@ -228,7 +230,7 @@ pub trait Table: Sized {
         write_entries(self, image, place, first, count)
     }
 
-    ghost few_entries: { MAX_ENTRIES ≤ 2 ^ 48 };
+    ghost few_entries: { MAX_ENTRIES ≤ most_entries_in_memory };
 }
 
 // Where a table of so many entries begins, or why it can't be there.
@@ -239,12 +241,12 @@ fn table_offset(
     most: usize,
 ) -> Result<HostOffset, Fault>
     requires cluster_bits { IsClusterBits cluster_bits }
-    requires most { most ≤ 2 ^ 48 }
+    requires most { most ≤ most_entries_in_memory }
     ensures place { MatchResult result
         (λ offset. entries_fault most (cluster.0 * 2 ^ cluster_bits) entries ≡ None)
         (λ fault. entries_fault most (cluster.0 * 2 ^ cluster_bits) entries ≡ Some fault) }
     ensures offset { IfOk result (λ offset. offset.0 ≡ cluster.0 * 2 ^ cluster_bits) }
-    ensures fits { IfOk result (λ offset. offset.0 + 8 * entries ≤ 2 ^ 56) }
+    ensures fits { IfOk result (λ offset. offset.0 + 8 * entries ≤ max_file_length) }
     ensures count { OnOk result (entries ≤ most) }
 {
     if entries > most {

@@ -1,6 +1,7 @@
 use Rattle.std.proofs.Common.{◌≡◌, ℕ, ◌+◌, ◌-◌, ◌*◌, ◌/◌, ◌%◌, ◌^◌, ◌<◌, ◌≤◌, ◌==◌, Bool, true, false, not, Some, None, Result, Ok, Err, ap, lit<, sym, ◌∙◌, arith}
 use Rattle.std.proofs.Math.Nat.{div-mul-le_self, pow-le-pow_right}
 use Rattle.std.proofs.lemmas.Nat.{div-add-mod', mul-le, pow-add, shr_below}
+use Rattle.qcow2_base.specs.Format.{most_l2_entries}
 use Rattle.qcow2_base.specs.Storage.{OnlyReads, ReadsFor, StorageState}
 use Rattle.qcow2_base.specs.Types.{IsClusterBits}
 use Rattle.qcow2_base.specs.declared.fault.Fault.{Fault}
@@ -8,7 +9,7 @@ use Rattle.qcow2_base.specs.declared.types.HostOffset.{HostOffset}
 use Rattle.qcow2_metadata.specs.Entries.{entry_fault, offset_field, offset_unless_zero}
 use Rattle.qcow2_metadata.specs.Entries.L1Entry.{l1_fault, l1_reserved_bits}
 use Rattle.qcow2_metadata.specs.Header.{HeaderRecord}
-use Rattle.qcow2_metadata.specs.Table.{TablePlace, most_l2_entries, offset_of, place_fault}
+use Rattle.qcow2_metadata.specs.Table.{TablePlace, offset_of, place_fault}
 use Rattle.qcow2_session.specs.Session.Lookups.{l1_place}
 
 -- the L1 table of a lawful header begins at the offset that the header says

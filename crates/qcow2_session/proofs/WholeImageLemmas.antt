@@ -5,6 +5,7 @@ use Rattle.std.proofs.lemmas.List.Sums.{sum_by-cons}
 use Rattle.std.proofs.lemmas.Nat.{mul-le}
 use Rattle.std.proofs.lemmas.Option.{none-some, same_Some}
 use Rattle.std.specs.List.{sum_by}
+use Rattle.qcow2_base.specs.Format.{most_l1_entries, most_l2_entries}
 use Rattle.qcow2_base.specs.Storage.{Image, SameOutside, be}
 use Rattle.qcow2_base.specs.declared.fault.Fault.{Fault}
 use Rattle.qcow2_base.specs.declared.on_disk_struct.v2_header.V2Header.{V2Header}
@@ -18,7 +19,7 @@ use Rattle.qcow2_metadata.specs.Entries.L1Entry.{l1_fault}
 use Rattle.qcow2_metadata.specs.Header.{Geometry, HeaderRecord, geometry_of}
 use Rattle.qcow2_metadata.specs.Header.Grammar.{header_of}
 use Rattle.qcow2_session.specs.Session.Lookups.{guest_mapping, image_mapping, l1_place, l2_cluster, mapping_by}
-use Rattle.qcow2_metadata.specs.Table.{TablePlace, decoded, l2_table_at, loaded_l1_table, loaded_l2_table, most_l1_entries, most_l2_entries, numbers_at, offset_of, place_fault}
+use Rattle.qcow2_metadata.specs.Table.{TablePlace, decoded, l2_table_at, loaded_l1_table, loaded_l2_table, numbers_at, offset_of, place_fault}
 use Rattle.qcow2_metadata.specs.declared.entries.ClustersToFreeEntry.{ClustersToFreeEntry}
 use Rattle.qcow2_metadata.proofs.ClusterLemmas.{header_of-same}
 use Rattle.qcow2_metadata.proofs.GrammarLemmas.{header_of-is, holds-v2_at}

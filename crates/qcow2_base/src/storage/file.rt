@@ -5,6 +5,7 @@ ghost use Rattle.std.specs.Fs.{new_options, with_read, with_write, IsDir, file_t
 ghost use Rattle.std.specs.Io.KnownBytes.{Keeps};
 ghost use Rattle.std.specs.Io.Seek.{MovesTo};
 ghost use Rattle.std.proofs.Common.{rules};
+ghost use Rattle.qcow2_base.specs.Format.{max_file_length};
 ghost use Rattle.qcow2_base.specs.Storage.File.{file_of, file_failures, file_state};
 ghost use Rattle.qcow2_base.specs.Storage.{TellsReads, ReadsBytes, WritesBytes, Holds, image_of};
 
@@ -78,7 +79,7 @@ impl<F: Read + Write + Seek> Storage for FileStorage<F> {
 
     /// Where the type of the file tells its bytes, as one in memory may, an `Ok` gives those.
     fn read(&mut self, buf: &mut [u8], offset: u64) -> Result<(), StorageFault>
-        requires { offset + length buf.old ≤ 2 ^ 56 }
+        requires { offset + length buf.old ≤ max_file_length }
         ensures bytes { ReadsBytes result offset buf.new (file_state self.old) (file_state self.new) }
         ensures read { TellsReads F.stream_bytes F.stream_position F.remaining →
             IfSome (F.stream_bytes (file_of self.old))
@@ -89,7 +90,7 @@ impl<F: Read + Write + Seek> Storage for FileStorage<F> {
 
     /// An empty write succeeds and asks nothing of the file.
     fn write(&mut self, buf: &[u8], offset: u64) -> Result<(), StorageFault>
-        requires { offset + length buf.now ≤ 2 ^ 56 }
+        requires { offset + length buf.now ≤ max_file_length }
         ensures bytes { WritesBytes result offset buf.now (file_state self.old) (file_state self.new) }
         ensures empty { length buf.now ≡ 0 → IsOk result × (self.new ≡ self.old) }
     {

@@ -1,6 +1,7 @@
 //! An image in memory.
 
 ghost use Rattle.std.specs.Prelude.{◌≡◌, ℕ, ◌+◌, ◌^◌, ◌<◌, ◌≤◌, max, length, slice_index, IsOk, OnOk, OnErr};
+ghost use Rattle.qcow2_base.specs.Format.{max_file_length};
 ghost use Rattle.qcow2_base.specs.Storage.Growth.{GrowsToFit};
 ghost use Rattle.qcow2_base.specs.Storage.{IsPowerOfTwo, power_of_two_once, Holds, SameOutside, WritesBytes, image_of, image_of_ends};
 
@@ -70,7 +71,7 @@ impl Storage for MemStorage {
 
     /// Never fails.
     fn read(&mut self, buf: &mut [u8], offset: u64) -> Result<(), StorageFault>
-        requires { offset + length buf.old ≤ 2 ^ 56 }
+        requires { offset + length buf.old ≤ max_file_length }
         ensures ok { IsOk result }
         ensures read { Holds (image_of (memory_bytes self.old)) offset buf.new }
         ensures unchanged { self.new ≡ self.old }
@@ -81,7 +82,7 @@ impl Storage for MemStorage {
 
     /// Fails only where memory for a longer image is refused, and then nothing has changed.
     fn write(&mut self, buf: &[u8], offset: u64) -> Result<(), StorageFault>
-        requires { offset + length buf.now ≤ 2 ^ 56 }
+        requires { offset + length buf.now ≤ max_file_length }
         ensures bytes { WritesBytes result offset buf.now (memory_state self.old) (memory_state self.new) }
         ensures growth { GrowsToFit result offset (length buf.now)
             (memory_bytes self.old) (memory_bytes self.new) }
@@ -117,7 +118,7 @@ fn copy_bytes(bytes: &[u8], buf: &mut [u8], offset: usize)
 
 // Replaces the bytes from `offset` on, after growing the vector with zeros where it is too short.
 fn overwrite(bytes: &mut Vec<u8>, buf: &[u8], offset: usize) -> Result<(), AllocError>
-    requires { offset + length buf.now ≤ 2 ^ 56 }
+    requires { offset + length buf.now ≤ max_file_length }
     ensures written { OnOk result (Holds (image_of bytes.new.items) offset buf.now) }
     ensures others { SameOutside offset (length buf.now)
         (image_of bytes.old.items) (image_of bytes.new.items) }

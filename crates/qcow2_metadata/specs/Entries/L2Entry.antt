@@ -1,4 +1,5 @@
 use Rattle.std.specs.Prelude.{◌≡◌, ℕ, Bool, false, not, ◌&&◌, ◌||◌, ◌==◌, ◌+◌, ◌-◌, ◌*◌, ◌/◌, ◌%◌, ◌^◌, ◌<◌, ◌≤◌, ◌↔◌, nat_lt, if◌then◌else◌, Option, Some, None, option_map, IfSome, IfNone, unwrap_or}
+use Rattle.qcow2_base.specs.Format.{max_file_length}
 use Rattle.qcow2_base.specs.Bits.{field}
 use Rattle.qcow2_base.specs.declared.fault.Fault.{Fault}
 use Rattle.qcow2_base.specs.declared.types.ClusterCount.{ClusterCount}
@@ -27,10 +28,10 @@ l2_reserved_bits v =
 abbrev pub compressed_offset_field : ℕ → ℕ → ℕ
 compressed_offset_field cb v = v % 2 ^ (70 - cb)
 
--- a reserved bit is set, or a compressed entry's offset is 2 ^ 56 or more
+-- a reserved bit is set, or a compressed entry's offset is the greatest end or more
 abbrev pub l2_has_reserved : ℕ → ℕ → Bool
 l2_has_reserved cb v =
-    not (l2_reserved_bits v == 0) || (is_compressed v && not (nat_lt (compressed_offset_field cb v) (2 ^ 56)))
+    not (l2_reserved_bits v == 0) || (is_compressed v && not (nat_lt (compressed_offset_field cb v) max_file_length))
 
 -- a standard entry's offset is no multiple of the cluster size
 abbrev pub l2_is_unaligned : ℕ → ℕ → Bool
@@ -64,7 +65,7 @@ shared external v =
 
 -- where a compressed entry's data begins
 abbrev pub compressed_offset : ℕ → ℕ → ℕ
-compressed_offset cb v = compressed_offset_field cb v % 2 ^ 56
+compressed_offset cb v = compressed_offset_field cb v % max_file_length
 
 -- how many sectors of 512 bytes a compressed entry has beyond its first
 abbrev pub further_sectors : ℕ → ℕ → ℕ

@@ -2,6 +2,7 @@ use Rattle.std.specs.Prelude.{◌≡◌, ℕ, Bool, true, false, not, ◌&&◌, 
 use Rattle.std.specs.Bool.{beq}
 use Rattle.std.specs.Int.{div_ceil}
 use Rattle.std.specs.Int.NonZero.{non_zero_u64_get}
+use Rattle.qcow2_base.specs.Format.{max_file_length}
 use Rattle.qcow2_base.specs.declared.types.HostCluster.{HostCluster}
 use Rattle.qcow2_metadata.specs.Header.{Geometry}
 use Rattle.qcow2_metadata.specs.declared.entries.l2_mapping.L2Mapping.{L2Mapping}
@@ -23,12 +24,12 @@ meaning (Backing backing_offset) = backing backing_offset
 meaning (Zero host_cluster copied) = zeros (option_map (λ (c : HostCluster). c.0) host_cluster) copied
 meaning (Compressed host_offset length) = compressed host_offset.0 (non_zero_u64_get length)
 
--- the cluster or the data that a mapping names begins below 2 ^ 56
+-- the cluster or the data that a mapping names begins before the greatest end
 abbrev pub IsPlaced : ℕ → L2Mapping → Type 0
-IsPlaced cb (DataFile host_cluster copied) = host_cluster.0 * 2 ^ cb < 2 ^ 56
+IsPlaced cb (DataFile host_cluster copied) = host_cluster.0 * 2 ^ cb < max_file_length
 IsPlaced cb (Backing backing_offset) = ⊤
-IsPlaced cb (Zero host_cluster copied) = IfSome host_cluster (λ (c : HostCluster). c.0 * 2 ^ cb < 2 ^ 56)
-IsPlaced cb (Compressed host_offset length) = host_offset.0 < 2 ^ 56
+IsPlaced cb (Zero host_cluster copied) = IfSome host_cluster (λ (c : HostCluster). c.0 * 2 ^ cb < max_file_length)
+IsPlaced cb (Compressed host_offset length) = host_offset.0 < max_file_length
 
 -- the cluster that a standard entry refers to
 abbrev pub host_cluster : Geometry → ℕ → Option ℕ

@@ -1,4 +1,5 @@
 use Rattle.std.specs.Prelude.{◌≡◌, ◌≢◌, ℕ, ◌==◌, if◌then◌else◌, Option, Some, None, Result, MatchResult}
+use Rattle.qcow2_base.specs.Format.{external_data_file_bit}
 use Rattle.qcow2_metadata.specs.declared.header.features.AutoclearFeatures.{AutoclearFeatures}
 use Rattle.qcow2_metadata.specs.declared.header.features.AutoclearFeatures.TheVariants.{Bitmaps, RawExternalData}
 use Rattle.qcow2_metadata.specs.declared.header.features.CompatibleFeatures.{CompatibleFeatures}
@@ -18,7 +19,7 @@ feature_type_number Autoclear = 2
 abbrev pub incompatible_bit : IncompatibleFeatures → ℕ
 incompatible_bit Dirty = 0
 incompatible_bit Corrupt = 1
-incompatible_bit ExternalDataFile = 2
+incompatible_bit ExternalDataFile = external_data_file_bit
 incompatible_bit CompressionType = 3
 incompatible_bit ExtendedL2Entries = 4
 

@@ -1,6 +1,7 @@
 use Rattle.std.specs.Prelude.{◌≡◌, ◌≢◌, ◌⊎◌, ℕ, ◌+◌, ◌-◌, ◌^◌, ◌%◌, ◌<◌, ◌≤◌, ◌==◌, max, nat_le, ◌||◌, ◌&&◌, Bool, List, [], ◌∷◌, Option, Some, None, Result, Ok, MatchResult, true, false}
 use Rattle.std.specs.List.{IsAmong}
 use Rattle.std.specs.Str.{IsUtf8}
+use Rattle.qcow2_base.specs.Format.{max_backing_filename}
 use Rattle.qcow2_base.specs.OnDiskStruct.{HoldsLayout, moved, v2_header, v3_header_base}
 use Rattle.qcow2_base.specs.Fault.{fault_number}
 use Rattle.qcow2_base.specs.Storage.{Image, be}
@@ -76,7 +77,7 @@ fixed_parts image =
 -- the conditions on the place of the backing file's name
 abbrev pub name_conditions : V2Header → List (Bool × Fault)
 name_conditions v2 =
-    (nat_le v2.backing_file_size 1023, BackingNameLong)
+    (nat_le v2.backing_file_size max_backing_filename, BackingNameLong)
     ∷ (nat_le (v2.backing_file_offset + v2.backing_file_size) (2 ^ v2.cluster_bits), BackingNamePlace)
     ∷ []
 
@@ -111,7 +112,7 @@ pub record IsBase (image : Image) (version : ℕ) (base : V3HeaderBase) : Type 0
 -- the backing file's name: at most 1023 bytes of text, within the first cluster
 pub record IsName (image : Image) (v2 : V2Header) (name : List ℕ) : Type 0 where
   pub some : v2.backing_file_offset ≢ 0
-  pub short : v2.backing_file_size ≤ 1023
+  pub short : v2.backing_file_size ≤ max_backing_filename
   pub within : v2.backing_file_offset + v2.backing_file_size ≤ 2 ^ v2.cluster_bits
   pub bytes : name ≡ bytes_at image v2.backing_file_offset v2.backing_file_size
   pub text : IsUtf8 name

@@ -1,5 +1,5 @@
 use Rattle.std.specs.Prelude.{◌≡◌, ◌⊎◌, ℕ, ◌==◌, ◌&&◌, Bool, true, false, not, IsTrue, List, [], length, Some, IfOk, IsOkAnd, OnOk, Result, Ok, Err}
-use Rattle.qcow2_base.specs.Storage.{Holds, OnlyReads, OnlyWrites, StorageState}
+use Rattle.qcow2_base.specs.Storage.{Holds, OnImages, OnlyReads, OnlyWrites, StorageState}
 use Rattle.qcow2_base.specs.declared.fault.Fault.{Fault}
 use Rattle.qcow2_base.specs.declared.fault.Fault.TheVariants.{HeaderTooLong}
 use Rattle.qcow2_metadata.specs.Results.{and_then}
@@ -45,6 +45,6 @@ HadToWrite writable old =
 pub record Opens (writable : Bool) (answer : Result HeaderRecord Fault) (old new : StorageState) : Type 0 where
   pub reads : writable ≡ false → OnlyReads answer old new
   pub writes : OnlyWrites answer (Some 0) (length (opened_text writable (header_of old.byte_at))) old new
-  pub placed : IsTrue old.tells → OnOk answer (Holds new.byte_at 0 (opened_text writable (header_of old.byte_at)))
+  pub placed : OnImages old new (λ before after. OnOk answer (Holds after 0 (opened_text writable (header_of before))))
   pub written : HadToWrite writable old → IfOk answer (IsWrittenHeader new.byte_at)
   pub settled : HadToWrite writable old → IfOk answer IsSettled

@@ -1,7 +1,7 @@
 use Rattle.std.specs.Prelude.{◌≡◌, ℕ, ◌+◌, ◌-◌, ◌*◌, ◌^◌, ◌≤◌, IsTrue, List, [], ◌∷◌, length, nat_lt, if◌then◌else◌, OnOk, IsOkUnless, Option, Some, None, Result}
 use Rattle.std.specs.Int.{div_ceil}
 use Rattle.qcow2_base.specs.OnDiskStruct.{LayoutField, number_in, v2_header}
-use Rattle.qcow2_base.specs.Storage.{Image, OnlyWrites, StorageState}
+use Rattle.qcow2_base.specs.Storage.{Image, OnImages, OnlyWrites, StorageState}
 use Rattle.qcow2_base.specs.declared.fault.Fault.{Fault}
 use Rattle.qcow2_base.specs.declared.fault.Fault.TheVariants.{NotPlaced, Storage, TooMany}
 use Rattle.qcow2_base.specs.declared.on_disk_struct.v2_header.V2Header.{V2Header}
@@ -57,6 +57,6 @@ HoldsBetween image first end (f ∷ fields) =
 -- a write of the header's first part between two places, which ended in this answer: after an Ok the fields
 -- between them stand there, and no byte outside the range changes
 pub record WritesPart {T : Type 0} (answer : Result T Fault) (v2 : V2Header) (first end : ℕ) (old new : StorageState) : Type 0 where
-  pub written : OnOk answer (IsTrue old.tells → HoldsBetween new.byte_at first end (v2_header v2))
+  pub written : OnOk answer (OnImages old new (λ _ after. HoldsBetween after first end (v2_header v2)))
   pub faults : IsOkUnless answer Storage
   pub storage : OnlyWrites answer (Some first) (end - first) old new

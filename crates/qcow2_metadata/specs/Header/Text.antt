@@ -2,6 +2,7 @@ use Rattle.std.specs.Prelude.{◌≡◌, All, ℕ, ◌<◌, ◌+◌, ◌-◌, �
 use Rattle.std.specs.Int.{bytes_high_first, next_multiple_of}
 use Rattle.std.specs.List.{filter, flat_map}
 use Rattle.std.specs.Str.Lossy.{utf8_lossy}
+use Rattle.qcow2_base.specs.Format.{max_backing_filename}
 use Rattle.qcow2_base.specs.OnDiskStruct.{LayoutField, header_extension_header, v2_header, v3_header_base}
 use Rattle.qcow2_base.specs.Storage.{Holds, Image}
 use Rattle.qcow2_base.specs.declared.fault.Fault.{Fault}
@@ -142,7 +143,7 @@ fits_first_cluster header = nat_le (length (header_text header)) (2 ^ header.v2.
 -- whether the backing file's name is one that an image can have
 abbrev pub is_short : Option (List ℕ) → Bool
 is_short None = true
-is_short (Some name) = nat_le (length name) 1023
+is_short (Some name) = nat_le (length name) max_backing_filename
 
 -- the header as a write leaves it: with the places of its text, and where that doesn't fit, without feature
 -- names; or why it can't be written

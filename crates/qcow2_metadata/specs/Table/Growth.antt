@@ -1,7 +1,8 @@
 use Rattle.std.specs.Prelude.{ℕ, ◌+◌, ◌-◌, ◌*◌, ◌/◌, ◌^◌, ◌≤◌, max, nat_le, if◌then◌else◌, List, ◌++◌, length, replicate, Option, Some, None}
 use Rattle.std.specs.Int.{div_ceil, next_multiple_of}
+use Rattle.qcow2_base.specs.Format.{most_reftable_entries}
 use Rattle.qcow2_metadata.specs.Header.{HeaderRecord}
-use Rattle.qcow2_metadata.specs.Table.{TableState, most_reftable_entries}
+use Rattle.qcow2_metadata.specs.Table.{TableState}
 
 -- the number of entries that a table has after it has grown to hold an index: whole clusters of them
 abbrev pub grown_count : TableState → ℕ → ℕ

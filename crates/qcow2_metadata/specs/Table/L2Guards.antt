@@ -2,6 +2,7 @@ use Rattle.std.specs.Prelude.{◌≡◌, ◌≢◌, ℕ, Bool, true, false, not,
 use Rattle.std.specs.Borrow.{MutBor}
 use Rattle.std.specs.Int.NonZero.{non_zero_u64_get}
 use Rattle.std.specs.List.{sum_by}
+use Rattle.qcow2_base.specs.Format.{max_offset}
 use Rattle.qcow2_metadata.specs.Entries.L2Entry.{IsAllocation, Meets, allocation, has_host_cluster, meets, with_zero_flag}
 use Rattle.qcow2_metadata.specs.Entries.{is_among}
 use Rattle.qcow2_metadata.specs.Header.{Geometry}
@@ -129,7 +130,7 @@ RunsTo g edits before after = (steps : List (List ℕ)) × IsRun g edits before 
 -- whether an entry can hold a host cluster's offset, and it isn't the header's, but in an external data file
 abbrev pub is_mappable : Geometry → ℕ → Bool
 is_mappable g cluster =
-    nat_le (cluster * 2 ^ g.cluster_bits) (2 ^ 56 - 512)
+    nat_le (cluster * 2 ^ g.cluster_bits) max_offset
     && (if g.external_data_file then true else not (cluster == 0))
 
 -- whether a change can be made: the host cluster that it maps to, if it does, can be mapped to

@@ -1,6 +1,7 @@
 use Rattle.std.specs.Prelude.{◌≡◌, ◌≢◌, ◌⊎◌, ℕ, ◌+◌, ◌*◌, ◌/◌, ◌^◌, ◌<◌, ◌≤◌, max, nat_le, if◌then◌else◌, List, map, length, slice_index, Option, Some, option_map, Result, Err, OnOk, IfErr, IfSome, IsTrue}
 use Rattle.std.specs.List.{range_with_len}
-use Rattle.qcow2_base.specs.Storage.{Image, OnlyWrites, SameOutside, StorageState, be}
+use Rattle.qcow2_metadata.specs.Pieces.{piece_bytes}
+use Rattle.qcow2_base.specs.Storage.{Image, OnImages, OnlyWrites, SameOutside, StorageState, be}
 use Rattle.qcow2_base.specs.declared.fault.Fault.{Fault}
 use Rattle.qcow2_base.specs.declared.fault.Fault.TheVariants.{NoMemory, Storage}
 use Rattle.qcow2_metadata.specs.Range.{IsWriteFault}
@@ -47,10 +48,10 @@ pub record IsWrittenEntry (index : ℕ) (range : EntryRange) (place : TablePlace
   pub entries : table_numbers new (range_offset place range) range.count ≡ numbers_in range numbers
   pub table : HasOthers index place numbers old → numbers_at place new ≡ numbers
 
--- the refusals of a write of one entry: those of a write, and want of memory, which is taken for more than
--- 4096 bytes alone
+-- the refusals of a write of one entry: those of a write, and want of memory, which is taken for more
+-- bytes than a piece alone
 abbrev pub IsEntryWriteFault : EntryRange → Option Fault → Fault → Type 0
-IsEntryWriteFault range of_place fault = IsWriteFault of_place fault ⊎ ((fault ≡ NoMemory) × (512 < range.count))
+IsEntryWriteFault range of_place fault = IsWriteFault of_place fault ⊎ ((fault ≡ NoMemory) × (piece_bytes < 8 * range.count))
 
 -- where the cluster that holds a table's entry begins
 abbrev pub cluster_offset : TablePlace → ℕ → ℕ
@@ -59,8 +60,9 @@ cluster_offset place index =
 
 -- a write of these entries from an offset on that ended in this answer
 pub record WritesEntries {T : Type 0} (answer : Result T Fault) (offset : ℕ) (range : EntryRange) (numbers : List ℕ) (old new : StorageState) : Type 0 where
-  pub faults : IfErr answer (λ fault. (fault ≡ Storage) ⊎ ((fault ≡ NoMemory) × (512 < range.count)))
-  pub written : IsTrue old.tells → OnOk answer (table_numbers new.byte_at offset range.count ≡ numbers_in range numbers)
+  pub faults : IfErr answer (λ fault. (fault ≡ Storage) ⊎ ((fault ≡ NoMemory) × (piece_bytes < 8 * range.count)))
+  pub written : OnImages old new (λ _ after.
+      OnOk answer (table_numbers after offset range.count ≡ numbers_in range numbers))
   pub storage : OnlyWrites answer (Some offset) (8 * range.count) old new
 
 -- a write of one entry of a table that ended in this answer
@@ -68,9 +70,11 @@ pub record WritesEntry (most index : ℕ) (range : EntryRange) {T : Type 0} (ans
   pub refused : IfSome (write_fault most old.table) (λ fault. answer ≡ Err fault)
   pub faults : IfErr answer (IsEntryWriteFault range (write_fault most old.table))
   pub table : new.table ≡ old.table
-  pub written : IsTrue old.storage.tells → OnOk answer (IfSome (place_of old.table) (λ place.
-      IsWrittenEntry index range place old.table.numbers old.storage.byte_at new.storage.byte_at))
-  pub cluster : IsTrue old.storage.tells → IfSome (place_of old.table) (λ place.
-      SameOutside (cluster_offset place index) (2 ^ place.geometry.cluster_bits) old.storage.byte_at new.storage.byte_at)
+  pub written : OnImages old.storage new.storage (λ before after.
+      OnOk answer (IfSome (place_of old.table)
+      (λ place. IsWrittenEntry index range place old.table.numbers before after)))
+  pub cluster : OnImages old.storage new.storage (λ before after.
+      IfSome (place_of old.table) (λ place. SameOutside (cluster_offset place index)
+      (2 ^ place.geometry.cluster_bits) before after))
   pub storage : OnlyWrites answer (option_map (λ place. range_offset place range) (place_of old.table)) (8 * range.count)
       old.storage new.storage

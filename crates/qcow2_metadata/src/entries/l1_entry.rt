@@ -1,6 +1,7 @@
 //! Entries of L1 tables.
 
 ghost use Rattle.std.specs.Prelude.{◌≡◌, ◌*◌, ◌^◌, ◌<◌, None};
+ghost use Rattle.qcow2_base.specs.Format.{max_file_length};
 ghost use Rattle.qcow2_base.specs.Types.{IsClusterBits};
 
 use super::TableEntry;
@@ -38,7 +39,7 @@ impl L1Entry {
     #[tactic(auto, using(crate::proofs::EntriesLemmas::l1_entry_is_lawful))]
     pub(crate) fn for_l2_table(cluster: HostCluster, cluster_bits: u32) -> L1Entry
         requires cluster_bits { IsClusterBits cluster_bits }
-        requires place { cluster.0 * 2 ^ cluster_bits < 2 ^ 56 }
+        requires place { cluster.0 * 2 ^ cluster_bits < max_file_length }
         ensures number { result ≡ l1_entry_for (cluster.0 * 2 ^ cluster_bits) }
         ensures lawful { l1_fault cluster_bits result ≡ None }
     {

@@ -2,13 +2,16 @@
 
 ghost use Rattle.std.specs.Prelude.{◌≡◌, ℕ, ◌+◌, ◌*◌, ◌%◌, ◌^◌, ◌<◌, ◌≤◌, false, is_some, Some, None, option_map, IfSome, IfNone, IfOk, IsOkAnd};
 ghost use Rattle.std.specs.Int.NonZero.{non_zero_u64_get};
+ghost use Rattle.qcow2_base.specs.Format.{max_file_length};
 ghost use Rattle.qcow2_base.specs.Types.{IsClusterBits};
 ghost use Rattle.qcow2_base.specs.declared.types.HostCluster.{HostCluster as Cluster};
 ghost use Rattle.qcow2_metadata.specs.Header.{geometry};
 
 use super::{L2Mapping, TableEntry};
 use crate::Header;
-use qcow2_base::{ClusterCount, Fault, GuestCluster, HostCluster, HostOffset, field};
+use qcow2_base::{
+    ClusterCount, Fault, GuestCluster, HostCluster, HostOffset, MAX_FILE_LENGTH, field,
+};
 use std::marker::Model;
 use std::num::NonZero;
 
@@ -168,7 +171,7 @@ impl L2Entry {
             return None;
         }
         let offset_bits = 70 - cluster_bits;
-        let offset = field(self.value, 0, offset_bits) % (1 << 56);
+        let offset = field(self.value, 0, offset_bits) % MAX_FILE_LENGTH;
         let sectors = field(self.value, offset_bits, cluster_bits - 8) + 1;
         let length = NonZero::<u64>::new(sectors * 512 - offset % 512)?;
         Some((HostOffset(offset), length))
@@ -198,7 +201,7 @@ impl L2Entry {
         ensures some { IfSome result (λ range. byte_range (geometry cluster_bits external_data_file) self.now
             ≡ Some (record { start = range.0.0; end = range.0.0 + range.1 })) }
         ensures length { IfSome result (λ range. (1 ≤ range.1) × (range.1 ≤ 2 * 2 ^ cluster_bits)) }
-        ensures start { IfSome result (λ range. range.0.0 < 2 ^ 56) }
+        ensures start { IfSome result (λ range. range.0.0 < max_file_length) }
     {
         if let Some((offset, length)) = self.compressed_range(cluster_bits) {
             return Some((offset, length.get()));
@@ -215,7 +218,7 @@ impl L2Entry {
         requires standard { is_compressed self.now ≡ false }
         ensures value { option_map (λ (c : Cluster). c.0) result
             ≡ host_cluster (geometry cluster_bits external_data_file) self.now }
-        ensures placed { IfSome result (λ (c : Cluster). c.0 * 2 ^ cluster_bits < 2 ^ 56) }
+        ensures placed { IfSome result (λ (c : Cluster). c.0 * 2 ^ cluster_bits < max_file_length) }
     {
         let offset = self.cluster_offset(external_data_file)?;
         Some(offset.cluster(cluster_bits))
@@ -277,7 +280,7 @@ impl TableEntry for L2Entry {
             return Err(Fault::EntryReserved);
         }
         if entry.is_compressed() {
-            if field(value, 0, 70 - cluster_bits) >= 1 << 56 {
+            if field(value, 0, 70 - cluster_bits) >= MAX_FILE_LENGTH {
                 return Err(Fault::EntryReserved);
             }
         } else if HostOffset(field(value, 9, 47) * 512).in_cluster_offset(cluster_bits) != 0 {

@@ -1,6 +1,7 @@
 //! Entries of refcount tables.
 
 ghost use Rattle.std.specs.Prelude.{◌≡◌, ◌*◌, ◌^◌, ◌<◌, None};
+ghost use Rattle.qcow2_base.specs.Format.{max_file_length};
 ghost use Rattle.qcow2_base.specs.Types.{IsClusterBits};
 
 use super::TableEntry;
@@ -37,7 +38,7 @@ impl RefTableEntry {
     #[tactic(auto, using(crate::proofs::EntriesLemmas::ref_entry_is_lawful))]
     pub(crate) fn for_refblock(cluster: HostCluster, cluster_bits: u32) -> RefTableEntry
         requires cluster_bits { IsClusterBits cluster_bits }
-        requires place { cluster.0 * 2 ^ cluster_bits < 2 ^ 56 }
+        requires place { cluster.0 * 2 ^ cluster_bits < max_file_length }
         ensures number { result ≡ cluster.0 * 2 ^ cluster_bits }
         ensures lawful { ref_fault cluster_bits result ≡ None }
     {

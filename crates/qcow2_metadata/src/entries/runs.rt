@@ -1,12 +1,12 @@
 //! Runs of L2 entries: how the entries go on that read as one with the first.
 
 ghost use Rattle.std.specs.Prelude.{◌≡◌, ℕ, ◌+◌, ◌*◌, ◌^◌, ◌<◌, ◌≤◌, ◌↔◌, IsTrue, None, false, true, length, slice_index};
+ghost use Rattle.qcow2_base.specs.Format.{most_l2_entries};
 ghost use Rattle.qcow2_base.specs.Types.{IsClusterBits};
 ghost use Rattle.qcow2_metadata.specs.Header.{geometry};
 ghost use Rattle.qcow2_metadata.specs.Entries.L2Entry.{l2_fault};
 ghost use Rattle.qcow2_metadata.specs.Entries.L2Mapping.{mapping};
 ghost use Rattle.qcow2_metadata.specs.Entries.Runs.{follows, reads_on};
-ghost use Rattle.qcow2_metadata.specs.Table.{most_l2_entries};
 
 use super::{AtomicL2Entry, L2Entry, TableEntry};
 

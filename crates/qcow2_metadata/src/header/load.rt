@@ -1,7 +1,7 @@
 //! Loading a header: the first cluster of an image, looked at where the header says, in its order.
 
 ghost use Rattle.std.specs.Prelude.{All, ◌≡◌, ◌≢◌, ◌⊎◌, ◌+◌, ◌%◌, ◌^◌, ◌≤◌, nat_le, [], ◌∷◌, false, true, IfErr, IfOk, IfSome, IsTrue, Ok, OnOk, length, map, option_map, string_bytes};
-ghost use Rattle.qcow2_base.specs.Storage.{Image, OnlyReads};
+ghost use Rattle.qcow2_base.specs.Storage.{Image, OnImage, OnlyReads};
 ghost use Rattle.qcow2_base.specs.Types.{IsClusterBits};
 ghost use Rattle.qcow2_metadata.specs.Results.{Answers, provided};
 ghost use Rattle.qcow2_metadata.specs.Header.{IsStorable, magic};
@@ -20,23 +20,14 @@ use super::{FeatureType, Header, same_names};
 use crate::range::read_range;
 use crate::read_ahead::ReadAhead;
 use qcow2_base::{
-    Fault, HeaderExtensionHeader, HostOffset, OnDiskStruct, Storage, V2Header, V3HeaderBase,
-    read_be,
+    EXTERNAL_DATA_FILE_BIT, Fault, HeaderExtensionHeader, HostOffset, MAGIC, MAX_BACKING_FILENAME,
+    OnDiskStruct, Storage, V2Header, V3HeaderBase, read_be,
 };
 use std::alloc::Global;
 use std::collections::BTreeMap;
 
-/// "QFI", and a byte that is no text.
-pub(super) const MAGIC: u32 = 0x514649fb;
-
-/// How many bytes the backing file's name may have.
-pub(super) const MAX_BACKING_FILENAME: u32 = 1023;
-
 /// How many bytes the two fixed parts have.
 pub(super) const FIXED_BYTES: usize = V2Header::ON_DISK_SIZE + V3HeaderBase::ON_DISK_SIZE;
-
-/// Incompatible feature bit 2: guest data lies in an external data file.
-pub(super) const EXTERNAL_DATA_FILE: u64 = 4;
 
 impl Header {
     /// Loads the header of an image. The answer depends on the first cluster alone, and of an image of
@@ -50,13 +41,13 @@ impl Header {
     /// header names. None is known here: where there is one, the header is written without any, and a header
     /// that has no room in the first cluster is refused by fault 24.
     pub fn load<S: Storage>(alloc: Global, image: &mut S, writable: bool) -> Result<Header, Fault>
-        ensures exact { IsTrue (S.state image.old).tells → Answers (λ header. header) result
-            (opened writable (header_of (S.state image.old).byte_at)) }
-        ensures grammar { writable ≡ false → IsTrue (S.state image.old).tells →
-            FollowsGrammar result (S.state image.old).byte_at }
-        ensures first_cluster { IsTrue (S.state image.old).tells →
-            (other : Image) → SameFirstCluster (S.state image.old).byte_at other →
-            Answers (λ header. header) result (opened writable (header_of other)) }
+        ensures exact { OnImage (S.state image.old) (λ bytes.
+            Answers (λ header. header) result (opened writable (header_of bytes))) }
+        ensures grammar { writable ≡ false → OnImage (S.state image.old) (λ bytes.
+            FollowsGrammar result bytes) }
+        ensures first_cluster { OnImage (S.state image.old) (λ bytes.
+            (other : Image) → SameFirstCluster bytes other → Answers (λ header. header) result
+            (opened writable (header_of other))) }
         ensures faults { IfErr result (IsOpenFault writable) }
         ensures storage { Opens writable result (S.state image.old) (S.state image.new) }
     {
@@ -70,8 +61,8 @@ impl Header {
 
 // The header of an image.
 fn read_header<S: Storage>(alloc: Global, image: &mut S) -> Result<Header, Fault>
-    ensures exact { IsTrue (S.state image.old).tells →
-        Answers (λ header. header) result (header_of (S.state image.old).byte_at) }
+    ensures exact { OnImage (S.state image.old) (λ bytes.
+        Answers (λ header. header) result (header_of bytes)) }
     ensures short { IfOk result (λ header. is_short header.backing_filename ≡ true) }
     ensures faults { IfErr result IsHeaderFault }
     ensures storage { OnlyReads result (S.state image.old) (S.state image.new) }
@@ -89,9 +80,8 @@ fn read_other_parts<S: Storage>(
     base: V3HeaderBase,
 ) -> Result<Header, Fault>
     requires { AreLawfulParts v2 base }
-    ensures exact { IsTrue (S.state image.old.image.now).tells →
-        fixed_parts (S.state image.old.image.now).byte_at ≡ Ok (v2, base) →
-        Answers (λ header. header) result (header_of (S.state image.old.image.now).byte_at) }
+    ensures exact { OnImage (S.state image.old.image.now) (λ bytes.
+        fixed_parts bytes ≡ Ok (v2, base) → Answers (λ header. header) result (header_of bytes)) }
     ensures short { IfOk result (λ header. is_short header.backing_filename ≡ true) }
     ensures faults { IfErr result IsHeaderFault }
     ensures storage { ReadsThrough S.state result image.old image.new }
@@ -113,8 +103,8 @@ fn read_other_parts<S: Storage>(
 
 // The two fixed parts, which are lawful. What stands behind the first is not looked at in version 2.
 fn read_fixed_parts<S: Storage>(image: &mut S) -> Result<(V2Header, V3HeaderBase), Fault>
-    ensures exact { IsTrue (S.state image.old).tells →
-        Answers (λ parts. (parts.0, parts.1)) result (fixed_parts (S.state image.old).byte_at) }
+    ensures exact { OnImage (S.state image.old) (λ bytes.
+        Answers (λ parts. (parts.0, parts.1)) result (fixed_parts bytes)) }
     ensures lawful { IfOk result (λ parts. AreLawfulParts parts.0 parts.1) }
     ensures faults { IfErr result IsHeaderFault }
     ensures storage { OnlyReads result (S.state image.old) (S.state image.new) }
@@ -201,8 +191,8 @@ fn read_bytes<S: Storage>(
     len: usize,
 ) -> Result<Vec<u8>, Fault>
     requires { offset + len ≤ 2 ^ 21 }
-    ensures read { IfOk result (λ bytes. IsTrue (S.state image.old.image.now).tells →
-        bytes.items ≡ bytes_at (S.state image.old.image.now).byte_at offset len) }
+    ensures read { IfOk result (λ bytes. OnImage (S.state image.old.image.now) (λ stored.
+        bytes.items ≡ bytes_at stored offset len)) }
     ensures len { IfOk result (λ bytes. length bytes.items ≡ len) }
     ensures faults { IfErr result (λ fault. (fault ≡ Fault.NoMemory) ⊎ (fault ≡ Fault.Storage)) }
     ensures storage { ReadsThrough S.state result image.old image.new }
@@ -222,8 +212,8 @@ fn read_backing_filename<S: Storage>(
     v2: &V2Header,
 ) -> Result<Option<String>, Fault>
     requires { IsClusterBits v2.now.cluster_bits }
-    ensures exact { IsTrue (S.state image.old.image.now).tells → Answers (option_map string_bytes) result
-        (backing_name (S.state image.old.image.now).byte_at v2.now) }
+    ensures exact { OnImage (S.state image.old.image.now) (λ bytes.
+        Answers (option_map string_bytes) result (backing_name bytes v2.now)) }
     ensures short { IfOk result (λ name. is_short (option_map string_bytes name) ≡ true) }
     ensures faults { IfErr result IsHeaderFault }
     ensures storage { ReadsThrough S.state result image.old image.new }
@@ -251,9 +241,8 @@ fn read_header_extensions<S: Storage>(
     base: &V3HeaderBase,
 ) -> Result<Vec<HeaderExtension>, Fault>
     requires { AreLawfulParts v2.now base.now }
-    ensures exact { IsTrue (S.state image.old.image.now).tells →
-        Answers (λ list. map extension_of list.items) result
-        (header_extensions (S.state image.old.image.now).byte_at v2.now base.now) }
+    ensures exact { OnImage (S.state image.old.image.now) (λ bytes.
+        Answers (λ list. map extension_of list.items) result (header_extensions bytes v2.now base.now)) }
     ensures storable { IfOk result (λ list. All IsStorable (map extension_of list.items)) }
     ensures older { IfOk result (λ list. v2.now.version ≡ 2 → list.items ≡ []) }
     ensures faults { IfErr result IsHeaderFault }
@@ -273,9 +262,8 @@ fn read_extensions<S: Storage>(
     first: u64,
 ) -> Result<Vec<HeaderExtension>, Fault>
     requires { len ≤ 2 ^ 21 }
-    ensures exact { IsTrue (S.state image.old.image.now).tells →
-        Answers (λ list. map extension_of list.items) result
-        (extensions_at (S.state image.old.image.now).byte_at len first) }
+    ensures exact { OnImage (S.state image.old.image.now) (λ bytes.
+        Answers (λ list. map extension_of list.items) result (extensions_at bytes len first)) }
     ensures storable { IfOk result (λ list. All IsStorable (map extension_of list.items)) }
     ensures faults { IfErr result IsHeaderFault }
     ensures storage { ReadsThrough S.state result image.old image.new }
@@ -298,9 +286,9 @@ fn read_extension<S: Storage>(
     place: u64,
 ) -> Result<Option<(HeaderExtension, u64)>, Fault>
     requires { len ≤ 2 ^ 21 }
-    ensures exact { IsTrue (S.state image.old.image.now).tells →
+    ensures exact { OnImage (S.state image.old.image.now) (λ bytes.
         Answers (option_map (λ found. (extension_of found.0, found.1))) result
-        (extension_at (S.state image.old.image.now).byte_at len place) }
+        (extension_at bytes len place)) }
     ensures next { IfOk result (λ found. IfSome found (λ found.
         (place + 8 ≤ found.1) × (found.1 ≤ len + 8))) }
     ensures storable { IfOk result (λ found. IfSome found (λ found. IsStorable (extension_of found.0))) }
@@ -325,9 +313,9 @@ fn read_data<S: Storage>(
 ) -> Result<HeaderExtension, Fault>
     requires end { header.now.extension_type ≢ 0 }
     requires within { place + header.now.length ≤ 2 ^ 21 }
-    ensures exact { IsTrue (S.state image.old.image.now).tells → Answers extension_of result
-        (parsed header.now.extension_type
-        (bytes_at (S.state image.old.image.now).byte_at place header.now.length)) }
+    ensures exact { OnImage (S.state image.old.image.now) (λ bytes.
+        Answers extension_of result (parsed header.now.extension_type
+        (bytes_at bytes place header.now.length))) }
     ensures storable { IfOk result (λ extension. IsStorable (extension_of extension)) }
     ensures faults { IfErr result IsHeaderFault }
     ensures storage { ReadsThrough S.state result image.old image.new }
@@ -349,8 +337,8 @@ fn read_feature_names<S: Storage>(
     len: usize,
 ) -> Result<BTreeMap<(FeatureType, u8), String>, Fault>
     requires { place + len ≤ 2 ^ 21 }
-    ensures exact { IsTrue (S.state image.old.image.now).tells → Answers names_of result
-        (feature_names (bytes_at (S.state image.old.image.now).byte_at place len)) }
+    ensures exact { OnImage (S.state image.old.image.now) (λ bytes.
+        Answers names_of result (feature_names (bytes_at bytes place len))) }
     ensures storable { IfOk result (λ names. IsStorable (FeatureNameTable (names_of names))) }
     ensures faults { IfErr result IsHeaderFault }
     ensures storage { ReadsThrough S.state result image.old image.new }
@@ -373,12 +361,10 @@ fn read_extension_header<S: Storage>(
     place: u64,
 ) -> Result<HeaderExtensionHeader, Fault>
     requires { len ≤ 2 ^ 21 }
-    ensures exact { IsTrue (S.state image.old.image.now).tells → Answers (λ header. header) result
-        (provided ((
-          nat_le (data_end (link_at (S.state image.old.image.now).byte_at place)) len,
-          Fault.ExtensionsExceed,
-        ) ∷ [])
-        (λ _. Ok (extension_header_at (S.state image.old.image.now).byte_at place))) }
+    ensures exact { OnImage (S.state image.old.image.now) (λ bytes.
+        Answers (λ header. header) result (provided
+        ((nat_le (data_end (link_at bytes place)) len, Fault.ExtensionsExceed) ∷ [])
+        (λ _. Ok (extension_header_at bytes place)))) }
     ensures bounded { IfOk result (λ header. place + 8 + header.length ≤ len) }
     ensures faults { IfErr result (λ fault. (fault ≡ Fault.ExtensionsExceed) ⊎ (fault ≡ Fault.Storage)) }
     ensures storage { ReadsThrough S.state result image.old image.new }
@@ -407,8 +393,8 @@ fn check_extensions(base: &V3HeaderBase, extensions: &[HeaderExtension]) -> Resu
     if !same_names(extensions, HeaderExtensionType::ExternalDataFileName) {
         return Err(Fault::DataFileConflict);
     }
-    let external = base.incompatible_features >> 2 & 1;
-    let others = base.incompatible_features - (external << 2);
+    let external = base.incompatible_features >> EXTERNAL_DATA_FILE_BIT & 1;
+    let others = base.incompatible_features - (external << EXTERNAL_DATA_FILE_BIT);
     if others != 0 {
         return Err(Fault::Incompatible(others));
     }

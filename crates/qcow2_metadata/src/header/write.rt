@@ -1,15 +1,14 @@
 //! Writing a header to the start of an image.
 
 ghost use Rattle.std.specs.Prelude.{◌≡◌, IfOk, IsTrue, OnErr, OnOk, Ok, Some, true, length};
-ghost use Rattle.qcow2_base.specs.Storage.{Holds, OnlyWrites};
+ghost use Rattle.qcow2_base.specs.Storage.{Holds, OnImages, OnlyWrites};
 ghost use Rattle.qcow2_metadata.specs.Results.{RefusesFirst};
 ghost use Rattle.qcow2_metadata.specs.Header.Open.{is_rewritten, opened, opened_text, without_autoclear};
 ghost use Rattle.qcow2_metadata.specs.Header.Text.{IsChosen, IsLayout, IsSettled, IsWrittenHeader, chosen, chosen_text, kept, placed};
 
 use super::Header;
-use super::load::MAX_BACKING_FILENAME;
 use super::text::Layout;
-use qcow2_base::{Fault, Storage};
+use qcow2_base::{Fault, MAX_BACKING_FILENAME, Storage};
 
 impl Header {
     /// Writes the header to the start of the image, in one call of the storage: its fields, the
@@ -25,8 +24,8 @@ impl Header {
     pub fn write<S: Storage>(&mut self, image: &mut S) -> Result<(), Fault>
         ensures exact { RefusesFirst (λ _. self.new) result (kept self.old) }
         ensures unchanged { OnErr result (self.new ≡ self.old) }
-        ensures written { OnOk result (IsTrue (S.state image.old).tells →
-            IsWrittenHeader (S.state image.new).byte_at self.new) }
+        ensures written { OnOk result (OnImages (S.state image.old) (S.state image.new) (λ _ after.
+            IsWrittenHeader after self.new)) }
         ensures settled { OnOk result (IsSettled self.new) }
         ensures storage { OnlyWrites result (Some 0) (length (chosen_text self.old))
             (S.state image.old) (S.state image.new) }
@@ -66,10 +65,10 @@ impl Header {
     // The header for who means to write to the image, in which no autoclear feature is left.
     pub(super) fn prepared<S: Storage>(mut self, image: &mut S) -> Result<Header, Fault>
         ensures exact { RefusesFirst (λ header. header) result (opened true (Ok self)) }
-        ensures placed { OnOk result (IsTrue (S.state image.old).tells →
-            Holds (S.state image.new).byte_at 0 (opened_text true (Ok self))) }
-        ensures written { IsTrue (is_rewritten true self) → IsTrue (S.state image.old).tells →
-            IfOk result (IsWrittenHeader (S.state image.new).byte_at) }
+        ensures placed { OnOk result (OnImages (S.state image.old) (S.state image.new) (λ _ after.
+            Holds after 0 (opened_text true (Ok self)))) }
+        ensures written { IsTrue (is_rewritten true self) → OnImages (S.state image.old)
+            (S.state image.new) (λ _ after. IfOk result (IsWrittenHeader after)) }
         ensures settled { IsTrue (is_rewritten true self) → IfOk result IsSettled }
         ensures storage { OnlyWrites result (Some 0) (length (opened_text true (Ok self)))
             (S.state image.old) (S.state image.new) }

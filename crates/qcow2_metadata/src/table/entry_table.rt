@@ -3,6 +3,7 @@
 ghost use Rattle.std.specs.Prelude.{◌≡◌, ℕ, Bool, true, false, ◌*◌, ◌^◌, ◌<◌, ◌≤◌, ◌↔◌, IfOk, IsOkUnless, IsTrue, length, map, slice_get, slice_index, slice_set, Some, None};
 ghost use Rattle.std.proofs.Common.{rules};
 ghost use Rattle.std.specs.List.{All};
+ghost use Rattle.qcow2_base.specs.Format.{most_entries_in_memory};
 ghost use Rattle.qcow2_base.specs.Types.{IsClusterBits};
 ghost use Rattle.qcow2_metadata.specs.Table.{edited, elsewhere, first_fault, new_table};
 ghost use Rattle.qcow2_metadata.specs.Table.Growth.{grown_numbers};
@@ -38,7 +39,7 @@ pub trait TableKind: TableEntry + Copy {
     fn entry(self) -> Self::Entry
         ensures { Self.Entry.plain result ≡ Self.plain self };
 
-    ghost few_entries: { MAX_ENTRIES ≤ 2 ^ 48 };
+    ghost few_entries: { MAX_ENTRIES ≤ most_entries_in_memory };
 }
 
 /// A table of entries of one kind. Clauses see it as what it says.
@@ -110,7 +111,7 @@ impl<E: TableKind> EntryTable<E> {
     pub(super) fn grown(&self, entries: usize, header: &Header) -> Result<Self, Fault>
         requires cluster_bits { header.now.v2.cluster_bits ≡ self.now.geometry.cluster_bits }
         requires longer { length self.now.numbers ≤ entries }
-        requires bound { entries ≤ 2 ^ 48 }
+        requires bound { entries ≤ most_entries_in_memory }
         requires count { IsTrue (E.has_lawful_count header.now.v2.cluster_bits entries) }
         ensures fault { IsOkUnless result Fault.NoMemory }
         ensures table { IfOk result (λ table.
@@ -199,7 +200,7 @@ impl<E: TableKind> Table for EntryTable<E> {
     fn from_data(list: Vec<E>, header: &Header) -> Self
         requires valid { first_fault (E.fault_of header.now.v2.cluster_bits) (map E.plain list.items) ≡ None }
         requires count { IsTrue (E.has_lawful_count header.now.v2.cluster_bits (length list.items)) }
-        requires bound { length list.items ≤ 2 ^ 48 }
+        requires bound { length list.items ≤ most_entries_in_memory }
         ensures { result ≡ new_table (map E.plain list.items) header.now }
     {
         numbers_fit(&list);

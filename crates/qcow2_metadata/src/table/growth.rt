@@ -3,7 +3,7 @@
 
 ghost use Rattle.std.specs.Prelude.{◌≡◌, ◌+◌, ◌-◌, ◌*◌, ◌^◌, ◌<◌, ◌≤◌, IfSome, max};
 ghost use Rattle.std.specs.Int.{next_multiple_of};
-ghost use Rattle.qcow2_metadata.specs.Table.{most_reftable_entries};
+ghost use Rattle.qcow2_base.specs.Format.{most_reftable_entries};
 ghost use Rattle.qcow2_metadata.specs.Table.Growth.{IsLeastSpare, growth_of, least_spare as least, possible_spare};
 
 use super::TableKind;

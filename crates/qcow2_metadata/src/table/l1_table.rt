@@ -2,17 +2,18 @@
 
 ghost use Rattle.std.specs.Prelude.{◌≡◌, ◌⊎◌, ◌*◌, ◌^◌, ◌<◌, ◌↔◌, length, slice_set, true, None, Ok, Err, IfSome, IfOk, IfErr, MatchOption, IsErrOf, OnErr, OnOk};
 ghost use Rattle.std.proofs.Common.{lit≤};
+ghost use Rattle.qcow2_base.specs.Format.{most_l1_entries};
 ghost use Rattle.qcow2_base.specs.declared.fault.Fault.TheVariants.{NoMemory, NotPlaced};
 ghost use Rattle.qcow2_metadata.specs.Entries.PendingClusters.{IsOneCluster};
 ghost use Rattle.qcow2_metadata.specs.Entries.L1Entry.{l1_entry_for};
 ghost use Rattle.qcow2_metadata.specs.Header.Pointers.{ArePendingFor, pointer_fault, with_l1_table};
-ghost use Rattle.qcow2_metadata.specs.Table.{IsReferable, edited, most_l1_entries, new_table};
+ghost use Rattle.qcow2_metadata.specs.Table.{IsReferable, edited, new_table};
 ghost use Rattle.qcow2_metadata.specs.Table.Growth.{grown_count, grown_numbers};
 
 use super::{EntryTable, L2Table, Table, TableKind};
 use crate::entries::refuse;
 use crate::{Header, L1Entry, PendingClusters, Refused};
-use qcow2_base::Fault;
+use qcow2_base::{Fault, MAX_L1_ENTRIES};
 
 /// A table of L1 entries, one for each L2 table of the guest's disk.
 pub type L1Table = EntryTable<L1Entry>;
@@ -22,7 +23,7 @@ impl TableKind for L1Entry {
 
     const NAME: &'static str = "L1 table";
 
-    const MAX_ENTRIES: usize = 4194304;
+    const MAX_ENTRIES: usize = MAX_L1_ENTRIES;
 
     ghost MAX_ENTRIES = { most_l1_entries };
 

@@ -2,9 +2,10 @@
 
 ghost use Rattle.std.specs.Prelude.{◌≡◌, ℕ, ◌-◌, ◌*◌, ◌%◌, ◌^◌, ◌==◌, ◌<◌, IfOk, IsOk, IsOkAnd, IsOkUnless, length, map, replicate, slice_index, true, false};
 ghost use Rattle.std.proofs.Common.{lit≤};
+ghost use Rattle.qcow2_base.specs.Format.{most_l2_entries};
 ghost use Rattle.qcow2_metadata.specs.Entries.L2Mapping.{IsPlaced, meaning};
 ghost use Rattle.qcow2_metadata.specs.Entries.L2Entry.{l2_fault, shared};
-ghost use Rattle.qcow2_metadata.specs.Table.{WritesTable, elsewhere, mapping_at, most_l2_entries, new_table, table_on_storage};
+ghost use Rattle.qcow2_metadata.specs.Table.{WritesTable, elsewhere, mapping_at, new_table, table_on_storage};
 
 use super::{CompressedClusterReadGuard, EntryTable, L2TableWriteGuard, Table, TableKind};
 use crate::entries::RunPattern;

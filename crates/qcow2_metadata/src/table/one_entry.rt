@@ -2,7 +2,8 @@
 //! that no aligned storage has to read before it writes. None of them lies in another cluster.
 
 ghost use Rattle.std.specs.Prelude.{◌≡◌, ◌+◌, ◌*◌, ◌/◌, ◌^◌, ◌≤◌, length, IsOkUnless, IsTrue, OnOk, Some};
-ghost use Rattle.qcow2_base.specs.Storage.{OnlyWrites};
+ghost use Rattle.qcow2_base.specs.Format.{max_file_length, most_entries_in_memory};
+ghost use Rattle.qcow2_base.specs.Storage.{OnImages, OnlyWrites};
 ghost use Rattle.qcow2_base.specs.Types.{IsClusterBits};
 ghost use Rattle.qcow2_metadata.specs.Table.{table_numbers};
 ghost use Rattle.qcow2_metadata.specs.Table.OneEntry.{EntryRange, IsPartOfCluster, WritesEntries, entry_alignment, numbers_in};
@@ -37,9 +38,9 @@ pub(super) fn write_entries<T: Table, S: Storage>(
     first: usize,
     count: usize,
 ) -> Result<(), Fault>
-    requires first { first ≤ 2 ^ 48 }
+    requires first { first ≤ most_entries_in_memory }
     requires count { count ≤ 2 ^ 18 }
-    requires fits { offset.0 + 8 * count ≤ 2 ^ 56 }
+    requires fits { offset.0 + 8 * count ≤ max_file_length }
     ensures { WritesEntries result offset.0 (record { first = first; count = count })
         (T.state table.now).numbers (S.state image.old) (S.state image.new) }
 {
@@ -60,13 +61,12 @@ fn write_through<T: Table, S: Storage>(
     first: usize,
     buffer: &mut [u8],
 ) -> Result<(), Fault>
-    requires first { first ≤ 2 ^ 48 }
-    requires fits { offset.0 + length buffer.old ≤ 2 ^ 56 }
+    requires first { first ≤ most_entries_in_memory }
+    requires fits { offset.0 + length buffer.old ≤ max_file_length }
     ensures fault { IsOkUnless result Fault.Storage }
-    ensures written { OnOk result (IsTrue (S.state image.old).tells →
+    ensures written { OnOk result (OnImages (S.state image.old) (S.state image.new) (λ _ after.
         let range : EntryRange = record { first = first; count = length buffer.old / 8 } in
-        table_numbers (S.state image.new).byte_at offset.0 range.count
-        ≡ numbers_in range (T.state table.now).numbers) }
+        table_numbers after offset.0 range.count ≡ numbers_in range (T.state table.now).numbers)) }
     ensures storage { OnlyWrites result (Some offset.0) (length buffer.old)
         (S.state image.old) (S.state image.new) }
 {

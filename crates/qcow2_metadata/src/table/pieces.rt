@@ -1,7 +1,8 @@
 //! Tables are read and written in pieces of 4096 bytes, through one array.
 
 ghost use Rattle.std.specs.Prelude.{◌≡◌, ℕ, ◌⊎◌, ◌+◌, ◌++◌, ◌*◌, ◌/◌, ◌^◌, ◌<◌, ◌≤◌, ◌↔◌, IsTrue, length, map, slice_index, None, Some, IfOk, IfErr, OnOk};
-ghost use Rattle.qcow2_base.specs.Storage.{OnlyReads, be, image_of};
+ghost use Rattle.qcow2_base.specs.Format.{max_file_length};
+ghost use Rattle.qcow2_base.specs.Storage.{OnImage, OnlyReads, be, image_of};
 ghost use Rattle.qcow2_base.specs.declared.fault.Fault.TheVariants.{EntryReserved, EntryUnaligned, NoMemory, Storage as StorageFailed};
 ghost use Rattle.qcow2_metadata.specs.Results.{Answers};
 ghost use Rattle.qcow2_metadata.specs.Pieces.{WritesInPieces, number_bytes};
@@ -26,12 +27,12 @@ pub(super) fn read_entries<E: TableEntry + Drop, S: Storage>(
     offset: HostOffset,
     entries: usize,
 ) -> Result<Vec<E>, Fault>
-    requires { offset.0 + 8 * entries ≤ 2 ^ 56 }
-    ensures exact { IsTrue (S.state image.old).tells → Answers (λ list. map E.plain list.items) result
-        (decoded (E.fault_of header.now.v2.cluster_bits)
-        (table_numbers (S.state image.old).byte_at offset.0 entries)) }
-    ensures numbers { IsTrue (S.state image.old).tells → IfOk result (λ list.
-        map E.plain list.items ≡ table_numbers (S.state image.old).byte_at offset.0 entries) }
+    requires { offset.0 + 8 * entries ≤ max_file_length }
+    ensures exact { OnImage (S.state image.old) (λ bytes.
+        Answers (λ list. map E.plain list.items) result
+        (decoded (E.fault_of header.now.v2.cluster_bits) (table_numbers bytes offset.0 entries))) }
+    ensures numbers { OnImage (S.state image.old) (λ bytes.
+        IfOk result (λ list. map E.plain list.items ≡ table_numbers bytes offset.0 entries)) }
     ensures lawful { IfOk result (λ list. (length list.items ≡ entries)
         × (first_fault (E.fault_of header.now.v2.cluster_bits) (map E.plain list.items) ≡ None)) }
     ensures faults { IfErr result (λ fault.
@@ -160,7 +161,7 @@ pub(super) fn write_pieces<T: Table, S: Storage>(
     image: &mut S,
     offset: HostOffset,
 ) -> Result<(), StorageFault>
-    requires { offset.0 + 8 * length (T.state table.now).numbers ≤ 2 ^ 56 }
+    requires { offset.0 + 8 * length (T.state table.now).numbers ≤ max_file_length }
     ensures { let numbers = (T.state table.now).numbers in
         WritesInPieces result offset.0 (number_bytes numbers) (8 * length numbers)
         (S.state image.old) (S.state image.new) }
@@ -171,7 +172,7 @@ pub(super) fn write_pieces<T: Table, S: Storage>(
 // Puts the numbers of the table's entries from an index on into the bytes, as many as these hold, and
 // zeros past the table's end.
 pub(super) fn encode<T: Table>(table: &T, first: usize, bytes: &mut [u8])
-    requires { first ≤ 2 ^ 56 }
+    requires { first ≤ max_file_length }
     ensures written { (i : ℕ) → 8 * i + 8 ≤ length bytes.new →
         be (image_of bytes.new) (8 * i) 8 ≡ slice_index (T.state table.now).numbers (first + i) }
     ensures len { length bytes.new ≡ length bytes.old }
@@ -186,7 +187,7 @@ pub(super) fn encode<T: Table>(table: &T, first: usize, bytes: &mut [u8])
 fn encode_held<T: Table>(table: &T, first: usize, bytes: &mut [u8])
     requires within { (i : ℕ) → 8 * i + 8 ≤ length bytes.old →
         first + i < length (T.state table.now).numbers }
-    requires bound { first ≤ 2 ^ 56 }
+    requires bound { first ≤ max_file_length }
     ensures written { (i : ℕ) → 8 * i + 8 ≤ length bytes.new →
         be (image_of bytes.new) (8 * i) 8 ≡ slice_index (T.state table.now).numbers (first + i) }
     ensures len { length bytes.new ≡ length bytes.old }

@@ -2,14 +2,14 @@
 
 ghost use Rattle.std.specs.Prelude.{◌≡◌, ◌*◌, ◌^◌, true, IfSome, MatchOption, OnErr, OnOk, Err, Ok};
 ghost use Rattle.std.proofs.Common.{lit≤};
+ghost use Rattle.qcow2_base.specs.Format.{most_reftable_entries};
 ghost use Rattle.qcow2_metadata.specs.Header.Pointers.{table_clusters, pointer_fault, with_reftable};
-ghost use Rattle.qcow2_metadata.specs.Table.{most_reftable_entries};
 
 use super::growth::entries_with;
 use super::{EntryTable, Table, TableKind, Turns, least_spare};
 use crate::entries::refuse;
 use crate::{Header, PendingClusters, RefBlock, RefTableEntry, Refused};
-use qcow2_base::Fault;
+use qcow2_base::{Fault, MAX_REFTABLE_ENTRIES};
 
 /// A table of refcount table entries, one for each refcount block of the image.
 pub type RefTable = EntryTable<RefTableEntry>;
@@ -19,7 +19,7 @@ impl TableKind for RefTableEntry {
 
     const NAME: &'static str = "Refcount table";
 
-    const MAX_ENTRIES: usize = 4194304;
+    const MAX_ENTRIES: usize = MAX_REFTABLE_ENTRIES;
 
     ghost MAX_ENTRIES = { most_reftable_entries };
 
@@ -40,7 +40,7 @@ impl EntryTable<RefTableEntry> {
     ghost use Rattle.std.specs.Prelude.{◌≡◌, ◌⊎◌, ◌*◌, ◌^◌, ◌<◌, ◌↔◌, length, IfErr, IfOk, IsErrOf};
     ghost use Rattle.qcow2_base.specs.declared.fault.Fault.TheVariants.{NoMemory, NotPlaced};
     ghost use Rattle.qcow2_metadata.specs.Entries.PendingClusters.{IsOneCluster};
-    ghost use Rattle.qcow2_metadata.specs.Table.{IsReferable, edited, most_reftable_entries, new_table};
+    ghost use Rattle.qcow2_metadata.specs.Table.{IsReferable, edited, new_table};
     ghost use Rattle.qcow2_metadata.specs.Table.Growth.{grown_numbers, grown_reftable_count, growth_of};
 
     /// A copy of the table that holds an index, and pays for its own growth: the same entries, and then

@@ -1,4 +1,5 @@
 use Rattle.std.specs.Prelude.{◌≡◌, ◌⊎◌, ℕ, nat_lt, Bool, false, true, if◌then◌else◌, List, length, slice_index, Option, Some, None, Result, Err, IsErrAnd, IsErrOf, IsOkAnd, IsTrue}
+use Rattle.qcow2_base.specs.Format.{most_l2_entries}
 use Rattle.qcow2_base.specs.Storage.{Image, OnlyWrites, ReadsFor, StorageState}
 use Rattle.qcow2_base.specs.declared.fault.Fault.{Fault}
 use Rattle.qcow2_base.specs.declared.fault.Fault.TheVariants.{NoMemory, Storage}
@@ -7,7 +8,7 @@ use Rattle.qcow2_metadata.specs.Header.{HeaderRecord, geometry}
 use Rattle.qcow2_metadata.specs.Header.Grammar.{header_of}
 use Rattle.qcow2_metadata.specs.Header.Open.{is_rewritten, opened, opened_text}
 use Rattle.qcow2_metadata.specs.Header.Text.{IsSettled, IsWrittenHeader}
-use Rattle.qcow2_metadata.specs.Table.{l2_table_at, most_l2_entries, place_fault}
+use Rattle.qcow2_metadata.specs.Table.{l2_table_at, place_fault}
 use Rattle.qcow2_session.specs.Commands.{ChangeEnd, ClusterFormat, Prints, PrintsChange, PrintsLast, PrintsSome}
 use Rattle.qcow2_session.specs.Commands.At.{line_at}
 use Rattle.qcow2_session.specs.Commands.Counting.{block_format, end_of_steps}

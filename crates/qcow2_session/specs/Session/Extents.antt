@@ -1,5 +1,5 @@
 use Rattle.std.specs.Prelude.{◌≡◌, ◌≢◌, ◌⊎◌, ℕ, ◌+◌, ◌-◌, ◌*◌, ◌/◌, ◌%◌, ◌^◌, ◌<◌, ◌≤◌, List, [], ◌∷◌, Option, Some, None, Result, Ok, Err, IfSome, IsTrue, ⊤}
-use Rattle.qcow2_base.specs.Storage.{Image, StorageState}
+use Rattle.qcow2_base.specs.Storage.{Image, OnImage, StorageState}
 use Rattle.qcow2_base.specs.declared.fault.Fault.{Fault}
 use Rattle.qcow2_base.specs.declared.fault.Fault.TheVariants.{NoMemory, Storage}
 use Rattle.qcow2_metadata.specs.Results.{result_map}
@@ -121,12 +121,12 @@ IsReaderOf image reader = KeepsTableOf image reader
 -- a reader stays as it is, but that it may keep another table of the image
 pub record StaysReader (image : StorageState) (old new : ExtentsState) : Type 0 where
   pub same : new ≡ record old { table = new.table }
-  pub kept : IsTrue image.tells → KeepsTableOf image.byte_at new
+  pub kept : OnImage image (λ bytes. KeepsTableOf bytes new)
 
 -- a reader stays as it is, but for its offset and what it keeps of the image
 pub record MovesReader (image : StorageState) (old new : ExtentsState) : Type 0 where
   pub same : new ≡ record old { position = new.position; table = new.table; ahead = new.ahead }
-  pub kept : IsTrue image.tells → IsReaderOf image.byte_at new
+  pub kept : OnImage image (λ bytes. IsReaderOf bytes new)
 
 -- how far a reader comes by an answer. `None` comes at the disk's end, and only there. An extent begins where the reader
 -- was, has bytes, and ends in the disk or with it. After a fault the reader is where it was

@@ -1,5 +1,5 @@
 use Rattle.std.specs.Prelude.{◌≡◌, ◌⊎◌, ℕ, ◌*◌, ◌^◌, false, IfErr, IfSome, IsErrOf, IsOkAnd, IsTrue, List, Some, option_map, Result, Ok, Err}
-use Rattle.qcow2_base.specs.Storage.{Image, StorageState}
+use Rattle.qcow2_base.specs.Storage.{Image, OnImages, StorageState}
 use Rattle.qcow2_base.specs.declared.fault.Fault.{Fault}
 use Rattle.qcow2_base.specs.declared.fault.Fault.TheVariants.{BadEdit, BadStep, NoMemory, Storage}
 use Rattle.qcow2_base.specs.declared.types.HostCluster.{HostCluster}
@@ -58,9 +58,9 @@ pub record RefusesEdits {T : Type 0} (header : HeaderRecord) (cluster : HostClus
   pub place : IfSome (table_fault header cluster) (λ fault. answer ≡ Err fault)
   pub faults : IfErr answer (λ fault. IsLoadFault (table_fault header cluster) fault
       ⊎ (option_map BadEdit (first_unfit_edit (table_in header cluster old.byte_at) edits) ≡ Some fault))
-  pub torn : IsTrue old.tells → IsErrOf answer Storage → (new.byte_at ≡ old.byte_at)
-      ⊎ IsOkAnd (edits_end header cluster edits old.byte_at) (λ end.
-      IsTorn end.numbers (cluster.0 * 2 ^ header.v2.cluster_bits) old.byte_at new.byte_at)
+  pub torn : OnImages old new (λ before after.
+      IsErrOf answer Storage → (after ≡ before) ⊎ IsOkAnd (edits_end header cluster edits before)
+      (λ end. IsTorn end.numbers (cluster.0 * 2 ^ header.v2.cluster_bits) before after))
 
 -- the block of these counters, as it is loaded from a cluster of an image with this header
 abbrev pub block_from : HeaderRecord → HostCluster → List ℕ → BlockState
@@ -96,7 +96,7 @@ pub record RefusesSteps {T : Type 0} (header : HeaderRecord) (cluster : HostClus
   pub faults : IfErr answer (λ fault.
       (block_fault header.v2.cluster_bits cluster ≡ Some fault) ⊎ (fault ≡ NoMemory) ⊎ (fault ≡ Storage)
       ⊎ (option_map BadStep (first_unfit_step (block_in header cluster old.byte_at) steps) ≡ Some fault))
-  pub torn : IsTrue old.tells → IsErrOf answer Storage → (new.byte_at ≡ old.byte_at)
-      ⊎ IsOkAnd (steps_end header cluster steps old.byte_at) (λ end.
-      IsTornBlock (block_from header cluster end.counters) (block_offset header.v2.cluster_bits cluster)
-      old.byte_at new.byte_at)
+  pub torn : OnImages old new (λ before after.
+      IsErrOf answer Storage → (after ≡ before) ⊎ IsOkAnd (steps_end header cluster steps before)
+      (λ end. IsTornBlock (block_from header cluster end.counters)
+      (block_offset header.v2.cluster_bits cluster) before after))

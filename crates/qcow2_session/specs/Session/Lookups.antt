@@ -1,4 +1,5 @@
 use Rattle.std.specs.Prelude.{◌≡◌, ◌⊎◌, ◌≤◌, ℕ, ◌-◌, ◌*◌, ◌/◌, ◌%◌, ◌^◌, List, slice_index, Option, Some, None, option_map, Result, Ok}
+use Rattle.qcow2_base.specs.Format.{most_l2_entries}
 use Rattle.qcow2_base.specs.Fault.{fault_number}
 use Rattle.qcow2_base.specs.Storage.{Image}
 use Rattle.qcow2_base.specs.declared.fault.Fault.{Fault}
@@ -10,7 +11,7 @@ use Rattle.qcow2_metadata.specs.Entries.L2Mapping.{Mapping, mapping, backing}
 use Rattle.qcow2_metadata.specs.Entries.{offset_field, offset_unless_zero}
 use Rattle.qcow2_metadata.specs.Header.{Geometry, HeaderRecord, geometry_of}
 use Rattle.qcow2_metadata.specs.Header.Grammar.{header_of}
-use Rattle.qcow2_metadata.specs.Table.{TablePlace, l2_table_at, loaded_l1_table, loaded_l2_table, most_l2_entries, place_fault, table_at}
+use Rattle.qcow2_metadata.specs.Table.{TablePlace, l2_table_at, loaded_l1_table, loaded_l2_table, place_fault, table_at}
 
 -- the place of an image's L1 table, by its header
 abbrev pub l1_place : HeaderRecord → TablePlace

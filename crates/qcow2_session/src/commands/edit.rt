@@ -2,7 +2,7 @@
 
 ghost use Rattle.std.specs.Prelude.{◌≡◌, ◌++◌, IsOkUnless, IsTrue, OnOk};
 ghost use Rattle.std.specs.Io.KnownBytes.{Appends};
-ghost use Rattle.qcow2_base.specs.Storage.{OnlyReads};
+ghost use Rattle.qcow2_base.specs.Storage.{OnImage, OnlyReads};
 ghost use Rattle.qcow2_metadata.specs.Results.{Answers};
 ghost use Rattle.qcow2_session.specs.Commands.{PrintsChange, PrintsLast};
 ghost use Rattle.qcow2_session.specs.Commands.Editing.{end_of_edits, freed_line, freed_lines, gained_line, gained_lines, named_table, table_format};
@@ -46,8 +46,8 @@ fn table_of_entry<S: Storage>(
     header: &Header,
     l1_index: usize,
 ) -> Result<HostCluster, Fault>
-    ensures exact { IsTrue (S.state image.old).tells → Answers (λ cluster. cluster) result
-        (named_table header.now l1_index (S.state image.old).byte_at) }
+    ensures exact { OnImage (S.state image.old) (λ bytes.
+        Answers (λ cluster. cluster) result (named_table header.now l1_index bytes)) }
     ensures storage { OnlyReads result (S.state image.old) (S.state image.new) }
 {
     let l1_table = load_l1_table(alloc, image, header)?;

@@ -2,6 +2,7 @@
 
 ghost use Rattle.std.specs.Prelude.{◌≡◌, ◌-◌, ◌*◌, ◌^◌, ◌<◌, IsOkUnless, OnOk, length};
 ghost use Rattle.std.specs.Io.KnownBytes.{Appends};
+ghost use Rattle.qcow2_base.specs.Format.{most_l1_entries};
 ghost use Rattle.qcow2_base.specs.Types.{IsClusterBits};
 ghost use Rattle.qcow2_metadata.specs.Entries.L2Mapping.{IsPlaced, meaning};
 ghost use Rattle.qcow2_session.specs.Commands.Entries.{label_text, table_lines};
@@ -29,7 +30,7 @@ pub(super) fn print_entries<O: Write>(
     out: &mut O,
 ) -> Result<(), Fault>
     requires entries { length table.now.numbers ≡ 2 ^ (table.now.geometry.cluster_bits - 3) }
-    requires index { l1_index < 4194304 }
+    requires index { l1_index < most_l1_entries }
     ensures fault { IsOkUnless result Fault.Storage }
     ensures lines { OnOk result (Appends (O.contents out.old) (O.contents out.new)
         (table_lines label table.now.geometry l1_index table.now.numbers)) }

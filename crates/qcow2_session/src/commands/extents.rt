@@ -2,7 +2,7 @@
 
 ghost use Rattle.std.specs.Prelude.{◌≡◌, ◌+◌, ◌≤◌, ◌++◌, IsErrOf, IsOkUnless, IsTrue, OnOk, length};
 ghost use Rattle.std.specs.Io.KnownBytes.{Appends};
-ghost use Rattle.qcow2_base.specs.Storage.{ReadsFor};
+ghost use Rattle.qcow2_base.specs.Storage.{OnImage, ReadsFor};
 ghost use Rattle.qcow2_base.specs.declared.fault.Fault.TheVariants.{Storage as StorageFailed};
 ghost use Rattle.qcow2_session.specs.Session.Extents.{IsReaderOf};
 ghost use Rattle.qcow2_session.specs.Commands.Extents.{PrintsExtents, PrintsRest, closing, content_text, disk_of, extent_line, extent_text, json_content, json_flags, json_length, json_object, json_offset, json_row, opening};
@@ -74,7 +74,7 @@ fn print_all<S: Storage, O: Write>(
     format: ExtentFormat,
     out: &mut O,
 ) -> Result<(), Fault>
-    requires kept { IsTrue (S.state image.old).tells → IsReaderOf (S.state image.old).byte_at extents.old }
+    requires kept { OnImage (S.state image.old) (λ bytes. IsReaderOf bytes extents.old) }
     ensures prints { PrintsRest result format extents.old (S.state image.old) (S.state image.new)
         (O.contents out.old) (O.contents out.new) }
     ensures storage { ReadsFor (IsErrOf result StorageFailed) (S.state image.old) (S.state image.new) }

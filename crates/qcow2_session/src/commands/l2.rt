@@ -1,10 +1,11 @@
 //! The command `l2`: what one L2 table maps.
 
 ghost use Rattle.std.specs.Prelude.{◌≡◌, ◌⊎◌, false, Err, IfSome};
+ghost use Rattle.qcow2_base.specs.Format.{most_l2_entries};
 ghost use Rattle.qcow2_base.specs.declared.fault.Fault.TheVariants.{NoMemory};
 ghost use Rattle.qcow2_base.specs.Types.{IsClusterBits};
 ghost use Rattle.qcow2_metadata.specs.Header.{geometry};
-ghost use Rattle.qcow2_metadata.specs.Table.{l2_table_at, most_l2_entries, place_fault};
+ghost use Rattle.qcow2_metadata.specs.Table.{l2_table_at, place_fault};
 ghost use Rattle.qcow2_session.specs.Commands.{Prints, PrintsLast};
 ghost use Rattle.qcow2_session.specs.Commands.L2.{lines_of_l2_table};
 

@@ -2,6 +2,7 @@
 
 ghost use Rattle.std.specs.Prelude.{◌≡◌, ℕ, ◌+◌, ◌-◌, ◌<◌, ◌≤◌, ◌/◌, ◌^◌, [], ◌++◌, if◌then◌else◌, Err, IfErr, IfOk, IfSome, MatchResult, None, Some, length, not, option_map, option_to_list, true};
 ghost use Rattle.std.specs.Vec.{vec_capacity};
+ghost use Rattle.qcow2_base.specs.Format.{max_offset};
 ghost use Rattle.qcow2_base.specs.Types.{IsClusterBits};
 ghost use Rattle.qcow2_base.specs.declared.fault.Fault.TheVariants.{BadEdit};
 ghost use Rattle.qcow2_base.specs.declared.types.HostCluster.{HostCluster as Cluster};
@@ -57,7 +58,7 @@ impl Edit {
     // Whether the edit can be made of the table, whose entries can refer to host clusters up to the
     // greatest.
     fn fits(&self, table: &L2Table, greatest: HostCluster) -> bool
-        requires { greatest.0 ≡ (2 ^ 56 - 512) / 2 ^ table.now.geometry.cluster_bits }
+        requires { greatest.0 ≡ max_offset / 2 ^ table.now.geometry.cluster_bits }
         ensures { result ≡ edit_fits table.now self.now }
     {
         match *self {
@@ -102,7 +103,7 @@ impl Edit {
 // one.
 #[tactic(auto, using(crate::proofs::EditsLemmas::mappable_by_greatest))]
 fn is_mappable(table: &L2Table, greatest: HostCluster, host_cluster: HostCluster) -> bool
-    requires { greatest.0 ≡ (2 ^ 56 - 512) / 2 ^ table.now.geometry.cluster_bits }
+    requires { greatest.0 ≡ max_offset / 2 ^ table.now.geometry.cluster_bits }
     ensures { result ≡ is_mappable table.now.geometry host_cluster.0 }
 {
     host_cluster.0 <= greatest.0 && (table.external_data_file() || host_cluster.0 != 0)
@@ -184,7 +185,7 @@ fn first_unfit(table: &L2Table, edits: &[Edit]) -> Option<usize>
     let greatest = MAX_OFFSET.cluster(table.cluster_bits());
     edits.iter().position(
         |edit: &Edit| -> bool
-            requires { greatest.0 ≡ (2 ^ 56 - 512) / 2 ^ table.now.geometry.cluster_bits }
+            requires { greatest.0 ≡ max_offset / 2 ^ table.now.geometry.cluster_bits }
             ensures { result ≡ not (edit_fits table.entry.now edit.now) }
         { !edit.fits(table, greatest) },
     )

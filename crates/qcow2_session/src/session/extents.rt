@@ -1,13 +1,14 @@
 //! What a whole disk reads as, told as extents: parts of it that read as one, as long as they go.
 
 ghost use Rattle.std.specs.Prelude.{◌≡◌, ℕ, ◌⊎◌, ◌+◌, ◌-◌, ◌*◌, ◌/◌, ◌^◌, ◌<◌, ◌≤◌, ◌↔◌, None, Some, Ok, Err, IfErr, IfOk, IfSome, IsOkAnd, IsSome, IsSomeAnd, IsTrue, MatchOption, MatchResult, slice_index};
-ghost use Rattle.qcow2_base.specs.Storage.{OnlyReads};
+ghost use Rattle.qcow2_base.specs.Format.{max_file_length, most_l1_entries};
+ghost use Rattle.qcow2_base.specs.Storage.{OnImage, OnlyReads};
 ghost use Rattle.qcow2_base.specs.declared.fault.Fault.TheVariants.{NoMemory, Storage as StorageFailed};
 ghost use Rattle.qcow2_base.specs.Types.{IsClusterBits};
 ghost use Rattle.qcow2_metadata.specs.Results.{Answers};
 ghost use Rattle.qcow2_metadata.specs.Entries.L2Mapping.{IsPlaced, meaning};
 ghost use Rattle.qcow2_metadata.specs.Header.{geometry_of};
-ghost use Rattle.qcow2_metadata.specs.Table.{IsLoadFault, LoadRefuses, loaded_l1_table, loaded_l2_table, most_l1_entries, place_fault};
+ghost use Rattle.qcow2_metadata.specs.Table.{IsLoadFault, LoadRefuses, loaded_l1_table, loaded_l2_table, place_fault};
 ghost use Rattle.qcow2_session.specs.Session.Lookups.{l1_place, l2_cluster, named_cluster};
 ghost use Rattle.qcow2_session.specs.Session.Extents.{AreInOneTable, HasNoTable, IsKeptOf, IsPiece, content_in, contents_in, kept_numbers, moved_on};
 
@@ -185,17 +186,18 @@ fn keep_table<S: Storage>(
     alloc: Global,
     cluster: HostCluster,
 ) -> Result<(), Fault>
-    requires kept { IsTrue (S.state image.old).tells →
-        IfSome kept.old (IsKeptOf (geometry_of header.now) (S.state image.old).byte_at) }
+    requires kept { OnImage (S.state image.old) (λ bytes.
+        IfSome kept.old (IsKeptOf (geometry_of header.now) bytes)) }
     requires geometry { IfSome kept.old (λ table. table.geometry ≡ geometry_of header.now) }
     requires cluster_bits { IsClusterBits header.now.v2.cluster_bits }
-    requires end { let cb = header.now.v2.cluster_bits in cluster.0 * 2 ^ cb + 2 ^ cb ≤ 2 ^ 56 }
+    requires end { let cb = header.now.v2.cluster_bits in cluster.0 * 2 ^ cb + 2 ^ cb ≤ max_file_length }
     ensures kept { MatchResult result
         (λ done. IsSomeAnd kept.new (λ table. (table.cluster ≡ Some cluster)
         × (table.geometry ≡ geometry_of header.now)))
         (λ fault. kept.new ≡ None) }
-    ensures exact { IsTrue (S.state image.old).tells → Answers (λ done. kept_numbers kept.new) result
-        (loaded_l2_table (geometry_of header.now) cluster (S.state image.old).byte_at) }
+    ensures exact { OnImage (S.state image.old) (λ bytes.
+        Answers (λ done. kept_numbers kept.new) result
+        (loaded_l2_table (geometry_of header.now) cluster bytes)) }
     ensures faults { IfErr result (IsLoadFault None) }
     ensures storage { OnlyReads result (S.state image.old) (S.state image.new) }
 {
@@ -221,8 +223,8 @@ impl<'a> Extents<'a> {
         header: &'a Header,
     ) -> Result<Extents<'a>, Fault>
         ensures refused { LoadRefuses (place_fault most_l1_entries (l1_place header.now)) result }
-        ensures exact { IsTrue (S.state image.old).tells → Answers (λ extents. extents.l1) result
-            (loaded_l1_table (l1_place header.now) (S.state image.old).byte_at) }
+        ensures exact { OnImage (S.state image.old) (λ bytes.
+            Answers (λ extents. extents.l1) result (loaded_l1_table (l1_place header.now) bytes)) }
         ensures begun { IfOk result (λ extents. extents ≡ extents_begun header.now extents.l1) }
         ensures storage { OnlyReads result (S.state image.old) (S.state image.new) }
     {
@@ -239,11 +241,11 @@ impl<'a> Extents<'a> {
     // What the byte at an offset reads as, and up to where it surely goes on, at most the disk's size.
     fn piece<S: Storage>(&mut self, image: &mut S, from: u64) -> Result<(Content, u64), Fault>
         requires within { from < self.old.header.v2.size }
-        requires kept { IsTrue (S.state image.old).tells → KeepsTableOf (S.state image.old).byte_at self.old }
-        ensures told { IsTrue (S.state image.old).tells → MatchResult result
-            (IsPiece (contents_for self.old (S.state image.old).byte_at) self.old.header.v2.size from)
+        requires kept { OnImage (S.state image.old) (λ bytes. KeepsTableOf bytes self.old) }
+        ensures told { OnImage (S.state image.old) (λ bytes.
+            MatchResult result (IsPiece (contents_for self.old bytes) self.old.header.v2.size from)
             (λ fault. (fault ≡ StorageFailed) ⊎ (fault ≡ NoMemory)
-            ⊎ (contents_for self.old (S.state image.old).byte_at from ≡ Err fault)) }
+            ⊎ (contents_for self.old bytes from ≡ Err fault))) }
         ensures within { IfOk result (λ piece. (from < piece.1) × (piece.1 ≤ self.old.header.v2.size)) }
         ensures reader { StaysReader (S.state image.old) self.old self.new }
         ensures faults { IfErr result (IsLoadFault None) }
@@ -263,13 +265,12 @@ impl<'a> Extents<'a> {
     // Goes past the extent at the position, and tells what it reads as.
     fn pass_extent<S: Storage>(&mut self, image: &mut S) -> Result<Content, Fault>
         requires within { self.old.position < self.old.header.v2.size }
-        requires kept { IsTrue (S.state image.old).tells → IsReaderOf (S.state image.old).byte_at self.old }
-        ensures told { IsTrue (S.state image.old).tells →
-            let contents = contents_for self.old (S.state image.old).byte_at in
-            MatchResult result
+        requires kept { OnImage (S.state image.old) (λ bytes. IsReaderOf bytes self.old) }
+        ensures told { OnImage (S.state image.old) (λ bytes.
+            let contents = contents_for self.old bytes in MatchResult result
             (λ content. IsExtent contents self.old.header.v2.size self.old.position
             (extent_of self.old.position (content, self.new.position)))
-            (RefusesExtent contents self.old.header.v2.size self.old.position) }
+            (RefusesExtent contents self.old.header.v2.size self.old.position)) }
         ensures position { MatchResult result
             (λ content. (self.old.position < self.new.position)
             × (self.new.position ≤ self.old.header.v2.size))
@@ -306,10 +307,10 @@ impl<'a> Extents<'a> {
     /// stays before that extent, and the call can be made again. No fault of a table past the disk's size is
     /// told. The image must be the one that the reader was made for, unchanged since. Changes no byte.
     pub fn next<S: Storage>(&mut self, image: &mut S) -> Result<Option<Extent>, Fault>
-        requires { IsTrue (S.state image.old).tells → IsReaderOf (S.state image.old).byte_at self.old }
-        ensures told { IsTrue (S.state image.old).tells →
-            let contents = contents_for self.old (S.state image.old).byte_at in
-            TellsExtent contents self.old.header.v2.size self.old.position result }
+        requires { OnImage (S.state image.old) (λ bytes. IsReaderOf bytes self.old) }
+        ensures told { OnImage (S.state image.old) (λ bytes.
+            let contents = contents_for self.old bytes in TellsExtent contents self.old.header.v2.size
+            self.old.position result) }
         ensures position { ComesTo self.old.header.v2.size self.old.position result self.new.position }
         ensures reader { MovesReader (S.state image.old) self.old self.new }
         ensures faults { IfErr result (IsLoadFault None) }

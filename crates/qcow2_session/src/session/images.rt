@@ -1,12 +1,13 @@
 //! Lists of changes of an image: the table or block is loaded, changed, and written if it is modified.
 
 ghost use Rattle.std.specs.Prelude.{◌≡◌, ◌-◌, ◌*◌, ◌^◌, [], false, IfOk, IsErrOf, IsOkUnless, IsTrue, None, Ok, OnOk, Some, length};
-ghost use Rattle.qcow2_base.specs.Storage.{OnlyWrites};
+ghost use Rattle.qcow2_base.specs.Format.{most_l2_entries};
+ghost use Rattle.qcow2_base.specs.Storage.{OnImage, OnImages, OnlyWrites};
 ghost use Rattle.qcow2_base.specs.Types.{IsClusterBits};
 ghost use Rattle.qcow2_base.specs.declared.fault.Fault.TheVariants.{Storage as StorageFailed};
 ghost use Rattle.qcow2_metadata.specs.Results.{Answers};
 ghost use Rattle.qcow2_metadata.specs.Refblock.{IsTornBlock, block_counters, block_fault, block_offset};
-ghost use Rattle.qcow2_metadata.specs.Table.{IsTorn, l2_table_at, loaded_l2_table, most_l2_entries, place_fault};
+ghost use Rattle.qcow2_metadata.specs.Table.{IsTorn, l2_table_at, loaded_l2_table, place_fault};
 ghost use Rattle.qcow2_session.specs.Session.Edits.{cluster_numbers};
 ghost use Rattle.qcow2_session.specs.Session.Images.{EditsImage, RefusesEdits, RefusesSteps, StepsImage, references_of, replies_of, steps_end};
 ghost use Rattle.qcow2_session.specs.Session.Steps.{are_some_done};
@@ -39,11 +40,11 @@ pub fn edit_image<S: Storage>(
     cluster: HostCluster,
     edits: &[Edit],
 ) -> Result<Outcome, Fault>
-    ensures exact { IsTrue (S.state image.old).tells →
+    ensures exact { OnImage (S.state image.old) (λ bytes.
         Answers (λ outcome. (outcome.freed.items, cluster_numbers outcome.gained.items)) result
-        (references_of header.now cluster edits.now (S.state image.old).byte_at) }
-    ensures written { IsTrue (S.state image.old).tells → IfOk result (λ outcome. EditsImage header.now cluster
-        edits.now outcome (S.state image.old).byte_at (S.state image.new).byte_at) }
+        (references_of header.now cluster edits.now bytes)) }
+    ensures written { OnImages (S.state image.old) (S.state image.new) (λ before after.
+        IfOk result (λ outcome. EditsImage header.now cluster edits.now outcome before after)) }
     ensures idle { edits.now ≡ [] → (S.state image.new).byte_at ≡ (S.state image.old).byte_at }
     ensures faults { RefusesEdits header.now cluster edits.now result
         (S.state image.old) (S.state image.new) }
@@ -72,13 +73,13 @@ pub fn step_image<S: Storage>(
     cluster: HostCluster,
     steps: &[Step],
 ) -> Result<Vec<StepReply>, Fault>
-    ensures exact { IsTrue (S.state image.old).tells → Answers (λ replies. replies.items) result
-        (replies_of header.now cluster steps.now (S.state image.old).byte_at) }
-    ensures written { IsTrue (S.state image.old).tells → IfOk result (λ replies. StepsImage header.now cluster
-        steps.now replies.items (S.state image.old).byte_at (S.state image.new).byte_at) }
-    ensures idle { IsTrue (S.state image.old).tells →
-        IfOk (steps_end header.now cluster steps.now (S.state image.old).byte_at) (λ end.
-        are_some_done end.replies ≡ false → (S.state image.new).byte_at ≡ (S.state image.old).byte_at) }
+    ensures exact { OnImage (S.state image.old) (λ bytes.
+        Answers (λ replies. replies.items) result (replies_of header.now cluster steps.now bytes)) }
+    ensures written { OnImages (S.state image.old) (S.state image.new) (λ before after.
+        IfOk result (λ replies. StepsImage header.now cluster steps.now replies.items before after)) }
+    ensures idle { OnImages (S.state image.old) (S.state image.new) (λ before after.
+        IfOk (steps_end header.now cluster steps.now before)
+        (λ end. are_some_done end.replies ≡ false → after ≡ before)) }
     ensures faults { RefusesSteps header.now cluster steps.now result
         (S.state image.old) (S.state image.new) }
     ensures storage { OnlyWrites result (Some (cluster.0 * 2 ^ header.now.v2.cluster_bits))
@@ -100,15 +101,15 @@ fn write_table_back<S: Storage>(
     requires bits { IsClusterBits table.old.geometry.cluster_bits }
     requires entries { length table.old.numbers ≡ 2 ^ (table.old.geometry.cluster_bits - 3) }
     requires place { place_fault most_l2_entries (l2_table_at table.old.geometry cluster) ≡ None }
-    requires stands { table.old.modified ≡ false → IsTrue (S.state image.old).tells →
-        loaded_l2_table table.old.geometry cluster (S.state image.old).byte_at ≡ Ok table.old.numbers }
+    requires stands { table.old.modified ≡ false → OnImage (S.state image.old) (λ bytes.
+        loaded_l2_table table.old.geometry cluster bytes ≡ Ok table.old.numbers) }
     ensures fault { IsOkUnless result Fault.Storage }
-    ensures stands { IsTrue (S.state image.old).tells → OnOk result
-        (loaded_l2_table table.old.geometry cluster (S.state image.new).byte_at ≡ Ok table.old.numbers) }
+    ensures stands { OnImages (S.state image.old) (S.state image.new) (λ _ after.
+        OnOk result (loaded_l2_table table.old.geometry cluster after ≡ Ok table.old.numbers)) }
     ensures idle { table.old.modified ≡ false → S.state image.new ≡ S.state image.old }
-    ensures torn { IsTrue (S.state image.old).tells → IsErrOf result StorageFailed →
-        IsTorn table.old.numbers (cluster.0 * 2 ^ table.old.geometry.cluster_bits)
-        (S.state image.old).byte_at (S.state image.new).byte_at }
+    ensures torn { OnImages (S.state image.old) (S.state image.new) (λ before after.
+        IsErrOf result StorageFailed → IsTorn table.old.numbers
+        (cluster.0 * 2 ^ table.old.geometry.cluster_bits) before after) }
     ensures storage { OnlyWrites result (Some (cluster.0 * 2 ^ table.old.geometry.cluster_bits))
         (2 ^ table.old.geometry.cluster_bits) (S.state image.old) (S.state image.new) }
 {
@@ -123,17 +124,17 @@ fn write_block_back<S: Storage>(
 ) -> Result<(), Fault>
     requires cluster { block.old.cluster ≡ Some cluster }
     requires place { block_fault block.old.cluster_bits cluster ≡ None }
-    requires stands { block.old.modified ≡ false → IsTrue (S.state image.old).tells →
-        block_counters block.old.cluster_bits block.old.refcount_order cluster (S.state image.old).byte_at
-        ≡ block.old.counters }
-    ensures fault { IsOkUnless result Fault.Storage }
-    ensures stands { IsTrue (S.state image.old).tells → OnOk result
-        (block_counters block.old.cluster_bits block.old.refcount_order cluster (S.state image.new).byte_at
+    requires stands { block.old.modified ≡ false → OnImage (S.state image.old) (λ bytes.
+        block_counters block.old.cluster_bits block.old.refcount_order cluster bytes
         ≡ block.old.counters) }
+    ensures fault { IsOkUnless result Fault.Storage }
+    ensures stands { OnImages (S.state image.old) (S.state image.new) (λ _ after.
+        OnOk result (block_counters block.old.cluster_bits block.old.refcount_order cluster after
+        ≡ block.old.counters)) }
     ensures idle { block.old.modified ≡ false → S.state image.new ≡ S.state image.old }
-    ensures torn { IsTrue (S.state image.old).tells → IsErrOf result StorageFailed →
-        IsTornBlock block.old (block_offset block.old.cluster_bits cluster)
-        (S.state image.old).byte_at (S.state image.new).byte_at }
+    ensures torn { OnImages (S.state image.old) (S.state image.new) (λ before after.
+        IsErrOf result StorageFailed → IsTornBlock block.old
+        (block_offset block.old.cluster_bits cluster) before after) }
     ensures storage { OnlyWrites result (Some (cluster.0 * 2 ^ block.old.cluster_bits))
         (2 ^ block.old.cluster_bits) (S.state image.old) (S.state image.new) }
 {

@@ -1,11 +1,12 @@
 //! What a guest offset reads as, by an image's header, L1 table and L2 table.
 
 ghost use Rattle.std.specs.Prelude.{◌≡◌, ◌+◌, ◌*◌, ◌/◌, ◌^◌, ◌≤◌, None, IfErr, IfOk, IfSome, IsOkAnd, IsTrue, slice_index};
-ghost use Rattle.qcow2_base.specs.Storage.{OnlyReads};
+ghost use Rattle.qcow2_base.specs.Format.{max_file_length, most_l1_entries};
+ghost use Rattle.qcow2_base.specs.Storage.{OnImage, OnlyReads};
 ghost use Rattle.qcow2_metadata.specs.Results.{Answers};
 ghost use Rattle.qcow2_metadata.specs.Entries.L2Mapping.{IsPlaced, meaning, backing};
 ghost use Rattle.qcow2_metadata.specs.Header.{geometry_of};
-ghost use Rattle.qcow2_metadata.specs.Table.{IsLoadFault, IsLoaded, LoadRefuses, l2_table_at, loaded_l1_table, loaded_l2_table, most_l1_entries, place_fault};
+ghost use Rattle.qcow2_metadata.specs.Table.{IsLoadFault, IsLoaded, LoadRefuses, l2_table_at, loaded_l1_table, loaded_l2_table, place_fault};
 ghost use Rattle.qcow2_session.specs.Session.Lookups.{IsLookupFault, guest_mapping, image_mapping, l1_place, l2_cluster, mapping_in, named_cluster, table_fault};
 
 use qcow2_base::{Fault, GuestCluster, GuestOffset, HostCluster, Storage};
@@ -27,8 +28,9 @@ pub fn lookup<S: Storage>(
     guest_offset: GuestOffset,
 ) -> Result<L2Mapping, Fault>
     requires cluster_bits { header.now.v2.cluster_bits ≡ l1_table.now.geometry.cluster_bits }
-    ensures exact { IsTrue (S.state image.old).tells → Answers meaning result (guest_mapping
-        (geometry_of header.now) l1_table.now.numbers guest_offset.0 (S.state image.old).byte_at) }
+    ensures exact { OnImage (S.state image.old) (λ bytes.
+        Answers meaning result (guest_mapping
+        (geometry_of header.now) l1_table.now.numbers guest_offset.0 bytes)) }
 
     // Where there is no L2 table, the image isn't read.
     ensures unmapped { let cb = header.now.v2.cluster_bits in
@@ -59,8 +61,8 @@ pub fn lookup_image<S: Storage>(
     image: &mut S,
     guest_offset: GuestOffset,
 ) -> Result<L2Mapping, Fault>
-    ensures exact { IsTrue (S.state image.old).tells →
-        Answers meaning result (image_mapping guest_offset.0 (S.state image.old).byte_at) }
+    ensures exact { OnImage (S.state image.old) (λ bytes.
+        Answers meaning result (image_mapping guest_offset.0 bytes)) }
     ensures faults { IfErr result IsLookupFault }
     ensures storage { OnlyReads result (S.state image.old) (S.state image.new) }
 {
@@ -75,8 +77,8 @@ pub(crate) fn lookup_with_header<S: Storage>(
     header: &Header,
     guest_offset: GuestOffset,
 ) -> Result<L2Mapping, Fault>
-    ensures exact { IsTrue (S.state image.old).tells → Answers meaning result
-        (mapping_in header.now guest_offset.0 (S.state image.old).byte_at) }
+    ensures exact { OnImage (S.state image.old) (λ bytes.
+        Answers meaning result (mapping_in header.now guest_offset.0 bytes)) }
     ensures placed { IfOk result (IsPlaced header.now.v2.cluster_bits) }
     ensures faults { IfErr result IsLookupFault }
     ensures storage { OnlyReads result (S.state image.old) (S.state image.new) }
@@ -92,8 +94,8 @@ pub(crate) fn load_l1_table<S: Storage>(
     header: &Header,
 ) -> Result<L1Table, Fault>
     ensures refused { LoadRefuses (place_fault most_l1_entries (l1_place header.now)) result }
-    ensures exact { IsTrue (S.state image.old).tells → Answers (λ table. table.numbers) result
-        (loaded_l1_table (l1_place header.now) (S.state image.old).byte_at) }
+    ensures exact { OnImage (S.state image.old) (λ bytes.
+        Answers (λ table. table.numbers) result (loaded_l1_table (l1_place header.now) bytes)) }
     ensures loaded { IfOk result (IsLoaded (l1_place header.now) (S.state image.old)) }
     ensures storage { OnlyReads result (S.state image.old) (S.state image.new) }
 {
@@ -109,8 +111,9 @@ pub(crate) fn load_l2_table<S: Storage>(
     cluster: HostCluster,
 ) -> Result<L2Table, Fault>
     ensures refused { LoadRefuses (table_fault header.now cluster) result }
-    ensures exact { IsTrue (S.state image.old).tells → Answers (λ table. table.numbers) result
-        (loaded_l2_table (geometry_of header.now) cluster (S.state image.old).byte_at) }
+    ensures exact { OnImage (S.state image.old) (λ bytes.
+        Answers (λ table. table.numbers) result
+        (loaded_l2_table (geometry_of header.now) cluster bytes)) }
     ensures loaded { IfOk result
         (IsLoaded (l2_table_at (geometry_of header.now) cluster) (S.state image.old)) }
     ensures storage { OnlyReads result (S.state image.old) (S.state image.new) }
@@ -124,7 +127,7 @@ pub(crate) fn named_cluster(l1_table: &L1Table, index: usize) -> Option<HostClus
     ensures value { let cb = l1_table.now.geometry.cluster_bits in
         result ≡ named_cluster cb (slice_index l1_table.now.numbers index) }
     ensures end { let cb = l1_table.now.geometry.cluster_bits in
-        IfSome result (λ cluster. cluster.0 * 2 ^ cb + 2 ^ cb ≤ 2 ^ 56) }
+        IfSome result (λ cluster. cluster.0 * 2 ^ cb + 2 ^ cb ≤ max_file_length) }
 {
     let offset = l1_table.get(index).l2_offset()?;
     Some(offset.cluster(l1_table.cluster_bits()))
@@ -135,7 +138,7 @@ pub(super) fn l2_cluster(l1_table: &L1Table, guest_cluster: GuestCluster) -> Opt
     ensures value { let cb = l1_table.now.geometry.cluster_bits in
         result ≡ l2_cluster cb l1_table.now.numbers guest_cluster.0 }
     ensures end { let cb = l1_table.now.geometry.cluster_bits in
-        IfSome result (λ cluster. cluster.0 * 2 ^ cb + 2 ^ cb ≤ 2 ^ 56) }
+        IfSome result (λ cluster. cluster.0 * 2 ^ cb + 2 ^ cb ≤ max_file_length) }
 {
     named_cluster(l1_table, guest_cluster.l1_index(l1_table.cluster_bits()))
 }

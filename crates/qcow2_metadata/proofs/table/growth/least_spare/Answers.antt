@@ -1,7 +1,7 @@
 use Rattle.std.proofs.Common.{◌≡◌, ◌+◌, ◌<◌, ◌≤◌, arith}
 use Rattle.std.specs.Int.{div_ceil}
+use Rattle.qcow2_base.specs.Format.{most_reftable_entries}
 use Rattle.qcow2_metadata.proofs.GrowthLemmas.{IsRoomy-of, enough-least, least_spare-is, needed-enough, needed-least, possible_spare-found, possible_spare-none}
-use Rattle.qcow2_metadata.specs.Table.{most_reftable_entries}
 use Rattle.qcow2_metadata.specs.Table.Growth.{clusters_with, entries_with, growth_of, least_spare}
 use Rattle.qcow2_metadata.proofs.table.growth.least_spare.Goals as goal
 
