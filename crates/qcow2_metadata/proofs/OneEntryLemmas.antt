@@ -3,6 +3,7 @@ use Rattle.std.specs.List.{range_with_len}
 use Rattle.std.proofs.Math.Nat.{div-add-mod, div-div-eq-div-mul, lt_of_mul-lt-mul_right, mul-div_cancel, mul-le-mul_right}
 use Rattle.std.proofs.lemmas.Bool.{cases_lt}
 use Rattle.std.proofs.lemmas.Nat.{div-mul-add, mod_below, pow-add, pow_below, pow_pos}
+use Rattle.qcow2_metadata.specs.Pieces.{piece_size}
 use Rattle.qcow2_base.specs.Storage.{Holds, Image, IsPowerOfTwo, SameOutside, StorageState, be, be_of_same, image_of}
 use Rattle.qcow2_base.specs.declared.fault.Fault.{Fault}
 use Rattle.qcow2_base.specs.declared.fault.Fault.TheVariants.{NoMemory, Storage}
@@ -163,7 +164,7 @@ part-few cb count low (k, is, few) =
     rw is (pow_pos k, pow_mono most)
 
 -- the refusals of a write whose place is lawful
-faults_of : {T : Type 0} (range : EntryRange) (of_place : Option Fault) (answer : Result T Fault) → IfErr answer (λ fault. (fault ≡ Storage) ⊎ ((fault ≡ NoMemory) × (512 < range.count))) → IfErr answer (IsEntryWriteFault range of_place)
+faults_of : {T : Type 0} (range : EntryRange) (of_place : Option Fault) (answer : Result T Fault) → IfErr answer (λ fault. (fault ≡ Storage) ⊎ ((fault ≡ NoMemory) × (piece_size < 8 * range.count))) → IfErr answer (IsEntryWriteFault range of_place)
 faults_of range of_place (Ok value) faults = tt
 faults_of range of_place (Err fault) (inl failed) = inl (inr failed)
 faults_of range of_place (Err fault) (inr memory) = inr memory

@@ -5,7 +5,7 @@ use Rattle.qcow2_base.specs.declared.fault.Fault.TheVariants.{EntryUnaligned, Ta
 use Rattle.qcow2_base.specs.declared.fault.Fault.TheVariants as fault
 use Rattle.qcow2_metadata.specs.Header.{geometry}
 use Rattle.qcow2_metadata.specs.Table.{TablePlace, TableState, edited, loaded_l1_table, loaded_l2_table, place_fault}
-use Rattle.qcow2_metadata.specs.declared.range.TheConstants.{MAX_FILE_LENGTH, MAX_OFFSET}
+use Rattle.qcow2_base.specs.declared.format.TheConstants.{MAX_FILE_LENGTH, MAX_OFFSET}
 
 -- so many entries that begin with a cluster of 2 ^ cb bytes
 abbrev at : ℕ → ℕ → ℕ → TablePlace

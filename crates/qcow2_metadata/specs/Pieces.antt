@@ -2,8 +2,8 @@ use Rattle.std.specs.Prelude.{◌≡◌, ℕ, ◌+◌, ◌-◌, ◌*◌, ◌/◌
 use Rattle.qcow2_base.specs.Storage.{CountsFailure, Image, OnImages, SameDevice, SameOutside, StorageState}
 
 -- how many bytes of a table or a block are read or written at once
-abbrev pub piece_bytes : ℕ
-piece_bytes = 4096
+abbrev pub piece_size : ℕ
+piece_size = 4096
 
 -- the first so many bytes stand in an image from an offset on
 abbrev pub Stand : Image → ℕ → Image → ℕ → Type 0
@@ -20,9 +20,9 @@ number_bytes numbers = big_endian_bytes 8 numbers
 -- a write of bytes from an offset on, in pieces, that failed at a piece: the bytes before that
 -- piece are written, and after it each byte is the old one
 pub record IsTornAtPiece (piece : ℕ) (bytes : Image) (len offset : ℕ) (old new : Image) : Type 0 where
-  pub within : piece_bytes * piece < len
-  pub before : Stand bytes (piece_bytes * piece) new offset
-  pub after : (o : ℕ) → offset + piece_bytes * (piece + 1) ≤ o → new o ≡ old o
+  pub within : piece_size * piece < len
+  pub before : Stand bytes (piece_size * piece) new offset
+  pub after : (o : ℕ) → offset + piece_size * (piece + 1) ≤ o → new o ≡ old o
 
 -- the write failed at some piece
 abbrev pub IsTornBytes : Image → ℕ → ℕ → Image → Image → Type 0

@@ -3,7 +3,7 @@
 ghost use Rattle.std.specs.Prelude.{◌≡◌, ℕ, ◌+◌, ◌-◌, ◌*◌, ◌^◌, ◌<◌, ◌≤◌, length, min, slice_index};
 ghost use Rattle.qcow2_base.specs.Format.{max_file_length};
 ghost use Rattle.qcow2_base.specs.Storage.{Image};
-ghost use Rattle.qcow2_metadata.specs.Pieces.{WritesInPieces, piece_bytes};
+ghost use Rattle.qcow2_metadata.specs.Pieces.{WritesInPieces, piece_size};
 
 use qcow2_base::{HostOffset, Storage, StorageFault};
 
@@ -24,11 +24,11 @@ pub(crate) trait Packed {
 
     /// Puts the bytes of a piece into the buffer, which is as long as that piece.
     fn pack(&self, piece: usize, buffer: &mut [u8])
-        requires piece { piece_bytes * piece < byte_count self.now }
+        requires piece { piece_size * piece < byte_count self.now }
         requires bound { byte_count self.now ≤ max_file_length }
-        requires len { length buffer.old ≡ min (byte_count self.now - piece_bytes * piece) piece_bytes }
+        requires len { length buffer.old ≡ min (byte_count self.now - piece_size * piece) piece_size }
         ensures packed { (i : ℕ) → i < length buffer.new →
-            slice_index buffer.new i ≡ bytes self.now (piece_bytes * piece + i) }
+            slice_index buffer.new i ≡ bytes self.now (piece_size * piece + i) }
         ensures len { length buffer.new ≡ length buffer.old };
 }
 

@@ -1,7 +1,7 @@
 //! Reading ahead: many small reads of neighbouring bytes in few calls of the storage.
 
 ghost use Rattle.std.specs.Prelude.{◌≡◌, ◌+◌, ◌-◌, ◌^◌, min, ◌≤◌, ◌<◌, IsOkUnless, IsTrue, OnOk, length, take};
-ghost use Rattle.qcow2_metadata.specs.Pieces.{piece_bytes};
+ghost use Rattle.qcow2_metadata.specs.Pieces.{piece_size};
 ghost use Rattle.qcow2_base.specs.Format.{max_file_length};
 ghost use Rattle.qcow2_base.specs.Storage.{Holds, OnImage, OnlyReads, ReadsBytes};
 
@@ -21,7 +21,7 @@ pub(crate) struct ReadAhead<'a, S: Storage> {
     len: usize,
     bytes: [u8; AHEAD],
     ghost kept: { OnImage (S.state image.now) (λ stored. Holds stored start (take len bytes)) },
-    ghost room: { len ≤ piece_bytes },
+    ghost room: { len ≤ piece_size },
     ghost limit: { end ≤ 2 ^ 21 },
 }
 
@@ -75,7 +75,7 @@ impl<'a, S: Storage> ReadAhead<'a, S> {
         ensures read { ReadsBytes result offset (take self.new.len self.new.bytes)
             (S.state self.old.image.now) (S.state self.new.image.now) }
         ensures start { OnOk result (self.new.start ≡ offset) }
-        ensures len { OnOk result (self.new.len ≡ min (self.old.end - offset) piece_bytes) }
+        ensures len { OnOk result (self.new.len ≡ min (self.old.end - offset) piece_size) }
         ensures same { self.new.image.ghost_name ≡ self.old.image.ghost_name }
     {
         let len = ((self.end - offset) as usize).min(AHEAD);
@@ -94,7 +94,7 @@ fn read_front<S: Storage>(
     len: usize,
     buffer: &mut [u8; AHEAD],
 ) -> Result<(), StorageFault>
-    requires room { len ≤ piece_bytes }
+    requires room { len ≤ piece_size }
     requires end { offset + len ≤ max_file_length }
     ensures { ReadsBytes result offset (take len buffer.new) (S.state image.old) (S.state image.new) }
 {

@@ -1,6 +1,6 @@
 use Rattle.std.specs.Prelude.{◌≡◌, ◌≢◌, ◌⊎◌, ℕ, ◌+◌, ◌*◌, ◌/◌, ◌^◌, ◌<◌, ◌≤◌, max, nat_le, if◌then◌else◌, List, map, length, slice_index, Option, Some, option_map, Result, Err, OnOk, IfErr, IfSome, IsTrue}
 use Rattle.std.specs.List.{range_with_len}
-use Rattle.qcow2_metadata.specs.Pieces.{piece_bytes}
+use Rattle.qcow2_metadata.specs.Pieces.{piece_size}
 use Rattle.qcow2_base.specs.Storage.{Image, OnImages, OnlyWrites, SameOutside, StorageState, be}
 use Rattle.qcow2_base.specs.declared.fault.Fault.{Fault}
 use Rattle.qcow2_base.specs.declared.fault.Fault.TheVariants.{NoMemory, Storage}
@@ -51,7 +51,7 @@ pub record IsWrittenEntry (index : ℕ) (range : EntryRange) (place : TablePlace
 -- the refusals of a write of one entry: those of a write, and want of memory, which is taken for more
 -- bytes than a piece alone
 abbrev pub IsEntryWriteFault : EntryRange → Option Fault → Fault → Type 0
-IsEntryWriteFault range of_place fault = IsWriteFault of_place fault ⊎ ((fault ≡ NoMemory) × (piece_bytes < 8 * range.count))
+IsEntryWriteFault range of_place fault = IsWriteFault of_place fault ⊎ ((fault ≡ NoMemory) × (piece_size < 8 * range.count))
 
 -- where the cluster that holds a table's entry begins
 abbrev pub cluster_offset : TablePlace → ℕ → ℕ
@@ -60,7 +60,7 @@ cluster_offset place index =
 
 -- a write of these entries from an offset on that ended in this answer
 pub record WritesEntries {T : Type 0} (answer : Result T Fault) (offset : ℕ) (range : EntryRange) (numbers : List ℕ) (old new : StorageState) : Type 0 where
-  pub faults : IfErr answer (λ fault. (fault ≡ Storage) ⊎ ((fault ≡ NoMemory) × (piece_bytes < 8 * range.count)))
+  pub faults : IfErr answer (λ fault. (fault ≡ Storage) ⊎ ((fault ≡ NoMemory) × (piece_size < 8 * range.count)))
   pub written : OnImages old new (λ _ after.
       OnOk answer (table_numbers after offset range.count ≡ numbers_in range numbers))
   pub storage : OnlyWrites answer (Some offset) (8 * range.count) old new

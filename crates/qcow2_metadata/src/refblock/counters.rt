@@ -1,7 +1,7 @@
 //! The counters of a block in memory: one number each, in the smallest integers that hold them.
 
 ghost use Rattle.std.specs.Prelude.{◌≡◌, ℕ, ◌++◌, ◌*◌, ◌/◌, ◌%◌, ◌+◌, ◌-◌, ◌^◌, ◌<◌, ◌≤◌, IfOk, OnOk, [], length, replicate, slice_index, slice_set};
-ghost use Rattle.qcow2_metadata.specs.Pieces.{piece_bytes};
+ghost use Rattle.qcow2_metadata.specs.Pieces.{piece_size};
 ghost use Rattle.qcow2_base.specs.Storage.{image_of};
 ghost use Rattle.qcow2_metadata.specs.Refblock.Counters.{AreCounters, CanHold, IsOfOrder, kept_counters};
 ghost use Rattle.qcow2_metadata.specs.Refblock.Packing.{counters_at, packed, width};
@@ -111,13 +111,13 @@ impl Counters {
     // Puts the bytes of a piece of the block into the buffer, which is as long as that piece.
     pub(super) fn pack(&self, order: u32, piece: usize, buffer: &mut [u8])
         requires kind { IsOfOrder order self.now }
-        requires piece { piece_bytes * piece < 2 ^ 21 }
+        requires piece { piece_size * piece < 2 ^ 21 }
         requires small { AreCounters order (kept_counters self.now) }
-        requires within { 8 * (piece_bytes * piece + length buffer.old)
+        requires within { 8 * (piece_size * piece + length buffer.old)
             ≤ width order * length (kept_counters self.now) }
         requires whole { length buffer.old % 8 ≡ 0 }
         ensures packed { (i : ℕ) → i < length buffer.new → slice_index buffer.new i
-            ≡ packed order (kept_counters self.now) (piece_bytes * piece + i) }
+            ≡ packed order (kept_counters self.now) (piece_size * piece + i) }
         ensures len { length buffer.new ≡ length buffer.old }
     {
         let first = PIECE_BYTES * piece;
