@@ -3,12 +3,13 @@ use Rattle.std.proofs.lemmas.Bool.{cases_lt}
 use Rattle.std.proofs.lemmas.Bool.Decides.{Decides-eqb}
 use Rattle.std.proofs.lemmas.List.{get_or_past}
 use Rattle.std.proofs.lemmas.Nat.{div-add-mod', div-mul-add, mod-mul-add, mul-le, pow_pos, pow-add}
-use Rattle.std.proofs.Math.Nat.{le-div_iff_mul-le, div-mul-le_self, mod-eq_of_lt, mod-lt, mul_assoc}
+use Rattle.std.proofs.Math.Nat.{le-div_iff_mul-le, mod-eq_of_lt, mod-lt, mul_assoc}
 use Rattle.std.proofs.Math.Pow.{pow_mono}
 use Rattle.qcow2_base.specs.Storage.{Image, OnlyReads, StorageState}
 use Rattle.qcow2_base.specs.declared.fault.Fault.{Fault}
 use Rattle.qcow2_base.specs.declared.fault.Fault.TheVariants.{NoMemory, Storage}
 use Rattle.qcow2_base.specs.declared.types.HostCluster.{HostCluster}
+use Rattle.qcow2_metadata.proofs.EntriesLemmas.{div_rises}
 use Rattle.qcow2_metadata.specs.Entries.L2Mapping.{Mapping, backing, compressed, data_file, zeros}
 use Rattle.qcow2_metadata.specs.Entries.Runs.{reads_on}
 use Rattle.qcow2_metadata.specs.Header.{Geometry}
@@ -50,9 +51,6 @@ below_next cb offset next low below = elim (cases_lt (offset / 2 ^ cb / 2 ^ (cb 
       absurd (omega (arith, bytes, below, tables_size cb next low))
 ]
 
-quotient_rises : (a b k : ℕ) → 0 < k → a ≤ b → a / k ≤ b / k
-quotient_rises a b k some h = (le-div_iff_mul-le some).1 (omega (arith, div-mul-le_self a k))
-
 pub reaches_next : (cb from next : ℕ) → 9 ≤ cb → from / 2 ^ cb / 2 ^ (cb - 3) + 1 ≤ next → from < next * 2 ^ (2 * cb - 3)
 reaches_next cb from next low above = elim (cases_lt from (next * 2 ^ (2 * cb - 3))) [
   | inl less ↦ less
@@ -70,7 +68,7 @@ pub no_table_before : (cb : ℕ) (l1 : List ℕ) (from next to : ℕ) → 9 ≤ 
 no_table_before cb l1 from next to low here end none = λ offset above below.
     let k = offset / 2 ^ cb / 2 ^ (cb - 3) in
     let less : k < next = below_next cb offset next low (omega (arith, below, end)) in
-    let more = quotient_rises (from / 2 ^ cb) (offset / 2 ^ cb) (2 ^ (cb - 3)) (pow_pos (cb - 3)) (quotient_rises from offset (2 ^ cb) (pow_pos cb) above) in
+    let more = div_rises (from / 2 ^ cb) (offset / 2 ^ cb) (2 ^ (cb - 3)) (pow_pos (cb - 3)) (div_rises from offset (2 ^ cb) (pow_pos cb) above) in
     elim (cases_lt (from / 2 ^ cb / 2 ^ (cb - 3)) k) [
       | inl later ↦ none k (omega (arith, later)) less
       | inr same ↦ let is : k ≡ from / 2 ^ cb / 2 ^ (cb - 3) = omega (arith, same, more) in rw is here
@@ -81,7 +79,7 @@ pub no_table_after : (cb : ℕ) (l1 : List ℕ) (from to : ℕ) → l2_cluster c
     → HasNoTable cb l1 from to
 no_table_after cb l1 from to here none = λ offset above below.
     let k = offset / 2 ^ cb / 2 ^ (cb - 3) in
-    let more = quotient_rises (from / 2 ^ cb) (offset / 2 ^ cb) (2 ^ (cb - 3)) (pow_pos (cb - 3)) (quotient_rises from offset (2 ^ cb) (pow_pos cb) above) in
+    let more = div_rises (from / 2 ^ cb) (offset / 2 ^ cb) (2 ^ (cb - 3)) (pow_pos (cb - 3)) (div_rises from offset (2 ^ cb) (pow_pos cb) above) in
     elim (cases_lt (from / 2 ^ cb / 2 ^ (cb - 3)) k) [
       | inl later ↦ none k (omega (arith, later))
       | inr same ↦ let is : k ≡ from / 2 ^ cb / 2 ^ (cb - 3) = omega (arith, same, more) in rw is here

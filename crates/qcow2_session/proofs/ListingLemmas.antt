@@ -1,23 +1,21 @@
-use Rattle.std.proofs.Common.{◌≡◌, ◌⊎◌, ℕ, zero, suc, true, IsTrue, inl, inr, is_ok, ◌+◌, ◌-◌, ◌*◌, ◌%◌, ◌^◌, ◌<◌, ◌≤◌, List, [], ◌∷◌, ◌++◌, length, get_or, take, Option, Result, Ok, Err, ap, refl, sym, ◌∙◌, add-one, append_assoc, append-nil, arith}
-use Rattle.std.specs.Result.{IsOkAnd}
+use Rattle.std.proofs.Common.{◌≡◌, ◌≢◌, ◌⊎◌, ℕ, inl, inr, ◌+◌, ◌-◌, ◌*◌, ◌%◌, ◌^◌, ◌<◌, ◌≤◌, List, [], ◌∷◌, ◌++◌, length, get_or, map, take, Option, Result, Ok, Err, IsTrue, OnOk, ap, refl, sym, ◌∙◌, add-one, append_assoc, append-nil, arith}
+use Rattle.std.specs.List.{concat}
 use Rattle.std.specs.Io.KnownBytes.{Appends}
-use Rattle.std.proofs.KnownBytes.{Appends-trans}
+use Rattle.std.specs.Result.{IsOkUnless}
+use Rattle.std.proofs.KnownBytes.{Appends-nil, Appends-trans}
 use Rattle.std.proofs.Math.Pow.{pow_mono}
+use Rattle.std.proofs.lemmas.List.{map-append}
+use Rattle.std.proofs.lemmas.List.Folds.{concat-append}
 use Rattle.std.proofs.lemmas.Nat.{mod-mul-add, mul-add-lt, mul-lt}
-use Rattle.qcow2_base.specs.Storage.{Image, StorageState}
+use Rattle.qcow2_base.specs.Storage.{OnlyReads, StorageState}
 use Rattle.qcow2_base.specs.declared.fault.Fault.{Fault}
 use Rattle.qcow2_base.specs.declared.fault.Fault.TheVariants.{NoMemory, Storage}
-use Rattle.qcow2_metadata.specs.Results.{and_then, result_map}
-use Rattle.qcow2_metadata.specs.Header.{Geometry, HeaderRecord}
-use Rattle.qcow2_metadata.specs.Header.Grammar.{header_of}
-use Rattle.qcow2_metadata.specs.Table.{loaded_l1_table}
+use Rattle.qcow2_metadata.specs.Header.{Geometry}
 use Rattle.qcow2_metadata.specs.Entries.L2Mapping.{Mapping, mapping}
 use Rattle.qcow2_session.proofs.LinesLemmas.{entry_lines-take-suc}
-use Rattle.qcow2_session.proofs.PrintingLemmas.{PrintsSome-none}
+use Rattle.qcow2_session.proofs.PrintingLemmas.{read_fault-of, reads-calm}
 use Rattle.qcow2_session.specs.Lines.{entry_line, entry_lines}
-use Rattle.qcow2_session.specs.Commands.Listing.{lines_before, lines_before_fault, lines_by, lines_or_none, image_lines_before_fault, lines_of_image, lines_of_tables, listed_lines}
-use Rattle.qcow2_session.specs.Session.Lookups.{l1_place, named_cluster}
-use Rattle.qcow2_session.specs.Commands.{PrintsSome}
+use Rattle.qcow2_session.specs.Commands.Listing.{PrintsList, PrintsTables, PrintsTablesBefore, TableTexts}
 
 -- the offset of each guest cluster that an L1 table of the most entries leads to fits 64 bits
 pub guest_offset-fits : (cb index l2_index : ℕ) → cb ≤ 21 → index < 4194304 → l2_index < 2 ^ (cb - 3) → (index * 2 ^ (cb - 3) + l2_index) * 2 ^ cb < 2 ^ 64
@@ -43,110 +41,108 @@ table_lines-more a b c label g index xs i found below count is before here =
     let both = Appends-trans a b c _ _ before (rw line at here) in
     rw (add-one, entry_lines-take-suc label g first xs i below) both
 
--- a table more: its lines come after those of the tables before it
-last_table : (lines : Result (List ℕ) Fault) → and_then lines (λ all. Ok (all ++ [])) ≡ result_map (λ more. more) lines
-last_table (Err fault) = refl
-last_table (Ok lines) = ap Ok (append-nil lines)
+-- the lines of tables after those of others
+pub tables-printed : (some more : List (List ℕ)) (a b c : Option (List ℕ)) → Appends a b (concat some) → Appends b c (concat more) → Appends a c (concat (some ++ more))
+tables-printed some more a b c before here = rw (concat-append some more) (Appends-trans a b c _ _ before here)
 
-joined : (first : List ℕ) (rest last : Result (List ℕ) Fault) → result_map (λ all. first ++ all) (and_then rest (λ lines. result_map (λ more. lines ++ more) last))
-    ≡ and_then (result_map (λ all. first ++ all) rest) (λ lines. result_map (λ more. lines ++ more) last)
-joined first (Err fault) last = refl
-joined first (Ok rest) (Err fault) = refl
-joined first (Ok rest) (Ok last) = ap Ok (sym (append_assoc first rest last))
+-- tables that are known to load, and others
+pub tables-known : (some more : List (List ℕ)) (rest all : TableTexts) → all ≡ map Ok some ++ (map Ok more ++ rest) → all ≡ map Ok (some ++ more) ++ rest
+tables-known some more rest all are = rw (map-append {B = Result (List ℕ) Fault} Ok some more, append_assoc) are
 
-with_first : (first rest last all : Result (List ℕ) Fault) → all ≡ and_then rest (λ lines. result_map (λ more. lines ++ more) last)
-    → and_then first (λ lines. result_map (λ more. lines ++ more) all) ≡ and_then (and_then first (λ lines. result_map (λ more. lines ++ more) rest)) (λ lines. result_map (λ more. lines ++ more) last)
-with_first (Err fault) rest last all is = refl
-with_first (Ok first) rest last all is = rw is (joined first rest last)
+-- the print of some tables ended after others were printed
+pub PrintsTablesBefore-after : (fault : Fault) (known : List (List ℕ)) (some more all : TableTexts) (old between new : StorageState) (a b c : Option (List ℕ))
+    → all ≡ map Ok known ++ (some ++ more) → Appends a b (concat known) → between.failures ≡ old.failures
+    → PrintsTablesBefore fault between new b c some → PrintsTablesBefore fault old new a c all
+PrintsTablesBefore-after fault known some more all old between new a b c are before calm ended = record {
+  printed = known ++ ended.printed;
+  table = ended.table;
+  rest = ended.rest ++ more;
+  are = tables-known known ended.printed (ended.table ∷ ended.rest ++ more) all (are ∙ ap (λ x. map Ok known ++ (x ++ more)) ended.are ∙ ap (λ x. map Ok known ++ x) (append_assoc (map Ok ended.printed) (ended.table ∷ ended.rest) more));
+  why = elim (rw calm at ended.why) [
+    | inl refused ↦ inl (refused.0, tables-printed known ended.printed a b c before refused.1)
+    | inr output ↦ inr output
+  ];
+}
 
-pub lines_of_tables-more : (g : Geometry) (index : ℕ) (xs : List ℕ) (v : ℕ) (image : Image) → lines_of_tables g index (xs ++ v ∷ []) image
-    ≡ and_then (lines_of_tables g index xs image) (λ lines. result_map (λ more. lines ++ more) (lines_by g (index + length xs) (named_cluster g.cluster_bits v) image))
-lines_of_tables-more g index [] v image =
-    let same : index + 0 ≡ index = omega arith in
-    rw same (last_table (lines_by g index (named_cluster g.cluster_bits v) image))
-lines_of_tables-more g index (x ∷ xs) v image =
-    let place : index + 1 + length xs ≡ index + suc (length xs) = omega arith in
-    with_first (lines_by g index (named_cluster g.cluster_bits x) image) (lines_of_tables g (index + 1) xs image) _ _ (rw place at (lines_of_tables-more g (index + 1) xs v image))
+-- and so after reads that were answered
+ended-after : {T : Type 0} (value : T) (fault : Fault) (tables : TableTexts) (old between new : StorageState) (a b : Option (List ℕ))
+    → OnlyReads (Ok value) old between → PrintsTablesBefore fault between new a b tables → PrintsTablesBefore fault old new a b tables
+ended-after value fault tables old between new a b reads ended =
+    PrintsTablesBefore-after fault [] tables [] tables old between new a a b (sym (append-nil tables)) (Appends-nil a) (reads-calm value old between reads) ended
 
--- the lines of a table more are printed
-pub printed-table : (first more : Result (List ℕ) Fault) (a b c : Option (List ℕ)) → IsOkAnd first (Appends a b) → IsOkAnd more (Appends b c)
-    → IsOkAnd (and_then first (λ lines. result_map (λ next. lines ++ next) more)) (Appends a c)
-printed-table (Err fault) more a b c before here = absurd before
-printed-table (Ok lines) (Err fault) a b c before here = absurd here
-printed-table (Ok lines) (Ok next) a b c before here = Appends-trans a b c lines next before here
+-- a table that can't be read
+pub PrintsTables-refused : {T : Type 0} (fault : Fault) (table : Result (List ℕ) Fault) (old new : StorageState) (a : Option (List ℕ))
+    → (IsTrue old.tells → (fault ≡ Storage) ⊎ (fault ≡ NoMemory) ⊎ (table ≡ Err fault)) → (fault ≡ Storage → new.failures ≢ old.failures)
+    → PrintsTables {T = T} (Err fault) (table ∷ []) old new a a
+PrintsTables-refused fault table old new a refused failed = record {
+  lines = tt;
+  refused = λ told. record {
+    printed = [];
+    table = table;
+    rest = [];
+    are = refl;
+    why = inl (read_fault-of fault table old new (refused told) failed, Appends-nil a);
+  };
+}
 
--- a table that can't be loaded, after those that can, is the answer for all
-past_first : (first some rest : Result (List ℕ) Fault) (fault : Fault) → is_ok (and_then first (λ lines. result_map (λ more. lines ++ more) some)) ≡ true
-    → (is_ok some ≡ true → rest ≡ Err fault) → and_then first (λ lines. result_map (λ more. lines ++ more) rest) ≡ Err fault
-past_first (Err other) some rest fault fine later = cc
-past_first (Ok lines) (Err other) rest fault fine later = cc
-past_first (Ok lines) (Ok more) rest fault fine later = rw (later refl) refl
+-- the print of the lines of a table, after that was loaded
+pub PrintsTables-one : {T V : Type 0} (value : V) (answer : Result T Fault) (table : Result (List ℕ) Fault) (lines : List ℕ) (old new : StorageState) (a b : Option (List ℕ))
+    → (IsTrue old.tells → table ≡ Ok lines) → OnlyReads (Ok value) old new → IsOkUnless answer Storage → OnOk answer (Appends a b lines)
+    → PrintsTables answer (table ∷ []) old new a b
+PrintsTables-one value (Ok done) table lines old new a b is reads fault printed = record {
+  lines = λ told. (lines ∷ [], rw (is told) refl, rw (append-nil lines) printed);
+  refused = tt;
+}
+PrintsTables-one value (Err error) table lines old new a b is reads fault printed = record {
+  lines = tt;
+  refused = λ told. record {
+    printed = [];
+    table = table;
+    rest = [];
+    are = refl;
+    why = inr ((fault, reads-calm value old new reads), rw (is told) refl);
+  };
+}
 
-lines_of_tables-fault : (g : Geometry) (index : ℕ) (xs : List ℕ) (i : ℕ) (image : Image) (fault : Fault) → i < length xs → is_ok (lines_of_tables g index (take i xs) image) ≡ true
-    → lines_by g (index + i) (named_cluster g.cluster_bits (get_or xs i 0)) image ≡ Err fault → lines_of_tables g index xs image ≡ Err fault
-lines_of_tables-fault g index [] i image fault below fine bad = absurd (omega (arith, below))
-lines_of_tables-fault g index (x ∷ xs) zero image fault below fine bad =
-    let same : index + 0 ≡ index = omega arith in
-    rw (rw same at bad) refl
-lines_of_tables-fault g index (x ∷ xs) (suc i) image fault below fine bad =
-    let place : index + suc i ≡ index + 1 + i = omega arith in
-    past_first (lines_by g index (named_cluster g.cluster_bits x) image) (lines_of_tables g (index + 1) (take i xs) image) (lines_of_tables g (index + 1) xs image) fault fine
-    (λ more. lines_of_tables-fault g (index + 1) xs i image fault (omega (arith, below)) more (rw place at bad))
+-- tables that can't be told: nothing is printed
+pub PrintsList-none : {T : Type 0} (fault : Fault) (tables : Result TableTexts Fault) (old new : StorageState) (a : Option (List ℕ))
+    → (IsTrue old.tells → (fault ≡ Storage) ⊎ (fault ≡ NoMemory) ⊎ (tables ≡ Err fault)) → (fault ≡ Storage → new.failures ≢ old.failures)
+    → PrintsList {T = T} (Err fault) tables old new a a
+PrintsList-none fault tables old new a refused failed = record {
+  lines = tt;
+  refused = λ told. inl (read_fault-of fault tables old new (refused told) failed, Appends-nil a);
+}
 
-is_ok-printed : (lines : Result (List ℕ) Fault) (a b : Option (List ℕ)) → IsOkAnd lines (Appends a b) → is_ok lines ≡ true
-is_ok-printed (Ok lines) a b printed = refl
-is_ok-printed (Err fault) a b printed = absurd printed
+-- the tables that an L1 table names, after that was loaded
+pub PrintsList-tables : {T V : Type 0} (value : V) (answer : Result T Fault) (tables : Result TableTexts Fault) (each : TableTexts) (old between new : StorageState) (a b : Option (List ℕ))
+    → (IsTrue old.tells → tables ≡ Ok each) → OnlyReads (Ok value) old between → PrintsTables answer each between new a b → PrintsList answer tables old new a b
+PrintsList-tables value (Ok done) tables each old between new a b are reads prints = record {
+  lines = λ told. rw (are told) (prints.lines (reads.device.tells ∙ told));
+  refused = tt;
+}
+PrintsList-tables value (Err fault) tables each old between new a b are reads prints = record {
+  lines = tt;
+  refused = λ told. rw (are told) (inr (ended-after value fault each old between new a b reads (prints.refused (reads.device.tells ∙ told))));
+}
 
--- the lines before a table that can't be loaded are those of the tables before it
-before_first : (first some : Result (List ℕ) Fault) (before lines : List ℕ) → and_then first (λ own. result_map (λ more. own ++ more) some) ≡ Ok lines
-    → ((more : List ℕ) → some ≡ Ok more → before ≡ more) → lines_or_none first (λ own. own ++ before) ≡ lines
-before_first (Err fault) some before lines is later = cc
-before_first (Ok own) (Err fault) before lines is later = cc
-before_first (Ok own) (Ok more) before lines is later = rw (later more refl) cc
-
-lines_before-fault : (g : Geometry) (index : ℕ) (xs : List ℕ) (i : ℕ) (image : Image) (fault : Fault) (lines : List ℕ) → i < length xs → lines_of_tables g index (take i xs) image ≡ Ok lines
-    → lines_by g (index + i) (named_cluster g.cluster_bits (get_or xs i 0)) image ≡ Err fault → lines_before g index xs image ≡ lines
-lines_before-fault g index [] i image fault lines below is bad = absurd (omega (arith, below))
-lines_before-fault g index (x ∷ xs) zero image fault lines below is bad =
-    let same : index + 0 ≡ index = omega arith in
-    rw (rw same at bad) cc
-lines_before-fault g index (x ∷ xs) (suc i) image fault lines below is bad =
-    let place : index + suc i ≡ index + 1 + i = omega arith in
-    before_first (lines_by g index (named_cluster g.cluster_bits x) image) (lines_of_tables g (index + 1) (take i xs) image) (lines_before g (index + 1) xs image) lines is
-    (λ more some. lines_before-fault g (index + 1) xs i image fault more (omega (arith, below)) some (rw place at bad))
-
--- lines were printed, and then none: these stay
-kept-printed : (some : Result (List ℕ) Fault) (kept : List ℕ) (a b c : Option (List ℕ)) → IsOkAnd some (Appends a b) → Appends b c [] → ((lines : List ℕ) → some ≡ Ok lines → kept ≡ lines) → Appends a c kept
-kept-printed (Err fault) kept a b c printed none is = absurd printed
-kept-printed (Ok lines) kept a b c printed none is = rw (is lines refl) (rw (append-nil lines) at (Appends-trans a b c lines [] printed none))
-
--- a table that can't be loaded ends the list, and the lines of those before it stay
-pub refused-at : (g : Geometry) (xs : List ℕ) (i : ℕ) (image : Image) (fault : Fault) (a b c : Option (List ℕ)) → i < length xs → IsOkAnd (lines_of_tables g 0 (take i xs) image) (Appends a b)
-    → lines_by g i (named_cluster g.cluster_bits (get_or xs i 0)) image ≡ Err fault → Appends b c []
-    → (lines_of_tables g 0 xs image ≡ Err fault) × Appends a c (lines_before g 0 xs image)
-refused-at g xs i image fault a b c below printed bad none =
-    let from_zero : 0 + i ≡ i = omega arith in
-    let here : lines_by g (0 + i) (named_cluster g.cluster_bits (get_or xs i 0)) image ≡ Err fault = rw from_zero bad in
-    let some = lines_of_tables g 0 (take i xs) image in (
-      lines_of_tables-fault g 0 xs i image fault below (is_ok-printed some a b printed) here,
-      kept-printed some (lines_before g 0 xs image) a b c printed none (λ lines is. lines_before-fault g 0 xs i image fault lines below is here),
-    )
-
--- a header that can't be read, or an L1 table that can't be loaded, ends the list before its first line
-pub header-refused : {T : Type 0} (fault : Fault) (image : StorageState) (a : Option (List ℕ))
-    → (IsTrue image.tells → (fault ≡ Storage) ⊎ (fault ≡ NoMemory) ⊎ (header_of image.byte_at ≡ Err fault))
-    → PrintsSome {T = T} (Err fault) (lines_of_image image.byte_at) (image_lines_before_fault image.byte_at) image a a
-header-refused fault image a refused = PrintsSome-none fault (lines_of_image image.byte_at) (image_lines_before_fault image.byte_at) image a (λ told. elim (refused told) [
-  | inl storage ↦ inl storage
-  | inr (inl memory) ↦ inr (inl memory)
-  | inr (inr bad) ↦ inr (inr (rw bad refl, rw bad refl))
-])
-
-pub l1-refused : {T : Type 0} (fault : Fault) (header : HeaderRecord) (image : StorageState) (a : Option (List ℕ))
-    → (IsTrue image.tells → (fault ≡ Storage) ⊎ (fault ≡ NoMemory) ⊎ (loaded_l1_table (l1_place header) image.byte_at ≡ Err fault))
-    → PrintsSome {T = T} (Err fault) (listed_lines header image.byte_at) (lines_before_fault header image.byte_at) image a a
-l1-refused fault header image a refused = PrintsSome-none fault (listed_lines header image.byte_at) (lines_before_fault header image.byte_at) image a (λ told. elim (refused told) [
-  | inl storage ↦ inl storage
-  | inr (inl memory) ↦ inr (inl memory)
-  | inr (inr bad) ↦ inr (inr (rw bad refl, rw bad refl))
-])
+-- the tables of an image, after its header was loaded by who only reads
+pub PrintsList-after : {T V : Type 0} (value : V) (answer : Result T Fault) (tables same : Result TableTexts Fault) (old between new : StorageState) (a b : Option (List ℕ))
+    → (IsTrue old.tells → tables ≡ same) → OnlyReads (Ok value) old between → PrintsList answer same between new a b → PrintsList answer tables old new a b
+PrintsList-after value (Ok done) tables same old between new a b are reads prints = record {
+  lines = λ told. rw (are told) (prints.lines (reads.device.tells ∙ told));
+  refused = tt;
+}
+PrintsList-after value (Err fault) tables (Ok each) old between new a b are reads prints = record {
+  lines = tt;
+  refused = λ told. rw (are told) (elim (prints.refused (reads.device.tells ∙ told)) [
+    | inl none ↦ inl (rw (reads-calm value old between reads) at none)
+    | inr ended ↦ inr (ended-after value fault each old between new a b reads ended)
+  ]);
+}
+PrintsList-after value (Err fault) tables (Err refusal) old between new a b are reads prints = record {
+  lines = tt;
+  refused = λ told. rw (are told) (elim (prints.refused (reads.device.tells ∙ told)) [
+    | inl none ↦ inl (rw (reads-calm value old between reads) at none)
+    | inr ended ↦ absurd ended
+  ]);
+}

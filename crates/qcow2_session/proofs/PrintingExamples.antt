@@ -1,9 +1,9 @@
-use Rattle.std.proofs.Common.{◌≡◌, ◌++◌, [], Ok, Err, refl}
+use Rattle.std.proofs.Common.{◌≡◌, ◌++◌, ◌∷◌, [], Ok, Err, refl}
 use Rattle.std.specs.Prelude.{codes}
 use Rattle.std.specs.Fmt.{digits}
 use Rattle.qcow2_base.specs.declared.fault.Fault.TheVariants.{EntryReserved, NotQcow2}
 use Rattle.qcow2_session.proofs.SampleImage.{byte, computing, entry, laid, plain, sample}
-use Rattle.qcow2_session.specs.Commands.Listing.{image_lines_before_fault, lines_of_image}
+use Rattle.qcow2_session.specs.Commands.Listing.{tables_in}
 use Rattle.qcow2_session.specs.Commands.L2.{lines_of_l2_table}
 use Rattle.qcow2_session.specs.Commands.Running.{line_in_image, lines_of_info}
 
@@ -28,7 +28,7 @@ pub at_the_last_offset : line_in_image 18446744073709551615 (laid sample) ≡ Ok
 unfolding computing digits
 at_the_last_offset = refl
 
-pub list_of_the_sample : lines_of_image (laid sample) ≡ Ok (codes "0x600 data 0xa00 copied\n")
+pub list_of_the_sample : tables_in (laid sample) ≡ Ok (Ok (codes "0x600 data 0xa00 copied\n") ∷ [])
 unfolding computing digits
 list_of_the_sample = refl
 
@@ -37,28 +37,20 @@ unfolding computing digits
 table_of_the_sample = refl
 
 -- no L1 table, and no image
-pub list_of_no_table : lines_of_image (laid plain) ≡ Ok []
+pub list_of_no_table : tables_in (laid plain) ≡ Ok []
 unfolding computing
 list_of_no_table = refl
 
-pub list_of_no_image : lines_of_image (laid []) ≡ Err NotQcow2
+pub list_of_no_image : tables_in (laid []) ≡ Err NotQcow2
 unfolding computing
 list_of_no_image = refl
 
 -- the same table twice
-pub list_of_one_table_twice : lines_of_image (laid (byte 39 2 ++ entry 520 0x80 4 0 ++ sample)) ≡ Ok (codes "0x600 data 0xa00 copied\n0x8600 data 0xa00 copied\n")
+pub list_of_one_table_twice : tables_in (laid (byte 39 2 ++ entry 520 0x80 4 0 ++ sample)) ≡ Ok (Ok (codes "0x600 data 0xa00 copied\n") ∷ Ok (codes "0x8600 data 0xa00 copied\n") ∷ [])
 unfolding computing digits
 list_of_one_table_twice = refl
 
--- a second table behind the first one, whose last entry is none: the lines of the first stay
-pub list_with_a_bad_table : lines_of_image (laid (byte 39 2 ++ entry 520 0x80 6 0 ++ entry 2040 0 0 2 ++ sample)) ≡ Err EntryReserved
+-- a second table behind the first one, whose last entry is none
+pub list_with_a_bad_table : tables_in (laid (byte 39 2 ++ entry 520 0x80 6 0 ++ entry 2040 0 0 2 ++ sample)) ≡ Ok (Ok (codes "0x600 data 0xa00 copied\n") ∷ Err EntryReserved ∷ [])
 unfolding computing digits
 list_with_a_bad_table = refl
-
-pub kept_before_a_bad_table : image_lines_before_fault (laid (byte 39 2 ++ entry 520 0x80 6 0 ++ entry 2040 0 0 2 ++ sample)) ≡ codes "0x600 data 0xa00 copied\n"
-unfolding computing digits
-kept_before_a_bad_table = refl
-
-pub kept_of_no_image : image_lines_before_fault (laid []) ≡ []
-unfolding computing
-kept_of_no_image = refl

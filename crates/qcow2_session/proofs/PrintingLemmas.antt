@@ -1,7 +1,7 @@
 use Rattle.std.proofs.Common.{◌≡◌, ◌≢◌, ◌⊎◌, ℕ, ◌+◌, ◌<◌, List, [], ◌∷◌, ◌++◌, append-nil, flat_map, get_or, length, take, false, Option, Result, Ok, Err, OnOk, IsTrue, ap, inl, inr, refl, ◌∙◌}
 use Rattle.std.specs.Result.{IsOkUnless}
 use Rattle.std.specs.Io.KnownBytes.{Appends}
-use Rattle.std.proofs.KnownBytes.{Appends-nil, Appends-trans}
+use Rattle.std.proofs.KnownBytes.{Appends-trans}
 use Rattle.std.proofs.lemmas.Grind.{flat_map-append}
 use Rattle.std.proofs.lemmas.List.{take_more}
 use Rattle.std.proofs.lemmas.Bool.{cases_eq}
@@ -11,7 +11,7 @@ use Rattle.qcow2_base.specs.declared.fault.Fault.TheVariants.{NoMemory, Storage}
 use Rattle.qcow2_metadata.specs.Results.{result_map}
 use Rattle.qcow2_metadata.specs.Header.{HeaderRecord}
 use Rattle.qcow2_metadata.specs.Header.Open.{opened}
-use Rattle.qcow2_session.specs.Commands.{IsRefusal, Prints, PrintsSome}
+use Rattle.qcow2_session.specs.Commands.{IsReadFault, IsRefusal, Prints}
 
 -- what was printed before, and then these lines, if the print of these succeeds
 pub then_prints : {T E : Type 0} (answer : Result T E) (a b c : Option (List ℕ)) (lines more : List ℕ) → Appends a b lines → OnOk answer (Appends b c more) → OnOk answer (Appends a c (lines ++ more))
@@ -34,6 +34,15 @@ pub refusal-of : {V : Type 0} (fault : Fault) (meant : Result V Fault) (old new 
     → (IsTrue old.tells → (fault ≡ Storage) ⊎ (fault ≡ NoMemory) ⊎ (meant ≡ Err fault)) → (fault ≡ Storage → new.failures ≢ old.failures) → IsRefusal meant old new fault
 refusal-of fault meant old new refused failed told = elim (refused told) [
   | inl storage ↦ inr (inr (storage, inl (failed storage)))
+  | inr (inl memory) ↦ inr (inl memory)
+  | inr (inr bad) ↦ inl bad
+]
+
+-- the fault of a read
+pub read_fault-of : {V : Type 0} (fault : Fault) (meant : Result V Fault) (old new : StorageState)
+    → (fault ≡ Storage) ⊎ (fault ≡ NoMemory) ⊎ (meant ≡ Err fault) → (fault ≡ Storage → new.failures ≢ old.failures) → IsReadFault meant old new fault
+read_fault-of fault meant old new refused failed = elim refused [
+  | inl storage ↦ inr (inr (storage, failed storage))
   | inr (inl memory) ↦ inr (inl memory)
   | inr (inr bad) ↦ inl bad
 ]
@@ -79,28 +88,4 @@ Prints-after header (Ok value) meant same old between new a b is reads prints = 
 Prints-after header (Err fault) meant same old between new a b is reads prints = record {
   lines = tt;
   refused = λ told. rw (is told, ← reads-calm header old between reads) (prints.refused (reads.device.tells ∙ told));
-}
-
--- what is meant by the bytes, in other words
-pub PrintsSome-same : {T : Type 0} (answer : Result T Fault) (meant same : Result (List ℕ) Fault) (kept same_kept : List ℕ) (old new : StorageState) (a b : Option (List ℕ))
-    → (IsTrue old.tells → (meant ≡ same) × (kept ≡ same_kept)) → new.tells ≡ old.tells → PrintsSome answer same same_kept new a b → PrintsSome answer meant kept old a b
-PrintsSome-same (Ok value) meant same kept same_kept old new a b is tells prints = record {
-  lines = λ told. rw (is told).0 (prints.lines (tells ∙ told));
-  refused = tt;
-}
-PrintsSome-same (Err fault) meant same kept same_kept old new a b is tells prints = record {
-  lines = tt;
-  refused = λ told. rw ((is told).0, (is told).1) (prints.refused (tells ∙ told));
-}
-
--- a refusal before there is a line to print
-pub PrintsSome-none : {T : Type 0} (fault : Fault) (meant : Result (List ℕ) Fault) (kept : List ℕ) (image : StorageState) (a : Option (List ℕ))
-    → (IsTrue image.tells → (fault ≡ Storage) ⊎ (fault ≡ NoMemory) ⊎ ((meant ≡ Err fault) × (kept ≡ []))) → PrintsSome {T = T} (Err fault) meant kept image a a
-PrintsSome-none fault meant kept image a refused = record {
-  lines = tt;
-  refused = λ told. elim (refused told) [
-    | inl storage ↦ inl storage
-    | inr (inl memory) ↦ inr (inl memory)
-    | inr (inr bad) ↦ inr (inr (bad.0, rw bad.1 (Appends-nil a)))
-  ];
 }

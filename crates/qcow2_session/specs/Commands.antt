@@ -22,6 +22,12 @@ abbrev pub IsRefusal : {V : Type 0} → Result V Fault → StorageState → Stor
 IsRefusal meant old new fault = IsTrue old.tells → (meant ≡ Err fault) ⊎ (fault ≡ NoMemory)
     ⊎ ((fault ≡ Storage) × ((new.failures ≢ old.failures) ⊎ (is_ok meant ≡ true)))
 
+-- calls that read an image that was so before and is so now ended in this fault: it is the one that is meant, want of
+-- memory, or a failed call of the image
+abbrev pub IsReadFault : {V : Type 0} → Result V Fault → StorageState → StorageState → Fault → Type 0
+IsReadFault meant old new fault =
+    (meant ≡ Err fault) ⊎ (fault ≡ NoMemory) ⊎ ((fault ≡ Storage) × (new.failures ≢ old.failures))
+
 -- the fault is that of a failed output: the storage fault, where no call of the image failed
 abbrev pub IsOutputFault : Fault → StorageState → StorageState → Type 0
 IsOutputFault fault old new = (fault ≡ Storage) × (new.failures ≡ old.failures)
@@ -37,13 +43,6 @@ pub record PrintsLast {T O : Type 0} (answer : Result T Fault) (old new : Storag
 pub record Prints {T : Type 0} (answer : Result T Fault) (meant : Result (List ℕ) Fault) (old new : StorageState) (before after : Option (List ℕ)) : Type 0 where
   pub lines : OnOk answer (IsTrue old.tells → IsOkAnd meant (Appends before after))
   pub refused : IfErr answer (IsRefusal meant old new)
-
--- the same of a command that prints some lines before it knows that all are meant: where it is refused, the first of
--- them stay. The output may have failed also where a fault is meant
-pub record PrintsSome {T : Type 0} (answer : Result T Fault) (meant : Result (List ℕ) Fault) (first : List ℕ) (image : StorageState) (before after : Option (List ℕ)) : Type 0 where
-  pub lines : OnOk answer (IsTrue image.tells → IsOkAnd meant (Appends before after))
-  pub refused : IfErr answer (λ fault. IsTrue image.tells → (fault ≡ Storage) ⊎ (fault ≡ NoMemory)
-      ⊎ ((meant ≡ Err fault) × Appends before after first))
 
 -- what a change of a table or a block comes to: the cluster that it begins with, the numbers that it has then, whether
 -- they are written, and the lines that tell of it

@@ -1,52 +1,66 @@
-use Rattle.std.specs.Prelude.{ℕ, ◌+◌, List, [], ◌∷◌, ◌++◌, Option, Some, None, Result, Ok, Err}
-use Rattle.qcow2_base.specs.Storage.{Image}
+use Rattle.std.specs.Prelude.{◌≡◌, ◌⊎◌, ℕ, ◌+◌, List, [], ◌∷◌, ◌++◌, map, Option, Some, None, Result, Ok, IfErr, IsOk, IsOkAnd, IsTrue, OnOk}
+use Rattle.std.specs.List.{concat}
+use Rattle.std.specs.Io.KnownBytes.{Appends}
+use Rattle.qcow2_base.specs.Storage.{Image, StorageState}
 use Rattle.qcow2_base.specs.declared.fault.Fault.{Fault}
 use Rattle.qcow2_base.specs.declared.types.HostCluster.{HostCluster}
 use Rattle.qcow2_metadata.specs.Results.{and_then, result_map}
 use Rattle.qcow2_metadata.specs.Header.{Geometry, HeaderRecord, geometry_of}
 use Rattle.qcow2_metadata.specs.Header.Grammar.{header_of}
 use Rattle.qcow2_metadata.specs.Table.{loaded_l1_table, loaded_l2_table}
+use Rattle.qcow2_session.specs.Commands.{IsOutputFault, IsReadFault}
 use Rattle.qcow2_session.specs.Commands.Entries.{table_lines}
 use Rattle.qcow2_session.specs.Session.Lookups.{l1_place, named_cluster}
 use Rattle.qcow2_session.specs.declared.commands.entries.Label.TheVariants.{Offset}
 
--- the lines of the L2 table that an L1 entry names, or of none, or why it can't be loaded
-abbrev pub lines_by : Geometry → ℕ → Option HostCluster → Image → Result (List ℕ) Fault
-lines_by g index None image = Ok []
-lines_by g index (Some cluster) image = result_map (table_lines Offset g index) (loaded_l2_table g cluster image)
+-- of tables one after another, the lines of each, or why it can't be loaded
+abbrev pub TableTexts : Type 0
+TableTexts = List (Result (List ℕ) Fault)
 
--- the lines of the L2 tables that L1 entries name, from an index on, or why one of them can't be loaded
-abbrev pub lines_of_tables : Geometry → ℕ → List ℕ → Image → Result (List ℕ) Fault
-lines_of_tables g index [] image = Ok []
-lines_of_tables g index (v ∷ vs) image =
-    and_then (lines_by g index (named_cluster g.cluster_bits v) image) (λ lines.
-    result_map (λ rest. lines ++ rest) (lines_of_tables g (index + 1) vs image))
+-- the L2 table that the L1 entry at an index names, if it names one
+abbrev pub table_by : Geometry → ℕ → Option HostCluster → Image → TableTexts
+table_by g index None image = []
+table_by g index (Some cluster) image =
+    result_map (table_lines Offset g index) (loaded_l2_table g cluster image) ∷ []
 
--- what follows from what was read, or no lines where that was refused
-abbrev pub lines_or_none : {V : Type 0} → Result V Fault → (V → List ℕ) → List ℕ
-lines_or_none (Ok value) next = next value
-lines_or_none (Err fault) next = []
+-- the L2 tables that L1 entries name, from an index on
+abbrev pub tables_from : Geometry → ℕ → List ℕ → Image → TableTexts
+tables_from g index [] image = []
+tables_from g index (v ∷ vs) image =
+    table_by g index (named_cluster g.cluster_bits v) image ++ tables_from g (index + 1) vs image
 
--- the lines of the L2 tables that L1 entries name, from an index on, before the first that can't be loaded
-abbrev pub lines_before : Geometry → ℕ → List ℕ → Image → List ℕ
-lines_before g index [] image = []
-lines_before g index (v ∷ vs) image =
-    lines_or_none (lines_by g index (named_cluster g.cluster_bits v) image) (λ lines. lines ++ lines_before g (index + 1) vs image)
+-- the L2 tables of an image with this header, or why its L1 table can't be loaded
+abbrev pub tables_of : HeaderRecord → Image → Result TableTexts Fault
+tables_of header image = result_map (λ l1. tables_from (geometry_of header) 0 l1 image)
+    (loaded_l1_table (l1_place header) image)
 
--- the lines of the command `list` for an image with this header: what all of its L2 tables map
-abbrev pub listed_lines : HeaderRecord → Image → Result (List ℕ) Fault
-listed_lines header image = and_then (loaded_l1_table (l1_place header) image) (λ l1.
-    lines_of_tables (geometry_of header) 0 l1 image)
+-- the L2 tables of an image, by its bytes alone
+abbrev pub tables_in : Image → Result TableTexts Fault
+tables_in image = and_then (header_of image) (λ header. tables_of header image)
 
--- those of its lines that stay where a table is refused: none where that is the L1 table
-abbrev pub lines_before_fault : HeaderRecord → Image → List ℕ
-lines_before_fault header image = lines_or_none (loaded_l1_table (l1_place header) image) (λ l1.
-    lines_before (geometry_of header) 0 l1 image)
+-- all tables can be loaded, and the output got their lines
+abbrev pub PrintsAllTables : Option (List ℕ) → Option (List ℕ) → TableTexts → Type 0
+PrintsAllTables before after tables =
+    (printed : List (List ℕ)) × (tables ≡ map Ok printed) × Appends before after (concat printed)
 
--- the lines of the command `list`, by an image's bytes alone
-abbrev pub lines_of_image : Image → Result (List ℕ) Fault
-lines_of_image image = and_then (header_of image) (λ header. listed_lines header image)
+-- the print of tables ended in this fault at one of them, where all before it can be loaded: it can't be read, and the
+-- output got the lines of those before it, or it can, and the output failed. Of what that got then, nothing is said
+pub record PrintsTablesBefore (fault : Fault) (old new : StorageState) (before after : Option (List ℕ)) (tables : TableTexts) : Type 0 where
+  pub printed : List (List ℕ)
+  pub table : Result (List ℕ) Fault
+  pub rest : TableTexts
+  pub are : tables ≡ map Ok printed ++ table ∷ rest
+  pub why : (IsReadFault table old new fault × Appends before after (concat printed))
+      ⊎ (IsOutputFault fault old new × IsOk table)
 
--- those of its lines that stay where a part of the image is refused: none where that is the header
-abbrev pub image_lines_before_fault : Image → List ℕ
-image_lines_before_fault image = lines_or_none (header_of image) (λ header. lines_before_fault header image)
+-- the print of tables ended in this answer
+pub record PrintsTables {T : Type 0} (answer : Result T Fault) (tables : TableTexts) (old new : StorageState) (before after : Option (List ℕ)) : Type 0 where
+  pub lines : OnOk answer (IsTrue old.tells → PrintsAllTables before after tables)
+  pub refused : IfErr answer (λ fault. IsTrue old.tells → PrintsTablesBefore fault old new before after tables)
+
+-- the command `list` of the L2 tables of an image ended in this answer: it printed all of them, or it was refused. Where
+-- they can't be told at all nothing is printed, else the lines of those before the one at which it ended
+pub record PrintsList {T : Type 0} (answer : Result T Fault) (tables : Result TableTexts Fault) (old new : StorageState) (before after : Option (List ℕ)) : Type 0 where
+  pub lines : OnOk answer (IsTrue old.tells → IsOkAnd tables (PrintsAllTables before after))
+  pub refused : IfErr answer (λ fault. IsTrue old.tells → (IsReadFault tables old new fault × Appends before after [])
+      ⊎ IsOkAnd tables (PrintsTablesBefore fault old new before after))

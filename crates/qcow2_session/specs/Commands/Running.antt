@@ -9,14 +9,14 @@ use Rattle.qcow2_metadata.specs.Header.Grammar.{header_of}
 use Rattle.qcow2_metadata.specs.Header.Open.{is_rewritten, opened, opened_text}
 use Rattle.qcow2_metadata.specs.Header.Text.{IsSettled, IsWrittenHeader}
 use Rattle.qcow2_metadata.specs.Table.{l2_table_at, place_fault}
-use Rattle.qcow2_session.specs.Commands.{ChangeEnd, ClusterFormat, Prints, PrintsChange, PrintsLast, PrintsSome}
+use Rattle.qcow2_session.specs.Commands.{ChangeEnd, ClusterFormat, Prints, PrintsChange, PrintsLast}
 use Rattle.qcow2_session.specs.Commands.At.{line_at}
 use Rattle.qcow2_session.specs.Commands.Counting.{block_format, end_of_steps}
 use Rattle.qcow2_session.specs.Commands.Editing.{end_of_edits, table_format}
 use Rattle.qcow2_session.specs.Commands.Extents.{PrintsExtents, disk_in}
 use Rattle.qcow2_session.specs.Commands.Info.{info_lines}
 use Rattle.qcow2_session.specs.Commands.L2.{lines_of_l2_table}
-use Rattle.qcow2_session.specs.Commands.Listing.{image_lines_before_fault, lines_of_image}
+use Rattle.qcow2_session.specs.Commands.Listing.{PrintsList, tables_in}
 use Rattle.qcow2_session.specs.declared.commands.words.Command.{Command}
 use Rattle.qcow2_session.specs.declared.commands.words.Command.TheVariants.{CountReferences, EditEntries, ListTable, ListTables, PrintExtents, PrintInfo, PrintMapping}
 
@@ -82,8 +82,7 @@ Runs (ListTable cluster_bits cluster) answer old new before after =
     Prints answer (lines_of_l2_table cluster_bits cluster old.byte_at) old new before after
 Runs PrintInfo answer old new before after = Prints answer (lines_of_info old.byte_at) old new before after
 Runs ListTables answer old new before after =
-    PrintsSome answer (lines_of_image old.byte_at) (image_lines_before_fault old.byte_at) old before after
-    × ReadsFor (IsErrOf answer Storage) old new
+    PrintsList answer (tables_in old.byte_at) old new before after × ReadsFor (IsErrOf answer Storage) old new
 Runs (PrintMapping guest_offset) answer old new before after =
     Prints answer (line_in_image guest_offset.0 old.byte_at) old new before after
 Runs (PrintExtents format) answer old new before after =

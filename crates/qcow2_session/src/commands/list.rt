@@ -1,11 +1,10 @@
 //! The command `list`: what all L2 tables of an image map.
 
-ghost use Rattle.std.specs.Prelude.{◌≡◌, ◌<◌, ◌≤◌, [], length, IsErrOf, slice_index};
+ghost use Rattle.std.specs.Prelude.{◌≡◌, ◌<◌, ◌≤◌, length, IsErrOf, slice_index};
 ghost use Rattle.qcow2_base.specs.Storage.{ReadsFor};
 ghost use Rattle.qcow2_base.specs.declared.fault.Fault.TheVariants.{Storage as StorageFailed};
 ghost use Rattle.qcow2_metadata.specs.Header.{geometry_of};
-ghost use Rattle.qcow2_session.specs.Commands.{PrintsSome};
-ghost use Rattle.qcow2_session.specs.Commands.Listing.{lines_before, lines_by, lines_of_tables, listed_lines, lines_before_fault};
+ghost use Rattle.qcow2_session.specs.Commands.Listing.{PrintsList, PrintsTables, table_by, tables_from, tables_of};
 ghost use Rattle.qcow2_session.specs.Session.Lookups.{named_cluster};
 
 use super::entries::{Label, print_entries};
@@ -28,9 +27,8 @@ pub fn list_tables<S: Storage, O: Write>(
     header: &Header,
     out: &mut O,
 ) -> Result<(), Fault>
-    ensures prints { PrintsSome result (listed_lines header.now (S.state image.old).byte_at)
-        (lines_before_fault header.now (S.state image.old).byte_at) (S.state image.old)
-        (O.contents out.old) (O.contents out.new) }
+    ensures prints { PrintsList result (tables_of header.now (S.state image.old).byte_at)
+        (S.state image.old) (S.state image.new) (O.contents out.old) (O.contents out.new) }
     ensures storage { ReadsFor (IsErrOf result StorageFailed) (S.state image.old) (S.state image.new) }
 {
     let l1_table = load_l1_table(alloc, image, header)?;
@@ -47,10 +45,9 @@ fn print_tables<S: Storage, O: Write>(
 ) -> Result<(), Fault>
     requires cluster_bits { header.now.v2.cluster_bits ≡ l1_table.now.geometry.cluster_bits }
     requires entries { length l1_table.now.numbers ≤ 4194304 }
-    ensures prints { PrintsSome result
-        (lines_of_tables (geometry_of header.now) 0 l1_table.now.numbers (S.state image.old).byte_at)
-        (lines_before (geometry_of header.now) 0 l1_table.now.numbers (S.state image.old).byte_at)
-        (S.state image.old) (O.contents out.old) (O.contents out.new) }
+    ensures prints { PrintsTables result
+        (tables_from (geometry_of header.now) 0 l1_table.now.numbers (S.state image.old).byte_at)
+        (S.state image.old) (S.state image.new) (O.contents out.old) (O.contents out.new) }
     ensures storage { ReadsFor (IsErrOf result StorageFailed) (S.state image.old) (S.state image.new) }
 {
     for index in 0..l1_table.entries() {
@@ -71,9 +68,9 @@ fn print_table_of<S: Storage, O: Write>(
     requires cluster_bits { header.now.v2.cluster_bits ≡ l1_table.now.geometry.cluster_bits }
     requires index { index < 4194304 }
     ensures prints { let cb = header.now.v2.cluster_bits in
-        PrintsSome result (lines_by (geometry_of header.now) index
-        (named_cluster cb (slice_index l1_table.now.numbers index)) (S.state image.old).byte_at) []
-        (S.state image.old) (O.contents out.old) (O.contents out.new) }
+        PrintsTables result (table_by (geometry_of header.now) index
+        (named_cluster cb (slice_index l1_table.now.numbers index)) (S.state image.old).byte_at)
+        (S.state image.old) (S.state image.new) (O.contents out.old) (O.contents out.new) }
     ensures storage { ReadsFor (IsErrOf result StorageFailed) (S.state image.old) (S.state image.new) }
 {
     let Some(cluster) = named_cluster(l1_table, index) else {

@@ -1,11 +1,10 @@
 use Rattle.std.proofs.Common.{◌≡◌, Ok, refl, rules}
+use Rattle.std.proofs.lemmas.Result.{err_from_is_err_and}
 use Rattle.qcow2_metadata.specs.Header.{geometry_of}
 use Rattle.qcow2_metadata.specs.Table.{loaded_l1_table}
-use Rattle.std.proofs.lemmas.Result.{err_from_is_err_and}
-use Rattle.qcow2_session.proofs.ListingLemmas.{l1-refused}
+use Rattle.qcow2_session.proofs.ListingLemmas.{PrintsList-none, PrintsList-tables}
 use Rattle.qcow2_session.proofs.LookupsLemmas.{reads-then_for}
-use Rattle.qcow2_session.proofs.PrintingLemmas.{PrintsSome-same}
-use Rattle.qcow2_session.specs.Commands.Listing.{lines_before, lines_before_fault, lines_of_tables, listed_lines}
+use Rattle.qcow2_session.specs.Commands.Listing.{tables_from, tables_of}
 use Rattle.qcow2_session.specs.Session.Lookups.{l1_place}
 use Rattle.qcow2_session.proofs.commands.list.list_tables.Goals as goal
 
@@ -18,13 +17,13 @@ returns-clause-prints g c =
     let reads = c.in_ok-l1_table.ensures.storage in
     let header = c.args.header.now in
     let numbers = c.in_ok-l1_table.l1_table.numbers in
-    PrintsSome-same c.print_tables.result (listed_lines header image) (lines_of_tables (geometry_of header) 0 numbers image) (lines_before_fault header image) (lines_before (geometry_of header) 0 numbers image) _ (g.S.Storage.state c.load_l1_table.new.image) _ _
+    PrintsList-tables c.in_ok-l1_table.l1_table c.print_tables.result (tables_of header image) (tables_from (geometry_of header) 0 numbers image) _ (g.S.Storage.state c.load_l1_table.new.image) _ _ _
     (λ told.
     let loaded : loaded_l1_table (l1_place header) image ≡ Ok numbers = search rules in
-    (rw loaded refl, rw loaded refl))
-    reads.device.tells (rw reads.bytes at c.print_tables.ensures.prints)
+    rw loaded refl)
+    reads (rw reads.bytes at c.print_tables.ensures.prints)
 
 pub returns-in_err-l1_table-clause-prints : goal.returns-in_err-l1_table-clause-prints
 returns-in_err-l1_table-clause-prints g c =
     let left = err_from_is_err_and c.from_residual.result c.from_residual.ensures.1 in
-    rw (left.1, left.2) (l1-refused _ c.args.header.now (g.S.Storage.state c.args.image.now) _ (λ told. search rules))
+    rw (left.1, left.2) (PrintsList-none _ (tables_of c.args.header.now (g.S.Storage.state c.args.image.now).byte_at) (g.S.Storage.state c.args.image.now) _ _ (λ told. search rules) (λ storage. search rules))

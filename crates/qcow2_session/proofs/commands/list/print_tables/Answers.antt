@@ -1,9 +1,9 @@
-use Rattle.std.proofs.Common.{◌≡◌, ◌+◌, ◌<◌, get_or, length, take, inl, inr, ◌∙◌, arith, rules}
-use Rattle.std.proofs.lemmas.List.{length-take, take_more}
+use Rattle.std.proofs.Common.{◌≡◌, ◌+◌, ◌<◌, ◌++◌, ◌∷◌, drop, get_or, length, arith, rules, add-one, ◌∙◌}
+use Rattle.std.proofs.Math.Seq.{drop-cons}
 use Rattle.std.proofs.lemmas.Result.{err_from_is_err_and}
 use Rattle.qcow2_metadata.specs.Header.{geometry_of}
-use Rattle.qcow2_session.proofs.ListingLemmas.{lines_of_tables-more, printed-table, refused-at}
-use Rattle.qcow2_session.specs.Commands.Listing.{lines_by, lines_of_tables}
+use Rattle.qcow2_session.proofs.ListingLemmas.{PrintsTablesBefore-after, tables-printed, tables-known}
+use Rattle.qcow2_session.specs.Commands.Listing.{table_by, tables_from}
 use Rattle.qcow2_session.specs.Session.Lookups.{named_cluster}
 use Rattle.qcow2_session.proofs.commands.list.print_tables.Goals as goal
 
@@ -15,14 +15,17 @@ returns-in_err-print_table_of-clause-prints g c =
     let image = (g.S.Storage.state c.args.image.now).byte_at in
     let index = c.loop-index.index in
     let below : index < length numbers = omega arith in
+    let next : drop index numbers ≡ get_or numbers index 0 ∷ drop (index + 1) numbers = rw add-one (drop-cons numbers index 0 below) in
     let reads = c.loop-index.invariant.reads in
+    let calm : (g.S.Storage.state c.loop-index.image).failures ≡ (g.S.Storage.state c.args.image.now).failures = search rules in
     rw (left.1, left.2) (record {
       lines = tt;
-      refused = λ told. elim (c.in_err-print_table_of.ensures.prints.refused (reads.device.tells ∙ told)) [
-        | inl storage ↦ inl storage
-        | inr (inl memory) ↦ inr (inl memory)
-        | inr (inr bad) ↦ inr (inr (refused-at geometry numbers index image _ _ _ _ below (c.loop-index.invariant.printed told) (rw reads.bytes at bad.0) bad.1))
-      ];
+      refused = λ told.
+          let before = c.loop-index.invariant.printed told in
+          let ended = rw reads.bytes at (c.in_err-print_table_of.ensures.prints.refused (reads.device.tells ∙ told)) in
+          let here = table_by geometry index (named_cluster geometry.cluster_bits (get_or numbers index 0)) image in
+          let rest = tables_from geometry (index + 1) (drop (index + 1) numbers) image in
+          PrintsTablesBefore-after _ before.0 here rest (tables_from geometry 0 numbers image) _ _ _ _ _ _ (rw next at before.1) before.2 calm ended;
     })
 
 pub loop-index-preserved : goal.loop-index-preserved
@@ -32,13 +35,16 @@ loop-index-preserved g c =
     let image = (g.S.Storage.state c.args.image.now).byte_at in
     let index = c.loop-index.index in
     let below : index < length numbers = omega arith in
+    let next : drop index numbers ≡ get_or numbers index 0 ∷ drop (index + 1) numbers = rw add-one (drop-cons numbers index 0 below) in
     let reads = c.loop-index.invariant.reads in
-    let place : 0 + length (take index numbers) ≡ index = omega (arith, length-take index numbers, below) in
     record {
       printed = λ told.
+          let before = c.loop-index.invariant.printed told in
           let here = rw reads.bytes at (c.in_ok-print_table_of.ensures.prints.lines (reads.device.tells ∙ told)) in
-          rw (take_more numbers index 0 below, lines_of_tables-more geometry 0 (take index numbers) (get_or numbers index 0) image, place)
-          (printed-table (lines_of_tables geometry 0 (take index numbers) image) (lines_by geometry index (named_cluster geometry.cluster_bits (get_or numbers index 0)) image) _ _ _
-          (c.loop-index.invariant.printed told) here);
+          let rest = tables_from geometry (index + 1) (drop (index + 1) numbers) image in (
+            before.0 ++ here.0,
+            tables-known before.0 here.0 rest (tables_from geometry 0 numbers image) (rw here.1 at (rw next at before.1)),
+            tables-printed before.0 here.0 _ _ _ before.2 here.2,
+          );
       reads = search rules;
     }

@@ -2,9 +2,9 @@ use Rattle.std.proofs.Common.{◌≡◌, Ok, ap, refl, rules}
 use Rattle.std.proofs.lemmas.Result.{err_from_is_err_and}
 use Rattle.qcow2_metadata.specs.Results.{result_map}
 use Rattle.qcow2_metadata.specs.Header.Grammar.{header_of}
-use Rattle.qcow2_session.proofs.ListingLemmas.{header-refused}
+use Rattle.qcow2_session.proofs.ListingLemmas.{PrintsList-after, PrintsList-none}
 use Rattle.qcow2_session.proofs.LookupsLemmas.{reads-then_for}
-use Rattle.qcow2_session.proofs.PrintingLemmas.{Prints-after, Prints-lines, PrintsSome-same, header_read}
+use Rattle.qcow2_session.proofs.PrintingLemmas.{Prints-after, Prints-lines, header_read}
 use Rattle.qcow2_session.proofs.PrintedExtentsLemmas.{PrintsExtents-after, PrintsExtents-none}
 use Rattle.qcow2_session.proofs.RunningLemmas.{opened-changes}
 use Rattle.qcow2_session.specs.Commands.At.{line_at}
@@ -12,7 +12,7 @@ use Rattle.qcow2_session.specs.Commands.Counting.{block_format, end_of_steps}
 use Rattle.qcow2_session.specs.Commands.Editing.{end_of_edits, table_format}
 use Rattle.qcow2_session.specs.Commands.Extents.{disk_in, disk_of}
 use Rattle.qcow2_session.specs.Commands.Info.{info_lines}
-use Rattle.qcow2_session.specs.Commands.Listing.{lines_before_fault, image_lines_before_fault, lines_of_image, listed_lines}
+use Rattle.qcow2_session.specs.Commands.Listing.{tables_in, tables_of}
 use Rattle.qcow2_session.specs.Commands.Running.{line_in_image}
 use Rattle.qcow2_session.proofs.commands.running.run.Goals as goal
 
@@ -31,7 +31,9 @@ pub returns-in_err-header-in-ListTables-clause-runs : goal.returns-in_err-header
 returns-in_err-header-in-ListTables-clause-runs g c =
     let exit = err_from_is_err_and c.from_residual-in_err-header-in-ListTables.result c.from_residual-in_err-header-in-ListTables.ensures.1 in
     let reads = c.in_err-header-in-ListTables.ensures.storage.reads refl in
-    rw (c.in-ListTables.is, exit.1, exit.2) (header-refused _ (g.S.Storage.state c.args.image.now) _ (λ told. search rules), search rules)
+    let tables = tables_in (g.S.Storage.state c.args.image.now).byte_at in
+    rw (c.in-ListTables.is, exit.1, exit.2)
+    (PrintsList-none _ tables (g.S.Storage.state c.args.image.now) _ _ (λ told. search rules) (λ storage. search rules), search rules)
 
 pub returns-in_ok-header-in-ListTables-clause-runs : goal.returns-in_ok-header-in-ListTables-clause-runs
 returns-in_ok-header-in-ListTables-clause-runs g c =
@@ -39,11 +41,11 @@ returns-in_ok-header-in-ListTables-clause-runs g c =
     let header = c.in_ok-header-in-ListTables.header in
     let reads = c.in_ok-header-in-ListTables.ensures.storage.reads refl in
     rw c.in-ListTables.is (
-      PrintsSome-same c.list_tables.result (lines_of_image image) (listed_lines header image) (image_lines_before_fault image) (lines_before_fault header image) _ (g.S.Storage.state c.load-in-ListTables.new.image) _ _
+      PrintsList-after header c.list_tables.result (tables_in image) (tables_of header image) _ (g.S.Storage.state c.load-in-ListTables.new.image) _ _ _
           (λ told.
           let read : header_of image ≡ Ok header = header_read (header_of image) header (c.in_ok-header-in-ListTables.ensures.exact told) in
-          (rw read refl, rw read refl))
-          reads.device.tells (rw reads.bytes at c.list_tables.ensures.prints),
+          rw read refl)
+          reads (rw reads.bytes at c.list_tables.ensures.prints),
       reads-then_for _ _ _ _ reads c.list_tables.ensures.storage,
     )
 
