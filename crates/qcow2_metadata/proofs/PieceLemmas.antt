@@ -4,7 +4,7 @@ use Rattle.std.proofs.lemmas.List.{get_or-append_right, get_or-replicate, get_or
 use Rattle.std.proofs.lemmas.Bool.{cases_lt}
 use Rattle.std.proofs.lemmas.Option.{slice_get-get_or}
 use Rattle.qcow2_base.specs.Storage.{Image, IsBytes, be, be_of_same, image_of}
-use Rattle.qcow2_metadata.specs.Pieces.{Stand, number_bytes, piece_bytes}
+use Rattle.qcow2_metadata.specs.Pieces.{Stand, number_bytes}
 use Rattle.qcow2_metadata.specs.Table.{IsTorn, table_numbers}
 use Rattle.qcow2_metadata.proofs.PackingLemmas.{byte_of_be, counter_at-packed}
 use Rattle.qcow2_metadata.proofs.RefblockLemmas.{stand-decoded}

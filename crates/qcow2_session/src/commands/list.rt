@@ -1,6 +1,7 @@
 //! The command `list`: what all L2 tables of an image map.
 
 ghost use Rattle.std.specs.Prelude.{◌≡◌, ◌<◌, ◌≤◌, length, IsErrOf, slice_index};
+ghost use Rattle.qcow2_base.specs.Format.{most_l1_entries};
 ghost use Rattle.qcow2_base.specs.Storage.{ReadsFor};
 ghost use Rattle.qcow2_base.specs.declared.fault.Fault.TheVariants.{Storage as StorageFailed};
 ghost use Rattle.qcow2_metadata.specs.Header.{geometry_of};
@@ -44,7 +45,7 @@ fn print_tables<S: Storage, O: Write>(
     out: &mut O,
 ) -> Result<(), Fault>
     requires cluster_bits { header.now.v2.cluster_bits ≡ l1_table.now.geometry.cluster_bits }
-    requires entries { length l1_table.now.numbers ≤ 4194304 }
+    requires entries { length l1_table.now.numbers ≤ most_l1_entries }
     ensures prints { PrintsTables result
         (tables_from (geometry_of header.now) 0 l1_table.now.numbers (S.state image.old).byte_at)
         (S.state image.old) (S.state image.new) (O.contents out.old) (O.contents out.new) }
@@ -66,7 +67,7 @@ fn print_table_of<S: Storage, O: Write>(
     out: &mut O,
 ) -> Result<(), Fault>
     requires cluster_bits { header.now.v2.cluster_bits ≡ l1_table.now.geometry.cluster_bits }
-    requires index { index < 4194304 }
+    requires index { index < most_l1_entries }
     ensures prints { let cb = header.now.v2.cluster_bits in
         PrintsTables result (table_by (geometry_of header.now) index
         (named_cluster cb (slice_index l1_table.now.numbers index)) (S.state image.old).byte_at)

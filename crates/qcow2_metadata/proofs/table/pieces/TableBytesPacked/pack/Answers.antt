@@ -1,5 +1,4 @@
 use Rattle.std.proofs.Common.{◌≡◌, ◌*◌, arith}
-use Rattle.qcow2_metadata.specs.Pieces.{piece_bytes}
 use Rattle.qcow2_metadata.proofs.PieceLemmas.{piece_bytes}
 use Rattle.qcow2_metadata.proofs.table.pieces.TableBytesPacked.pack.Goals as goal
 
