@@ -1,4 +1,4 @@
-use Rattle.std.proofs.Common.{◌≡◌, ◌≢◌, ◌⊎◌, ℕ, IsTrue, Result, Ok, Err, inl, inr, List, [], ◌∷◌, ◌++◌, append-nil, Option, refl, ◌∙◌}
+use Rattle.std.proofs.Common.{◌≡◌, ◌≢◌, ◌⊎◌, ℕ, IsTrue, Result, Ok, Err, inl, List, [], ◌∷◌, ◌++◌, append-nil, Option, ◌∙◌}
 use Rattle.std.specs.Io.KnownBytes.{Appends}
 use Rattle.std.proofs.KnownBytes.{Appends-nil, Appends-trans}
 use Rattle.std.proofs.lemmas.Grind.{flat_map-append}
@@ -6,11 +6,10 @@ use Rattle.qcow2_base.specs.Storage.{OnlyReads, StorageState}
 use Rattle.qcow2_base.specs.declared.fault.Fault.{Fault}
 use Rattle.qcow2_base.specs.declared.fault.Fault.TheVariants.{NoMemory, Storage}
 use Rattle.qcow2_metadata.specs.Header.{HeaderRecord}
-use Rattle.qcow2_metadata.specs.Header.Grammar.{header_of}
-use Rattle.qcow2_session.specs.Commands.Extents.{Disk, PrintsExtents, disk_in, extent_text, extents_text}
+use Rattle.qcow2_session.specs.Commands.Extents.{Disk, PrintsExtents, extent_text, extents_text}
 use Rattle.qcow2_session.specs.declared.commands.extents.ExtentFormat.{ExtentFormat}
 use Rattle.qcow2_session.specs.declared.session.extents.Extent.{Extent}
-use Rattle.qcow2_session.proofs.PrintingLemmas.{reads-calm, refusal-of}
+use Rattle.qcow2_session.proofs.PrintingLemmas.{read_fault-of, reads-calm}
 
 -- the text of extents, and of one more
 pub extents_text-more : (format : ExtentFormat) (extents : List Extent) (extent : Extent) (a b c : Option (List ℕ))
@@ -21,19 +20,12 @@ extents_text-more format extents extent a b c before here =
     (Appends-trans a b c _ _ before here)
 
 -- a disk that can't be told: nothing is printed
-pub PrintsExtents-none : {T : Type 0} (fault : Fault) (format : ExtentFormat) (old new : StorageState) (a : Option (List ℕ))
-    → (IsTrue old.tells → (fault ≡ Storage) ⊎ (fault ≡ NoMemory) ⊎ (header_of old.byte_at ≡ Err fault))
-    → (fault ≡ Storage → new.failures ≢ old.failures) → PrintsExtents {T = T} (Err fault) format (disk_in old.byte_at) old new a a
-PrintsExtents-none fault format old new a refused failed = record {
+pub PrintsExtents-none : {T : Type 0} (fault : Fault) (format : ExtentFormat) (disk : Result Disk Fault) (old new : StorageState) (a : Option (List ℕ))
+    → (IsTrue old.tells → (fault ≡ Storage) ⊎ (fault ≡ NoMemory) ⊎ (disk ≡ Err fault))
+    → (fault ≡ Storage → new.failures ≢ old.failures) → PrintsExtents {T = T} (Err fault) format disk old new a a
+PrintsExtents-none fault format disk old new a refused failed = record {
   extents = tt;
-  refused = λ told. inl (
-    refusal-of fault (disk_in old.byte_at) old new (λ told. elim (refused told) [
-      | inl storage ↦ inl storage
-      | inr (inl memory) ↦ inr (inl memory)
-      | inr (inr bad) ↦ inr (inr (rw bad refl))
-    ]) failed,
-    Appends-nil a,
-  );
+  refused = λ told. inl (read_fault-of fault disk old new (refused told) failed, Appends-nil a);
 }
 
 -- the disk of an image, after a header was loaded by who only reads
@@ -45,5 +37,5 @@ PrintsExtents-after header (Ok value) format disk same old between new a b is re
 }
 PrintsExtents-after header (Err fault) format disk same old between new a b is reads prints = record {
   extents = tt;
-  refused = λ told. rw (is told, ← reads-calm header old between reads, ← reads.device.tells) (prints.refused (reads.device.tells ∙ told));
+  refused = λ told. rw (is told, ← reads-calm header old between reads) (prints.refused (reads.device.tells ∙ told));
 }

@@ -9,7 +9,7 @@ use Rattle.qcow2_metadata.specs.Header.Grammar.{header_of}
 use Rattle.qcow2_metadata.specs.Table.{loaded_l1_table}
 use Rattle.qcow2_session.specs.Session.Extents.{AreExtents, AreExtentsBefore, Contents, ExtentsState, IsMap, contents_for, contents_of}
 use Rattle.qcow2_session.specs.Session.Lookups.{l1_place}
-use Rattle.qcow2_session.specs.Commands.{IsOutputFault, IsRefusal}
+use Rattle.qcow2_session.specs.Commands.{IsOutputFault, IsReadFault}
 use Rattle.qcow2_session.specs.Lines.{offset_text}
 use Rattle.qcow2_session.specs.declared.commands.extents.ExtentFormat.{ExtentFormat}
 use Rattle.qcow2_session.specs.declared.commands.extents.ExtentFormat.TheVariants.{Json, Lines}
@@ -127,5 +127,5 @@ pub record PrintsRest {T : Type 0} (answer : Result T Fault) (format : ExtentFor
 -- is said
 pub record PrintsExtents {T : Type 0} (answer : Result T Fault) (format : ExtentFormat) (disk : Result Disk Fault) (old new : StorageState) (before after : Option (List ℕ)) : Type 0 where
   pub extents : OnOk answer (IsTrue old.tells → IsOkAnd disk (PrintsMap format before after))
-  pub refused : IfErr answer (λ fault. IsTrue old.tells → (IsRefusal disk old new fault × Appends before after [])
+  pub refused : IfErr answer (λ fault. IsTrue old.tells → (IsReadFault disk old new fault × Appends before after [])
       ⊎ IsOkAnd disk (λ told. IsOutputFault fault old new ⊎ PrintsMapBefore format fault before after told))

@@ -65,8 +65,9 @@ pub returns-in_err-header-in-PrintExtents-clause-runs : goal.returns-in_err-head
 returns-in_err-header-in-PrintExtents-clause-runs g c =
     let exit = err_from_is_err_and c.from_residual-in_err-header-in-PrintExtents.result c.from_residual-in_err-header-in-PrintExtents.ensures.1 in
     let reads = c.in_err-header-in-PrintExtents.ensures.storage.reads refl in
+    let disk = disk_in (g.S.Storage.state c.args.image.now).byte_at in
     rw (c.in-PrintExtents.is, exit.1, exit.2)
-    (PrintsExtents-none _ c.in-PrintExtents.format (g.S.Storage.state c.args.image.now) _ _ (λ told. search rules) (λ storage. search rules), search rules)
+    (PrintsExtents-none _ c.in-PrintExtents.format disk (g.S.Storage.state c.args.image.now) _ _ (λ told. search rules) (λ storage. search rules), search rules)
 
 pub returns-in_ok-header-in-PrintExtents-clause-runs : goal.returns-in_ok-header-in-PrintExtents-clause-runs
 returns-in_ok-header-in-PrintExtents-clause-runs g c =
