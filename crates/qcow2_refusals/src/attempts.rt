@@ -153,12 +153,19 @@ fn takes_back(numbers: &mut [u64], first: &[u64], word: &str) -> bool {
 
 // Whether the text, where / stands for a new line, begins with what was told.
 fn begins_with(text: &[u8], told: &[u8]) -> bool {
-    for index in 0..told.len() {
-        if text.get(index).copied() != Some(shown(told[index])) {
+    for (index, byte) in told.iter().enumerate() {
+        if !stands_at(text, index, shown(*byte)) {
             return false;
         }
     }
     true
+}
+
+fn stands_at(text: &[u8], index: usize, byte: u8) -> bool {
+    match text.get(index) {
+        Some(stands) => *stands == byte,
+        None => false,
+    }
 }
 
 // How a byte of what was told stands in the table of runs.

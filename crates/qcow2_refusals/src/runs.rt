@@ -49,18 +49,22 @@ pub(crate) fn take_all<E: Each>(table: &str, each: &mut E) {
     for line in table.lines() {
         if let Some(columns) = line.strip_prefix("= ") {
             setup = setup_of(columns);
-        } else if !line.is_empty() && !line.starts_with("#") {
+        } else if is_run(line) {
             each.take(&run_of(setup, line));
         }
     }
 }
 
+fn is_run(line: &str) -> bool {
+    !line.is_empty() && !line.starts_with("#")
+}
+
 fn setup_of(line: &str) -> Setup<'_> {
     let mut columns = line.split('|');
     Setup {
-        header: columns.next().unwrap_or("").trim(),
-        source: columns.next().unwrap_or("").trim(),
-        image: columns.next().unwrap_or("").trim(),
+        header: text_of(columns.next()),
+        source: text_of(columns.next()),
+        image: text_of(columns.next()),
     }
 }
 
@@ -68,15 +72,23 @@ fn run_of<'a>(setup: Setup<'a>, line: &'a str) -> Run<'a> {
     let mut columns = line.split('|');
     Run {
         setup,
-        call: columns.next().unwrap_or("").trim(),
-        of: columns.next().unwrap_or("").trim(),
-        is_modified: columns.next().unwrap_or("").trim() == "1",
-        before: columns.next().unwrap_or("").trim(),
-        after: columns.next().unwrap_or("").trim(),
-        refused: columns.next().unwrap_or("").trim(),
-        done: columns.next().unwrap_or("").trim(),
-        told: columns.next().unwrap_or("").trim(),
-        told_again: columns.next().unwrap_or("").trim(),
+        call: text_of(columns.next()),
+        of: text_of(columns.next()),
+        is_modified: text_of(columns.next()) == "1",
+        before: text_of(columns.next()),
+        after: text_of(columns.next()),
+        refused: text_of(columns.next()),
+        done: text_of(columns.next()),
+        told: text_of(columns.next()),
+        told_again: text_of(columns.next()),
+    }
+}
+
+// The text of a column, or an empty one.
+fn text_of(column: Option<&str>) -> &str {
+    match column {
+        Some(column) => column.trim(),
+        None => "",
     }
 }
 

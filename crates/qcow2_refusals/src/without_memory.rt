@@ -12,7 +12,7 @@ use qcow2_base::Fault;
 use std::alloc::Global;
 
 /// What comes of the calls: a number that depends on each of them, so that none is left out of the program.
-#[derive(Clone, Copy, Debug, PartialEq, Eq)]
+#[derive(Clone, Copy, Debug)]
 pub(crate) struct Sum(u64);
 
 impl Sum {

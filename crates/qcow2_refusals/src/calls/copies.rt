@@ -1,4 +1,4 @@
-//! Calls that take memory and no storage: headers, tables and blocks that are made, copied and grown.
+//! Calls that take memory and no storage: tables, blocks and an extension that are made, copied and grown.
 
 use crate::held::{Held, text};
 use crate::outputs::{Output, tell};
@@ -8,20 +8,6 @@ use qcow2_metadata::{
 };
 use std::alloc::{AllocError, Global};
 
-pub(super) fn new_header(alloc: Global, out: &mut Output) -> Result<(), Fault> {
-    let header = header_of_names(alloc)?;
-    tell(out, &header.backing_filename())?;
-    tell(out, &header.backing_format())?;
-    tell(out, &header.external_data_filename())
-}
-
-fn header_of_names(alloc: Global) -> Result<Header, Fault> {
-    let name = text(alloc, "base.img")?;
-    let format = text(alloc, "qcow2")?;
-    let data_file = text(alloc, "data.raw")?;
-    Header::new(alloc, 9, 4, Some(name), Some(format), Some(data_file))
-}
-
 // Tells the extension that is copied too, whatever comes of its copy.
 pub(super) fn clone_extension(alloc: Global, out: &mut Output) -> Result<(), Fault> {
     let extension = HeaderExtension::BackingFileFormat(text(alloc, "qcow2")?);
@@ -30,12 +16,19 @@ pub(super) fn clone_extension(alloc: Global, out: &mut Output) -> Result<(), Fau
     tell(out, &copy?)
 }
 
-pub(super) fn clear_table(alloc: Global, held: &mut Held) -> Result<(), Fault> {
+pub(super) fn clear(of: &str, alloc: Global, held: &mut Held) -> Result<(), Fault> {
+    match of {
+        "L2 table" => clear_table(alloc, held),
+        _ => clear_block(alloc, held),
+    }
+}
+
+fn clear_table(alloc: Global, held: &mut Held) -> Result<(), Fault> {
     let table = L2Table::new_cleared(alloc, &held.header)?;
     tell_table(&mut held.out, &table)
 }
 
-pub(super) fn clear_block(alloc: Global, held: &mut Held) -> Result<(), Fault> {
+fn clear_block(alloc: Global, held: &mut Held) -> Result<(), Fault> {
     let block = RefBlock::new_cleared(alloc, &MemStorage::new(Vec::new(alloc)), &held.header)?;
     tell(
         &mut held.out,
@@ -48,7 +41,14 @@ pub(super) fn clone_table(held: &mut Held) -> Result<(), Fault> {
     tell_table(&mut held.out, &table)
 }
 
-pub(super) fn grow_l1_table(held: &mut Held) -> Result<(), Fault> {
+pub(super) fn grow(of: &str, held: &mut Held) -> Result<(), Fault> {
+    match of {
+        "L1 table" => grow_l1_table(held),
+        _ => grow_reftable(held),
+    }
+}
+
+fn grow_l1_table(held: &mut Held) -> Result<(), Fault> {
     let table = grown_l1_table(&held.header, &held.l1_table)?;
     tell_table(&mut held.out, &table)
 }
@@ -60,7 +60,7 @@ fn grown_l1_table(header: &Header, table: &L1Table) -> Result<L1Table, Fault> {
     table.clone_and_grow(128, header)
 }
 
-pub(super) fn grow_reftable(held: &mut Held) -> Result<(), Fault> {
+fn grow_reftable(held: &mut Held) -> Result<(), Fault> {
     let table = grown_reftable(&held.header, &held.reftable)?;
     tell_table(&mut held.out, &table)
 }

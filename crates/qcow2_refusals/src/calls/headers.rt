@@ -1,7 +1,9 @@
 //! Calls of headers.
 
-use crate::held::{Held, load_header};
+use crate::held::{Held, load_header, text};
+use crate::outputs::{Output, tell};
 use qcow2_base::{Fault, Storage};
+use qcow2_metadata::Header;
 use std::alloc::Global;
 
 pub(super) fn make<S: Storage>(
@@ -11,12 +13,19 @@ pub(super) fn make<S: Storage>(
     image: &mut S,
 ) -> Result<(), Fault> {
     match call {
+        "Header::new" => new(alloc, &mut held.out),
         "Header::load" => load(alloc, held, image, false),
         "Header::load writable" => load(alloc, held, image, true),
-        "Header::write" => held.header.write(image),
-        "Header::write_size" => held.header.write_size(image),
-        "Header::write_l1_table_pointer" => held.header.write_l1_table_pointer(image),
-        "Header::write_reftable_pointer" => held.header.write_reftable_pointer(image),
+        _ => write(call, &mut held.header, image),
+    }
+}
+
+fn write<S: Storage>(call: &str, header: &mut Header, image: &mut S) -> Result<(), Fault> {
+    match call {
+        "Header::write" => header.write(image),
+        "Header::write_size" => header.write_size(image),
+        "Header::write_l1_table_pointer" => header.write_l1_table_pointer(image),
+        "Header::write_reftable_pointer" => header.write_reftable_pointer(image),
         _ => Err(Fault::WrongLength),
     }
 }
@@ -29,4 +38,22 @@ fn load<S: Storage>(
 ) -> Result<(), Fault> {
     held.header = load_header(alloc, image, is_writable)?;
     Ok(())
+}
+
+fn new(alloc: Global, out: &mut Output) -> Result<(), Fault> {
+    let header = header_of_names(alloc)?;
+    tell_names(&header, out)
+}
+
+fn tell_names(header: &Header, out: &mut Output) -> Result<(), Fault> {
+    tell(out, &header.backing_filename())?;
+    tell(out, &header.backing_format())?;
+    tell(out, &header.external_data_filename())
+}
+
+fn header_of_names(alloc: Global) -> Result<Header, Fault> {
+    let name = text(alloc, "base.img")?;
+    let format = text(alloc, "qcow2")?;
+    let data_file = text(alloc, "data.raw")?;
+    Header::new(alloc, 9, 4, Some(name), Some(format), Some(data_file))
 }

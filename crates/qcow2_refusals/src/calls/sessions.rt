@@ -1,17 +1,15 @@
-//! Lists of changes, lookups and commands.
+//! Lists of changes, and lookups.
 
 use crate::held::{BLOCK, Held, TABLES};
-use crate::outputs::{Output, tell};
+use crate::outputs::tell;
 use qcow2_base::{Fault, GuestOffset, HostCluster, Storage};
-use qcow2_metadata::{Header, Table};
+use qcow2_metadata::Table;
 use qcow2_session::{
-    Edit, ExtentFormat, Step, count_references, edit_entries, edit_image, edit_settled, edit_table,
-    list_l2_table, list_tables, lookup, lookup_image, print_extents, print_info, print_mapping_at,
-    step_block, step_image,
+    Edit, Step, edit_image, edit_settled, edit_table, lookup, lookup_image, step_block, step_image,
 };
 use std::alloc::Global;
 
-// Edits of a table in memory, of the first and the last entry of one of 65536 bytes, and of the disk's table.
+// Edits of a table in memory, and of the first and the last entry of one of 65536 bytes.
 const TABLE_EDITS: &[Edit] = &[
     Edit::Map {
         index: 0,
@@ -35,19 +33,7 @@ const IMAGE_EDITS: &[Edit] = &[
     },
 ];
 
-const DISK_EDITS: &[Edit] = &[
-    Edit::Map {
-        index: 3,
-        host_cluster: HostCluster(5),
-    },
-    Edit::Map {
-        index: 3,
-        host_cluster: HostCluster(6),
-    },
-    Edit::Discard { index: 3 },
-];
-
-// Steps of a block in memory, of one of 4096 bytes, and of the disk's.
+// Steps of a block in memory, and of one of 4096 bytes.
 const BLOCK_STEPS: &[Step] = &[
     Step::Inc { index: 5 },
     Step::Dec { index: 7 },
@@ -60,15 +46,8 @@ const IMAGE_STEPS: &[Step] = &[
     Step::Inc { index: 2047 },
 ];
 
-const DISK_STEPS: &[Step] = &[
-    Step::Inc { index: 0 },
-    Step::Inc { index: 0 },
-    Step::Dec { index: 0 },
-    Step::Dec { index: 1 },
-];
-
 /// An offset in guest cluster 3 of the disk.
-const GUEST_OFFSET: GuestOffset = GuestOffset(1543);
+pub(super) const GUEST_OFFSET: GuestOffset = GuestOffset(1543);
 
 pub(super) fn edit(alloc: Global, held: &mut Held) -> Result<(), Fault> {
     let outcome = edit_table(alloc, &mut held.l2_table, TABLE_EDITS)?;
@@ -102,20 +81,24 @@ pub(super) fn settle_in_vain(alloc: Global, held: &mut Held) -> Result<(), Fault
     }
 }
 
-pub(super) fn edit_in<S: Storage>(
+pub(super) fn change_image<S: Storage>(
+    call: &str,
     alloc: Global,
     held: &mut Held,
     image: &mut S,
 ) -> Result<(), Fault> {
+    match call {
+        "edit_image" => edit_in(alloc, held, image),
+        _ => step_in(alloc, held, image),
+    }
+}
+
+fn edit_in<S: Storage>(alloc: Global, held: &mut Held, image: &mut S) -> Result<(), Fault> {
     let outcome = edit_image(alloc, image, &held.header, TABLES, IMAGE_EDITS)?;
     tell(&mut held.out, &outcome)
 }
 
-pub(super) fn step_in<S: Storage>(
-    alloc: Global,
-    held: &mut Held,
-    image: &mut S,
-) -> Result<(), Fault> {
+fn step_in<S: Storage>(alloc: Global, held: &mut Held, image: &mut S) -> Result<(), Fault> {
     let replies = step_image(alloc, image, &held.header, BLOCK, IMAGE_STEPS)?;
     tell(&mut held.out, &replies)
 }
@@ -139,29 +122,4 @@ pub(super) fn look_up_image<S: Storage>(
 ) -> Result<(), Fault> {
     let mapping = lookup_image(alloc, image, GUEST_OFFSET)?;
     tell(&mut held.out, &mapping)
-}
-
-// ---- Commands
-
-pub(super) fn run<S: Storage>(
-    command: &str,
-    alloc: Global,
-    out: &mut Output,
-    image: &mut S,
-) -> Result<(), Fault> {
-    if command == "l2" {
-        return list_l2_table(alloc, image, 9, HostCluster(2), out);
-    }
-    let is_writable = matches!(command, "edit" | "count");
-    let header = Header::load(alloc, image, is_writable)?;
-    match command {
-        "info" => print_info(&header, out),
-        "list" => list_tables(alloc, image, &header, out),
-        "at" => print_mapping_at(alloc, image, &header, GUEST_OFFSET, out),
-        "map" => print_extents(alloc, image, &header, ExtentFormat::Lines, out),
-        "map json" => print_extents(alloc, image, &header, ExtentFormat::Json, out),
-        "edit" => edit_entries(alloc, image, &header, 0, DISK_EDITS, out),
-        "count" => count_references(alloc, image, &header, HostCluster(3), DISK_STEPS, out),
-        _ => Err(Fault::WrongLength),
-    }
 }

@@ -24,15 +24,23 @@ pub(super) struct Tables {
 const COMPRESSED: u64 = 0x4000_0000_0000_0600;
 
 pub(super) fn begin(alloc: Global) -> Result<Tables, Fault> {
-    let outcome = begin_outcome(alloc)?;
-    let mut image = image_with(alloc, 1536, &[(536, COMPRESSED)])?;
-    let mut held = hold_empty(alloc)?;
-    held.l2_table = l2_table(alloc, &mut image, &held.header)?;
+    let mut tables = begin_empty(alloc)?;
+    load(alloc, &mut tables)?;
+    Ok(tables)
+}
+
+fn begin_empty(alloc: Global) -> Result<Tables, Fault> {
     Ok(Tables {
-        held,
-        image,
-        outcome,
+        held: hold_empty(alloc)?,
+        image: image_with(alloc, 1536, &[(536, COMPRESSED)])?,
+        outcome: begin_outcome(alloc)?,
     })
+}
+
+fn load(alloc: Global, tables: &mut Tables) -> Result<(), Fault> {
+    let (held, image) = (&mut tables.held, &mut tables.image);
+    held.l2_table = l2_table(alloc, image, &held.header)?;
+    Ok(())
 }
 
 fn hold_empty(alloc: Global) -> Result<Held, Fault> {
