@@ -5,16 +5,19 @@ ghost use Rattle.qcow2_base.specs.Types.{IsClusterBits, IsRefblockBits};
 ghost use Rattle.qcow2_metadata.specs.Header.{all_same, first_by, name_in, names_by, new_header};
 ghost use Rattle.qcow2_metadata.specs.Header.Extensions.{extension_of};
 
+mod backing_filename;
 mod extensions;
+mod feature_names;
 mod features;
+mod fixed_parts;
 mod load;
 mod pointers;
 mod text;
 mod update;
 mod write;
 
-use extensions::known_names;
 pub use extensions::{HeaderExtension, HeaderExtensionType};
+use feature_names::known_names;
 pub use features::{
     AutoclearFeatures, CompatibleFeatures, FeatureType, IncompatibleFeatures, UnknownValue,
 };

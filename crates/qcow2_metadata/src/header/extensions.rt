@@ -1,23 +1,32 @@
-//! Header extensions: what stands behind the fields of a version 3 header.
+//! Header extensions, which stand behind the fields of a version 3 header: how they are read and written.
 
-ghost use Rattle.std.specs.Prelude.{◌≡◌, ◌≢◌, ◌⊎◌, ◌≤◌, IfErr, IfOk, IsOkUnless, OnOk, length, option_map, string_bytes};
-ghost use Rattle.std.specs.BTreeMap.{IsOrdered, insert_entry};
-ghost use Rattle.std.specs.Str.Lossy.{utf8_lossy};
-ghost use Rattle.qcow2_base.specs.declared.fault.Fault.TheVariants.{ExtensionText, FeatureNameCut, NoMemory};
-ghost use Rattle.qcow2_metadata.specs.Results.{Computes, result_map};
-ghost use Rattle.qcow2_metadata.specs.Header.{IsStorable, feature_name_in, known_names, name_in};
-ghost use Rattle.qcow2_metadata.specs.Header.Extensions.{extension_number, extension_of, key_cmp, names_of, parsed, text, until_zero, with_feature_name};
+ghost use Rattle.std.specs.Prelude.{◌≡◌, ◌≢◌, ◌⊎◌, ◌+◌, ◌^◌, ◌<◌, ◌≤◌, ◌++◌, nat_le, [], ◌∷◌, All, IfErr, IfOk, IfSome, IsOkUnless, Ok, OnOk, SomeIff, length, map, option_map, string_bytes};
+ghost use Rattle.qcow2_base.specs.OnDiskStruct.{header_extension_header};
+ghost use Rattle.qcow2_base.specs.Storage.{OnImage};
+ghost use Rattle.qcow2_base.specs.declared.fault.Fault.TheVariants.{ExtensionText};
+ghost use Rattle.qcow2_metadata.specs.Results.{Answers, provided, result_map};
+ghost use Rattle.qcow2_metadata.specs.Header.{IsStorable, feature_name_in, name_in};
+ghost use Rattle.qcow2_metadata.specs.Header.Chain.{data_end, extension_at, extension_header_at, extensions_at, link_at};
+ghost use Rattle.qcow2_metadata.specs.Header.Extensions.{extension_number, extension_of, parsed};
 ghost use Rattle.qcow2_metadata.specs.Header.Features.{HasNumber};
+ghost use Rattle.qcow2_metadata.specs.Header.Grammar.{AreLawfulParts, IsHeaderFault, header_extensions, last_conditions};
+ghost use Rattle.qcow2_metadata.specs.Header.Text.{chosen_extensions, data_of, extension_text, extensions_text, fields_text, is_other, type_number, written_text};
+ghost use Rattle.qcow2_metadata.specs.Range.{bytes_at};
+ghost use Rattle.qcow2_metadata.specs.ReadAhead.{ReadsThrough};
 ghost use Rattle.qcow2_metadata.specs.declared.header.extensions.HeaderExtensionType.TheVariants as kind;
 
-use super::{FeatureType, UnknownValue};
-use bstr::ByteSlice;
-use qcow2_base::Fault;
+use super::feature_names::{FEATURE_NAME_BYTES, push_names, read_feature_names};
+use super::fixed_parts::cluster_size;
+use super::load::{parse_text, read_bytes};
+use super::text::{push_bytes, push_padded, push_zeros};
+use super::{FeatureType, UnknownValue, same_names};
+use crate::read_ahead::ReadAhead;
+use qcow2_base::{
+    EXTERNAL_DATA_FILE_BIT, Fault, HeaderExtensionHeader, HostOffset, OnDiskStruct, Storage,
+    V2Header, V3HeaderBase, read_be, write_be,
+};
 use std::alloc::{AllocError, Global};
 use std::collections::BTreeMap;
-
-/// How many bytes each name takes in a feature name table, with its type and its bit.
-pub(super) const FEATURE_NAME_BYTES: usize = 48;
 
 /// What the data of a header extension is, by the number that stands before it.
 #[derive(Clone, Copy, Debug, PartialEq, Eq)]
@@ -104,69 +113,131 @@ impl HeaderExtension {
     }
 }
 
-// What features are called in new images.
-pub(super) fn known_names(alloc: Global) -> Result<BTreeMap<(FeatureType, u8), String>, AllocError>
-    ensures { IfOk result (λ names. names_of names ≡ known_names) }
+// The extensions, of which version 2 has none.
+pub(super) fn read_header_extensions<S: Storage>(
+    alloc: Global,
+    image: &mut ReadAhead<S>,
+    v2: &V2Header,
+    base: &V3HeaderBase,
+) -> Result<Vec<HeaderExtension>, Fault>
+    requires { AreLawfulParts v2.now base.now }
+    ensures exact { OnImage (S.state image.old.image.now) (λ bytes.
+        Answers (λ list. map extension_of list.items) result (header_extensions bytes v2.now base.now)) }
+    ensures storable { IfOk result (λ list. All IsStorable (map extension_of list.items)) }
+    ensures older { IfOk result (λ list. v2.now.version ≡ 2 → list.items ≡ []) }
+    ensures faults { IfErr result IsHeaderFault }
+    ensures storage { ReadsThrough S.state result image.old image.new }
 {
-    let mut names = BTreeMap::new(alloc);
-    set_name(alloc, &mut names, (FeatureType::Incompatible, 0), "dirty")?;
-    set_name(alloc, &mut names, (FeatureType::Incompatible, 1), "corrupt")?;
-    set_name(
-        alloc,
-        &mut names,
-        (FeatureType::Incompatible, 2),
-        "external data file",
-    )?;
-    set_name(
-        alloc,
-        &mut names,
-        (FeatureType::Incompatible, 3),
-        "extended compression type",
-    )?;
-    set_name(
-        alloc,
-        &mut names,
-        (FeatureType::Incompatible, 4),
-        "extended L2 entries",
-    )?;
-    set_name(
-        alloc,
-        &mut names,
-        (FeatureType::Compatible, 0),
-        "lazy refcounts",
-    )?;
-    set_name(
-        alloc,
-        &mut names,
-        (FeatureType::Autoclear, 0),
-        "persistent dirty bitmaps",
-    )?;
-    set_name(
-        alloc,
-        &mut names,
-        (FeatureType::Autoclear, 1),
-        "raw external data file",
-    )?;
-    Ok(names)
+    if v2.version != 3 {
+        return Ok(Vec::new(alloc));
+    }
+    read_extensions(alloc, image, cluster_size(v2), base.header_length as u64)
 }
 
-// Sets the name of a feature.
-fn set_name(
+// The extensions from a place on, up to End, which all end within so many bytes.
+fn read_extensions<S: Storage>(
     alloc: Global,
-    names: &mut BTreeMap<(FeatureType, u8), String>,
-    key: (FeatureType, u8),
-    name: &str,
-) -> Result<(), AllocError>
-    ensures { OnOk result
-        (names_of names.new ≡ insert_entry key_cmp (names_of names.old) key name.now) }
+    image: &mut ReadAhead<S>,
+    len: u64,
+    first: u64,
+) -> Result<Vec<HeaderExtension>, Fault>
+    requires { len ≤ 2 ^ 21 }
+    ensures exact { OnImage (S.state image.old.image.now) (λ bytes.
+        Answers (λ list. map extension_of list.items) result (extensions_at bytes len first)) }
+    ensures storable { IfOk result (λ list. All IsStorable (map extension_of list.items)) }
+    ensures faults { IfErr result IsHeaderFault }
+    ensures storage { ReadsThrough S.state result image.old image.new }
 {
-    let name = String::from_str(alloc, name)?;
-    names.insert(key, name)?;
-    Ok(())
+    let mut extensions = Vec::new(alloc);
+    let mut place = first;
+    while let Some((extension, next)) = read_extension(alloc, image, len, place)? {
+        extensions.push(extension)?;
+        place = next;
+    }
+    Ok(extensions)
+}
+
+// The extension at a place, which ends within so many bytes, and where the next one stands; nothing where
+// it is End.
+fn read_extension<S: Storage>(
+    alloc: Global,
+    image: &mut ReadAhead<S>,
+    len: u64,
+    place: u64,
+) -> Result<Option<(HeaderExtension, u64)>, Fault>
+    requires { len ≤ 2 ^ 21 }
+    ensures exact { OnImage (S.state image.old.image.now) (λ bytes.
+        Answers (option_map (λ found. (extension_of found.0, found.1))) result
+        (extension_at bytes len place)) }
+    ensures next { IfOk result (λ found. IfSome found (λ found.
+        (place + 8 ≤ found.1) × (found.1 ≤ len + 8))) }
+    ensures storable { IfOk result (λ found. IfSome found (λ found. IsStorable (extension_of found.0))) }
+    ensures faults { IfErr result IsHeaderFault }
+    ensures storage { ReadsThrough S.state result image.old image.new }
+{
+    let header = read_extension_header(image, len, place)?;
+    if header.extension_type == HeaderExtensionType::End as u32 {
+        return Ok(None);
+    }
+    let extension = read_data(alloc, image, place + 8, &header)?;
+    let next = place + 8 + (header.length as u64).next_multiple_of(8);
+    Ok(Some((extension, next)))
+}
+
+// The type and the length of the extension at a place. It ends within so many bytes.
+fn read_extension_header<S: Storage>(
+    image: &mut ReadAhead<S>,
+    len: u64,
+    place: u64,
+) -> Result<HeaderExtensionHeader, Fault>
+    requires { len ≤ 2 ^ 21 }
+    ensures exact { OnImage (S.state image.old.image.now) (λ bytes.
+        Answers (λ header. header) result (provided
+        ((nat_le (data_end (link_at bytes place)) len, Fault.ExtensionsExceed) ∷ [])
+        (λ _. Ok (extension_header_at bytes place)))) }
+    ensures bounded { IfOk result (λ header. place + 8 + header.length ≤ len) }
+    ensures faults { IfErr result (λ fault. (fault ≡ Fault.ExtensionsExceed) ⊎ (fault ≡ Fault.Storage)) }
+    ensures storage { ReadsThrough S.state result image.old image.new }
+{
+    if place > len || len - place < 8 {
+        return Err(Fault::ExtensionsExceed);
+    }
+    let mut bytes = [0u8; HeaderExtensionHeader::ON_DISK_SIZE];
+    image.read_range(HostOffset(place), &mut bytes)?;
+    let header: HeaderExtensionHeader = read_be(&bytes, 0);
+    if place + 8 + header.length as u64 > len {
+        return Err(Fault::ExtensionsExceed);
+    }
+    Ok(header)
+}
+
+// The extension that isn't End whose data begins at a place.
+fn read_data<S: Storage>(
+    alloc: Global,
+    image: &mut ReadAhead<S>,
+    place: u64,
+    header: &HeaderExtensionHeader,
+) -> Result<HeaderExtension, Fault>
+    requires end { header.now.extension_type ≢ 0 }
+    requires within { place + header.now.length ≤ 2 ^ 21 }
+    ensures exact { OnImage (S.state image.old.image.now) (λ bytes.
+        Answers extension_of result (parsed header.now.extension_type
+        (bytes_at bytes place header.now.length))) }
+    ensures storable { IfOk result (λ extension. IsStorable (extension_of extension)) }
+    ensures faults { IfErr result IsHeaderFault }
+    ensures storage { ReadsThrough S.state result image.old image.new }
+{
+    let len = header.length as usize;
+    if header.extension_type == HeaderExtensionType::FeatureNameTable as u32 {
+        let names = read_feature_names(alloc, image, place, len)?;
+        return Ok(HeaderExtension::FeatureNameTable(names));
+    }
+    let bytes = read_bytes(alloc, image, place, len)?;
+    parse(header.extension_type, bytes)
 }
 
 // The extension of a type that is neither End nor a feature name table, with these bytes of data.
-pub(super) fn parse(extension_type: u32, bytes: Vec<u8>) -> Result<HeaderExtension, Fault>
+fn parse(extension_type: u32, bytes: Vec<u8>) -> Result<HeaderExtension, Fault>
     requires end { extension_type ≢ extension_number kind.End }
     requires names { extension_type ≢ extension_number kind.FeatureNameTable }
     ensures exact { result_map extension_of result ≡ parsed extension_type bytes.items }
@@ -187,50 +258,160 @@ pub(super) fn parse(extension_type: u32, bytes: Vec<u8>) -> Result<HeaderExtensi
     })
 }
 
-// The text that the bytes are, or the fault where they are none.
-pub(super) fn parse_text(bytes: Vec<u8>, fault: Fault) -> Result<String, Fault>
-    ensures { result_map string_bytes result ≡ text fault bytes.items }
-{
-    match String::from_utf8(bytes) {
-        Ok(text) => Ok(text),
-        Err(_) => Err(fault),
-    }
-}
-
-// Puts the name of a chunk of a feature name table into the names.
-pub(super) fn add_feature_name(
-    alloc: Global,
-    names: &mut BTreeMap<(FeatureType, u8), String>,
-    chunk: &[u8],
+// Refuses texts of one kind that differ, and features that aren't known here.
+pub(super) fn check_extensions(
+    base: &V3HeaderBase,
+    extensions: &[HeaderExtension],
 ) -> Result<(), Fault>
-    requires { length chunk.now ≤ 48 }
-    ensures exact { Computes (λ _. names_of names.new) result
-        (with_feature_name (names_of names.old) chunk.now) }
-    ensures ordered { IsOrdered key_cmp names.old → IsOrdered key_cmp names.new }
-    ensures faults { IfErr result (λ fault. (fault ≡ FeatureNameCut) ⊎ (fault ≡ NoMemory)) }
+    ensures exact { result
+        ≡ provided (last_conditions base.now (map extension_of extensions.now)) (λ _. Ok tt) }
+    ensures faults { IfErr result IsHeaderFault }
 {
-    let Some(number) = chunk.first() else {
-        return Ok(());
-    };
-    let Ok(feature_type) = FeatureType::try_from(*number) else {
-        return Ok(());
-    };
-    let Some(bit) = chunk.get(1) else {
-        return Err(Fault::FeatureNameCut);
-    };
-    let name = name_of(alloc, &chunk[2..])?;
-    names.insert((feature_type, *bit), name)?;
+    if !same_names(extensions, HeaderExtensionType::BackingFileFormat) {
+        return Err(Fault::FormatConflict);
+    }
+    if !same_names(extensions, HeaderExtensionType::ExternalDataFileName) {
+        return Err(Fault::DataFileConflict);
+    }
+    let external = base.incompatible_features >> EXTERNAL_DATA_FILE_BIT & 1;
+    let others = base.incompatible_features - (external << EXTERNAL_DATA_FILE_BIT);
+    if others != 0 {
+        return Err(Fault::Incompatible(others));
+    }
     Ok(())
 }
 
-// The name that stands before the first zero byte, with U+FFFD for what is no text.
-fn name_of(alloc: Global, bytes: &[u8]) -> Result<String, AllocError>
-    requires { length bytes.now ≤ 46 }
-    ensures { IfOk result (λ name. string_bytes name ≡ utf8_lossy (until_zero bytes.now)) }
+impl HeaderExtension {
+    // Whether it is other than a table of feature names.
+    pub(super) fn is_other(&self) -> bool
+        ensures { result ≡ is_other (extension_of self.now) }
+    {
+        !matches!(self, HeaderExtension::FeatureNameTable(_))
+    }
+
+    // The number of its type.
+    fn number(&self) -> u32
+        ensures { result ≡ type_number (extension_of self.now) }
+    {
+        match self {
+            HeaderExtension::BackingFileFormat(_) => HeaderExtensionType::BackingFileFormat as u32,
+            HeaderExtension::FeatureNameTable(_) => HeaderExtensionType::FeatureNameTable as u32,
+            HeaderExtension::ExternalDataFileName(_) =>
+                HeaderExtensionType::ExternalDataFileName as u32,
+            HeaderExtension::Unknown { extension_type, .. } => *extension_type,
+        }
+    }
+
+    // How many bytes its data has.
+    fn data_len(&self) -> Option<usize>
+        ensures { SomeIff result (length (data_of (extension_of self.now)) < 2 ^ 64)
+            (length (data_of (extension_of self.now))) }
+    {
+        match self {
+            HeaderExtension::BackingFileFormat(name) => Some(name.len()),
+            HeaderExtension::FeatureNameTable(names) => names.len().checked_mul(FEATURE_NAME_BYTES),
+            HeaderExtension::ExternalDataFileName(name) => Some(name.len()),
+            HeaderExtension::Unknown { content, .. } => Some(content.len()),
+        }
+    }
+
+    // How many bytes it takes in an image.
+    fn text_len(&self) -> Option<usize>
+        ensures { SomeIff result (length (extension_text (extension_of self.now)) < 2 ^ 64)
+            (length (extension_text (extension_of self.now))) }
+    {
+        self.data_len()?.checked_next_multiple_of(8)?.checked_add(8)
+    }
+
+    // How many bytes are written of it, in a header with feature names or without.
+    fn written_len(&self, with_names: bool) -> Option<usize>
+        ensures { SomeIff result (length (written_text with_names (extension_of self.now)) < 2 ^ 64)
+            (length (written_text with_names (extension_of self.now))) }
+    {
+        if with_names || self.is_other() {
+            self.text_len()
+        } else {
+            Some(0)
+        }
+    }
+}
+
+// How many bytes the extensions take in an image, those with feature names or without, and End.
+pub(super) fn extensions_len(extensions: &[HeaderExtension], with_names: bool) -> Option<usize>
+    ensures { SomeIff result
+        (length (extensions_text (chosen_extensions with_names (map extension_of extensions.now))) < 2 ^ 64)
+        (length (extensions_text (chosen_extensions with_names (map extension_of extensions.now)))) }
 {
-    let end = bytes.find_byte(0).unwrap_or(bytes.len());
-    let front = &bytes[..end];
-    let mut name = String::new(alloc);
-    front.to_str_lossy_into(&mut name)?;
-    Ok(name)
+    let mut len: usize = 8;
+    for extension in extensions {
+        len = len.checked_add(extension.written_len(with_names)?)?;
+    }
+    Some(len)
+}
+
+// Puts the extensions behind the text, those with feature names or without, and End.
+pub(super) fn push_extensions(
+    text: &mut Vec<u8>,
+    extensions: &[HeaderExtension],
+    with_names: bool,
+) -> Result<(), AllocError>
+    requires { length (extensions_text (chosen_extensions with_names (map extension_of extensions.now)))
+        < 2 ^ 32 }
+    ensures { OnOk result (text.new.items ≡ text.old.items
+        ++ extensions_text (chosen_extensions with_names (map extension_of extensions.now))) }
+{
+    for extension in extensions {
+        push_written(text, extension, with_names)?;
+    }
+    push_zeros(text, 8)
+}
+
+// Puts an extension behind the text of a header with feature names or without.
+fn push_written(
+    text: &mut Vec<u8>,
+    extension: &HeaderExtension,
+    with_names: bool,
+) -> Result<(), AllocError>
+    requires { length (written_text with_names (extension_of extension.now)) < 2 ^ 32 }
+    ensures { OnOk result (text.new.items
+        ≡ text.old.items ++ written_text with_names (extension_of extension.now)) }
+{
+    if with_names || extension.is_other() {
+        push_extension(text, extension)
+    } else {
+        Ok(())
+    }
+}
+
+// Puts an extension behind the text.
+#[tactic(auto, using(crate::proofs::LayoutLemmas::names_padded))]
+fn push_extension(text: &mut Vec<u8>, extension: &HeaderExtension) -> Result<(), AllocError>
+    requires { length (data_of (extension_of extension.now)) < 2 ^ 32 }
+    ensures { OnOk result
+        (text.new.items ≡ text.old.items ++ extension_text (extension_of extension.now)) }
+{
+    let header = HeaderExtensionHeader {
+        extension_type: extension.number(),
+        length: extension.data_len().unwrap() as u32,
+    };
+    push_extension_header(text, &header)?;
+    match extension {
+        HeaderExtension::BackingFileFormat(name) => push_padded(text, name.as_bytes()),
+        HeaderExtension::FeatureNameTable(names) => push_names(text, names),
+        HeaderExtension::ExternalDataFileName(name) => push_padded(text, name.as_bytes()),
+        HeaderExtension::Unknown { content, .. } => push_padded(text, content),
+    }
+}
+
+// Puts what stands before an extension's data behind the text.
+fn push_extension_header(
+    text: &mut Vec<u8>,
+    header: &HeaderExtensionHeader,
+) -> Result<(), AllocError>
+    ensures { OnOk result
+        (text.new.items ≡ text.old.items ++ fields_text (header_extension_header header.now)) }
+{
+    let mut bytes = [0u8; HeaderExtensionHeader::ON_DISK_SIZE];
+    write_be(&mut bytes, 0, header);
+    push_bytes(text, &bytes)
 }
