@@ -20,7 +20,7 @@ mod without_memory;
 
 use crate::attempts::begin;
 use crate::calls::Answer;
-use crate::memory::{Memory, again};
+use crate::memory::Memory;
 use crate::refusals::{Refusals, Refused};
 use crate::runs::{Each, Run, take_all};
 use qcow2_base::MemStorage;
@@ -31,8 +31,8 @@ use std::{env, fs, io, process};
 
 fn main(rt: HostRuntime) -> ExitCode {
     let mut out = rt.stdout();
-    let word = again(|| first_word(&rt));
-    let table = again(|| fs::read_to_string(&rt, "runs.txt"));
+    let word = word_again(&rt);
+    let table = table_again(&rt);
     let (Ok(word), Ok(table)) = (word, table) else {
         return ExitCode::FAILURE;
     };
@@ -43,10 +43,25 @@ fn main(rt: HostRuntime) -> ExitCode {
     }
 }
 
-// The word behind the program's name, or an empty one.
+// The word behind the name, or an empty one, made once more where memory was refused the first time.
+fn word_again(rt: &HostRuntime) -> io::Result<String> {
+    match first_word(rt) {
+        Err(_) => first_word(rt),
+        word => word,
+    }
+}
+
 fn first_word(rt: &HostRuntime) -> io::Result<String> {
     let word = env::args(rt)?.nth(1);
     Ok(word.unwrap_or(String::new(rt.alloc())))
+}
+
+// The table of runs, read once more where memory was refused the first time.
+fn table_again(rt: &HostRuntime) -> io::Result<String> {
+    match fs::read_to_string(rt, "runs.txt") {
+        Err(_) => fs::read_to_string(rt, "runs.txt"),
+        table => table,
+    }
 }
 
 // Does what the word says, and answers whether all was as it must be.
@@ -76,23 +91,34 @@ fn refuse_all<O: Write>(alloc: Global, table: &str, out: &mut O) -> bool {
 }
 
 fn make_each<O: Write>(rt: &HostRuntime, table: &str, out: &mut O) -> bool {
-    let Ok(path) = again(|| temporary_path(rt)) else {
+    let Ok(path) = path_again(rt) else {
         return false;
     };
+    make_each_at(rt, path.as_str(), table, out)
+}
+
+fn make_each_at<O: Write>(rt: &HostRuntime, path: &str, table: &str, out: &mut O) -> bool {
     let mut memory = Memory {
         rt,
         out,
-        path: path.as_str(),
+        path,
         runs: 0,
         all_right: true,
     };
     take_all(table, &mut memory);
     let (runs, all_right) = (memory.runs, memory.all_right);
-    let _ = fs::remove_file(rt, path.as_str());
+    let _ = fs::remove_file(rt, path);
     writeln!(out, "{runs} runs").is_ok() && all_right
 }
 
-// Where the file of a run lies.
+// Where the file of a run lies, made once more where memory was refused the first time.
+fn path_again(rt: &HostRuntime) -> io::Result<String> {
+    match temporary_path(rt) {
+        Err(_) => temporary_path(rt),
+        path => path,
+    }
+}
+
 fn temporary_path(rt: &HostRuntime) -> io::Result<String> {
     let id = process::id(rt.process());
     let name = format!(in rt.alloc(); "qcow2-refusals-{id}")?;

@@ -8,8 +8,8 @@ use crate::calls::Answer;
 use crate::runs::{Each, Run};
 use qcow2_base::{Fault, FileStorage, MemStorage, Storage};
 use std::alloc::Global;
-use std::fs;
 use std::io::Write;
+use std::{fs, io};
 
 /// Makes each run, and tells of those that aren't as they must be.
 #[derive(Drop)]
@@ -33,16 +33,6 @@ impl<O: Write> Each for Memory<'_, O> {
             self.all_right = false;
             let _ = writeln!(self.out, "{} {}: {wrong:?} is wrong", run.call, run.of);
         }
-    }
-}
-
-/// Makes something, once more where memory was refused the first time.
-pub(crate) fn again<T, E: Drop, F: Fn() -> Result<T, E>>(make: F) -> Result<T, E>
-    requires { F.IsAlwaysCallable make }
-{
-    match make() {
-        Err(_) => make(),
-        made => made,
     }
 }
 
@@ -137,11 +127,19 @@ fn make_in_file(
     file: &mut FileStorage,
 ) -> Result<Answer, Wrong> {
     let answer = attempt.make(rt.alloc(), run, file);
-    let Ok(bytes) = again(|| fs::read(rt, path)) else {
+    let Ok(bytes) = bytes_again(rt, path) else {
         return Err(Wrong::Beginning);
     };
     has_answered(run, attempt, answer, &bytes)?;
     Ok(answer)
+}
+
+// The bytes of the file, read once more where memory was refused the first time.
+fn bytes_again(rt: &HostRuntime, path: &str) -> io::Result<Vec<u8>> {
+    match fs::read(rt, path) {
+        Err(_) => fs::read(rt, path),
+        bytes => bytes,
+    }
 }
 
 fn is_done(answer: Answer) -> Result<(), Wrong> {

@@ -3,7 +3,7 @@
 use crate::attempts::{Attempt, Wrong, begin, unless};
 use crate::calls::Answer;
 use crate::runs::{Each, Run};
-use qcow2_base::{Fault, MemStorage};
+use qcow2_base::MemStorage;
 use qcow2_testing::{FailingStorage, StorageCall};
 use std::alloc::Global;
 use std::io::Write;
@@ -86,16 +86,22 @@ fn refuse_each(alloc: Global, refused: Refused, run: &Run<'_>) -> Result<u64, (u
 // Makes the run with so many calls passed and the next one refused. Answers whether there was one to refuse.
 fn refuse(alloc: Global, refused: Refused, run: &Run<'_>, passes: u64) -> Result<bool, Wrong> {
     let mut attempt = begin(alloc, run)?;
-    let mut image = failing_image(alloc, run)?;
+    refuse_in(alloc, refused, run, passes, &mut attempt)
+}
+
+fn refuse_in(
+    alloc: Global,
+    refused: Refused,
+    run: &Run<'_>,
+    passes: u64,
+    attempt: &mut Attempt,
+) -> Result<bool, Wrong> {
+    let mut image = FailingStorage::new(alloc, run.before(alloc)?);
     match refused {
         Refused::Calls => image.fail_after(passes),
         Refused::Writes => attempt.held.out.plan = Some(passes),
     }
-    make_twice(alloc, run, &mut attempt, &mut image)
-}
-
-fn failing_image(alloc: Global, run: &Run<'_>) -> Result<FailingStorage<MemStorage>, Fault> {
-    Ok(FailingStorage::new(alloc, run.before(alloc)?))
+    make_twice(alloc, run, attempt, &mut image)
 }
 
 // Makes the call, and once more where it was refused. Answers whether it was. The image holds what was

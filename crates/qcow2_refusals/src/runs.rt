@@ -132,10 +132,9 @@ impl Run<'_> {
 /// The image that a column describes, with the numbers of another column too.
 pub(crate) fn image_of(alloc: Global, image: &str, numbers: &str) -> Result<MemStorage, Fault> {
     let mut bytes = filled(alloc, image)?;
-    match put_numbers(&mut bytes, image).and_then(|()| put_numbers(&mut bytes, numbers)) {
-        Ok(()) => Ok(bytes),
-        Err(fault) => Err(fault),
-    }
+    put_numbers(&mut bytes, image)?;
+    put_numbers(&mut bytes, numbers)?;
+    Ok(bytes)
 }
 
 // The image without its numbers.

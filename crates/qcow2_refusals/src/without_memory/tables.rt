@@ -134,12 +134,19 @@ fn enter_refblock(reftable: &mut RefTable, block: &mut RefBlock, index: usize, s
 }
 
 fn point(held: &mut Held, sum: &mut Sum) {
-    let (header, l1_table, reftable) = (&mut held.header, &held.l1_table, &held.reftable);
-    if header.cluster_bits() == l1_table.cluster_bits() {
-        note_answer(header.set_l1_table(l1_table, None), sum);
+    point_to_l1_table(&mut held.header, &held.l1_table, sum);
+    point_to_reftable(&mut held.header, &held.reftable, sum);
+}
+
+fn point_to_l1_table(header: &mut Header, table: &L1Table, sum: &mut Sum) {
+    if header.cluster_bits() == table.cluster_bits() {
+        note_answer(header.set_l1_table(table, None), sum);
     }
-    if header.cluster_bits() == reftable.cluster_bits() {
-        sum.note(header.set_reftable(reftable).is_ok());
+}
+
+fn point_to_reftable(header: &mut Header, table: &RefTable, sum: &mut Sum) {
+    if header.cluster_bits() == table.cluster_bits() {
+        sum.note(header.set_reftable(table).is_ok());
     }
 }
 
@@ -209,11 +216,15 @@ fn grow(header: &Header, index: usize, sum: &mut Sum) {
 
 fn write(held: &mut Held, image: &mut MemStorage, sum: &mut Sum) {
     for kind in ["L1 table", "L2 table", "Refcount table", "refcount block"] {
-        held.l2_table.set_modified();
-        sum.note(tables::write_if_modified(kind, held, image).is_ok());
-        sum.note(tables::write(kind, held, image).is_ok());
-        sum.note(tables::write_entry(kind, held, image).is_ok());
+        write_kind(kind, held, image, sum);
     }
+}
+
+fn write_kind(kind: &str, held: &mut Held, image: &mut MemStorage, sum: &mut Sum) {
+    held.l2_table.set_modified();
+    sum.note(tables::write_if_modified(kind, held, image).is_ok());
+    sum.note(tables::write(kind, held, image).is_ok());
+    sum.note(tables::write_entry(kind, held, image).is_ok());
 }
 
 fn make_empty(alloc: Global, header: &Header, sum: &mut Sum) {
