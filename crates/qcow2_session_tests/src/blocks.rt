@@ -1,6 +1,6 @@
 //! Refcount blocks to step and to settle, and comparisons of what is left of them.
 
-use crate::calls::{load_block, step_block};
+use crate::calls::{flag, load_block, step_block};
 use qcow2_base::{Fault, HostCluster};
 use qcow2_metadata::{Header, RefBlock};
 use qcow2_session::{Step, StepReply};
@@ -25,11 +25,7 @@ pub(crate) fn block_of(
 ) -> Result<RefBlock, Fault> {
     let mut block = load_block(alloc, bytes, header)?;
     count_up(&mut block, counters)?;
-    if modified {
-        block.set_modified();
-    } else {
-        block.clear_modified();
-    }
+    flag(&mut block, modified);
     Ok(block)
 }
 
@@ -89,10 +85,10 @@ pub(crate) fn answered<R: Debug + Drop>(
         Err(fault) => Err(*fault),
     };
     same(found, expected, row)?;
-    let replies = expected.unwrap_or(&[]);
-    Ok(
-        replies
-            .iter()
-            .any(|reply: &StepReply| *reply != StepReply::Refused),
-    )
+    for reply in expected.unwrap_or(&[]) {
+        if *reply != StepReply::Refused {
+            return Ok(true);
+        }
+    }
+    Ok(false)
 }

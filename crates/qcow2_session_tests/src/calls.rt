@@ -6,6 +6,7 @@ use crate::tables::References;
 use qcow2_base::{ClusterCount, Fault, GuestOffset, HostCluster, MemStorage, Storage};
 use qcow2_metadata::{ClustersToFreeEntry, Header, L1Table, L2Mapping, L2Table, RefBlock, Table};
 use qcow2_session::{Command, Edit, Extent, Extents, Outcome, Step, StepReply};
+use qcow2_testing::{FailingStorage, is_cluster_bits};
 use std::alloc::Global;
 
 pub(crate) fn edits_fit(table: &L2Table, edits: &[Edit]) -> Result<(), usize> {
@@ -91,6 +92,15 @@ pub(crate) fn load_block(alloc: Global, bytes: &[u8], header: &Header) -> Result
     RefBlock::load(alloc, &mut image, header, HostCluster(0))
 }
 
+/// Sets or clears the flag of a block.
+pub(crate) fn flag(block: &mut RefBlock, modified: bool) {
+    if modified {
+        block.set_modified();
+    } else {
+        block.clear_modified();
+    }
+}
+
 /// The extents of an image with this header, and the faults on the way. A call that is refused is made again,
 /// and the second refusal ends the extents.
 pub(crate) fn extents_of<S: Storage>(
@@ -158,6 +168,19 @@ pub(crate) fn edit_settled(
         return Err(Fault::WrongLength);
     }
     qcow2_session::edit_settled(table.allocator(), table, block, header, rt_index, edits)
+}
+
+/// Lists the table that begins with a cluster.
+pub(crate) fn list_l2_table(
+    alloc: Global,
+    image: &mut FailingStorage<MemStorage>,
+    (cluster_bits, cluster): (u32, u64),
+    out: &mut FailingOutput,
+) -> Result<(), Fault> {
+    if !is_cluster_bits(cluster_bits) {
+        return Err(Fault::ClusterSize);
+    }
+    qcow2_session::list_l2_table(alloc, image, cluster_bits, HostCluster(cluster), out)
 }
 
 /// Runs the command that a name and arguments ask for, if they ask for one.

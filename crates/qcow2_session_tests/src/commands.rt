@@ -4,11 +4,11 @@ mod in_memory;
 pub(crate) mod run;
 pub(crate) mod whole_images;
 
+use crate::calls::list_l2_table;
 use crate::tables::table_of;
 use crate::{FailingOutput, Failure};
-use qcow2_base::{Fault, HostCluster, MemStorage};
-use qcow2_session::list_l2_table;
-use qcow2_testing::{FailingStorage, is_cluster_bits, same, same_bytes};
+use qcow2_base::{Fault, MemStorage};
+use qcow2_testing::{FailingStorage, same, same_bytes};
 use std::alloc::Global;
 use std::io::Write;
 use std::test::Fail;
@@ -83,137 +83,71 @@ type Row = (
     Result<(), Fault>,
 );
 
-const ROWS: &[Row] = &[
+const LISTED: &[Row] = &[
     ((9, 0), (0, NINE_BITS, ALL), Ok(())),
     ((16, 0), (0, SIXTEEN_BITS, ALL), Ok(())),
     ((21, 0), (0, TWENTY_ONE_BITS, ALL), Ok(())),
     // the last entry, and one past it
-    (
-        (9, 0),
-        (63, &[(0xa00, "63 data 0xa00\n"), (0xa00, "")], ALL),
-        Ok(()),
-    ),
-    (
-        (21, 0),
-        (
-            262_143,
-            &[(GOOD, "262143 data 0x200000 copied\n"), (GOOD, "")],
-            ALL,
-        ),
-        Ok(()),
-    ),
+    ((21, 0), (262_143, LAST_ENTRY, ALL), Ok(())),
     // images that end inside their table, which goes on with zeros
-    ((9, 0), (0, &[(0x8000_0000_0000_0a00, "")], 0), Ok(())),
     ((9, 0), (0, &[(0x8000_0000_0000_0a00, "")], 6), Ok(())),
-    (
-        (9, 0),
-        (0, &[(0x8000_0000_0000_0a00, "0 data 0xa00 copied\n")], 7),
-        Ok(()),
-    ),
-    (
-        (9, 0),
-        (
-            0,
-            &[
-                (GOOD, "0 data 0x200000 copied\n"),
-                (0x101_0200, "1 data 0x1000000\n"),
-            ],
-            13,
-        ),
-        Ok(()),
-    ),
-    // the first bad entry is the fault, and no line is printed
+    ((9, 0), (0, CUT_OFF, 13), Ok(())),
+    // the greatest cluster of a table is the one that ends at 2^56
+    ((9, (1 << 47) - 1), (0, &[(GOOD, "")], ALL), Ok(())),
+    ((21, (1 << 35) - 1), (0, &[(GOOD, "")], ALL), Ok(())),
+];
+
+const LAST_ENTRY: &[Case] = &[(GOOD, "262143 data 0x200000 copied\n"), (GOOD, "")];
+
+const CUT_OFF: &[Case] = &[
+    (GOOD, "0 data 0x200000 copied\n"),
+    (0x101_0200, "1 data 0x1000000\n"),
+];
+
+const RESERVED: Result<(), Fault> = Err(Fault::EntryReserved);
+
+const UNALIGNED: Result<(), Fault> = Err(Fault::EntryUnaligned);
+
+const PAST: Result<(), Fault> = Err(Fault::TablePlace);
+
+// The first bad entry is the fault, and no line is printed.
+const REFUSED: &[Row] = &[
     (
         (9, 0),
         (0, &[(GOOD, ""), (2, ""), (GOOD, "")], ALL),
-        Err(Fault::EntryReserved),
+        RESERVED,
     ),
     (
         (9, 0),
-        (
-            0,
-            &[(GOOD, ""), (GOOD, ""), (0x4100_0000_0000_0000, "")],
-            ALL,
-        ),
-        Err(Fault::EntryReserved),
-    ),
-    (
-        (9, 0),
-        (
-            0,
-            &[(0x0100_0000_0000_0000, ""), (GOOD, ""), (GOOD, "")],
-            ALL,
-        ),
-        Err(Fault::EntryReserved),
-    ),
-    (
-        (9, 0),
-        (
-            0,
-            &[(GOOD, ""), (0xc000_0000_0000_0000, ""), (GOOD, "")],
-            ALL,
-        ),
-        Err(Fault::EntryReserved),
-    ),
-    (
-        (16, 0),
-        (0, &[(GOOD, ""), (GOOD, ""), (0x200, "")], ALL),
-        Err(Fault::EntryUnaligned),
+        (0, &[(GOOD, ""), (0xc000_0000_0000_0000, "")], ALL),
+        RESERVED,
     ),
     (
         (16, 0),
         (0, &[(GOOD, ""), (0x200, ""), (2, "")], ALL),
-        Err(Fault::EntryUnaligned),
+        UNALIGNED,
     ),
     (
         (16, 0),
         (0, &[(GOOD, ""), (2, ""), (0x200, "")], ALL),
-        Err(Fault::EntryReserved),
+        RESERVED,
     ),
-    (
-        (16, 0),
-        (0, &[(0x202, ""), (0x200, ""), (GOOD, "")], ALL),
-        Err(Fault::EntryReserved),
-    ),
-    // the greatest cluster of a table is the one that ends at 2^56
-    ((9, (1 << 47) - 1), (0, &[(GOOD, "")], ALL), Ok(())),
-    (
-        (9, 1 << 47),
-        (0, &[(GOOD, "")], ALL),
-        Err(Fault::TablePlace),
-    ),
-    (
-        (9, u64::MAX),
-        (0, &[(GOOD, "")], ALL),
-        Err(Fault::TablePlace),
-    ),
-    ((16, (1 << 40) - 1), (0, &[(GOOD, "")], ALL), Ok(())),
-    (
-        (16, 1 << 40),
-        (0, &[(GOOD, "")], ALL),
-        Err(Fault::TablePlace),
-    ),
-    (
-        (16, 1 << 48),
-        (0, &[(GOOD, "")], ALL),
-        Err(Fault::TablePlace),
-    ),
-    ((21, (1 << 35) - 1), (0, &[(GOOD, "")], ALL), Ok(())),
-    (
-        (21, 1 << 35),
-        (0, &[(GOOD, "")], ALL),
-        Err(Fault::TablePlace),
-    ),
-    (
-        (21, u64::MAX),
-        (0, &[(GOOD, "")], ALL),
-        Err(Fault::TablePlace),
-    ),
+    ((9, 1 << 47), (0, &[(GOOD, "")], ALL), PAST),
+    ((9, u64::MAX), (0, &[(GOOD, "")], ALL), PAST),
+    ((21, 1 << 35), (0, &[(GOOD, "")], ALL), PAST),
 ];
 
 #[test]
-fn a_table_is_listed_or_refused_before_its_first_line(rt: HostRuntime) -> Result<(), Fail> {
-    for row in ROWS {
+fn a_table_is_listed_as_far_as_the_image_goes(rt: HostRuntime) -> Result<(), Fail> {
+    for row in LISTED {
+        lists(rt.alloc(), *row)?;
+    }
+    Ok(())
+}
+
+#[test]
+fn a_table_is_refused_before_its_first_line(rt: HostRuntime) -> Result<(), Fail> {
+    for row in REFUSED {
         lists(rt.alloc(), *row)?;
     }
     Ok(())
@@ -221,24 +155,17 @@ fn a_table_is_listed_or_refused_before_its_first_line(rt: HostRuntime) -> Result
 
 // Lists the table of a row. One that would end past the greatest end is refused before any read.
 fn lists(alloc: Global, row: Row) -> Result<(), Fail> {
-    let ((cluster_bits, cluster), (first, cases, len), expected) = row;
+    let (place, (first, cases, len), expected) = row;
     let (image, lines) = table_and_lines(alloc, first, cases, len)?;
     let mut image = FailingStorage::new(alloc, image);
     let mut out = FailingOutput::new(alloc, Failure::Never)?;
-    if !is_cluster_bits(cluster_bits) {
-        return Err(Fail::new("these are no cluster bits"));
-    }
-    let answer = list_l2_table(
-        alloc,
-        &mut image,
-        cluster_bits,
-        HostCluster(cluster),
-        &mut out,
-    );
-    same(answer, expected, row)?;
-    same_bytes(out.bytes(), lines.as_bytes(), row)?;
-    let is_refused = expected == Err(Fault::TablePlace);
-    same(image.calls().is_empty(), is_refused, row)
+    same(
+        list_l2_table(alloc, &mut image, place, &mut out),
+        expected,
+        place,
+    )?;
+    same_bytes(out.bytes(), lines.as_bytes(), place)?;
+    same(image.calls().is_empty(), expected == PAST, place)
 }
 
 // So many bytes of an image that begins with a table, and all its lines.

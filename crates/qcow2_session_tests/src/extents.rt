@@ -54,13 +54,6 @@ const ROWS: &[Row] = &[
         None,
     ),
     (
-        "a disk that ends a byte further",
-        9,
-        &[(24, 2049)],
-        &[Absent(1536), Data(512, 0xa00), Absent(1)],
-        None,
-    ),
-    (
         "the largest disk, past a short L1 table",
         9,
         &[(24, u64::MAX)],
@@ -206,13 +199,6 @@ const ROWS: &[Row] = &[
         None,
     ),
     (
-        "the second L1 entry alone",
-        9,
-        &[(24, 70000), (32, 2), (512, 0), (520, 0x400)],
-        &[Absent(34304), Data(512, 0xa00), Absent(35184)],
-        None,
-    ),
-    (
         "one L2 table twice",
         9,
         &[(24, 65536), (32, 2), (520, 0x400)],
@@ -281,14 +267,14 @@ fn told_as(
     let before = Vec::from_slice(alloc, image.bytes())?;
     let header = load_header(alloc, image)?;
     let (extents, faults) = extents_of(alloc, image, &header)?;
-    same(faults.first().map(|fault| fault.number()), fault, row)?;
-    same(
-        faults.get(1).map(|fault| fault.number()),
-        fault,
-        (row, "again"),
-    )?;
+    same(number_of(faults.first()), fault, row)?;
+    same(number_of(faults.get(1)), fault, row)?;
     same_parts(&extents, parts, row)?;
     same_bytes(image.bytes(), &before, row)
+}
+
+fn number_of(fault: Option<&Fault>) -> Option<u32> {
+    Some(fault?.number())
 }
 
 // Compares extents, which follow one another from offset 0 on.

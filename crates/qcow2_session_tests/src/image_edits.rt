@@ -2,24 +2,13 @@
 
 use crate::calls::edit_image;
 use crate::images::{Parts, header_with, image_holds, recording_image};
-use crate::tables::{GONE, KEEP, PAST, References, TO_0, TO_5, TO_6, did};
+use crate::tables::{GONE, PAST, References, TO_0, TO_5, TO_6, did};
 use qcow2_base::{Fault, HostCluster};
 use qcow2_session::Edit;
 use std::alloc::Global;
 use std::test::Fail;
 
-// Edits of the first entry and the last one, of clusters of 64 KiB and of 2 MiB.
-const ENDS_OF_64_KIB: &[Edit] = &[
-    Edit::Map {
-        index: 0,
-        host_cluster: HostCluster(5),
-    },
-    Edit::Map {
-        index: 8191,
-        host_cluster: HostCluster(6),
-    },
-];
-
+// Edits of the first entry and the last one, of clusters of 2 MiB.
 const ENDS_OF_2_MIB: &[Edit] = &[
     Edit::Zero {
         index: 0,
@@ -55,16 +44,6 @@ const ROWS: &[Row] = &[
         Ok(((&[6], &[(5, 1), (6, 1)]), 1536, &[])),
     ),
     (
-        "zeros that keep their cluster",
-        ((9, 2), false, 1536, &[(1048, DATA_5)]),
-        &[KEEP],
-        Ok((
-            (&[], &[]),
-            1536,
-            &[(1048, &[0x80, 0, 0, 0, 0, 0, 0x0a, 0x01])],
-        )),
-    ),
-    (
         "no edit",
         ((9, 2), false, 1536, &[(1048, DATA_5)]),
         &[],
@@ -93,24 +72,6 @@ const ROWS: &[Row] = &[
         ((9, 2), true, 2000, &[(1048, DATA_5)]),
         &[TO_0],
         Ok(((&[0], &[(5, 1)]), 2000, &[(1048, &[0x80])])),
-    ),
-    (
-        "both ends of a table of 64 KiB",
-        (
-            (16, 1),
-            false,
-            196_608,
-            &[(131_064, &[0x80, 0, 0, 0, 0, 5, 0, 0])],
-        ),
-        ENDS_OF_64_KIB,
-        Ok((
-            (&[5, 6], &[(5, 1)]),
-            196_608,
-            &[
-                (65_536, &[0x80, 0, 0, 0, 0, 5, 0, 0]),
-                (131_064, &[0x80, 0, 0, 0, 0, 6, 0, 0]),
-            ],
-        )),
     ),
     (
         "both ends of a table of 2 MiB",
@@ -153,12 +114,6 @@ const ROWS: &[Row] = &[
         ((9, u64::MAX), false, 1536, &[]),
         &[],
         Err(Fault::TablePlace),
-    ),
-    (
-        "a damaged first entry",
-        ((9, 2), false, 1536, &[(1031, RESERVED), (1048, DATA_5)]),
-        &[TO_5],
-        Err(Fault::EntryReserved),
     ),
     (
         "a damaged last entry",

@@ -3,20 +3,12 @@
 use crate::blocks::answered;
 use crate::calls::step_image;
 use crate::images::{Parts, header_with, image_holds, recording_image};
+use crate::steps::{DEC_0, DEC_1, INC_0};
 use StepReply::{Done, Refused};
 use qcow2_base::{Fault, HostCluster};
 use qcow2_session::{Step, StepReply};
 use std::alloc::Global;
 use std::test::Fail;
-
-// Steps of the counters at the first indices.
-const INC_0: Step = Step::Inc { index: 0 };
-
-const DEC_0: Step = Step::Dec { index: 0 };
-
-const INC_1: Step = Step::Inc { index: 1 };
-
-const DEC_1: Step = Step::Dec { index: 1 };
 
 // The bytes of an entry of the table in cluster 2, before the block.
 const ENTRY: &[u8] = &[0x80, 0, 0, 0, 0, 0, 0x0a, 0];
@@ -60,27 +52,6 @@ const ROWS: &[Row] = &[
         Ok((&[Done(7), Done(8)], 1300, &[(512, &[0, 7])])),
     ),
     (
-        "counters of one bit",
-        ((9, 1), 0, 1300, &[(512, &[0x05, 0xff])]),
-        &[INC_1, INC_0, DEC_0],
-        Ok((&[Done(0), Refused, Done(1)], 1300, &[(512, &[0x06, 0xff])])),
-    ),
-    (
-        "counters of 64 bits",
-        (
-            (9, 1),
-            6,
-            1300,
-            &[(520, &[0, 0, 0, 0, 0xff, 0xff, 0xff, 0xff])],
-        ),
-        &[INC_1, DEC_0],
-        Ok((
-            &[Done(0xffff_ffff), Refused],
-            1300,
-            &[(520, &[0, 0, 0, 1, 0, 0, 0, 0])],
-        )),
-    ),
-    (
         "both ends of a block of 64 KiB",
         ((16, 1), 4, 196_608, &[]),
         &[Step::Inc { index: 32_767 }, INC_0],
@@ -99,12 +70,6 @@ const ROWS: &[Row] = &[
             4_194_400,
             &[(2_097_152, &[1]), (4_194_303, &[8])],
         )),
-    ),
-    (
-        "an index past the end",
-        ((9, 3), 4, 1536, &[(1048, ENTRY)]),
-        &[Step::Inc { index: 256 }],
-        Err(Fault::BadStep(0)),
     ),
     (
         "an index past the end after steps that could be made",

@@ -4,9 +4,7 @@ use crate::blocks::{Counters, block_of, counts};
 use crate::calls::{edit_image, edit_settled, settle};
 use crate::images::header_with;
 use crate::sample_image::sample_image;
-use crate::tables::{
-    DATA_5, GONE, KEEP, PAST, References, TO_0, TO_5, TO_6, ZERO, did, says, table_with,
-};
+use crate::tables::{DATA_5, GONE, KEEP, PAST, References, TO_5, TO_6, did, says, table_with};
 use qcow2_base::{Fault, HostCluster, MemStorage};
 use qcow2_metadata::{Header, L2Table, RefBlock};
 use qcow2_session::{Edit, Outcome};
@@ -66,12 +64,6 @@ const CLUSTERS: &[Row<'static>] = &[
         &[],
     ),
     (
-        ((9, 6, false), 1, (&[], &[(0, 1, 1)])),
-        (&[], &[(63, 2)]),
-        Ok(true),
-        &[],
-    ),
-    (
         ((9, 0, false), 0, (&[], &[(5, 1, 1)])),
         (&[5], &[(5, 1)]),
         Err(Fault::CounterRange),
@@ -83,18 +75,6 @@ const CLUSTERS: &[Row<'static>] = &[
         (&[5, 5], &[(5, 1)]),
         Ok(true),
         &[(5, 1, 2)],
-    ),
-    (
-        ((9, 1, false), 0, (&[], &[(5, 1, 1)])),
-        (&[5, 5, 5], &[(5, 1)]),
-        Err(Fault::CounterRange),
-        &[(5, 1, 1)],
-    ),
-    (
-        ((9, 4, false), 0, (&[], &[(5, 1, 2), (6, 1, 1)])),
-        (&[], &[(5, 2), (5, 1)]),
-        Ok(true),
-        &[],
     ),
     (
         ((9, 4, false), 0, (&[], &[(5, 2, 1)])),
@@ -114,12 +94,6 @@ const RANGES: &[Row<'static>] = &[
     ),
     (
         ((9, 6, false), 1, (&[], ONES)),
-        (&[], &[(120, 20)]),
-        Ok(true),
-        &[(0, 56, 1)],
-    ),
-    (
-        ((9, 6, false), 1, (&[], ONES)),
         (&[], &[(0, 1000)]),
         Ok(true),
         &[],
@@ -131,12 +105,6 @@ const RANGES: &[Row<'static>] = &[
         ONES,
     ),
     // ranges of 2^64 - 1 clusters
-    (
-        ((9, 6, false), 0, (&[], ONES)),
-        (&[], &[(0, MAX)]),
-        Ok(true),
-        &[],
-    ),
     (
         ((9, 6, false), 0, (&[], ONES)),
         (&[], &[(1, MAX)]),
@@ -163,12 +131,6 @@ const RANGES: &[Row<'static>] = &[
         &[(2, 62, 1)],
     ),
     (
-        ((9, 6, false), AT_2_TO_THE_64, (&[], ONES)),
-        (&[MAX], &[(0, 64)]),
-        Ok(false),
-        ONES,
-    ),
-    (
         ((9, 6, false), AT_2_TO_THE_64 + 1, (&[], ONES)),
         (&[], &[(MAX, 100)]),
         Ok(true),
@@ -180,23 +142,11 @@ const RANGES: &[Row<'static>] = &[
         Ok(true),
         &[(0, 63, 1)],
     ),
-    // nothing at all, no clusters, and a cluster that gains what it loses
-    (
-        ((9, 4, false), 0, (&[], &[(5, 1, 1)])),
-        (&[], &[]),
-        Ok(false),
-        &[(5, 1, 1)],
-    ),
+    // no clusters
     (
         ((9, 4, false), 0, (&[], &[(5, 1, 1)])),
         (&[], &[(5, 0)]),
         Ok(false),
-        &[(5, 1, 1)],
-    ),
-    (
-        ((9, 4, false), 0, (&[], &[(5, 1, 1)])),
-        (&[5], &[(5, 1)]),
-        Ok(true),
         &[(5, 1, 1)],
     ),
     // what was counted up or down before a refusal is put back
@@ -207,173 +157,31 @@ const RANGES: &[Row<'static>] = &[
         &[(0, 200, 1)],
     ),
     (
-        ((9, 4, false), 0, (&[], &[(0, 200, 1)])),
-        (&[0, 1, 2], &[(0, 201)]),
-        Err(Fault::CounterRange),
-        &[(0, 200, 1)],
-    ),
-    (
         ((9, 6, false), 1, (&[], &[(0, 63, 1)])),
         (&[64], &[(60, 1000)]),
         Err(Fault::CounterRange),
         &[(0, 63, 1)],
     ),
-    (
-        ((9, 0, false), 0, (&[], &[(5, 1, 1)])),
-        (&[6, 7, 5], &[]),
-        Err(Fault::CounterRange),
-        &[(5, 1, 1)],
-    ),
-];
-
-const WIDTHS: &[Row<'static>] = &[
-    // a cluster that gains what it loses, by counters of each width
-    (
-        ((9, 0, false), 0, (&[], &[])),
-        (&[5], &[(5, 1)]),
-        Ok(true),
-        &[],
-    ),
-    (
-        ((9, 1, false), 0, (&[], &[])),
-        (&[5], &[(5, 1)]),
-        Ok(true),
-        &[],
-    ),
-    (
-        ((9, 2, false), 0, (&[], &[])),
-        (&[5], &[(5, 1)]),
-        Ok(true),
-        &[],
-    ),
-    (
-        ((9, 3, false), 0, (&[], &[])),
-        (&[5], &[(5, 1)]),
-        Ok(true),
-        &[],
-    ),
-    (
-        ((9, 4, false), 0, (&[], &[])),
-        (&[5], &[(5, 1)]),
-        Ok(true),
-        &[],
-    ),
-    (
-        ((9, 5, false), 0, (&[], &[])),
-        (&[5], &[(5, 1)]),
-        Ok(true),
-        &[],
-    ),
-    (
-        ((9, 6, false), 0, (&[], &[])),
-        (&[5], &[(5, 1)]),
-        Ok(true),
-        &[],
-    ),
-    // counters at the greatest number of their width
-    (
-        ((9, 0, false), 0, (FULL, &[])),
-        (&[5], &[(5, 1)]),
-        Err(Fault::CounterRange),
-        &[(0, 4096, 1)],
-    ),
-    (
-        ((9, 0, false), 0, (FULL, &[])),
-        (&[], &[(5, 1)]),
-        Ok(true),
-        &[(5, 1, 0), (0, 4096, 1)],
-    ),
-    (
-        ((9, 1, false), 0, (FULL, &[])),
-        (&[5], &[(5, 1)]),
-        Err(Fault::CounterRange),
-        &[(0, 2048, 3)],
-    ),
-    (
-        ((9, 1, false), 0, (FULL, &[])),
-        (&[], &[(5, 1)]),
-        Ok(true),
-        &[(5, 1, 2), (0, 2048, 3)],
-    ),
-    (
-        ((9, 2, false), 0, (FULL, &[])),
-        (&[5], &[(5, 1)]),
-        Err(Fault::CounterRange),
-        &[(0, 1024, 15)],
-    ),
-    (
-        ((9, 2, false), 0, (FULL, &[])),
-        (&[], &[(5, 1)]),
-        Ok(true),
-        &[(5, 1, 14), (0, 1024, 15)],
-    ),
-    (
-        ((9, 3, false), 0, (FULL, &[])),
-        (&[5], &[(5, 1)]),
-        Err(Fault::CounterRange),
-        &[(0, 512, 255)],
-    ),
-    (
-        ((9, 3, false), 0, (FULL, &[])),
-        (&[], &[(5, 1)]),
-        Ok(true),
-        &[(5, 1, 254), (0, 512, 255)],
-    ),
-    (
-        ((9, 4, false), 0, (FULL, &[])),
-        (&[5], &[(5, 1)]),
-        Err(Fault::CounterRange),
-        &[(0, 256, 0xffff)],
-    ),
-    (
-        ((9, 4, false), 0, (FULL, &[])),
-        (&[], &[(5, 1)]),
-        Ok(true),
-        &[(5, 1, 0xfffe), (0, 256, 0xffff)],
-    ),
-    (
-        ((9, 5, false), 0, (FULL, &[])),
-        (&[5], &[(5, 1)]),
-        Err(Fault::CounterRange),
-        &[(0, 128, 0xffff_ffff)],
-    ),
-    (
-        ((9, 5, false), 0, (FULL, &[])),
-        (&[], &[(5, 1)]),
-        Ok(true),
-        &[(5, 1, 0xffff_fffe), (0, 128, 0xffff_ffff)],
-    ),
-    (
-        ((9, 6, false), 0, (FULL, &[])),
-        (&[5], &[(5, 1)]),
-        Err(Fault::CounterRange),
-        &[(0, 64, MAX)],
-    ),
-    (
-        ((9, 6, false), 0, (FULL, &[])),
-        (&[], &[(5, 1)]),
-        Ok(true),
-        &[(5, 1, MAX - 1), (0, 64, MAX)],
-    ),
     // an external data file, which is refused before anything
     (
         ((9, 4, true), 0, (&[], FIVE)),
-        (&[], &[]),
+        (&[5], &[(6, 1)]),
         Err(Fault::ExternalData),
         FIVE,
     ),
-    (
-        ((9, 4, true), 0, (&[], FIVE)),
-        (&[5], &[]),
-        Err(Fault::ExternalData),
-        FIVE,
-    ),
-    (
-        ((9, 4, true), 0, (&[], FIVE)),
-        (&[], &[(6, 1)]),
-        Err(Fault::ExternalData),
-        FIVE,
-    ),
+];
+
+// A refcount order, how many counters a block of 512 bytes has, and the greatest number of each.
+type Width = (u32, usize, u64);
+
+const WIDTHS: &[Width] = &[
+    (0, 4096, 1),
+    (1, 2048, 3),
+    (2, 1024, 15),
+    (3, 512, 255),
+    (4, 256, 0xffff),
+    (5, 128, 0xffff_ffff),
+    (6, 64, MAX),
 ];
 
 // Settles a block with each flag as each row says.
@@ -397,7 +205,28 @@ fn ranges_are_counted_as_far_as_the_block_counts_them(rt: HostRuntime) -> Result
 
 #[test]
 fn no_counter_passes_the_greatest_number_of_its_width(rt: HostRuntime) -> Result<(), Fail> {
-    rows_settle(rt.alloc(), WIDTHS)
+    for row in WIDTHS {
+        settle_at_ends(rt.alloc(), *row)?;
+    }
+    Ok(())
+}
+
+// A cluster gains what it loses where its counter is 0, but not where it is at the greatest number.
+fn settle_at_ends(alloc: Global, (order, count, greatest): Width) -> Result<(), Fail> {
+    let image: Image = (9, order, false);
+    let full = [(0, count, greatest)];
+    let below = [(5, 1, greatest.wrapping_sub(1)), (0, count, greatest)];
+    let rows: [Row<'_>; 3] = [
+        ((image, 0, (&[], &[])), (&[5], &[(5, 1)]), Ok(true), &[]),
+        (
+            (image, 0, (FULL, &[])),
+            (&[5], &[(5, 1)]),
+            Err(Fault::CounterRange),
+            &full,
+        ),
+        ((image, 0, (FULL, &[])), (&[], &[(5, 1)]), Ok(true), &below),
+    ];
+    rows_settle(alloc, &rows)
 }
 
 // Settles a block with this flag as the row says.
@@ -446,14 +275,6 @@ const SETTLED: &[Settled<'static>] = &[
         Err(Fault::CounterRange),
         (DATA_5, &[], false),
     ),
-    // zeros, without the cluster and with it
-    (
-        ((9, 4, false), 0, FIVE),
-        DATA_5,
-        &[ZERO],
-        Ok((&[], &[(5, 1)])),
-        (1, &[], true),
-    ),
     (
         ((9, 4, false), 0, FIVE),
         DATA_5,
@@ -475,14 +296,6 @@ const SETTLED: &[Settled<'static>] = &[
         Ok((&[6], &[(5, 1)])),
         (0x8000_0000_0000_0c00, &[(6, 1, 1)], true),
     ),
-    // the cluster that the entry has already is kept
-    (
-        ((9, 4, false), 0, FIVE),
-        DATA_5,
-        &[TO_5],
-        Ok(NONE),
-        (DATA_5, FIVE, false),
-    ),
     // there and back
     (
         ((9, 4, false), 0, FIVE),
@@ -497,13 +310,6 @@ const SETTLED: &[Settled<'static>] = &[
         &[TO_6, TO_5],
         Err(Fault::CounterRange),
         (DATA_5, FIVE, false),
-    ),
-    (
-        ((9, 0, false), 0, &[(5, 2, 1)]),
-        DATA_5,
-        &[TO_6],
-        Err(Fault::CounterRange),
-        (DATA_5, &[(5, 2, 1)], false),
     ),
     // a block that counts none of the clusters
     (
@@ -524,32 +330,11 @@ const SETTLED: &[Settled<'static>] = &[
     (
         ((9, 4, false), 0, FIVE),
         DATA_5,
-        &[ZERO, TO_0],
-        Err(Fault::BadEdit(1)),
-        (DATA_5, FIVE, false),
-    ),
-    (
-        ((9, 4, false), 0, FIVE),
-        DATA_5,
         &[],
         Ok(NONE),
         (DATA_5, FIVE, false),
     ),
     // an external data file, which is refused before anything
-    (
-        ((9, 4, true), 0, FIVE),
-        DATA_5,
-        &[],
-        Err(Fault::ExternalData),
-        (DATA_5, FIVE, false),
-    ),
-    (
-        ((9, 4, true), 0, FIVE),
-        DATA_5,
-        &[GONE],
-        Err(Fault::ExternalData),
-        (DATA_5, FIVE, false),
-    ),
     (
         ((9, 4, true), 0, FIVE),
         DATA_5,
@@ -562,10 +347,8 @@ const SETTLED: &[Settled<'static>] = &[
 #[test]
 fn edits_are_counted_or_not_made(rt: HostRuntime) -> Result<(), Fail> {
     for row in SETTLED {
-        for modified in [false, true] {
-            edits_settle(rt.alloc(), *row, (modified, false))?;
-            edits_settle(rt.alloc(), *row, (modified, true))?;
-        }
+        edits_settle(rt.alloc(), *row, (false, true))?;
+        edits_settle(rt.alloc(), *row, (true, false))?;
     }
     Ok(())
 }

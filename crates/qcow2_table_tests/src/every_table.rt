@@ -137,16 +137,15 @@ fn an_entry_past_the_end_is_the_entry_0(rt: HostRuntime) -> Result<(), Fail> {
 
 #[test]
 fn each_kind_of_table_has_its_name_and_its_most_entries() -> Result<(), Fail> {
-    same(
+    let found = [
         (L1Table::NAME, L1Table::MAX_ENTRIES),
-        ("L1 table", 4194304),
-        "L1",
-    )?;
-    same(
         (L2Table::NAME, L2Table::MAX_ENTRIES),
+        (RefTable::NAME, RefTable::MAX_ENTRIES),
+    ];
+    let expected = [
+        ("L1 table", 4194304),
         ("L2 table", 262144),
-        "L2",
-    )?;
-    let found = (RefTable::NAME, RefTable::MAX_ENTRIES);
-    same(found, ("Refcount table", 4194304), "refcounts")
+        ("Refcount table", 4194304),
+    ];
+    same(found, expected, "tables")
 }

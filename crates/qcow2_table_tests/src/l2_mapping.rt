@@ -95,37 +95,15 @@ const ENTERED: &[(u32, Reads, u64, Reads, Reads)] = &[
         Data(5, true),
     ),
     (
-        21,
-        Data(1, false),
-        0x20_0000,
-        Data(1, false),
-        Data(1, false),
-    ),
-    (
-        9,
-        Zeros(Some(5), true),
-        0x8000_0000_0000_0a01,
-        Zeros(Some(5), true),
-        Zeros(Some(5), true),
-    ),
-    (
         16,
         Zeros(Some(2), false),
         0x2_0001,
         Zeros(Some(2), false),
         Zeros(Some(2), false),
     ),
-    (
-        21,
-        Zeros(None, false),
-        1,
-        Zeros(None, false),
-        Zeros(None, false),
-    ),
     (9, Backing(0), 0, Backing(1536), Backing(1536)),
     // cluster 0 is one only where it is copied in an external data file
     (9, Data(0, true), 1 << 63, Backing(1536), Data(0, true)),
-    (9, Data(0, false), 0, Backing(1536), Backing(1536)),
     (
         9,
         Zeros(Some(0), true),
@@ -133,21 +111,7 @@ const ENTERED: &[(u32, Reads, u64, Reads, Reads)] = &[
         Zeros(None, false),
         Zeros(Some(0), true),
     ),
-    (
-        9,
-        Zeros(Some(0), false),
-        1,
-        Zeros(None, false),
-        Zeros(None, false),
-    ),
     // compressed data reaches to the end of its last sector
-    (
-        9,
-        Compressed(2, 511),
-        0x6000_0000_0000_0002,
-        Compressed(2, 1022),
-        Compressed(2, 1022),
-    ),
     (
         16,
         Compressed(0x1_0010, 1000),

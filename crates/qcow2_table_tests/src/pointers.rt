@@ -3,7 +3,7 @@
 use crate::fixtures::{CLEARED, Told, cleared_l1_table, header_with, place, table_that_tells};
 use crate::pending_clusters::{Refusal, not_placed, refusal};
 use qcow2_base::{ClusterCount, Fault, HostCluster, HostOffset, Storage};
-use qcow2_metadata::{Header, PendingClusters, RefTable, Table};
+use qcow2_metadata::{Header, L1Table, PendingClusters, RefTable, Table};
 use qcow2_testing::{FailingStorage, filled_image, put_bytes, same, same_bytes};
 use std::alloc::Global;
 use std::test::Fail;
@@ -17,6 +17,10 @@ fn set_l1_table(
 ) -> Result<Refusal, Fault> {
     let mut table = cleared_l1_table(alloc, header, 1)?;
     place(&mut table, cluster, true)?;
+    refer_to(header, &table)
+}
+
+fn refer_to(header: &mut Header, table: &L1Table) -> Result<Refusal, Fault> {
     if table.cluster_bits() != header.cluster_bits() {
         return Err(Fault::ClusterSize);
     }
@@ -24,7 +28,7 @@ fn set_l1_table(
         Some(first) => PendingClusters::new(first, table.cluster_count()),
         None => PendingClusters::new(HostCluster(7), ClusterCount(3)),
     };
-    Ok(refusal(header.set_l1_table(&table, Some(pending))))
+    Ok(refusal(header.set_l1_table(table, Some(pending))))
 }
 
 // Gives the header a refcount table of 65 entries with a cluster or none.

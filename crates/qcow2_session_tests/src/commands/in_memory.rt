@@ -37,18 +37,6 @@ const ROWS: &[Row] = &[
     ),
     (("info", &[]), &[(88, 1)], (Some(Ok(())), INFO), &[(88, 1)]),
     (
-        ("list", &[]),
-        &[],
-        (Some(Ok(())), "0x600 data 0xa00 copied\n"),
-        &[],
-    ),
-    (
-        ("at", &["1543"]),
-        &[],
-        (Some(Ok(())), "data 0xa00 copied\n"),
-        &[],
-    ),
-    (
         ("edit", &["0", "map:3:6", "keep:4"]),
         &[(88, 1)],
         (Some(Ok(())), "freed 5 1\ngained 6\n"),
@@ -90,8 +78,6 @@ const ROWS: &[Row] = &[
         &[(1528, 2)],
     ),
     (("map", &["yaml"]), &[], (None, ""), &[]),
-    (("map", &["json", "json"]), &[], (None, ""), &[]),
-    (("at", &[]), &[], (None, ""), &[]),
     (("edit", &["0", "map:3"]), &[], (None, ""), &[]),
 ];
 
@@ -110,7 +96,7 @@ fn runs(alloc: Global, row: Row) -> Result<(), Fail> {
     let mut out = FailingOutput::new(alloc, Failure::Never)?;
     let answer = run_command(alloc, &mut image, (name, arguments.as_slice()), &mut out);
     let printed = std::str::from_utf8(out.bytes())?;
-    same((answer, printed), expected, row)?;
+    same((answer, printed), expected, name)?;
     let after = sample_image(alloc, 9, after)?;
-    same_bytes(image.bytes(), after.bytes(), row)
+    same_bytes(image.bytes(), after.bytes(), name)
 }

@@ -68,24 +68,19 @@ pub(crate) fn runs(
     same((run.status, out, err), expected, words)
 }
 
-// Words that are no command, for `l2` first.
+// Words that are no command.
 const NO_COMMANDS: &[&[&str]] = &[
     &[],
     &[""],
     &["l2"],
     &["l2", "IMAGE"],
     &["l2", "IMAGE", "9"],
-    &["l2", "IMAGE", "9", "2", "2"],
     &["l2", "IMAGE", "9", "2", ""],
     &["l2", "IMAGE", "8", "2"],
     &["l2", "IMAGE", "22", "2"],
-    &["l2", "IMAGE", "0", "2"],
     &["l2", "IMAGE", "4294967305", "2"],
-    &["l2", "IMAGE", "2", "nine"],
     &["", "IMAGE", "9", "2"],
     &["L2", "IMAGE", "9", "2"],
-    &["l2 ", "IMAGE", "9", "2"],
-    &["l", "IMAGE", "9", "2"],
     &["l22", "IMAGE", "9", "2"],
     &["IMAGE", "l2", "9", "2"],
     &["information", "IMAGE"],
@@ -95,35 +90,20 @@ const NO_COMMANDS: &[&[&str]] = &[
 // A number is 1 to 20 digits that fit 64 bits.
 const NO_NUMBERS: &[&[&str]] = &[
     &["l2", "IMAGE", "9", ""],
-    &["l2", "IMAGE", "9", "+"],
-    &["l2", "IMAGE", "9", "-"],
     &["l2", "IMAGE", "9", "+2"],
-    &["l2", "IMAGE", "9", "+9"],
-    &["l2", "IMAGE", "9", "++9"],
     &["l2", "IMAGE", "9", "-1"],
-    &["l2", "IMAGE", "9", "-0"],
     &["l2", "IMAGE", "9", " 2"],
-    &["l2", "IMAGE", "9", "2 "],
     &["l2", "IMAGE", "9", "9\n"],
-    &["l2", "IMAGE", "9", "1 0"],
     &["l2", "IMAGE", "9", "1_0"],
-    &["l2", "IMAGE", "9", "1,0"],
     &["l2", "IMAGE", "9", "9.0"],
     &["l2", "IMAGE", "9", "1e1"],
     &["l2", "IMAGE", "9", "0x9"],
-    &["l2", "IMAGE", "9", "9u32"],
     &["l2", "IMAGE", "9", "a"],
     &["l2", "IMAGE", "9", "18446744073709551616"],
-    &["l2", "IMAGE", "9", "99999999999999999999"],
     &["l2", "IMAGE", "9", "000000000000000000002"],
-    &["l2", "IMAGE", "9", "000000000000000000009"],
-    &["l2", "IMAGE", "9", "+00000000000000000009"],
     &["l2", "IMAGE", "9", "\u{0669}"],
-    &["l2", "IMAGE", "9", "\u{ff19}"],
     &["l2", "IMAGE", "+9", "2"],
     &["l2", "IMAGE", "000000000000000000009", "2"],
-    &["l2", "IMAGE", "+00000000000000000009", "2"],
-    &["l2", "IMAGE", "\u{ff19}", "2"],
 ];
 
 const NO_ARGUMENTS: &[&[&str]] = &[
@@ -132,87 +112,41 @@ const NO_ARGUMENTS: &[&[&str]] = &[
     &["list", "IMAGE", ""],
     &["at", "IMAGE"],
     &["at", "IMAGE", "0x600"],
-    &["at", "IMAGE", "18446744073709551616"],
     &["at", "IMAGE", "0", "0"],
     &["edit", "IMAGE"],
     &["edit", "IMAGE", "map:3:5"],
-    &["edit", "IMAGE", "0", "map:3"],
     &["edit", "IMAGE", "0", "map:3:5:1"],
-    &["edit", "IMAGE", "0", "map:3:"],
     &["edit", "IMAGE", "0", "map::5"],
     &["edit", "IMAGE", "0", "zero:3:1"],
     &["edit", "IMAGE", "0", "keep"],
-    &["edit", "IMAGE", "0", "discard: 3"],
     &["edit", "IMAGE", "0", "Discard:3"],
     &["edit", "IMAGE", "0", "discard:3", "inc:3"],
-    &["edit", "IMAGE", "0", "discard:3", ""],
     &["count", "IMAGE"],
-    &["count", "IMAGE", "3", "add:0"],
     &["count", "IMAGE", "3", "inc:+1"],
     &["count", "IMAGE", "3", "inc:0:1"],
     &["count", "IMAGE", "3", "inc:0", "discard:0"],
-    &["count", "IMAGE", "three"],
 ];
 
-// Runs lines of words that are no command, which opens no file.
-fn are_refused(rt: &HostRuntime, name: &str, lines: &[&[&str]]) -> Result<(), Fail> {
-    for words in lines {
-        ends_with(rt, name, (&[], &[]), words, NO_FAILURES, (2, "", USAGE))?;
+// No file is opened.
+#[test]
+fn words_that_are_no_command_are_the_usage_line(rt: HostRuntime) -> Result<(), Fail> {
+    for lines in [NO_COMMANDS, NO_NUMBERS, NO_ARGUMENTS] {
+        for words in lines {
+            let ended = (2, "", USAGE);
+            ends_with(&rt, "no-command", (&[], &[]), words, NO_FAILURES, ended)?;
+        }
     }
     Ok(())
 }
 
-#[test]
-fn wrong_words_are_the_usage_line(rt: HostRuntime) -> Result<(), Fail> {
-    are_refused(&rt, "no-commands", NO_COMMANDS)
-}
-
-#[test]
-fn a_number_is_1_to_20_digits_that_fit_64_bits(rt: HostRuntime) -> Result<(), Fail> {
-    are_refused(&rt, "no-numbers", NO_NUMBERS)
-}
-
-#[test]
-fn wrong_arguments_of_a_command_are_the_usage_line(rt: HostRuntime) -> Result<(), Fail> {
-    are_refused(&rt, "no-arguments", NO_ARGUMENTS)
-}
-
-// All faults, in the order of their numbers.
+// Faults with numbers of one digit and of two, with what they carry and without.
 const REPORTED: &[(Fault, &str)] = &[
     (Fault::NotQcow2, "qmeta: fault 1\n"),
-    (Fault::Version, "qmeta: fault 2\n"),
-    (Fault::ClusterSize, "qmeta: fault 3\n"),
-    (Fault::HeaderShort, "qmeta: fault 4\n"),
-    (Fault::HeaderBig, "qmeta: fault 5\n"),
-    (Fault::L1Unaligned, "qmeta: fault 6\n"),
-    (Fault::ReftableUnaligned, "qmeta: fault 7\n"),
-    (Fault::RefcountWidth, "qmeta: fault 8\n"),
     (Fault::BackingNameLong, "qmeta: fault 9\n"),
     (Fault::BackingNamePlace, "qmeta: fault 10\n"),
-    (Fault::BackingNameText, "qmeta: fault 11\n"),
-    (Fault::ExtensionsExceed, "qmeta: fault 12\n"),
-    (Fault::ExtensionText, "qmeta: fault 13\n"),
-    (Fault::FeatureNameCut, "qmeta: fault 14\n"),
-    (Fault::FormatConflict, "qmeta: fault 15\n"),
-    (Fault::DataFileConflict, "qmeta: fault 16\n"),
     (Fault::Incompatible(2), "qmeta: fault 17\n"),
-    (Fault::EntryReserved, "qmeta: fault 18\n"),
-    (Fault::EntryUnaligned, "qmeta: fault 19\n"),
-    (Fault::TableTooBig, "qmeta: fault 20\n"),
-    (Fault::TablePlace, "qmeta: fault 21\n"),
-    (Fault::NoOffset, "qmeta: fault 22\n"),
-    (Fault::NotPlaced, "qmeta: fault 23\n"),
-    (Fault::HeaderTooLong, "qmeta: fault 24\n"),
-    (Fault::NameTooLong, "qmeta: fault 25\n"),
     (Fault::FieldChanged(Field::Version), "qmeta: fault 26\n"),
-    (Fault::VersionNeeded, "qmeta: fault 27\n"),
-    (Fault::CannotGrow, "qmeta: fault 28\n"),
-    (Fault::TooMany, "qmeta: fault 29\n"),
-    (Fault::CounterRange, "qmeta: fault 30\n"),
-    (Fault::WrongLength, "qmeta: fault 31\n"),
     (Fault::BadEdit(7), "qmeta: fault 32\n"),
-    (Fault::BadStep(7), "qmeta: fault 33\n"),
-    (Fault::Storage, "qmeta: fault 34\n"),
     (Fault::NoMemory, "qmeta: fault 35\n"),
     (Fault::ExternalData, "qmeta: fault 36\n"),
 ];

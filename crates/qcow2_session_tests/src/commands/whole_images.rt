@@ -80,22 +80,9 @@ const TABLES: &[Row] = &[
         (0, ONE_LINE, ""),
         TABLE_ALONE,
     ),
-    (
-        TABLE_ALONE,
-        &["l2", "IMAGE", "9", "0"],
-        (0, "", ""),
-        TABLE_ALONE,
-    ),
     // tables, by their cluster bits and their cluster
     (&[], &["l2", "IMAGE", "9", "2"], (0, ONE_LINE, ""), &[]),
     (&[], &["l2", "IMAGE", "9", "0"], BAD_ENTRY, &[]),
-    (
-        &[],
-        &["l2", "IMAGE", "9", "1"],
-        (0, "0 data 0x400 copied\n", ""),
-        &[],
-    ),
-    (&[], &["l2", "IMAGE", "9", "3"], (0, "", ""), &[]),
     (&[], &["l2", "IMAGE", "10", "1"], UNALIGNED, &[]),
     (&[], &["l2", "IMAGE", "21", "1"], (0, "", ""), &[]),
     (
@@ -107,24 +94,10 @@ const TABLES: &[Row] = &[
     (&[], &["l2", "IMAGE", "9", "140737488355328"], NO_PLACE, &[]),
     (
         &[],
-        &["l2", "IMAGE", "9", "18446744073709551615"],
-        NO_PLACE,
-        &[],
-    ),
-    (
-        &[],
-        &["l2", "IMAGE", "9", "09223372036854775808"],
-        NO_PLACE,
-        &[],
-    ),
-    (&[], &["l2", "IMAGE", "9", "02"], (0, ONE_LINE, ""), &[]),
-    (
-        &[],
         &["l2", "IMAGE", "9", "00000000000000000002"],
         (0, ONE_LINE, ""),
         &[],
     ),
-    (&[], &["l2", "IMAGE", "09", "2"], (0, ONE_LINE, ""), &[]),
     (
         &[],
         &["l2", "IMAGE", "00000000000000000009", "2"],
@@ -135,7 +108,6 @@ const TABLES: &[Row] = &[
     (&[], &["l2", "no-such-folder/image", "9", "2"], NO_FILE, &[]),
     (&[], &["l2", "/", "9", "2"], NO_FILE, &[]),
     (&[], &["l2", "", "9", "140737488355328"], NO_FILE, &[]),
-    (&[], &["info", ""], NO_FILE, &[]),
     (
         &[],
         &["edit", "no-such-folder/image", "0", "zero:3"],
@@ -154,13 +126,6 @@ const LOOKS: &[Row] = &[
         (0, "data 0xa00 copied\n", ""),
         &[],
     ),
-    (&[], &["at", "IMAGE", "0"], (0, "backing 0x0\n", ""), &[]),
-    (
-        &[],
-        &["at", "IMAGE", "32768"],
-        (0, "backing 0x8000\n", ""),
-        &[],
-    ),
     (
         &[],
         &["at", "IMAGE", "18446744073709551615"],
@@ -168,7 +133,6 @@ const LOOKS: &[Row] = &[
         &[],
     ),
     (&[], &["edit", "IMAGE", "0"], (0, "", ""), &[]),
-    (&[], &["count", "IMAGE", "3"], (0, "", ""), &[]),
     (
         &[],
         &["count", "IMAGE", "3", "dec:0"],
@@ -179,18 +143,6 @@ const LOOKS: &[Row] = &[
         &[],
         &["edit", "IMAGE", "0", "discard:3", "map:64:5"],
         (1, "", "qmeta: fault 32\n"),
-        &[],
-    ),
-    (
-        &[],
-        &["edit", "IMAGE", "0", "map:0:0"],
-        (1, "", "qmeta: fault 32\n"),
-        &[],
-    ),
-    (
-        &[],
-        &["edit", "IMAGE", "1", "discard:0"],
-        (1, "", "qmeta: fault 23\n"),
         &[],
     ),
     (
@@ -223,21 +175,9 @@ const CHANGES: &[Row] = &[
     ),
     (
         &[],
-        &["edit", "IMAGE", "0", "map:3:6"],
-        (0, "freed 5 1\ngained 6\n", ""),
-        &[(1048, COPIED + 0xc00)],
-    ),
-    (
-        &[],
         &["edit", "IMAGE", "0", "keep:3"],
         (0, "", ""),
         &[(1048, COPIED + 0xa01)],
-    ),
-    (
-        &[],
-        &["edit", "IMAGE", "00", "zero:3"],
-        (0, "freed 5 1\n", ""),
-        &[(1048, 1)],
     ),
     (
         &[],
@@ -265,13 +205,6 @@ const CHANGES: &[Row] = &[
     ),
     // an autoclear feature, which no command leaves that edits or counts
     (&[(88, 1)], &["info", "IMAGE"], (0, INFO, ""), &[(88, 1)]),
-    (&[(88, 1)], &["list", "IMAGE"], (0, LIST, ""), &[(88, 1)]),
-    (
-        &[(88, 1)],
-        &["at", "IMAGE", "0"],
-        (0, "backing 0x0\n", ""),
-        &[(88, 1)],
-    ),
     (&[(88, 1)], &["edit", "IMAGE", "0"], (0, "", ""), &[]),
     (
         &[(88, 1)],
@@ -279,24 +212,12 @@ const CHANGES: &[Row] = &[
         (1, "", "qmeta: fault 32\n"),
         &[],
     ),
-    (
-        &[(88, 1)],
-        &["edit", "IMAGE", "0", "zero:3"],
-        (0, "freed 5 1\n", ""),
-        &[(1048, 1)],
-    ),
     (&[(88, 1)], &["count", "IMAGE", "3"], (0, "", ""), &[]),
 ];
 
 const DAMAGES: &[Row] = &[
     // a header alone
     (HEADER_ALONE, &["list", "IMAGE"], (0, "", ""), HEADER_ALONE),
-    (
-        HEADER_ALONE,
-        &["at", "IMAGE", "0"],
-        (0, "backing 0x0\n", ""),
-        HEADER_ALONE,
-    ),
     (
         HEADER_ALONE,
         &["edit", "IMAGE", "0"],
@@ -308,19 +229,7 @@ const DAMAGES: &[Row] = &[
     // a damaged part is its fault where a command reads it
     (
         &[(0, 0)],
-        &["info", "IMAGE"],
-        (1, "", "qmeta: fault 1\n"),
-        &[(0, 0)],
-    ),
-    (
-        &[(0, 0)],
         &["list", "IMAGE"],
-        (1, "", "qmeta: fault 1\n"),
-        &[(0, 0)],
-    ),
-    (
-        &[(0, 0)],
-        &["at", "IMAGE", "0"],
         (1, "", "qmeta: fault 1\n"),
         &[(0, 0)],
     ),
@@ -344,30 +253,9 @@ const DAMAGES: &[Row] = &[
         FAR_L1_TABLE,
     ),
     (FAR_L1_TABLE, &["list", "IMAGE"], NO_PLACE, FAR_L1_TABLE),
-    (FAR_L1_TABLE, &["at", "IMAGE", "0"], NO_PLACE, FAR_L1_TABLE),
-    (
-        FAR_L1_TABLE,
-        &["edit", "IMAGE", "0", "discard:3"],
-        NO_PLACE,
-        FAR_L1_TABLE,
-    ),
     // a bad entry of the L1 table, one of the L2 table, and one of the second L2 table
     (&[(512, 1)], &["info", "IMAGE"], (0, INFO, ""), &[(512, 1)]),
     (&[(512, 1)], &["list", "IMAGE"], BAD_ENTRY, &[(512, 1)]),
-    (&[(512, 1)], &["at", "IMAGE", "0"], BAD_ENTRY, &[(512, 1)]),
-    (
-        &[(512, 1)],
-        &["edit", "IMAGE", "0", "discard:3"],
-        BAD_ENTRY,
-        &[(512, 1)],
-    ),
-    (
-        &[(1528, 2)],
-        &["info", "IMAGE"],
-        (0, INFO, ""),
-        &[(1528, 2)],
-    ),
-    (&[(1528, 2)], &["list", "IMAGE"], BAD_ENTRY, &[(1528, 2)]),
     (&[(1528, 2)], &["at", "IMAGE", "0"], BAD_ENTRY, &[(1528, 2)]),
     (
         &[(1528, 2)],
@@ -471,13 +359,6 @@ const LINES: &str = "0 data 0xa00 copied\n2 zero\n3 zero 0x600\n4 compressed 0x6
 
 const FAILING: &[FailingRow] = &[
     (
-        &[],
-        &["l2", "IMAGE", "9", "2"],
-        (Failure::WriteAfter(0), Failure::Never),
-        (1, "", STORAGE),
-        &[],
-    ),
-    (
         LINES_5,
         &["l2", "IMAGE", "9", "2"],
         (Failure::WriteAfter(30), Failure::Never),
@@ -493,23 +374,9 @@ const FAILING: &[FailingRow] = &[
     ),
     (
         &[],
-        &["info", "IMAGE"],
-        (Failure::WriteAfter(30), Failure::Never),
-        (1, "version 3\ncluster-bits 9\nsize ", STORAGE),
-        &[],
-    ),
-    (
-        &[],
         &["list", "IMAGE"],
         (Failure::WriteAfter(6), Failure::Never),
         (1, "0x600 ", STORAGE),
-        &[],
-    ),
-    (
-        &[],
-        &["at", "IMAGE", "1543"],
-        (Failure::WriteAfter(5), Failure::Never),
-        (1, "data ", STORAGE),
         &[],
     ),
     (
@@ -536,13 +403,6 @@ const FAILING: &[FailingRow] = &[
     ),
     (
         &[],
-        &["l2", "IMAGE", "9", "3"],
-        (Failure::Flush, Failure::Never),
-        (1, "", STORAGE),
-        &[],
-    ),
-    (
-        &[],
         &["edit", "IMAGE", "0", "zero:3"],
         (Failure::Flush, Failure::Never),
         (1, "", STORAGE),
@@ -553,13 +413,6 @@ const FAILING: &[FailingRow] = &[
         &["l2", "IMAGE", "9", "140737488355328"],
         (Failure::Flush, Failure::Never),
         NO_PLACE,
-        &[],
-    ),
-    (
-        &[],
-        &["l2", "IMAGE", "10", "1"],
-        (Failure::Flush, Failure::Never),
-        UNALIGNED,
         &[],
     ),
     // a failed error output keeps the status
@@ -573,13 +426,6 @@ const FAILING: &[FailingRow] = &[
     (
         &[],
         &["l2", "IMAGE", "9", "140737488355328"],
-        (Failure::Never, Failure::WriteAfter(0)),
-        (1, "", ""),
-        &[],
-    ),
-    (
-        &[],
-        &["l2", "IMAGE", "9", "140737488355328"],
         (Failure::Never, Failure::WriteAfter(5)),
         (1, "", "qmeta"),
         &[],
@@ -587,22 +433,8 @@ const FAILING: &[FailingRow] = &[
     (
         &[],
         &["l2", "IMAGE", "9", "140737488355328"],
-        (Failure::Never, Failure::WriteAfter(16)),
-        NO_PLACE,
-        &[],
-    ),
-    (
-        &[],
-        &["l2", "IMAGE", "9", "140737488355328"],
         (Failure::Never, Failure::Flush),
         (1, "", ""),
-        &[],
-    ),
-    (
-        &[],
-        &["l2", "", "9", "2"],
-        (Failure::Never, Failure::WriteAfter(3)),
-        (1, "", "qme"),
         &[],
     ),
     (
@@ -610,13 +442,6 @@ const FAILING: &[FailingRow] = &[
         &["l2", "IMAGE", "8", "2"],
         (Failure::Never, Failure::WriteAfter(9)),
         (2, "", "usage: qm"),
-        &[],
-    ),
-    (
-        &[],
-        &["l2", "IMAGE", "8", "2"],
-        (Failure::Never, Failure::Flush),
-        (2, "", ""),
         &[],
     ),
 ];
