@@ -139,14 +139,42 @@ fn words_that_are_no_command_are_the_usage_line(rt: HostRuntime) -> Result<(), F
     Ok(())
 }
 
-// Faults with numbers of one digit and of two, with what they carry and without.
+// All faults, in the order of their numbers.
 const REPORTED: &[(Fault, &str)] = &[
     (Fault::NotQcow2, "qmeta: fault 1\n"),
+    (Fault::Version, "qmeta: fault 2\n"),
+    (Fault::ClusterSize, "qmeta: fault 3\n"),
+    (Fault::HeaderShort, "qmeta: fault 4\n"),
+    (Fault::HeaderBig, "qmeta: fault 5\n"),
+    (Fault::L1Unaligned, "qmeta: fault 6\n"),
+    (Fault::ReftableUnaligned, "qmeta: fault 7\n"),
+    (Fault::RefcountWidth, "qmeta: fault 8\n"),
     (Fault::BackingNameLong, "qmeta: fault 9\n"),
     (Fault::BackingNamePlace, "qmeta: fault 10\n"),
+    (Fault::BackingNameText, "qmeta: fault 11\n"),
+    (Fault::ExtensionsExceed, "qmeta: fault 12\n"),
+    (Fault::ExtensionText, "qmeta: fault 13\n"),
+    (Fault::FeatureNameCut, "qmeta: fault 14\n"),
+    (Fault::FormatConflict, "qmeta: fault 15\n"),
+    (Fault::DataFileConflict, "qmeta: fault 16\n"),
     (Fault::Incompatible(2), "qmeta: fault 17\n"),
+    (Fault::EntryReserved, "qmeta: fault 18\n"),
+    (Fault::EntryUnaligned, "qmeta: fault 19\n"),
+    (Fault::TableTooBig, "qmeta: fault 20\n"),
+    (Fault::TablePlace, "qmeta: fault 21\n"),
+    (Fault::NoOffset, "qmeta: fault 22\n"),
+    (Fault::NotPlaced, "qmeta: fault 23\n"),
+    (Fault::HeaderTooLong, "qmeta: fault 24\n"),
+    (Fault::NameTooLong, "qmeta: fault 25\n"),
     (Fault::FieldChanged(Field::Version), "qmeta: fault 26\n"),
+    (Fault::VersionNeeded, "qmeta: fault 27\n"),
+    (Fault::CannotGrow, "qmeta: fault 28\n"),
+    (Fault::TooMany, "qmeta: fault 29\n"),
+    (Fault::CounterRange, "qmeta: fault 30\n"),
+    (Fault::WrongLength, "qmeta: fault 31\n"),
     (Fault::BadEdit(7), "qmeta: fault 32\n"),
+    (Fault::BadStep(7), "qmeta: fault 33\n"),
+    (Fault::Storage, "qmeta: fault 34\n"),
     (Fault::NoMemory, "qmeta: fault 35\n"),
     (Fault::ExternalData, "qmeta: fault 36\n"),
 ];
