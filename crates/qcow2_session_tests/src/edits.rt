@@ -69,6 +69,12 @@ const MADE: &[Row<'static>] = &[
     ),
     // cluster 0 of an external data file, which only the copied flag tells
     (
+        "zeros in cluster 0",
+        ((9, true), (0, &[])),
+        &[TO_0, KEEP],
+        Ok(((&[0], &[]), (3, &[0x8000_0000_0000_0001]))),
+    ),
+    (
         "data in cluster 0 again",
         ((9, true), (0, &[])),
         &[TO_0, KEEP, TO_0],
@@ -92,6 +98,12 @@ const MADE: &[Row<'static>] = &[
         ((16, false), (3, &[0x4040_0000_0001_0010])),
         &[TO_1],
         Ok(((&[], &[]), (3, &[0x8000_0000_0001_0000]))),
+    ),
+    (
+        "the second of three clusters",
+        ((10, false), (3, &[0x7000_0000_0000_0600])),
+        &[TO_2],
+        Ok(((&[2], &[(1, 3)]), (3, &[0x8000_0000_0000_0800]))),
     ),
     (
         "three clusters that zeros can't keep",
@@ -151,6 +163,30 @@ const MADE: &[Row<'static>] = &[
 ];
 
 const REFUSED: &[Row<'static>] = &[
+    (
+        "an index past the end",
+        ((9, false), (3, &[DATA_5])),
+        &[GONE, PAST],
+        Err(1),
+    ),
+    (
+        "cluster 0 of an empty table",
+        ((9, false), (0, &[])),
+        &[TO_0, KEEP, TO_0],
+        Err(0),
+    ),
+    (
+        "an index past the end of 2 MiB",
+        ((21, true), (0, &[])),
+        &[
+            Edit::Zero {
+                index: 262_144,
+                keep_allocation: true,
+            },
+            PAST,
+        ],
+        Err(0),
+    ),
     (
         "three edits, two past the end",
         ((9, false), (3, &[DATA_5])),

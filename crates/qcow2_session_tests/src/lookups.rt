@@ -176,20 +176,15 @@ const ROWS: &[Row] = &[
     ),
 ];
 
-// How many bytes of the sample image there are, and what an offset reads as: zeros follow where an image is
-// cut off, up to the last byte of the entry that isn't 0.
-const CUTS: &[(usize, Answer)] = &[
-    (0, Refused(1)),
-    (3, Refused(1)),
-    (4, Refused(2)),
-    (7, Refused(2)),
-    (8, Refused(3)),
-    (23, Refused(3)),
-    (24, Refused(4)),
-    (103, Refused(4)),
-    (104, Backing(1536)),
-    (1054, Backing(1536)),
-    (1055, Data(5, true)),
+// How many bytes of the sample image there are, from a number to before another, and what an offset reads as:
+// zeros follow where an image is cut off, up to the last byte of the entry that isn't 0.
+const CUTS: &[(usize, usize, Answer)] = &[
+    (0, 4, Refused(1)),
+    (4, 8, Refused(2)),
+    (8, 24, Refused(3)),
+    (24, 104, Refused(4)),
+    (104, 1055, Backing(1536)),
+    (1055, 1537, Data(5, true)),
 ];
 
 #[test]
@@ -203,10 +198,21 @@ fn each_offset_reads_as_the_image_says(rt: HostRuntime) -> Result<(), Fail> {
 
 #[test]
 fn an_image_that_is_cut_off_reads_as_if_zeros_followed(rt: HostRuntime) -> Result<(), Fail> {
-    for (len, expected) in CUTS {
-        let image = sample_image(rt.alloc(), 9, &[])?;
-        let bytes = image.bytes().get(..*len).unwrap_or(&[]);
-        reads_as(rt.alloc(), bytes, &[(1543, *expected)], *len)?;
+    let image = sample_image(rt.alloc(), 9, &[])?;
+    for cut in CUTS {
+        cuts_read_as(rt.alloc(), image.bytes(), *cut)?;
+    }
+    Ok(())
+}
+
+fn cuts_read_as(
+    alloc: Global,
+    image: &[u8],
+    (first, end, expected): (usize, usize, Answer),
+) -> Result<(), Fail> {
+    for len in first..end {
+        let bytes = image.get(..len).unwrap_or(&[]);
+        reads_as(alloc, bytes, &[(1543, expected)], len)?;
     }
     Ok(())
 }

@@ -64,6 +64,12 @@ const CLUSTERS: &[Row<'static>] = &[
         &[],
     ),
     (
+        ((9, 6, false), 1, (&[], &[(0, 1, 1)])),
+        (&[], &[(63, 2)]),
+        Ok(true),
+        &[],
+    ),
+    (
         ((9, 0, false), 0, (&[], &[(5, 1, 1)])),
         (&[5], &[(5, 1)]),
         Err(Fault::CounterRange),
@@ -165,6 +171,12 @@ const RANGES: &[Row<'static>] = &[
     // an external data file, which is refused before anything
     (
         ((9, 4, true), 0, (&[], FIVE)),
+        (&[], &[]),
+        Err(Fault::ExternalData),
+        FIVE,
+    ),
+    (
+        ((9, 4, true), 0, (&[], FIVE)),
         (&[5], &[(6, 1)]),
         Err(Fault::ExternalData),
         FIVE,
@@ -261,6 +273,13 @@ type Settled<'a> = (
 );
 
 const SETTLED: &[Settled<'static>] = &[
+    (
+        ((9, 4, true), 0, FIVE),
+        DATA_5,
+        &[],
+        Err(Fault::ExternalData),
+        (DATA_5, FIVE, false),
+    ),
     (
         ((9, 4, false), 0, FIVE),
         DATA_5,

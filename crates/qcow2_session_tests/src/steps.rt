@@ -56,6 +56,13 @@ const ROWS: &[Row<'static>] = &[
         &[(0, 1, 1)],
     ),
     (
+        "one past the end",
+        (4, &[0, 7]),
+        &[INC_0, Step::Inc { index: 256 }],
+        Err(1),
+        &[(0, 1, 7)],
+    ),
+    (
         "none is done",
         (4, &[0xff, 0xff]),
         &[INC_0, DEC_1, INC_0],

@@ -125,6 +125,27 @@ pub(crate) const MEANINGS: &[Meaning] = &[
     ),
     (
         9,
+        true,
+        0x6000_0000_0000_0001,
+        Some((0, 2)),
+        Compressed(1, 1023),
+    ),
+    (
+        9,
+        false,
+        0x40ff_ffff_ffff_ffff,
+        Some((0x7fff_ffff_ffff, 1)),
+        Compressed(0xff_ffff_ffff_ffff, 1),
+    ),
+    (
+        21,
+        false,
+        0x7ffe_0000_001f_fe00,
+        Some((0, 3)),
+        Compressed(0x1f_fe00, 4194304),
+    ),
+    (
+        9,
         false,
         0x60ff_ffff_ffff_ffff,
         Some((0x7fff_ffff_ffff, 2)),

@@ -19,7 +19,9 @@ fn grow(table: &L1Table, index: usize, header: &Header) -> Result<L1Table, Fault
 // Cluster bits, how many entries there are, an index, and how many there are once the table has it, if it
 // can have it.
 const GROWTHS: &[(u32, usize, usize, Option<usize>)] = &[
+    (9, 0, 0, Some(64)),
     (9, 0, 64, Some(128)),
+    (9, 1, 64, Some(128)),
     (9, 64, 0, Some(64)),
     (9, 65, 63, Some(128)),
     (9, 4096, 4194303, Some(4194304)),

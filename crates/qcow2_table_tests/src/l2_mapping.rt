@@ -101,6 +101,13 @@ const ENTERED: &[(u32, Reads, u64, Reads, Reads)] = &[
         Zeros(Some(2), false),
         Zeros(Some(2), false),
     ),
+    (
+        21,
+        Zeros(None, false),
+        1,
+        Zeros(None, false),
+        Zeros(None, false),
+    ),
     (9, Backing(0), 0, Backing(1536), Backing(1536)),
     // cluster 0 is one only where it is copied in an external data file
     (9, Data(0, true), 1 << 63, Backing(1536), Data(0, true)),

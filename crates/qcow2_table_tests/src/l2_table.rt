@@ -1,12 +1,12 @@
 //! L2 tables: new ones, copies for another place, and when they are written.
 
 use crate::fixtures::{
-    CLEARED, LOADED, NUMBER, Told, header_of, header_with, table_that_tells, tells,
+    CLEARED, LOADED, Loads, NUMBER, Told, header_of, header_with, table_that_tells, tells, write,
     write_if_modified,
 };
-use qcow2_base::Fault;
-use qcow2_metadata::{Header, L2Table, Table};
-use qcow2_testing::{FailingStorage, image_with, same, same_bytes};
+use qcow2_base::{ClusterCount, Fault, GuestCluster, HostCluster, MemStorage};
+use qcow2_metadata::{ClustersToFreeEntry, Header, L2Mapping, L2Table, Table};
+use qcow2_testing::{FailingStorage, fits, image_with, same, same_bytes};
 use std::alloc::Global;
 use std::test::Fail;
 
@@ -114,4 +114,64 @@ fn write_if_modified_writes_a_modified_table_alone(rt: HostRuntime) -> Result<()
         is_written(rt.alloc(), *row)?;
     }
     Ok(())
+}
+
+// An image whose cluster 2 is a table of one entry that isn't 0, which maps guest cluster 3 to cluster 5.
+fn image_of_one_mapping(alloc: Global) -> Result<MemStorage, Fault> {
+    image_with(alloc, 1536, &[(1048, 0x8000_0000_0000_0a00)])
+}
+
+fn one_mapping(alloc: Global) -> Result<L2Table, Fault> {
+    let header = header_with(alloc, 9)?;
+    L2Table::load_from(alloc, &mut image_of_one_mapping(alloc)?, &header, 2, 64)
+}
+
+fn mapping_of(table: &L2Table, number: u64) -> Option<L2Mapping> {
+    if !fits(number, 0, table.cluster_bits()) {
+        return None;
+    }
+    table.get_mapping(GuestCluster(number)).ok()
+}
+
+#[test]
+fn each_guest_cluster_but_the_one_that_is_mapped_is_left_to_the_backing_file(
+    rt: HostRuntime,
+) -> Result<(), Fail> {
+    let table = one_mapping(rt.alloc())?;
+    for number in 0..64u64 {
+        let backing_offset = number.wrapping_mul(512);
+        let data = L2Mapping::DataFile {
+            host_cluster: HostCluster(5),
+            copied: true,
+        };
+        let backing = L2Mapping::Backing { backing_offset };
+        let expected = if number == 3 { data } else { backing };
+        same(mapping_of(&table, number), Some(expected), number)?;
+    }
+    Ok(())
+}
+
+fn discard_3(table: &mut L2Table) -> Option<ClustersToFreeEntry> {
+    if 3 >= table.entries() {
+        return None;
+    }
+    table.lock_write().discard_cluster(3)
+}
+
+#[test]
+fn a_mapping_is_written_as_it_was_read_and_is_gone_once_it_is_discarded(
+    rt: HostRuntime,
+) -> Result<(), Fail> {
+    let mut table = one_mapping(rt.alloc())?;
+    let mut image = image_with(rt.alloc(), 1536, &[])?;
+    same(write(&mut table, &mut image), Ok(()), "unedited")?;
+    let before = image_of_one_mapping(rt.alloc())?;
+    same_bytes(image.bytes(), before.bytes(), "unedited")?;
+    let freed = ClustersToFreeEntry {
+        first: HostCluster(5),
+        count: ClusterCount(1),
+    };
+    same(discard_3(&mut table), Some(freed), "discarded")?;
+    same(write(&mut table, &mut image), Ok(()), "discarded")?;
+    same_bytes(image.bytes(), &[0; 1536], "discarded")
 }

@@ -38,13 +38,24 @@ const STEPPED: &[Stepped] = &[
     (0, 9, 1, &[0], &[(Up, Some(0)), (Up, None)], &[2]),
     (0, 0, 0, &[0xff], &[(Down, Some(1)), (Down, None)], &[0xfe]),
     (0, 4095, 511, &[0x7f], &[(Up, Some(0))], &[0xff]),
-    (1, 1, 0, &[8], &[(Up, Some(2)), (Up, None)], &[0x0c]),
+    (1, 1, 0, &[0], &[(Up, Some(0))], &[4]),
+    (
+        1,
+        1,
+        0,
+        &[0],
+        &[(Up, Some(0)), (Up, Some(1)), (Up, Some(2)), (Up, None)],
+        &[0x0c],
+    ),
+    (1, 2, 0, &[0xff], &[(Down, Some(3))], &[0xef]),
     (1, 2047, 511, &[0x80], &[(Up, Some(2))], &[0xc0]),
+    (2, 3, 1, &[0], &[(Up, Some(0))], &[0x10]),
     (2, 3, 1, &[0xff], &[(Up, None), (Down, Some(15))], &[0xef]),
     (2, 1023, 511, &[0x12], &[(Down, Some(1))], &[2]),
     (3, 511, 511, &[0xfe], &[(Up, Some(254)), (Up, None)], &[255]),
     (3, 0, 0, &[1, 7], &[(Down, Some(1)), (Down, None)], &[0, 7]),
     (4, 0, 0, &[0, 0xff], &[(Up, Some(255))], &[1, 0]),
+    (4, 0, 0, &[0, 0], &[(Down, None)], &[0, 0]),
     (4, 255, 510, &[1, 0], &[(Down, Some(256))], &[0, 0xff]),
     (
         5,
@@ -54,6 +65,7 @@ const STEPPED: &[Stepped] = &[
         &[(Up, Some(65535))],
         &[0, 1, 0, 0],
     ),
+    (5, 0, 0, &[0xff; 4], &[(Up, None)], &[0xff; 4]),
     (
         5,
         127,
@@ -77,6 +89,14 @@ const STEPPED: &[Stepped] = &[
         &[0xff, 0xff, 0xff, 0xff, 0xff, 0xff, 0xff, 0xfe],
         &[(Up, Some(u64::MAX - 1)), (Up, None), (Down, Some(u64::MAX))],
         &[0xff, 0xff, 0xff, 0xff, 0xff, 0xff, 0xff, 0xfe],
+    ),
+    (
+        6,
+        1,
+        8,
+        &[0; 8],
+        &[(Down, None), (Up, Some(0))],
+        &[0, 0, 0, 0, 0, 0, 0, 1],
     ),
 ];
 

@@ -80,6 +80,12 @@ const TABLES: &[Row] = &[
         (0, ONE_LINE, ""),
         TABLE_ALONE,
     ),
+    (
+        TABLE_ALONE,
+        &["l2", "IMAGE", "9", "0"],
+        (0, "", ""),
+        TABLE_ALONE,
+    ),
     // tables, by their cluster bits and their cluster
     (&[], &["l2", "IMAGE", "9", "2"], (0, ONE_LINE, ""), &[]),
     (&[], &["l2", "IMAGE", "9", "0"], BAD_ENTRY, &[]),
@@ -92,6 +98,12 @@ const TABLES: &[Row] = &[
         &[],
     ),
     (&[], &["l2", "IMAGE", "9", "140737488355328"], NO_PLACE, &[]),
+    (
+        &[],
+        &["l2", "IMAGE", "9", "18446744073709551615"],
+        NO_PLACE,
+        &[],
+    ),
     (
         &[],
         &["l2", "IMAGE", "9", "00000000000000000002"],
@@ -128,6 +140,12 @@ const LOOKS: &[Row] = &[
     ),
     (
         &[],
+        &["at", "IMAGE", "32768"],
+        (0, "backing 0x8000\n", ""),
+        &[],
+    ),
+    (
+        &[],
         &["at", "IMAGE", "18446744073709551615"],
         (0, "backing 0xfffffffffffffe00\n", ""),
         &[],
@@ -143,6 +161,18 @@ const LOOKS: &[Row] = &[
         &[],
         &["edit", "IMAGE", "0", "discard:3", "map:64:5"],
         (1, "", "qmeta: fault 32\n"),
+        &[],
+    ),
+    (
+        &[],
+        &["edit", "IMAGE", "0", "map:0:0"],
+        (1, "", "qmeta: fault 32\n"),
+        &[],
+    ),
+    (
+        &[],
+        &["edit", "IMAGE", "1", "discard:0"],
+        (1, "", "qmeta: fault 23\n"),
         &[],
     ),
     (
@@ -205,6 +235,13 @@ const CHANGES: &[Row] = &[
     ),
     // an autoclear feature, which no command leaves that edits or counts
     (&[(88, 1)], &["info", "IMAGE"], (0, INFO, ""), &[(88, 1)]),
+    (&[(88, 1)], &["list", "IMAGE"], (0, LIST, ""), &[(88, 1)]),
+    (
+        &[(88, 1)],
+        &["at", "IMAGE", "0"],
+        (0, "backing 0x0\n", ""),
+        &[(88, 1)],
+    ),
     (&[(88, 1)], &["edit", "IMAGE", "0"], (0, "", ""), &[]),
     (
         &[(88, 1)],
@@ -218,6 +255,12 @@ const CHANGES: &[Row] = &[
 const DAMAGES: &[Row] = &[
     // a header alone
     (HEADER_ALONE, &["list", "IMAGE"], (0, "", ""), HEADER_ALONE),
+    (
+        HEADER_ALONE,
+        &["at", "IMAGE", "0"],
+        (0, "backing 0x0\n", ""),
+        HEADER_ALONE,
+    ),
     (
         HEADER_ALONE,
         &["edit", "IMAGE", "0"],
