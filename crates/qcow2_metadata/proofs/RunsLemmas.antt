@@ -16,7 +16,7 @@ use Rattle.qcow2_metadata.specs.Header.{geometry}
 use Rattle.qcow2_metadata.specs.Entries.L2Mapping.{Mapping, backing, compressed, data_file, zeros, mapping, standard_mapping, host_cluster}
 use Rattle.qcow2_metadata.specs.Entries.{is_copied, offset_field}
 use Rattle.qcow2_metadata.specs.Entries.L2Entry.{compressed_length, compressed_offset, host_offset, is_allocated, is_compressed, is_zero, l2_fault, l2_reserved_bits}
-use Rattle.qcow2_metadata.specs.Entries.Runs.{follows, reads_on}
+use Rattle.qcow2_metadata.specs.Entries.Runs.{FollowJust, IsPatternOf, follows, reads_on}
 use Rattle.qcow2_metadata.specs.Table.{TableState, first_fault, mapping_at}
 use Rattle.qcow2_metadata.specs.Table.L2Table.{IsMappedRun}
 use Rattle.qcow2_metadata.specs.declared.entries.runs.RunPattern.{RunPattern}
@@ -305,13 +305,9 @@ pub run_of_pattern : (table : TableState) (first count i : ℕ) (entries rest : 
     → length table.numbers ≡ 2 ^ (table.geometry.cluster_bits - 3) → All (λ v. v < 2 ^ 64) table.numbers
     → first_fault (l2_fault table.geometry.cluster_bits) table.numbers ≡ None → entries ≡ table.numbers
     → rest ≡ take (length entries - (i + 1)) (drop (i + 1) entries)
-    → ((k v c other : ℕ) → 1 ≤ k → k ≤ 262144 → v < 2 ^ 64 → l2_fault table.geometry.cluster_bits v ≡ None
-    → follows pattern k v ≡ reads_on k (mapping table.geometry c (get_or table.numbers i 0)) (mapping table.geometry other v))
-    → count ≤ length rest
-    → ((k : ℕ) → k < count → follows pattern (k + 1) (get_or rest k 0) ≡ true)
-    → (count < length rest → follows pattern (count + 1) (get_or rest count 0) ≡ false)
+    → IsPatternOf table.geometry (get_or table.numbers i 0) pattern → FollowJust pattern rest count
     → IsMappedRun table first (1 + count)
-run_of_pattern table first count i entries rest pattern bits is full fits lawful same is_rest exact within each ends =
+run_of_pattern table first count i entries rest pattern bits is full fits lawful same is_rest exact counted =
     let cb = table.geometry.cluster_bits in
     let size = 2 ^ (cb - 3) in
     let small : cb - 3 ≤ 18 = omega (arith, bits.1) in
@@ -331,11 +327,11 @@ run_of_pattern table first count i entries rest pattern bits is full fits lawful
     (exact (k + 1) (get_or table.numbers (i + (k + 1)) 0) first (first + (k + 1)) (omega arith) (omega (arith, inside, few)) low valid) in
     record {
       some = omega arith;
-      within = rw (← is) (omega (arith, told.count, full, within, here));
-      each = λ k below. each_of table first count k (reads_on_itself (mapping_at table first)) (λ j less. sym (further j (omega (arith, less, within))) ∙ each j less) below;
-      ends = λ more. let inside : count < length rest = omega (arith, told.count, full, within, rw (← is) at more) in
+      within = rw (← is) (omega (arith, told.count, full, counted.within, here));
+      each = λ k below. each_of table first count k (reads_on_itself (mapping_at table first)) (λ j less. sym (further j (omega (arith, less, counted.within))) ∙ counted.each j less) below;
+      ends = λ more. let inside : count < length rest = omega (arith, told.count, full, counted.within, rw (← is) at more) in
           let same : 1 + count ≡ count + 1 = omega arith in
-          rw same (sym (further count inside) ∙ ends inside);
+          rw same (sym (further count inside) ∙ counted.ends inside);
     }
   where
     each_of : (table : TableState) (first count k : ℕ) → reads_on 0 (mapping_at table first) (mapping_at table first) ≡ true

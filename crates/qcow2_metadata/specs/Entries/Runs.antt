@@ -1,5 +1,8 @@
-use Rattle.std.specs.Prelude.{ℕ, Bool, true, false, ◌==◌, ◌+◌, ◌*◌, Some, None, bit_and}
-use Rattle.qcow2_metadata.specs.Entries.L2Mapping.{Mapping, backing, compressed, data_file, zeros}
+use Rattle.std.specs.Prelude.{◌≡◌, ℕ, Bool, true, false, ◌==◌, ◌+◌, ◌*◌, ◌^◌, ◌<◌, ◌≤◌, List, length, slice_index, Some, None, bit_and}
+use Rattle.qcow2_base.specs.Format.{most_l2_entries}
+use Rattle.qcow2_metadata.specs.Entries.L2Entry.{l2_fault}
+use Rattle.qcow2_metadata.specs.Entries.L2Mapping.{Mapping, backing, compressed, data_file, mapping, zeros}
+use Rattle.qcow2_metadata.specs.Header.{Geometry}
 use Rattle.qcow2_metadata.specs.declared.entries.runs.RunPattern.{RunPattern}
 
 -- a guest cluster reads on from the one so many clusters before it: data or zeros in the host cluster so many further
@@ -16,3 +19,20 @@ reads_on distance before after = false
 -- the bits of an entry that a pattern looks at are those that it has so many entries on
 abbrev pub follows : RunPattern → ℕ → ℕ → Bool
 follows pattern distance v = bit_and v pattern.mask == pattern.value + distance * pattern.step
+
+-- the pattern of the entries that go on from one: a lawful entry so many further on follows it just where it reads on
+-- from that one
+abbrev pub IsPatternOf : Geometry → ℕ → RunPattern → Type 0
+IsPatternOf g entry pattern = (k v c other : ℕ) → 1 ≤ k → k ≤ most_l2_entries → v < 2 ^ 64 → l2_fault g.cluster_bits v ≡ None
+    → follows pattern k v ≡ reads_on k (mapping g c entry) (mapping g other v)
+
+-- of the entries that come after the first of a pattern, those from one on up to another follow it
+abbrev pub Follow : RunPattern → List ℕ → ℕ → ℕ → Type 0
+Follow pattern entries first end =
+    (k : ℕ) → first ≤ k → k < end → follows pattern (k + 1) (slice_index entries k) ≡ true
+
+-- so many of them follow it, and not the next one
+pub record FollowJust (pattern : RunPattern) (entries : List ℕ) (count : ℕ) : Type 0 where
+  pub within : count ≤ length entries
+  pub each : (k : ℕ) → k < count → follows pattern (k + 1) (slice_index entries k) ≡ true
+  pub ends : count < length entries → follows pattern (count + 1) (slice_index entries count) ≡ false

@@ -5,8 +5,7 @@ ghost use Rattle.qcow2_base.specs.Format.{most_l2_entries};
 ghost use Rattle.qcow2_base.specs.Types.{IsClusterBits};
 ghost use Rattle.qcow2_metadata.specs.Header.{geometry};
 ghost use Rattle.qcow2_metadata.specs.Entries.L2Entry.{l2_fault};
-ghost use Rattle.qcow2_metadata.specs.Entries.L2Mapping.{mapping};
-ghost use Rattle.qcow2_metadata.specs.Entries.Runs.{follows, reads_on};
+ghost use Rattle.qcow2_metadata.specs.Entries.Runs.{Follow, FollowJust, IsPatternOf, follows};
 
 use super::{AtomicL2Entry, L2Entry, TableEntry};
 
@@ -32,10 +31,7 @@ impl RunPattern {
     pub(crate) fn of(entry: L2Entry, cluster_bits: u32, external_data_file: bool) -> RunPattern
         requires cluster_bits { IsClusterBits cluster_bits }
         requires lawful { l2_fault cluster_bits entry ≡ None }
-        ensures exact { (k v c other : ℕ) → 1 ≤ k → k ≤ most_l2_entries → v < 2 ^ 64 →
-            l2_fault cluster_bits v ≡ None →
-            follows result k v ≡ reads_on k (mapping (geometry cluster_bits external_data_file) c entry)
-            (mapping (geometry cluster_bits external_data_file) other v) }
+        ensures exact { IsPatternOf (geometry cluster_bits external_data_file) entry result }
         ensures fits { result.value + most_l2_entries * result.step < 2 ^ 64 }
     {
         if entry.is_compressed() {
@@ -72,10 +68,7 @@ impl RunPattern {
     #[inline]
     pub(crate) fn count(&self, entries: &[AtomicL2Entry]) -> usize
         requires { self.now.value + length entries.now * self.now.step < 2 ^ 64 }
-        ensures within { result ≤ length entries.now }
-        ensures each { (k : ℕ) → k < result → follows self.now (k + 1) (slice_index entries.now k) ≡ true }
-        ensures ends { result < length entries.now →
-            follows self.now (result + 1) (slice_index entries.now result) ≡ false }
+        ensures { FollowJust self.now entries.now result }
     {
         // On a mixed disk most runs end at once.
         if !self.is_followed_by_first(entries) {
@@ -109,8 +102,7 @@ impl RunPattern {
         requires fits { self.now.value + length entries.now * self.now.step < 2 ^ 64 }
         requires order { first ≤ end }
         requires within { end ≤ length entries.now }
-        ensures { IsTrue result ↔ ((k : ℕ) → first ≤ k → k < end →
-            follows self.now (k + 1) (slice_index entries.now k) ≡ true) }
+        ensures { IsTrue result ↔ Follow self.now entries.now first end }
     {
         let mut expected = self.value + first as u64 * self.step;
         let mut all = true;
@@ -126,10 +118,7 @@ impl RunPattern {
         requires fits { self.now.value + length entries.now * self.now.step < 2 ^ 64 }
         requires within { first ≤ length entries.now }
         requires before { (k : ℕ) → k < first → follows self.now (k + 1) (slice_index entries.now k) ≡ true }
-        ensures within { result ≤ length entries.now }
-        ensures each { (k : ℕ) → k < result → follows self.now (k + 1) (slice_index entries.now k) ≡ true }
-        ensures ends { result < length entries.now →
-            follows self.now (result + 1) (slice_index entries.now result) ≡ false }
+        ensures { FollowJust self.now entries.now result }
     {
         let mut expected = self.value + first as u64 * self.step;
         for index in first..entries.len() {

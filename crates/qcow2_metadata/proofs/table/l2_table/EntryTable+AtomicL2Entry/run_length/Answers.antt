@@ -26,4 +26,4 @@ returns c =
     run_of_pattern table c.args.guest_cluster.0 c.count.result c.l2_index-index.result c.as_slice-entries.result.now _ c.of-pattern.result
     bits index full lawful.fits lawful.valid own (rw end refl)
     (λ k v a b far few fits valid. rw (cb, external, c.get.ensures.number) at (c.of-pattern.ensures.exact k v a b far few fits (rw cb valid)))
-    c.count.ensures.within c.count.ensures.each c.count.ensures.ends
+    c.count.ensures
