@@ -1,52 +1,36 @@
-use Rattle.std.proofs.Common.{◌≡◌, ℕ, ◌-◌, ◌^◌, true, false, List, [], ◌∷◌, replicate, set, slice_index, take, Some, None, refl}
-use Rattle.qcow2_metadata.specs.Header.{geometry}
+use Rattle.std.proofs.Common.{◌≡◌, ℕ, ◌-◌, ◌^◌, true, false, List, [], ◌∷◌, map, replicate, set, slice_index, take, Option, Some, None, refl}
+use Rattle.qcow2_metadata.specs.Header.{Geometry, geometry}
 use Rattle.qcow2_metadata.specs.declared.entries.ClustersToFreeEntry.{ClustersToFreeEntry}
-use Rattle.qcow2_metadata.specs.Table.L2Guards.{RunEnd, TableEdit, changed, dropped, fits_table, gained, is_mappable, references, run_of, to_data, to_nothing, to_zeros}
+use Rattle.qcow2_metadata.specs.Table.L2Guards.{EntryEdit, RunEnd, TableEdit, changed, dropped, fits_table, gained, is_mappable, references, run_of, to_data, to_nothing, to_zeros}
 
 -- the clusters that an entry referred to
 abbrev clusters : ℕ → ℕ → ClustersToFreeEntry
 clusters first count = record { first = record { 0 = first }; count = record { 0 = count } }
 
+-- the entry after a change, what it hands back, and what gains a reference
+abbrev done : Geometry → EntryEdit → ℕ → ℕ × Option ClustersToFreeEntry × Option ℕ
+done g edit v = (changed g edit v, dropped g edit v, gained g edit v)
+
 -- compressed data in clusters 1 to 3 is mapped to cluster 2: all are handed back, and 2 gains a reference
-pub mapped_within_compressed_data : dropped (geometry 10 false) (to_data 2) 0x7000000000000600 ≡ Some (clusters 1 3)
+pub mapped_within_compressed_data : done (geometry 10 false) (to_data 2) 0x7000000000000600
+    ≡ (0x8000000000000800, Some (clusters 1 3), Some 2)
 mapped_within_compressed_data = refl
 
-pub gained_within_compressed_data : gained (geometry 10 false) (to_data 2) 0x7000000000000600 ≡ Some 2
-gained_within_compressed_data = refl
-
 -- compressed data that lies in cluster 1 alone is mapped to cluster 1: the entry keeps its one reference
-pub dropped_at_its_own_cluster : dropped (geometry 16 false) (to_data 1) 0x4040000000010010 ≡ None
-dropped_at_its_own_cluster = refl
-
-pub gained_at_its_own_cluster : gained (geometry 16 false) (to_data 1) 0x4040000000010010 ≡ None
-gained_at_its_own_cluster = refl
-
-pub entry_at_its_own_cluster : changed (geometry 16 false) (to_data 1) 0x4040000000010010 ≡ 0x8000000000010000
-entry_at_its_own_cluster = refl
+pub mapped_to_its_own_cluster : done (geometry 16 false) (to_data 1) 0x4040000000010010 ≡ (0x8000000000010000, None, None)
+mapped_to_its_own_cluster = refl
 
 -- zeros that would keep the host cluster of compressed data: it has none that can be kept, and is handed back
-pub zeros_in_place_of_compressed_data : changed (geometry 16 false) (to_zeros true) 0x4040000000010010 ≡ 1
+pub zeros_in_place_of_compressed_data : done (geometry 16 false) (to_zeros true) 0x4040000000010010 ≡ (1, Some (clusters 1 1), None)
 zeros_in_place_of_compressed_data = refl
 
-pub compressed_data_handed_back : dropped (geometry 16 false) (to_zeros true) 0x4040000000010010 ≡ Some (clusters 1 1)
-compressed_data_handed_back = refl
-
--- zeros that keep a host cluster, where the entry isn't copied
-pub zeros_keep_a_host_cluster : changed (geometry 9 false) (to_zeros true) 0xa00 ≡ 0xa01
+-- zeros that keep a host cluster, which isn't copied, also of zeros before, or find nothing to keep
+pub zeros_keep_a_host_cluster : map (done (geometry 9 false) (to_zeros true)) (0xa00 ∷ 0xa01 ∷ 0 ∷ [])
+    ≡ (0xa01, None, None) ∷ (0xa01, None, None) ∷ (1, None, None) ∷ []
 zeros_keep_a_host_cluster = refl
 
-pub kept_host_cluster : dropped (geometry 9 false) (to_zeros true) 0xa00 ≡ None
-kept_host_cluster = refl
-
-pub zeros_keep_the_zero_flag : changed (geometry 9 false) (to_zeros true) 0xa01 ≡ 0xa01
-zeros_keep_the_zero_flag = refl
-
--- zeros that keep nothing, or find nothing to keep
-pub zeros_hand_back : dropped (geometry 9 false) (to_zeros false) 0xa00 ≡ Some (clusters 5 1)
+pub zeros_hand_back : done (geometry 9 false) (to_zeros false) 0xa00 ≡ (1, Some (clusters 5 1), None)
 zeros_hand_back = refl
-
-pub zeros_with_nothing_to_keep : changed (geometry 9 false) (to_zeros true) 0 ≡ 1
-zeros_with_nothing_to_keep = refl
 
 -- an edit of the entry at an index
 abbrev map_to : ℕ → ℕ → TableEdit
@@ -65,14 +49,9 @@ table = set (replicate 64 0) 3 0x8000000000000a00
 abbrev edits : List TableEdit
 edits = map_to 3 5 ∷ map_to 3 6 ∷ discard 3 ∷ []
 
-pub run_gains : (run_of (geometry 9 false) edits table).gained ≡ 6 ∷ []
-run_gains = refl
-
-pub run_frees : (run_of (geometry 9 false) edits table).freed ≡ clusters 5 1 ∷ clusters 6 1 ∷ []
-run_frees = refl
-
-pub run_leaves_a_clear_table : (run_of (geometry 9 false) edits table).numbers ≡ replicate 64 0
-run_leaves_a_clear_table = refl
+pub run : run_of (geometry 9 false) edits table
+    ≡ record { numbers = replicate 64 0; freed = clusters 5 1 ∷ clusters 6 1 ∷ []; gained = 6 ∷ [] }
+run = refl
 
 pub references_before_the_run : references (geometry 9 false) table 5 ≡ 1
 references_before_the_run = refl
@@ -81,39 +60,26 @@ references_before_the_run = refl
 abbrev external_edits : List TableEdit
 external_edits = map_to 0 0 ∷ zero_kept 0 ∷ map_to 0 0 ∷ []
 
-abbrev external_run : List TableEdit → RunEnd
-external_run some = run_of (geometry 9 true) some (replicate 64 0)
+abbrev external_run : ℕ → RunEnd
+external_run count = run_of (geometry 9 true) (take count external_edits) (replicate 64 0)
 
-pub external_first : slice_index (external_run (take 1 external_edits)).numbers 0 ≡ 0x8000000000000000
-external_first = refl
+pub external_entries : map (λ count. slice_index (external_run count).numbers 0) (1 ∷ 2 ∷ 3 ∷ [])
+    ≡ 0x8000000000000000 ∷ 0x8000000000000001 ∷ 0x8000000000000000 ∷ []
+external_entries = refl
 
-pub external_second : slice_index (external_run (take 2 external_edits)).numbers 0 ≡ 0x8000000000000001
-external_second = refl
-
-pub external_third : slice_index (external_run external_edits).numbers 0 ≡ 0x8000000000000000
-external_third = refl
-
-pub external_gains_once : (external_run external_edits).gained ≡ 0 ∷ []
+pub external_gains_once : (external_run 3).gained ≡ 0 ∷ []
 external_gains_once = refl
 
-pub external_frees_nothing : (external_run external_edits).freed ≡ []
+pub external_frees_nothing : (external_run 3).freed ≡ []
 external_frees_nothing = refl
 
--- which host clusters an entry may be mapped to, and which edits a table has room for
-pub header_is_not_mappable : is_mappable (geometry 9 false) 0 ≡ false
-header_is_not_mappable = refl
+-- which host clusters an entry may be mapped to: not the header's, and none past the offset field
+pub mappable : map (is_mappable (geometry 9 false)) (0 ∷ 1 ∷ (2 ^ 47 - 1) ∷ (2 ^ 47) ∷ []) ≡ false ∷ true ∷ true ∷ false ∷ []
+mappable = refl
 
 pub external_cluster_0_is_mappable : is_mappable (geometry 9 true) 0 ≡ true
 external_cluster_0_is_mappable = refl
 
-pub last_mappable : is_mappable (geometry 9 false) (2 ^ 47 - 1) ≡ true
-last_mappable = refl
-
-pub first_past_the_offset_field : is_mappable (geometry 9 false) (2 ^ 47) ≡ false
-first_past_the_offset_field = refl
-
-pub edit_of_the_last_entry : fits_table (geometry 9 false) 64 (discard 63) ≡ true
-edit_of_the_last_entry = refl
-
-pub edit_past_the_table : fits_table (geometry 9 false) 64 (discard 64) ≡ false
-edit_past_the_table = refl
+-- edits of the last entry, and past it
+pub edits_that_fit : map (λ index. fits_table (geometry 9 false) 64 (discard index)) (63 ∷ 64 ∷ []) ≡ true ∷ false ∷ []
+edits_that_fit = refl

@@ -62,17 +62,11 @@ bytes_of_64_bits : first_bytes 6 (4294967296 ∷ []) 8 ≡ 0 ∷ 0 ∷ 0 ∷ 1 �
 bytes_of_64_bits = refl
 
 -- changes at both ends of a counter's numbers
-up_to_the_greatest : stepped 1 Increment 2 ≡ Some 3
+up_to_the_greatest : map (stepped 1 Increment) (2 ∷ 3 ∷ []) ≡ Some 3 ∷ None ∷ []
 up_to_the_greatest = refl
-
-past_the_greatest : stepped 1 Increment 3 ≡ None
-past_the_greatest = refl
 
 past_64_bits : stepped 6 Increment 18446744073709551615 ≡ None
 past_64_bits = refl
 
-down_to_0 : stepped 4 Decrement 1 ≡ Some 0
+down_to_0 : map (stepped 4 Decrement) (1 ∷ 0 ∷ []) ≡ Some 0 ∷ None ∷ []
 down_to_0 = refl
-
-below_0 : stepped 4 Decrement 0 ≡ None
-below_0 = refl

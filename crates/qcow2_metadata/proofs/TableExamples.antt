@@ -1,4 +1,4 @@
-use Rattle.std.proofs.Common.{◌≡◌, ℕ, ◌+◌, ◌-◌, ◌*◌, ◌^◌, ◌==◌, ◌∷◌, [], replicate, false, true, Some, None, Ok, Err, if◌then◌else◌, refl}
+use Rattle.std.proofs.Common.{◌≡◌, ℕ, ◌+◌, ◌-◌, ◌*◌, ◌^◌, ◌==◌, ◌∷◌, [], replicate, false, true, Some, None, Ok, Err, if◌then◌else◌, map, refl}
 use Rattle.qcow2_base.specs.Format.{most_l1_entries, most_l2_entries, most_reftable_entries}
 use Rattle.qcow2_base.specs.Storage.{Image, be}
 use Rattle.qcow2_base.specs.declared.fault.Fault.TheVariants.{EntryUnaligned, TableTooBig}
@@ -13,30 +13,17 @@ at cb cluster entries = record { geometry = geometry cb false; cluster = record 
 
 -- the greatest numbers: 32 MiB of entries in an L1 table or a refcount table, 2 MiB in an L2 table, and the last
 -- offset of a cluster of 512 bytes
-pub l1_entries_fill_32_mib : most_l1_entries * 8 ≡ 32 * 2 ^ 20
-l1_entries_fill_32_mib = refl
+pub most_entries : map (λ most. most * 8) (most_l1_entries ∷ most_reftable_entries ∷ most_l2_entries ∷ [])
+    ≡ 32 * 2 ^ 20 ∷ 32 * 2 ^ 20 ∷ 2 ^ 21 ∷ []
+most_entries = refl
 
-pub reftable_entries_fill_32_mib : most_reftable_entries * 8 ≡ 32 * 2 ^ 20
-reftable_entries_fill_32_mib = refl
+pub last_offset : MAX_FILE_LENGTH ∷ (MAX_OFFSET.0 + 512) ∷ [] ≡ (2 ^ 56) ∷ (2 ^ 56) ∷ []
+last_offset = refl
 
-pub l2_entries_fill_the_largest_cluster : most_l2_entries * 8 ≡ 2 ^ 21
-l2_entries_fill_the_largest_cluster = refl
-
-pub files_end_at_2_to_the_56 : MAX_FILE_LENGTH ≡ 2 ^ 56
-files_end_at_2_to_the_56 = refl
-
-pub the_last_cluster_of_512_bytes : MAX_OFFSET.0 + 512 ≡ MAX_FILE_LENGTH
-the_last_cluster_of_512_bytes = refl
-
--- an L2 table that ends at 2 ^ 56, and one a cluster further on
-pub last_place : place_fault most_l2_entries (at 9 (2 ^ 47 - 1) 64) ≡ None
-last_place = refl
-
-pub past_the_last_place : place_fault most_l2_entries (at 9 (2 ^ 47) 64) ≡ Some fault.TablePlace
-past_the_last_place = refl
-
-pub offset_past_64_bits : place_fault most_l2_entries (at 9 (2 ^ 64 - 1) 64) ≡ Some fault.TablePlace
-offset_past_64_bits = refl
+-- an L2 table that ends at 2 ^ 56, one a cluster further on, and one whose offset doesn't fit 64 bits
+pub places : map (λ cluster. place_fault most_l2_entries (at 9 cluster 64)) ((2 ^ 47 - 1) ∷ (2 ^ 47) ∷ (2 ^ 64 - 1) ∷ [])
+    ≡ None ∷ Some fault.TablePlace ∷ Some fault.TablePlace ∷ []
+places = refl
 
 -- an L1 table of one entry too many is that first of all
 pub too_big : place_fault most_l1_entries (at 9 (2 ^ 64 - 1) 4194305) ≡ Some TableTooBig

@@ -1,4 +1,4 @@
-use Rattle.std.specs.Prelude.{◌≡◌, ℕ, ◌+◌, ◌-◌, ◌*◌, ◌/◌, ◌%◌, ◌^◌, ◌<◌, ◌≤◌, List, slice_index, Result, OnOk, OnErr, IsTrue}
+use Rattle.std.specs.Prelude.{◌≡◌, ℕ, ◌+◌, ◌-◌, ◌*◌, ◌/◌, ◌%◌, ◌^◌, ◌<◌, ◌≤◌, List, slice_index, Result, OnOk, OnErr}
 use Rattle.qcow2_base.specs.Storage.{CountsFailure, Image, OnImages, SameDevice, SameOutside, StorageState}
 
 -- how many bytes of a table or a block are read or written at once

@@ -1,4 +1,4 @@
-use Rattle.std.specs.Prelude.{◌≡◌, ◌≢◌, ◌⊎◌, ℕ, Bool, false, true, ◌+◌, ◌^◌, nat_lt, if◌then◌else◌, Option, Some, None, Result, List, map, OnOk, IfErr, IsErrOf}
+use Rattle.std.specs.Prelude.{◌≡◌, ◌≢◌, ◌⊎◌, ℕ, Bool, false, true, ◌+◌, nat_lt, if◌then◌else◌, Option, Some, None, Result, List, map, OnOk, IfErr, IsErrOf}
 use Rattle.std.specs.List.{range_with_len}
 use Rattle.qcow2_base.specs.Format.{max_file_length}
 use Rattle.qcow2_base.specs.Storage.{Image}

@@ -1,4 +1,4 @@
-use Rattle.std.specs.Prelude.{◌≡◌, ◌≢◌, ◌⊎◌, ℕ, ◌+◌, ◌*◌, ◌/◌, ◌^◌, ◌<◌, ◌≤◌, max, nat_le, if◌then◌else◌, List, map, length, slice_index, Option, Some, option_map, Result, Err, OnOk, IfErr, IfSome, IsTrue}
+use Rattle.std.specs.Prelude.{◌≡◌, ◌≢◌, ◌⊎◌, ℕ, ◌+◌, ◌*◌, ◌/◌, ◌^◌, ◌<◌, ◌≤◌, max, nat_le, if◌then◌else◌, List, map, length, slice_index, Option, Some, option_map, Result, Err, OnOk, IfErr, IfSome}
 use Rattle.std.specs.List.{range_with_len}
 use Rattle.qcow2_metadata.specs.Pieces.{piece_size}
 use Rattle.qcow2_base.specs.Storage.{Image, OnImages, OnlyWrites, SameOutside, StorageState, be}
