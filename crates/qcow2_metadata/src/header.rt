@@ -1,6 +1,6 @@
 //! What an image's header says.
 
-ghost use Rattle.std.specs.Prelude.{◌≡◌, ◌+◌, ◌-◌, ◌^◌, ◌≤◌, IsOkUnless, IfOk, MatchResult, None, map, option_map, string_bytes};
+ghost use Rattle.std.specs.Prelude.{◌≡◌, ◌⊎◌, ◌+◌, ◌-◌, ◌^◌, ◌≤◌, IsOkUnless, IfOk, MatchResult, None, map, option_map, string_bytes};
 ghost use Rattle.qcow2_base.specs.Types.{IsClusterBits, IsRefblockBits};
 ghost use Rattle.qcow2_metadata.specs.Header.{all_same, first_by, name_in, names_by, new_header};
 ghost use Rattle.qcow2_metadata.specs.Header.Extensions.{extension_of};
@@ -269,6 +269,15 @@ impl Header {
             }
         }
         None
+    }
+
+    /// The version of the format, 2 or 3.
+    #[inline]
+    pub fn version(&self) -> u32
+        ensures value { result ≡ self.now.v2.version }
+        ensures known { (result ≡ 2) ⊎ (result ≡ 3) }
+    {
+        self.v2.version
     }
 
     /// Refuses a header of an older version than this, by fault 27.
