@@ -8,9 +8,10 @@ use Rattle.qcow2_base.specs.Storage.{Image, be}
 use Rattle.qcow2_base.specs.declared.fault.Fault.{Fault}
 use Rattle.qcow2_base.specs.declared.fault.Fault.TheVariants as fault
 use Rattle.qcow2_metadata.specs.Results.{result_map}
-use Rattle.qcow2_metadata.specs.Header.{HeaderRecord, feature_name_in, first_by, uses_external_data}
+use Rattle.qcow2_metadata.specs.Header.{HeaderRecord, first_by, uses_external_data}
 use Rattle.qcow2_metadata.specs.Header.Chain.{extensions_at}
-use Rattle.qcow2_metadata.specs.Header.Extensions.{Extension, BackingFileFormat, FeatureNameTable, FeatureNames, FeatureKey, ExternalDataFileName, Unknown}
+use Rattle.qcow2_metadata.specs.declared.header.extensions.HeaderExtensionType.TheVariants as kind
+use Rattle.qcow2_metadata.specs.Header.Extensions.{Extension, FeatureKey, FeatureNameTable, FeatureNames, TextOf, Unknown, feature_name_in}
 use Rattle.qcow2_metadata.specs.Header.Grammar.{header_of}
 use Rattle.qcow2_metadata.specs.declared.header.features.FeatureType.TheVariants.{Incompatible, Compatible, Autoclear}
 
@@ -214,7 +215,7 @@ no_place_for_extensions = refl
 -- a header of 105 bytes: the extensions begin there, and only their data is padded
 pub extensions_at_an_odd_place : ExtensionsAre
     (byte 103 105 ++ byte 104 0xab ++ extension 105 7 1 (0xcd ∷ []) ++ backing_format 121 (codes "raw"))
-    (Unknown 7 (0xcd ∷ []) ∷ BackingFileFormat (codes "raw") ∷ [])
+    (Unknown 7 (0xcd ∷ []) ∷ TextOf kind.BackingFileFormat (codes "raw") ∷ [])
 unfolding computing
 extensions_at_an_odd_place = refl
 
@@ -404,27 +405,27 @@ unfolding computing
 all_bytes = refl
 
 -- a backing format
-pub one_format : ExtensionsAre (backing_format 104 (codes "qcow2")) (BackingFileFormat (codes "qcow2") ∷ [])
+pub one_format : ExtensionsAre (backing_format 104 (codes "qcow2")) (TextOf kind.BackingFileFormat (codes "qcow2") ∷ [])
 unfolding computing
 one_format = refl
 
 -- the same one twice, and the same data file twice, with another extension between them
 pub equal_formats : ExtensionsAre
     (backing_format 104 (codes "qcow2") ++ backing_format 120 (codes "qcow2"))
-    (BackingFileFormat (codes "qcow2") ∷ BackingFileFormat (codes "qcow2") ∷ [])
+    (TextOf kind.BackingFileFormat (codes "qcow2") ∷ TextOf kind.BackingFileFormat (codes "qcow2") ∷ [])
 unfolding computing
 equal_formats = refl
 
 pub equal_data_files : ExtensionsAre
     (data_file 104 (codes "data.raw") ++ extension 120 7 2 (1 ∷ 2 ∷ []) ++ data_file 136 (codes "data.raw"))
-    (ExternalDataFileName (codes "data.raw") ∷ Unknown 7 (1 ∷ 2 ∷ [])
-    ∷ ExternalDataFileName (codes "data.raw") ∷ [])
+    (TextOf kind.ExternalDataFileName (codes "data.raw") ∷ Unknown 7 (1 ∷ 2 ∷ [])
+    ∷ TextOf kind.ExternalDataFileName (codes "data.raw") ∷ [])
 unfolding computing
 equal_data_files = refl
 
 -- text: the sign of the euro, but no surrogate, and nothing longer than it needs to be
 pub euro : ExtensionsAre
-    (data_file 104 (0xe2 ∷ 0x82 ∷ 0xac ∷ [])) (ExternalDataFileName (0xe2 ∷ 0x82 ∷ 0xac ∷ []) ∷ [])
+    (data_file 104 (0xe2 ∷ 0x82 ∷ 0xac ∷ [])) (TextOf kind.ExternalDataFileName (0xe2 ∷ 0x82 ∷ 0xac ∷ []) ∷ [])
 unfolding computing
 euro = refl
 

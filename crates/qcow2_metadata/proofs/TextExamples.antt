@@ -9,9 +9,10 @@ use Rattle.qcow2_base.specs.declared.fault.Fault.TheVariants as fault
 use Rattle.qcow2_metadata.specs.Results.{and_then, result_map}
 use Rattle.qcow2_metadata.specs.Header.{HeaderRecord, default_base, known_names, new_header}
 use Rattle.qcow2_metadata.specs.Header.Chain.{extensions_at}
-use Rattle.qcow2_metadata.specs.Header.Extensions.{Extension, BackingFileFormat, FeatureNameTable, FeatureNames, ExternalDataFileName, Unknown}
+use Rattle.qcow2_metadata.specs.declared.header.extensions.HeaderExtensionType.TheVariants as kind
+use Rattle.qcow2_metadata.specs.Header.Extensions.{Extension, FeatureNameTable, FeatureNames, TextOf, Unknown, name_chunk, normal_name}
 use Rattle.qcow2_metadata.specs.Header.Grammar.{header_of}
-use Rattle.qcow2_metadata.specs.Header.Text.{chosen_text, extension_text, extensions_text, header_text, kept, name_chunk, normal, normal_name, padded}
+use Rattle.qcow2_metadata.specs.Header.Text.{chosen_text, extension_text, extensions_text, header_text, kept, normal, padded}
 use Rattle.qcow2_metadata.specs.declared.header.features.FeatureType.TheVariants.{Incompatible, Compatible, Autoclear}
 
 -- `unfolding computing` opens what a header's text is computed by, and what the header of that text is
@@ -405,11 +406,11 @@ pub unknown_of_8 : extension_text (Unknown 0xffffffff (replicate 8 0xa1))
     ≡ 0xff ∷ 0xff ∷ 0xff ∷ 0xff ∷ 0 ∷ 0 ∷ 0 ∷ 8 ∷ replicate 8 0xa1
 unknown_of_8 = refl
 
-pub format_of_3 : extension_text (BackingFileFormat (codes "raw"))
+pub format_of_3 : extension_text (TextOf kind.BackingFileFormat (codes "raw"))
     ≡ 0xe2 ∷ 0x79 ∷ 0x2a ∷ 0xca ∷ 0 ∷ 0 ∷ 0 ∷ 3 ∷ 0x72 ∷ 0x61 ∷ 0x77 ∷ 0 ∷ 0 ∷ 0 ∷ 0 ∷ 0 ∷ []
 format_of_3 = refl
 
-pub empty_data_file : extension_text (ExternalDataFileName [])
+pub empty_data_file : extension_text (TextOf kind.ExternalDataFileName [])
     ≡ 0x44 ∷ 0x41 ∷ 0x54 ∷ 0x41 ∷ 0 ∷ 0 ∷ 0 ∷ 0 ∷ []
 empty_data_file = refl
 
@@ -446,19 +447,19 @@ table_of_two_names = refl
 -- where a header is too long all tables of names go, and the other extensions stay in their order
 abbrev with_two_tables : ℕ → HeaderRecord
 with_two_tables len = record least {
-  extensions = Unknown 7 (codes "x") ∷ FeatureNameTable two_names ∷ BackingFileFormat (codes "raw")
-      ∷ FeatureNameTable [] ∷ ExternalDataFileName (codes "data.raw") ∷ [];
+  extensions = Unknown 7 (codes "x") ∷ FeatureNameTable two_names ∷ TextOf kind.BackingFileFormat (codes "raw")
+      ∷ FeatureNameTable [] ∷ TextOf kind.ExternalDataFileName (codes "data.raw") ∷ [];
   backing_filename = Some (replicate len 0x61);
 }
 
 pub two_tables_fit : KeepsExtensions (with_two_tables 240)
-    (Unknown 7 (codes "x") ∷ FeatureNameTable two_names ∷ BackingFileFormat (codes "raw")
-    ∷ FeatureNameTable [] ∷ ExternalDataFileName (codes "data.raw") ∷ [])
+    (Unknown 7 (codes "x") ∷ FeatureNameTable two_names ∷ TextOf kind.BackingFileFormat (codes "raw")
+    ∷ FeatureNameTable [] ∷ TextOf kind.ExternalDataFileName (codes "data.raw") ∷ [])
 unfolding computing
 two_tables_fit = refl
 
 pub two_tables_go : KeepsExtensions (with_two_tables 241)
-    (Unknown 7 (codes "x") ∷ BackingFileFormat (codes "raw") ∷ ExternalDataFileName (codes "data.raw") ∷ [])
+    (Unknown 7 (codes "x") ∷ TextOf kind.BackingFileFormat (codes "raw") ∷ TextOf kind.ExternalDataFileName (codes "data.raw") ∷ [])
 unfolding computing
 two_tables_go = refl
 

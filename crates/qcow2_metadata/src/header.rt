@@ -2,8 +2,8 @@
 
 ghost use Rattle.std.specs.Prelude.{◌≡◌, ◌⊎◌, ◌+◌, ◌-◌, ◌^◌, ◌≤◌, IsOkUnless, IfOk, MatchResult, None, map, option_map, string_bytes};
 ghost use Rattle.qcow2_base.specs.Types.{IsClusterBits, IsRefblockBits};
-ghost use Rattle.qcow2_metadata.specs.Header.{all_same, first_by, name_in, names_by, new_header};
-ghost use Rattle.qcow2_metadata.specs.Header.Extensions.{extension_of};
+ghost use Rattle.qcow2_metadata.specs.Header.{all_same, first_by, names_by, new_header};
+ghost use Rattle.qcow2_metadata.specs.Header.Extensions.{extension_of, name_in};
 
 mod backing_filename;
 mod extensions;
@@ -64,7 +64,8 @@ impl Model for Header {
 
 impl Header {
     ghost use Rattle.std.specs.Prelude.{◌-◌, ◌*◌, ◌<◌};
-    ghost use Rattle.qcow2_metadata.specs.Header.{feature_name_in, first_by, name_in, new_header, uses_external_data};
+    ghost use Rattle.qcow2_metadata.specs.Header.{first_by, new_header, uses_external_data};
+    ghost use Rattle.qcow2_metadata.specs.Header.Extensions.{feature_name_in, name_in};
     ghost use Rattle.qcow2_metadata.specs.declared.header.extensions.HeaderExtensionType.TheVariants as kind;
 
     /// A header of version 3 for an image that is to be made. Guest data lies in the image, or in an

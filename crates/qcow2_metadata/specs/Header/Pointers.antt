@@ -1,4 +1,4 @@
-use Rattle.std.specs.Prelude.{◌≡◌, ℕ, ◌+◌, ◌-◌, ◌*◌, ◌^◌, ◌≤◌, IsTrue, List, [], ◌∷◌, length, nat_lt, if◌then◌else◌, OnOk, IsOkUnless, Option, Some, None, Result}
+use Rattle.std.specs.Prelude.{◌≡◌, ℕ, ◌+◌, ◌-◌, ◌*◌, ◌^◌, ◌≤◌, List, [], ◌∷◌, length, nat_lt, if◌then◌else◌, OnOk, IsOkUnless, Option, Some, None, Result}
 use Rattle.std.specs.Int.{div_ceil}
 use Rattle.qcow2_base.specs.OnDiskStruct.{LayoutField, number_in, v2_header}
 use Rattle.qcow2_base.specs.Storage.{Image, OnImages, OnlyWrites, StorageState}
