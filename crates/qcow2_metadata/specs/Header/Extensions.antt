@@ -33,6 +33,19 @@ key_cmp a b = ordering_then ((feature_type_ord.ghosts).cmp a.0 b.0) (nat_cmp a.1
 abbrev pub FeatureNames : Type 0
 FeatureNames = List (FeatureKey × List ℕ)
 
+-- the number of a type of extension
+abbrev pub extension_number : HeaderExtensionType → ℕ
+extension_number kind.End = 0
+extension_number kind.BackingFileFormat = 0xe2792aca
+extension_number kind.FeatureNameTable = 0x6803f857
+extension_number kind.ExternalDataFileName = 0x44415441
+
+-- whether an extension of this type is text
+abbrev pub is_text : HeaderExtensionType → Bool
+is_text kind.BackingFileFormat = true
+is_text kind.ExternalDataFileName = true
+is_text _ = false
+
 -- an extension of the header: text of a type, names of features, or content of a type that isn't known; texts and
 -- contents are bytes
 pub data Extension : Type 0 where
@@ -101,19 +114,6 @@ pub record IsLastNamed (bytes : List ℕ) (key : FeatureKey) (name : List ℕ) :
   pub has : HasKey (chunk_at bytes index) key
   pub last : (later : ℕ) → index < later → ¬ (HasKey (chunk_at bytes later) key)
   pub says : name ≡ name_at (chunk_at bytes index)
-
--- the number of an extension's type
-abbrev pub extension_number : HeaderExtensionType → ℕ
-extension_number kind.End = 0
-extension_number kind.BackingFileFormat = 0xe2792aca
-extension_number kind.FeatureNameTable = 0x6803f857
-extension_number kind.ExternalDataFileName = 0x44415441
-
--- whether an extension of this type is text
-abbrev pub is_text : HeaderExtensionType → Bool
-is_text kind.BackingFileFormat = true
-is_text kind.ExternalDataFileName = true
-is_text _ = false
 
 -- an extension that an image can say: texts are UTF-8, names of features are in the order of their keys, and only
 -- data of a type that isn't known is kept as it stands
