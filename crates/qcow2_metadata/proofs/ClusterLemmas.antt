@@ -7,8 +7,8 @@ use Rattle.qcow2_base.specs.declared.fault.Fault.{Fault}
 use Rattle.qcow2_base.specs.declared.fault.Fault.TheVariants.{BackingNameText, ExtensionsExceed}
 use Rattle.qcow2_base.specs.declared.on_disk_struct.v2_header.V2Header.{V2Header}
 use Rattle.qcow2_base.specs.declared.on_disk_struct.v3_header_base.V3HeaderBase.{V3HeaderBase}
-use Rattle.qcow2_metadata.specs.Results.{Answers, and_then, first_failed, provided, result_map}
-use Rattle.qcow2_metadata.specs.Header.{HeaderRecord, default_base}
+use Rattle.qcow2_metadata.specs.Results.{and_then, first_failed, provided, result_map}
+use Rattle.qcow2_metadata.specs.Header.{default_base}
 use Rattle.qcow2_metadata.specs.Header.Chain.{Link, data_end, extension_at, extensions_at, few_extensions, link_at, next_place, said}
 use Rattle.qcow2_metadata.specs.Header.Extensions.{Extension, parsed, text}
 use Rattle.qcow2_metadata.specs.Header.Grammar.{SameFirstCluster, backing_name, base_at, field_conditions, fixed_parts, header_extensions, header_of, last_conditions, name_conditions, v2_at, version_conditions}
@@ -271,9 +271,3 @@ header_of-same image other same = by_parts (fixed_parts image) refl
         ap (λ answer. and_then answer (after_parts other)) (fixed ∙ is)
         ∙ after_parts-same image other parts agree are.fields_hold
         ∙ sym (ap (λ answer. and_then answer (after_parts image)) is)
-
--- the answer for an image is that for each other with the same first cluster
-pub answers-same : (answer : Result HeaderRecord Fault) (image other : Image) → SameFirstCluster image other
-    → Answers (λ header. header) answer (header_of image)
-    → Answers (λ header. header) answer (header_of other)
-answers-same answer image other same is = rw (header_of-same image other same) is

@@ -8,9 +8,10 @@ use Rattle.qcow2_base.specs.Storage.{Image, be}
 use Rattle.qcow2_base.specs.declared.fault.Fault.{Fault}
 use Rattle.qcow2_base.specs.declared.fault.Fault.TheVariants as fault
 use Rattle.qcow2_metadata.specs.Results.{result_map}
-use Rattle.qcow2_metadata.specs.Header.{HeaderRecord, feature_name_in, first_by, uses_external_data}
+use Rattle.qcow2_metadata.specs.Header.{HeaderRecord, first_by, uses_external_data}
 use Rattle.qcow2_metadata.specs.Header.Chain.{extensions_at}
-use Rattle.qcow2_metadata.specs.Header.Extensions.{Extension, BackingFileFormat, FeatureNameTable, FeatureNames, FeatureKey, ExternalDataFileName, Unknown}
+use Rattle.qcow2_metadata.specs.declared.header.extensions.HeaderExtensionType.TheVariants as kind
+use Rattle.qcow2_metadata.specs.Header.Extensions.{Extension, FeatureKey, FeatureNameTable, FeatureNames, TextOf, Unknown, feature_name_in}
 use Rattle.qcow2_metadata.specs.Header.Grammar.{header_of}
 use Rattle.qcow2_metadata.specs.declared.header.features.FeatureType.TheVariants.{Incompatible, Compatible, Autoclear}
 
@@ -84,14 +85,13 @@ Says view parts value = result_map view (header_of (changed parts)) ≡ Ok value
 abbrev ExtensionsAre : List Part → List Extension → Type 0
 ExtensionsAre = Says (λ header. header.extensions)
 
-abbrev FeatureNamesAre : List Part → FeatureNames → Type 0
-FeatureNamesAre parts names = ExtensionsAre parts (FeatureNameTable names ∷ [])
+-- and of each of these images
+abbrev Say : {T : Type 0} → (HeaderRecord → T) → List (List Part × T) → Type 0
+Say view rows = map (λ row. result_map view (header_of (changed row.0))) rows ≡ map (λ row. Ok row.1) rows
 
-abbrev BackingNameIs : List Part → List ℕ → Type 0
-BackingNameIs parts name = Says (λ header. header.backing_filename) parts (Some name)
-
-abbrev IsRefused : List Part → Fault → Type 0
-IsRefused parts fault = header_of (changed parts) ≡ Err fault
+-- each of these images has its fault
+abbrev AreRefused : List (List Part × Fault) → Type 0
+AreRefused rows = map (λ row. header_of (changed row.0)) rows ≡ map (λ row. Err row.1) rows
 
 -- the header alone
 pub plain_header : header_of (changed []) ≡ Ok (record {
@@ -197,24 +197,15 @@ pub version_2_header : header_of (changed version_2) ≡ Ok (record {
 unfolding computing
 version_2_header = refl
 
--- a header of 112 bytes has 8 unknown ones, one of 504 bytes has 400
+-- a header of 112 bytes has 8 unknown ones
 pub eight_unknown_bytes : Says (λ header. header.unknown_header_fields) (byte 103 112) (replicate 8 0)
 unfolding computing
 eight_unknown_bytes = refl
 
-pub four_hundred_unknown_bytes : Says (λ header. length header.unknown_header_fields) (number 100 4 504) 400
-unfolding computing
-four_hundred_unknown_bytes = refl
-
--- a header of a whole cluster leaves no place for the last extension
-pub no_place_for_extensions : IsRefused (number 100 4 512) fault.ExtensionsExceed
-unfolding computing
-no_place_for_extensions = refl
-
 -- a header of 105 bytes: the extensions begin there, and only their data is padded
 pub extensions_at_an_odd_place : ExtensionsAre
     (byte 103 105 ++ byte 104 0xab ++ extension 105 7 1 (0xcd ∷ []) ++ backing_format 121 (codes "raw"))
-    (Unknown 7 (0xcd ∷ []) ∷ BackingFileFormat (codes "raw") ∷ [])
+    (Unknown 7 (0xcd ∷ []) ∷ TextOf kind.BackingFileFormat (codes "raw") ∷ [])
 unfolding computing
 extensions_at_an_odd_place = refl
 
@@ -222,11 +213,6 @@ extensions_at_an_odd_place = refl
 pub external_data : Says uses_external_data (byte 79 4) true
 unfolding computing
 external_data = refl
-
--- the fault has the other bits
-pub other_bits : IsRefused (number 72 8 (2 ^ 64 - 1)) (fault.Incompatible (2 ^ 64 - 5))
-unfolding computing
-other_bits = refl
 
 -- changes to an image, and the fault that it then has
 abbrev Change : Type 0
@@ -266,8 +252,7 @@ changes =
     ∷ (byte 79 2, fault.Incompatible 2)
     ∷ []
 
-pub each_change_is_refused : map (λ change. header_of (changed change.0)) changes
-    ≡ map (λ change. Err change.1) changes
+pub each_change_is_refused : AreRefused changes
 unfolding computing
 each_change_is_refused = refl
 
@@ -300,182 +285,98 @@ pub first_condition_tells : map (λ pair. header_of (changed (pair.0.0 ++ pair.1
 unfolding computing
 first_condition_tells = refl
 
--- both pairs of names differ: the backing formats tell the fault, wherever they stand
-pub formats_before_data_files : IsRefused
-    (data_file 104 (codes "a") ++ data_file 120 (codes "b")
-    ++ backing_format 136 (codes "a") ++ backing_format 152 (codes "b"))
-    fault.FormatConflict
-unfolding computing
-formats_before_data_files = refl
+-- more images that are refused
+abbrev refused : List Change
+refused =
+    -- both pairs of names differ: the backing formats tell the fault, wherever they stand
+    (
+      data_file 104 (codes "a") ++ data_file 120 (codes "b") ++ backing_format 136 (codes "a") ++ backing_format 152 (codes "b"),
+      fault.FormatConflict,
+    )
+    -- of two extensions that are refused the first one tells the fault
+    ∷ (feature_table 104 1 (0 ∷ []) ++ backing_format 120 (0xff ∷ []), fault.FeatureNameCut)
+    ∷ (backing_format 104 (0xff ∷ []) ++ extension 120 7 401 [], fault.ExtensionText)
+    -- all extensions are read before names are compared
+    ∷ (backing_format 104 (codes "a") ++ backing_format 120 (codes "b") ++ extension 136 7 401 [], fault.ExtensionsExceed)
+    -- the fault has the other bits
+    ∷ (number 72 8 (2 ^ 64 - 1), fault.Incompatible (2 ^ 64 - 5))
+    -- where the magic, the version or the cluster size is bad, all fields behind it may be bad too
+    ∷ (bytes 0 (replicate 104 0xff), fault.NotQcow2)
+    ∷ (bytes 4 (replicate 100 0xff), fault.Version)
+    ∷ (bytes 8 (replicate 96 0xff), fault.ClusterSize)
+    -- clusters of 256 bytes
+    ∷ (byte 23 8, fault.ClusterSize)
+    -- conditions on fields hold of version 2 too
+    ∷ (version_2 ++ byte 46 2, fault.L1Unaligned)
+    -- a header of a whole cluster leaves no place for the last extension
+    ∷ (number 100 4 512, fault.ExtensionsExceed)
+    -- a surrogate, and zero in two bytes, are no text
+    ∷ (data_file 104 (0xed ∷ 0xa0 ∷ 0x80 ∷ []), fault.ExtensionText)
+    ∷ (data_file 104 (0xc0 ∷ 0x80 ∷ []), fault.ExtensionText)
+    -- data with its padding to the end, the greatest length, and a last extension past the end
+    ∷ (extension 104 7 393 [], fault.ExtensionsExceed)
+    ∷ (extension 104 7 0xffffffff [], fault.ExtensionsExceed)
+    ∷ (extension 104 0 401 [], fault.ExtensionsExceed)
+    ∷ (extension 104 7 384 [] ++ extension 496 0 9 [], fault.ExtensionsExceed)
+    -- a chunk of one byte, alone and behind a whole one
+    ∷ (feature_table 104 1 (2 ∷ []), fault.FeatureNameCut)
+    ∷ (feature_table 104 49 [], fault.FeatureNameCut)
+    -- a name that ends a byte past the cluster, or at 2 ^ 64, and a long one there
+    ∷ (backing 504 9, fault.BackingNamePlace)
+    ∷ (backing (2 ^ 64 - 1) 1, fault.BackingNamePlace)
+    ∷ (backing (2 ^ 64 - 1) 1024, fault.BackingNameLong)
+    ∷ []
 
--- the data files do before the features
-pub data_files_before_features : IsRefused
-    (data_file 104 (codes "a") ++ data_file 120 (codes "b") ++ byte 72 0x80) fault.DataFileConflict
+pub each_is_refused : AreRefused refused
 unfolding computing
-data_files_before_features = refl
+each_is_refused = refl
 
--- of two extensions that are refused the first one tells the fault
-pub first_extension_tells : IsRefused
-    (feature_table 104 1 (0 ∷ []) ++ backing_format 120 (0xff ∷ [])) fault.FeatureNameCut
-unfolding computing
-first_extension_tells = refl
-
-pub first_extension_tells_again : IsRefused
-    (backing_format 104 (0xff ∷ []) ++ extension 120 7 401 []) fault.ExtensionText
-unfolding computing
-first_extension_tells_again = refl
-
--- all extensions are read before names are compared
-pub extensions_before_names : IsRefused
-    (backing_format 104 (codes "a") ++ backing_format 120 (codes "b") ++ extension 136 7 401 [])
-    fault.ExtensionsExceed
-unfolding computing
-extensions_before_names = refl
-
--- where the magic, the version or the cluster size is bad, all fields behind it may be bad too
-pub bad_magic_and_fields : IsRefused (bytes 0 (replicate 104 0xff)) fault.NotQcow2
-unfolding computing
-bad_magic_and_fields = refl
-
-pub bad_version_and_fields : IsRefused (bytes 4 (replicate 100 0xff)) fault.Version
-unfolding computing
-bad_version_and_fields = refl
-
-pub bad_cluster_size_and_fields : IsRefused (bytes 8 (replicate 96 0xff)) fault.ClusterSize
-unfolding computing
-bad_cluster_size_and_fields = refl
-
-pub bad_cluster_size_of_version_2 : IsRefused (byte 7 2 ++ bytes 8 (replicate 96 0xff)) fault.ClusterSize
-unfolding computing
-bad_cluster_size_of_version_2 = refl
-
--- the least and the greatest cluster sizes
-pub clusters_of_256_bytes : IsRefused (byte 23 8) fault.ClusterSize
-unfolding computing
-clusters_of_256_bytes = refl
-
+-- the greatest cluster size
 pub clusters_of_2_mib : Says (λ header. header.v2.cluster_bits) (byte 23 21) 21
 unfolding computing
 clusters_of_2_mib = refl
-
--- conditions on fields hold of version 2 too
-pub unaligned_table_of_version_2 : IsRefused (version_2 ++ byte 46 2) fault.L1Unaligned
-unfolding computing
-unaligned_table_of_version_2 = refl
 
 -- of an image that ends within the header the rest reads as 0
 abbrev cut : ℕ → Image
 cut len offset = elim (nat_lt offset len) [ true ↦ changed [] offset | false ↦ 0 ]
 
-pub no_bytes : header_of (cut 0) ≡ Err fault.NotQcow2
-unfolding computing
-no_bytes = refl
+-- so many bytes of it, and the fault that it then has
+abbrev cuts : List (ℕ × Fault)
+cuts =
+    (0, fault.NotQcow2) ∷ (3, fault.NotQcow2) ∷ (4, fault.Version) ∷ (7, fault.Version) ∷ (8, fault.ClusterSize)
+    ∷ (23, fault.ClusterSize) ∷ (24, fault.HeaderShort) ∷ (103, fault.HeaderShort) ∷ []
 
-pub three_bytes : header_of (cut 3) ≡ Err fault.NotQcow2
+pub each_cut_is_refused : map (λ row. header_of (cut row.0)) cuts ≡ map (λ row. Err row.1) cuts
 unfolding computing
-three_bytes = refl
-
-pub four_bytes : header_of (cut 4) ≡ Err fault.Version
-unfolding computing
-four_bytes = refl
-
-pub seven_bytes : header_of (cut 7) ≡ Err fault.Version
-unfolding computing
-seven_bytes = refl
-
-pub eight_bytes : header_of (cut 8) ≡ Err fault.ClusterSize
-unfolding computing
-eight_bytes = refl
-
-pub twenty_three_bytes : header_of (cut 23) ≡ Err fault.ClusterSize
-unfolding computing
-twenty_three_bytes = refl
-
-pub twenty_four_bytes : header_of (cut 24) ≡ Err fault.HeaderShort
-unfolding computing
-twenty_four_bytes = refl
-
-pub all_bytes_but_one : header_of (cut 103) ≡ Err fault.HeaderShort
-unfolding computing
-all_bytes_but_one = refl
+each_cut_is_refused = refl
 
 pub all_bytes : result_map (λ header. header.extensions) (header_of (cut 104)) ≡ Ok []
 unfolding computing
 all_bytes = refl
 
--- a backing format
-pub one_format : ExtensionsAre (backing_format 104 (codes "qcow2")) (BackingFileFormat (codes "qcow2") ∷ [])
-unfolding computing
-one_format = refl
+-- extensions that are read
+abbrev chains : List (List Part × List Extension)
+chains =
+    -- the same format twice, and the same data file, whose name has the sign of the euro, with others between them
+    (
+      backing_format 104 (codes "raw") ++ data_file 120 (0xe2 ∷ 0x82 ∷ 0xac ∷ []) ++ extension 136 7 2 (1 ∷ 2 ∷ [])
+          ++ backing_format 152 (codes "raw") ++ data_file 168 (0xe2 ∷ 0x82 ∷ 0xac ∷ []),
+      TextOf kind.BackingFileFormat (codes "raw") ∷ TextOf kind.ExternalDataFileName (0xe2 ∷ 0x82 ∷ 0xac ∷ [])
+          ∷ Unknown 7 (1 ∷ 2 ∷ []) ∷ TextOf kind.BackingFileFormat (codes "raw")
+          ∷ TextOf kind.ExternalDataFileName (0xe2 ∷ 0x82 ∷ 0xac ∷ []) ∷ [],
+    )
+    -- what stands behind the last extension isn't read
+    ∷ (extension 104 7 0 [] ++ backing_format 120 (0xff ∷ []), Unknown 7 [] ∷ [])
+    -- the longest data that leaves place for the last extension
+    ∷ (extension 104 7 392 [], Unknown 7 (replicate 392 0) ∷ [])
+    -- the last extension may have data itself, to the end
+    ∷ (extension 104 0 400 [], [])
+    ∷ (extension 104 7 384 [] ++ extension 496 0 8 [], Unknown 7 (replicate 384 0) ∷ [])
+    ∷ []
 
--- the same one twice, and the same data file twice, with another extension between them
-pub equal_formats : ExtensionsAre
-    (backing_format 104 (codes "qcow2") ++ backing_format 120 (codes "qcow2"))
-    (BackingFileFormat (codes "qcow2") ∷ BackingFileFormat (codes "qcow2") ∷ [])
+pub each_chain_is_read : Say (λ header. header.extensions) chains
 unfolding computing
-equal_formats = refl
-
-pub equal_data_files : ExtensionsAre
-    (data_file 104 (codes "data.raw") ++ extension 120 7 2 (1 ∷ 2 ∷ []) ++ data_file 136 (codes "data.raw"))
-    (ExternalDataFileName (codes "data.raw") ∷ Unknown 7 (1 ∷ 2 ∷ [])
-    ∷ ExternalDataFileName (codes "data.raw") ∷ [])
-unfolding computing
-equal_data_files = refl
-
--- text: the sign of the euro, but no surrogate, and nothing longer than it needs to be
-pub euro : ExtensionsAre
-    (data_file 104 (0xe2 ∷ 0x82 ∷ 0xac ∷ [])) (ExternalDataFileName (0xe2 ∷ 0x82 ∷ 0xac ∷ []) ∷ [])
-unfolding computing
-euro = refl
-
-pub surrogate : IsRefused (data_file 104 (0xed ∷ 0xa0 ∷ 0x80 ∷ [])) fault.ExtensionText
-unfolding computing
-surrogate = refl
-
-pub zero_in_two_bytes : IsRefused (data_file 104 (0xc0 ∷ 0x80 ∷ [])) fault.ExtensionText
-unfolding computing
-zero_in_two_bytes = refl
-
--- what stands behind the last extension isn't read
-pub nothing_behind_the_last : ExtensionsAre
-    (extension 104 7 0 [] ++ backing_format 120 (0xff ∷ [])) (Unknown 7 [] ∷ [])
-unfolding computing
-nothing_behind_the_last = refl
-
--- the longest data that leaves place for the last extension, one byte more, and data to the end
-pub last_extension_at_the_end : ExtensionsAre (extension 104 7 392 []) (Unknown 7 (replicate 392 0) ∷ [])
-unfolding computing
-last_extension_at_the_end = refl
-
-pub padding_to_the_end : IsRefused (extension 104 7 393 []) fault.ExtensionsExceed
-unfolding computing
-padding_to_the_end = refl
-
-pub data_to_the_end : IsRefused (extension 104 7 400 []) fault.ExtensionsExceed
-unfolding computing
-data_to_the_end = refl
-
-pub greatest_length : IsRefused (extension 104 7 0xffffffff []) fault.ExtensionsExceed
-unfolding computing
-greatest_length = refl
-
--- the last extension may have data itself, to the end but not past it
-pub last_to_the_end : ExtensionsAre (extension 104 0 400 []) []
-unfolding computing
-last_to_the_end = refl
-
-pub last_past_the_end : IsRefused (extension 104 0 401 []) fault.ExtensionsExceed
-unfolding computing
-last_past_the_end = refl
-
-pub second_to_the_end : ExtensionsAre
-    (extension 104 7 384 [] ++ extension 496 0 8 []) (Unknown 7 (replicate 384 0) ∷ [])
-unfolding computing
-second_to_the_end = refl
-
-pub second_past_the_end : IsRefused (extension 104 7 384 [] ++ extension 496 0 9 []) fault.ExtensionsExceed
-unfolding computing
-second_past_the_end = refl
+each_chain_is_read = refl
 
 -- so many extensions without data: 50 leave place for the last one
 abbrev empty_extensions : ℕ → List Part
@@ -485,25 +386,51 @@ pub fifty_extensions : Says (λ header. length header.extensions) (empty_extensi
 unfolding computing
 fifty_extensions = refl
 
-pub fifty_one_extensions : IsRefused (empty_extensions 51) fault.ExtensionsExceed
-unfolding computing
-fifty_one_extensions = refl
-
--- an empty table of features' names
-pub no_feature_names : FeatureNamesAre (feature_table 104 0 []) []
-unfolding computing
-no_feature_names = refl
-
--- two names of one feature: the later one counts, and other features have none
+-- two names of one feature
 abbrev two_names : List Part
 two_names = feature_table 104 96 (0 ∷ 0 ∷ codes "a") ++ bytes 160 (0 ∷ 0 ∷ codes "b")
 
+-- U+FFFD stands for each byte that begins no character, and for the whole of a character's beginning
+abbrev replacement : List ℕ
+replacement = 0xef ∷ 0xbf ∷ 0xbd ∷ []
+
+-- tables of features' names
+abbrev tables : List (List Part × FeatureNames)
+tables =
+    -- an empty one
+    (feature_table 104 0 [], [])
+    -- the later name of a feature counts
+    ∷ (two_names, ((Incompatible, 0), codes "b") ∷ [])
+    -- names stand in the order of their features, whatever the chunks' order is
+    ∷ (
+      feature_table 104 147 (2 ∷ 0 ∷ codes "c") ++ bytes 160 (0 ∷ 9 ∷ codes "b")
+          ++ bytes 208 (0 ∷ 1 ∷ codes "a") ++ bytes 256 (1 ∷ 3 ∷ codes "d"),
+      ((Incompatible, 1), codes "a") ∷ ((Incompatible, 9), codes "b")
+          ∷ ((Compatible, 3), codes "d") ∷ ((Autoclear, 0), codes "c") ∷ [],
+    )
+    -- a chunk of two bytes says an empty name
+    ∷ (feature_table 104 2 (0 ∷ 5 ∷ []), ((Incompatible, 5), []) ∷ [])
+    -- one of a type that isn't known says nothing, whatever its length
+    ∷ (feature_table 104 1 (3 ∷ []), [])
+    ∷ (feature_table 104 51 (3 ∷ 0 ∷ codes "a") ++ bytes 160 (1 ∷ 0 ∷ codes "b"), ((Compatible, 0), codes "b") ∷ [])
+    -- a name ends before its first zero byte, or with its chunk
+    ∷ (feature_table 104 7 (0 ∷ 0 ∷ codes "ab" ++ 0 ∷ codes "c" ++ 0 ∷ []), ((Incompatible, 0), codes "ab") ∷ [])
+    ∷ (
+      feature_table 104 96 (0 ∷ 0 ∷ replicate 46 0x61 ++ 0 ∷ 1 ∷ codes "b"),
+      ((Incompatible, 0), replicate 46 0x61) ∷ ((Incompatible, 1), codes "b") ∷ [],
+    )
+    -- bytes that are no text, and a character that is cut
+    ∷ (feature_table 104 4 (0 ∷ 0 ∷ 0xff ∷ 0xff ∷ []), ((Incompatible, 0), repeated 2 replacement) ∷ [])
+    ∷ (feature_table 104 5 (0 ∷ 0 ∷ 0xe2 ∷ 0x82 ∷ codes "a"), ((Incompatible, 0), replacement ++ codes "a") ∷ [])
+    ∷ []
+
+pub each_table_is_read : Say (λ header. header.extensions) (map (λ row. (row.0, FeatureNameTable row.1 ∷ [])) tables)
+unfolding computing
+each_table_is_read = refl
+
+-- the name of a feature: the later one in a table, and that of the first table
 abbrev FirstNameIs : List Part → FeatureKey → Option (List ℕ) → Type 0
 FirstNameIs parts key = Says (λ header. first_by (feature_name_in key) header.extensions) parts
-
-pub later_name_counts : FeatureNamesAre two_names (((Incompatible, 0), codes "b") ∷ [])
-unfolding computing
-later_name_counts = refl
 
 pub name_of_bit_0 : FirstNameIs two_names (Incompatible, 0) (Some (codes "b"))
 unfolding computing
@@ -513,114 +440,23 @@ pub no_name_of_bit_256 : FirstNameIs two_names (Incompatible, 256) None
 unfolding computing
 no_name_of_bit_256 = refl
 
--- of two tables the first one counts
 pub first_table_counts : FirstNameIs
     (feature_table 104 3 (1 ∷ 7 ∷ codes "a") ++ feature_table 120 3 (1 ∷ 7 ∷ codes "b"))
     (Compatible, 7) (Some (codes "a"))
 unfolding computing
 first_table_counts = refl
 
--- names stand in the order of their features, whatever the chunks' order is
-pub names_in_order : FeatureNamesAre
-    (feature_table 104 147 (2 ∷ 0 ∷ codes "c") ++ bytes 160 (0 ∷ 9 ∷ codes "b")
-    ++ bytes 208 (0 ∷ 1 ∷ codes "a") ++ bytes 256 (1 ∷ 3 ∷ codes "d"))
-    (((Incompatible, 1), codes "a") ∷ ((Incompatible, 9), codes "b")
-    ∷ ((Compatible, 3), codes "d") ∷ ((Autoclear, 0), codes "c") ∷ [])
-unfolding computing
-names_in_order = refl
+-- backing files' names
+abbrev backing_names : List (List Part × Option (List ℕ))
+backing_names =
+    -- one that ends with the cluster, and an empty one there
+    (backing 504 8, Some (replicate 8 0)) ∷ (backing 512 0, Some [])
+    -- a length without a place is no name
+    ∷ (backing 0 0xffffffff, None)
+    -- a name may lie within the magic
+    ∷ (backing 1 2, Some (codes "FI"))
+    ∷ []
 
--- a chunk of two bytes says an empty name, and one of one byte is refused
-pub chunk_of_two_bytes : FeatureNamesAre (feature_table 104 2 (0 ∷ 5 ∷ [])) (((Incompatible, 5), []) ∷ [])
+pub each_name_is_read : Say (λ header. header.backing_filename) backing_names
 unfolding computing
-chunk_of_two_bytes = refl
-
-pub chunk_of_one_byte : IsRefused (feature_table 104 1 (2 ∷ [])) fault.FeatureNameCut
-unfolding computing
-chunk_of_one_byte = refl
-
--- one of a type that isn't known says nothing, whatever its length
-pub short_chunk_not_known : FeatureNamesAre (feature_table 104 1 (3 ∷ [])) []
-unfolding computing
-short_chunk_not_known = refl
-
-pub chunk_not_known : FeatureNamesAre
-    (feature_table 104 51 (3 ∷ 0 ∷ codes "a") ++ bytes 160 (1 ∷ 0 ∷ codes "b"))
-    (((Compatible, 0), codes "b") ∷ [])
-unfolding computing
-chunk_not_known = refl
-
--- the last of 49 bytes is a chunk of its own
-pub last_chunk_of_one_byte : IsRefused (feature_table 104 49 []) fault.FeatureNameCut
-unfolding computing
-last_chunk_of_one_byte = refl
-
-pub last_chunk_not_known : FeatureNamesAre
-    (feature_table 104 49 [] ++ byte 160 9) (((Incompatible, 0), []) ∷ [])
-unfolding computing
-last_chunk_not_known = refl
-
--- a name ends before its first zero byte, or with its chunk
-pub name_before_the_first_zero : FeatureNamesAre
-    (feature_table 104 7 (0 ∷ 0 ∷ codes "ab" ++ 0 ∷ codes "c" ++ 0 ∷ []))
-    (((Incompatible, 0), codes "ab") ∷ [])
-unfolding computing
-name_before_the_first_zero = refl
-
-pub name_to_the_end_of_its_chunk : FeatureNamesAre
-    (feature_table 104 96 (0 ∷ 0 ∷ replicate 46 0x61 ++ 0 ∷ 1 ∷ codes "b"))
-    (((Incompatible, 0), replicate 46 0x61) ∷ ((Incompatible, 1), codes "b") ∷ [])
-unfolding computing
-name_to_the_end_of_its_chunk = refl
-
--- U+FFFD stands for each byte that begins no character, and for the whole of a character's beginning
-abbrev replacement : List ℕ
-replacement = 0xef ∷ 0xbf ∷ 0xbd ∷ []
-
-pub two_bytes_that_are_no_text : FeatureNamesAre
-    (feature_table 104 4 (0 ∷ 0 ∷ 0xff ∷ 0xff ∷ [])) (((Incompatible, 0), repeated 2 replacement) ∷ [])
-unfolding computing
-two_bytes_that_are_no_text = refl
-
-pub cut_character : FeatureNamesAre
-    (feature_table 104 5 (0 ∷ 0 ∷ 0xe2 ∷ 0x82 ∷ codes "a"))
-    (((Incompatible, 0), replacement ++ codes "a") ∷ [])
-unfolding computing
-cut_character = refl
-
-pub bytes_that_are_no_text : FeatureNamesAre
-    (feature_table 104 48 (0 ∷ 0 ∷ replicate 46 0xff)) (((Incompatible, 0), repeated 46 replacement) ∷ [])
-unfolding computing
-bytes_that_are_no_text = refl
-
--- a backing file's name that ends with the cluster, and one that ends a byte past it
-pub name_to_the_end : BackingNameIs (backing 504 8) (replicate 8 0)
-unfolding computing
-name_to_the_end = refl
-
-pub name_past_the_end : IsRefused (backing 504 9) fault.BackingNamePlace
-unfolding computing
-name_past_the_end = refl
-
--- an empty name at the cluster's end
-pub empty_name : BackingNameIs (backing 512 0) []
-unfolding computing
-empty_name = refl
-
--- a length without a place is no name
-pub no_name : Says (λ header. header.backing_filename) (backing 0 0xffffffff) None
-unfolding computing
-no_name = refl
-
--- the greatest place: the end is 2 ^ 64
-pub greatest_place : IsRefused (backing (2 ^ 64 - 1) 1) fault.BackingNamePlace
-unfolding computing
-greatest_place = refl
-
-pub greatest_place_of_a_long_name : IsRefused (backing (2 ^ 64 - 1) 1024) fault.BackingNameLong
-unfolding computing
-greatest_place_of_a_long_name = refl
-
--- a name may lie within the magic
-pub name_within_the_magic : BackingNameIs (backing 1 2) (codes "FI")
-unfolding computing
-name_within_the_magic = refl
+each_name_is_read = refl

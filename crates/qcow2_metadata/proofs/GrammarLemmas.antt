@@ -12,8 +12,8 @@ use Rattle.qcow2_base.specs.declared.fault.Fault.TheVariants.{BackingNameText}
 use Rattle.qcow2_base.specs.declared.on_disk_struct.v2_header.V2Header.{V2Header}
 use Rattle.qcow2_base.specs.declared.on_disk_struct.v3_header_base.V3HeaderBase.{V3HeaderBase}
 use Rattle.qcow2_metadata.specs.Results.{and_then, first_failed, provided, result_map}
-use Rattle.qcow2_metadata.specs.Header.{HeaderRecord, magic, name_in, names_by, all_same}
-use Rattle.qcow2_metadata.specs.Header.Extensions.{Extension, text}
+use Rattle.qcow2_metadata.specs.Header.{HeaderRecord, magic, names_by, all_same}
+use Rattle.qcow2_metadata.specs.Header.Extensions.{Extension, name_in, text}
 use Rattle.qcow2_metadata.specs.Header.Grammar.{AreSame, HasExtensions, IsBackingName, IsBase, IsHeader, backing_name, base_at, field_conditions, fixed_parts, header_extensions, header_of, last_conditions, name_conditions, v2_at, version_conditions}
 use Rattle.qcow2_metadata.specs.Range.{bytes_at}
 use Rattle.qcow2_metadata.specs.declared.header.extensions.HeaderExtensionType.TheVariants as kind

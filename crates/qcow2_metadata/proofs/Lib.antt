@@ -13,6 +13,7 @@ pub mod CutLemmas
 pub mod EditsLemmas
 pub mod EntriesLemmas
 pub mod ExtensionsLemmas
+pub mod FeatureNamesLemmas
 pub mod GrammarLemmas
 pub mod GrowthLemmas
 pub mod GuardLemmas

@@ -1,4 +1,4 @@
-use Rattle.std.proofs.Common.{◌≡◌, ◌≢◌, ℕ, zero, suc, ◌+◌, ◌-◌, ◌*◌, ◌^◌, ◌<◌, List, [], ◌∷◌, ◌++◌, length, take, drop, map, replicate, refl, sym, ap, ◌∙◌, subst, inl, inr, arith, ◌≤◌, ◌==◌, false}
+use Rattle.std.proofs.Common.{◌≡◌, ℕ, zero, suc, ◌+◌, ◌-◌, ◌*◌, ◌<◌, List, [], ◌∷◌, ◌++◌, length, take, drop, map, replicate, refl, sym, ap, ◌∙◌, subst, inl, inr, arith, ◌≤◌, ◌==◌, false}
 use Rattle.std.specs.Prelude.{All, Ok}
 use Rattle.std.specs.BTreeMap.{insert_entry}
 use Rattle.std.specs.Int.{div_ceil}
@@ -15,22 +15,13 @@ use Rattle.std.proofs.lemmas.List.Elements.{All-head, All-tail}
 use Rattle.std.proofs.lemmas.Str.{utf8_lossy-IsUtf8}
 use Rattle.std.proofs.Math.Seq.{take-append-add}
 use Rattle.std.specs.Ordering.{ordering_reverse}
-use Rattle.qcow2_base.specs.declared.fault.Fault.TheVariants.{ExtensionText}
 use Rattle.qcow2_metadata.proofs.CutLemmas.{IsCutText, IsCutText-take, utf8_lossy-cut, utf8_lossy-replaced}
-use Rattle.qcow2_metadata.proofs.ExtensionsLemmas.{parsed-unknown, with_feature_name-named}
-use Rattle.qcow2_metadata.proofs.GrammarLemmas.{IsUtf8-text}
-use Rattle.qcow2_metadata.specs.Header.{IsStorable}
-use Rattle.qcow2_metadata.specs.Header.Extensions.{BackingFileFormat, Extension, ExternalDataFileName, FeatureKey, FeatureNameTable, FeatureNames, Unknown, chunk_at, feature_names, key_cmp, names_of_chunks, parsed, until_zero, with_feature_name}
-use Rattle.qcow2_metadata.specs.Header.Text.{data_of, name_chunk, normal_extension, normal_name, type_number}
+use Rattle.qcow2_metadata.proofs.ExtensionsLemmas.{ReadsBack, parsed-unknown, text-reads_back}
+use Rattle.qcow2_metadata.proofs.FeatureNamesLemmas.{with_feature_name-named}
+use Rattle.qcow2_metadata.specs.Header.Extensions.{Extension, FeatureKey, FeatureNameTable, FeatureNames, IsStorable, TextOf, Unknown, chunk_at, feature_names, key_cmp, name_chunk, names_of_chunks, normal_extension, normal_name, until_zero, with_feature_name}
 use Rattle.qcow2_metadata.specs.Results.{result_map}
 use Rattle.qcow2_metadata.specs.declared.header.extensions.HeaderExtensionType.TheVariants as kind
 use Rattle.qcow2_metadata.specs.declared.header.features.FeatureType.TheVariants.{Autoclear, Compatible, Incompatible}
-
--- the number of its type fits its field and isn't End's, and its data reads as what it reads back as
-abbrev pub ReadsBack : Extension → Type 0
-ReadsBack extension =
-    (type_number extension < 2 ^ 32) × (type_number extension ≢ 0)
-    × (parsed (type_number extension) (data_of extension) ≡ Ok (normal_extension extension))
 
 -- a name and what it reads back as, by their key
 abbrev pub normal_named : FeatureKey × List ℕ → FeatureKey × List ℕ
@@ -78,14 +69,11 @@ with_feature_name-chunk names named =
 -- a key above another one
 key_cmp-above : (a b : FeatureKey) → key_cmp a b ≡ Less → key_cmp b a ≡ Greater
 key_cmp-above (Incompatible, m) (Incompatible, n) is = nat_cmp_total.antisymm n m ∙ ap ordering_reverse is
-key_cmp-above (Incompatible, m) (Compatible, n) is = refl
-key_cmp-above (Incompatible, m) (Autoclear, n) is = refl
-key_cmp-above (Compatible, m) (Incompatible, n) is = cc
 key_cmp-above (Compatible, m) (Compatible, n) is = nat_cmp_total.antisymm n m ∙ ap ordering_reverse is
-key_cmp-above (Compatible, m) (Autoclear, n) is = refl
-key_cmp-above (Autoclear, m) (Incompatible, n) is = cc
-key_cmp-above (Autoclear, m) (Compatible, n) is = cc
 key_cmp-above (Autoclear, m) (Autoclear, n) is = nat_cmp_total.antisymm n m ∙ ap ordering_reverse is
+key_cmp-above (Incompatible, m) (_, n) is = refl
+key_cmp-above (Compatible, m) (Autoclear, n) is = refl
+key_cmp-above _ _ is = cc
 
 -- a key among those that are all above another one
 above_middle : (key : FeatureKey) (done more : FeatureNames) (named : FeatureKey × List ℕ)
@@ -152,10 +140,7 @@ feature_names-chunks names sorted =
 
 -- an extension that can be stored reads back
 pub storable-reads_back : (extension : Extension) → IsStorable extension → ReadsBack extension
-storable-reads_back (BackingFileFormat name) text =
-    (omega arith, omega arith, ap (result_map BackingFileFormat) (IsUtf8-text ExtensionText name text))
-storable-reads_back (ExternalDataFileName name) text =
-    (omega arith, omega arith, ap (result_map ExternalDataFileName) (IsUtf8-text ExtensionText name text))
+storable-reads_back (TextOf type name) storable = text-reads_back type name storable.0 storable.1
 storable-reads_back (FeatureNameTable names) storable =
     (omega arith, omega arith, ap (result_map FeatureNameTable) (feature_names-chunks names storable.0))
 storable-reads_back (Unknown number content) storable =
@@ -262,8 +247,7 @@ map-once change P once (x ∷ xs) all =
 -- what an extension reads back as reads back as itself
 pub normal_extension-once : (extension : Extension) → IsStorable extension
     → normal_extension (normal_extension extension) ≡ normal_extension extension
-normal_extension-once (BackingFileFormat name) storable = refl
-normal_extension-once (ExternalDataFileName name) storable = refl
+normal_extension-once (TextOf type name) storable = refl
 normal_extension-once (FeatureNameTable names) storable =
     let once = λ (named : FeatureKey × List ℕ) (text : IsUtf8 named.1).
     ap (λ (name : List ℕ). (named.0, name)) (normal_name-once named.1 text) in

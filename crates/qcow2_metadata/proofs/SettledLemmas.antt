@@ -9,9 +9,9 @@ use Rattle.qcow2_base.specs.declared.on_disk_struct.v2_header.V2Header.{V2Header
 use Rattle.qcow2_base.specs.declared.on_disk_struct.v3_header_base.V3HeaderBase.{V3HeaderBase}
 use Rattle.qcow2_base.specs.declared.fault.Fault.TheVariants.{HeaderTooLong, NameTooLong}
 use Rattle.qcow2_base.specs.declared.on_disk_struct.header_extension_header.HeaderExtensionHeader.{HeaderExtensionHeader}
-use Rattle.qcow2_metadata.specs.Header.{HeaderRecord, IsStorable}
-use Rattle.qcow2_metadata.specs.Header.Extensions.{BackingFileFormat, Extension, ExternalDataFileName, FeatureNameTable, Unknown}
-use Rattle.qcow2_metadata.specs.Header.Text.{IsSettled, bare, data_of, extension_header_of, extension_text, extensions_text, fields_text, fits_first_cluster, header_end, header_text, is_other, is_short, kept, name_place, name_text, normal, normal_extension, type_number, padded, parts_text, placed, placed_base, placed_v2}
+use Rattle.qcow2_metadata.specs.Header.{HeaderRecord}
+use Rattle.qcow2_metadata.specs.Header.Extensions.{Extension, FeatureNameTable, IsStorable, TextOf, Unknown, data_of, normal_extension, type_number}
+use Rattle.qcow2_metadata.specs.Header.Text.{IsSettled, bare, extension_header_of, extension_text, extensions_text, fields_text, fits_first_cluster, header_end, header_text, is_other, is_short, kept, name_place, name_text, normal, padded, parts_text, placed, placed_base, placed_v2}
 use Rattle.qcow2_metadata.proofs.NamesLemmas.{length-name_chunks, normal_extensions-once, normal_named}
 use Rattle.qcow2_metadata.proofs.TextLemmas.{length-padded}
 
@@ -25,8 +25,7 @@ padded-once bytes =
 -- an extension as it reads back has as much data
 length-normal_data : (extension : Extension)
     → length (data_of (normal_extension extension)) ≡ length (data_of extension)
-length-normal_data (BackingFileFormat name) = refl
-length-normal_data (ExternalDataFileName name) = refl
+length-normal_data (TextOf type name) = refl
 length-normal_data (FeatureNameTable names) =
     let read = map normal_named names in
     omega (arith, length-name_chunks names, length-name_chunks read, length-map names normal_named)
@@ -34,8 +33,7 @@ length-normal_data (Unknown number content) = refl
 
 -- and its number
 number_of-normal : (extension : Extension) → type_number (normal_extension extension) ≡ type_number extension
-number_of-normal (BackingFileFormat name) = refl
-number_of-normal (ExternalDataFileName name) = refl
+number_of-normal (TextOf type name) = refl
 number_of-normal (FeatureNameTable names) = refl
 number_of-normal (Unknown number content) = refl
 

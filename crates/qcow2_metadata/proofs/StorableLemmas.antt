@@ -10,8 +10,9 @@ use Rattle.std.specs.List.{AllByRecursion, list_all}
 use Rattle.std.specs.List.Sorted.{IsStrictlySortedBy}
 use Rattle.std.specs.Map.{keys_of}
 use Rattle.std.specs.Str.{IsUtf8, chars, is_utf8}
-use Rattle.qcow2_metadata.specs.Header.{IsStorable, known_names}
-use Rattle.qcow2_metadata.specs.Header.Extensions.{BackingFileFormat, ExternalDataFileName, FeatureKey, FeatureNameTable, FeatureNames, key_cmp, names_of}
+use Rattle.qcow2_metadata.specs.Header.{known_names}
+use Rattle.qcow2_metadata.specs.declared.header.extensions.HeaderExtensionType.TheVariants as kind
+use Rattle.qcow2_metadata.specs.Header.Extensions.{FeatureKey, FeatureNameTable, FeatureNames, IsStorable, TextOf, key_cmp, names_of}
 
 -- the texts of names in memory are text
 names_of-texts : (entries : List (FeatureKey × String Global))
@@ -88,18 +89,18 @@ known_names-storable = (known_names-ordered, all_texts known_names refl)
 pub new_extensions-storable : (format data_file : Option (String Global))
     → All IsStorable
     (FeatureNameTable known_names
-    ∷ map BackingFileFormat (option_to_list (option_map string_bytes format))
-    ++ map ExternalDataFileName (option_to_list (option_map string_bytes data_file)))
+    ∷ map (TextOf kind.BackingFileFormat) (option_to_list (option_map string_bytes format))
+    ++ map (TextOf kind.ExternalDataFileName) (option_to_list (option_map string_bytes data_file)))
 new_extensions-storable format data_file = All-cons IsStorable (FeatureNameTable known_names) _ known_names-storable (texts format data_file)
   where
     texts : (format data_file : Option (String Global))
         → All IsStorable
-        (map BackingFileFormat (option_to_list (option_map string_bytes format))
-        ++ map ExternalDataFileName (option_to_list (option_map string_bytes data_file)))
+        (map (TextOf kind.BackingFileFormat) (option_to_list (option_map string_bytes format))
+        ++ map (TextOf kind.ExternalDataFileName) (option_to_list (option_map string_bytes data_file)))
     texts None None = All-nil IsStorable
-    texts None (Some name) = All-cons IsStorable (ExternalDataFileName (string_bytes name)) [] (IsUtf8-string_bytes name) (All-nil IsStorable)
-    texts (Some name) None = All-cons IsStorable (BackingFileFormat (string_bytes name)) [] (IsUtf8-string_bytes name) (All-nil IsStorable)
+    texts None (Some name) = All-cons IsStorable (TextOf kind.ExternalDataFileName (string_bytes name)) [] (refl, IsUtf8-string_bytes name) (All-nil IsStorable)
+    texts (Some name) None = All-cons IsStorable (TextOf kind.BackingFileFormat (string_bytes name)) [] (refl, IsUtf8-string_bytes name) (All-nil IsStorable)
     texts (Some name) (Some other) =
-        All-cons IsStorable (BackingFileFormat (string_bytes name)) (ExternalDataFileName (string_bytes other) ∷ [])
-        (IsUtf8-string_bytes name)
-        (All-cons IsStorable (ExternalDataFileName (string_bytes other)) [] (IsUtf8-string_bytes other) (All-nil IsStorable))
+        All-cons IsStorable (TextOf kind.BackingFileFormat (string_bytes name)) (TextOf kind.ExternalDataFileName (string_bytes other) ∷ [])
+        (refl, IsUtf8-string_bytes name)
+        (All-cons IsStorable (TextOf kind.ExternalDataFileName (string_bytes other)) [] (refl, IsUtf8-string_bytes other) (All-nil IsStorable))

@@ -1,17 +1,18 @@
 use Rattle.std.proofs.Common.{◌≡◌, ℕ, zero, suc, ◌/◌, ◌%◌, ◌^◌, ◌∷◌, ◌++◌, [], List, map, length, replicate, Some, None, Option, Ok, Err, codes, refl}
-use Rattle.std.specs.Prelude.{⊤, take, drop}
+use Rattle.std.specs.Prelude.{⊤, drop}
 use Rattle.std.specs.Str.{is_utf8, chars}
 use Rattle.std.specs.Str.Lossy.{utf8_error_len, utf8_lossy, utf8_valid_len}
 use lib.Utf8.{encode}
-use Rattle.qcow2_base.specs.Storage.{be, image_of}
+use Rattle.qcow2_base.specs.Storage.{be}
 use Rattle.qcow2_base.specs.declared.fault.Fault.{Fault}
 use Rattle.qcow2_base.specs.declared.fault.Fault.TheVariants as fault
-use Rattle.qcow2_metadata.specs.Results.{and_then, result_map}
+use Rattle.qcow2_metadata.specs.Results.{result_map}
 use Rattle.qcow2_metadata.specs.Header.{HeaderRecord, default_base, known_names, new_header}
 use Rattle.qcow2_metadata.specs.Header.Chain.{extensions_at}
-use Rattle.qcow2_metadata.specs.Header.Extensions.{Extension, BackingFileFormat, FeatureNameTable, FeatureNames, ExternalDataFileName, Unknown}
+use Rattle.qcow2_metadata.specs.declared.header.extensions.HeaderExtensionType.TheVariants as kind
+use Rattle.qcow2_metadata.specs.Header.Extensions.{Extension, FeatureNameTable, FeatureNames, TextOf, Unknown, name_chunk, normal_name}
 use Rattle.qcow2_metadata.specs.Header.Grammar.{header_of}
-use Rattle.qcow2_metadata.specs.Header.Text.{chosen_text, extension_text, extensions_text, header_text, kept, name_chunk, normal, normal_name, padded}
+use Rattle.qcow2_metadata.specs.Header.Text.{chosen_text, extension_text, extensions_text, header_text, kept, normal, padded}
 use Rattle.qcow2_metadata.specs.declared.header.features.FeatureType.TheVariants.{Incompatible, Compatible, Autoclear}
 
 -- `unfolding computing` opens what a header's text is computed by, and what the header of that text is
@@ -38,10 +39,6 @@ big_endian (suc n) value = value / 256 ^ n % 256 ∷ big_endian n value
 abbrev IsWrittenAs : HeaderRecord → List ℕ → Type 0
 IsWrittenAs header bytes = chosen_text header ≡ bytes
 
--- among them are these at a place
-abbrev HasBytes : HeaderRecord → ℕ → List ℕ → Type 0
-HasBytes header place bytes = take (length bytes) (drop place (chosen_text header)) ≡ bytes
-
 -- from a place to their end they are these
 abbrev EndsWith : HeaderRecord → ℕ → List ℕ → Type 0
 EndsWith header place bytes = drop place (chosen_text header) ≡ bytes
@@ -49,10 +46,6 @@ EndsWith header place bytes = drop place (chosen_text header) ≡ bytes
 -- they are so many
 abbrev HasLength : HeaderRecord → ℕ → Type 0
 HasLength header len = length (chosen_text header) ≡ len
-
--- the header can't be written, for a fault
-abbrev IsRefused : HeaderRecord → Fault → Type 0
-IsRefused header fault = kept header ≡ Err fault
 
 -- what the header says once it is written
 abbrev Keeps : {T : Type 0} → (HeaderRecord → T) → HeaderRecord → T → Type 0
@@ -99,35 +92,9 @@ pub base_text : IsWrittenAs base (first_bytes 9 504 8 104 ++ known_bytes ++ zero
 unfolding computing
 base_text = refl
 
-pub base_length : HasLength base 512
-unfolding computing
-base_length = refl
-
-pub base_names_at_104 : HasBytes base 104
-    (0x68 ∷ 0x03 ∷ 0xf8 ∷ 0x57 ∷ 0x00 ∷ 0x00 ∷ 0x01 ∷ 0x80
-    ∷ 0x00 ∷ 0x00 ∷ 0x64 ∷ 0x69 ∷ 0x72 ∷ 0x74 ∷ 0x79 ∷ zeros 41)
-unfolding computing
-base_names_at_104 = refl
-
-pub base_end_at_496 : EndsWith base 496 (zeros 8 ++ codes "base.img")
-unfolding computing
-base_end_at_496 = refl
-
-pub base_places : Keeps
-    (λ header. header.v2.backing_file_offset ∷ header.v2.backing_file_size ∷ header.base.header_length ∷ [])
-    base (504 ∷ 8 ∷ 104 ∷ [])
-unfolding computing
-base_places = refl
-
 pub base_keeps_names : KeepsExtensions base (FeatureNameTable known_names ∷ [])
 unfolding computing
 base_keeps_names = refl
-
--- the text says the name's place and the header's length before the header does
-pub base_text_before : header_text base
-    ≡ first_bytes 9 504 8 104 ++ known_bytes ++ zeros 8 ++ codes "base.img"
-unfolding computing
-base_text_before = refl
 
 -- with 9 bytes the names of features have no place, and the header has none any more
 abbrev backing : HeaderRecord
@@ -137,54 +104,21 @@ pub backing_text : IsWrittenAs backing (first_bytes 9 112 9 104 ++ zeros 8 ++ co
 unfolding computing
 backing_text = refl
 
-pub backing_length : HasLength backing 121
-unfolding computing
-backing_length = refl
-
 pub backing_keeps_no_names : KeepsExtensions backing []
 unfolding computing
 backing_keeps_no_names = refl
 
--- without them a name of 400 bytes fits, and one of 401 doesn't
+-- without them a name of 400 bytes fits
 pub name_of_400 : IsWrittenAs (new_with_long 9 400)
     (first_bytes 9 112 400 104 ++ zeros 8 ++ replicate 400 0x61)
 unfolding computing
 name_of_400 = refl
 
-pub name_of_400_length : HasLength (new_with_long 9 400) 512
-unfolding computing
-name_of_400_length = refl
-
-pub name_of_400_keeps_no_names : KeepsExtensions (new_with_long 9 400) []
-unfolding computing
-name_of_400_keeps_no_names = refl
-
-pub name_of_401 : IsRefused (new_with_long 9 401) fault.HeaderTooLong
-unfolding computing
-name_of_401 = refl
-
--- the longest name that an image can have, and one byte more
+-- the longest name that an image can have
 pub name_of_1023 : IsWrittenAs (new_with_long 16 1023)
     (first_bytes 16 504 1023 104 ++ known_bytes ++ zeros 8 ++ replicate 1023 0x61)
 unfolding computing
 name_of_1023 = refl
-
-pub name_of_1023_length : HasLength (new_with_long 16 1023) 1527
-unfolding computing
-name_of_1023_length = refl
-
-pub name_of_1024 : IsRefused (new_with_long 16 1024) fault.NameTooLong
-unfolding computing
-name_of_1024 = refl
-
--- its length is tested before the header's
-pub name_of_1024_in_a_small_cluster : IsRefused (new_with_long 9 1024) fault.NameTooLong
-unfolding computing
-name_of_1024_in_a_small_cluster = refl
-
-pub name_of_1023_in_a_small_cluster : IsRefused (new_with_long 9 1023) fault.HeaderTooLong
-unfolding computing
-name_of_1023_in_a_small_cluster = refl
 
 -- a refused header places no bytes
 pub refused_text : IsWrittenAs (new_with_long 9 401) []
@@ -226,10 +160,6 @@ pub one_unknown_text : IsWrittenAs one_unknown
 unfolding computing
 one_unknown_text = refl
 
-pub one_unknown_length : HasLength one_unknown 120
-unfolding computing
-one_unknown_length = refl
-
 -- the header in memory has the one byte, and a load finds eight
 pub one_unknown_stays : Keeps (λ header. header.unknown_header_fields) one_unknown (0xab ∷ [])
 unfolding computing
@@ -240,24 +170,11 @@ pub one_unknown_reads_as_eight : Keeps (λ header. (normal header).unknown_heade
 unfolding computing
 one_unknown_reads_as_eight = refl
 
--- 400 unknown bytes fill a cluster with End, and then no name fits, nor do 401 bytes
-pub unknown_400 : HasLength (with_unknown (replicate 400 0xab)) 512
-unfolding computing
-unknown_400 = refl
-
-pub unknown_400_and_a_name : IsRefused
-    (with_name (with_unknown (replicate 400 0xab)) (codes "FI")) fault.HeaderTooLong
-unfolding computing
-unknown_400_and_a_name = refl
-
+-- 400 unknown bytes fill a cluster with End, and an empty name has its place behind
 pub unknown_400_and_an_empty_name : IsWrittenAs (with_name (with_unknown (replicate 400 0xab)) [])
     (first_bytes 9 512 0 504 ++ replicate 400 0xab ++ zeros 8)
 unfolding computing
 unknown_400_and_an_empty_name = refl
-
-pub unknown_401 : IsRefused (with_unknown (replicate 401 0xab)) fault.HeaderTooLong
-unfolding computing
-unknown_401 = refl
 
 -- where there is no name, its place and length are 0 whatever they were, and so is the header's length set
 abbrev with_other_places : HeaderRecord
@@ -346,30 +263,13 @@ pub older_text : IsWrittenAs older
 unfolding computing
 older_text = refl
 
-pub older_length : HasLength older 85
-unfolding computing
-older_length = refl
-
-pub older_place : Keeps (λ header. header.v2.backing_file_offset ∷ header.v2.backing_file_size ∷ [])
-    older (80 ∷ 5 ∷ [])
-unfolding computing
-older_place = refl
-
 pub older_second_part : Keeps (λ header. header.base) older default_base
 unfolding computing
 older_second_part = refl
 
-pub older_without_a_name : HasLength (version_2 9 None) 80
-unfolding computing
-older_without_a_name = refl
-
 pub older_to_the_end : HasLength (version_2 9 (Some (replicate 432 0x61))) 512
 unfolding computing
 older_to_the_end = refl
-
-pub older_past_the_end : IsRefused (version_2 9 (Some (replicate 433 0x61))) fault.HeaderTooLong
-unfolding computing
-older_past_the_end = refl
 
 -- zeros up to a multiple of 8 bytes
 pub padded_of_0 : padded [] ≡ []
@@ -378,15 +278,8 @@ padded_of_0 = refl
 pub padded_of_1 : padded (1 ∷ []) ≡ 1 ∷ 0 ∷ 0 ∷ 0 ∷ 0 ∷ 0 ∷ 0 ∷ 0 ∷ []
 padded_of_1 = refl
 
-pub padded_of_7 : padded (1 ∷ 2 ∷ 3 ∷ 4 ∷ 5 ∷ 6 ∷ 7 ∷ []) ≡ 1 ∷ 2 ∷ 3 ∷ 4 ∷ 5 ∷ 6 ∷ 7 ∷ 0 ∷ []
-padded_of_7 = refl
-
 pub padded_of_8 : padded (1 ∷ 2 ∷ 3 ∷ 4 ∷ 5 ∷ 6 ∷ 7 ∷ 8 ∷ []) ≡ 1 ∷ 2 ∷ 3 ∷ 4 ∷ 5 ∷ 6 ∷ 7 ∷ 8 ∷ []
 padded_of_8 = refl
-
-pub padded_of_9 : padded (1 ∷ 2 ∷ 3 ∷ 4 ∷ 5 ∷ 6 ∷ 7 ∷ 8 ∷ 9 ∷ [])
-    ≡ 1 ∷ 2 ∷ 3 ∷ 4 ∷ 5 ∷ 6 ∷ 7 ∷ 8 ∷ 9 ∷ 0 ∷ 0 ∷ 0 ∷ 0 ∷ 0 ∷ 0 ∷ 0 ∷ []
-padded_of_9 = refl
 
 -- End alone, where there are no extensions
 pub no_extensions : extensions_text [] ≡ 0 ∷ 0 ∷ 0 ∷ 0 ∷ 0 ∷ 0 ∷ 0 ∷ 0 ∷ []
@@ -401,17 +294,9 @@ pub unknown_of_5 : extension_text (Unknown 0x01020304 (0xa1 ∷ 0xa2 ∷ 0xa3 �
     ≡ 1 ∷ 2 ∷ 3 ∷ 4 ∷ 0 ∷ 0 ∷ 0 ∷ 5 ∷ 0xa1 ∷ 0xa2 ∷ 0xa3 ∷ 0xa4 ∷ 0xa5 ∷ 0 ∷ 0 ∷ 0 ∷ []
 unknown_of_5 = refl
 
-pub unknown_of_8 : extension_text (Unknown 0xffffffff (replicate 8 0xa1))
-    ≡ 0xff ∷ 0xff ∷ 0xff ∷ 0xff ∷ 0 ∷ 0 ∷ 0 ∷ 8 ∷ replicate 8 0xa1
-unknown_of_8 = refl
-
-pub format_of_3 : extension_text (BackingFileFormat (codes "raw"))
+pub format_of_3 : extension_text (TextOf kind.BackingFileFormat (codes "raw"))
     ≡ 0xe2 ∷ 0x79 ∷ 0x2a ∷ 0xca ∷ 0 ∷ 0 ∷ 0 ∷ 3 ∷ 0x72 ∷ 0x61 ∷ 0x77 ∷ 0 ∷ 0 ∷ 0 ∷ 0 ∷ 0 ∷ []
 format_of_3 = refl
-
-pub empty_data_file : extension_text (ExternalDataFileName [])
-    ≡ 0x44 ∷ 0x41 ∷ 0x54 ∷ 0x41 ∷ 0 ∷ 0 ∷ 0 ∷ 0 ∷ []
-empty_data_file = refl
 
 -- a name in its 48 bytes: an empty one, one with a zero byte inside, of 46 and of 47 bytes
 pub chunk_of_no_name : name_chunk ((Compatible, 7), []) ≡ 1 ∷ 7 ∷ zeros 46
@@ -420,9 +305,6 @@ chunk_of_no_name = refl
 pub chunk_with_a_zero_byte : name_chunk ((Autoclear, 255), codes "ab" ++ 0 ∷ codes "c")
     ≡ 2 ∷ 255 ∷ 0x61 ∷ 0x62 ∷ 0 ∷ 0x63 ∷ zeros 42
 chunk_with_a_zero_byte = refl
-
-pub chunk_of_46 : name_chunk ((Incompatible, 1), replicate 46 0x61) ≡ 0 ∷ 1 ∷ replicate 46 0x61
-chunk_of_46 = refl
 
 pub chunk_of_47 : name_chunk ((Incompatible, 1), replicate 46 0x61 ++ codes "b") ≡ 0 ∷ 1 ∷ replicate 46 0x61
 chunk_of_47 = refl
@@ -446,28 +328,21 @@ table_of_two_names = refl
 -- where a header is too long all tables of names go, and the other extensions stay in their order
 abbrev with_two_tables : ℕ → HeaderRecord
 with_two_tables len = record least {
-  extensions = Unknown 7 (codes "x") ∷ FeatureNameTable two_names ∷ BackingFileFormat (codes "raw")
-      ∷ FeatureNameTable [] ∷ ExternalDataFileName (codes "data.raw") ∷ [];
+  extensions = Unknown 7 (codes "x") ∷ FeatureNameTable two_names ∷ TextOf kind.BackingFileFormat (codes "raw")
+      ∷ FeatureNameTable [] ∷ TextOf kind.ExternalDataFileName (codes "data.raw") ∷ [];
   backing_filename = Some (replicate len 0x61);
 }
 
 pub two_tables_fit : KeepsExtensions (with_two_tables 240)
-    (Unknown 7 (codes "x") ∷ FeatureNameTable two_names ∷ BackingFileFormat (codes "raw")
-    ∷ FeatureNameTable [] ∷ ExternalDataFileName (codes "data.raw") ∷ [])
+    (Unknown 7 (codes "x") ∷ FeatureNameTable two_names ∷ TextOf kind.BackingFileFormat (codes "raw")
+    ∷ FeatureNameTable [] ∷ TextOf kind.ExternalDataFileName (codes "data.raw") ∷ [])
 unfolding computing
 two_tables_fit = refl
 
 pub two_tables_go : KeepsExtensions (with_two_tables 241)
-    (Unknown 7 (codes "x") ∷ BackingFileFormat (codes "raw") ∷ ExternalDataFileName (codes "data.raw") ∷ [])
+    (Unknown 7 (codes "x") ∷ TextOf kind.BackingFileFormat (codes "raw") ∷ TextOf kind.ExternalDataFileName (codes "data.raw") ∷ [])
 unfolding computing
 two_tables_go = refl
-
-pub text_without_two_tables : EndsWith (with_two_tables 241) 104
-    (0 ∷ 0 ∷ 0 ∷ 7 ∷ 0 ∷ 0 ∷ 0 ∷ 1 ∷ 0x78 ∷ zeros 7
-    ++ 0xe2 ∷ 0x79 ∷ 0x2a ∷ 0xca ∷ 0 ∷ 0 ∷ 0 ∷ 3 ∷ codes "raw" ++ zeros 5
-    ++ 0x44 ∷ 0x41 ∷ 0x54 ∷ 0x41 ∷ 0 ∷ 0 ∷ 0 ∷ 8 ∷ codes "data.raw" ++ zeros 8 ++ replicate 241 0x61)
-unfolding computing
-text_without_two_tables = refl
 
 -- an empty table goes too, where it is what doesn't fit
 abbrev with_empty_table : ℕ → HeaderRecord
@@ -481,63 +356,27 @@ pub empty_table_goes : KeepsExtensions (with_empty_table 393) []
 unfolding computing
 empty_table_goes = refl
 
--- a name of up to 46 bytes reads back as it is, and of a longer one its beginning does
-pub normal_of_46 : normal_name (replicate 46 0x61) ≡ replicate 46 0x61
-unfolding computing
-normal_of_46 = refl
+-- names, and what each reads back as
+abbrev normals : List (List ℕ × List ℕ)
+normals =
+    -- a name of up to 46 bytes is itself, and of a longer one its beginning is left
+    (replicate 46 0x61, replicate 46 0x61)
+    ∷ (replicate 46 0x61 ++ codes "b", replicate 46 0x61)
+    ∷ (replicate 44 0x61 ++ 0xc3 ∷ 0xa4 ∷ codes "b", replicate 44 0x61 ++ 0xc3 ∷ 0xa4 ∷ [])
+    -- it ends before its first zero byte
+    ∷ (codes "ab" ++ 0 ∷ codes "c", codes "ab")
+    -- U+FFFD stands for what is left of a character that is cut
+    ∷ (replicate 45 0x61 ++ 0xc3 ∷ 0xa4 ∷ [], replicate 45 0x61 ++ replacement)
+    ∷ (replicate 44 0x61 ++ 0xe2 ∷ 0x82 ∷ 0xac ∷ [], replicate 44 0x61 ++ replacement)
+    ∷ (replicate 43 0x61 ++ 0xf0 ∷ 0x9f ∷ 0x98 ∷ 0x80 ∷ [], replicate 43 0x61 ++ replacement)
+    -- of 46 such signs 15 and the first byte of one fit, and what they read back as stays
+    ∷ (repeated 46 replacement, repeated 16 replacement)
+    ∷ (repeated 16 replacement, repeated 16 replacement)
+    ∷ []
 
-pub normal_of_47 : normal_name (replicate 46 0x61 ++ codes "b") ≡ replicate 46 0x61
+pub each_name_reads_back : map (λ row. normal_name row.0) normals ≡ map (λ row. row.1) normals
 unfolding computing
-normal_of_47 = refl
-
-pub normal_of_none : normal_name [] ≡ []
-unfolding computing
-normal_of_none = refl
-
-pub normal_of_two_bytes_at_44 : normal_name (replicate 44 0x61 ++ 0xc3 ∷ 0xa4 ∷ codes "b")
-    ≡ replicate 44 0x61 ++ 0xc3 ∷ 0xa4 ∷ []
-unfolding computing
-normal_of_two_bytes_at_44 = refl
-
--- it ends before its first zero byte
-pub normal_to_a_zero_byte : normal_name (codes "ab" ++ 0 ∷ codes "c") ≡ codes "ab"
-unfolding computing
-normal_to_a_zero_byte = refl
-
-pub normal_of_a_zero_byte : normal_name (0 ∷ codes "a") ≡ []
-unfolding computing
-normal_of_a_zero_byte = refl
-
--- U+FFFD stands for what is left of a character that is cut
-pub normal_cut_after_1_of_2 : normal_name (replicate 45 0x61 ++ 0xc3 ∷ 0xa4 ∷ [])
-    ≡ replicate 45 0x61 ++ replacement
-unfolding computing
-normal_cut_after_1_of_2 = refl
-
-pub normal_cut_after_2_of_3 : normal_name (replicate 44 0x61 ++ 0xe2 ∷ 0x82 ∷ 0xac ∷ [])
-    ≡ replicate 44 0x61 ++ replacement
-unfolding computing
-normal_cut_after_2_of_3 = refl
-
-pub normal_cut_after_3_of_4 : normal_name (replicate 43 0x61 ++ 0xf0 ∷ 0x9f ∷ 0x98 ∷ 0x80 ∷ [])
-    ≡ replicate 43 0x61 ++ replacement
-unfolding computing
-normal_cut_after_3_of_4 = refl
-
--- 46 signs read back as 16: 15 of them and the first byte of one fit
-pub normal_of_138 : normal_name (repeated 46 replacement) ≡ repeated 16 replacement
-unfolding computing
-normal_of_138 = refl
-
--- then they stay so
-pub normal_of_48 : normal_name (repeated 16 replacement) ≡ repeated 16 replacement
-unfolding computing
-normal_of_48 = refl
-
-pub normal_again_after_1_of_2 : normal_name (replicate 45 0x61 ++ replacement)
-    ≡ replicate 45 0x61 ++ replacement
-unfolding computing
-normal_again_after_1_of_2 = refl
+each_name_reads_back = refl
 
 -- the header in memory has the whole name, and a load finds the shorter one
 abbrev named_alike : ℕ → Extension
@@ -560,24 +399,20 @@ pub long_name_reads_as_16 : Keeps (λ header. (normal header).extensions) with_l
 unfolding computing
 long_name_reads_as_16 = refl
 
--- what was written reads back as that, and to write it again places the same
-abbrev samples : List HeaderRecord
-samples =
-    base ∷ backing ∷ new_with_long 9 400 ∷ with_all ∷ least ∷ one_unknown ∷ with_unknown (replicate 400 0xab)
-    ∷ with_other_places ∷ with_name least [] ∷ full ∷ older ∷ version_2 9 None
-    ∷ with_two_tables 240 ∷ with_two_tables 241 ∷ with_empty_table 392 ∷ with_long_name ∷ []
+-- headers that can't be written, and the fault of each
+abbrev refused : List (HeaderRecord × Fault)
+refused =
+    -- a name of 400 bytes fits without the names of features, and one of 401 doesn't
+    (new_with_long 9 401, fault.HeaderTooLong)
+    -- the length of the name is tested before the header's
+    ∷ (new_with_long 16 1024, fault.NameTooLong)
+    ∷ (new_with_long 9 1024, fault.NameTooLong)
+    -- 400 unknown bytes fill a cluster with End
+    ∷ (with_name (with_unknown (replicate 400 0xab)) (codes "FI"), fault.HeaderTooLong)
+    ∷ (with_unknown (replicate 401 0xab), fault.HeaderTooLong)
+    ∷ (version_2 9 (Some (replicate 433 0x61)), fault.HeaderTooLong)
+    ∷ []
 
-pub samples_read_back : map (λ header. header_of (image_of (chosen_text header))) samples
-    ≡ map (λ header. result_map normal (kept header)) samples
+pub each_is_refused : map (λ row. kept row.0) refused ≡ map (λ row. Err row.1) refused
 unfolding computing
-samples_read_back = refl
-
-pub samples_stay : map (λ header. and_then (kept header) kept) samples ≡ map kept samples
-unfolding computing
-samples_stay = refl
-
-pub samples_stay_after_a_load :
-    map (λ header. and_then (kept header) (λ written. kept (normal written))) samples
-    ≡ map (λ header. result_map normal (kept header)) samples
-unfolding computing
-samples_stay_after_a_load = refl
+each_is_refused = refl

@@ -17,16 +17,16 @@ use Rattle.qcow2_base.proofs.OnDiskStructLemmas.{be_of_bytes}
 use Rattle.qcow2_base.specs.declared.fault.Fault.{Fault}
 use Rattle.qcow2_base.specs.declared.fault.Fault.TheVariants.{HeaderTooLong, NameTooLong}
 use Rattle.qcow2_metadata.specs.Results.{provided}
-use Rattle.qcow2_metadata.specs.Header.{HeaderRecord, IsLawfulHeader, name_in, names_by}
+use Rattle.qcow2_metadata.specs.Header.{HeaderRecord, IsLawfulHeader, names_by}
 use Rattle.qcow2_metadata.specs.Header.Chain.{IsEnd, SaysExtensions, link_at}
-use Rattle.qcow2_metadata.specs.Header.Extensions.{BackingFileFormat, Extension, ExternalDataFileName, FeatureNameTable, Unknown}
+use Rattle.qcow2_metadata.specs.Header.Extensions.{Extension, FeatureNameTable, TextOf, Unknown, data_of, name_in, normal_extension, type_number}
 use Rattle.qcow2_metadata.specs.Header.Grammar.{AreSame, HasExtensions, IsBackingName, IsBase, IsHeader}
-use Rattle.qcow2_metadata.specs.Header.Text.{AreFitting, bare, data_of, extension_header_of, extension_text, extensions_text, fields_text, fits_first_cluster, header_end, header_text, is_short, name_place, name_text, kept, normal, normal_extension, type_number, padded, parts_text, placed, placed_base, placed_v2}
+use Rattle.qcow2_metadata.specs.Header.Text.{AreFitting, bare, extension_header_of, extension_text, extensions_text, fields_text, fits_first_cluster, header_end, header_text, is_short, name_place, name_text, kept, normal, padded, parts_text, placed, placed_base, placed_v2}
 use Rattle.qcow2_metadata.specs.Range.{bytes_at}
 use Rattle.qcow2_metadata.specs.declared.header.extensions.HeaderExtensionType.{HeaderExtensionType}
 use Rattle.qcow2_metadata.specs.declared.header.extensions.HeaderExtensionType.TheVariants as kind
 use Rattle.qcow2_metadata.proofs.GrammarLemmas.{all_same-AreSame, provided-ok}
-use Rattle.qcow2_metadata.proofs.NamesLemmas.{ReadsBack}
+use Rattle.qcow2_metadata.proofs.ExtensionsLemmas.{ReadsBack}
 use Rattle.qcow2_metadata.proofs.ChainLemmas.{IsFirst, says_more, says_none}
 use Rattle.qcow2_metadata.proofs.RangeLemmas.{held-bytes_at}
 
@@ -302,13 +302,9 @@ text-says image len place (extension ∷ extensions) small back held within =
 -- what an extension reads back as says the same name
 same-name_in : (type : HeaderExtensionType) (extension : Extension)
     → name_in type (normal_extension extension) ≡ name_in type extension
-same-name_in type (BackingFileFormat name) = refl
-same-name_in type (ExternalDataFileName name) = refl
+same-name_in type (TextOf own name) = refl
+same-name_in type (FeatureNameTable names) = refl
 same-name_in type (Unknown number content) = refl
-same-name_in kind.End (FeatureNameTable names) = refl
-same-name_in kind.BackingFileFormat (FeatureNameTable names) = refl
-same-name_in kind.FeatureNameTable (FeatureNameTable names) = refl
-same-name_in kind.ExternalDataFileName (FeatureNameTable names) = refl
 
 -- so the names are the same
 pub same-names_by : (type : HeaderExtensionType) (extensions : List Extension)

@@ -1,125 +1,29 @@
-use Rattle.std.proofs.Common.{◌≡◌, ◌∙◌, ℕ, suc, ◌+◌, ◌<◌, ◌≤◌, Bool, true, false, ◌==◌, ◌&&◌, List, [], ◌∷◌, ◌++◌, map, get_or, take, drop, Option, None, Some, Result, Ok, Err, refl, sym, ap, arith, lit<, String, string_bytes}
-use Rattle.std.proofs.Math.Path.{fun_ext}
+use Rattle.std.proofs.Common.{◌≡◌, ◌∙◌, ℕ, suc, ◌+◌, ◌<◌, ◌≤◌, Bool, true, false, List, [], ◌∷◌, ◌++◌, map, get_or, take, drop, Option, None, Some, Result, Ok, Err, refl, sym, ap, arith, lit<}
 use Rattle.std.proofs.Math.Seq.{drop-cons}
 use Rattle.std.proofs.lemmas.List.{take-append-drop, take_all}
 use Rattle.std.proofs.lemmas.List.Elements.{All-more}
 use Rattle.std.specs.Bool.{Decides}
 use Rattle.std.specs.Cmp.{booleans_Decides}
-use Rattle.std.specs.Cmp.Derive.Mapped.{pointwise-map}
-use Rattle.std.specs.Cmp.Lexicographic.{pointwise}
-use Rattle.std.specs.Global.{Global}
 use Rattle.std.specs.List.{All}
 use Rattle.std.specs.Option.{option_eq}
 use Rattle.std.specs.Str.{bytes_eq}
-use Rattle.std.proofs.lemmas.Bool.Decides.{Decides-and, Decides-eqb, Decides-like, not_from_Decides}
+use Rattle.std.proofs.lemmas.Bool.Decides.{Decides-eqb, Decides-like, not_from_Decides}
 use Rattle.std.proofs.lemmas.Slice.Eq.{bytes_eq-Decides, slice_eq-Decides}
 use Rattle.qcow2_base.specs.declared.fault.Fault.{Fault}
 use Rattle.qcow2_base.specs.declared.fault.Fault.TheVariants.{FieldChanged}
 use Rattle.qcow2_base.specs.declared.fault.Field.{Field}
 use Rattle.qcow2_base.specs.declared.fault.Field.TheVariants as field
+use Rattle.qcow2_metadata.proofs.ExtensionsLemmas.{same_extension-Decides}
 use Rattle.qcow2_metadata.specs.Results.{first_failed, provided}
 use Rattle.qcow2_metadata.specs.Header.{HeaderRecord, IsLawfulHeader}
-use Rattle.qcow2_metadata.specs.Header.Extensions.{Extension, BackingFileFormat, FeatureNameTable, ExternalDataFileName, Unknown, FeatureKey, extension_of}
-use Rattle.qcow2_metadata.specs.Header.Features.{feature_type_number}
-use Rattle.qcow2_metadata.specs.Header.Update.{AgreeIn, FieldValue, Number, Bytes, Name, Extensions, Flag, IsFirstChange, agreements, kept_fields, same_extension, same_feature_name, same_value, value_in, with_header_length, with_size_and_tables}
-use Rattle.qcow2_metadata.specs.declared.header.extensions.HeaderExtension.{HeaderExtension}
-use Rattle.qcow2_metadata.specs.declared.header.extensions.HeaderExtension.TheVariants as held
-use Rattle.qcow2_metadata.specs.declared.header.features.FeatureType.{FeatureType}
-use Rattle.qcow2_metadata.specs.declared.header.features.FeatureType.TheVariants.{Autoclear, Compatible, Incompatible}
-use Rattle.qcow2_metadata.specs.contracts.header.extensions.HeaderExtensionPartialEq.TheImpl as extension_eq
-use Rattle.qcow2_metadata.specs.contracts.header.features.FeatureTypePartialEq.TheImpl as feature_type_eq
-
--- the numbers of two types of features are the same exactly where the types are
-feature_type_number-Decides : (a b : FeatureType) → Decides (feature_type_number a == feature_type_number b) (a ≡ b)
-feature_type_number-Decides Incompatible Incompatible = (λ _. refl, λ _. refl)
-feature_type_number-Decides Incompatible Compatible = (λ h. cc, λ h. cc)
-feature_type_number-Decides Incompatible Autoclear = (λ h. cc, λ h. cc)
-feature_type_number-Decides Compatible Incompatible = (λ h. cc, λ h. cc)
-feature_type_number-Decides Compatible Compatible = (λ _. refl, λ _. refl)
-feature_type_number-Decides Compatible Autoclear = (λ h. cc, λ h. cc)
-feature_type_number-Decides Autoclear Incompatible = (λ h. cc, λ h. cc)
-feature_type_number-Decides Autoclear Compatible = (λ h. cc, λ h. cc)
-feature_type_number-Decides Autoclear Autoclear = (λ _. refl, λ _. refl)
-
--- the test of two names with their keys says whether they are the same
-same_feature_name-Decides : (a b : FeatureKey × List ℕ) → Decides (same_feature_name a b) (a ≡ b)
-same_feature_name-Decides ((kind, bit), name) ((other_kind, other_bit), other) =
-    let keys = Decides-and _ _ (feature_type_number-Decides kind other_kind) (Decides-eqb bit other_bit) in
-    Decides-like _ (λ ((kinds, bits), names). cc)
-    (λ same. ((ap (λ (e : FeatureKey × List ℕ). e.0.0) same, ap (λ (e : FeatureKey × List ℕ). e.0.1) same), ap (λ (e : FeatureKey × List ℕ). e.1) same))
-    (Decides-and _ _ keys (bytes_eq-Decides name other))
-
--- the test of two extensions says whether they are the same
-pub same_extension-Decides : (a b : Extension) → Decides (same_extension a b) (a ≡ b)
-same_extension-Decides (BackingFileFormat a) (BackingFileFormat b) =
-    Decides-like _ (ap BackingFileFormat) (λ same. cc) (bytes_eq-Decides a b)
-same_extension-Decides (FeatureNameTable a) (FeatureNameTable b) =
-    Decides-like _ (ap FeatureNameTable) (λ same. cc) (slice_eq-Decides same_feature_name-Decides a b _ refl)
-same_extension-Decides (ExternalDataFileName a) (ExternalDataFileName b) =
-    Decides-like _ (ap ExternalDataFileName) (λ same. cc) (bytes_eq-Decides a b)
-same_extension-Decides (Unknown m a) (Unknown n b) =
-    Decides-like _ (λ (numbers, contents). cc) (λ same. (cc, cc)) (Decides-and _ _ (Decides-eqb m n) (bytes_eq-Decides a b))
-same_extension-Decides (BackingFileFormat a) (FeatureNameTable b) = (λ same. cc, λ same. cc)
-same_extension-Decides (BackingFileFormat a) (ExternalDataFileName b) = (λ same. cc, λ same. cc)
-same_extension-Decides (BackingFileFormat a) (Unknown n b) = (λ same. cc, λ same. cc)
-same_extension-Decides (FeatureNameTable a) (BackingFileFormat b) = (λ same. cc, λ same. cc)
-same_extension-Decides (FeatureNameTable a) (ExternalDataFileName b) = (λ same. cc, λ same. cc)
-same_extension-Decides (FeatureNameTable a) (Unknown n b) = (λ same. cc, λ same. cc)
-same_extension-Decides (ExternalDataFileName a) (BackingFileFormat b) = (λ same. cc, λ same. cc)
-same_extension-Decides (ExternalDataFileName a) (FeatureNameTable b) = (λ same. cc, λ same. cc)
-same_extension-Decides (ExternalDataFileName a) (Unknown n b) = (λ same. cc, λ same. cc)
-same_extension-Decides (Unknown m a) (BackingFileFormat b) = (λ same. cc, λ same. cc)
-same_extension-Decides (Unknown m a) (FeatureNameTable b) = (λ same. cc, λ same. cc)
-same_extension-Decides (Unknown m a) (ExternalDataFileName b) = (λ same. cc, λ same. cc)
-
--- the derived test of two types of features is that of their numbers
-feature_type_eq-number : (a b : FeatureType) → (feature_type_eq.ghosts).eq a b ≡ (feature_type_number a == feature_type_number b)
-feature_type_eq-number Incompatible Incompatible = refl
-feature_type_eq-number Incompatible Compatible = refl
-feature_type_eq-number Incompatible Autoclear = refl
-feature_type_eq-number Compatible Incompatible = refl
-feature_type_eq-number Compatible Compatible = refl
-feature_type_eq-number Compatible Autoclear = refl
-feature_type_eq-number Autoclear Incompatible = refl
-feature_type_eq-number Autoclear Compatible = refl
-feature_type_eq-number Autoclear Autoclear = refl
-
--- the derived test of two extensions in memory is that of what they say
-pub same_extension-of : (a b : HeaderExtension) → (extension_eq.ghosts).eq a b ≡ same_extension (extension_of a) (extension_of b)
-same_extension-of (held.BackingFileFormat a) (held.BackingFileFormat b) = refl
-same_extension-of (held.FeatureNameTable a) (held.FeatureNameTable b) =
-    let said : FeatureKey × String Global → FeatureKey × List ℕ = λ entry. (entry.0, string_bytes entry.1) in
-    let each = fun_ext (λ (p : FeatureKey × String Global). fun_ext (λ (q : FeatureKey × String Global).
-    ap (λ kinds. kinds && p.0.1 == q.0.1 && bytes_eq (string_bytes p.1) (string_bytes q.1)) (feature_type_eq-number p.0.0 q.0.0))) in
-    ap (λ E. pointwise E a.entries b.entries) each ∙ sym (pointwise-map said same_feature_name a.entries b.entries)
-same_extension-of (held.ExternalDataFileName a) (held.ExternalDataFileName b) = refl
-same_extension-of (held.Unknown m a) (held.Unknown n b) = refl
-same_extension-of (held.BackingFileFormat a) (held.FeatureNameTable b) = refl
-same_extension-of (held.BackingFileFormat a) (held.ExternalDataFileName b) = refl
-same_extension-of (held.BackingFileFormat a) (held.Unknown n b) = refl
-same_extension-of (held.FeatureNameTable a) (held.BackingFileFormat b) = refl
-same_extension-of (held.FeatureNameTable a) (held.ExternalDataFileName b) = refl
-same_extension-of (held.FeatureNameTable a) (held.Unknown n b) = refl
-same_extension-of (held.ExternalDataFileName a) (held.BackingFileFormat b) = refl
-same_extension-of (held.ExternalDataFileName a) (held.FeatureNameTable b) = refl
-same_extension-of (held.ExternalDataFileName a) (held.Unknown n b) = refl
-same_extension-of (held.Unknown m a) (held.BackingFileFormat b) = refl
-same_extension-of (held.Unknown m a) (held.FeatureNameTable b) = refl
-same_extension-of (held.Unknown m a) (held.ExternalDataFileName b) = refl
-
--- so is the test of two lists of them
-pub same_extensions-of : (a b : List HeaderExtension)
-    → pointwise (extension_eq.ghosts).eq a b ≡ pointwise same_extension (map extension_of a) (map extension_of b)
-same_extensions-of a b =
-    let each = fun_ext (λ (x : HeaderExtension). fun_ext (λ (y : HeaderExtension). same_extension-of x y)) in
-    ap (λ E. pointwise E a b) each ∙ sym (pointwise-map extension_of same_extension a b)
+use Rattle.qcow2_metadata.specs.Header.Extensions.{Extension}
+use Rattle.qcow2_metadata.specs.Header.Update.{AgreeIn, FieldValue, Number, Bytes, Name, Extensions, Flag, IsFirstChange, agreements, kept_fields, same_value, value_in, with_header_length, with_size_and_tables}
 
 -- two names, which may be missing
 name-Decides : (a b : Option (List ℕ)) → Decides (option_eq bytes_eq a b) (a ≡ b)
 name-Decides None None = (λ _. refl, λ _. refl)
-name-Decides None (Some b) = (λ same. cc, λ same. cc)
-name-Decides (Some a) None = (λ same. cc, λ same. cc)
 name-Decides (Some a) (Some b) = Decides-like _ (ap Some) (λ same. cc) (bytes_eq-Decides a b)
+name-Decides _ _ = (λ same. cc, λ same. cc)
 
 -- the test of two values says whether they are the same
 pub same_value-Decides : (a b : FieldValue) → Decides (same_value a b) (a ≡ b)
@@ -129,26 +33,7 @@ same_value-Decides (Name a) (Name b) = Decides-like _ (ap Name) (λ same. cc) (n
 same_value-Decides (Extensions a) (Extensions b) =
     Decides-like _ (ap Extensions) (λ same. cc) (slice_eq-Decides same_extension-Decides a b _ refl)
 same_value-Decides (Flag a) (Flag b) = Decides-like _ (ap Flag) (λ same. cc) (booleans_Decides a b)
-same_value-Decides (Number a) (Bytes b) = (λ same. cc, λ same. cc)
-same_value-Decides (Number a) (Name b) = (λ same. cc, λ same. cc)
-same_value-Decides (Number a) (Extensions b) = (λ same. cc, λ same. cc)
-same_value-Decides (Number a) (Flag b) = (λ same. cc, λ same. cc)
-same_value-Decides (Bytes a) (Number b) = (λ same. cc, λ same. cc)
-same_value-Decides (Bytes a) (Name b) = (λ same. cc, λ same. cc)
-same_value-Decides (Bytes a) (Extensions b) = (λ same. cc, λ same. cc)
-same_value-Decides (Bytes a) (Flag b) = (λ same. cc, λ same. cc)
-same_value-Decides (Name a) (Number b) = (λ same. cc, λ same. cc)
-same_value-Decides (Name a) (Bytes b) = (λ same. cc, λ same. cc)
-same_value-Decides (Name a) (Extensions b) = (λ same. cc, λ same. cc)
-same_value-Decides (Name a) (Flag b) = (λ same. cc, λ same. cc)
-same_value-Decides (Extensions a) (Number b) = (λ same. cc, λ same. cc)
-same_value-Decides (Extensions a) (Bytes b) = (λ same. cc, λ same. cc)
-same_value-Decides (Extensions a) (Name b) = (λ same. cc, λ same. cc)
-same_value-Decides (Extensions a) (Flag b) = (λ same. cc, λ same. cc)
-same_value-Decides (Flag a) (Number b) = (λ same. cc, λ same. cc)
-same_value-Decides (Flag a) (Bytes b) = (λ same. cc, λ same. cc)
-same_value-Decides (Flag a) (Name b) = (λ same. cc, λ same. cc)
-same_value-Decides (Flag a) (Extensions b) = (λ same. cc, λ same. cc)
+same_value-Decides _ _ = (λ same. cc, λ same. cc)
 
 -- the conditions that the headers agree in these fields
 abbrev agreements_in : HeaderRecord → HeaderRecord → List Field → List (Bool × Fault)

@@ -10,11 +10,12 @@ use Rattle.qcow2_base.specs.declared.fault.Fault.{Fault}
 use Rattle.qcow2_base.specs.declared.fault.Fault.TheVariants.{HeaderTooLong, NameTooLong}
 use Rattle.qcow2_base.specs.declared.on_disk_struct.v2_header.V2Header.{V2Header}
 use Rattle.qcow2_base.specs.declared.on_disk_struct.v3_header_base.V3HeaderBase.{V3HeaderBase}
-use Rattle.qcow2_metadata.specs.Header.{HeaderRecord, IsLawfulHeader, IsStorable, default_base, name_in, names_by, other_features}
-use Rattle.qcow2_metadata.specs.Header.Extensions.{BackingFileFormat, Extension, ExternalDataFileName, FeatureNameTable, Unknown, extension_of}
+use Rattle.qcow2_metadata.specs.Header.{HeaderRecord, IsLawfulHeader, default_base, names_by, other_features}
+use Rattle.qcow2_metadata.specs.Header.Extensions.{Extension, FeatureNameTable, IsStorable, TextOf, Unknown, extension_of, name_in}
 use Rattle.qcow2_metadata.specs.Header.Text.{AreFitting, IsLayout, IsWrittenHeader, bare, base_with_length, chosen, chosen_extensions, chosen_text, fits_first_cluster, header_end, header_text, is_short, kept, placed_text, is_other, name_place, placed, v2_with_name}
 use Rattle.qcow2_metadata.specs.declared.header.text.Layout.{Layout}
-use Rattle.qcow2_metadata.proofs.NamesLemmas.{ReadsBack, storable-reads_back}
+use Rattle.qcow2_metadata.proofs.ExtensionsLemmas.{ReadsBack}
+use Rattle.qcow2_metadata.proofs.NamesLemmas.{storable-reads_back}
 use Rattle.qcow2_metadata.proofs.SettledLemmas.{header_text-placed, kept-settled}
 use Rattle.qcow2_metadata.proofs.TextLemmas.{text-header}
 use Rattle.qcow2_metadata.specs.declared.header.extensions.HeaderExtension.{HeaderExtension}
@@ -24,12 +25,8 @@ use Rattle.qcow2_metadata.specs.declared.header.extensions.HeaderExtensionType.T
 -- a table of feature names says no name
 no_name : (type : HeaderExtensionType) (extension : Extension) → is_other extension ≡ false
     → name_in type extension ≡ None
-no_name kind.End (FeatureNameTable names) is = refl
-no_name kind.BackingFileFormat (FeatureNameTable names) is = refl
-no_name kind.FeatureNameTable (FeatureNameTable names) is = refl
-no_name kind.ExternalDataFileName (FeatureNameTable names) is = refl
-no_name type (BackingFileFormat name) is = cc
-no_name type (ExternalDataFileName name) is = cc
+no_name type (TextOf own name) is = cc
+no_name type (FeatureNameTable names) is = refl
 no_name type (Unknown number content) is = cc
 
 -- without such tables the names are the same

@@ -6,20 +6,16 @@ pub mod Open
 pub mod Pointers
 pub mod Text
 pub mod Update
-use Rattle.std.specs.Prelude.{◌≡◌, ◌≢◌, ◌⊎◌, All, ℕ, Bool, true, nat_eq, ◌==◌, ◌+◌, ◌-◌, ◌*◌, ◌%◌, ◌^◌, ◌<◌, ◌≤◌, List, [], ◌∷◌, ◌++◌, map, codes, Option, Some, None, IfSome, is_some, if◌then◌else◌, option_to_list, slice_get}
+use Rattle.std.specs.Prelude.{◌≡◌, ◌⊎◌, All, ℕ, Bool, true, nat_eq, ◌==◌, ◌+◌, ◌-◌, ◌*◌, ◌%◌, ◌^◌, ◌≤◌, List, [], ◌∷◌, ◌++◌, map, codes, Option, IfSome, is_some, if◌then◌else◌, option_to_list, slice_get}
 use Rattle.std.specs.Cmp.Lexicographic.{pointwise}
 use Rattle.std.specs.List.{list_all}
-use Rattle.std.specs.List.Sorted.{IsStrictlySortedBy}
-use Rattle.std.specs.Map.{keys_of, lookup}
-use Rattle.std.specs.Ordering.{is_eq}
 use Rattle.std.specs.Str.{IsUtf8}
 use Rattle.qcow2_base.specs.Format.{external_data_file_bit}
 use Rattle.qcow2_base.specs.Bits.{field}
 use Rattle.qcow2_base.specs.Types.{IsClusterBits}
 use Rattle.qcow2_base.specs.declared.on_disk_struct.v2_header.V2Header.{V2Header}
 use Rattle.qcow2_base.specs.declared.on_disk_struct.v3_header_base.V3HeaderBase.{V3HeaderBase}
-use Rattle.qcow2_metadata.specs.Header.Extensions.{Extension, BackingFileFormat, FeatureNameTable, ExternalDataFileName, FeatureKey, FeatureNames, Unknown, extension_number, key_cmp}
-use Rattle.qcow2_metadata.specs.declared.header.extensions.HeaderExtensionType.{HeaderExtensionType}
+use Rattle.qcow2_metadata.specs.Header.Extensions.{Extension, FeatureNameTable, FeatureNames, IsStorable, TextOf, name_in}
 use Rattle.qcow2_metadata.specs.declared.header.extensions.HeaderExtensionType.TheVariants as kind
 use Rattle.qcow2_metadata.specs.declared.header.features.FeatureType.TheVariants.{Incompatible, Compatible, Autoclear}
 
@@ -46,17 +42,6 @@ default_base = record {
   refcount_order = 4;
   header_length = 104;
 }
-
--- the name that an extension of this type says
-abbrev pub name_in : HeaderExtensionType → Extension → Option (List ℕ)
-name_in kind.BackingFileFormat (BackingFileFormat name) = Some name
-name_in kind.ExternalDataFileName (ExternalDataFileName name) = Some name
-name_in _ _ = None
-
--- the name that an extension has for a feature
-abbrev pub feature_name_in : FeatureKey → Extension → Option (List ℕ)
-feature_name_in key (FeatureNameTable names) = lookup (λ other. is_eq (key_cmp key other)) names
-feature_name_in key _ = None
 
 -- all names that extensions say, in order
 abbrev pub names_by : (Extension → Option (List ℕ)) → List Extension → List (List ℕ)
@@ -126,19 +111,9 @@ new_header cluster_bits refcount_order backing_filename backing_format data_file
   unknown_header_fields = [];
   backing_filename = backing_filename;
   extensions = FeatureNameTable known_names
-      ∷ map BackingFileFormat (option_to_list backing_format)
-      ++ map ExternalDataFileName (option_to_list data_file);
+      ∷ map (TextOf kind.BackingFileFormat) (option_to_list backing_format)
+      ++ map (TextOf kind.ExternalDataFileName) (option_to_list data_file);
 }
-
--- an extension that an image can say: texts are UTF-8, names of features are in the order of their keys, and only
--- data of a type that isn't known is kept as it stands
-abbrev pub IsStorable : Extension → Type 0
-IsStorable (BackingFileFormat name) = IsUtf8 name
-IsStorable (FeatureNameTable names) =
-    IsStrictlySortedBy key_cmp (keys_of names) × All (λ named. IsUtf8 named.1) names
-IsStorable (ExternalDataFileName name) = IsUtf8 name
-IsStorable (Unknown number content) =
-    (number < 2 ^ 32) × ((type : HeaderExtensionType) → extension_number type ≢ number)
 
 -- what holds of every header, whether it was made or loaded
 pub record IsLawfulHeader (header : HeaderRecord) : Type 0 where

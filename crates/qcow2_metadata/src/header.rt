@@ -1,9 +1,9 @@
 //! What an image's header says.
 
-ghost use Rattle.std.specs.Prelude.{◌≡◌, ◌+◌, ◌-◌, ◌^◌, ◌≤◌, IsOkUnless, IfOk, MatchResult, None, map, option_map, string_bytes};
+ghost use Rattle.std.specs.Prelude.{◌≡◌, ◌⊎◌, ◌+◌, ◌-◌, ◌^◌, ◌≤◌, IsOkUnless, IfOk, MatchResult, None, map, option_map, string_bytes};
 ghost use Rattle.qcow2_base.specs.Types.{IsClusterBits, IsRefblockBits};
-ghost use Rattle.qcow2_metadata.specs.Header.{all_same, first_by, name_in, names_by, new_header};
-ghost use Rattle.qcow2_metadata.specs.Header.Extensions.{extension_of};
+ghost use Rattle.qcow2_metadata.specs.Header.{all_same, first_by, names_by, new_header};
+ghost use Rattle.qcow2_metadata.specs.Header.Extensions.{extension_of, name_in};
 
 mod backing_filename;
 mod extensions;
@@ -64,7 +64,8 @@ impl Model for Header {
 
 impl Header {
     ghost use Rattle.std.specs.Prelude.{◌-◌, ◌*◌, ◌<◌};
-    ghost use Rattle.qcow2_metadata.specs.Header.{feature_name_in, first_by, name_in, new_header, uses_external_data};
+    ghost use Rattle.qcow2_metadata.specs.Header.{first_by, new_header, uses_external_data};
+    ghost use Rattle.qcow2_metadata.specs.Header.Extensions.{feature_name_in, name_in};
     ghost use Rattle.qcow2_metadata.specs.declared.header.extensions.HeaderExtensionType.TheVariants as kind;
 
     /// A header of version 3 for an image that is to be made. Guest data lies in the image, or in an
@@ -269,6 +270,15 @@ impl Header {
             }
         }
         None
+    }
+
+    /// The version of the format, 2 or 3.
+    #[inline]
+    pub fn version(&self) -> u32
+        ensures value { result ≡ self.now.v2.version }
+        ensures known { (result ≡ 2) ⊎ (result ≡ 3) }
+    {
+        self.v2.version
     }
 
     /// Refuses a header of an older version than this, by fault 27.

@@ -1,10 +1,14 @@
-use Rattle.std.specs.Prelude.{◌≡◌, ℕ, zero, suc, ◌*◌, ◌<◌, ◌≤◌, ◌==◌, if◌then◌else◌, List, [], ◌∷◌, length, map, slice_index, take, drop, Option, Some, None, Result, Ok, Err, String, string_bytes}
+use Rattle.std.specs.Prelude.{◌≡◌, ◌≢◌, ℕ, zero, suc, ◌-◌, ◌*◌, ◌^◌, ◌<◌, ◌≤◌, ◌==◌, ◌&&◌, Bool, true, false, if◌then◌else◌, All, List, [], ◌∷◌, ◌++◌, length, map, slice_index, take, drop, replicate, Option, Some, None, Result, Ok, Err, String, string_bytes}
 use Rattle.std.specs.Global.{Global}
 use Rattle.std.specs.BTreeMap.{BTreeMap, insert_entry}
+use Rattle.std.specs.Cmp.Lexicographic.{pointwise}
 use Rattle.std.specs.Int.{div_ceil}
-use Rattle.std.specs.Ordering.{nat_cmp, ordering_then}
+use Rattle.std.specs.List.{flat_map}
+use Rattle.std.specs.List.Sorted.{IsStrictlySortedBy}
+use Rattle.std.specs.Map.{keys_of, lookup}
+use Rattle.std.specs.Ordering.{is_eq, nat_cmp, ordering_then}
 use Rattle.std.specs.declared.cmp.Ordering.{Ordering}
-use Rattle.std.specs.Str.{is_utf8}
+use Rattle.std.specs.Str.{IsUtf8, bytes_eq, is_utf8}
 use Rattle.std.specs.Str.Lossy.{utf8_lossy}
 use Rattle.qcow2_base.specs.declared.fault.Fault.{Fault}
 use Rattle.qcow2_base.specs.declared.fault.Fault.TheVariants.{ExtensionText, FeatureNameCut}
@@ -29,11 +33,24 @@ key_cmp a b = ordering_then ((feature_type_ord.ghosts).cmp a.0 b.0) (nat_cmp a.1
 abbrev pub FeatureNames : Type 0
 FeatureNames = List (FeatureKey × List ℕ)
 
--- an extension of the header; texts and contents are bytes
+-- the number of a type of extension
+abbrev pub extension_number : HeaderExtensionType → ℕ
+extension_number kind.End = 0
+extension_number kind.BackingFileFormat = 0xe2792aca
+extension_number kind.FeatureNameTable = 0x6803f857
+extension_number kind.ExternalDataFileName = 0x44415441
+
+-- whether an extension of this type is text
+abbrev pub is_text : HeaderExtensionType → Bool
+is_text kind.BackingFileFormat = true
+is_text kind.ExternalDataFileName = true
+is_text _ = false
+
+-- an extension of the header: text of a type, names of features, or content of a type that isn't known; texts and
+-- contents are bytes
 pub data Extension : Type 0 where
-  BackingFileFormat : List ℕ → Extension
+  TextOf : HeaderExtensionType → List ℕ → Extension
   FeatureNameTable : FeatureNames → Extension
-  ExternalDataFileName : List ℕ → Extension
   Unknown : ℕ → List ℕ → Extension
 
 -- the names that a table in memory has
@@ -42,9 +59,9 @@ names_of names = map (λ entry. (entry.0, string_bytes entry.1)) names.entries
 
 -- what an extension in memory says
 abbrev pub extension_of : HeaderExtension → Extension
-extension_of (held.BackingFileFormat name) = BackingFileFormat (string_bytes name)
+extension_of (held.BackingFileFormat name) = TextOf kind.BackingFileFormat (string_bytes name)
 extension_of (held.FeatureNameTable names) = FeatureNameTable (names_of names)
-extension_of (held.ExternalDataFileName name) = ExternalDataFileName (string_bytes name)
+extension_of (held.ExternalDataFileName name) = TextOf kind.ExternalDataFileName (string_bytes name)
 extension_of (held.Unknown number content) = Unknown number content.items
 
 -- text, or the fault of bytes that are none
@@ -98,17 +115,68 @@ pub record IsLastNamed (bytes : List ℕ) (key : FeatureKey) (name : List ℕ) :
   pub last : (later : ℕ) → index < later → ¬ (HasKey (chunk_at bytes later) key)
   pub says : name ≡ name_at (chunk_at bytes index)
 
--- the number of an extension's type
-abbrev pub extension_number : HeaderExtensionType → ℕ
-extension_number kind.End = 0
-extension_number kind.BackingFileFormat = 0xe2792aca
-extension_number kind.FeatureNameTable = 0x6803f857
-extension_number kind.ExternalDataFileName = 0x44415441
+-- an extension that an image can say: texts are UTF-8, names of features are in the order of their keys, and only
+-- data of a type that isn't known is kept as it stands
+abbrev pub IsStorable : Extension → Type 0
+IsStorable (TextOf type name) = (is_text type ≡ true) × IsUtf8 name
+IsStorable (FeatureNameTable names) =
+    IsStrictlySortedBy key_cmp (keys_of names) × All (λ named. IsUtf8 named.1) names
+IsStorable (Unknown number content) =
+    (number < 2 ^ 32) × ((type : HeaderExtensionType) → extension_number type ≢ number)
+
+-- the name that an extension of this type says
+abbrev pub name_in : HeaderExtensionType → Extension → Option (List ℕ)
+name_in type (TextOf own name) = if extension_number own == extension_number type then Some name else None
+name_in type _ = None
+
+-- the name that an extension has for a feature
+abbrev pub feature_name_in : FeatureKey → Extension → Option (List ℕ)
+feature_name_in key (FeatureNameTable names) = lookup (λ other. is_eq (key_cmp key other)) names
+feature_name_in key _ = None
+
+-- whether two names of features are the same, and the keys that they stand under
+abbrev pub same_feature_name : FeatureKey × List ℕ → FeatureKey × List ℕ → Bool
+same_feature_name a b =
+    feature_type_number a.0.0 == feature_type_number b.0.0 && a.0.1 == b.0.1 && bytes_eq a.1 b.1
+
+-- whether two extensions are the same
+abbrev pub same_extension : Extension → Extension → Bool
+same_extension (TextOf type name) (TextOf other_type other) =
+    extension_number type == extension_number other_type && bytes_eq name other
+same_extension (FeatureNameTable names) (FeatureNameTable others) = pointwise same_feature_name names others
+same_extension (Unknown number content) (Unknown other_number other) = number == other_number && bytes_eq content other
+same_extension _ _ = false
 
 -- the extension of a type that isn't End with these bytes of data
 abbrev pub parsed : ℕ → List ℕ → Result Extension Fault
 parsed number bytes =
-    if number == extension_number kind.BackingFileFormat then result_map BackingFileFormat (text ExtensionText bytes)
+    if number == extension_number kind.BackingFileFormat then result_map (TextOf kind.BackingFileFormat) (text ExtensionText bytes)
     else (if number == extension_number kind.FeatureNameTable then result_map FeatureNameTable (feature_names bytes)
-    else (if number == extension_number kind.ExternalDataFileName then result_map ExternalDataFileName (text ExtensionText bytes)
+    else (if number == extension_number kind.ExternalDataFileName then result_map (TextOf kind.ExternalDataFileName) (text ExtensionText bytes)
     else Ok (Unknown number bytes)))
+
+-- a feature's name in 48 bytes: its type, its bit, the first 46 bytes of the name, and zeros
+abbrev pub name_chunk : FeatureKey × List ℕ → List ℕ
+name_chunk named = feature_type_number named.0.0 ∷ named.0.1 ∷ take 46 named.1 ++ replicate (46 - length named.1) 0
+
+-- the number of an extension's type
+abbrev pub type_number : Extension → ℕ
+type_number (TextOf type name) = extension_number type
+type_number (FeatureNameTable names) = extension_number kind.FeatureNameTable
+type_number (Unknown number content) = number
+
+-- the data of an extension
+abbrev pub data_of : Extension → List ℕ
+data_of (TextOf type name) = name
+data_of (FeatureNameTable names) = flat_map name_chunk names
+data_of (Unknown number content) = content
+
+-- what a name of a feature reads back as: the text of its first 46 bytes, up to the first zero byte
+abbrev pub normal_name : List ℕ → List ℕ
+normal_name name = utf8_lossy (until_zero (take 46 name))
+
+-- what an extension reads back as
+abbrev pub normal_extension : Extension → Extension
+normal_extension (TextOf type name) = TextOf type name
+normal_extension (FeatureNameTable names) = FeatureNameTable (map (λ named. (named.0, normal_name named.1)) names)
+normal_extension (Unknown number content) = Unknown number content

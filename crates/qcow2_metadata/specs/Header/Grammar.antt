@@ -11,9 +11,9 @@ use Rattle.qcow2_base.specs.declared.fault.Fault.TheVariants.{NotQcow2, Version,
 use Rattle.qcow2_base.specs.declared.on_disk_struct.v2_header.V2Header.{V2Header}
 use Rattle.qcow2_base.specs.declared.on_disk_struct.v3_header_base.V3HeaderBase.{V3HeaderBase}
 use Rattle.qcow2_metadata.specs.Results.{and_then, provided, result_map}
-use Rattle.qcow2_metadata.specs.Header.{HeaderRecord, all_same, default_base, magic, name_in, names_by, other_features}
+use Rattle.qcow2_metadata.specs.Header.{HeaderRecord, all_same, default_base, magic, names_by, other_features}
 use Rattle.qcow2_metadata.specs.Header.Chain.{SaysExtensions, extensions_at}
-use Rattle.qcow2_metadata.specs.Header.Extensions.{Extension, text}
+use Rattle.qcow2_metadata.specs.Header.Extensions.{Extension, name_in, text}
 use Rattle.qcow2_metadata.specs.Range.{bytes_at}
 use Rattle.qcow2_metadata.specs.declared.header.extensions.HeaderExtensionType.TheVariants as kind
 

@@ -1,7 +1,6 @@
-use Rattle.std.specs.Prelude.{◌≡◌, All, ℕ, ◌<◌, ◌+◌, ◌-◌, ◌^◌, ◌==◌, nat_le, ◌||◌, Bool, true, false, if◌then◌else◌, List, [], ◌∷◌, ◌++◌, length, map, take, replicate, Option, Some, None, Result, Ok, Err, MatchResult}
+use Rattle.std.specs.Prelude.{◌≡◌, All, ℕ, ◌<◌, ◌+◌, ◌-◌, ◌^◌, ◌==◌, nat_le, ◌||◌, Bool, true, false, if◌then◌else◌, List, [], ◌∷◌, ◌++◌, length, map, replicate, Option, Some, None, Result, Ok, Err, MatchResult}
 use Rattle.std.specs.Int.{bytes_high_first, next_multiple_of}
 use Rattle.std.specs.List.{filter, flat_map}
-use Rattle.std.specs.Str.Lossy.{utf8_lossy}
 use Rattle.qcow2_base.specs.Format.{max_backing_filename}
 use Rattle.qcow2_base.specs.OnDiskStruct.{LayoutField, header_extension_header, v2_header, v3_header_base}
 use Rattle.qcow2_base.specs.Storage.{Holds, Image}
@@ -12,11 +11,9 @@ use Rattle.qcow2_base.specs.declared.on_disk_struct.v2_header.V2Header.{V2Header
 use Rattle.qcow2_base.specs.declared.on_disk_struct.v3_header_base.V3HeaderBase.{V3HeaderBase}
 use Rattle.qcow2_metadata.specs.Results.{provided}
 use Rattle.qcow2_metadata.specs.Header.{HeaderRecord}
-use Rattle.qcow2_metadata.specs.Header.Extensions.{BackingFileFormat, Extension, ExternalDataFileName, FeatureKey, FeatureNameTable, Unknown, extension_number, until_zero}
-use Rattle.qcow2_metadata.specs.Header.Features.{feature_type_number}
+use Rattle.qcow2_metadata.specs.Header.Extensions.{Extension, FeatureNameTable, data_of, normal_extension, type_number}
 use Rattle.qcow2_metadata.specs.Header.Grammar.{IsHeader}
 use Rattle.qcow2_metadata.specs.declared.header.text.Layout.{Layout}
-use Rattle.qcow2_metadata.specs.declared.header.extensions.HeaderExtensionType.TheVariants as kind
 
 -- the bytes of fields that follow one another, the most significant one of each first
 abbrev pub fields_text : List LayoutField → List ℕ
@@ -29,24 +26,6 @@ AreFitting fields = All (λ f. f.value < 256 ^ f.size) fields
 -- the bytes, and zeros up to a multiple of 8 of them
 abbrev pub padded : List ℕ → List ℕ
 padded bytes = bytes ++ replicate (next_multiple_of (length bytes) 8 - length bytes) 0
-
--- a feature's name in 48 bytes: its type, its bit, the first 46 bytes of the name, and zeros
-abbrev pub name_chunk : FeatureKey × List ℕ → List ℕ
-name_chunk named = feature_type_number named.0.0 ∷ named.0.1 ∷ take 46 named.1 ++ replicate (46 - length named.1) 0
-
--- the number of an extension's type
-abbrev pub type_number : Extension → ℕ
-type_number (BackingFileFormat name) = extension_number kind.BackingFileFormat
-type_number (FeatureNameTable names) = extension_number kind.FeatureNameTable
-type_number (ExternalDataFileName name) = extension_number kind.ExternalDataFileName
-type_number (Unknown number content) = number
-
--- the data of an extension
-abbrev pub data_of : Extension → List ℕ
-data_of (BackingFileFormat name) = name
-data_of (FeatureNameTable names) = flat_map name_chunk names
-data_of (ExternalDataFileName name) = name
-data_of (Unknown number content) = content
 
 -- what stands before its data
 abbrev pub extension_header_of : Extension → HeaderExtensionHeader
@@ -163,17 +142,6 @@ placed_text (Err fault) = []
 -- the bytes that a write places; none where it is refused
 abbrev pub chosen_text : HeaderRecord → List ℕ
 chosen_text header = placed_text (kept header)
-
--- what a name of a feature reads back as: the text of its first 46 bytes, up to the first zero byte
-abbrev pub normal_name : List ℕ → List ℕ
-normal_name name = utf8_lossy (until_zero (take 46 name))
-
--- what an extension reads back as
-abbrev pub normal_extension : Extension → Extension
-normal_extension (FeatureNameTable names) = FeatureNameTable (map (λ named. (named.0, normal_name named.1)) names)
-normal_extension (BackingFileFormat name) = BackingFileFormat name
-normal_extension (ExternalDataFileName name) = ExternalDataFileName name
-normal_extension (Unknown number content) = Unknown number content
 
 -- what a header that was written reads back as: the unknown fields have their padding, which version 2 has
 -- not, and the names of features are those that the image has

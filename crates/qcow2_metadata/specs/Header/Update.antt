@@ -1,4 +1,4 @@
-use Rattle.std.specs.Prelude.{◌≡◌, ℕ, Bool, false, ◌==◌, ◌&&◌, List, [], ◌∷◌, ◌++◌, All, map, Option}
+use Rattle.std.specs.Prelude.{◌≡◌, ℕ, Bool, false, ◌==◌, List, [], ◌∷◌, ◌++◌, All, map, Option}
 use Rattle.std.specs.Bool.{beq}
 use Rattle.std.specs.Cmp.Lexicographic.{pointwise}
 use Rattle.std.specs.Option.{option_eq}
@@ -8,8 +8,7 @@ use Rattle.qcow2_base.specs.declared.fault.Fault.TheVariants.{FieldChanged}
 use Rattle.qcow2_base.specs.declared.fault.Field.{Field}
 use Rattle.qcow2_base.specs.declared.fault.Field.TheVariants as field
 use Rattle.qcow2_metadata.specs.Header.{HeaderRecord, uses_external_data}
-use Rattle.qcow2_metadata.specs.Header.Extensions.{Extension, BackingFileFormat, FeatureNameTable, ExternalDataFileName, Unknown, FeatureKey}
-use Rattle.qcow2_metadata.specs.Header.Features.{feature_type_number}
+use Rattle.qcow2_metadata.specs.Header.Extensions.{Extension, same_extension}
 
 -- what a header says in one of its fields
 pub data FieldValue : Type 0 where
@@ -62,19 +61,6 @@ kept_fields =
     ∷ field.Extensions
     ∷ field.ExternalData
     ∷ []
-
--- whether two names of features are the same, and the keys that they stand under
-abbrev pub same_feature_name : FeatureKey × List ℕ → FeatureKey × List ℕ → Bool
-same_feature_name a b =
-    feature_type_number a.0.0 == feature_type_number b.0.0 && a.0.1 == b.0.1 && bytes_eq a.1 b.1
-
--- whether two extensions are the same
-abbrev pub same_extension : Extension → Extension → Bool
-same_extension (BackingFileFormat name) (BackingFileFormat other) = bytes_eq name other
-same_extension (FeatureNameTable names) (FeatureNameTable others) = pointwise same_feature_name names others
-same_extension (ExternalDataFileName name) (ExternalDataFileName other) = bytes_eq name other
-same_extension (Unknown number content) (Unknown other_number other) = number == other_number && bytes_eq content other
-same_extension _ _ = false
 
 -- whether two headers say the same in a field
 abbrev pub same_value : FieldValue → FieldValue → Bool

@@ -5,12 +5,11 @@ ghost use Rattle.qcow2_base.specs.OnDiskStruct.{header_extension_header};
 ghost use Rattle.qcow2_base.specs.Storage.{OnImage};
 ghost use Rattle.qcow2_base.specs.declared.fault.Fault.TheVariants.{ExtensionText};
 ghost use Rattle.qcow2_metadata.specs.Results.{Answers, provided, result_map};
-ghost use Rattle.qcow2_metadata.specs.Header.{IsStorable, feature_name_in, name_in};
 ghost use Rattle.qcow2_metadata.specs.Header.Chain.{data_end, extension_at, extension_header_at, extensions_at, link_at};
-ghost use Rattle.qcow2_metadata.specs.Header.Extensions.{extension_number, extension_of, parsed};
+ghost use Rattle.qcow2_metadata.specs.Header.Extensions.{IsStorable, data_of, extension_number, extension_of, feature_name_in, name_in, parsed, type_number};
 ghost use Rattle.qcow2_metadata.specs.Header.Features.{HasNumber};
 ghost use Rattle.qcow2_metadata.specs.Header.Grammar.{AreLawfulParts, IsHeaderFault, header_extensions, last_conditions};
-ghost use Rattle.qcow2_metadata.specs.Header.Text.{chosen_extensions, data_of, extension_text, extensions_text, fields_text, is_other, type_number, written_text};
+ghost use Rattle.qcow2_metadata.specs.Header.Text.{chosen_extensions, extension_text, extensions_text, fields_text, is_other, written_text};
 ghost use Rattle.qcow2_metadata.specs.Range.{bytes_at};
 ghost use Rattle.qcow2_metadata.specs.ReadAhead.{ReadsThrough};
 ghost use Rattle.qcow2_metadata.specs.declared.header.extensions.HeaderExtensionType.TheVariants as kind;
@@ -237,6 +236,7 @@ fn read_data<S: Storage>(
 }
 
 // The extension of a type that is neither End nor a feature name table, with these bytes of data.
+#[tactic(auto, using(crate::proofs::ExtensionsLemmas::string_is_text))]
 fn parse(extension_type: u32, bytes: Vec<u8>) -> Result<HeaderExtension, Fault>
     requires end { extension_type ≢ extension_number kind.End }
     requires names { extension_type ≢ extension_number kind.FeatureNameTable }

@@ -7,10 +7,9 @@ ghost use Rattle.std.specs.Str.Lossy.{utf8_lossy};
 ghost use Rattle.qcow2_base.specs.Storage.{OnImage};
 ghost use Rattle.qcow2_base.specs.declared.fault.Fault.TheVariants.{FeatureNameCut, NoMemory};
 ghost use Rattle.qcow2_metadata.specs.Results.{Answers, Computes};
-ghost use Rattle.qcow2_metadata.specs.Header.{IsStorable, known_names};
-ghost use Rattle.qcow2_metadata.specs.Header.Extensions.{FeatureNameTable, feature_names, key_cmp, names_of, until_zero, with_feature_name};
+ghost use Rattle.qcow2_metadata.specs.Header.{known_names};
+ghost use Rattle.qcow2_metadata.specs.Header.Extensions.{FeatureNameTable, IsStorable, feature_names, key_cmp, name_chunk, names_of, until_zero, with_feature_name};
 ghost use Rattle.qcow2_metadata.specs.Header.Grammar.{IsHeaderFault};
-ghost use Rattle.qcow2_metadata.specs.Header.Text.{name_chunk};
 ghost use Rattle.qcow2_metadata.specs.Range.{bytes_at};
 ghost use Rattle.qcow2_metadata.specs.ReadAhead.{ReadsThrough};
 

@@ -1,6 +1,7 @@
 use Rattle.std.specs.Prelude.{ℕ, nat_le, if◌then◌else◌, Bool, true, false, List, ◌++◌, length, Option, Some, None, codes}
 use Rattle.std.specs.Fmt.{decimal}
-use Rattle.qcow2_metadata.specs.Header.{HeaderRecord, first_by, name_in, uses_external_data}
+use Rattle.qcow2_metadata.specs.Header.{HeaderRecord, first_by, uses_external_data}
+use Rattle.qcow2_metadata.specs.Header.Extensions.{name_in}
 use Rattle.qcow2_metadata.specs.declared.header.extensions.HeaderExtensionType.TheVariants as kind
 use Rattle.qcow2_session.specs.Lines.{offset_text}
 

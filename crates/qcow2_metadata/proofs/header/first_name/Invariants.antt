@@ -1,6 +1,6 @@
 use Rattle.std.proofs.Common.{◌≡◌, [], map, take}
-use Rattle.qcow2_metadata.specs.Header.{name_in, names_by}
-use Rattle.qcow2_metadata.specs.Header.Extensions.{extension_of}
+use Rattle.qcow2_metadata.specs.Header.{names_by}
+use Rattle.qcow2_metadata.specs.Header.Extensions.{extension_of, name_in}
 use Rattle.qcow2_metadata.proofs.header.first_name.Given as goal
 
 -- no extension so far says a name

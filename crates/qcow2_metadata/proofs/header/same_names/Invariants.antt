@@ -1,6 +1,6 @@
 use Rattle.std.proofs.Common.{◌≡◌, true, map, take}
-use Rattle.qcow2_metadata.specs.Header.{first_by, name_in, names_by}
-use Rattle.qcow2_metadata.specs.Header.Extensions.{extension_of}
+use Rattle.qcow2_metadata.specs.Header.{first_by, names_by}
+use Rattle.qcow2_metadata.specs.Header.Extensions.{extension_of, name_in}
 use Rattle.qcow2_metadata.proofs.HeaderLemmas.{all_are}
 use Rattle.qcow2_metadata.proofs.header.same_names.Given as goal
 

@@ -1,5 +1,5 @@
 use Rattle.std.proofs.Common.{◌∙◌}
-use Rattle.qcow2_metadata.proofs.UpdateLemmas.{same_extensions-of}
+use Rattle.qcow2_metadata.proofs.ExtensionsLemmas.{same_extensions-of}
 use Rattle.qcow2_metadata.proofs.header.Header.agrees_in.Goals as goal
 
 pub returns-in-Extensions : goal.returns-in-Extensions

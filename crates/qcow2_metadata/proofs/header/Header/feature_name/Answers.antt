@@ -1,7 +1,7 @@
 use Rattle.std.proofs.Common.{rules, ◌≡◌, ◌∙◌, ℕ, ◌<◌, map, sym, ap, Some, Result, Ok, Err, string_bytes}
 use Rattle.std.specs.Result.{OkIff, result_ok}
-use Rattle.qcow2_metadata.specs.Header.{HeaderRecord, feature_name_in}
-use Rattle.qcow2_metadata.specs.Header.Extensions.{FeatureKey, extension_of}
+use Rattle.qcow2_metadata.specs.Header.{HeaderRecord}
+use Rattle.qcow2_metadata.specs.Header.Extensions.{FeatureKey, extension_of, feature_name_in}
 use Rattle.qcow2_metadata.proofs.HeaderLemmas.{first_by_at, no_name_more}
 use Rattle.qcow2_metadata.proofs.header.Header.feature_name.Goals as goal
 

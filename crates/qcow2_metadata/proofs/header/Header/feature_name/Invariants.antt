@@ -1,6 +1,6 @@
 use Rattle.std.proofs.Common.{◌≡◌, [], map, take}
-use Rattle.qcow2_metadata.specs.Header.{feature_name_in, names_by}
-use Rattle.qcow2_metadata.specs.Header.Extensions.{FeatureKey, extension_of}
+use Rattle.qcow2_metadata.specs.Header.{names_by}
+use Rattle.qcow2_metadata.specs.Header.Extensions.{FeatureKey, extension_of, feature_name_in}
 use Rattle.qcow2_metadata.proofs.header.Header.feature_name.Given as goal
 
 -- no extension so far has a name for the feature

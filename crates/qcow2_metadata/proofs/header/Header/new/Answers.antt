@@ -1,7 +1,8 @@
 use Rattle.std.proofs.Common.{rules, ◌≡◌, ◌++◌, ◌∷◌, map, option_map, string_bytes}
 use Rattle.std.specs.Prelude.{option_to_list}
 use Rattle.qcow2_metadata.specs.Header.{known_names}
-use Rattle.qcow2_metadata.specs.Header.Extensions.{BackingFileFormat, ExternalDataFileName, FeatureNameTable, extension_of}
+use Rattle.qcow2_metadata.specs.declared.header.extensions.HeaderExtensionType.TheVariants as kind
+use Rattle.qcow2_metadata.specs.Header.Extensions.{FeatureNameTable, extension_of, TextOf}
 use Rattle.qcow2_metadata.proofs.StorableLemmas.{name-text, new_extensions-storable}
 use Rattle.qcow2_metadata.proofs.header.Header.new.Goals as goal
 
@@ -9,8 +10,8 @@ pub invariant_of-result : goal.invariant_of-result
 invariant_of-result c =
     let same : map extension_of c.match-external_data_file-4.extensions.items
     ≡ FeatureNameTable known_names
-    ∷ map BackingFileFormat (option_to_list (option_map string_bytes c.args.backing_format))
-    ++ map ExternalDataFileName (option_to_list (option_map string_bytes c.args.external_data_file)) = search rules in
+    ∷ map (TextOf kind.BackingFileFormat) (option_to_list (option_map string_bytes c.args.backing_format))
+    ++ map (TextOf kind.ExternalDataFileName) (option_to_list (option_map string_bytes c.args.external_data_file)) = search rules in
     record {
       magic = search rules;
       version = search rules;

@@ -4,8 +4,7 @@ use Rattle.std.proofs.lemmas.List.Elements.{All-push}
 use Rattle.std.proofs.lemmas.Result.{err_from_is_err_and}
 use Rattle.qcow2_metadata.proofs.LoadLemmas.{extensions_at-end, extensions_at-fault, extensions_at-more}
 use Rattle.qcow2_metadata.specs.Results.{result_map}
-use Rattle.qcow2_metadata.specs.Header.{IsStorable}
-use Rattle.qcow2_metadata.specs.Header.Extensions.{Extension, extension_of}
+use Rattle.qcow2_metadata.specs.Header.Extensions.{Extension, IsStorable, extension_of}
 use Rattle.qcow2_metadata.proofs.header.extensions.read_extensions.Goals as goal
 
 pub returns-in_err-extension-clause-exact : goal.returns-in_err-extension-clause-exact

@@ -1,9 +1,8 @@
 use Rattle.std.proofs.Common.{◌≡◌, ◌+◌, ◌-◌, ◌++◌, All, IsTrue, map}
 use Rattle.qcow2_base.specs.Storage.{SameDevice}
 use Rattle.qcow2_metadata.specs.Results.{result_map}
-use Rattle.qcow2_metadata.specs.Header.{IsStorable}
 use Rattle.qcow2_metadata.specs.Header.Chain.{extensions_at}
-use Rattle.qcow2_metadata.specs.Header.Extensions.{extension_of}
+use Rattle.qcow2_metadata.specs.Header.Extensions.{IsStorable, extension_of}
 use Rattle.qcow2_metadata.proofs.header.extensions.read_extensions.Given as goal
 
 -- the extensions from the first place on are those that were read and those from this place on, and no call

@@ -1,5 +1,5 @@
 use Rattle.std.proofs.Common.{◌≡◌, ◌≤◌, ℕ, List, arith, drop, length, Ok, refl, ◌∙◌, ap, slice_index, string_bytes}
-use Rattle.qcow2_metadata.proofs.ExtensionsLemmas.{insert_entry-map, with_feature_name-named, with_feature_name-unknown}
+use Rattle.qcow2_metadata.proofs.FeatureNamesLemmas.{insert_entry-map, with_feature_name-named, with_feature_name-unknown}
 use Rattle.std.proofs.lemmas.List.{take_rest}
 use Rattle.std.specs.Str.Lossy.{utf8_lossy}
 use Rattle.qcow2_metadata.specs.Header.Extensions.{key_cmp, names_of, until_zero}

@@ -2,7 +2,7 @@ use Rattle.std.proofs.Common.{◌≡◌, ◌++◌, take, string_bytes, refl}
 use Rattle.std.specs.Str.{encode_utf8_all}
 use Rattle.bstr.specs.Utf8.{lossy_chars}
 use Rattle.bstr.proofs.lemmas.LossyLemmas.{lossy_chars-utf8_lossy}
-use Rattle.qcow2_metadata.proofs.ExtensionsLemmas.{until_zero-found}
+use Rattle.qcow2_metadata.proofs.FeatureNamesLemmas.{until_zero-found}
 use Rattle.qcow2_metadata.proofs.header.feature_names.name_of.Goals as goal
 
 pub returns : goal.returns

@@ -2,7 +2,7 @@ use Rattle.std.proofs.Common.{◌≡◌, ◌+◌, ◌-◌, ◌*◌, length, min,
 use Rattle.std.proofs.lemmas.Result.{err_from_is_err_and}
 use Rattle.std.specs.Int.{div_ceil}
 use Rattle.qcow2_base.specs.Storage.{Holds}
-use Rattle.qcow2_metadata.proofs.ExtensionsLemmas.{names_of_chunks-fault, names_of_chunks-more}
+use Rattle.qcow2_metadata.proofs.FeatureNamesLemmas.{names_of_chunks-fault, names_of_chunks-more}
 use Rattle.qcow2_metadata.proofs.RangeLemmas.{chunk_at-held, length-bytes_at}
 use Rattle.qcow2_metadata.specs.Header.Extensions.{names_of, names_of_chunks, with_feature_name}
 use Rattle.qcow2_metadata.specs.Range.{bytes_at}

@@ -1,7 +1,7 @@
 use Rattle.std.proofs.Common.{◌∙◌, ap, map, string_bytes}
 use Rattle.std.specs.BTreeMap.{insert_entry}
 use Rattle.qcow2_metadata.specs.Header.Extensions.{key_cmp, names_of}
-use Rattle.qcow2_metadata.proofs.ExtensionsLemmas.{insert_entry-map}
+use Rattle.qcow2_metadata.proofs.FeatureNamesLemmas.{insert_entry-map}
 use Rattle.qcow2_metadata.proofs.header.feature_names.set_name.Goals as goal
 
 pub returns : goal.returns

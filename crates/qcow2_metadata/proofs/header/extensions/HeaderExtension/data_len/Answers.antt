@@ -1,6 +1,5 @@
 use Rattle.std.proofs.Common.{◌≡◌, ◌*◌, length, ap, ◌∙◌, arith}
-use Rattle.qcow2_metadata.specs.Header.Extensions.{extension_of, names_of}
-use Rattle.qcow2_metadata.specs.Header.Text.{data_of}
+use Rattle.qcow2_metadata.specs.Header.Extensions.{data_of, extension_of, names_of}
 use Rattle.qcow2_metadata.proofs.LayoutLemmas.{length-names_of}
 use Rattle.qcow2_metadata.proofs.NamesLemmas.{length-name_chunks}
 use Rattle.qcow2_metadata.proofs.header.extensions.HeaderExtension.data_len.Goals as goal

@@ -3,7 +3,7 @@ use Rattle.std.specs.Global.{Global}
 use Rattle.std.specs.Option.{option_copied}
 use Rattle.std.specs.Ordering.{is_eq}
 use Rattle.qcow2_metadata.specs.Header.Extensions.{FeatureKey, key_cmp}
-use Rattle.qcow2_metadata.proofs.ExtensionsLemmas.{lookup-map}
+use Rattle.qcow2_metadata.proofs.FeatureNamesLemmas.{lookup-map}
 use Rattle.qcow2_metadata.proofs.header.extensions.HeaderExtension.feature_name.Goals as goal
 
 -- the bytes of a text behind a reference are those of a copy of the text
