@@ -1,14 +1,15 @@
-use Rattle.std.proofs.Common.{◌≡◌, ◌≢◌, ◌⊎◌, ℕ, ◌+◌, ◌<◌, List, [], ◌∷◌, ◌++◌, append-nil, flat_map, get_or, length, take, Option, Result, Ok, Err, OnOk, IsTrue, ap, inl, inr}
+use Rattle.std.proofs.Common.{◌≡◌, ◌≢◌, ◌⊎◌, ℕ, ◌+◌, ◌<◌, List, [], ◌∷◌, ◌++◌, append-nil, flat_map, get_or, length, take, Option, Result, Ok, Err, OnOk, IsTrue, ap, inl, inr, refl}
+use Rattle.std.specs.Result.{IsOkUnless}
 use Rattle.std.specs.Io.KnownBytes.{Appends}
 use Rattle.std.proofs.KnownBytes.{Appends-trans}
 use Rattle.std.proofs.lemmas.Grind.{flat_map-append}
 use Rattle.std.proofs.lemmas.List.{take_more}
 use Rattle.std.proofs.lemmas.Bool.{cases_eq}
-use Rattle.qcow2_base.specs.Storage.{OnlyReads, StorageState}
+use Rattle.qcow2_base.specs.Storage.{OnlyReads, SameDevice, StorageState}
 use Rattle.qcow2_base.specs.declared.fault.Fault.{Fault}
 use Rattle.qcow2_base.specs.declared.fault.Fault.TheVariants.{NoMemory, Storage}
 use Rattle.qcow2_metadata.specs.Results.{result_map}
-use Rattle.qcow2_session.specs.Commands.Printing.{IsReadFault, IsRefusal, Prints}
+use Rattle.qcow2_session.specs.Commands.Printing.{IsReadFault, IsRefusal, Prints, PrintsLast}
 
 -- what was printed before, and then these lines, if the print of these succeeds
 pub then_prints : {T E : Type 0} (answer : Result T E) (a b c : Option (List ℕ)) (lines more : List ℕ) → Appends a b lines → OnOk answer (Appends b c more) → OnOk answer (Appends a c (lines ++ more))
@@ -58,3 +59,18 @@ reads-calm value old new reads = elim (cases_eq new.failures old.failures) [
   | inl same ↦ same
   | inr moved ↦ let failed = reads.told.1 moved in cc
 ]
+
+-- calls that printed nothing, whose fault tells whether one of the image failed
+pub last-unprinted : {T O : Type 0} (fault : Fault) (old new : StorageState) (a : O) → (new.failures ≢ old.failures → fault ≡ Storage)
+    → SameDevice old new → PrintsLast {T = T} (Err fault) old new a a
+last-unprinted fault old new a failed device = record { refused = λ other. refl; failed = λ moved. (rw (failed moved) refl, refl); device = device }
+
+-- a print that comes last, after calls of the image of which none failed
+pub last-printed : {T O : Type 0} (answer : Result T Fault) (old new : StorageState) (a b : O) → IsOkUnless answer Storage → new.failures ≡ old.failures
+    → SameDevice old new → PrintsLast answer old new a b
+last-printed (Ok value) old new a b fault calm device = record { refused = tt; failed = λ moved. absurd (moved calm); device = device }
+last-printed (Err error) old new a b fault calm device = record {
+  refused = λ other. absurd (other fault);
+  failed = λ moved. absurd (moved calm);
+  device = device;
+}
