@@ -6,7 +6,7 @@ use Rattle.qcow2_base.specs.declared.fault.Fault.TheVariants.{BadEdit, BadStep, 
 use Rattle.qcow2_metadata.specs.Results.{and_then, result_map}
 use Rattle.qcow2_metadata.specs.Header.Grammar.{header_of}
 use Rattle.qcow2_session.proofs.SampleImage.{computing, laid, sample}
-use Rattle.qcow2_session.specs.Commands.{ChangeEnd}
+use Rattle.qcow2_session.specs.Commands.Changing.{ChangeEnd}
 use Rattle.qcow2_session.specs.Commands.Counting.{end_of_steps}
 use Rattle.qcow2_session.specs.Commands.Editing.{end_of_edits}
 use Rattle.qcow2_session.specs.declared.session.edits.Edit.{Edit}

@@ -7,7 +7,7 @@ use Rattle.qcow2_base.specs.declared.fault.Fault.{Fault}
 use Rattle.qcow2_base.specs.declared.fault.Fault.TheVariants.{NoMemory, Storage}
 use Rattle.qcow2_metadata.specs.Results.{result_map}
 use Rattle.qcow2_session.proofs.PrintingLemmas.{refusal-of}
-use Rattle.qcow2_session.specs.Commands.{ChangeEnd, ClusterFormat, PrintsChange, SameOutsideCluster}
+use Rattle.qcow2_session.specs.Commands.Changing.{ChangeEnd, ClusterFormat, PrintsChange, SameOutsideCluster}
 use Rattle.qcow2_session.specs.Session.Edits.{are_some}
 use Rattle.qcow2_session.specs.declared.session.edits.Edit.{Edit}
 

@@ -1,7 +1,10 @@
 use Rattle.std.proofs.Common.{◌≡◌, [], ◌∷◌, true, false, Some, None, refl}
 use Rattle.std.specs.Prelude.{codes}
-use Rattle.qcow2_session.specs.Commands.Words.{command_of, edit_of, word_number, step_of}
-use Rattle.qcow2_session.specs.declared.commands.words.Command.TheVariants.{CountReferences, EditEntries, ListTable, ListTables, PrintInfo, PrintMapping}
+use Rattle.qcow2_session.specs.Commands.{command_of}
+use Rattle.qcow2_session.specs.Commands.Counting.{step_of}
+use Rattle.qcow2_session.specs.Commands.Editing.{edit_of}
+use Rattle.qcow2_session.specs.Commands.Words.{word_number}
+use Rattle.qcow2_session.specs.declared.commands.Command.TheVariants.{CountReferences, EditEntries, ListTable, ListTables, PrintInfo, PrintMapping}
 use Rattle.qcow2_session.specs.declared.session.edits.Edit.TheVariants.{Discard, Map, Zero}
 use Rattle.qcow2_session.specs.declared.session.steps.Step.TheVariants.{Dec, Inc}
 

@@ -6,7 +6,8 @@ use Rattle.qcow2_base.specs.declared.fault.Fault.{Fault}
 use Rattle.std.specs.Result.{IfErr, IsErr, result_ok}
 use Rattle.std.specs.Str.{all_ascii_digits}
 use Rattle.std.specs.Str.Parse.{ParsesUnsigned, digits_value}
-use Rattle.qcow2_session.specs.Commands.Words.{command_of, word_number}
+use Rattle.qcow2_session.specs.Commands.{command_of}
+use Rattle.qcow2_session.specs.Commands.Words.{word_number}
 
 digits : IsNumeralModel (λ word. all_ascii_digits word ≡ true) (digits_value 10)
 digits = numerals_by_value _ tells_all_ascii_digits

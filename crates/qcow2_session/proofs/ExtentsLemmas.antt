@@ -1,10 +1,11 @@
-use Rattle.std.proofs.Common.{◌≡◌, ◌⊎◌, ℕ, true, ◌+◌, ◌-◌, ◌*◌, ◌/◌, ◌%◌, ◌^◌, ◌<◌, ◌≤◌, min, List, [], ◌∷◌, ◌++◌, length, get_or, Some, None, Result, Ok, Err, IsOkAnd, MatchResult, refl, ap, subst, sym, ◌∙◌, inl, inr, arith}
+use Rattle.std.proofs.Common.{◌≡◌, ◌⊎◌, ℕ, true, false, true≢false, Option, ◌+◌, ◌-◌, ◌*◌, ◌/◌, ◌%◌, ◌^◌, ◌<◌, ◌≤◌, min, List, [], ◌∷◌, ◌++◌, length, get_or, Some, None, Result, Ok, Err, IsOkAnd, MatchResult, refl, ap, subst, sym, ◌∙◌, inl, inr, arith}
 use Rattle.std.proofs.lemmas.Bool.{cases_lt}
 use Rattle.std.proofs.lemmas.Bool.Decides.{Decides-eqb}
 use Rattle.std.proofs.lemmas.List.{get_or_past}
 use Rattle.std.proofs.lemmas.Nat.{div-add-mod', div-mul-add, mod-mul-add, mul-le, pow_pos, pow-add}
 use Rattle.std.proofs.Math.Nat.{le-div_iff_mul-le, mod-eq_of_lt, mod-lt, mul_assoc}
 use Rattle.std.proofs.Math.Pow.{pow_mono}
+use Rattle.std.specs.Option.{is_some}
 use Rattle.qcow2_base.specs.Storage.{Image, OnlyReads, StorageState}
 use Rattle.qcow2_base.specs.declared.fault.Fault.{Fault}
 use Rattle.qcow2_base.specs.declared.fault.Fault.TheVariants.{NoMemory, Storage}
@@ -26,6 +27,15 @@ pub distance_below : (cb offset distance : ℕ) → cb ≤ 21 → distance ≡ o
 distance_below cb offset distance high is =
     let power : 2 ^ cb ≤ 2 ^ 21 = pow_mono high in
     omega (arith, is, mod-lt offset (pow_pos cb), power)
+
+-- where no L2 table is named before an L1 entry, nor by it, none is up to it
+pub unnamed_more : (cb : ℕ) (l1 : List ℕ) (first index : ℕ) (found : Option HostCluster) → ((k : ℕ) → first ≤ k → k < index → named_cluster cb (get_or l1 k 0) ≡ None)
+    → found ≡ named_cluster cb (get_or l1 index 0) → is_some found ≡ false → (k : ℕ) → first ≤ k → k < index + 1 → named_cluster cb (get_or l1 k 0) ≡ None
+unnamed_more cb l1 first index (Some cluster) before is none k from below = absurd (true≢false none)
+unnamed_more cb l1 first index None before is none k from below = elim (cases_lt k index) [
+  | inl less ↦ before k from less
+  | inr least ↦ let same : k ≡ index = omega arith in rw same (sym is)
+]
 
 -- past the L1 table's end no L2 table is named
 pub unnamed_from : (cb : ℕ) (l1 : List ℕ) (first index : ℕ) → length l1 ≤ index → ((k : ℕ) → first ≤ k → k < index → named_cluster cb (get_or l1 k 0) ≡ None)

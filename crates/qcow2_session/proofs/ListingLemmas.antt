@@ -124,25 +124,3 @@ PrintsList-tables value (Err fault) tables each old between new a b are reads pr
   lines = tt;
   refused = λ told. rw (are told) (inr (ended-after value fault each old between new a b reads (prints.refused (reads.device.tells ∙ told))));
 }
-
--- the tables of an image, after its header was loaded by who only reads
-pub PrintsList-after : {T V : Type 0} (value : V) (answer : Result T Fault) (tables same : Result TableTexts Fault) (old between new : StorageState) (a b : Option (List ℕ))
-    → (IsTrue old.tells → tables ≡ same) → OnlyReads (Ok value) old between → PrintsList answer same between new a b → PrintsList answer tables old new a b
-PrintsList-after value (Ok done) tables same old between new a b are reads prints = record {
-  lines = λ told. rw (are told) (prints.lines (reads.device.tells ∙ told));
-  refused = tt;
-}
-PrintsList-after value (Err fault) tables (Ok each) old between new a b are reads prints = record {
-  lines = tt;
-  refused = λ told. rw (are told) (elim (prints.refused (reads.device.tells ∙ told)) [
-    | inl none ↦ inl (rw (reads-calm value old between reads) at none)
-    | inr ended ↦ inr (ended-after value fault each old between new a b reads ended)
-  ]);
-}
-PrintsList-after value (Err fault) tables (Err refusal) old between new a b are reads prints = record {
-  lines = tt;
-  refused = λ told. rw (are told) (elim (prints.refused (reads.device.tells ∙ told)) [
-    | inl none ↦ inl (rw (reads-calm value old between reads) at none)
-    | inr ended ↦ absurd ended
-  ]);
-}

@@ -1,33 +1,20 @@
-use Rattle.std.proofs.Common.{◌≡◌, ◌≢◌, ◌⊎◌, ℕ, ◌+◌, ◌<◌, List, [], ◌∷◌, ◌++◌, append-nil, flat_map, get_or, length, take, false, Option, Result, Ok, Err, OnOk, IsTrue, ap, inl, inr, refl, ◌∙◌}
+use Rattle.std.proofs.Common.{◌≡◌, ◌≢◌, ◌⊎◌, ℕ, ◌+◌, ◌<◌, List, [], ◌∷◌, ◌++◌, append-nil, flat_map, get_or, length, take, Option, Result, Ok, Err, OnOk, IsTrue, ap, inl, inr, refl}
 use Rattle.std.specs.Result.{IsOkUnless}
 use Rattle.std.specs.Io.KnownBytes.{Appends}
 use Rattle.std.proofs.KnownBytes.{Appends-trans}
 use Rattle.std.proofs.lemmas.Grind.{flat_map-append}
 use Rattle.std.proofs.lemmas.List.{take_more}
 use Rattle.std.proofs.lemmas.Bool.{cases_eq}
-use Rattle.qcow2_base.specs.Storage.{OnlyReads, StorageState}
+use Rattle.qcow2_base.specs.Storage.{OnlyReads, SameDevice, StorageState}
 use Rattle.qcow2_base.specs.declared.fault.Fault.{Fault}
 use Rattle.qcow2_base.specs.declared.fault.Fault.TheVariants.{NoMemory, Storage}
 use Rattle.qcow2_metadata.specs.Results.{result_map}
-use Rattle.qcow2_metadata.specs.Header.{HeaderRecord}
-use Rattle.qcow2_metadata.specs.Header.Open.{opened}
-use Rattle.qcow2_session.specs.Commands.{IsReadFault, IsRefusal, Prints}
+use Rattle.qcow2_session.specs.Commands.Printing.{IsReadFault, IsRefusal, Prints, PrintsLast}
 
 -- what was printed before, and then these lines, if the print of these succeeds
 pub then_prints : {T E : Type 0} (answer : Result T E) (a b c : Option (List ℕ)) (lines more : List ℕ) → Appends a b lines → OnOk answer (Appends b c more) → OnOk answer (Appends a c (lines ++ more))
 then_prints (Ok value) a b c lines more before after = Appends-trans a b c lines more before after
 then_prints (Err error) a b c lines more before after = tt
-
--- the print of the lines that are meant
-pub Prints-lines : {T : Type 0} (answer : Result T Fault) (meant : Result (List ℕ) Fault) (lines : List ℕ) (old new : StorageState) (a b : Option (List ℕ)) → (IsTrue old.tells → meant ≡ Ok lines) → IsOkUnless answer Storage → OnOk answer (Appends a b lines) → Prints answer meant old new a b
-Prints-lines (Ok value) meant lines old new a b means fault printed = record {
-  lines = λ told. rw (means told) printed;
-  refused = tt;
-}
-Prints-lines (Err error) meant lines old new a b means fault printed = record {
-  lines = tt;
-  refused = λ told. rw (means told) (inr (inr (fault, inr refl)));
-}
 
 -- the fault that is meant, want of memory, or a failed call of the image
 pub refusal-of : {V : Type 0} (fault : Fault) (meant : Result V Fault) (old new : StorageState)
@@ -59,11 +46,6 @@ Prints-refused fault read lines_of old new a b refused failed = record {
   ]) failed;
 }
 
--- a header that is loaded by who only reads is that of the bytes
-pub header_read : (read : Result HeaderRecord Fault) (header : HeaderRecord) → opened false read ≡ Ok header → read ≡ Ok header
-header_read (Ok other) header is = is
-header_read (Err fault) header is = cc
-
 -- the lines of one item more
 pub printed-more : {X : Type 0} (line : X → List ℕ) (items : List X) (i : ℕ) (default : X) (a b c : Option (List ℕ)) → i < length items
     → Appends a b (flat_map line (take i items)) → Appends b c (line (get_or items i default)) → Appends a c (flat_map line (take (i + 1) items))
@@ -78,14 +60,17 @@ reads-calm value old new reads = elim (cases_eq new.failures old.failures) [
   | inr moved ↦ let failed = reads.told.1 moved in cc
 ]
 
--- what is meant by the bytes, after a header was loaded by who only reads
-pub Prints-after : {T : Type 0} (header : HeaderRecord) (answer : Result T Fault) (meant same : Result (List ℕ) Fault) (old between new : StorageState) (a b : Option (List ℕ))
-    → (IsTrue old.tells → meant ≡ same) → OnlyReads (Ok header) old between → Prints answer same between new a b → Prints answer meant old new a b
-Prints-after header (Ok value) meant same old between new a b is reads prints = record {
-  lines = λ told. rw (is told) (prints.lines (reads.device.tells ∙ told));
-  refused = tt;
-}
-Prints-after header (Err fault) meant same old between new a b is reads prints = record {
-  lines = tt;
-  refused = λ told. rw (is told, ← reads-calm header old between reads) (prints.refused (reads.device.tells ∙ told));
+-- calls that printed nothing, whose fault tells whether one of the image failed
+pub last-unprinted : {T O : Type 0} (fault : Fault) (old new : StorageState) (a : O) → (new.failures ≢ old.failures → fault ≡ Storage)
+    → SameDevice old new → PrintsLast {T = T} (Err fault) old new a a
+last-unprinted fault old new a failed device = record { refused = λ other. refl; failed = λ moved. (rw (failed moved) refl, refl); device = device }
+
+-- a print that comes last, after calls of the image of which none failed
+pub last-printed : {T O : Type 0} (answer : Result T Fault) (old new : StorageState) (a b : O) → IsOkUnless answer Storage → new.failures ≡ old.failures
+    → SameDevice old new → PrintsLast answer old new a b
+last-printed (Ok value) old new a b fault calm device = record { refused = tt; failed = λ moved. absurd (moved calm); device = device }
+last-printed (Err error) old new a b fault calm device = record {
+  refused = λ other. absurd (other fault);
+  failed = λ moved. absurd (moved calm);
+  device = device;
 }

@@ -1,4 +1,5 @@
 pub mod At
+pub mod Changing
 pub mod Counting
 pub mod Editing
 pub mod Entries
@@ -6,80 +7,80 @@ pub mod Extents
 pub mod Info
 pub mod L2
 pub mod Listing
+pub mod Printing
 pub mod Report
 pub mod Running
 pub mod Words
-use Rattle.std.specs.Prelude.{◌≡◌, ◌≢◌, ◌⊎◌, ℕ, ◌*◌, ◌^◌, Bool, false, true, is_ok, List, Option, Result, Ok, Err, IfErr, IfOk, IsErrOf, IsOkAnd, IsTrue, MatchResult, OnOk}
+use Rattle.std.specs.Prelude.{◌≡◌, Bool, false, true, if◌then◌else◌, List, ◌∷◌, ℕ, Option, None, Result, IsErrOf, IsOkUnless, OnOk, bytes_eq, codes}
 use Rattle.std.specs.Io.KnownBytes.{Appends}
-use Rattle.qcow2_base.specs.Storage.{Image, SameDevice, SameOutside, StorageState}
+use Rattle.qcow2_base.specs.Format.{most_l2_entries}
+use Rattle.qcow2_base.specs.Storage.{ReadsFor, StorageState}
 use Rattle.qcow2_base.specs.declared.fault.Fault.{Fault}
-use Rattle.qcow2_base.specs.declared.fault.Fault.TheVariants.{NoMemory, Storage}
-use Rattle.qcow2_base.specs.declared.types.HostCluster.{HostCluster}
+use Rattle.qcow2_base.specs.declared.fault.Fault.TheVariants.{Storage}
+use Rattle.qcow2_metadata.specs.Header.{HeaderRecord, geometry}
+use Rattle.qcow2_metadata.specs.Table.{l2_table_at, place_fault}
+use Rattle.qcow2_session.specs.Commands.At.{line_at, mapping_of}
+use Rattle.qcow2_session.specs.Commands.Changing.{PrintsChange}
+use Rattle.qcow2_session.specs.Commands.Counting.{block_format, end_of_steps, steps_of}
+use Rattle.qcow2_session.specs.Commands.Editing.{edits_of, end_of_edits, table_format}
+use Rattle.qcow2_session.specs.Commands.Extents.{PrintsExtents, disk_of, extents_of}
+use Rattle.qcow2_session.specs.Commands.Info.{info_lines}
+use Rattle.qcow2_session.specs.Commands.L2.{lines_of_l2_table, table_of}
+use Rattle.qcow2_session.specs.Commands.Listing.{PrintsList, tables_of}
+use Rattle.qcow2_session.specs.Commands.Printing.{Prints}
+use Rattle.qcow2_session.specs.Commands.Words.{without_arguments}
+use Rattle.qcow2_session.specs.declared.commands.Command.{Command}
+use Rattle.qcow2_session.specs.declared.commands.Command.TheVariants.{CountReferences, EditEntries, ListTable, ListTables, PrintExtents, PrintInfo, PrintMapping}
 
--- calls over an image that was so before and is so now ended in this fault: it is the one that is meant, want of memory,
--- or a failed storage, which is that of the image or, where no fault is meant, of the output
-abbrev pub IsRefusal : {V : Type 0} → Result V Fault → StorageState → StorageState → Fault → Type 0
-IsRefusal meant old new fault = IsTrue old.tells → (meant ≡ Err fault) ⊎ (fault ≡ NoMemory)
-    ⊎ ((fault ≡ Storage) × ((new.failures ≢ old.failures) ⊎ (is_ok meant ≡ true)))
+-- the command that a name and the words after the image's name ask for, if they ask for one
+abbrev pub asked_for : List ℕ → List (List ℕ) → Option Command
+asked_for name arguments =
+    if bytes_eq name (codes "l2") then table_of arguments
+    else if bytes_eq name (codes "info") then without_arguments PrintInfo arguments
+    else if bytes_eq name (codes "list") then without_arguments ListTables arguments
+    else if bytes_eq name (codes "at") then mapping_of arguments
+    else if bytes_eq name (codes "map") then extents_of arguments
+    else if bytes_eq name (codes "edit") then edits_of arguments
+    else if bytes_eq name (codes "count") then steps_of arguments else None
 
--- calls that read an image that was so before and is so now ended in this fault: it is the one that is meant, want of
--- memory, or a failed call of the image
-abbrev pub IsReadFault : {V : Type 0} → Result V Fault → StorageState → StorageState → Fault → Type 0
-IsReadFault meant old new fault =
-    (meant ≡ Err fault) ⊎ (fault ≡ NoMemory) ⊎ ((fault ≡ Storage) × (new.failures ≢ old.failures))
+-- the command that a line of words asks for, if it asks for one: its first word is the command's name, its second that
+-- of the image
+abbrev pub command_of : List (List ℕ) → Option Command
+command_of (name ∷ image ∷ arguments) = asked_for name arguments
+command_of _ = None
 
--- the fault is that of a failed output: the storage fault, where no call of the image failed
-abbrev pub IsOutputFault : Fault → StorageState → StorageState → Type 0
-IsOutputFault fault old new = (fault ≡ Storage) × (new.failures ≡ old.failures)
+-- whether a command may change its image
+abbrev pub changes_image : Command → Bool
+changes_image (EditEntries l1_index edits) = true
+changes_image (CountReferences cluster steps) = true
+changes_image _ = false
 
--- a command that prints last ended in this answer: a fault other than the storage fault comes before any line, and so
--- does a failed call of the image, which is that fault
-pub record PrintsLast {T O : Type 0} (answer : Result T Fault) (old new : StorageState) (before after : O) : Type 0 where
-  pub refused : IfErr answer (λ fault. fault ≢ Storage → after ≡ before)
-  pub failed : new.failures ≢ old.failures → IsErrOf answer Storage × (after ≡ before)
-  pub device : SameDevice old new
+-- why the table that a command names can't lie in any image, as far as the words tell
+abbrev pub place_fault_of : Command → Option Fault
+place_fault_of (ListTable cluster_bits cluster) =
+    place_fault most_l2_entries (l2_table_at (geometry cluster_bits false) cluster)
+place_fault_of _ = None
 
--- a command that prints what an image's bytes mean ended in this answer: it printed these lines, or it was refused
-pub record Prints {T : Type 0} (answer : Result T Fault) (meant : Result (List ℕ) Fault) (old new : StorageState) (before after : Option (List ℕ)) : Type 0 where
-  pub lines : OnOk answer (IsTrue old.tells → IsOkAnd meant (Appends before after))
-  pub refused : IfErr answer (IsRefusal meant old new)
+-- whether a command prints nothing before a fault other than a failed storage: `list` prints table by table, and `map`
+-- extent by extent
+abbrev pub is_silent_on_faults : Command → Bool
+is_silent_on_faults ListTables = false
+is_silent_on_faults (PrintExtents format) = false
+is_silent_on_faults _ = true
 
--- what a change of a table or a block comes to: the cluster that it begins with, the numbers that it has then, whether
--- they are written, and the lines that tell of it
-pub record ChangeEnd : Type 0 where
-  pub cluster : HostCluster
-  pub numbers : List ℕ
-  pub is_written : Bool
-  pub lines : List ℕ
-
--- how the numbers of tables, or of blocks, stand in an image: what loads from a cluster, and how two images differ
--- where the write of numbers failed at a piece
-pub record ClusterFormat : Type 1 where
-  pub cluster_bits : ℕ
-  pub loaded : HostCluster → Image → Result (List ℕ) Fault
-  pub Torn : HostCluster → List ℕ → Image → Image → Type 0
-
--- two images agree but in a cluster
-abbrev pub SameOutsideCluster : ℕ → HostCluster → Image → Image → Type 0
-SameOutsideCluster cb cluster old new = SameOutside (cluster.0 * 2 ^ cb) (2 ^ cb) old new
-
--- a change was made, though the output may have failed then
-abbrev pub IsMade : {T : Type 0} → Result T Fault → StorageState → StorageState → Type 0
-IsMade answer old new = IfErr answer (λ fault. IsOutputFault fault old new)
-
--- a change of an image ended in this answer, which by the old bytes comes to that end, or is refused by that fault: the
--- lines tell of it, or this is why it was refused, or the output failed. The new image has its numbers, once it is made;
--- it is as before where it is refused or nothing is to be written, and always outside the cluster. Where a call of the
--- image failed it is as before, or the numbers are written up to a piece
-pub record PrintsChange {T : Type 0} (answer : Result T Fault) (format : ClusterFormat) (end : Result ChangeEnd Fault) (old new : StorageState) (before after : Option (List ℕ)) : Type 0 where
-  pub lines : OnOk answer (IsTrue old.tells → IsOkAnd end (λ left. Appends before after left.lines))
-  pub refused : IfErr answer (IsRefusal end old new)
-  pub written : IsMade answer old new → IsTrue old.tells → IsOkAnd end (λ left.
-      format.loaded left.cluster new.byte_at ≡ Ok left.numbers)
-  pub unchanged : IfErr answer (λ fault. fault ≢ Storage → new.byte_at ≡ old.byte_at)
-  pub idle : IsTrue old.tells → IfOk end (λ left. left.is_written ≡ false → new.byte_at ≡ old.byte_at)
-  pub others : IsTrue old.tells → MatchResult end
-      (λ left. SameOutsideCluster format.cluster_bits left.cluster old.byte_at new.byte_at)
-      (λ fault. new.byte_at ≡ old.byte_at)
-  pub torn : IsTrue old.tells → new.failures ≢ old.failures → (new.byte_at ≡ old.byte_at)
-      ⊎ IsOkAnd end (λ left. format.Torn left.cluster left.numbers old.byte_at new.byte_at)
+-- a command over an image with this header ended in this answer: what it printed, why it was refused, and what it changed
+abbrev pub RunsWith : {T : Type 0} → Command → HeaderRecord → Result T Fault → StorageState → StorageState → Option (List ℕ) → Option (List ℕ) → Type 0
+RunsWith (ListTable cluster_bits cluster) header answer old new before after =
+    Prints answer (lines_of_l2_table cluster_bits cluster old.byte_at) old new before after
+RunsWith PrintInfo header answer old new before after =
+    (new ≡ old) × IsOkUnless answer Storage × OnOk answer (Appends before after (info_lines header))
+RunsWith ListTables header answer old new before after =
+    PrintsList answer (tables_of header old.byte_at) old new before after × ReadsFor (IsErrOf answer Storage) old new
+RunsWith (PrintMapping guest_offset) header answer old new before after =
+    Prints answer (line_at header guest_offset.0 old.byte_at) old new before after
+RunsWith (PrintExtents format) header answer old new before after =
+    PrintsExtents answer format (disk_of header old.byte_at) old new before after × ReadsFor (IsErrOf answer Storage) old new
+RunsWith (EditEntries l1_index edits) header answer old new before after =
+    PrintsChange answer (table_format header) (end_of_edits l1_index edits header old.byte_at) old new before after
+RunsWith (CountReferences cluster steps) header answer old new before after =
+    PrintsChange answer (block_format header) (end_of_steps cluster steps header old.byte_at) old new before after

@@ -1,17 +1,16 @@
-//! The commands of the program `qmeta`: reading a command line, running it over a storage, and what
-//! it answers.
+//! The commands of the program `qmeta`: which there are, what asks for each, and what runs it.
 
-ghost use Rattle.std.specs.Prelude.{◌≡◌, ◌≢◌, ◌≤◌, ◌↔◌, None, Ok, Err, map, string_bytes, IsErr, IsOk, IsTrue, IfErr, IfSome, OnOk, MatchResult};
-ghost use Rattle.std.specs.Io.KnownBytes.{Keeps};
-ghost use Rattle.qcow2_base.specs.declared.fault.Fault.TheVariants.{Storage as StorageFailed};
-ghost use Rattle.qcow2_session.specs.Commands.Report.{Reports};
-ghost use Rattle.qcow2_session.specs.Commands.Running.{is_silent_on_faults, place_fault_of};
-ghost use Rattle.qcow2_session.specs.Commands.Words.{command_of};
+ghost use Rattle.std.specs.Prelude.{◌≡◌, false, map, string_bytes};
+ghost use Rattle.qcow2_session.specs.Commands as spec;
+ghost use Rattle.qcow2_session.specs.Commands.{RunsWith};
+ghost use Rattle.qcow2_session.specs.Commands.Running.{PrintsAtOnce};
+ghost use Rattle.qcow2_session.specs.Commands.Words.{Parses};
 
-use qcow2_base::{Fault, FileStorage};
-use std::io;
+use crate::session::{Edit, Step};
+use qcow2_base::{Fault, GuestOffset, HostCluster, Storage};
+use qcow2_metadata::Header;
+use std::alloc::{AllocError, Global};
 use std::io::Write;
-use std::rt::Files;
 
 mod at;
 mod count;
@@ -30,93 +29,109 @@ pub use count::count_references;
 pub use edit::edit_entries;
 pub use extents::{ExtentFormat, print_extents};
 pub use info::print_info;
-pub use l2::list_l2_table;
+pub use l2::{ClusterBits, list_l2_table};
 pub use list::list_tables;
-use report::refuse_words;
 pub use report::report_fault;
-pub use running::run;
-pub use words::{Changes, ClusterBits, Command};
+pub use running::{run, run_words};
+pub use words::Changes;
+use words::alone;
 
-/// Runs a command line, the words after the program's name, and answers the program's status: 0 for
-/// success, 1 for a fault and 2 for words that are no command.
-///
-/// What the command finds goes to `out`, where lines before a fault stay. A fault is the line
-/// `qmeta: fault N` on `err`, wrong words are the usage line there. `out` is flushed after a command,
-/// `err` after a line on it. A failed write to `out` is the storage fault; one to `err` changes nothing.
-pub fn run_words<R: Files + AllocGlobal, O: Write, E: Write>(
-    rt: &R,
-    words: &[String],
-    out: &mut O,
-    err: &mut E,
-) -> u8
-    ensures status { result ≤ 2 }
-    ensures wrong_words { (result ≡ 2) ↔ (command_of (map string_bytes words.now) ≡ None) }
-    ensures no_lines { result ≡ 2 → out.new ≡ out.old }
-    ensures reports { Reports result E.contents err.old err.new }
+/// What a line of words asks for, of the image that it names.
+#[derive(Drop)]
+pub enum Command {
+    /// `l2 IMAGE CLUSTER_BITS CLUSTER`: what the L2 table that begins with a cluster maps.
+    ListTable {
+        cluster_bits: ClusterBits,
+        cluster: HostCluster,
+    },
+    /// `info IMAGE`: what the header says.
+    PrintInfo,
+    /// `list IMAGE`: what all L2 tables map.
+    ListTables,
+    /// `at IMAGE OFFSET`: what a guest offset reads as.
+    PrintMapping {
+        guest_offset: GuestOffset,
+    },
+    /// `map IMAGE`, or `map IMAGE json`: what the guest's disk reads as, extent by extent.
+    PrintExtents {
+        format: ExtentFormat,
+    },
+    /// `edit IMAGE L1INDEX EDIT..`: edits of the L2 table of an L1 entry.
+    EditEntries {
+        l1_index: usize,
+        edits: Changes<Edit>,
+    },
+    /// `count IMAGE CLUSTER STEP..`: steps of the refcount block that begins with a cluster.
+    CountReferences {
+        cluster: HostCluster,
+        steps: Changes<Step>,
+    },
+}
 
-    // A table at a place that isn't lawful is a fault whatever the image, and no line is printed.
-    ensures place { IfSome (command_of (map string_bytes words.now)) (λ command.
-        IfSome (place_fault_of command) (λ fault.
-        (result ≡ 1) × Keeps (O.contents out.old) (O.contents out.new))) }
-{
-    let [name, image, arguments @ ..] = words else {
-        return refuse_words(err);
-    };
-    match Command::parse(rt.alloc(), name.as_str(), arguments) {
-        Some(Ok(command)) => status_of(run_and_flush(rt, image.as_str(), &command, out), err),
-        Some(Err(error)) => report_fault(Fault::from(error), err),
-        None => refuse_words(err),
+impl Command {
+    /// The command that a name and the words after the image's name ask for, if they ask for one. Fails
+    /// only for want of memory, and only where they do.
+    pub fn parse(
+        alloc: Global,
+        name: &str,
+        arguments: &[String],
+    ) -> Option<Result<Command, AllocError>>
+        ensures { Parses result (spec.asked_for name.now (map string_bytes arguments.now)) }
+    {
+        match name {
+            "l2" => l2::parse(arguments),
+            "info" => alone(Command::PrintInfo, arguments),
+            "list" => alone(Command::ListTables, arguments),
+            "at" => at::parse(arguments),
+            "map" => extents::parse(arguments),
+            "edit" => edit::parse(alloc, arguments),
+            "count" => count::parse(alloc, arguments),
+            _ => None,
+        }
+    }
+
+    /// Whether the command may change its image.
+    pub fn changes_image(&self) -> bool
+        ensures { result ≡ spec.changes_image self.now }
+    {
+        matches!(
+            self,
+            Command::EditEntries { .. } | Command::CountReferences { .. }
+        )
     }
 }
 
-// The status of a run, after its fault is reported.
-fn status_of<E: Write>(ran: Result<(), Fault>, err: &mut E) -> u8
-    ensures status { MatchResult ran (λ _. result ≡ 0) (λ _. result ≡ 1) }
-    ensures reports { Reports result E.contents err.old err.new }
+// Runs a command over an image with this header.
+fn run_with_header<S: Storage, O: Write>(
+    alloc: Global,
+    image: &mut S,
+    header: &Header,
+    command: &Command,
+    out: &mut O,
+) -> Result<(), Fault>
+    ensures runs { RunsWith command.now header.now result (S.state image.old) (S.state image.new)
+        (O.contents out.old) (O.contents out.new) }
+    ensures at_once { PrintsAtOnce command.now result (S.state image.old) (S.state image.new)
+        out.old out.new }
+    ensures unchanged { spec.changes_image command.now ≡ false →
+        (S.state image.new).byte_at ≡ (S.state image.old).byte_at }
 {
-    match ran {
-        Ok(()) => 0,
-        Err(fault) => report_fault(fault, err),
+    match command {
+        Command::ListTable {
+            cluster_bits,
+            cluster,
+        } => list_l2_table(alloc, image, cluster_bits.get(), *cluster, out),
+        Command::PrintInfo => print_info(header, out),
+        Command::ListTables => list_tables(alloc, image, header, out),
+        Command::PrintMapping { guest_offset } => {
+            print_mapping_at(alloc, image, header, *guest_offset, out)
+        }
+        Command::PrintExtents { format } => print_extents(alloc, image, header, *format, out),
+        Command::EditEntries { l1_index, edits } => {
+            edit_entries(alloc, image, header, *l1_index, edits.as_slice(), out)
+        }
+        Command::CountReferences { cluster, steps } => {
+            count_references(alloc, image, header, *cluster, steps.as_slice(), out)
+        }
     }
-}
-
-// Runs a command over the image of a file, and flushes what it printed, also before a fault.
-fn run_and_flush<R: Files + AllocGlobal, O: Write>(
-    rt: &R,
-    path: &str,
-    command: &Command,
-    out: &mut O,
-) -> Result<(), Fault>
-    ensures place { IfSome (place_fault_of command.now) (λ fault.
-        IsErr result × Keeps (O.contents out.old) (O.contents out.new)) }
-    ensures before_any_line { IsTrue (is_silent_on_faults command.now) → IfErr result (λ fault.
-        fault ≢ StorageFailed → Keeps (O.contents out.old) (O.contents out.new)) }
-{
-    let ran = run_over(rt, path, command, out);
-    after_flush(ran, out.flush())
-}
-
-// What a run answers whose output was flushed after it: its own fault comes before a failed flush.
-fn after_flush(ran: Result<(), Fault>, flushed: io::Result<()>) -> Result<(), Fault>
-    ensures own { IfErr ran (λ fault. result ≡ Err fault) }
-    ensures flush { OnOk ran (MatchResult flushed (λ _. IsOk result) (λ _. result ≡ Err StorageFailed)) }
-{
-    ran?;
-    flushed.map_err(|_| Fault::Storage)
-}
-
-// Opens the image of a file, for writing where the command may change it, and runs the command over it.
-fn run_over<R: Files + AllocGlobal, O: Write>(
-    rt: &R,
-    path: &str,
-    command: &Command,
-    out: &mut O,
-) -> Result<(), Fault>
-    ensures place { IfSome (place_fault_of command.now) (λ fault.
-        IsErr result × (out.new ≡ out.old)) }
-    ensures before_any_line { IsTrue (is_silent_on_faults command.now) → IfErr result (λ fault.
-        fault ≢ StorageFailed → out.new ≡ out.old) }
-{
-    let mut image = FileStorage::open(rt, path, command.changes_image())?;
-    run(rt.alloc(), &mut image, command, out)
 }

@@ -2,14 +2,11 @@
 //! guest offset and the whole disk read as, and the commands of `qmeta`.
 #![tactic(auto)]
 
-mod commands;
+pub mod commands;
 mod lines;
 mod session;
 
-pub use commands::{
-    Changes, ClusterBits, Command, ExtentFormat, count_references, edit_entries, list_l2_table,
-    list_tables, print_extents, print_info, print_mapping_at, report_fault, run, run_words,
-};
+pub use commands::{Changes, ClusterBits, Command, report_fault, run, run_words};
 pub use session::{
     Content, Edit, Extent, Extents, Outcome, Step, StepReply, edit_image, edit_settled, edit_table,
     edits_fit, lookup, lookup_image, settle, step_block, step_image,

@@ -180,7 +180,7 @@ pub(crate) fn list_l2_table(
     if !is_cluster_bits(cluster_bits) {
         return Err(Fault::ClusterSize);
     }
-    qcow2_session::list_l2_table(alloc, image, cluster_bits, HostCluster(cluster), out)
+    qcow2_session::commands::list_l2_table(alloc, image, cluster_bits, HostCluster(cluster), out)
 }
 
 /// Runs the command that a name and arguments ask for, if they ask for one.

@@ -5,10 +5,11 @@ use crate::held::load_header;
 use crate::outputs::Output;
 use qcow2_base::{Fault, HostCluster, Storage};
 use qcow2_metadata::Header;
-use qcow2_session::{
-    Edit, ExtentFormat, Step, count_references, edit_entries, list_l2_table, list_tables,
-    print_extents, print_info, print_mapping_at,
+use qcow2_session::commands::{
+    ExtentFormat, count_references, edit_entries, list_l2_table, list_tables, print_extents,
+    print_info, print_mapping_at,
 };
+use qcow2_session::{Edit, Step};
 use std::alloc::Global;
 
 const DISK_EDITS: &[Edit] = &[

@@ -1,4 +1,4 @@
-use Rattle.std.specs.Prelude.{ℕ, ◌*◌, ◌^◌, List, ◌++◌, slice_index, Option, Some, None, Result, Ok, Err, flat_map, codes}
+use Rattle.std.specs.Prelude.{ℕ, ◌*◌, ◌^◌, true, false, if◌then◌else◌, List, [], ◌∷◌, ◌++◌, slice_index, Option, Some, None, option_map, Result, Ok, Err, bytes_eq, flat_map, codes}
 use Rattle.std.specs.Fmt.{decimal}
 use Rattle.qcow2_base.specs.Storage.{Image}
 use Rattle.qcow2_base.specs.declared.fault.Fault.{Fault}
@@ -9,11 +9,41 @@ use Rattle.qcow2_metadata.specs.declared.entries.ClustersToFreeEntry.{ClustersTo
 use Rattle.qcow2_metadata.specs.Table.L2Guards.{RunEnd}
 use Rattle.qcow2_metadata.specs.Header.{HeaderRecord, geometry_of}
 use Rattle.qcow2_metadata.specs.Table.{IsTorn, loaded_l1_table, loaded_l2_table}
-use Rattle.qcow2_session.specs.Commands.{ChangeEnd, ClusterFormat}
+use Rattle.qcow2_session.specs.Commands.Changing.{ChangeEnd, ClusterFormat}
 use Rattle.qcow2_session.specs.Session.Edits.{are_some}
 use Rattle.qcow2_session.specs.Session.Images.{edits_end}
 use Rattle.qcow2_session.specs.Session.Lookups.{l1_place, named_cluster}
 use Rattle.qcow2_session.specs.declared.session.edits.Edit.{Edit}
+use Rattle.qcow2_session.specs.Commands.Words.{all_of, both, parts_of, word_number}
+use Rattle.qcow2_session.specs.declared.commands.Command.{Command}
+use Rattle.qcow2_session.specs.declared.commands.Command.TheVariants.{EditEntries}
+use Rattle.qcow2_session.specs.declared.session.edits.Edit.TheVariants.{Discard, Map, Zero}
+
+-- an edit that maps, where both of its numbers are there
+abbrev pub map_edit_of : Option (List ℕ × List ℕ) → Option Edit
+map_edit_of None = None
+map_edit_of (Some words) = with_numbers (word_number words.0) (word_number words.1)
+  where
+    with_numbers : Option ℕ → Option ℕ → Option Edit
+    with_numbers (Some index) (Some cluster) = Some (Map index (record { 0 = cluster }))
+    with_numbers _ _ = None
+
+-- the edit that a word says, if it says one: its name, a colon, and numbers with a colon between
+abbrev pub edit_of : List ℕ → Option Edit
+edit_of word = of_parts (parts_of word)
+  where
+    of_parts : Option (List ℕ × List ℕ) → Option Edit
+    of_parts None = None
+    of_parts (Some parts) =
+        if bytes_eq parts.0 (codes "map") then map_edit_of (parts_of parts.1)
+        else if bytes_eq parts.0 (codes "zero") then option_map (λ index. Zero index false) (word_number parts.1)
+        else if bytes_eq parts.0 (codes "keep") then option_map (λ index. Zero index true) (word_number parts.1)
+        else if bytes_eq parts.0 (codes "discard") then option_map Discard (word_number parts.1) else None
+
+-- the command `edit`, by the words after its image
+abbrev pub edits_of : List (List ℕ) → Option Command
+edits_of [] = None
+edits_of (l1_index ∷ words) = both EditEntries (word_number l1_index) (all_of edit_of words)
 
 -- the line of clusters that lost a reference: the first, and how many
 abbrev pub freed_line : ClustersToFreeEntry → List ℕ

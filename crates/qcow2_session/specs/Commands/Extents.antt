@@ -1,21 +1,28 @@
-use Rattle.std.specs.Prelude.{◌⊎◌, ℕ, ◌==◌, if◌then◌else◌, IsTrue, List, [], ◌++◌, flat_map, Option, Result, IfErr, IsOkAnd, OnOk, codes}
+use Rattle.std.specs.Prelude.{◌⊎◌, ℕ, ◌==◌, if◌then◌else◌, IsTrue, List, [], ◌∷◌, ◌++◌, flat_map, Option, Some, None, Result, IfErr, IsOkAnd, OnOk, bytes_eq, codes}
 use Rattle.std.specs.Fmt.{decimal}
 use Rattle.std.specs.Io.KnownBytes.{Appends}
 use Rattle.qcow2_base.specs.Storage.{Image, StorageState}
 use Rattle.qcow2_base.specs.declared.fault.Fault.{Fault}
 use Rattle.qcow2_metadata.specs.Header.{HeaderRecord, geometry_of}
-use Rattle.qcow2_metadata.specs.Results.{and_then, result_map}
-use Rattle.qcow2_metadata.specs.Header.Grammar.{header_of}
+use Rattle.qcow2_metadata.specs.Results.{result_map}
 use Rattle.qcow2_metadata.specs.Table.{loaded_l1_table}
 use Rattle.qcow2_session.specs.Session.Extents.{AreExtents, AreExtentsBefore, Contents, ExtentsState, IsMap, contents_for, contents_of}
 use Rattle.qcow2_session.specs.Session.Lookups.{l1_place}
-use Rattle.qcow2_session.specs.Commands.{IsOutputFault, IsReadFault}
+use Rattle.qcow2_session.specs.Commands.Printing.{IsOutputFault, IsReadFault}
 use Rattle.qcow2_session.specs.Lines.{offset_text}
 use Rattle.qcow2_session.specs.declared.commands.extents.ExtentFormat.{ExtentFormat}
 use Rattle.qcow2_session.specs.declared.commands.extents.ExtentFormat.TheVariants.{Json, Lines}
 use Rattle.qcow2_session.specs.declared.session.extents.Content.{Content}
 use Rattle.qcow2_session.specs.declared.session.extents.Content.TheVariants.{Absent, AllocatedZeros, Compressed, Data, Zeros}
 use Rattle.qcow2_session.specs.declared.session.extents.Extent.{Extent}
+use Rattle.qcow2_session.specs.declared.commands.Command.{Command}
+use Rattle.qcow2_session.specs.declared.commands.Command.TheVariants.{PrintExtents}
+
+-- the command `map`, by the words after its image
+abbrev pub extents_of : List (List ℕ) → Option Command
+extents_of [] = Some (PrintExtents Lines)
+extents_of (format ∷ []) = if bytes_eq format (codes "json") then Some (PrintExtents Json) else None
+extents_of _ = None
 
 -- what a line says of an extent's content
 abbrev pub content_text : Content → List ℕ
@@ -96,10 +103,6 @@ pub record Disk : Type 0 where
 abbrev pub disk_of : HeaderRecord → Image → Result Disk Fault
 disk_of header image = result_map (λ l1. record { contents = contents_of (geometry_of header) l1 image; size = header.v2.size })
     (loaded_l1_table (l1_place header) image)
-
--- the disk of an image, by its bytes alone
-abbrev pub disk_in : Image → Result Disk Fault
-disk_in image = and_then (header_of image) (λ header. disk_of header image)
 
 -- the output got the text of all extents of a disk
 abbrev pub PrintsMap : ExtentFormat → Option (List ℕ) → Option (List ℕ) → Disk → Type 0

@@ -4,11 +4,10 @@ use Rattle.std.specs.Io.KnownBytes.{Appends}
 use Rattle.qcow2_base.specs.Storage.{Image, StorageState}
 use Rattle.qcow2_base.specs.declared.fault.Fault.{Fault}
 use Rattle.qcow2_base.specs.declared.types.HostCluster.{HostCluster}
-use Rattle.qcow2_metadata.specs.Results.{and_then, result_map}
+use Rattle.qcow2_metadata.specs.Results.{result_map}
 use Rattle.qcow2_metadata.specs.Header.{Geometry, HeaderRecord, geometry_of}
-use Rattle.qcow2_metadata.specs.Header.Grammar.{header_of}
 use Rattle.qcow2_metadata.specs.Table.{loaded_l1_table, loaded_l2_table}
-use Rattle.qcow2_session.specs.Commands.{IsOutputFault, IsReadFault}
+use Rattle.qcow2_session.specs.Commands.Printing.{IsOutputFault, IsReadFault}
 use Rattle.qcow2_session.specs.Commands.Entries.{table_lines}
 use Rattle.qcow2_session.specs.Session.Lookups.{l1_place, named_cluster}
 use Rattle.qcow2_session.specs.declared.commands.entries.Label.TheVariants.{Offset}
@@ -33,10 +32,6 @@ tables_from g index (v ∷ vs) image =
 abbrev pub tables_of : HeaderRecord → Image → Result TableTexts Fault
 tables_of header image = result_map (λ l1. tables_from (geometry_of header) 0 l1 image)
     (loaded_l1_table (l1_place header) image)
-
--- the L2 tables of an image, by its bytes alone
-abbrev pub tables_in : Image → Result TableTexts Fault
-tables_in image = and_then (header_of image) (λ header. tables_of header image)
 
 -- all tables can be loaded, and the output got their lines
 abbrev pub PrintsAllTables : Option (List ℕ) → Option (List ℕ) → TableTexts → Type 0

@@ -1,4 +1,4 @@
-use Rattle.std.specs.Prelude.{◌≡◌, ◌⊎◌, ℕ, ◌*◌, ◌^◌, false, IfErr, IfSome, IsErrOf, IsOkAnd, IsTrue, List, Some, option_map, Result, Ok, Err}
+use Rattle.std.specs.Prelude.{◌≡◌, ◌⊎◌, ℕ, ◌*◌, ◌^◌, false, IfErr, IfSome, IsErrOf, IsOkAnd, List, Some, option_map, Result, Ok, Err}
 use Rattle.qcow2_base.specs.Storage.{Image, OnImages, StorageState}
 use Rattle.qcow2_base.specs.declared.fault.Fault.{Fault}
 use Rattle.qcow2_base.specs.declared.fault.Fault.TheVariants.{BadEdit, BadStep, NoMemory, Storage}

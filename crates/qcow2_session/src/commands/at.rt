@@ -1,14 +1,17 @@
 //! The command `at`: what a guest offset reads as.
 
-ghost use Rattle.std.specs.Prelude.{◌≡◌};
-ghost use Rattle.qcow2_session.specs.Commands.{Prints, PrintsLast};
-ghost use Rattle.qcow2_session.specs.Commands.At.{line_at};
+ghost use Rattle.std.specs.Prelude.{◌≡◌, map, string_bytes};
+ghost use Rattle.qcow2_session.specs.Commands.At.{line_at, mapping_of};
+ghost use Rattle.qcow2_session.specs.Commands.Printing.{Prints, PrintsLast};
+ghost use Rattle.qcow2_session.specs.Commands.Words.{Parses};
 
+use super::Command;
+use super::words::number;
 use crate::lines::print_mapping;
 use crate::session::lookup_with_header;
 use qcow2_base::{Fault, GuestOffset, Storage};
 use qcow2_metadata::Header;
-use std::alloc::Global;
+use std::alloc::{AllocError, Global};
 use std::io::Write;
 
 /// Prints what the cluster of a guest offset reads as, in an image with this header. The size of the guest's
@@ -31,4 +34,15 @@ pub fn print_mapping_at<S: Storage, O: Write>(
     let mapping = lookup_with_header(alloc, image, header, guest_offset)?;
     print_mapping(&mapping, header.cluster_bits(), out)?;
     writeln!(out).map_err(|_| Fault::Storage)
+}
+
+/// What the words of the command `at` ask for.
+pub(super) fn parse(arguments: &[String]) -> Option<Result<Command, AllocError>>
+    ensures { Parses result (mapping_of (map string_bytes arguments.now)) }
+{
+    let [guest_offset] = arguments else {
+        return None;
+    };
+    let guest_offset = GuestOffset(number(guest_offset.as_str())?);
+    Some(Ok(Command::PrintMapping { guest_offset }))
 }

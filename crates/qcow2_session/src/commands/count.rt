@@ -1,14 +1,18 @@
 //! The command `count`: steps of a refcount block's counters.
 
-ghost use Rattle.std.specs.Prelude.{◌≡◌, IsOkUnless, OnOk};
+ghost use Rattle.std.specs.Prelude.{◌≡◌, IsOkUnless, OnOk, map, string_bytes};
 ghost use Rattle.std.specs.Io.KnownBytes.{Appends};
-ghost use Rattle.qcow2_session.specs.Commands.{PrintsChange, PrintsLast};
-ghost use Rattle.qcow2_session.specs.Commands.Counting.{block_format, end_of_steps, reply_line, reply_lines};
+ghost use Rattle.qcow2_session.specs.Commands.Changing.{PrintsChange};
+ghost use Rattle.qcow2_session.specs.Commands.Counting.{block_format, end_of_steps, reply_line, reply_lines, step_of, steps_of};
+ghost use Rattle.qcow2_session.specs.Commands.Printing.{PrintsLast};
+ghost use Rattle.qcow2_session.specs.Commands.Words.{Parses};
 
+use super::Command;
+use super::words::{Changes, Said, number, parts};
 use crate::session::{Step, StepReply, step_image};
 use qcow2_base::{Fault, HostCluster, Storage};
 use qcow2_metadata::Header;
-use std::alloc::Global;
+use std::alloc::{AllocError, Global};
 use std::io::Write;
 
 /// Makes steps of the counters of the refcount block that begins with a cluster of an image with this header,
@@ -57,4 +61,35 @@ fn print_reply<O: Write>(reply: StepReply, out: &mut O) -> Result<(), Fault>
         StepReply::Refused => writeln!(out, "refused"),
     }
     .map_err(|_| Fault::Storage)
+}
+
+/// What the words of the command `count` ask for.
+pub(super) fn parse(alloc: Global, arguments: &[String]) -> Option<Result<Command, AllocError>>
+    ensures { Parses result (steps_of (map string_bytes arguments.now)) }
+{
+    let [cluster, words @ ..] = arguments else {
+        return None;
+    };
+    let cluster = HostCluster(number(cluster.as_str())?);
+    match Changes::parse(alloc, words)? {
+        Ok(steps) => Some(Ok(Command::CountReferences { cluster, steps })),
+        Err(error) => Some(Err(error)),
+    }
+}
+
+impl Said for Step {
+    ghost said = { step_of };
+
+    fn said(word: &str) -> Option<Step> {
+        let (name, index) = parts(word)?;
+        match name {
+            "inc" => Some(Step::Inc {
+                index: number(index)? as usize,
+            }),
+            "dec" => Some(Step::Dec {
+                index: number(index)? as usize,
+            }),
+            _ => None,
+        }
+    }
 }

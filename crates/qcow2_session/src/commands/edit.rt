@@ -1,17 +1,21 @@
 //! The command `edit`: edits of an L2 table.
 
-ghost use Rattle.std.specs.Prelude.{◌≡◌, ◌++◌, IsOkUnless, IsTrue, OnOk};
+ghost use Rattle.std.specs.Prelude.{◌≡◌, ◌++◌, IsOkUnless, IsTrue, OnOk, map, string_bytes};
 ghost use Rattle.std.specs.Io.KnownBytes.{Appends};
 ghost use Rattle.qcow2_base.specs.Storage.{OnImage, OnlyReads};
 ghost use Rattle.qcow2_metadata.specs.Results.{Answers};
-ghost use Rattle.qcow2_session.specs.Commands.{PrintsChange, PrintsLast};
-ghost use Rattle.qcow2_session.specs.Commands.Editing.{end_of_edits, freed_line, freed_lines, gained_line, gained_lines, named_table, table_format};
+ghost use Rattle.qcow2_session.specs.Commands.Changing.{PrintsChange};
+ghost use Rattle.qcow2_session.specs.Commands.Editing.{edit_of, edits_of, end_of_edits, freed_line, freed_lines, gained_line, gained_lines, map_edit_of, named_table, table_format};
+ghost use Rattle.qcow2_session.specs.Commands.Printing.{PrintsLast};
+ghost use Rattle.qcow2_session.specs.Commands.Words.{Parses, parts_of};
 ghost use Rattle.qcow2_session.specs.Session.Edits.{cluster_numbers};
 
+use super::Command;
+use super::words::{Changes, Said, number, parts};
 use crate::session::{Edit, Outcome, edit_image, load_l1_table, named_cluster};
 use qcow2_base::{Fault, HostCluster, Storage};
 use qcow2_metadata::{ClustersToFreeEntry, Header};
-use std::alloc::Global;
+use std::alloc::{AllocError, Global};
 use std::io::Write;
 
 /// Makes edits of the L2 table that an L1 entry names, in an image with this header, and prints the clusters
@@ -105,4 +109,52 @@ fn print_gained_cluster<O: Write>(cluster: HostCluster, out: &mut O) -> Result<(
         (Appends (O.contents out.old) (O.contents out.new) (gained_line cluster.0)) }
 {
     writeln!(out, "gained {}", cluster.0).map_err(|_| Fault::Storage)
+}
+
+/// What the words of the command `edit` ask for.
+pub(super) fn parse(alloc: Global, arguments: &[String]) -> Option<Result<Command, AllocError>>
+    ensures { Parses result (edits_of (map string_bytes arguments.now)) }
+{
+    let [l1_index, words @ ..] = arguments else {
+        return None;
+    };
+    let l1_index = number(l1_index.as_str())? as usize;
+    match Changes::parse(alloc, words)? {
+        Ok(edits) => Some(Ok(Command::EditEntries { l1_index, edits })),
+        Err(error) => Some(Err(error)),
+    }
+}
+
+impl Said for Edit {
+    ghost said = { edit_of };
+
+    fn said(word: &str) -> Option<Edit> {
+        let (name, numbers) = parts(word)?;
+        match name {
+            "map" => map_edit_of(numbers),
+            "zero" => Some(Edit::Zero {
+                index: number(numbers)? as usize,
+                keep_allocation: false,
+            }),
+            "keep" => Some(Edit::Zero {
+                index: number(numbers)? as usize,
+                keep_allocation: true,
+            }),
+            "discard" => Some(Edit::Discard {
+                index: number(numbers)? as usize,
+            }),
+            _ => None,
+        }
+    }
+}
+
+// The edit that maps by the numbers of an index and a host cluster, if they are these.
+fn map_edit_of(numbers: &str) -> Option<Edit>
+    ensures { result ≡ map_edit_of (parts_of numbers.now) }
+{
+    let (index, cluster) = parts(numbers)?;
+    Some(Edit::Map {
+        index: number(index)? as usize,
+        host_cluster: HostCluster(number(cluster)?),
+    })
 }

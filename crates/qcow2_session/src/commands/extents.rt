@@ -1,17 +1,19 @@
 //! The command `map`: what the guest's disk reads as, extent after extent.
 
-ghost use Rattle.std.specs.Prelude.{◌≡◌, ◌+◌, ◌≤◌, ◌++◌, IsErrOf, IsOkUnless, IsTrue, OnOk, length};
+ghost use Rattle.std.specs.Prelude.{◌≡◌, ◌+◌, ◌≤◌, ◌++◌, IsErrOf, IsOkUnless, IsTrue, OnOk, length, map, string_bytes};
 ghost use Rattle.std.specs.Io.KnownBytes.{Appends};
 ghost use Rattle.qcow2_base.specs.Storage.{OnImage, ReadsFor};
 ghost use Rattle.qcow2_base.specs.declared.fault.Fault.TheVariants.{Storage as StorageFailed};
 ghost use Rattle.qcow2_session.specs.Session.Extents.{IsReaderOf};
-ghost use Rattle.qcow2_session.specs.Commands.Extents.{PrintsExtents, PrintsRest, closing, content_text, disk_of, extent_line, extent_text, json_content, json_flags, json_length, json_object, json_offset, json_row, opening};
+ghost use Rattle.qcow2_session.specs.Commands.Extents.{PrintsExtents, PrintsRest, closing, content_text, disk_of, extent_line, extent_text, extents_of, json_content, json_flags, json_length, json_object, json_offset, json_row, opening};
+ghost use Rattle.qcow2_session.specs.Commands.Words.{Parses};
 
+use super::Command;
 use crate::lines::LineBuffer;
 use crate::session::{Content, Extent, Extents};
 use qcow2_base::{Fault, Storage};
 use qcow2_metadata::Header;
-use std::alloc::Global;
+use std::alloc::{AllocError, Global};
 use std::io::Write;
 
 /// How extents are printed.
@@ -219,4 +221,16 @@ fn prepend_json_flags(line: &mut LineBuffer, content: Content)
         }
         Content::Absent => "\"present\": false, \"zero\": true, \"data\": false",
     });
+}
+
+/// What the words of the command `map` ask for.
+pub(super) fn parse(arguments: &[String]) -> Option<Result<Command, AllocError>>
+    ensures { Parses result (extents_of (map string_bytes arguments.now)) }
+{
+    let format = match arguments {
+        [] => ExtentFormat::Lines,
+        [word] if word.as_str() == "json" => ExtentFormat::Json,
+        _ => return None,
+    };
+    Some(Ok(Command::PrintExtents { format }))
 }

@@ -1,6 +1,6 @@
 //! The command `info`: what an image's header says.
 
-ghost use Rattle.std.specs.Prelude.{◌≡◌, ◌++◌, option_map, string_bytes, IsOkUnless, OnOk};
+ghost use Rattle.std.specs.Prelude.{◌≡◌, ◌++◌, Some, option_map, string_bytes, IsOkUnless, OnOk};
 ghost use Rattle.std.specs.Io.KnownBytes.{Appends};
 ghost use Rattle.qcow2_session.specs.Commands.Info.{backing_lines, answer_text, data_file_lines, info_lines, name_line, place_line, place_lines, size_lines, version_lines, version_of};
 
@@ -116,8 +116,16 @@ fn print_name<O: Write>(label: &str, name: Option<&String>, out: &mut O) -> Resu
         (name_line label.now (option_map (λ name. string_bytes name.now) name.entry))) }
 {
     match name {
-        Some(name) => writeln!(out, "{label} {} {name}", name.len()),
-        None => writeln!(out, "{label} none"),
+        Some(name) => print_known_name(label, name.as_str(), out),
+        None => writeln!(out, "{label} none").map_err(|_| Fault::Storage),
     }
-    .map_err(|_| Fault::Storage)
+}
+
+// Prints the line of a name.
+fn print_known_name<O: Write>(label: &str, name: &str, out: &mut O) -> Result<(), Fault>
+    ensures fault { IsOkUnless result Fault.Storage }
+    ensures line { OnOk result (Appends (O.contents out.old) (O.contents out.new)
+        (name_line label.now (Some name.now))) }
+{
+    writeln!(out, "{label} {} {name}", name.len()).map_err(|_| Fault::Storage)
 }

@@ -1,23 +1,68 @@
 //! The command `l2`: what one L2 table maps.
 
-ghost use Rattle.std.specs.Prelude.{◌≡◌, ◌⊎◌, false, Err, IfSome};
+ghost use Rattle.std.specs.Prelude.{◌≡◌, ◌⊎◌, false, map, string_bytes, Err, IfSome};
 ghost use Rattle.qcow2_base.specs.Format.{most_l2_entries};
 ghost use Rattle.qcow2_base.specs.declared.fault.Fault.TheVariants.{NoMemory};
 ghost use Rattle.qcow2_base.specs.Types.{IsClusterBits};
 ghost use Rattle.qcow2_metadata.specs.Header.{geometry};
 ghost use Rattle.qcow2_metadata.specs.Table.{l2_table_at, place_fault};
-ghost use Rattle.qcow2_session.specs.Commands.{Prints, PrintsLast};
-ghost use Rattle.qcow2_session.specs.Commands.L2.{lines_of_l2_table};
+ghost use Rattle.qcow2_session.specs.Commands.L2.{cluster_bits_of, lines_of_l2_table, table_of};
+ghost use Rattle.qcow2_session.specs.Commands.Printing.{Prints, PrintsLast};
+ghost use Rattle.qcow2_session.specs.Commands.Words.{Parses};
 
+use super::Command;
 use super::entries::{Label, print_entries};
+use super::words::number;
 use crate::session::load_l2_table;
 use qcow2_base::{Fault, HostCluster, Storage};
 use qcow2_metadata::Header;
-use std::alloc::Global;
+use std::alloc::{AllocError, Global};
 use std::io::Write;
+use std::marker::Model;
 
 /// The refcount order of the header that the command reads a table with. Nothing depends on it.
 const REFCOUNT_ORDER: u32 = 4;
+
+/// A number of cluster bits, from 9 to 21.
+#[derive(Clone, Copy)]
+pub struct ClusterBits {
+    bits: u32,
+}
+
+impl Model for ClusterBits {
+    ghost use Rattle.std.specs.Prelude.{ℕ};
+    ghost use Rattle.qcow2_base.specs.Types.{IsClusterBits};
+
+    ghost Value = { ℕ };
+
+    ghost view = { λ number. number.bits };
+
+    ghost inverse = { λ number. record { bits = number } };
+
+    ghost invariant = { λ number. IsClusterBits number.bits };
+}
+
+impl ClusterBits {
+    ghost use Rattle.qcow2_base.specs.Types.{IsClusterBits};
+
+    /// The number.
+    pub fn get(self) -> u32
+        ensures value { result ≡ self }
+        ensures range { IsClusterBits result }
+    {
+        self.bits
+    }
+
+    // The number that a word says, if it is one of cluster bits.
+    fn parse(word: &str) -> Option<ClusterBits>
+        ensures { result ≡ cluster_bits_of word.now }
+    {
+        match number(word)? {
+            bits @ 9..=21 => Some(ClusterBits { bits: bits as u32 }),
+            _ => None,
+        }
+    }
+}
 
 /// Prints what the L2 table that begins with a cluster maps: for each entry that isn't left to the
 /// backing file its index, a space, and its mapping. The image's own header isn't looked at.
@@ -46,4 +91,17 @@ pub fn list_l2_table<S: Storage, O: Write>(
     let header = Header::new(alloc, cluster_bits, REFCOUNT_ORDER, None, None, None)?;
     let table = load_l2_table(alloc, image, &header, cluster)?;
     print_entries(&table, 0, Label::Index, out)
+}
+
+/// What the words of the command `l2` ask for.
+pub(super) fn parse(arguments: &[String]) -> Option<Result<Command, AllocError>>
+    ensures { Parses result (table_of (map string_bytes arguments.now)) }
+{
+    let [cluster_bits, cluster] = arguments else {
+        return None;
+    };
+    Some(Ok(Command::ListTable {
+        cluster_bits: ClusterBits::parse(cluster_bits.as_str())?,
+        cluster: HostCluster(number(cluster.as_str())?),
+    }))
 }

@@ -1,6 +1,7 @@
 use Rattle.std.proofs.Common.{ℕ, List, ◌++◌, arith, inl, inr, refl, rules, ◌∙◌}
 use Rattle.std.proofs.lemmas.Result.{err_from_is_err_and}
 use Rattle.qcow2_session.proofs.ChangingLemmas.{change-printed, change-refused, change-unplaced, idle-edits, loads-part, of-any, part-follows, part-refused}
+use Rattle.qcow2_session.proofs.PrintingLemmas.{last-printed, last-unprinted}
 use Rattle.qcow2_session.specs.Commands.Editing.{end_of_edits, freed_lines, gained_lines, table_format, told_edits}
 use Rattle.qcow2_metadata.specs.Table.L2Guards.{RunEnd}
 use Rattle.qcow2_metadata.specs.declared.entries.ClustersToFreeEntry.{ClustersToFreeEntry}
@@ -68,3 +69,24 @@ returns-clause-edits g c =
     (λ told. idle-edits edits _ _ _ (λ none. ran.idle none ∙ named.storage.bytes))
     (λ told. of-any (edits_end header cluster edits image) (λ left. rw named.storage.bytes at (ran.storage.others (named.storage.device.tells ∙ told))))
     c.print_outcome.ensures.fault c.print_outcome.ensures.lines
+
+pub returns-in_err-cluster-clause-last : goal.returns-in_err-cluster-clause-last
+returns-in_err-cluster-clause-last g c =
+    let exit = err_from_is_err_and c.from_residual.result c.from_residual.ensures.1 in
+    let ran = c.in_err-cluster.ensures.storage in
+    rw (exit.1, exit.2) (last-unprinted _ (g.S.Storage.state c.args.image.now) (g.S.Storage.state c.table_of_entry.new.image) c.args.out.now
+    (λ moved. let failed = ran.told.1 moved in cc) ran.device)
+
+pub returns-in_err-outcome-clause-last : goal.returns-in_err-outcome-clause-last
+returns-in_err-outcome-clause-last g c =
+    let exit = err_from_is_err_and c.from_residual-in_err-outcome.result c.from_residual-in_err-outcome.ensures.1 in
+    let named = c.in_ok-cluster.ensures.storage in
+    let ran = c.in_err-outcome.ensures.storage in
+    rw (exit.1, exit.2) (last-unprinted _ (g.S.Storage.state c.args.image.now) (g.S.Storage.state c.edit_image.new.image) c.args.out.now
+    (λ moved. grind (arith, moved, named.told, ran.told)) (grind (arith, named.device, ran.device)))
+
+pub returns-clause-last : goal.returns-clause-last
+returns-clause-last g c =
+    let named = c.in_ok-cluster.ensures.storage in
+    let ran = c.in_ok-outcome.ensures.storage in
+    last-printed c.print_outcome.result _ _ _ _ c.print_outcome.ensures.fault (grind (arith, named.told, ran.told)) (grind (arith, named.device, ran.device))

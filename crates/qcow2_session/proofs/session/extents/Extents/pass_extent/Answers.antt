@@ -1,4 +1,4 @@
-use Rattle.std.proofs.Common.{ap, ◌≡◌, ◌⊎◌, ◌∙◌, ◌<◌, ℕ, Err, arith}
+use Rattle.std.proofs.Common.{ap, ◌≡◌, ◌⊎◌, ◌∙◌, ◌<◌, ℕ, Ok, Err, arith}
 use Rattle.std.proofs.lemmas.Result.{err_from_is_err_and}
 use Rattle.qcow2_base.specs.declared.fault.Fault.TheVariants.{NoMemory, Storage}
 use Rattle.qcow2_session.proofs.ExtentsLemmas.{carried, extent_that_ends, pieces_join, reads_any, refusal_of_piece, refused_at_end, refused_at_start, size_stays, stays_twice}
@@ -66,6 +66,6 @@ loop-end-preserved g c =
           (c.in_ok-next.ensures.told (kept.storage.device.tells ∙ told)) in
           pieces_join contents reader.position end c.in_ok-next.next_end c.match-self.content.0 c.in_ok-next.next kept.some more.0 (kept.reads told)
           (rw position at (c.goes_on_as.ensures.0 c.if-not-goes_on_as.false)) piece.2;
-      reader = stays_twice _ _ reader c.loop-end.self _ (reads_any _ _ _ _ kept.storage) kept.reader c.in_ok-next.ensures.reader;
-      storage = reads_any _ _ _ _ (reads-then _ _ _ _ _ kept.storage c.in_ok-next.ensures.storage);
+      reader = stays_twice _ _ reader c.loop-end.self _ (reads_any end 0 _ _ kept.storage) kept.reader c.in_ok-next.ensures.reader;
+      storage = reads_any next c.in_ok-next.next_end _ _ (reads-then end (Ok next) _ _ _ kept.storage c.in_ok-next.ensures.storage);
     }

@@ -1,7 +1,7 @@
 use Rattle.std.proofs.Common.{map, string_bytes, arith}
 use Rattle.std.proofs.lemmas.List.{length-map}
 use Rattle.qcow2_session.proofs.CommandsLemmas.{too_few_words}
-use Rattle.qcow2_session.proofs.commands.run_words.Goals as goal
+use Rattle.qcow2_session.proofs.commands.running.run_words.Goals as goal
 
 pub returns-in_default-clause-wrong_words : goal.returns-in_default-clause-wrong_words
 returns-in_default-clause-wrong_words g c =

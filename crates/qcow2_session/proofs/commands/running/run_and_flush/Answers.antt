@@ -1,6 +1,6 @@
 use Rattle.qcow2_session.proofs.CommandsLemmas.{IfSome-follows, own-refused}
-use Rattle.qcow2_session.specs.Commands.Running.{place_fault_of}
-use Rattle.qcow2_session.proofs.commands.run_and_flush.Goals as goal
+use Rattle.qcow2_session.specs.Commands.{place_fault_of}
+use Rattle.qcow2_session.proofs.commands.running.run_and_flush.Goals as goal
 
 pub returns-clause-place : goal.returns-clause-place
 returns-clause-place g c =
