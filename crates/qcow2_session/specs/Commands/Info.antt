@@ -1,18 +1,14 @@
-use Rattle.std.specs.Prelude.{ℕ, nat_le, if◌then◌else◌, Bool, true, false, List, ◌++◌, length, Option, Some, None, codes}
+use Rattle.std.specs.Prelude.{ℕ, Bool, true, false, List, ◌++◌, length, Option, Some, None, codes}
 use Rattle.std.specs.Fmt.{decimal}
 use Rattle.qcow2_metadata.specs.Header.{HeaderRecord, first_by, uses_external_data}
 use Rattle.qcow2_metadata.specs.Header.Extensions.{name_in}
 use Rattle.qcow2_metadata.specs.declared.header.extensions.HeaderExtensionType.TheVariants as kind
 use Rattle.qcow2_session.specs.Lines.{offset_text}
 
--- the version that is printed
-abbrev pub version_of : HeaderRecord → ℕ
-version_of header = if nat_le 3 header.v2.version then 3 else 2
-
 -- the lines of the version and the cluster size
 abbrev pub version_lines : HeaderRecord → List ℕ
 version_lines header =
-    codes "version " ++ decimal (version_of header) ++ codes "\ncluster-bits " ++ decimal header.v2.cluster_bits ++ codes "\n"
+    codes "version " ++ decimal header.v2.version ++ codes "\ncluster-bits " ++ decimal header.v2.cluster_bits ++ codes "\n"
 
 -- the lines of the sizes of the guest's disk and of a refcount
 abbrev pub size_lines : HeaderRecord → List ℕ

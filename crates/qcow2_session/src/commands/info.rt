@@ -2,7 +2,7 @@
 
 ghost use Rattle.std.specs.Prelude.{◌≡◌, ◌++◌, Some, option_map, string_bytes, IsOkUnless, OnOk};
 ghost use Rattle.std.specs.Io.KnownBytes.{Appends};
-ghost use Rattle.qcow2_session.specs.Commands.Info.{backing_lines, answer_text, data_file_lines, info_lines, name_line, place_line, place_lines, size_lines, version_lines, version_of};
+ghost use Rattle.qcow2_session.specs.Commands.Info.{backing_lines, answer_text, data_file_lines, info_lines, name_line, place_line, place_lines, size_lines, version_lines};
 
 use qcow2_base::{Fault, HostOffset};
 use qcow2_metadata::Header;
@@ -24,24 +24,13 @@ pub fn print_info<O: Write>(header: &Header, out: &mut O) -> Result<(), Fault>
     print_data_file(header, out)
 }
 
-// The version that is printed: 3 for each one from 3 on.
-fn version_of(header: &Header) -> u32
-    ensures { result ≡ version_of header.now }
-{
-    if header.require_version(3).is_ok() {
-        3
-    } else {
-        2
-    }
-}
-
 // Prints the version, and how large clusters are.
 fn print_version<O: Write>(header: &Header, out: &mut O) -> Result<(), Fault>
     ensures fault { IsOkUnless result Fault.Storage }
     ensures lines { OnOk result
         (Appends (O.contents out.old) (O.contents out.new) (version_lines header.now)) }
 {
-    let (version, cluster_bits) = (version_of(header), header.cluster_bits());
+    let (version, cluster_bits) = (header.version(), header.cluster_bits());
     writeln!(out, "version {version}\ncluster-bits {cluster_bits}").map_err(|_| Fault::Storage)
 }
 
