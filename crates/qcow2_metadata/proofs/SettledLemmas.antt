@@ -11,7 +11,7 @@ use Rattle.qcow2_base.specs.declared.fault.Fault.TheVariants.{HeaderTooLong, Nam
 use Rattle.qcow2_base.specs.declared.on_disk_struct.header_extension_header.HeaderExtensionHeader.{HeaderExtensionHeader}
 use Rattle.qcow2_metadata.specs.Header.{HeaderRecord}
 use Rattle.qcow2_metadata.specs.Header.Extensions.{Extension, FeatureNameTable, IsStorable, TextOf, Unknown, data_of, normal_extension, type_number}
-use Rattle.qcow2_metadata.specs.Header.Text.{IsSettled, bare, extension_header_of, extension_text, extensions_text, fields_text, fits_first_cluster, header_end, header_text, is_other, is_short, kept, name_place, name_text, normal, padded, parts_text, placed, placed_base, placed_v2}
+use Rattle.qcow2_metadata.specs.Header.Text.{IsSettled, bare, extension_header_of, extension_text, extensions_text, fields_text, fits_first_cluster, header_end, header_text, is_other, is_short, kept, name_place, name_text, normal, padded, parts_text, placed, placed_base, placed_v2, v2_with_name}
 use Rattle.qcow2_metadata.proofs.NamesLemmas.{length-name_chunks, normal_extensions-once, normal_named}
 use Rattle.qcow2_metadata.proofs.TextLemmas.{length-padded}
 
@@ -92,13 +92,6 @@ end_by three fields = elim three [ true ↦ 104 + length fields | false ↦ 72 ]
 abbrev base_by : Bool → V3HeaderBase → ℕ → V3HeaderBase
 base_by three base len = elim three [ true ↦ record base { header_length = len } | false ↦ base ]
 
--- the first part with the place of the backing file's name
-abbrev v2_by : Option (List ℕ) → V2Header → ℕ → V2Header
-v2_by name v2 place = elim name [
-  | None ↦ record v2 { backing_file_offset = 0; backing_file_size = 0 }
-  | Some name ↦ record v2 { backing_file_offset = place; backing_file_size = length name }
-]
-
 -- what stands before the extensions, by whether the version is 3
 abbrev parts_by : Bool → V2Header → V3HeaderBase → List ℕ → List ℕ
 parts_by three v2 base fields = elim three [
@@ -113,26 +106,38 @@ base_by-again true base len = refl
 base_by-again false base len = refl
 
 -- a first part with the place of the name keeps it
-v2_by-again : (name : Option (List ℕ)) (v2 : V2Header) (place : ℕ)
-    → v2_by name (v2_by name v2 place) place ≡ v2_by name v2 place
-v2_by-again None v2 place = refl
-v2_by-again (Some name) v2 place = refl
+v2_with_name-again : (v2 : V2Header) (place : ℕ) (name : Option (List ℕ))
+    → v2_with_name (v2_with_name v2 place name) place name ≡ v2_with_name v2 place name
+v2_with_name-again v2 place None = refl
+v2_with_name-again v2 place (Some name) = refl
 
--- the place of the name doesn't change the version
-v2_by-version : (name : Option (List ℕ)) (v2 : V2Header) (place : ℕ)
-    → (v2_by name v2 place).version ≡ v2.version
-v2_by-version None v2 place = refl
-v2_by-version (Some name) v2 place = refl
+-- a place of the name changes nothing else that the first part says
+pub record KeepsV2 (old new : V2Header) : Type 0 where
+  pub magic : new.magic ≡ old.magic
+  pub version : new.version ≡ old.version
+  pub cluster_bits : new.cluster_bits ≡ old.cluster_bits
+  pub l1_table_offset : new.l1_table_offset ≡ old.l1_table_offset
+  pub refcount_table_offset : new.refcount_table_offset ≡ old.refcount_table_offset
 
--- and not the size of a cluster
-v2_by-bits : (name : Option (List ℕ)) (v2 : V2Header) (place : ℕ)
-    → (v2_by name v2 place).cluster_bits ≡ v2.cluster_bits
-v2_by-bits None v2 place = refl
-v2_by-bits (Some name) v2 place = refl
+pub v2_with_name-keeps : (v2 : V2Header) (place : ℕ) (name : Option (List ℕ)) → KeepsV2 v2 (v2_with_name v2 place name)
+v2_with_name-keeps v2 place None = record {
+  magic = refl;
+  version = refl;
+  cluster_bits = refl;
+  l1_table_offset = refl;
+  refcount_table_offset = refl;
+}
+v2_with_name-keeps v2 place (Some name) = record {
+  magic = refl;
+  version = refl;
+  cluster_bits = refl;
+  l1_table_offset = refl;
+  refcount_table_offset = refl;
+}
 
 -- a header with its places has its version
 version-placed : (header : HeaderRecord) → (placed header).v2.version ≡ header.v2.version
-version-placed header = v2_by-version header.backing_filename header.v2 (name_place header)
+version-placed header = (v2_with_name-keeps header.v2 (name_place header) header.backing_filename).version
 
 -- it ends where it ends without them
 header_end-placed : (header : HeaderRecord) → header_end (placed header) ≡ header_end header
@@ -143,8 +148,8 @@ header_end-placed header =
 placed_v2-placed : (header : HeaderRecord) → placed_v2 (placed header) ≡ placed_v2 header
 placed_v2-placed header =
     let texts : ℕ = length (extensions_text header.extensions) in
-    let moved = λ (end : ℕ). v2_by header.backing_filename (placed_v2 header) (end + texts) in
-    ap moved (header_end-placed header) ∙ v2_by-again header.backing_filename header.v2 (name_place header)
+    let moved = λ (end : ℕ). v2_with_name (placed_v2 header) (end + texts) header.backing_filename in
+    ap moved (header_end-placed header) ∙ v2_with_name-again header.v2 (name_place header) header.backing_filename
 
 -- its second part has its length
 placed_base-placed : (header : HeaderRecord) → placed_base (placed header) ≡ placed_base header
@@ -168,7 +173,7 @@ header_text-placed header = λ i.
 -- which fits where it fits without the places
 fits-placed : (header : HeaderRecord) → fits_first_cluster (placed header) ≡ fits_first_cluster header
 fits-placed header =
-    let bits = v2_by-bits header.backing_filename header.v2 (name_place header) in
+    let bits = (v2_with_name-keeps header.v2 (name_place header) header.backing_filename).cluster_bits in
     λ i. nat_le (length (header_text-placed header i)) (2 ^ bits i)
 
 -- what a header reads back as ends where the header ends
@@ -179,7 +184,7 @@ header_end-normal header = ap (end_by (header.v2.version == 3)) (padded-once hea
 placed_v2-normal : (header : HeaderRecord) → placed_v2 (normal header) ≡ placed_v2 header
 placed_v2-normal header =
     let texts = length-normal_texts header.extensions in
-    λ i. v2_by header.backing_filename header.v2 (header_end-normal header i + texts i)
+    λ i. v2_with_name header.v2 (header_end-normal header i + texts i) header.backing_filename
 
 -- its second part has the same length
 placed_base-normal : (header : HeaderRecord) → placed_base (normal header) ≡ placed_base header

@@ -2,7 +2,7 @@ use Rattle.std.proofs.Common.{◌≡◌, List, [], ◌∷◌, ◌++◌, ℕ, map
 use lib.Utf8.{encode}
 use Rattle.std.specs.Prelude.{All, true, IfSome, None, Option, Some, String, option_to_list, option_map, string_bytes}
 use Rattle.std.proofs.lemmas.Bool.{and_parts}
-use Rattle.std.proofs.lemmas.List.Elements.{All-cons, All-from_recursion, All-nil}
+use Rattle.std.proofs.lemmas.List.Elements.{All-append, All-cons, All-from_recursion, All-nil}
 use Rattle.std.proofs.lemmas.Str.{IsUtf8-from_is_utf8, IsUtf8-string_bytes}
 use Rattle.std.specs.BTreeMap.{BTreeMap, IsOrdered}
 use Rattle.std.specs.Global.{Global}
@@ -11,8 +11,9 @@ use Rattle.std.specs.List.Sorted.{IsStrictlySortedBy}
 use Rattle.std.specs.Map.{keys_of}
 use Rattle.std.specs.Str.{IsUtf8, chars, is_utf8}
 use Rattle.qcow2_metadata.specs.Header.{known_names}
+use Rattle.qcow2_metadata.specs.declared.header.extensions.HeaderExtensionType.{HeaderExtensionType}
 use Rattle.qcow2_metadata.specs.declared.header.extensions.HeaderExtensionType.TheVariants as kind
-use Rattle.qcow2_metadata.specs.Header.Extensions.{FeatureKey, FeatureNameTable, FeatureNames, IsStorable, TextOf, key_cmp, names_of}
+use Rattle.qcow2_metadata.specs.Header.Extensions.{FeatureKey, FeatureNameTable, FeatureNames, IsStorable, TextOf, is_text, key_cmp, names_of}
 
 -- the texts of names in memory are text
 names_of-texts : (entries : List (FeatureKey × String Global))
@@ -85,22 +86,19 @@ pub known_names-storable : IsStorable (FeatureNameTable known_names)
 unfolding is_utf8 chars encode
 known_names-storable = (known_names-ordered, all_texts known_names refl)
 
+-- text in memory can be stored, if it is there
+texts-storable : (type : HeaderExtensionType) → is_text type ≡ true → (name : Option (String Global))
+    → All IsStorable (map (TextOf type) (option_to_list (option_map string_bytes name)))
+texts-storable type is None = All-nil IsStorable
+texts-storable type is (Some name) =
+    All-cons IsStorable (TextOf type (string_bytes name)) [] (is, IsUtf8-string_bytes name) (All-nil IsStorable)
+
 -- the extensions of a new image can be stored
 pub new_extensions-storable : (format data_file : Option (String Global))
     → All IsStorable
     (FeatureNameTable known_names
     ∷ map (TextOf kind.BackingFileFormat) (option_to_list (option_map string_bytes format))
     ++ map (TextOf kind.ExternalDataFileName) (option_to_list (option_map string_bytes data_file)))
-new_extensions-storable format data_file = All-cons IsStorable (FeatureNameTable known_names) _ known_names-storable (texts format data_file)
-  where
-    texts : (format data_file : Option (String Global))
-        → All IsStorable
-        (map (TextOf kind.BackingFileFormat) (option_to_list (option_map string_bytes format))
-        ++ map (TextOf kind.ExternalDataFileName) (option_to_list (option_map string_bytes data_file)))
-    texts None None = All-nil IsStorable
-    texts None (Some name) = All-cons IsStorable (TextOf kind.ExternalDataFileName (string_bytes name)) [] (refl, IsUtf8-string_bytes name) (All-nil IsStorable)
-    texts (Some name) None = All-cons IsStorable (TextOf kind.BackingFileFormat (string_bytes name)) [] (refl, IsUtf8-string_bytes name) (All-nil IsStorable)
-    texts (Some name) (Some other) =
-        All-cons IsStorable (TextOf kind.BackingFileFormat (string_bytes name)) (TextOf kind.ExternalDataFileName (string_bytes other) ∷ [])
-        (refl, IsUtf8-string_bytes name)
-        (All-cons IsStorable (TextOf kind.ExternalDataFileName (string_bytes other)) [] (refl, IsUtf8-string_bytes other) (All-nil IsStorable))
+new_extensions-storable format data_file =
+    All-cons IsStorable (FeatureNameTable known_names) _ known_names-storable
+    (All-append IsStorable _ _ (texts-storable kind.BackingFileFormat refl format) (texts-storable kind.ExternalDataFileName refl data_file))

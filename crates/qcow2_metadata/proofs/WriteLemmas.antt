@@ -1,4 +1,4 @@
-use Rattle.std.proofs.Common.{◌≡◌, ◌⊎◌, ℕ, ◌^◌, ◌<◌, ◌≤◌, ◌==◌, Bool, true, false, not, List, [], ◌∷◌, map, refl, ap, sym, subst, ◌∙◌, arith, inl, inr, lit<, Option, Some, None}
+use Rattle.std.proofs.Common.{◌≡◌, ◌⊎◌, ℕ, ◌^◌, ◌<◌, ◌≤◌, ◌==◌, Bool, true, false, not, List, [], ◌∷◌, map, refl, ap, sym, subst, ◌∙◌, arith, inl, inr, lit<, Some, None}
 use Rattle.std.specs.Prelude.{All, Err, Ok, length}
 use Rattle.std.specs.List.{filter}
 use Rattle.std.proofs.lemmas.Bool.Decides.{nat_tests}
@@ -12,11 +12,11 @@ use Rattle.qcow2_base.specs.declared.on_disk_struct.v2_header.V2Header.{V2Header
 use Rattle.qcow2_base.specs.declared.on_disk_struct.v3_header_base.V3HeaderBase.{V3HeaderBase}
 use Rattle.qcow2_metadata.specs.Header.{HeaderRecord, IsLawfulHeader, default_base, names_by, other_features}
 use Rattle.qcow2_metadata.specs.Header.Extensions.{Extension, FeatureNameTable, IsStorable, TextOf, Unknown, extension_of, name_in}
-use Rattle.qcow2_metadata.specs.Header.Text.{AreFitting, IsLayout, IsWrittenHeader, bare, base_with_length, chosen, chosen_extensions, chosen_text, fits_first_cluster, header_end, header_text, is_short, kept, placed_text, is_other, name_place, placed, v2_with_name}
+use Rattle.qcow2_metadata.specs.Header.Text.{AreFitting, IsLayout, IsWrittenHeader, bare, base_with_length, chosen, chosen_extensions, chosen_text, fits_first_cluster, header_end, header_text, is_short, kept, placed_text, is_other, name_place, placed}
 use Rattle.qcow2_metadata.specs.declared.header.text.Layout.{Layout}
 use Rattle.qcow2_metadata.proofs.ExtensionsLemmas.{ReadsBack}
 use Rattle.qcow2_metadata.proofs.NamesLemmas.{storable-reads_back}
-use Rattle.qcow2_metadata.proofs.SettledLemmas.{header_text-placed, kept-settled}
+use Rattle.qcow2_metadata.proofs.SettledLemmas.{header_text-placed, kept-settled, v2_with_name-keeps}
 use Rattle.qcow2_metadata.proofs.TextLemmas.{text-header}
 use Rattle.qcow2_metadata.specs.declared.header.extensions.HeaderExtension.{HeaderExtension}
 use Rattle.qcow2_metadata.specs.declared.header.extensions.HeaderExtensionType.{HeaderExtensionType}
@@ -54,30 +54,6 @@ pub chosen-storable : (with_names : Bool) (extensions : List Extension) → All 
     → All IsStorable (chosen_extensions with_names extensions)
 chosen-storable true extensions storable = storable
 chosen-storable false extensions storable = All-filter is_other IsStorable extensions storable
-
--- a place of the name changes nothing else that the first part says
-record KeepsV2 (old new : V2Header) : Type 0 where
-  magic : new.magic ≡ old.magic
-  version : new.version ≡ old.version
-  cluster_bits : new.cluster_bits ≡ old.cluster_bits
-  l1_table_offset : new.l1_table_offset ≡ old.l1_table_offset
-  refcount_table_offset : new.refcount_table_offset ≡ old.refcount_table_offset
-
-v2_with_name-keeps : (v2 : V2Header) (place : ℕ) (name : Option (List ℕ)) → KeepsV2 v2 (v2_with_name v2 place name)
-v2_with_name-keeps v2 place None = record {
-  magic = refl;
-  version = refl;
-  cluster_bits = refl;
-  l1_table_offset = refl;
-  refcount_table_offset = refl;
-}
-v2_with_name-keeps v2 place (Some name) = record {
-  magic = refl;
-  version = refl;
-  cluster_bits = refl;
-  l1_table_offset = refl;
-  refcount_table_offset = refl;
-}
 
 -- a length changes nothing else that the second part says
 record KeepsBase (old new : V3HeaderBase) : Type 0 where

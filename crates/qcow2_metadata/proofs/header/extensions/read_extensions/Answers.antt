@@ -33,7 +33,7 @@ loop-extensions-preserved g c =
     let known = map extension_of c.loop-extensions.extensions.items in
     let first = extension_of c.in-Some.extension in
     let list : map extension_of c.push.new.self.items ≡ known ++ first ∷ [] =
-    ap (map extension_of) c.in_ok-push.ensures.items ∙ map-append extension_of c.loop-extensions.extensions.items (c.in-Some.extension ∷ []) in
+    ap (map extension_of) {y = c.loop-extensions.extensions.items ++ (c.in-Some.extension ∷ [])} c.in_ok-push.ensures.items ∙ map-append extension_of c.loop-extensions.extensions.items (c.in-Some.extension ∷ []) in
     let storable : IsStorable first = rw c.in-Some.is at c.in_ok-extension.ensures.storable in
     record {
       storable = rw list (All-push IsStorable known first before.storable storable);
