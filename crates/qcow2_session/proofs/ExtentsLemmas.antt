@@ -17,7 +17,7 @@ use Rattle.qcow2_metadata.specs.Header.{Geometry}
 use Rattle.qcow2_metadata.specs.Table.{TableState, loaded_l2_table, mapping_at}
 use Rattle.qcow2_metadata.specs.Table.L2Table.{IsMappedRun}
 use Rattle.qcow2_session.specs.Session.Lookups.{l2_cluster, named_cluster}
-use Rattle.qcow2_session.specs.Session.Extents.{AreExtents, AreInOneTable, ComesTo, Contents, ExtentsState, HasNoTable, IsExtent, IsMap, IsPiece, IsRefusedFrom, KeepsTableOf, ReadAsOne, RefusesExtent, StaysReader, TellsExtent, content_in, contents_for, contents_in, contents_of, extent_of, moved_on}
+use Rattle.qcow2_session.specs.Session.Extents.{AreExtents, AreInOneTable, Contents, ExtentsState, HasNoTable, IsExtent, IsPiece, IsRefusedFrom, KeepsTableOf, ReadAsOne, RefusesExtent, StaysReader, content_in, contents_for, contents_in, contents_of, extent_of, moved_on}
 use Rattle.qcow2_session.specs.declared.session.extents.Extent.{Extent}
 use Rattle.qcow2_session.specs.declared.session.extents.Content.{Content}
 use Rattle.qcow2_session.specs.declared.session.extents.Content.TheVariants.{Absent, AllocatedZeros, Compressed, Data, Zeros}
@@ -414,18 +414,3 @@ pub extents_more : (contents : Contents) (size from to : ℕ) (extents : List Ex
     → AreExtents contents size from (extents ++ extent ∷ []) (to + extent.length)
 extents_more contents size from to [] extent same is = (rw same is, rw same refl)
 extents_more contents size from to (x ∷ xs) extent are is = (are.0, extents_more contents size (from + x.length) to xs extent are.1 is)
-
--- a reader that tells extents from the disk's begin on: those told so far, all of them, or those before a refusal
-pub map_grows : (contents : Contents) (size from to : ℕ) (extents : List Extent) (extent : Extent) → AreExtents contents size 0 extents from
-    → TellsExtent contents size from (Ok (Some extent)) → ComesTo size from (Ok (Some extent)) to → AreExtents contents size 0 (extents ++ extent ∷ []) to
-map_grows contents size from to extents extent are told comes = rw comes.2 (extents_more contents size 0 from extents extent are told)
-
-pub map_ends : (contents : Contents) (size from to : ℕ) (extents : List Extent) → AreExtents contents size 0 extents from
-    → ComesTo size from (Ok None) to → IsMap contents size extents
-map_ends contents size from to extents are comes = subst (λ (end : ℕ). AreExtents contents size 0 extents end) comes.0 are
-
--- what a reader's image reads as stays, from one extent to the next
-pub contents_stay : (old new : Image) (reader later : ExtentsState) → later ≡ record reader { position = later.position; table = later.table; ahead = later.ahead } → new ≡ old
-    → contents_for later new ≡ contents_for reader old
-contents_stay old new reader later same bytes =
-    ap (λ (r : ExtentsState). contents_for r new) same ∙ ap (λ (image : Image). contents_for reader image) bytes

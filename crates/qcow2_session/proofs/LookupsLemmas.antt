@@ -1,32 +1,13 @@
-use Rattle.std.proofs.Common.{◌≡◌, ℕ, ◌+◌, ◌-◌, ◌*◌, ◌/◌, ◌%◌, ◌^◌, ◌<◌, ◌≤◌, ◌==◌, Bool, true, false, not, Some, None, Result, Ok, Err, ap, lit<, sym, ◌∙◌, arith}
+use Rattle.std.proofs.Common.{◌≡◌, ℕ, ◌+◌, ◌-◌, ◌*◌, ◌/◌, ◌^◌, ◌<◌, ◌≤◌, Some, None, Result, Ok, ap, lit<, sym, ◌∙◌, arith}
 use Rattle.std.proofs.Math.Nat.{div-mul-le_self, pow-le-pow_right}
-use Rattle.std.proofs.lemmas.Nat.{div-add-mod', mul-le, pow-add, shr_below}
+use Rattle.std.proofs.lemmas.Nat.{mul-le, pow-add, shr_below}
 use Rattle.qcow2_base.specs.Format.{most_l2_entries}
 use Rattle.qcow2_base.specs.Storage.{OnlyReads, ReadsFor, StorageState}
 use Rattle.qcow2_base.specs.Types.{IsClusterBits}
 use Rattle.qcow2_base.specs.declared.fault.Fault.{Fault}
 use Rattle.qcow2_base.specs.declared.types.HostOffset.{HostOffset}
-use Rattle.qcow2_metadata.specs.Entries.{entry_fault, offset_field, offset_unless_zero}
-use Rattle.qcow2_metadata.specs.Entries.L1Entry.{l1_fault, l1_reserved_bits}
-use Rattle.qcow2_metadata.specs.Header.{HeaderRecord}
+use Rattle.qcow2_metadata.specs.Entries.{offset_field, offset_unless_zero}
 use Rattle.qcow2_metadata.specs.Table.{TablePlace, offset_of, place_fault}
-use Rattle.qcow2_session.specs.Session.Lookups.{l1_place}
-
--- the L1 table of a lawful header begins at the offset that the header says
-pub l1_place-offset : (header : HeaderRecord) → header.v2.l1_table_offset % 2 ^ header.v2.cluster_bits ≡ 0 →
-    offset_of (l1_place header) ≡ header.v2.l1_table_offset
-l1_place-offset header aligned =
-    omega (arith, div-add-mod' header.v2.l1_table_offset (2 ^ header.v2.cluster_bits), aligned)
-
--- and an L2 table at the one that its lawful entry says
-pub l2_cluster-offset : (cb v : ℕ) → l1_fault cb v ≡ None → offset_field v / 2 ^ cb * 2 ^ cb ≡ offset_field v
-l2_cluster-offset cb v lawful =
-    let aligned : offset_field v % 2 ^ cb ≡ 0 = aligned-by_fault (not (l1_reserved_bits v == 0)) _ lawful in
-    omega (arith, div-add-mod' (offset_field v) (2 ^ cb), aligned)
-  where
-    aligned-by_fault : (reserved : Bool) (n : ℕ) → entry_fault reserved (not (n == 0)) ≡ None → n ≡ 0
-    aligned-by_fault true n lawful = grind (arith, lawful)
-    aligned-by_fault false n lawful = grind (arith, lawful)
 
 -- the cluster of an offset that fits 64 bits begins at one that does
 pub cluster_fits : (offset cluster cb other : ℕ) → offset < 2 ^ 64 → cluster ≡ offset / 2 ^ cb → other ≡ cb → cluster * 2 ^ other < 2 ^ 64
@@ -69,15 +50,6 @@ reads-then value answer first second third one other = record {
   told = grind (arith, one.told, other.told);
   bytes = other.bytes ∙ one.bytes;
   device = grind (arith, one.device, other.device);
-}
-
--- reads that ended in a fault, whatever they were to answer
-pub reads-fault : {A B : Type 0} (one : Result A Fault) (other : Result B Fault) (fault : Fault) (first second : StorageState) →
-    one ≡ Err fault → other ≡ Err fault → OnlyReads one first second → OnlyReads other first second
-reads-fault one other fault first second is same reads = record {
-  told = grind (arith, is, same, reads.told);
-  bytes = reads.bytes;
-  device = reads.device;
 }
 
 -- reads that were answered, and then calls that only read

@@ -12,7 +12,7 @@ use Rattle.qcow2_session.specs.declared.commands.Command.{Command}
 use Rattle.qcow2_session.specs.declared.commands.Command.TheVariants.{ListTable}
 use Rattle.qcow2_session.specs.declared.commands.l2.ClusterBits.{ClusterBits}
 
--- a command other than `l2`
+-- a command that is not `l2`
 abbrev IsOther : Command → Type 0
 IsOther command = (cluster_bits : ClusterBits) (cluster : HostCluster) → command ≡ ListTable cluster_bits cluster → ⊥
 

@@ -15,7 +15,7 @@ pub loop-word-preserved : goal.loop-word-preserved
 loop-word-preserved g c =
     let words = c.args.words.now in
     let at = c.loop-word.word-index in
-    let found : g.T.Said.said (string_bytes c.word-item.result) ≡ Some c.in_ok-change.change = rw c.as_str.ensures.value at (sym c.in_ok-change.ensures) in
+    let found : g.T.Said.said (string_bytes c.word-item.result) ≡ Some c.in_ok-change.change = rw c.as_str.ensures.value at (sym {a = Some c.in_ok-change.change} c.in_ok-change.ensures) in
     let says : g.T.Said.said (string_bytes (get_or words at c.word-item.result)) ≡ Some c.in_ok-change.change = rw (← c.word-item.is) found in
     let some = said-kept g.T.Said.said string_bytes words at c.word-item.result c.in_ok-change.change c.loop-word-test.true c.loop-word.invariant.said says in
     elim c.match-list-2.branch [
