@@ -51,24 +51,23 @@ fn tell<S: Storage>(
     image: &mut S,
 ) -> Result<(), Fault> {
     let header = load_header(alloc, image, false)?;
-    match command {
-        "info" => print_info(&header, out),
-        "list" => list_tables(alloc, image, &header, out),
-        "at" => print_mapping_at(alloc, image, &header, GUEST_OFFSET, out),
-        "map" => map(alloc, &header, ExtentFormat::Lines, out, image),
-        "map json" => map(alloc, &header, ExtentFormat::Json, out, image),
-        _ => Err(Fault::WrongLength),
-    }
+    tell_of(command, alloc, &header, out, image)
 }
 
-fn map<S: Storage>(
+fn tell_of<S: Storage>(
+    command: &str,
     alloc: Global,
     header: &Header,
-    format: ExtentFormat,
     out: &mut Output,
     image: &mut S,
 ) -> Result<(), Fault> {
-    print_extents(alloc, image, header, format, out)
+    match command {
+        "info" => print_info(header, out),
+        "list" => list_tables(alloc, image, header, out),
+        "at" => print_mapping_at(alloc, image, header, GUEST_OFFSET, out),
+        "map" => print_extents(alloc, image, header, ExtentFormat::Lines, out),
+        _ => print_extents(alloc, image, header, ExtentFormat::Json, out),
+    }
 }
 
 fn change<S: Storage>(
