@@ -3,6 +3,7 @@
 
 #[cfg(test)]
 mod fault;
+#[cfg(test)]
 mod gaps;
 #[cfg(test)]
 mod on_disk_struct;
@@ -10,5 +11,3 @@ mod on_disk_struct;
 mod storage;
 #[cfg(test)]
 mod types;
-
-pub use gaps::TestGaps;

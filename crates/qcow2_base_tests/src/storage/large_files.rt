@@ -1,9 +1,8 @@
 //! Reads and writes of more bytes than any buffer on their way may have.
 
-use super::files::file_holds;
+use super::files::{file_holds, opened};
 use super::reads;
-use qcow2_base::{FileStorage, Storage};
-use qcow2_testing::temporary_file;
+use qcow2_testing::{put_bytes, temporary_file};
 use std::alloc::{AllocError, Global};
 use std::test::Fail;
 
@@ -21,62 +20,39 @@ fn image(alloc: Global, len: usize, start: usize, end: usize) -> Result<Vec<u8>,
     Ok(bytes)
 }
 
-// Writes the bytes to the file from a place on.
-fn write_at(rt: &HostRuntime, path: &str, bytes: &[u8], start: usize) -> Result<(), Fail> {
-    if bytes.len() > 8 * MIB || start > 8 * MIB {
-        return Err(Fail::new("too large"));
-    }
-    let mut storage = FileStorage::open(rt, path, true)?;
-    storage.write(bytes, start as u64)?;
-    Ok(())
+// That a write of other bytes to this file of old ones leaves no other byte changed.
+fn is_written(rt: &HostRuntime, path: &str, start: usize, end: usize) -> Result<(), Fail> {
+    let new = image(rt.alloc(), 3 * MIB, start, end)?;
+    let mut storage = opened(rt, path, true)?;
+    let range = new.get(start..end).unwrap_or(&[]);
+    put_bytes(&mut storage, start as u64, range)?;
+    file_holds(rt, path, &new)
 }
-
-// Reads as many bytes from the place on, and fails unless they are these.
-fn reads_at(rt: &HostRuntime, path: &str, bytes: &[u8], start: usize) -> Result<(), Fail> {
-    if bytes.len() > 8 * MIB || start > 8 * MIB {
-        return Err(Fail::new("too large"));
-    }
-    let mut storage = FileStorage::open(rt, path, true)?;
-    reads(rt.alloc(), &mut storage, start as u64, bytes)
-}
-
-const WRITES: &[(usize, usize)] = &[
-    (1000, 1512),
-    (1000, 1513),
-    (1024, 1535),
-    (1000, 1000 + 2 * MIB),
-    (65536, 65536 + 2 * MIB + 1),
-];
 
 #[test]
 fn a_large_write_replaces_its_range_and_no_other_byte(rt: HostRuntime) -> Result<(), Fail> {
     let old = image(rt.alloc(), 3 * MIB, 0, 0)?;
-    for (start, end) in WRITES {
-        let new = image(rt.alloc(), 3 * MIB, *start, *end)?;
+    for (start, end) in [(1000, 1513), (65536, 65537 + 2 * MIB)] {
         let file = temporary_file(&rt, "large-write", &old)?;
-        let range = new.get(*start..*end).unwrap_or(&[]);
-        write_at(&rt, file.path.as_str(), range, *start)?;
-        file_holds(&rt, file.path.as_str(), &new, (start, end))?;
+        is_written(&rt, file.path.as_str(), start, end)?;
     }
     Ok(())
 }
 
-const READS: &[(usize, usize)] = &[
-    (1000, 1512),
-    (1000, 66537),
-    (1000, 4 * MIB + 1001),
-    (500, 5 * MIB + 500),
-];
+// The second read ends past the file.
+fn is_read(rt: &HostRuntime, path: &str, padded: &[u8]) -> Result<(), Fail> {
+    let mut storage = opened(rt, path, true)?;
+    let ranges = (padded.get(1000..66537), padded.get(500..5 * MIB + 500));
+    reads(rt.alloc(), &mut storage, 1000, ranges.0.unwrap_or(&[]))?;
+    reads(rt.alloc(), &mut storage, 500, ranges.1.unwrap_or(&[]))
+}
 
 #[test]
 fn a_large_read_gives_its_range_and_changes_no_byte(rt: HostRuntime) -> Result<(), Fail> {
-    let mut padded = image(rt.alloc(), 5 * MIB, 0, 0)?;
-    let file = temporary_file(&rt, "large-read", &padded)?;
+    let bytes = image(rt.alloc(), 5 * MIB, 0, 0)?;
+    let mut padded = Vec::from_slice(rt.alloc(), &bytes)?;
     padded.resize(6 * MIB, 0)?;
-    for (start, end) in READS {
-        let range = padded.get(*start..*end).unwrap_or(&[]);
-        reads_at(&rt, file.path.as_str(), range, *start)?;
-    }
-    let bytes = padded.get(..5 * MIB).unwrap_or(&[]);
-    file_holds(&rt, file.path.as_str(), bytes, "after all reads")
+    let file = temporary_file(&rt, "large-read", &bytes)?;
+    is_read(&rt, file.path.as_str(), &padded)?;
+    file_holds(&rt, file.path.as_str(), &bytes)
 }
