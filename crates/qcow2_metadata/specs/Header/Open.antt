@@ -1,10 +1,10 @@
-use Rattle.std.specs.Prelude.{◌≡◌, ◌⊎◌, ℕ, ◌==◌, ◌&&◌, Bool, true, false, not, IsTrue, List, [], length, Some, IfOk, IsOkAnd, OnOk, Result, Ok, Err}
-use Rattle.qcow2_base.specs.Storage.{Holds, OnImages, OnlyReads, OnlyWrites, StorageState}
+use Rattle.std.specs.Prelude.{◌≡◌, ◌⊎◌, ℕ, ◌==◌, ◌&&◌, Bool, true, false, not, IsTrue, List, [], length, Some, IfErr, IfOk, IsOkAnd, OnOk, Result, Ok, Err}
+use Rattle.qcow2_base.specs.Storage.{Holds, Image, OnImage, OnImages, OnlyReads, OnlyWrites, StorageState}
 use Rattle.qcow2_base.specs.declared.fault.Fault.{Fault}
 use Rattle.qcow2_base.specs.declared.fault.Fault.TheVariants.{HeaderTooLong}
-use Rattle.qcow2_metadata.specs.Results.{and_then}
+use Rattle.qcow2_metadata.specs.Results.{Answers, and_then}
 use Rattle.qcow2_metadata.specs.Header.{HeaderRecord}
-use Rattle.qcow2_metadata.specs.Header.Grammar.{IsHeaderFault, header_of}
+use Rattle.qcow2_metadata.specs.Header.Grammar.{FollowsGrammar, IsHeaderFault, SameFirstCluster, header_of}
 use Rattle.qcow2_metadata.specs.Header.Text.{IsSettled, IsWrittenHeader, chosen_text, kept}
 
 -- the header with no autoclear feature
@@ -48,3 +48,13 @@ pub record Opens (writable : Bool) (answer : Result HeaderRecord Fault) (old new
   pub placed : OnImages old new (λ before after. OnOk answer (Holds after 0 (opened_text writable (header_of before))))
   pub written : HadToWrite writable old → IfOk answer (IsWrittenHeader new.byte_at)
   pub settled : HadToWrite writable old → IfOk answer IsSettled
+
+-- a load of an image's header ended in this answer: the header that the bytes have by the grammar, opened, or the fault
+-- of the first condition that they fail; and the same where other bytes have the same first cluster
+pub record Loads (writable : Bool) (answer : Result HeaderRecord Fault) (old new : StorageState) : Type 0 where
+  pub exact : OnImage old (λ bytes. Answers (λ header. header) answer (opened writable (header_of bytes)))
+  pub grammar : writable ≡ false → OnImage old (λ bytes. FollowsGrammar answer bytes)
+  pub first_cluster : OnImage old (λ bytes. (other : Image) → SameFirstCluster bytes other
+      → Answers (λ header. header) answer (opened writable (header_of other)))
+  pub faults : IfErr answer (IsOpenFault writable)
+  pub storage : Opens writable answer old new

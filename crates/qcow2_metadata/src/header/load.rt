@@ -3,7 +3,7 @@
 ghost use Rattle.std.specs.Prelude.{◌≡◌, ◌⊎◌, ◌+◌, ◌^◌, ◌≤◌, IfErr, IfOk, Ok, false, length, string_bytes, true};
 ghost use Rattle.qcow2_base.specs.Storage.{Image, OnImage, OnlyReads};
 ghost use Rattle.qcow2_metadata.specs.Results.{Answers, result_map};
-ghost use Rattle.qcow2_metadata.specs.Header.Open.{IsOpenFault, Opens, opened};
+ghost use Rattle.qcow2_metadata.specs.Header.Open.{Loads};
 ghost use Rattle.qcow2_metadata.specs.Header.Extensions.{text};
 ghost use Rattle.qcow2_metadata.specs.Header.Grammar.{AreLawfulParts, FollowsGrammar, IsHeaderFault, SameFirstCluster, fixed_parts, header_of};
 ghost use Rattle.qcow2_metadata.specs.Header.Text.{is_short};
@@ -30,15 +30,7 @@ impl Header {
     /// header names. None is known here: where there is one, the header is written without any, and a header
     /// that has no room in the first cluster is refused by fault 24.
     pub fn load<S: Storage>(alloc: Global, image: &mut S, writable: bool) -> Result<Header, Fault>
-        ensures exact { OnImage (S.state image.old) (λ bytes.
-            Answers (λ header. header) result (opened writable (header_of bytes))) }
-        ensures grammar { writable ≡ false → OnImage (S.state image.old) (λ bytes.
-            FollowsGrammar result bytes) }
-        ensures first_cluster { OnImage (S.state image.old) (λ bytes.
-            (other : Image) → SameFirstCluster bytes other → Answers (λ header. header) result
-            (opened writable (header_of other))) }
-        ensures faults { IfErr result (IsOpenFault writable) }
-        ensures storage { Opens writable result (S.state image.old) (S.state image.new) }
+        ensures { Loads writable result (S.state image.old) (S.state image.new) }
     {
         let header = read_header(alloc, image)?;
         if !writable {

@@ -1,10 +1,8 @@
-use Rattle.std.specs.Prelude.{◌≡◌, ℕ, Bool, List, Option, Result, Err, IsTrue, MatchResult}
-use Rattle.qcow2_base.specs.Storage.{OnImage, StorageState}
+use Rattle.std.specs.Prelude.{◌≡◌, ℕ, List, Option, Result, Err, IsTrue, MatchResult}
+use Rattle.qcow2_base.specs.Storage.{StorageState}
 use Rattle.qcow2_base.specs.declared.fault.Fault.{Fault}
-use Rattle.qcow2_metadata.specs.Results.{Answers}
 use Rattle.qcow2_metadata.specs.Header.{HeaderRecord}
-use Rattle.qcow2_metadata.specs.Header.Grammar.{header_of}
-use Rattle.qcow2_metadata.specs.Header.Open.{Opens, opened}
+use Rattle.qcow2_metadata.specs.Header.Open.{Loads}
 use Rattle.qcow2_session.specs.Commands.{RunsWith, changes_image, is_silent_on_faults}
 use Rattle.qcow2_session.specs.Commands.L2.{lines_of_l2_table}
 use Rattle.qcow2_session.specs.Commands.Printing.{Prints, PrintsLast}
@@ -15,11 +13,6 @@ use Rattle.qcow2_session.specs.declared.commands.Command.TheVariants.{ListTable}
 abbrev pub PrintsAtOnce : {T O : Type 0} → Command → Result T Fault → StorageState → StorageState → O → O → Type 0
 PrintsAtOnce command answer old new before after =
     IsTrue (is_silent_on_faults command) → PrintsLast answer old new before after
-
--- the load of an image's header, by who writes to the image or only reads it, ended in this answer
-pub record Loads (writable : Bool) (answer : Result HeaderRecord Fault) (old new : StorageState) : Type 0 where
-  pub exact : OnImage old (λ bytes. Answers (λ header. header) answer (opened writable (header_of bytes)))
-  pub storage : Opens writable answer old new
 
 -- a command that works with the image's header ended in this answer: the header is loaded first, whose fault is answered
 -- before anything is printed, and then the command runs over the image that the load left

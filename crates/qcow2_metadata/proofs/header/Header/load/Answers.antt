@@ -1,4 +1,4 @@
-use Rattle.std.proofs.Common.{◌≡◌, Bool, Err, Ok, ap, ◌∙◌, rules, true, false}
+use Rattle.std.proofs.Common.{◌≡◌, Err, Ok, refl, rules, true, false}
 use Rattle.std.proofs.lemmas.Result.{err_from_is_err_and}
 use Rattle.qcow2_metadata.specs.Header.Open.{opened}
 use Rattle.qcow2_metadata.proofs.GrammarLemmas.{header_of-is}
@@ -6,44 +6,43 @@ use Rattle.qcow2_metadata.proofs.LoadLemmas.{follows-grammar}
 use Rattle.qcow2_metadata.proofs.OpenLemmas.{answers-first, opened-faults, opened-same, opened-same_fault}
 use Rattle.qcow2_metadata.proofs.header.Header.load.Goals as goal
 
-pub returns-in_err-header-clause-grammar : goal.returns-in_err-header-clause-grammar
-returns-in_err-header-clause-grammar g c read_only told =
+pub returns-in_err-header : goal.returns-in_err-header
+returns-in_err-header g c =
     let image = (g.S.Storage.state c.args.image.now).byte_at in
     let exit = err_from_is_err_and c.from_residual.result c.from_residual.ensures.1 in
-    rw (exit.1, exit.2) (follows-grammar (Err c.in_err-header.field-0.0) image (c.in_err-header.ensures.exact told))
+    let read = c.in_err-header.ensures in
+    let fault = c.in_err-header.field-0.0 in
+    rw (exit.1, exit.2) (record {
+      exact = λ told. opened-same_fault c.args.writable image image fault (λ o below. refl) (read.exact told);
+      grammar = λ read_only told. follows-grammar (Err fault) image (read.exact told);
+      first_cluster = λ told other same. opened-same_fault c.args.writable image other fault same (read.exact told);
+      faults = search rules;
+      storage = search rules;
+    })
 
-pub returns-in_err-header-clause-first_cluster : goal.returns-in_err-header-clause-first_cluster
-returns-in_err-header-clause-first_cluster g c told other same =
-    let image = (g.S.Storage.state c.args.image.now).byte_at in
-    let exit = err_from_is_err_and c.from_residual.result c.from_residual.ensures.1 in
-    rw (exit.1, exit.2)
-    (opened-same_fault c.args.writable image other c.in_err-header.field-0.0 same (c.in_err-header.ensures.exact told))
-
-pub returns-then-not-writable-clause-grammar : goal.returns-then-not-writable-clause-grammar
-returns-then-not-writable-clause-grammar g c read_only told =
-    header_of-is (g.S.Storage.state c.args.image.now).byte_at c.in_ok-header.header (c.in_ok-header.ensures.exact told)
-
-pub returns-then-not-writable-clause-first_cluster :
-    goal.returns-then-not-writable-clause-first_cluster
-returns-then-not-writable-clause-first_cluster g c told other same =
+pub returns-then-not-writable : goal.returns-then-not-writable
+returns-then-not-writable g c =
     let image = (g.S.Storage.state c.args.image.now).byte_at in
     let header = c.in_ok-header.header in
     let read_only : c.args.writable ≡ false = search rules in
-    opened-same c.args.writable image other header same (c.in_ok-header.ensures.exact told)
-    ∙ ap (λ (b : Bool). opened b (Ok header)) read_only
+    rw read_only (record {
+      exact = λ told. search rules;
+      grammar = λ _ told. header_of-is image header (c.in_ok-header.ensures.exact told);
+      first_cluster = λ told other same. opened-same false image other header same (c.in_ok-header.ensures.exact told);
+      faults = tt;
+      storage = search rules;
+    })
 
-pub returns-clause-first_cluster : goal.returns-clause-first_cluster
-returns-clause-first_cluster g c told other same =
+pub returns : goal.returns
+returns g c =
     let image = (g.S.Storage.state c.args.image.now).byte_at in
     let header = c.in_ok-header.header in
     let to_write : c.args.writable ≡ true = search rules in
-    let is = opened-same c.args.writable image other header same (c.in_ok-header.ensures.exact told)
-    ∙ ap (λ (b : Bool). opened b (Ok header)) to_write in
-    rw is (answers-first c.prepared.result (opened true (Ok header)) c.prepared.ensures.exact)
-
-pub returns-clause-faults : goal.returns-clause-faults
-returns-clause-faults g c =
-    let to_write : c.args.writable ≡ true = search rules in
-    let header = c.in_ok-header.header in
-    opened-faults c.prepared.result header c.args.writable to_write c.in_ok-header.ensures.short
-    (answers-first c.prepared.result (opened true (Ok header)) c.prepared.ensures.exact)
+    let prepared = answers-first c.prepared.result (opened true (Ok header)) c.prepared.ensures.exact in
+    rw to_write (record {
+      exact = λ told. search rules;
+      grammar = λ read_only told. cc;
+      first_cluster = λ told other same. rw (opened-same true image other header same (c.in_ok-header.ensures.exact told)) prepared;
+      faults = opened-faults c.prepared.result header true refl c.in_ok-header.ensures.short prepared;
+      storage = search rules;
+    })

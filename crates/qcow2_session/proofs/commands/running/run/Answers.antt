@@ -11,13 +11,13 @@ returns-in_err-header-clause-runs g c =
     let exit = err_from_is_err_and c.from_residual.result c.from_residual.ensures.1 in
     let load = rw c.changes_image.ensures at c.in_err-header.ensures in
     other-runs _ _ _ _ _ _ c.in_default.not-ListTable
-    (Err c.in_err-header.field-0.0, g.S.Storage.state c.load.new.image, record { exact = load.exact; storage = load.storage }, (rw (exit.1, exit.2) refl, refl, refl))
+    (Err c.in_err-header.field-0.0, g.S.Storage.state c.load.new.image, load, (rw (exit.1, exit.2) refl, refl, refl))
 
 pub returns-clause-runs : goal.returns-clause-runs
 returns-clause-runs g c =
     let load = rw c.changes_image.ensures at c.in_ok-header.ensures in
     other-runs _ _ _ _ _ _ c.in_default.not-ListTable
-    (Ok c.in_ok-header.header, g.S.Storage.state c.load.new.image, record { exact = load.exact; storage = load.storage }, c.run_with_header.ensures.runs)
+    (Ok c.in_ok-header.header, g.S.Storage.state c.load.new.image, load, c.run_with_header.ensures.runs)
 
 pub returns-clause-at_once : goal.returns-clause-at_once
 returns-clause-at_once g c = λ silent.
