@@ -1,11 +1,11 @@
 //! Loading a header: the first cluster of an image, looked at where the header says, in its order.
 
-ghost use Rattle.std.specs.Prelude.{◌≡◌, ◌⊎◌, ◌+◌, ◌^◌, ◌≤◌, IfErr, IfOk, Ok, false, length, string_bytes, true};
-ghost use Rattle.qcow2_base.specs.Storage.{Image, OnImage, OnlyReads};
+ghost use Rattle.std.specs.Prelude.{◌≡◌, ◌⊎◌, ◌+◌, ◌^◌, ◌≤◌, IfErr, IfOk, Ok, length, string_bytes, true};
+ghost use Rattle.qcow2_base.specs.Storage.{OnImage, OnlyReads};
 ghost use Rattle.qcow2_metadata.specs.Results.{Answers, result_map};
 ghost use Rattle.qcow2_metadata.specs.Header.Open.{Loads};
 ghost use Rattle.qcow2_metadata.specs.Header.Extensions.{text};
-ghost use Rattle.qcow2_metadata.specs.Header.Grammar.{AreLawfulParts, FollowsGrammar, IsHeaderFault, SameFirstCluster, fixed_parts, header_of};
+ghost use Rattle.qcow2_metadata.specs.Header.Grammar.{AreLawfulParts, IsHeaderFault, fixed_parts, header_of};
 ghost use Rattle.qcow2_metadata.specs.Header.Text.{is_short};
 ghost use Rattle.qcow2_metadata.specs.Range.{bytes_at};
 ghost use Rattle.qcow2_metadata.specs.ReadAhead.{ReadsThrough};
