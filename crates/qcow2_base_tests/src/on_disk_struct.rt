@@ -66,19 +66,17 @@ fn stands<T: OnDiskStruct + Copy + Debug + PartialEq>(
     same(load(call, bytes), Ok(value), row)
 }
 
-/// That each call refuses to store the value into a buffer that is `len` long, leaves it, and
-/// refuses to load from it.
+/// That each call refuses to store the value into a buffer that is `len` long, and to load from it.
 fn refuse<T: OnDiskStruct + Copy + Debug + PartialEq>(value: T, len: usize) -> Result<(), Fail>
     requires { len ≤ 80 }
 {
     for call in [Call::LittleEndian, Call::BigEndian, Call::Native] {
-        let row = (call, value, len);
         let mut buffer = [0xff; 80];
         let bytes = &mut buffer[..len];
-        same(store(call, &value, bytes), Err(Fault::WrongLength), row)?;
-        same_bytes(bytes, &[0xff; 80][..len], row)?;
+        let stored = store(call, &value, bytes);
         let loaded: Result<T, Fault> = load(call, bytes);
-        same(loaded, Err(Fault::WrongLength), row)?;
+        same(stored, Err(Fault::WrongLength), call)?;
+        same(loaded, Err(Fault::WrongLength), call)?;
     }
     Ok(())
 }

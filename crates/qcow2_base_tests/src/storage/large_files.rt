@@ -20,13 +20,14 @@ fn image(alloc: Global, len: usize, start: usize, end: usize) -> Result<Vec<u8>,
     Ok(bytes)
 }
 
-// That a write of other bytes to this file of old ones leaves no other byte changed.
+// That a write of other bytes to this file of old ones leaves no other byte changed, and is read.
 fn is_written(rt: &HostRuntime, path: &str, start: usize, end: usize) -> Result<(), Fail> {
     let new = image(rt.alloc(), 3 * MIB, start, end)?;
-    let mut storage = opened(rt, path, true)?;
     let range = new.get(start..end).unwrap_or(&[]);
+    let mut storage = opened(rt, path, true)?;
     put_bytes(&mut storage, start as u64, range)?;
-    file_holds(rt, path, &new)
+    file_holds(rt, path, &new)?;
+    reads(rt.alloc(), &mut storage, start as u64, range)
 }
 
 #[test]
@@ -37,22 +38,4 @@ fn a_large_write_replaces_its_range_and_no_other_byte(rt: HostRuntime) -> Result
         is_written(&rt, file.path.as_str(), start, end)?;
     }
     Ok(())
-}
-
-// The second read ends past the file.
-fn is_read(rt: &HostRuntime, path: &str, padded: &[u8]) -> Result<(), Fail> {
-    let mut storage = opened(rt, path, true)?;
-    let ranges = (padded.get(1000..66537), padded.get(500..5 * MIB + 500));
-    reads(rt.alloc(), &mut storage, 1000, ranges.0.unwrap_or(&[]))?;
-    reads(rt.alloc(), &mut storage, 500, ranges.1.unwrap_or(&[]))
-}
-
-#[test]
-fn a_large_read_gives_its_range_and_changes_no_byte(rt: HostRuntime) -> Result<(), Fail> {
-    let bytes = image(rt.alloc(), 5 * MIB, 0, 0)?;
-    let mut padded = Vec::from_slice(rt.alloc(), &bytes)?;
-    padded.resize(6 * MIB, 0)?;
-    let file = temporary_file(&rt, "large-read", &bytes)?;
-    is_read(&rt, file.path.as_str(), &padded)?;
-    file_holds(&rt, file.path.as_str(), &bytes)
 }
