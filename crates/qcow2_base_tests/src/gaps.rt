@@ -8,11 +8,11 @@ use qcow2_base::{Fault, OnDiskStruct, read_be, write_be};
 
 /// Four bytes between the fields belong to none.
 #[derive(Clone, Copy, Debug, PartialEq, Eq)]
-pub(crate) struct TestGaps {
+pub struct TestGaps {
     /// Bytes 0 to 3.
-    pub(crate) first: u32,
+    pub first: u32,
     /// Bytes 8 and 9.
-    pub(crate) second: u16,
+    pub second: u16,
 }
 
 impl OnDiskStruct for TestGaps {

@@ -3,7 +3,6 @@
 
 #[cfg(test)]
 mod fault;
-#[cfg(test)]
 mod gaps;
 #[cfg(test)]
 mod on_disk_struct;
@@ -11,3 +10,5 @@ mod on_disk_struct;
 mod storage;
 #[cfg(test)]
 mod types;
+
+pub use gaps::TestGaps;

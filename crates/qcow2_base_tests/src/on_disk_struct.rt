@@ -13,6 +13,202 @@ use qcow2_testing::{same, same_bytes};
 use std::fmt::Debug;
 use std::test::Fail;
 
+/// Fields one after the other, of three lengths.
+#[derive(Clone, Copy, Debug, PartialEq, Eq)]
+struct TestBE {
+    a: u32,
+    b: u64,
+    c: u16,
+}
+
+impl OnDiskStruct for TestBE {
+    const ON_DISK_SIZE: usize = 14;
+
+    ghost ON_DISK_SIZE = { 14 };
+
+    ghost exact = { false };
+
+    ghost layout = { λ _ value. big 0 4 value.a ∷ big 4 8 value.b ∷ big 12 2 value.c ∷ [] };
+
+    fn load_from_le(bytes: &[u8]) -> Result<TestBE, Fault> {
+        Self::load_from_be(bytes)
+    }
+
+    fn load_from_be(bytes: &[u8]) -> Result<TestBE, Fault> {
+        if bytes.len() < Self::ON_DISK_SIZE {
+            return Err(Fault::WrongLength);
+        }
+        Ok(TestBE {
+            a: read_be(bytes, 0),
+            b: read_be(bytes, 4),
+            c: read_be(bytes, 12),
+        })
+    }
+
+    fn store_to_le(&self, bytes: &mut [u8]) -> Result<(), Fault> {
+        self.store_to_be(bytes)
+    }
+
+    fn store_to_be(&self, bytes: &mut [u8]) -> Result<(), Fault> {
+        if bytes.len() < Self::ON_DISK_SIZE {
+            return Err(Fault::WrongLength);
+        }
+        write_be(bytes, 0, &self.a);
+        write_be(bytes, 4, &self.b);
+        write_be(bytes, 12, &self.c);
+        Ok(())
+    }
+
+    ghost size_is_end = { λ order value. refl };
+
+    ghost loads_back = { λ order image a b held_a held_b. Prim.search rules };
+}
+
+/// A structure in little-endian order.
+#[derive(Clone, Copy, Debug, PartialEq, Eq)]
+struct TestLE {
+    x: u32,
+    y: u32,
+}
+
+impl OnDiskStruct for TestLE {
+    const ON_DISK_SIZE: usize = 8;
+
+    ghost ON_DISK_SIZE = { 8 };
+
+    ghost exact = { false };
+
+    ghost layout = { λ _ value. little 0 4 value.x ∷ little 4 4 value.y ∷ [] };
+
+    fn load_from_le(bytes: &[u8]) -> Result<TestLE, Fault> {
+        if bytes.len() < Self::ON_DISK_SIZE {
+            return Err(Fault::WrongLength);
+        }
+        Ok(TestLE {
+            x: read_le(bytes, 0),
+            y: read_le(bytes, 4),
+        })
+    }
+
+    fn load_from_be(bytes: &[u8]) -> Result<TestLE, Fault> {
+        Self::load_from_le(bytes)
+    }
+
+    fn store_to_le(&self, bytes: &mut [u8]) -> Result<(), Fault> {
+        if bytes.len() < Self::ON_DISK_SIZE {
+            return Err(Fault::WrongLength);
+        }
+        write_le(bytes, 0, &self.x);
+        write_le(bytes, 4, &self.y);
+        Ok(())
+    }
+
+    fn store_to_be(&self, bytes: &mut [u8]) -> Result<(), Fault> {
+        self.store_to_le(bytes)
+    }
+
+    ghost size_is_end = { λ order value. refl };
+
+    ghost loads_back = { λ order image a b held_a held_b. Prim.search rules };
+}
+
+/// Fields of two lengths.
+#[derive(Clone, Copy, Debug, PartialEq, Eq)]
+struct TestAtomics {
+    plain: u32,
+    atomic32: u32,
+    atomic64: u64,
+}
+
+impl OnDiskStruct for TestAtomics {
+    const ON_DISK_SIZE: usize = 16;
+
+    ghost ON_DISK_SIZE = { 16 };
+
+    ghost exact = { false };
+
+    ghost layout = { λ _ value.
+        big 0 4 value.plain ∷ big 4 4 value.atomic32 ∷ big 8 8 value.atomic64 ∷ [] };
+
+    fn load_from_le(bytes: &[u8]) -> Result<TestAtomics, Fault> {
+        Self::load_from_be(bytes)
+    }
+
+    fn load_from_be(bytes: &[u8]) -> Result<TestAtomics, Fault> {
+        if bytes.len() < Self::ON_DISK_SIZE {
+            return Err(Fault::WrongLength);
+        }
+        Ok(TestAtomics {
+            plain: read_be(bytes, 0),
+            atomic32: read_be(bytes, 4),
+            atomic64: read_be(bytes, 8),
+        })
+    }
+
+    fn store_to_le(&self, bytes: &mut [u8]) -> Result<(), Fault> {
+        self.store_to_be(bytes)
+    }
+
+    fn store_to_be(&self, bytes: &mut [u8]) -> Result<(), Fault> {
+        if bytes.len() < Self::ON_DISK_SIZE {
+            return Err(Fault::WrongLength);
+        }
+        write_be(bytes, 0, &self.plain);
+        write_be(bytes, 4, &self.atomic32);
+        write_be(bytes, 8, &self.atomic64);
+        Ok(())
+    }
+
+    ghost size_is_end = { λ order value. refl };
+
+    ghost loads_back = { λ order image a b held_a held_b. Prim.search rules };
+}
+
+/// One field.
+#[derive(Clone, Copy, Debug, PartialEq, Eq)]
+struct TestSingle {
+    only: u64,
+}
+
+impl OnDiskStruct for TestSingle {
+    const ON_DISK_SIZE: usize = 8;
+
+    ghost ON_DISK_SIZE = { 8 };
+
+    ghost exact = { false };
+
+    ghost layout = { λ _ value. big 0 8 value.only ∷ [] };
+
+    fn load_from_le(bytes: &[u8]) -> Result<TestSingle, Fault> {
+        Self::load_from_be(bytes)
+    }
+
+    fn load_from_be(bytes: &[u8]) -> Result<TestSingle, Fault> {
+        if bytes.len() < Self::ON_DISK_SIZE {
+            return Err(Fault::WrongLength);
+        }
+        Ok(TestSingle {
+            only: read_be(bytes, 0),
+        })
+    }
+
+    fn store_to_le(&self, bytes: &mut [u8]) -> Result<(), Fault> {
+        self.store_to_be(bytes)
+    }
+
+    fn store_to_be(&self, bytes: &mut [u8]) -> Result<(), Fault> {
+        if bytes.len() < Self::ON_DISK_SIZE {
+            return Err(Fault::WrongLength);
+        }
+        write_be(bytes, 0, &self.only);
+        Ok(())
+    }
+
+    ghost size_is_end = { λ order value. refl };
+
+    ghost loads_back = { λ order image a b held_a held_b. Prim.search rules };
+}
+
 /// The three orders in which a value can be asked for.
 #[derive(Clone, Copy, Debug)]
 enum Call {
@@ -66,17 +262,19 @@ fn stands<T: OnDiskStruct + Copy + Debug + PartialEq>(
     same(load(call, bytes), Ok(value), row)
 }
 
-/// That each call refuses to store the value into a buffer that is `len` long, and to load from it.
+/// That each call refuses to store the value into a buffer that is `len` long, leaves it, and
+/// refuses to load from it.
 fn refuse<T: OnDiskStruct + Copy + Debug + PartialEq>(value: T, len: usize) -> Result<(), Fail>
     requires { len ≤ 80 }
 {
     for call in [Call::LittleEndian, Call::BigEndian, Call::Native] {
+        let row = (call, value, len);
         let mut buffer = [0xff; 80];
         let bytes = &mut buffer[..len];
-        let stored = store(call, &value, bytes);
+        same(store(call, &value, bytes), Err(Fault::WrongLength), row)?;
+        same_bytes(bytes, &[0xff; 80][..len], row)?;
         let loaded: Result<T, Fault> = load(call, bytes);
-        same(stored, Err(Fault::WrongLength), call)?;
-        same(loaded, Err(Fault::WrongLength), call)?;
+        same(loaded, Err(Fault::WrongLength), row)?;
     }
     Ok(())
 }
@@ -109,7 +307,10 @@ fn integers_stand_in_the_order_asked_for_and_need_just_their_bytes() -> Result<(
     let little = [8, 7, 6, 5, 4, 3, 2, 1];
     let big = [1, 2, 3, 4, 5, 6, 7, 8];
     each_call(0x0102_0304_0506_0708u64, &little, &big, 0)?;
-    refuse(42u32, 5)
+    refuse(0x0102u16, 3)?;
+    refuse(42u32, 3)?;
+    refuse(42u32, 5)?;
+    refuse(0x0102_0304_0506_0708u64, 9)
 }
 
 /// That the calls store the structure as these bytes, and leave three that follow.
@@ -137,6 +338,41 @@ fn the_fields_of_a_small_structure_stand_at_their_places() -> Result<(), Fail> {
         length: 5,
     };
     structure(value, &[0xe2, 0x79, 0x2a, 0xca, 0, 0, 0, 5])
+}
+
+#[test]
+fn a_structure_stands_in_its_own_order_whatever_is_asked_for() -> Result<(), Fail> {
+    let value = TestBE {
+        a: 0x0102_0304,
+        b: 0x1112_1314_1516_1718,
+        c: 0x2122,
+    };
+    let expected = [
+        1, 2, 3, 4, 0x11, 0x12, 0x13, 0x14, 0x15, 0x16, 0x17, 0x18, 0x21, 0x22,
+    ];
+    structure(value, &expected)?;
+    let value = TestLE {
+        x: 0x0102_0304,
+        y: 0x1112_1314,
+    };
+    structure(value, &[4, 3, 2, 1, 0x14, 0x13, 0x12, 0x11])
+}
+
+#[test]
+fn a_structure_of_one_length_or_of_one_field_stands_at_its_places() -> Result<(), Fail> {
+    let value = TestAtomics {
+        plain: 0x0102_0304,
+        atomic32: 0x1112_1314,
+        atomic64: 0x2122_2324_2526_2728,
+    };
+    let expected = [
+        1, 2, 3, 4, 0x11, 0x12, 0x13, 0x14, 0x21, 0x22, 0x23, 0x24, 0x25, 0x26, 0x27, 0x28,
+    ];
+    structure(value, &expected)?;
+    let value = TestSingle {
+        only: 0x0102_0304_0506_0708,
+    };
+    structure(value, &[1, 2, 3, 4, 5, 6, 7, 8])
 }
 
 const DEFAULT_BASE: [u8; 32] = [

@@ -1,13 +1,14 @@
 //! Storages in memory, and what the tests of all storages share.
 
-ghost use Rattle.std.specs.Prelude.{◌^◌, ◌<◌};
+ghost use Rattle.std.specs.Prelude.{◌+◌, ◌^◌, ◌<◌, ◌≤◌, length};
 
 mod files;
 mod large_files;
 
 use qcow2_base::{MemStorage, Storage, StorageFault};
-use qcow2_testing::{FailingStorage, StorageCall, put_bytes, same, same_bytes};
+use qcow2_testing::{FailingStorage, StorageCall, holds, printed, same, same_bytes};
 use std::alloc::Global;
+use std::fmt::Debug;
 use std::test::Fail;
 
 // The greatest end that a read or a write may have.
@@ -18,10 +19,20 @@ fn memory(alloc: Global, bytes: &[u8]) -> Result<MemStorage, Fail> {
 }
 
 // The same image with both alignments 2^exponent.
-fn aligned(storage: MemStorage, exponent: u32) -> MemStorage
+pub(crate) fn aligned(storage: MemStorage, exponent: u32) -> MemStorage
     requires { exponent < 64 }
 {
     storage.with_align(1 << exponent)
+}
+
+// That so many calls have failed, which no call tells, but `Debug` writes.
+pub(crate) fn has_failed<S: Debug>(alloc: Global, storage: &S, failures: u32) -> Result<(), Fail> {
+    let shown = printed(alloc, storage)?;
+    let count = format!(in alloc; "failures: {failures} ")?;
+    holds(
+        shown.as_str().contains(count.as_str()),
+        (count.as_str(), shown.as_str()),
+    )
 }
 
 // That a read gives these bytes, and that one into an empty buffer does not fail.
@@ -30,103 +41,154 @@ pub(crate) fn reads<S: Storage>(
     storage: &mut S,
     offset: u64,
     bytes: &[u8],
-) -> Result<(), Fail> {
+) -> Result<(), Fail>
+    requires { offset + length bytes.now ≤ 2 ^ 56 }
+{
     let mut found = vec![in alloc; 0xa5; bytes.len()]?;
-    if offset > LIMIT || bytes.len() as u64 > LIMIT - offset {
-        return Err(Fail::new("past the limit"));
-    }
     storage.read(found.as_mut_slice(), offset)?;
     storage.read(&mut [], offset)?;
     same_bytes(&found, bytes, offset)
 }
 
-// That a storage of the bytes 1 to 5 reads as these.
-pub(crate) fn is_read<S: Storage>(alloc: Global, storage: &mut S) -> Result<(), Fail> {
-    let alignments = (storage.mem_align(), storage.req_align());
-    same(alignments, (1, 1), "alignments")?;
-    reads(alloc, storage, 2, &[3, 4, 5, 0])?;
-    reads(alloc, storage, LIMIT - 4, &[0, 0, 0, 0])?;
-    reads(alloc, storage, 0, &[1, 2, 3, 4])
+// That a read of four bytes fails, the so manyth call that does.
+pub(crate) fn read_fails<S: Storage + Debug>(
+    alloc: Global,
+    storage: &mut S,
+    offset: u64,
+    failures: u32,
+) -> Result<(), Fail>
+    requires { offset + 4 ≤ 2 ^ 56 }
+{
+    same(
+        storage.read(&mut [0; 4], offset),
+        Err(StorageFault),
+        (offset, failures),
+    )?;
+    has_failed(alloc, storage, failures)
 }
 
-// That a write of four bytes fails, and one of none does not.
-pub(crate) fn write_fails<S: Storage>(storage: &mut S, offset: u64) -> Result<(), Fail> {
-    if offset > LIMIT - 4 {
-        return Err(Fail::new("past the limit"));
-    }
-    let failed = storage.write(&[9; 4], offset);
-    same(failed, Err(StorageFault), offset)?;
-    storage.write(&[], LIMIT)?;
-    Ok(())
+// That a write of four bytes fails, the so manyth call that does.
+pub(crate) fn write_fails<S: Storage + Debug>(
+    alloc: Global,
+    storage: &mut S,
+    offset: u64,
+    failures: u32,
+) -> Result<(), Fail>
+    requires { offset + 4 ≤ 2 ^ 56 }
+{
+    same(
+        storage.write(&[9; 4], offset),
+        Err(StorageFault),
+        (offset, failures),
+    )?;
+    has_failed(alloc, storage, failures)
 }
+
+// An offset, and the four bytes that are read there.
+const READS: &[(u64, [u8; 4])] = &[
+    (0, [1, 2, 3, 4]),
+    (2, [3, 4, 5, 0]),
+    (1, [2, 3, 4, 5]),
+    (4, [5, 0, 0, 0]),
+    (5, [0, 0, 0, 0]),
+    (900, [0, 0, 0, 0]),
+    (LIMIT - 4, [0, 0, 0, 0]),
+];
 
 #[test]
 fn a_read_gives_the_bytes_and_zeros_past_the_end(rt: HostRuntime) -> Result<(), Fail> {
     let mut storage = memory(rt.alloc(), &[1, 2, 3, 4, 5])?;
-    is_read(rt.alloc(), &mut storage)?;
-    same_bytes(storage.bytes(), &[1, 2, 3, 4, 5], "after all reads")
+    same((storage.mem_align(), storage.req_align()), (1, 1), "new")?;
+    for row in READS {
+        let (offset, want) = *row;
+        assert!(rt; offset <= LIMIT - 4);
+        reads(rt.alloc(), &mut storage, offset, &want)?;
+    }
+    same(
+        storage.bytes(),
+        [1, 2, 3, 4, 5].as_slice(),
+        "after all reads",
+    )
 }
 
 // An offset, and the bytes after a write of 7 and 8 there.
-pub(crate) const WRITES: &[(u64, &'static [u8])] = &[
+const WRITES: &[(u64, &'static [u8])] = &[
+    (0, &[7, 8, 3]),
     (1, &[1, 7, 8]),
     (2, &[1, 2, 7, 8]),
-    (6, &[1, 2, 3, 0, 0, 0, 7, 8]),
+    (3, &[1, 2, 3, 7, 8]),
+    (4, &[1, 2, 3, 0, 7, 8]),
+    (7, &[1, 2, 3, 0, 0, 0, 0, 7, 8]),
 ];
-
-fn is_written(alloc: Global, offset: u64, expected: &[u8]) -> Result<(), Fail> {
-    let mut storage = memory(alloc, &[1, 2, 3])?;
-    put_bytes(&mut storage, offset, &[7, 8])?;
-    same_bytes(storage.bytes(), expected, offset)?;
-    reads(alloc, &mut storage, offset, &[7, 8])
-}
 
 #[test]
 fn a_write_replaces_its_range_and_lengthens_with_zeros(rt: HostRuntime) -> Result<(), Fail> {
-    for (offset, expected) in WRITES {
-        is_written(rt.alloc(), *offset, expected)?;
+    for row in WRITES {
+        let (offset, want) = *row;
+        assert!(rt; offset <= LIMIT - 2);
+        let mut storage = memory(rt.alloc(), &[1, 2, 3])?;
+        storage.write(&[7, 8], offset)?;
+        same(storage.bytes(), want, offset)?;
+        reads(rt.alloc(), &mut storage, offset, &[7, 8])?;
     }
     Ok(())
 }
 
 // No memory has room for an image that ends at 2^56.
 #[test]
-fn a_refused_growth_changes_nothing(rt: HostRuntime) -> Result<(), Fail> {
+fn a_refused_growth_is_counted_and_changes_nothing(rt: HostRuntime) -> Result<(), Fail> {
     let mut storage = memory(rt.alloc(), &[1, 2, 3])?;
-    write_fails(&mut storage, LIMIT - 4)?;
-    same_bytes(storage.bytes(), &[1, 2, 3], "refused")?;
-    put_bytes(&mut storage, 1, &[7, 8])?;
-    same_bytes(storage.bytes(), &[1, 7, 8], "written")
+    for failures in 1..4u32 {
+        same(
+            storage.write(&[7, 8], LIMIT - 2),
+            Err(StorageFault),
+            failures,
+        )?;
+        same(storage.bytes(), [1, 2, 3].as_slice(), failures)?;
+        has_failed(rt.alloc(), &storage, failures)?;
+    }
+    storage.write(&[], LIMIT)?;
+    storage.write(&[7, 8], 1)?;
+    same(storage.bytes(), [1, 7, 8].as_slice(), "written")?;
+    has_failed(rt.alloc(), &storage, 3)
 }
 
 #[test]
 fn a_failing_storage_records_each_call(rt: HostRuntime) -> Result<(), Fail> {
     let inner = aligned(memory(rt.alloc(), &[1, 2, 3])?, 9);
     let mut storage = FailingStorage::new(rt.alloc(), inner);
-    let alignments = (storage.mem_align(), storage.req_align());
-    same(alignments, (512, 512), "alignments")?;
-    storage.fail_after(1);
-    let mut bytes = [0; 2];
-    storage.read(&mut bytes, 1)?;
-    same(bytes, [2, 3], "read")?;
-    let planned = storage.write(&[4, 5, 6], 7);
-    same(planned, Err(StorageFault), "planned")?;
-    let refused = storage.write(&[9], LIMIT - 1);
-    same(refused, Err(StorageFault), "passed on and refused there")?;
+    same(
+        (storage.mem_align(), storage.req_align()),
+        (512, 512),
+        "alignments",
+    )?;
+    let mut buf = [0; 2];
+    storage.read(&mut buf, 1)?;
+    same(buf, [2, 3], "read")?;
+    storage.fail_after(0);
+    same(
+        storage.write(&[4, 5, 6], 7),
+        Err(StorageFault),
+        "the next call",
+    )?;
     let calls = [
         StorageCall::Read { offset: 1, len: 2 },
         StorageCall::Write { offset: 7, len: 3 },
-        StorageCall::Write {
-            offset: LIMIT - 1,
-            len: 1,
-        },
     ];
-    same(storage.calls(), &calls, "calls")?;
+    same(storage.calls(), calls.as_slice(), "calls")?;
     storage.forget_calls();
+    storage.fail_after(1);
     same(
-        (storage.calls().len(), storage.failures()),
-        (0, 2),
-        "failures",
+        storage.write(&[9], LIMIT - 1),
+        Err(StorageFault),
+        "passed on and refused there",
     )?;
-    same_bytes(storage.inner().bytes(), &[1, 2, 3], "bytes")
+    same(storage.read(&mut buf, 0), Err(StorageFault), "planned")?;
+    storage.read(&mut buf, 0)?;
+    let found = (
+        storage.calls().len(),
+        storage.failures(),
+        storage.inner().bytes(),
+    );
+    same(found, (3, 3, &[1, 2, 3]), "calls, failures and bytes")
 }

@@ -1,83 +1,187 @@
 //! Conversions, operators and texts of offsets, clusters and counts.
 
+ghost use Rattle.std.specs.Prelude.{◌↔◌, IsTrue};
+ghost use Rattle.qcow2_base.specs.Types.{IsRefblockBits};
+
 use qcow2_base::{ClusterCount, GuestCluster, GuestOffset, HostCluster, HostOffset};
-use qcow2_testing::{same, same_text};
+use qcow2_testing::{fits, is_cluster_bits, same, same_text};
 use std::test::Fail;
 
 /// The largest offset of all.
 const LAST: u64 = u64::MAX;
 
+// An offset and the cluster bits, and then the bytes before it in its cluster and its cluster, its places in
+// the L1 and the L2 table, and the bytes from it on in its cluster and in the clusters of its L2 table.
+const OFFSETS: &[(u64, u32, (u64, u64), (usize, usize), (u64, u64))] = &[
+    (0, 21, (0, 0), (0, 0), (2097152, 549755813888)),
+    (1543, 9, (7, 3), (0, 3), (505, 31225)),
+    (0x20000000, 16, (0, 8192), (1, 0), (65536, 536870912)),
+    (
+        LAST,
+        9,
+        (511, 36028797018963967),
+        (562949953421311, 63),
+        (1, 1),
+    ),
+    (
+        LAST,
+        21,
+        (2097151, 8796093022207),
+        (33554431, 262143),
+        (1, 1),
+    ),
+];
+
 #[test]
-fn an_offset_has_its_place_in_a_cluster_and_in_the_tables() -> Result<(), Fail> {
-    let (guest, host, last) = (GuestOffset(1543), HostOffset(1543), GuestOffset(LAST));
-    let found = (guest.in_cluster_offset(9), guest.cluster(9));
-    same(found, (7, GuestCluster(3)), "guest")?;
-    let found = (host.in_cluster_offset(9), host.cluster(9));
-    same(found, (7, HostCluster(3)), "host")?;
-    let found = (last.l1_index(21), last.l2_index(21));
-    same(found, (33554431, 262143), "tables")?;
-    let found = (
-        guest.remaining_in_cluster(9),
-        guest.remaining_in_l2_table(9),
-    );
-    same(found, (505, 31225), "left")
+fn an_offset_has_its_place_in_a_cluster_and_in_the_tables(rt: HostRuntime) -> Result<(), Fail> {
+    for row in OFFSETS {
+        let (offset, bits, place, indices, left) = *row;
+        assert!(rt; is_cluster_bits(bits));
+        let guest = GuestOffset(offset);
+        let host = HostOffset(offset);
+        let found = (guest.in_cluster_offset(bits), guest.cluster(bits).0);
+        same(found, place, row)?;
+        let found = (host.in_cluster_offset(bits), host.cluster(bits).0);
+        same(found, place, row)?;
+        let found = (guest.l1_index(bits), guest.l2_index(bits));
+        same(found, indices, row)?;
+        let found = (
+            guest.remaining_in_cluster(bits),
+            guest.remaining_in_l2_table(bits),
+        );
+        same(found, left, row)?;
+    }
+    Ok(())
+}
+
+// An offset and the cluster bits, the cluster that starts there, and how many clusters it takes to there.
+const STARTS: &[(u64, u32, Option<u64>, u64)] = &[
+    (0, 9, Some(0), 0),
+    (513, 9, None, 2),
+    (1024, 9, Some(2), 2),
+    (1536, 9, Some(3), 3),
+    (1543, 9, None, 4),
+    (LAST - 2097151, 21, Some(8796093022207), 8796093022207),
+    (LAST, 9, None, 36028797018963968),
+];
+
+#[test]
+fn only_a_cluster_s_start_is_a_checked_cluster_or_count(rt: HostRuntime) -> Result<(), Fail> {
+    for row in STARTS {
+        let (offset, bits, cluster, count) = *row;
+        assert!(rt; is_cluster_bits(bits));
+        let guest = GuestOffset(offset).checked_cluster(bits);
+        let host = HostOffset(offset).checked_cluster(bits);
+        let whole = ClusterCount::checked_from_byte_size(offset, bits);
+        same(guest, cluster.map(GuestCluster), row)?;
+        same(host, cluster.map(HostCluster), row)?;
+        same(whole, cluster.map(ClusterCount), row)?;
+        same(
+            ClusterCount::from_byte_size(offset, bits),
+            ClusterCount(count),
+            row,
+        )?;
+    }
+    Ok(())
+}
+
+// A cluster and the cluster bits, its places in the L1 and the L2 table, and the next cluster.
+const CLUSTERS: &[(u64, u32, usize, usize, Option<u64>)] = &[
+    (0, 21, 0, 0, Some(1)),
+    (62, 9, 0, 62, Some(63)),
+    (63, 9, 0, 63, None),
+    (126, 9, 1, 62, Some(127)),
+    (127, 9, 1, 63, None),
+    (8192, 16, 1, 0, Some(8193)),
+    (LAST, 9, 288230376151711743, 63, None),
+    (LAST, 21, 70368744177663, 262143, None),
+];
+
+#[test]
+fn a_guest_cluster_and_its_places_tell_each_other(rt: HostRuntime) -> Result<(), Fail> {
+    for row in CLUSTERS {
+        let (number, bits, l1_index, l2_index, next) = *row;
+        assert!(rt; is_cluster_bits(bits));
+        assert!(rt; fits(l1_index as u64, l2_index as u64, bits - 3));
+        let cluster = GuestCluster(number);
+        let found = (cluster.l1_index(bits), cluster.l2_index(bits));
+        same(found, (l1_index, l2_index), row)?;
+        let found = GuestCluster::from_l1_l2_indices(l1_index, l2_index, bits);
+        same(found, cluster, row)?;
+        same(cluster.next_in_l2(bits), next.map(GuestCluster), row)?;
+    }
+    Ok(())
 }
 
 #[test]
-fn only_a_cluster_s_start_is_a_checked_cluster_or_count() -> Result<(), Fail> {
+fn the_next_l2_table_begins_at_a_multiple() -> Result<(), Fail> {
     let found = (
-        GuestOffset(1536).checked_cluster(9),
-        HostOffset(1536).checked_cluster(9),
-        ClusterCount::checked_from_byte_size(1536, 9),
+        GuestCluster(127).first_in_next_l2(9).0,
+        GuestCluster(LAST - 262144).first_in_next_l2(21).0,
     );
-    let expected = (
-        Some(GuestCluster(3)),
-        Some(HostCluster(3)),
-        Some(ClusterCount(3)),
-    );
-    same(found, expected, 1536)?;
-    let found = (
-        GuestOffset(1543).checked_cluster(9),
-        HostOffset(1543).checked_cluster(9),
-        ClusterCount::checked_from_byte_size(1543, 9),
-    );
-    same(found, (None, None, None), 1543)?;
-    let found = ClusterCount::from_byte_size(1543, 9);
-    same(found, ClusterCount(4), 1543)
+    same(found, (128, LAST - 262143), "64 and 262144 entries")
+}
+
+// A cluster, the number of bits of a place in a refcount block, and then the places in the
+// refcount table and in the block.
+const HOST_CLUSTERS: &[(u64, u32, usize, usize)] = &[
+    (0, 24, 0, 0),
+    (255, 8, 0, 255),
+    (256, 8, 1, 0),
+    (LAST, 6, 288230376151711743, 63),
+    (LAST, 24, 1099511627775, 16777215),
+];
+
+fn is_refblock_bits(bits: u32) -> bool
+    ensures { IsTrue result ↔ IsRefblockBits bits }
+{
+    6 <= bits && bits <= 24
 }
 
 #[test]
-fn a_guest_cluster_and_its_places_tell_each_other() -> Result<(), Fail> {
-    let cluster = GuestCluster(127);
-    let found = (cluster.l1_index(9), cluster.l2_index(9));
-    same(found, (1, 63), "places")?;
-    let found = GuestCluster::from_l1_l2_indices(1, 63, 9);
-    same(found, cluster, "cluster")?;
-    let found = (cluster.next_in_l2(9), GuestCluster(126).next_in_l2(9));
-    same(found, (None, Some(cluster)), "next")?;
-    same(cluster.first_in_next_l2(9), GuestCluster(128), "next table")
+fn a_host_cluster_and_its_places_tell_each_other(rt: HostRuntime) -> Result<(), Fail> {
+    for row in HOST_CLUSTERS {
+        let (number, bits, rt_index, rb_index) = *row;
+        assert!(rt; is_refblock_bits(bits));
+        assert!(rt; fits(rt_index as u64, rb_index as u64, bits));
+        let cluster = HostCluster(number);
+        let found = (cluster.rt_index(bits), cluster.rb_index(bits));
+        same(found, (rt_index, rb_index), row)?;
+        same(cluster.rt_rb_indices(bits), (rt_index, rb_index), row)?;
+        let found = HostCluster::from_ref_indices(rt_index, rb_index, bits);
+        same(found, cluster, row)?;
+    }
+    Ok(())
 }
 
-#[test]
-fn a_host_cluster_and_its_places_tell_each_other() -> Result<(), Fail> {
-    let (cluster, places) = (HostCluster(LAST), (288230376151711743, 63));
-    let found = (cluster.rt_index(6), cluster.rb_index(6));
-    same(found, places, "places")?;
-    same(cluster.rt_rb_indices(6), places, "both places")?;
-    let found = HostCluster::from_ref_indices(288230376151711743, 63, 6);
-    same(found, cluster, "cluster")
-}
+// A cluster and the cluster bits, its offset, a guest offset, and the byte of the cluster with its place.
+const BYTES: &[(u64, u32, u64, u64, u64)] = &[
+    (0, 21, 0, LAST, 2097151),
+    (5, 9, 2560, 1543, 2567),
+    (36028797018963967, 9, LAST - 511, LAST, LAST),
+    (8796093022207, 21, LAST - 2097151, 0, LAST - 2097151),
+];
 
 #[test]
-fn a_cluster_begins_at_its_offset_and_a_mapped_byte_keeps_its_place() -> Result<(), Fail> {
-    let found = (
-        GuestCluster(5).offset(9).0,
-        HostCluster(5).offset(9).0,
-        ClusterCount(5).byte_size(9),
-    );
-    same(found, (2560, 2560, 2560), "start")?;
-    let found = HostCluster(5).relative_offset(GuestOffset(1543), 9);
-    same(found, HostOffset(2567), "byte")
+fn a_cluster_begins_at_its_offset_and_a_mapped_byte_keeps_its_place(
+    rt: HostRuntime,
+) -> Result<(), Fail> {
+    for row in BYTES {
+        let (number, bits, start, guest, byte) = *row;
+        let guest = GuestOffset(guest);
+        assert!(rt; is_cluster_bits(bits));
+        assert!(rt; fits(number, 0, bits));
+        assert!(rt; fits(number, guest.in_cluster_offset(bits), bits));
+        let found = (
+            GuestCluster(number).offset(bits).0,
+            HostCluster(number).offset(bits).0,
+            ClusterCount(number).byte_size(bits),
+        );
+        same(found, (start, start, start), row)?;
+        let found = HostCluster(number).relative_offset(guest, bits);
+        same(found, HostOffset(byte), row)?;
+    }
+    Ok(())
 }
 
 #[test]
@@ -113,16 +217,41 @@ fn clusters_and_counts_move_in_place() -> Result<(), Fail> {
     moved.0 += ClusterCount(5);
     moved.1 += ClusterCount(5);
     moved.2 += ClusterCount(5);
+    let expected = (GuestCluster(8), HostCluster(8), ClusterCount(8));
+    same(moved, expected, "further on")?;
     moved.0 -= ClusterCount(7);
     moved.1 -= ClusterCount(7);
     moved.2 -= ClusterCount(7);
     let expected = (GuestCluster(1), HostCluster(1), ClusterCount(1));
-    same(moved, expected, "moved")
+    same(moved, expected, "before")
 }
+
+// A number, and its text in hexadecimal and in decimal.
+const TEXTS: &[(u64, &'static str, &'static str)] = &[
+    (0, "0x0", "0"),
+    (2567, "0xa07", "2567"),
+    (LAST, "0xffffffffffffffff", "18446744073709551615"),
+];
 
 #[test]
 fn offsets_print_in_hexadecimal_and_counts_in_decimal(rt: HostRuntime) -> Result<(), Fail> {
-    same_text(rt.alloc(), GuestOffset(2567), "0xa07")?;
-    same_text(rt.alloc(), HostOffset(LAST), "0xffffffffffffffff")?;
-    same_text(rt.alloc(), ClusterCount(2567), "2567")
+    for row in TEXTS {
+        let (number, hexadecimal, decimal) = *row;
+        same_text(rt.alloc(), GuestOffset(number), hexadecimal)?;
+        same_text(rt.alloc(), HostOffset(number), hexadecimal)?;
+        same_text(rt.alloc(), ClusterCount(number), decimal)?;
+    }
+    Ok(())
+}
+
+#[test]
+fn places_and_counts_are_ordered_by_number() -> Result<(), Fail> {
+    let found = (
+        GuestOffset(255) < GuestOffset(256),
+        HostOffset(255) < HostOffset(256),
+        GuestCluster(255) < GuestCluster(256),
+        HostCluster(255) < HostCluster(256),
+        ClusterCount(255) < ClusterCount(256),
+    );
+    same(found, (true, true, true, true, true), "255 and 256")
 }

@@ -17,18 +17,26 @@ const INCOMPATIBLE: Numbers<u64, IncompatibleFeatures> = &[
     (4, Ok(IncompatibleFeatures::ExternalDataFile)),
     (8, Ok(IncompatibleFeatures::CompressionType)),
     (16, Ok(IncompatibleFeatures::ExtendedL2Entries)),
+    (0, Err(UnknownValue)),
+    (3, Err(UnknownValue)),
+    (32, Err(UnknownValue)),
     ((1 << 32) + 4, Err(UnknownValue)),
+    (u64::MAX, Err(UnknownValue)),
 ];
 
 const COMPATIBLE: Numbers<u64, CompatibleFeatures> = &[
     (1, Ok(CompatibleFeatures::LazyRefcounts)),
     (0, Err(UnknownValue)),
+    (2, Err(UnknownValue)),
+    ((1 << 32) + 1, Err(UnknownValue)),
 ];
 
 const AUTOCLEAR: Numbers<u64, AutoclearFeatures> = &[
     (1, Ok(AutoclearFeatures::Bitmaps)),
     (2, Ok(AutoclearFeatures::RawExternalData)),
+    (0, Err(UnknownValue)),
     (3, Err(UnknownValue)),
+    (4, Err(UnknownValue)),
 ];
 
 const FIELDS: Numbers<u8, FeatureType> = &[
@@ -36,6 +44,7 @@ const FIELDS: Numbers<u8, FeatureType> = &[
     (1, Ok(FeatureType::Compatible)),
     (2, Ok(FeatureType::Autoclear)),
     (3, Err(UnknownValue)),
+    (255, Err(UnknownValue)),
 ];
 
 const EXTENSIONS: Numbers<u32, HeaderExtensionType> = &[
@@ -43,7 +52,9 @@ const EXTENSIONS: Numbers<u32, HeaderExtensionType> = &[
     (0xe279_2aca, Ok(HeaderExtensionType::BackingFileFormat)),
     (0x6803_f857, Ok(HeaderExtensionType::FeatureNameTable)),
     (0x4441_5441, Ok(HeaderExtensionType::ExternalDataFileName)),
+    (7, Err(UnknownValue)),
     (0xca2a_79e2, Err(UnknownValue)),
+    (u32::MAX, Err(UnknownValue)),
 ];
 
 // Fails unless each number stands for what it does, which has that number.
@@ -78,15 +89,30 @@ fn a_number_stands_for_what_has_it(rt: HostRuntime) -> Result<(), Fail> {
 
 #[test]
 fn the_key_of_a_feature_is_its_field_and_its_bit() -> Result<(), Fail> {
-    let found: [(FeatureType, u8); 3] = [
+    let found: [(FeatureType, u8); 8] = [
+        IncompatibleFeatures::Dirty.into(),
+        IncompatibleFeatures::Corrupt.into(),
+        IncompatibleFeatures::ExternalDataFile.into(),
+        IncompatibleFeatures::CompressionType.into(),
         IncompatibleFeatures::ExtendedL2Entries.into(),
         CompatibleFeatures::LazyRefcounts.into(),
+        AutoclearFeatures::Bitmaps.into(),
         AutoclearFeatures::RawExternalData.into(),
     ];
     let keys = [
+        (FeatureType::Incompatible, 0),
+        (FeatureType::Incompatible, 1),
+        (FeatureType::Incompatible, 2),
+        (FeatureType::Incompatible, 3),
         (FeatureType::Incompatible, 4),
         (FeatureType::Compatible, 0),
+        (FeatureType::Autoclear, 0),
         (FeatureType::Autoclear, 1),
     ];
-    same(found, keys, "keys")
+    same(found, keys, "keys")?;
+    let order = (
+        FeatureType::Incompatible < FeatureType::Compatible,
+        FeatureType::Compatible < FeatureType::Autoclear,
+    );
+    same(order, (true, true), "order")
 }

@@ -1,7 +1,7 @@
 //! Calls of headers without any clauses, for tests that look at what is answered.
 
 use crate::fixtures::{Changes, least_with};
-use qcow2_base::{Fault, Storage};
+use qcow2_base::{ClusterCount, Fault, HostOffset, Storage};
 use qcow2_metadata::{FeatureType, Header};
 use qcow2_testing::is_cluster_bits;
 use std::alloc::{AllocError, Global};
@@ -72,23 +72,50 @@ pub(crate) type Names<'a> = (Option<&'a str>, Option<&'a str>, Option<&'a str>, 
 /// The names that a header tells.
 pub(crate) fn names(header: &Header) -> Names<'_> {
     (
-        told(header.backing_filename()),
-        told(header.backing_format()),
-        told(header.external_data_filename()),
+        header.backing_filename().map(|name| name.as_str()),
+        header.backing_format().map(|name| name.as_str()),
+        header.external_data_filename().map(|name| name.as_str()),
         header.external_data_file(),
     )
 }
 
-fn told(name: Option<&String>) -> Option<&str> {
-    match name {
-        Some(name) => Some(name.as_str()),
-        None => None,
-    }
+/// Cluster bits and the refcount order, and then the cluster size, the entries of an L2 table, the refcounts
+/// of a block and their logarithm.
+pub(crate) type Sizes = (u32, u32, usize, usize, usize, u32);
+
+/// The sizes that a header tells.
+pub(crate) fn sizes(header: &Header) -> Sizes {
+    (
+        header.cluster_bits(),
+        header.refcount_order(),
+        header.cluster_size(),
+        header.l2_entries(),
+        header.rb_entries(),
+        header.rb_bits(),
+    )
+}
+
+/// The size of the disk, where the L1 table begins and its entries, and where the refcount table begins, its
+/// clusters and its entries.
+pub(crate) type Tables = (u64, HostOffset, usize, HostOffset, ClusterCount, usize);
+
+/// The disk and the tables that a header tells.
+pub(crate) fn tables(header: &Header) -> Tables {
+    (
+        header.size(),
+        header.l1_table_offset(),
+        header.l1_table_entries(),
+        header.reftable_offset(),
+        header.reftable_clusters(),
+        header.reftable_entries(),
+    )
 }
 
 /// What a header calls a feature.
 pub(crate) fn called(header: &Header, feature_type: FeatureType, bit: u32) -> Option<&str> {
-    told(header.feature_name(feature_type, bit))
+    header
+        .feature_name(feature_type, bit)
+        .map(|name| name.as_str())
 }
 
 /// What a header calls the first incompatible feature.

@@ -3,13 +3,11 @@
 use crate::fixtures::{Changes, OLDER};
 use crate::rich_header::RICH;
 
+/// A backing file's name, which is a text so many times.
+pub(crate) type Repeated = (&'static str, usize);
+
 /// A new header: cluster bits, the backing file's name, its format, and a data file's name.
-pub(crate) type New = (
-    u32,
-    &'static str,
-    Option<&'static str>,
-    Option<&'static str>,
-);
+pub(crate) type New = (u32, Repeated, Option<&'static str>, Option<&'static str>);
 
 /// A new header, how many bytes a write of it places, and how they differ from the least header: with the
 /// names of features in it, or without.
@@ -19,19 +17,19 @@ pub(crate) type NewWritten = (New, usize, Changes, bool);
 pub(crate) const NEW: &[NewWritten] = &[
     // a name of 8 bytes, which just fits besides the names of features, and one of 9, which doesn't
     (
-        (9, "base.img", None, None),
+        (9, ("base.img", 1), None, None),
         512,
         &[(14, &[1, 0xf8, 0, 0, 0, 8]), (504, b"base.img")],
         true,
     ),
     (
-        (9, "backing.1", None, None),
+        (9, ("backing.1", 1), None, None),
         121,
         &[(15, &[112, 0, 0, 0, 9]), (112, b"backing.1")],
         false,
     ),
     (
-        (16, "base.img", Some("qcow2"), Some("data.raw")),
+        (16, ("base.img", 1), Some("qcow2"), Some("data.raw")),
         544,
         &[
             (14, &[2, 0x18, 0, 0, 0, 8, 0, 0, 0, 16]),
@@ -42,8 +40,24 @@ pub(crate) const NEW: &[NewWritten] = &[
         ],
         true,
     ),
+    // the longest name in clusters of 512 bytes, and the longest of all
+    (
+        (9, ("a", 400), None, None),
+        512,
+        &[(15, &[112, 0, 0, 1, 0x90]), (112, &[b'a'; 400])],
+        false,
+    ),
+    (
+        (16, ("a", 1023), None, None),
+        1527,
+        &[
+            (14, &[1, 0xf8, 0, 0, 3, 0xff, 0, 0, 0, 16]),
+            (504, &[b'a'; 1023]),
+        ],
+        true,
+    ),
     // an empty name has a place too
-    ((9, "", None, None), 504, &[(14, &[1, 0xf8])], true),
+    ((9, ("", 1), None, None), 504, &[(14, &[1, 0xf8])], true),
 ];
 
 /// The names of features in new headers.
@@ -98,28 +112,27 @@ const CHUNKS: Changes = &[
 ];
 
 /// Changes to the least header, how many bytes a write of it places, how they differ from the least header,
-/// and what the header calls the first incompatible feature then, and after the next load.
-pub(crate) type Written = (Changes, usize, Changes, Called, Called);
-
-/// What a header calls a feature.
-pub(crate) type Called = Option<&'static str>;
+/// and what the header calls the first incompatible feature then.
+pub(crate) type Written = (Changes, usize, Changes, Option<&'static str>);
 
 /// Loaded headers and their texts.
 pub(crate) const LOADED: &[Written] = &[
+    // an empty name has a place, and no name has none
+    (&[(14, &[2, 0])], 112, &[(15, &[112])], None),
+    (&[(16, &[0xff; 4])], 112, &[], None),
     // a name that lay within the magic
     (
         &[(15, &[1]), (19, &[2])],
         114,
         &[(15, &[112, 0, 0, 0, 2]), (112, b"FI")],
         None,
-        None,
     ),
     // unknown fields and their padding
+    (&[(103, &[105, 0xab])], 120, &[(103, &[112, 0xab])], None),
     (
-        &[(103, &[105, 0xab])],
-        120,
-        &[(103, &[112, 0xab])],
-        None,
+        &[(102, &[1, 0xf8, 0xab])],
+        512,
+        &[(102, &[1, 0xf8, 0xab])],
         None,
     ),
     // version 2, whatever stands behind its 72 bytes
@@ -132,18 +145,16 @@ pub(crate) const LOADED: &[Written] = &[
             (80, b"a.img"),
         ],
         None,
-        None,
     ),
     // all that a header can have
-    (RICH, 310, RICH_WRITTEN, Some("new"), Some("new")),
+    (RICH, 310, RICH_WRITTEN, Some("new")),
     // End loses its data
-    (&[(110, &[1, 0x90])], 112, &[], None, None),
+    (&[(110, &[1, 0x90])], 112, &[], None),
     // an extension of 5 bytes at an odd place
     (
         &[(103, &[105]), (108, b"\x07\0\0\0\x05\xa1\xa2\xa3\xa4\xa5")],
         136,
         &[(103, &[112]), (115, b"\x07\0\0\0\x05\xa1\xa2\xa3\xa4\xa5")],
-        None,
         None,
     ),
     // a header that fills a cluster of 2 MiB
@@ -152,14 +163,22 @@ pub(crate) const LOADED: &[Written] = &[
         2097152,
         &[(23, &[21]), (101, &[0x1f, 0xff, 0xf8])],
         None,
+    ),
+];
+
+/// Loaded headers with names of features, and their texts.
+pub(crate) const NAMED: &[Written] = &[
+    // no names, an empty one, and many
+    (
+        &[(104, b"\x68\x03\xf8\x57")],
+        120,
+        &[(104, b"\x68\x03\xf8\x57")],
         None,
     ),
-    // names of features: an empty one, and many
     (
         &[(104, b"\x68\x03\xf8\x57\0\0\0\x02")],
         168,
         &[(104, b"\x68\x03\xf8\x57\0\0\0\x30")],
-        Some(""),
         Some(""),
     ),
     (
@@ -170,7 +189,6 @@ pub(crate) const LOADED: &[Written] = &[
             (160, b"\0\x09b"),
             (208, b"\x02\x01c"),
         ],
-        Some("a"),
         Some("a"),
     ),
     // two tables, which both stay where they just fit, and else both go
@@ -189,7 +207,6 @@ pub(crate) const LOADED: &[Written] = &[
             (168, b"\x68\x03\xf8\x57\0\0\0\x30\x01\x07b"),
         ],
         Some("a"),
-        Some("a"),
     ),
     (
         &[
@@ -201,48 +218,62 @@ pub(crate) const LOADED: &[Written] = &[
         401,
         &[(15, &[120, 0, 0, 1, 0x19]), (107, b"\x07")],
         None,
-        None,
     ),
 ];
 
-/// Headers with one name of a feature, which has place for 46 bytes there, and is cut when it is written.
-pub(crate) const CUT: &[Written] = &[
+/// The bytes of a feature's name, what the feature is called when they are loaded, the bytes that are written
+/// then, and what it is called from the next load on. A feature name table has place for 46 bytes of a name.
+pub(crate) type Cut = (&'static [u8], &'static str, &'static [u8], &'static str);
+
+/// Names that are cut when they are written.
+pub(crate) const CUT: &[Cut] = &[
     (
-        &[(104, b"\x68\x03\xf8\x57\0\0\0\x30"), (114, &[0xff; 46])],
-        168,
-        &[
-            (104, b"\x68\x03\xf8\x57\0\0\0\x30"),
-            (
-                114,
-                b"\xef\xbf\xbd\xef\xbf\xbd\xef\xbf\xbd\xef\xbf\xbd\xef\xbf\xbd\
-                \xef\xbf\xbd\xef\xbf\xbd\xef\xbf\xbd\xef\xbf\xbd\xef\xbf\xbd\
-                \xef\xbf\xbd\xef\xbf\xbd\xef\xbf\xbd\xef\xbf\xbd\xef\xbf\xbd\xef",
-            ),
-        ],
-        Some(REPLACED),
-        Some(REPLACED_AGAIN),
+        &[0xff; 46],
+        REPLACED,
+        b"\xef\xbf\xbd\xef\xbf\xbd\xef\xbf\xbd\xef\xbf\xbd\xef\xbf\xbd\
+            \xef\xbf\xbd\xef\xbf\xbd\xef\xbf\xbd\xef\xbf\xbd\xef\xbf\xbd\
+            \xef\xbf\xbd\xef\xbf\xbd\xef\xbf\xbd\xef\xbf\xbd\xef\xbf\xbd\xef",
+        REPLACED_AGAIN,
     ),
-    // 48 bytes of text, of which 46 are written
+    // 48, 47 and 46 bytes of text, of which 46 are written
     (
-        &[
-            (104, b"\x68\x03\xf8\x57\0\0\0\x30"),
-            (114, b"0123456789abcdefghijklmnopqrstuvwxyzABCDEFGHI\xff"),
-        ],
-        168,
-        &[
-            (104, b"\x68\x03\xf8\x57\0\0\0\x30"),
-            (114, b"0123456789abcdefghijklmnopqrstuvwxyzABCDEFGHI\xef"),
-        ],
-        Some("0123456789abcdefghijklmnopqrstuvwxyzABCDEFGHI\u{fffd}"),
-        Some("0123456789abcdefghijklmnopqrstuvwxyzABCDEFGHI\u{fffd}"),
+        b"0123456789abcdefghijklmnopqrstuvwxyzABCDEFGHI\xff",
+        "0123456789abcdefghijklmnopqrstuvwxyzABCDEFGHI\u{fffd}",
+        b"0123456789abcdefghijklmnopqrstuvwxyzABCDEFGHI\xef",
+        "0123456789abcdefghijklmnopqrstuvwxyzABCDEFGHI\u{fffd}",
+    ),
+    (
+        b"0123456789abcdefghijklmnopqrstuvwxyzABCDEFGH\xff",
+        "0123456789abcdefghijklmnopqrstuvwxyzABCDEFGH\u{fffd}",
+        b"0123456789abcdefghijklmnopqrstuvwxyzABCDEFGH\xef\xbf",
+        "0123456789abcdefghijklmnopqrstuvwxyzABCDEFGH\u{fffd}",
+    ),
+    (
+        b"0123456789abcdefghijklmnopqrstuvwxyzABCDEFG\xff",
+        "0123456789abcdefghijklmnopqrstuvwxyzABCDEFG\u{fffd}",
+        b"0123456789abcdefghijklmnopqrstuvwxyzABCDEFG\xef\xbf\xbd",
+        "0123456789abcdefghijklmnopqrstuvwxyzABCDEFG\u{fffd}",
+    ),
+    // a character that was cut, and text of 46 bytes
+    (
+        b"0123456789abcdefghijklmnopqrstuvwxyzABCDEFGHI\xc3",
+        "0123456789abcdefghijklmnopqrstuvwxyzABCDEFGHI\u{fffd}",
+        b"0123456789abcdefghijklmnopqrstuvwxyzABCDEFGHI\xef",
+        "0123456789abcdefghijklmnopqrstuvwxyzABCDEFGHI\u{fffd}",
+    ),
+    (
+        b"0123456789abcdefghijklmnopqrstuvwxyzABCDEFGHIJ",
+        "0123456789abcdefghijklmnopqrstuvwxyzABCDEFGHIJ",
+        b"0123456789abcdefghijklmnopqrstuvwxyzABCDEFGHIJ",
+        "0123456789abcdefghijklmnopqrstuvwxyzABCDEFGHIJ",
     ),
     // what stands behind a zero byte goes
     (
-        &[(104, b"\x68\x03\xf8\x57\0\0\0\x30"), (114, b"a\0b")],
-        168,
-        &[(104, b"\x68\x03\xf8\x57\0\0\0\x30"), (114, b"a")],
-        Some("a"),
-        Some("a"),
+        b"a\0b",
+        "a",
+        b"a\0\0\0\0\0\0\0\0\0\0\0\0\0\0\0\0\0\0\0\0\0\0\
+            \0\0\0\0\0\0\0\0\0\0\0\0\0\0\0\0\0\0\0\0\0\0\0",
+        "a",
     ),
 ];
 

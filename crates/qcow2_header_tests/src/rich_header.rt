@@ -54,8 +54,26 @@ fn told_at(ranges: Ranges, place: usize) -> Option<u32> {
     None
 }
 
+// 1536 bytes: a header with a size and an L1 table, and an entry in each of two tables.
+const TWO_TABLES: Changes = &[
+    (30, &[0x80]),
+    (39, &[1]),
+    (46, &[2]),
+    (512, &[0x80, 0, 0, 0, 0, 0, 4, 0]),
+    (1048, &[0x80, 0, 0, 0, 0, 0, 0x0a, 0]),
+    (1535, &[0]),
+];
+
 // What a load answers of the first bytes of an image, by how many they are.
-const CUT: Ranges = &[
+const CUT_TABLES: Ranges = &[
+    (4, Some(1)),
+    (8, Some(2)),
+    (24, Some(3)),
+    (104, Some(4)),
+    (1536, None),
+];
+
+const CUT_RICH: Ranges = &[
     (4, Some(1)),
     (8, Some(2)),
     (24, Some(3)),
@@ -78,6 +96,53 @@ const CUT: Ranges = &[
     // the backing name is cut inside a character
     (362, Some(11)),
     (366, None),
+];
+
+// What a load answers where the byte at a place has each of its bits turned.
+const TURNED: Ranges = &[
+    (4, Some(1)),
+    (8, Some(2)),
+    // the backing name's offset: past the cluster, and 407
+    (15, Some(10)),
+    (16, None),
+    // its length: past 1023, and 249, which is past the cluster
+    (19, Some(9)),
+    (20, Some(10)),
+    (24, Some(3)),
+    (46, None),
+    (48, Some(6)),
+    (54, None),
+    (56, Some(7)),
+    (72, None),
+    (80, Some(17)),
+    (96, None),
+    (100, Some(8)),
+    // the header's length: past the cluster, and 143, where zeros stand
+    (103, Some(5)),
+    (116, None),
+    // the format's length: past the cluster, and 250 bytes, which are no text; and its bytes
+    (119, Some(12)),
+    (125, Some(13)),
+    (132, None),
+    // the table's length: past the cluster, and 110 bytes, after which zeros stand
+    (135, Some(12)),
+    (280, None),
+    // its last byte, which is a type then
+    (281, Some(14)),
+    (292, None),
+    (296, Some(12)),
+    (304, Some(13)),
+    (308, None),
+    (312, Some(12)),
+    (324, None),
+    (328, Some(12)),
+    (333, Some(13)),
+    (340, None),
+    (344, Some(12)),
+    (352, Some(13)),
+    // End is another extension, which the backing name follows, or it is longer than the cluster
+    (360, Some(12)),
+    (366, Some(11)),
 ];
 
 // What a load answers where the byte at a place is one more, and 0 after 255.
@@ -136,37 +201,58 @@ const RAISED: Ranges = &[
     (366, None),
 ];
 
-// The image cut at a place, or with the byte there raised by one.
-fn damaged(mut bytes: Vec<u8>, place: usize, is_cut: bool) -> MemStorage {
-    if is_cut {
-        bytes.truncate(place);
-    } else if place < bytes.len() {
-        bytes[place] = bytes[place].wrapping_add(1);
-    }
-    MemStorage::new(bytes)
+// What is done to an image at a place: it is cut there, each bit of the byte there is turned, or the byte is
+// raised by one.
+enum Damage {
+    Cut,
+    Turned,
+    Raised,
 }
 
-// What a load answers: the number of a fault, if there is one.
-fn fault_of(alloc: Global, mut image: MemStorage) -> Option<u32> {
-    match load(alloc, &mut image, false) {
-        Ok(_) => None,
-        Err(fault) => Some(fault.number()),
+// The bytes with the damage at the place.
+fn damaged(mut bytes: Vec<u8>, damage: &Damage, place: usize) -> Vec<u8> {
+    let byte = bytes.get(place).copied().unwrap_or(0);
+    match damage {
+        Damage::Cut => bytes.truncate(place),
+        Damage::Turned => put(&mut bytes, place, byte ^ 0xff),
+        Damage::Raised => put(&mut bytes, place, byte.wrapping_add(1)),
+    }
+    bytes
+}
+
+fn put(bytes: &mut [u8], place: usize, byte: u8) {
+    if place < bytes.len() {
+        bytes[place] = byte;
     }
 }
 
-// Fails unless a load answers what is told of each place of the image, where it is cut or a byte is raised.
-fn answers_at_each_place(alloc: Global, ranges: Ranges, is_cut: bool) -> Result<(), Fail> {
-    let image = least_with(alloc, RICH, &[])?;
+// Fails unless a load answers what is told of each place of the least header with these changes, where it has
+// the damage.
+fn answers_at_each_place(
+    alloc: Global,
+    changes: Changes,
+    damage: &Damage,
+    ranges: Ranges,
+) -> Result<(), Fail> {
+    let image = least_with(alloc, changes, &[])?;
     for place in 0..image.bytes().len() {
         let bytes = Vec::from_slice(alloc, image.bytes())?;
-        let found = fault_of(alloc, damaged(bytes, place, is_cut));
+        let mut image = MemStorage::new(damaged(bytes, damage, place));
+        let fault = load(alloc, &mut image, false).err();
+        let found = fault.map(|fault| fault.number());
         same(found, told_at(ranges, place), place)?;
     }
     Ok(())
 }
 
 #[test]
+fn bytes_past_the_images_end_load_as_zeros(rt: HostRuntime) -> Result<(), Fail> {
+    answers_at_each_place(rt.alloc(), TWO_TABLES, &Damage::Cut, CUT_TABLES)?;
+    answers_at_each_place(rt.alloc(), RICH, &Damage::Cut, CUT_RICH)
+}
+
+#[test]
 fn each_byte_of_a_header_counts_as_the_format_says(rt: HostRuntime) -> Result<(), Fail> {
-    answers_at_each_place(rt.alloc(), CUT, true)?;
-    answers_at_each_place(rt.alloc(), RAISED, false)
+    answers_at_each_place(rt.alloc(), RICH, &Damage::Turned, TURNED)?;
+    answers_at_each_place(rt.alloc(), RICH, &Damage::Raised, RAISED)
 }

@@ -1,8 +1,8 @@
 //! A run that has begun, and whether all stands that must after its call.
 
 use crate::calls::{Answer, make};
-use crate::held::{Held, Told, hold};
-use crate::runs::Run;
+use crate::held::{Held, Numbers, hold};
+use crate::runs::{Run, number_of};
 use qcow2_base::{Fault, MemStorage, Storage};
 use qcow2_testing::StorageCall;
 use std::alloc::Global;
@@ -38,41 +38,31 @@ pub(crate) fn unless(holds: bool, wrong: Wrong) -> Result<(), Wrong> {
     Err(wrong)
 }
 
-/// What a run works on, the numbers that it tells, and its image before the call and after it.
+/// What a run works on, the numbers that it told at first and those that it tells, and its image before the
+/// call and after it.
 #[derive(Drop)]
 pub(crate) struct Attempt {
     pub(crate) held: Held,
-    told: Told,
-    pub(crate) images: Images,
+    first: Numbers,
+    numbers: Numbers,
+    pub(crate) before: MemStorage,
+    after: MemStorage,
     /// Whether the image was changed by an earlier call.
     is_again: bool,
 }
 
-/// An image before a call, and after one that succeeds.
-#[derive(Drop)]
-pub(crate) struct Images {
-    pub(crate) before: MemStorage,
-    after: MemStorage,
-}
-
 /// Begins a run.
 pub(crate) fn begin(alloc: Global, run: &Run<'_>) -> Result<Attempt, Fault> {
-    let images = images_of(alloc, run)?;
-    let mut told = Told::new(alloc)?;
-    let held = hold(alloc, run)?;
-    told.begin(&held);
-    Ok(Attempt {
-        held,
-        told,
-        images,
+    let mut attempt = Attempt {
+        first: Numbers::new(alloc)?,
+        numbers: Numbers::new(alloc)?,
+        before: run.before(alloc)?,
+        after: run.after(alloc)?,
+        held: hold(alloc, run)?,
         is_again: false,
-    })
-}
-
-fn images_of(alloc: Global, run: &Run<'_>) -> Result<Images, Fault> {
-    let before = run.before(alloc)?;
-    let after = run.after(alloc)?;
-    Ok(Images { before, after })
+    };
+    attempt.held.tell(&mut attempt.first);
+    Ok(attempt)
 }
 
 impl Attempt {
@@ -97,23 +87,17 @@ impl Attempt {
     ) -> Result<(), Wrong> {
         unless(answer != Answer::Other, Wrong::Answer)?;
         let may_differ = answer != Answer::Done || self.held.out.has_failed;
-        unless(
-            may_differ || image == self.images.after.bytes(),
-            Wrong::Image,
-        )?;
-        let all = run.told(self.is_again);
-        unless(told_stands(all, self.held.out.bytes(), answer), Wrong::Told)?;
-        self.is_again = image != self.images.before.bytes();
+        unless(may_differ || image == self.after.bytes(), Wrong::Image)?;
+        unless(self.told_stands(run, answer), Wrong::Told)?;
+        self.is_again = image != self.before.bytes();
         let changes = match answer {
             Answer::Done => run.done,
             Answer::StorageFailed => run.refused,
             _ => "",
         };
-        unless(self.told.stands(&self.held, changes), Wrong::Held)
+        unless(self.held_stands(changes), Wrong::Held)
     }
-}
 
-impl Images {
     /// The image's bytes where these calls have passed: those of after the call where they wrote.
     pub(crate) fn written(&self, alloc: Global, calls: &[StorageCall]) -> Result<Vec<u8>, Fault> {
         let mut bytes = Vec::from_slice(alloc, self.before.bytes())?;
@@ -129,21 +113,59 @@ impl Images {
     pub(crate) fn grows(&self) -> bool {
         self.before.bytes().len() < self.after.bytes().len()
     }
+
+    // All is told, or a beginning of it where the call was refused.
+    fn told_stands(&self, run: &Run<'_>, answer: Answer) -> bool {
+        let (all, told) = (run.told(self.is_again), self.held.out.bytes());
+        let is_long_enough = answer != Answer::Done || told.len() == all.len();
+        is_long_enough && begins_with(all.as_bytes(), told)
+    }
+
+    // It tells the numbers that it told at first, but for these.
+    fn held_stands(&mut self, changes: &str) -> bool {
+        self.held.tell(&mut self.numbers);
+        takes_all_back(&mut self.numbers.0, &self.first.0, changes)
+    }
 }
 
-// All is told, or a beginning of it where the call was refused.
-fn told_stands(all: &str, told: &[u8], answer: Answer) -> bool {
-    let is_long_enough = answer != Answer::Done || told.len() == all.len();
-    is_long_enough && begins_with(all.as_bytes(), told)
+// Puts the old numbers back where those stand which the words say, and answers whether all are old then.
+fn takes_all_back(numbers: &mut [u64], first: &[u64], changes: &str) -> bool {
+    for word in changes.split_whitespace() {
+        if !takes_back(numbers, first, word) {
+            return false;
+        }
+    }
+    *numbers == *first
+}
+
+// Puts the old number back where that stands which the word says.
+fn takes_back(numbers: &mut [u64], first: &[u64], word: &str) -> bool {
+    let Some((index, number)) = number_of(word) else {
+        return false;
+    };
+    let (Some(now), Some(old)) = (numbers.get_mut(index), first.get(index)) else {
+        return false;
+    };
+    let stands = *now == number;
+    *now = *old;
+    stands
 }
 
 // Whether the text, where / stands for a new line, begins with what was told.
 fn begins_with(text: &[u8], told: &[u8]) -> bool {
-    let mut stands = told.len() <= text.len();
-    for (byte, told) in text.iter().zip(told) {
-        stands &= *byte == shown(*told);
+    for (index, byte) in told.iter().enumerate() {
+        if !stands_at(text, index, shown(*byte)) {
+            return false;
+        }
     }
-    stands
+    true
+}
+
+fn stands_at(text: &[u8], index: usize, byte: u8) -> bool {
+    match text.get(index) {
+        Some(stands) => *stands == byte,
+        None => false,
+    }
 }
 
 // How a byte of what was told stands in the table of runs.

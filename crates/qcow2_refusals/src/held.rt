@@ -1,7 +1,7 @@
 //! What a call works on beside an image, and what it tells of itself.
 
 use crate::outputs::Output;
-use crate::runs::{Run, image_of, number_of, usize_of};
+use crate::runs::{Run, image_of, usize_of};
 use qcow2_base::{Fault, HostCluster, MemStorage, Storage};
 use qcow2_metadata::{
     FeatureType, Header, L1Table, L2Table, RefBlock, RefTable, Table, TableEntry,
@@ -41,14 +41,18 @@ pub(crate) fn hold(alloc: Global, run: &Run<'_>) -> Result<Held, Fault> {
     Ok(held)
 }
 
-/// The same from these columns of the table of runs.
-pub(crate) fn hold_from(alloc: Global, source: &str, header: &str) -> Result<Held, Fault> {
+fn hold_from(alloc: Global, source: &str, header: &str) -> Result<Held, Fault> {
     let header = header_of(alloc, header)?;
     let mut image = image_of(alloc, source, "")?;
     hold_over(alloc, &mut image, header)
 }
 
-fn hold_over(alloc: Global, image: &mut MemStorage, header: Header) -> Result<Held, Fault> {
+/// The same over an image, by this header.
+pub(crate) fn hold_over(
+    alloc: Global,
+    image: &mut MemStorage,
+    header: Header,
+) -> Result<Held, Fault> {
     Ok(Held {
         l1_table: l1_table(alloc, image, &header)?,
         l2_table: l2_table(alloc, image, &header)?,
@@ -79,8 +83,12 @@ fn header_of(alloc: Global, header: &str) -> Result<Header, Fault> {
     }
 }
 
-// A new header of these cluster bits and this refcount order, or the nearest that there are.
-fn new_header(alloc: Global, cluster_bits: usize, refcount_order: usize) -> Result<Header, Fault> {
+/// A new header of these cluster bits and this refcount order, or the nearest that there are.
+pub(crate) fn new_header(
+    alloc: Global,
+    cluster_bits: usize,
+    refcount_order: usize,
+) -> Result<Header, Fault> {
     let cluster_bits = cluster_bits.clamp(9, 21) as u32;
     let refcount_order = refcount_order.min(6) as u32;
     Header::new(alloc, cluster_bits, refcount_order, None, None, None)
@@ -149,10 +157,10 @@ pub(crate) fn block<S: Storage>(
 
 /// A list of numbers that has room for all that are told, so that none asks for memory.
 #[derive(Drop)]
-struct Numbers(Vec<u64>);
+pub(crate) struct Numbers(pub(crate) Vec<u64>);
 
 impl Numbers {
-    fn new(alloc: Global) -> Result<Numbers, AllocError> {
+    pub(crate) fn new(alloc: Global) -> Result<Numbers, AllocError> {
         Ok(Numbers(Vec::with_capacity(alloc, MOST_NUMBERS)?))
     }
 
@@ -168,7 +176,7 @@ impl Numbers {
 impl Held {
     /// Tells all that it says: the flags of L1 table, L2 table, refcount table and block, what the header
     /// says from place 4 on, and then cluster and numbers of L2 table, block, L1 table and refcount table.
-    fn tell(&self, numbers: &mut Numbers) {
+    pub(crate) fn tell(&self, numbers: &mut Numbers) {
         numbers.0.clear();
         numbers.note(self.l1_table.is_modified());
         numbers.note(self.l2_table.is_modified());
@@ -219,52 +227,4 @@ fn tell_cluster(cluster: Option<HostCluster>, numbers: &mut Numbers) {
         Some(cluster) => numbers.add(cluster.0),
         None => numbers.add(u64::MAX),
     }
-}
-
-/// The numbers that are told at first, and those that are told after a call.
-#[derive(Drop)]
-pub(crate) struct Told {
-    first: Numbers,
-    now: Numbers,
-}
-
-impl Told {
-    pub(crate) fn new(alloc: Global) -> Result<Told, AllocError> {
-        let first = Numbers::new(alloc)?;
-        let now = Numbers::new(alloc)?;
-        Ok(Told { first, now })
-    }
-
-    /// Keeps what is told at first.
-    pub(crate) fn begin(&mut self, held: &Held) {
-        held.tell(&mut self.first);
-    }
-
-    /// Whether the numbers are told that were told at first, but for these.
-    pub(crate) fn stands(&mut self, held: &Held, changes: &str) -> bool {
-        held.tell(&mut self.now);
-        takes_all_back(&mut self.now.0, &self.first.0, changes)
-    }
-}
-
-// Puts the old numbers back where those stand which the words say, and answers whether all are old then.
-fn takes_all_back(numbers: &mut [u64], first: &[u64], changes: &str) -> bool {
-    let mut stands = true;
-    for word in changes.split_whitespace() {
-        stands &= takes_back(numbers, first, word);
-    }
-    stands && *numbers == *first
-}
-
-// Puts the old number back where that stands which the word says.
-fn takes_back(numbers: &mut [u64], first: &[u64], word: &str) -> bool {
-    let Some((index, number)) = number_of(word) else {
-        return false;
-    };
-    let (Some(now), Some(old)) = (numbers.get_mut(index), first.get(index)) else {
-        return false;
-    };
-    let stands = *now == number;
-    *now = *old;
-    stands
 }

@@ -1,15 +1,15 @@
 //! Each run over an image in memory and over a file, made once more where memory was refused the first time.
 //!
-//! A refusal comes from outside, once in the life of the program: where it meets what a run begins with, or
-//! reads, the run is begun once more, so that all runs are made whichever request it meets.
+//! A refusal comes from outside, once in the life of the program: what a run begins with is made once more
+//! too, so that all runs are made whichever request it meets.
 
 use crate::attempts::{Attempt, Wrong, begin, unless};
 use crate::calls::Answer;
 use crate::runs::{Each, Run};
 use qcow2_base::{Fault, FileStorage, MemStorage, Storage};
 use std::alloc::Global;
-use std::fs;
 use std::io::Write;
+use std::{fs, io};
 
 /// Makes each run, and tells of those that aren't as they must be.
 #[derive(Drop)]
@@ -25,8 +25,8 @@ pub(crate) struct Memory<'a, O> {
 impl<O: Write> Each for Memory<'_, O> {
     fn take(&mut self, run: &Run<'_>) {
         self.runs = self.runs.saturating_add(1);
-        let made = match over_both(self.rt, self.path, run) {
-            Err(Wrong::Beginning) => over_both(self.rt, self.path, run),
+        let made = match over_memory(self.rt.alloc(), run) {
+            Ok(()) if run.is_in_a_file() => over_file(self.rt, self.path, run),
             made => made,
         };
         if let Err(wrong) = made {
@@ -36,17 +36,25 @@ impl<O: Write> Each for Memory<'_, O> {
     }
 }
 
-fn over_both(rt: &HostRuntime, path: &str, run: &Run<'_>) -> Result<(), Wrong> {
-    over_memory(rt.alloc(), run)?;
-    if !run.is_in_a_file() {
-        return Ok(());
+// Begins a run, once more where memory was refused the first time.
+fn begin_again(alloc: Global, run: &Run<'_>) -> Result<Attempt, Fault> {
+    match begin(alloc, run) {
+        Err(_) => begin(alloc, run),
+        begun => begun,
     }
-    over_file(rt, path, run)
+}
+
+// The image before the call, made once more where memory was refused the first time.
+fn image_again(alloc: Global, run: &Run<'_>) -> Result<MemStorage, Fault> {
+    match run.before(alloc) {
+        Err(_) => run.before(alloc),
+        image => image,
+    }
 }
 
 fn over_memory(alloc: Global, run: &Run<'_>) -> Result<(), Wrong> {
-    let mut image = run.before(alloc)?;
-    let mut attempt = begin(alloc, run)?;
+    let mut attempt = begin_again(alloc, run)?;
+    let mut image = image_again(alloc, run)?;
     make_over_memory(alloc, run, &mut attempt, &mut image)
 }
 
@@ -69,11 +77,12 @@ fn make_in_memory(
     image: &mut MemStorage,
 ) -> Result<Answer, Wrong> {
     let answer = attempt.make(alloc, run, image);
-    has_answered(run, attempt, answer, image.bytes())
+    has_answered(run, attempt, answer, image.bytes())?;
+    Ok(answer)
 }
 
 fn over_file(rt: &HostRuntime, path: &str, run: &Run<'_>) -> Result<(), Wrong> {
-    let mut attempt = begin(rt.alloc(), run)?;
+    let mut attempt = begin_again(rt.alloc(), run)?;
     make_over_file(rt, path, run, &mut attempt)
 }
 
@@ -83,14 +92,18 @@ fn make_over_file(
     run: &Run<'_>,
     attempt: &mut Attempt,
 ) -> Result<(), Wrong> {
-    let is_written = fs::write(rt, path, attempt.images.before.bytes()).is_ok();
+    let is_written = fs::write(rt, path, attempt.before.bytes()).is_ok();
     unless(is_written, Wrong::Beginning)?;
-    let mut file = open(rt, path)?;
+    let mut file = open_again(rt, path)?;
     make_in_opened(rt, path, run, attempt, &mut file)
 }
 
-fn open(rt: &HostRuntime, path: &str) -> Result<FileStorage, Fault> {
-    Ok(FileStorage::open(rt, path, true)?)
+// Opens the file for writing, once more where memory was refused the first time.
+fn open_again(rt: &HostRuntime, path: &str) -> Result<FileStorage, Fault> {
+    match FileStorage::open(rt, path, true) {
+        Err(_) => Ok(FileStorage::open(rt, path, true)?),
+        Ok(file) => Ok(file),
+    }
 }
 
 fn make_in_opened(
@@ -114,9 +127,18 @@ fn make_in_file(
     file: &mut FileStorage,
 ) -> Result<Answer, Wrong> {
     let answer = attempt.make(rt.alloc(), run, file);
+    let Ok(bytes) = bytes_again(rt, path) else {
+        return Err(Wrong::Beginning);
+    };
+    has_answered(run, attempt, answer, &bytes)?;
+    Ok(answer)
+}
+
+// The bytes of the file, read once more where memory was refused the first time.
+fn bytes_again(rt: &HostRuntime, path: &str) -> io::Result<Vec<u8>> {
     match fs::read(rt, path) {
-        Ok(bytes) => has_answered(run, attempt, answer, &bytes),
-        Err(_) => Err(Wrong::Beginning),
+        Err(_) => fs::read(rt, path),
+        bytes => bytes,
     }
 }
 
@@ -124,18 +146,17 @@ fn is_done(answer: Answer) -> Result<(), Wrong> {
     unless(answer == Answer::Done, Wrong::Answer)
 }
 
-// Fails unless all stands that must after this answer, which it hands on: a refusal of memory, which is one
-// of the storage where that had to grow, or none.
+// Fails unless all stands that must after this answer: a refusal of memory, which is one of the storage where
+// that had to grow, or none.
 fn has_answered(
     run: &Run<'_>,
     attempt: &mut Attempt,
     answer: Answer,
     image: &[u8],
-) -> Result<Answer, Wrong> {
-    let may_fail = answer != Answer::StorageFailed || attempt.images.grows();
+) -> Result<(), Wrong> {
+    let may_fail = answer != Answer::StorageFailed || attempt.grows();
     unless(may_fail, Wrong::Answer)?;
-    let is_whole = answer == Answer::Done || image == attempt.images.before.bytes();
+    let is_whole = answer == Answer::Done || image == attempt.before.bytes();
     unless(is_whole, Wrong::Image)?;
-    attempt.check(run, answer, image)?;
-    Ok(answer)
+    attempt.check(run, answer, image)
 }

@@ -1,9 +1,9 @@
 //! Each run with each of its calls of the storage refused in turn, or each write of its output.
 
-use crate::attempts::{Attempt, Images, Wrong, begin, unless};
+use crate::attempts::{Attempt, Wrong, begin, unless};
 use crate::calls::Answer;
 use crate::runs::{Each, Run};
-use qcow2_base::{Fault, MemStorage};
+use qcow2_base::MemStorage;
 use qcow2_testing::{FailingStorage, StorageCall};
 use std::alloc::Global;
 use std::io::Write;
@@ -104,55 +104,27 @@ fn refuse_in(
     make_twice(alloc, run, attempt, &mut image)
 }
 
-// Makes the call, and once more where it was refused. Answers whether it was.
+// Makes the call, and once more where it was refused. Answers whether it was. The image holds what was
+// written by then, and nothing else is changed in it.
 fn make_twice(
     alloc: Global,
     run: &Run<'_>,
     attempt: &mut Attempt,
     image: &mut FailingStorage<MemStorage>,
 ) -> Result<bool, Wrong> {
-    let answer = make_first(alloc, run, attempt, image)?;
+    let answer = attempt.make(alloc, run, image);
+    let written = attempt.written(alloc, passed(image))?;
+    unless(image.inner().bytes() == written.as_slice(), Wrong::Image)?;
+    attempt.check(run, answer, image.inner().bytes())?;
     if image.failures() == 0 && !attempt.held.out.has_failed {
         unless(answer == Answer::Done, Wrong::Answer)?;
         return Ok(false);
     }
     unless(answer == Answer::StorageFailed, Wrong::Answer)?;
-    make_again(alloc, run, attempt, image)?;
-    Ok(true)
-}
-
-fn make_first(
-    alloc: Global,
-    run: &Run<'_>,
-    attempt: &mut Attempt,
-    image: &mut FailingStorage<MemStorage>,
-) -> Result<Answer, Wrong> {
-    let answer = attempt.make(alloc, run, image);
-    let is_written = holds_written(alloc, &attempt.images, image)?;
-    unless(is_written, Wrong::Image)?;
-    attempt.check(run, answer, image.inner().bytes())?;
-    Ok(answer)
-}
-
-// Whether the image holds what was written by then, and nothing else is changed in it.
-fn holds_written(
-    alloc: Global,
-    images: &Images,
-    image: &FailingStorage<MemStorage>,
-) -> Result<bool, Fault> {
-    let written = images.written(alloc, passed(image))?;
-    Ok(image.inner().bytes() == written.as_slice())
-}
-
-fn make_again(
-    alloc: Global,
-    run: &Run<'_>,
-    attempt: &mut Attempt,
-    image: &mut FailingStorage<MemStorage>,
-) -> Result<(), Wrong> {
     let answer = attempt.make(alloc, run, image);
     unless(answer == Answer::Done, Wrong::Answer)?;
-    attempt.check(run, answer, image.inner().bytes())
+    attempt.check(run, answer, image.inner().bytes())?;
+    Ok(true)
 }
 
 // The calls that passed: all but the last one where one failed.

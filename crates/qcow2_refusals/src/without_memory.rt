@@ -29,17 +29,13 @@ impl Sum {
 
 /// Makes each call so many times. What they work on is made before the first turn.
 pub(crate) fn make_calls(alloc: Global, turns: u64) -> Result<Sum, Fault> {
+    let mut sum = Sum(0);
     let mut headers = headers::begin(alloc)?;
     let mut tables = tables::begin(alloc)?;
-    Ok(make_turns(alloc, turns, &mut headers, &mut tables))
-}
-
-fn make_turns(alloc: Global, turns: u64, headers: &mut Headers, tables: &mut Tables) -> Sum {
-    let mut sum = Sum(0);
     for turn in 0..turns {
-        make_turn(alloc, turn, headers, tables, &mut sum);
+        make_turn(alloc, turn, &mut headers, &mut tables, &mut sum);
     }
-    sum
+    Ok(sum)
 }
 
 fn make_turn(alloc: Global, turn: u64, headers: &mut Headers, tables: &mut Tables, sum: &mut Sum) {

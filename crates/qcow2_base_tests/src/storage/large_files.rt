@@ -1,8 +1,9 @@
 //! Reads and writes of more bytes than any buffer on their way may have.
 
-use super::files::{file_holds, opened};
+use super::files::file_holds;
 use super::reads;
-use qcow2_testing::{put_bytes, temporary_file};
+use qcow2_base::{FileStorage, Storage};
+use qcow2_testing::temporary_file;
 use std::alloc::{AllocError, Global};
 use std::test::Fail;
 
@@ -20,22 +21,62 @@ fn image(alloc: Global, len: usize, start: usize, end: usize) -> Result<Vec<u8>,
     Ok(bytes)
 }
 
-// That a write of other bytes to this file of old ones leaves no other byte changed, and is read.
-fn is_written(rt: &HostRuntime, path: &str, start: usize, end: usize) -> Result<(), Fail> {
-    let new = image(rt.alloc(), 3 * MIB, start, end)?;
-    let range = new.get(start..end).unwrap_or(&[]);
-    let mut storage = opened(rt, path, true)?;
-    put_bytes(&mut storage, start as u64, range)?;
-    file_holds(rt, path, &new)?;
-    reads(rt.alloc(), &mut storage, start as u64, range)
+// Writes the bytes to the file from a place on.
+fn write_at(rt: &HostRuntime, path: &str, bytes: &[u8], start: usize) -> Result<(), Fail> {
+    if bytes.len() > 8 * MIB || start > 8 * MIB {
+        return Err(Fail::new("too large"));
+    }
+    let mut storage = FileStorage::open(rt, path, true)?;
+    storage.write(bytes, start as u64)?;
+    Ok(())
 }
+
+// Reads as many bytes from the place on, and fails unless they are these.
+fn reads_at(rt: &HostRuntime, path: &str, bytes: &[u8], start: usize) -> Result<(), Fail> {
+    if bytes.len() > 8 * MIB || start > 8 * MIB {
+        return Err(Fail::new("too large"));
+    }
+    let mut storage = FileStorage::open(rt, path, true)?;
+    reads(rt.alloc(), &mut storage, start as u64, bytes)
+}
+
+const WRITES: &[(usize, usize)] = &[
+    (1000, 1512),
+    (1000, 1513),
+    (1024, 1535),
+    (1000, 1000 + 2 * MIB),
+    (65536, 65536 + 2 * MIB + 1),
+];
 
 #[test]
 fn a_large_write_replaces_its_range_and_no_other_byte(rt: HostRuntime) -> Result<(), Fail> {
     let old = image(rt.alloc(), 3 * MIB, 0, 0)?;
-    for (start, end) in [(1000, 1513), (65536, 65537 + 2 * MIB)] {
+    for (start, end) in WRITES {
+        let new = image(rt.alloc(), 3 * MIB, *start, *end)?;
         let file = temporary_file(&rt, "large-write", &old)?;
-        is_written(&rt, file.path.as_str(), start, end)?;
+        let range = new.get(*start..*end).unwrap_or(&[]);
+        write_at(&rt, file.path.as_str(), range, *start)?;
+        file_holds(&rt, file.path.as_str(), &new, (start, end))?;
     }
     Ok(())
+}
+
+const READS: &[(usize, usize)] = &[
+    (1000, 1512),
+    (1000, 66537),
+    (1000, 4 * MIB + 1001),
+    (500, 5 * MIB + 500),
+];
+
+#[test]
+fn a_large_read_gives_its_range_and_changes_no_byte(rt: HostRuntime) -> Result<(), Fail> {
+    let mut padded = image(rt.alloc(), 5 * MIB, 0, 0)?;
+    let file = temporary_file(&rt, "large-read", &padded)?;
+    padded.resize(6 * MIB, 0)?;
+    for (start, end) in READS {
+        let range = padded.get(*start..*end).unwrap_or(&[]);
+        reads_at(&rt, file.path.as_str(), range, *start)?;
+    }
+    let bytes = padded.get(..5 * MIB).unwrap_or(&[]);
+    file_holds(&rt, file.path.as_str(), bytes, "after all reads")
 }

@@ -51,23 +51,24 @@ fn tell<S: Storage>(
     image: &mut S,
 ) -> Result<(), Fault> {
     let header = load_header(alloc, image, false)?;
-    tell_of(command, alloc, &header, out, image)
+    match command {
+        "info" => print_info(&header, out),
+        "list" => list_tables(alloc, image, &header, out),
+        "at" => print_mapping_at(alloc, image, &header, GUEST_OFFSET, out),
+        "map" => map(alloc, &header, ExtentFormat::Lines, out, image),
+        "map json" => map(alloc, &header, ExtentFormat::Json, out, image),
+        _ => Err(Fault::WrongLength),
+    }
 }
 
-fn tell_of<S: Storage>(
-    command: &str,
+fn map<S: Storage>(
     alloc: Global,
     header: &Header,
+    format: ExtentFormat,
     out: &mut Output,
     image: &mut S,
 ) -> Result<(), Fault> {
-    match command {
-        "info" => print_info(header, out),
-        "list" => list_tables(alloc, image, header, out),
-        "at" => print_mapping_at(alloc, image, header, GUEST_OFFSET, out),
-        "map" => print_extents(alloc, image, header, ExtentFormat::Lines, out),
-        _ => print_extents(alloc, image, header, ExtentFormat::Json, out),
-    }
+    print_extents(alloc, image, header, format, out)
 }
 
 fn change<S: Storage>(

@@ -2,7 +2,7 @@
 
 use super::Sum;
 use crate::calls::tables;
-use crate::held::{Held, TABLES, hold_from, l2_table};
+use crate::held::{Held, TABLES, hold_over, l2_table, new_header};
 use qcow2_base::{ClusterCount, Fault, GuestCluster, HostCluster, MemStorage};
 use qcow2_metadata::{
     ClustersToFreeEntry, Header, L1Table, L2Table, MAX_OFFSET, PendingClusters, RefBlock, RefTable,
@@ -31,7 +31,7 @@ pub(super) fn begin(alloc: Global) -> Result<Tables, Fault> {
 
 fn begin_empty(alloc: Global) -> Result<Tables, Fault> {
     Ok(Tables {
-        held: hold_from(alloc, "", "new 9 4")?,
+        held: hold_empty(alloc)?,
         image: image_with(alloc, 1536, &[(536, COMPRESSED)])?,
         outcome: begin_outcome(alloc)?,
     })
@@ -41,6 +41,11 @@ fn load(alloc: Global, tables: &mut Tables) -> Result<(), Fault> {
     let (held, image) = (&mut tables.held, &mut tables.image);
     held.l2_table = l2_table(alloc, image, &held.header)?;
     Ok(())
+}
+
+fn hold_empty(alloc: Global) -> Result<Held, Fault> {
+    let header = new_header(alloc, 9, 4)?;
+    hold_over(alloc, &mut MemStorage::new(Vec::new(alloc)), header)
 }
 
 fn begin_outcome(alloc: Global) -> Result<Outcome, Fault> {
