@@ -117,6 +117,12 @@ const VERSIONS: &[(Changes, u32, Result<(), Fault>)] = &[
 ];
 
 #[test]
+fn a_header_tells_its_version(rt: HostRuntime) -> Result<(), Fail> {
+    same(load_with(rt.alloc(), &[], &[])?.version(), 3, "least")?;
+    same(load_with(rt.alloc(), OLDER, &[])?.version(), 2, "older")
+}
+
+#[test]
 fn a_header_refuses_a_later_version_than_its_own(rt: HostRuntime) -> Result<(), Fail> {
     for row in VERSIONS {
         let (changes, minimum, expected) = *row;

@@ -36,7 +36,7 @@ pub(super) fn make(turn: u64, headers: &mut Headers, sum: &mut Sum) {
 
 fn getters(header: &Header, sum: &mut Sum) {
     sum.add(header.size() ^ header.cluster_bits() as u64 ^ header.cluster_size() as u64);
-    sum.add(header.l2_entries() as u64 ^ header.refcount_order() as u64);
+    sum.add(header.version() as u64 ^ header.l2_entries() as u64 ^ header.refcount_order() as u64);
     sum.add(header.rb_bits() as u64 ^ header.rb_entries() as u64);
     sum.note(header.external_data_file());
     sum.note(header.require_version(3).is_ok());
