@@ -197,10 +197,14 @@ pub version_2_header : header_of (changed version_2) ≡ Ok (record {
 unfolding computing
 version_2_header = refl
 
--- a header of 112 bytes has 8 unknown ones
+-- a header of 112 bytes has 8 unknown ones, one of 504 bytes has 400
 pub eight_unknown_bytes : Says (λ header. header.unknown_header_fields) (byte 103 112) (replicate 8 0)
 unfolding computing
 eight_unknown_bytes = refl
+
+pub four_hundred_unknown_bytes : Says (λ header. length header.unknown_header_fields) (number 100 4 504) 400
+unfolding computing
+four_hundred_unknown_bytes = refl
 
 -- a header of 105 bytes: the extensions begin there, and only their data is padded
 pub extensions_at_an_odd_place : ExtensionsAre
