@@ -16,6 +16,7 @@ pub mod FirstLemmas
 pub mod HexLemmas
 pub mod PrintedExtentsLemmas
 pub mod ImagesLemmas
+pub mod L2TablesLemmas
 pub mod LinesLemmas
 pub mod ListingLemmas
 pub mod LookupsLemmas

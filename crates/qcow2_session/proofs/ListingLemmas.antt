@@ -1,21 +1,23 @@
-use Rattle.std.proofs.Common.{◌≡◌, ◌≢◌, ◌⊎◌, ℕ, inl, inr, ◌+◌, ◌-◌, ◌*◌, ◌%◌, ◌^◌, ◌<◌, ◌≤◌, List, [], ◌∷◌, ◌++◌, length, get_or, map, take, Option, Result, Ok, Err, IsTrue, OnOk, ap, refl, sym, ◌∙◌, add-one, append_assoc, append-nil, arith}
+use Rattle.std.proofs.Common.{◌≡◌, ◌≢◌, ◌⊎◌, ℕ, inl, inr, ◌+◌, ◌-◌, ◌*◌, ◌%◌, ◌^◌, ◌<◌, ◌≤◌, List, [], ◌∷◌, ◌++◌, length, get_or, map, take, Option, Result, Ok, Err, IsTrue, ap, sym, ◌∙◌, add-one, append_assoc, append-nil, arith}
 use Rattle.std.specs.List.{concat}
 use Rattle.std.specs.Io.KnownBytes.{Appends}
-use Rattle.std.specs.Result.{IsOkUnless}
 use Rattle.std.proofs.KnownBytes.{Appends-nil, Appends-trans}
 use Rattle.std.proofs.Math.Pow.{pow_mono}
 use Rattle.std.proofs.lemmas.List.{map-append}
 use Rattle.std.proofs.lemmas.List.Folds.{concat-append}
 use Rattle.std.proofs.lemmas.Nat.{mod-mul-add, mul-add-lt, mul-lt}
-use Rattle.qcow2_base.specs.Storage.{OnlyReads, StorageState}
+use Rattle.qcow2_base.specs.Storage.{Image, OnlyReads, StorageState}
 use Rattle.qcow2_base.specs.declared.fault.Fault.{Fault}
 use Rattle.qcow2_base.specs.declared.fault.Fault.TheVariants.{NoMemory, Storage}
-use Rattle.qcow2_metadata.specs.Header.{Geometry}
+use Rattle.qcow2_metadata.specs.Header.{Geometry, HeaderRecord, geometry_of}
 use Rattle.qcow2_metadata.specs.Entries.L2Mapping.{Mapping, mapping}
 use Rattle.qcow2_session.proofs.LinesLemmas.{entry_lines-take-suc}
 use Rattle.qcow2_session.proofs.PrintingLemmas.{read_fault-of, reads-calm}
 use Rattle.qcow2_session.specs.Lines.{entry_line, entry_lines}
-use Rattle.qcow2_session.specs.Commands.Listing.{PrintsList, PrintsTables, PrintsTablesBefore, TableTexts}
+use Rattle.qcow2_session.specs.Commands.Entries.{table_lines}
+use Rattle.qcow2_session.specs.Commands.Listing.{PrintsList, PrintsTables, PrintsTablesBefore, TableTexts, texts_left, texts_of}
+use Rattle.qcow2_session.specs.Session.L2Tables.{WalkState, tables_left}
+use Rattle.qcow2_session.specs.declared.commands.entries.Label.TheVariants.{Offset}
 
 -- the offset of each guest cluster that an L1 table of the most entries leads to fits 64 bits
 pub guest_offset-fits : (cb index l2_index : ℕ) → cb ≤ 21 → index < 4194304 → l2_index < 2 ^ (cb - 3) → (index * 2 ^ (cb - 3) + l2_index) * 2 ^ cb < 2 ^ 64
@@ -49,6 +51,14 @@ tables-printed some more a b c before here = rw (concat-append some more) (Appen
 pub tables-known : (some more : List (List ℕ)) (rest all : TableTexts) → all ≡ map Ok some ++ (map Ok more ++ rest) → all ≡ map Ok (some ++ more) ++ rest
 tables-known some more rest all are = rw (map-append {B = Result (List ℕ) Fault} Ok some more, append_assoc) are
 
+-- the text of the tables that are left, by the first of them
+pub texts-more : (left next : WalkState) (index : ℕ) (numbers : List ℕ) (image : Image) → next.header ≡ left.header
+    → tables_left left image ≡ (index, Ok numbers) ∷ tables_left next image
+    → texts_left left image ≡ Ok (table_lines Offset (geometry_of left.header) index numbers) ∷ texts_left next image
+texts-more left next index numbers image header first =
+    let g = geometry_of left.header in
+    ap (texts_of g) first ∙ ap (λ (h : HeaderRecord). Ok (table_lines Offset g index numbers) ∷ texts_of (geometry_of h) (tables_left next image)) (sym header)
+
 -- the print of some tables ended after others were printed
 pub PrintsTablesBefore-after : (fault : Fault) (known : List (List ℕ)) (some more all : TableTexts) (old between new : StorageState) (a b c : Option (List ℕ))
     → all ≡ map Ok known ++ (some ++ more) → Appends a b (concat known) → between.failures ≡ old.failures
@@ -69,40 +79,6 @@ ended-after : {T : Type 0} (value : T) (fault : Fault) (tables : TableTexts) (ol
     → OnlyReads (Ok value) old between → PrintsTablesBefore fault between new a b tables → PrintsTablesBefore fault old new a b tables
 ended-after value fault tables old between new a b reads ended =
     PrintsTablesBefore-after fault [] tables [] tables old between new a a b (sym (append-nil tables)) (Appends-nil a) (reads-calm value old between reads) ended
-
--- a table that can't be read
-pub PrintsTables-refused : {T : Type 0} (fault : Fault) (table : Result (List ℕ) Fault) (old new : StorageState) (a : Option (List ℕ))
-    → (IsTrue old.tells → (fault ≡ Storage) ⊎ (fault ≡ NoMemory) ⊎ (table ≡ Err fault)) → (fault ≡ Storage → new.failures ≢ old.failures)
-    → PrintsTables {T = T} (Err fault) (table ∷ []) old new a a
-PrintsTables-refused fault table old new a refused failed = record {
-  lines = tt;
-  refused = λ told. record {
-    printed = [];
-    table = table;
-    rest = [];
-    are = refl;
-    why = inl (read_fault-of fault table old new (refused told) failed, Appends-nil a);
-  };
-}
-
--- the print of the lines of a table, after that was loaded
-pub PrintsTables-one : {T V : Type 0} (value : V) (answer : Result T Fault) (table : Result (List ℕ) Fault) (lines : List ℕ) (old new : StorageState) (a b : Option (List ℕ))
-    → (IsTrue old.tells → table ≡ Ok lines) → OnlyReads (Ok value) old new → IsOkUnless answer Storage → OnOk answer (Appends a b lines)
-    → PrintsTables answer (table ∷ []) old new a b
-PrintsTables-one value (Ok done) table lines old new a b is reads fault printed = record {
-  lines = λ told. (lines ∷ [], rw (is told) refl, rw (append-nil lines) printed);
-  refused = tt;
-}
-PrintsTables-one value (Err error) table lines old new a b is reads fault printed = record {
-  lines = tt;
-  refused = λ told. record {
-    printed = [];
-    table = table;
-    rest = [];
-    are = refl;
-    why = inr ((fault, reads-calm value old new reads), rw (is told) refl);
-  };
-}
 
 -- tables that can't be told: nothing is printed
 pub PrintsList-none : {T : Type 0} (fault : Fault) (tables : Result TableTexts Fault) (old new : StorageState) (a : Option (List ℕ))

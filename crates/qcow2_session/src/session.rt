@@ -5,6 +5,7 @@
 mod edits;
 mod extents;
 mod images;
+mod l2_tables;
 mod lookups;
 mod settled;
 mod steps;
@@ -12,6 +13,7 @@ mod steps;
 pub use edits::{Edit, Outcome, edit_table, edits_fit};
 pub use extents::{Content, Extent, Extents};
 pub use images::{edit_image, step_image};
+pub(crate) use l2_tables::L2Tables;
 pub(crate) use lookups::{load_l1_table, load_l2_table, lookup_with_header, named_cluster};
 pub use lookups::{lookup, lookup_image};
 pub use settled::{edit_settled, settle};

@@ -1,37 +1,34 @@
-use Rattle.std.specs.Prelude.{◌≡◌, ◌⊎◌, ℕ, ◌+◌, List, [], ◌∷◌, ◌++◌, map, Option, Some, None, Result, Ok, IfErr, IsOk, IsOkAnd, IsTrue, OnOk}
+use Rattle.std.specs.Prelude.{◌≡◌, ◌⊎◌, ℕ, List, [], ◌∷◌, ◌++◌, map, Option, Result, Ok, IfErr, IsOk, IsOkAnd, IsTrue, OnOk}
 use Rattle.std.specs.List.{concat}
 use Rattle.std.specs.Io.KnownBytes.{Appends}
 use Rattle.qcow2_base.specs.Storage.{Image, StorageState}
 use Rattle.qcow2_base.specs.declared.fault.Fault.{Fault}
-use Rattle.qcow2_base.specs.declared.types.HostCluster.{HostCluster}
 use Rattle.qcow2_metadata.specs.Results.{result_map}
 use Rattle.qcow2_metadata.specs.Header.{Geometry, HeaderRecord, geometry_of}
-use Rattle.qcow2_metadata.specs.Table.{loaded_l1_table, loaded_l2_table}
+use Rattle.qcow2_metadata.specs.Table.{loaded_l1_table}
 use Rattle.qcow2_session.specs.Commands.Printing.{IsOutputFault, IsReadFault}
 use Rattle.qcow2_session.specs.Commands.Entries.{table_lines}
-use Rattle.qcow2_session.specs.Session.Lookups.{l1_place, named_cluster}
+use Rattle.qcow2_session.specs.Session.L2Tables.{NamedTables, WalkState, named_tables, tables_left}
+use Rattle.qcow2_session.specs.Session.Lookups.{l1_place}
 use Rattle.qcow2_session.specs.declared.commands.entries.Label.TheVariants.{Offset}
 
 -- of tables one after another, the lines of each, or why it can't be loaded
 abbrev pub TableTexts : Type 0
 TableTexts = List (Result (List ℕ) Fault)
 
--- the L2 table that the L1 entry at an index names, if it names one
-abbrev pub table_by : Geometry → ℕ → Option HostCluster → Image → TableTexts
-table_by g index None image = []
-table_by g index (Some cluster) image =
-    result_map (table_lines Offset g index) (loaded_l2_table g cluster image) ∷ []
+-- the text of tables, by what the L1 table names
+abbrev pub texts_of : Geometry → NamedTables → TableTexts
+texts_of g tables = map (λ table. result_map (table_lines Offset g table.0) table.1) tables
 
--- the L2 tables that L1 entries name, from an index on
-abbrev pub tables_from : Geometry → ℕ → List ℕ → Image → TableTexts
-tables_from g index [] image = []
-tables_from g index (v ∷ vs) image =
-    table_by g index (named_cluster g.cluster_bits v) image ++ tables_from g (index + 1) vs image
+-- the text of the tables that a walk comes to yet
+abbrev pub texts_left : WalkState → Image → TableTexts
+texts_left walk image = texts_of (geometry_of walk.header) (tables_left walk image)
 
--- the L2 tables of an image with this header, or why its L1 table can't be loaded
+-- the text of the L2 tables of an image with this header, or why its L1 table can't be loaded
 abbrev pub tables_of : HeaderRecord → Image → Result TableTexts Fault
-tables_of header image = result_map (λ l1. tables_from (geometry_of header) 0 l1 image)
-    (loaded_l1_table (l1_place header) image)
+tables_of header image =
+    let g = geometry_of header in
+    result_map (λ l1. texts_of g (named_tables g 0 l1 image)) (loaded_l1_table (l1_place header) image)
 
 -- all tables can be loaded, and the output got their lines
 abbrev pub PrintsAllTables : Option (List ℕ) → Option (List ℕ) → TableTexts → Type 0

@@ -1,17 +1,14 @@
 //! The command `list`: what all L2 tables of an image map.
 
-ghost use Rattle.std.specs.Prelude.{◌≡◌, ◌<◌, ◌≤◌, length, IsErrOf, slice_index};
-ghost use Rattle.qcow2_base.specs.Format.{most_l1_entries};
+ghost use Rattle.std.specs.Prelude.{IsErrOf};
 ghost use Rattle.qcow2_base.specs.Storage.{ReadsFor};
 ghost use Rattle.qcow2_base.specs.declared.fault.Fault.TheVariants.{Storage as StorageFailed};
-ghost use Rattle.qcow2_metadata.specs.Header.{geometry_of};
-ghost use Rattle.qcow2_session.specs.Commands.Listing.{PrintsList, PrintsTables, table_by, tables_from, tables_of};
-ghost use Rattle.qcow2_session.specs.Session.Lookups.{named_cluster};
+ghost use Rattle.qcow2_session.specs.Commands.Listing.{PrintsList, PrintsTables, tables_of, texts_left};
 
 use super::entries::{Label, print_entries};
-use crate::session::{load_l1_table, load_l2_table, named_cluster};
+use crate::session::L2Tables;
 use qcow2_base::{Fault, Storage};
-use qcow2_metadata::{Header, L1Table, Table};
+use qcow2_metadata::Header;
 use std::alloc::Global;
 use std::io::Write;
 
@@ -32,51 +29,22 @@ pub fn list_tables<S: Storage, O: Write>(
         (S.state image.old) (S.state image.new) (O.contents out.old) (O.contents out.new) }
     ensures storage { ReadsFor (IsErrOf result StorageFailed) (S.state image.old) (S.state image.new) }
 {
-    let l1_table = load_l1_table(alloc, image, header)?;
-    print_tables(alloc, image, header, &l1_table, out)
+    let mut tables = L2Tables::new(alloc, image, header)?;
+    print_tables(&mut tables, image, out)
 }
 
-// Prints what the L2 tables map that the L1 table names.
+// Prints what the L2 tables map that a walk comes to yet.
 fn print_tables<S: Storage, O: Write>(
-    alloc: Global,
+    tables: &mut L2Tables<'_>,
     image: &mut S,
-    header: &Header,
-    l1_table: &L1Table,
     out: &mut O,
 ) -> Result<(), Fault>
-    requires cluster_bits { header.now.v2.cluster_bits ≡ l1_table.now.geometry.cluster_bits }
-    requires entries { length l1_table.now.numbers ≤ most_l1_entries }
-    ensures prints { PrintsTables result
-        (tables_from (geometry_of header.now) 0 l1_table.now.numbers (S.state image.old).byte_at)
+    ensures prints { PrintsTables result (texts_left tables.old (S.state image.old).byte_at)
         (S.state image.old) (S.state image.new) (O.contents out.old) (O.contents out.new) }
     ensures storage { ReadsFor (IsErrOf result StorageFailed) (S.state image.old) (S.state image.new) }
 {
-    for index in 0..l1_table.entries() {
-        print_table_of(alloc, image, header, l1_table, index, out)?;
+    while let Some((index, table)) = tables.next(image)? {
+        print_entries(&table, index, Label::Offset, out)?;
     }
     Ok(())
-}
-
-// Prints what the L2 table maps that an L1 entry names, if it names one.
-fn print_table_of<S: Storage, O: Write>(
-    alloc: Global,
-    image: &mut S,
-    header: &Header,
-    l1_table: &L1Table,
-    index: usize,
-    out: &mut O,
-) -> Result<(), Fault>
-    requires cluster_bits { header.now.v2.cluster_bits ≡ l1_table.now.geometry.cluster_bits }
-    requires index { index < most_l1_entries }
-    ensures prints { let cb = header.now.v2.cluster_bits in
-        PrintsTables result (table_by (geometry_of header.now) index
-        (named_cluster cb (slice_index l1_table.now.numbers index)) (S.state image.old).byte_at)
-        (S.state image.old) (S.state image.new) (O.contents out.old) (O.contents out.new) }
-    ensures storage { ReadsFor (IsErrOf result StorageFailed) (S.state image.old) (S.state image.new) }
-{
-    let Some(cluster) = named_cluster(l1_table, index) else {
-        return Ok(());
-    };
-    let l2_table = load_l2_table(alloc, image, header, cluster)?;
-    print_entries(&l2_table, index, Label::Offset, out)
 }

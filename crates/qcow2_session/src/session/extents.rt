@@ -9,10 +9,10 @@ ghost use Rattle.qcow2_metadata.specs.Results.{Answers};
 ghost use Rattle.qcow2_metadata.specs.Entries.L2Mapping.{IsPlaced, meaning};
 ghost use Rattle.qcow2_metadata.specs.Header.{geometry_of};
 ghost use Rattle.qcow2_metadata.specs.Table.{IsLoadFault, LoadRefuses, loaded_l1_table, loaded_l2_table, place_fault};
-ghost use Rattle.qcow2_session.specs.Session.Lookups.{l1_place, l2_cluster, named_cluster};
+ghost use Rattle.qcow2_session.specs.Session.Lookups.{l1_place, l2_cluster};
 ghost use Rattle.qcow2_session.specs.Session.Extents.{AreInOneTable, HasNoTable, IsKeptOf, IsPiece, content_in, contents_in, kept_numbers, moved_on};
 
-use super::lookups::{l2_cluster, load_l1_table, load_l2_table, named_cluster};
+use super::lookups::{l2_cluster, load_l1_table, load_l2_table, next_named};
 use qcow2_base::{Fault, GuestOffset, HostCluster, HostOffset, Storage};
 use qcow2_metadata::{Header, L1Table, L2Mapping, L2Table, Table};
 use std::alloc::Global;
@@ -90,23 +90,6 @@ impl Content {
             _ => false,
         }
     }
-}
-
-// The first L1 entry from an index on that names an L2 table, if there is one.
-fn next_named(l1_table: &L1Table, first: usize) -> Option<usize>
-    ensures { let cb = l1_table.now.geometry.cluster_bits in
-        MatchOption result
-        ((k : ℕ) → first ≤ k → named_cluster cb (slice_index l1_table.now.numbers k) ≡ None)
-        (λ next. (first ≤ next) × IsSome (named_cluster cb (slice_index l1_table.now.numbers next))
-        × ((k : ℕ) → first ≤ k → k < next →
-        named_cluster cb (slice_index l1_table.now.numbers k) ≡ None)) }
-{
-    for index in first..l1_table.entries() {
-        if named_cluster(l1_table, index).is_some() {
-            return Some(index);
-        }
-    }
-    None
 }
 
 // Up to where no L2 table is for the bytes from an offset on, or the disk's size.

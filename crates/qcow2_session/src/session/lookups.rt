@@ -1,6 +1,6 @@
 //! What a guest offset reads as, by an image's header, L1 table and L2 table.
 
-ghost use Rattle.std.specs.Prelude.{◌≡◌, ◌+◌, ◌*◌, ◌/◌, ◌^◌, ◌≤◌, None, IfErr, IfOk, IfSome, IsOkAnd, IsTrue, slice_index};
+ghost use Rattle.std.specs.Prelude.{◌≡◌, ℕ, ◌+◌, ◌*◌, ◌/◌, ◌^◌, ◌<◌, ◌≤◌, None, IfErr, IfOk, IfSome, IsOkAnd, IsSome, IsTrue, MatchOption, slice_index};
 ghost use Rattle.qcow2_base.specs.Format.{max_file_length, most_l1_entries};
 ghost use Rattle.qcow2_base.specs.Storage.{OnImage, OnlyReads};
 ghost use Rattle.qcow2_metadata.specs.Results.{Answers};
@@ -131,6 +131,23 @@ pub(crate) fn named_cluster(l1_table: &L1Table, index: usize) -> Option<HostClus
 {
     let offset = l1_table.get(index).l2_offset()?;
     Some(offset.cluster(l1_table.cluster_bits()))
+}
+
+/// The first L1 entry from an index on that names an L2 table, if there is one.
+pub(super) fn next_named(l1_table: &L1Table, first: usize) -> Option<usize>
+    ensures { let cb = l1_table.now.geometry.cluster_bits in
+        MatchOption result
+        ((k : ℕ) → first ≤ k → named_cluster cb (slice_index l1_table.now.numbers k) ≡ None)
+        (λ next. (first ≤ next) × IsSome (named_cluster cb (slice_index l1_table.now.numbers next))
+        × ((k : ℕ) → first ≤ k → k < next →
+        named_cluster cb (slice_index l1_table.now.numbers k) ≡ None)) }
+{
+    for index in first..l1_table.entries() {
+        if named_cluster(l1_table, index).is_some() {
+            return Some(index);
+        }
+    }
+    None
 }
 
 /// The cluster that the L2 table of a guest cluster begins with, if there is one. It ends by 2^56.

@@ -1,6 +1,6 @@
 use Rattle.std.proofs.Common.{sym, ◌∙◌}
 use Rattle.qcow2_session.proofs.ExtentsLemmas.{unnamed_from, unnamed_more}
-use Rattle.qcow2_session.proofs.session.extents.next_named.Goals as goal
+use Rattle.qcow2_session.proofs.session.lookups.next_named.Goals as goal
 
 pub loop-index-preserved : goal.loop-index-preserved
 loop-index-preserved c =

@@ -1,6 +1,6 @@
 use Rattle.std.proofs.Common.{◌≡◌, ℕ, ◌<◌, ◌≤◌, None, get_or}
 use Rattle.qcow2_session.specs.Session.Lookups.{named_cluster}
-use Rattle.qcow2_session.proofs.session.extents.next_named.Given as goal
+use Rattle.qcow2_session.proofs.session.lookups.next_named.Given as goal
 
 -- no entry before this one names an L2 table
 abbrev pub invariant-loop-index : goal.invariant-loop-index
