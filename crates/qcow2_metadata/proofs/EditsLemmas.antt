@@ -14,12 +14,12 @@ use Rattle.qcow2_base.specs.Types.{IsClusterBits}
 use Rattle.qcow2_base.specs.declared.fault.Fault.{Fault}
 use Rattle.qcow2_metadata.specs.Header.{Geometry}
 use Rattle.qcow2_metadata.specs.declared.entries.ClustersToFreeEntry.{ClustersToFreeEntry}
-use Rattle.qcow2_metadata.specs.Entries.L2Entry.{ByteRange, Meets, allocation, byte_range, cluster_count, clusters_met, first_cluster, has_host_cluster, is_allocated, is_compressed, l2_fault, meets, with_zero_flag}
+use Rattle.qcow2_metadata.specs.Entries.L2Entry.{ByteRange, IsAllocation, Meets, allocation, byte_range, cluster_count, clusters_met, first_cluster, has_host_cluster, is_allocated, is_compressed, l2_fault, meets, with_zero_flag}
 use Rattle.qcow2_metadata.specs.Entries.{is_among, offset_field}
 use Rattle.qcow2_metadata.proofs.EntriesLemmas.{l2_fault_zero, meets_is_met, offset_in_sectors}
 use Rattle.qcow2_metadata.proofs.TableLemmas.{first_fault-set, no_fault_item}
 use Rattle.qcow2_metadata.specs.Table.{first_fault}
-use Rattle.qcow2_metadata.specs.Table.L2Guards.{EntryEdit, IsEdit, IsRun, RunsTo, TableEdit, after_edit, can_be_made, changed, data_entry, dropped, fits_table, gained, handed_back, is_just, is_mappable, keeps, one_if, references, run_of, times_gained, to_data, to_nothing, to_zeros}
+use Rattle.qcow2_metadata.specs.Table.L2Guards.{EntryEdit, GivesUp, IsEdit, IsRun, RunsTo, TableEdit, after_edit, can_be_made, changed, data_entry, dropped, fits_table, gained, handed_back, is_just, is_mappable, keeps, one_if, references, run_of, times_gained, to_data, to_nothing, to_zeros}
 
 -- an entry of data in a host cluster at an offset: it is standard and copied, with no reserved bit
 record IsDataAt (v offset : ℕ) : Type 0 where
@@ -208,6 +208,18 @@ keeps-just g cluster v =
       λ keeps. let both = just.0 keeps in ((meets_is_met g v cluster).0 both.0, λ c met. both.1 c ((meets_is_met g v c).1 met)),
       λ both. just.1 ((meets_is_met g v cluster).1 both.0, λ c meets. both.1 c ((meets_is_met g v c).0 meets)),
     )
+
+-- so an entry that is mapped to a cluster gives up what the change drops
+pub gives_up : (g : Geometry) (v cluster : ℕ) (freed : Option ClustersToFreeEntry) → freed ≡ dropped g (to_data cluster) v
+    → (keeps g (to_data cluster) v ≡ false → IsAllocation g v freed) → GivesUp g v cluster freed
+gives_up g v cluster freed is met = record {
+  same = λ just. is ∙ ap (λ (kept : Bool). if kept then None else allocation g v) ((keeps-just g cluster v).1 just);
+  others = λ differs. met (not_kept (keeps g (to_data cluster) v) (λ kept. differs ((keeps-just g cluster v).0 kept)));
+}
+  where
+    not_kept : (kept : Bool) → (kept ≡ true → ⊥) → kept ≡ false
+    not_kept true never = absurd (never refl)
+    not_kept false never = refl
 
 handed_back-option : (found : Option ClustersToFreeEntry) (c : ℕ) → handed_back (option_to_list found) c ≡ one_if (refer found c)
 handed_back-option None c = refl

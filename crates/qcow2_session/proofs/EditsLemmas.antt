@@ -1,4 +1,4 @@
-use Rattle.std.proofs.Common.{◌≡◌, ℕ, true, not, ◌&&◌, nat_le, nat_eq, ◌+◌, ◌-◌, ◌*◌, ◌/◌, ◌^◌, ◌<◌, if◌then◌else◌, Option, Some, None, option_map, slice_index, List, [], ◌∷◌, ◌++◌, length, take, drop, get_or, suc, option_to_list, append_assoc, append-nil, ap, subst, sym, refl, ◌∙◌, arith}
+use Rattle.std.proofs.Common.{◌≡◌, ℕ, true, not, ◌&&◌, nat_le, nat_eq, ◌+◌, ◌-◌, ◌*◌, ◌/◌, ◌^◌, ◌<◌, if◌then◌else◌, Option, Some, None, option_map, List, [], ◌∷◌, ◌++◌, length, take, drop, get_or, suc, option_to_list, append_assoc, append-nil, ap, subst, sym, refl, ◌∙◌, arith}
 use Rattle.std.proofs.Math.Nat.{le-div_iff_mul-le}
 use Rattle.std.proofs.lemmas.Nat.{pow_pos}
 use Rattle.std.proofs.lemmas.Bool.Decides.{nat_tests}
@@ -9,8 +9,7 @@ use Rattle.std.specs.List.{list_all}
 use Rattle.qcow2_base.specs.Types.{IsClusterBits}
 use Rattle.qcow2_base.specs.declared.types.HostCluster.{HostCluster}
 use Rattle.qcow2_metadata.proofs.EditsLemmas.{balance-run}
-use Rattle.qcow2_metadata.specs.Table.L2Guards.{RunEnd, TableEdit, after_edit, data_entry, fits_table, handed_back, is_just, is_mappable, references, run_of, times_gained, to_data}
-use Rattle.qcow2_metadata.specs.Entries.L2Entry.{allocation}
+use Rattle.qcow2_metadata.specs.Table.L2Guards.{RunEnd, TableEdit, after_edit, fits_table, handed_back, is_mappable, references, run_of, times_gained}
 use Rattle.qcow2_metadata.specs.Header.{Geometry}
 use Rattle.qcow2_metadata.specs.Table.{TableState, edited}
 use Rattle.qcow2_metadata.specs.declared.entries.ClustersToFreeEntry.{ClustersToFreeEntry}
@@ -29,16 +28,8 @@ pub mappable_by_greatest : (g : Geometry) (cluster greatest : ℕ) → greatest 
 mappable_by_greatest g cluster greatest is = rw (is, nat_le-div cluster (2 ^ g.cluster_bits) (2 ^ 56 - 512) (pow_pos g.cluster_bits)) refl
 
 -- an entry that is changed twice is as after the second change
-edited-edited : (table : TableState) (index v w : ℕ) → edited (edited table index v) index w ≡ edited table index w
-edited-edited table index v w = rw (set-set table.numbers index v w) refl
-
--- mapping an entry that was taken away before
-pub Makes-mapping : (index cluster : ℕ) (before : Option ClustersToFreeEntry) (change : Change) (old cleared new : TableState) → cleared ≡ edited old index 0 → new ≡ edited cleared index (data_entry cleared.geometry.cluster_bits cluster) → before ≡ allocation old.geometry (slice_index old.numbers index) → option_map (λ (c : HostCluster). c.0) change.gained ≡ (if is_just cluster before then None else Some cluster) → change.freed ≡ (if is_just cluster before then None else before) → Makes (record { index = index; edit = to_data cluster }) change old new
-Makes-mapping index cluster before change old cleared new is_cleared is_mapped is_before gained freed = record {
-  table = is_mapped ∙ rw is_cleared (edited-edited old index 0 (data_entry old.geometry.cluster_bits cluster));
-  gained = rw is_before at gained;
-  freed = rw is_before at freed;
-}
+pub edited_twice : (table : TableState) (index v w : ℕ) → edited (edited table index v) index w ≡ edited table index w
+edited_twice table index v w = rw (set-set table.numbers index v w) refl
 
 -- what was done before, and then what a run did
 abbrev pub joined : List ClustersToFreeEntry → List ℕ → RunEnd → RunEnd

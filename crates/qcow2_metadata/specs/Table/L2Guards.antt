@@ -154,3 +154,9 @@ pub record MakesEdit (edit : EntryEdit) (index : ℕ) (freed : Option ClustersTo
 -- the entry refers to this cluster and to no other
 abbrev pub MeetsJust : Geometry → ℕ → ℕ → Type 0
 MeetsJust g v cluster = Meets g v cluster × ((c : ℕ) → Meets g v c → c ≡ cluster)
+
+-- what an entry gives up when it is mapped to a cluster: nothing where it refers to that one alone, and else all that it
+-- refers to
+pub record GivesUp (g : Geometry) (v cluster : ℕ) (freed : Option ClustersToFreeEntry) : Type 0 where
+  pub same : MeetsJust g v cluster → freed ≡ None
+  pub others : (MeetsJust g v cluster → ⊥) → IsAllocation g v freed

@@ -1,17 +1,19 @@
 //! Lists of edits of an L2 table: all of them are made, or none.
 
-ghost use Rattle.std.specs.Prelude.{◌≡◌, ℕ, ◌+◌, ◌-◌, ◌<◌, ◌≤◌, ◌/◌, ◌^◌, [], ◌++◌, if◌then◌else◌, Err, IfErr, IfOk, IfSome, MatchResult, None, Some, length, not, option_map, option_to_list, true};
+ghost use Rattle.std.specs.Prelude.{◌≡◌, ℕ, ◌+◌, ◌-◌, ◌<◌, ◌≤◌, ◌/◌, ◌^◌, [], ◌++◌, if◌then◌else◌, Err, IfErr, IfOk, IfSome, MatchResult, None, Some, length, not, option_map, option_to_list, slice_index, true};
 ghost use Rattle.std.specs.Vec.{vec_capacity};
 ghost use Rattle.qcow2_base.specs.Format.{max_offset};
 ghost use Rattle.qcow2_base.specs.Types.{IsClusterBits};
 ghost use Rattle.qcow2_base.specs.declared.fault.Fault.TheVariants.{BadEdit};
 ghost use Rattle.qcow2_base.specs.declared.types.HostCluster.{HostCluster as Cluster};
 ghost use Rattle.qcow2_metadata.specs.Results.{Computes};
-ghost use Rattle.qcow2_metadata.specs.Table.L2Guards.{is_just, is_mappable, run_of};
+ghost use Rattle.qcow2_metadata.specs.Entries.L2Entry.{allocation};
+ghost use Rattle.qcow2_metadata.specs.Table.{edited};
+ghost use Rattle.qcow2_metadata.specs.Table.L2Guards.{IsSameTable, data_entry, guarded_table, is_just, is_mappable, run_of};
 ghost use Rattle.qcow2_session.specs.Session.Edits.{Balances, HasRoom, Makes, edits_left, first_unfit_edit, edit_fits, table_left, edits_or_refusal, table_edit, table_edits};
 
 use qcow2_base::{ClusterCount, Fault, HostCluster};
-use qcow2_metadata::{ClustersToFreeEntry, L2Table, MAX_OFFSET, Table};
+use qcow2_metadata::{ClustersToFreeEntry, L2Table, L2TableWriteGuard, MAX_OFFSET, Table};
 use std::alloc::{AllocError, Global};
 
 /// A change of what one guest cluster reads as. The index is that of its entry in the L2 table.
@@ -80,13 +82,7 @@ impl Edit {
             Edit::Map {
                 index,
                 host_cluster,
-            } => {
-                // Taken away first: mapping answers nothing both where the entry had no cluster and where
-                // it keeps this one.
-                let before = guard.discard_cluster(index);
-                let _ = guard.map_cluster(index, host_cluster, None);
-                Change::of_mapping(host_cluster, before)
-            }
+            } => Change::of_mapping(host_cluster, map_anew(&mut guard, index, host_cluster)),
             Edit::Zero {
                 index,
                 keep_allocation,
@@ -97,6 +93,29 @@ impl Edit {
             Edit::Discard { index } => Change::of_dropping(guard.discard_cluster(index)),
         }
     }
+}
+
+// Maps the guest cluster at an index to a host cluster, and answers all that its entry referred to before.
+// That is taken away first: mapping answers nothing both where the entry had no cluster and where it keeps
+// this one.
+#[tactic(auto, using(crate::proofs::EditsLemmas::edited_twice))]
+fn map_anew(
+    guard: &mut L2TableWriteGuard<'_>,
+    index: usize,
+    host_cluster: HostCluster,
+) -> Option<ClustersToFreeEntry>
+    requires index { index < length (guarded_table guard.old).numbers }
+    requires cluster { is_mappable (guarded_table guard.old).geometry host_cluster.0 ≡ true }
+    ensures same_table { IsSameTable guard.old guard.new }
+    ensures table { let table = guarded_table guard.old in
+        guarded_table guard.new
+        ≡ edited table index (data_entry table.geometry.cluster_bits host_cluster.0) }
+    ensures before { let table = guarded_table guard.old in
+        result ≡ allocation table.geometry (slice_index table.numbers index) }
+{
+    let before = guard.discard_cluster(index);
+    let _ = guard.map_cluster(index, host_cluster, None);
+    before
 }
 
 // Whether an entry of the table, which can refer to host clusters up to the greatest, can refer to this
