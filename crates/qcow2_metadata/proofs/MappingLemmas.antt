@@ -151,25 +151,25 @@ pub compressed_parts_fit : (cb offset length : ℕ) → 9 ≤ cb → cb ≤ 21 �
 compressed_parts_fit cb offset length low high fits short = below_bit_62 cb offset _ low high fits (sectors_below cb offset length low short)
 
 -- a mapping's number is lawful
-pub entry_is_lawful : (cb : ℕ) (m : L2Mapping) → 9 ≤ cb → cb ≤ 21 → IsPlaced cb m → FitsEntry cb m → l2_fault cb (entry_of cb (meaning m)) ≡ None
-entry_is_lawful cb (DataFile host_cluster copied) low high placed fits =
+pub entry_is_lawful : (cb : ℕ) (m : L2Mapping) → IsPlaced cb m → FitsEntry cb m → l2_fault cb (entry_of cb (meaning m)) ≡ None
+entry_is_lawful cb (DataFile host_cluster copied) placed fits =
     let at : copied_bit copied + host_cluster.0 * 2 ^ cb ≡ standard_number cb host_cluster.0 copied false = omega arith in
-    rw at (standard_is_lawful cb host_cluster.0 copied false low placed)
-entry_is_lawful cb (Backing backing_offset) low high placed fits = l2_fault_zero cb
-entry_is_lawful cb (Zero (Some host_cluster) copied) low high placed fits = standard_is_lawful cb host_cluster.0 copied true low placed
-entry_is_lawful cb (Zero None copied) low high placed fits = l2_fault_zero cb
-entry_is_lawful cb (Compressed host_offset length) low high placed fits = compressed_is_lawful cb host_offset.0 _ low high fits.0 placed (sectors_below cb host_offset.0 length.value low fits.1)
+    rw at (standard_is_lawful cb host_cluster.0 copied false placed.bits.0 placed.within)
+entry_is_lawful cb (Backing backing_offset) placed fits = l2_fault_zero cb
+entry_is_lawful cb (Zero (Some host_cluster) copied) placed fits = standard_is_lawful cb host_cluster.0 copied true placed.bits.0 placed.within
+entry_is_lawful cb (Zero None copied) placed fits = l2_fault_zero cb
+entry_is_lawful cb (Compressed host_offset length) placed fits = compressed_is_lawful cb host_offset.0 _ placed.bits.0 placed.bits.1 fits.0 placed.within (sectors_below cb host_offset.0 length.value placed.bits.0 fits.1)
 
 -- what a mapping's number reads as
-pub entry_reads_back : (cb : ℕ) (m : L2Mapping) (guest_cluster : ℕ) (external : Bool) → 9 ≤ cb → cb ≤ 21 → IsPlaced cb m → FitsEntry cb m → mapping (geometry cb external) guest_cluster (entry_of cb (meaning m)) ≡ stored_mapping (geometry cb external) guest_cluster (meaning m)
-entry_reads_back cb (DataFile host_cluster copied) guest_cluster external low high placed fits =
+pub entry_reads_back : (cb : ℕ) (m : L2Mapping) (guest_cluster : ℕ) (external : Bool) → IsPlaced cb m → FitsEntry cb m → mapping (geometry cb external) guest_cluster (entry_of cb (meaning m)) ≡ stored_mapping (geometry cb external) guest_cluster (meaning m)
+entry_reads_back cb (DataFile host_cluster copied) guest_cluster external placed fits =
     let at : copied_bit copied + host_cluster.0 * 2 ^ cb ≡ standard_number cb host_cluster.0 copied false = omega arith in
-    ap (mapping (geometry cb external) guest_cluster) at ∙ standard_reads cb guest_cluster host_cluster.0 copied false external low placed ∙ told_data (is_told external host_cluster.0 copied) copied host_cluster.0 (guest_cluster * 2 ^ cb)
-entry_reads_back cb (Backing backing_offset) guest_cluster external low high placed fits = nothing_reads cb guest_cluster external
-entry_reads_back cb (Zero (Some host_cluster) copied) guest_cluster external low high placed fits =
-    standard_reads cb guest_cluster host_cluster.0 copied true external low placed ∙ told_zeros (is_told external host_cluster.0 copied) copied host_cluster.0 (guest_cluster * 2 ^ cb)
-entry_reads_back cb (Zero None copied) guest_cluster external low high placed fits = zeros_read cb guest_cluster external
-entry_reads_back cb (Compressed host_offset length) guest_cluster external low high placed fits = compressed_reads cb guest_cluster host_offset.0 length.value external low high fits.0 placed length.ok fits.1
+    ap (mapping (geometry cb external) guest_cluster) at ∙ standard_reads cb guest_cluster host_cluster.0 copied false external placed.bits.0 placed.within ∙ told_data (is_told external host_cluster.0 copied) copied host_cluster.0 (guest_cluster * 2 ^ cb)
+entry_reads_back cb (Backing backing_offset) guest_cluster external placed fits = nothing_reads cb guest_cluster external
+entry_reads_back cb (Zero (Some host_cluster) copied) guest_cluster external placed fits =
+    standard_reads cb guest_cluster host_cluster.0 copied true external placed.bits.0 placed.within ∙ told_zeros (is_told external host_cluster.0 copied) copied host_cluster.0 (guest_cluster * 2 ^ cb)
+entry_reads_back cb (Zero None copied) guest_cluster external placed fits = zeros_read cb guest_cluster external
+entry_reads_back cb (Compressed host_offset length) guest_cluster external placed fits = compressed_reads cb guest_cluster host_offset.0 length.value external placed.bits.0 placed.bits.1 fits.0 placed.within length.ok fits.1
 
 compressed_is_not_copied : (kind below aligned : Bool) (high rest : ℕ) → entry_fault (not (nat_eq (if kind then high else rest) 0) || (kind && not below)) (not kind && not aligned) ≡ None → kind ≡ true → high ≡ 0
 compressed_is_not_copied false below aligned high rest lawful is = cc

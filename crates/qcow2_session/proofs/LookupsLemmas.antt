@@ -3,11 +3,11 @@ use Rattle.std.proofs.Math.Nat.{div-mul-le_self, pow-le-pow_right}
 use Rattle.std.proofs.lemmas.Nat.{mul-le, pow-add, shr_below}
 use Rattle.qcow2_base.specs.Format.{most_l2_entries}
 use Rattle.qcow2_base.specs.Storage.{OnlyReads, ReadsFor, StorageState}
-use Rattle.qcow2_base.specs.Types.{IsClusterBits}
 use Rattle.qcow2_base.specs.declared.fault.Fault.{Fault}
 use Rattle.qcow2_base.specs.declared.types.HostOffset.{HostOffset}
 use Rattle.qcow2_metadata.specs.Entries.{offset_field, offset_unless_zero}
-use Rattle.qcow2_metadata.specs.Table.{TablePlace, offset_of, place_fault}
+use Rattle.qcow2_metadata.specs.Table.{TablePlace, place_fault}
+use Rattle.qcow2_session.specs.Session.Lookups.{IsInImage}
 
 -- the cluster of an offset that fits 64 bits begins at one that does
 pub cluster_fits : (offset cluster cb other : ℕ) → offset < 2 ^ 64 → cluster ≡ offset / 2 ^ cb → other ≡ cb → cluster * 2 ^ other < 2 ^ 64
@@ -31,17 +31,16 @@ l2_cluster_ends v cb cluster offset high says is =
     let field_is : offset.0 ≡ offset_field v = grind (arith, says) in
     rw is (cluster_ends offset.0 cb high (omega (arith, below, field_is)))
 
--- an L2 table that ends by 2 ^ 56 can lie there
+-- an L2 table that begins with a cluster of the image can lie there
 pub l2_table-lawful : (place : TablePlace) → place.entries ≡ 2 ^ (place.geometry.cluster_bits - 3) →
-    IsClusterBits place.geometry.cluster_bits → offset_of place + 2 ^ place.geometry.cluster_bits ≤ 2 ^ 56 →
-    place_fault most_l2_entries place ≡ None
-l2_table-lawful place full bits end =
+    IsInImage place.geometry.cluster_bits place.cluster → place_fault most_l2_entries place ≡ None
+l2_table-lawful place full within =
     let cb = place.geometry.cluster_bits in
-    let high : cb - 3 ≤ 18 = omega (arith, bits.1) in
+    let high : cb - 3 ≤ 18 = omega (arith, within.0.1) in
     let few : 2 ^ (cb - 3) ≤ 2 ^ 18 = pow-le-pow_right (lit< tt) high in
-    let whole : 3 + (cb - 3) ≡ cb = omega (arith, bits.0) in
+    let whole : 3 + (cb - 3) ≡ cb = omega (arith, within.0.0) in
     let size : 2 ^ cb ≡ 2 ^ 3 * 2 ^ (cb - 3) = sym (ap (λ x. 2 ^ x) whole) ∙ pow-add 2 3 (cb - 3) in
-    grind (arith, few, size, full, end)
+    grind (arith, few, size, full, within.1)
 
 -- reads one after the other, of which the first succeeded, are reads
 pub reads-then : {A B : Type 0} (value : A) (answer : Result B Fault) (first second third : StorageState) →

@@ -3,7 +3,6 @@
 ghost use Rattle.std.specs.Prelude.{◌≡◌, ◌+◌, ◌≤◌, ◌++◌, ℕ, List, length, IsOkUnless, OnOk};
 ghost use Rattle.std.specs.Fmt.{decimal};
 ghost use Rattle.std.specs.Io.KnownBytes.{Appends};
-ghost use Rattle.qcow2_base.specs.Types.{IsClusterBits};
 ghost use Rattle.qcow2_metadata.specs.Entries.L2Mapping.{IsPlaced, meaning};
 ghost use Rattle.qcow2_session.specs.Lines.{copied_text, entry_line, mapping_text, offset_text};
 
@@ -53,7 +52,6 @@ pub(crate) fn print_entry<L: EntryLabel, O: Write>(
     cluster_bits: u32,
     out: &mut O,
 ) -> Result<(), Fault>
-    requires bits { IsClusterBits cluster_bits }
     requires placed { IsPlaced cluster_bits mapping.now }
     ensures fault { IsOkUnless result Fault.Storage }
     ensures line { OnOk result (Appends (O.contents out.old) (O.contents out.new)
@@ -76,7 +74,6 @@ pub(crate) fn print_mapping<O: Write>(
     cluster_bits: u32,
     out: &mut O,
 ) -> Result<(), Fault>
-    requires bits { IsClusterBits cluster_bits }
     requires placed { IsPlaced cluster_bits mapping.now }
     ensures fault { IsOkUnless result Fault.Storage }
     ensures text { OnOk result (Appends (O.contents out.old) (O.contents out.new)
@@ -89,7 +86,6 @@ pub(crate) fn print_mapping<O: Write>(
 
 // Puts a mapping in front of a line.
 fn prepend_mapping(line: &mut LineBuffer, mapping: &L2Mapping, cluster_bits: u32)
-    requires bits { IsClusterBits cluster_bits }
     requires placed { IsPlaced cluster_bits mapping.now }
     requires room { length line.old ≤ 100 }
     ensures text { line.new ≡ mapping_text cluster_bits (meaning mapping.now) ++ line.old }

@@ -3,6 +3,7 @@ use Rattle.std.specs.Bool.{beq}
 use Rattle.std.specs.Int.{div_ceil}
 use Rattle.std.specs.Int.NonZero.{non_zero_u64_get}
 use Rattle.qcow2_base.specs.Format.{max_file_length}
+use Rattle.qcow2_base.specs.Types.{IsClusterBits}
 use Rattle.qcow2_base.specs.declared.types.HostCluster.{HostCluster}
 use Rattle.qcow2_metadata.specs.Header.{Geometry}
 use Rattle.qcow2_metadata.specs.declared.entries.l2_mapping.L2Mapping.{L2Mapping}
@@ -25,11 +26,16 @@ meaning (Zero host_cluster copied) = zeros (option_map (λ (c : HostCluster). c.
 meaning (Compressed host_offset length) = compressed host_offset.0 (non_zero_u64_get length)
 
 -- the cluster or the data that a mapping names begins before the greatest end
-abbrev pub IsPlaced : ℕ → L2Mapping → Type 0
-IsPlaced cb (DataFile host_cluster copied) = host_cluster.0 * 2 ^ cb < max_file_length
-IsPlaced cb (Backing backing_offset) = ⊤
-IsPlaced cb (Zero host_cluster copied) = IfSome host_cluster (λ (c : HostCluster). c.0 * 2 ^ cb < max_file_length)
-IsPlaced cb (Compressed host_offset length) = host_offset.0 < max_file_length
+abbrev pub BeginsInImage : ℕ → L2Mapping → Type 0
+BeginsInImage cb (DataFile host_cluster copied) = host_cluster.0 * 2 ^ cb < max_file_length
+BeginsInImage cb (Backing backing_offset) = ⊤
+BeginsInImage cb (Zero host_cluster copied) = IfSome host_cluster (λ (c : HostCluster). c.0 * 2 ^ cb < max_file_length)
+BeginsInImage cb (Compressed host_offset length) = host_offset.0 < max_file_length
+
+-- what a mapping names lies in an image with clusters of 2 ^ cb bytes
+pub record IsPlaced (cb : ℕ) (mapping : L2Mapping) : Type 0 where
+  pub bits : IsClusterBits cb
+  pub within : BeginsInImage cb mapping
 
 -- the cluster that a standard entry refers to
 abbrev pub host_cluster : Geometry → ℕ → Option ℕ

@@ -93,7 +93,6 @@ impl L2Entry {
     /// Elsewhere data in cluster 0 reads back as backing, and zeros with cluster 0 as zeros without.
     #[inline]
     pub fn from_mapping(mapping: L2Mapping, cluster_bits: u32) -> L2Entry
-        requires cluster_bits { IsClusterBits cluster_bits }
         requires placed { spec.IsPlaced cluster_bits mapping }
         requires fits { spec.FitsEntry cluster_bits mapping }
         ensures number { result ≡ spec.entry_of cluster_bits (spec.meaning mapping) }

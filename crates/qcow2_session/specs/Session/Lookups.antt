@@ -1,7 +1,8 @@
-use Rattle.std.specs.Prelude.{◌≡◌, ◌⊎◌, ◌≤◌, ℕ, ◌-◌, ◌*◌, ◌/◌, ◌%◌, ◌^◌, List, slice_index, Option, Some, None, option_map, Result, Ok}
-use Rattle.qcow2_base.specs.Format.{most_l2_entries}
+use Rattle.std.specs.Prelude.{◌≡◌, ◌⊎◌, ◌≤◌, ℕ, ◌+◌, ◌-◌, ◌*◌, ◌/◌, ◌%◌, ◌^◌, List, slice_index, Option, Some, None, option_map, Result, Ok}
+use Rattle.qcow2_base.specs.Format.{max_file_length, most_l2_entries}
 use Rattle.qcow2_base.specs.Fault.{fault_number}
 use Rattle.qcow2_base.specs.Storage.{Image}
+use Rattle.qcow2_base.specs.Types.{IsClusterBits}
 use Rattle.qcow2_base.specs.declared.fault.Fault.{Fault}
 use Rattle.qcow2_base.specs.declared.fault.Fault.TheVariants.{NoMemory, Storage}
 use Rattle.qcow2_base.specs.declared.types.HostCluster.{HostCluster}
@@ -33,6 +34,10 @@ named_cluster cb v = option_map (λ (offset : HostOffset). record { 0 = offset.0
 -- and that of a guest cluster
 abbrev pub l2_cluster : ℕ → List ℕ → ℕ → Option HostCluster
 l2_cluster cb l1 guest_cluster = named_cluster cb (l1_number cb l1 guest_cluster)
+
+-- a cluster of an image with clusters of 2 ^ cb bytes, which ends by the greatest end
+abbrev pub IsInImage : ℕ → HostCluster → Type 0
+IsInImage cb cluster = IsClusterBits cb × (cluster.0 * 2 ^ cb + 2 ^ cb ≤ max_file_length)
 
 -- what a guest cluster reads as by the L2 table that begins with a cluster, or where there is none
 abbrev pub mapping_by : Geometry → Option HostCluster → ℕ → Image → Result Mapping Fault

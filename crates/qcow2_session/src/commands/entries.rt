@@ -3,7 +3,6 @@
 ghost use Rattle.std.specs.Prelude.{◌≡◌, ◌-◌, ◌*◌, ◌^◌, ◌<◌, IsOkUnless, OnOk, length};
 ghost use Rattle.std.specs.Io.KnownBytes.{Appends};
 ghost use Rattle.qcow2_base.specs.Format.{most_l1_entries};
-ghost use Rattle.qcow2_base.specs.Types.{IsClusterBits};
 ghost use Rattle.qcow2_metadata.specs.Entries.L2Mapping.{IsPlaced, meaning};
 ghost use Rattle.qcow2_session.specs.Commands.Entries.{label_text, table_lines};
 ghost use Rattle.qcow2_session.specs.Lines.{entry_line};
@@ -52,7 +51,6 @@ fn print_labelled<O: Write>(
     cluster_bits: u32,
     out: &mut O,
 ) -> Result<(), Fault>
-    requires bits { IsClusterBits cluster_bits }
     requires placed { IsPlaced cluster_bits mapping.now }
     requires fits { guest_cluster.0 * 2 ^ cluster_bits < 2 ^ 64 }
     ensures fault { IsOkUnless result Fault.Storage }

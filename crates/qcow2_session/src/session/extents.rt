@@ -1,15 +1,14 @@
 //! What a whole disk reads as, told as extents: parts of it that read as one, as long as they go.
 
 ghost use Rattle.std.specs.Prelude.{◌≡◌, ℕ, ◌⊎◌, ◌+◌, ◌-◌, ◌*◌, ◌/◌, ◌^◌, ◌<◌, ◌≤◌, ◌↔◌, None, Some, Ok, Err, IfErr, IfOk, IfSome, IsOkAnd, IsSome, IsSomeAnd, IsTrue, MatchOption, MatchResult, slice_index};
-ghost use Rattle.qcow2_base.specs.Format.{max_file_length, most_l1_entries};
+ghost use Rattle.qcow2_base.specs.Format.{most_l1_entries};
 ghost use Rattle.qcow2_base.specs.Storage.{OnImage, OnlyReads};
 ghost use Rattle.qcow2_base.specs.declared.fault.Fault.TheVariants.{NoMemory, Storage as StorageFailed};
-ghost use Rattle.qcow2_base.specs.Types.{IsClusterBits};
 ghost use Rattle.qcow2_metadata.specs.Results.{Answers};
 ghost use Rattle.qcow2_metadata.specs.Entries.L2Mapping.{IsPlaced, meaning};
 ghost use Rattle.qcow2_metadata.specs.Header.{geometry_of};
 ghost use Rattle.qcow2_metadata.specs.Table.{IsLoadFault, LoadRefuses, loaded_l1_table, loaded_l2_table, place_fault};
-ghost use Rattle.qcow2_session.specs.Session.Lookups.{l1_place, l2_cluster};
+ghost use Rattle.qcow2_session.specs.Session.Lookups.{IsInImage, l1_place, l2_cluster};
 ghost use Rattle.qcow2_session.specs.Session.Extents.{AreInOneTable, HasNoTable, IsKeptOf, IsPiece, content_in, contents_in, kept_numbers, moved_on};
 
 use super::lookups::{l2_cluster, load_l1_table, load_l2_table, next_named};
@@ -46,7 +45,6 @@ impl Content {
     // What the byte at a distance from its cluster's begin reads as, by what the cluster does.
     #[inline]
     fn within(mapping: L2Mapping, distance: u64, cluster_bits: u32) -> Content
-        requires cluster_bits { IsClusterBits cluster_bits }
         requires placed { IsPlaced cluster_bits mapping }
         requires distance { distance < 2 ^ 21 }
         ensures { result ≡ content_in cluster_bits distance (meaning mapping) }
@@ -172,8 +170,7 @@ fn keep_table<S: Storage>(
     requires kept { OnImage (S.state image.old) (λ bytes.
         IfSome kept.old (IsKeptOf (geometry_of header.now) bytes)) }
     requires geometry { IfSome kept.old (λ table. table.geometry ≡ geometry_of header.now) }
-    requires cluster_bits { IsClusterBits header.now.v2.cluster_bits }
-    requires end { let cb = header.now.v2.cluster_bits in cluster.0 * 2 ^ cb + 2 ^ cb ≤ max_file_length }
+    requires end { IsInImage header.now.v2.cluster_bits cluster }
     ensures kept { MatchResult result
         (λ done. IsSomeAnd kept.new (λ table. (table.cluster ≡ Some cluster)
         × (table.geometry ≡ geometry_of header.now)))

@@ -1,13 +1,13 @@
 //! What a guest offset reads as, by an image's header, L1 table and L2 table.
 
 ghost use Rattle.std.specs.Prelude.{◌≡◌, ℕ, ◌+◌, ◌*◌, ◌/◌, ◌^◌, ◌<◌, ◌≤◌, None, IfErr, IfOk, IfSome, IsOkAnd, IsSome, IsTrue, MatchOption, slice_index};
-ghost use Rattle.qcow2_base.specs.Format.{max_file_length, most_l1_entries};
+ghost use Rattle.qcow2_base.specs.Format.{most_l1_entries};
 ghost use Rattle.qcow2_base.specs.Storage.{OnImage, OnlyReads};
 ghost use Rattle.qcow2_metadata.specs.Results.{Answers};
 ghost use Rattle.qcow2_metadata.specs.Entries.L2Mapping.{IsPlaced, meaning, backing};
 ghost use Rattle.qcow2_metadata.specs.Header.{geometry_of};
 ghost use Rattle.qcow2_metadata.specs.Table.{IsLoadFault, IsLoaded, LoadRefuses, l2_table_at, loaded_l1_table, loaded_l2_table, place_fault};
-ghost use Rattle.qcow2_session.specs.Session.Lookups.{IsLookupFault, guest_mapping, image_mapping, l1_place, l2_cluster, mapping_in, named_cluster, table_fault};
+ghost use Rattle.qcow2_session.specs.Session.Lookups.{IsInImage, IsLookupFault, guest_mapping, image_mapping, l1_place, l2_cluster, mapping_in, named_cluster, table_fault};
 
 use qcow2_base::{Fault, GuestCluster, GuestOffset, HostCluster, Storage};
 use qcow2_metadata::{Header, L1Table, L2Mapping, L2Table, Table};
@@ -126,8 +126,7 @@ pub(crate) fn load_l2_table<S: Storage>(
 pub(crate) fn named_cluster(l1_table: &L1Table, index: usize) -> Option<HostCluster>
     ensures value { let cb = l1_table.now.geometry.cluster_bits in
         result ≡ named_cluster cb (slice_index l1_table.now.numbers index) }
-    ensures end { let cb = l1_table.now.geometry.cluster_bits in
-        IfSome result (λ cluster. cluster.0 * 2 ^ cb + 2 ^ cb ≤ max_file_length) }
+    ensures end { IfSome result (IsInImage l1_table.now.geometry.cluster_bits) }
 {
     let offset = l1_table.get(index).l2_offset()?;
     Some(offset.cluster(l1_table.cluster_bits()))
@@ -154,8 +153,7 @@ pub(super) fn next_named(l1_table: &L1Table, first: usize) -> Option<usize>
 pub(super) fn l2_cluster(l1_table: &L1Table, guest_cluster: GuestCluster) -> Option<HostCluster>
     ensures value { let cb = l1_table.now.geometry.cluster_bits in
         result ≡ l2_cluster cb l1_table.now.numbers guest_cluster.0 }
-    ensures end { let cb = l1_table.now.geometry.cluster_bits in
-        IfSome result (λ cluster. cluster.0 * 2 ^ cb + 2 ^ cb ≤ max_file_length) }
+    ensures end { IfSome result (IsInImage l1_table.now.geometry.cluster_bits) }
 {
     named_cluster(l1_table, guest_cluster.l1_index(l1_table.cluster_bits()))
 }

@@ -8,6 +8,5 @@ use Rattle.qcow2_session.proofs.session.extents.keep_table.Goals as goal
 pub returns-in_err-load_l2_table-clause-faults : goal.returns-in_err-load_l2_table-clause-faults
 returns-in_err-load_l2_table-clause-faults g c =
     let exit = err_from_is_err_and c.from_residual.result c.from_residual.ensures.1 in
-    let place = l2_table-lawful (l2_table_at (geometry_of c.args.header.now) c.args.cluster) refl
-    c.requires.cluster_bits c.requires.end in
+    let place = l2_table-lawful (l2_table_at (geometry_of c.args.header.now) c.args.cluster) refl c.requires.end in
     rw (exit.1, exit.2) (rw place at c.in_err-load_l2_table.ensures.refused.faults)
