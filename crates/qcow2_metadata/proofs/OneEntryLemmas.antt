@@ -13,7 +13,7 @@ use Rattle.std.proofs.lemmas.List.{take_all}
 use Rattle.std.proofs.lemmas.List.FromFn.{get_or-map-range_with_len}
 use Rattle.qcow2_metadata.proofs.PieceLemmas.{numbers_stand}
 use Rattle.qcow2_metadata.proofs.TableLemmas.{table_numbers-held}
-use Rattle.qcow2_metadata.specs.Table.{TablePlace, TableState, offset_of, table_on_storage, place_of, table_numbers, write_fault}
+use Rattle.qcow2_metadata.specs.Table.{Kind, TablePlace, TableState, offset_of, table_on_storage, place_of, table_numbers, write_fault}
 use Rattle.qcow2_metadata.specs.Table.OneEntry.{EntryRange, IsEntryWriteFault, IsWrittenEntry, IsPartOfCluster, WritesEntries, WritesEntry, cluster_offset, numbers_in, entries_together, range_offset}
 
 -- functions that agree over two ranges have the same values there
@@ -186,11 +186,11 @@ wider offset len cluster size old new from within outside = record {
 }
 
 -- a write of a table's entries at a lawful place is one of the entry
-pub WritesEntry-of : {T : Type 0} (most index : ℕ) (table : TableState) (cluster : HostCluster) (answer : Result T Fault) (old new : StorageState) → table.cluster ≡ Some cluster → write_fault most table ≡ None
+pub WritesEntry-of : {T : Type 0} (kind : Kind) (index : ℕ) (table : TableState) (cluster : HostCluster) (answer : Result T Fault) (old new : StorageState) → table.cluster ≡ Some cluster → write_fault kind table ≡ None
     → table.geometry.cluster_bits ≤ 21 → IsPartOfCluster table.geometry.cluster_bits (entries_together table.geometry.cluster_bits old index).count
     → WritesEntries answer (cluster.0 * 2 ^ table.geometry.cluster_bits + 8 * (entries_together table.geometry.cluster_bits old index).first) (entries_together table.geometry.cluster_bits old index) table.numbers old new
-    → WritesEntry most index (entries_together table.geometry.cluster_bits old index) answer (table_on_storage table old) (table_on_storage table new)
-WritesEntry-of most index table cluster answer old new has none low part wrote =
+    → WritesEntry kind index (entries_together table.geometry.cluster_bits old index) answer (table_on_storage table old) (table_on_storage table new)
+WritesEntry-of kind index table cluster answer old new has none low part wrote =
     let cb = table.geometry.cluster_bits in
     let range = entries_together cb old index in
     let place : TablePlace = record { geometry = table.geometry; cluster = cluster; entries = length table.numbers } in
@@ -200,7 +200,7 @@ WritesEntry-of most index table cluster answer old new has none low part wrote =
     let within = group-within cb range.count cluster.0 index part few.0 in
     record {
       refused = rw none tt;
-      faults = faults_of range (write_fault most table) answer wrote.faults;
+      faults = faults_of range (write_fault kind table) answer wrote.faults;
       table = refl;
       written = λ told. rw here (written_of index range place table.numbers answer old.byte_at new.byte_at refl with_it.0 with_it.1 (wrote.storage.others told) (wrote.written told));
       cluster = λ told. rw here (wider (range_offset place range) (8 * range.count) (cluster_offset place index) (2 ^ cb) old.byte_at new.byte_at within.0 within.1 (wrote.storage.others told));

@@ -4,7 +4,7 @@ use Rattle.qcow2_base.specs.Storage.{Image, be}
 use Rattle.qcow2_base.specs.declared.fault.Fault.TheVariants.{EntryUnaligned, TableTooBig}
 use Rattle.qcow2_base.specs.declared.fault.Fault.TheVariants as fault
 use Rattle.qcow2_metadata.specs.Header.{geometry}
-use Rattle.qcow2_metadata.specs.Table.{TablePlace, TableState, edited, loaded_l1_table, loaded_l2_table, place_fault}
+use Rattle.qcow2_metadata.specs.Table.{l1_kind, l2_kind, TablePlace, TableState, edited, loaded_l1_table, loaded_l2_table, place_fault}
 use Rattle.qcow2_base.specs.declared.format.TheConstants.{MAX_FILE_LENGTH, MAX_OFFSET}
 
 -- so many entries that begin with a cluster of 2 ^ cb bytes
@@ -21,12 +21,12 @@ pub last_offset : MAX_FILE_LENGTH ∷ (MAX_OFFSET.0 + 512) ∷ [] ≡ (2 ^ 56) �
 last_offset = refl
 
 -- an L2 table that ends at 2 ^ 56, one a cluster further on, and one whose offset doesn't fit 64 bits
-pub places : map (λ cluster. place_fault most_l2_entries (at 9 cluster 64)) ((2 ^ 47 - 1) ∷ (2 ^ 47) ∷ (2 ^ 64 - 1) ∷ [])
+pub places : map (λ cluster. place_fault l2_kind (at 9 cluster 64)) ((2 ^ 47 - 1) ∷ (2 ^ 47) ∷ (2 ^ 64 - 1) ∷ [])
     ≡ None ∷ Some fault.TablePlace ∷ Some fault.TablePlace ∷ []
 places = refl
 
 -- an L1 table of one entry too many is that first of all
-pub too_big : place_fault most_l1_entries (at 9 (2 ^ 64 - 1) 4194305) ≡ Some TableTooBig
+pub too_big : place_fault l1_kind (at 9 (2 ^ 64 - 1) 4194305) ≡ Some TableTooBig
 too_big = refl
 
 -- a table of so many entries 0

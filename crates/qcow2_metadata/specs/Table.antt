@@ -2,7 +2,7 @@ pub mod Growth
 pub mod L2Guards
 pub mod L2Table
 pub mod OneEntry
-use Rattle.std.specs.Prelude.{◌≡◌, false, true, OnOk, IfErr, IsErrOf, ℕ, Bool, ◌⊎◌, ◌+◌, ◌-◌, ◌*◌, ◌%◌, ◌^◌, ◌<◌, ◌≤◌, nat_lt, if◌then◌else◌, List, [], ◌∷◌, map, length, slice_index, slice_set, Option, Some, None, option_map, Result, Ok, Err, IfSome, IsTrue}
+use Rattle.std.specs.Prelude.{◌≡◌, false, true, OnOk, IfErr, IsErrOf, ℕ, Bool, ◌==◌, ◌⊎◌, ◌+◌, ◌-◌, ◌*◌, ◌%◌, ◌^◌, ◌<◌, ◌≤◌, nat_lt, if◌then◌else◌, List, [], ◌∷◌, map, length, slice_index, slice_set, Option, Some, None, option_map, Result, Ok, Err, IfSome, IsTrue}
 use Rattle.std.specs.List.{All, range_with_len}
 use Rattle.std.specs.Option.{option_or}
 use Rattle.qcow2_base.specs.Format.{max_offset, most_entries_in_memory, most_l1_entries, most_l2_entries}
@@ -54,6 +54,25 @@ pub record TablePlace : Type 0 where
   pub cluster : HostCluster
   pub entries : ℕ
 
+-- a kind of table: the most entries that one may have, by cluster_bits whether one may have so many in memory, and by
+-- cluster_bits the fault of a number that is no entry
+pub record Kind : Type 0 where
+  pub most : ℕ
+  pub has_lawful_count : ℕ → ℕ → Bool
+  pub fault_of : ℕ → ℕ → Option Fault
+
+-- a kind by these three
+abbrev pub kind_of : ℕ → (ℕ → ℕ → Bool) → (ℕ → ℕ → Option Fault) → Kind
+kind_of most has_lawful_count fault_of = record { most = most; has_lawful_count = has_lawful_count; fault_of = fault_of }
+
+-- L1 tables
+abbrev pub l1_kind : Kind
+l1_kind = kind_of most_l1_entries (λ _ _. true) l1_fault
+
+-- L2 tables, each of which fills a cluster
+abbrev pub l2_kind : Kind
+l2_kind = kind_of most_l2_entries (λ cb n. n == l2_entries cb) l2_fault
+
 -- so many entries from a cluster of an image with this header on
 abbrev pub table_at : HeaderRecord → HostCluster → ℕ → TablePlace
 table_at header cluster entries = record { geometry = geometry_of header; cluster = cluster; entries = entries }
@@ -73,16 +92,16 @@ abbrev pub entries_fault : ℕ → ℕ → ℕ → Option Fault
 entries_fault most offset n = if nat_lt most n then Some TableTooBig else range_fault offset (8 * n)
 
 -- why no table of a kind can lie at a place
-abbrev pub place_fault : ℕ → TablePlace → Option Fault
-place_fault most place = entries_fault most (offset_of place) place.entries
+abbrev pub place_fault : Kind → TablePlace → Option Fault
+place_fault kind place = entries_fault kind.most (offset_of place) place.entries
 
 -- why a table can't be written where it is: it has no cluster, or its place isn't lawful
-abbrev pub write_fault : ℕ → TableState → Option Fault
-write_fault most table = fault_at (place_of table)
+abbrev pub write_fault : Kind → TableState → Option Fault
+write_fault kind table = fault_at (place_of table)
   where
     fault_at : Option TablePlace → Option Fault
     fault_at None = Some NoOffset
-    fault_at (Some place) = place_fault most place
+    fault_at (Some place) = place_fault kind place
 
 -- the n numbers of eight bytes each, big-endian, from an offset on
 abbrev pub table_numbers : Image → ℕ → ℕ → List ℕ
@@ -106,13 +125,12 @@ abbrev pub decoded : (ℕ → Option Fault) → List ℕ → Result (List ℕ) F
 decoded fault numbers = unless_refused (first_fault fault numbers) (Ok numbers)
 
 -- the table that stands at a place, where that is lawful
-abbrev pub decoded_table : (ℕ → ℕ → Option Fault) → TablePlace → Image → Result (List ℕ) Fault
-decoded_table fault_of place image = decoded (fault_of place.geometry.cluster_bits) (numbers_at place image)
+abbrev pub decoded_table : Kind → TablePlace → Image → Result (List ℕ) Fault
+decoded_table kind place image = decoded (kind.fault_of place.geometry.cluster_bits) (numbers_at place image)
 
 -- the table that stands at a place: the fault of the place comes first
-abbrev pub loaded_table : ℕ → (ℕ → ℕ → Option Fault) → TablePlace → Image → Result (List ℕ) Fault
-loaded_table most fault_of place image =
-    unless_refused (place_fault most place) (decoded_table fault_of place image)
+abbrev pub loaded_table : Kind → TablePlace → Image → Result (List ℕ) Fault
+loaded_table kind place image = unless_refused (place_fault kind place) (decoded_table kind place image)
 
 -- where the entry of a guest cluster stands in its L2 table
 abbrev pub place_in_table : TableState → ℕ → ℕ
@@ -129,11 +147,11 @@ l2_table_at g cluster = record { geometry = g; cluster = cluster; entries = l2_e
 
 -- the L2 table that begins with a cluster
 abbrev pub loaded_l2_table : Geometry → HostCluster → Image → Result (List ℕ) Fault
-loaded_l2_table g cluster image = loaded_table most_l2_entries l2_fault (l2_table_at g cluster) image
+loaded_l2_table g cluster image = loaded_table l2_kind (l2_table_at g cluster) image
 
 -- the L1 table that stands at a place
 abbrev pub loaded_l1_table : TablePlace → Image → Result (List ℕ) Fault
-loaded_l1_table place image = loaded_table most_l1_entries l1_fault place image
+loaded_l1_table place image = loaded_table l1_kind place image
 
 -- the refusals of a load, whatever the storage tells: the fault of the table's place, if it has one, or
 -- one of an entry, want of memory or a failed storage
@@ -156,8 +174,8 @@ pub record IsLoaded (place : TablePlace) (image : StorageState) (table : TableSt
   pub geometry : table.geometry ≡ place.geometry
 
 -- the new image has the table at its place, and is the old one where that had it there
-pub record IsWrittenTable (fault_of : ℕ → ℕ → Option Fault) (table : TableState) (old new : Image) : Type 0 where
-  pub decoded : IfSome (place_of table) (λ place. decoded_table fault_of place new ≡ Ok table.numbers)
+pub record IsWrittenTable (kind : Kind) (table : TableState) (old new : Image) : Type 0 where
+  pub decoded : IfSome (place_of table) (λ place. decoded_table kind place new ≡ Ok table.numbers)
   pub same : IfSome (place_of table) (λ place. numbers_at place old ≡ table.numbers → new ≡ old)
 
 -- a write of a table's numbers from an offset on, in pieces, that failed at a piece
@@ -174,12 +192,12 @@ abbrev pub table_on_storage : TableState → StorageState → TableOnStorage
 table_on_storage table storage = record { table = table; storage = storage }
 
 -- a write of a table that ended in this answer
-pub record WritesTable (most : ℕ) (fault_of : ℕ → ℕ → Option Fault) {T : Type 0} (answer : Result T Fault) (old new : TableOnStorage) : Type 0 where
-  pub refused : IfSome (write_fault most old.table) (λ fault. answer ≡ Err fault)
-  pub faults : IfErr answer (IsWriteFault (write_fault most old.table))
+pub record WritesTable (kind : Kind) {T : Type 0} (answer : Result T Fault) (old new : TableOnStorage) : Type 0 where
+  pub refused : IfSome (write_fault kind old.table) (λ fault. answer ≡ Err fault)
+  pub faults : IfErr answer (IsWriteFault (write_fault kind old.table))
   pub flag : FlagTells flagged answer old.table new.table
   pub written : OnImages old.storage new.storage (λ before after.
-      OnOk answer (IsWrittenTable fault_of old.table before after))
+      OnOk answer (IsWrittenTable kind old.table before after))
   pub torn : OnImages old.storage new.storage (λ before after.
       IsErrOf answer Storage → IfSome (place_of old.table)
       (λ place. IsTorn old.table.numbers (offset_of place) before after))
@@ -187,12 +205,12 @@ pub record WritesTable (most : ℕ) (fault_of : ℕ → ℕ → Option Fault) {T
 
 -- what holds of every table: as many entries as its kind and memory may have, each a number of 64 bits that is
 -- an entry of its kind, and a cluster whose offset fits 64 bits
-pub record IsLawful (fault_of : ℕ → ℕ → Option Fault) (has_lawful_count : ℕ → ℕ → Bool) (cb : ℕ) (cluster : Option HostCluster) (numbers : List ℕ) : Type 0 where
+pub record IsLawful (kind : Kind) (cb : ℕ) (cluster : Option HostCluster) (numbers : List ℕ) : Type 0 where
   pub bits : IsClusterBits cb
   pub place : IfSome cluster (λ (c : HostCluster). c.0 * 2 ^ cb < 2 ^ 64)
-  pub valid : first_fault (fault_of cb) numbers ≡ None
+  pub valid : first_fault (kind.fault_of cb) numbers ≡ None
   pub fits : All (λ v. v < 2 ^ 64) numbers
-  pub count : IsTrue (has_lawful_count cb (length numbers))
+  pub count : IsTrue (kind.has_lawful_count cb (length numbers))
   pub bound : length numbers ≤ most_entries_in_memory
 
 -- a cluster that an entry may refer to: not the header's, and with an offset that the entry can hold

@@ -8,7 +8,7 @@ ghost use Rattle.qcow2_base.specs.Storage.{OnImage, OnlyReads};
 ghost use Rattle.qcow2_base.specs.Types.{IsClusterBits};
 ghost use Rattle.qcow2_base.specs.declared.types.HostOffset.{HostOffset as Offset};
 ghost use Rattle.qcow2_metadata.specs.Results.{Answers};
-ghost use Rattle.qcow2_metadata.specs.Table.{IsLawful, IsLoaded, LoadRefuses, TableState, WritesTable, entries_fault, first_fault, flagged, loaded_table, new_table, offset_of, table_on_storage, place_fault, place_of, table_at};
+ghost use Rattle.qcow2_metadata.specs.Table.{IsLawful, IsLoaded, Kind, LoadRefuses, TableState, WritesTable, entries_fault, first_fault, flagged, loaded_table, new_table, offset_of, table_on_storage, place_fault, place_of, table_at};
 ghost use Rattle.qcow2_metadata.specs.Table.OneEntry.{WritesEntry, entries_together};
 
 use crate::range::range_offset;
@@ -53,15 +53,15 @@ pub trait Table: Sized {
     /// What the table says.
     ghost state: { Self → TableState };
 
-    /// By cluster_bits: whether a table may have so many entries in memory.
-    ghost has_lawful_count: { ℕ → ℕ → Bool };
+    /// What sets the kind apart: how many entries there may be, and which numbers are none.
+    ghost kind: { Kind };
 
     /// A table of these entries, with no cluster, that counts as modified. They must be lawful under
     /// the header's cluster size, and as many as such a table may have, 2^48 at most.
     fn from_data(list: Vec<Self::InternalEntry>, header: &Header) -> Self
-        requires valid { first_fault (Self.InternalEntry.fault_of header.now.v2.cluster_bits)
+        requires valid { first_fault (kind.fault_of header.now.v2.cluster_bits)
             (map Self.InternalEntry.plain list.items) ≡ None }
-        requires count { IsTrue (has_lawful_count header.now.v2.cluster_bits (length list.items)) }
+        requires count { IsTrue (kind.has_lawful_count header.now.v2.cluster_bits (length list.items)) }
         requires bound { length list.items ≤ most_entries_in_memory }
         ensures { state result ≡ new_table (map Self.InternalEntry.plain list.items) header.now };
 
@@ -69,21 +69,20 @@ pub trait Table: Sized {
     fn entries(&self) -> usize
         ensures count { result ≡ length (state self.now).numbers }
         ensures lawful { let table = state self.now in
-            IsLawful Self.InternalEntry.fault_of has_lawful_count
-            table.geometry.cluster_bits table.cluster table.numbers };
+            IsLawful kind table.geometry.cluster_bits table.cluster table.numbers };
 
     /// The entry at an index, if there is one.
     fn get_ref(&self, index: usize) -> Option<&Self::InternalEntry>
         ensures number { option_map (λ entry. Self.InternalEntry.plain entry.now) result
             ≡ slice_get (state self.now).numbers index }
         ensures lawful { IfSome result (λ entry.
-            Self.InternalEntry.fault_of (state self.now).geometry.cluster_bits
+            kind.fault_of (state self.now).geometry.cluster_bits
             (Self.InternalEntry.plain entry.now) ≡ None) };
 
     /// The entry at an index; past the end, the entry 0.
     fn get(&self, index: usize) -> Self::Entry
         ensures number { Self.Entry.plain result ≡ slice_index (state self.now).numbers index }
-        ensures lawful { Self.InternalEntry.fault_of (state self.now).geometry.cluster_bits
+        ensures lawful { kind.fault_of (state self.now).geometry.cluster_bits
             (Self.Entry.plain result) ≡ None };
 
     /// The cluster in the image that the table begins with.
@@ -153,12 +152,11 @@ pub trait Table: Sized {
         cluster: HostCluster,
         entries: usize,
     ) -> Result<Self, Fault>
-        requires { IsTrue (has_lawful_count header.now.v2.cluster_bits entries) }
-        ensures refused { LoadRefuses (place_fault MAX_ENTRIES (table_at header.now cluster entries)) result }
+        requires { IsTrue (kind.has_lawful_count header.now.v2.cluster_bits entries) }
+        ensures refused { LoadRefuses (place_fault kind (table_at header.now cluster entries)) result }
         ensures exact { OnImage (S.state image.old) (λ bytes.
             Answers (λ table. (state table).numbers) result
-            (loaded_table MAX_ENTRIES Self.InternalEntry.fault_of
-            (table_at header.now cluster entries) bytes)) }
+            (loaded_table kind (table_at header.now cluster entries) bytes)) }
         ensures loaded { IfOk result (λ table.
             IsLoaded (table_at header.now cluster entries) (S.state image.old) (state table)) }
         ensures storage { OnlyReads result (S.state image.old) (S.state image.new) }
@@ -179,7 +177,7 @@ pub trait Table: Sized {
     /// refusal nothing has changed. Entries and cluster stay whatever it answers, and no byte outside
     /// the table's place changes.
     final fn write<S: Storage>(&mut self, image: &mut S) -> Result<(), Fault>
-        ensures { WritesTable MAX_ENTRIES Self.InternalEntry.fault_of result
+        ensures { WritesTable kind result
             (table_on_storage (state self.old) (S.state image.old))
             (table_on_storage (state self.new) (S.state image.new)) }
     {
@@ -214,7 +212,7 @@ pub trait Table: Sized {
     /// is, and counts as modified as before, whatever it answers.
     final fn write_entry<S: Storage>(&mut self, image: &mut S, index: usize) -> Result<(), Fault>
         requires { index < length (state self.old).numbers }
-        ensures { WritesEntry MAX_ENTRIES index
+        ensures { WritesEntry kind index
             (entries_together (state self.old).geometry.cluster_bits (S.state image.old) index) result
             (table_on_storage (state self.old) (S.state image.old))
             (table_on_storage (state self.new) (S.state image.new)) }
@@ -231,6 +229,10 @@ pub trait Table: Sized {
     }
 
     ghost few_entries: { MAX_ENTRIES ≤ most_entries_in_memory };
+
+    ghost most_are: { kind.most ≡ MAX_ENTRIES };
+
+    ghost faults_are: { kind.fault_of ≡ Self.InternalEntry.fault_of };
 }
 
 // Where a table of so many entries begins, or why it can't be there.

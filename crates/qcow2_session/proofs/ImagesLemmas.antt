@@ -1,5 +1,4 @@
 use Rattle.std.proofs.Common.{◌≡◌, ℕ, ◌+◌, ◌-◌, ◌*◌, ◌^◌, IfSome, IsOkAnd, Option, Some, None, option_map, Result, Ok, Err, List, length, ap, subst, pow-add, sym, refl, ◌∙◌, arith}
-use Rattle.qcow2_base.specs.Format.{most_l2_entries}
 use Rattle.qcow2_base.specs.Storage.{Image, OnlyWrites, SameOutside, StorageState}
 use Rattle.qcow2_base.specs.Types.{IsClusterBits}
 use Rattle.qcow2_base.specs.declared.fault.Fault.{Fault}
@@ -15,7 +14,7 @@ use Rattle.qcow2_metadata.proofs.GrammarLemmas.{header_of-is}
 use Rattle.qcow2_session.proofs.WholeImageLemmas.{balances-image, changes-own-lookups, avoids-others, stays-sound}
 use Rattle.qcow2_session.specs.Session.WholeImage.{ChangesL2Table, AvoidsHeaderAndL1Table, l2_bytes}
 use Rattle.qcow2_metadata.specs.Refblock.{BlockState, block_entries, block_offset}
-use Rattle.qcow2_metadata.specs.Table.{IsTorn, TableState, l2_table_at, loaded_l2_table, numbers_at, offset_of, place_fault, place_of}
+use Rattle.qcow2_metadata.specs.Table.{l2_kind, IsTorn, TableState, l2_table_at, loaded_l2_table, numbers_at, offset_of, place_fault, place_of}
 use Rattle.qcow2_session.specs.Session.Edits.{Balances, edits_left, first_unfit_edit, cluster_numbers, edits_or_refusal}
 use Rattle.qcow2_session.specs.Session.Images.{EditsImage, block_in, edits_end, table_in}
 use Rattle.qcow2_session.specs.Session.Steps.{first_unfit_step, steps_or_refusal}
@@ -31,7 +30,7 @@ unrefused (Some fault) answer value is = cc
 -- a table that stands at a cluster has the numbers there
 standing-numbers : (g : Geometry) (cluster : HostCluster) (image : Image) (numbers : List ℕ) → loaded_l2_table g cluster image ≡ Ok numbers → numbers ≡ numbers_at (l2_table_at g cluster) image
 standing-numbers g cluster image numbers stands =
-    let decoded = unrefused (place_fault most_l2_entries (l2_table_at g cluster)) _ numbers stands in
+    let decoded = unrefused (place_fault l2_kind (l2_table_at g cluster)) _ numbers stands in
     let same = unrefused _ (Ok (numbers_at (l2_table_at g cluster) image)) numbers decoded in
     cc
 

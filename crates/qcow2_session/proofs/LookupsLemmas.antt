@@ -1,12 +1,11 @@
 use Rattle.std.proofs.Common.{◌≡◌, ℕ, ◌+◌, ◌-◌, ◌*◌, ◌/◌, ◌^◌, ◌<◌, ◌≤◌, Some, None, Result, Ok, ap, lit<, sym, ◌∙◌, arith}
 use Rattle.std.proofs.Math.Nat.{div-mul-le_self, pow-le-pow_right}
 use Rattle.std.proofs.lemmas.Nat.{mul-le, pow-add, shr_below}
-use Rattle.qcow2_base.specs.Format.{most_l2_entries}
 use Rattle.qcow2_base.specs.Storage.{OnlyReads, ReadsFor, StorageState}
 use Rattle.qcow2_base.specs.declared.fault.Fault.{Fault}
 use Rattle.qcow2_base.specs.declared.types.HostOffset.{HostOffset}
 use Rattle.qcow2_metadata.specs.Entries.{offset_field, offset_unless_zero}
-use Rattle.qcow2_metadata.specs.Table.{TablePlace, place_fault}
+use Rattle.qcow2_metadata.specs.Table.{l2_kind, TablePlace, place_fault}
 use Rattle.qcow2_session.specs.Session.Lookups.{IsInImage}
 
 -- the cluster of an offset that fits 64 bits begins at one that does
@@ -33,7 +32,7 @@ l2_cluster_ends v cb cluster offset high says is =
 
 -- an L2 table that begins with a cluster of the image can lie there
 pub l2_table-lawful : (place : TablePlace) → place.entries ≡ 2 ^ (place.geometry.cluster_bits - 3) →
-    IsInImage place.geometry.cluster_bits place.cluster → place_fault most_l2_entries place ≡ None
+    IsInImage place.geometry.cluster_bits place.cluster → place_fault l2_kind place ≡ None
 l2_table-lawful place full within =
     let cb = place.geometry.cluster_bits in
     let high : cb - 3 ≤ 18 = omega (arith, within.0.1) in

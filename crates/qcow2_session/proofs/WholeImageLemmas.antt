@@ -5,7 +5,6 @@ use Rattle.std.proofs.lemmas.List.Sums.{sum_by-cons}
 use Rattle.std.proofs.lemmas.Nat.{mul-le}
 use Rattle.std.proofs.lemmas.Option.{none-some, same_Some}
 use Rattle.std.specs.List.{sum_by}
-use Rattle.qcow2_base.specs.Format.{most_l1_entries, most_l2_entries}
 use Rattle.qcow2_base.specs.Storage.{Image, SameOutside, be}
 use Rattle.qcow2_base.specs.declared.fault.Fault.{Fault}
 use Rattle.qcow2_base.specs.declared.on_disk_struct.v2_header.V2Header.{V2Header}
@@ -19,7 +18,7 @@ use Rattle.qcow2_metadata.specs.Entries.L1Entry.{l1_fault}
 use Rattle.qcow2_metadata.specs.Header.{Geometry, HeaderRecord, geometry_of}
 use Rattle.qcow2_metadata.specs.Header.Grammar.{header_of}
 use Rattle.qcow2_session.specs.Session.Lookups.{guest_mapping, image_mapping, l1_place, l2_cluster, mapping_by}
-use Rattle.qcow2_metadata.specs.Table.{TablePlace, decoded, l2_table_at, loaded_l1_table, loaded_l2_table, numbers_at, offset_of, place_fault}
+use Rattle.qcow2_metadata.specs.Table.{l1_kind, l2_kind, TablePlace, decoded, l2_table_at, loaded_l1_table, loaded_l2_table, numbers_at, offset_of, place_fault}
 use Rattle.qcow2_metadata.specs.declared.entries.ClustersToFreeEntry.{ClustersToFreeEntry}
 use Rattle.qcow2_metadata.proofs.ClusterLemmas.{header_of-same}
 use Rattle.qcow2_metadata.proofs.GrammarLemmas.{header_of-is, holds-v2_at}
@@ -50,13 +49,13 @@ numbers-kept place old new kept = table_numbers_same new old (offset_of place) (
 l1-kept : (place : TablePlace) (old new : Image) → Keeps (table_bytes place) old new
     → loaded_l1_table place new ≡ loaded_l1_table place old
 l1-kept place old new kept = ap
-    (λ numbers. unless_refused (place_fault most_l1_entries place) (decoded (l1_fault place.geometry.cluster_bits) numbers))
+    (λ numbers. unless_refused (place_fault l1_kind place) (decoded (l1_fault place.geometry.cluster_bits) numbers))
     (numbers-kept place old new kept)
 
 l2-kept : (g : Geometry) (cluster : HostCluster) (old new : Image) → Keeps (l2_bytes g cluster) old new
     → loaded_l2_table g cluster new ≡ loaded_l2_table g cluster old
 l2-kept g cluster old new kept = ap
-    (λ numbers. unless_refused (place_fault most_l2_entries (l2_table_at g cluster)) (decoded (l2_fault g.cluster_bits) numbers))
+    (λ numbers. unless_refused (place_fault l2_kind (l2_table_at g cluster)) (decoded (l2_fault g.cluster_bits) numbers))
     (numbers-kept (l2_table_at g cluster) old new kept)
 
 -- and the same header

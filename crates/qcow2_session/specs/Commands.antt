@@ -18,7 +18,7 @@ use Rattle.qcow2_base.specs.Storage.{ReadsFor, StorageState}
 use Rattle.qcow2_base.specs.declared.fault.Fault.{Fault}
 use Rattle.qcow2_base.specs.declared.fault.Fault.TheVariants.{Storage}
 use Rattle.qcow2_metadata.specs.Header.{HeaderRecord, geometry}
-use Rattle.qcow2_metadata.specs.Table.{l2_table_at, place_fault}
+use Rattle.qcow2_metadata.specs.Table.{l2_kind, l2_table_at, place_fault}
 use Rattle.qcow2_session.specs.Commands.At.{line_at, mapping_of}
 use Rattle.qcow2_session.specs.Commands.Changing.{PrintsChange}
 use Rattle.qcow2_session.specs.Commands.Counting.{block_format, end_of_steps, steps_of}
@@ -58,7 +58,7 @@ changes_image _ = false
 -- why the table that a command names can't lie in any image, as far as the words tell
 abbrev pub place_fault_of : Command → Option Fault
 place_fault_of (ListTable cluster_bits cluster) =
-    place_fault most_l2_entries (l2_table_at (geometry cluster_bits false) cluster)
+    place_fault l2_kind (l2_table_at (geometry cluster_bits false) cluster)
 place_fault_of _ = None
 
 -- whether a command prints nothing before a fault other than a failed storage: `list` prints table by table, and `map`

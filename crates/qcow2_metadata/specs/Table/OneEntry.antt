@@ -5,7 +5,7 @@ use Rattle.qcow2_base.specs.Storage.{Image, OnImages, OnlyWrites, SameOutside, S
 use Rattle.qcow2_base.specs.declared.fault.Fault.{Fault}
 use Rattle.qcow2_base.specs.declared.fault.Fault.TheVariants.{NoMemory, Storage}
 use Rattle.qcow2_metadata.specs.Range.{IsWriteFault}
-use Rattle.qcow2_metadata.specs.Table.{TableOnStorage, TablePlace, numbers_at, offset_of, place_of, table_numbers, write_fault}
+use Rattle.qcow2_metadata.specs.Table.{Kind, TableOnStorage, TablePlace, numbers_at, offset_of, place_of, table_numbers, write_fault}
 
 -- how many bytes are written for one entry, under cluster_bits: the greatest alignment that the storage asks
 -- for, eight at least, or eight where that is more than a cluster
@@ -66,9 +66,9 @@ pub record WritesEntries {T : Type 0} (answer : Result T Fault) (offset : ℕ) (
   pub storage : OnlyWrites answer (Some offset) (8 * range.count) old new
 
 -- a write of one entry of a table that ended in this answer
-pub record WritesEntry (most index : ℕ) (range : EntryRange) {T : Type 0} (answer : Result T Fault) (old new : TableOnStorage) : Type 0 where
-  pub refused : IfSome (write_fault most old.table) (λ fault. answer ≡ Err fault)
-  pub faults : IfErr answer (IsEntryWriteFault range (write_fault most old.table))
+pub record WritesEntry (kind : Kind) (index : ℕ) (range : EntryRange) {T : Type 0} (answer : Result T Fault) (old new : TableOnStorage) : Type 0 where
+  pub refused : IfSome (write_fault kind old.table) (λ fault. answer ≡ Err fault)
+  pub faults : IfErr answer (IsEntryWriteFault range (write_fault kind old.table))
   pub table : new.table ≡ old.table
   pub written : OnImages old.storage new.storage (λ before after.
       OnOk answer (IfSome (place_of old.table)

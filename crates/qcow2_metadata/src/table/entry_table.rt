@@ -1,11 +1,11 @@
 //! The one struct behind all tables: a list of entries of one kind.
 
 ghost use Rattle.std.specs.Prelude.{◌≡◌, ℕ, Bool, true, false, ◌*◌, ◌^◌, ◌<◌, ◌≤◌, ◌↔◌, IfOk, IsOkUnless, IsTrue, length, map, slice_get, slice_index, slice_set, Some, None};
-ghost use Rattle.std.proofs.Common.{rules};
+ghost use Rattle.std.proofs.Common.{refl, rules};
 ghost use Rattle.std.specs.List.{All};
 ghost use Rattle.qcow2_base.specs.Format.{most_entries_in_memory};
 ghost use Rattle.qcow2_base.specs.Types.{IsClusterBits};
-ghost use Rattle.qcow2_metadata.specs.Table.{edited, elsewhere, first_fault, new_table};
+ghost use Rattle.qcow2_metadata.specs.Table.{edited, elsewhere, first_fault, kind_of, new_table};
 ghost use Rattle.qcow2_metadata.specs.Table.Growth.{grown_numbers};
 
 use super::Table;
@@ -56,7 +56,7 @@ impl<E: TableKind> Model for EntryTable<E> {
     ghost use Rattle.std.specs.Prelude.{◌≡◌, ◌*◌, ◌^◌, ◌<◌, ◌≤◌, IsTrue, None, IfSome, length, map};
     ghost use Rattle.qcow2_base.specs.Types.{IsClusterBits};
     ghost use Rattle.qcow2_metadata.specs.Header.{geometry};
-    ghost use Rattle.qcow2_metadata.specs.Table.{IsLawful, TableState};
+    ghost use Rattle.qcow2_metadata.specs.Table.{IsLawful, TableState, kind_of};
 
     ghost Value = { TableState };
 
@@ -67,7 +67,7 @@ impl<E: TableKind> Model for EntryTable<E> {
       geometry = geometry t.cluster_bits t.external_data_file;
     } };
 
-    ghost invariant = { λ t. IsLawful E.fault_of E.has_lawful_count
+    ghost invariant = { λ t. IsLawful (kind_of E.MAX_ENTRIES E.has_lawful_count E.fault_of)
         t.cluster_bits t.cluster (map E.plain t.entries.items) };
 }
 
@@ -195,7 +195,7 @@ impl<E: TableKind> Table for EntryTable<E> {
 
     ghost state = { λ t. t };
 
-    ghost has_lawful_count = { E.has_lawful_count };
+    ghost kind = { kind_of E.MAX_ENTRIES E.has_lawful_count E.fault_of };
 
     fn from_data(list: Vec<E>, header: &Header) -> Self
         requires valid { first_fault (E.fault_of header.now.v2.cluster_bits) (map E.plain list.items) ≡ None }
@@ -269,4 +269,8 @@ impl<E: TableKind> Table for EntryTable<E> {
     }
 
     ghost few_entries = { E.few_entries };
+
+    ghost most_are = { refl };
+
+    ghost faults_are = { refl };
 }

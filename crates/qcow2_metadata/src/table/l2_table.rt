@@ -4,8 +4,8 @@ ghost use Rattle.std.specs.Prelude.{◌≡◌, ℕ, ◌-◌, ◌*◌, ◌%◌, �
 ghost use Rattle.std.proofs.Common.{lit≤};
 ghost use Rattle.qcow2_base.specs.Format.{most_l2_entries};
 ghost use Rattle.qcow2_metadata.specs.Entries.L2Mapping.{IsPlaced, meaning};
-ghost use Rattle.qcow2_metadata.specs.Entries.L2Entry.{l2_fault, shared};
-ghost use Rattle.qcow2_metadata.specs.Table.{WritesTable, elsewhere, mapping_at, new_table, table_on_storage};
+ghost use Rattle.qcow2_metadata.specs.Entries.L2Entry.{shared};
+ghost use Rattle.qcow2_metadata.specs.Table.{WritesTable, elsewhere, l2_kind, mapping_at, new_table, table_on_storage};
 
 use super::{CompressedClusterReadGuard, EntryTable, L2TableWriteGuard, Table, TableKind};
 use crate::entries::RunPattern;
@@ -120,7 +120,7 @@ impl EntryTable<AtomicL2Entry> {
         ensures idle { self.old.modified ≡ false →
             IsOk result × (self.new ≡ self.old) × (image.new ≡ image.old) }
         ensures modified { self.old.modified ≡ true →
-            WritesTable most_l2_entries l2_fault result
+            WritesTable l2_kind result
             (table_on_storage self.old (S.state image.old)) (table_on_storage self.new (S.state image.new)) }
     {
         // The caller's word for the cluster is in the contract alone.

@@ -1,5 +1,5 @@
 use Rattle.std.specs.Prelude.{◌≡◌, ◌⊎◌, ◌≤◌, ℕ, ◌+◌, ◌-◌, ◌*◌, ◌/◌, ◌%◌, ◌^◌, List, slice_index, Option, Some, None, option_map, Result, Ok}
-use Rattle.qcow2_base.specs.Format.{max_file_length, most_l2_entries}
+use Rattle.qcow2_base.specs.Format.{max_file_length}
 use Rattle.qcow2_base.specs.Fault.{fault_number}
 use Rattle.qcow2_base.specs.Storage.{Image}
 use Rattle.qcow2_base.specs.Types.{IsClusterBits}
@@ -12,7 +12,7 @@ use Rattle.qcow2_metadata.specs.Entries.L2Mapping.{Mapping, mapping, backing}
 use Rattle.qcow2_metadata.specs.Entries.{offset_field, offset_unless_zero}
 use Rattle.qcow2_metadata.specs.Header.{Geometry, HeaderRecord, geometry_of}
 use Rattle.qcow2_metadata.specs.Header.Grammar.{header_of}
-use Rattle.qcow2_metadata.specs.Table.{TablePlace, l2_table_at, loaded_l1_table, loaded_l2_table, place_fault, table_at}
+use Rattle.qcow2_metadata.specs.Table.{l2_kind, TablePlace, l2_table_at, loaded_l1_table, loaded_l2_table, place_fault, table_at}
 
 -- the place of an image's L1 table, by its header
 abbrev pub l1_place : HeaderRecord → TablePlace
@@ -21,7 +21,7 @@ l1_place header =
 
 -- why no L2 table can begin with a cluster
 abbrev pub table_fault : HeaderRecord → HostCluster → Option Fault
-table_fault header cluster = place_fault most_l2_entries (l2_table_at (geometry_of header) cluster)
+table_fault header cluster = place_fault l2_kind (l2_table_at (geometry_of header) cluster)
 
 -- the number of the L1 entry for a guest cluster; past the table's end, the entry 0
 abbrev pub l1_number : ℕ → List ℕ → ℕ → ℕ

@@ -5,7 +5,7 @@ ghost use Rattle.qcow2_base.specs.Format.{most_l2_entries};
 ghost use Rattle.qcow2_base.specs.declared.fault.Fault.TheVariants.{NoMemory};
 ghost use Rattle.qcow2_base.specs.Types.{IsClusterBits};
 ghost use Rattle.qcow2_metadata.specs.Header.{geometry};
-ghost use Rattle.qcow2_metadata.specs.Table.{l2_table_at, place_fault};
+ghost use Rattle.qcow2_metadata.specs.Table.{l2_kind, l2_table_at, place_fault};
 ghost use Rattle.qcow2_session.specs.Commands.L2.{cluster_bits_of, lines_of_l2_table, table_of};
 ghost use Rattle.qcow2_session.specs.Commands.Printing.{Prints, PrintsLast};
 ghost use Rattle.qcow2_session.specs.Commands.Words.{Parses};
@@ -77,7 +77,7 @@ pub fn list_l2_table<S: Storage, O: Write>(
     out: &mut O,
 ) -> Result<(), Fault>
     requires { IsClusterBits cluster_bits }
-    ensures place { IfSome (place_fault most_l2_entries (l2_table_at (geometry cluster_bits false) cluster))
+    ensures place { IfSome (place_fault l2_kind (l2_table_at (geometry cluster_bits false) cluster))
         (λ fault. (result ≡ Err fault) ⊎ (result ≡ Err NoMemory)) }
 
     // The lines are what the bytes mean.

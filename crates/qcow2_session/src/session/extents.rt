@@ -7,7 +7,7 @@ ghost use Rattle.qcow2_base.specs.declared.fault.Fault.TheVariants.{NoMemory, St
 ghost use Rattle.qcow2_metadata.specs.Results.{Answers};
 ghost use Rattle.qcow2_metadata.specs.Entries.L2Mapping.{IsPlaced, meaning};
 ghost use Rattle.qcow2_metadata.specs.Header.{geometry_of};
-ghost use Rattle.qcow2_metadata.specs.Table.{IsLoadFault, LoadRefuses, loaded_l1_table, loaded_l2_table, place_fault};
+ghost use Rattle.qcow2_metadata.specs.Table.{l1_kind, IsLoadFault, LoadRefuses, loaded_l1_table, loaded_l2_table, place_fault};
 ghost use Rattle.qcow2_session.specs.Session.Lookups.{IsInImage, l1_place, l2_cluster};
 ghost use Rattle.qcow2_session.specs.Session.Extents.{AreInOneTable, HasNoTable, IsKeptOf, IsPiece, content_in, contents_in, kept_numbers, moved_on};
 
@@ -202,7 +202,7 @@ impl<'a> Extents<'a> {
         image: &mut S,
         header: &'a Header,
     ) -> Result<Extents<'a>, Fault>
-        ensures refused { LoadRefuses (place_fault most_l1_entries (l1_place header.now)) result }
+        ensures refused { LoadRefuses (place_fault l1_kind (l1_place header.now)) result }
         ensures exact { OnImage (S.state image.old) (λ bytes.
             Answers (λ extents. extents.l1) result (loaded_l1_table (l1_place header.now) bytes)) }
         ensures begun { IfOk result (λ extents. extents ≡ extents_begun header.now extents.l1) }

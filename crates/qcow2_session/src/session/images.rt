@@ -7,7 +7,7 @@ ghost use Rattle.qcow2_base.specs.Types.{IsClusterBits};
 ghost use Rattle.qcow2_base.specs.declared.fault.Fault.TheVariants.{Storage as StorageFailed};
 ghost use Rattle.qcow2_metadata.specs.Results.{Answers};
 ghost use Rattle.qcow2_metadata.specs.Refblock.{IsTornBlock, block_counters, block_fault, block_offset};
-ghost use Rattle.qcow2_metadata.specs.Table.{IsTorn, l2_table_at, loaded_l2_table, place_fault};
+ghost use Rattle.qcow2_metadata.specs.Table.{l2_kind, IsTorn, l2_table_at, loaded_l2_table, place_fault};
 ghost use Rattle.qcow2_session.specs.Session.Edits.{cluster_numbers};
 ghost use Rattle.qcow2_session.specs.Session.Images.{EditsImage, RefusesEdits, RefusesSteps, StepsImage, references_of, replies_of, steps_end};
 ghost use Rattle.qcow2_session.specs.Session.Steps.{are_some_done};
@@ -100,7 +100,7 @@ fn write_table_back<S: Storage>(
     requires cluster { table.old.cluster ≡ Some cluster }
     requires bits { IsClusterBits table.old.geometry.cluster_bits }
     requires entries { length table.old.numbers ≡ 2 ^ (table.old.geometry.cluster_bits - 3) }
-    requires place { place_fault most_l2_entries (l2_table_at table.old.geometry cluster) ≡ None }
+    requires place { place_fault l2_kind (l2_table_at table.old.geometry cluster) ≡ None }
     requires stands { table.old.modified ≡ false → OnImage (S.state image.old) (λ bytes.
         loaded_l2_table table.old.geometry cluster bytes ≡ Ok table.old.numbers) }
     ensures fault { IsOkUnless result Fault.Storage }

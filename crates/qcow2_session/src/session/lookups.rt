@@ -6,7 +6,7 @@ ghost use Rattle.qcow2_base.specs.Storage.{OnImage, OnlyReads};
 ghost use Rattle.qcow2_metadata.specs.Results.{Answers};
 ghost use Rattle.qcow2_metadata.specs.Entries.L2Mapping.{IsPlaced, meaning, backing};
 ghost use Rattle.qcow2_metadata.specs.Header.{geometry_of};
-ghost use Rattle.qcow2_metadata.specs.Table.{IsLoadFault, IsLoaded, LoadRefuses, l2_table_at, loaded_l1_table, loaded_l2_table, place_fault};
+ghost use Rattle.qcow2_metadata.specs.Table.{l1_kind, IsLoadFault, IsLoaded, LoadRefuses, l2_table_at, loaded_l1_table, loaded_l2_table, place_fault};
 ghost use Rattle.qcow2_session.specs.Session.Lookups.{IsInImage, IsLookupFault, guest_mapping, image_mapping, l1_place, l2_cluster, mapping_in, named_cluster, table_fault};
 
 use qcow2_base::{Fault, GuestCluster, GuestOffset, HostCluster, Storage};
@@ -93,7 +93,7 @@ pub(crate) fn load_l1_table<S: Storage>(
     image: &mut S,
     header: &Header,
 ) -> Result<L1Table, Fault>
-    ensures refused { LoadRefuses (place_fault most_l1_entries (l1_place header.now)) result }
+    ensures refused { LoadRefuses (place_fault l1_kind (l1_place header.now)) result }
     ensures exact { OnImage (S.state image.old) (λ bytes.
         Answers (λ table. table.numbers) result (loaded_l1_table (l1_place header.now) bytes)) }
     ensures loaded { IfOk result (IsLoaded (l1_place header.now) (S.state image.old)) }

@@ -19,5 +19,5 @@ pub returns : goal.returns
 returns g c =
     let bits = c.cluster_bits-cluster_bits.ensures in
     let count = c.entries_at_once-count.ensures in
-    WritesEntry-of g.Self.Table.MAX_ENTRIES c.args.index (g.Self.Table.state c.args.self.now) c.in-Some.cluster c.write_entries.result _ _ (search rules) (search rules)
+    WritesEntry-of g.Self.Table.kind c.args.index (g.Self.Table.state c.args.self.now) c.in-Some.cluster c.write_entries.result _ _ (search rules) (search rules)
     (rw bits.value at bits.range.1) (rw (count.count, bits.value) at count.part) (rw (c.in_ok-offset.ensures.offset, count.count, bits.value) at c.write_entries.ensures)
