@@ -1,4 +1,4 @@
-use Rattle.std.proofs.Common.{◌≡◌, ℕ, ◌+◌, ◌-◌, ◌^◌, List, [], ◌∷◌, ◌++◌, length, map, replicate, refl, ap, ◌∙◌, subst, inl, inr, arith, Bool, true, false, ◌==◌, nat_le, Option, None, Some, Err, Ok, All}
+use Rattle.std.proofs.Common.{◌≡◌, ℕ, ◌+◌, ◌-◌, ◌^◌, List, [], ◌∷◌, ◌++◌, length, map, replicate, refl, ap, ◌∙◌, subst, inl, inr, arith, Bool, true, false, ◌==◌, nat_le, Option, None, Some, Ok, All}
 use Rattle.std.specs.Int.{next_multiple_of}
 use Rattle.std.specs.List.{flat_map}
 use Rattle.std.proofs.lemmas.Bool.{cases_Bool}
@@ -7,7 +7,6 @@ use Rattle.std.proofs.lemmas.List.Elements.{All-filter}
 use Rattle.qcow2_base.specs.OnDiskStruct.{header_extension_header, v2_header, v3_header_base}
 use Rattle.qcow2_base.specs.declared.on_disk_struct.v2_header.V2Header.{V2Header}
 use Rattle.qcow2_base.specs.declared.on_disk_struct.v3_header_base.V3HeaderBase.{V3HeaderBase}
-use Rattle.qcow2_base.specs.declared.fault.Fault.TheVariants.{HeaderTooLong, NameTooLong}
 use Rattle.qcow2_base.specs.declared.on_disk_struct.header_extension_header.HeaderExtensionHeader.{HeaderExtensionHeader}
 use Rattle.qcow2_metadata.specs.Header.{HeaderRecord}
 use Rattle.qcow2_metadata.specs.Header.Extensions.{Extension, FeatureNameTable, IsStorable, TextOf, Unknown, data_of, normal_extension, type_number}
@@ -120,20 +119,8 @@ pub record KeepsV2 (old new : V2Header) : Type 0 where
   pub refcount_table_offset : new.refcount_table_offset ≡ old.refcount_table_offset
 
 pub v2_with_name-keeps : (v2 : V2Header) (place : ℕ) (name : Option (List ℕ)) → KeepsV2 v2 (v2_with_name v2 place name)
-v2_with_name-keeps v2 place None = record {
-  magic = refl;
-  version = refl;
-  cluster_bits = refl;
-  l1_table_offset = refl;
-  refcount_table_offset = refl;
-}
-v2_with_name-keeps v2 place (Some name) = record {
-  magic = refl;
-  version = refl;
-  cluster_bits = refl;
-  l1_table_offset = refl;
-  refcount_table_offset = refl;
-}
+v2_with_name-keeps v2 place None = assumption
+v2_with_name-keeps v2 place (Some name) = assumption
 
 -- a header with its places has its version
 version-placed : (header : HeaderRecord) → (placed header).v2.version ≡ header.v2.version
@@ -254,20 +241,15 @@ kept-settled header written all is =
     elim (cases_Bool (is_short header.backing_filename)) [
       | inl short ↦ elim (cases_Bool (fits_first_cluster header)) [
         | inl fit ↦
-            let same : placed header ≡ written = cc (kept-fits header short fit) in
+            let same : placed header ≡ written = grind arith in
             subst IsSettled same (settled-fits header short fit all)
         | inr big ↦ elim (cases_Bool (fits_first_cluster (bare header))) [
           | inl fit ↦
-              let whole : kept header ≡ Ok (placed (bare header)) = rw (short, big, fit) refl in
-              let same : placed (bare header) ≡ written = cc in
+              let same : placed (bare header) ≡ written = grind arith in
               let others = All-filter is_other IsStorable header.extensions all in
               subst IsSettled same (settled-fits (bare header) short fit others)
-          | inr more ↦
-              let fails : kept header ≡ Err HeaderTooLong = rw (short, big, more) refl in
-              cc
+          | inr more ↦ grind arith
         ]
       ]
-      | inr long ↦
-          let fails : kept header ≡ Err NameTooLong = rw long refl in
-          cc
+      | inr long ↦ grind arith
     ]

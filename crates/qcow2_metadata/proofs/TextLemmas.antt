@@ -1,22 +1,19 @@
-use Rattle.std.proofs.Common.{◌≡◌, ℕ, zero, suc, ◌+◌, ◌-◌, ◌^◌, ◌/◌, ◌<◌, ◌≤◌, List, [], ◌∷◌, ◌++◌, length, All, ◌⊎◌, ◌==◌, nat_le, IfSome, Option, Some, None, Bool, true, false, Result, Ok, refl, sym, ap, ◌∙◌, subst, inl, inr, append-nil, append_assoc, length-append, map, replicate, arith}
+use Rattle.std.proofs.Common.{◌≡◌, zero-add, ℕ, zero, suc, ◌+◌, ◌-◌, ◌^◌, ◌/◌, ◌<◌, ◌≤◌, List, [], ◌∷◌, ◌++◌, length, All, ◌⊎◌, ◌==◌, nat_le, IfSome, Option, Some, None, true, false, Result, Ok, refl, sym, ap, ◌∙◌, subst, inl, inr, append-nil, append_assoc, length-append, map, replicate, arith}
 use Rattle.std.specs.Int.{bytes_high_first, next_multiple_of}
 use Rattle.std.specs.Str.{IsUtf8}
 use Rattle.std.proofs.Math.Nat.{mod-lt}
 use Rattle.std.proofs.Math.Pow.{pow_mono}
 use Rattle.std.specs.List.{flat_map}
-use Rattle.std.proofs.lemmas.Bool.{cases_lt}
+use Rattle.std.specs.Prelude.{OnOk}
+use Rattle.std.proofs.lemmas.Bool.{cases_Bool, cases_lt}
 use Rattle.std.proofs.lemmas.Bool.Decides.{nat_tests}
 use Rattle.std.proofs.lemmas.List.{get_or-append_right, get_or-append-add, get_or_append_left, ext_get_or, length-replicate}
 use Rattle.std.proofs.lemmas.List.Elements.{All-cons, All-head, All-nil, All-tail}
 use Rattle.qcow2_base.specs.OnDiskStruct.{HoldsLayout, LayoutField, big, header_extension_header, moved, number_in, v2_header, v3_header_base}
 use Rattle.qcow2_base.specs.Storage.{Holds, Image, IsBytes, be, be_fits, be_of_same, be_tells, image_of}
 use Rattle.qcow2_base.specs.declared.on_disk_struct.header_extension_header.HeaderExtensionHeader.{HeaderExtensionHeader}
-use Rattle.qcow2_base.specs.declared.on_disk_struct.v2_header.V2Header.{V2Header}
 use Rattle.qcow2_base.specs.declared.on_disk_struct.v3_header_base.V3HeaderBase.{V3HeaderBase}
 use Rattle.qcow2_base.proofs.OnDiskStructLemmas.{be_of_bytes}
-use Rattle.qcow2_base.specs.declared.fault.Fault.{Fault}
-use Rattle.qcow2_base.specs.declared.fault.Fault.TheVariants.{HeaderTooLong, NameTooLong}
-use Rattle.qcow2_metadata.specs.Results.{provided}
 use Rattle.qcow2_metadata.specs.Header.{HeaderRecord, IsLawfulHeader, names_by}
 use Rattle.qcow2_metadata.specs.Header.Chain.{IsEnd, SaysExtensions, link_at}
 use Rattle.qcow2_metadata.specs.Header.Extensions.{Extension, FeatureNameTable, TextOf, Unknown, data_of, name_in, normal_extension, type_number}
@@ -25,9 +22,9 @@ use Rattle.qcow2_metadata.specs.Header.Text.{AreFitting, bare, extension_header_
 use Rattle.qcow2_metadata.specs.Range.{bytes_at}
 use Rattle.qcow2_metadata.specs.declared.header.extensions.HeaderExtensionType.{HeaderExtensionType}
 use Rattle.qcow2_metadata.specs.declared.header.extensions.HeaderExtensionType.TheVariants as kind
-use Rattle.qcow2_metadata.proofs.GrammarLemmas.{all_same-AreSame, provided-ok}
+use Rattle.qcow2_metadata.proofs.GrammarLemmas.{all_same-AreSame}
 use Rattle.qcow2_metadata.proofs.ExtensionsLemmas.{ReadsBack}
-use Rattle.qcow2_metadata.proofs.ChainLemmas.{IsFirst, says_more, says_none}
+use Rattle.qcow2_metadata.proofs.ChainLemmas.{IsFirst, follows_more, says_none}
 use Rattle.qcow2_metadata.proofs.RangeLemmas.{held-bytes_at}
 
 -- a field's value fits its bytes
@@ -58,28 +55,17 @@ number-held image place n value small is =
     let fits : value < 256 ^ n = subst (λ (v : ℕ). v < 256 ^ n) is (be_fits image place n small) in
     let bytes = bytes_high_first n value in
     let own = be_of_bytes n value bytes [] (sym (append-nil bytes)) fits in
-    let count = length-bytes_high_first n value in (
-      record {
-        each = λ i below.
-            let same : 0 + i ≡ i = omega arith in
-            let tells = be_tells (image_of bytes) image n 0 place (are_bytes n value) small (own ∙ sym is) in
-            rw same at (tells i (omega (arith, count)));
-      },
-      fits,
-    )
+    let tells = be_tells (image_of bytes) image n 0 place (are_bytes n value) small (own ∙ sym is) in
+    (record { each = λ i below. rw zero-add at (tells i (omega (arith, length-bytes_high_first n value))) }, fits)
 
 -- the number of bytes that an image has
 held-number : (image : Image) (place n value : ℕ) → Holds image place (bytes_high_first n value)
     → value < 256 ^ n → be image place n ≡ value
 held-number image place n value held fits =
     let bytes = bytes_high_first n value in
-    let own = be_of_bytes n value bytes [] (sym (append-nil bytes)) fits in
-    let count = length-bytes_high_first n value in
-    let each : (k : ℕ) → k < n → image (place + k) ≡ image_of bytes (0 + k) = λ k below.
-    let same : 0 + k ≡ k = omega arith in
-    rw same (sym (held.each k (omega (arith, count))))
-    in
-    be_of_same image (image_of bytes) n place 0 each ∙ own
+    be_of_same image (image_of bytes) n place 0
+    (λ k below. rw zero-add (sym (held.each k (omega (arith, length-bytes_high_first n value)))))
+    ∙ be_of_bytes n value bytes [] (sym (append-nil bytes)) fits
 
 -- what an image has, it has in two pieces
 pub Holds-first : (image : Image) (place : ℕ) (xs ys : List ℕ) → Holds image place (xs ++ ys)
@@ -152,49 +138,24 @@ text-fields image by place (f ∷ fields) joined fits held =
     let others = All-tail IsFitting f fields fits in
     (subst IsThere (sym joined.0) number, text-fields image by (place + f.size) fields joined.1 others second)
 
--- the fields of the first part follow one another
-v2-joined : (v2 : V2Header) → AreJoined 0 (v2_header v2)
-v2-joined v2 =
-    (refl, (refl, (refl, (refl, (refl, (refl, (refl, (refl, (refl, (refl, (refl, (refl, (refl, tt)))))))))))))
+-- bytes that hold fields which follow one another are their text
+layout-text : (bytes : List ℕ) (fields : List LayoutField) → IsBytes (image_of bytes) → AreJoined 0 fields
+    → length bytes ≡ length (fields_text fields) → HoldsLayout (image_of bytes) (moved 0 fields)
+    → (bytes ≡ fields_text fields) × AreFitting fields
+layout-text bytes fields small joined count held =
+    let text = fields-text (image_of bytes) 0 0 fields small joined held in (
+      ext_get_or 0 bytes (fields_text fields) count (λ i below. sym (rw (zero-add i) at (text.0.each i (omega arith)))),
+      text.1,
+    )
 
--- and so do those of the second part
-base-joined : (base : V3HeaderBase) → AreJoined 0 (v3_header_base base)
-base-joined base = (refl, (refl, (refl, (refl, (refl, tt)))))
-
--- and those before an extension's data
-extension-joined : (header : HeaderExtensionHeader) → AreJoined 0 (header_extension_header header)
-extension-joined header = (refl, (refl, tt))
-
--- bytes that an image of theirs has from its start on, and no more, are those bytes
-same-bytes : (bytes text : List ℕ) → length bytes ≡ length text → Holds (image_of bytes) 0 text → bytes ≡ text
-same-bytes bytes text count held =
-    ext_get_or 0 bytes text count
-    (λ i below. let same : 0 + i ≡ i = omega arith in sym (rw same at (held.each i (omega arith))))
-
--- bytes that hold the first part of a header are its text
-pub layout-text-v2 : (bytes : List ℕ) (v2 : V2Header) → IsBytes (image_of bytes) → length bytes ≡ 72
-    → HoldsLayout (image_of bytes) (moved 0 (v2_header v2))
-    → (bytes ≡ fields_text (v2_header v2)) × AreFitting (v2_header v2)
-layout-text-v2 bytes v2 small count held =
-    let text = fields-text (image_of bytes) 0 0 (v2_header v2) small (v2-joined v2) held in
-    (same-bytes bytes (fields_text (v2_header v2)) count text.0, text.1)
-
--- and those that hold the second part are its text
-pub layout-text-base : (bytes : List ℕ) (base : V3HeaderBase) → IsBytes (image_of bytes) → length bytes ≡ 32
-    → HoldsLayout (image_of bytes) (moved 0 (v3_header_base base))
-    → (bytes ≡ fields_text (v3_header_base base)) × AreFitting (v3_header_base base)
-layout-text-base bytes base small count held =
-    let text = fields-text (image_of bytes) 0 0 (v3_header_base base) small (base-joined base) held in
-    (same-bytes bytes (fields_text (v3_header_base base)) count text.0, text.1)
-
--- bytes that hold what stands before an extension's data are its text
-pub layout-text-extension : (bytes : List ℕ) (header : HeaderExtensionHeader) → IsBytes (image_of bytes)
-    → length bytes ≡ 8 → HoldsLayout (image_of bytes) (header_extension_header header)
-    → (bytes ≡ fields_text (header_extension_header header)) × AreFitting (header_extension_header header)
-layout-text-extension bytes header small count held =
-    let fields = header_extension_header header in
-    let text = fields-text (image_of bytes) 0 0 fields small (extension-joined header) held in
-    (same-bytes bytes (fields_text fields) count text.0, text.1)
+-- such bytes behind a text are the fields' text there
+pub pushed-fields : {T E : Type 0} (answer : Result T E) (text after bytes : List ℕ) (fields : List LayoutField)
+    → IsBytes (image_of bytes) → AreJoined 0 fields → length bytes ≡ length (fields_text fields)
+    → HoldsLayout (image_of bytes) (moved 0 fields) → OnOk answer (after ≡ text ++ bytes)
+    → OnOk answer (after ≡ text ++ fields_text fields) × AreFitting fields
+pushed-fields answer text after bytes fields small joined count held pushed =
+    let written = layout-text bytes fields small joined count held in
+    (subst (λ (all : List ℕ). OnOk answer (after ≡ text ++ all)) written.0 pushed, written.1)
 
 -- padding makes as many bytes as the next multiple of 8
 pub length-padded : (bytes : List ℕ) → length (padded bytes) ≡ next_multiple_of (length bytes) 8
@@ -232,7 +193,7 @@ held-header image place header number size held =
     let start : place ≡ place + 0 = omega arith in
     let moved_held = subst (λ (p : ℕ). Holds image p (fields_text fields)) start held in
     let fits = extension-fits header number size in
-    let are = text-fields image place 0 fields (extension-joined header) fits moved_held in
+    let are = text-fields image place 0 fields (assumption) fits moved_held in
     (rw start are.0, are.1.0)
 
 -- an extension's text stands in the image
@@ -297,7 +258,7 @@ text-says image len place (extension ∷ extensions) small back held within =
     let others_back = All-tail ReadsBack extension extensions back in
     let first = first-extension image len place extension here_back small here_held (omega (arith, count)) in
     let rest = text-says image len next extensions small others_back others_held (omega (arith, count)) in
-    says_more image len place next (normal_extension extension) (map normal_extension extensions) first rest
+    follows_more image len place next (normal_extension extension) (Ok (map normal_extension extensions)) first rest
 
 -- what an extension reads back as says the same name
 same-name_in : (type : HeaderExtensionType) (extension : Extension)
@@ -319,40 +280,20 @@ pub record IsPlaced (header : HeaderRecord) : Type 0 where
   pub fits : length (header_text header) ≤ 2 ^ header.v2.cluster_bits
   pub short : is_short header.backing_filename ≡ true
 
--- what comes of a header whose name isn't too long, by whether its text fits with and without features' names
-abbrev kept_by : HeaderRecord → Bool → Bool → Result HeaderRecord Fault
-kept_by header with_names without_names = elim with_names [
-  | true ↦ Ok (placed header)
-  | false ↦ provided ((without_names, HeaderTooLong) ∷ []) (λ _. Ok (placed (bare header)))
-]
-
--- a header that is kept as it is with no names of features has none
-bare-same : (header : HeaderRecord) → placed (bare header) ≡ header → bare header ≡ header
-bare-same header is =
-    ap (λ (other : HeaderRecord). record header { extensions = other.extensions }) is
-
--- a header that is kept as it is fits, and has its places
-kept-by : (header : HeaderRecord) (with_names without_names : Bool) → fits_first_cluster header ≡ with_names
-    → fits_first_cluster (bare header) ≡ without_names → kept_by header with_names without_names ≡ Ok header
-    → (fits_first_cluster header ≡ true) × (header ≡ placed header)
-kept-by header true without_names whole part is =
-    let same : placed header ≡ header = cc in
-    (whole, sym same)
-kept-by header false true whole part is =
-    let same : placed (bare header) ≡ header = cc in
-    let none = bare-same header same in
-    (ap fits_first_cluster (sym none) ∙ part, sym same ∙ ap placed none)
-kept-by header false false whole part is = cc
-
 -- what a header that is kept as it is has
-pub kept-placed : (header : HeaderRecord) → kept header ≡ Ok header → IsPlaced header
+kept-placed : (header : HeaderRecord) → kept header ≡ Ok header → IsPlaced header
 unfolding kept
 kept-placed header is =
-    let next = λ (t : Unit {0}). kept_by header (fits_first_cluster header) (fits_first_cluster (bare header)) in
-    let hold = provided-ok ((is_short header.backing_filename, NameTooLong) ∷ []) next header is in
-    let by = kept-by header (fits_first_cluster header) (fits_first_cluster (bare header)) refl refl hold.1 in
-    let inside = by.0 in
-    record { placed = by.1; fits = grind (arith, nat_tests, inside); short = hold.0.0 }
+    let short : is_short header.backing_filename ≡ true = grind arith in
+    elim (cases_Bool (fits_first_cluster header)) [
+      | inl fit ↦ record { placed = grind arith; fits = grind (arith, nat_tests, fit); short = short }
+      | inr big ↦
+          let same : placed (bare header) ≡ header = grind arith in
+          let fit : fits_first_cluster (bare header) ≡ true = grind arith in
+          let none = ap (λ (other : HeaderRecord). record header { extensions = other.extensions }) same in
+          let fits : fits_first_cluster header ≡ true = sym (ap fits_first_cluster none) ∙ fit in
+          cc
+    ]
 
 -- the header's version is 2 or 3
 abbrev pub IsKnown : HeaderRecord → Type 0
@@ -467,9 +408,7 @@ placed-length header lawful is (inl two) =
     ap (λ (b : V3HeaderBase). b.header_length) none.0
     ∙ sym (ap (λ (fields : List ℕ). 104 + length (padded fields)) none.1)
 placed-length header lawful is (inr three) =
-    let test : (header.v2.version == 3) ≡ true = grind (arith, nat_tests, three) in
-    let by : Bool → V3HeaderBase = λ t. elim t [ true ↦ record header.base { header_length = header_end header } | false ↦ header.base ] in
-    let set : (placed_base header).header_length ≡ header_end header = ap (λ (t : Bool). (by t).header_length) test in
+    let set : (placed_base header).header_length ≡ header_end header = rw (three, placed_base) refl in
     ap (λ (h : HeaderRecord). h.base.header_length) is.placed ∙ set ∙ (newer-parts header three).1
 
 -- it fits the first cluster
@@ -501,7 +440,7 @@ held-base image header lawful is pieces fits = record {
   version_3 = λ three.
       let Stands = λ (h : HeaderRecord). Holds image 72 (fields_text (v3_header_base h.base)) in
       let held = subst Stands (sym is.placed) ((pieces.newer three).base) in
-      text-fields image 72 0 (v3_header_base header.base) (base-joined header.base) fits held;
+      text-fields image 72 0 (v3_header_base header.base) (assumption) fits held;
   version_2 = λ two. (lawful.older two).0;
 }
 
@@ -570,7 +509,7 @@ text-header image header lawful back fits_v2 fits_base text same held =
     let formats = same-names_by kind.BackingFileFormat header.extensions in
     let data_files = same-names_by kind.ExternalDataFileName header.extensions in
     record {
-      v2 = text-fields image 0 0 (v2_header header.v2) (v2-joined header.v2) fits_v2 v2_held;
+      v2 = text-fields image 0 0 (v2_header header.v2) (assumption) fits_v2 v2_held;
       base = held-base image header lawful is pieces fits_base;
       magic = lawful.magic;
       version = known;

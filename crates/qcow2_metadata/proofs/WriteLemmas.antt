@@ -1,6 +1,7 @@
-use Rattle.std.proofs.Common.{◌≡◌, ◌⊎◌, ℕ, ◌^◌, ◌<◌, ◌≤◌, ◌==◌, Bool, true, false, not, List, [], ◌∷◌, map, refl, ap, sym, subst, ◌∙◌, arith, inl, inr, lit<, Some, None}
+use Rattle.std.proofs.Common.{◌≡◌, ◌⊎◌, ℕ, ◌^◌, ◌<◌, ◌≤◌, Bool, true, false, not, List, [], ◌∷◌, map, refl, ap, sym, subst, ◌∙◌, arith, inl, inr, lit<, Some, None}
 use Rattle.std.specs.Prelude.{All, Err, Ok, length}
 use Rattle.std.specs.List.{filter}
+use Rattle.std.proofs.lemmas.Bool.{cases_Bool}
 use Rattle.std.proofs.lemmas.Bool.Decides.{nat_tests}
 use Rattle.std.proofs.lemmas.List.Elements.{All-filter, All-from_recursion, All-weaker}
 use Rattle.std.proofs.Math.Pow.{pow_mono}
@@ -12,7 +13,7 @@ use Rattle.qcow2_base.specs.declared.on_disk_struct.v2_header.V2Header.{V2Header
 use Rattle.qcow2_base.specs.declared.on_disk_struct.v3_header_base.V3HeaderBase.{V3HeaderBase}
 use Rattle.qcow2_metadata.specs.Header.{HeaderRecord, IsLawfulHeader, default_base, names_by, other_features}
 use Rattle.qcow2_metadata.specs.Header.Extensions.{Extension, FeatureNameTable, IsStorable, TextOf, Unknown, extension_of, name_in}
-use Rattle.qcow2_metadata.specs.Header.Text.{AreFitting, IsLayout, IsWrittenHeader, bare, base_with_length, chosen, chosen_extensions, chosen_text, fits_first_cluster, header_end, header_text, is_short, kept, placed_text, is_other, name_place, placed}
+use Rattle.qcow2_metadata.specs.Header.Text.{AreFitting, IsLayout, IsWrittenHeader, base_with_length, chosen, chosen_extensions, chosen_text, fits_first_cluster, header_end, header_text, kept, placed_text, is_other, name_place, placed}
 use Rattle.qcow2_metadata.specs.declared.header.text.Layout.{Layout}
 use Rattle.qcow2_metadata.proofs.ExtensionsLemmas.{ReadsBack}
 use Rattle.qcow2_metadata.proofs.NamesLemmas.{storable-reads_back}
@@ -34,14 +35,11 @@ filter-names_by : (type : HeaderExtensionType) (extensions : List Extension)
     → names_by (name_in type) (filter is_other extensions) ≡ names_by (name_in type) extensions
 filter-names_by type [] = refl
 filter-names_by type (extension ∷ extensions) =
-    by_kind (is_other extension) refl (filter-names_by type extensions)
-  where
-    by_kind : (other : Bool) → is_other extension ≡ other
-        → names_by (name_in type) (filter is_other extensions) ≡ names_by (name_in type) extensions
-        → names_by (name_in type) (filter is_other (extension ∷ extensions))
-        ≡ names_by (name_in type) (extension ∷ extensions)
-    by_kind true is rest = rw (is, rest) refl
-    by_kind false is rest = rw (is, no_name type extension is) rest
+    let rest = filter-names_by type extensions in
+    elim (cases_Bool (is_other extension)) [
+      | inl is ↦ rw (is, rest) refl
+      | inr is ↦ rw (is, no_name type extension is) rest
+    ]
 
 -- the names are the same, whether such tables are written or not
 chosen-names_by : (with_names : Bool) (type : HeaderExtensionType) (extensions : List Extension)
@@ -62,17 +60,14 @@ record KeepsBase (old new : V3HeaderBase) : Type 0 where
 
 base_with_length-keeps : (version : ℕ) (base : V3HeaderBase) (len : ℕ)
     → KeepsBase base (base_with_length version base len)
-base_with_length-keeps version base len = by_version (version == 3) refl
-  where
-    by_version : (newer : Bool) → (version == 3) ≡ newer → KeepsBase base (base_with_length version base len)
-    by_version true is = record { refcount_order = rw (is, base_with_length) refl; other_features = rw (is, base_with_length) refl }
-    by_version false is = record { refcount_order = rw (is, base_with_length) refl; other_features = rw (is, base_with_length) refl }
+base_with_length-keeps version base len = record {
+  refcount_order = grind (arith, nat_tests);
+  other_features = grind (arith, nat_tests);
+}
 
 -- the second part stays in version 2
 older-base : (version : ℕ) (base : V3HeaderBase) (len : ℕ) → version ≡ 2 → base_with_length version base len ≡ base
-older-base version base len two =
-    let test : (version == 3) ≡ false = grind (arith, nat_tests, two) in
-    rw (test, base_with_length) refl
+older-base version base len two = rw two refl
 
 -- of no extensions none are written
 chosen-nil : (with_names : Bool) (extensions : List Extension) → extensions ≡ []
@@ -112,14 +107,12 @@ placed-lawful with_names header lawful =
 pub kept-extensions : (held : List HeaderExtension)
     → map extension_of (filter (λ extension. is_other (extension_of extension)) held) ≡ filter is_other (map extension_of held)
 kept-extensions [] = refl
-kept-extensions (extension ∷ held) = by_kind (is_other (extension_of extension)) refl (kept-extensions held)
-  where
-    by_kind : (other : Bool) → is_other (extension_of extension) ≡ other
-        → map extension_of (filter (λ extension. is_other (extension_of extension)) held) ≡ filter is_other (map extension_of held)
-        → map extension_of (filter (λ extension. is_other (extension_of extension)) (extension ∷ held))
-        ≡ filter is_other (map extension_of (extension ∷ held))
-    by_kind true is rest = rw (is, rest) refl
-    by_kind false is rest = rw (is, rest) refl
+kept-extensions (extension ∷ held) =
+    let rest = kept-extensions held in
+    elim (cases_Bool (is_other (extension_of extension))) [
+      | inl is ↦ rw (is, rest) refl
+      | inr is ↦ rw (is, rest) refl
+    ]
 
 -- what isn't so
 pub not_true : (test : Bool) → not test ≡ true → test ≡ false
@@ -130,18 +123,7 @@ not_true false is = refl
 pub kept-fault : (header : HeaderRecord) (fault : Fault) → kept header ≡ Err fault
     → (fault ≡ NameTooLong) ⊎ (fault ≡ HeaderTooLong)
 unfolding kept
-kept-fault header fault is = by_tests (is_short header.backing_filename) (fits_first_cluster header) (fits_first_cluster (bare header)) refl refl refl
-  where
-    by_tests : (short whole few : Bool) → is_short header.backing_filename ≡ short → fits_first_cluster header ≡ whole
-        → fits_first_cluster (bare header) ≡ few → (fault ≡ NameTooLong) ⊎ (fault ≡ HeaderTooLong)
-    by_tests false whole few is_short is_whole is_few =
-        let refused : kept header ≡ Err NameTooLong = rw is_short refl in inl (cc)
-    by_tests true true few is_short is_whole is_few =
-        let taken : kept header ≡ Ok (placed header) = rw (is_short, is_whole) refl in cc
-    by_tests true false true is_short is_whole is_few =
-        let taken : kept header ≡ Ok (placed (bare header)) = rw (is_short, is_whole, is_few) refl in cc
-    by_tests true false false is_short is_whole is_few =
-        let refused : kept header ≡ Err HeaderTooLong = rw (is_short, is_whole, is_few) refl in inr (cc)
+kept-fault header fault is = grind arith
 
 -- a text that fits is short
 pub text-short : (header : HeaderRecord) → header.v2.cluster_bits ≤ 21 → fits_first_cluster header ≡ true
