@@ -136,8 +136,8 @@ text-ok fault bytes name found =
     (same, rw same (IsUtf8-from_is_utf8 bytes valid))
 
 -- text is taken
-pub IsUtf8-text : (fault : Fault) (bytes : List ℕ) → IsUtf8 bytes → text fault bytes ≡ Ok bytes
-IsUtf8-text fault bytes is = rw (is_utf8-from_IsUtf8 bytes is) refl
+pub text_of_utf8 : (fault : Fault) (bytes : List ℕ) → IsUtf8 bytes → text fault bytes ≡ Ok bytes
+text_of_utf8 fault bytes is = rw (is_utf8-from_IsUtf8 bytes is) refl
 
 -- the bytes of the backing file's name
 abbrev name_bytes : Image → V2Header → List ℕ

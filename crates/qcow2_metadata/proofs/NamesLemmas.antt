@@ -10,7 +10,7 @@ use Rattle.std.specs.Str.Lossy.{replacement_bytes, utf8_lossy}
 use Rattle.std.specs.declared.cmp.Ordering.TheVariants.{Less, Greater}
 use Rattle.std.proofs.lemmas.Bool.{cases_Bool}
 use Rattle.std.proofs.lemmas.Cmp.{nat_cmp_total}
-use Rattle.std.proofs.lemmas.List.{append_assoc, drop_at, drop-drop, length-append, length-replicate, length-take, length_push, append-nil, take-take, take_all, take_at}
+use Rattle.std.proofs.lemmas.List.{append_assoc, drop_at, drop-drop, length-append, length-replicate, length-take, length_push, append-nil, take-take, take-append-drop, take_all, take_at}
 use Rattle.std.proofs.lemmas.List.Elements.{All-head, All-tail}
 use Rattle.std.proofs.lemmas.Str.{utf8_lossy-IsUtf8}
 use Rattle.std.proofs.Math.Seq.{take-append-add}
@@ -47,14 +47,14 @@ length-name_chunk named =
     )
 
 -- so many names have chunks of 48 bytes each
-pub length-name_chunks : (names : FeatureNames) → length (flat_map name_chunk names) ≡ 48 * length names
-length-name_chunks [] = refl
-length-name_chunks (named ∷ names) =
+pub name_chunks_len : (names : FeatureNames) → length (flat_map name_chunk names) ≡ 48 * length names
+name_chunks_len [] = refl
+name_chunks_len (named ∷ names) =
     omega (
       arith,
       length-append (name_chunk named) (flat_map name_chunk names),
       length-name_chunk named,
-      length-name_chunks names,
+      name_chunks_len names,
     )
 
 -- a name's chunk sets what it reads back as
@@ -135,7 +135,7 @@ pub feature_names-chunks : (names : FeatureNames) → IsStrictlySortedBy key_cmp
     → feature_names (flat_map name_chunk names) ≡ Ok (map (λ named. (named.0, normal_name named.1)) names)
 feature_names-chunks names sorted =
     let count : div_ceil (length (flat_map name_chunk names)) 48 ≡ length names =
-    omega (arith, length-name_chunks names) in
+    omega (arith, name_chunks_len names) in
     rw count (AreRead-all names [] names refl sorted refl)
 
 -- an extension that can be stored reads back
@@ -151,33 +151,19 @@ until_zero-take : (bytes : List ℕ) → until_zero bytes ≡ take (length (unti
 until_zero-take [] = refl
 until_zero-take (byte ∷ bytes) =
     let rest = until_zero-take bytes in
-    elim (cases_Bool (byte == 0)) [
-      | inl ends ↦ rw ends refl
-      | inr more ↦ rw more (ap (λ (text : List ℕ). byte ∷ text) rest)
-    ]
+    grind (arith, rest)
 
 -- it has no zero byte
 until_zero-once : (bytes : List ℕ) → until_zero (until_zero bytes) ≡ until_zero bytes
 until_zero-once [] = refl
 until_zero-once (byte ∷ bytes) =
     let rest = until_zero-once bytes in
-    elim (cases_Bool (byte == 0)) [
-      | inl ends ↦ rw ends refl
-      | inr more ↦ rw (more, more) (ap (λ (text : List ℕ). byte ∷ text) rest)
-    ]
+    grind (arith, rest)
 
 -- bytes without a zero byte begin with none, and the others have none
 until_zero-cons : (byte : ℕ) (bytes : List ℕ) → until_zero (byte ∷ bytes) ≡ byte ∷ bytes
     → (byte == 0 ≡ false) × (until_zero bytes ≡ bytes)
-until_zero-cons byte bytes none =
-    elim (cases_Bool (byte == 0)) [
-      | inl ends ↦
-          let nothing : until_zero (byte ∷ bytes) ≡ [] = rw ends refl in
-          cc
-      | inr more ↦
-          let some : until_zero (byte ∷ bytes) ≡ byte ∷ until_zero bytes = rw more refl in
-          (more, cc)
-    ]
+until_zero-cons byte bytes none = (grind arith, grind arith)
 
 -- the front of bytes without a zero byte has none
 until_zero-front : (front last : List ℕ) → until_zero (front ++ last) ≡ front ++ last
@@ -197,11 +183,8 @@ until_zero-behind (byte ∷ front) last none =
 
 -- the first bytes of U+FFFD have no zero byte
 until_zero-replacement : (n : ℕ) → until_zero (take n replacement_bytes) ≡ take n replacement_bytes
-until_zero-replacement zero = refl
-until_zero-replacement (suc zero) = refl
-until_zero-replacement (suc (suc zero)) = refl
-until_zero-replacement (suc (suc (suc zero))) = refl
-until_zero-replacement (suc (suc (suc (suc n)))) = refl
+until_zero-replacement n =
+    until_zero-front (take n replacement_bytes) (drop n replacement_bytes) (rw take-append-drop refl)
 
 -- of at most 46 bytes without a zero byte, text that is cut reads back as what it was read as
 normal_name-lossy : (bytes : List ℕ) → length bytes ≤ 46 → until_zero bytes ≡ bytes → IsCutText bytes

@@ -11,7 +11,7 @@ use Rattle.qcow2_base.specs.declared.on_disk_struct.header_extension_header.Head
 use Rattle.qcow2_metadata.specs.Header.{HeaderRecord}
 use Rattle.qcow2_metadata.specs.Header.Extensions.{Extension, FeatureNameTable, IsStorable, TextOf, Unknown, data_of, normal_extension, type_number}
 use Rattle.qcow2_metadata.specs.Header.Text.{IsSettled, bare, extension_header_of, extension_text, extensions_text, fields_text, fits_first_cluster, header_end, header_text, is_other, is_short, kept, name_place, name_text, normal, padded, parts_text, placed, placed_base, placed_v2, v2_with_name}
-use Rattle.qcow2_metadata.proofs.NamesLemmas.{length-name_chunks, normal_extensions-once, normal_named}
+use Rattle.qcow2_metadata.proofs.NamesLemmas.{name_chunks_len, normal_extensions-once, normal_named}
 use Rattle.qcow2_metadata.proofs.TextLemmas.{length-padded}
 
 -- padded bytes need no padding
@@ -27,7 +27,7 @@ length-normal_data : (extension : Extension)
 length-normal_data (TextOf type name) = refl
 length-normal_data (FeatureNameTable names) =
     let read = map normal_named names in
-    omega (arith, length-name_chunks names, length-name_chunks read, length-map names normal_named)
+    omega (arith, name_chunks_len names, name_chunks_len read, length-map names normal_named)
 length-normal_data (Unknown number content) = refl
 
 -- and its number

@@ -1,4 +1,4 @@
-use Rattle.std.proofs.Common.{◌≡◌, ◌∙◌, ℕ, suc, ◌+◌, ◌<◌, ◌≤◌, Bool, true, false, List, [], ◌∷◌, ◌++◌, map, get_or, take, drop, Option, None, Some, Result, Ok, Err, refl, sym, ap, arith, lit<}
+use Rattle.std.proofs.Common.{◌≡◌, ◌∙◌, ℕ, suc, ◌+◌, ◌%◌, ◌^◌, ◌<◌, ◌≤◌, Bool, true, false, List, [], ◌∷◌, ◌++◌, map, get_or, take, drop, Option, None, Some, Result, Ok, Err, refl, sym, ap, arith, lit<}
 use Rattle.std.proofs.Math.Seq.{drop-cons}
 use Rattle.std.proofs.lemmas.List.{take-append-drop, take_all}
 use Rattle.std.proofs.lemmas.List.Elements.{All-more}
@@ -153,17 +153,7 @@ with_size_and_tables-agreed here there agree = λ i. record {
 -- tables of another header lie where clusters begin, and so they do in a header of the same cluster size
 pub with_size_and_tables-lawful : (here there : HeaderRecord) → IsLawfulHeader here → IsLawfulHeader there
     → here.v2.cluster_bits ≡ there.v2.cluster_bits → IsLawfulHeader (with_size_and_tables here there)
-with_size_and_tables-lawful here there lawful other bits = record {
-  magic = lawful.magic;
-  version = lawful.version;
-  cluster_bits = lawful.cluster_bits;
-  refcount_order = lawful.refcount_order;
-  l1_table_aligned = rw bits other.l1_table_aligned;
-  reftable_aligned = rw bits other.reftable_aligned;
-  features = lawful.features;
-  one_format = lawful.one_format;
-  one_data_file = lawful.one_data_file;
-  backing_filename = lawful.backing_filename;
-  storable = lawful.storable;
-  older = lawful.older;
-}
+with_size_and_tables-lawful here there lawful other bits =
+    let l1_table : there.v2.l1_table_offset % 2 ^ here.v2.cluster_bits ≡ 0 = rw bits other.l1_table_aligned in
+    let reftable : there.v2.refcount_table_offset % 2 ^ here.v2.cluster_bits ≡ 0 = rw bits other.reftable_aligned in
+    assumption

@@ -106,6 +106,7 @@ pub(super) fn read_bytes<S: Storage>(
 }
 
 // The text that the bytes are, or the fault where they are none.
+#[tactic(auto, using(crate::proofs::ExtensionsLemmas::texts))]
 pub(super) fn parse_text(bytes: Vec<u8>, fault: Fault) -> Result<String, Fault>
     ensures { result_map string_bytes result ≡ text fault bytes.items }
 {

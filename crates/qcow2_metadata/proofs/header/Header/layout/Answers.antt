@@ -17,14 +17,6 @@ returns-in_err-extensions_len-clause-layout c =
     let long = rw same at c.in_err-extensions_len.ensures in
     rw c.from_residual.ensures (too_long header lawful.version (omega (arith, few, long)))
 
-pub returns-in_err-header_end-clause-layout : goal.returns-in_err-header_end-clause-layout
-returns-in_err-header_end-clause-layout c =
-    let header = chosen c.args.with_names c.args.self.now in
-    let lawful = subst IsLawfulHeader c.self.view_is c.self.invariant in
-    let few : 2 ^ header.v2.cluster_bits ≤ 2 ^ 21 = pow_mono lawful.cluster_bits.1 in
-    rw c.from_residual-in_err-header_end.ensures
-    (too_long header lawful.version (omega (arith, few, c.in_err-header_end.ensures)))
-
 pub returns-in_err-name_place-clause-layout : goal.returns-in_err-name_place-clause-layout
 returns-in_err-name_place-clause-layout c =
     let header = chosen c.args.with_names c.args.self.now in

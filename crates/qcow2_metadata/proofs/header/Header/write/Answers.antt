@@ -13,12 +13,6 @@ returns-in_err-layout-clause-storage g c =
     let state = g.S.Storage.state c.args.image.now in
     rw (exit.1, exit.2) (refused-writes c.in_err-layout.field-0.0 (length (chosen_text c.args.self.now)) state why)
 
-pub write-requires : goal.write-requires
-write-requires g c =
-    let header = chosen c.in_ok-layout.layout.with_names c.args.self.now in
-    let short = text-short header c.in_ok-text.ensures.lawful.cluster_bits.1 c.in_ok-layout.ensures.0.fits in
-    omega (arith, short, ap length c.deref.ensures.value, ap length c.in_ok-text.ensures.text)
-
 pub returns-in_err-write-clause-storage : goal.returns-in_err-write-clause-storage
 returns-in_err-write-clause-storage g c =
     let written = chosen c.in_ok-layout.layout.with_names c.args.self.now in
