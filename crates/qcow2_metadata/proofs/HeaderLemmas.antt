@@ -1,4 +1,4 @@
-use Rattle.std.proofs.Common.{◌≡◌, ℕ, zero, suc, ◌+◌, ◌^◌, ◌<◌, ◌≤◌, List, [], ◌∷◌, ◌++◌, length, get_or, take, drop, map, refl, ap, sym, add-one, append_assoc, append-nil, length-append, arith, Option, None, Some, Bool, true, false, not, nat_eq, ◌≢◌, option_map, Bor, String, string_bytes}
+use Rattle.std.proofs.Common.{◌≡◌, ℕ, zero, suc, ◌+◌, ◌^◌, ◌<◌, ◌≤◌, List, [], ◌∷◌, ◌++◌, length, get_or, take, drop, map, refl, ap, sym, ◌∙◌, add-one, append_assoc, append-nil, length-append, arith, Option, None, Some, Bool, true, false, not, nat_eq, ◌≢◌, option_map, Bor, String, string_bytes}
 use Rattle.std.specs.Global.{Global}
 use Rattle.std.specs.Cmp.Lexicographic.{pointwise}
 use Rattle.std.specs.List.{list_all, slice_get}
@@ -8,7 +8,7 @@ use Rattle.std.proofs.Math.Pow.{pow_mono}
 use Rattle.std.proofs.lemmas.List.{get_or_at}
 use Rattle.std.proofs.lemmas.List.Folds.{list_all-append, list_all_at}
 use Rattle.std.proofs.lemmas.Slice.Eq.{bytes_eq-Decides}
-use Rattle.qcow2_metadata.specs.Header.{first_by, names_by, all_same}
+use Rattle.qcow2_metadata.specs.Header.{HeaderRecord, first_by, names_by, all_same}
 use Rattle.qcow2_metadata.specs.Header.Extensions.{Extension, extension_of}
 use Rattle.qcow2_metadata.specs.declared.header.extensions.HeaderExtension.{HeaderExtension}
 
@@ -18,6 +18,12 @@ some_entries bits some = pow_mono some
 
 -- the sizes of clusters, tables and blocks
 pub ruleset powers = (pow_mono, some_entries)
+
+-- what the extensions in memory say, as a slice of them
+pub held_are : (inside header : HeaderRecord) (held items : List HeaderExtension) → inside ≡ header
+    → inside.extensions ≡ map extension_of items → held ≡ items → map extension_of held ≡ header.extensions
+held_are inside header held items same says is =
+    rw is (sym says ∙ ap (λ (h : HeaderRecord). h.extensions) same)
 
 -- whether all names are this one, where it is one
 abbrev pub all_are : Option (List ℕ) → List (List ℕ) → Bool

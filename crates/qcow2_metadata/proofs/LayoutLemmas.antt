@@ -11,11 +11,11 @@ use Rattle.std.proofs.lemmas.Bool.{cases_Bool}
 use Rattle.std.proofs.lemmas.Bool.Decides.{nat_tests}
 use Rattle.qcow2_metadata.proofs.TextLemmas.{IsKnown, length-header_text, newer-parts}
 use Rattle.qcow2_base.specs.declared.fault.Fault.TheVariants.{HeaderTooLong, NameTooLong}
-use Rattle.qcow2_metadata.specs.Header.{HeaderRecord}
+use Rattle.qcow2_metadata.specs.Header.{HeaderRecord, IsLawfulHeader}
 use Rattle.qcow2_metadata.specs.Header.Extensions.{Extension, FeatureKey, FeatureNameTable, FeatureNames, data_of, extension_of, name_chunk, names_of}
 use Rattle.qcow2_base.specs.OnDiskStruct.{header_extension_header, v2_header, v3_header_base}
 use Rattle.qcow2_metadata.specs.Header.Features.{feature_type_number}
-use Rattle.qcow2_metadata.specs.Header.Text.{IsChosen, IsLayout, bare, is_short, kept, placed, chosen, chosen_extensions, header_text, extension_header_of, extension_text, extensions_text, fields_text, is_other, fits_first_cluster, name_place, name_text, padded, parts_text, placed_base, written_text}
+use Rattle.qcow2_metadata.specs.Header.Text.{IsChosen, IsLayout, bare, base_with_length, header_end, v2_with_name, is_short, kept, placed, chosen, chosen_extensions, header_text, extension_header_of, extension_text, extensions_text, fields_text, is_other, fits_first_cluster, name_place, name_text, padded, parts_text, placed_base, written_text}
 use Rattle.qcow2_metadata.specs.declared.header.text.Layout.{Layout}
 use Rattle.qcow2_metadata.specs.declared.header.extensions.HeaderExtension.{HeaderExtension}
 use Rattle.qcow2_metadata.proofs.NamesLemmas.{name_chunks_len}
@@ -37,6 +37,9 @@ chosen-parts false (extension ∷ extensions) =
 -- a table says as many names as it has
 pub names_len : (names : BTreeMap FeatureKey (String Global)) → length (names_of names) ≡ length names.entries
 names_len names = length-map names.entries (λ entry. (entry.0, string_bytes entry.1))
+
+-- how many bytes they take
+pub ruleset table_lens = (names_len, name_chunks_len)
 
 -- what is written of an extension in memory
 abbrev pub held_part : Bool → HeaderExtension → List ℕ
@@ -65,6 +68,9 @@ pub parts_within_len : (with_names : Bool) (held : List HeaderExtension) (i : �
     ≤ length (flat_map (held_part with_names) held)
 parts_within_len with_names held i extension below is =
     rw (← is) at (length-flat_map-take (held_part with_names) held i extension below)
+
+-- how many bytes extensions take
+pub ruleset lens = (extensions_text_len, parts_within_len)
 
 -- bytes behind others, and the zeros behind them, are the padded bytes behind the others
 pub padded_pieces : (text bytes : List ℕ) → (text ++ bytes) ++ replicate ((8 - length bytes % 8) % 8) 0 ≡ text ++ padded bytes
@@ -108,15 +114,31 @@ pub extensions_pieces : (text before after : List ℕ) (with_names : Bool) (held
 extensions_pieces text before after with_names held i all parts zeros =
     rw (zeros, parts, extensions_text-held with_names held, take_all i held all) (simp append_assoc)
 
--- a text that is longer than the first cluster doesn't fit it
-pub too_long : (header : HeaderRecord) → IsKnown header
-    → 2 ^ header.v2.cluster_bits < name_place header + length (name_text header.backing_filename) → fits_first_cluster header ≡ false
-too_long header known long = grind (arith, nat_tests, length-header_text header known)
+-- a header in memory has no layout where its text is longer than the first cluster, which has 2 MiB at most
+pub too_long : (inside header : HeaderRecord) (with_names : Bool) → IsLawfulHeader inside → inside ≡ header
+    → (2 ^ header.v2.cluster_bits ≤ 2 ^ 21 → 2 ^ header.v2.cluster_bits
+    < name_place (chosen with_names header) + length (name_text header.backing_filename))
+    → fits_first_cluster (chosen with_names header) ≡ false
+too_long inside header with_names lawful same long =
+    let known = subst IsLawfulHeader same lawful in
+    let past = long (pow_mono known.cluster_bits.1) in
+    grind (arith, nat_tests, past, length-header_text (chosen with_names header) known.version)
 
--- a text that isn't fits
-pub short_enough : (header : HeaderRecord) → IsKnown header
-    → name_place header + length (name_text header.backing_filename) ≤ 2 ^ header.v2.cluster_bits → fits_first_cluster header ≡ true
-short_enough header known short = grind (arith, nat_tests, length-header_text header known)
+-- and it has one where the text isn't longer
+pub laid_out : (inside header : HeaderRecord) (layout : Layout) (end place : ℕ) → IsLawfulHeader inside → inside ≡ header
+    → end ≡ header_end header → place ≡ name_place (chosen layout.with_names header)
+    → layout.v2 ≡ v2_with_name header.v2 place header.backing_filename
+    → layout.base ≡ base_with_length header.v2.version header.base end
+    → layout.len ≡ place + length (name_text header.backing_filename) → layout.len ≤ 2 ^ header.v2.cluster_bits
+    → IsLayout (chosen layout.with_names header) layout
+laid_out inside header layout end place lawful same ends begins v2 base len short =
+    let count = length-header_text (chosen layout.with_names header) (subst IsLawfulHeader same lawful).version in
+    record {
+      v2 = rw begins at v2;
+      base = rw ends at base;
+      len = omega (arith, count, begins, len);
+      fits = grind (arith, nat_tests, count, begins, len, short);
+    }
 
 -- the pieces before the extensions in version 3
 pub newer_pieces : (header : HeaderRecord) (layout : Layout) (text first second third : List ℕ) → header.v2.version ≡ 3
@@ -164,3 +186,6 @@ bare_chosen header None short whole few names = grind (arith, nat_tests, short, 
 bare_chosen header (Some layout) short whole is names =
     subst (λ (b : Bool). IsLayout (chosen b header) layout × (kept header ≡ Ok (placed (chosen b header))))
     (sym names) (is, grind (arith, nat_tests, short, whole, is.fits))
+
+-- which layout is chosen
+pub ruleset choices = (kept_long, whole_chosen, bare_chosen)

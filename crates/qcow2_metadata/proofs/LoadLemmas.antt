@@ -10,6 +10,8 @@ use Rattle.qcow2_base.specs.declared.on_disk_struct.header_extension_header.Head
 use Rattle.qcow2_base.specs.declared.on_disk_struct.v2_header.V2Header.{V2Header}
 use Rattle.qcow2_base.specs.declared.on_disk_struct.v3_header_base.V3HeaderBase.{V3HeaderBase}
 use Rattle.qcow2_base.proofs.OnDiskStructLemmas.{HoldsLayout-moved}
+use Rattle.std.proofs.lemmas.List.{take_at}
+use Rattle.qcow2_metadata.proofs.RangeLemmas.{held-bytes_at}
 use Rattle.qcow2_metadata.proofs.ChainLemmas.{extensions_at-unfold}
 use Rattle.qcow2_metadata.proofs.GrammarLemmas.{fixed_parts-by, header_from, header_of-is, holds-base_at, holds-v2_at, is-header_of, parts_by}
 use Rattle.qcow2_metadata.specs.Results.{Answers, provided, result_map}
@@ -17,6 +19,9 @@ use Rattle.qcow2_metadata.specs.Header.{HeaderRecord, default_base}
 use Rattle.qcow2_metadata.specs.Header.Chain.{extension_at, extension_header_at, extensions_at}
 use Rattle.qcow2_metadata.specs.Header.Extensions.{Extension}
 use Rattle.qcow2_metadata.specs.Header.Grammar.{FollowsGrammar, backing_name, base_at, field_conditions, fixed_parts, header_extensions, header_of, last_conditions, v2_at, version_conditions}
+
+-- bytes that were read
+pub ruleset bytes_read = (held-bytes_at, take_at)
 
 -- a structure that was read stands in the image
 read-layout : (image : Image) (offset : ℕ) (bytes : List ℕ) (fields : List LayoutField) → Holds image offset bytes

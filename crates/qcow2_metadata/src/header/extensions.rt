@@ -303,7 +303,7 @@ impl HeaderExtension {
     }
 
     // How many bytes its data has.
-    #[tactic(auto, using(crate::proofs::LayoutLemmas::names_len, crate::proofs::NamesLemmas::name_chunks_len))]
+    #[tactic(auto, using(crate::proofs::LayoutLemmas::table_lens))]
     fn data_len(&self) -> Option<usize>
         ensures { SomeIff result (length (data_of (extension_of self.now)) < 2 ^ 64)
             (length (data_of (extension_of self.now))) }
@@ -338,7 +338,7 @@ impl HeaderExtension {
 }
 
 // How many bytes the extensions take in an image, those with feature names or without, and End.
-#[tactic(auto, using(crate::proofs::LayoutLemmas::extensions_text_len, crate::proofs::LayoutLemmas::parts_within_len))]
+#[tactic(auto, using(crate::proofs::LayoutLemmas::lens))]
 pub(super) fn extensions_len(extensions: &[HeaderExtension], with_names: bool) -> Option<usize>
     ensures { SomeIff result
         (length (extensions_text (chosen_extensions with_names (map extension_of extensions.now))) < 2 ^ 64)

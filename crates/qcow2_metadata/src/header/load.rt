@@ -84,6 +84,7 @@ fn read_other_parts<S: Storage>(
 
 // So many bytes of the image, from an offset on. Takes memory for them, so it asks that they end within the
 // largest cluster.
+#[tactic(auto, using(crate::proofs::LoadLemmas::bytes_read))]
 pub(super) fn read_bytes<S: Storage>(
     alloc: Global,
     image: &mut ReadAhead<S>,
