@@ -27,12 +27,7 @@ extension_at-end image len place is = record { bounded = grind (arith, nat_tests
 
 extension_at-some : (image : Image) (len place : ℕ) (extension : Extension) (next : ℕ)
     → extension_at image len place ≡ Ok (Some (extension, next)) → IsFirst image len place extension next
-extension_at-some image len place extension next is = record {
-  bounded = grind (arith, nat_tests);
-  more = grind (arith, nat_tests);
-  says = grind (arith, nat_tests);
-  next_is = grind (arith, nat_tests);
-}
+extension_at-some image len place extension next is = grind (arith, nat_tests)
 
 extension_at-broken : (image : Image) (len place : ℕ) (fault : Fault)
     → extension_at image len place ≡ Err fault → IsBroken image len (link_at image place) fault

@@ -37,54 +37,22 @@ map-same f g (suc count) first same =
 -- the same bytes stand in both
 bytes_at-same : (end : ℕ) (image other : Image) → AgreeWithin end image other → (offset count : ℕ)
     → offset + count ≤ end → bytes_at other offset count ≡ bytes_at image offset count
-bytes_at-same end image other same offset count within =
-    map-same (λ i. other (offset + i)) (λ i. image (offset + i)) count 0
-    (λ i below. same.each (offset + i) (omega arith))
+bytes_at-same end image other same offset count within = grind (arith, nat_tests, map-same)
 
 -- the first part is the same
 v2_at-same : (end : ℕ) (image other : Image) → AgreeWithin end image other → 72 ≤ end
     → v2_at other ≡ v2_at image
-v2_at-same end image other same enough =
-    let field = be-same end image other same in
-    cc (
-      field 0 4 (omega arith),
-      field 4 4 (omega arith),
-      field 8 8 (omega arith),
-      field 16 4 (omega arith),
-      field 20 4 (omega arith),
-      field 24 8 (omega arith),
-      field 32 4 (omega arith),
-      field 36 4 (omega arith),
-      field 40 8 (omega arith),
-      field 48 8 (omega arith),
-      field 56 4 (omega arith),
-      field 60 4 (omega arith),
-      field 64 8 (omega arith),
-    )
+v2_at-same end image other same enough = grind (arith, nat_tests, be-same)
 
 -- the second part is the same
 base_at-same : (end : ℕ) (image other : Image) → AgreeWithin end image other → 104 ≤ end → (version : ℕ)
     → base_at other version ≡ base_at image version
-base_at-same end image other same enough version =
-    let field = be-same end image other same in
-    elim (cases_Bool (version == 3)) [
-      | inl newer ↦
-          rw (newer, base_at) (cc (
-            field 72 8 (omega arith),
-            field 80 8 (omega arith),
-            field 88 8 (omega arith),
-            field 96 4 (omega arith),
-            field 100 4 (omega arith),
-          ))
-      | inr older ↦ rw (older, base_at) refl
-    ]
+base_at-same end image other same enough version = grind (arith, nat_tests, be-same)
 
 -- the backing file's name is the same
 backing_name-same : (image other : Image) (v2 : V2Header) → AgreeWithin (2 ^ v2.cluster_bits) image other
     → backing_name other v2 ≡ backing_name image v2
-backing_name-same image other v2 same =
-    let content = bytes_at-same _ image other same v2.backing_file_offset v2.backing_file_size in
-    grind (arith, nat_tests, content)
+backing_name-same image other v2 same = grind (arith, nat_tests, bytes_at-same)
 
 -- what comes of an extension's number, its size and its data
 abbrev extension_by : ℕ → ℕ → ℕ → ℕ → List ℕ → Result (Option (Extension × ℕ)) Fault
@@ -98,32 +66,15 @@ extension_by len place number size content =
 -- the extension at a place is the same
 extension_at-same : (len : ℕ) (image other : Image) → AgreeWithin len image other → (place : ℕ)
     → extension_at other len place ≡ extension_at image len place
-extension_at-same len image other same place = elim (cases_lt len (place + 8)) [
-  | inl past ↦ extension_at-past other len place (omega arith) ∙ sym (extension_at-past image len place (omega arith))
-  | inr within ↦
-      let number = be-same len image other same place 4 (omega arith) in
-      let size = be-same len image other same (place + 4) 4 (omega arith) in
-      elim (cases_lt len (data_end (link_at image place))) [
-        | inl past ↦
-            extension_at-past other len place (omega (arith, size)) ∙ sym (extension_at-past image len place past)
-        | inr fits ↦
-            let content = ap (bytes_at other (place + 8)) size
-            ∙ bytes_at-same len image other same (place + 8) (be image (place + 4) 4) (omega arith) in
-            λ i. extension_by len place (number i) (size i) (content i)
-      ]
-]
+extension_at-same len image other same place =
+    grind (arith, nat_tests, extension_at-past, be-same, bytes_at-same)
 
 -- so many extensions from a place on are the same
 few_extensions-same : (len : ℕ) (image other : Image) → AgreeWithin len image other → (most place : ℕ)
     → few_extensions most other len place ≡ few_extensions most image len place
 few_extensions-same len image other same zero place = refl
 few_extensions-same len image other same (suc most) place =
-    let first = extension_at-same len image other same place in
-    let others = few_extensions-same len image other same most in
-    λ i. and_then (first i) (λ found. elim found [
-      | None ↦ Ok []
-      | Some first ↦ result_map (λ rest. first.0 ∷ rest) (others first.1 i)
-    ])
+    grind (arith, nat_tests, extension_at-same, few_extensions-same len image other same most)
 
 -- the extensions are the same
 header_extensions-same : (image other : Image) (v2 : V2Header) (base : V3HeaderBase)
@@ -143,22 +94,7 @@ after_parts-same : (image other : Image) (parts : V2Header × V3HeaderBase)
     → AgreeWithin (2 ^ parts.0.cluster_bits) image other → parts_by parts.0 parts.1 ≡ Ok parts
     → after_parts other parts ≡ after_parts image parts
 after_parts-same image other parts same lawful =
-    let len = 2 ^ parts.0.cluster_bits in
-    let long : 104 ≤ parts.1.header_length = grind (arith, nat_tests) in
-    let short : parts.1.header_length ≤ len = grind (arith, nat_tests) in
-    let name = backing_name-same image other parts.0 same in
-    let extensions = header_extensions-same image other parts.0 parts.1 same in
-    let unknown = bytes_at-same len image other same 104 (parts.1.header_length - 104) (omega arith) in
-    λ i. and_then (name i) (λ name.
-    and_then (extensions i) (λ extensions.
-    provided (last_conditions parts.1 extensions) (λ _.
-    Ok (record {
-      v2 = parts.0;
-      base = parts.1;
-      unknown_header_fields = unknown i;
-      backing_filename = name;
-      extensions = extensions;
-    }))))
+    grind (arith, nat_tests, backing_name-same, header_extensions-same, bytes_at-same)
 
 -- images with the same first cluster have the same header, or the same fault
 pub header_of-same : (image other : Image) → SameFirstCluster image other → header_of other ≡ header_of image

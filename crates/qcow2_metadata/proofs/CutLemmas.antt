@@ -30,13 +30,7 @@ record IsWide (bytes : List ℕ) : Type 0 where
 -- a character of more than one byte
 IsWide-encode : (c : ℕ) → IsScalar c → 128 ≤ c → IsWide (encode_utf8 c)
 unfolding encode_utf8
-IsWide-encode c is wide =
-    let range = scalar_cases c is in record {
-      short = grind (arith, nat_tests);
-      first = grind (arith, nat_tests);
-      second = grind (arith, nat_tests);
-      third = λ long. grind (arith, nat_tests);
-    }
+IsWide-encode c is wide = grind (arith, nat_tests, scalar_cases)
 
 -- a character below 128 is one byte
 length-one : (c : ℕ) → c < 128 → length (encode_utf8 c) ≡ 1

@@ -51,11 +51,7 @@ string_is_text = IsUtf8-string_bytes
 -- text of a type that is text reads back
 pub text-reads_back : (type : HeaderExtensionType) (name : List ℕ) → is_text type ≡ true → IsUtf8 name
     → ReadsBack (TextOf type name)
-text-reads_back kind.BackingFileFormat name is valid =
-    (omega arith, omega arith, rw (is_utf8-from_IsUtf8 name valid) refl)
-text-reads_back kind.ExternalDataFileName name is valid =
-    (omega arith, omega arith, rw (is_utf8-from_IsUtf8 name valid) refl)
-text-reads_back _ name is valid = cc
+text-reads_back x0 name is valid = grind (arith, nat_tests, is_utf8-from_IsUtf8)
 
 -- the numbers of two types of extensions are the same exactly where the types are
 extension_number-Decides : (a b : HeaderExtensionType) → Decides (extension_number a == extension_number b) (a ≡ b)
@@ -82,20 +78,11 @@ same_feature_name-Decides ((kind, bit), name) ((other_kind, other_bit), other) =
 
 -- the test of two extensions says whether they are the same
 pub same_extension-Decides : (a b : Extension) → Decides (same_extension a b) (a ≡ b)
-same_extension-Decides (TextOf type a) (TextOf other b) =
-    Decides-like _ (λ (types, names). cc) (λ same. (cc, cc)) (Decides-and _ _ (extension_number-Decides type other) (bytes_eq-Decides a b))
-same_extension-Decides (FeatureNameTable a) (FeatureNameTable b) =
-    Decides-like _ (ap FeatureNameTable) (λ same. cc) (slice_eq-Decides same_feature_name-Decides a b _ refl)
-same_extension-Decides (Unknown m a) (Unknown n b) =
-    Decides-like _ (λ (numbers, contents). cc) (λ same. (cc, cc)) (Decides-and _ _ (Decides-eqb m n) (bytes_eq-Decides a b))
-same_extension-Decides _ _ = (λ same. cc, λ same. cc)
+same_extension-Decides x0 x1 = grind (arith, nat_tests, extension_number-Decides, bytes_eq-Decides, slice_eq-Decides, same_feature_name-Decides)
 
 -- the derived test of two types of features is that of their numbers
 feature_type_eq-number : (a b : FeatureType) → (feature_type_eq.ghosts).eq a b ≡ (feature_type_number a == feature_type_number b)
-feature_type_eq-number Incompatible Incompatible = refl
-feature_type_eq-number Compatible Compatible = refl
-feature_type_eq-number Autoclear Autoclear = refl
-feature_type_eq-number _ _ = refl
+feature_type_eq-number x0 x1 = grind (arith, nat_tests)
 
 -- the derived test of two extensions in memory is that of what they say
 pub same_extension-of : (a b : HeaderExtension) → (extension_eq.ghosts).eq a b ≡ same_extension (extension_of a) (extension_of b)

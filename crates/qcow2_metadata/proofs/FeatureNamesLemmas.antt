@@ -44,9 +44,7 @@ pub ruleset names_read = (until_zero-found, lossy_chars-utf8_lossy)
 
 -- the type of a number is the one that has it
 feature_type_of-number : (kind : FeatureType) → feature_type_of (feature_type_number kind) ≡ Some kind
-feature_type_of-number Incompatible = refl
-feature_type_of-number Compatible = refl
-feature_type_of-number Autoclear = refl
+feature_type_of-number x0 = grind (arith, nat_tests)
 
 feature_type_of-unknown : (number : ℕ) → ((kind : FeatureType) → feature_type_number kind ≢ number) → feature_type_of number ≡ None
 feature_type_of-unknown number unknown = grind (arith, unknown Incompatible, unknown Compatible, unknown Autoclear)
@@ -54,15 +52,12 @@ feature_type_of-unknown number unknown = grind (arith, unknown Incompatible, unk
 -- what a chunk does that is of a type that isn't known, or of two bytes and more
 pub with_feature_name-unknown : (names : FeatureNames) (chunk : List ℕ)
     → ((kind : FeatureType) → feature_type_number kind ≢ slice_index chunk 0) → with_feature_name names chunk ≡ Ok names
-with_feature_name-unknown names [] unknown = refl
-with_feature_name-unknown names (number ∷ bytes) unknown = rw (feature_type_of-unknown number unknown) refl
+with_feature_name-unknown names x1 unknown = grind (arith, nat_tests, feature_type_of-unknown)
 
 pub with_feature_name-named : (names : FeatureNames) (kind : FeatureType) (chunk : List ℕ) → 2 ≤ length chunk
     → feature_type_number kind ≡ slice_index chunk 0 → with_feature_name names chunk
     ≡ Ok (insert_entry key_cmp names (kind, slice_index chunk 1) (utf8_lossy (until_zero (drop 2 chunk))))
-with_feature_name-named names kind [] two known = absurd (omega arith)
-with_feature_name-named names kind (number ∷ []) two known = absurd (omega arith)
-with_feature_name-named names kind (number ∷ bit ∷ name) two known = rw (← known, feature_type_of-number kind) refl
+with_feature_name-named names kind x2 two known = grind (arith, nat_tests, feature_type_of-number)
 
 -- to set a value and then map all values is to map them and then set the value's image
 pub insert_entry-map : {K X Y : Type 0} (f : X → Y) (cmp : K → K → Ordering) (entries : List (K × X))
@@ -70,8 +65,7 @@ pub insert_entry-map : {K X Y : Type 0} (f : X → Y) (cmp : K → K → Orderin
     ≡ insert_entry cmp (map (λ other. (other.0, f other.1)) entries) key (f value)
 insert_entry-map f cmp [] key value = refl
 insert_entry-map f cmp (entry ∷ entries) key value =
-    let rest = insert_entry-map f cmp entries key value in
-    grind (arith, rest)
+    grind (arith, nat_tests, insert_entry-map f cmp entries key value)
 
 -- a fault of the first chunks is the fault of more
 pub names_of_chunks-fault : (bytes : List ℕ) (fault : Fault) (few more : ℕ) → names_of_chunks bytes few ≡ Err fault
@@ -89,26 +83,15 @@ names_of_chunks-more bytes chunks names before = rw (add-one chunks, before) ref
 
 -- keys that compare as equal are one key
 key_cmp-same : (a b : FeatureKey) → key_cmp a b ≡ Equal → a ≡ b
-key_cmp-same (Incompatible, m) (Incompatible, n) is =
-    ap (λ (bit : ℕ). (Incompatible, bit)) (ranked m n Equal (sym is))
-key_cmp-same (Compatible, m) (Compatible, n) is =
-    ap (λ (bit : ℕ). (Compatible, bit)) (ranked m n Equal (sym is))
-key_cmp-same (Autoclear, m) (Autoclear, n) is =
-    ap (λ (bit : ℕ). (Autoclear, bit)) (ranked m n Equal (sym is))
-key_cmp-same _ _ is = cc
+key_cmp-same x0 x1 is = grind (arith, nat_tests, ranked)
 
 -- a key compares as equal to itself
 key_cmp-itself : (a : FeatureKey) → key_cmp a a ≡ Equal
-key_cmp-itself (Incompatible, n) = tied_itself nat_cmp_total n
-key_cmp-itself (Compatible, n) = tied_itself nat_cmp_total n
-key_cmp-itself (Autoclear, n) = tied_itself nat_cmp_total n
+key_cmp-itself x0 = grind (arith, nat_tests, tied_itself, nat_cmp_total)
 
 -- two keys are one, or don't compare as equal
 same_key : (a b : FeatureKey) → (a ≡ b) ⊎ (is_eq (key_cmp a b) ≡ false)
-same_key a b = elim (cases_Bool (is_eq (key_cmp a b))) [
-  | inl equal ↦ inl (key_cmp-same a b (grind arith))
-  | inr other ↦ inr other
-]
+same_key a b = grind (arith, nat_tests, key_cmp-same)
 
 -- the name that a table has for a key
 abbrev named : FeatureKey → FeatureNames → Option (List ℕ)
@@ -118,10 +101,7 @@ named key names = lookup (λ other. is_eq (key_cmp key other)) names
 named-set : (key : FeatureKey) (name : List ℕ) (names : FeatureNames)
     → named key (insert_entry key_cmp names key name) ≡ Some name
 named-set key name [] = rw (key_cmp-itself key) refl
-named-set key name (entry ∷ names) =
-    let rest = named-set key name names in
-    let itself = key_cmp-itself key in
-    grind (arith, rest, itself)
+named-set key name (entry ∷ names) = grind (arith, nat_tests, key_cmp-itself, named-set key name names)
 
 -- other keys have the names that they had
 named-others : (key set : FeatureKey) (name : List ℕ) (names : FeatureNames) → is_eq (key_cmp key set) ≡ false
@@ -175,24 +155,7 @@ with_feature_name-sets key chunk old new has is =
 -- a chunk sets the name of its key, and leaves the names of others
 with_feature_name-does : (key : FeatureKey) (chunk : List ℕ) (old new : FeatureNames)
     → with_feature_name old chunk ≡ Ok new → SetsName key chunk old new
-with_feature_name-does key [] old new is =
-    let same : new ≡ old = cc in
-    inr (λ has. absurd (omega (arith, has.long)), ap (named key) same)
-with_feature_name-does key (number ∷ []) old new is =
-    let same : new ≡ old = grind arith in
-    inr (λ has. absurd (omega (arith, has.long)), ap (named key) same)
-with_feature_name-does key (number ∷ bit ∷ bytes) old new is =
-    let leaves : ¬ (HasKey (number ∷ bit ∷ bytes) key) → SetsName key (number ∷ bit ∷ bytes) old new =
-    λ none. inr (none, with_feature_name-leaves key number bit bytes old new none is) in
-    elim (eqb_tells number (feature_type_number key.0)) [
-      | inr other ↦ leaves (λ has. other.1 has.type)
-      | inl type ↦ elim (eqb_tells bit key.1) [
-        | inr other ↦ leaves (λ has. other.1 has.bit)
-        | inl same ↦
-            let has : HasKey (number ∷ bit ∷ bytes) key = record { long = omega arith; type = type.1; bit = same.1 } in
-            inl (has, with_feature_name-sets key (number ∷ bit ∷ bytes) old new has is)
-      ]
-    ]
+with_feature_name-does key x1 old new is = grind (arith, nat_tests, with_feature_name-leaves, with_feature_name-sets)
 
 -- the last of so many chunks that has the key says this name
 record IsLastOf (bytes : List ℕ) (count : ℕ) (key : FeatureKey) (name : List ℕ) : Type 0 where
@@ -205,32 +168,7 @@ record IsLastOf (bytes : List ℕ) (count : ℕ) (key : FeatureKey) (name : List
 -- a chunk that doesn't have the key changes nothing of that
 IsLastOf-more : (bytes : List ℕ) (count : ℕ) (key : FeatureKey) (name : List ℕ)
     → ¬ (HasKey (chunk_at bytes count) key) → IsLastOf bytes count key name ↔ IsLastOf bytes (suc count) key name
-IsLastOf-more bytes count key name none = (
-  λ is. record {
-    index = is.index;
-    below = omega (arith, is.below);
-    has = is.has;
-    last = λ later after within. elim (cases_lt later count) [
-      | inl before ↦ is.last later after before
-      | inr from ↦
-          let same : later ≡ count = omega arith in
-          rw same none
-    ];
-    says = is.says;
-  },
-  λ is. record {
-    index = is.index;
-    below = elim (cases_lt is.index count) [
-      | inl before ↦ before
-      | inr from ↦
-          let same : is.index ≡ count = omega (arith, is.below) in
-          absurd (none (rw same at is.has))
-    ];
-    has = is.has;
-    last = λ later after within. is.last later after (omega arith);
-    says = is.says;
-  },
-)
+IsLastOf-more bytes count key name none = grind (arith, nat_tests)
 
 -- and one that has it is the last
 IsLastOf-set : (bytes : List ℕ) (count : ℕ) (key : FeatureKey) (name : List ℕ) → HasKey (chunk_at bytes count) key

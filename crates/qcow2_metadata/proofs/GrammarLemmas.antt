@@ -22,8 +22,7 @@ use Rattle.qcow2_metadata.proofs.ChainLemmas.{extensions_at-follow, follow-exten
 -- the two answers of which one came
 pub and_then-ok : {A B : Type 0} (answer : Result A Fault) (next : A → Result B Fault) (y : B)
     → and_then answer next ≡ Ok y → (x : A) × (answer ≡ Ok x) × (next x ≡ Ok y)
-and_then-ok (Ok x) next y is = (x, refl, is)
-and_then-ok (Err fault) next y is = cc
+and_then-ok x0 next y is = grind (arith, nat_tests)
 
 -- what is among the others is among all
 among_more : (x : List ℕ) (xs : List (List ℕ)) (a : List ℕ) → IsAmong xs a → IsAmong (x ∷ xs) a
@@ -99,9 +98,7 @@ base_at-IsBase image version = record {
 -- an image's second part is the one that is read
 IsBase-base_at : (image : Image) (version : ℕ) (base : V3HeaderBase) → (version ≡ 2) ⊎ (version ≡ 3)
     → IsBase image version base → base_at image version ≡ base
-IsBase-base_at image version base (inl two) is = ap (base_at image) two ∙ sym (is.version_2 two)
-IsBase-base_at image version base (inr three) is =
-    ap (base_at image) three ∙ holds-base_at image base (is.version_3 three)
+IsBase-base_at image version base x3 is = grind (arith, nat_tests, holds-base_at)
 
 -- the two fixed parts, or the fault of the first condition that they fail
 abbrev pub parts_by : V2Header → V3HeaderBase → Result (V2Header × V3HeaderBase) Fault
@@ -154,24 +151,12 @@ some_name-text image v2 name is = grind (arith, nat_tests)
 -- the backing file's name that is read
 backing_name-is : (image : Image) (v2 : V2Header) (name : Option (List ℕ))
     → backing_name image v2 ≡ Ok name → IsBackingName image v2 name
-backing_name-is image v2 None is = no_name-is image v2 is
-backing_name-is image v2 (Some name) is =
-    let says = text-ok BackingNameText (name_bytes image v2) name (some_name-text image v2 name is) in
-    record {
-      some = grind (arith, nat_tests);
-      short = grind (arith, nat_tests);
-      within = grind (arith, nat_tests);
-      bytes = says.0;
-      text = says.1;
-    }
+backing_name-is image v2 x2 is = grind (arith, nat_tests, no_name-is, text-ok, some_name-text)
 
 -- the backing file's name is read
 is-backing_name : (image : Image) (v2 : V2Header) (name : Option (List ℕ)) → IsBackingName image v2 name
     → backing_name image v2 ≡ Ok name
-is-backing_name image v2 None is = grind (arith, nat_tests)
-is-backing_name image v2 (Some name) is =
-    let valid : is_utf8 (name_bytes image v2) ≡ true = rw (← is.bytes) (is_utf8-from_IsUtf8 name is.text) in
-    grind (arith, nat_tests)
+is-backing_name image v2 x2 is = grind (arith, nat_tests, is_utf8-from_IsUtf8)
 
 -- the extensions that are read
 header_extensions-has : (image : Image) (v2 : V2Header) (base : V3HeaderBase) (extensions : List Extension)

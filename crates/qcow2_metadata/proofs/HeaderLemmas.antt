@@ -1,3 +1,4 @@
+use Rattle.std.proofs.lemmas.Bool.Decides.{nat_tests}
 use Rattle.std.proofs.Common.{◌≡◌, ℕ, zero, suc, ◌+◌, ◌^◌, ◌<◌, ◌≤◌, List, [], ◌∷◌, ◌++◌, length, get_or, take, drop, map, refl, ap, sym, ◌∙◌, add-one, append_assoc, append-nil, length-append, arith, Option, None, Some, Bool, true, false, not, nat_eq, ◌≢◌, option_map, Bor, String, string_bytes}
 use Rattle.std.specs.Global.{Global}
 use Rattle.std.specs.Cmp.Lexicographic.{pointwise}
@@ -40,8 +41,7 @@ names_by-split : (name_in : Extension → Option (List ℕ)) (held : List Header
 names_by-split name_in [] i default below = absurd (omega arith)
 names_by-split name_in (extension ∷ held) zero default below = refl
 names_by-split name_in (extension ∷ held) (suc i) default below =
-    let rest = names_by-split name_in held i default (omega arith) in
-    rw rest (simp append_assoc)
+    grind (arith, nat_tests, names_by-split name_in held i default (omega arith))
 
 -- one more extension puts what it says at the end of the names
 names_by-more : (name_in : Extension → Option (List ℕ)) (held : List HeaderExtension) (i : ℕ)
@@ -52,18 +52,14 @@ names_by-more : (name_in : Extension → Option (List ℕ)) (held : List HeaderE
 names_by-more name_in [] i default below = absurd (omega arith)
 names_by-more name_in (extension ∷ held) zero default below = append-nil _
 names_by-more name_in (extension ∷ held) (suc i) default below =
-    let rest = names_by-more name_in held i default (omega arith) in
-    rw (add-one, rw add-one at rest) (simp append_assoc)
+    grind (arith, nat_tests, names_by-more name_in held i default (omega arith))
 
 -- an extension that says no name leaves the names empty
 pub no_name_more : (name_in : Extension → Option (List ℕ)) (held : List HeaderExtension) (i : ℕ)
     (extension : HeaderExtension) → i < length held → extension ≡ get_or held i extension
     → names_by name_in (map extension_of (take i held)) ≡ [] → name_in (extension_of extension) ≡ None
     → names_by name_in (map extension_of (take (i + 1) held)) ≡ []
-no_name_more name_in held i extension below is none here =
-    let more = names_by-more name_in held i extension below in
-    let same : get_or held i extension ≡ extension = sym is in
-    rw (more, none, same, here) refl
+no_name_more name_in held i extension below is none here = grind (arith, nat_tests, names_by-more)
 
 -- a name behind extensions that say none is the first
 pub first_by_at : (name_in : Extension → Option (List ℕ)) (held : List HeaderExtension) (i : ℕ)
@@ -109,9 +105,7 @@ same_with_no_name first name_in held i extension below is same none =
 -- all names are the first one, with that name behind them too
 all_are_push : (first : List ℕ) (names : List (List ℕ)) → all_are (Some first) names ≡ true
     → all_are (Some first) (names ++ first ∷ []) ≡ true
-all_are_push first names same =
-    let equal = (bytes_eq-Decides first first).1 refl in
-    rw list_all-append (rw (same, equal) refl)
+all_are_push first names same = grind (arith, nat_tests, bytes_eq-Decides, list_all-append)
 
 -- so does one that says that name
 pub same_with_first : (first : Option (List ℕ)) (name_in : Extension → Option (List ℕ))

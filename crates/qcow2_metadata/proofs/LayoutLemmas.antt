@@ -27,12 +27,7 @@ chosen-parts true [] = refl
 chosen-parts true (extension ∷ extensions) =
     ap (λ rest. extension_text extension ++ rest) (chosen-parts true extensions)
 chosen-parts false [] = refl
-chosen-parts false (extension ∷ extensions) =
-    let rest = chosen-parts false extensions in
-    elim (cases_Bool (is_other extension)) [
-      | inl is ↦ rw (is, rest) refl
-      | inr is ↦ rw (is, rest) refl
-    ]
+chosen-parts false (extension ∷ extensions) = grind (arith, nat_tests, chosen-parts false extensions)
 
 -- a table says as many names as it has
 pub names_len : (names : BTreeMap FeatureKey (String Global)) → length (names_of names) ≡ length names.entries
@@ -49,9 +44,7 @@ held_part with_names held = written_text with_names (extension_of held)
 pub extensions_text-held : (with_names : Bool) (held : List HeaderExtension)
     → extensions_text (chosen_extensions with_names (map extension_of held))
     ≡ flat_map (held_part with_names) held ++ replicate 8 0
-extensions_text-held with_names held =
-    ap (λ texts. texts ++ replicate 8 0)
-    (chosen-parts with_names (map extension_of held) ∙ flat_map-map (written_text with_names) extension_of held)
+extensions_text-held with_names held = grind (arith, nat_tests, chosen-parts, flat_map-map)
 
 -- how many bytes these are
 pub extensions_text_len : (with_names : Bool) (held : List HeaderExtension)
@@ -151,10 +144,7 @@ newer_pieces header layout text first second third newer is v2 base unknown =
 -- the extensions of a header that fits are few bytes
 pub extensions_short : (header : HeaderRecord) → IsKnown header → header.v2.cluster_bits ≤ 21 → fits_first_cluster header ≡ true
     → length (extensions_text header.extensions) < 2 ^ 32
-extensions_short header known bits inside =
-    let few : 2 ^ header.v2.cluster_bits ≤ 2 ^ 21 = pow_mono bits in
-    let bound : length (header_text header) ≤ 2 ^ header.v2.cluster_bits = grind (arith, nat_tests, inside) in
-    omega (arith, few, bound, length-header_text header known)
+extensions_short header known bits inside = grind (arith, nat_tests, pow_mono, length-header_text)
 
 -- the pieces of a header's text
 pub text_pieces : (header : HeaderRecord) (first second third fourth : List ℕ) → first ≡ [] → second ≡ first ++ parts_text header
@@ -172,9 +162,7 @@ kept_long header long = grind (arith, nat_tests)
 pub whole_chosen : (header : HeaderRecord) (layout : Layout) → length (name_text header.backing_filename) ≤ 1023
     → IsLayout (chosen true header) layout → layout.with_names ≡ true → IsChosen header (Ok layout)
 unfolding kept
-whole_chosen header layout short is names =
-    subst (λ (b : Bool). IsLayout (chosen b header) layout × (kept header ≡ Ok (placed (chosen b header))))
-    (sym names) (is, grind (arith, nat_tests, short, is.fits))
+whole_chosen header layout short is names = grind (arith, nat_tests)
 
 -- where there is none, the answer is the layout without feature names, or the fault
 pub bare_chosen : (header : HeaderRecord) (found : Option Layout) → length (name_text header.backing_filename) ≤ 1023

@@ -126,11 +126,7 @@ header_extensions-newer image v2 base newer = grind (arith, nat_tests)
 -- an answer that is the function's follows the grammar
 pub follows-grammar : (answer : Result HeaderRecord Fault) (image : Image) → Answers (λ header. header) answer (header_of image)
     → FollowsGrammar answer image
-follows-grammar (Ok header) image is = header_of-is image header is
-follows-grammar (Err fault) image (inl failed) = inl failed
-follows-grammar (Err fault) image (inr (inl memory)) = inr (inl memory)
-follows-grammar (Err fault) image (inr (inr refused)) =
-    inr (inr (λ header is. let accepted = is-header_of image header is in cc))
+follows-grammar x0 image is = grind (arith, nat_tests, header_of-is, is-header_of)
 
 -- the fault of the fixed parts is the header's
 pub header-parts-fault : (image : Image) (fault : Fault) → fixed_parts image ≡ Err fault → header_of image ≡ Err fault

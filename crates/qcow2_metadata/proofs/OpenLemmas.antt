@@ -20,36 +20,24 @@ kept-too_long header fault short is = grind arith
 -- the fault of a header that was loaded and then written
 opened-too_long : (header : HeaderRecord) (fault : Fault) → is_short header.backing_filename ≡ true
     → opened true (Ok header) ≡ Err fault → fault ≡ HeaderTooLong
-opened-too_long header fault short is =
-    let written : kept (without_autoclear header) ≡ Err fault = grind (arith, nat_tests) in
-    kept-too_long (without_autoclear header) fault short written
+opened-too_long header fault short is = grind (arith, nat_tests, kept-too_long)
 
 -- what is answered once refusals come first is what is answered
 pub answers-first : (answer : Result HeaderRecord Fault) (expected : Result HeaderRecord Fault)
     → RefusesFirst (λ h. h) answer expected → Answers (λ h. h) answer expected
-answers-first (Ok value) expected is = is
-answers-first (Err fault) expected (inl refused) = inr (inr refused)
-answers-first (Err fault) expected (inr (inl failed, value)) = inl failed
-answers-first (Err fault) expected (inr (inr memory, value)) = inr (inl memory)
+answers-first x0 expected is = grind (arith, nat_tests)
 
 -- the faults of a load for who means to write
 pub opened-faults : (answer : Result HeaderRecord Fault) (header : HeaderRecord) (writable : Bool) → writable ≡ true
     → is_short header.backing_filename ≡ true → Answers (λ h. h) answer (opened true (Ok header))
     → IfErr answer (IsOpenFault writable)
-opened-faults (Ok loaded) header writable is short answers = tt
-opened-faults (Err fault) header writable is short (inl failed) = inl (inr (inr failed))
-opened-faults (Err fault) header writable is short (inr (inl memory)) = inl (inr (inl memory))
-opened-faults (Err fault) header writable is short (inr (inr refused)) =
-    inr (is, opened-too_long header fault short refused)
+opened-faults x0 header writable is short answers = grind (arith, nat_tests, opened-too_long)
 
 -- the fault of one image's header is that of another one with the same first cluster
 pub opened-same_fault : (writable : Bool) (image other : Image) (fault : Fault) → SameFirstCluster image other
     → ((fault ≡ Storage) ⊎ (fault ≡ NoMemory) ⊎ (header_of image ≡ Err fault))
     → ((fault ≡ Storage) ⊎ (fault ≡ NoMemory) ⊎ (opened writable (header_of other) ≡ Err fault))
-opened-same_fault writable image other fault same (inl failed) = inl failed
-opened-same_fault writable image other fault same (inr (inl memory)) = inr (inl memory)
-opened-same_fault writable image other fault same (inr (inr refused)) =
-    inr (inr (ap (opened writable) (header_of-same image other same ∙ refused)))
+opened-same_fault writable image other fault same x5 = grind (arith, nat_tests, header_of-same)
 
 -- and so is the header
 pub opened-same : (writable : Bool) (image other : Image) (header : HeaderRecord) → SameFirstCluster image other

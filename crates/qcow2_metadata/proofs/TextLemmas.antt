@@ -154,8 +154,7 @@ pub pushed-fields : {T E : Type 0} (answer : Result T E) (text after bytes : Lis
     → HoldsLayout (image_of bytes) (moved 0 fields) → OnOk answer (after ≡ text ++ bytes)
     → OnOk answer (after ≡ text ++ fields_text fields) × AreFitting fields
 pushed-fields answer text after bytes fields small joined count held pushed =
-    let written = layout-text bytes fields small joined count held in
-    (subst (λ (all : List ℕ). OnOk answer (after ≡ text ++ all)) written.0 pushed, written.1)
+    grind (arith, nat_tests, layout-text)
 
 -- padding makes as many bytes as the next multiple of 8
 pub length-padded : (bytes : List ℕ) → length (padded bytes) ≡ next_multiple_of (length bytes) 8
@@ -166,23 +165,12 @@ length-padded bytes =
 -- how many bytes an extension takes
 pub length-extension_text : (extension : Extension)
     → length (extension_text extension) ≡ 8 + next_multiple_of (length (data_of extension)) 8
-length-extension_text extension =
-    let header = fields_text (header_extension_header (extension_header_of extension)) in
-    length-append header (padded (data_of extension)) ∙ ap (λ n. 8 + n) (length-padded (data_of extension))
-
--- what the image has where an extension's text stands
-record HasExtension (image : Image) (place : ℕ) (extension : Extension) : Type 0 where
-  number : be image place 4 ≡ type_number extension
-  size : be image (place + 4) 4 ≡ length (data_of extension)
-  content : bytes_at image (place + 8) (length (data_of extension)) ≡ data_of extension
+length-extension_text extension = grind (arith, nat_tests, length-padded)
 
 -- the number and the length of an extension fit their bytes
 extension-fits : (header : HeaderExtensionHeader) → header.extension_type < 2 ^ 32 → header.length < 2 ^ 32
     → AreFitting (header_extension_header header)
-extension-fits header number size =
-    let second = big 4 4 header.length in
-    All-cons IsFitting (big 0 4 header.extension_type) (second ∷ []) number
-    (All-cons IsFitting second [] size (All-nil IsFitting))
+extension-fits header number size = grind (arith, nat_tests)
 
 -- what stands before an extension's data, in an image that has its text
 held-header : (image : Image) (place : ℕ) (header : HeaderExtensionHeader) → header.extension_type < 2 ^ 32
@@ -196,37 +184,24 @@ held-header image place header number size held =
     let are = text-fields image place 0 fields (assumption) fits moved_held in
     (rw start are.0, are.1.0)
 
--- an extension's text stands in the image
-held-extension : (image : Image) (place : ℕ) (extension : Extension)
-    → Holds image place (extension_text extension) → type_number extension < 2 ^ 32
-    → length (data_of extension) < 2 ^ 32 → HasExtension image place extension
-held-extension image place extension held number size =
-    let header = extension_header_of extension in
-    let header_text = fields_text (header_extension_header header) in
-    let bytes = data_of extension in
-    let padding : List ℕ = replicate (next_multiple_of (length bytes) 8 - length bytes) 0 in
-    let second = Holds-second image place header_text (padded bytes) held in
-    let content : Holds image (place + 8) bytes = Holds-first image (place + 8) bytes padding second in
-    let first = Holds-first image place header_text (padded bytes) held in
-    let are = held-header image place header number size first in
-    record {
-      number = are.0;
-      size = are.1;
-      content = sym (held-bytes_at image (place + 8) bytes content);
-    }
-
 -- an extension that stands in the image is the first of the chain from there on
 first-extension : (image : Image) (len place : ℕ) (extension : Extension) → ReadsBack extension → len ≤ 2 ^ 21
     → Holds image place (extension_text extension) → place + length (extension_text extension) ≤ len
     → IsFirst image len place (normal_extension extension) (place + length (extension_text extension))
 first-extension image len place extension back small held within =
+    let header = fields_text (header_extension_header (extension_header_of extension)) in
+    let bytes = data_of extension in
     let count = length-extension_text extension in
-    let has = held-extension image place extension held back.0 (omega (arith, count)) in
+    let first = Holds-first image place header (padded bytes) held in
+    let are = held-header image place (extension_header_of extension) back.0 (omega (arith, count)) first in
+    let second = Holds-second image place header (padded bytes) held in
+    let padding : List ℕ = replicate (next_multiple_of (length bytes) 8 - length bytes) 0 in
+    let content = held-bytes_at image (place + 8) bytes (Holds-first image (place + 8) bytes padding second) in
     record {
-      bounded = omega (arith, count, has.size);
-      more = λ none. back.1 (sym has.number ∙ none);
-      says = rw (has.number, has.size, has.content) back.2;
-      next_is = rw has.size (omega (arith, count));
+      bounded = omega (arith, count, are.1);
+      more = λ none. back.1 (sym are.0 ∙ none);
+      says = rw (are.0, are.1, ← content) back.2;
+      next_is = rw are.1 (omega (arith, count));
     }
 
 -- the zeros behind the extensions are End
@@ -263,9 +238,7 @@ text-says image len place (extension ∷ extensions) small back held within =
 -- what an extension reads back as says the same name
 same-name_in : (type : HeaderExtensionType) (extension : Extension)
     → name_in type (normal_extension extension) ≡ name_in type extension
-same-name_in type (TextOf own name) = refl
-same-name_in type (FeatureNameTable names) = refl
-same-name_in type (Unknown number content) = refl
+same-name_in type x1 = grind (arith, nat_tests)
 
 -- so the names are the same
 pub same-names_by : (type : HeaderExtensionType) (extensions : List Extension)
@@ -283,17 +256,7 @@ pub record IsPlaced (header : HeaderRecord) : Type 0 where
 -- what a header that is kept as it is has
 kept-placed : (header : HeaderRecord) → kept header ≡ Ok header → IsPlaced header
 unfolding kept
-kept-placed header is =
-    let short : is_short header.backing_filename ≡ true = grind arith in
-    elim (cases_Bool (fits_first_cluster header)) [
-      | inl fit ↦ record { placed = grind arith; fits = grind (arith, nat_tests, fit); short = short }
-      | inr big ↦
-          let same : placed (bare header) ≡ header = grind arith in
-          let fit : fits_first_cluster (bare header) ≡ true = grind arith in
-          let none = ap (λ (other : HeaderRecord). record header { extensions = other.extensions }) same in
-          let fits : fits_first_cluster header ≡ true = sym (ap fits_first_cluster none) ∙ fit in
-          cc
-    ]
+kept-placed header is = grind (arith, nat_tests)
 
 -- the header's version is 2 or 3
 abbrev pub IsKnown : HeaderRecord → Type 0
@@ -307,17 +270,13 @@ fixed_text header =
 -- the text before the extensions in version 2
 pub older-parts : (header : HeaderRecord) → header.v2.version ≡ 2
     → (parts_text header ≡ fields_text (v2_header (placed_v2 header))) × (header_end header ≡ 72)
-older-parts header two =
-    let test : (header.v2.version == 3) ≡ false = grind (arith, nat_tests, two) in
-    (rw (test, parts_text) refl, rw (test, header_end) refl)
+older-parts header two = grind (arith, nat_tests)
 
 -- and in version 3
 pub newer-parts : (header : HeaderRecord) → header.v2.version ≡ 3
     → (parts_text header ≡ fixed_text header ++ padded header.unknown_header_fields)
     × (header_end header ≡ 104 + length (padded header.unknown_header_fields))
-newer-parts header three =
-    let test : (header.v2.version == 3) ≡ true = grind (arith, nat_tests, three) in
-    (rw (test, parts_text) refl, rw (test, header_end) refl)
+newer-parts header three = grind (arith, nat_tests)
 
 -- the text before the extensions ends where they begin
 pub length-parts_text : (header : HeaderRecord) → IsKnown header → length (parts_text header) ≡ header_end header
@@ -403,13 +362,7 @@ held-pieces image header known held =
 -- the length of a header that has its places
 placed-length : (header : HeaderRecord) → IsLawfulHeader header → IsPlaced header → IsKnown header
     → header.base.header_length ≡ 104 + length (padded header.unknown_header_fields)
-placed-length header lawful is (inl two) =
-    let none = lawful.older two in
-    ap (λ (b : V3HeaderBase). b.header_length) none.0
-    ∙ sym (ap (λ (fields : List ℕ). 104 + length (padded fields)) none.1)
-placed-length header lawful is (inr three) =
-    let set : (placed_base header).header_length ≡ header_end header = rw (three, placed_base) refl in
-    ap (λ (h : HeaderRecord). h.base.header_length) is.placed ∙ set ∙ (newer-parts header three).1
+placed-length header lawful is x3 = grind (arith, nat_tests, newer-parts)
 
 -- it fits the first cluster
 placed-fits : (image : Image) (header : HeaderRecord) → IsLawfulHeader header → IsPlaced header
@@ -426,11 +379,7 @@ placed-fits image header lawful is pieces (inr three) =
 held-unknown : (image : Image) (header : HeaderRecord) → IsLawfulHeader header → HasPieces image header
     → IsKnown header → padded header.unknown_header_fields
     ≡ bytes_at image 104 (length (padded header.unknown_header_fields))
-held-unknown image header lawful pieces (inl two) =
-    let none = (lawful.older two).1 in
-    rw none refl
-held-unknown image header lawful pieces (inr three) =
-    held-bytes_at image 104 (padded header.unknown_header_fields) ((pieces.newer three).unknown)
+held-unknown image header lawful pieces x4 = grind (arith, nat_tests, held-bytes_at)
 
 -- the second part stands in the image
 held-base : (image : Image) (header : HeaderRecord) → IsLawfulHeader header → IsPlaced header
@@ -444,53 +393,18 @@ held-base image header lawful is pieces fits = record {
   version_2 = λ two. (lawful.older two).0;
 }
 
--- the extensions begin behind the first part
-end-after : (header : HeaderRecord) → IsKnown header → 72 ≤ header_end header
-end-after header (inl two) = omega (arith, (older-parts header two).1)
-end-after header (inr three) = omega (arith, (newer-parts header three).1)
-
 -- the backing file's name stands in the image
 held-name : (image : Image) (header : HeaderRecord) (name : Option (List ℕ)) → header.backing_filename ≡ name
-    → IsPlaced header → HasPieces image header → 72 ≤ header_end header → IfSome name IsUtf8
+    → IsPlaced header → HasPieces image header → IfSome name IsUtf8
     → IsBackingName image header.v2 name
-held-name image header None none is pieces after text =
-    let place : (placed_v2 header).backing_file_offset ≡ 0 = rw (none, placed_v2) refl in
-    ap (λ (h : HeaderRecord). h.v2.backing_file_offset) is.placed ∙ place
-held-name image header (Some name) some is pieces after text =
-    let own_place : (placed_v2 header).backing_file_offset ≡ name_place header = rw (some, placed_v2) refl in
-    let own_size : (placed_v2 header).backing_file_size ≡ length name = rw (some, placed_v2) refl in
-    let place = ap (λ (h : HeaderRecord). h.v2.backing_file_offset) is.placed ∙ own_place in
-    let size = ap (λ (h : HeaderRecord). h.v2.backing_file_size) is.placed ∙ own_size in
-    let short : nat_le (length name) 1023 ≡ true = rw some at is.short in
-    let end = λ (n : Option (List ℕ)). name_place header + length (name_text n) in
-    let Stands = λ (n : Option (List ℕ)). Holds image (name_place header) (name_text n) in
-    let held : Holds image (name_place header) name = subst Stands some pieces.name in
-    record {
-      some = λ none. omega (arith, after, place, none);
-      short = grind (arith, nat_tests, short, size);
-      within = omega (arith, place, size, pieces.count, ap end some, is.fits);
-      bytes = rw (place, size) (held-bytes_at image (name_place header) name held);
-      text = text;
-    }
+held-name image header x2 none is pieces text = grind (arith, nat_tests, held-bytes_at)
 
 -- the extensions stand in the image
 held-extensions : (image : Image) (header : HeaderRecord) → IsLawfulHeader header → IsPlaced header
     → HasPieces image header → All ReadsBack header.extensions
     → HasExtensions image header.v2 header.base (map normal_extension header.extensions)
-held-extensions image header lawful is pieces back = record {
-  version_3 = λ three.
-      let len = 2 ^ header.v2.cluster_bits in
-      let place = header.base.header_length in
-      let begin : header_end header ≡ place =
-      (newer-parts header three).1 ∙ sym (placed-length header lawful is (inr three)) in
-      let Stand = λ (p : ℕ). Holds image p (extensions_text header.extensions) in
-      let held = subst Stand begin pieces.extensions in
-      let small : len ≤ 2 ^ 21 = pow_mono (lawful.cluster_bits.1) in
-      let within : place + length (extensions_text header.extensions) ≤ len =
-      omega (arith, begin, pieces.count, is.fits) in
-      text-says image len place header.extensions small back held within;
-  version_2 = λ two. ap (map normal_extension) ((lawful.older two).2);
-}
+held-extensions image header lawful is pieces back =
+    grind (arith, nat_tests, newer-parts, placed-length, pow_mono, text-says)
 
 -- a header whose text stands at the start of an image is the image's, as it reads back
 pub text-header : (image : Image) (header : HeaderRecord) → IsLawfulHeader header
@@ -521,7 +435,7 @@ text-header image header lawful back fits_v2 fits_base text same held =
       refcount_width = lawful.refcount_order;
       unknown_header_fields = rw between (held-unknown image header lawful pieces known);
       backing_filename =
-          held-name image header header.backing_filename refl is pieces (end-after header known) text;
+          held-name image header header.backing_filename refl is pieces text;
       extensions = held-extensions image header lawful is pieces back;
       one_format = subst AreSame (sym formats) (all_same-AreSame _ lawful.one_format);
       one_data_file = subst AreSame (sym data_files) (all_same-AreSame _ lawful.one_data_file);

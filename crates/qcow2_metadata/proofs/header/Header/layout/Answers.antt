@@ -5,32 +5,16 @@ use Rattle.qcow2_metadata.specs.Header.Text.{chosen, name_place}
 use Rattle.qcow2_metadata.proofs.header.Header.layout.Goals as goal
 
 pub returns-in_err-extensions_len-clause-layout : goal.returns-in_err-extensions_len-clause-layout
-returns-in_err-extensions_len-clause-layout c =
-    let extensions = rw (held_are _ _ _ _ c.self.view_is refl c.deref.ensures.value) at c.in_err-extensions_len.ensures in
-    rw c.from_residual.ensures (too_long _ _ c.args.with_names c.self.invariant c.self.view_is
-    (λ few. omega (arith, extensions)))
+returns-in_err-extensions_len-clause-layout c = grind (arith, held_are, too_long)
 
 pub returns-in_err-name_place-clause-layout : goal.returns-in_err-name_place-clause-layout
-returns-in_err-name_place-clause-layout c =
-    let extensions = rw (held_are _ _ _ _ c.self.view_is refl c.deref.ensures.value) at c.in_ok-extensions_len.ensures in
-    rw c.from_residual-in_err-name_place.ensures (too_long _ _ c.args.with_names c.self.invariant c.self.view_is
-    (λ few. omega (arith, extensions, c.in_ok-header_end.ensures, c.in_err-name_place.ensures)))
+returns-in_err-name_place-clause-layout c = grind (arith, held_are, too_long)
 
 pub returns-in_err-len-clause-layout : goal.returns-in_err-len-clause-layout
-returns-in_err-len-clause-layout c =
-    let extensions = rw (held_are _ _ _ _ c.self.view_is refl c.deref.ensures.value) at c.in_ok-extensions_len.ensures in
-    let place : c.in_ok-name_place.name_place ≡ name_place (chosen c.args.with_names c.args.self.now) =
-    omega (arith, extensions, c.in_ok-header_end.ensures, c.in_ok-name_place.ensures) in
-    rw c.from_residual-in_err-len.ensures (too_long _ _ c.args.with_names c.self.invariant c.self.view_is
-    (λ few. omega (arith, place, c.backing_filename_len.ensures, c.in_err-len.ensures)))
+returns-in_err-len-clause-layout c = grind (arith, held_are, too_long)
 
 pub returns-then-len-cluster_size-clause-layout : goal.returns-then-len-cluster_size-clause-layout
-returns-then-len-cluster_size-clause-layout c =
-    let extensions = rw (held_are _ _ _ _ c.self.view_is refl c.deref.ensures.value) at c.in_ok-extensions_len.ensures in
-    let place : c.in_ok-name_place.name_place ≡ name_place (chosen c.args.with_names c.args.self.now) =
-    omega (arith, extensions, c.in_ok-header_end.ensures, c.in_ok-name_place.ensures) in
-    too_long _ _ c.args.with_names c.self.invariant c.self.view_is
-    (λ few. omega (arith, place, c.backing_filename_len.ensures, c.in_ok-len.ensures, c.cluster_size.ensures.value, c.if-len-cluster_size.true))
+returns-then-len-cluster_size-clause-layout c = grind (arith, held_are, too_long)
 
 pub returns-clause-layout : goal.returns-clause-layout
 returns-clause-layout c =

@@ -11,9 +11,7 @@ use Rattle.qcow2_metadata.specs.Header.Grammar.{backing_name, header_extensions,
 use Rattle.qcow2_metadata.proofs.header.load.read_other_parts.Goals as goal
 
 pub read_bytes-requires : goal.read_bytes-requires
-read_bytes-requires g c =
-    let few : 2 ^ c.args.v2.cluster_bits ≤ 2 ^ 21 = pow_mono c.requires.cluster_bits.1 in
-    omega (arith, few, c.requires.header_length)
+read_bytes-requires g c = grind (arith, pow_mono)
 
 pub returns-in_err-backing_filename-clause-exact : goal.returns-in_err-backing_filename-clause-exact
 returns-in_err-backing_filename-clause-exact g c told fixed =
