@@ -1,4 +1,4 @@
-use Rattle.std.proofs.Common.{◌≡◌, ◌⊎◌, ℕ, zero, suc, ◌+◌, ◌-◌, ◌/◌, ◌%◌, ◌<◌, ◌≤◌, true, false, ltb, List, [], ◌∷◌, ◌++◌, length, slice_index, take, drop, refl, sym, ap, ◌∙◌, subst, inl, inr, arith}
+use Rattle.std.proofs.Common.{◌≡◌, ◌⊎◌, ℕ, zero, suc, ◌+◌, ◌-◌, ◌<◌, ◌≤◌, true, List, [], ◌∷◌, ◌++◌, length, slice_index, take, drop, refl, sym, ap, ◌∙◌, subst, inl, inr, arith}
 use Rattle.std.specs.Int.{is_in_range}
 use Rattle.std.specs.Char.{IsScalar, encode_utf8}
 use Rattle.std.specs.Str.{IsUtf8, IsValidUpTo, encode_utf8_all}
@@ -27,64 +27,15 @@ record IsWide (bytes : List ℕ) : Type 0 where
       (slice_index bytes 1) ≡ true
   third : 4 ≤ length bytes → is_in_range 0x80 0xBF (slice_index bytes 2) ≡ true
 
--- a character of two bytes
-IsWide-two : (c : ℕ) → 128 ≤ c → c < 2048 → IsWide ((192 + c / 64) ∷ (128 + c % 64) ∷ [])
-IsWide-two c low high = record {
-  short = omega arith;
-  first = grind (arith, nat_tests);
-  second = grind (arith, nat_tests);
-  third = λ long. absurd (omega arith);
-}
-
--- a character of three bytes
-IsWide-three : (c : ℕ) → 2048 ≤ c → c < 65536 → (c < 55296) ⊎ ((57344 ≤ c) × (c < 1114112))
-    → IsWide ((224 + c / 4096) ∷ (128 + c / 64 % 64) ∷ (128 + c % 64) ∷ [])
-IsWide-three c low high is = record {
-  short = omega arith;
-  first = grind (arith, nat_tests);
-  second = grind (arith, nat_tests);
-  third = λ long. absurd (omega arith);
-}
-
--- a character of four bytes
-IsWide-four : (c : ℕ) → 65536 ≤ c → c < 1114112
-    → IsWide ((240 + c / 262144) ∷ (128 + c / 4096 % 64) ∷ (128 + c / 64 % 64) ∷ (128 + c % 64) ∷ [])
-IsWide-four c low high = record {
-  short = omega arith;
-  first = grind (arith, nat_tests);
-  second = grind (arith, nat_tests);
-  third = λ long. grind (arith, nat_tests);
-}
-
 -- a character of more than one byte
 IsWide-encode : (c : ℕ) → IsScalar c → 128 ≤ c → IsWide (encode_utf8 c)
 unfolding encode_utf8
-IsWide-encode c is wide =
-    let range = scalar_cases c is in
-    let not_one : ltb c 128 ≡ false = grind (arith, nat_tests) in
-    elim (cases_lt c 2048) [
-      | inl two ↦
-          let test : ltb c 2048 ≡ true = grind (arith, nat_tests) in
-          rw (not_one, test) (IsWide-two c wide two)
-      | inr more ↦
-          let not_two : ltb c 2048 ≡ false = grind (arith, nat_tests) in
-          elim (cases_lt c 65536) [
-            | inl three ↦
-                let test : ltb c 65536 ≡ true = grind (arith, nat_tests) in
-                rw (not_one, not_two, test) (IsWide-three c more three range)
-            | inr four ↦
-                let not_three : ltb c 65536 ≡ false = grind (arith, nat_tests) in
-                let below : c < 1114112 = omega (arith, range) in
-                rw (not_one, not_two, not_three) (IsWide-four c four below)
-          ]
-    ]
+IsWide-encode c is wide = grind (arith, nat_tests, scalar_cases)
 
 -- a character below 128 is one byte
 length-one : (c : ℕ) → c < 128 → length (encode_utf8 c) ≡ 1
 unfolding encode_utf8
-length-one c one =
-    let test : ltb c 128 ≡ true = grind (arith, nat_tests) in
-    rw test refl
+length-one c one = grind (arith, nat_tests)
 
 -- a character that is cut has more than one byte
 IsWide-cut : (bytes : List ℕ) (cut : IsCut bytes) → IsWide (bytes ++ cut.rest)

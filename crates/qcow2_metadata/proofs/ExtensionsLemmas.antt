@@ -7,10 +7,10 @@ use Rattle.std.specs.Global.{Global}
 use Rattle.std.specs.Str.{IsUtf8, bytes_eq, is_utf8}
 use Rattle.std.proofs.lemmas.Bool.Decides.{Decides-and, Decides-eqb, Decides-like, nat_tests}
 use Rattle.std.proofs.lemmas.Slice.Eq.{bytes_eq-Decides, slice_eq-Decides}
-use Rattle.std.proofs.lemmas.Str.{IsUtf8-from_is_utf8, IsUtf8-string_bytes}
+use Rattle.std.proofs.lemmas.Str.{IsUtf8-from_is_utf8, IsUtf8-had, IsUtf8-string_bytes, is_utf8-from_IsUtf8}
 use Rattle.qcow2_base.specs.declared.fault.Fault.{Fault}
 use Rattle.qcow2_base.specs.declared.fault.Fault.TheVariants.{ExtensionText}
-use Rattle.qcow2_metadata.proofs.GrammarLemmas.{IsUtf8-text}
+use Rattle.qcow2_metadata.proofs.GrammarLemmas.{text_of_utf8}
 use Rattle.qcow2_metadata.specs.Results.{result_map}
 use Rattle.qcow2_metadata.specs.Header.Extensions.{Extension, FeatureKey, FeatureNameTable, TextOf, Unknown, data_of, extension_number, extension_of, is_text, normal_extension, parsed, same_extension, same_feature_name, text, type_number}
 use Rattle.qcow2_metadata.specs.Header.Features.{feature_type_number}
@@ -24,21 +24,19 @@ use Rattle.qcow2_metadata.specs.contracts.header.extensions.HeaderExtensionParti
 use Rattle.qcow2_metadata.specs.contracts.header.features.FeatureTypePartialEq.TheImpl as feature_type_eq
 
 -- bytes that are no text
-pub text-invalid : (fault : Fault) (bytes : List ℕ) → ¬ (IsUtf8 bytes) → text fault bytes ≡ Err fault
-text-invalid fault bytes invalid = by_test (is_utf8 bytes) refl
-  where
-    by_test : (test : Bool) → is_utf8 bytes ≡ test → text fault bytes ≡ Err fault
-    by_test true valid = absurd (invalid (IsUtf8-from_is_utf8 bytes valid))
-    by_test false is = rw is refl
+pub text_invalid : (fault : Fault) (bytes : List ℕ) → ¬ (IsUtf8 bytes) → text fault bytes ≡ Err fault
+text_invalid fault bytes invalid =
+    let valid = IsUtf8-from_is_utf8 bytes in
+    grind (arith, valid, invalid)
+
+-- bytes that are text or aren't
+pub ruleset texts = (text_invalid, text_of_utf8, IsUtf8-had)
 
 -- bytes of a type that isn't known are kept as they are
 pub parsed-unknown : (number : ℕ) (bytes : List ℕ) → ((kind : HeaderExtensionType) → extension_number kind ≢ number)
     → parsed number bytes ≡ Ok (Unknown number bytes)
 parsed-unknown number bytes unknown =
-    let format : (number == 0xe2792aca) ≡ false = grind (arith, nat_tests, unknown kind.BackingFileFormat) in
-    let names : (number == 0x6803f857) ≡ false = grind (arith, nat_tests, unknown kind.FeatureNameTable) in
-    let file : (number == 0x44415441) ≡ false = grind (arith, nat_tests, unknown kind.ExternalDataFileName) in
-    rw (format, names, file) refl
+    grind (arith, nat_tests, unknown kind.BackingFileFormat, unknown kind.FeatureNameTable, unknown kind.ExternalDataFileName)
 
 -- the number of its type fits its field and isn't End's, and its data reads as what it reads back as
 abbrev pub ReadsBack : Extension → Type 0
@@ -53,11 +51,7 @@ string_is_text = IsUtf8-string_bytes
 -- text of a type that is text reads back
 pub text-reads_back : (type : HeaderExtensionType) (name : List ℕ) → is_text type ≡ true → IsUtf8 name
     → ReadsBack (TextOf type name)
-text-reads_back kind.BackingFileFormat name is valid =
-    (omega arith, omega arith, ap (result_map (TextOf kind.BackingFileFormat)) (IsUtf8-text ExtensionText name valid))
-text-reads_back kind.ExternalDataFileName name is valid =
-    (omega arith, omega arith, ap (result_map (TextOf kind.ExternalDataFileName)) (IsUtf8-text ExtensionText name valid))
-text-reads_back _ name is valid = cc
+text-reads_back x0 name is valid = grind (arith, nat_tests, is_utf8-from_IsUtf8)
 
 -- the numbers of two types of extensions are the same exactly where the types are
 extension_number-Decides : (a b : HeaderExtensionType) → Decides (extension_number a == extension_number b) (a ≡ b)
@@ -84,20 +78,11 @@ same_feature_name-Decides ((kind, bit), name) ((other_kind, other_bit), other) =
 
 -- the test of two extensions says whether they are the same
 pub same_extension-Decides : (a b : Extension) → Decides (same_extension a b) (a ≡ b)
-same_extension-Decides (TextOf type a) (TextOf other b) =
-    Decides-like _ (λ (types, names). cc) (λ same. (cc, cc)) (Decides-and _ _ (extension_number-Decides type other) (bytes_eq-Decides a b))
-same_extension-Decides (FeatureNameTable a) (FeatureNameTable b) =
-    Decides-like _ (ap FeatureNameTable) (λ same. cc) (slice_eq-Decides same_feature_name-Decides a b _ refl)
-same_extension-Decides (Unknown m a) (Unknown n b) =
-    Decides-like _ (λ (numbers, contents). cc) (λ same. (cc, cc)) (Decides-and _ _ (Decides-eqb m n) (bytes_eq-Decides a b))
-same_extension-Decides _ _ = (λ same. cc, λ same. cc)
+same_extension-Decides x0 x1 = grind (arith, nat_tests, extension_number-Decides, bytes_eq-Decides, slice_eq-Decides, same_feature_name-Decides)
 
 -- the derived test of two types of features is that of their numbers
 feature_type_eq-number : (a b : FeatureType) → (feature_type_eq.ghosts).eq a b ≡ (feature_type_number a == feature_type_number b)
-feature_type_eq-number Incompatible Incompatible = refl
-feature_type_eq-number Compatible Compatible = refl
-feature_type_eq-number Autoclear Autoclear = refl
-feature_type_eq-number _ _ = refl
+feature_type_eq-number x0 x1 = grind (arith, nat_tests)
 
 -- the derived test of two extensions in memory is that of what they say
 pub same_extension-of : (a b : HeaderExtension) → (extension_eq.ghosts).eq a b ≡ same_extension (extension_of a) (extension_of b)
@@ -112,8 +97,8 @@ same_extension-of (held.Unknown m a) (held.Unknown n b) = refl
 same_extension-of _ _ = refl
 
 -- so is the test of two lists of them
-pub same_extensions-of : (a b : List HeaderExtension)
+pub same_extensions_of : (a b : List HeaderExtension)
     → pointwise (extension_eq.ghosts).eq a b ≡ pointwise same_extension (map extension_of a) (map extension_of b)
-same_extensions-of a b =
+same_extensions_of a b =
     let each = fun_ext (λ (x : HeaderExtension). fun_ext (λ (y : HeaderExtension). same_extension-of x y)) in
     ap (λ E. pointwise E a b) each ∙ sym (pointwise-map extension_of same_extension a b)

@@ -9,11 +9,12 @@ use Rattle.std.proofs.lemmas.Cmp.{nat_cmp_total, ranked, tied_itself}
 use Rattle.std.proofs.lemmas.List.{length-drop, length-take}
 use Rattle.std.specs.declared.cmp.Ordering.{Ordering}
 use Rattle.std.specs.declared.cmp.Ordering.TheVariants.{Less, Equal, Greater}
+use Rattle.bstr.proofs.lemmas.LossyLemmas.{lossy_chars-utf8_lossy}
 use Rattle.memchr.specs.Find.{IsFirstByte, is_byte}
 use Rattle.qcow2_base.specs.declared.fault.Fault.{Fault}
 use Rattle.qcow2_base.specs.declared.fault.Fault.TheVariants.{FeatureNameCut}
-use Rattle.std.proofs.lemmas.Bool.{cases_lt}
-use Rattle.std.proofs.lemmas.Bool.Decides.{nat_tests}
+use Rattle.std.proofs.lemmas.Bool.{cases_Bool, cases_lt}
+use Rattle.std.proofs.lemmas.Bool.Decides.{eqb_tells, nat_tests}
 use Rattle.qcow2_metadata.proofs.GrammarLemmas.{and_then-ok}
 use Rattle.qcow2_metadata.specs.Header.Extensions.{FeatureKey, FeatureNameTable, FeatureNames, HasKey, IsLastNamed, chunk_at, feature_name_in, feature_names, key_cmp, name_at, names_of_chunks, until_zero, with_feature_name}
 use Rattle.qcow2_metadata.specs.Header.Features.{feature_type_number, feature_type_of}
@@ -38,11 +39,12 @@ until_zero-found bytes None nowhere =
 until_zero-found bytes (Some n) found =
     until_zero-take bytes n (omega (arith, found.0.high)) (λ k below zero. found.0.before k (omega arith) below (grind (arith, zero))) (λ below. grind (arith, found.1))
 
+-- what a name is read as
+pub ruleset names_read = (until_zero-found, lossy_chars-utf8_lossy)
+
 -- the type of a number is the one that has it
 feature_type_of-number : (kind : FeatureType) → feature_type_of (feature_type_number kind) ≡ Some kind
-feature_type_of-number Incompatible = refl
-feature_type_of-number Compatible = refl
-feature_type_of-number Autoclear = refl
+feature_type_of-number x0 = grind (arith, nat_tests)
 
 feature_type_of-unknown : (number : ℕ) → ((kind : FeatureType) → feature_type_number kind ≢ number) → feature_type_of number ≡ None
 feature_type_of-unknown number unknown = grind (arith, unknown Incompatible, unknown Compatible, unknown Autoclear)
@@ -50,27 +52,12 @@ feature_type_of-unknown number unknown = grind (arith, unknown Incompatible, unk
 -- what a chunk does that is of a type that isn't known, or of two bytes and more
 pub with_feature_name-unknown : (names : FeatureNames) (chunk : List ℕ)
     → ((kind : FeatureType) → feature_type_number kind ≢ slice_index chunk 0) → with_feature_name names chunk ≡ Ok names
-with_feature_name-unknown names [] unknown = refl
-with_feature_name-unknown names (number ∷ bytes) unknown = rw (feature_type_of-unknown number unknown) refl
+with_feature_name-unknown names x1 unknown = grind (arith, nat_tests, feature_type_of-unknown)
 
 pub with_feature_name-named : (names : FeatureNames) (kind : FeatureType) (chunk : List ℕ) → 2 ≤ length chunk
     → feature_type_number kind ≡ slice_index chunk 0 → with_feature_name names chunk
     ≡ Ok (insert_entry key_cmp names (kind, slice_index chunk 1) (utf8_lossy (until_zero (drop 2 chunk))))
-with_feature_name-named names kind [] two known = absurd (omega arith)
-with_feature_name-named names kind (number ∷ []) two known = absurd (omega arith)
-with_feature_name-named names kind (number ∷ bit ∷ name) two known = rw (← known, feature_type_of-number kind) refl
-
--- a step of insert_entry-map, by how the key compares to the first entry's
-insert_entry-map_at : {K X Y : Type 0} (f : X → Y) (order : Ordering) (key : K) (value : X) (entry : K × X)
-    (entries rest : List (K × X)) (mapped : List (K × Y))
-    → map (λ other. (other.0, f other.1)) rest ≡ mapped
-    → map (λ other. (other.0, f other.1))
-    (match_ordering order ((key, value) ∷ entry ∷ entries) ((entry.0, value) ∷ entries) (entry ∷ rest))
-    ≡ match_ordering order ((key, f value) ∷ map (λ other. (other.0, f other.1)) (entry ∷ entries))
-    ((entry.0, f value) ∷ map (λ other. (other.0, f other.1)) entries) ((entry.0, f entry.1) ∷ mapped)
-insert_entry-map_at f Less key value entry entries rest mapped same = refl
-insert_entry-map_at f Equal key value entry entries rest mapped same = refl
-insert_entry-map_at f Greater key value entry entries rest mapped same = cc
+with_feature_name-named names kind x2 two known = grind (arith, nat_tests, feature_type_of-number)
 
 -- to set a value and then map all values is to map them and then set the value's image
 pub insert_entry-map : {K X Y : Type 0} (f : X → Y) (cmp : K → K → Ordering) (entries : List (K × X))
@@ -78,16 +65,7 @@ pub insert_entry-map : {K X Y : Type 0} (f : X → Y) (cmp : K → K → Orderin
     ≡ insert_entry cmp (map (λ other. (other.0, f other.1)) entries) key (f value)
 insert_entry-map f cmp [] key value = refl
 insert_entry-map f cmp (entry ∷ entries) key value =
-    let rest = insert_entry-map f cmp entries key value in
-    insert_entry-map_at f (cmp key entry.0) key value entry entries _ _ rest
-
--- to look up among mapped values is to map what a look-up gives
-pub lookup-map : {K X Y : Type 0} (f : X → Y) (test : K → Bool) (entries : List (K × X))
-    → lookup test (map (λ other. (other.0, f other.1)) entries) ≡ option_map f (lookup test entries)
-lookup-map f test [] = refl
-lookup-map f test (entry ∷ entries) =
-    let rest = lookup-map f test entries in
-    grind (arith, rest)
+    grind (arith, nat_tests, insert_entry-map f cmp entries key value)
 
 -- a fault of the first chunks is the fault of more
 pub names_of_chunks-fault : (bytes : List ℕ) (fault : Fault) (few more : ℕ) → names_of_chunks bytes few ≡ Err fault
@@ -105,28 +83,15 @@ names_of_chunks-more bytes chunks names before = rw (add-one chunks, before) ref
 
 -- keys that compare as equal are one key
 key_cmp-same : (a b : FeatureKey) → key_cmp a b ≡ Equal → a ≡ b
-key_cmp-same (Incompatible, m) (Incompatible, n) is =
-    ap (λ (bit : ℕ). (Incompatible, bit)) (ranked m n Equal (sym is))
-key_cmp-same (Compatible, m) (Compatible, n) is =
-    ap (λ (bit : ℕ). (Compatible, bit)) (ranked m n Equal (sym is))
-key_cmp-same (Autoclear, m) (Autoclear, n) is =
-    ap (λ (bit : ℕ). (Autoclear, bit)) (ranked m n Equal (sym is))
-key_cmp-same _ _ is = cc
+key_cmp-same x0 x1 is = grind (arith, nat_tests, ranked)
 
 -- a key compares as equal to itself
 key_cmp-itself : (a : FeatureKey) → key_cmp a a ≡ Equal
-key_cmp-itself (Incompatible, n) = tied_itself nat_cmp_total n
-key_cmp-itself (Compatible, n) = tied_itself nat_cmp_total n
-key_cmp-itself (Autoclear, n) = tied_itself nat_cmp_total n
+key_cmp-itself x0 = grind (arith, nat_tests, tied_itself, nat_cmp_total)
 
 -- two keys are one, or don't compare as equal
 same_key : (a b : FeatureKey) → (a ≡ b) ⊎ (is_eq (key_cmp a b) ≡ false)
-same_key a b = by_order (key_cmp a b) refl
-  where
-    by_order : (order : Ordering) → key_cmp a b ≡ order → (a ≡ b) ⊎ (is_eq (key_cmp a b) ≡ false)
-    by_order Less is = inr (rw is refl)
-    by_order Equal is = inl (key_cmp-same a b is)
-    by_order Greater is = inr (rw is refl)
+same_key a b = grind (arith, nat_tests, key_cmp-same)
 
 -- the name that a table has for a key
 abbrev named : FeatureKey → FeatureNames → Option (List ℕ)
@@ -136,38 +101,21 @@ named key names = lookup (λ other. is_eq (key_cmp key other)) names
 named-set : (key : FeatureKey) (name : List ℕ) (names : FeatureNames)
     → named key (insert_entry key_cmp names key name) ≡ Some name
 named-set key name [] = rw (key_cmp-itself key) refl
-named-set key name (entry ∷ names) = by_order (key_cmp key entry.0) refl (named-set key name names)
-  where
-    by_order : (order : Ordering) → key_cmp key entry.0 ≡ order
-        → named key (insert_entry key_cmp names key name) ≡ Some name
-        → named key (insert_entry key_cmp (entry ∷ names) key name) ≡ Some name
-    by_order Less is rest = rw (is, key_cmp-itself key) refl
-    by_order Equal is rest = rw (is, is) refl
-    by_order Greater is rest = rw (is, is) rest
+named-set key name (entry ∷ names) = grind (arith, nat_tests, key_cmp-itself, named-set key name names)
 
 -- other keys have the names that they had
 named-others : (key set : FeatureKey) (name : List ℕ) (names : FeatureNames) → is_eq (key_cmp key set) ≡ false
     → named key (insert_entry key_cmp names set name) ≡ named key names
 named-others key set name [] other = rw other refl
 named-others key set name (entry ∷ names) other =
-    by_order (key_cmp set entry.0) refl (named-others key set name names other)
-  where
-    by_order : (order : Ordering) → key_cmp set entry.0 ≡ order
-        → named key (insert_entry key_cmp names set name) ≡ named key names
-        → named key (insert_entry key_cmp (entry ∷ names) set name) ≡ named key (entry ∷ names)
-    by_order Less is rest = rw (is, other) refl
-    by_order Equal is rest =
-        let same = key_cmp-same set entry.0 is in
-        let passed : is_eq (key_cmp key entry.0) ≡ false = rw (← same) other in
-        rw (is, passed) refl
-    by_order Greater is rest = rw (is, rest) refl
+    let rest = named-others key set name names other in
+    let same = key_cmp-same set entry.0 in
+    grind (arith, rest, same, other)
 
 -- the number of a type that was found
 feature_type_of-found : (number : ℕ) (kind : FeatureType) → feature_type_of number ≡ Some kind
     → number ≡ feature_type_number kind
-feature_type_of-found number Incompatible is = grind (arith, nat_tests)
-feature_type_of-found number Compatible is = grind (arith, nat_tests)
-feature_type_of-found number Autoclear is = grind (arith, nat_tests)
+feature_type_of-found number kind is = grind (arith, nat_tests)
 
 -- what a chunk does to the name of a key: it sets the name, if it has the key, and else leaves it
 abbrev SetsName : FeatureKey → List ℕ → (old new : FeatureNames) → Type 0
@@ -175,74 +123,39 @@ SetsName key chunk old new =
     (HasKey chunk key × (named key new ≡ Some (name_at chunk)))
     ⊎ ((¬ (HasKey chunk key)) × (named key new ≡ named key old))
 
--- a chunk of a type that isn't known has no key
-no_type-no_key : (key : FeatureKey) (number : ℕ) (bytes : List ℕ) → feature_type_of number ≡ None
-    → ¬ (HasKey (number ∷ bytes) key)
-no_type-no_key key number bytes none has =
-    let known : feature_type_of number ≡ Some key.0 = rw has.type (feature_type_of-number key.0) in
-    cc
+-- a chunk without a key leaves the key's name
+with_feature_name-leaves : (key : FeatureKey) (number bit : ℕ) (bytes : List ℕ) (old new : FeatureNames)
+    → ¬ (HasKey (number ∷ bit ∷ bytes) key) → with_feature_name old (number ∷ bit ∷ bytes) ≡ Ok new
+    → named key new ≡ named key old
+with_feature_name-leaves key number bit bytes old new none is = by_type (feature_type_of number) refl
+  where
+    by_type : (found : Option FeatureType) → feature_type_of number ≡ found → named key new ≡ named key old
+    by_type None unknown =
+        let same : new ≡ old = grind arith in
+        ap (named key) same
+    by_type (Some kind) known =
+        let set : new ≡ insert_entry key_cmp old (kind, bit) (utf8_lossy (until_zero bytes)) = grind arith in
+        elim (same_key key (kind, bit)) [
+          | inl same ↦ absurd (none (record {
+            long = omega arith;
+            type = feature_type_of-found number kind known ∙ ap (λ (k : FeatureKey). feature_type_number k.0) (sym same);
+            bit = ap (λ (k : FeatureKey). k.1) (sym same);
+          }))
+          | inr other ↦ ap (named key) set ∙ named-others key (kind, bit) (utf8_lossy (until_zero bytes)) old other
+        ]
 
--- a chunk with this type and bit has that key and no other
-has_key-same : (key : FeatureKey) (kind : FeatureType) (number bit : ℕ) (bytes : List ℕ)
-    → feature_type_of number ≡ Some kind → HasKey (number ∷ bit ∷ bytes) key → key ≡ (kind, bit)
-has_key-same key kind number bit bytes is has =
-    let known : feature_type_of number ≡ Some key.0 = rw has.type (feature_type_of-number key.0) in
-    let same_kind : key.0 ≡ kind = cc in
-    λ i. (same_kind i, sym has.bit i)
+-- and one with it sets the name
+with_feature_name-sets : (key : FeatureKey) (chunk : List ℕ) (old new : FeatureNames) → HasKey chunk key
+    → with_feature_name old chunk ≡ Ok new → named key new ≡ Some (name_at chunk)
+with_feature_name-sets key chunk old new has is =
+    let set = with_feature_name-named old key.0 chunk has.long (sym has.type) in
+    let same : new ≡ insert_entry key_cmp old (key.0, slice_index chunk 1) (name_at chunk) = cc in
+    rw (same, has.bit) (named-set key (name_at chunk) old)
 
 -- a chunk sets the name of its key, and leaves the names of others
-with_feature_name-sets : (key : FeatureKey) (chunk : List ℕ) (old new : FeatureNames)
+with_feature_name-does : (key : FeatureKey) (chunk : List ℕ) (old new : FeatureNames)
     → with_feature_name old chunk ≡ Ok new → SetsName key chunk old new
-with_feature_name-sets key [] old new is =
-    let same : old ≡ new = cc in
-    inr (λ has. absurd (omega (arith, has.long)), ap (named key) (sym same))
-with_feature_name-sets key (number ∷ []) old new is = by_type (feature_type_of number) refl
-  where
-    by_type : (found : Option FeatureType) → feature_type_of number ≡ found
-        → SetsName key (number ∷ []) old new
-    by_type None none =
-        let kept : with_feature_name old (number ∷ []) ≡ Ok old = rw none refl in
-        let same : old ≡ new = cc in
-        inr (no_type-no_key key number [] none, ap (named key) (sym same))
-    by_type (Some kind) known =
-        let cut : with_feature_name old (number ∷ []) ≡ Err FeatureNameCut = rw known refl in
-        cc
-with_feature_name-sets key (number ∷ bit ∷ bytes) old new is = by_type (feature_type_of number) refl
-  where
-    by_key : (kind : FeatureType) → feature_type_of number ≡ Some kind
-        → insert_entry key_cmp old (kind, bit) (utf8_lossy (until_zero bytes)) ≡ new
-        → (key ≡ (kind, bit)) ⊎ (is_eq (key_cmp key (kind, bit)) ≡ false)
-        → SetsName key (number ∷ bit ∷ bytes) old new
-    by_key kind known set (inl same) = inl (
-      record {
-        long = omega arith;
-        type = feature_type_of-found number kind known
-            ∙ ap (λ (k : FeatureKey). feature_type_number k.0) (sym same);
-        bit = ap (λ (k : FeatureKey). k.1) (sym same);
-      },
-      ap (named key) (sym set) ∙ rw same (named-set (kind, bit) (utf8_lossy (until_zero bytes)) old),
-    )
-    by_key kind known set (inr other) = inr (
-      λ has.
-          let same = has_key-same key kind number bit bytes known has in
-          let one : is_eq (key_cmp key key) ≡ true = ap is_eq (key_cmp-itself key) in
-          let two : is_eq (key_cmp key key) ≡ false =
-          ap (λ (k : FeatureKey). is_eq (key_cmp key k)) same ∙ other in
-          cc,
-      ap (named key) (sym set) ∙ named-others key (kind, bit) (utf8_lossy (until_zero bytes)) old other,
-    )
-
-    by_type : (found : Option FeatureType) → feature_type_of number ≡ found
-        → SetsName key (number ∷ bit ∷ bytes) old new
-    by_type None none =
-        let kept : with_feature_name old (number ∷ bit ∷ bytes) ≡ Ok old = rw none refl in
-        let same : old ≡ new = cc in
-        inr (no_type-no_key key number (bit ∷ bytes) none, ap (named key) (sym same))
-    by_type (Some kind) known =
-        let whole : with_feature_name old (number ∷ bit ∷ bytes)
-        ≡ Ok (insert_entry key_cmp old (kind, bit) (utf8_lossy (until_zero bytes))) = rw known refl in
-        let set : insert_entry key_cmp old (kind, bit) (utf8_lossy (until_zero bytes)) ≡ new = cc in
-        by_key kind known set (same_key key (kind, bit))
+with_feature_name-does key x1 old new is = grind (arith, nat_tests, with_feature_name-leaves, with_feature_name-sets)
 
 -- the last of so many chunks that has the key says this name
 record IsLastOf (bytes : List ℕ) (count : ℕ) (key : FeatureKey) (name : List ℕ) : Type 0 where
@@ -252,82 +165,45 @@ record IsLastOf (bytes : List ℕ) (count : ℕ) (key : FeatureKey) (name : List
   last : (later : ℕ) → index < later → later < count → ¬ (HasKey (chunk_at bytes later) key)
   says : name ≡ name_at (chunk_at bytes index)
 
--- the last chunk of so many is that of one more, which doesn't have the key
+-- a chunk that doesn't have the key changes nothing of that
 IsLastOf-more : (bytes : List ℕ) (count : ℕ) (key : FeatureKey) (name : List ℕ)
-    → ¬ (HasKey (chunk_at bytes count) key) → IsLastOf bytes count key name
-    → IsLastOf bytes (suc count) key name
-IsLastOf-more bytes count key name none is = record {
-  index = is.index;
-  below = omega (arith, is.below);
-  has = is.has;
-  last = λ later after within. elim (cases_lt later count) [
-    | inl before ↦ is.last later after before
+    → ¬ (HasKey (chunk_at bytes count) key) → IsLastOf bytes count key name ↔ IsLastOf bytes (suc count) key name
+IsLastOf-more bytes count key name none = grind (arith, nat_tests)
+
+-- and one that has it is the last
+IsLastOf-set : (bytes : List ℕ) (count : ℕ) (key : FeatureKey) (name : List ℕ) → HasKey (chunk_at bytes count) key
+    → (Some (name_at (chunk_at bytes count)) ≡ Some name) ↔ IsLastOf bytes (suc count) key name
+IsLastOf-set bytes count key name has = (
+  λ is. record {
+    index = count;
+    below = omega arith;
+    has = has;
+    last = λ later after within. absurd (omega arith);
+    says = cc;
+  },
+  λ is. elim (cases_lt is.index count) [
+    | inl earlier ↦ absurd (is.last count earlier (omega arith) has)
     | inr from ↦
-        let same : count ≡ later = omega arith in
-        subst (λ (index : ℕ). ¬ (HasKey (chunk_at bytes index) key)) same none
-  ];
-  says = is.says;
-}
+        let same : count ≡ is.index = omega (arith, is.below) in
+        rw same (ap Some (sym is.says))
+  ],
+)
 
--- the last chunk of one more, which doesn't have the key, is that of so many
-IsLastOf-fewer : (bytes : List ℕ) (count : ℕ) (key : FeatureKey) (name : List ℕ)
-    → ¬ (HasKey (chunk_at bytes count) key) → IsLastOf bytes (suc count) key name
-    → IsLastOf bytes count key name
-IsLastOf-fewer bytes count key name none is = elim (cases_lt is.index count) [
-  | inl before ↦ record {
-    index = is.index;
-    below = before;
-    has = is.has;
-    last = λ later after within. is.last later after (omega arith);
-    says = is.says;
-  }
-  | inr from ↦
-      let same : is.index ≡ count = omega (arith, is.below) in
-      absurd (none (subst (λ (index : ℕ). HasKey (chunk_at bytes index) key) same is.has))
-]
-
--- a name of the first chunks is that of the last which has its key
-names_of_chunks-named : (bytes : List ℕ) (count : ℕ) (names : FeatureNames) (key : FeatureKey)
-    (name : List ℕ) → names_of_chunks bytes count ≡ Ok names → named key names ≡ Some name
-    → IsLastOf bytes count key name
-names_of_chunks-named bytes zero names key name is found =
+-- the first chunks have a name for a key exactly where it is that of the last of them which has the key
+names_of_chunks-last : (bytes : List ℕ) (count : ℕ) (names : FeatureNames) (key : FeatureKey) (name : List ℕ)
+    → names_of_chunks bytes count ≡ Ok names → (named key names ≡ Some name) ↔ IsLastOf bytes count key name
+names_of_chunks-last bytes zero names key name is =
     let none : [] ≡ names = cc in
-    let absent : None ≡ Some name = ap (named key) none ∙ found in
-    cc
-names_of_chunks-named bytes (suc count) names key name is found =
+    (λ found. let absent : None ≡ Some name = ap (named key) none ∙ found in cc, λ last. absurd (omega (arith, last.below)))
+names_of_chunks-last bytes (suc count) names key name is =
     let next = λ (old : FeatureNames). with_feature_name old (chunk_at bytes count) in
     let before = and_then-ok (names_of_chunks bytes count) next names is in
-    elim (with_feature_name-sets key (chunk_at bytes count) before.0 names before.2) [
-      | inl set ↦ record {
-        index = count;
-        below = omega arith;
-        has = set.0;
-        last = λ later after within. absurd (omega arith);
-        says = cc (set.1);
-      }
+    elim (with_feature_name-does key (chunk_at bytes count) before.0 names before.2) [
+      | inl set ↦ rw set.1 (IsLastOf-set bytes count key name set.0)
       | inr kept ↦
-          let old = names_of_chunks-named bytes count before.0 key name before.1 (sym kept.1 ∙ found) in
-          IsLastOf-more bytes count key name kept.0 old
-    ]
-
--- the name of the last of the first chunks that has a key is the key's
-named-names_of_chunks : (bytes : List ℕ) (count : ℕ) (names : FeatureNames) (key : FeatureKey)
-    (name : List ℕ) → names_of_chunks bytes count ≡ Ok names → IsLastOf bytes count key name
-    → named key names ≡ Some name
-named-names_of_chunks bytes zero names key name is last = absurd (omega (arith, last.below))
-named-names_of_chunks bytes (suc count) names key name is last =
-    let next = λ (old : FeatureNames). with_feature_name old (chunk_at bytes count) in
-    let before = and_then-ok (names_of_chunks bytes count) next names is in
-    elim (with_feature_name-sets key (chunk_at bytes count) before.0 names before.2) [
-      | inl set ↦ elim (cases_lt last.index count) [
-        | inl earlier ↦ absurd (last.last count earlier (omega arith) set.0)
-        | inr from ↦
-            let same : count ≡ last.index = omega (arith, last.below) in
-            set.1 ∙ ap (λ (index : ℕ). Some (name_at (chunk_at bytes index))) same ∙ ap Some (sym last.says)
-      ]
-      | inr kept ↦
-          let old = IsLastOf-fewer bytes count key name kept.0 last in
-          kept.1 ∙ named-names_of_chunks bytes count before.0 key name before.1 old
+          let old = names_of_chunks-last bytes count before.0 key name before.1 in
+          let more = IsLastOf-more bytes count key name kept.0 in
+          (λ found. more.0 (old.0 (sym kept.1 ∙ found)), λ last. kept.1 ∙ old.1 (more.1 last))
     ]
 
 -- a chunk that has a key is one of the table's
@@ -341,20 +217,21 @@ has_key-within bytes index key has =
 pub feature_names-last : (bytes : List ℕ) (names : FeatureNames) → feature_names bytes ≡ Ok names
     → (key : FeatureKey) (name : List ℕ)
     → (feature_name_in key (FeatureNameTable names) ≡ Some name) ↔ IsLastNamed bytes key name
-feature_names-last bytes names is key name = (
-  λ found.
-      let last = names_of_chunks-named bytes (div_ceil (length bytes) 48) names key name is found in
-      record {
+feature_names-last bytes names is key name =
+    let same = names_of_chunks-last bytes (div_ceil (length bytes) 48) names key name is in (
+      λ found.
+          let last = same.0 found in
+          record {
+            index = last.index;
+            has = last.has;
+            last = λ later after has. last.last later after (has_key-within bytes later key has) has;
+            says = last.says;
+          },
+      λ last. same.1 (record {
         index = last.index;
+        below = has_key-within bytes last.index key last.has;
         has = last.has;
-        last = λ later after has. last.last later after (has_key-within bytes later key has) has;
+        last = λ later after within. last.last later after;
         says = last.says;
-      },
-  λ last. named-names_of_chunks bytes (div_ceil (length bytes) 48) names key name is (record {
-    index = last.index;
-    below = has_key-within bytes last.index key last.has;
-    has = last.has;
-    last = λ later after within. last.last later after;
-    says = last.says;
-  }),
-)
+      }),
+    )

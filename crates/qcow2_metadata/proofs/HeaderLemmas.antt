@@ -1,15 +1,30 @@
-use Rattle.std.proofs.Common.{◌≡◌, ℕ, zero, suc, ◌+◌, ◌<◌, List, [], ◌∷◌, ◌++◌, length, get_or, take, drop, map, refl, ap, sym, add-one, append_assoc, append-nil, length-append, arith, Option, None, Some, Bool, true, false, not, nat_eq, ◌≢◌, option_map, Bor, String, string_bytes}
+use Rattle.std.proofs.lemmas.Bool.Decides.{nat_tests}
+use Rattle.std.proofs.Common.{◌≡◌, ℕ, zero, suc, ◌+◌, ◌^◌, ◌<◌, ◌≤◌, List, [], ◌∷◌, ◌++◌, length, get_or, take, drop, map, refl, ap, sym, ◌∙◌, add-one, append_assoc, append-nil, length-append, arith, Option, None, Some, Bool, true, false, not, nat_eq, ◌≢◌, option_map, Bor, String, string_bytes}
 use Rattle.std.specs.Global.{Global}
 use Rattle.std.specs.Cmp.Lexicographic.{pointwise}
 use Rattle.std.specs.List.{list_all, slice_get}
 use Rattle.std.specs.Option.{option_eq, option_to_list}
 use Rattle.std.specs.Str.{bytes_eq}
+use Rattle.std.proofs.Math.Pow.{pow_mono}
 use Rattle.std.proofs.lemmas.List.{get_or_at}
 use Rattle.std.proofs.lemmas.List.Folds.{list_all-append, list_all_at}
 use Rattle.std.proofs.lemmas.Slice.Eq.{bytes_eq-Decides}
-use Rattle.qcow2_metadata.specs.Header.{first_by, names_by, all_same}
+use Rattle.qcow2_metadata.specs.Header.{HeaderRecord, first_by, names_by, all_same}
 use Rattle.qcow2_metadata.specs.Header.Extensions.{Extension, extension_of}
 use Rattle.qcow2_metadata.specs.declared.header.extensions.HeaderExtension.{HeaderExtension}
+
+-- a table or a block has 64 entries at least
+pub some_entries : (bits : ℕ) → 6 ≤ bits → 64 ≤ 2 ^ bits
+some_entries bits some = pow_mono some
+
+-- the sizes of clusters, tables and blocks
+pub ruleset powers = (pow_mono, some_entries)
+
+-- what the extensions in memory say, as a slice of them
+pub held_are : (inside header : HeaderRecord) (held items : List HeaderExtension) → inside ≡ header
+    → inside.extensions ≡ map extension_of items → held ≡ items → map extension_of held ≡ header.extensions
+held_are inside header held items same says is =
+    rw is (sym says ∙ ap (λ (h : HeaderRecord). h.extensions) same)
 
 -- whether all names are this one, where it is one
 abbrev pub all_are : Option (List ℕ) → List (List ℕ) → Bool
@@ -26,8 +41,7 @@ names_by-split : (name_in : Extension → Option (List ℕ)) (held : List Header
 names_by-split name_in [] i default below = absurd (omega arith)
 names_by-split name_in (extension ∷ held) zero default below = refl
 names_by-split name_in (extension ∷ held) (suc i) default below =
-    let rest = names_by-split name_in held i default (omega arith) in
-    rw rest (simp append_assoc)
+    grind (arith, nat_tests, names_by-split name_in held i default (omega arith))
 
 -- one more extension puts what it says at the end of the names
 names_by-more : (name_in : Extension → Option (List ℕ)) (held : List HeaderExtension) (i : ℕ)
@@ -38,18 +52,14 @@ names_by-more : (name_in : Extension → Option (List ℕ)) (held : List HeaderE
 names_by-more name_in [] i default below = absurd (omega arith)
 names_by-more name_in (extension ∷ held) zero default below = append-nil _
 names_by-more name_in (extension ∷ held) (suc i) default below =
-    let rest = names_by-more name_in held i default (omega arith) in
-    rw (add-one, rw add-one at rest) (simp append_assoc)
+    grind (arith, nat_tests, names_by-more name_in held i default (omega arith))
 
 -- an extension that says no name leaves the names empty
 pub no_name_more : (name_in : Extension → Option (List ℕ)) (held : List HeaderExtension) (i : ℕ)
     (extension : HeaderExtension) → i < length held → extension ≡ get_or held i extension
     → names_by name_in (map extension_of (take i held)) ≡ [] → name_in (extension_of extension) ≡ None
     → names_by name_in (map extension_of (take (i + 1) held)) ≡ []
-no_name_more name_in held i extension below is none here =
-    let more = names_by-more name_in held i extension below in
-    let same : get_or held i extension ≡ extension = sym is in
-    rw (more, none, same, here) refl
+no_name_more name_in held i extension below is none here = grind (arith, nat_tests, names_by-more)
 
 -- a name behind extensions that say none is the first
 pub first_by_at : (name_in : Extension → Option (List ℕ)) (held : List HeaderExtension) (i : ℕ)
@@ -95,9 +105,7 @@ same_with_no_name first name_in held i extension below is same none =
 -- all names are the first one, with that name behind them too
 all_are_push : (first : List ℕ) (names : List (List ℕ)) → all_are (Some first) names ≡ true
     → all_are (Some first) (names ++ first ∷ []) ≡ true
-all_are_push first names same =
-    let equal = (bytes_eq-Decides first first).1 refl in
-    rw list_all-append (rw (same, equal) refl)
+all_are_push first names same = grind (arith, nat_tests, bytes_eq-Decides, list_all-append)
 
 -- so does one that says that name
 pub same_with_first : (first : Option (List ℕ)) (name_in : Extension → Option (List ℕ))

@@ -1,4 +1,4 @@
-use Rattle.std.proofs.Common.{◌≡◌, ℕ, ◌+◌, ◌-◌, ◌%◌, ◌^◌, ◌<◌, ◌≤◌, Bool, true, false, List, [], ◌∷◌, ◌++◌, length, get_or, map, take, replicate, refl, ap, sym, subst, ◌∙◌, append_assoc, append-nil, length-append, take_all, arith, min}
+use Rattle.std.proofs.Common.{◌≡◌, ℕ, ◌+◌, ◌-◌, ◌%◌, ◌^◌, ◌<◌, ◌≤◌, Bool, true, false, List, [], ◌∷◌, ◌++◌, length, get_or, map, take, replicate, refl, ap, sym, inl, inr, subst, ◌∙◌, append_assoc, append-nil, length-append, take_all, arith, min}
 use Rattle.std.specs.BTreeMap.{BTreeMap}
 use Rattle.std.specs.Global.{Global}
 use Rattle.std.specs.Int.{next_multiple_of}
@@ -7,17 +7,18 @@ use Rattle.std.specs.Prelude.{Err, IfSome, MatchOption, None, Ok, Option, Some, 
 use Rattle.std.proofs.lemmas.List.{length-map, take_min}
 use Rattle.std.proofs.lemmas.List.Folds.{flat_map-map, length-flat_map-take}
 use Rattle.std.proofs.Math.Pow.{pow_mono}
+use Rattle.std.proofs.lemmas.Bool.{cases_Bool}
 use Rattle.std.proofs.lemmas.Bool.Decides.{nat_tests}
 use Rattle.qcow2_metadata.proofs.TextLemmas.{IsKnown, length-header_text, newer-parts}
 use Rattle.qcow2_base.specs.declared.fault.Fault.TheVariants.{HeaderTooLong, NameTooLong}
-use Rattle.qcow2_metadata.specs.Header.{HeaderRecord}
+use Rattle.qcow2_metadata.specs.Header.{HeaderRecord, IsLawfulHeader}
 use Rattle.qcow2_metadata.specs.Header.Extensions.{Extension, FeatureKey, FeatureNameTable, FeatureNames, data_of, extension_of, name_chunk, names_of}
 use Rattle.qcow2_base.specs.OnDiskStruct.{header_extension_header, v2_header, v3_header_base}
 use Rattle.qcow2_metadata.specs.Header.Features.{feature_type_number}
-use Rattle.qcow2_metadata.specs.Header.Text.{IsChosen, IsLayout, bare, is_short, kept, placed, chosen, chosen_extensions, header_text, extension_header_of, extension_text, extensions_text, fields_text, is_other, fits_first_cluster, name_place, name_text, padded, parts_text, placed_base, written_text}
+use Rattle.qcow2_metadata.specs.Header.Text.{IsChosen, IsLayout, bare, base_with_length, header_end, v2_with_name, is_short, kept, placed, chosen, chosen_extensions, header_text, extension_header_of, extension_text, extensions_text, fields_text, is_other, fits_first_cluster, name_place, name_text, padded, parts_text, placed_base, written_text}
 use Rattle.qcow2_metadata.specs.declared.header.text.Layout.{Layout}
 use Rattle.qcow2_metadata.specs.declared.header.extensions.HeaderExtension.{HeaderExtension}
-use Rattle.qcow2_metadata.proofs.NamesLemmas.{length-name_chunks}
+use Rattle.qcow2_metadata.proofs.NamesLemmas.{name_chunks_len}
 
 -- the text of the extensions that are written is that of each, or nothing
 pub chosen-parts : (with_names : Bool) (extensions : List Extension)
@@ -26,19 +27,14 @@ chosen-parts true [] = refl
 chosen-parts true (extension ∷ extensions) =
     ap (λ rest. extension_text extension ++ rest) (chosen-parts true extensions)
 chosen-parts false [] = refl
-chosen-parts false (extension ∷ extensions) =
-    by_kind (is_other extension) refl (chosen-parts false extensions)
-  where
-    by_kind : (other : Bool) → is_other extension ≡ other
-        → flat_map extension_text (filter is_other extensions) ≡ flat_map (written_text false) extensions
-        → flat_map extension_text (chosen_extensions false (extension ∷ extensions))
-        ≡ flat_map (written_text false) (extension ∷ extensions)
-    by_kind true is rest = rw is (ap (λ others. extension_text extension ++ others) rest)
-    by_kind false is rest = rw is rest
+chosen-parts false (extension ∷ extensions) = grind (arith, nat_tests, chosen-parts false extensions)
 
 -- a table says as many names as it has
-pub length-names_of : (names : BTreeMap FeatureKey (String Global)) → length (names_of names) ≡ length names.entries
-length-names_of names = length-map names.entries (λ entry. (entry.0, string_bytes entry.1))
+pub names_len : (names : BTreeMap FeatureKey (String Global)) → length (names_of names) ≡ length names.entries
+names_len names = length-map names.entries (λ entry. (entry.0, string_bytes entry.1))
+
+-- how many bytes they take
+pub ruleset table_lens = (names_len, name_chunks_len)
 
 -- what is written of an extension in memory
 abbrev pub held_part : Bool → HeaderExtension → List ℕ
@@ -48,25 +44,26 @@ held_part with_names held = written_text with_names (extension_of held)
 pub extensions_text-held : (with_names : Bool) (held : List HeaderExtension)
     → extensions_text (chosen_extensions with_names (map extension_of held))
     ≡ flat_map (held_part with_names) held ++ replicate 8 0
-extensions_text-held with_names held =
-    ap (λ texts. texts ++ replicate 8 0)
-    (chosen-parts with_names (map extension_of held) ∙ flat_map-map (written_text with_names) extension_of held)
+extensions_text-held with_names held = grind (arith, nat_tests, chosen-parts, flat_map-map)
 
 -- how many bytes these are
-pub length-extensions_text : (with_names : Bool) (held : List HeaderExtension)
+pub extensions_text_len : (with_names : Bool) (held : List HeaderExtension)
     → length (extensions_text (chosen_extensions with_names (map extension_of held)))
     ≡ 8 + length (flat_map (held_part with_names) held)
-length-extensions_text with_names held =
+extensions_text_len with_names held =
     let parts = flat_map (held_part with_names) held in
     omega (arith, ap length (extensions_text-held with_names held), length-append parts (replicate 8 0))
 
 -- the extensions up to a place, and the next one, are among all
-pub length-parts_within : (with_names : Bool) (held : List HeaderExtension) (i : ℕ) (extension : HeaderExtension)
+pub parts_within_len : (with_names : Bool) (held : List HeaderExtension) (i : ℕ) (extension : HeaderExtension)
     → i < length held → extension ≡ get_or held i extension
     → length (flat_map (held_part with_names) (take i held)) + length (held_part with_names extension)
     ≤ length (flat_map (held_part with_names) held)
-length-parts_within with_names held i extension below is =
+parts_within_len with_names held i extension below is =
     rw (← is) at (length-flat_map-take (held_part with_names) held i extension below)
+
+-- how many bytes extensions take
+pub ruleset lens = (extensions_text_len, parts_within_len)
 
 -- bytes behind others, and the zeros behind them, are the padded bytes behind the others
 pub padded_pieces : (text bytes : List ℕ) → (text ++ bytes) ++ replicate ((8 - length bytes % 8) % 8) 0 ≡ text ++ padded bytes
@@ -93,7 +90,7 @@ name_chunk_pieces text key name =
 pub names_padded : (names : FeatureNames) → padded (flat_map name_chunk names) ≡ flat_map name_chunk names
 names_padded names =
     let bytes = flat_map name_chunk names in
-    let none : next_multiple_of (length bytes) 8 - length bytes ≡ 0 = omega (arith, length-name_chunks names) in
+    let none : next_multiple_of (length bytes) 8 - length bytes ≡ 0 = omega (arith, name_chunks_len names) in
     ap (λ n. bytes ++ replicate n 0) none ∙ append-nil bytes
 
 -- the pieces of an extension of names
@@ -101,31 +98,40 @@ pub names_pieces : (text before after : List ℕ) (extension : Extension) (names
     → before ≡ text ++ fields_text (header_extension_header (extension_header_of extension))
     → after ≡ before ++ flat_map name_chunk names → after ≡ text ++ extension_text extension
 names_pieces text before after extension names is header more =
-    let front = fields_text (header_extension_header (extension_header_of extension)) in
-    let same : padded (data_of extension) ≡ flat_map name_chunk names =
-    ap (λ (e : Extension). padded (data_of e)) is ∙ names_padded names in
-    more ∙ ap (λ bytes. bytes ++ flat_map name_chunk names) header
-    ∙ append_assoc text front (flat_map name_chunk names) ∙ ap (λ bytes. text ++ (front ++ bytes)) (sym same)
+    rw (more, header, is, names_padded names) (simp append_assoc)
 
 -- the pieces of the extensions and of End
 pub extensions_pieces : (text before after : List ℕ) (with_names : Bool) (held : List HeaderExtension) (i : ℕ)
     → length held ≤ i → before ≡ text ++ flat_map (held_part with_names) (take i held) → after ≡ before ++ replicate 8 0
     → after ≡ text ++ extensions_text (chosen_extensions with_names (map extension_of held))
 extensions_pieces text before after with_names held i all parts zeros =
-    let whole = ap (λ some. text ++ flat_map (held_part with_names) some) (take_all i held all) in
-    zeros ∙ ap (λ bytes. bytes ++ replicate 8 0) (parts ∙ whole)
-    ∙ append_assoc text (flat_map (held_part with_names) held) (replicate 8 0)
-    ∙ ap (λ bytes. text ++ bytes) (sym (extensions_text-held with_names held))
+    rw (zeros, parts, extensions_text-held with_names held, take_all i held all) (simp append_assoc)
 
--- a text that is longer than the first cluster doesn't fit it
-pub too_long : (header : HeaderRecord) → IsKnown header
-    → 2 ^ header.v2.cluster_bits < name_place header + length (name_text header.backing_filename) → fits_first_cluster header ≡ false
-too_long header known long = grind (arith, nat_tests, length-header_text header known)
+-- a header in memory has no layout where its text is longer than the first cluster, which has 2 MiB at most
+pub too_long : (inside header : HeaderRecord) (with_names : Bool) → IsLawfulHeader inside → inside ≡ header
+    → (2 ^ header.v2.cluster_bits ≤ 2 ^ 21 → 2 ^ header.v2.cluster_bits
+    < name_place (chosen with_names header) + length (name_text header.backing_filename))
+    → fits_first_cluster (chosen with_names header) ≡ false
+too_long inside header with_names lawful same long =
+    let known = subst IsLawfulHeader same lawful in
+    let past = long (pow_mono known.cluster_bits.1) in
+    grind (arith, nat_tests, past, length-header_text (chosen with_names header) known.version)
 
--- a text that isn't fits
-pub short_enough : (header : HeaderRecord) → IsKnown header
-    → name_place header + length (name_text header.backing_filename) ≤ 2 ^ header.v2.cluster_bits → fits_first_cluster header ≡ true
-short_enough header known short = grind (arith, nat_tests, length-header_text header known)
+-- and it has one where the text isn't longer
+pub laid_out : (inside header : HeaderRecord) (layout : Layout) (end place : ℕ) → IsLawfulHeader inside → inside ≡ header
+    → end ≡ header_end header → place ≡ name_place (chosen layout.with_names header)
+    → layout.v2 ≡ v2_with_name header.v2 place header.backing_filename
+    → layout.base ≡ base_with_length header.v2.version header.base end
+    → layout.len ≡ place + length (name_text header.backing_filename) → layout.len ≤ 2 ^ header.v2.cluster_bits
+    → IsLayout (chosen layout.with_names header) layout
+laid_out inside header layout end place lawful same ends begins v2 base len short =
+    let count = length-header_text (chosen layout.with_names header) (subst IsLawfulHeader same lawful).version in
+    record {
+      v2 = rw begins at v2;
+      base = rw ends at base;
+      len = omega (arith, count, begins, len);
+      fits = grind (arith, nat_tests, count, begins, len, short);
+    }
 
 -- the pieces before the extensions in version 3
 pub newer_pieces : (header : HeaderRecord) (layout : Layout) (text first second third : List ℕ) → header.v2.version ≡ 3
@@ -133,83 +139,41 @@ pub newer_pieces : (header : HeaderRecord) (layout : Layout) (text first second 
     → second ≡ first ++ fields_text (v3_header_base layout.base)
     → third ≡ second ++ padded header.unknown_header_fields → third ≡ text ++ parts_text header
 newer_pieces header layout text first second third newer is v2 base unknown =
-    let v2_text = fields_text (v2_header layout.v2) in
-    let base_text = fields_text (v3_header_base layout.base) in
-    let rest = padded header.unknown_header_fields in
-    let parts : parts_text header ≡ (v2_text ++ base_text) ++ rest =
-    (newer-parts header newer).0
-    ∙ ap (λ part. (fields_text (v2_header part) ++ fields_text (v3_header_base (placed_base header))) ++ rest) (sym is.v2)
-    ∙ ap (λ part. (v2_text ++ fields_text (v3_header_base part)) ++ rest) (sym is.base) in
-    let joined : ((text ++ v2_text) ++ base_text) ++ rest ≡ text ++ ((v2_text ++ base_text) ++ rest) = simp append_assoc in
-    unknown ∙ ap (λ bytes. bytes ++ rest) base ∙ ap (λ bytes. (bytes ++ base_text) ++ rest) v2
-    ∙ joined ∙ ap (λ bytes. text ++ bytes) (sym parts)
+    rw (unknown, base, v2, (newer-parts header newer).0, is.v2, is.base) (simp append_assoc)
 
 -- the extensions of a header that fits are few bytes
 pub extensions_short : (header : HeaderRecord) → IsKnown header → header.v2.cluster_bits ≤ 21 → fits_first_cluster header ≡ true
     → length (extensions_text header.extensions) < 2 ^ 32
-extensions_short header known bits inside =
-    let few : 2 ^ header.v2.cluster_bits ≤ 2 ^ 21 = pow_mono bits in
-    let bound : length (header_text header) ≤ 2 ^ header.v2.cluster_bits = grind (arith, nat_tests, inside) in
-    omega (arith, few, bound, length-header_text header known)
+extensions_short header known bits inside = grind (arith, nat_tests, pow_mono, length-header_text)
 
 -- the pieces of a header's text
 pub text_pieces : (header : HeaderRecord) (first second third fourth : List ℕ) → first ≡ [] → second ≡ first ++ parts_text header
     → third ≡ second ++ extensions_text header.extensions → fourth ≡ third ++ name_text header.backing_filename
     → fourth ≡ header_text header
 unfolding header_text
-text_pieces header first second third fourth none parts extensions name =
-    let before = extensions_text header.extensions in
-    let last = name_text header.backing_filename in
-    name ∙ ap (λ bytes. bytes ++ last) extensions ∙ ap (λ bytes. (bytes ++ before) ++ last) parts
-    ∙ ap (λ bytes. ((bytes ++ parts_text header) ++ before) ++ last) none
+text_pieces header first second third fourth none parts extensions name = rw (name, extensions, parts, none) refl
 
 -- a name that is too long is refused
-pub kept-long : (header : HeaderRecord) → 1023 < length (name_text header.backing_filename) → kept header ≡ Err NameTooLong
+pub kept_long : (header : HeaderRecord) → 1023 < length (name_text header.backing_filename) → kept header ≡ Err NameTooLong
 unfolding kept
-kept-long header long = by_name header.backing_filename refl long
-  where
-    by_name : (name : Option (List ℕ)) → header.backing_filename ≡ name → 1023 < length (name_text name) → kept header ≡ Err NameTooLong
-    by_name None is past = absurd (omega arith)
-    by_name (Some name) is past =
-        let test : nat_le (length name) 1023 ≡ false = grind (arith, nat_tests) in
-        rw (is, test) refl
-
--- a name that isn't too long
-short-name : (name : Option (List ℕ)) → length (name_text name) ≤ 1023 → is_short name ≡ true
-short-name None short = refl
-short-name (Some name) short = grind (arith, nat_tests)
-
--- a header whose text fits is written whole
-pub kept-whole : (header : HeaderRecord) → length (name_text header.backing_filename) ≤ 1023 → fits_first_cluster header ≡ true
-    → kept header ≡ Ok (placed header)
-unfolding kept
-kept-whole header short whole = rw (short-name header.backing_filename short, whole) refl
-
--- else it is written without feature names, if that fits
-pub kept-bare : (header : HeaderRecord) → length (name_text header.backing_filename) ≤ 1023 → fits_first_cluster header ≡ false
-    → fits_first_cluster (bare header) ≡ true → kept header ≡ Ok (placed (bare header))
-unfolding kept
-kept-bare header short whole few = rw (short-name header.backing_filename short, whole, few) refl
-
--- and else it is refused
-pub kept-none : (header : HeaderRecord) → length (name_text header.backing_filename) ≤ 1023 → fits_first_cluster header ≡ false
-    → fits_first_cluster (bare header) ≡ false → kept header ≡ Err HeaderTooLong
-unfolding kept
-kept-none header short whole few = rw (short-name header.backing_filename short, whole, few) refl
+kept_long header long = grind (arith, nat_tests)
 
 -- a layout with feature names that was found is the one that is written
-pub whole-chosen : (header : HeaderRecord) (layout : Layout) → length (name_text header.backing_filename) ≤ 1023
+pub whole_chosen : (header : HeaderRecord) (layout : Layout) → length (name_text header.backing_filename) ≤ 1023
     → IsLayout (chosen true header) layout → layout.with_names ≡ true → IsChosen header (Ok layout)
-whole-chosen header layout short is names =
-    subst (λ (b : Bool). IsLayout (chosen b header) layout × (kept header ≡ Ok (placed (chosen b header))))
-    (sym names) (is, kept-whole header short is.fits)
+unfolding kept
+whole_chosen header layout short is names = grind (arith, nat_tests)
 
 -- where there is none, the answer is the layout without feature names, or the fault
-pub bare-chosen : (header : HeaderRecord) (found : Option Layout) → length (name_text header.backing_filename) ≤ 1023
+pub bare_chosen : (header : HeaderRecord) (found : Option Layout) → length (name_text header.backing_filename) ≤ 1023
     → fits_first_cluster (chosen true header) ≡ false
     → MatchOption found (fits_first_cluster (chosen false header) ≡ false) (IsLayout (chosen false header))
     → IfSome found (λ layout. layout.with_names ≡ false) → IsChosen header (ok_or found HeaderTooLong)
-bare-chosen header None short whole few names = kept-none header short whole few
-bare-chosen header (Some layout) short whole is names =
+unfolding kept
+bare_chosen header None short whole few names = grind (arith, nat_tests, short, whole, few)
+bare_chosen header (Some layout) short whole is names =
     subst (λ (b : Bool). IsLayout (chosen b header) layout × (kept header ≡ Ok (placed (chosen b header))))
-    (sym names) (is, kept-bare header short whole is.fits)
+    (sym names) (is, grind (arith, nat_tests, short, whole, is.fits))
+
+-- which layout is chosen
+pub ruleset choices = (kept_long, whole_chosen, bare_chosen)

@@ -1,3 +1,4 @@
+use Rattle.std.proofs.lemmas.Bool.Decides.{nat_tests}
 use Rattle.std.proofs.Common.{◌≡◌, ℕ, zero, suc, ◌+◌, ◌-◌, ◌*◌, ◌<◌, List, [], ◌∷◌, ◌++◌, length, take, drop, map, replicate, refl, sym, ap, ◌∙◌, subst, inl, inr, arith, ◌≤◌, ◌==◌, false}
 use Rattle.std.specs.Prelude.{All, Ok}
 use Rattle.std.specs.BTreeMap.{insert_entry}
@@ -10,7 +11,7 @@ use Rattle.std.specs.Str.Lossy.{replacement_bytes, utf8_lossy}
 use Rattle.std.specs.declared.cmp.Ordering.TheVariants.{Less, Greater}
 use Rattle.std.proofs.lemmas.Bool.{cases_Bool}
 use Rattle.std.proofs.lemmas.Cmp.{nat_cmp_total}
-use Rattle.std.proofs.lemmas.List.{append_assoc, drop_at, drop-drop, length-append, length-replicate, length-take, length_push, append-nil, take-take, take_all, take_at}
+use Rattle.std.proofs.lemmas.List.{append_assoc, drop_at, drop-drop, length-append, length-replicate, length-take, length_push, append-nil, take-take, take-append-drop, take_all, take_at}
 use Rattle.std.proofs.lemmas.List.Elements.{All-head, All-tail}
 use Rattle.std.proofs.lemmas.Str.{utf8_lossy-IsUtf8}
 use Rattle.std.proofs.Math.Seq.{take-append-add}
@@ -31,9 +32,7 @@ normal_named named = (named.0, normal_name named.1)
 until_zero-zeros : (name : List ℕ) (n : ℕ) → until_zero (name ++ replicate n 0) ≡ until_zero name
 until_zero-zeros [] zero = refl
 until_zero-zeros [] (suc n) = refl
-until_zero-zeros (byte ∷ name) n =
-    let rest = until_zero-zeros name n in
-    rw rest refl
+until_zero-zeros (byte ∷ name) n = grind (arith, nat_tests, until_zero-zeros name n)
 
 -- a name's chunk has 48 bytes
 length-name_chunk : (named : FeatureKey × List ℕ) → length (name_chunk named) ≡ 48
@@ -47,24 +46,17 @@ length-name_chunk named =
     )
 
 -- so many names have chunks of 48 bytes each
-pub length-name_chunks : (names : FeatureNames) → length (flat_map name_chunk names) ≡ 48 * length names
-length-name_chunks [] = refl
-length-name_chunks (named ∷ names) =
-    omega (
-      arith,
-      length-append (name_chunk named) (flat_map name_chunk names),
-      length-name_chunk named,
-      length-name_chunks names,
-    )
+pub name_chunks_len : (names : FeatureNames) → length (flat_map name_chunk names) ≡ 48 * length names
+name_chunks_len [] = refl
+name_chunks_len (named ∷ names) =
+    grind (arith, nat_tests, length-append, length-name_chunk, name_chunks_len names)
 
 -- a name's chunk sets what it reads back as
 with_feature_name-chunk : (names : FeatureNames) (named : FeatureKey × List ℕ)
     → with_feature_name names (name_chunk named)
     ≡ Ok (insert_entry key_cmp names named.0 (normal_name named.1))
 with_feature_name-chunk names named =
-    with_feature_name-named names named.0.0 (name_chunk named) (omega (arith, length-name_chunk named)) refl
-    ∙ ap (λ (name : List ℕ). Ok (insert_entry key_cmp names named.0 (utf8_lossy name)))
-    (until_zero-zeros (take 46 named.1) (46 - length named.1))
+    grind (arith, nat_tests, with_feature_name-named, length-name_chunk, until_zero-zeros)
 
 -- a key above another one
 key_cmp-above : (a b : FeatureKey) → key_cmp a b ≡ Less → key_cmp b a ≡ Greater
@@ -90,9 +82,7 @@ insert_entry-last : (done more : FeatureNames) (named : FeatureKey × List ℕ)
 unfolding IsStrictlySortedBy
 insert_entry-last [] more named sorted = refl
 insert_entry-last (first ∷ done) more named sorted =
-    let above = key_cmp-above first.0 named.0 (above_middle first.0 done more named sorted.0) in
-    let rest = insert_entry-last done more named sorted.1 in
-    rw above (ap (λ (names : FeatureNames). normal_named first ∷ names) rest)
+    grind (arith, nat_tests, key_cmp-above, above_middle, insert_entry-last done more named sorted.1)
 
 -- the chunk behind those of other names
 chunk_at-name : (done more : FeatureNames) (named : FeatureKey × List ℕ)
@@ -135,7 +125,7 @@ pub feature_names-chunks : (names : FeatureNames) → IsStrictlySortedBy key_cmp
     → feature_names (flat_map name_chunk names) ≡ Ok (map (λ named. (named.0, normal_name named.1)) names)
 feature_names-chunks names sorted =
     let count : div_ceil (length (flat_map name_chunk names)) 48 ≡ length names =
-    omega (arith, length-name_chunks names) in
+    omega (arith, name_chunks_len names) in
     rw count (AreRead-all names [] names refl sorted refl)
 
 -- an extension that can be stored reads back
@@ -149,35 +139,17 @@ storable-reads_back (Unknown number content) storable =
 -- what stands before the first zero byte is the list's front
 until_zero-take : (bytes : List ℕ) → until_zero bytes ≡ take (length (until_zero bytes)) bytes
 until_zero-take [] = refl
-until_zero-take (byte ∷ bytes) =
-    let rest = until_zero-take bytes in
-    elim (cases_Bool (byte == 0)) [
-      | inl ends ↦ rw ends refl
-      | inr more ↦ rw more (ap (λ (text : List ℕ). byte ∷ text) rest)
-    ]
+until_zero-take (byte ∷ bytes) = grind (arith, nat_tests, until_zero-take bytes)
 
 -- it has no zero byte
 until_zero-once : (bytes : List ℕ) → until_zero (until_zero bytes) ≡ until_zero bytes
 until_zero-once [] = refl
-until_zero-once (byte ∷ bytes) =
-    let rest = until_zero-once bytes in
-    elim (cases_Bool (byte == 0)) [
-      | inl ends ↦ rw ends refl
-      | inr more ↦ rw (more, more) (ap (λ (text : List ℕ). byte ∷ text) rest)
-    ]
+until_zero-once (byte ∷ bytes) = grind (arith, nat_tests, until_zero-once bytes)
 
 -- bytes without a zero byte begin with none, and the others have none
 until_zero-cons : (byte : ℕ) (bytes : List ℕ) → until_zero (byte ∷ bytes) ≡ byte ∷ bytes
     → (byte == 0 ≡ false) × (until_zero bytes ≡ bytes)
-until_zero-cons byte bytes none =
-    elim (cases_Bool (byte == 0)) [
-      | inl ends ↦
-          let nothing : until_zero (byte ∷ bytes) ≡ [] = rw ends refl in
-          cc
-      | inr more ↦
-          let some : until_zero (byte ∷ bytes) ≡ byte ∷ until_zero bytes = rw more refl in
-          (more, cc)
-    ]
+until_zero-cons byte bytes none = (grind arith, grind arith)
 
 -- the front of bytes without a zero byte has none
 until_zero-front : (front last : List ℕ) → until_zero (front ++ last) ≡ front ++ last
@@ -197,11 +169,8 @@ until_zero-behind (byte ∷ front) last none =
 
 -- the first bytes of U+FFFD have no zero byte
 until_zero-replacement : (n : ℕ) → until_zero (take n replacement_bytes) ≡ take n replacement_bytes
-until_zero-replacement zero = refl
-until_zero-replacement (suc zero) = refl
-until_zero-replacement (suc (suc zero)) = refl
-until_zero-replacement (suc (suc (suc zero))) = refl
-until_zero-replacement (suc (suc (suc (suc n)))) = refl
+until_zero-replacement n =
+    until_zero-front (take n replacement_bytes) (drop n replacement_bytes) (rw take-append-drop refl)
 
 -- of at most 46 bytes without a zero byte, text that is cut reads back as what it was read as
 normal_name-lossy : (bytes : List ℕ) → length bytes ≤ 46 → until_zero bytes ≡ bytes → IsCutText bytes

@@ -1,4 +1,5 @@
-use Rattle.std.proofs.Common.{◌≡◌, ◌⊎◌, ◌==◌, Bool, true, false, not, refl, ap, ◌∙◌, inl, inr}
+use Rattle.std.proofs.Common.{◌≡◌, ◌⊎◌, Bool, true, ap, ◌∙◌, inl, inr, arith}
+use Rattle.std.proofs.lemmas.Bool.Decides.{nat_tests}
 use Rattle.std.specs.Prelude.{Err, IfErr, Ok, Result}
 use Rattle.qcow2_base.specs.Storage.{Image}
 use Rattle.qcow2_base.specs.declared.fault.Fault.{Fault}
@@ -7,62 +8,36 @@ use Rattle.qcow2_metadata.specs.Results.{Answers, RefusesFirst}
 use Rattle.qcow2_metadata.specs.Header.{HeaderRecord}
 use Rattle.qcow2_metadata.specs.Header.Grammar.{SameFirstCluster, header_of}
 use Rattle.qcow2_metadata.specs.Header.Open.{IsOpenFault, opened, without_autoclear}
-use Rattle.qcow2_metadata.specs.Header.Text.{bare, fits_first_cluster, is_short, kept, placed}
+use Rattle.qcow2_metadata.specs.Header.Text.{is_short, kept}
 use Rattle.qcow2_metadata.proofs.ClusterLemmas.{header_of-same}
 
 -- why a header whose name isn't too long isn't written
 kept-too_long : (header : HeaderRecord) (fault : Fault) → is_short header.backing_filename ≡ true
     → kept header ≡ Err fault → fault ≡ HeaderTooLong
 unfolding kept
-kept-too_long header fault short is = by_tests (fits_first_cluster header) (fits_first_cluster (bare header)) refl refl
-  where
-    by_tests : (whole few : Bool) → fits_first_cluster header ≡ whole → fits_first_cluster (bare header) ≡ few → fault ≡ HeaderTooLong
-    by_tests true few is_whole is_few = let taken : kept header ≡ Ok (placed header) = rw (short, is_whole) refl in cc
-    by_tests false true is_whole is_few =
-        let taken : kept header ≡ Ok (placed (bare header)) = rw (short, is_whole, is_few) refl in cc
-    by_tests false false is_whole is_few =
-        let refused : kept header ≡ Err HeaderTooLong = rw (short, is_whole, is_few) refl in cc
+kept-too_long header fault short is = grind arith
 
 -- the fault of a header that was loaded and then written
 opened-too_long : (header : HeaderRecord) (fault : Fault) → is_short header.backing_filename ≡ true
     → opened true (Ok header) ≡ Err fault → fault ≡ HeaderTooLong
-opened-too_long header fault short is = by_test (header.base.autoclear_features == 0) refl
-  where
-    by : Bool → Result HeaderRecord Fault
-    by none = elim (not none) [ true ↦ kept (without_autoclear header) | false ↦ Ok header ]
-
-    by_test : (none : Bool) → (header.base.autoclear_features == 0) ≡ none → fault ≡ HeaderTooLong
-    by_test true test = let taken : opened true (Ok header) ≡ Ok header = ap by test in cc
-    by_test false test =
-        let written : opened true (Ok header) ≡ kept (without_autoclear header) = ap by test in
-        kept-too_long (without_autoclear header) fault short (cc)
+opened-too_long header fault short is = grind (arith, nat_tests, kept-too_long)
 
 -- what is answered once refusals come first is what is answered
 pub answers-first : (answer : Result HeaderRecord Fault) (expected : Result HeaderRecord Fault)
     → RefusesFirst (λ h. h) answer expected → Answers (λ h. h) answer expected
-answers-first (Ok value) expected is = is
-answers-first (Err fault) expected (inl refused) = inr (inr refused)
-answers-first (Err fault) expected (inr (inl failed, value)) = inl failed
-answers-first (Err fault) expected (inr (inr memory, value)) = inr (inl memory)
+answers-first x0 expected is = grind (arith, nat_tests)
 
 -- the faults of a load for who means to write
 pub opened-faults : (answer : Result HeaderRecord Fault) (header : HeaderRecord) (writable : Bool) → writable ≡ true
     → is_short header.backing_filename ≡ true → Answers (λ h. h) answer (opened true (Ok header))
     → IfErr answer (IsOpenFault writable)
-opened-faults (Ok loaded) header writable is short answers = tt
-opened-faults (Err fault) header writable is short (inl failed) = inl (inr (inr failed))
-opened-faults (Err fault) header writable is short (inr (inl memory)) = inl (inr (inl memory))
-opened-faults (Err fault) header writable is short (inr (inr refused)) =
-    inr (is, opened-too_long header fault short refused)
+opened-faults x0 header writable is short answers = grind (arith, nat_tests, opened-too_long)
 
 -- the fault of one image's header is that of another one with the same first cluster
 pub opened-same_fault : (writable : Bool) (image other : Image) (fault : Fault) → SameFirstCluster image other
     → ((fault ≡ Storage) ⊎ (fault ≡ NoMemory) ⊎ (header_of image ≡ Err fault))
     → ((fault ≡ Storage) ⊎ (fault ≡ NoMemory) ⊎ (opened writable (header_of other) ≡ Err fault))
-opened-same_fault writable image other fault same (inl failed) = inl failed
-opened-same_fault writable image other fault same (inr (inl memory)) = inr (inl memory)
-opened-same_fault writable image other fault same (inr (inr refused)) =
-    inr (inr (ap (opened writable) (header_of-same image other same ∙ refused)))
+opened-same_fault writable image other fault same x5 = grind (arith, nat_tests, header_of-same)
 
 -- and so is the header
 pub opened-same : (writable : Bool) (image other : Image) (header : HeaderRecord) → SameFirstCluster image other

@@ -2,6 +2,8 @@ use Rattle.std.proofs.Common.{◌≡◌, List, [], ◌∷◌, ◌++◌, ℕ, map
 use lib.Utf8.{encode}
 use Rattle.std.specs.Prelude.{All, true, IfSome, None, Option, Some, String, option_to_list, option_map, string_bytes}
 use Rattle.std.proofs.lemmas.Bool.{and_parts}
+use Rattle.std.proofs.lemmas.List.Sums.{AllPass-from_list_all}
+use Rattle.std.proofs.lemmas.Map.Made.{keys_of-map_values}
 use Rattle.std.proofs.lemmas.List.Elements.{All-append, All-cons, All-from_recursion, All-nil}
 use Rattle.std.proofs.lemmas.Str.{IsUtf8-from_is_utf8, IsUtf8-string_bytes}
 use Rattle.std.specs.BTreeMap.{BTreeMap, IsOrdered}
@@ -23,17 +25,11 @@ names_of-texts (entry ∷ entries) =
     All-cons (λ (named : FeatureKey × List ℕ). IsUtf8 named.1) (entry.0, string_bytes entry.1)
     (map (λ other. (other.0, string_bytes other.1)) entries) (IsUtf8-string_bytes entry.1) (names_of-texts entries)
 
--- the keys of names in memory are those of the map
-keys_of-names_of : (entries : List (FeatureKey × String Global))
-    → keys_of (map (λ entry. (entry.0, string_bytes entry.1)) entries) ≡ keys_of entries
-keys_of-names_of [] = refl
-keys_of-names_of (entry ∷ entries) = ap (λ keys. entry.0 ∷ keys) (keys_of-names_of entries)
-
 -- names in memory are in the order of their keys, as those of an image
 pub ordered-storable : (names : BTreeMap FeatureKey (String Global)) → IsOrdered key_cmp names
     → IsStorable (FeatureNameTable (names_of names))
 ordered-storable names ordered = (
-  subst (IsStrictlySortedBy key_cmp) (sym (keys_of-names_of names.entries)) ordered,
+  subst (IsStrictlySortedBy key_cmp) (sym (keys_of-map_values string_bytes names.entries)) ordered,
   names_of-texts names.entries,
 )
 
@@ -45,41 +41,12 @@ name-text (Some name) = IsUtf8-string_bytes name
 -- what features are called in new images is in the order of the keys
 known_names-ordered : IsStrictlySortedBy key_cmp (keys_of known_names)
 unfolding IsStrictlySortedBy
-known_names-ordered = (
-  (refl, (refl, (refl, (refl, (refl, (refl, (refl, tt))))))),
-  (
-    (refl, (refl, (refl, (refl, (refl, (refl, tt)))))),
-    (
-      (refl, (refl, (refl, (refl, (refl, tt))))),
-      (
-        (refl, (refl, (refl, (refl, tt)))),
-        (
-          (refl, (refl, (refl, tt))),
-          (
-            (refl, (refl, tt)),
-            (
-              (refl, tt),
-              (
-                tt,
-                tt,
-              ),
-            ),
-          ),
-        ),
-      ),
-    ),
-  ),
-)
+known_names-ordered = assumption
 
 -- names of which each is text
 all_texts : (names : FeatureNames) → list_all (λ named. is_utf8 named.1) names ≡ true → All (λ (named : FeatureKey × List ℕ). IsUtf8 named.1) names
-all_texts names test = All-from_recursion (λ (named : FeatureKey × List ℕ). IsUtf8 named.1) names (each names test)
-  where
-    each : (names : FeatureNames) → list_all (λ named. is_utf8 named.1) names ≡ true → AllByRecursion (λ (named : FeatureKey × List ℕ). IsUtf8 named.1) names
-    each [] test = tt
-    each (named ∷ names) test =
-        let tests = and_parts (is_utf8 named.1) (list_all (λ other. is_utf8 other.1) names) test in
-        (IsUtf8-from_is_utf8 named.1 tests.0, each names tests.1)
+all_texts names test = λ i named below.
+    IsUtf8-from_is_utf8 _ (AllPass-from_list_all (λ (named : FeatureKey × List ℕ). is_utf8 named.1) names test i named below)
 
 -- what features are called in new images can be stored
 pub known_names-storable : IsStorable (FeatureNameTable known_names)

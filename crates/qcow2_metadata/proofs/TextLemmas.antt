@@ -1,22 +1,19 @@
-use Rattle.std.proofs.Common.{◌≡◌, ℕ, zero, suc, ◌+◌, ◌-◌, ◌^◌, ◌/◌, ◌<◌, ◌≤◌, List, [], ◌∷◌, ◌++◌, length, All, ◌⊎◌, ◌==◌, nat_le, IfSome, Option, Some, None, Bool, true, false, Result, Ok, refl, sym, ap, ◌∙◌, subst, inl, inr, append-nil, append_assoc, length-append, map, replicate, arith}
+use Rattle.std.proofs.Common.{◌≡◌, zero-add, ℕ, zero, suc, ◌+◌, ◌-◌, ◌^◌, ◌/◌, ◌<◌, ◌≤◌, List, [], ◌∷◌, ◌++◌, length, All, ◌⊎◌, ◌==◌, nat_le, IfSome, Option, Some, None, true, false, Result, Ok, refl, sym, ap, ◌∙◌, subst, inl, inr, append-nil, append_assoc, length-append, map, replicate, arith}
 use Rattle.std.specs.Int.{bytes_high_first, next_multiple_of}
 use Rattle.std.specs.Str.{IsUtf8}
 use Rattle.std.proofs.Math.Nat.{mod-lt}
 use Rattle.std.proofs.Math.Pow.{pow_mono}
 use Rattle.std.specs.List.{flat_map}
-use Rattle.std.proofs.lemmas.Bool.{cases_lt}
+use Rattle.std.specs.Prelude.{OnOk}
+use Rattle.std.proofs.lemmas.Bool.{cases_Bool, cases_lt}
 use Rattle.std.proofs.lemmas.Bool.Decides.{nat_tests}
 use Rattle.std.proofs.lemmas.List.{get_or-append_right, get_or-append-add, get_or_append_left, ext_get_or, length-replicate}
 use Rattle.std.proofs.lemmas.List.Elements.{All-cons, All-head, All-nil, All-tail}
 use Rattle.qcow2_base.specs.OnDiskStruct.{HoldsLayout, LayoutField, big, header_extension_header, moved, number_in, v2_header, v3_header_base}
 use Rattle.qcow2_base.specs.Storage.{Holds, Image, IsBytes, be, be_fits, be_of_same, be_tells, image_of}
 use Rattle.qcow2_base.specs.declared.on_disk_struct.header_extension_header.HeaderExtensionHeader.{HeaderExtensionHeader}
-use Rattle.qcow2_base.specs.declared.on_disk_struct.v2_header.V2Header.{V2Header}
 use Rattle.qcow2_base.specs.declared.on_disk_struct.v3_header_base.V3HeaderBase.{V3HeaderBase}
 use Rattle.qcow2_base.proofs.OnDiskStructLemmas.{be_of_bytes}
-use Rattle.qcow2_base.specs.declared.fault.Fault.{Fault}
-use Rattle.qcow2_base.specs.declared.fault.Fault.TheVariants.{HeaderTooLong, NameTooLong}
-use Rattle.qcow2_metadata.specs.Results.{provided}
 use Rattle.qcow2_metadata.specs.Header.{HeaderRecord, IsLawfulHeader, names_by}
 use Rattle.qcow2_metadata.specs.Header.Chain.{IsEnd, SaysExtensions, link_at}
 use Rattle.qcow2_metadata.specs.Header.Extensions.{Extension, FeatureNameTable, TextOf, Unknown, data_of, name_in, normal_extension, type_number}
@@ -25,9 +22,9 @@ use Rattle.qcow2_metadata.specs.Header.Text.{AreFitting, bare, extension_header_
 use Rattle.qcow2_metadata.specs.Range.{bytes_at}
 use Rattle.qcow2_metadata.specs.declared.header.extensions.HeaderExtensionType.{HeaderExtensionType}
 use Rattle.qcow2_metadata.specs.declared.header.extensions.HeaderExtensionType.TheVariants as kind
-use Rattle.qcow2_metadata.proofs.GrammarLemmas.{all_same-AreSame, provided-ok}
+use Rattle.qcow2_metadata.proofs.GrammarLemmas.{all_same-AreSame}
 use Rattle.qcow2_metadata.proofs.ExtensionsLemmas.{ReadsBack}
-use Rattle.qcow2_metadata.proofs.ChainLemmas.{IsFirst, says_more, says_none}
+use Rattle.qcow2_metadata.proofs.ChainLemmas.{IsFirst, follows_more, says_none}
 use Rattle.qcow2_metadata.proofs.RangeLemmas.{held-bytes_at}
 
 -- a field's value fits its bytes
@@ -58,28 +55,17 @@ number-held image place n value small is =
     let fits : value < 256 ^ n = subst (λ (v : ℕ). v < 256 ^ n) is (be_fits image place n small) in
     let bytes = bytes_high_first n value in
     let own = be_of_bytes n value bytes [] (sym (append-nil bytes)) fits in
-    let count = length-bytes_high_first n value in (
-      record {
-        each = λ i below.
-            let same : 0 + i ≡ i = omega arith in
-            let tells = be_tells (image_of bytes) image n 0 place (are_bytes n value) small (own ∙ sym is) in
-            rw same at (tells i (omega (arith, count)));
-      },
-      fits,
-    )
+    let tells = be_tells (image_of bytes) image n 0 place (are_bytes n value) small (own ∙ sym is) in
+    (record { each = λ i below. rw zero-add at (tells i (omega (arith, length-bytes_high_first n value))) }, fits)
 
 -- the number of bytes that an image has
 held-number : (image : Image) (place n value : ℕ) → Holds image place (bytes_high_first n value)
     → value < 256 ^ n → be image place n ≡ value
 held-number image place n value held fits =
     let bytes = bytes_high_first n value in
-    let own = be_of_bytes n value bytes [] (sym (append-nil bytes)) fits in
-    let count = length-bytes_high_first n value in
-    let each : (k : ℕ) → k < n → image (place + k) ≡ image_of bytes (0 + k) = λ k below.
-    let same : 0 + k ≡ k = omega arith in
-    rw same (sym (held.each k (omega (arith, count))))
-    in
-    be_of_same image (image_of bytes) n place 0 each ∙ own
+    be_of_same image (image_of bytes) n place 0
+    (λ k below. rw zero-add (sym (held.each k (omega (arith, length-bytes_high_first n value)))))
+    ∙ be_of_bytes n value bytes [] (sym (append-nil bytes)) fits
 
 -- what an image has, it has in two pieces
 pub Holds-first : (image : Image) (place : ℕ) (xs ys : List ℕ) → Holds image place (xs ++ ys)
@@ -152,49 +138,23 @@ text-fields image by place (f ∷ fields) joined fits held =
     let others = All-tail IsFitting f fields fits in
     (subst IsThere (sym joined.0) number, text-fields image by (place + f.size) fields joined.1 others second)
 
--- the fields of the first part follow one another
-v2-joined : (v2 : V2Header) → AreJoined 0 (v2_header v2)
-v2-joined v2 =
-    (refl, (refl, (refl, (refl, (refl, (refl, (refl, (refl, (refl, (refl, (refl, (refl, (refl, tt)))))))))))))
+-- bytes that hold fields which follow one another are their text
+layout-text : (bytes : List ℕ) (fields : List LayoutField) → IsBytes (image_of bytes) → AreJoined 0 fields
+    → length bytes ≡ length (fields_text fields) → HoldsLayout (image_of bytes) (moved 0 fields)
+    → (bytes ≡ fields_text fields) × AreFitting fields
+layout-text bytes fields small joined count held =
+    let text = fields-text (image_of bytes) 0 0 fields small joined held in (
+      ext_get_or 0 bytes (fields_text fields) count (λ i below. sym (rw (zero-add i) at (text.0.each i (omega arith)))),
+      text.1,
+    )
 
--- and so do those of the second part
-base-joined : (base : V3HeaderBase) → AreJoined 0 (v3_header_base base)
-base-joined base = (refl, (refl, (refl, (refl, (refl, tt)))))
-
--- and those before an extension's data
-extension-joined : (header : HeaderExtensionHeader) → AreJoined 0 (header_extension_header header)
-extension-joined header = (refl, (refl, tt))
-
--- bytes that an image of theirs has from its start on, and no more, are those bytes
-same-bytes : (bytes text : List ℕ) → length bytes ≡ length text → Holds (image_of bytes) 0 text → bytes ≡ text
-same-bytes bytes text count held =
-    ext_get_or 0 bytes text count
-    (λ i below. let same : 0 + i ≡ i = omega arith in sym (rw same at (held.each i (omega arith))))
-
--- bytes that hold the first part of a header are its text
-pub layout-text-v2 : (bytes : List ℕ) (v2 : V2Header) → IsBytes (image_of bytes) → length bytes ≡ 72
-    → HoldsLayout (image_of bytes) (moved 0 (v2_header v2))
-    → (bytes ≡ fields_text (v2_header v2)) × AreFitting (v2_header v2)
-layout-text-v2 bytes v2 small count held =
-    let text = fields-text (image_of bytes) 0 0 (v2_header v2) small (v2-joined v2) held in
-    (same-bytes bytes (fields_text (v2_header v2)) count text.0, text.1)
-
--- and those that hold the second part are its text
-pub layout-text-base : (bytes : List ℕ) (base : V3HeaderBase) → IsBytes (image_of bytes) → length bytes ≡ 32
-    → HoldsLayout (image_of bytes) (moved 0 (v3_header_base base))
-    → (bytes ≡ fields_text (v3_header_base base)) × AreFitting (v3_header_base base)
-layout-text-base bytes base small count held =
-    let text = fields-text (image_of bytes) 0 0 (v3_header_base base) small (base-joined base) held in
-    (same-bytes bytes (fields_text (v3_header_base base)) count text.0, text.1)
-
--- bytes that hold what stands before an extension's data are its text
-pub layout-text-extension : (bytes : List ℕ) (header : HeaderExtensionHeader) → IsBytes (image_of bytes)
-    → length bytes ≡ 8 → HoldsLayout (image_of bytes) (header_extension_header header)
-    → (bytes ≡ fields_text (header_extension_header header)) × AreFitting (header_extension_header header)
-layout-text-extension bytes header small count held =
-    let fields = header_extension_header header in
-    let text = fields-text (image_of bytes) 0 0 fields small (extension-joined header) held in
-    (same-bytes bytes (fields_text fields) count text.0, text.1)
+-- such bytes behind a text are the fields' text there
+pub pushed-fields : {T E : Type 0} (answer : Result T E) (text after bytes : List ℕ) (fields : List LayoutField)
+    → IsBytes (image_of bytes) → AreJoined 0 fields → length bytes ≡ length (fields_text fields)
+    → HoldsLayout (image_of bytes) (moved 0 fields) → OnOk answer (after ≡ text ++ bytes)
+    → OnOk answer (after ≡ text ++ fields_text fields) × AreFitting fields
+pushed-fields answer text after bytes fields small joined count held pushed =
+    grind (arith, nat_tests, layout-text)
 
 -- padding makes as many bytes as the next multiple of 8
 pub length-padded : (bytes : List ℕ) → length (padded bytes) ≡ next_multiple_of (length bytes) 8
@@ -205,23 +165,12 @@ length-padded bytes =
 -- how many bytes an extension takes
 pub length-extension_text : (extension : Extension)
     → length (extension_text extension) ≡ 8 + next_multiple_of (length (data_of extension)) 8
-length-extension_text extension =
-    let header = fields_text (header_extension_header (extension_header_of extension)) in
-    length-append header (padded (data_of extension)) ∙ ap (λ n. 8 + n) (length-padded (data_of extension))
-
--- what the image has where an extension's text stands
-record HasExtension (image : Image) (place : ℕ) (extension : Extension) : Type 0 where
-  number : be image place 4 ≡ type_number extension
-  size : be image (place + 4) 4 ≡ length (data_of extension)
-  content : bytes_at image (place + 8) (length (data_of extension)) ≡ data_of extension
+length-extension_text extension = grind (arith, nat_tests, length-padded)
 
 -- the number and the length of an extension fit their bytes
 extension-fits : (header : HeaderExtensionHeader) → header.extension_type < 2 ^ 32 → header.length < 2 ^ 32
     → AreFitting (header_extension_header header)
-extension-fits header number size =
-    let second = big 4 4 header.length in
-    All-cons IsFitting (big 0 4 header.extension_type) (second ∷ []) number
-    (All-cons IsFitting second [] size (All-nil IsFitting))
+extension-fits header number size = grind (arith, nat_tests)
 
 -- what stands before an extension's data, in an image that has its text
 held-header : (image : Image) (place : ℕ) (header : HeaderExtensionHeader) → header.extension_type < 2 ^ 32
@@ -232,40 +181,27 @@ held-header image place header number size held =
     let start : place ≡ place + 0 = omega arith in
     let moved_held = subst (λ (p : ℕ). Holds image p (fields_text fields)) start held in
     let fits = extension-fits header number size in
-    let are = text-fields image place 0 fields (extension-joined header) fits moved_held in
+    let are = text-fields image place 0 fields (assumption) fits moved_held in
     (rw start are.0, are.1.0)
-
--- an extension's text stands in the image
-held-extension : (image : Image) (place : ℕ) (extension : Extension)
-    → Holds image place (extension_text extension) → type_number extension < 2 ^ 32
-    → length (data_of extension) < 2 ^ 32 → HasExtension image place extension
-held-extension image place extension held number size =
-    let header = extension_header_of extension in
-    let header_text = fields_text (header_extension_header header) in
-    let bytes = data_of extension in
-    let padding : List ℕ = replicate (next_multiple_of (length bytes) 8 - length bytes) 0 in
-    let second = Holds-second image place header_text (padded bytes) held in
-    let content : Holds image (place + 8) bytes = Holds-first image (place + 8) bytes padding second in
-    let first = Holds-first image place header_text (padded bytes) held in
-    let are = held-header image place header number size first in
-    record {
-      number = are.0;
-      size = are.1;
-      content = sym (held-bytes_at image (place + 8) bytes content);
-    }
 
 -- an extension that stands in the image is the first of the chain from there on
 first-extension : (image : Image) (len place : ℕ) (extension : Extension) → ReadsBack extension → len ≤ 2 ^ 21
     → Holds image place (extension_text extension) → place + length (extension_text extension) ≤ len
     → IsFirst image len place (normal_extension extension) (place + length (extension_text extension))
 first-extension image len place extension back small held within =
+    let header = fields_text (header_extension_header (extension_header_of extension)) in
+    let bytes = data_of extension in
     let count = length-extension_text extension in
-    let has = held-extension image place extension held back.0 (omega (arith, count)) in
+    let first = Holds-first image place header (padded bytes) held in
+    let are = held-header image place (extension_header_of extension) back.0 (omega (arith, count)) first in
+    let second = Holds-second image place header (padded bytes) held in
+    let padding : List ℕ = replicate (next_multiple_of (length bytes) 8 - length bytes) 0 in
+    let content = held-bytes_at image (place + 8) bytes (Holds-first image (place + 8) bytes padding second) in
     record {
-      bounded = omega (arith, count, has.size);
-      more = λ none. back.1 (sym has.number ∙ none);
-      says = rw (has.number, has.size, has.content) back.2;
-      next_is = rw has.size (omega (arith, count));
+      bounded = omega (arith, count, are.1);
+      more = λ none. back.1 (sym are.0 ∙ none);
+      says = rw (are.0, are.1, ← content) back.2;
+      next_is = rw are.1 (omega (arith, count));
     }
 
 -- the zeros behind the extensions are End
@@ -297,14 +233,12 @@ text-says image len place (extension ∷ extensions) small back held within =
     let others_back = All-tail ReadsBack extension extensions back in
     let first = first-extension image len place extension here_back small here_held (omega (arith, count)) in
     let rest = text-says image len next extensions small others_back others_held (omega (arith, count)) in
-    says_more image len place next (normal_extension extension) (map normal_extension extensions) first rest
+    follows_more image len place next (normal_extension extension) (Ok (map normal_extension extensions)) first rest
 
 -- what an extension reads back as says the same name
 same-name_in : (type : HeaderExtensionType) (extension : Extension)
     → name_in type (normal_extension extension) ≡ name_in type extension
-same-name_in type (TextOf own name) = refl
-same-name_in type (FeatureNameTable names) = refl
-same-name_in type (Unknown number content) = refl
+same-name_in type x1 = grind (arith, nat_tests)
 
 -- so the names are the same
 pub same-names_by : (type : HeaderExtensionType) (extensions : List Extension)
@@ -319,40 +253,10 @@ pub record IsPlaced (header : HeaderRecord) : Type 0 where
   pub fits : length (header_text header) ≤ 2 ^ header.v2.cluster_bits
   pub short : is_short header.backing_filename ≡ true
 
--- what comes of a header whose name isn't too long, by whether its text fits with and without features' names
-abbrev kept_by : HeaderRecord → Bool → Bool → Result HeaderRecord Fault
-kept_by header with_names without_names = elim with_names [
-  | true ↦ Ok (placed header)
-  | false ↦ provided ((without_names, HeaderTooLong) ∷ []) (λ _. Ok (placed (bare header)))
-]
-
--- a header that is kept as it is with no names of features has none
-bare-same : (header : HeaderRecord) → placed (bare header) ≡ header → bare header ≡ header
-bare-same header is =
-    ap (λ (other : HeaderRecord). record header { extensions = other.extensions }) is
-
--- a header that is kept as it is fits, and has its places
-kept-by : (header : HeaderRecord) (with_names without_names : Bool) → fits_first_cluster header ≡ with_names
-    → fits_first_cluster (bare header) ≡ without_names → kept_by header with_names without_names ≡ Ok header
-    → (fits_first_cluster header ≡ true) × (header ≡ placed header)
-kept-by header true without_names whole part is =
-    let same : placed header ≡ header = cc in
-    (whole, sym same)
-kept-by header false true whole part is =
-    let same : placed (bare header) ≡ header = cc in
-    let none = bare-same header same in
-    (ap fits_first_cluster (sym none) ∙ part, sym same ∙ ap placed none)
-kept-by header false false whole part is = cc
-
 -- what a header that is kept as it is has
-pub kept-placed : (header : HeaderRecord) → kept header ≡ Ok header → IsPlaced header
+kept-placed : (header : HeaderRecord) → kept header ≡ Ok header → IsPlaced header
 unfolding kept
-kept-placed header is =
-    let next = λ (t : Unit {0}). kept_by header (fits_first_cluster header) (fits_first_cluster (bare header)) in
-    let hold = provided-ok ((is_short header.backing_filename, NameTooLong) ∷ []) next header is in
-    let by = kept-by header (fits_first_cluster header) (fits_first_cluster (bare header)) refl refl hold.1 in
-    let inside = by.0 in
-    record { placed = by.1; fits = grind (arith, nat_tests, inside); short = hold.0.0 }
+kept-placed header is = grind (arith, nat_tests)
 
 -- the header's version is 2 or 3
 abbrev pub IsKnown : HeaderRecord → Type 0
@@ -366,17 +270,13 @@ fixed_text header =
 -- the text before the extensions in version 2
 pub older-parts : (header : HeaderRecord) → header.v2.version ≡ 2
     → (parts_text header ≡ fields_text (v2_header (placed_v2 header))) × (header_end header ≡ 72)
-older-parts header two =
-    let test : (header.v2.version == 3) ≡ false = grind (arith, nat_tests, two) in
-    (rw (test, parts_text) refl, rw (test, header_end) refl)
+older-parts header two = grind (arith, nat_tests)
 
 -- and in version 3
 pub newer-parts : (header : HeaderRecord) → header.v2.version ≡ 3
     → (parts_text header ≡ fixed_text header ++ padded header.unknown_header_fields)
     × (header_end header ≡ 104 + length (padded header.unknown_header_fields))
-newer-parts header three =
-    let test : (header.v2.version == 3) ≡ true = grind (arith, nat_tests, three) in
-    (rw (test, parts_text) refl, rw (test, header_end) refl)
+newer-parts header three = grind (arith, nat_tests)
 
 -- the text before the extensions ends where they begin
 pub length-parts_text : (header : HeaderRecord) → IsKnown header → length (parts_text header) ≡ header_end header
@@ -462,15 +362,7 @@ held-pieces image header known held =
 -- the length of a header that has its places
 placed-length : (header : HeaderRecord) → IsLawfulHeader header → IsPlaced header → IsKnown header
     → header.base.header_length ≡ 104 + length (padded header.unknown_header_fields)
-placed-length header lawful is (inl two) =
-    let none = lawful.older two in
-    ap (λ (b : V3HeaderBase). b.header_length) none.0
-    ∙ sym (ap (λ (fields : List ℕ). 104 + length (padded fields)) none.1)
-placed-length header lawful is (inr three) =
-    let test : (header.v2.version == 3) ≡ true = grind (arith, nat_tests, three) in
-    let by : Bool → V3HeaderBase = λ t. elim t [ true ↦ record header.base { header_length = header_end header } | false ↦ header.base ] in
-    let set : (placed_base header).header_length ≡ header_end header = ap (λ (t : Bool). (by t).header_length) test in
-    ap (λ (h : HeaderRecord). h.base.header_length) is.placed ∙ set ∙ (newer-parts header three).1
+placed-length header lawful is x3 = grind (arith, nat_tests, newer-parts)
 
 -- it fits the first cluster
 placed-fits : (image : Image) (header : HeaderRecord) → IsLawfulHeader header → IsPlaced header
@@ -487,11 +379,7 @@ placed-fits image header lawful is pieces (inr three) =
 held-unknown : (image : Image) (header : HeaderRecord) → IsLawfulHeader header → HasPieces image header
     → IsKnown header → padded header.unknown_header_fields
     ≡ bytes_at image 104 (length (padded header.unknown_header_fields))
-held-unknown image header lawful pieces (inl two) =
-    let none = (lawful.older two).1 in
-    rw none refl
-held-unknown image header lawful pieces (inr three) =
-    held-bytes_at image 104 (padded header.unknown_header_fields) ((pieces.newer three).unknown)
+held-unknown image header lawful pieces x4 = grind (arith, nat_tests, held-bytes_at)
 
 -- the second part stands in the image
 held-base : (image : Image) (header : HeaderRecord) → IsLawfulHeader header → IsPlaced header
@@ -501,57 +389,22 @@ held-base image header lawful is pieces fits = record {
   version_3 = λ three.
       let Stands = λ (h : HeaderRecord). Holds image 72 (fields_text (v3_header_base h.base)) in
       let held = subst Stands (sym is.placed) ((pieces.newer three).base) in
-      text-fields image 72 0 (v3_header_base header.base) (base-joined header.base) fits held;
+      text-fields image 72 0 (v3_header_base header.base) (assumption) fits held;
   version_2 = λ two. (lawful.older two).0;
 }
 
--- the extensions begin behind the first part
-end-after : (header : HeaderRecord) → IsKnown header → 72 ≤ header_end header
-end-after header (inl two) = omega (arith, (older-parts header two).1)
-end-after header (inr three) = omega (arith, (newer-parts header three).1)
-
 -- the backing file's name stands in the image
 held-name : (image : Image) (header : HeaderRecord) (name : Option (List ℕ)) → header.backing_filename ≡ name
-    → IsPlaced header → HasPieces image header → 72 ≤ header_end header → IfSome name IsUtf8
+    → IsPlaced header → HasPieces image header → IfSome name IsUtf8
     → IsBackingName image header.v2 name
-held-name image header None none is pieces after text =
-    let place : (placed_v2 header).backing_file_offset ≡ 0 = rw (none, placed_v2) refl in
-    ap (λ (h : HeaderRecord). h.v2.backing_file_offset) is.placed ∙ place
-held-name image header (Some name) some is pieces after text =
-    let own_place : (placed_v2 header).backing_file_offset ≡ name_place header = rw (some, placed_v2) refl in
-    let own_size : (placed_v2 header).backing_file_size ≡ length name = rw (some, placed_v2) refl in
-    let place = ap (λ (h : HeaderRecord). h.v2.backing_file_offset) is.placed ∙ own_place in
-    let size = ap (λ (h : HeaderRecord). h.v2.backing_file_size) is.placed ∙ own_size in
-    let short : nat_le (length name) 1023 ≡ true = rw some at is.short in
-    let end = λ (n : Option (List ℕ)). name_place header + length (name_text n) in
-    let Stands = λ (n : Option (List ℕ)). Holds image (name_place header) (name_text n) in
-    let held : Holds image (name_place header) name = subst Stands some pieces.name in
-    record {
-      some = λ none. omega (arith, after, place, none);
-      short = grind (arith, nat_tests, short, size);
-      within = omega (arith, place, size, pieces.count, ap end some, is.fits);
-      bytes = rw (place, size) (held-bytes_at image (name_place header) name held);
-      text = text;
-    }
+held-name image header x2 none is pieces text = grind (arith, nat_tests, held-bytes_at)
 
 -- the extensions stand in the image
 held-extensions : (image : Image) (header : HeaderRecord) → IsLawfulHeader header → IsPlaced header
     → HasPieces image header → All ReadsBack header.extensions
     → HasExtensions image header.v2 header.base (map normal_extension header.extensions)
-held-extensions image header lawful is pieces back = record {
-  version_3 = λ three.
-      let len = 2 ^ header.v2.cluster_bits in
-      let place = header.base.header_length in
-      let begin : header_end header ≡ place =
-      (newer-parts header three).1 ∙ sym (placed-length header lawful is (inr three)) in
-      let Stand = λ (p : ℕ). Holds image p (extensions_text header.extensions) in
-      let held = subst Stand begin pieces.extensions in
-      let small : len ≤ 2 ^ 21 = pow_mono (lawful.cluster_bits.1) in
-      let within : place + length (extensions_text header.extensions) ≤ len =
-      omega (arith, begin, pieces.count, is.fits) in
-      text-says image len place header.extensions small back held within;
-  version_2 = λ two. ap (map normal_extension) ((lawful.older two).2);
-}
+held-extensions image header lawful is pieces back =
+    grind (arith, nat_tests, newer-parts, placed-length, pow_mono, text-says)
 
 -- a header whose text stands at the start of an image is the image's, as it reads back
 pub text-header : (image : Image) (header : HeaderRecord) → IsLawfulHeader header
@@ -570,7 +423,7 @@ text-header image header lawful back fits_v2 fits_base text same held =
     let formats = same-names_by kind.BackingFileFormat header.extensions in
     let data_files = same-names_by kind.ExternalDataFileName header.extensions in
     record {
-      v2 = text-fields image 0 0 (v2_header header.v2) (v2-joined header.v2) fits_v2 v2_held;
+      v2 = text-fields image 0 0 (v2_header header.v2) (assumption) fits_v2 v2_held;
       base = held-base image header lawful is pieces fits_base;
       magic = lawful.magic;
       version = known;
@@ -582,7 +435,7 @@ text-header image header lawful back fits_v2 fits_base text same held =
       refcount_width = lawful.refcount_order;
       unknown_header_fields = rw between (held-unknown image header lawful pieces known);
       backing_filename =
-          held-name image header header.backing_filename refl is pieces (end-after header known) text;
+          held-name image header header.backing_filename refl is pieces text;
       extensions = held-extensions image header lawful is pieces back;
       one_format = subst AreSame (sym formats) (all_same-AreSame _ lawful.one_format);
       one_data_file = subst AreSame (sym data_files) (all_same-AreSame _ lawful.one_data_file);

@@ -1,4 +1,5 @@
-use Rattle.std.proofs.Common.{◌≡◌, ◌∙◌, ℕ, suc, ◌+◌, ◌<◌, ◌≤◌, Bool, true, false, List, [], ◌∷◌, ◌++◌, map, get_or, take, drop, Option, None, Some, Result, Ok, Err, refl, sym, ap, arith, lit<}
+use Rattle.std.proofs.lemmas.Bool.Decides.{nat_tests}
+use Rattle.std.proofs.Common.{◌≡◌, ◌∙◌, ℕ, suc, ◌+◌, ◌%◌, ◌^◌, ◌<◌, ◌≤◌, Bool, true, false, List, [], ◌∷◌, ◌++◌, map, get_or, take, drop, Option, None, Some, Result, Ok, Err, refl, sym, ap, arith, lit<}
 use Rattle.std.proofs.Math.Seq.{drop-cons}
 use Rattle.std.proofs.lemmas.List.{take-append-drop, take_all}
 use Rattle.std.proofs.lemmas.List.Elements.{All-more}
@@ -21,19 +22,11 @@ use Rattle.qcow2_metadata.specs.Header.Update.{AgreeIn, FieldValue, Number, Byte
 
 -- two names, which may be missing
 name-Decides : (a b : Option (List ℕ)) → Decides (option_eq bytes_eq a b) (a ≡ b)
-name-Decides None None = (λ _. refl, λ _. refl)
-name-Decides (Some a) (Some b) = Decides-like _ (ap Some) (λ same. cc) (bytes_eq-Decides a b)
-name-Decides _ _ = (λ same. cc, λ same. cc)
+name-Decides x0 x1 = grind (arith, nat_tests, bytes_eq-Decides)
 
 -- the test of two values says whether they are the same
 pub same_value-Decides : (a b : FieldValue) → Decides (same_value a b) (a ≡ b)
-same_value-Decides (Number a) (Number b) = Decides-like _ (ap Number) (λ same. cc) (Decides-eqb a b)
-same_value-Decides (Bytes a) (Bytes b) = Decides-like _ (ap Bytes) (λ same. cc) (bytes_eq-Decides a b)
-same_value-Decides (Name a) (Name b) = Decides-like _ (ap Name) (λ same. cc) (name-Decides a b)
-same_value-Decides (Extensions a) (Extensions b) =
-    Decides-like _ (ap Extensions) (λ same. cc) (slice_eq-Decides same_extension-Decides a b _ refl)
-same_value-Decides (Flag a) (Flag b) = Decides-like _ (ap Flag) (λ same. cc) (booleans_Decides a b)
-same_value-Decides _ _ = (λ same. cc, λ same. cc)
+same_value-Decides x0 x1 = grind (arith, nat_tests, bytes_eq-Decides, name-Decides, slice_eq-Decides, same_extension-Decides)
 
 -- the conditions that the headers agree in these fields
 abbrev agreements_in : HeaderRecord → HeaderRecord → List Field → List (Bool × Fault)
@@ -110,60 +103,45 @@ agreed-all here there i past agree = rw (take_all i kept_fields past) at agree
 pub numbers : (a b : ℕ) → Number a ≡ Number b → a ≡ b
 numbers a b same = cc
 
-bytes : (a b : List ℕ) → Bytes a ≡ Bytes b → a ≡ b
-bytes a b same = cc
-
-names : (a b : Option (List ℕ)) → Name a ≡ Name b → a ≡ b
-names a b same = cc
-
-lists : (a b : List Extension) → Extensions a ≡ Extensions b → a ≡ b
-lists a b same = cc
-
 -- headers that agree are one, but for what is taken over and their lengths
 pub with_size_and_tables-agreed : (here there : HeaderRecord) → All (AgreeIn here there) kept_fields
     → with_size_and_tables here there ≡ with_header_length there here.base.header_length
-with_size_and_tables-agreed here there agree = λ i. record {
-  v2 = record {
-    magic = numbers _ _ (agree 0 field.Magic (lit< tt)) i;
-    version = numbers _ _ (agree 1 field.Magic (lit< tt)) i;
-    backing_file_offset = numbers _ _ (agree 2 field.Magic (lit< tt)) i;
-    backing_file_size = numbers _ _ (agree 3 field.Magic (lit< tt)) i;
-    cluster_bits = numbers _ _ (agree 4 field.Magic (lit< tt)) i;
-    size = there.v2.size;
-    crypt_method = numbers _ _ (agree 5 field.Magic (lit< tt)) i;
-    l1_size = there.v2.l1_size;
-    l1_table_offset = there.v2.l1_table_offset;
-    refcount_table_offset = there.v2.refcount_table_offset;
-    refcount_table_clusters = there.v2.refcount_table_clusters;
-    nb_snapshots = numbers _ _ (agree 6 field.Magic (lit< tt)) i;
-    snapshots_offset = numbers _ _ (agree 7 field.Magic (lit< tt)) i;
-  };
-  base = record {
-    incompatible_features = numbers _ _ (agree 8 field.Magic (lit< tt)) i;
-    compatible_features = numbers _ _ (agree 9 field.Magic (lit< tt)) i;
-    autoclear_features = numbers _ _ (agree 10 field.Magic (lit< tt)) i;
-    refcount_order = numbers _ _ (agree 11 field.Magic (lit< tt)) i;
-    header_length = here.base.header_length;
-  };
-  unknown_header_fields = bytes _ _ (agree 12 field.Magic (lit< tt)) i;
-  backing_filename = names _ _ (agree 13 field.Magic (lit< tt)) i;
-  extensions = lists _ _ (agree 14 field.Magic (lit< tt)) i;
-}
+with_size_and_tables-agreed here there agree =
+    let bytes : here.unknown_header_fields ≡ there.unknown_header_fields = cc (agree 12 field.Magic (lit< tt)) in
+    let name : here.backing_filename ≡ there.backing_filename = cc (agree 13 field.Magic (lit< tt)) in
+    let list : here.extensions ≡ there.extensions = cc (agree 14 field.Magic (lit< tt)) in
+    λ i. record {
+      v2 = record {
+        magic = numbers _ _ (agree 0 field.Magic (lit< tt)) i;
+        version = numbers _ _ (agree 1 field.Magic (lit< tt)) i;
+        backing_file_offset = numbers _ _ (agree 2 field.Magic (lit< tt)) i;
+        backing_file_size = numbers _ _ (agree 3 field.Magic (lit< tt)) i;
+        cluster_bits = numbers _ _ (agree 4 field.Magic (lit< tt)) i;
+        size = there.v2.size;
+        crypt_method = numbers _ _ (agree 5 field.Magic (lit< tt)) i;
+        l1_size = there.v2.l1_size;
+        l1_table_offset = there.v2.l1_table_offset;
+        refcount_table_offset = there.v2.refcount_table_offset;
+        refcount_table_clusters = there.v2.refcount_table_clusters;
+        nb_snapshots = numbers _ _ (agree 6 field.Magic (lit< tt)) i;
+        snapshots_offset = numbers _ _ (agree 7 field.Magic (lit< tt)) i;
+      };
+      base = record {
+        incompatible_features = numbers _ _ (agree 8 field.Magic (lit< tt)) i;
+        compatible_features = numbers _ _ (agree 9 field.Magic (lit< tt)) i;
+        autoclear_features = numbers _ _ (agree 10 field.Magic (lit< tt)) i;
+        refcount_order = numbers _ _ (agree 11 field.Magic (lit< tt)) i;
+        header_length = here.base.header_length;
+      };
+      unknown_header_fields = bytes i;
+      backing_filename = name i;
+      extensions = list i;
+    }
 
 -- tables of another header lie where clusters begin, and so they do in a header of the same cluster size
 pub with_size_and_tables-lawful : (here there : HeaderRecord) → IsLawfulHeader here → IsLawfulHeader there
     → here.v2.cluster_bits ≡ there.v2.cluster_bits → IsLawfulHeader (with_size_and_tables here there)
-with_size_and_tables-lawful here there lawful other bits = record {
-  magic = lawful.magic;
-  version = lawful.version;
-  cluster_bits = lawful.cluster_bits;
-  refcount_order = lawful.refcount_order;
-  l1_table_aligned = rw bits other.l1_table_aligned;
-  reftable_aligned = rw bits other.reftable_aligned;
-  features = lawful.features;
-  one_format = lawful.one_format;
-  one_data_file = lawful.one_data_file;
-  backing_filename = lawful.backing_filename;
-  storable = lawful.storable;
-  older = lawful.older;
-}
+with_size_and_tables-lawful here there lawful other bits =
+    let l1_table : there.v2.l1_table_offset % 2 ^ here.v2.cluster_bits ≡ 0 = rw bits other.l1_table_aligned in
+    let reftable : there.v2.refcount_table_offset % 2 ^ here.v2.cluster_bits ≡ 0 = rw bits other.reftable_aligned in
+    assumption

@@ -1,6 +1,7 @@
-use Rattle.std.proofs.Common.{◌≡◌, ◌⊎◌, ℕ, ◌^◌, ◌<◌, ◌≤◌, ◌==◌, Bool, true, false, not, List, [], ◌∷◌, map, refl, ap, sym, subst, ◌∙◌, arith, inl, inr, lit<, Some, None}
+use Rattle.std.proofs.Common.{◌≡◌, ◌⊎◌, ℕ, ◌^◌, ◌<◌, ◌≤◌, Bool, true, false, not, List, [], ◌∷◌, map, refl, ap, sym, subst, ◌∙◌, arith, inl, inr, lit<, Some, None}
 use Rattle.std.specs.Prelude.{All, Err, Ok, length}
 use Rattle.std.specs.List.{filter}
+use Rattle.std.proofs.lemmas.Bool.{cases_Bool}
 use Rattle.std.proofs.lemmas.Bool.Decides.{nat_tests}
 use Rattle.std.proofs.lemmas.List.Elements.{All-filter, All-from_recursion, All-weaker}
 use Rattle.std.proofs.Math.Pow.{pow_mono}
@@ -12,7 +13,7 @@ use Rattle.qcow2_base.specs.declared.on_disk_struct.v2_header.V2Header.{V2Header
 use Rattle.qcow2_base.specs.declared.on_disk_struct.v3_header_base.V3HeaderBase.{V3HeaderBase}
 use Rattle.qcow2_metadata.specs.Header.{HeaderRecord, IsLawfulHeader, default_base, names_by, other_features}
 use Rattle.qcow2_metadata.specs.Header.Extensions.{Extension, FeatureNameTable, IsStorable, TextOf, Unknown, extension_of, name_in}
-use Rattle.qcow2_metadata.specs.Header.Text.{AreFitting, IsLayout, IsWrittenHeader, bare, base_with_length, chosen, chosen_extensions, chosen_text, fits_first_cluster, header_end, header_text, is_short, kept, placed_text, is_other, name_place, placed}
+use Rattle.qcow2_metadata.specs.Header.Text.{AreFitting, IsLayout, IsWrittenHeader, base_with_length, chosen, chosen_extensions, chosen_text, fits_first_cluster, header_end, header_text, kept, placed_text, is_other, name_place, placed}
 use Rattle.qcow2_metadata.specs.declared.header.text.Layout.{Layout}
 use Rattle.qcow2_metadata.proofs.ExtensionsLemmas.{ReadsBack}
 use Rattle.qcow2_metadata.proofs.NamesLemmas.{storable-reads_back}
@@ -25,23 +26,14 @@ use Rattle.qcow2_metadata.specs.declared.header.extensions.HeaderExtensionType.T
 -- a table of feature names says no name
 no_name : (type : HeaderExtensionType) (extension : Extension) → is_other extension ≡ false
     → name_in type extension ≡ None
-no_name type (TextOf own name) is = cc
-no_name type (FeatureNameTable names) is = refl
-no_name type (Unknown number content) is = cc
+no_name type x1 is = grind (arith, nat_tests)
 
 -- without such tables the names are the same
 filter-names_by : (type : HeaderExtensionType) (extensions : List Extension)
     → names_by (name_in type) (filter is_other extensions) ≡ names_by (name_in type) extensions
 filter-names_by type [] = refl
 filter-names_by type (extension ∷ extensions) =
-    by_kind (is_other extension) refl (filter-names_by type extensions)
-  where
-    by_kind : (other : Bool) → is_other extension ≡ other
-        → names_by (name_in type) (filter is_other extensions) ≡ names_by (name_in type) extensions
-        → names_by (name_in type) (filter is_other (extension ∷ extensions))
-        ≡ names_by (name_in type) (extension ∷ extensions)
-    by_kind true is rest = rw (is, rest) refl
-    by_kind false is rest = rw (is, no_name type extension is) rest
+    grind (arith, nat_tests, no_name, filter-names_by type extensions)
 
 -- the names are the same, whether such tables are written or not
 chosen-names_by : (with_names : Bool) (type : HeaderExtensionType) (extensions : List Extension)
@@ -56,29 +48,18 @@ chosen-storable true extensions storable = storable
 chosen-storable false extensions storable = All-filter is_other IsStorable extensions storable
 
 -- a length changes nothing else that the second part says
-record KeepsBase (old new : V3HeaderBase) : Type 0 where
-  refcount_order : new.refcount_order ≡ old.refcount_order
-  other_features : other_features new ≡ other_features old
-
-base_with_length-keeps : (version : ℕ) (base : V3HeaderBase) (len : ℕ)
-    → KeepsBase base (base_with_length version base len)
-base_with_length-keeps version base len = by_version (version == 3) refl
-  where
-    by_version : (newer : Bool) → (version == 3) ≡ newer → KeepsBase base (base_with_length version base len)
-    by_version true is = record { refcount_order = rw (is, base_with_length) refl; other_features = rw (is, base_with_length) refl }
-    by_version false is = record { refcount_order = rw (is, base_with_length) refl; other_features = rw (is, base_with_length) refl }
+base_with_length-keeps : (version : ℕ) (base : V3HeaderBase) (len : ℕ) → let new = base_with_length version base len in
+    (new.refcount_order ≡ base.refcount_order) × (other_features new ≡ other_features base)
+base_with_length-keeps version base len = (grind (arith, nat_tests), grind (arith, nat_tests))
 
 -- the second part stays in version 2
 older-base : (version : ℕ) (base : V3HeaderBase) (len : ℕ) → version ≡ 2 → base_with_length version base len ≡ base
-older-base version base len two =
-    let test : (version == 3) ≡ false = grind (arith, nat_tests, two) in
-    rw (test, base_with_length) refl
+older-base version base len two = rw two refl
 
 -- of no extensions none are written
 chosen-nil : (with_names : Bool) (extensions : List Extension) → extensions ≡ []
     → chosen_extensions with_names extensions ≡ []
-chosen-nil true extensions none = none
-chosen-nil false extensions none = ap (filter is_other) none
+chosen-nil x0 extensions none = grind (arith, nat_tests)
 
 -- the header that is written is lawful
 pub placed-lawful : (with_names : Bool) (header : HeaderRecord) → IsLawfulHeader header
@@ -91,10 +72,10 @@ placed-lawful with_names header lawful =
       magic = v2.magic ∙ lawful.magic;
       version = rw v2.version lawful.version;
       cluster_bits = rw v2.cluster_bits lawful.cluster_bits;
-      refcount_order = rw base.refcount_order lawful.refcount_order;
+      refcount_order = rw base.0 lawful.refcount_order;
       l1_table_aligned = rw (v2.cluster_bits, v2.l1_table_offset) lawful.l1_table_aligned;
       reftable_aligned = rw (v2.cluster_bits, v2.refcount_table_offset) lawful.reftable_aligned;
-      features = base.other_features ∙ lawful.features;
+      features = base.1 ∙ lawful.features;
       one_format = rw (chosen-names_by with_names kind.BackingFileFormat header.extensions) lawful.one_format;
       one_data_file = rw (chosen-names_by with_names kind.ExternalDataFileName header.extensions) lawful.one_data_file;
       backing_filename = lawful.backing_filename;
@@ -112,44 +93,22 @@ placed-lawful with_names header lawful =
 pub kept-extensions : (held : List HeaderExtension)
     → map extension_of (filter (λ extension. is_other (extension_of extension)) held) ≡ filter is_other (map extension_of held)
 kept-extensions [] = refl
-kept-extensions (extension ∷ held) = by_kind (is_other (extension_of extension)) refl (kept-extensions held)
-  where
-    by_kind : (other : Bool) → is_other (extension_of extension) ≡ other
-        → map extension_of (filter (λ extension. is_other (extension_of extension)) held) ≡ filter is_other (map extension_of held)
-        → map extension_of (filter (λ extension. is_other (extension_of extension)) (extension ∷ held))
-        ≡ filter is_other (map extension_of (extension ∷ held))
-    by_kind true is rest = rw (is, rest) refl
-    by_kind false is rest = rw (is, rest) refl
+kept-extensions (extension ∷ held) = grind (arith, nat_tests, kept-extensions held)
 
 -- what isn't so
 pub not_true : (test : Bool) → not test ≡ true → test ≡ false
-not_true true is = cc
-not_true false is = refl
+not_true x0 is = grind (arith, nat_tests)
 
 -- why a header isn't written
 pub kept-fault : (header : HeaderRecord) (fault : Fault) → kept header ≡ Err fault
     → (fault ≡ NameTooLong) ⊎ (fault ≡ HeaderTooLong)
 unfolding kept
-kept-fault header fault is = by_tests (is_short header.backing_filename) (fits_first_cluster header) (fits_first_cluster (bare header)) refl refl refl
-  where
-    by_tests : (short whole few : Bool) → is_short header.backing_filename ≡ short → fits_first_cluster header ≡ whole
-        → fits_first_cluster (bare header) ≡ few → (fault ≡ NameTooLong) ⊎ (fault ≡ HeaderTooLong)
-    by_tests false whole few is_short is_whole is_few =
-        let refused : kept header ≡ Err NameTooLong = rw is_short refl in inl (cc)
-    by_tests true true few is_short is_whole is_few =
-        let taken : kept header ≡ Ok (placed header) = rw (is_short, is_whole) refl in cc
-    by_tests true false true is_short is_whole is_few =
-        let taken : kept header ≡ Ok (placed (bare header)) = rw (is_short, is_whole, is_few) refl in cc
-    by_tests true false false is_short is_whole is_few =
-        let refused : kept header ≡ Err HeaderTooLong = rw (is_short, is_whole, is_few) refl in inr (cc)
+kept-fault header fault is = grind arith
 
 -- a text that fits is short
 pub text-short : (header : HeaderRecord) → header.v2.cluster_bits ≤ 21 → fits_first_cluster header ≡ true
     → length (header_text header) ≤ 2 ^ 21
-text-short header bits inside =
-    let few : 2 ^ header.v2.cluster_bits ≤ 2 ^ 21 = pow_mono bits in
-    let bound : length (header_text header) ≤ 2 ^ header.v2.cluster_bits = grind (arith, nat_tests, inside) in
-    omega (arith, few, bound)
+text-short header bits inside = grind (arith, nat_tests, pow_mono)
 
 -- the text that a write places
 pub chosen_text-placed : (header written : HeaderRecord) → kept header ≡ Ok (placed written)
@@ -165,13 +124,7 @@ default-fits = All-from_recursion (λ (f : LayoutField). f.value < 256 ^ f.size)
 base-fits : (with_names : Bool) (header : HeaderRecord) (layout : Layout) → IsLawfulHeader header
     → IsLayout (chosen with_names header) layout
     → (header.v2.version ≡ 3 → AreFitting (v3_header_base layout.base)) → AreFitting (v3_header_base layout.base)
-base-fits with_names header layout lawful is fits = elim lawful.version [
-  | inl two ↦
-      let same : layout.base ≡ default_base =
-      is.base ∙ older-base header.v2.version header.base (header_end (chosen with_names header)) two ∙ (lawful.older two).0 in
-      subst (λ (base : V3HeaderBase). AreFitting (v3_header_base base)) (sym same) default-fits
-  | inr three ↦ fits three
-]
+base-fits with_names header layout lawful is fits = grind (arith, nat_tests, older-base, default-fits)
 
 -- a header whose text stands in an image is written there
 pub written-header : (image : Image) (header : HeaderRecord) (layout : Layout) → IsLawfulHeader header
@@ -197,9 +150,4 @@ written-header image header layout lawful is kept v2 base held =
 -- a write that is refused touches nothing
 pub refused-writes : (fault : Fault) (len : ℕ) (state : StorageState) → (fault ≡ NameTooLong) ⊎ (fault ≡ HeaderTooLong)
     → OnlyWrites {T = Unit {0}} (Err fault) (Some 0) len state state
-refused-writes fault len state why = record {
-  told = (λ failed. elim why [ inl long ↦ cc | inr long ↦ cc ], λ moved. absurd (moved refl));
-  others = λ tells. record { before = λ o below. refl; after = λ o past. refl };
-  refused = λ other. refl;
-  device = record { tells = refl; mem_align = refl; req_align = refl };
-}
+refused-writes fault len state why = grind (arith, nat_tests)

@@ -127,6 +127,7 @@ impl Header {
 
     /// The cluster size in bytes.
     #[inline]
+    #[tactic(auto, using(crate::proofs::HeaderLemmas::powers))]
     pub fn cluster_size(&self) -> usize
         ensures value { result ≡ 2 ^ self.now.v2.cluster_bits }
         ensures bound { result ≤ 2 ^ 21 }
@@ -136,6 +137,7 @@ impl Header {
 
     /// The number of entries in an L2 table, which fills one cluster with eight bytes each.
     #[inline]
+    #[tactic(auto, using(crate::proofs::HeaderLemmas::powers))]
     pub fn l2_entries(&self) -> usize
         ensures value { result ≡ 2 ^ (self.now.v2.cluster_bits - 3) }
         ensures some { 64 ≤ result }
@@ -180,6 +182,7 @@ impl Header {
 
     /// The number of refcounts in a refcount block.
     #[inline]
+    #[tactic(auto, using(crate::proofs::HeaderLemmas::powers))]
     pub fn rb_entries(&self) -> usize
         ensures value { result ≡ 2 ^ (self.now.v2.cluster_bits + 3 - self.now.base.refcount_order) }
         ensures some { 64 ≤ result }
@@ -315,6 +318,7 @@ fn new_v2_header(cluster_bits: u32) -> V2Header
 }
 
 // The first name that an extension of this type says.
+#[tactic(auto, using(crate::proofs::HeaderLemmas::first_by_at, crate::proofs::HeaderLemmas::no_name_more))]
 fn first_name(
     extensions: &[HeaderExtension],
     extension_type: HeaderExtensionType,

@@ -303,6 +303,7 @@ impl HeaderExtension {
     }
 
     // How many bytes its data has.
+    #[tactic(auto, using(crate::proofs::LayoutLemmas::table_lens))]
     fn data_len(&self) -> Option<usize>
         ensures { SomeIff result (length (data_of (extension_of self.now)) < 2 ^ 64)
             (length (data_of (extension_of self.now))) }
@@ -337,6 +338,7 @@ impl HeaderExtension {
 }
 
 // How many bytes the extensions take in an image, those with feature names or without, and End.
+#[tactic(auto, using(crate::proofs::LayoutLemmas::lens))]
 pub(super) fn extensions_len(extensions: &[HeaderExtension], with_names: bool) -> Option<usize>
     ensures { SomeIff result
         (length (extensions_text (chosen_extensions with_names (map extension_of extensions.now))) < 2 ^ 64)

@@ -140,6 +140,7 @@ fn add_feature_name(
 }
 
 // The name that stands before the first zero byte, with U+FFFD for what is no text.
+#[tactic(auto, using(crate::proofs::FeatureNamesLemmas::names_read))]
 fn name_of(alloc: Global, bytes: &[u8]) -> Result<String, AllocError>
     requires { length bytes.now ≤ 46 }
     ensures { IfOk result (λ name. string_bytes name ≡ utf8_lossy (until_zero bytes.now)) }

@@ -93,6 +93,7 @@ fn check_fields(v2: &V2Header, base: &V3HeaderBase) -> Result<(), Fault>
 }
 
 // The cluster size in bytes.
+#[tactic(auto, using(crate::proofs::HeaderLemmas::powers))]
 pub(super) fn cluster_size(v2: &V2Header) -> u64
     requires { IsClusterBits v2.now.cluster_bits }
     ensures value { result ≡ 2 ^ v2.now.cluster_bits }

@@ -84,6 +84,7 @@ fn read_other_parts<S: Storage>(
 
 // So many bytes of the image, from an offset on. Takes memory for them, so it asks that they end within the
 // largest cluster.
+#[tactic(auto, using(crate::proofs::LoadLemmas::bytes_read))]
 pub(super) fn read_bytes<S: Storage>(
     alloc: Global,
     image: &mut ReadAhead<S>,
@@ -106,6 +107,7 @@ pub(super) fn read_bytes<S: Storage>(
 }
 
 // The text that the bytes are, or the fault where they are none.
+#[tactic(auto, using(crate::proofs::ExtensionsLemmas::texts))]
 pub(super) fn parse_text(bytes: Vec<u8>, fault: Fault) -> Result<String, Fault>
     ensures { result_map string_bytes result ≡ text fault bytes.items }
 {

@@ -57,6 +57,7 @@ impl Header {
     }
 
     // Whether the other header says the same in this field.
+    #[tactic(auto, using(crate::proofs::ExtensionsLemmas::same_extensions_of))]
     fn agrees_in(&self, other: &Header, field: Field) -> bool
         ensures { result ≡ same_value (value_in field self.now) (value_in field other.now) }
     {

@@ -38,6 +38,7 @@ impl Header {
     }
 
     // The layout that is written: with feature names if that fits, or else without.
+    #[tactic(auto, using(crate::proofs::LayoutLemmas::choices))]
     fn chosen_layout(&self) -> Result<Layout, Fault>
         ensures { IsChosen self.now result }
     {

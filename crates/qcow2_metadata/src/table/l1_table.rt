@@ -106,6 +106,7 @@ impl Header {
     ///
     /// A table with no cluster is refused by fault 23, else one of 2^32 entries or more by 29: the pending
     /// value comes back, and nothing has changed.
+    #[tactic(auto, using(crate::proofs::PointerLemmas::table_offset_aligned))]
     pub fn set_l1_table(
         &mut self,
         l1_table: &L1Table,

@@ -1,6 +1,8 @@
-use Rattle.std.proofs.Common.{◌≡◌, Bool, ap, map, ◌∙◌, rules, subst, sym}
+use Rattle.std.proofs.Common.{arith}
+use Rattle.std.proofs.Common.{◌≡◌, Bool, ap, map, refl, ◌∙◌, rules, subst, sym}
 use Rattle.std.proofs.lemmas.Fn.{filter_same}
 use Rattle.std.specs.List.{filter}
+use Rattle.qcow2_metadata.proofs.HeaderLemmas.{held_are}
 use Rattle.qcow2_metadata.proofs.WriteLemmas.{kept-extensions, not_true, placed-lawful}
 use Rattle.qcow2_metadata.specs.Header.{HeaderRecord, IsLawfulHeader}
 use Rattle.qcow2_metadata.specs.Header.Extensions.{extension_of}
@@ -13,8 +15,7 @@ returns-then-not-layout c =
     let bare = not_true c.args.layout.with_names c.if-not-layout.true in
     let left = filter_same _ (λ extension. is_other (extension_of extension)) _ (λ x b f' k. search rules) _ _
     c.retain.ensures.filtered in
-    let all : map extension_of c.self.inside.extensions.items ≡ header.extensions =
-    ap (λ (h : HeaderRecord). h.extensions) c.self.view_is in
+    let all = held_are _ _ _ _ c.self.view_is refl (refl {a = c.self.inside.extensions.items}) in
     let extensions : map extension_of c.retain.new.self.items
     ≡ chosen_extensions c.args.layout.with_names header.extensions =
     ap (map extension_of) left ∙ kept-extensions c.self.inside.extensions.items ∙ ap (filter is_other) all

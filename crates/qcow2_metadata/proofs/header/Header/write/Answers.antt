@@ -7,23 +7,10 @@ use Rattle.qcow2_metadata.proofs.WriteLemmas.{chosen_text-placed, kept-fault, re
 use Rattle.qcow2_metadata.proofs.header.Header.write.Goals as goal
 
 pub returns-in_err-layout-clause-storage : goal.returns-in_err-layout-clause-storage
-returns-in_err-layout-clause-storage g c =
-    let exit = err_from_is_err_and c.from_residual.result c.from_residual.ensures.1 in
-    let why = kept-fault c.args.self.now c.in_err-layout.field-0.0 c.in_err-layout.ensures in
-    let state = g.S.Storage.state c.args.image.now in
-    rw (exit.1, exit.2) (refused-writes c.in_err-layout.field-0.0 (length (chosen_text c.args.self.now)) state why)
-
-pub write-requires : goal.write-requires
-write-requires g c =
-    let header = chosen c.in_ok-layout.layout.with_names c.args.self.now in
-    let short = text-short header c.in_ok-text.ensures.lawful.cluster_bits.1 c.in_ok-layout.ensures.0.fits in
-    omega (arith, short, ap length c.deref.ensures.value, ap length c.in_ok-text.ensures.text)
+returns-in_err-layout-clause-storage g c = search (rules, refused-writes, kept-fault)
 
 pub returns-in_err-write-clause-storage : goal.returns-in_err-write-clause-storage
-returns-in_err-write-clause-storage g c =
-    let written = chosen c.in_ok-layout.layout.with_names c.args.self.now in
-    let text = ap length (chosen_text-placed c.args.self.now written c.in_ok-layout.ensures.1 ∙ sym c.in_ok-text.ensures.text ∙ sym c.deref.ensures.value) in
-    rw text (search rules)
+returns-in_err-write-clause-storage g c = search (rules, chosen_text-placed)
 
 pub returns-clause-written : goal.returns-clause-written
 returns-clause-written g c told =
@@ -41,7 +28,4 @@ returns-clause-settled g c =
     (kept-settled c.args.self.now written c.in_ok-text.ensures.lawful.storable c.in_ok-layout.ensures.1)
 
 pub returns-clause-storage : goal.returns-clause-storage
-returns-clause-storage g c =
-    let written = chosen c.in_ok-layout.layout.with_names c.args.self.now in
-    let text = ap length (chosen_text-placed c.args.self.now written c.in_ok-layout.ensures.1 ∙ sym c.in_ok-text.ensures.text ∙ sym c.deref.ensures.value) in
-    rw text (search rules)
+returns-clause-storage g c = search (rules, chosen_text-placed)

@@ -1,10 +1,10 @@
-use Rattle.std.proofs.Common.{◌≡◌, ◌++◌, List, ℕ, rules, subst}
-use Rattle.std.specs.Prelude.{OnOk}
-use Rattle.qcow2_metadata.proofs.TextLemmas.{layout-text-extension}
+use Rattle.std.proofs.Common.{arith}
+use Rattle.std.proofs.Common.{rules}
+use Rattle.qcow2_base.specs.OnDiskStruct.{header_extension_header}
+use Rattle.qcow2_metadata.proofs.TextLemmas.{pushed-fields}
 use Rattle.qcow2_metadata.proofs.header.extensions.push_extension_header.Goals as goal
 
 pub returns : goal.returns
 returns c =
-    let written = layout-text-extension c.write_be.new.bytes c.args.header.now c.push_bytes.ensures.bytes (search rules) c.write_be.ensures.placed in
-    subst (λ (bytes : List ℕ). OnOk c.push_bytes.result (c.push_bytes.new.text.items ≡ c.args.text.now.items ++ bytes))
-    written.0 c.push_bytes.ensures.pushed
+    (pushed-fields c.push_bytes.result c.args.text.now.items _ c.write_be.new.bytes (header_extension_header c.args.header.now)
+    c.push_bytes.ensures.bytes (assumption) (search rules) c.write_be.ensures.placed c.push_bytes.ensures.pushed).0

@@ -7,9 +7,7 @@ use Rattle.qcow2_metadata.specs.Header.Features.{feature_type_number}
 use Rattle.qcow2_metadata.proofs.header.feature_names.add_feature_name.Goals as goal
 
 pub returns-in_default-try_from-clause-exact : goal.returns-in_default-try_from-clause-exact
-returns-in_default-try_from-clause-exact c =
-    let number : slice_index c.args.chunk.now 0 ≡ c.in-Some.number.now = grind (arith, c.in-Some.ensures.value) in
-    with_feature_name-unknown (names_of c.args.names.now) c.args.chunk.now (rw number c.in_default-try_from.ensures)
+returns-in_default-try_from-clause-exact c = grind (arith, with_feature_name-unknown)
 
 pub returns-clause-exact : goal.returns-clause-exact
 returns-clause-exact c =

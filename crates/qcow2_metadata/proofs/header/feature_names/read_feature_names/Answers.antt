@@ -60,12 +60,7 @@ loop-index-preserved g c =
     }
 
 pub returns-clause-exact : goal.returns-clause-exact
-returns-clause-exact g c told =
-    let image = (g.S.Storage.state c.args.image.now.image.now).byte_at in
-    let bytes = bytes_at image c.args.place c.args.len in
-    let count = length-bytes_at image c.args.place c.args.len in
-    let end : div_ceil c.args.len 48 ≡ c.loop-index.index = search rules in
-    ap (λ n. names_of_chunks bytes (div_ceil n 48)) count ∙ ap (names_of_chunks bytes) end ∙ c.loop-index.invariant.told told
+returns-clause-exact g c told = grind (arith, length-bytes_at)
 
 pub returns-clause-storable : goal.returns-clause-storable
 returns-clause-storable g c = ordered-storable c.loop-index.names c.loop-index.invariant.ordered
