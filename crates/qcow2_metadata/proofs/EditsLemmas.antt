@@ -30,13 +30,7 @@ record IsDataAt (v offset : ℕ) : Type 0 where
   high : field v 56 6 ≡ 0
 
 data_at : (offset sectors : ℕ) → offset ≡ sectors * 512 → offset ≤ 2 ^ 56 - 512 → IsDataAt (2 ^ 63 + offset) offset
-data_at offset sectors whole fits = record {
-  standard = omega arith;
-  at = omega arith;
-  copied = omega arith;
-  low = omega arith;
-  high = omega arith;
-}
+data_at offset sectors whole fits = omega arith
 
 mappable_fits : (g : Geometry) (cluster : ℕ) → is_mappable g cluster ≡ true → cluster * 2 ^ g.cluster_bits ≤ 2 ^ 56 - 512
 mappable_fits g cluster mappable = grind (arith, nat_tests)
@@ -106,13 +100,7 @@ record IsSameButZero (v w : ℕ) : Type 0 where
   high : field w 56 6 ≡ field v 56 6
 
 with_zero_flag_is_same : (v : ℕ) → IsSameButZero v (with_zero_flag v)
-with_zero_flag_is_same v = record {
-  kind = omega arith;
-  at = omega arith;
-  copied = omega arith;
-  low = omega arith;
-  high = omega arith;
-}
+with_zero_flag_is_same v = omega arith
 
 with_zero_flag-byte_range : (g : Geometry) (v : ℕ) → is_compressed v ≡ false → byte_range g (with_zero_flag v) ≡ byte_range g v
 with_zero_flag-byte_range g v standard =
@@ -142,49 +130,10 @@ allocation-one g = rw (both_false g.external_data_file) refl
 pub allocation-zero : (g : Geometry) → allocation g 0 ≡ None
 allocation-zero g = rw (both_false g.external_data_file) refl
 
--- what holds of both values of a choice holds of the choice
-either : {A : Type 0} (P : A → Type 0) (test : Bool) (x y : A) → (test ≡ true → P x) → (test ≡ false → P y) → P (if test then x else y)
-either P true x y first second = first refl
-either P false x y first second = second refl
-
--- what holds of the entries that a change can leave holds of the changed entry
-changed_holds : (P : ℕ → Type 0) (g : Geometry) (edit : EntryEdit) (v : ℕ) → can_be_made g edit ≡ true → ((cluster : ℕ) → is_mappable g cluster ≡ true → P (data_entry g.cluster_bits cluster)) → (has_host_cluster g v ≡ true → P (with_zero_flag v)) → P 1 → P 0 → P (changed g edit v)
-changed_holds P g (to_data cluster) v can mapped kept zeros none = mapped cluster can
-changed_holds P g (to_zeros keep) v can mapped kept zeros none =
-    either P (keep && has_host_cluster g v) (with_zero_flag v) 1 (λ keeps. kept (second_holds keep (has_host_cluster g v) keeps)) (λ _. zeros)
-changed_holds P g to_nothing v can mapped kept zeros none = none
-
-data_entry_is_lawful : (g : Geometry) (cluster : ℕ) → IsClusterBits g.cluster_bits → is_mappable g cluster ≡ true → l2_fault g.cluster_bits (data_entry g.cluster_bits cluster) ≡ None
-data_entry_is_lawful g cluster bits mappable =
-    let parts = data_entry_is_data g cluster bits mappable in
-    let aligned = mul-mod_left cluster (2 ^ g.cluster_bits) in
-    rw (parts.standard, parts.low, parts.high, parts.at, aligned) refl
-
 pub with_zero_flag-fault : (cb v : ℕ) → is_compressed v ≡ false → l2_fault cb (with_zero_flag v) ≡ l2_fault cb v
 with_zero_flag-fault cb v standard =
     let same = with_zero_flag_is_same v in
     rw (same.kind, standard, same.at, same.low, same.high) refl
-
-l2_fault_one : (cb : ℕ) → l2_fault cb 1 ≡ None
-l2_fault_one cb = rw zero-mod refl
-
--- a change that can be made leaves an L2 entry
-pub changed-lawful : (g : Geometry) (edit : EntryEdit) (v : ℕ) → IsClusterBits g.cluster_bits → can_be_made g edit ≡ true → l2_fault g.cluster_bits v ≡ None → l2_fault g.cluster_bits (changed g edit v) ≡ None
-changed-lawful g edit v bits can lawful =
-    changed_holds (λ w. l2_fault g.cluster_bits w ≡ None) g edit v can
-    (λ cluster mappable. data_entry_is_lawful g cluster bits mappable)
-    (λ has. with_zero_flag-fault g.cluster_bits v (standard_if_host_cluster g v has) ∙ lawful)
-    (l2_fault_one g.cluster_bits)
-    (l2_fault_zero g.cluster_bits)
-
--- and a number of 64 bits
-pub changed-fits : (g : Geometry) (edit : EntryEdit) (v : ℕ) → can_be_made g edit ≡ true → v < 2 ^ 64 → changed g edit v < 2 ^ 64
-changed-fits g edit v can fits =
-    changed_holds (λ w. w < 2 ^ 64) g edit v can
-    (λ cluster mappable. omega (arith, mappable_fits g cluster mappable))
-    (λ has. omega arith)
-    (omega arith)
-    (omega arith)
 
 -- clusters one after another are the one alone just where they have it among them and no other
 just_is_all : (cluster : ℕ) (found : Option ClustersToFreeEntry) → IfSome found (λ some. 1 ≤ some.count.0) → (is_just cluster found ≡ true) ↔ ((refer found cluster ≡ true) × ((c : ℕ) → refer found c ≡ true → c ≡ cluster))
@@ -243,11 +192,6 @@ both_hold false b both = cc
 after_edit-length : (g : Geometry) (e : TableEdit) (numbers : List ℕ) → length (after_edit g e numbers) ≡ length numbers
 after_edit-length g e numbers = length-set numbers e.index (changed g e.edit (slice_index numbers e.index))
 
--- a table has as many entries after a run of edits
-pub run_of-length : (g : Geometry) (edits : List TableEdit) (numbers : List ℕ) → length (run_of g edits numbers).numbers ≡ length numbers
-run_of-length g [] numbers = refl
-run_of-length g (e ∷ edits) numbers = run_of-length g edits (after_edit g e numbers) ∙ after_edit-length g e numbers
-
 -- the first of some edits that all fit a table fits it, and the others fit the table after that
 first_fits : (g : Geometry) (e : TableEdit) (edits : List TableEdit) (numbers : List ℕ) → list_all (fits_table g (length numbers)) (e ∷ edits) ≡ true → (e.index < length numbers) × (can_be_made g e.edit ≡ true) × (list_all (fits_table g (length (after_edit g e numbers))) edits ≡ true)
 first_fits g e edits numbers fit =
@@ -268,27 +212,6 @@ balance-run g (e ∷ edits) numbers c bits fit =
     let freed = sum_by-append (λ (clusters : ClustersToFreeEntry). one_if (is_among clusters c)) (option_to_list (dropped g e.edit v)) rest.freed in
     let gains = sum_by-append (λ (d : ℕ). one_if (d == c)) (option_to_list (gained g e.edit v)) rest.gained in
     rw (freed, gains) (omega (arith, entry, table, more))
-
--- an entry of a table is lawful
-entry_is_lawful : (fault : ℕ → Option Fault) (numbers : List ℕ) (i : ℕ) → first_fault fault numbers ≡ None → i < length numbers → fault (slice_index numbers i) ≡ None
-entry_is_lawful fault numbers i lawful below = no_fault_item (λ v. v) fault numbers i 0 (rw (map-id numbers) lawful) below
-
--- the numbers after a run of edits are L2 entries again
-pub run_of-lawful : (g : Geometry) (edits : List TableEdit) (numbers : List ℕ) → IsClusterBits g.cluster_bits → list_all (fits_table g (length numbers)) edits ≡ true → first_fault (l2_fault g.cluster_bits) numbers ≡ None → first_fault (l2_fault g.cluster_bits) (run_of g edits numbers).numbers ≡ None
-run_of-lawful g [] numbers bits fit lawful = lawful
-run_of-lawful g (e ∷ edits) numbers bits fit lawful =
-    let v = slice_index numbers e.index in
-    let first = first_fits g e edits numbers fit in
-    let entry = changed-lawful g e.edit v bits first.1 (entry_is_lawful (l2_fault g.cluster_bits) numbers e.index lawful first.0) in
-    run_of-lawful g edits (after_edit g e numbers) bits first.2 (first_fault-set (l2_fault g.cluster_bits) numbers e.index (changed g e.edit v) lawful entry)
-
--- numbers of 64 bits stay so
-pub run_of-fits : (g : Geometry) (edits : List TableEdit) (numbers : List ℕ) → list_all (fits_table g (length numbers)) edits ≡ true → All (λ v. v < 2 ^ 64) numbers → All (λ v. v < 2 ^ 64) (run_of g edits numbers).numbers
-run_of-fits g [] numbers fit small = small
-run_of-fits g (e ∷ edits) numbers fit small =
-    let first = first_fits g e edits numbers fit in
-    let v = changed-fits g e.edit (slice_index numbers e.index) first.1 (small e.index 0 first.0) in
-    run_of-fits g edits (after_edit g e numbers) first.2 (All-set (λ w. w < 2 ^ 64) numbers e.index (changed g e.edit (slice_index numbers e.index)) v small)
 
 -- the numbers after an edit are what the edit makes of them
 pub after_edit-is : (g : Geometry) (e : TableEdit) (numbers : List ℕ) → e.index < length numbers → IsEdit g e numbers (after_edit g e numbers)

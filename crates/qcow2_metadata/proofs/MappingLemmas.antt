@@ -40,13 +40,7 @@ record IsStandard (v offset copied zeros : ℕ) : Type 0 where
   lowest : field v 0 1 ≡ zeros
 
 standard_fields : (sectors copied flag : ℕ) → sectors * 512 < 2 ^ 56 → copied < 2 → flag < 2 → IsStandard (copied * 2 ^ 63 + sectors * 512 + flag) (sectors * 512) copied flag
-standard_fields sectors copied flag below c z = record {
-  kind = omega arith;
-  reserved = omega arith;
-  middle = omega arith;
-  highest = omega arith;
-  lowest = omega arith;
-}
+standard_fields sectors copied flag below c z = omega arith
 
 -- the number of a mapping to a cluster
 abbrev standard_number : ℕ → ℕ → Bool → Bool → ℕ

@@ -1,4 +1,4 @@
-use Rattle.std.proofs.Common.{◌≡◌, ◌≢◌, ℕ, zero, suc, ◌+◌, ◌-◌, ◌*◌, ◌/◌, ◌%◌, ◌^◌, ◌<◌, ◌≤◌, max, List, map, length, get_or, slice_index, refl, ◌⊎◌, Option, Some, None, Result, Ok, Err, OnOk, IfErr, sym, ◌∙◌, ap, inl, inr, add-zero, add_assoc, arith}
+use Rattle.std.proofs.Common.{◌≡◌, ◌≢◌, ℕ, zero, suc, ◌+◌, ◌-◌, ◌*◌, ◌/◌, ◌%◌, ◌^◌, ◌<◌, ◌≤◌, max, List, map, length, get_or, slice_index, refl, ◌⊎◌, Option, Some, None, Result, Ok, Err, OnOk, IfErr, sym, ◌∙◌, ap, inl, inr, lit≤, arith}
 use Rattle.std.specs.List.{range_with_len}
 use Rattle.std.proofs.Math.Nat.{div-add-mod, div-div-eq-div-mul, lt_of_mul-lt-mul_right, mul-div_cancel, mul-le-mul_right}
 use Rattle.std.proofs.lemmas.Bool.{cases_lt}
@@ -12,25 +12,17 @@ use Rattle.std.proofs.Math.Pow.{pow_mono}
 use Rattle.std.proofs.lemmas.List.{take_all}
 use Rattle.std.proofs.lemmas.List.FromFn.{get_or-map-range_with_len}
 use Rattle.qcow2_metadata.proofs.PieceLemmas.{numbers_stand}
-use Rattle.qcow2_metadata.proofs.TableLemmas.{table_numbers-held}
+use Rattle.qcow2_metadata.proofs.PackingLemmas.{counters_at-held, map_range_at}
 use Rattle.qcow2_metadata.specs.Table.{TablePlace, TableState, offset_of, table_on_storage, place_of, table_numbers, write_fault}
 use Rattle.qcow2_metadata.specs.Table.OneEntry.{EntryRange, IsEntryWriteFault, IsWrittenEntry, IsPartOfCluster, WritesEntries, WritesEntry, cluster_offset, numbers_in, entries_together, range_offset}
-
--- functions that agree over two ranges have the same values there
-ranges_same : (f g : ℕ → ℕ) (a b n : ℕ) → ((j : ℕ) → j < n → f (a + j) ≡ g (b + j)) → map f (range_with_len a n) ≡ map g (range_with_len b n)
-ranges_same f g a b zero same = refl
-ranges_same f g a b (suc n) same =
-    let first : f a ≡ g b = simp add-zero at (same 0 (omega arith)) in
-    let rest = ranges_same f g (a + 1) (b + 1) n (λ j h. rw (add_assoc a 1 j, add_assoc b 1 j) (same (1 + j) (omega arith))) in
-    rw (first, rest) refl
 
 -- entries whose numbers stand in bytes that an image holds
 pub written_entries : (image : Image) (offset : ℕ) (bytes : List ℕ) (range : EntryRange) (numbers : List ℕ) → range.count ≡ length bytes / 8 → Holds image offset bytes
     → ((i : ℕ) → 8 * i + 8 ≤ length bytes → be (image_of bytes) (8 * i) 8 ≡ slice_index numbers (range.first + i))
     → table_numbers image offset range.count ≡ numbers_in range numbers
 written_entries image offset bytes range numbers count held each =
-    table_numbers-held image offset range.count bytes held (omega (arith, count))
-    ∙ ranges_same (λ i. be (image_of bytes) (0 + 8 * i) 8) (λ i. slice_index numbers i) 0 range.first range.count
+    counters_at-held 6 range.count (8 * range.count) image offset bytes (lit≤ tt) (omega arith) (omega (arith, count)) held
+    ∙ map_range_at (λ i. be (image_of bytes) (0 + 8 * i) 8) (λ i. slice_index numbers i) 0 range.first range.count
     (λ j below. let place : 0 + 8 * (0 + j) ≡ 8 * j = omega arith in rw place (each j (omega (arith, count))))
 
 -- the greater of two powers of two is one

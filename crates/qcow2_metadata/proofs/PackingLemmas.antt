@@ -1,18 +1,38 @@
-use Rattle.std.proofs.Common.{◌≡◌, ℕ, zero, suc, ◌+◌, ◌-◌, ◌*◌, ◌/◌, ◌%◌, ◌^◌, ◌<◌, ◌≤◌, ◌⊎◌, false, nat_le, List, [], ◌∷◌, ◌++◌, map, length, slice_index, take, drop, refl, sym, ◌∙◌, ap, inl, inr, add-zero, zero-add, add_assoc, append_assoc, mul-zero, mod-eq_of_lt, pow-suc, pow_pos, mul-le-mul_left, le-leb, get_or-drop, get_or-take, arith}
+use Rattle.std.proofs.Common.{◌≡◌, ℕ, zero, suc, ◌+◌, ◌-◌, ◌*◌, ◌/◌, ◌%◌, ◌^◌, ◌<◌, ◌≤◌, ◌⊎◌, false, nat_le, List, [], ◌∷◌, ◌++◌, map, length, slice_index, take, drop, refl, sym, ◌∙◌, ap, inl, inr, add-zero, zero-add, add_assoc, append_assoc, mul-zero, mod-eq_of_lt, pow-suc, pow_pos, mul-le-mul_left, le-leb, get_or-drop, get_or-take, length-append, length-drop, length-take, arith}
 use Rattle.std.specs.List.{All, range_with_len}
 use Rattle.std.proofs.lemmas.Bool.{cases_lt, lt-leb}
-use Rattle.std.proofs.lemmas.List.{drop_at, get_or_past, map-append, map_push}
+use Rattle.std.proofs.lemmas.List.{get_or-append_right, get_or_append_left, get_or_past, map_push}
 use Rattle.std.proofs.lemmas.List.Elements.{All-drop, All-from_get_or, All-get_or, All-head, All-tail, All-take}
-use Rattle.std.proofs.lemmas.List.FromFn.{get_or-map-range_with_len, length-map-range_with_len, map-range_with_len_more, take-map-range_with_len}
+use Rattle.std.proofs.lemmas.List.FromFn.{fill_by_all, get_or-map-range_with_len, length-map-range_with_len, map-range_with_len_more}
 use Rattle.std.proofs.lemmas.Nat.{div-mul-add, div_below, mul-add-lt, mod-mul-add, mod-pow-add, mod_below, shr-shr}
 use Rattle.std.proofs.Math.Nat.{mul-add-div, mul-add-mod_self_left, add-mul-div_left, add-mul-mod_self_left, div-eq_of_lt, le-div_iff_mul-le, mod-one, zero-div, zero-mod, one-le-pow}
 use Rattle.std.proofs.Math.Arith.{mod-mul}
 use Rattle.qcow2_base.specs.Bits.{field}
-use Rattle.qcow2_base.specs.Storage.{Image, IsBytes, be, be_fits, be_of_same, be_tells, image_of}
+use Rattle.qcow2_base.specs.Storage.{Holds, Image, IsBytes, be, be_fits, be_of_same, be_tells, image_of}
 use Rattle.qcow2_metadata.specs.Refblock.Counters.{AreCounters}
 use Rattle.qcow2_metadata.specs.Refblock.Packing.{bytes_each, counter_at, counters_at, from_digits, packed, per_byte, width}
-use Rattle.qcow2_metadata.proofs.ChunkLemmas.{map_range_at}
-use Rattle.qcow2_metadata.proofs.TableLemmas.{range-append}
+
+-- lists made from functions that agree at their places
+pub map_range_at : (f g : ℕ → ℕ) (a b n : ℕ) → ((i : ℕ) → i < n → f (a + i) ≡ g (b + i)) → map f (range_with_len a n) ≡ map g (range_with_len b n)
+map_range_at f g a b zero same = refl
+map_range_at f g a b (suc n) same =
+    let first : f a ≡ g b = simp add-zero at (same 0 (omega arith)) in
+    let rest = map_range_at f g (a + 1) (b + 1) n (λ i h. rw (add_assoc a 1 i, add_assoc b 1 i) (same (1 + i) (omega arith))) in
+    rw (first, rest) refl
+
+-- a list made from a function of the index, cut in two
+map_range-append : (f g : ℕ → ℕ) (n m : ℕ) → ((i : ℕ) → i < m → f (n + i) ≡ g i) → map f (range_with_len 0 (n + m)) ≡ map f (range_with_len 0 n) ++ map g (range_with_len 0 m)
+map_range-append f g n m same =
+    let xs = map f (range_with_len 0 n) in
+    let ys = map g (range_with_len 0 m) in
+    let len = length-map-range_with_len f 0 n in
+    sym (fill_by_all f (xs ++ ys) (n + m) 0 (omega (arith, length-append xs ys, len, length-map-range_with_len g 0 m)) (λ k below. elim (cases_lt k n) [
+      | inl before ↦ get_or_append_left xs ys 0 k (omega (arith, len)) ∙ get_or-map-range_with_len f 0 n k k 0 before (omega arith)
+      | inr after ↦
+          let at : n + (k - n) ≡ k = omega arith in
+          get_or-append_right xs ys n k 0 len after
+          ∙ get_or-map-range_with_len g 0 m (k - n) (k - n) 0 (omega arith) (omega arith) ∙ rw at at (sym (same (k - n) (omega arith)))
+    ]))
 
 -- a fact of each order of counters that are no wider than a byte
 pub narrow_cases : (P : ℕ → Type 0) → P 0 → P 1 → P 2 → P 3 → (order : ℕ) → order ≤ 3 → P order
@@ -23,7 +43,7 @@ narrow_cases P a b c d (suc (suc (suc zero))) narrow = d
 narrow_cases P a b c d (suc (suc (suc (suc order)))) narrow = absurd (omega arith)
 
 -- a fact of each order of wider counters
-wide_cases : (P : ℕ → Type 0) → P 4 → P 5 → P 6 → (order : ℕ) → 4 ≤ order → order ≤ 6 → P order
+pub wide_cases : (P : ℕ → Type 0) → P 4 → P 5 → P 6 → (order : ℕ) → 4 ≤ order → order ≤ 6 → P order
 wide_cases P a b c order low high = elim (cases_lt order 5) [
   | inl four ↦ let is : order ≡ 4 = omega arith in rw is a
   | inr more ↦ elim (cases_lt order 6) [
@@ -177,15 +197,15 @@ counter_at-later order n len image offset i low whole = elim (cases_lt order 4) 
       rw (counter_at-wide order image offset (n + i) wide, counter_at-wide order image (offset + len) i wide, place) refl
 ]
 
+-- the counters of bytes that an image holds are the image's
+pub counters_at-held : (order n len : ℕ) (image : Image) (offset : ℕ) (bytes : List ℕ) → order ≤ 6 → width order * n ≡ 8 * len → len ≤ length bytes → Holds image offset bytes → counters_at order image offset n ≡ counters_at order (image_of bytes) 0 n
+counters_at-held order n len image offset bytes low whole within held =
+    counters_at-same order n len image (image_of bytes) offset 0 low whole (λ k below. rw (zero-add k) (sym (held.each k (omega arith))))
+
 -- the counters of len bytes, and those that stand behind them
 pub counters_at-append : (order n m len : ℕ) (image : Image) (offset : ℕ) → order ≤ 6 → width order * n ≡ 8 * len → counters_at order image offset (n + m) ≡ counters_at order image offset n ++ counters_at order image (offset + len) m
 counters_at-append order n m len image offset low whole =
-    let counter = counter_at order image offset in
-    let later : map counter (range_with_len (0 + n) m) ≡ counters_at order image (offset + len) m =
-    map_range_at counter (counter_at order image (offset + len)) (0 + n) 0 m
-    (λ i below. rw (zero-add n, zero-add i) (counter_at-later order n len image offset i low whole)) in
-    ap (map counter) (range-append 0 n m) ∙ map-append counter (range_with_len 0 n) (range_with_len (0 + n) m)
-    ∙ ap (λ (xs : List ℕ). counters_at order image offset n ++ xs) later
+    map_range-append (counter_at order image offset) (counter_at order image (offset + len)) n m (λ i below. counter_at-later order n len image offset i low whole)
 
 -- one counter more
 pub counters_at-more : (order : ℕ) (image : Image) (offset n : ℕ) → counters_at order image offset (n + 1) ≡ counters_at order image offset n ++ counter_at order image offset n ∷ []
@@ -222,18 +242,6 @@ counter_at-packed order counters i low small = elim (cases_lt order 4) [
       counter_at-wide order (packed order counters) 0 i wide ∙ number ∙ mod-eq_of_lt fits
 ]
 
-drop-map-range : (f : ℕ → ℕ) (k m : ℕ) → drop k (map f (range_with_len 0 (k + m))) ≡ map f (range_with_len k m)
-drop-map-range f k m =
-    let split = ap (map f) (range-append 0 k m) ∙ map-append f (range_with_len 0 k) (range_with_len (0 + k) m) in
-    rw (split, drop_at (map f (range_with_len 0 k)) (map f (range_with_len (0 + k) m)) k (length-map-range_with_len f 0 k), zero-add k) refl
-
--- so many elements of a list that is made from a function of the index
-part_of_map : (f : ℕ → ℕ) (n k m : ℕ) → k + m ≤ n → take m (drop k (map f (range_with_len 0 n))) ≡ map f (range_with_len k m)
-part_of_map f n k m within =
-    let whole : n ≡ k + (n - k) = omega arith in
-    let rest = ap (λ (count : ℕ). drop k (map f (range_with_len 0 count))) whole ∙ drop-map-range f k (n - k) in
-    ap (take m) rest ∙ take-map-range_with_len f k (n - k) m (omega arith)
-
 -- a byte whose digits are read and packed again
 narrow_byte_again : (order n len : ℕ) (image : Image) (offset j : ℕ) → order ≤ 3 → IsBytes image → width order * n ≡ 8 * len → j < len → packed order (counters_at order image offset n) j ≡ image (offset + j)
 narrow_byte_again order n len image offset j narrow bytes whole below =
@@ -243,15 +251,16 @@ narrow_byte_again order n len image offset j narrow bytes whole below =
     let counter = counter_at order image offset in
     let count = narrow_count order narrow n len whole in
     let within : per * j + per ≤ n = omega (arith, mul-le-mul_left per below) in
-    let digits : map counter (range_with_len (per * j) per) ≡ map (λ k. field v (w * k) w) (range_with_len 0 per) =
-    map_range_at counter (λ k. field v (w * k) w) (per * j) 0 per
+    let numbers = counters_at order image offset n in
+    let digits : take per (drop (per * j) numbers) ≡ map (λ k. field v (w * k) w) (range_with_len 0 per) =
+    fill_by_all (λ k. field v (w * k) w) _ per 0 (omega (arith, length-take per (drop (per * j) numbers), length-drop (per * j) numbers, counters_at-length order image offset n))
     (λ i small. let at : per * j + i ≡ j * per + i = omega arith in
-    rw (at, counter_at-narrow order image offset (j * per + i) narrow, div-mul-add j per i small, mod-mul-add j per i small, zero-add i) refl) in
+    get_or-take per (drop (per * j) numbers) i 0 small ∙ get_or-drop (per * j) numbers i 0
+    ∙ get_or-map-range_with_len counter 0 n (per * j + i) (j * per + i) 0 (omega arith) (omega arith)
+    ∙ rw (counter_at-narrow order image offset (j * per + i) narrow, div-mul-add j per i small, mod-mul-add j per i small) refl) in
     let number = digits_of_number w v 0 per in
     let all : v / 2 ^ (w * 0) % 2 ^ (w * per) ≡ v = rw (mul-zero w, width-per_byte order narrow) (omega (arith, bytes (offset + j))) in
-    packed-narrow order (counters_at order image offset n) j narrow
-    ∙ ap (from_digits (2 ^ w)) (part_of_map counter n (per * j) per within ∙ digits)
-    ∙ number ∙ all
+    packed-narrow order numbers j narrow ∙ ap (from_digits (2 ^ w)) digits ∙ number ∙ all
 
 wide_byte_again : (order n len : ℕ) (image : Image) (offset j : ℕ) → 4 ≤ order → order ≤ 6 → IsBytes image → width order * n ≡ 8 * len → j < len → packed order (counters_at order image offset n) j ≡ image (offset + j)
 wide_byte_again order n len image offset j wide low bytes whole below =

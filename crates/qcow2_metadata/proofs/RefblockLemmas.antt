@@ -4,11 +4,10 @@ use Rattle.std.proofs.lemmas.List.Elements.{All-replicate, All-set}
 use mathlib.Core.Path.{fun_ext}
 use Rattle.std.proofs.Math.Nat.{le-div_iff_mul-le, mul-add, mul-div_cancel_left, mul_assoc, mul_comm, pow-le-pow_right}
 use Rattle.std.proofs.lemmas.Bool.{cases_lt}
-use Rattle.std.proofs.lemmas.Grind.{same_number_lists}
-use Rattle.std.proofs.lemmas.List.FromFn.{get_or-map-range_with_len}
+use Rattle.std.proofs.lemmas.List.FromFn.{fill_by_all}
 use Rattle.std.proofs.lemmas.Nat.{pow-add, pow_pos}
 use Rattle.qcow2_base.specs.Storage.{Holds, Image, IsBytes, SameOutside, image_of}
-use Rattle.qcow2_metadata.proofs.PackingLemmas.{counter_at-packed, counters_at-append, counters_at-length, counters_at-same, packed-counters_at, width-per_byte}
+use Rattle.qcow2_metadata.proofs.PackingLemmas.{counter_at-packed, counters_at-append, counters_at-held, counters_at-same, narrow_cases, packed-counters_at, wide_cases, width-per_byte}
 use Rattle.qcow2_metadata.specs.Pieces.{Stand}
 use Rattle.qcow2_base.specs.Types.{IsClusterBits}
 use Rattle.qcow2_base.specs.declared.types.HostCluster.{HostCluster}
@@ -19,22 +18,18 @@ use Rattle.qcow2_metadata.specs.declared.refblock.counters.Counters.{Counters}
 use Rattle.qcow2_metadata.specs.declared.refblock.counters.Counters.TheVariants.{U8, U16, U32, U64}
 
 -- the greatest counters of each order
-pub greatest_is : (order : ℕ) → order ≤ 6 → slice_index (1 ∷ 3 ∷ 15 ∷ 255 ∷ 65535 ∷ 4294967295 ∷ 18446744073709551615 ∷ []) order ≡ greatest_counter order
-greatest_is zero low = refl
-greatest_is (suc zero) low = refl
-greatest_is (suc (suc zero)) low = refl
-greatest_is (suc (suc (suc zero))) low = refl
-greatest_is (suc (suc (suc (suc zero)))) low = refl
-greatest_is (suc (suc (suc (suc (suc zero))))) low = refl
-greatest_is (suc (suc (suc (suc (suc (suc zero)))))) low = refl
-greatest_is (suc (suc (suc (suc (suc (suc (suc order))))))) low = absurd (omega (arith, low))
+abbrev pub greatest : List ℕ
+greatest = 1 ∷ 3 ∷ 15 ∷ 255 ∷ 65535 ∷ 4294967295 ∷ 18446744073709551615 ∷ []
+
+pub greatest_is : (order : ℕ) → order ≤ 6 → slice_index greatest order ≡ greatest_counter order
+greatest_is order low = elim (cases_lt order 4) [
+  | inl narrow ↦ narrow_cases (λ n. slice_index greatest n ≡ greatest_counter n) refl refl refl refl order (omega arith)
+  | inr wide ↦ wide_cases (λ n. slice_index greatest n ≡ greatest_counter n) refl refl refl order wide low
+]
 
 narrow_fits : (order number : ℕ) → order ≤ 3 → number ≤ greatest_counter order → number < 2 ^ 8
-narrow_fits zero number low fits = omega (arith, fits)
-narrow_fits (suc zero) number low fits = omega (arith, fits)
-narrow_fits (suc (suc zero)) number low fits = omega (arith, fits)
-narrow_fits (suc (suc (suc zero))) number low fits = omega (arith, fits)
-narrow_fits (suc (suc (suc (suc order)))) number low fits = absurd (omega (arith, low))
+narrow_fits order number low =
+    narrow_cases (λ n. number ≤ greatest_counter n → number < 2 ^ 8) (λ f. omega arith) (λ f. omega arith) (λ f. omega arith) (λ f. omega arith) order low
 
 -- the integers of a list hold each number that a counter holds
 pub counter_holds : (order : ℕ) (counters : Counters) (number : ℕ) → IsOfOrder order counters → number ≤ greatest_counter order → CanHold counters number
@@ -76,10 +71,7 @@ block_bytes cb order bits orders =
 -- counters are what stands at their indices
 counters_by_index : (order : ℕ) (image : Image) (counters : List ℕ) → ((i : ℕ) → i < length counters → counter_at order image 0 i ≡ slice_index counters i) → counters_at order image 0 (length counters) ≡ counters
 counters_by_index order image counters each =
-    same_number_lists (counters_at order image 0 (length counters)) counters (counters_at-length order image 0 (length counters))
-    (λ k below.
-    let within : k < length counters = omega (arith, below, counters_at-length order image 0 (length counters)) in
-    get_or-map-range_with_len (counter_at order image 0) 0 (length counters) k k 0 within (omega arith) ∙ each k within)
+    sym (fill_by_all (counter_at order image 0) counters (length counters) 0 refl (λ k below. sym (each k below)))
 
 -- where the bytes of counters stand, these are the block's
 pub stand-decoded : (order n len : ℕ) (counters : List ℕ) (image : Image) (offset : ℕ) → order ≤ 6 → AreCounters order counters → length counters ≡ n → width order * n ≡ 8 * len → Stand (packed order counters) len image offset → counters_at order image offset n ≡ counters
@@ -127,8 +119,7 @@ whole_counters order len orders eights =
 pub counters-more : (order done : ℕ) (image : Image) (offset : ℕ) (list buffer : List ℕ) → order ≤ 6 → length buffer % 8 ≡ 0 → Holds image (offset + done) buffer → width order * length list ≡ 8 * done → list ≡ counters_at order image offset (length list) → list ++ counters_at order (image_of buffer) 0 (8 * length buffer / width order) ≡ counters_at order image offset (length list + 8 * length buffer / width order)
 counters-more order done image offset list buffer orders eights held whole counters =
     let m = 8 * length buffer / width order in
-    let same = counters_at-same order m (length buffer) image (image_of buffer) (offset + done) 0 orders (whole_counters order (length buffer) orders eights)
-    (λ k below. let zero_k : 0 + k ≡ k = omega arith in rw zero_k (sym (held.each k below))) in
+    let same = counters_at-held order m (length buffer) image (offset + done) buffer orders (whole_counters order (length buffer) orders eights) (omega arith) held in
     ap (λ (xs : List ℕ). xs ++ counters_at order (image_of buffer) 0 m) counters
     ∙ ap (λ (xs : List ℕ). counters_at order image offset (length list) ++ xs) (sym same)
     ∙ sym (counters_at-append order (length list) m done image offset orders whole)

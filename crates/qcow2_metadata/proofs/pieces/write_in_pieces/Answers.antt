@@ -38,12 +38,3 @@ loop-piece-preserved g c =
       failures = search rules;
       device = search rules;
     }
-
-pub returns : goal.returns
-returns g c = record {
-  written = λ told i below. (c.loop-piece.invariant.told told).stand i (omega arith) below;
-  torn = tt;
-  others = λ told. (c.loop-piece.invariant.told told).others;
-  failures = c.loop-piece.invariant.failures;
-  device = c.loop-piece.invariant.device;
-}

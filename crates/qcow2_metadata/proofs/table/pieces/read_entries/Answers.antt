@@ -3,7 +3,8 @@ use Rattle.std.proofs.lemmas.List.{length-append, length-map}
 use Rattle.std.proofs.lemmas.Result.{err_from_is_err_and}
 use Rattle.qcow2_base.specs.Storage.{Holds, image_of}
 use Rattle.qcow2_metadata.proofs.ChunkLemmas.{decoded-refused_piece, table_numbers-read}
-use Rattle.qcow2_metadata.proofs.TableLemmas.{first_fault-append, length-table_numbers}
+use Rattle.qcow2_metadata.proofs.PackingLemmas.{counters_at-length}
+use Rattle.qcow2_metadata.proofs.TableLemmas.{first_fault-append}
 use Rattle.qcow2_metadata.specs.Table.{first_fault, table_numbers}
 use Rattle.qcow2_metadata.proofs.table.pieces.read_entries.Goals as goal
 
@@ -45,8 +46,7 @@ loop-piece-preserved g c =
     let place : offset + 8 * (512 * c.loop-piece.piece) ≡ offset + 8 * k = omega (arith, before.len) in
     let numbers : map plain new ≡ map plain old ++ table_numbers (image_of bytes) 0 m = c.in_ok-decode.ensures.numbers in
     let count : length new ≡ k + m =
-    sym (length-map new plain) ∙ ap length numbers ∙ length-append (map plain old) (table_numbers (image_of bytes) 0 m)
-    ∙ ap (λ i. i + length (table_numbers (image_of bytes) 0 m)) (length-map old plain) ∙ ap (λ i. k + i) (length-table_numbers (image_of bytes) 0 m) in
+    omega (arith, ap length numbers, length-append (map plain old) (table_numbers (image_of bytes) 0 m), length-map new plain, length-map old plain, counters_at-length 6 (image_of bytes) 0 m) in
     record {
       told = λ told.
           let held : Holds image (offset + 8 * k) bytes = rw (place, before.bytes) at (c.in_ok-read_range.ensures.held (before.device.tells ∙ told)) in
