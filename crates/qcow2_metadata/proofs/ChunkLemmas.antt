@@ -63,8 +63,7 @@ table_numbers-read image offset k m bytes before held within so_far =
     rw (so_far, ← piece) (sym (table_numbers-append image offset k m))
 
 found_or : (first rest more : Option Fault) (f : Fault) → option_or first rest ≡ Some f → (rest ≡ Some f → more ≡ Some f) → option_or first more ≡ Some f
-found_or None rest more f found later = later found
-found_or (Some g) rest more f found later = found
+found_or first rest more f found later = grind arith
 
 first_fault-found : (fault : ℕ → Option Fault) (xs ys : List ℕ) (f : Fault) → first_fault fault xs ≡ Some f → first_fault fault (xs ++ ys) ≡ Some f
 first_fault-found fault [] ys f found = cc

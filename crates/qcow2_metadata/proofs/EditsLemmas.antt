@@ -1,5 +1,5 @@
 use Rattle.std.proofs.Common.{◌≡◌, ℕ, zero, suc, Bool, true, false, not, ◌&&◌, ◌||◌, ◌==◌, if◌then◌else◌, ◌+◌, ◌-◌, ◌*◌, ◌/◌, ◌^◌, ◌<◌, ◌≤◌, ◌↔◌, Option, Some, None, option_map, unwrap_or, option_to_list, IfSome, All, List, [], ◌∷◌, length, slice_get, slice_index, inl, inr, get_or-set_same, get_or-set_other, map-id, refl, ap, sym, ◌∙◌, subst, suc-mul, arith}
-use Rattle.std.proofs.lemmas.Nat.{div-mul-add, pow_pos}
+use Rattle.std.proofs.lemmas.Nat.{div-mul-add, mul-le, pow_pos}
 use Rattle.std.proofs.Math.Nat.{mul-div_cancel, mul-mod_left, zero-mod}
 use Rattle.std.proofs.lemmas.List.Elements.{All-set}
 use Rattle.std.proofs.lemmas.Bool.Decides.{nat_tests}
@@ -26,7 +26,6 @@ record IsDataAt (v offset : ℕ) : Type 0 where
   standard : field v 62 1 ≡ 0
   at : offset_field v ≡ offset
   copied : field v 63 1 ≡ 1
-  low : field v 1 8 ≡ 0
   high : field v 56 6 ≡ 0
 
 data_at : (offset sectors : ℕ) → offset ≡ sectors * 512 → offset ≤ 2 ^ 56 - 512 → IsDataAt (2 ^ 63 + offset) offset
@@ -41,16 +40,10 @@ data_entry_is_data g cluster bits mappable =
 
 -- a cluster that may be mapped to is not at offset 0, but in an external data file
 mapped_is_allocated : (external : Bool) (cluster size : ℕ) → 0 < size → (if external then true else not (cluster == 0)) ≡ true → (not (cluster * size == 0) || (external && true)) ≡ true
-mapped_is_allocated true cluster size some mappable = grind (arith, nat_tests)
-mapped_is_allocated false zero size some mappable = cc
-mapped_is_allocated false (suc c) size some mappable =
-    let product = suc-mul c size in
-    let positive : 0 < suc c * size = omega arith in
-    grind (arith, nat_tests)
+mapped_is_allocated external cluster size some mappable = grind (arith, nat_tests, mul-le 1 1 cluster size)
 
 second_holds : (a b : Bool) → (a && b) ≡ true → b ≡ true
-second_holds true b both = both
-second_holds false b both = cc
+second_holds a b both = grind arith
 
 -- the bytes of one cluster
 abbrev bytes_of_cluster : ℕ → ℕ → ByteRange
@@ -84,12 +77,8 @@ data_entry-allocation g cluster bits mappable =
 abbrev refer : Option ClustersToFreeEntry → ℕ → Bool
 refer found c = unwrap_or (option_map (λ clusters. is_among clusters c) found) false
 
-refer_just : (cluster c : ℕ) → refer (Some (just cluster)) c ≡ (cluster == c)
-refer_just cluster c = grind (arith, nat_tests)
-
 pub data_entry-meets : (g : Geometry) (cluster c : ℕ) → IsClusterBits g.cluster_bits → is_mappable g cluster ≡ true → meets g (data_entry g.cluster_bits cluster) c ≡ (cluster == c)
-data_entry-meets g cluster c bits mappable =
-    ap (λ (found : Option ClustersToFreeEntry). refer found c) (data_entry-allocation g cluster bits mappable) ∙ refer_just cluster c
+data_entry-meets g cluster c bits mappable = rw (data_entry-allocation g cluster bits mappable) (grind (arith, nat_tests))
 
 -- the zero flag changes nothing else of a standard entry
 record IsSameButZero (v w : ℕ) : Type 0 where
@@ -108,27 +97,19 @@ with_zero_flag-byte_range g v standard =
     rw (same.kind, standard, same.at, same.copied) refl
 
 pub standard_if_host_cluster : (g : Geometry) (v : ℕ) → has_host_cluster g v ≡ true → is_compressed v ≡ false
-standard_if_host_cluster g v has = not_first (is_compressed v) (is_allocated g.external_data_file v) has
-  where
-    not_first : (a b : Bool) → (not a && b) ≡ true → a ≡ false
-    not_first true b both = cc
-    not_first false b both = refl
+standard_if_host_cluster g v has = grind arith
 
 -- an entry that has a host cluster refers to the same with the zero flag
 pub with_zero_flag-allocation : (g : Geometry) (v : ℕ) → has_host_cluster g v ≡ true → allocation g (with_zero_flag v) ≡ allocation g v
 with_zero_flag-allocation g v has =
     ap (λ (found : Option ByteRange). option_map (clusters_met g.cluster_bits) found) (with_zero_flag-byte_range g v (standard_if_host_cluster g v has))
 
-both_false : (external : Bool) → (external && false) ≡ false
-both_false true = refl
-both_false false = refl
-
 -- zeros with no host cluster, and an entry that is cleared, refer to nothing
 pub allocation-one : (g : Geometry) → allocation g 1 ≡ None
-allocation-one g = rw (both_false g.external_data_file) refl
+allocation-one g = grind arith
 
 pub allocation-zero : (g : Geometry) → allocation g 0 ≡ None
-allocation-zero g = rw (both_false g.external_data_file) refl
+allocation-zero g = grind arith
 
 pub with_zero_flag-fault : (cb v : ℕ) → is_compressed v ≡ false → l2_fault cb (with_zero_flag v) ≡ l2_fault cb v
 with_zero_flag-fault cb v standard =
@@ -186,8 +167,7 @@ edit_fits : (g : Geometry) (e : TableEdit) (entries : ℕ) → fits_table g entr
 edit_fits g e entries fits = (grind (arith, nat_tests), second_holds _ _ fits)
 
 both_hold : (a b : Bool) → (a && b) ≡ true → (a ≡ true) × (b ≡ true)
-both_hold true b both = (refl, both)
-both_hold false b both = cc
+both_hold a b both = grind arith
 
 after_edit-length : (g : Geometry) (e : TableEdit) (numbers : List ℕ) → length (after_edit g e numbers) ≡ length numbers
 after_edit-length g e numbers = length-set numbers e.index (changed g e.edit (slice_index numbers e.index))

@@ -20,27 +20,19 @@ div_above q n k p h = (le-div_iff_mul-le p).1 h
 last_reached : (cb : ℕ) (range : ByteRange) → range.start < range.end → first_cluster cb range ≤ (range.end - 1) / 2 ^ cb
 last_reached cb range some = div_rises range.start (range.end - 1) (2 ^ cb) (pow_pos cb) (omega arith)
 
-met_is_among : (cb : ℕ) (range : ByteRange) (c : ℕ) → range.start < range.end → RangeMeets cb range c → (first_cluster cb range ≤ c) × (c < first_cluster cb range + cluster_count cb range)
-met_is_among cb range c some met =
-    let p = pow_pos cb in
-    let low = div_rises range.start met.0 (2 ^ cb) p met.1 in
-    let high = div_rises met.0 (range.end - 1) (2 ^ cb) p (omega (arith, met.2)) in
-    (omega (arith, met.3), omega (arith, met.3, last_reached cb range some))
-
-among_is_met : (cb : ℕ) (range : ByteRange) (c : ℕ) → range.start < range.end → first_cluster cb range ≤ c → c < first_cluster cb range + cluster_count cb range → RangeMeets cb range c
-among_is_met cb range c some low high =
-    let p = pow_pos cb in
-    let below : c ≤ (range.end - 1) / 2 ^ cb = omega (arith, last_reached cb range some) in
-    let fits = (le-div_iff_mul-le p).0 below in
-    elim (cases_lt (c * 2 ^ cb) range.start) [
-      | inl later ↦ (range.start, omega arith, some, omega (arith, div_above c range.start (2 ^ cb) p (omega arith)))
-      | inr at ↦ (c * 2 ^ cb, at, omega (arith, fits), mul-div_cancel c p)
-    ]
-
 -- a range meets exactly the clusters from its first byte's to its last byte's
 pub met_clusters : (cb : ℕ) (range : ByteRange) (c : ℕ) → range.start < range.end → RangeMeets cb range c ↔ ((first_cluster cb range ≤ c) × (c < first_cluster cb range + cluster_count cb range))
 met_clusters cb range c some =
-    (λ met. met_is_among cb range c some met, λ among. among_is_met cb range c some among.0 among.1)
+    let p = pow_pos cb in
+    let last = last_reached cb range some in (
+      λ met. (omega (arith, met.3, div_rises range.start met.0 (2 ^ cb) p met.1), omega (arith, met.3, last, div_rises met.0 (range.end - 1) (2 ^ cb) p (omega (arith, met.2)))),
+      λ among.
+          let fits = (le-div_iff_mul-le {k = 2 ^ cb} {x = c} {y = range.end - 1} p).0 (omega (arith, last, among.0, among.1)) in
+          elim (cases_lt (c * 2 ^ cb) range.start) [
+            | inl later ↦ (range.start, omega arith, some, omega (arith, among.0, div_above c range.start (2 ^ cb) p (omega arith)))
+            | inr at ↦ (c * 2 ^ cb, at, omega (arith, fits), mul-div_cancel c p)
+          ],
+    )
 
 -- a range of at most two clusters' bytes meets one to three clusters
 pub met_count : (cb : ℕ) (range : ByteRange) → range.start < range.end → range.end ≤ range.start + 2 * 2 ^ cb → (1 ≤ cluster_count cb range) × (cluster_count cb range ≤ 3)
@@ -79,19 +71,8 @@ allocation_of_range g v start length is some short =
       count = met_count g.cluster_bits range (omega arith) (omega arith);
     })
 
--- an entry refers to one byte at least, where it refers to any
-range_of_either : (compressed allocated : Bool) (a b range : ByteRange) → a.start < a.end → b.start < b.end → (if compressed then Some a else (if allocated then Some b else None)) ≡ Some range → range.start < range.end
-range_of_either true allocated a b range first second is = let same : a ≡ range = cc in subst (λ (r : ByteRange). r.start < r.end) same first
-range_of_either false true a b range first second is = let same : b ≡ range = cc in subst (λ (r : ByteRange). r.start < r.end) same second
-range_of_either false false a b range first second is = cc
-
 byte_range_has_bytes : (g : Geometry) (v : ℕ) (range : ByteRange) → byte_range g v ≡ Some range → range.start < range.end
-byte_range_has_bytes g v range is =
-    let cb = g.cluster_bits in
-    range_of_either (is_compressed v) (is_allocated g.external_data_file v)
-    (record { start = compressed_offset cb v; end = compressed_offset cb v + compressed_length cb v })
-    (record { start = offset_field v; end = offset_field v + 2 ^ cb })
-    range (omega arith) (omega (arith, pow_pos cb)) is
+byte_range_has_bytes g v range is = grind (arith, pow_pos)
 
 meets_by_range : (g : Geometry) (v c : ℕ) (found : Option ByteRange) → byte_range g v ≡ found → IsTrue (unwrap_or (option_map (λ clusters. is_among clusters c) (option_map (clusters_met g.cluster_bits) found)) false) ↔ Meets g v c
 meets_by_range g v c None is = (λ t. cc, λ met. let no : None ≡ Some met.0 = cc in cc)
@@ -168,15 +149,10 @@ same_test cb v low high =
 
 -- a number is lawful where its reserved bits are clear and its kind's offset is
 pub lawful_by_kind : (clear compressed low aligned : Bool) → IsTrue (clear && (if compressed then low else aligned)) ↔ (entry_fault (not clear || (compressed && not low)) (not compressed && not aligned) ≡ None)
-lawful_by_kind false compressed low aligned = (λ t. cc, λ e. cc)
-lawful_by_kind true true true aligned = (λ _. refl, λ _. refl)
-lawful_by_kind true true false aligned = (λ t. cc, λ e. cc)
-lawful_by_kind true false low true = (λ _. refl, λ _. refl)
-lawful_by_kind true false low false = (λ t. cc, λ e. cc)
+lawful_by_kind clear compressed low aligned = grind arith
 
 by_cases : (test offset low aligned : Bool) → (test ≡ true → offset ≡ low) → (test ≡ false → offset ≡ aligned) → offset ≡ (if test then low else aligned)
-by_cases true offset low aligned first second = first refl
-by_cases false offset low aligned first second = second refl
+by_cases test offset low aligned first second = grind arith
 
 pub l2_is_lawful : (cb v : ℕ) (offset : Bool) → 9 ≤ cb → cb ≤ 21 → (is_compressed v ≡ true → offset ≡ nat_eq (v / 2 ^ 56 * 2 ^ 56 % 2 ^ (70 - cb)) 0) → (is_compressed v ≡ false → offset ≡ nat_eq (offset_field v % 2 ^ cb) 0) → IsTrue (nat_eq (l2_reserved_bits v) 0 && offset) ↔ (l2_fault cb v ≡ None)
 l2_is_lawful cb v offset low high compressed standard =

@@ -1,6 +1,6 @@
 use Rattle.std.proofs.Common.{◌≡◌, ℕ, Bool, true, false, not, ◌&&◌, ◌||◌, nat_eq, nat_lt, if◌then◌else◌, ◌+◌, ◌-◌, ◌*◌, ◌/◌, ◌%◌, ◌^◌, ◌<◌, ◌≤◌, Some, None, refl, ap, sym, ◌∙◌, inl, inr, arith}
 use Rattle.std.proofs.lemmas.Bool.{lt-ltb, cases_Bool}
-use Rattle.std.proofs.lemmas.Bool.Decides.{same_from_decides, Decides-eqb}
+use Rattle.std.proofs.lemmas.Bool.Decides.{same_from_decides, Decides-eqb, nat_tests}
 use Rattle.std.proofs.lemmas.Nat.{pow-add, shl-shr, mul-le, div-mul-add, mod-mul-add}
 use Rattle.std.proofs.Math.Nat.{mul-mod_left, add-mod_left, mod-eq_of_lt, zero-mul, zero-div}
 use Rattle.std.proofs.Math.Pow.{pow_mono}
@@ -20,16 +20,13 @@ bit true = 1
 bit false = 0
 
 pub bit_below : (b : Bool) → bit b < 2
-bit_below true = omega arith
-bit_below false = omega arith
+bit_below b = grind arith
 
 bit_is_set : (b : Bool) → nat_eq (bit b) 1 ≡ b
-bit_is_set true = refl
-bit_is_set false = refl
+bit_is_set b = grind arith
 
 copied_bit_is : (b : Bool) → copied_bit b ≡ bit b * 2 ^ 63
-copied_bit_is true = refl
-copied_bit_is false = refl
+copied_bit_is b = grind arith
 
 -- the fields of a standard entry
 record IsStandard (v offset copied zeros : ℕ) : Type 0 where
@@ -68,21 +65,17 @@ standard_reads cb guest_cluster cluster copied flag external low placed =
     rw (fields.kind, fields.middle, fields.highest, fields.lowest, bit_is_set copied, bit_is_set flag, begins_at_zero cb cluster, shl-shr cluster cb) refl
 
 told_data : (told copied : Bool) (cluster offset : ℕ) → standard_mapping false (if told then Some cluster else None) copied offset ≡ (if told then data_file cluster copied else backing offset)
-told_data true copied cluster offset = refl
-told_data false copied cluster offset = refl
+told_data told copied cluster offset = grind arith
 
 told_zeros : (told copied : Bool) (cluster offset : ℕ) → standard_mapping true (if told then Some cluster else None) copied offset ≡ (if told then zeros (Some cluster) copied else zeros None false)
-told_zeros true copied cluster offset = refl
-told_zeros false copied cluster offset = refl
+told_zeros told copied cluster offset = grind arith
 
 -- numbers that refer to no cluster
 nothing_reads : (cb guest_cluster : ℕ) (external : Bool) → mapping (geometry cb external) guest_cluster 0 ≡ backing (guest_cluster * 2 ^ cb)
-nothing_reads cb guest_cluster true = refl
-nothing_reads cb guest_cluster false = refl
+nothing_reads cb guest_cluster external = grind arith
 
 zeros_read : (cb guest_cluster : ℕ) (external : Bool) → mapping (geometry cb external) guest_cluster 1 ≡ zeros None false
-zeros_read cb guest_cluster true = refl
-zeros_read cb guest_cluster false = refl
+zeros_read cb guest_cluster external = grind arith
 
 -- the fields of a compressed entry
 record IsCompressed (cb v offset sectors : ℕ) : Type 0 where
@@ -166,12 +159,7 @@ entry_reads_back cb (Zero None copied) guest_cluster external low high placed fi
 entry_reads_back cb (Compressed host_offset length) guest_cluster external low high placed fits = compressed_reads cb guest_cluster host_offset.0 length.value external low high fits.0 placed length.ok fits.1
 
 compressed_is_not_copied : (kind below aligned : Bool) (high rest : ℕ) → entry_fault (not (nat_eq (if kind then high else rest) 0) || (kind && not below)) (not kind && not aligned) ≡ None → kind ≡ true → high ≡ 0
-compressed_is_not_copied false below aligned high rest lawful is = cc
-compressed_is_not_copied true below aligned high rest lawful is =
-    elim (cases_Bool (nat_eq high 0)) [
-      | inl clear ↦ (Decides-eqb high 0).0 clear
-      | inr set ↦ let none : Some EntryReserved ≡ None = rw set at lawful in cc
-    ]
+compressed_is_not_copied kind below aligned high rest lawful is = grind (arith, nat_tests)
 
 -- a lawful entry without its copied flag is lawful
 pub lawful_without_copied : (cb v : ℕ) → v < 2 ^ 64 → l2_fault cb v ≡ None → l2_fault cb (v % 2 ^ 63) ≡ None

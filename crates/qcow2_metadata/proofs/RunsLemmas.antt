@@ -26,85 +26,38 @@ use Rattle.qcow2_metadata.proofs.TableLemmas.{no_fault_item}
 
 -- a bit as the number of a flag
 flag_of : (n : ℕ) → n < 2 → n ≡ bit (nat_eq n 1)
-flag_of n below = elim (cases_Bool (nat_eq n 1)) [
-  | inl one ↦ rw one (grind (arith, nat_tests))
-  | inr other ↦ let not_one = eqb-false n 1 other in rw other (omega arith)
-]
+flag_of n below = grind (arith, nat_tests)
 
 -- a compressed entry goes on at each compressed one
 after_compressed : (b z cp : Bool) (h : Option ℕ) (k a l o m p : ℕ) → reads_on k (compressed a l) (if b then compressed o m else standard_mapping z h cp p) ≡ b
-after_compressed true z cp h k a l o m p = refl
-after_compressed false true cp (Some c) k a l o m p = refl
-after_compressed false true cp None k a l o m p = refl
-after_compressed false false cp (Some c) k a l o m p = refl
-after_compressed false false cp None k a l o m p = refl
+after_compressed b z cp h k a l o m p = grind arith
 
 -- and no other at one
 before_compressed : (z cp : Bool) (h : Option ℕ) (k p o m : ℕ) → reads_on k (standard_mapping z h cp p) (compressed o m) ≡ false
-before_compressed true cp (Some c) k p o m = refl
-before_compressed true cp None k p o m = refl
-before_compressed false cp (Some c) k p o m = refl
-before_compressed false cp None k p o m = refl
+before_compressed z cp h k p o m = grind arith
 
--- an entry with a cluster, and one after it
-further : (n q q0 k z : ℕ) → 2 ≤ n → nat_eq (q * n + z) (q0 * n + z + k * n) ≡ nat_eq q (q0 + k)
-further n q q0 k z some =
-    same_from_decides _ _ (Decides-eqb (q * n + z) (q0 * n + z + k * n)) (
-      λ t. let same = (Decides-eqb q (q0 + k)).0 t in rw same (omega arith),
-      λ e. (Decides-eqb q (q0 + k)).1 (same_from_place q 0 (q0 + k) 0 n (omega arith) (omega arith) (omega (arith, e))).0,
-    )
-
--- with another zero flag it isn't one, and without a cluster neither
-flag_differs : (n q q0 k : ℕ) → 2 ≤ n → (nat_eq (q * n + 1) (q0 * n + 0 + k * n) ≡ false) × (nat_eq (q * n + 0) (q0 * n + 1 + k * n) ≡ false)
-flag_differs n q q0 k some = (
-  ne_eqb _ _ (λ e. let parts = same_from_place q 1 (q0 + k) 0 n (omega arith) (omega arith) (omega (arith, e)) in omega (arith, parts.1)),
-  ne_eqb _ _ (λ e. let parts = same_from_place q 0 (q0 + k) 1 n (omega arith) (omega arith) (omega (arith, e)) in omega (arith, parts.1)),
-)
-
-no_cluster_differs : (n q q0 k z : ℕ) → 2 ≤ n → 1 ≤ k → q ≡ 0 → nat_eq (q * n + z) (q0 * n + z + k * n) ≡ false
-no_cluster_differs n q q0 k z some far none =
-    ne_eqb _ _ (λ e. let parts = same_from_place q 0 (q0 + k) 0 n (omega arith) (omega arith) (omega (arith, e)) in omega (arith, parts.0))
+-- an entry with a cluster, and one after it, have the same flag and the cluster so many further on
+same_place : (n q q0 k z z0 : ℕ) → 2 ≤ n → z < 2 → z0 < 2 → nat_eq (q * n + z) (q0 * n + z0 + k * n) ≡ (nat_eq z z0 && nat_eq q (q0 + k))
+same_place n q q0 k z z0 some low low0 =
+    let moved : q0 * n + z0 + k * n ≡ (q0 + k) * n + z0 = omega arith in
+    let parts = same_from_place q z (q0 + k) z0 n (omega arith) (omega arith) in
+    rw moved (same_from_decides _ _ (Decides-eqb (q * n + z) ((q0 + k) * n + z0)) (λ t. let both : (q ≡ q0 + k) × (z ≡ z0) = grind (arith, nat_tests) in rw (both.0, both.1) refl, λ e. let both = parts e in grind (arith, nat_tests)))
 
 none_if : (q : ℕ) → (1 ≤ q → false ≡ true) → q ≡ 0
-none_if q told = elim (cases_Bool (nat_eq q 0)) [
-  | inl nothing ↦ (Decides-eqb q 0).0 nothing
-  | inr some ↦ let above = eqb-false q 0 some in let bad = told (omega arith) in cc
-]
+none_if q told = grind arith
 
 after_cluster : (zb zb0 alloc cp cp0 : Bool) (n q q0 k o p : ℕ) → 2 ≤ n → 1 ≤ k → (1 ≤ q → alloc ≡ true)
     → nat_eq (q * n + bit zb) (q0 * n + bit zb0 + k * n)
     ≡ reads_on k (standard_mapping zb0 (Some q0) cp0 o) (standard_mapping zb (if alloc then Some q else None) cp p)
-after_cluster true true true cp cp0 n q q0 k o p some far told = further n q q0 k 1 some
-after_cluster false false true cp cp0 n q q0 k o p some far told = further n q q0 k 0 some
-after_cluster true false true cp cp0 n q q0 k o p some far told = (flag_differs n q q0 k some).0
-after_cluster true false false cp cp0 n q q0 k o p some far told = (flag_differs n q q0 k some).0
-after_cluster false true true cp cp0 n q q0 k o p some far told = (flag_differs n q q0 k some).1
-after_cluster false true false cp cp0 n q q0 k o p some far told = (flag_differs n q q0 k some).1
-after_cluster true true false cp cp0 n q q0 k o p some far told = no_cluster_differs n q q0 k 1 some far (none_if q told)
-after_cluster false false false cp cp0 n q q0 k o p some far told = no_cluster_differs n q q0 k 0 some far (none_if q told)
-
--- an entry without one, and one after it
-large_differs : (x k : ℕ) (b : Bool) → 2 ≤ x → nat_eq x (bit b + k * 0) ≡ false
-large_differs x k true large = ne_eqb _ _ (λ e. omega (arith, e))
-large_differs x k false large = ne_eqb _ _ (λ e. omega (arith, e))
-
-same_flag : (x k z : ℕ) → x ≡ z → nat_eq x (z + k * 0) ≡ true
-same_flag x k z is = eq-eqb _ _ (omega arith)
-
-other_flag : (x k : ℕ) → (x ≡ 1 → nat_eq x (0 + k * 0) ≡ false) × (x ≡ 0 → nat_eq x (1 + k * 0) ≡ false)
-other_flag x k = (λ one. ne_eqb _ _ (λ e. omega (arith, e)), λ none. ne_eqb _ _ (λ e. omega (arith, e)))
+after_cluster zb zb0 alloc cp cp0 n q q0 k o p some far told =
+    let same = same_place n q q0 k (bit zb) (bit zb0) some (bit_below zb) (bit_below zb0) in
+    let nothing : alloc ≡ false → q ≡ 0 = λ none. none_if q (λ above. sym none ∙ told above) in
+    rw same (grind (arith, nat_tests))
 
 after_no_cluster : (zb zb0 alloc cp cp0 : Bool) (x q k o p : ℕ) → (alloc ≡ true → 2 ≤ x) → (alloc ≡ false → x ≡ bit zb)
     → nat_eq x (bit zb0 + k * 0)
     ≡ reads_on k (standard_mapping zb0 None cp0 o) (standard_mapping zb (if alloc then Some q else None) cp p)
-after_no_cluster true true true cp cp0 x q k o p large small = large_differs x k true (large refl)
-after_no_cluster true false true cp cp0 x q k o p large small = large_differs x k false (large refl)
-after_no_cluster false true true cp cp0 x q k o p large small = large_differs x k true (large refl)
-after_no_cluster false false true cp cp0 x q k o p large small = large_differs x k false (large refl)
-after_no_cluster true true false cp cp0 x q k o p large small = same_flag x k 1 (small refl)
-after_no_cluster false false false cp cp0 x q k o p large small = same_flag x k 0 (small refl)
-after_no_cluster true false false cp cp0 x q k o p large small = (other_flag x k).0 (small refl)
-after_no_cluster false true false cp cp0 x q k o p large small = (other_flag x k).1 (small refl)
+after_no_cluster zb zb0 alloc cp cp0 x q k o p large small = grind (arith, nat_tests)
 
 -- the parts of a lawful standard entry
 record Parts (cb v : ℕ) : Type 0 where
@@ -128,56 +81,24 @@ parts_of cb v lawful standard =
       small = omega arith;
     }
 
--- whether a number has a cluster tells how large it is
-some_if : (zero told : Bool) → (not zero || told) ≡ true → (zero ≡ false) ⊎ (told ≡ true)
-some_if true true is = inr refl
-some_if true false is = cc
-some_if false told is = inl refl
-
-none_both : (zero told : Bool) → (not zero || told) ≡ false → (zero ≡ true) × (told ≡ false)
-none_both true true is = cc
-none_both true false is = (refl, refl)
-none_both false told is = cc
-
-offset_of_zero : (v : ℕ) → nat_eq (offset_field v) 0 ≡ true → offset_field v ≡ 0
-offset_of_zero v is = (Decides-eqb (offset_field v) 0).0 is
-
-offset_of_some : (v : ℕ) → nat_eq (offset_field v) 0 ≡ false → 512 ≤ offset_field v
-offset_of_some v is = let some = eqb-false (offset_field v) 0 is in omega (arith, some)
-
 plain_large : (cb v : ℕ) → Parts cb v → is_allocated false v ≡ true → 2 ≤ v % 2 ^ 63
-plain_large cb v parts is = elim (some_if (nat_eq (offset_field v) 0) false is) [
-  | inl some ↦ omega (arith, parts.lower, parts.offset, offset_of_some v some)
-  | inr told ↦ cc
-]
+plain_large cb v parts is = grind (arith, nat_tests, parts.lower, parts.offset)
 
 plain_small : (cb v : ℕ) → Parts cb v → is_allocated false v ≡ false → v % 2 ^ 63 ≡ bit (is_zero v)
-plain_small cb v parts is =
-    let none = offset_of_zero v (none_both (nat_eq (offset_field v) 0) false is).0 in
-    omega (arith, parts.lower, parts.offset, none)
+plain_small cb v parts is = grind (arith, nat_tests, parts.lower, parts.offset)
 
 external_large : (cb v : ℕ) → Parts cb v → is_allocated true v ≡ true → 2 ≤ v
-external_large cb v parts is = elim (some_if (nat_eq (offset_field v) 0) (is_copied v) is) [
-  | inl some ↦ let above = offset_of_some v some in omega (arith, parts.lower, parts.offset, above)
-  | inr told ↦ let copied : field v 63 1 ≡ 1 = (Decides-eqb (field v 63 1) 1).0 told in omega (arith, copied)
-]
+external_large cb v parts is = grind (arith, nat_tests, parts.lower, parts.offset)
 
 external_small : (cb v : ℕ) → v < 2 ^ 64 → Parts cb v → is_allocated true v ≡ false → v ≡ bit (is_zero v)
-external_small cb v fits parts is =
-    let both = none_both (nat_eq (offset_field v) 0) (is_copied v) is in
-    let none = offset_of_zero v both.0 in
-    let not_copied = eqb-false (field v 63 1) 1 both.1 in
-    let same : v ≡ v % 2 ^ 63 = omega (arith, not_copied) in
-    omega (arith, same, parts.lower, parts.offset, none)
+external_small cb v fits parts is = grind (arith, nat_tests, parts.lower, parts.offset)
 
 no_offset : (external : Bool) (cb v : ℕ) → Parts cb v → is_allocated external v ≡ false → v % 2 ^ 63 ≡ bit (is_zero v)
-no_offset external cb v parts is =
-    let none = offset_of_zero v (none_both (nat_eq (offset_field v) 0) (external && is_copied v) is).0 in
-    omega (arith, parts.lower, parts.offset, none)
+no_offset external cb v parts is = grind (arith, nat_tests, parts.lower, parts.offset)
 
 -- a compressed number is larger than those that go on from a standard one
 compressed_large : (v : ℕ) → is_compressed v ≡ true → 2 ^ 62 ≤ v % 2 ^ 63
-compressed_large v is = let kind : field v 62 1 ≡ 1 = (Decides-eqb (field v 62 1) 1).0 is in omega (arith, kind)
+compressed_large v is = grind (arith, nat_tests)
 
 standard_low : (cb v k : ℕ) → cb ≤ 21 → k ≤ 262144 → Parts cb v → v % 2 ^ 63 + k * 2 ^ cb < 2 ^ 62
 standard_low cb v k high few parts =
@@ -188,11 +109,7 @@ standard_low cb v k high few parts =
 
 -- what a test of an entry's offset says
 pub has_offset : (external : Bool) (v : ℕ) (found : Option HostOffset) (test : Bool) → found ≡ host_offset external v → test ≡ is_some found → test ≡ is_allocated external v
-has_offset external v found test is same = same ∙ ap is_some is ∙ some_just_if (is_allocated external v)
-  where
-    some_just_if : (b : Bool) → is_some {T = HostOffset} (if b then Some (record { 0 = offset_field v }) else None) ≡ b
-    some_just_if true = refl
-    some_just_if false = refl
+has_offset external v found test is same = rw (same, is) (grind arith)
 
 -- the patterns tell just the entries that go on
 pub after_a_compressed_entry : (cb : ℕ) (external : Bool) (k v v0 c other : ℕ) → is_compressed v0 ≡ true
@@ -242,7 +159,7 @@ after_an_entry_without cb external x k v v0 c other packed_large tested lawful0 
     let value = no_offset external cb v0 parts0 none in
     elim (cases_Bool (is_compressed v)) [
       | inl packed ↦
-          let differs : nat_eq x (v0 % 2 ^ 63 + k * 0) ≡ false = rw value (large_differs x k (is_zero v0) (packed_large packed)) in
+          let differs : nat_eq x (v0 % 2 ^ 63 + k * 0) ≡ false = rw value (grind (arith, nat_tests, packed_large packed, bit_below (is_zero v0))) in
           differs ∙ rw (packed, standard0) (sym (before_compressed (is_zero v0) (is_copied v0) (host_cluster (geometry cb external) v0) k (c * 2 ^ cb) (compressed_offset cb v) (compressed_length cb v)))
       | inr standard ↦
           let sizes = tested standard in
@@ -273,11 +190,7 @@ step_fits cb high = let power : 2 ^ cb ≤ 2 ^ 21 = pow_mono high in let one : 1
 
 -- what each cluster reads as goes on from itself
 reads_on_itself : (m : Mapping) → reads_on 0 m m ≡ true
-reads_on_itself (data_file cluster copied) = eq-eqb _ _ (omega arith)
-reads_on_itself (backing offset) = refl
-reads_on_itself (zeros (Some cluster) copied) = eq-eqb _ _ (omega arith)
-reads_on_itself (zeros None copied) = refl
-reads_on_itself (compressed offset length) = refl
+reads_on_itself m = grind (arith, nat_tests)
 
 -- the entries after the one at i
 record Rest (numbers : List ℕ) (i : ℕ) (rest : List ℕ) : Type 0 where

@@ -28,10 +28,7 @@ low_field v a b low =
     ap (λ n. n % 2 ^ b) above ∙ (rw rest at (mod-mod-pow (v / 2 ^ a) (63 - a - b) b))
 
 same_range : (packed none external copied : Bool) (a b : ByteRange) → (external && (not packed && none)) ≡ false → (if packed then Some a else (if not none || (external && false) then Some b else None)) ≡ (if packed then Some a else (if not none || (external && copied) then Some b else None))
-same_range true none external copied a b other = refl
-same_range false false external copied a b other = refl
-same_range false true false copied a b other = refl
-same_range false true true copied a b other = cc
+same_range packed none external copied a b other = grind arith
 
 -- an entry refers to the same bytes where a second table has it too
 shared-byte_range : (g : Geometry) (v : ℕ) → 9 ≤ g.cluster_bits → g.cluster_bits ≤ 21 → byte_range g (shared g.external_data_file v) ≡ byte_range g v
@@ -68,8 +65,7 @@ references-shared g numbers c low high =
     references-map g (shared g.external_data_file) numbers c (λ v. shared-meets g v c low high)
 
 packed_is_lawful : (high below : Bool) → entry_fault (high || not below) false ≡ None → entry_fault (false || not below) false ≡ None
-packed_is_lawful true below lawful = cc
-packed_is_lawful false below lawful = lawful
+packed_is_lawful high below lawful = grind arith
 
 -- a lawful entry is lawful without its copied flag, whatever stands above bit 63
 below_is_lawful : (cb v : ℕ) → 9 ≤ cb → cb ≤ 21 → l2_fault cb v ≡ None → l2_fault cb (v % 2 ^ 63) ≡ None

@@ -13,8 +13,7 @@ use Rattle.qcow2_metadata.specs.Table.{TablePlace, first_fault, numbers_at, offs
 use Rattle.qcow2_metadata.specs.Table.Growth.{grown_numbers}
 
 pub no_fault_at_all : (first rest : Option Fault) → option_or first rest ≡ None → (first ≡ None) × (rest ≡ None)
-no_fault_at_all None rest h = (refl, h)
-no_fault_at_all (Some f) rest h = cc
+no_fault_at_all first rest h = grind arith
 
 -- past numbers with no fault, the first fault is that of the others
 pub first_fault-append : (fault : ℕ → Option Fault) (xs ys : List ℕ) → first_fault fault xs ≡ None → first_fault fault (xs ++ ys) ≡ first_fault fault ys
