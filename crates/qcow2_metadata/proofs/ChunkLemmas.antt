@@ -1,4 +1,4 @@
-use Rattle.std.proofs.Common.{◌≡◌, ℕ, zero, suc, ◌+◌, ◌-◌, ◌*◌, ◌<◌, ◌≤◌, ◌↔◌, Bool, true, false, ◌&&◌, IsTrue, List, [], ◌∷◌, ◌++◌, map, length, get_or, take, drop, Option, Some, None, Result, Err, refl, sym, ◌∙◌, ap, subst, lit≤, arith}
+use Rattle.std.proofs.Common.{◌≡◌, ℕ, zero, suc, ◌+◌, ◌-◌, ◌*◌, ◌/◌, ◌<◌, ◌≤◌, ◌↔◌, Bool, true, false, ◌&&◌, IsTrue, List, [], ◌∷◌, ◌++◌, map, length, get_or, take, drop, Option, Some, None, Result, Err, refl, sym, ◌∙◌, ap, subst, lit≤, arith}
 use Rattle.std.specs.Option.{option_or}
 use Rattle.std.specs.Simd.{first_chunks}
 use Rattle.std.proofs.lemmas.List.{drop_more, get_or-drop, get_or-take, length-drop, map-append, take-append-drop, take_more}
@@ -18,7 +18,7 @@ table_numbers-append : (image : Image) (offset k m : ℕ) → table_numbers imag
 table_numbers-append image offset k m = counters_at-append 6 k m (8 * k) image offset (lit≤ tt) (omega arith)
 
 -- the numbers of the first k pieces of eight bytes are the table's
-pub chunk_numbers-first : (k : ℕ) (bytes : List ℕ) → 8 * k ≤ length bytes → chunk_numbers (first_chunks 8 k bytes) ≡ table_numbers (image_of bytes) 0 k
+chunk_numbers-first : (k : ℕ) (bytes : List ℕ) → 8 * k ≤ length bytes → chunk_numbers (first_chunks 8 k bytes) ≡ table_numbers (image_of bytes) 0 k
 chunk_numbers-first zero bytes within = refl
 chunk_numbers-first (suc k) bytes within =
     let first : be (image_of (take 8 bytes)) 0 8 ≡ be (image_of bytes) 0 8 =
@@ -27,6 +27,10 @@ chunk_numbers-first (suc k) bytes within =
     let moved = counters_at-same 6 k (8 * k) (image_of (drop 8 bytes)) (image_of bytes) 0 8 (lit≤ tt) (omega arith) (λ j below. get_or-drop 8 bytes (0 + j) 0 ∙ ap (λ (n : ℕ). get_or bytes n 0) (omega arith)) in
     let more : suc k ≡ 1 + k = omega arith in
     rw first (ap (λ (xs : List ℕ). be (image_of bytes) 0 8 ∷ xs) (rest ∙ moved) ∙ sym (rw (← more) at (table_numbers-append (image_of bytes) 0 1 k)))
+
+-- and so where they are all the whole pieces
+pub chunk_numbers-all : (bytes : List ℕ) (chunks : List (List ℕ)) → chunks ≡ first_chunks 8 (length bytes / 8) bytes → chunk_numbers chunks ≡ table_numbers (image_of bytes) 0 (length bytes / 8)
+chunk_numbers-all bytes chunks is = ap chunk_numbers is ∙ chunk_numbers-first (length bytes / 8) bytes (omega arith)
 
 -- one piece more
 pub chunk_numbers-more : (chunks : List (List ℕ)) (i : ℕ) (d : List ℕ) → i < length chunks → chunk_numbers (take (i + 1) chunks) ≡ chunk_numbers (take i chunks) ++ be (image_of (get_or chunks i d)) 0 8 ∷ []

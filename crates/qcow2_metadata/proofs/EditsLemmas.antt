@@ -5,7 +5,7 @@ use Rattle.std.proofs.lemmas.List.Elements.{All-set}
 use Rattle.std.proofs.lemmas.Bool.Decides.{nat_tests}
 use Rattle.std.proofs.lemmas.List.{length-set}
 use Rattle.std.proofs.lemmas.List.Sums.{sum_by-append, sum_by-set}
-use Rattle.std.proofs.lemmas.Grind.{same_number_lists}
+use Rattle.std.proofs.lemmas.Grind.{elements, same_number_lists}
 use Rattle.std.proofs.lemmas.Option.{none-some, same_Some}
 use Rattle.std.proofs.lemmas.Bool.{cases_eq}
 use Rattle.std.specs.List.{list_all}
@@ -28,19 +28,11 @@ record IsDataAt (v offset : ℕ) : Type 0 where
   copied : field v 63 1 ≡ 1
   high : field v 56 6 ≡ 0
 
-data_at : (offset sectors : ℕ) → offset ≡ sectors * 512 → offset ≤ 2 ^ 56 - 512 → IsDataAt (2 ^ 63 + offset) offset
-data_at offset sectors whole fits = omega arith
-
-mappable_fits : (g : Geometry) (cluster : ℕ) → is_mappable g cluster ≡ true → cluster * 2 ^ g.cluster_bits ≤ 2 ^ 56 - 512
-mappable_fits g cluster mappable = grind (arith, nat_tests)
-
 data_entry_is_data : (g : Geometry) (cluster : ℕ) → IsClusterBits g.cluster_bits → is_mappable g cluster ≡ true → IsDataAt (data_entry g.cluster_bits cluster) (cluster * 2 ^ g.cluster_bits)
 data_entry_is_data g cluster bits mappable =
-    data_at (cluster * 2 ^ g.cluster_bits) (cluster * 2 ^ (g.cluster_bits - 9)) (offset_in_sectors g.cluster_bits cluster bits.0) (mappable_fits g cluster mappable)
-
--- a cluster that may be mapped to is not at offset 0, but in an external data file
-mapped_is_allocated : (external : Bool) (cluster size : ℕ) → 0 < size → (if external then true else not (cluster == 0)) ≡ true → (not (cluster * size == 0) || (external && true)) ≡ true
-mapped_is_allocated external cluster size some mappable = grind (arith, nat_tests, mul-le 1 1 cluster size)
+    let sectors = offset_in_sectors g.cluster_bits cluster bits.0 in
+    let fits : cluster * 2 ^ g.cluster_bits ≤ 2 ^ 56 - 512 = grind (arith, nat_tests) in
+    omega (arith, sectors, fits)
 
 second_holds : (a b : Bool) → (a && b) ≡ true → b ≡ true
 second_holds a b both = grind arith
@@ -52,7 +44,7 @@ bytes_of_cluster cb cluster = record { start = cluster * 2 ^ cb; end = cluster *
 data_range : (g : Geometry) (cluster : ℕ) → IsClusterBits g.cluster_bits → is_mappable g cluster ≡ true → byte_range g (data_entry g.cluster_bits cluster) ≡ Some (bytes_of_cluster g.cluster_bits cluster)
 data_range g cluster bits mappable =
     let parts = data_entry_is_data g cluster bits mappable in
-    let allocated = mapped_is_allocated g.external_data_file cluster (2 ^ g.cluster_bits) (pow_pos g.cluster_bits) (second_holds _ _ mappable) in
+    let allocated : (not (cluster * 2 ^ g.cluster_bits == 0) || (g.external_data_file && true)) ≡ true = grind (arith, nat_tests, mul-le 1 1 cluster (2 ^ g.cluster_bits), pow_pos g.cluster_bits) in
     rw (parts.standard, parts.copied, parts.at, allocated) refl
 
 -- these clusters are the one alone
@@ -80,29 +72,15 @@ refer found c = unwrap_or (option_map (λ clusters. is_among clusters c) found) 
 pub data_entry-meets : (g : Geometry) (cluster c : ℕ) → IsClusterBits g.cluster_bits → is_mappable g cluster ≡ true → meets g (data_entry g.cluster_bits cluster) c ≡ (cluster == c)
 data_entry-meets g cluster c bits mappable = rw (data_entry-allocation g cluster bits mappable) (grind (arith, nat_tests))
 
--- the zero flag changes nothing else of a standard entry
-record IsSameButZero (v w : ℕ) : Type 0 where
-  kind : field w 62 1 ≡ field v 62 1
-  at : offset_field w ≡ offset_field v
-  copied : field w 63 1 ≡ field v 63 1
-  low : field w 1 8 ≡ field v 1 8
-  high : field w 56 6 ≡ field v 56 6
-
-with_zero_flag_is_same : (v : ℕ) → IsSameButZero v (with_zero_flag v)
-with_zero_flag_is_same v = omega arith
-
-with_zero_flag-byte_range : (g : Geometry) (v : ℕ) → is_compressed v ≡ false → byte_range g (with_zero_flag v) ≡ byte_range g v
-with_zero_flag-byte_range g v standard =
-    let same = with_zero_flag_is_same v in
-    rw (same.kind, standard, same.at, same.copied) refl
-
 pub standard_if_host_cluster : (g : Geometry) (v : ℕ) → has_host_cluster g v ≡ true → is_compressed v ≡ false
 standard_if_host_cluster g v has = grind arith
 
 -- an entry that has a host cluster refers to the same with the zero flag
 pub with_zero_flag-allocation : (g : Geometry) (v : ℕ) → has_host_cluster g v ≡ true → allocation g (with_zero_flag v) ≡ allocation g v
 with_zero_flag-allocation g v has =
-    ap (λ (found : Option ByteRange). option_map (clusters_met g.cluster_bits) found) (with_zero_flag-byte_range g v (standard_if_host_cluster g v has))
+    let standard = standard_if_host_cluster g v has in
+    let same : byte_range g (with_zero_flag v) ≡ byte_range g v = grind arith in
+    rw same refl
 
 -- zeros with no host cluster, and an entry that is cleared, refer to nothing
 pub allocation-one : (g : Geometry) → allocation g 1 ≡ None
@@ -112,9 +90,7 @@ pub allocation-zero : (g : Geometry) → allocation g 0 ≡ None
 allocation-zero g = grind arith
 
 pub with_zero_flag-fault : (cb v : ℕ) → is_compressed v ≡ false → l2_fault cb (with_zero_flag v) ≡ l2_fault cb v
-with_zero_flag-fault cb v standard =
-    let same = with_zero_flag_is_same v in
-    rw (same.kind, standard, same.at, same.low, same.high) refl
+with_zero_flag-fault cb v standard = grind arith
 
 -- clusters one after another are the one alone just where they have it among them and no other
 just_is_all : (cluster : ℕ) (found : Option ClustersToFreeEntry) → IfSome found (λ some. 1 ≤ some.count.0) → (is_just cluster found ≡ true) ↔ ((refer found cluster ≡ true) × ((c : ℕ) → refer found c ≡ true → c ≡ cluster))
@@ -128,8 +104,7 @@ just_is_all cluster (Some clusters) some = (
 )
 
 some_clusters : (cb : ℕ) (found : Option ByteRange) → IfSome (option_map (clusters_met cb) found) (λ some. 1 ≤ some.count.0)
-some_clusters cb None = tt
-some_clusters cb (Some range) = omega arith
+some_clusters cb found = grind arith
 
 -- an entry goes on referring to all that it refers to just where that is the cluster that it is mapped to
 pub keeps-just : (g : Geometry) (cluster v : ℕ) → (keeps g (to_data cluster) v ≡ true) ↔ (Meets g v cluster × ((c : ℕ) → Meets g v c → c ≡ cluster))
@@ -140,16 +115,10 @@ keeps-just g cluster v =
     )
 
 handed_back-option : (found : Option ClustersToFreeEntry) (c : ℕ) → handed_back (option_to_list found) c ≡ one_if (refer found c)
-handed_back-option None c = refl
-handed_back-option (Some clusters) c = omega arith
-
-just_refers : (cluster : ℕ) (found : Option ClustersToFreeEntry) (c : ℕ) → is_just cluster found ≡ true → refer found c ≡ (cluster == c)
-just_refers cluster None c just = cc
-just_refers cluster (Some clusters) c just = grind (arith, nat_tests)
+handed_back-option found c = grind arith
 
 mapped_balances : (cluster : ℕ) (found : Option ClustersToFreeEntry) (c : ℕ) (kept : Bool) → is_just cluster found ≡ kept → one_if (cluster == c) + handed_back (option_to_list (if kept then None else found)) c ≡ one_if (refer found c) + times_gained (option_to_list (if kept then None else Some cluster)) c
-mapped_balances cluster found c true just = rw (just_refers cluster found c just) refl
-mapped_balances cluster found c false just = omega (arith, handed_back-option found c)
+mapped_balances cluster found c kept just = grind (arith, nat_tests, handed_back-option found c)
 
 zeros_balance : (g : Geometry) (v c : ℕ) (kept : Bool) → (kept ≡ true → has_host_cluster g v ≡ true) → one_if (meets g (if kept then with_zero_flag v else 1) c) + handed_back (option_to_list (if kept then None else allocation g v)) c ≡ one_if (meets g v c) + times_gained [] c
 zeros_balance g v c true has = rw (with_zero_flag-allocation g v (has refl)) refl
@@ -163,21 +132,12 @@ balance-entry g (to_zeros keep) v c bits can =
     zeros_balance g v c (keep && has_host_cluster g v) (second_holds keep (has_host_cluster g v))
 balance-entry g to_nothing v c bits can = rw (allocation-zero g, handed_back-option (allocation g v) c) (omega arith)
 
-edit_fits : (g : Geometry) (e : TableEdit) (entries : ℕ) → fits_table g entries e ≡ true → (e.index < entries) × (can_be_made g e.edit ≡ true)
-edit_fits g e entries fits = (grind (arith, nat_tests), second_holds _ _ fits)
-
-both_hold : (a b : Bool) → (a && b) ≡ true → (a ≡ true) × (b ≡ true)
-both_hold a b both = grind arith
-
 after_edit-length : (g : Geometry) (e : TableEdit) (numbers : List ℕ) → length (after_edit g e numbers) ≡ length numbers
 after_edit-length g e numbers = length-set numbers e.index (changed g e.edit (slice_index numbers e.index))
 
 -- the first of some edits that all fit a table fits it, and the others fit the table after that
 first_fits : (g : Geometry) (e : TableEdit) (edits : List TableEdit) (numbers : List ℕ) → list_all (fits_table g (length numbers)) (e ∷ edits) ≡ true → (e.index < length numbers) × (can_be_made g e.edit ≡ true) × (list_all (fits_table g (length (after_edit g e numbers))) edits ≡ true)
-first_fits g e edits numbers fit =
-    let both = both_hold (fits_table g (length numbers) e) (list_all (fits_table g (length numbers)) edits) fit in
-    let first = edit_fits g e (length numbers) both.0 in
-    (first.0, first.1, rw (after_edit-length g e numbers) both.1)
+first_fits g e edits numbers fit = rw (after_edit-length g e numbers) (grind (arith, nat_tests))
 
 -- a run hands back as many references to a cluster as the table loses, and gains as many as it is given
 pub balance-run : (g : Geometry) (edits : List TableEdit) (numbers : List ℕ) (c : ℕ) → IsClusterBits g.cluster_bits → list_all (fits_table g (length numbers)) edits ≡ true → references g (run_of g edits numbers).numbers c + handed_back (run_of g edits numbers).freed c ≡ references g numbers c + times_gained (run_of g edits numbers).gained c
@@ -204,11 +164,7 @@ after_edit-is g e numbers below = record {
 -- and nothing else is
 pub edit-determines : (g : Geometry) (e : TableEdit) (old new : List ℕ) → IsEdit g e old new → new ≡ after_edit g e old
 edit-determines g e old new is =
-    let v = changed g e.edit (slice_index old e.index) in
-    same_number_lists new (after_edit g e old) (is.entries ∙ sym (after_edit-length g e old)) (λ k below. elim (cases_eq k e.index) [
-      | inl same ↦ rw same (is.entry ∙ sym (get_or-set_same old e.index v 0 (omega (arith, is.entries))))
-      | inr other ↦ is.others k other ∙ sym (get_or-set_other old e.index k v 0 other)
-    ])
+    same_number_lists new (after_edit g e old) (is.entries ∙ sym (after_edit-length g e old)) (λ k below. grind (arith, elements, is.entry, is.others k, is.entries))
 
 next_step : (step : List ℕ) (steps : List (List ℕ)) (i : ℕ) → slice_get (step ∷ steps) (suc i + 1) ≡ slice_get steps (i + 1)
 next_step step steps i =

@@ -1,7 +1,7 @@
 use Rattle.std.proofs.Common.{◌≡◌, ℕ, Bool, true, false, not, ◌&&◌, ◌||◌, nat_eq, nat_lt, if◌then◌else◌, ◌+◌, ◌-◌, ◌*◌, ◌/◌, ◌%◌, ◌^◌, ◌<◌, ◌≤◌, Some, None, refl, ap, sym, ◌∙◌, inl, inr, arith}
 use Rattle.std.proofs.lemmas.Bool.{lt-ltb, cases_Bool}
 use Rattle.std.proofs.lemmas.Bool.Decides.{same_from_decides, Decides-eqb, nat_tests}
-use Rattle.std.proofs.lemmas.Nat.{pow-add, shl-shr, mul-le, div-mul-add, mod-mul-add}
+use Rattle.std.proofs.lemmas.Nat.{pow_pos, pow-add, shl-shr, mul-le, div-mul-add, mod-mul-add}
 use Rattle.std.proofs.Math.Nat.{mul-mod_left, add-mod_left, mod-eq_of_lt, zero-mul, zero-div}
 use Rattle.std.proofs.Math.Pow.{pow_mono}
 use Rattle.qcow2_base.specs.Bits.{field}
@@ -25,9 +25,6 @@ bit_below b = grind arith
 bit_is_set : (b : Bool) → nat_eq (bit b) 1 ≡ b
 bit_is_set b = grind arith
 
-copied_bit_is : (b : Bool) → copied_bit b ≡ bit b * 2 ^ 63
-copied_bit_is b = grind arith
-
 -- the fields of a standard entry
 record IsStandard (v offset copied zeros : ℕ) : Type 0 where
   kind : field v 62 1 ≡ 0
@@ -36,9 +33,6 @@ record IsStandard (v offset copied zeros : ℕ) : Type 0 where
   highest : field v 63 1 ≡ copied
   lowest : field v 0 1 ≡ zeros
 
-standard_fields : (sectors copied flag : ℕ) → sectors * 512 < 2 ^ 56 → copied < 2 → flag < 2 → IsStandard (copied * 2 ^ 63 + sectors * 512 + flag) (sectors * 512) copied flag
-standard_fields sectors copied flag below c z = omega arith
-
 -- the number of a mapping to a cluster
 abbrev standard_number : ℕ → ℕ → Bool → Bool → ℕ
 standard_number cb cluster copied flag = copied_bit copied + cluster * 2 ^ cb + bit flag
@@ -46,23 +40,19 @@ standard_number cb cluster copied flag = copied_bit copied + cluster * 2 ^ cb + 
 is_standard : (cb cluster : ℕ) (copied flag : Bool) → 9 ≤ cb → cluster * 2 ^ cb < 2 ^ 56 → IsStandard (standard_number cb cluster copied flag) (cluster * 2 ^ cb) (bit copied) (bit flag)
 is_standard cb cluster copied flag low placed =
     let sectors = offset_in_sectors cb cluster low in
-    rw (copied_bit_is copied, sectors) (standard_fields (cluster * 2 ^ (cb - 9)) (bit copied) (bit flag) (rw sectors at placed) (bit_below copied) (bit_below flag))
+    let top : copied_bit copied ≡ bit copied * 2 ^ 63 = grind arith in
+    rw (top, sectors) (omega (arith, rw sectors at placed, bit_below copied, bit_below flag))
 
 standard_is_lawful : (cb cluster : ℕ) (copied flag : Bool) → 9 ≤ cb → cluster * 2 ^ cb < 2 ^ 56 → l2_fault cb (standard_number cb cluster copied flag) ≡ None
 standard_is_lawful cb cluster copied flag low placed =
     let fields = is_standard cb cluster copied flag low placed in
     rw (fields.kind, fields.reserved, fields.middle, mul-mod_left cluster (2 ^ cb)) refl
 
-begins_at_zero : (cb cluster : ℕ) → nat_eq (cluster * 2 ^ cb) 0 ≡ nat_eq cluster 0
-begins_at_zero cb cluster =
-    let offset = Decides-eqb (cluster * 2 ^ cb) 0 in
-    let back : cluster * 2 ^ cb ≡ 0 → cluster ≡ 0 = λ e. sym (shl-shr cluster cb) ∙ ap (λ x. x / 2 ^ cb) e ∙ zero-div (2 ^ cb) in
-    same_from_decides _ _ (λ t. back (offset.0 t), λ e. offset.1 (ap (λ x. x * 2 ^ cb) e ∙ zero-mul (2 ^ cb))) (Decides-eqb cluster 0)
-
 standard_reads : (cb guest_cluster cluster : ℕ) (copied flag external : Bool) → 9 ≤ cb → cluster * 2 ^ cb < 2 ^ 56 → mapping (geometry cb external) guest_cluster (standard_number cb cluster copied flag) ≡ standard_mapping flag (if is_told external cluster copied then Some cluster else None) copied (guest_cluster * 2 ^ cb)
 standard_reads cb guest_cluster cluster copied flag external low placed =
+    let none : nat_eq (cluster * 2 ^ cb) 0 ≡ nat_eq cluster 0 = grind (arith, nat_tests, mul-le 1 1 cluster (2 ^ cb), pow_pos cb) in
     let fields = is_standard cb cluster copied flag low placed in
-    rw (fields.kind, fields.middle, fields.highest, fields.lowest, bit_is_set copied, bit_is_set flag, begins_at_zero cb cluster, shl-shr cluster cb) refl
+    rw (fields.kind, fields.middle, fields.highest, fields.lowest, bit_is_set copied, bit_is_set flag, none, shl-shr cluster cb) refl
 
 told_data : (told copied : Bool) (cluster offset : ℕ) → standard_mapping false (if told then Some cluster else None) copied offset ≡ (if told then data_file cluster copied else backing offset)
 told_data told copied cluster offset = grind arith
@@ -124,14 +114,11 @@ sectors_below cb offset length low short =
     let one : 512 ≤ 2 ^ cb = pow_mono low in
     omega (arith, all, one)
 
-to_the_sectors_end : (offset length : ℕ) → 0 < length → 512 * (sectors_beyond offset length + 1) - offset % 512 ≡ sector_end (offset + length) - offset
-to_the_sectors_end offset length some = omega arith
-
 compressed_reads : (cb guest_cluster offset length : ℕ) (external : Bool) → 9 ≤ cb → cb ≤ 21 → offset < 2 ^ (70 - cb) → offset < 2 ^ 56 → 0 < length → length < 2 ^ cb → mapping (geometry cb external) guest_cluster (2 ^ 62 + sectors_beyond offset length * 2 ^ (70 - cb) + offset) ≡ compressed offset (sector_end (offset + length) - offset)
 compressed_reads cb guest_cluster offset length external low high fits placed some short =
     let few = sectors_below cb offset length low short in
     let fields = compressed_fields cb offset (sectors_beyond offset length) low high fits few in
-    rw (fields.kind, fields.lower, fields.upper, mod-eq_of_lt placed) (ap (compressed offset) (to_the_sectors_end offset length some))
+    rw (fields.kind, fields.lower, fields.upper, mod-eq_of_lt placed) (ap (compressed offset) (omega arith))
 
 -- the parts of a compressed entry's number are below bit 62
 pub compressed_parts_fit : (cb offset length : ℕ) → 9 ≤ cb → cb ≤ 21 → offset < 2 ^ (70 - cb) → length < 2 ^ cb → sectors_beyond offset length * 2 ^ (70 - cb) + offset < 2 ^ 62
@@ -157,21 +144,3 @@ entry_reads_back cb (Zero (Some host_cluster) copied) guest_cluster external low
     standard_reads cb guest_cluster host_cluster.0 copied true external low placed ∙ told_zeros (is_told external host_cluster.0 copied) copied host_cluster.0 (guest_cluster * 2 ^ cb)
 entry_reads_back cb (Zero None copied) guest_cluster external low high placed fits = zeros_read cb guest_cluster external
 entry_reads_back cb (Compressed host_offset length) guest_cluster external low high placed fits = compressed_reads cb guest_cluster host_offset.0 length.value external low high fits.0 placed length.ok fits.1
-
-compressed_is_not_copied : (kind below aligned : Bool) (high rest : ℕ) → entry_fault (not (nat_eq (if kind then high else rest) 0) || (kind && not below)) (not kind && not aligned) ≡ None → kind ≡ true → high ≡ 0
-compressed_is_not_copied kind below aligned high rest lawful is = grind (arith, nat_tests)
-
--- a lawful entry without its copied flag is lawful
-pub lawful_without_copied : (cb v : ℕ) → v < 2 ^ 64 → l2_fault cb v ≡ None → l2_fault cb (v % 2 ^ 63) ≡ None
-lawful_without_copied cb v fits lawful = elim (cases_Bool (is_compressed v)) [
-  | inl packed ↦
-      let clear = compressed_is_not_copied (is_compressed v) (nat_lt (v % 2 ^ (70 - cb)) (2 ^ 56)) (nat_eq (offset_field v % 2 ^ cb) 0) (field v 63 1 * 2 ^ 63) (field v 1 8 * 2 ^ 1 + field v 56 6 * 2 ^ 56) lawful packed in
-      let same : v % 2 ^ 63 ≡ v = omega (arith, clear) in
-      rw same lawful
-  | inr standard ↦
-      let kind : field (v % 2 ^ 63) 62 1 ≡ field v 62 1 = omega arith in
-      let reserved : field (v % 2 ^ 63) 1 8 * 2 ^ 1 + field (v % 2 ^ 63) 56 6 * 2 ^ 56 ≡ field v 1 8 * 2 ^ 1 + field v 56 6 * 2 ^ 56 = omega arith in
-      let offset : offset_field (v % 2 ^ 63) ≡ offset_field v = omega arith in
-      let known = rw standard at lawful in
-      rw (kind, standard, reserved, offset) known
-]

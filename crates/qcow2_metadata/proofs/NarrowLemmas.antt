@@ -85,12 +85,6 @@ digit_more order per i byte counters narrow each len small below low =
       fits = omega (arith, sum, limit);
     }
 
--- the byte of counters that are cut out of a list
-pub packed_part : (order per j : ℕ) (counters : List ℕ) → order ≤ 3 → per ≡ per_byte order → from_digits (2 ^ width order) (slice_range counters (per * j) (per * j + per)) ≡ packed order counters j
-packed_part order per j counters narrow each =
-    let count : per * j + per - per * j ≡ per = omega arith in
-    rw (packed-narrow order counters j narrow, count, each) refl
-
 -- counters of eight bits are the bytes
 pub counters_are_bytes : (order : ℕ) (bytes : List ℕ) → order ≡ 3 → IsBytes (image_of bytes) → counters_at order (image_of bytes) 0 (per_byte order * length bytes) ≡ bytes
 counters_are_bytes order bytes eight small =

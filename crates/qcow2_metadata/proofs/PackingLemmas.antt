@@ -43,7 +43,7 @@ narrow_cases P a b c d (suc (suc (suc zero))) narrow = d
 narrow_cases P a b c d (suc (suc (suc (suc order)))) narrow = absurd (omega arith)
 
 -- a fact of each order of wider counters
-pub wide_cases : (P : ℕ → Type 0) → P 4 → P 5 → P 6 → (order : ℕ) → 4 ≤ order → order ≤ 6 → P order
+wide_cases : (P : ℕ → Type 0) → P 4 → P 5 → P 6 → (order : ℕ) → 4 ≤ order → order ≤ 6 → P order
 wide_cases P a b c order low high = elim (cases_lt order 5) [
   | inl four ↦ let is : order ≡ 4 = omega arith in rw is a
   | inr more ↦ elim (cases_lt order 6) [

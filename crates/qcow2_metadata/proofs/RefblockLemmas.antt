@@ -7,7 +7,7 @@ use Rattle.std.proofs.lemmas.Bool.{cases_lt}
 use Rattle.std.proofs.lemmas.List.FromFn.{fill_by_all}
 use Rattle.std.proofs.lemmas.Nat.{pow-add, pow_pos}
 use Rattle.qcow2_base.specs.Storage.{Holds, Image, IsBytes, SameOutside, image_of}
-use Rattle.qcow2_metadata.proofs.PackingLemmas.{counter_at-packed, counters_at-append, counters_at-held, counters_at-same, narrow_cases, packed-counters_at, wide_cases, width-per_byte}
+use Rattle.qcow2_metadata.proofs.PackingLemmas.{counter_at-packed, counters_at-append, counters_at-held, counters_at-same, narrow_cases, packed-counters_at, width-per_byte}
 use Rattle.qcow2_metadata.specs.Pieces.{Stand}
 use Rattle.qcow2_base.specs.Types.{IsClusterBits}
 use Rattle.qcow2_base.specs.declared.types.HostCluster.{HostCluster}
@@ -17,30 +17,13 @@ use Rattle.qcow2_metadata.specs.Refblock.Packing.{counter_at, counters_at, packe
 use Rattle.qcow2_metadata.specs.declared.refblock.counters.Counters.{Counters}
 use Rattle.qcow2_metadata.specs.declared.refblock.counters.Counters.TheVariants.{U8, U16, U32, U64}
 
--- the greatest counters of each order
-abbrev pub greatest : List ℕ
-greatest = 1 ∷ 3 ∷ 15 ∷ 255 ∷ 65535 ∷ 4294967295 ∷ 18446744073709551615 ∷ []
-
-pub greatest_is : (order : ℕ) → order ≤ 6 → slice_index greatest order ≡ greatest_counter order
-greatest_is order low = elim (cases_lt order 4) [
-  | inl narrow ↦ narrow_cases (λ n. slice_index greatest n ≡ greatest_counter n) refl refl refl refl order (omega arith)
-  | inr wide ↦ wide_cases (λ n. slice_index greatest n ≡ greatest_counter n) refl refl refl order wide low
-]
-
-narrow_fits : (order number : ℕ) → order ≤ 3 → number ≤ greatest_counter order → number < 2 ^ 8
-narrow_fits order number low =
-    narrow_cases (λ n. number ≤ greatest_counter n → number < 2 ^ 8) (λ f. omega arith) (λ f. omega arith) (λ f. omega arith) (λ f. omega arith) order low
-
 -- the integers of a list hold each number that a counter holds
 pub counter_holds : (order : ℕ) (counters : Counters) (number : ℕ) → IsOfOrder order counters → number ≤ greatest_counter order → CanHold counters number
-counter_holds order (U8 list) number kind fits = narrow_fits order number kind fits
+counter_holds order (U8 list) number kind fits =
+    narrow_cases (λ n. number ≤ greatest_counter n → number < 2 ^ 8) (λ f. omega arith) (λ f. omega arith) (λ f. omega arith) (λ f. omega arith) order kind fits
 counter_holds order (U16 list) number kind fits = let same = rw kind at fits in omega (arith, same)
 counter_holds order (U32 list) number kind fits = let same = rw kind at fits in omega (arith, same)
 counter_holds order (U64 list) number kind fits = let same = rw kind at fits in omega (arith, same)
-
--- a number that a counter holds is below the power of two of its width
-below_width : (order number : ℕ) → number ≤ greatest_counter order → number < 2 ^ width order
-below_width order number fits = omega (arith, fits, pow_pos (width order))
 
 -- a block of zeros is lawful
 pub zeros-lawful : (cb order : ℕ) (counters : Counters) → IsClusterBits cb → order ≤ 6 → kept_counters counters ≡ replicate (block_entries cb order) 0 → IsLawfulBlock cb order None (kept_counters counters)
@@ -59,7 +42,7 @@ set-lawful cb order cluster old new index number lawful set fits = record {
   orders = lawful.orders;
   place = lawful.place;
   count = ap length set ∙ length-set (kept_counters old) index number ∙ lawful.count;
-  small = rw set (All-set (λ counter. counter < 2 ^ width order) (kept_counters old) index number (below_width order number fits) lawful.small);
+  small = rw set (All-set (λ counter. counter < 2 ^ width order) (kept_counters old) index number (omega (arith, fits, pow_pos (width order))) lawful.small);
 }
 
 -- the counters of a block fill its cluster
@@ -68,17 +51,12 @@ block_bytes cb order bits orders =
     let whole : order + (cb + 3 - order) ≡ 3 + cb = omega (arith, bits.0, orders) in
     sym (pow-add 2 order (cb + 3 - order)) ∙ ap (λ n. 2 ^ n) whole ∙ pow-add 2 3 cb
 
--- counters are what stands at their indices
-counters_by_index : (order : ℕ) (image : Image) (counters : List ℕ) → ((i : ℕ) → i < length counters → counter_at order image 0 i ≡ slice_index counters i) → counters_at order image 0 (length counters) ≡ counters
-counters_by_index order image counters each =
-    sym (fill_by_all (counter_at order image 0) counters (length counters) 0 refl (λ k below. sym (each k below)))
-
 -- where the bytes of counters stand, these are the block's
 pub stand-decoded : (order n len : ℕ) (counters : List ℕ) (image : Image) (offset : ℕ) → order ≤ 6 → AreCounters order counters → length counters ≡ n → width order * n ≡ 8 * len → Stand (packed order counters) len image offset → counters_at order image offset n ≡ counters
 stand-decoded order n len counters image offset orders small count whole stand =
     counters_at-same order n len image (packed order counters) offset 0 orders whole (λ k below. let zero_k : 0 + k ≡ k = omega arith in rw zero_k (stand k below))
     ∙ ap (counters_at order (packed order counters) 0) (sym count)
-    ∙ counters_by_index order (packed order counters) counters (λ i below. counter_at-packed order counters i orders small)
+    ∙ sym (fill_by_all (counter_at order (packed order counters) 0) counters (length counters) 0 refl (λ i below. sym (counter_at-packed order counters i orders small)))
 
 -- a block that is written where it stands already changes no byte
 pub stand-same : (order n len : ℕ) (counters : List ℕ) (old new : Image) (offset : ℕ) → order ≤ 6 → IsBytes old → width order * n ≡ 8 * len → Stand (packed order counters) len new offset → SameOutside offset len old new → counters_at order old offset n ≡ counters → new ≡ old

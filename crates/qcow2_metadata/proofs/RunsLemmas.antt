@@ -24,10 +24,6 @@ use Rattle.qcow2_metadata.proofs.EntriesLemmas.{lawful_by_kind}
 use Rattle.qcow2_metadata.proofs.MappingLemmas.{bit, bit_below}
 use Rattle.qcow2_metadata.proofs.TableLemmas.{no_fault_item}
 
--- a bit as the number of a flag
-flag_of : (n : ℕ) → n < 2 → n ≡ bit (nat_eq n 1)
-flag_of n below = grind (arith, nat_tests)
-
 -- a compressed entry goes on at each compressed one
 after_compressed : (b z cp : Bool) (h : Option ℕ) (k a l o m p : ℕ) → reads_on k (compressed a l) (if b then compressed o m else standard_mapping z h cp p) ≡ b
 after_compressed b z cp h k a l o m p = grind arith
@@ -43,15 +39,12 @@ same_place n q q0 k z z0 some low low0 =
     let parts = same_from_place q z (q0 + k) z0 n (omega arith) (omega arith) in
     rw moved (same_from_decides _ _ (Decides-eqb (q * n + z) ((q0 + k) * n + z0)) (λ t. let both : (q ≡ q0 + k) × (z ≡ z0) = grind (arith, nat_tests) in rw (both.0, both.1) refl, λ e. let both = parts e in grind (arith, nat_tests)))
 
-none_if : (q : ℕ) → (1 ≤ q → false ≡ true) → q ≡ 0
-none_if q told = grind arith
-
 after_cluster : (zb zb0 alloc cp cp0 : Bool) (n q q0 k o p : ℕ) → 2 ≤ n → 1 ≤ k → (1 ≤ q → alloc ≡ true)
     → nat_eq (q * n + bit zb) (q0 * n + bit zb0 + k * n)
     ≡ reads_on k (standard_mapping zb0 (Some q0) cp0 o) (standard_mapping zb (if alloc then Some q else None) cp p)
 after_cluster zb zb0 alloc cp cp0 n q q0 k o p some far told =
     let same = same_place n q q0 k (bit zb) (bit zb0) some (bit_below zb) (bit_below zb0) in
-    let nothing : alloc ≡ false → q ≡ 0 = λ none. none_if q (λ above. sym none ∙ told above) in
+    let nothing : alloc ≡ false → q ≡ 0 = λ none. grind (arith, nat_tests) in
     rw same (grind (arith, nat_tests))
 
 after_no_cluster : (zb zb0 alloc cp cp0 : Bool) (x q k o p : ℕ) → (alloc ≡ true → 2 ≤ x) → (alloc ≡ false → x ≡ bit zb)
@@ -72,7 +65,7 @@ parts_of cb v lawful standard =
     let reserved : field v 1 8 * 2 ^ 1 + field v 56 6 * 2 ^ 56 ≡ 0 = grind (arith, nat_tests, tests) in
     let aligned : offset_field v % 2 ^ cb ≡ 0 = grind (arith, nat_tests, tests) in
     let kind : field v 62 1 ≢ 1 = eqb-false (field v 62 1) 1 standard in
-    let flag : field v 0 1 ≡ bit (is_zero v) = flag_of (field v 0 1) (omega arith) in
+    let flag : field v 0 1 ≡ bit (is_zero v) = grind (arith, nat_tests) in
     let offset : offset_field v ≡ offset_field v / 2 ^ cb * 2 ^ cb = omega (arith, div-add-mod' (offset_field v) (2 ^ cb)) in
     let fields : v % 2 ^ 63 ≡ offset_field v + field v 0 1 = omega (arith, reserved, kind) in
     record {
@@ -80,21 +73,6 @@ parts_of cb v lawful standard =
       offset = offset;
       small = omega arith;
     }
-
-plain_large : (cb v : ℕ) → Parts cb v → is_allocated false v ≡ true → 2 ≤ v % 2 ^ 63
-plain_large cb v parts is = grind (arith, nat_tests, parts.lower, parts.offset)
-
-plain_small : (cb v : ℕ) → Parts cb v → is_allocated false v ≡ false → v % 2 ^ 63 ≡ bit (is_zero v)
-plain_small cb v parts is = grind (arith, nat_tests, parts.lower, parts.offset)
-
-external_large : (cb v : ℕ) → Parts cb v → is_allocated true v ≡ true → 2 ≤ v
-external_large cb v parts is = grind (arith, nat_tests, parts.lower, parts.offset)
-
-external_small : (cb v : ℕ) → v < 2 ^ 64 → Parts cb v → is_allocated true v ≡ false → v ≡ bit (is_zero v)
-external_small cb v fits parts is = grind (arith, nat_tests, parts.lower, parts.offset)
-
-no_offset : (external : Bool) (cb v : ℕ) → Parts cb v → is_allocated external v ≡ false → v % 2 ^ 63 ≡ bit (is_zero v)
-no_offset external cb v parts is = grind (arith, nat_tests, parts.lower, parts.offset)
 
 -- a compressed number is larger than those that go on from a standard one
 compressed_large : (v : ℕ) → is_compressed v ≡ true → 2 ^ 62 ≤ v % 2 ^ 63
@@ -116,11 +94,8 @@ pub after_a_compressed_entry : (cb : ℕ) (external : Bool) (k v v0 c other : �
     → nat_eq (bit_and v 4611686018427387904) (4611686018427387904 + k * 0) ≡ reads_on k (mapping (geometry cb external) c v0) (mapping (geometry cb external) other v)
 after_a_compressed_entry cb external k v v0 c other is =
     let test : nat_eq (bit_and v 4611686018427387904) (4611686018427387904 + k * 0) ≡ is_compressed v =
-    same_from_decides _ _ (Decides-eqb (bit_and v 4611686018427387904) (4611686018427387904 + k * 0)) (
-      λ t. let kind : field v 62 1 ≡ 1 = (Decides-eqb (field v 62 1) 1).0 t in omega (arith, and_pow v 62, kind),
-      λ e. (Decides-eqb (field v 62 1) 1).1 (omega (arith, and_pow v 62, e)),
-    ) in
-    rw is (test ∙ sym (after_compressed (is_compressed v) (is_zero v) (is_copied v) (host_cluster (geometry cb external) v) k (compressed_offset cb v0) (compressed_length cb v0) (compressed_offset cb v) (compressed_length cb v) (other * 2 ^ cb)))
+    grind (arith, nat_tests, and_pow v 62) in
+    rw is (test ∙ grind arith)
 
 pub after_an_entry_with_a_cluster : (cb : ℕ) (external : Bool) (k v v0 c other : ℕ) → cb ≤ 21 → 9 ≤ cb → 1 ≤ k → k ≤ 262144 → v < 2 ^ 64
     → l2_fault cb v ≡ None → l2_fault cb v0 ≡ None → is_compressed v0 ≡ false → is_allocated external v0 ≡ true
@@ -156,7 +131,7 @@ after_an_entry_without : (cb : ℕ) (external : Bool) (x k v v0 c other : ℕ) �
     → nat_eq x (v0 % 2 ^ 63 + k * 0) ≡ reads_on k (mapping (geometry cb external) c v0) (mapping (geometry cb external) other v)
 after_an_entry_without cb external x k v v0 c other packed_large tested lawful0 standard0 none =
     let parts0 = parts_of cb v0 lawful0 standard0 in
-    let value = no_offset external cb v0 parts0 none in
+    let value : v0 % 2 ^ 63 ≡ bit (is_zero v0) = grind (arith, nat_tests, parts0.lower, parts0.offset) in
     elim (cases_Bool (is_compressed v)) [
       | inl packed ↦
           let differs : nat_eq x (v0 % 2 ^ 63 + k * 0) ≡ false = rw value (grind (arith, nat_tests, packed_large packed, bit_below (is_zero v0))) in
@@ -174,7 +149,7 @@ after_an_entry_without_one cb k v v0 c other lawful lawful0 standard0 none =
     let masked : bit_and v 9223372036854775807 ≡ v % 2 ^ 63 = and_mask v 63 in
     rw masked (after_an_entry_without cb false (v % 2 ^ 63) k v v0 c other
     (λ packed. omega (arith, compressed_large v packed))
-    (λ standard. let parts = parts_of cb v lawful standard in (plain_large cb v parts, plain_small cb v parts)) lawful0 standard0 none)
+    (λ standard. let parts = parts_of cb v lawful standard in (λ is. grind (arith, nat_tests, parts.lower, parts.offset), λ is. grind (arith, nat_tests, parts.lower, parts.offset))) lawful0 standard0 none)
 
 pub after_an_external_entry_without_one : (cb k v v0 c other : ℕ) → v < 2 ^ 64 → l2_fault cb v ≡ None → l2_fault cb v0 ≡ None → is_compressed v0 ≡ false → is_allocated true v0 ≡ false
     → nat_eq (bit_and v 18446744073709551615) (v0 % 2 ^ 63 + k * 0) ≡ reads_on k (mapping (geometry cb true) c v0) (mapping (geometry cb true) other v)
@@ -183,7 +158,7 @@ after_an_external_entry_without_one cb k v v0 c other fits lawful lawful0 standa
     let masked : bit_and v 18446744073709551615 ≡ v = and_mask v 64 ∙ whole in
     rw masked (after_an_entry_without cb true v k v v0 c other
     (λ packed. omega (arith, compressed_large v packed))
-    (λ standard. let parts = parts_of cb v lawful standard in (external_large cb v parts, external_small cb v fits parts)) lawful0 standard0 none)
+    (λ standard. let parts = parts_of cb v lawful standard in (λ is. grind (arith, nat_tests, parts.lower, parts.offset), λ is. grind (arith, nat_tests, parts.lower, parts.offset))) lawful0 standard0 none)
 
 pub step_fits : (cb : ℕ) → cb ≤ 21 → 1 * 2 ^ cb % 2 ^ 64 ≡ 2 ^ cb
 step_fits cb high = let power : 2 ^ cb ≤ 2 ^ 21 = pow_mono high in let one : 1 * 2 ^ cb ≡ 2 ^ cb = omega arith in rw one (mod-eq_of_lt (omega (arith, power)))

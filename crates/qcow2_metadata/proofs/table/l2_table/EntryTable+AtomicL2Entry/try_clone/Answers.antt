@@ -12,9 +12,8 @@ with_entries-requires-clause-valid c =
     let external = table.geometry.external_data_file in
     let own = sym (map-id c.as_slice.result.now) ∙ c.as_slice.ensures.numbers in
     let same = map-id c.in_ok-entries.entries.items ∙ (rw (c.has_external_data_file.ensures, own) at c.in_ok-entries.ensures) in
-    let bits = c.as_slice.ensures.bits in
     ap (first_fault (l2_fault table.geometry.cluster_bits)) same
-    ∙ shared-lawful external table.geometry.cluster_bits table.numbers (omega (arith, bits)) (omega (arith, bits)) c.as_slice.ensures.valid
+    ∙ shared-lawful external table.geometry.cluster_bits table.numbers c.as_slice.ensures.valid
 
 pub returns-clause-references : goal.returns-clause-references
 returns-clause-references c = λ cluster.
