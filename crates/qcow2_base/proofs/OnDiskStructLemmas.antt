@@ -36,16 +36,13 @@ le_of_bytes n x xs rest e fits = le_of_list 0 n xs ∙ rw e (little_number-reads
 abbrev SameBytes : Image → ℕ → Image → ℕ → ℕ → Type 0
 SameBytes f o g p n = (k : ℕ) → k < n → f (o + k) ≡ g (p + k)
 
-SameBytes-rest : (f g : Image) (n o p : ℕ) → SameBytes f o g p (suc n) → SameBytes f (o + 1) g (p + 1) n
-SameBytes-rest f g n o p same k h = rw (add_assoc o 1 k, add_assoc p 1 k) (same (1 + k) (omega arith))
-
 -- the same bytes are the same number
 le_of_same : (f g : Image) (n o p : ℕ) → SameBytes f o g p n → le f o n ≡ le g p n
 unfolding le
 le_of_same f g zero o p same = refl
 le_of_same f g (suc n) o p same =
     let first : f o ≡ g p = simp add-zero at (same 0 (omega arith)) in
-    let rest = le_of_same f g n (o + 1) (p + 1) (SameBytes-rest f g n o p same) in
+    let rest = le_of_same f g n (o + 1) (p + 1) (λ k h. rw (add_assoc o 1 k, add_assoc p 1 k) (same (1 + k) (omega arith))) in
     rw (first, rest) refl
 
 pub number_of_same : (order : Order) (f g : Image) (n o p : ℕ) → SameBytes f o g p n

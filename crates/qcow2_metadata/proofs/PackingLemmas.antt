@@ -166,11 +166,11 @@ counter_at-same order n len f g o p i low whole same below = elim (cases_lt orde
       let per = per_byte order in
       let count = narrow_count order narrow n len whole in
       let within : i / per < len = div_below i per len (pow_pos (3 - order)) (omega arith) in
-      rw (counter_at-narrow order f o i narrow, counter_at-narrow order g p i narrow, same (i / per) within) refl
+      rw (le-leb order 3 narrow, same (i / per) within) refl
   | inr wide ↦
       let s = bytes_each order in
       let count = wide_count order wide low n len whole in
-      rw (counter_at-wide order f o i wide, counter_at-wide order g p i wide)
+      rw (lt-leb order 3 wide)
       (be_of_same f g s (o + s * i) (p + s * i)
       (λ k small. rw (add_assoc o (s * i) k, add_assoc p (s * i) k) (same (s * i + k) (omega (arith, mul-add-lt i s k n below small)))))
 ]
@@ -189,12 +189,12 @@ counter_at-later order n len image offset i low whole = elim (cases_lt order 4) 
       let count = narrow_count order narrow n len whole in
       let byte = mul-add-div (pow_pos (3 - order)) len i in
       let place = mul-add-mod_self_left per len i in
-      rw (counter_at-narrow order image offset (n + i) narrow, counter_at-narrow order image (offset + len) i narrow, count, byte, place, add_assoc offset len (i / per)) refl
+      rw (le-leb order 3 narrow, count, byte, place, add_assoc offset len (i / per)) refl
   | inr wide ↦
       let s = bytes_each order in
       let count = wide_count order wide low n len whole in
       let place : offset + s * (n + i) ≡ offset + len + s * i = omega arith in
-      rw (counter_at-wide order image offset (n + i) wide, counter_at-wide order image (offset + len) i wide, place) refl
+      rw (lt-leb order 3 wide, place) refl
 ]
 
 -- the counters of bytes that an image holds are the image's
