@@ -122,33 +122,16 @@ byte_of_be image o s k small below =
     let bytes : IsBytes parts = λ j. mod_below (v / 256 ^ (s - 1 - j)) 256 (omega arith) in
     rw (zero-add k) at (be_tells parts image s 0 o bytes small number k below)
 
-is_wide : (order : ℕ) → 4 ≤ order → nat_le order 3 ≡ false
-is_wide order wide = lt-leb order 3 (omega arith)
-
--- a counter that is no wider than a byte is a digit of one
-pub counter_at-narrow : (order : ℕ) (image : Image) (offset i : ℕ) → order ≤ 3 → counter_at order image offset i ≡ field (image (offset + i / per_byte order)) (width order * (i % per_byte order)) (width order)
-counter_at-narrow order image offset i narrow = rw (le-leb order 3 narrow) refl
-
--- a wider counter is a number of whole bytes
-pub counter_at-wide : (order : ℕ) (image : Image) (offset i : ℕ) → 4 ≤ order → counter_at order image offset i ≡ be image (offset + bytes_each order * i) (bytes_each order)
-counter_at-wide order image offset i wide = rw (is_wide order wide) refl
-
-pub packed-narrow : (order : ℕ) (counters : List ℕ) (j : ℕ) → order ≤ 3 → packed order counters j ≡ from_digits (2 ^ width order) (take (per_byte order) (drop (per_byte order * j) counters))
-packed-narrow order counters j narrow = rw (le-leb order 3 narrow) refl
-
-pub packed-wide : (order : ℕ) (counters : List ℕ) (j : ℕ) → 4 ≤ order → packed order counters j ≡ slice_index counters (j / bytes_each order) / 256 ^ (bytes_each order - 1 - j % bytes_each order) % 256
-packed-wide order counters j wide = rw (is_wide order wide) refl
-
 pub counters_at-length : (order : ℕ) (image : Image) (offset n : ℕ) → length (counters_at order image offset n) ≡ n
 counters_at-length order image offset n = length-map-range_with_len (counter_at order image offset) 0 n
 
 pub counter_at-small : (order : ℕ) (image : Image) (offset i : ℕ) → order ≤ 6 → IsBytes image → counter_at order image offset i < 2 ^ width order
 counter_at-small order image offset i low bytes = elim (cases_lt order 4) [
   | inl narrow ↦
-      rw (counter_at-narrow order image offset i (omega arith))
+      rw (le-leb order 3 (omega arith))
       (mod_below (image (offset + i / per_byte order) / 2 ^ (width order * (i % per_byte order))) (2 ^ width order) (pow_pos (width order)))
   | inr wide ↦
-      rw (counter_at-wide order image offset i wide, width-bytes_each order wide low)
+      rw (lt-leb order 3 wide, width-bytes_each order wide low)
       (be_fits image (offset + bytes_each order * i) (bytes_each order) bytes)
 ]
 
@@ -231,15 +214,15 @@ counter_at-packed order counters i low small = elim (cases_lt order 4) [
       let there : slice_index byte (i % per) ≡ slice_index counters i =
       get_or-take per (drop (per * (i / per)) counters) (i % per) 0 (mod_below i per (pow_pos (3 - order)))
       ∙ get_or-drop (per * (i / per)) counters (i % per) 0 ∙ ap (λ (n : ℕ). slice_index counters n) place in
-      rw (counter_at-narrow order (packed order counters) 0 i narrow, zero-add (i / per), packed-narrow order counters (i / per) narrow) (digit ∙ there)
+      rw (le-leb order 3 narrow, zero-add (i / per)) (digit ∙ there)
   | inr wide ↦
       let s = bytes_each order in
       let v = slice_index counters i in
       let number = be_of_parts (packed order counters) (0 + s * i) s v
       (λ k below. let at : 0 + s * i + k ≡ i * s + k = omega arith in
-      rw (at, packed-wide order counters (i * s + k) wide, div-mul-add i s k below, mod-mul-add i s k below) refl) in
+      rw (at, lt-leb order 3 wide, div-mul-add i s k below, mod-mul-add i s k below) refl) in
       let fits : v < 256 ^ s = rw (width-bytes_each order wide low) at (counter_is_small order counters i small) in
-      counter_at-wide order (packed order counters) 0 i wide ∙ number ∙ mod-eq_of_lt fits
+      rw (lt-leb order 3 wide) (number ∙ mod-eq_of_lt fits)
 ]
 
 -- a byte whose digits are read and packed again
@@ -257,10 +240,10 @@ narrow_byte_again order n len image offset j narrow bytes whole below =
     (λ i small. let at : per * j + i ≡ j * per + i = omega arith in
     get_or-take per (drop (per * j) numbers) i 0 small ∙ get_or-drop (per * j) numbers i 0
     ∙ get_or-map-range_with_len counter 0 n (per * j + i) (j * per + i) 0 (omega arith) (omega arith)
-    ∙ rw (counter_at-narrow order image offset (j * per + i) narrow, div-mul-add j per i small, mod-mul-add j per i small) refl) in
+    ∙ rw (le-leb order 3 narrow, div-mul-add j per i small, mod-mul-add j per i small) refl) in
     let number = digits_of_number w v 0 per in
     let all : v / 2 ^ (w * 0) % 2 ^ (w * per) ≡ v = rw (mul-zero w, width-per_byte order narrow) (omega (arith, bytes (offset + j))) in
-    packed-narrow order numbers j narrow ∙ ap (from_digits (2 ^ w)) digits ∙ number ∙ all
+    rw (le-leb order 3 narrow) (ap (from_digits (2 ^ w)) digits ∙ number ∙ all)
 
 wide_byte_again : (order n len : ℕ) (image : Image) (offset j : ℕ) → 4 ≤ order → order ≤ 6 → IsBytes image → width order * n ≡ 8 * len → j < len → packed order (counters_at order image offset n) j ≡ image (offset + j)
 wide_byte_again order n len image offset j wide low bytes whole below =
@@ -270,7 +253,7 @@ wide_byte_again order n len image offset j wide low bytes whole below =
     let within : i < n = div_below j s n (pow_pos (order - 3)) (omega arith) in
     let counter = get_or-map-range_with_len (counter_at order image offset) 0 n i i 0 within (omega arith) in
     let place : offset + s * i + j % s ≡ offset + j = omega (arith, pow_pos (order - 3)) in
-    rw (packed-wide order (counters_at order image offset n) j wide, counter, counter_at-wide order image offset i wide)
+    rw (lt-leb order 3 wide, rw (lt-leb order 3 wide) at counter)
     (byte_of_be image (offset + s * i) s (j % s) bytes (mod_below j s (pow_pos (order - 3))) ∙ ap image place)
 
 -- counters that are read from whole bytes have these bytes when they are packed
@@ -283,7 +266,7 @@ packed-counters_at order n len image offset j low bytes whole below = elim (case
 -- one wide counter more is read
 pub wide_counters-more : {X : Type 0} (number : X → ℕ) (order : ℕ) (image : Image) (items before : List X) (x : X) (size i : ℕ) → 4 ≤ order → size ≡ bytes_each order → be image (size * i) size ≡ number x → map number items ≡ map number before ++ counters_at order image 0 i → map number (items ++ x ∷ []) ≡ map number before ++ counters_at order image 0 (i + 1)
 wide_counters-more number order image items before x size i wide each read so_far =
-    let last : counter_at order image 0 i ≡ number x = counter_at-wide order image 0 i wide ∙ rw (← each, zero-add (size * i)) read in
+    let last : counter_at order image 0 i ≡ number x = rw (lt-leb order 3 wide, ← each, zero-add (size * i)) read in
     rw (map_push number items x, so_far, counters_at-more order image 0 i, last) (append_assoc (map number before) (counters_at order image 0 i) (number x ∷ []))
 
 -- one wide counter more is written
@@ -302,7 +285,7 @@ wide_bytes-more order size first index counters old new wide each bytes so_far n
       let byte = byte_of_be (image_of new) (size * index) size k bytes within in
       let divided = div-mul-add (first + index) size k within in
       let rest = mod-mul-add (first + index) size k within in
-      rw (at, packed-wide order counters ((first + index) * size + k) wide, ← each, divided, rest, ← number, byte, place) refl
+      rw (at, lt-leb order 3 wide, ← each, divided, rest, ← number, byte, place) refl
 ]
 
 -- a counter that the bytes have room for is one of the list's
