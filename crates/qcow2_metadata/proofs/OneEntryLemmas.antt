@@ -137,9 +137,7 @@ part-few cb count low (k, is, few) =
 
 -- the refusals of a write whose place is lawful
 faults_of : {T : Type 0} (range : EntryRange) (of_place : Option Fault) (answer : Result T Fault) → IfErr answer (λ fault. (fault ≡ Storage) ⊎ ((fault ≡ NoMemory) × (piece_size < 8 * range.count))) → IfErr answer (IsEntryWriteFault range of_place)
-faults_of range of_place (Ok value) faults = tt
-faults_of range of_place (Err fault) (inl failed) = inl (inr failed)
-faults_of range of_place (Err fault) (inr memory) = inr memory
+faults_of range of_place answer faults = grind arith
 
 -- the entries that were written are those that were to be, and then so is the table
 written_of : {T : Type 0} (index : ℕ) (range : EntryRange) (place : TablePlace) (numbers : List ℕ) (answer : Result T Fault) (old new : Image) → place.entries ≡ length numbers → range.first ≤ index → index < range.first + range.count

@@ -3,6 +3,7 @@ use Rattle.std.specs.List.{All}
 use Rattle.std.proofs.lemmas.List.{get_or-take, length-take, get_or-append_right, get_or-replicate, get_or_append_left, get_or_past, length-replicate, take_more}
 use Rattle.std.proofs.lemmas.Bool.{cases_lt}
 use Rattle.std.proofs.lemmas.Option.{slice_get-get_or}
+use Rattle.qcow2_base.proofs.StorageLemmas.{image_of-padded}
 use Rattle.qcow2_base.specs.Storage.{Image, IsBytes, SameOutside, be, be_of_same, image_of}
 use Rattle.qcow2_metadata.specs.Pieces.{Stand, number_bytes}
 use Rattle.qcow2_metadata.specs.Table.{TablePlace, numbers_at, offset_of, table_numbers}
@@ -41,35 +42,20 @@ piece_bytes bytes numbers first small eights each i below =
     let part = byte_of_be (image_of bytes) (8 * (i / 8)) 8 (i % 8) small (omega arith) in
     rw (number, byte, ← stands) (sym (rw own at part))
 
--- zeros are 0 wherever they are read, also past their end
-zeros_read : (n k : ℕ) → get_or {A = ℕ} (replicate n 0) k 0 ≡ 0
-zeros_read n k =
-    let nothing : ℕ = 0 in
-    elim (cases_lt k n) [
-      | inl below ↦ get_or-replicate n k nothing nothing below
-      | inr past ↦ get_or_past (replicate n nothing) k nothing (rw (length-replicate n nothing) past)
-    ]
-
 -- numbers in the bytes of those that a table has from an index on, and zeros after them
 pub held_then_zeros : (bytes numbers : List ℕ) (first held n i : ℕ) → length bytes ≡ 8 * held → (held ≤ i → length numbers ≤ first + i)
     → ((j : ℕ) → 8 * j + 8 ≤ length bytes → be (image_of bytes) (8 * j) 8 ≡ slice_index numbers (first + j))
     → be (image_of (bytes ++ replicate n 0)) (8 * i) 8 ≡ slice_index numbers (first + i)
 unfolding be
-held_then_zeros bytes numbers first held n i len past each = elim (cases_lt i held) [
-  | inl below ↦
-      be_of_same (image_of (bytes ++ replicate n 0)) (image_of bytes) 8 (8 * i) (8 * i) (λ k small. get_or_append_left bytes (replicate n 0) 0 (8 * i + k) (omega (arith, below, len, small)))
-      ∙ each i (omega (arith, below, len))
-  | inr after ↦
-      be_of_same (image_of (bytes ++ replicate n 0)) (image_of (replicate n 0)) 8 (8 * i) (8 * i - length bytes) (λ k small.
-      let place : 8 * i + k - length bytes ≡ 8 * i - length bytes + k = omega (arith, after, len) in
-      rw place at (get_or-append_right bytes (replicate n 0) (length bytes) (8 * i + k) 0 refl (omega (arith, after, len))))
-      ∙ be_of_same (image_of (replicate n 0)) (image_of []) 8 (8 * i - length bytes) 0 (λ k small. zeros_read n (8 * i - length bytes + k))
-      ∙ sym (get_or_past numbers (first + i) 0 (past after))
-]
+held_then_zeros bytes numbers first held n i len past each =
+    be_of_same (image_of (bytes ++ replicate n 0)) (image_of bytes) 8 (8 * i) (8 * i) (λ k small. ap (λ (image : Image). image (8 * i + k)) (image_of-padded bytes n))
+    ∙ elim (cases_lt i held) [
+      | inl below ↦ each i (omega (arith, below, len))
+      | inr after ↦
+          be_of_same (image_of bytes) (image_of []) 8 (8 * i) 0 (λ k small. get_or_past bytes (8 * i + k) 0 (omega (arith, after, len)))
+          ∙ sym (get_or_past numbers (first + i) 0 (past after))
+    ]
 
 -- there is an element where there is one of a list
 pub found_in_list : {A : Type 0} (number : A → ℕ) (found : Option A) (numbers : List ℕ) (i : ℕ) → option_map number found ≡ slice_get numbers i → i < length numbers → IsSome found
-found_in_list number (Some entry) numbers i same below = refl
-found_in_list number None numbers i same below =
-    let no : ◌≡◌ {A = Option ℕ} None (Some (get_or numbers i 0)) = same ∙ slice_get-get_or numbers i 0 below in
-    cc
+found_in_list number found numbers i same below = grind (arith, slice_get-get_or numbers i 0 below)

@@ -122,18 +122,12 @@ piece_in_eights cb piece len bits is =
 -- the counters of so many bytes, by their width
 pub narrow_length : (order len : ℕ) → order ≤ 3 → per_byte order * len ≡ 8 * len / width order
 narrow_length order len low =
-    let eight = width-per_byte order low in
-    let split : 8 * len ≡ width order * (per_byte order * len) = ap (λ n. n * len) (sym eight) ∙ mul_assoc (width order) (per_byte order) len in
-    sym (ap (λ n. n / width order) split ∙ mul-div_cancel_left (per_byte order * len) (pow_pos order))
+    narrow_cases (λ order. per_byte order * len ≡ 8 * len / width order) (omega arith) (omega arith) (omega arith) (omega arith) order low
 
 -- bytes that lie within counters have so many of them
 pub narrow_within : (order bytes count : ℕ) → order ≤ 3 → 8 * bytes ≤ width order * count → per_byte order * bytes ≤ count
 narrow_within order bytes count low within =
-    let eight = width-per_byte order low in
-    let split : 8 * bytes ≡ per_byte order * bytes * width order = ap (λ n. n * bytes) (sym eight) ∙ mul_assoc (width order) (per_byte order) bytes ∙ mul_comm (width order) (per_byte order * bytes) in
-    let below : per_byte order * bytes * width order ≤ width order * count = omega (arith, split, within) in
-    let least = (le-div_iff_mul-le {k = width order} {x = per_byte order * bytes} {y = width order * count} (pow_pos order)).1 below in
-    rw (mul-div_cancel_left count (pow_pos order)) at least
+    narrow_cases (λ order. 8 * bytes ≤ width order * count → per_byte order * bytes ≤ count) (λ h. omega arith) (λ h. omega arith) (λ h. omega arith) (λ h. omega arith) order low within
 
 -- a piece of a block lies within it
 pub piece-within : (cb order count piece len : ℕ) → IsClusterBits cb → order ≤ 6 → count ≡ block_entries cb order → 4096 * piece < 2 ^ cb → len ≡ min (2 ^ cb - 4096 * piece) 4096 → 8 * (4096 * piece + len) ≤ width order * count

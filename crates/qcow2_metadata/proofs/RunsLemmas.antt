@@ -1,6 +1,6 @@
-use Rattle.std.proofs.Common.{◌≡◌, ℕ, Bool, true, false, not, ◌&&◌, ◌||◌, nat_eq, nat_lt, if◌then◌else◌, ◌≢◌, ◌⊎◌, ◌+◌, ◌-◌, ◌*◌, ◌/◌, ◌%◌, ◌^◌, ◌<◌, ◌≤◌, List, length, get_or, take, drop, IsTrue, Option, Some, None, refl, ap, sym, ◌∙◌, inl, inr, arith, eq-eqb, length-drop, zero, suc}
+use Rattle.std.proofs.Common.{add-zero, ◌≡◌, ℕ, Bool, true, false, not, ◌&&◌, ◌||◌, nat_eq, nat_lt, if◌then◌else◌, ◌≢◌, ◌⊎◌, ◌+◌, ◌-◌, ◌*◌, ◌/◌, ◌%◌, ◌^◌, ◌<◌, ◌≤◌, List, length, get_or, take, drop, IsTrue, Option, Some, None, refl, ap, sym, ◌∙◌, inl, inr, arith, eq-eqb, length-drop, zero, suc}
 use Rattle.std.specs.Prelude.{bit_and, is_some}
-use Rattle.std.proofs.lemmas.Bool.{cases_Bool, ne_eqb, eqb-false}
+use Rattle.std.proofs.lemmas.Bool.{cases_Bool, cases_lt, ne_eqb, eqb-false}
 use Rattle.std.proofs.lemmas.Bool.Decides.{same_from_decides, Decides-eqb, nat_tests}
 use Rattle.std.proofs.lemmas.Nat.{and_mask, pow_pos, mul-le, mod-mul-add, same_from_place, div-add-mod'}
 use Rattle.std.proofs.lemmas.Nat.Bits.{and_pow}
@@ -216,18 +216,14 @@ run_of_pattern table first count i entries rest pattern bits is full fits lawful
     record {
       some = omega arith;
       within = rw (← is) (omega (arith, told.count, full, counted.within, here));
-      each = λ k below. each_of table first count k (reads_on_itself (mapping_at table first)) (λ j less. sym (further j (omega (arith, less, counted.within))) ∙ counted.each j less) below;
+      each = λ k below. elim (cases_lt 0 k) [
+        | inl later ↦ let at : k - 1 + 1 ≡ k = omega arith in rw at at (sym (further (k - 1) (omega (arith, below, counted.within))) ∙ counted.each (k - 1) (omega arith))
+        | inr now ↦ let at : k ≡ 0 = omega arith in rw (at, add-zero first) (reads_on_itself (mapping_at table first))
+      ];
       ends = λ more. let inside : count < length rest = omega (arith, told.count, full, counted.within, rw (← is) at more) in
           let same : 1 + count ≡ count + 1 = omega arith in
           rw same (sym (further count inside) ∙ counted.ends inside);
     }
-  where
-    each_of : (table : TableState) (first count k : ℕ) → reads_on 0 (mapping_at table first) (mapping_at table first) ≡ true
-        → ((j : ℕ) → j < count → reads_on (j + 1) (mapping_at table first) (mapping_at table (first + (j + 1))) ≡ true)
-        → k < 1 + count → reads_on k (mapping_at table first) (mapping_at table (first + k)) ≡ true
-    each_of table first count zero itself others below = let same : first + 0 ≡ first = omega arith in rw same itself
-    each_of table first count (suc j) itself others below =
-        let same : suc j ≡ j + 1 = omega arith in rw same (others j (omega (arith, below)))
 
 -- a pattern's values fit 64 bits for as many entries as a table has
 pub pattern_fits : (cb value step n : ℕ) (xs : List ℕ) → cb ≤ 21 → n ≤ 2 ^ (cb - 3) → value + 262144 * step < 2 ^ 64 → value + length (take n xs) * step < 2 ^ 64
