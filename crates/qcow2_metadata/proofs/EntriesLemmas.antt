@@ -2,7 +2,7 @@ use Rattle.std.proofs.Common.{◌≡◌, ℕ, Bool, true, false, not, IsTrue, �
 use Rattle.std.proofs.lemmas.Bool.{cases_lt}
 use Rattle.std.proofs.lemmas.Nat.{pow_pos, pow-add, mod-pow-add}
 use Rattle.std.proofs.Math.Nat.{mul_assoc, mul-mod_left, le-div_iff_mul-le, div-mul-le_self, mul-div_cancel, zero-mod, add-mul-div_right}
-use Rattle.std.proofs.Math.Pow.{pow_mono}
+use Rattle.std.proofs.Math.Pow.{mod-mod-pow, pow_mono}
 use Rattle.std.proofs.lemmas.Bool.Decides.{same_from_decides, Decides-eqb, Decides-ltb, nat_tests}
 use Rattle.qcow2_metadata.specs.Header.{Geometry}
 use Rattle.qcow2_metadata.specs.Entries.L2Entry.{ByteRange, IsAllocation, Meets, RangeMeets, byte_range, cluster_count, clusters_met, compressed_length, compressed_offset, first_cluster, is_allocated, is_compressed, l2_fault, l2_reserved_bits, meets}
@@ -131,13 +131,8 @@ high_bits_clear cb v low high = elim (cases_lt 56 (70 - cb)) [
       let offset = mod-pow-add v more 56 in
       rw whole (λ none. omega (arith, above, offset), λ low. omega (arith, above, offset))
   | inr narrow ↦
-      let power = pow-add 2 (56 - (70 - cb)) (70 - cb) in
       let whole : 56 - (70 - cb) + (70 - cb) ≡ 56 = omega arith in
-      let split : 2 ^ 56 ≡ 2 ^ (56 - (70 - cb)) * 2 ^ (70 - cb) = rw whole at power in
-      let none : v / 2 ^ 56 * 2 ^ 56 % 2 ^ (70 - cb) ≡ 0 =
-      ap (λ (x : ℕ). v / 2 ^ 56 * x % 2 ^ (70 - cb)) split
-      ∙ ap (λ (x : ℕ). x % 2 ^ (70 - cb)) (sym (mul_assoc (v / 2 ^ 56) (2 ^ (56 - (70 - cb))) (2 ^ (70 - cb))))
-      ∙ mul-mod_left (v / 2 ^ 56 * 2 ^ (56 - (70 - cb))) (2 ^ (70 - cb)) in
+      let none = sym (mod-mod-pow (v / 2 ^ 56 * 2 ^ 56) (56 - (70 - cb)) (70 - cb)) ∙ rw (whole, mul-mod_left (v / 2 ^ 56) (2 ^ 56), zero-mod) refl in
       (λ _. omega (arith, pow_pos (70 - cb), pow_mono narrow), λ _. none)
 ]
 

@@ -21,9 +21,7 @@ values_fit order low = narrow_cases (λ order. order ≤ 2 → 1 * 2 ^ width ord
 -- a counter's place in its byte
 pub place_fits : (order per index : ℕ) → order ≤ 3 → per ≡ per_byte order → index < per → width order * (index + 1) ≤ 8
 place_fits order per index narrow each below =
-    let whole : width order * per ≡ 8 = rw each (width-per_byte order narrow) in
-    let next : index + 1 ≤ per = omega arith in
-    omega (arith, mul-le-mul_left {m = index + 1} {n = per} (width order) next)
+    narrow_cases (λ order. index < per_byte order → width order * (index + 1) ≤ 8) (λ h. omega arith) (λ h. omega arith) (λ h. omega arith) (λ h. omega arith) order narrow (omega arith)
 
 -- the array that has each counter of a byte
 pub counters_of_byte : (order per byte : ℕ) (xs : List ℕ) → order ≤ 3 → per ≡ per_byte order → length xs ≡ per → ((i : ℕ) → i < per → slice_index xs i ≡ field byte (width order * i) (width order)) → xs ≡ counters_at order (image_of (byte ∷ [])) 0 per

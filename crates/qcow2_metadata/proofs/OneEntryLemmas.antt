@@ -35,14 +35,8 @@ max-power a b left right = elim (cases_lt a b) [
 -- the entries of an alignment that a cluster's size is no less than
 part_of_power : (a cb : ℕ) → IsPowerOfTwo a → 8 ≤ a → a ≤ 2 ^ cb → IsPartOfCluster cb (a / 8)
 part_of_power a cb (n, is) some few =
-    let three : 3 ≤ n = elim (cases_lt n 3) [
-      | inl less ↦ absurd (omega (arith, pow_below n 3 less, is, some))
-      | inr least ↦ least
-    ] in
-    let within : n ≤ cb = elim (cases_lt cb n) [
-      | inl more ↦ absurd (omega (arith, pow_below cb n more, is, few))
-      | inr most ↦ most
-    ] in
+    let three : 3 ≤ n = grind (arith, pow_below n 3, is, some) in
+    let within : n ≤ cb = grind (arith, pow_below cb n, is, few) in
     let exponent : n - 3 + 3 ≡ n = omega (arith, three) in
     let eights : a ≡ 2 ^ (n - 3) * 8 = is ∙ ap (λ m. 2 ^ m) (sym exponent) ∙ pow-add 2 (n - 3) 3 in
     (n - 3, rw eights (mul-div_cancel (2 ^ (n - 3)) (omega arith)), omega (arith, exponent, within))

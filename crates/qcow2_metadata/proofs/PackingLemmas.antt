@@ -5,7 +5,7 @@ use Rattle.std.proofs.lemmas.List.{get_or-append_right, get_or_append_left, get_
 use Rattle.std.proofs.lemmas.List.Elements.{All-drop, All-from_get_or, All-get_or, All-head, All-tail, All-take}
 use Rattle.std.proofs.lemmas.List.FromFn.{fill_by_all, get_or-map-range_with_len, length-map-range_with_len, map-range_with_len_more}
 use Rattle.std.proofs.lemmas.Nat.{div-mul-add, div_below, mul-add-lt, mod-mul-add, mod-pow-add, mod_below, shr-shr}
-use Rattle.std.proofs.Math.Nat.{mul-add-div, mul-add-mod_self_left, add-mul-div_left, add-mul-mod_self_left, div-eq_of_lt, le-div_iff_mul-le, mod-one, zero-div, zero-mod, one-le-pow}
+use Rattle.std.proofs.Math.Nat.{lt_of_mul-lt-mul_right, mul-add-div, mul-add-mod_self_left, add-mul-div_left, add-mul-mod_self_left, div-eq_of_lt, le-div_iff_mul-le, mod-one, zero-div, zero-mod, one-le-pow}
 use Rattle.std.proofs.Math.Arith.{mod-mul}
 use Rattle.qcow2_base.specs.Bits.{field}
 use Rattle.qcow2_base.specs.Storage.{Holds, Image, IsBytes, be, be_fits, be_of_same, be_tells, image_of}
@@ -294,7 +294,4 @@ counter_within order size first index len count each below within =
     let some : 0 < size = rw each (pow_pos (order - 3)) in
     let next : index + 1 ≤ len / size = omega arith in
     let fits = (le-div_iff_mul-le {k = size} {x = index + 1} {y = len} some).0 next in
-    elim (cases_lt (first + index) count) [
-      | inl inside ↦ inside
-      | inr past ↦ absurd (omega (arith, mul-le-mul_left size past))
-    ]
+    lt_of_mul-lt-mul_right size (omega (arith, fits, within))

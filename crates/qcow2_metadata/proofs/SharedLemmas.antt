@@ -54,12 +54,8 @@ shared-meets g v c low high = rw (shared-byte_range g v low high) refl
 references-map : (g : Geometry) (f : ℕ → ℕ) (numbers : List ℕ) (c : ℕ) → ((v : ℕ) → meets g (f v) c ≡ meets g v c) → references g (map f numbers) c ≡ references g numbers c
 references-map g f [] c same = refl
 references-map g f (v ∷ vs) c same =
-    let first = ap one_if (same v) in
-    let rest = references-map g f vs c same in
     let refer : ℕ → ℕ = λ w. one_if (meets g w c) in
-    sum_by-cons refer (f v) (map f vs)
-    ∙ ap (λ n. n + references g (map f vs) c) first ∙ ap (λ n. one_if (meets g v c) + n) rest
-    ∙ sym (sum_by-cons refer v vs)
+    omega (arith, ap one_if (same v), references-map g f vs c same, sum_by-cons refer (f v) (map f vs), sum_by-cons refer v vs)
 
 pub references-shared : (g : Geometry) (numbers : List ℕ) (c : ℕ) → 9 ≤ g.cluster_bits → g.cluster_bits ≤ 21 → references g (map (shared g.external_data_file) numbers) c ≡ references g numbers c
 references-shared g numbers c low high =
