@@ -1,9 +1,8 @@
-use Rattle.std.proofs.Common.{◌≡◌, ℕ, Bool, true, false, not, ◌&&◌, ◌||◌, nat_eq, nat_lt, if◌then◌else◌, ◌+◌, ◌-◌, ◌*◌, ◌/◌, ◌%◌, ◌^◌, ◌<◌, ◌≤◌, Some, None, refl, ap, sym, ◌∙◌, inl, inr, arith}
+use Rattle.std.proofs.Common.{◌≡◌, ℕ, Bool, true, false, not, ◌&&◌, ◌||◌, nat_eq, nat_lt, if◌then◌else◌, ◌+◌, ◌-◌, ◌*◌, ◌/◌, ◌%◌, ◌^◌, ◌<◌, ◌≤◌, Some, None, refl, ap, sym, ◌∙◌, inl, inr, arith, pow_mono}
 use Rattle.std.proofs.lemmas.Bool.{lt-ltb, cases_Bool}
 use Rattle.std.proofs.lemmas.Bool.Decides.{same_from_decides, Decides-eqb, nat_tests}
 use Rattle.std.proofs.lemmas.Nat.{pow_pos, pow-add, shl-shr, mul-le, div-mul-add, mod-mul-add}
 use Rattle.std.proofs.Math.Nat.{mul-mod_left, add-mod_left, mod-eq_of_lt, zero-mul, zero-div}
-use Rattle.std.proofs.Math.Pow.{pow_mono}
 use Rattle.qcow2_base.specs.Bits.{field}
 use Rattle.qcow2_base.specs.declared.fault.Fault.TheVariants.{EntryReserved}
 use Rattle.qcow2_metadata.specs.Header.{geometry}

@@ -1,5 +1,4 @@
-use Rattle.std.proofs.Common.{◌≡◌, ℕ, zero, suc, ◌+◌, ◌-◌, ◌*◌, ◌<◌, ◌≤◌, List, [], ◌++◌, length, get_or, replicate, slice_get, slice_index, Option, Some, None, IfSome, IsSome, option_map, take, refl, sym, ◌∙◌, ap, inl, inr, arith, ◌/◌, ◌%◌, ◌^◌, lit≤}
-use Rattle.std.specs.List.{All}
+use Rattle.std.proofs.Common.{◌≡◌, ℕ, zero, suc, ◌+◌, ◌-◌, ◌*◌, ◌<◌, ◌≤◌, List, [], ◌++◌, length, get_or, replicate, slice_get, slice_index, Option, Some, None, IfSome, IsSome, option_map, take, refl, sym, ◌∙◌, ap, inl, inr, arith, ◌/◌, ◌%◌, ◌^◌, lit≤, All}
 use Rattle.std.proofs.lemmas.List.{get_or-take, length-take, get_or-append_right, get_or-replicate, get_or_append_left, get_or_past, length-replicate, take_more}
 use Rattle.std.proofs.lemmas.Bool.{cases_lt}
 use Rattle.std.proofs.lemmas.Option.{slice_get-get_or}

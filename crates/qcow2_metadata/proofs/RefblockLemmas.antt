@@ -1,11 +1,10 @@
-use Rattle.std.proofs.Common.{◌≡◌, ℕ, zero, suc, ◌+◌, ◌-◌, ◌*◌, ◌/◌, ◌%◌, ◌^◌, ◌<◌, ◌≤◌, Bool, List, [], ◌∷◌, ◌++◌, length, replicate, slice_index, slice_set, Option, Some, None, min, inl, inr, lit≤, refl, ap, sym, ◌∙◌, arith}
+use Rattle.std.proofs.Common.{◌≡◌, ℕ, zero, suc, ◌+◌, ◌-◌, ◌*◌, ◌/◌, ◌%◌, ◌^◌, ◌<◌, ◌≤◌, Bool, List, [], ◌∷◌, ◌++◌, length, replicate, slice_index, slice_set, Option, Some, None, min, inl, inr, lit≤, refl, ap, sym, ◌∙◌, arith, pow-add, pow_pos}
 use Rattle.std.proofs.lemmas.List.{length-replicate, length-set}
 use Rattle.std.proofs.lemmas.List.Elements.{All-replicate, All-set}
 use mathlib.Core.Path.{fun_ext}
 use Rattle.std.proofs.Math.Nat.{le-div_iff_mul-le, mul-add, mul-div_cancel_left, mul_assoc, mul_comm, pow-le-pow_right}
 use Rattle.std.proofs.lemmas.Bool.{cases_lt}
 use Rattle.std.proofs.lemmas.List.FromFn.{fill_by_all}
-use Rattle.std.proofs.lemmas.Nat.{pow-add, pow_pos}
 use Rattle.qcow2_base.specs.Storage.{Holds, Image, IsBytes, SameOutside, image_of}
 use Rattle.qcow2_metadata.proofs.PackingLemmas.{counter_at-packed, counters_at-append, counters_at-held, counters_at-same, narrow_cases, packed-counters_at, width-per_byte}
 use Rattle.qcow2_metadata.specs.Pieces.{Stand}

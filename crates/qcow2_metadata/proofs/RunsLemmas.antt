@@ -1,13 +1,8 @@
-use Rattle.std.proofs.Common.{add-zero, ◌≡◌, ℕ, Bool, true, false, not, ◌&&◌, ◌||◌, nat_eq, nat_lt, if◌then◌else◌, ◌≢◌, ◌⊎◌, ◌+◌, ◌-◌, ◌*◌, ◌/◌, ◌%◌, ◌^◌, ◌<◌, ◌≤◌, List, length, get_or, take, drop, IsTrue, Option, Some, None, refl, ap, sym, ◌∙◌, inl, inr, arith, eq-eqb, length-drop, zero, suc}
-use Rattle.std.specs.Prelude.{bit_and, is_some}
+use Rattle.std.proofs.Common.{add-zero, ◌≡◌, ℕ, Bool, true, false, not, ◌&&◌, ◌||◌, nat_eq, nat_lt, if◌then◌else◌, ◌≢◌, ◌⊎◌, ◌+◌, ◌-◌, ◌*◌, ◌/◌, ◌%◌, ◌^◌, ◌<◌, ◌≤◌, List, length, get_or, take, drop, IsTrue, Option, Some, None, refl, ap, sym, ◌∙◌, inl, inr, arith, eq-eqb, length-drop, zero, suc, bit_and, is_some, mod-eq_of_lt, mod-lt, pow_mono, All, get_or-drop, get_or-take, map-id, length-take}
 use Rattle.std.proofs.lemmas.Bool.{cases_Bool, cases_lt, ne_eqb, eqb-false}
 use Rattle.std.proofs.lemmas.Bool.Decides.{same_from_decides, Decides-eqb, nat_tests}
 use Rattle.std.proofs.lemmas.Nat.{and_mask, pow_pos, mul-le, mod-mul-add, same_from_place, div-add-mod'}
 use Rattle.std.proofs.lemmas.Nat.Bits.{and_pow}
-use Rattle.std.proofs.Math.Nat.{mod-eq_of_lt, mod-lt}
-use Rattle.std.proofs.Math.Pow.{pow_mono}
-use Rattle.std.specs.List.{All}
-use Rattle.std.proofs.lemmas.List.{get_or-drop, get_or-take, map-id, length-take}
 use Rattle.std.proofs.lemmas.List.Elements.{All-get_or}
 use Rattle.qcow2_base.specs.Bits.{field}
 use Rattle.qcow2_base.specs.Types.{IsClusterBits}

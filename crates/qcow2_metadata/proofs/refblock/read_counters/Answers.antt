@@ -1,5 +1,4 @@
-use Rattle.std.proofs.Common.{◌≡◌, ◌+◌, ◌-◌, ◌*◌, ◌/◌, ◌%◌, ◌^◌, ◌++◌, ◌<◌, ◌∙◌, length, min, ap, arith, rules}
-use Rattle.std.proofs.lemmas.List.{length-append}
+use Rattle.std.proofs.Common.{◌≡◌, ◌+◌, ◌-◌, ◌*◌, ◌/◌, ◌%◌, ◌^◌, ◌++◌, ◌<◌, ◌∙◌, length, min, ap, arith, rules, length-append}
 use Rattle.std.proofs.lemmas.List.Elements.{All-append}
 use Rattle.qcow2_base.specs.Storage.{Holds, image_of}
 use Rattle.qcow2_metadata.proofs.PackingLemmas.{counters_at-length, counters_at-small}

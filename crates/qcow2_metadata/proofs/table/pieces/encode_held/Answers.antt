@@ -1,5 +1,4 @@
-use Rattle.std.proofs.Common.{◌≡◌, ◌+◌, ◌*◌, Some, inl, sym, ◌∙◌, add-zero, below_more, arith}
-use Rattle.std.specs.List.{slice_get}
+use Rattle.std.proofs.Common.{◌≡◌, ◌+◌, ◌*◌, Some, inl, sym, ◌∙◌, add-zero, below_more, arith, slice_get}
 use Rattle.std.proofs.lemmas.Option.{get_or_from_slice_get}
 use Rattle.qcow2_base.specs.Storage.{be_of_same, image_of}
 use Rattle.qcow2_metadata.proofs.PieceLemmas.{found_in_list}

@@ -1,5 +1,4 @@
-use Rattle.std.proofs.Common.{◌∙◌, ap, sym, arith}
-use Rattle.std.proofs.lemmas.List.{map-id}
+use Rattle.std.proofs.Common.{◌∙◌, ap, sym, arith, map-id}
 use Rattle.qcow2_metadata.specs.Table.L2Guards.{references}
 use Rattle.qcow2_metadata.specs.Table.{TableState}
 use Rattle.qcow2_metadata.proofs.SharedLemmas.{references-shared, shared-lawful}
