@@ -10,7 +10,7 @@ use Rattle.qcow2_base.specs.Storage.{Holds, Image, be, be_of_same, image_of}
 use Rattle.qcow2_base.specs.declared.fault.Fault.{Fault}
 use Rattle.qcow2_metadata.specs.Table.{chunk_numbers, decoded, first_fault, table_numbers}
 use Rattle.qcow2_metadata.proofs.PackingLemmas.{counters_at-append, counters_at-held, counters_at-same}
-use Rattle.qcow2_metadata.proofs.TableLemmas.{first_fault-append, no_fault_item, no_fault_at_all}
+use Rattle.qcow2_metadata.proofs.TableLemmas.{first_fault-append, first_fault-join, no_fault_item, no_fault_at_all}
 
 -- the numbers of a table's first entries, and those of the entries after them
 table_numbers-append : (image : Image) (offset k m : ℕ) → table_numbers image offset (k + m) ≡ table_numbers image offset k ++ table_numbers image (offset + 8 * k) m
@@ -36,16 +36,10 @@ pub chunk_numbers-more : (chunks : List (List ℕ)) (i : ℕ) (d : List ℕ) →
 chunk_numbers-more chunks i d within =
     ap chunk_numbers (take_more chunks i d within) ∙ map-append (λ (chunk : List ℕ). be (image_of chunk) 0 8) (take i chunks) (get_or chunks i d ∷ [])
 
-no_fault_before : (fault : ℕ → Option Fault) (xs ys : List ℕ) → first_fault fault (xs ++ ys) ≡ None → first_fault fault xs ≡ None
-no_fault_before fault [] ys none = refl
-no_fault_before fault (x ∷ xs) ys none =
-    let parts = no_fault_at_all (fault x) (first_fault fault (xs ++ ys)) none in
-    rw parts.0 (no_fault_before fault xs ys parts.1)
-
 -- whether a number more is an entry too
 pub lawful_more : (fault : ℕ → Option Fault) (xs : List ℕ) (v : ℕ) (before this : Bool) → IsTrue before ↔ (first_fault fault xs ≡ None) → IsTrue this ↔ (fault v ≡ None) → IsTrue (before && this) ↔ (first_fault fault (xs ++ v ∷ []) ≡ None)
 lawful_more fault xs v false this before last =
-    (λ t. cc, λ none. before.1 (no_fault_before fault xs (v ∷ []) none))
+    (λ t. cc, λ none. before.1 (no_fault_at_all (first_fault fault xs) _ (rw (first_fault-join fault xs (v ∷ [])) at none)).0)
 lawful_more fault xs v true this before last =
     let whole = first_fault-append fault xs (v ∷ []) (before.0 refl) in
     (λ t. let one = last.0 t in whole ∙ rw one refl, λ none. last.1 (no_fault_at_all (fault v) None (sym whole ∙ none)).0)
@@ -65,23 +59,14 @@ table_numbers-read image offset k m bytes before held within so_far =
     let piece = counters_at-held 6 m (8 * m) image (offset + 8 * k) bytes (lit≤ tt) (omega arith) within held in
     rw (so_far, ← piece) (sym (table_numbers-append image offset k m))
 
-found_or : (first rest more : Option Fault) (f : Fault) → option_or first rest ≡ Some f → (rest ≡ Some f → more ≡ Some f) → option_or first more ≡ Some f
-found_or first rest more f found later = grind arith
-
-first_fault-found : (fault : ℕ → Option Fault) (xs ys : List ℕ) (f : Fault) → first_fault fault xs ≡ Some f → first_fault fault (xs ++ ys) ≡ Some f
-first_fault-found fault [] ys f found = cc
-first_fault-found fault (x ∷ xs) ys f found =
-    found_or (fault x) (first_fault fault xs) (first_fault fault (xs ++ ys)) f found (first_fault-found fault xs ys f)
-
 -- a piece with a number that is no entry, after pieces with none, decides
 pub decoded-refused_piece : (fault : ℕ → Option Fault) (image : Image) (offset k m n : ℕ) (bytes : List ℕ) (f : Fault) → k + m ≤ n → Holds image (offset + 8 * k) bytes → 8 * m ≤ length bytes → first_fault fault (table_numbers image offset k) ≡ None → first_fault fault (table_numbers (image_of bytes) 0 m) ≡ Some f → decoded fault (table_numbers image offset n) ≡ Err f
 decoded-refused_piece fault image offset k m n bytes f within held len none bad =
     let rest = n - (k + m) in
     let whole : n ≡ k + (m + rest) = omega arith in
     let here = counters_at-held 6 m (8 * m) image (offset + 8 * k) bytes (lit≤ tt) (omega arith) len held in
-    let later = first_fault-found fault (table_numbers image (offset + 8 * k) m) (table_numbers image (offset + 8 * k + 8 * m) rest) f (rw here bad) in
     let found : first_fault fault (table_numbers image offset (k + (m + rest))) ≡ Some f =
-    rw (table_numbers-append image offset k (m + rest), first_fault-append fault (table_numbers image offset k) _ none, table_numbers-append image (offset + 8 * k) m rest) later in
+    rw (table_numbers-append image offset k (m + rest), first_fault-append fault (table_numbers image offset k) _ none, table_numbers-append image (offset + 8 * k) m rest, first_fault-join fault (table_numbers image (offset + 8 * k) m) _, here, bad) refl in
     rw (rw (← whole) at found) refl
 
 -- what `extend` leaves after a chain whose items are seen through v

@@ -166,9 +166,7 @@ edit-determines g e old new is =
     same_number_lists new (after_edit g e old) (is.entries ∙ sym (after_edit-length g e old)) (λ k below. grind (arith, elements, is.entry, is.others k, is.entries))
 
 next_step : (step : List ℕ) (steps : List (List ℕ)) (i : ℕ) → slice_get (step ∷ steps) (suc i + 1) ≡ slice_get steps (i + 1)
-next_step step steps i =
-    let next : suc i + 1 ≡ suc (i + 1) = omega arith in
-    rw next refl
+next_step step steps i = let next : suc i + 1 ≡ suc (i + 1) = omega arith in rw next refl
 
 each_more : (g : Geometry) (e : TableEdit) (edits : List TableEdit) (before next : List ℕ) (steps : List (List ℕ)) (after : List ℕ) → IsEdit g e before next → IsRun g edits next steps after → (i : ℕ) (f : TableEdit) (old new : List ℕ) → slice_get (e ∷ edits) i ≡ Some f → slice_get (before ∷ steps) i ≡ Some old → slice_get (before ∷ steps) (i + 1) ≡ Some new → IsEdit g f old new
 each_more g e edits before next steps after is run zero f old new edit here there =

@@ -1,4 +1,4 @@
-use Rattle.std.proofs.Common.{◌≡◌, ℕ, zero, suc, ◌+◌, ◌-◌, ◌*◌, ◌/◌, ◌%◌, ◌<◌, ◌≤◌, List, [], ◌∷◌, ◌++◌, map, length, get_or, slice_index, replicate, set, take, Option, Some, None, option_map, IfSome, refl, sym, ◌∙◌, ap, inl, inr, add-zero, add_assoc, arith, Bor}
+use Rattle.std.proofs.Common.{map-id, ◌≡◌, ℕ, zero, suc, ◌+◌, ◌-◌, ◌*◌, ◌/◌, ◌%◌, ◌<◌, ◌≤◌, List, [], ◌∷◌, ◌++◌, map, length, get_or, slice_index, replicate, set, take, Option, Some, None, option_map, IfSome, refl, sym, ◌∙◌, ap, inl, inr, add-zero, add_assoc, arith, Bor}
 use Rattle.std.specs.List.{range_with_len}
 use Rattle.std.specs.Option.{option_or}
 use Rattle.std.proofs.lemmas.List.{length-map, map-append, take_all}
@@ -14,12 +14,17 @@ use Rattle.qcow2_metadata.specs.Table.Growth.{grown_numbers}
 pub no_fault_at_all : (first rest : Option Fault) → option_or first rest ≡ None → (first ≡ None) × (rest ≡ None)
 no_fault_at_all first rest h = grind arith
 
+-- the first fault of one list and then another
+or_either : (a b c : Option Fault) → option_or a (option_or b c) ≡ option_or (option_or a b) c
+or_either a b c = grind arith
+
+pub first_fault-join : (fault : ℕ → Option Fault) (xs ys : List ℕ) → first_fault fault (xs ++ ys) ≡ option_or (first_fault fault xs) (first_fault fault ys)
+first_fault-join fault [] ys = refl
+first_fault-join fault (x ∷ xs) ys = rw (first_fault-join fault xs ys) (or_either (fault x) (first_fault fault xs) (first_fault fault ys))
+
 -- past numbers with no fault, the first fault is that of the others
 pub first_fault-append : (fault : ℕ → Option Fault) (xs ys : List ℕ) → first_fault fault xs ≡ None → first_fault fault (xs ++ ys) ≡ first_fault fault ys
-first_fault-append fault [] ys h = refl
-first_fault-append fault (x ∷ xs) ys h =
-    let parts = no_fault_at_all (fault x) (first_fault fault xs) h in
-    rw parts.0 (first_fault-append fault xs ys parts.1)
+first_fault-append fault xs ys none = rw (first_fault-join fault xs ys, none) refl
 
 -- a number more that is an entry
 pub first_fault_more : (fault : ℕ → Option Fault) (xs : List ℕ) (v : ℕ) → first_fault fault xs ≡ None → fault v ≡ None → first_fault fault (xs ++ v ∷ []) ≡ None
@@ -36,10 +41,6 @@ first_fault-set fault (x ∷ xs) (suc i) v h lawful =
 pub first_fault-map-replicate : {X : Type 0} (number : X → ℕ) (fault : ℕ → Option Fault) (n : ℕ) (x : X) → fault (number x) ≡ None → first_fault fault (map number (replicate n x)) ≡ None
 first_fault-map-replicate number fault zero x lawful = refl
 first_fault-map-replicate number fault (suc n) x lawful = rw lawful (first_fault-map-replicate number fault n x lawful)
-
-first_fault-zeros : (fault : ℕ → Option Fault) (n : ℕ) → fault 0 ≡ None → first_fault fault (replicate n 0) ≡ None
-first_fault-zeros fault zero lawful = refl
-first_fault-zeros fault (suc n) lawful = rw lawful (first_fault-zeros fault n lawful)
 
 -- an entry that is found is lawful
 pub no_fault_item : {X : Type 0} (number : X → ℕ) (fault : ℕ → Option Fault) (xs : List X) (i : ℕ) (d : X) → first_fault fault (map number xs) ≡ None → i < length xs → fault (number (get_or xs i d)) ≡ None
@@ -65,4 +66,4 @@ grown_items number xs n x short is =
 -- a table stays one with zeros at its end
 pub first_fault-grown : (fault : ℕ → Option Fault) (numbers : List ℕ) (n : ℕ) → first_fault fault numbers ≡ None → fault 0 ≡ None → first_fault fault (grown_numbers numbers n) ≡ None
 first_fault-grown fault numbers n h lawful =
-    first_fault-append fault numbers (replicate (n - length numbers) 0) h ∙ first_fault-zeros fault (n - length numbers) lawful
+    first_fault-append fault numbers (replicate (n - length numbers) 0) h ∙ rw map-id at (first_fault-map-replicate (λ (v : ℕ). v) fault (n - length numbers) 0 lawful)
