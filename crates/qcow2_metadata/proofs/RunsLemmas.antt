@@ -55,10 +55,9 @@ record Parts (cb v : ℕ) : Type 0 where
 
 parts_of : (cb v : ℕ) → l2_fault cb v ≡ None → is_compressed v ≡ false → Parts cb v
 parts_of cb v lawful standard =
-    let kinds = (lawful_by_kind (nat_eq (l2_reserved_bits v) 0) (is_compressed v) (nat_lt (v % 2 ^ (70 - cb)) (2 ^ 56)) (nat_eq (offset_field v % 2 ^ cb) 0)).1 lawful in
-    let tests : IsTrue (nat_eq (field v 1 8 * 2 ^ 1 + field v 56 6 * 2 ^ 56) 0 && nat_eq (offset_field v % 2 ^ cb) 0) = rw standard at kinds in
-    let reserved : field v 1 8 * 2 ^ 1 + field v 56 6 * 2 ^ 56 ≡ 0 = grind (arith, nat_tests, tests) in
-    let aligned : offset_field v % 2 ^ cb ≡ 0 = grind (arith, nat_tests, tests) in
+    let known = rw standard at lawful in
+    let reserved : field v 1 8 * 2 ^ 1 + field v 56 6 * 2 ^ 56 ≡ 0 = grind (arith, nat_tests, known) in
+    let aligned : offset_field v % 2 ^ cb ≡ 0 = grind (arith, nat_tests, known) in
     let kind : field v 62 1 ≢ 1 = eqb-false (field v 62 1) 1 standard in
     let flag : field v 0 1 ≡ bit (is_zero v) = grind (arith, nat_tests) in
     let offset : offset_field v ≡ offset_field v / 2 ^ cb * 2 ^ cb = omega (arith, div-add-mod' (offset_field v) (2 ^ cb)) in
