@@ -26,8 +26,8 @@ written_entries image offset bytes range numbers count held each =
 -- the greater of two powers of two is one
 max-power : (a b : ℕ) → IsPowerOfTwo a → IsPowerOfTwo b → IsPowerOfTwo (max a b)
 max-power a b left right = elim (cases_lt a b) [
-  | inl less ↦ let is : max a b ≡ b = omega (arith, less) in rw is right
-  | inr more ↦ let is : max a b ≡ a = omega (arith, more) in rw is left
+  | inl less ↦ let is : max a b ≡ b = omega arith in rw is right
+  | inr more ↦ let is : max a b ≡ a = omega arith in rw is left
 ]
 
 -- the entries of an alignment that a cluster's size is no less than

@@ -19,10 +19,6 @@ use Rattle.qcow2_metadata.proofs.EntriesLemmas.{lawful_by_kind}
 use Rattle.qcow2_metadata.proofs.MappingLemmas.{bit, bit_below}
 use Rattle.qcow2_metadata.proofs.TableLemmas.{no_fault_item}
 
--- a compressed entry goes on at each compressed one
-after_compressed : (b z cp : Bool) (h : Option ℕ) (k a l o m p : ℕ) → reads_on k (compressed a l) (if b then compressed o m else standard_mapping z h cp p) ≡ b
-after_compressed b z cp h k a l o m p = grind arith
-
 -- and no other at one
 before_compressed : (z cp : Bool) (h : Option ℕ) (k p o m : ℕ) → reads_on k (standard_mapping z h cp p) (compressed o m) ≡ false
 before_compressed z cp h k p o m = grind arith
