@@ -28,10 +28,7 @@ record IsDataAt (v offset : ℕ) : Type 0 where
   high : field v 56 6 ≡ 0
 
 data_entry_is_data : (g : Geometry) (cluster : ℕ) → IsClusterBits g.cluster_bits → is_mappable g cluster ≡ true → IsDataAt (data_entry g.cluster_bits cluster) (cluster * 2 ^ g.cluster_bits)
-data_entry_is_data g cluster bits mappable =
-    let sectors = offset_in_sectors g.cluster_bits cluster bits.0 in
-    let fits : cluster * 2 ^ g.cluster_bits ≤ 2 ^ 56 - 512 = grind (arith, nat_tests) in
-    omega (arith, sectors, fits)
+data_entry_is_data g cluster bits mappable = grind (arith, nat_tests, offset_in_sectors)
 
 second_holds : (a b : Bool) → (a && b) ≡ true → b ≡ true
 second_holds a b both = grind arith
@@ -41,10 +38,7 @@ abbrev bytes_of_cluster : ℕ → ℕ → ByteRange
 bytes_of_cluster cb cluster = record { start = cluster * 2 ^ cb; end = cluster * 2 ^ cb + 2 ^ cb }
 
 data_range : (g : Geometry) (cluster : ℕ) → IsClusterBits g.cluster_bits → is_mappable g cluster ≡ true → byte_range g (data_entry g.cluster_bits cluster) ≡ Some (bytes_of_cluster g.cluster_bits cluster)
-data_range g cluster bits mappable =
-    let parts = data_entry_is_data g cluster bits mappable in
-    let allocated : (not (cluster * 2 ^ g.cluster_bits == 0) || (g.external_data_file && true)) ≡ true = grind (arith, nat_tests, mul-le 1 1 cluster (2 ^ g.cluster_bits), pow_pos g.cluster_bits) in
-    rw (parts.standard, parts.copied, parts.at, allocated) refl
+data_range g cluster bits mappable = grind (arith, nat_tests, data_entry_is_data, mul-le, pow_pos)
 
 -- these clusters are the one alone
 abbrev pub just : ℕ → ClustersToFreeEntry
@@ -154,11 +148,7 @@ balance-run g (e ∷ edits) numbers c bits fit =
 
 -- the numbers after an edit are what the edit makes of them
 pub after_edit-is : (g : Geometry) (e : TableEdit) (numbers : List ℕ) → e.index < length numbers → IsEdit g e numbers (after_edit g e numbers)
-after_edit-is g e numbers below = record {
-  entry = get_or-set_same numbers e.index (changed g e.edit (slice_index numbers e.index)) 0 below;
-  others = λ i other. get_or-set_other numbers e.index i (changed g e.edit (slice_index numbers e.index)) 0 other;
-  entries = after_edit-length g e numbers;
-}
+after_edit-is g e numbers below = grind (arith, nat_tests, get_or-set_same, get_or-set_other, after_edit-length)
 
 -- and nothing else is
 pub edit-determines : (g : Geometry) (e : TableEdit) (old new : List ℕ) → IsEdit g e old new → new ≡ after_edit g e old

@@ -36,19 +36,11 @@ met_clusters cb range c some =
 
 -- a range of at most two clusters' bytes meets one to three clusters
 pub met_count : (cb : ℕ) (range : ByteRange) → range.start < range.end → range.end ≤ range.start + 2 * 2 ^ cb → (1 ≤ cluster_count cb range) × (cluster_count cb range ≤ 3)
-met_count cb range some short =
-    let p = pow_pos cb in
-    let wide = div_rises (range.end - 1) (range.start + 2 * 2 ^ cb) (2 ^ cb) p (omega arith) in
-    let two = add-mul-div_right range.start 2 p in
-    (omega arith, omega (arith, last_reached cb range some))
+met_count cb range some short = grind (arith, nat_tests, pow_pos, div_rises, add-mul-div_right, last_reached)
 
 -- as many sectors of 512 bytes as the field can count fill two clusters
 pub sectors_fill_two_clusters : (cb : ℕ) → 8 ≤ cb → 2 ^ (cb - 8) * 512 ≡ 2 * 2 ^ cb
-sectors_fill_two_clusters cb low =
-    let split = pow-add 2 (cb - 8) 9 in
-    let whole = pow-add 2 cb 1 in
-    let same : cb - 8 + 9 ≡ cb + 1 = omega arith in
-    omega (arith, rw same at split)
+sectors_fill_two_clusters cb low = grind (arith, nat_tests, pow-add)
 
 -- the clusters of an entry's range are those that the entry meets
 met_by_entry : (g : Geometry) (v c : ℕ) (range : ByteRange) → byte_range g v ≡ Some range → range.start < range.end → Meets g v c ↔ IsAmong (clusters_met g.cluster_bits range) c
@@ -95,18 +87,11 @@ cluster_begins_below cb offset = div-mul-le_self offset (2 ^ cb)
 
 -- a cluster's offset is whole sectors of 512 bytes
 pub offset_in_sectors : (cb cluster : ℕ) → 9 ≤ cb → cluster * 2 ^ cb ≡ cluster * 2 ^ (cb - 9) * 512
-offset_in_sectors cb cluster low =
-    let power = pow-add 2 (cb - 9) 9 in
-    let whole : cb - 9 + 9 ≡ cb = omega arith in
-    let same : 2 ^ cb ≡ 2 ^ (cb - 9) * 512 = rw whole at power in
-    ap (λ x. cluster * x) same ∙ sym (mul_assoc cluster (2 ^ (cb - 9)) 512)
+offset_in_sectors cb cluster low = grind (arith, nat_tests, pow-add, mul_assoc)
 
 -- a cluster's offset is a refcount table entry
 pub ref_entry_is_lawful : (cb cluster : ℕ) → 9 ≤ cb → ref_fault cb (cluster * 2 ^ cb) ≡ None
-ref_entry_is_lawful cb cluster low =
-    let in_sectors = offset_in_sectors cb cluster low in
-    let reserved : ref_reserved_bits (cluster * 2 ^ cb) ≡ 0 = rw in_sectors (omega arith) in
-    rw (reserved, mul-mod_left cluster (2 ^ cb)) refl
+ref_entry_is_lawful cb cluster low = grind (arith, nat_tests, offset_in_sectors, mul-mod_left)
 
 -- a cluster's offset below 2 ^ 56 with the copied flag is an L1 entry
 pub l1_entry_is_lawful : (cb cluster : ℕ) → 9 ≤ cb → cluster * 2 ^ cb < 2 ^ 56 → l1_fault cb (l1_entry_for (cluster * 2 ^ cb)) ≡ None
@@ -137,10 +122,7 @@ high_bits_clear cb v low high = elim (cases_lt 56 (70 - cb)) [
 ]
 
 same_test : (cb v : ℕ) → 9 ≤ cb → cb ≤ 21 → nat_eq (v / 2 ^ 56 * 2 ^ 56 % 2 ^ (70 - cb)) 0 ≡ nat_lt (v % 2 ^ (70 - cb)) (2 ^ 56)
-same_test cb v low high =
-    let clear = high_bits_clear cb v low high in
-    let below = Decides-ltb (v % 2 ^ (70 - cb)) (2 ^ 56) in
-    same_from_decides _ _ (Decides-eqb _ 0) (λ t. clear.1 (below.0 t), λ none. below.1 (clear.0 none))
+same_test cb v low high = grind (arith, nat_tests, high_bits_clear)
 
 -- a number is lawful where its reserved bits are clear and its kind's offset is
 pub lawful_by_kind : (clear compressed low aligned : Bool) → IsTrue (clear && (if compressed then low else aligned)) ↔ (entry_fault (not clear || (compressed && not low)) (not compressed && not aligned) ≡ None)
@@ -150,6 +132,4 @@ by_cases : (test offset low aligned : Bool) → (test ≡ true → offset ≡ lo
 by_cases test offset low aligned first second = grind arith
 
 pub l2_is_lawful : (cb v : ℕ) (offset : Bool) → 9 ≤ cb → cb ≤ 21 → (is_compressed v ≡ true → offset ≡ nat_eq (v / 2 ^ 56 * 2 ^ 56 % 2 ^ (70 - cb)) 0) → (is_compressed v ≡ false → offset ≡ nat_eq (offset_field v % 2 ^ cb) 0) → IsTrue (nat_eq (l2_reserved_bits v) 0 && offset) ↔ (l2_fault cb v ≡ None)
-l2_is_lawful cb v offset low high compressed standard =
-    let which = by_cases (is_compressed v) offset (nat_lt (v % 2 ^ (70 - cb)) (2 ^ 56)) (nat_eq (offset_field v % 2 ^ cb) 0) (λ e. compressed e ∙ same_test cb v low high) standard in
-    rw which (lawful_by_kind (nat_eq (l2_reserved_bits v) 0) (is_compressed v) (nat_lt (v % 2 ^ (70 - cb)) (2 ^ 56)) (nat_eq (offset_field v % 2 ^ cb) 0))
+l2_is_lawful cb v offset low high compressed standard = grind (arith, nat_tests, by_cases, same_test, lawful_by_kind)

@@ -76,19 +76,11 @@ least-enough g spare roomy =
 
 -- the number by division is the least
 pub least_spare-is : (g : Growth) → IsRoomy g → IsLeastSpare g (least_spare g)
-least_spare-is g roomy =
-    let index = div_ceil-le (g.index + 1) (g.cluster_entries * (g.block_counters - 1) - 1) 0 (omega (arith, roomy.both)) in
-    record {
-      some = elim (cases_lt 0 (least_spare g)) [ inl one ↦ omega (arith, one) | inr none ↦ absurd (omega (arith, index.0 (omega (arith, none)))) ];
-      enough = (least-enough g (least_spare g) roomy).0 (omega arith);
-      least = λ fewer one enough. (least-enough g fewer roomy).1 enough;
-    }
+least_spare-is g roomy = grind (arith, nat_tests, div_ceil-le, least-enough)
 
 -- more spare blocks take no fewer clusters and entries
 pub clusters_with-more : (g : Growth) (a b : ℕ) → 0 < g.cluster_entries → a ≤ b → clusters_with g a ≤ clusters_with g b
-clusters_with-more g a b some more =
-    let least = (div_ceil_times (max (g.index + 1 + b) g.len) g.cluster_entries some).0 in
-    rw (clusters_with-is g a some, clusters_with-is g b some) ((div_ceil-le (max (g.index + 1 + a) g.len) g.cluster_entries _ some).1 (omega (arith, least, more)))
+clusters_with-more g a b some more = grind (arith, nat_tests, div_ceil_times, clusters_with-is, div_ceil-le)
 
 entries_with-more : (g : Growth) (a b : ℕ) → 0 < g.cluster_entries → a ≤ b → entries_with g a ≤ entries_with g b
 entries_with-more g a b some more =

@@ -37,21 +37,13 @@ abbrev standard_number : ℕ → ℕ → Bool → Bool → ℕ
 standard_number cb cluster copied flag = copied_bit copied + cluster * 2 ^ cb + bit flag
 
 is_standard : (cb cluster : ℕ) (copied flag : Bool) → 9 ≤ cb → cluster * 2 ^ cb < 2 ^ 56 → IsStandard (standard_number cb cluster copied flag) (cluster * 2 ^ cb) (bit copied) (bit flag)
-is_standard cb cluster copied flag low placed =
-    let sectors = offset_in_sectors cb cluster low in
-    let top : copied_bit copied ≡ bit copied * 2 ^ 63 = grind arith in
-    rw (top, sectors) (omega (arith, rw sectors at placed, bit_below copied, bit_below flag))
+is_standard cb cluster copied flag low placed = grind (arith, nat_tests, offset_in_sectors, bit_below)
 
 standard_is_lawful : (cb cluster : ℕ) (copied flag : Bool) → 9 ≤ cb → cluster * 2 ^ cb < 2 ^ 56 → l2_fault cb (standard_number cb cluster copied flag) ≡ None
-standard_is_lawful cb cluster copied flag low placed =
-    let fields = is_standard cb cluster copied flag low placed in
-    rw (fields.kind, fields.reserved, fields.middle, mul-mod_left cluster (2 ^ cb)) refl
+standard_is_lawful cb cluster copied flag low placed = grind (arith, nat_tests, is_standard, mul-mod_left)
 
 standard_reads : (cb guest_cluster cluster : ℕ) (copied flag external : Bool) → 9 ≤ cb → cluster * 2 ^ cb < 2 ^ 56 → mapping (geometry cb external) guest_cluster (standard_number cb cluster copied flag) ≡ standard_mapping flag (if is_told external cluster copied then Some cluster else None) copied (guest_cluster * 2 ^ cb)
-standard_reads cb guest_cluster cluster copied flag external low placed =
-    let none : nat_eq (cluster * 2 ^ cb) 0 ≡ nat_eq cluster 0 = grind (arith, nat_tests, mul-le 1 1 cluster (2 ^ cb), pow_pos cb) in
-    let fields = is_standard cb cluster copied flag low placed in
-    rw (fields.kind, fields.middle, fields.highest, fields.lowest, bit_is_set copied, bit_is_set flag, none, shl-shr cluster cb) refl
+standard_reads cb guest_cluster cluster copied flag external low placed = grind (arith, nat_tests, mul-le, pow_pos, is_standard, bit_is_set, shl-shr)
 
 told_data : (told copied : Bool) (cluster offset : ℕ) → standard_mapping false (if told then Some cluster else None) copied offset ≡ (if told then data_file cluster copied else backing offset)
 told_data told copied cluster offset = grind arith
@@ -102,9 +94,7 @@ compressed_fields cb offset sectors low high fits few =
     }
 
 compressed_is_lawful : (cb offset sectors : ℕ) → 9 ≤ cb → cb ≤ 21 → offset < 2 ^ (70 - cb) → offset < 2 ^ 56 → sectors < 2 ^ (cb - 8) → l2_fault cb (2 ^ 62 + sectors * 2 ^ (70 - cb) + offset) ≡ None
-compressed_is_lawful cb offset sectors low high fits placed few =
-    let fields = compressed_fields cb offset sectors low high fits few in
-    rw (fields.kind, fields.reserved, fields.lower, lt-ltb offset (2 ^ 56) placed) refl
+compressed_is_lawful cb offset sectors low high fits placed few = grind (arith, nat_tests, compressed_fields, lt-ltb)
 
 -- so many sectors beyond the first can be told
 sectors_below : (cb offset length : ℕ) → 9 ≤ cb → length < 2 ^ cb → sectors_beyond offset length < 2 ^ (cb - 8)

@@ -49,10 +49,7 @@ multiple_before x s some = (omega (arith, div-add-mod x s), omega (arith, div-ad
 
 -- a group that begins before a whole number of groups ends there
 next_within : (x s parts : ℕ) → 0 < s → x < parts * s → x / s * s + s ≤ parts * s
-next_within x s parts some below =
-    let less : x / s < parts = div_below x s parts some (omega arith) in
-    let next : (x / s + 1) * s ≡ x / s * s + s = omega arith in
-    omega (arith, next, mul-le-mul_right s less)
+next_within x s parts some below = grind (arith, div_below, mul-le-mul_right)
 
 -- a cluster is a whole number of groups of entries, and so is the longest file
 cluster_is_parts : (cb count : ℕ) → IsPartOfCluster cb count → (parts : ℕ) × (2 ^ cb ≡ parts * (8 * count))
@@ -142,10 +139,7 @@ written_of index range place numbers (Ok value) old new count from below outside
 
 -- nothing else in the cluster's neighbours changed
 wider : (offset len cluster size : ℕ) (old new : Image) → cluster ≤ offset → offset + len ≤ cluster + size → SameOutside offset len old new → SameOutside cluster size old new
-wider offset len cluster size old new from within outside = record {
-  before = λ o h. outside.before o (omega (arith, h, from));
-  after = λ o h. outside.after o (omega (arith, h, within));
-}
+wider offset len cluster size old new from within outside = grind (arith)
 
 -- a write of a table's entries at a lawful place is one of the entry
 pub WritesEntry-of : {T : Type 0} (most index : ℕ) (table : TableState) (cluster : HostCluster) (answer : Result T Fault) (old new : StorageState) → table.cluster ≡ Some cluster → write_fault most table ≡ None

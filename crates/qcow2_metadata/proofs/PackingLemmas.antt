@@ -44,13 +44,7 @@ narrow_cases P a b c d (suc (suc (suc (suc order)))) narrow = absurd (omega arit
 
 -- a fact of each order of wider counters
 wide_cases : (P : ℕ → Type 0) → P 4 → P 5 → P 6 → (order : ℕ) → 4 ≤ order → order ≤ 6 → P order
-wide_cases P a b c order low high = elim (cases_lt order 5) [
-  | inl four ↦ let is : order ≡ 4 = omega arith in rw is a
-  | inr more ↦ elim (cases_lt order 6) [
-    | inl five ↦ let is : order ≡ 5 = omega arith in rw is b
-    | inr six ↦ let is : order ≡ 6 = omega arith in rw is c
-  ]
-]
+wide_cases P a b c order low high = grind (arith)
 
 pub width-per_byte : (order : ℕ) → order ≤ 3 → width order * per_byte order ≡ 8
 width-per_byte = narrow_cases (λ order. width order * per_byte order ≡ 8) refl refl refl refl
@@ -137,10 +131,7 @@ counter_at-small order image offset i low bytes = elim (cases_lt order 4) [
 
 -- what is read fits its width
 pub counters_at-small : (order : ℕ) (image : Image) (offset n : ℕ) → order ≤ 6 → IsBytes image → AreCounters order (counters_at order image offset n)
-counters_at-small order image offset n low bytes =
-    All-from_get_or (λ counter. counter < 2 ^ width order) (counters_at order image offset n) 0
-    (λ i below. let within : i < n = omega (arith, counters_at-length order image offset n) in
-    rw (get_or-map-range_with_len (counter_at order image offset) 0 n i i 0 within (omega arith)) (counter_at-small order image offset i low bytes))
+counters_at-small order image offset n low bytes = grind (arith, counters_at-length, get_or-map-range_with_len, counter_at-small)
 
 counter_at-same : (order n len : ℕ) (f g : Image) (o p i : ℕ) → order ≤ 6 → width order * n ≡ 8 * len → ((k : ℕ) → k < len → f (o + k) ≡ g (p + k)) → i < n → counter_at order f o i ≡ counter_at order g p i
 counter_at-same order n len f g o p i low whole same below = elim (cases_lt order 4) [
@@ -195,10 +186,7 @@ pub counters_at-more : (order : ℕ) (image : Image) (offset n : ℕ) → counte
 counters_at-more order image offset n = map-range_with_len_more (counter_at order image offset) 0 n n (omega arith)
 
 counter_is_small : (order : ℕ) (counters : List ℕ) (i : ℕ) → AreCounters order counters → slice_index counters i < 2 ^ width order
-counter_is_small order counters i small = elim (cases_lt i (length counters)) [
-  | inl within ↦ All-get_or (λ counter. counter < 2 ^ width order) counters i 0 within small
-  | inr past ↦ rw (get_or_past counters i 0 past) (pow_pos (width order))
-]
+counter_is_small order counters i small = grind (arith, get_or_past, pow_pos)
 
 -- counters that are packed stand in their bytes
 pub counter_at-packed : (order : ℕ) (counters : List ℕ) (i : ℕ) → order ≤ 6 → AreCounters order counters → counter_at order (packed order counters) 0 i ≡ slice_index counters i
@@ -265,9 +253,7 @@ packed-counters_at order n len image offset j low bytes whole below = elim (case
 
 -- one wide counter more is read
 pub wide_counters-more : {X : Type 0} (number : X → ℕ) (order : ℕ) (image : Image) (items before : List X) (x : X) (size i : ℕ) → 4 ≤ order → size ≡ bytes_each order → be image (size * i) size ≡ number x → map number items ≡ map number before ++ counters_at order image 0 i → map number (items ++ x ∷ []) ≡ map number before ++ counters_at order image 0 (i + 1)
-wide_counters-more number order image items before x size i wide each read so_far =
-    let last : counter_at order image 0 i ≡ number x = rw (lt-leb order 3 wide, ← each, zero-add (size * i)) read in
-    rw (map_push number items x, so_far, counters_at-more order image 0 i, last) (append_assoc (map number before) (counters_at order image 0 i) (number x ∷ []))
+wide_counters-more number order image items before x size i wide each read so_far = grind (arith, lt-leb, zero-add, map_push, counters_at-more, append_assoc)
 
 -- one wide counter more is written
 pub wide_bytes-more : (order size first index : ℕ) (counters old new : List ℕ) → 4 ≤ order → size ≡ bytes_each order → IsBytes (image_of new)

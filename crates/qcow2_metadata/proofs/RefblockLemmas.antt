@@ -130,12 +130,8 @@ narrow_within order bytes count low within =
 
 -- a piece of a block lies within it
 pub piece-within : (cb order count piece len : ℕ) → IsClusterBits cb → order ≤ 6 → count ≡ block_entries cb order → 4096 * piece < 2 ^ cb → len ≡ min (2 ^ cb - 4096 * piece) 4096 → 8 * (4096 * piece + len) ≤ width order * count
-piece-within cb order count piece len bits orders entries some is =
-    let whole : width order * count ≡ 8 * 2 ^ cb = rw entries (block_bytes cb order bits orders) in
-    omega (arith, whole, some, is)
+piece-within cb order count piece len bits orders entries some is = grind (arith, block_bytes)
 
 -- a piece of a block lies in the largest cluster
 pub piece-fits : (cb piece : ℕ) → IsClusterBits cb → 4096 * piece < 2 ^ cb → 4096 * piece < 2 ^ 21
-piece-fits cb piece bits some =
-    let grows : 2 ^ cb ≤ 2 ^ 21 = pow-le-pow_right {n = 2} (lit≤ tt) bits.1 in
-    omega (arith, some, grows)
+piece-fits cb piece bits some = grind (arith, pow-le-pow_right)

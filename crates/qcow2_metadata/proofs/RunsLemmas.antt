@@ -33,10 +33,7 @@ same_place n q q0 k z z0 some low low0 =
 after_cluster : (zb zb0 alloc cp cp0 : Bool) (n q q0 k o p : ℕ) → 2 ≤ n → 1 ≤ k → (1 ≤ q → alloc ≡ true)
     → nat_eq (q * n + bit zb) (q0 * n + bit zb0 + k * n)
     ≡ reads_on k (standard_mapping zb0 (Some q0) cp0 o) (standard_mapping zb (if alloc then Some q else None) cp p)
-after_cluster zb zb0 alloc cp cp0 n q q0 k o p some far told =
-    let same = same_place n q q0 k (bit zb) (bit zb0) some (bit_below zb) (bit_below zb0) in
-    let nothing : alloc ≡ false → q ≡ 0 = λ none. grind (arith, nat_tests) in
-    rw same (grind (arith, nat_tests))
+after_cluster zb zb0 alloc cp cp0 n q q0 k o p some far told = grind (arith, nat_tests, same_place, bit, bit_below)
 
 after_no_cluster : (zb zb0 alloc cp cp0 : Bool) (x q k o p : ℕ) → (alloc ≡ true → 2 ≤ x) → (alloc ≡ false → x ≡ bit zb)
     → nat_eq x (bit zb0 + k * 0)
@@ -50,19 +47,7 @@ record Parts (cb v : ℕ) : Type 0 where
   small : offset_field v < 2 ^ 56
 
 parts_of : (cb v : ℕ) → l2_fault cb v ≡ None → is_compressed v ≡ false → Parts cb v
-parts_of cb v lawful standard =
-    let known = rw standard at lawful in
-    let reserved : field v 1 8 * 2 ^ 1 + field v 56 6 * 2 ^ 56 ≡ 0 = grind (arith, nat_tests, known) in
-    let aligned : offset_field v % 2 ^ cb ≡ 0 = grind (arith, nat_tests, known) in
-    let kind : field v 62 1 ≢ 1 = eqb-false (field v 62 1) 1 standard in
-    let flag : field v 0 1 ≡ bit (is_zero v) = grind (arith, nat_tests) in
-    let offset : offset_field v ≡ offset_field v / 2 ^ cb * 2 ^ cb = omega (arith, div-add-mod' (offset_field v) (2 ^ cb)) in
-    let fields : v % 2 ^ 63 ≡ offset_field v + field v 0 1 = omega (arith, reserved, kind) in
-    record {
-      lower = rw (← offset, ← flag) fields;
-      offset = offset;
-      small = omega arith;
-    }
+parts_of cb v lawful standard = grind (arith, nat_tests, eqb-false, bit, div-add-mod')
 
 -- a compressed number is larger than those that go on from a standard one
 compressed_large : (v : ℕ) → is_compressed v ≡ true → 2 ^ 62 ≤ v % 2 ^ 63
@@ -119,19 +104,7 @@ after_an_entry_without : (cb : ℕ) (external : Bool) (x k v v0 c other : ℕ) �
     → (is_compressed v ≡ false → (is_allocated external v ≡ true → 2 ≤ x) × (is_allocated external v ≡ false → x ≡ bit (is_zero v)))
     → l2_fault cb v0 ≡ None → is_compressed v0 ≡ false → is_allocated external v0 ≡ false
     → nat_eq x (v0 % 2 ^ 63 + k * 0) ≡ reads_on k (mapping (geometry cb external) c v0) (mapping (geometry cb external) other v)
-after_an_entry_without cb external x k v v0 c other packed_large tested lawful0 standard0 none =
-    let parts0 = parts_of cb v0 lawful0 standard0 in
-    let value : v0 % 2 ^ 63 ≡ bit (is_zero v0) = grind (arith, nat_tests, parts0.lower, parts0.offset) in
-    elim (cases_Bool (is_compressed v)) [
-      | inl packed ↦
-          let differs : nat_eq x (v0 % 2 ^ 63 + k * 0) ≡ false = rw value (grind (arith, nat_tests, packed_large packed, bit_below (is_zero v0))) in
-          differs ∙ rw (packed, standard0) (sym (before_compressed (is_zero v0) (is_copied v0) (host_cluster (geometry cb external) v0) k (c * 2 ^ cb) (compressed_offset cb v) (compressed_length cb v)))
-      | inr standard ↦
-          let sizes = tested standard in
-          let tests : nat_eq x (v0 % 2 ^ 63 + k * 0) ≡ nat_eq x (bit (is_zero v0) + k * 0) = rw value refl in
-          tests ∙ after_no_cluster (is_zero v) (is_zero v0) (is_allocated external v) (is_copied v) (is_copied v0) x (offset_field v / 2 ^ cb) k (c * 2 ^ cb) (other * 2 ^ cb) sizes.0 sizes.1
-          ∙ rw (standard, standard0, none) refl
-    ]
+after_an_entry_without cb external x k v v0 c other packed_large tested lawful0 standard0 none = grind (arith, nat_tests, parts_of, bit, bit_below, before_compressed, after_no_cluster)
 
 pub after_an_entry_without_one : (cb k v v0 c other : ℕ) → l2_fault cb v ≡ None → l2_fault cb v0 ≡ None → is_compressed v0 ≡ false → is_allocated false v0 ≡ false
     → nat_eq (bit_and v 9223372036854775807) (v0 % 2 ^ 63 + k * 0) ≡ reads_on k (mapping (geometry cb false) c v0) (mapping (geometry cb false) other v)
@@ -163,13 +136,7 @@ record Rest (numbers : List ℕ) (i : ℕ) (rest : List ℕ) : Type 0 where
   at : (k : ℕ) → k < length rest → get_or rest k 0 ≡ get_or numbers (i + 1 + k) 0
 
 rest_of : (numbers : List ℕ) (i : ℕ) → i < length numbers → Rest numbers i (take (length numbers - (i + 1)) (drop (i + 1) numbers))
-rest_of numbers i within =
-    let after : length (drop (i + 1) numbers) ≡ length numbers - (i + 1) = length-drop (i + 1) numbers in
-    let many : length (take (length numbers - (i + 1)) (drop (i + 1) numbers)) ≡ length numbers - (i + 1) = rw length-take (omega (arith, after)) in
-    record {
-      count = many;
-      at = λ k below. get_or-take (length numbers - (i + 1)) (drop (i + 1) numbers) k 0 (omega (arith, many, below)) ∙ get_or-drop (i + 1) numbers k 0;
-    }
+rest_of numbers i within = grind (arith, nat_tests, length-drop, length-take, get_or-take, get_or-drop)
 
 -- the place in its table of a guest cluster further on
 place_further : (first size i k : ℕ) → i ≡ first % size → i + k < size → (first + k) % size ≡ i + k

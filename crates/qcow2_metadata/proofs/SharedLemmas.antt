@@ -73,19 +73,7 @@ low_bits_below v k low = elim (cases_lt 63 k) [
 
 -- a lawful entry is lawful without its copied flag, whatever stands above bit 63
 pub lawful_without_copied : (cb v : ℕ) → l2_fault cb v ≡ None → l2_fault cb (v % 2 ^ 63) ≡ None
-lawful_without_copied cb v lawful =
-    let kind = low_field v 62 1 (omega arith) in
-    elim (cases_Bool (is_compressed v)) [
-      | inl packed ↦
-          let copied : field (v % 2 ^ 63) 63 1 ≡ 0 = omega arith in
-          let known = rw packed at lawful in
-          let below : nat_lt (v % 2 ^ 63 % 2 ^ (70 - cb)) (2 ^ 56) ≡ true = grind (arith, nat_tests, known, low_bits_below v (70 - cb)) in
-          rw (kind, packed, copied, below) refl
-      | inr standard ↦
-          let reserved : field (v % 2 ^ 63) 1 8 * 2 ^ 1 + field (v % 2 ^ 63) 56 6 * 2 ^ 56 ≡ field v 1 8 * 2 ^ 1 + field v 56 6 * 2 ^ 56 = omega arith in
-          let offset : offset_field (v % 2 ^ 63) ≡ offset_field v = omega arith in
-          rw (kind, standard, reserved, offset) (rw standard at lawful)
-    ]
+lawful_without_copied cb v lawful = grind (arith, nat_tests, low_field, low_bits_below)
 
 shared_is_lawful : (external : Bool) (cb v : ℕ) → l2_fault cb v ≡ None → l2_fault cb (shared external v) ≡ None
 shared_is_lawful external cb v lawful = elim (cases_Bool (external && (not (is_compressed v) && (offset_field v == 0)))) [
