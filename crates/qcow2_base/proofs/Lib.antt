@@ -1,5 +1,5 @@
 mod OnDiskStructExamples
 pub mod OnDiskStructLemmas
 mod StorageExamples
-mod StorageLemmas
+pub mod StorageLemmas
 pub mod TypesLemmas

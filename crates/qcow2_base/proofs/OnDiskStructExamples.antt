@@ -2,15 +2,13 @@ use Rattle.std.proofs.Common.{◌≡◌, ◌++◌, List, ℕ, [], ◌∷◌, ref
 use Rattle.qcow2_base.specs.Storage.{be, image_of}
 use Rattle.qcow2_base.specs.OnDiskStruct.{HoldsLayout, big, le, moved, v2_header, v3_header_base}
 
--- the least significant byte first
-pub little_endian_number : le (image_of (0x44 ∷ 0x33 ∷ 0x22 ∷ 0x11 ∷ [])) 0 4 ≡ 0x11223344
-unfolding le
-little_endian_number = refl
-
--- two fields with four bytes between them that belong to none
-pub fields_around_a_gap : HoldsLayout (image_of (0x11 ∷ 0x22 ∷ 0x33 ∷ 0x44 ∷ 0xff ∷ 0xff ∷ 0xff ∷ 0xff ∷ 0x55 ∷ 0x66 ∷ [])) (big 0 4 0x11223344 ∷ big 8 2 0x5566 ∷ [])
-unfolding be
-fields_around_a_gap = (refl, (refl, tt))
+-- the least significant byte first, and two fields with four bytes between them that belong to none
+pub numbers_and_gaps :
+    (le (image_of (0x44 ∷ 0x33 ∷ 0x22 ∷ 0x11 ∷ [])) 0 4 ≡ 0x11223344)
+    × HoldsLayout (image_of (0x11 ∷ 0x22 ∷ 0x33 ∷ 0x44 ∷ 0xff ∷ 0xff ∷ 0xff ∷ 0xff ∷ 0x55 ∷ 0x66 ∷ []))
+    (big 0 4 0x11223344 ∷ big 8 2 0x5566 ∷ [])
+unfolding be le
+numbers_and_gaps = (refl, (refl, (refl, tt)))
 
 -- the 104 bytes of a version 3 header of 512-byte clusters in which all else is 0
 abbrev header_bytes : List ℕ

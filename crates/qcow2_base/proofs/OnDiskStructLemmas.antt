@@ -5,7 +5,7 @@ use Rattle.std.proofs.lemmas.Bool.{cases_lt}
 use borrow.Rule.Slice.PartMut.{put_mid}
 use Rattle.byteorder.specs.Endian.{big_from, little_from, big_bytes, little_bytes}
 use Rattle.byteorder.specs.Numbers.{big_number-reads_back, little_number-reads_back}
-use Rattle.qcow2_base.specs.Storage.{Image, Holds, image_of, be, be_of_same}
+use Rattle.qcow2_base.specs.Storage.{Image, image_of, be, be_of_same}
 use Rattle.qcow2_base.specs.OnDiskStruct.{le, Order, Big, Little, number_in, LayoutField, HoldsLayout, IsGap, layout_end, moved, Stores}
 
 -- a list's numbers by byteorder's words
@@ -36,29 +36,19 @@ le_of_bytes n x xs rest e fits = le_of_list 0 n xs ∙ rw e (little_number-reads
 abbrev SameBytes : Image → ℕ → Image → ℕ → ℕ → Type 0
 SameBytes f o g p n = (k : ℕ) → k < n → f (o + k) ≡ g (p + k)
 
-SameBytes-rest : (f g : Image) (n o p : ℕ) → SameBytes f o g p (suc n) → SameBytes f (o + 1) g (p + 1) n
-SameBytes-rest f g n o p same k h = rw (add_assoc o 1 k, add_assoc p 1 k) (same (1 + k) (omega arith))
-
 -- the same bytes are the same number
 le_of_same : (f g : Image) (n o p : ℕ) → SameBytes f o g p n → le f o n ≡ le g p n
 unfolding le
 le_of_same f g zero o p same = refl
 le_of_same f g (suc n) o p same =
     let first : f o ≡ g p = simp add-zero at (same 0 (omega arith)) in
-    let rest = le_of_same f g n (o + 1) (p + 1) (SameBytes-rest f g n o p same) in
+    let rest = le_of_same f g n (o + 1) (p + 1) (λ k h. rw (add_assoc o 1 k, add_assoc p 1 k) (same (1 + k) (omega arith))) in
     rw (first, rest) refl
 
 pub number_of_same : (order : Order) (f g : Image) (n o p : ℕ) → SameBytes f o g p n
     → number_in order f o n ≡ number_in order g p n
 number_of_same Big = be_of_same
 number_of_same Little = le_of_same
-
--- a number of bytes that an image has is the image's own
-pub be_of_held : (image : Image) (offset place n : ℕ) (bytes : List ℕ) → Holds image offset bytes
-    → place + n ≤ length bytes → be (image_of bytes) place n ≡ be image (offset + place) n
-be_of_held image offset place n bytes held fits =
-    be_of_same (image_of bytes) image n place (offset + place)
-    (λ k h. rw (add_assoc offset place k) (held.each (place + k) (omega arith)))
 
 -- what an image has, another one has further on, where it has the same bytes there
 pub HoldsLayout-moved : (f g : Image) (by size : ℕ) (fields : List LayoutField)
@@ -89,19 +79,6 @@ IsGap-moved by k (x ∷ fields) gap =
       | inr after ↦ (inr (omega (arith, after)), rest)
     ]
 
--- the elements of a list of which k from a place on were replaced
-replaced_before : (xs ys : List ℕ) (place k o : ℕ) → place ≤ length xs → o < place
-    → slice_index (put_mid place k xs ys) o ≡ slice_index xs o
-replaced_before xs ys place k o fits before = search (rules, places)
-
-replaced_in : (xs ys : List ℕ) (place k o : ℕ) → place ≤ length xs → o < length ys
-    → slice_index ys o ≡ slice_index (put_mid place k xs ys) (place + o)
-replaced_in xs ys place k o fits inside = search (rules, places)
-
-replaced_after : (xs ys : List ℕ) (place k o : ℕ) → place ≤ length xs → length ys ≡ k → place + k ≤ o
-    → slice_index (put_mid place k xs ys) o ≡ slice_index xs o
-replaced_after xs ys place k o fits same after = search (rules, places)
-
 -- what a part of a list stored
 pub Stores-put_mid : (xs ys : List ℕ) (place size : ℕ) (fields : List LayoutField) → layout_end fields ≤ size
     → place + size ≤ length xs → length ys ≡ size
@@ -113,19 +90,19 @@ Stores-put_mid xs ys place size fields within fits same stored =
     record {
       placed =
           HoldsLayout-moved (image_of ys) (image_of (put_mid place k xs ys)) place size fields
-          (λ o h. replaced_in xs ys place k o (omega arith) (omega arith)) within stored.placed;
+          (λ o h. search (rules, places)) within stored.placed;
       gaps = λ o gap. elim (cases_lt o place) [
-        | inl before ↦ replaced_before xs ys place k o (omega arith) before
+        | inl before ↦ search (rules, places)
         | inr from ↦ elim (cases_lt o (place + size)) [
           | inl inside ↦
               let i = o - place in
               let there : place + i ≡ o = omega arith in
-              let new = replaced_in xs ys place k i (omega arith) (omega arith) in
+              let new : slice_index ys i ≡ slice_index (put_mid place k xs ys) (place + i) = search (rules, places) in
               let old : slice_index part i ≡ slice_index xs (place + i) =
               get_or-between xs place (place + size) i 0 (omega arith) in
               let kept = stored.gaps i (IsGap-moved place i fields (rw there gap)) in
               rw there at (sym new ∙ kept ∙ old)
-          | inr after ↦ replaced_after xs ys place k o (omega arith) (omega arith) (omega arith)
+          | inr after ↦ search (rules, places)
         ]
       ];
     }

@@ -1,7 +1,7 @@
-use Rattle.std.proofs.Common.{◌≡◌, ℕ, zero, suc, ◌+◌, ◌-◌, ◌<◌, ◌≤◌, min, List, [], ◌∷◌, ◌++◌, length, replicate, slice_index, refl, arith, inl, inr, Option, Some, None, IfSome, length-append}
+use Rattle.std.proofs.Common.{◌≡◌, ℕ, zero, suc, ◌+◌, ◌-◌, ◌<◌, ◌≤◌, min, List, [], ◌∷◌, ◌++◌, length, replicate, slice_index, refl, sym, ◌∙◌, arith, inl, inr, Option, Some, None, IfSome, length-append}
 use Rattle.std.specs.Io.KnownBytes.{Keeps}
 use Rattle.std.proofs.lemmas.Bool.{cases_lt}
-use Rattle.std.proofs.lemmas.List.{get_or_append_left, get_or-append_right, get_or_past, length-replicate}
+use Rattle.std.proofs.lemmas.List.{get_or_past, length-replicate}
 use mathlib.Core.Path.{fun_ext}
 use Rattle.qcow2_base.specs.Storage.{Holds, image_of}
 
@@ -25,13 +25,10 @@ stored_then_zeros : (bytes front : List ℕ) (offset n : ℕ) →
     Holds (image_of bytes) offset front →
     Holds (image_of bytes) offset (front ++ replicate n 0)
 stored_then_zeros bytes front offset n count holds = record {
-  each = λ i below. elim (cases_lt i (length front)) [
-    | inl stored ↦ rw (get_or_append_left front (replicate n 0) 0 i stored) (holds.each i stored)
-    | inr past ↦
-        let few : i < length front + n = omega (arith, below, length-append front (replicate n 0), length-replicate {A = ℕ} n 0) in
-        let ended : length bytes ≤ offset + i = omega arith in
-        rw (get_or-append_right front (replicate n 0) (length front) i 0 refl past, zeros_read n (i - length front), get_or_past bytes (offset + i) 0 ended) refl
-  ];
+  each = λ i below. rw (padded_read front n i) (elim (cases_lt i (length front)) [
+    | inl stored ↦ holds.each i stored
+    | inr past ↦ get_or_past front i 0 past ∙ sym (get_or_past bytes (offset + i) 0 (omega (arith, below, length-append front (replicate n 0), length-replicate {A = ℕ} n 0)))
+  ]);
 }
 
 -- the same where the bytes may be known, and stay

@@ -1,5 +1,4 @@
-use Rattle.std.proofs.Common.{◌≡◌, ℕ, zero, suc, ◌+◌, ◌-◌, ◌*◌, ◌<◌, ◌≤◌, ◌↔◌, Bool, true, false, ◌&&◌, IsTrue, List, [], ◌∷◌, ◌++◌, map, length, get_or, take, drop, Option, Some, None, Result, Err, refl, sym, ◌∙◌, ap, subst, add-zero, add_assoc, arith}
-use Rattle.std.specs.List.{range_with_len}
+use Rattle.std.proofs.Common.{◌≡◌, ℕ, zero, suc, ◌+◌, ◌-◌, ◌*◌, ◌/◌, ◌<◌, ◌≤◌, ◌↔◌, Bool, true, false, ◌&&◌, IsTrue, List, [], ◌∷◌, ◌++◌, map, length, get_or, take, drop, Option, Some, None, Result, Err, refl, sym, ◌∙◌, ap, subst, lit≤, arith, OnOk, MatchResult}
 use Rattle.std.specs.Option.{option_or}
 use Rattle.std.specs.Simd.{first_chunks}
 use Rattle.std.proofs.lemmas.List.{drop_more, get_or-drop, get_or-take, length-drop, map-append, take-append-drop, take_more}
@@ -7,49 +6,40 @@ use Rattle.std.proofs.lemmas.Iterator.{YieldsList}
 use Rattle.std.proofs.lemmas.Iterator.Adapters.{fact_from_extend}
 use Rattle.std.proofs.lemmas.Iterator.Consumers.{YieldsList-at}
 use Rattle.std.specs.Iterator.{Drains, Yields}
-use Rattle.std.specs.Result.{OnOk, MatchResult}
 use Rattle.qcow2_base.specs.Storage.{Holds, Image, be, be_of_same, image_of}
 use Rattle.qcow2_base.specs.declared.fault.Fault.{Fault}
 use Rattle.qcow2_metadata.specs.Table.{chunk_numbers, decoded, first_fault, table_numbers}
-use Rattle.qcow2_metadata.proofs.TableLemmas.{first_fault-append, no_fault_item, no_fault_at_all, range-append, table_numbers-held, table_numbers_same}
+use Rattle.qcow2_metadata.proofs.PackingLemmas.{counters_at-append, counters_at-held, counters_at-same}
+use Rattle.qcow2_metadata.proofs.TableLemmas.{first_fault-append, first_fault-join, no_fault_item, no_fault_at_all}
 
--- the same numbers made from functions of different indexes
-pub map_range_at : (f g : ℕ → ℕ) (a b n : ℕ) → ((i : ℕ) → i < n → f (a + i) ≡ g (b + i)) → map f (range_with_len a n) ≡ map g (range_with_len b n)
-map_range_at f g a b zero same = refl
-map_range_at f g a b (suc n) same =
-    let first : f a ≡ g b = simp add-zero at (same 0 (omega arith)) in
-    let rest = map_range_at f g (a + 1) (b + 1) n (λ i h. rw (add_assoc a 1 i, add_assoc b 1 i) (same (1 + i) (omega arith))) in
-    rw (first, rest) refl
+-- the numbers of a table's first entries, and those of the entries after them
+table_numbers-append : (image : Image) (offset k m : ℕ) → table_numbers image offset (k + m) ≡ table_numbers image offset k ++ table_numbers image (offset + 8 * k) m
+table_numbers-append image offset k m = counters_at-append 6 k m (8 * k) image offset (lit≤ tt) (omega arith)
 
 -- the numbers of the first k pieces of eight bytes are the table's
-pub chunk_numbers-first : (k : ℕ) (bytes : List ℕ) → 8 * k ≤ length bytes → chunk_numbers (first_chunks 8 k bytes) ≡ table_numbers (image_of bytes) 0 k
+chunk_numbers-first : (k : ℕ) (bytes : List ℕ) → 8 * k ≤ length bytes → chunk_numbers (first_chunks 8 k bytes) ≡ table_numbers (image_of bytes) 0 k
 chunk_numbers-first zero bytes within = refl
 chunk_numbers-first (suc k) bytes within =
-    let first : be (image_of (take 8 bytes)) 0 8 ≡ be (image_of bytes) (0 + 8 * 0) 8 =
-    be_of_same (image_of (take 8 bytes)) (image_of bytes) 8 0 (0 + 8 * 0) (λ j small. get_or-take 8 bytes (0 + j) 0 (omega arith)) in
+    let first : be (image_of (take 8 bytes)) 0 8 ≡ be (image_of bytes) 0 8 =
+    be_of_same (image_of (take 8 bytes)) (image_of bytes) 8 0 0 (λ j small. get_or-take 8 bytes (0 + j) 0 (omega arith)) in
     let rest = chunk_numbers-first k (drop 8 bytes) (omega (arith, length-drop 8 bytes)) in
-    let moved : table_numbers (image_of (drop 8 bytes)) 0 k ≡ table_numbers (image_of bytes) 8 k =
-    table_numbers_same (image_of (drop 8 bytes)) (image_of bytes) 0 8 k (λ j below. get_or-drop 8 bytes (0 + j) 0 ∙ ap (λ (n : ℕ). get_or bytes n 0) (omega arith)) in
-    let next : table_numbers (image_of bytes) 8 k ≡ map (λ i. be (image_of bytes) (0 + 8 * i) 8) (range_with_len (0 + 1) k) =
-    map_range_at (λ i. be (image_of bytes) (8 + 8 * i) 8) (λ i. be (image_of bytes) (0 + 8 * i) 8) 0 (0 + 1) k
-    (λ i below. ap (λ (o : ℕ). be (image_of bytes) o 8) (omega arith)) in
-    rw first (ap (λ (xs : List ℕ). be (image_of bytes) (0 + 8 * 0) 8 ∷ xs) (rest ∙ moved ∙ next))
+    let moved = counters_at-same 6 k (8 * k) (image_of (drop 8 bytes)) (image_of bytes) 0 8 (lit≤ tt) (omega arith) (λ j below. get_or-drop 8 bytes (0 + j) 0 ∙ ap (λ (n : ℕ). get_or bytes n 0) (omega arith)) in
+    let more : suc k ≡ 1 + k = omega arith in
+    rw first (ap (λ (xs : List ℕ). be (image_of bytes) 0 8 ∷ xs) (rest ∙ moved) ∙ sym (rw (← more) at (table_numbers-append (image_of bytes) 0 1 k)))
+
+-- and so where they are all the whole pieces
+pub chunk_numbers-all : (bytes : List ℕ) (chunks : List (List ℕ)) → chunks ≡ first_chunks 8 (length bytes / 8) bytes → chunk_numbers chunks ≡ table_numbers (image_of bytes) 0 (length bytes / 8)
+chunk_numbers-all bytes chunks is = ap chunk_numbers is ∙ chunk_numbers-first (length bytes / 8) bytes (omega arith)
 
 -- one piece more
 pub chunk_numbers-more : (chunks : List (List ℕ)) (i : ℕ) (d : List ℕ) → i < length chunks → chunk_numbers (take (i + 1) chunks) ≡ chunk_numbers (take i chunks) ++ be (image_of (get_or chunks i d)) 0 8 ∷ []
 chunk_numbers-more chunks i d within =
     ap chunk_numbers (take_more chunks i d within) ∙ map-append (λ (chunk : List ℕ). be (image_of chunk) 0 8) (take i chunks) (get_or chunks i d ∷ [])
 
-no_fault_before : (fault : ℕ → Option Fault) (xs ys : List ℕ) → first_fault fault (xs ++ ys) ≡ None → first_fault fault xs ≡ None
-no_fault_before fault [] ys none = refl
-no_fault_before fault (x ∷ xs) ys none =
-    let parts = no_fault_at_all (fault x) (first_fault fault (xs ++ ys)) none in
-    rw parts.0 (no_fault_before fault xs ys parts.1)
-
 -- whether a number more is an entry too
 pub lawful_more : (fault : ℕ → Option Fault) (xs : List ℕ) (v : ℕ) (before this : Bool) → IsTrue before ↔ (first_fault fault xs ≡ None) → IsTrue this ↔ (fault v ≡ None) → IsTrue (before && this) ↔ (first_fault fault (xs ++ v ∷ []) ≡ None)
 lawful_more fault xs v false this before last =
-    (λ t. cc, λ none. before.1 (no_fault_before fault xs (v ∷ []) none))
+    (λ t. cc, λ none. before.1 (no_fault_at_all (first_fault fault xs) _ (rw (first_fault-join fault xs (v ∷ [])) at none)).0)
 lawful_more fault xs v true this before last =
     let whole = first_fault-append fault xs (v ∷ []) (before.0 refl) in
     (λ t. let one = last.0 t in whole ∙ rw one refl, λ none. last.1 (no_fault_at_all (fault v) None (sym whole ∙ none)).0)
@@ -63,45 +53,21 @@ first_fault-at fault chunks i d f within none bad =
     ap (first_fault fault) split ∙ first_fault-append fault (chunk_numbers (take i chunks)) (chunk_numbers (drop i chunks)) none
     ∙ ap (first_fault fault) rest ∙ rw bad refl
 
--- the numbers of a table's first entries, and those of the entries after them
-table_numbers-append : (image : Image) (offset k m : ℕ) → table_numbers image offset (k + m) ≡ table_numbers image offset k ++ table_numbers image (offset + 8 * k) m
-table_numbers-append image offset k m =
-    let number = λ (i : ℕ). be image (offset + 8 * i) 8 in
-    let later : map number (range_with_len (0 + k) m) ≡ table_numbers image (offset + 8 * k) m =
-    map_range_at number (λ i. be image (offset + 8 * k + 8 * i) 8) (0 + k) 0 m
-    (λ i below. ap (λ (o : ℕ). be image o 8) (omega arith)) in
-    ap (map number) (range-append 0 k m) ∙ map-append number (range_with_len 0 k) (range_with_len (0 + k) m)
-    ∙ ap (λ (xs : List ℕ). table_numbers image offset k ++ xs) later
-
 -- one piece of m entries more, whose bytes were read
 pub table_numbers-read : (image : Image) (offset k m : ℕ) (bytes before : List ℕ) → Holds image (offset + 8 * k) bytes → 8 * m ≤ length bytes → before ≡ table_numbers image offset k → before ++ table_numbers (image_of bytes) 0 m ≡ table_numbers image offset (k + m)
 table_numbers-read image offset k m bytes before held within so_far =
-    let piece = table_numbers-held image (offset + 8 * k) m bytes held within in
+    let piece = counters_at-held 6 m (8 * m) image (offset + 8 * k) bytes (lit≤ tt) (omega arith) within held in
     rw (so_far, ← piece) (sym (table_numbers-append image offset k m))
-
-found_or : (first rest more : Option Fault) (f : Fault) → option_or first rest ≡ Some f → (rest ≡ Some f → more ≡ Some f) → option_or first more ≡ Some f
-found_or None rest more f found later = later found
-found_or (Some g) rest more f found later = found
-
-first_fault-found : (fault : ℕ → Option Fault) (xs ys : List ℕ) (f : Fault) → first_fault fault xs ≡ Some f → first_fault fault (xs ++ ys) ≡ Some f
-first_fault-found fault [] ys f found = cc
-first_fault-found fault (x ∷ xs) ys f found =
-    found_or (fault x) (first_fault fault xs) (first_fault fault (xs ++ ys)) f found (first_fault-found fault xs ys f)
 
 -- a piece with a number that is no entry, after pieces with none, decides
 pub decoded-refused_piece : (fault : ℕ → Option Fault) (image : Image) (offset k m n : ℕ) (bytes : List ℕ) (f : Fault) → k + m ≤ n → Holds image (offset + 8 * k) bytes → 8 * m ≤ length bytes → first_fault fault (table_numbers image offset k) ≡ None → first_fault fault (table_numbers (image_of bytes) 0 m) ≡ Some f → decoded fault (table_numbers image offset n) ≡ Err f
 decoded-refused_piece fault image offset k m n bytes f within held len none bad =
-    let whole : n ≡ k + (m + (n - (k + m))) = omega arith in
-    let here = table_numbers-held image (offset + 8 * k) m bytes held len in
-    let bad_here : first_fault fault (table_numbers image (offset + 8 * k) m) ≡ Some f = ap (first_fault fault) here ∙ bad in
-    let later = table_numbers-append image (offset + 8 * k) m (n - (k + m)) in
-    let found : first_fault fault (table_numbers image offset n) ≡ Some f =
-    ap (λ (i : ℕ). first_fault fault (table_numbers image offset i)) whole
-    ∙ ap (first_fault fault) (table_numbers-append image offset k (m + (n - (k + m))))
-    ∙ first_fault-append fault (table_numbers image offset k) (table_numbers image (offset + 8 * k) (m + (n - (k + m)))) none
-    ∙ ap (first_fault fault) later
-    ∙ first_fault-found fault (table_numbers image (offset + 8 * k) m) (table_numbers image (offset + 8 * k + 8 * m) (n - (k + m))) f bad_here in
-    rw found refl
+    let rest = n - (k + m) in
+    let whole : n ≡ k + (m + rest) = omega arith in
+    let here = counters_at-held 6 m (8 * m) image (offset + 8 * k) bytes (lit≤ tt) (omega arith) len held in
+    let found : first_fault fault (table_numbers image offset (k + (m + rest))) ≡ Some f =
+    rw (table_numbers-append image offset k (m + rest), first_fault-append fault (table_numbers image offset k) _ none, table_numbers-append image (offset + 8 * k) m rest, first_fault-join fault (table_numbers image (offset + 8 * k) m) _, here, bad) refl in
+    rw (rw (← whole) at found) refl
 
 -- what `extend` leaves after a chain whose items are seen through v
 pub viewed_from_extend : {T A C E Q : Type 0} {steps : T → Option A → T → Type 0} {all : List C} {P : List A → Type 0} {s : T} (v : A → C) (r : Result (Unit {0}) E) → ((it : T) × (xs : List A) × (it ≡ s) × P xs × MatchResult r (λ _. Drains steps it xs) (λ _. (t : T) × Yields steps it xs t)) → YieldsList steps v s all → ((xs : List A) → map v xs ≡ all → P xs → Q) → OnOk r Q

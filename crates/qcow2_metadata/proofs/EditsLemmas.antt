@@ -1,11 +1,10 @@
-use Rattle.std.proofs.Common.{◌≡◌, ℕ, zero, suc, Bool, true, false, not, ◌&&◌, ◌||◌, ◌==◌, if◌then◌else◌, ◌+◌, ◌-◌, ◌*◌, ◌/◌, ◌^◌, ◌<◌, ◌≤◌, ◌↔◌, Option, Some, None, option_map, unwrap_or, option_to_list, IfSome, All, List, [], ◌∷◌, length, slice_get, slice_index, inl, inr, get_or-set_same, get_or-set_other, map-id, refl, ap, sym, ◌∙◌, subst, suc-mul, arith}
-use Rattle.std.proofs.lemmas.Nat.{div-mul-add, pow_pos}
+use Rattle.std.proofs.Common.{◌≡◌, ℕ, zero, suc, Bool, true, false, not, ◌&&◌, ◌||◌, ◌==◌, if◌then◌else◌, ◌+◌, ◌-◌, ◌*◌, ◌/◌, ◌^◌, ◌<◌, ◌≤◌, ◌↔◌, Option, Some, None, option_map, unwrap_or, option_to_list, IfSome, All, List, [], ◌∷◌, length, slice_get, slice_index, inl, inr, get_or-set_same, get_or-set_other, map-id, refl, ap, sym, ◌∙◌, subst, suc-mul, arith, length-set}
+use Rattle.std.proofs.lemmas.Nat.{div-mul-add, mul-le, pow_pos}
 use Rattle.std.proofs.Math.Nat.{mul-div_cancel, mul-mod_left, zero-mod}
 use Rattle.std.proofs.lemmas.List.Elements.{All-set}
 use Rattle.std.proofs.lemmas.Bool.Decides.{nat_tests}
-use Rattle.std.proofs.lemmas.List.{length-set}
 use Rattle.std.proofs.lemmas.List.Sums.{sum_by-append, sum_by-set}
-use Rattle.std.proofs.lemmas.Grind.{same_number_lists}
+use Rattle.std.proofs.lemmas.Grind.{elements, same_number_lists}
 use Rattle.std.proofs.lemmas.Option.{none-some, same_Some}
 use Rattle.std.proofs.lemmas.Bool.{cases_eq}
 use Rattle.std.specs.List.{list_all}
@@ -26,47 +25,20 @@ record IsDataAt (v offset : ℕ) : Type 0 where
   standard : field v 62 1 ≡ 0
   at : offset_field v ≡ offset
   copied : field v 63 1 ≡ 1
-  low : field v 1 8 ≡ 0
   high : field v 56 6 ≡ 0
 
-data_at : (offset sectors : ℕ) → offset ≡ sectors * 512 → offset ≤ 2 ^ 56 - 512 → IsDataAt (2 ^ 63 + offset) offset
-data_at offset sectors whole fits = record {
-  standard = omega arith;
-  at = omega arith;
-  copied = omega arith;
-  low = omega arith;
-  high = omega arith;
-}
-
-mappable_fits : (g : Geometry) (cluster : ℕ) → is_mappable g cluster ≡ true → cluster * 2 ^ g.cluster_bits ≤ 2 ^ 56 - 512
-mappable_fits g cluster mappable = grind (arith, nat_tests)
-
 data_entry_is_data : (g : Geometry) (cluster : ℕ) → IsClusterBits g.cluster_bits → is_mappable g cluster ≡ true → IsDataAt (data_entry g.cluster_bits cluster) (cluster * 2 ^ g.cluster_bits)
-data_entry_is_data g cluster bits mappable =
-    data_at (cluster * 2 ^ g.cluster_bits) (cluster * 2 ^ (g.cluster_bits - 9)) (offset_in_sectors g.cluster_bits cluster bits.0) (mappable_fits g cluster mappable)
-
--- a cluster that may be mapped to is not at offset 0, but in an external data file
-mapped_is_allocated : (external : Bool) (cluster size : ℕ) → 0 < size → (if external then true else not (cluster == 0)) ≡ true → (not (cluster * size == 0) || (external && true)) ≡ true
-mapped_is_allocated true cluster size some mappable = grind (arith, nat_tests)
-mapped_is_allocated false zero size some mappable = cc
-mapped_is_allocated false (suc c) size some mappable =
-    let product = suc-mul c size in
-    let positive : 0 < suc c * size = omega arith in
-    grind (arith, nat_tests)
+data_entry_is_data g cluster bits mappable = grind (arith, nat_tests, offset_in_sectors)
 
 second_holds : (a b : Bool) → (a && b) ≡ true → b ≡ true
-second_holds true b both = both
-second_holds false b both = cc
+second_holds a b both = grind arith
 
 -- the bytes of one cluster
 abbrev bytes_of_cluster : ℕ → ℕ → ByteRange
 bytes_of_cluster cb cluster = record { start = cluster * 2 ^ cb; end = cluster * 2 ^ cb + 2 ^ cb }
 
 data_range : (g : Geometry) (cluster : ℕ) → IsClusterBits g.cluster_bits → is_mappable g cluster ≡ true → byte_range g (data_entry g.cluster_bits cluster) ≡ Some (bytes_of_cluster g.cluster_bits cluster)
-data_range g cluster bits mappable =
-    let parts = data_entry_is_data g cluster bits mappable in
-    let allocated = mapped_is_allocated g.external_data_file cluster (2 ^ g.cluster_bits) (pow_pos g.cluster_bits) (second_holds _ _ mappable) in
-    rw (parts.standard, parts.copied, parts.at, allocated) refl
+data_range g cluster bits mappable = grind (arith, nat_tests, data_entry_is_data, mul-le, pow_pos)
 
 -- these clusters are the one alone
 abbrev pub just : ℕ → ClustersToFreeEntry
@@ -90,101 +62,28 @@ data_entry-allocation g cluster bits mappable =
 abbrev refer : Option ClustersToFreeEntry → ℕ → Bool
 refer found c = unwrap_or (option_map (λ clusters. is_among clusters c) found) false
 
-refer_just : (cluster c : ℕ) → refer (Some (just cluster)) c ≡ (cluster == c)
-refer_just cluster c = grind (arith, nat_tests)
-
 pub data_entry-meets : (g : Geometry) (cluster c : ℕ) → IsClusterBits g.cluster_bits → is_mappable g cluster ≡ true → meets g (data_entry g.cluster_bits cluster) c ≡ (cluster == c)
-data_entry-meets g cluster c bits mappable =
-    ap (λ (found : Option ClustersToFreeEntry). refer found c) (data_entry-allocation g cluster bits mappable) ∙ refer_just cluster c
-
--- the zero flag changes nothing else of a standard entry
-record IsSameButZero (v w : ℕ) : Type 0 where
-  kind : field w 62 1 ≡ field v 62 1
-  at : offset_field w ≡ offset_field v
-  copied : field w 63 1 ≡ field v 63 1
-  low : field w 1 8 ≡ field v 1 8
-  high : field w 56 6 ≡ field v 56 6
-
-with_zero_flag_is_same : (v : ℕ) → IsSameButZero v (with_zero_flag v)
-with_zero_flag_is_same v = record {
-  kind = omega arith;
-  at = omega arith;
-  copied = omega arith;
-  low = omega arith;
-  high = omega arith;
-}
-
-with_zero_flag-byte_range : (g : Geometry) (v : ℕ) → is_compressed v ≡ false → byte_range g (with_zero_flag v) ≡ byte_range g v
-with_zero_flag-byte_range g v standard =
-    let same = with_zero_flag_is_same v in
-    rw (same.kind, standard, same.at, same.copied) refl
+data_entry-meets g cluster c bits mappable = rw (data_entry-allocation g cluster bits mappable) (grind (arith, nat_tests))
 
 pub standard_if_host_cluster : (g : Geometry) (v : ℕ) → has_host_cluster g v ≡ true → is_compressed v ≡ false
-standard_if_host_cluster g v has = not_first (is_compressed v) (is_allocated g.external_data_file v) has
-  where
-    not_first : (a b : Bool) → (not a && b) ≡ true → a ≡ false
-    not_first true b both = cc
-    not_first false b both = refl
+standard_if_host_cluster g v has = grind arith
 
 -- an entry that has a host cluster refers to the same with the zero flag
 pub with_zero_flag-allocation : (g : Geometry) (v : ℕ) → has_host_cluster g v ≡ true → allocation g (with_zero_flag v) ≡ allocation g v
 with_zero_flag-allocation g v has =
-    ap (λ (found : Option ByteRange). option_map (clusters_met g.cluster_bits) found) (with_zero_flag-byte_range g v (standard_if_host_cluster g v has))
-
-both_false : (external : Bool) → (external && false) ≡ false
-both_false true = refl
-both_false false = refl
+    let standard = standard_if_host_cluster g v has in
+    let same : byte_range g (with_zero_flag v) ≡ byte_range g v = grind arith in
+    rw same refl
 
 -- zeros with no host cluster, and an entry that is cleared, refer to nothing
 pub allocation-one : (g : Geometry) → allocation g 1 ≡ None
-allocation-one g = rw (both_false g.external_data_file) refl
+allocation-one g = grind arith
 
 pub allocation-zero : (g : Geometry) → allocation g 0 ≡ None
-allocation-zero g = rw (both_false g.external_data_file) refl
-
--- what holds of both values of a choice holds of the choice
-either : {A : Type 0} (P : A → Type 0) (test : Bool) (x y : A) → (test ≡ true → P x) → (test ≡ false → P y) → P (if test then x else y)
-either P true x y first second = first refl
-either P false x y first second = second refl
-
--- what holds of the entries that a change can leave holds of the changed entry
-changed_holds : (P : ℕ → Type 0) (g : Geometry) (edit : EntryEdit) (v : ℕ) → can_be_made g edit ≡ true → ((cluster : ℕ) → is_mappable g cluster ≡ true → P (data_entry g.cluster_bits cluster)) → (has_host_cluster g v ≡ true → P (with_zero_flag v)) → P 1 → P 0 → P (changed g edit v)
-changed_holds P g (to_data cluster) v can mapped kept zeros none = mapped cluster can
-changed_holds P g (to_zeros keep) v can mapped kept zeros none =
-    either P (keep && has_host_cluster g v) (with_zero_flag v) 1 (λ keeps. kept (second_holds keep (has_host_cluster g v) keeps)) (λ _. zeros)
-changed_holds P g to_nothing v can mapped kept zeros none = none
-
-data_entry_is_lawful : (g : Geometry) (cluster : ℕ) → IsClusterBits g.cluster_bits → is_mappable g cluster ≡ true → l2_fault g.cluster_bits (data_entry g.cluster_bits cluster) ≡ None
-data_entry_is_lawful g cluster bits mappable =
-    let parts = data_entry_is_data g cluster bits mappable in
-    let aligned = mul-mod_left cluster (2 ^ g.cluster_bits) in
-    rw (parts.standard, parts.low, parts.high, parts.at, aligned) refl
+allocation-zero g = grind arith
 
 pub with_zero_flag-fault : (cb v : ℕ) → is_compressed v ≡ false → l2_fault cb (with_zero_flag v) ≡ l2_fault cb v
-with_zero_flag-fault cb v standard =
-    let same = with_zero_flag_is_same v in
-    rw (same.kind, standard, same.at, same.low, same.high) refl
-
-l2_fault_one : (cb : ℕ) → l2_fault cb 1 ≡ None
-l2_fault_one cb = rw zero-mod refl
-
--- a change that can be made leaves an L2 entry
-pub changed-lawful : (g : Geometry) (edit : EntryEdit) (v : ℕ) → IsClusterBits g.cluster_bits → can_be_made g edit ≡ true → l2_fault g.cluster_bits v ≡ None → l2_fault g.cluster_bits (changed g edit v) ≡ None
-changed-lawful g edit v bits can lawful =
-    changed_holds (λ w. l2_fault g.cluster_bits w ≡ None) g edit v can
-    (λ cluster mappable. data_entry_is_lawful g cluster bits mappable)
-    (λ has. with_zero_flag-fault g.cluster_bits v (standard_if_host_cluster g v has) ∙ lawful)
-    (l2_fault_one g.cluster_bits)
-    (l2_fault_zero g.cluster_bits)
-
--- and a number of 64 bits
-pub changed-fits : (g : Geometry) (edit : EntryEdit) (v : ℕ) → can_be_made g edit ≡ true → v < 2 ^ 64 → changed g edit v < 2 ^ 64
-changed-fits g edit v can fits =
-    changed_holds (λ w. w < 2 ^ 64) g edit v can
-    (λ cluster mappable. omega (arith, mappable_fits g cluster mappable))
-    (λ has. omega arith)
-    (omega arith)
-    (omega arith)
+with_zero_flag-fault cb v standard = grind arith
 
 -- clusters one after another are the one alone just where they have it among them and no other
 just_is_all : (cluster : ℕ) (found : Option ClustersToFreeEntry) → IfSome found (λ some. 1 ≤ some.count.0) → (is_just cluster found ≡ true) ↔ ((refer found cluster ≡ true) × ((c : ℕ) → refer found c ≡ true → c ≡ cluster))
@@ -198,8 +97,7 @@ just_is_all cluster (Some clusters) some = (
 )
 
 some_clusters : (cb : ℕ) (found : Option ByteRange) → IfSome (option_map (clusters_met cb) found) (λ some. 1 ≤ some.count.0)
-some_clusters cb None = tt
-some_clusters cb (Some range) = omega arith
+some_clusters cb found = grind arith
 
 -- an entry goes on referring to all that it refers to just where that is the cluster that it is mapped to
 pub keeps-just : (g : Geometry) (cluster v : ℕ) → (keeps g (to_data cluster) v ≡ true) ↔ (Meets g v cluster × ((c : ℕ) → Meets g v c → c ≡ cluster))
@@ -222,16 +120,10 @@ gives_up g v cluster freed is met = record {
     not_kept false never = refl
 
 handed_back-option : (found : Option ClustersToFreeEntry) (c : ℕ) → handed_back (option_to_list found) c ≡ one_if (refer found c)
-handed_back-option None c = refl
-handed_back-option (Some clusters) c = omega arith
-
-just_refers : (cluster : ℕ) (found : Option ClustersToFreeEntry) (c : ℕ) → is_just cluster found ≡ true → refer found c ≡ (cluster == c)
-just_refers cluster None c just = cc
-just_refers cluster (Some clusters) c just = grind (arith, nat_tests)
+handed_back-option found c = grind arith
 
 mapped_balances : (cluster : ℕ) (found : Option ClustersToFreeEntry) (c : ℕ) (kept : Bool) → is_just cluster found ≡ kept → one_if (cluster == c) + handed_back (option_to_list (if kept then None else found)) c ≡ one_if (refer found c) + times_gained (option_to_list (if kept then None else Some cluster)) c
-mapped_balances cluster found c true just = rw (just_refers cluster found c just) refl
-mapped_balances cluster found c false just = omega (arith, handed_back-option found c)
+mapped_balances cluster found c kept just = grind (arith, nat_tests, handed_back-option found c)
 
 zeros_balance : (g : Geometry) (v c : ℕ) (kept : Bool) → (kept ≡ true → has_host_cluster g v ≡ true) → one_if (meets g (if kept then with_zero_flag v else 1) c) + handed_back (option_to_list (if kept then None else allocation g v)) c ≡ one_if (meets g v c) + times_gained [] c
 zeros_balance g v c true has = rw (with_zero_flag-allocation g v (has refl)) refl
@@ -245,27 +137,12 @@ balance-entry g (to_zeros keep) v c bits can =
     zeros_balance g v c (keep && has_host_cluster g v) (second_holds keep (has_host_cluster g v))
 balance-entry g to_nothing v c bits can = rw (allocation-zero g, handed_back-option (allocation g v) c) (omega arith)
 
-edit_fits : (g : Geometry) (e : TableEdit) (entries : ℕ) → fits_table g entries e ≡ true → (e.index < entries) × (can_be_made g e.edit ≡ true)
-edit_fits g e entries fits = (grind (arith, nat_tests), second_holds _ _ fits)
-
-both_hold : (a b : Bool) → (a && b) ≡ true → (a ≡ true) × (b ≡ true)
-both_hold true b both = (refl, both)
-both_hold false b both = cc
-
 after_edit-length : (g : Geometry) (e : TableEdit) (numbers : List ℕ) → length (after_edit g e numbers) ≡ length numbers
 after_edit-length g e numbers = length-set numbers e.index (changed g e.edit (slice_index numbers e.index))
 
--- a table has as many entries after a run of edits
-pub run_of-length : (g : Geometry) (edits : List TableEdit) (numbers : List ℕ) → length (run_of g edits numbers).numbers ≡ length numbers
-run_of-length g [] numbers = refl
-run_of-length g (e ∷ edits) numbers = run_of-length g edits (after_edit g e numbers) ∙ after_edit-length g e numbers
-
 -- the first of some edits that all fit a table fits it, and the others fit the table after that
 first_fits : (g : Geometry) (e : TableEdit) (edits : List TableEdit) (numbers : List ℕ) → list_all (fits_table g (length numbers)) (e ∷ edits) ≡ true → (e.index < length numbers) × (can_be_made g e.edit ≡ true) × (list_all (fits_table g (length (after_edit g e numbers))) edits ≡ true)
-first_fits g e edits numbers fit =
-    let both = both_hold (fits_table g (length numbers) e) (list_all (fits_table g (length numbers)) edits) fit in
-    let first = edit_fits g e (length numbers) both.0 in
-    (first.0, first.1, rw (after_edit-length g e numbers) both.1)
+first_fits g e edits numbers fit = rw (after_edit-length g e numbers) (grind (arith, nat_tests))
 
 -- a run hands back as many references to a cluster as the table loses, and gains as many as it is given
 pub balance-run : (g : Geometry) (edits : List TableEdit) (numbers : List ℕ) (c : ℕ) → IsClusterBits g.cluster_bits → list_all (fits_table g (length numbers)) edits ≡ true → references g (run_of g edits numbers).numbers c + handed_back (run_of g edits numbers).freed c ≡ references g numbers c + times_gained (run_of g edits numbers).gained c
@@ -281,48 +158,17 @@ balance-run g (e ∷ edits) numbers c bits fit =
     let gains = sum_by-append (λ (d : ℕ). one_if (d == c)) (option_to_list (gained g e.edit v)) rest.gained in
     rw (freed, gains) (omega (arith, entry, table, more))
 
--- an entry of a table is lawful
-entry_is_lawful : (fault : ℕ → Option Fault) (numbers : List ℕ) (i : ℕ) → first_fault fault numbers ≡ None → i < length numbers → fault (slice_index numbers i) ≡ None
-entry_is_lawful fault numbers i lawful below = no_fault_item (λ v. v) fault numbers i 0 (rw (map-id numbers) lawful) below
-
--- the numbers after a run of edits are L2 entries again
-pub run_of-lawful : (g : Geometry) (edits : List TableEdit) (numbers : List ℕ) → IsClusterBits g.cluster_bits → list_all (fits_table g (length numbers)) edits ≡ true → first_fault (l2_fault g.cluster_bits) numbers ≡ None → first_fault (l2_fault g.cluster_bits) (run_of g edits numbers).numbers ≡ None
-run_of-lawful g [] numbers bits fit lawful = lawful
-run_of-lawful g (e ∷ edits) numbers bits fit lawful =
-    let v = slice_index numbers e.index in
-    let first = first_fits g e edits numbers fit in
-    let entry = changed-lawful g e.edit v bits first.1 (entry_is_lawful (l2_fault g.cluster_bits) numbers e.index lawful first.0) in
-    run_of-lawful g edits (after_edit g e numbers) bits first.2 (first_fault-set (l2_fault g.cluster_bits) numbers e.index (changed g e.edit v) lawful entry)
-
--- numbers of 64 bits stay so
-pub run_of-fits : (g : Geometry) (edits : List TableEdit) (numbers : List ℕ) → list_all (fits_table g (length numbers)) edits ≡ true → All (λ v. v < 2 ^ 64) numbers → All (λ v. v < 2 ^ 64) (run_of g edits numbers).numbers
-run_of-fits g [] numbers fit small = small
-run_of-fits g (e ∷ edits) numbers fit small =
-    let first = first_fits g e edits numbers fit in
-    let v = changed-fits g e.edit (slice_index numbers e.index) first.1 (small e.index 0 first.0) in
-    run_of-fits g edits (after_edit g e numbers) first.2 (All-set (λ w. w < 2 ^ 64) numbers e.index (changed g e.edit (slice_index numbers e.index)) v small)
-
 -- the numbers after an edit are what the edit makes of them
 pub after_edit-is : (g : Geometry) (e : TableEdit) (numbers : List ℕ) → e.index < length numbers → IsEdit g e numbers (after_edit g e numbers)
-after_edit-is g e numbers below = record {
-  entry = get_or-set_same numbers e.index (changed g e.edit (slice_index numbers e.index)) 0 below;
-  others = λ i other. get_or-set_other numbers e.index i (changed g e.edit (slice_index numbers e.index)) 0 other;
-  entries = after_edit-length g e numbers;
-}
+after_edit-is g e numbers below = grind (arith, nat_tests, get_or-set_same, get_or-set_other, after_edit-length)
 
 -- and nothing else is
 pub edit-determines : (g : Geometry) (e : TableEdit) (old new : List ℕ) → IsEdit g e old new → new ≡ after_edit g e old
 edit-determines g e old new is =
-    let v = changed g e.edit (slice_index old e.index) in
-    same_number_lists new (after_edit g e old) (is.entries ∙ sym (after_edit-length g e old)) (λ k below. elim (cases_eq k e.index) [
-      | inl same ↦ rw same (is.entry ∙ sym (get_or-set_same old e.index v 0 (omega (arith, is.entries))))
-      | inr other ↦ is.others k other ∙ sym (get_or-set_other old e.index k v 0 other)
-    ])
+    same_number_lists new (after_edit g e old) (is.entries ∙ sym (after_edit-length g e old)) (λ k below. grind (arith, elements, is.entry, is.others k, is.entries))
 
 next_step : (step : List ℕ) (steps : List (List ℕ)) (i : ℕ) → slice_get (step ∷ steps) (suc i + 1) ≡ slice_get steps (i + 1)
-next_step step steps i =
-    let next : suc i + 1 ≡ suc (i + 1) = omega arith in
-    rw next refl
+next_step step steps i = let next : suc i + 1 ≡ suc (i + 1) = omega arith in rw next refl
 
 each_more : (g : Geometry) (e : TableEdit) (edits : List TableEdit) (before next : List ℕ) (steps : List (List ℕ)) (after : List ℕ) → IsEdit g e before next → IsRun g edits next steps after → (i : ℕ) (f : TableEdit) (old new : List ℕ) → slice_get (e ∷ edits) i ≡ Some f → slice_get (before ∷ steps) i ≡ Some old → slice_get (before ∷ steps) (i + 1) ≡ Some new → IsEdit g f old new
 each_more g e edits before next steps after is run zero f old new edit here there =

@@ -2,7 +2,7 @@ use Rattle.std.proofs.Common.{◌≡◌, ℕ, Bool, true, false, not, IsTrue, �
 use Rattle.std.proofs.lemmas.Bool.{cases_lt}
 use Rattle.std.proofs.lemmas.Nat.{pow_pos, pow-add, mod-pow-add}
 use Rattle.std.proofs.Math.Nat.{mul_assoc, mul-mod_left, le-div_iff_mul-le, div-mul-le_self, mul-div_cancel, zero-mod, add-mul-div_right}
-use Rattle.std.proofs.Math.Pow.{pow_mono}
+use Rattle.std.proofs.Math.Pow.{mod-mod-pow, pow_mono}
 use Rattle.std.proofs.lemmas.Bool.Decides.{same_from_decides, Decides-eqb, Decides-ltb, nat_tests}
 use Rattle.qcow2_metadata.specs.Header.{Geometry}
 use Rattle.qcow2_metadata.specs.Entries.L2Entry.{ByteRange, IsAllocation, Meets, RangeMeets, byte_range, cluster_count, clusters_met, compressed_length, compressed_offset, first_cluster, is_allocated, is_compressed, l2_fault, l2_reserved_bits, meets}
@@ -20,43 +20,27 @@ div_above q n k p h = (le-div_iff_mul-le p).1 h
 last_reached : (cb : ℕ) (range : ByteRange) → range.start < range.end → first_cluster cb range ≤ (range.end - 1) / 2 ^ cb
 last_reached cb range some = div_rises range.start (range.end - 1) (2 ^ cb) (pow_pos cb) (omega arith)
 
-met_is_among : (cb : ℕ) (range : ByteRange) (c : ℕ) → range.start < range.end → RangeMeets cb range c → (first_cluster cb range ≤ c) × (c < first_cluster cb range + cluster_count cb range)
-met_is_among cb range c some met =
-    let p = pow_pos cb in
-    let low = div_rises range.start met.0 (2 ^ cb) p met.1 in
-    let high = div_rises met.0 (range.end - 1) (2 ^ cb) p (omega (arith, met.2)) in
-    (omega (arith, met.3), omega (arith, met.3, last_reached cb range some))
-
-among_is_met : (cb : ℕ) (range : ByteRange) (c : ℕ) → range.start < range.end → first_cluster cb range ≤ c → c < first_cluster cb range + cluster_count cb range → RangeMeets cb range c
-among_is_met cb range c some low high =
-    let p = pow_pos cb in
-    let below : c ≤ (range.end - 1) / 2 ^ cb = omega (arith, last_reached cb range some) in
-    let fits = (le-div_iff_mul-le p).0 below in
-    elim (cases_lt (c * 2 ^ cb) range.start) [
-      | inl later ↦ (range.start, omega arith, some, omega (arith, div_above c range.start (2 ^ cb) p (omega arith)))
-      | inr at ↦ (c * 2 ^ cb, at, omega (arith, fits), mul-div_cancel c p)
-    ]
-
 -- a range meets exactly the clusters from its first byte's to its last byte's
 pub met_clusters : (cb : ℕ) (range : ByteRange) (c : ℕ) → range.start < range.end → RangeMeets cb range c ↔ ((first_cluster cb range ≤ c) × (c < first_cluster cb range + cluster_count cb range))
 met_clusters cb range c some =
-    (λ met. met_is_among cb range c some met, λ among. among_is_met cb range c some among.0 among.1)
+    let p = pow_pos cb in
+    let last = last_reached cb range some in (
+      λ met. (omega (arith, met.3, div_rises range.start met.0 (2 ^ cb) p met.1), omega (arith, met.3, last, div_rises met.0 (range.end - 1) (2 ^ cb) p (omega (arith, met.2)))),
+      λ among.
+          let fits = (le-div_iff_mul-le {k = 2 ^ cb} {x = c} {y = range.end - 1} p).0 (omega (arith, last, among.0, among.1)) in
+          elim (cases_lt (c * 2 ^ cb) range.start) [
+            | inl later ↦ (range.start, omega arith, some, omega (arith, among.0, div_above c range.start (2 ^ cb) p (omega arith)))
+            | inr at ↦ (c * 2 ^ cb, at, omega (arith, fits), mul-div_cancel c p)
+          ],
+    )
 
 -- a range of at most two clusters' bytes meets one to three clusters
 pub met_count : (cb : ℕ) (range : ByteRange) → range.start < range.end → range.end ≤ range.start + 2 * 2 ^ cb → (1 ≤ cluster_count cb range) × (cluster_count cb range ≤ 3)
-met_count cb range some short =
-    let p = pow_pos cb in
-    let wide = div_rises (range.end - 1) (range.start + 2 * 2 ^ cb) (2 ^ cb) p (omega arith) in
-    let two = add-mul-div_right range.start 2 p in
-    (omega arith, omega (arith, last_reached cb range some))
+met_count cb range some short = grind (arith, nat_tests, pow_pos, div_rises, add-mul-div_right, last_reached)
 
 -- as many sectors of 512 bytes as the field can count fill two clusters
 pub sectors_fill_two_clusters : (cb : ℕ) → 8 ≤ cb → 2 ^ (cb - 8) * 512 ≡ 2 * 2 ^ cb
-sectors_fill_two_clusters cb low =
-    let split = pow-add 2 (cb - 8) 9 in
-    let whole = pow-add 2 cb 1 in
-    let same : cb - 8 + 9 ≡ cb + 1 = omega arith in
-    omega (arith, rw same at split)
+sectors_fill_two_clusters cb low = grind (arith, nat_tests, pow-add)
 
 -- the clusters of an entry's range are those that the entry meets
 met_by_entry : (g : Geometry) (v c : ℕ) (range : ByteRange) → byte_range g v ≡ Some range → range.start < range.end → Meets g v c ↔ IsAmong (clusters_met g.cluster_bits range) c
@@ -79,19 +63,8 @@ allocation_of_range g v start length is some short =
       count = met_count g.cluster_bits range (omega arith) (omega arith);
     })
 
--- an entry refers to one byte at least, where it refers to any
-range_of_either : (compressed allocated : Bool) (a b range : ByteRange) → a.start < a.end → b.start < b.end → (if compressed then Some a else (if allocated then Some b else None)) ≡ Some range → range.start < range.end
-range_of_either true allocated a b range first second is = let same : a ≡ range = cc in subst (λ (r : ByteRange). r.start < r.end) same first
-range_of_either false true a b range first second is = let same : b ≡ range = cc in subst (λ (r : ByteRange). r.start < r.end) same second
-range_of_either false false a b range first second is = cc
-
 byte_range_has_bytes : (g : Geometry) (v : ℕ) (range : ByteRange) → byte_range g v ≡ Some range → range.start < range.end
-byte_range_has_bytes g v range is =
-    let cb = g.cluster_bits in
-    range_of_either (is_compressed v) (is_allocated g.external_data_file v)
-    (record { start = compressed_offset cb v; end = compressed_offset cb v + compressed_length cb v })
-    (record { start = offset_field v; end = offset_field v + 2 ^ cb })
-    range (omega arith) (omega (arith, pow_pos cb)) is
+byte_range_has_bytes g v range is = grind (arith, pow_pos)
 
 meets_by_range : (g : Geometry) (v c : ℕ) (found : Option ByteRange) → byte_range g v ≡ found → IsTrue (unwrap_or (option_map (λ clusters. is_among clusters c) (option_map (clusters_met g.cluster_bits) found)) false) ↔ Meets g v c
 meets_by_range g v c None is = (λ t. cc, λ met. let no : None ≡ Some met.0 = cc in cc)
@@ -114,18 +87,11 @@ cluster_begins_below cb offset = div-mul-le_self offset (2 ^ cb)
 
 -- a cluster's offset is whole sectors of 512 bytes
 pub offset_in_sectors : (cb cluster : ℕ) → 9 ≤ cb → cluster * 2 ^ cb ≡ cluster * 2 ^ (cb - 9) * 512
-offset_in_sectors cb cluster low =
-    let power = pow-add 2 (cb - 9) 9 in
-    let whole : cb - 9 + 9 ≡ cb = omega arith in
-    let same : 2 ^ cb ≡ 2 ^ (cb - 9) * 512 = rw whole at power in
-    ap (λ x. cluster * x) same ∙ sym (mul_assoc cluster (2 ^ (cb - 9)) 512)
+offset_in_sectors cb cluster low = grind (arith, nat_tests, pow-add, mul_assoc)
 
 -- a cluster's offset is a refcount table entry
 pub ref_entry_is_lawful : (cb cluster : ℕ) → 9 ≤ cb → ref_fault cb (cluster * 2 ^ cb) ≡ None
-ref_entry_is_lawful cb cluster low =
-    let in_sectors = offset_in_sectors cb cluster low in
-    let reserved : ref_reserved_bits (cluster * 2 ^ cb) ≡ 0 = rw in_sectors (omega arith) in
-    rw (reserved, mul-mod_left cluster (2 ^ cb)) refl
+ref_entry_is_lawful cb cluster low = grind (arith, nat_tests, offset_in_sectors, mul-mod_left)
 
 -- a cluster's offset below 2 ^ 56 with the copied flag is an L1 entry
 pub l1_entry_is_lawful : (cb cluster : ℕ) → 9 ≤ cb → cluster * 2 ^ cb < 2 ^ 56 → l1_fault cb (l1_entry_for (cluster * 2 ^ cb)) ≡ None
@@ -150,35 +116,20 @@ high_bits_clear cb v low high = elim (cases_lt 56 (70 - cb)) [
       let offset = mod-pow-add v more 56 in
       rw whole (λ none. omega (arith, above, offset), λ low. omega (arith, above, offset))
   | inr narrow ↦
-      let power = pow-add 2 (56 - (70 - cb)) (70 - cb) in
       let whole : 56 - (70 - cb) + (70 - cb) ≡ 56 = omega arith in
-      let split : 2 ^ 56 ≡ 2 ^ (56 - (70 - cb)) * 2 ^ (70 - cb) = rw whole at power in
-      let none : v / 2 ^ 56 * 2 ^ 56 % 2 ^ (70 - cb) ≡ 0 =
-      ap (λ (x : ℕ). v / 2 ^ 56 * x % 2 ^ (70 - cb)) split
-      ∙ ap (λ (x : ℕ). x % 2 ^ (70 - cb)) (sym (mul_assoc (v / 2 ^ 56) (2 ^ (56 - (70 - cb))) (2 ^ (70 - cb))))
-      ∙ mul-mod_left (v / 2 ^ 56 * 2 ^ (56 - (70 - cb))) (2 ^ (70 - cb)) in
+      let none = sym (mod-mod-pow (v / 2 ^ 56 * 2 ^ 56) (56 - (70 - cb)) (70 - cb)) ∙ rw (whole, mul-mod_left (v / 2 ^ 56) (2 ^ 56), zero-mod) refl in
       (λ _. omega (arith, pow_pos (70 - cb), pow_mono narrow), λ _. none)
 ]
 
 same_test : (cb v : ℕ) → 9 ≤ cb → cb ≤ 21 → nat_eq (v / 2 ^ 56 * 2 ^ 56 % 2 ^ (70 - cb)) 0 ≡ nat_lt (v % 2 ^ (70 - cb)) (2 ^ 56)
-same_test cb v low high =
-    let clear = high_bits_clear cb v low high in
-    let below = Decides-ltb (v % 2 ^ (70 - cb)) (2 ^ 56) in
-    same_from_decides _ _ (Decides-eqb _ 0) (λ t. clear.1 (below.0 t), λ none. below.1 (clear.0 none))
+same_test cb v low high = grind (arith, nat_tests, high_bits_clear)
 
 -- a number is lawful where its reserved bits are clear and its kind's offset is
 pub lawful_by_kind : (clear compressed low aligned : Bool) → IsTrue (clear && (if compressed then low else aligned)) ↔ (entry_fault (not clear || (compressed && not low)) (not compressed && not aligned) ≡ None)
-lawful_by_kind false compressed low aligned = (λ t. cc, λ e. cc)
-lawful_by_kind true true true aligned = (λ _. refl, λ _. refl)
-lawful_by_kind true true false aligned = (λ t. cc, λ e. cc)
-lawful_by_kind true false low true = (λ _. refl, λ _. refl)
-lawful_by_kind true false low false = (λ t. cc, λ e. cc)
+lawful_by_kind clear compressed low aligned = grind arith
 
 by_cases : (test offset low aligned : Bool) → (test ≡ true → offset ≡ low) → (test ≡ false → offset ≡ aligned) → offset ≡ (if test then low else aligned)
-by_cases true offset low aligned first second = first refl
-by_cases false offset low aligned first second = second refl
+by_cases test offset low aligned first second = grind arith
 
 pub l2_is_lawful : (cb v : ℕ) (offset : Bool) → 9 ≤ cb → cb ≤ 21 → (is_compressed v ≡ true → offset ≡ nat_eq (v / 2 ^ 56 * 2 ^ 56 % 2 ^ (70 - cb)) 0) → (is_compressed v ≡ false → offset ≡ nat_eq (offset_field v % 2 ^ cb) 0) → IsTrue (nat_eq (l2_reserved_bits v) 0 && offset) ↔ (l2_fault cb v ≡ None)
-l2_is_lawful cb v offset low high compressed standard =
-    let which = by_cases (is_compressed v) offset (nat_lt (v % 2 ^ (70 - cb)) (2 ^ 56)) (nat_eq (offset_field v % 2 ^ cb) 0) (λ e. compressed e ∙ same_test cb v low high) standard in
-    rw which (lawful_by_kind (nat_eq (l2_reserved_bits v) 0) (is_compressed v) (nat_lt (v % 2 ^ (70 - cb)) (2 ^ 56)) (nat_eq (offset_field v % 2 ^ cb) 0))
+l2_is_lawful cb v offset low high compressed standard = grind (arith, nat_tests, by_cases, same_test, lawful_by_kind)

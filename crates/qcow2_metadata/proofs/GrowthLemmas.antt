@@ -1,4 +1,4 @@
-use Rattle.std.proofs.Common.{◌≡◌, ℕ, ◌+◌, ◌-◌, ◌*◌, ◌%◌, ◌<◌, ◌≤◌, false, true, nat_le, max, min, None, Some, refl, inl, inr, arith}
+use Rattle.std.proofs.Common.{◌≡◌, ℕ, ◌+◌, ◌-◌, ◌*◌, ◌%◌, ◌<◌, ◌≤◌, ◌↔◌, false, true, nat_le, max, min, None, Some, refl, inl, inr, arith}
 use Rattle.std.specs.Int.{div_ceil, next_multiple_of}
 use Rattle.std.proofs.Math.Nat.{div-add-mod, lt_of_mul-lt-mul_right, mod-eq_of_lt, mod_self, mul-div_cancel, mul-le-mul_right}
 use Rattle.std.proofs.lemmas.Bool.{cases_lt}
@@ -9,19 +9,13 @@ use Rattle.qcow2_base.specs.Format.{most_reftable_entries}
 use Rattle.qcow2_metadata.specs.Table.Growth.{Growth, IsEnough, IsLeastSpare, clusters_with, entries_with, grown_reftable_count, least_spare, possible_spare}
 
 -- a quotient that is rounded up is at most a number exactly where the dividend is at most that many times the divisor
-pub div_ceil-le : (x n k : ℕ) → 0 < n → x ≤ k * n → div_ceil x n ≤ k
-div_ceil-le x n k some within =
-    let below = (div_ceil_times x n some).1 in
-    let next : (k + 1) * n ≡ k * n + n = omega arith in
-    let less : div_ceil x n * n < (k + 1) * n = omega (arith, below, next, within) in
-    let lt : div_ceil x n < k + 1 = lt_of_mul-lt-mul_right n less in
-    omega (arith, lt)
-
-pub le-div_ceil : (x n k : ℕ) → 0 < n → div_ceil x n ≤ k → x ≤ k * n
-le-div_ceil x n k some within =
-    let above = (div_ceil_times x n some).0 in
-    let more : div_ceil x n * n ≤ k * n = mul-le-mul_right n within in
-    omega (arith, above, more)
+pub div_ceil-le : (x n k : ℕ) → 0 < n → (div_ceil x n ≤ k) ↔ (x ≤ k * n)
+div_ceil-le x n k some =
+    let times = div_ceil_times x n some in
+    let next : (k + 1) * n ≡ k * n + n = omega arith in (
+      λ few. omega (arith, times.0, mul-le-mul_right n few),
+      λ within. let less : div_ceil x n < k + 1 = lt_of_mul-lt-mul_right n (omega (arith, times.1, next, within)) in omega (arith, less),
+    )
 
 -- the next multiple is so many times the number
 next_multiple-times : (x n : ℕ) → 0 < n → next_multiple_of x n ≡ div_ceil x n * n
@@ -51,92 +45,48 @@ pub record IsRoomy (g : Growth) : Type 0 where
   pub blocks : 1 ≤ g.block_counters
   pub both : 2 ≤ g.cluster_entries * (g.block_counters - 1)
 
--- a spare block counts its own cluster, and as many of the table as it has other counters
-counted : (g : Growth) (spare : ℕ) → IsRoomy g → spare * g.block_counters ≡ spare * (g.block_counters - 1) + spare
-counted g spare roomy =
-    let others = g.block_counters - 1 in
-    let all : g.block_counters ≡ others + 1 = omega (arith, roomy.blocks) in
-    let times : spare * (others + 1) ≡ spare * others + spare = omega arith in
+-- so many times a number are as often the one below it, and so many
+times_less : (n m : ℕ) → 1 ≤ n → m * n ≡ m * (n - 1) + m
+times_less n m some =
+    let rest = n - 1 in
+    let all : n ≡ rest + 1 = omega (arith, some) in
+    let times : m * (rest + 1) ≡ m * rest + m = omega arith in
     rw (← all) at times
 
--- these clusters' entries
-held : (g : Growth) (spare : ℕ) → spare * (g.block_counters - 1) * g.cluster_entries ≡ spare * (g.cluster_entries * (g.block_counters - 1))
-held g spare =
-    let others = g.block_counters - 1 in
-    let turned : spare * others * g.cluster_entries ≡ spare * (g.cluster_entries * others) = omega arith in
-    turned
-
--- one of these entries is the spare block's own
-own : (entries spare : ℕ) → 2 ≤ entries → spare * entries ≡ spare * (entries - 1) + spare
-own entries spare some =
-    let rest = entries - 1 in
-    let all : entries ≡ rest + 1 = omega (arith, some) in
-    let times : spare * (rest + 1) ≡ spare * rest + spare = omega arith in
-    rw (← all) at times
-
--- the entries that are wanted fit the clusters that spare blocks count exactly where these are enough
-enough-fits : (g : Growth) (spare : ℕ) → IsRoomy g → IsEnough g spare → max (g.index + 1 + spare) g.len ≤ spare * (g.cluster_entries * (g.block_counters - 1))
-enough-fits g spare roomy enough =
-    let few : div_ceil (max (g.index + 1 + spare) g.len) g.cluster_entries ≤ spare * (g.block_counters - 1) =
-    omega (arith, rw (clusters_with-is g spare roomy.clusters) at enough, counted g spare roomy) in
-    rw (held g spare) at (le-div_ceil _ _ _ roomy.clusters few)
-
-fits-enough : (g : Growth) (spare : ℕ) → IsRoomy g → max (g.index + 1 + spare) g.len ≤ spare * (g.cluster_entries * (g.block_counters - 1)) → IsEnough g spare
-fits-enough g spare roomy fits =
-    let few = div_ceil-le (max (g.index + 1 + spare) g.len) g.cluster_entries (spare * (g.block_counters - 1)) roomy.clusters (rw (held g spare) fits) in
-    rw (clusters_with-is g spare roomy.clusters, counted g spare roomy) (omega (arith, few))
+-- the entries that are wanted fit the clusters that spare blocks count exactly where these are enough: a block counts
+-- its own cluster, and as many of the table as it has other counters
+enough-fits : (g : Growth) (spare : ℕ) → IsRoomy g → IsEnough g spare ↔ (max (g.index + 1 + spare) g.len ≤ spare * (g.block_counters - 1) * g.cluster_entries)
+enough-fits g spare roomy =
+    let few = div_ceil-le (max (g.index + 1 + spare) g.len) g.cluster_entries (spare * (g.block_counters - 1)) roomy.clusters in
+    let counted = times_less g.block_counters spare roomy.blocks in
+    rw (clusters_with-is g spare roomy.clusters, counted) (λ enough. few.0 (omega (arith, enough)), λ fits. omega (arith, few.1 fits))
 
 -- so many spare blocks are enough exactly from the least number on
-pub least-enough : (g : Growth) (spare : ℕ) → IsRoomy g → least_spare g ≤ spare → IsEnough g spare
-least-enough g spare roomy least =
+pub least-enough : (g : Growth) (spare : ℕ) → IsRoomy g → (least_spare g ≤ spare) ↔ IsEnough g spare
+least-enough g spare roomy =
     let entries = g.cluster_entries * (g.block_counters - 1) in
-    let for_index = le-div_ceil (g.index + 1) (entries - 1) spare (omega (arith, roomy.both)) (omega (arith, least)) in
-    let for_len = le-div_ceil g.len entries spare (omega (arith, roomy.both)) (omega (arith, least)) in
-    fits-enough g spare roomy (omega (arith, for_index, for_len, own entries spare roomy.both))
-
-pub enough-least : (g : Growth) (spare : ℕ) → IsRoomy g → IsEnough g spare → least_spare g ≤ spare
-enough-least g spare roomy enough =
-    let entries = g.cluster_entries * (g.block_counters - 1) in
-    let fits = enough-fits g spare roomy enough in
-    let for_index = div_ceil-le (g.index + 1) (entries - 1) spare (omega (arith, roomy.both)) (omega (arith, fits, own entries spare roomy.both)) in
-    let for_len = div_ceil-le g.len entries spare (omega (arith, roomy.both)) (omega (arith, fits)) in
-    omega (arith, for_index, for_len)
+    let index = div_ceil-le (g.index + 1) (entries - 1) spare (omega (arith, roomy.both)) in
+    let len = div_ceil-le g.len entries spare (omega (arith, roomy.both)) in
+    let own = times_less entries spare (omega (arith, roomy.both)) in
+    let turned : spare * (g.block_counters - 1) * g.cluster_entries ≡ spare * entries = omega arith in
+    let is = enough-fits g spare roomy in (
+      λ least. is.1 (omega (arith, index.0 (omega (arith, least)), len.0 (omega (arith, least)), own, turned)),
+      λ enough. let fits = is.0 enough in omega (arith, index.1 (omega (arith, fits, own, turned)), len.1 (omega (arith, fits, turned))),
+    )
 
 -- the number by division is the least
 pub least_spare-is : (g : Growth) → IsRoomy g → IsLeastSpare g (least_spare g)
-least_spare-is g roomy =
-    let entries = g.cluster_entries * (g.block_counters - 1) in
-    let some = le-div_ceil (g.index + 1) (entries - 1) 0 (omega (arith, roomy.both)) in
-    record {
-      some = elim (cases_lt 0 (least_spare g)) [
-        | inl one ↦ omega (arith, one)
-        | inr none ↦ absurd (omega (arith, some (omega (arith, none))))
-      ];
-      enough = least-enough g (least_spare g) roomy (omega arith);
-      least = λ fewer one enough. enough-least g fewer roomy enough;
-    }
+least_spare-is g roomy = grind (arith, nat_tests, div_ceil-le, least-enough)
 
--- there is one least number
-pub IsLeastSpare-once : (g : Growth) (a b : ℕ) → IsLeastSpare g a → IsLeastSpare g b → a ≡ b
-IsLeastSpare-once g a b left right =
-    let below = left.least b right.some right.enough in
-    let above = right.least a left.some left.enough in
-    omega (arith, below, above)
-
--- more spare blocks take no fewer entries and clusters
+-- more spare blocks take no fewer clusters and entries
 pub clusters_with-more : (g : Growth) (a b : ℕ) → 0 < g.cluster_entries → a ≤ b → clusters_with g a ≤ clusters_with g b
-clusters_with-more g a b some more =
-    let n = g.cluster_entries in
-    let least = (div_ceil_times (max (g.index + 1 + b) g.len) n some).0 in
-    rw (clusters_with-is g a some, clusters_with-is g b some) (div_ceil-le (max (g.index + 1 + a) g.len) n _ some (omega (arith, least, more)))
+clusters_with-more g a b some more = grind (arith, nat_tests, div_ceil_times, clusters_with-is, div_ceil-le)
 
-pub entries_with-more : (g : Growth) (a b : ℕ) → 0 < g.cluster_entries → a ≤ b → entries_with g a ≤ entries_with g b
+entries_with-more : (g : Growth) (a b : ℕ) → 0 < g.cluster_entries → a ≤ b → entries_with g a ≤ entries_with g b
 entries_with-more g a b some more =
-    let fewer = clusters_with-more g a b some more in
-    let left = clusters_with-is g a some in
-    let right = clusters_with-is g b some in
+    let fewer = rw (clusters_with-is g a some, clusters_with-is g b some) at (clusters_with-more g a b some more) in
     rw (next_multiple-times (max (g.index + 1 + a) g.len) g.cluster_entries some, next_multiple-times (max (g.index + 1 + b) g.len) g.cluster_entries some)
-    (mul-le-mul_right g.cluster_entries (rw (left, right) at fewer))
+    (mul-le-mul_right g.cluster_entries fewer)
 
 -- where a cluster has 64 entries and a block 64 counters at least
 pub IsRoomy-of : (g : Growth) → 64 ≤ g.cluster_entries → 64 ≤ g.block_counters → IsRoomy g
@@ -148,16 +98,12 @@ IsRoomy-of g entries counters =
 pub needed-least : (g : Growth) (spare least : ℕ) → IsRoomy g → spare ≤ least → IsEnough g least → div_ceil (clusters_with g spare + spare) g.block_counters ≤ least
 needed-least g spare least roomy below enough =
     let fewer = clusters_with-more g spare least roomy.clusters below in
-    div_ceil-le (clusters_with g spare + spare) g.block_counters least (omega (arith, roomy.blocks)) (omega (arith, fewer, below, enough))
-
--- so many spare blocks that need no more are the least
-pub needed-enough : (g : Growth) (spare : ℕ) → IsRoomy g → div_ceil (clusters_with g spare + spare) g.block_counters ≤ spare → IsEnough g spare
-needed-enough g spare roomy few = le-div_ceil (clusters_with g spare + spare) g.block_counters spare (omega (arith, roomy.blocks)) few
+    (div_ceil-le (clusters_with g spare + spare) g.block_counters least (omega (arith, roomy.blocks))).1 (omega (arith, fewer, below, enough))
 
 -- the answer, where the number that is tried is the least, and where it takes too many entries already
 pub possible_spare-found : (g : Growth) (spare : ℕ) → IsLeastSpare g spare → IsRoomy g → entries_with g spare ≤ most_reftable_entries → Some spare ≡ possible_spare g
 possible_spare-found g spare least roomy few =
-    let is : spare ≡ least_spare g = IsLeastSpare-once g spare (least_spare g) least (least_spare-is g roomy) in
+    let is : spare ≡ least_spare g = omega (arith, least.least (least_spare g) (least_spare-is g roomy).some (least_spare-is g roomy).enough, (least-enough g spare roomy).1 least.enough) in
     let within : nat_le (grown_reftable_count g) most_reftable_entries ≡ true = rw (← is) (grind (arith, nat_tests, few)) in
     rw (within, is) refl
 

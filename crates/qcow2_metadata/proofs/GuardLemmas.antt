@@ -1,5 +1,4 @@
-use Rattle.std.proofs.Common.{◌≡◌, ℕ, Bool, true, false, ◌&&◌, Option, None, refl, sym, ◌∙◌}
-use Rattle.std.specs.Prelude.{slice_index}
+use Rattle.std.proofs.Common.{◌≡◌, ℕ, Bool, true, false, ◌&&◌, Option, None, refl, sym, ◌∙◌, slice_index}
 use Rattle.qcow2_metadata.specs.Table.L2Guards.{MakesEdit, to_zeros}
 use Rattle.qcow2_metadata.specs.Entries.L2Entry.{IsAllocation, has_host_cluster, l2_fault, with_zero_flag}
 use Rattle.qcow2_metadata.specs.Header.{Geometry}

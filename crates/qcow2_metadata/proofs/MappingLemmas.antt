@@ -1,9 +1,8 @@
-use Rattle.std.proofs.Common.{◌≡◌, ℕ, Bool, true, false, not, ◌&&◌, ◌||◌, nat_eq, nat_lt, if◌then◌else◌, ◌+◌, ◌-◌, ◌*◌, ◌/◌, ◌%◌, ◌^◌, ◌<◌, ◌≤◌, Some, None, refl, ap, sym, ◌∙◌, inl, inr, arith}
+use Rattle.std.proofs.Common.{◌≡◌, ℕ, Bool, true, false, not, ◌&&◌, ◌||◌, nat_eq, nat_lt, if◌then◌else◌, ◌+◌, ◌-◌, ◌*◌, ◌/◌, ◌%◌, ◌^◌, ◌<◌, ◌≤◌, Some, None, refl, ap, sym, ◌∙◌, inl, inr, arith, pow_mono}
 use Rattle.std.proofs.lemmas.Bool.{lt-ltb, cases_Bool}
-use Rattle.std.proofs.lemmas.Bool.Decides.{same_from_decides, Decides-eqb}
-use Rattle.std.proofs.lemmas.Nat.{pow-add, shl-shr, mul-le, div-mul-add, mod-mul-add}
+use Rattle.std.proofs.lemmas.Bool.Decides.{same_from_decides, Decides-eqb, nat_tests}
+use Rattle.std.proofs.lemmas.Nat.{pow_pos, pow-add, shl-shr, mul-le, div-mul-add, mod-mul-add}
 use Rattle.std.proofs.Math.Nat.{mul-mod_left, add-mod_left, mod-eq_of_lt, zero-mul, zero-div}
-use Rattle.std.proofs.Math.Pow.{pow_mono}
 use Rattle.qcow2_base.specs.Bits.{field}
 use Rattle.qcow2_base.specs.declared.fault.Fault.TheVariants.{EntryReserved}
 use Rattle.qcow2_metadata.specs.Header.{geometry}
@@ -20,16 +19,10 @@ bit true = 1
 bit false = 0
 
 pub bit_below : (b : Bool) → bit b < 2
-bit_below true = omega arith
-bit_below false = omega arith
+bit_below b = grind arith
 
 bit_is_set : (b : Bool) → nat_eq (bit b) 1 ≡ b
-bit_is_set true = refl
-bit_is_set false = refl
-
-copied_bit_is : (b : Bool) → copied_bit b ≡ bit b * 2 ^ 63
-copied_bit_is true = refl
-copied_bit_is false = refl
+bit_is_set b = grind arith
 
 -- the fields of a standard entry
 record IsStandard (v offset copied zeros : ℕ) : Type 0 where
@@ -39,56 +32,31 @@ record IsStandard (v offset copied zeros : ℕ) : Type 0 where
   highest : field v 63 1 ≡ copied
   lowest : field v 0 1 ≡ zeros
 
-standard_fields : (sectors copied flag : ℕ) → sectors * 512 < 2 ^ 56 → copied < 2 → flag < 2 → IsStandard (copied * 2 ^ 63 + sectors * 512 + flag) (sectors * 512) copied flag
-standard_fields sectors copied flag below c z = record {
-  kind = omega arith;
-  reserved = omega arith;
-  middle = omega arith;
-  highest = omega arith;
-  lowest = omega arith;
-}
-
 -- the number of a mapping to a cluster
 abbrev standard_number : ℕ → ℕ → Bool → Bool → ℕ
 standard_number cb cluster copied flag = copied_bit copied + cluster * 2 ^ cb + bit flag
 
 is_standard : (cb cluster : ℕ) (copied flag : Bool) → 9 ≤ cb → cluster * 2 ^ cb < 2 ^ 56 → IsStandard (standard_number cb cluster copied flag) (cluster * 2 ^ cb) (bit copied) (bit flag)
-is_standard cb cluster copied flag low placed =
-    let sectors = offset_in_sectors cb cluster low in
-    rw (copied_bit_is copied, sectors) (standard_fields (cluster * 2 ^ (cb - 9)) (bit copied) (bit flag) (rw sectors at placed) (bit_below copied) (bit_below flag))
+is_standard cb cluster copied flag low placed = grind (arith, nat_tests, offset_in_sectors, bit_below)
 
 standard_is_lawful : (cb cluster : ℕ) (copied flag : Bool) → 9 ≤ cb → cluster * 2 ^ cb < 2 ^ 56 → l2_fault cb (standard_number cb cluster copied flag) ≡ None
-standard_is_lawful cb cluster copied flag low placed =
-    let fields = is_standard cb cluster copied flag low placed in
-    rw (fields.kind, fields.reserved, fields.middle, mul-mod_left cluster (2 ^ cb)) refl
-
-begins_at_zero : (cb cluster : ℕ) → nat_eq (cluster * 2 ^ cb) 0 ≡ nat_eq cluster 0
-begins_at_zero cb cluster =
-    let offset = Decides-eqb (cluster * 2 ^ cb) 0 in
-    let back : cluster * 2 ^ cb ≡ 0 → cluster ≡ 0 = λ e. sym (shl-shr cluster cb) ∙ ap (λ x. x / 2 ^ cb) e ∙ zero-div (2 ^ cb) in
-    same_from_decides _ _ (λ t. back (offset.0 t), λ e. offset.1 (ap (λ x. x * 2 ^ cb) e ∙ zero-mul (2 ^ cb))) (Decides-eqb cluster 0)
+standard_is_lawful cb cluster copied flag low placed = grind (arith, nat_tests, is_standard, mul-mod_left)
 
 standard_reads : (cb guest_cluster cluster : ℕ) (copied flag external : Bool) → 9 ≤ cb → cluster * 2 ^ cb < 2 ^ 56 → mapping (geometry cb external) guest_cluster (standard_number cb cluster copied flag) ≡ standard_mapping flag (if is_told external cluster copied then Some cluster else None) copied (guest_cluster * 2 ^ cb)
-standard_reads cb guest_cluster cluster copied flag external low placed =
-    let fields = is_standard cb cluster copied flag low placed in
-    rw (fields.kind, fields.middle, fields.highest, fields.lowest, bit_is_set copied, bit_is_set flag, begins_at_zero cb cluster, shl-shr cluster cb) refl
+standard_reads cb guest_cluster cluster copied flag external low placed = grind (arith, nat_tests, mul-le, pow_pos, is_standard, bit_is_set, shl-shr)
 
 told_data : (told copied : Bool) (cluster offset : ℕ) → standard_mapping false (if told then Some cluster else None) copied offset ≡ (if told then data_file cluster copied else backing offset)
-told_data true copied cluster offset = refl
-told_data false copied cluster offset = refl
+told_data told copied cluster offset = grind arith
 
 told_zeros : (told copied : Bool) (cluster offset : ℕ) → standard_mapping true (if told then Some cluster else None) copied offset ≡ (if told then zeros (Some cluster) copied else zeros None false)
-told_zeros true copied cluster offset = refl
-told_zeros false copied cluster offset = refl
+told_zeros told copied cluster offset = grind arith
 
 -- numbers that refer to no cluster
 nothing_reads : (cb guest_cluster : ℕ) (external : Bool) → mapping (geometry cb external) guest_cluster 0 ≡ backing (guest_cluster * 2 ^ cb)
-nothing_reads cb guest_cluster true = refl
-nothing_reads cb guest_cluster false = refl
+nothing_reads cb guest_cluster external = grind arith
 
 zeros_read : (cb guest_cluster : ℕ) (external : Bool) → mapping (geometry cb external) guest_cluster 1 ≡ zeros None false
-zeros_read cb guest_cluster true = refl
-zeros_read cb guest_cluster false = refl
+zeros_read cb guest_cluster external = grind arith
 
 -- the fields of a compressed entry
 record IsCompressed (cb v offset sectors : ℕ) : Type 0 where
@@ -126,9 +94,7 @@ compressed_fields cb offset sectors low high fits few =
     }
 
 compressed_is_lawful : (cb offset sectors : ℕ) → 9 ≤ cb → cb ≤ 21 → offset < 2 ^ (70 - cb) → offset < 2 ^ 56 → sectors < 2 ^ (cb - 8) → l2_fault cb (2 ^ 62 + sectors * 2 ^ (70 - cb) + offset) ≡ None
-compressed_is_lawful cb offset sectors low high fits placed few =
-    let fields = compressed_fields cb offset sectors low high fits few in
-    rw (fields.kind, fields.reserved, fields.lower, lt-ltb offset (2 ^ 56) placed) refl
+compressed_is_lawful cb offset sectors low high fits placed few = grind (arith, nat_tests, compressed_fields, lt-ltb)
 
 -- so many sectors beyond the first can be told
 sectors_below : (cb offset length : ℕ) → 9 ≤ cb → length < 2 ^ cb → sectors_beyond offset length < 2 ^ (cb - 8)
@@ -137,14 +103,11 @@ sectors_below cb offset length low short =
     let one : 512 ≤ 2 ^ cb = pow_mono low in
     omega (arith, all, one)
 
-to_the_sectors_end : (offset length : ℕ) → 0 < length → 512 * (sectors_beyond offset length + 1) - offset % 512 ≡ sector_end (offset + length) - offset
-to_the_sectors_end offset length some = omega arith
-
 compressed_reads : (cb guest_cluster offset length : ℕ) (external : Bool) → 9 ≤ cb → cb ≤ 21 → offset < 2 ^ (70 - cb) → offset < 2 ^ 56 → 0 < length → length < 2 ^ cb → mapping (geometry cb external) guest_cluster (2 ^ 62 + sectors_beyond offset length * 2 ^ (70 - cb) + offset) ≡ compressed offset (sector_end (offset + length) - offset)
 compressed_reads cb guest_cluster offset length external low high fits placed some short =
     let few = sectors_below cb offset length low short in
     let fields = compressed_fields cb offset (sectors_beyond offset length) low high fits few in
-    rw (fields.kind, fields.lower, fields.upper, mod-eq_of_lt placed) (ap (compressed offset) (to_the_sectors_end offset length some))
+    rw (fields.kind, fields.lower, fields.upper, mod-eq_of_lt placed) (ap (compressed offset) (omega arith))
 
 -- the parts of a compressed entry's number are below bit 62
 pub compressed_parts_fit : (cb offset length : ℕ) → 9 ≤ cb → cb ≤ 21 → offset < 2 ^ (70 - cb) → length < 2 ^ cb → sectors_beyond offset length * 2 ^ (70 - cb) + offset < 2 ^ 62
@@ -170,26 +133,3 @@ entry_reads_back cb (Zero (Some host_cluster) copied) guest_cluster external pla
     standard_reads cb guest_cluster host_cluster.0 copied true external placed.bits.0 placed.within ∙ told_zeros (is_told external host_cluster.0 copied) copied host_cluster.0 (guest_cluster * 2 ^ cb)
 entry_reads_back cb (Zero None copied) guest_cluster external placed fits = zeros_read cb guest_cluster external
 entry_reads_back cb (Compressed host_offset length) guest_cluster external placed fits = compressed_reads cb guest_cluster host_offset.0 length.value external placed.bits.0 placed.bits.1 fits.0 placed.within length.ok fits.1
-
-compressed_is_not_copied : (kind below aligned : Bool) (high rest : ℕ) → entry_fault (not (nat_eq (if kind then high else rest) 0) || (kind && not below)) (not kind && not aligned) ≡ None → kind ≡ true → high ≡ 0
-compressed_is_not_copied false below aligned high rest lawful is = cc
-compressed_is_not_copied true below aligned high rest lawful is =
-    elim (cases_Bool (nat_eq high 0)) [
-      | inl clear ↦ (Decides-eqb high 0).0 clear
-      | inr set ↦ let none : Some EntryReserved ≡ None = rw set at lawful in cc
-    ]
-
--- a lawful entry without its copied flag is lawful
-pub lawful_without_copied : (cb v : ℕ) → v < 2 ^ 64 → l2_fault cb v ≡ None → l2_fault cb (v % 2 ^ 63) ≡ None
-lawful_without_copied cb v fits lawful = elim (cases_Bool (is_compressed v)) [
-  | inl packed ↦
-      let clear = compressed_is_not_copied (is_compressed v) (nat_lt (v % 2 ^ (70 - cb)) (2 ^ 56)) (nat_eq (offset_field v % 2 ^ cb) 0) (field v 63 1 * 2 ^ 63) (field v 1 8 * 2 ^ 1 + field v 56 6 * 2 ^ 56) lawful packed in
-      let same : v % 2 ^ 63 ≡ v = omega (arith, clear) in
-      rw same lawful
-  | inr standard ↦
-      let kind : field (v % 2 ^ 63) 62 1 ≡ field v 62 1 = omega arith in
-      let reserved : field (v % 2 ^ 63) 1 8 * 2 ^ 1 + field (v % 2 ^ 63) 56 6 * 2 ^ 56 ≡ field v 1 8 * 2 ^ 1 + field v 56 6 * 2 ^ 56 = omega arith in
-      let offset : offset_field (v % 2 ^ 63) ≡ offset_field v = omega arith in
-      let known = rw standard at lawful in
-      rw (kind, standard, reserved, offset) known
-]

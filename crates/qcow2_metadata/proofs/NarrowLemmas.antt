@@ -1,4 +1,4 @@
-use Rattle.std.proofs.Common.{◌≡◌, ℕ, suc, ◌+◌, ◌-◌, ◌*◌, ◌/◌, ◌%◌, ◌^◌, ◌<◌, ◌≤◌, List, [], ◌∷◌, ◌++◌, length, length-take, slice_index, slice_range, take, refl, sym, ◌∙◌, ap, add-zero, zero-add, append_assoc, mul-zero, mul_assoc, mul-le-mul_left, mod-eq_of_lt, pow_mono, arith}
+use Rattle.std.proofs.Common.{le-leb, ◌≡◌, ℕ, suc, ◌+◌, ◌-◌, ◌*◌, ◌/◌, ◌%◌, ◌^◌, ◌<◌, ◌≤◌, List, [], ◌∷◌, ◌++◌, length, length-take, slice_index, slice_range, take, refl, sym, ◌∙◌, ap, add-zero, zero-add, append_assoc, mul-zero, mul_assoc, mul-le-mul_left, mod-eq_of_lt, pow_mono, arith}
 use Rattle.std.proofs.lemmas.List.{take_more}
 use Rattle.std.proofs.lemmas.List.Elements.{All-get_or}
 use Rattle.std.proofs.lemmas.List.FromFn.{fill_by_all}
@@ -8,7 +8,7 @@ use Rattle.qcow2_base.specs.Bits.{field}
 use Rattle.qcow2_base.specs.Storage.{IsBytes, image_of}
 use Rattle.qcow2_metadata.specs.Refblock.Counters.{AreCounters}
 use Rattle.qcow2_metadata.specs.Refblock.Packing.{counter_at, counters_at, from_digits, packed, per_byte, width}
-use Rattle.qcow2_metadata.proofs.PackingLemmas.{counter_at-narrow, counters_at-append, counters_at-same, narrow_cases, packed-narrow, width-per_byte}
+use Rattle.qcow2_metadata.proofs.PackingLemmas.{counters_at-append, counters_at-same, narrow_cases, width-per_byte}
 
 -- a width as the code makes it, and the number of values that a counter has
 pub shifted_one : (order : ℕ) → order ≤ 2 → 1 * 2 ^ order % 18446744073709551616 ≡ width order
@@ -21,9 +21,7 @@ values_fit order low = narrow_cases (λ order. order ≤ 2 → 1 * 2 ^ width ord
 -- a counter's place in its byte
 pub place_fits : (order per index : ℕ) → order ≤ 3 → per ≡ per_byte order → index < per → width order * (index + 1) ≤ 8
 place_fits order per index narrow each below =
-    let whole : width order * per ≡ 8 = rw each (width-per_byte order narrow) in
-    let next : index + 1 ≤ per = omega arith in
-    omega (arith, mul-le-mul_left {m = index + 1} {n = per} (width order) next)
+    narrow_cases (λ order. index < per_byte order → width order * (index + 1) ≤ 8) (λ h. omega arith) (λ h. omega arith) (λ h. omega arith) (λ h. omega arith) order narrow (omega arith)
 
 -- the array that has each counter of a byte
 pub counters_of_byte : (order per byte : ℕ) (xs : List ℕ) → order ≤ 3 → per ≡ per_byte order → length xs ≡ per → ((i : ℕ) → i < per → slice_index xs i ≡ field byte (width order * i) (width order)) → xs ≡ counters_at order (image_of (byte ∷ [])) 0 per
@@ -31,7 +29,7 @@ counters_of_byte order per byte xs narrow each len digits =
     fill_by_all (counter_at order (image_of (byte ∷ [])) 0) xs per 0 len
     (λ i below. let within : i < per_byte order = omega arith in
     let first : i / per_byte order ≡ 0 = div-eq_of_lt within in
-    digits i below ∙ rw (counter_at-narrow order (image_of (byte ∷ [])) 0 i narrow, first, mod-eq_of_lt within) refl)
+    digits i below ∙ rw (le-leb order 3 narrow, first, mod-eq_of_lt within) refl)
 
 -- the counters of one byte more
 pub narrow_counters-more : (order per i byte : ℕ) (bytes before items : List ℕ) → order ≤ 3 → per ≡ per_byte order → byte ≡ slice_index bytes i → items ≡ before ++ counters_at order (image_of bytes) 0 (per * i) → items ++ counters_at order (image_of (byte ∷ [])) 0 per ≡ before ++ counters_at order (image_of bytes) 0 (per * (i + 1))
@@ -84,12 +82,6 @@ digit_more order per i byte counters narrow each len small below low =
       below = sum;
       fits = omega (arith, sum, limit);
     }
-
--- the byte of counters that are cut out of a list
-pub packed_part : (order per j : ℕ) (counters : List ℕ) → order ≤ 3 → per ≡ per_byte order → from_digits (2 ^ width order) (slice_range counters (per * j) (per * j + per)) ≡ packed order counters j
-packed_part order per j counters narrow each =
-    let count : per * j + per - per * j ≡ per = omega arith in
-    rw (packed-narrow order counters j narrow, count, each) refl
 
 -- counters of eight bits are the bytes
 pub counters_are_bytes : (order : ℕ) (bytes : List ℕ) → order ≡ 3 → IsBytes (image_of bytes) → counters_at order (image_of bytes) 0 (per_byte order * length bytes) ≡ bytes

@@ -1,56 +1,40 @@
-use Rattle.std.proofs.Common.{◌≡◌, ◌≢◌, ℕ, zero, suc, ◌+◌, ◌-◌, ◌*◌, ◌/◌, ◌%◌, ◌^◌, ◌<◌, ◌≤◌, max, List, map, length, get_or, slice_index, refl, ◌⊎◌, Option, Some, None, Result, Ok, Err, OnOk, IfErr, sym, ◌∙◌, ap, inl, inr, add-zero, add_assoc, arith}
+use Rattle.std.proofs.Common.{◌≡◌, ◌≢◌, ℕ, zero, suc, ◌+◌, ◌-◌, ◌*◌, ◌/◌, ◌%◌, ◌^◌, ◌<◌, ◌≤◌, max, List, map, length, get_or, slice_index, refl, ◌⊎◌, Option, Some, None, Result, Ok, Err, OnOk, IfErr, sym, ◌∙◌, ap, inl, inr, lit≤, arith, pow_mono, take_all}
 use Rattle.std.specs.List.{range_with_len}
 use Rattle.std.proofs.Math.Nat.{div-add-mod, div-div-eq-div-mul, lt_of_mul-lt-mul_right, mul-div_cancel, mul-le-mul_right}
 use Rattle.std.proofs.lemmas.Bool.{cases_lt}
-use Rattle.std.proofs.lemmas.Nat.{div-mul-add, mod_below, pow-add, pow_below, pow_pos}
+use Rattle.std.proofs.lemmas.Nat.{div-mul-add, div_below, le-div, mod_below, pow-add, pow_below, pow_pos}
 use Rattle.qcow2_metadata.specs.Pieces.{piece_size}
 use Rattle.qcow2_base.specs.Storage.{Holds, Image, IsPowerOfTwo, SameOutside, StorageState, be, be_of_same, image_of}
 use Rattle.qcow2_base.specs.declared.fault.Fault.{Fault}
 use Rattle.qcow2_base.specs.declared.fault.Fault.TheVariants.{NoMemory, Storage}
 use Rattle.qcow2_base.specs.declared.types.HostCluster.{HostCluster}
-use Rattle.std.proofs.Math.Pow.{pow_mono}
-use Rattle.std.proofs.lemmas.List.{take_all}
 use Rattle.std.proofs.lemmas.List.FromFn.{get_or-map-range_with_len}
 use Rattle.qcow2_metadata.proofs.PieceLemmas.{numbers_stand}
-use Rattle.qcow2_metadata.proofs.TableLemmas.{table_numbers-held}
+use Rattle.qcow2_metadata.proofs.PackingLemmas.{counters_at-held, map_range_at}
 use Rattle.qcow2_metadata.specs.Table.{Kind, TablePlace, TableState, offset_of, table_on_storage, place_of, table_numbers, write_fault}
 use Rattle.qcow2_metadata.specs.Table.OneEntry.{EntryRange, IsEntryWriteFault, IsWrittenEntry, IsPartOfCluster, WritesEntries, WritesEntry, cluster_offset, numbers_in, entries_together, range_offset}
-
--- functions that agree over two ranges have the same values there
-ranges_same : (f g : ℕ → ℕ) (a b n : ℕ) → ((j : ℕ) → j < n → f (a + j) ≡ g (b + j)) → map f (range_with_len a n) ≡ map g (range_with_len b n)
-ranges_same f g a b zero same = refl
-ranges_same f g a b (suc n) same =
-    let first : f a ≡ g b = simp add-zero at (same 0 (omega arith)) in
-    let rest = ranges_same f g (a + 1) (b + 1) n (λ j h. rw (add_assoc a 1 j, add_assoc b 1 j) (same (1 + j) (omega arith))) in
-    rw (first, rest) refl
 
 -- entries whose numbers stand in bytes that an image holds
 pub written_entries : (image : Image) (offset : ℕ) (bytes : List ℕ) (range : EntryRange) (numbers : List ℕ) → range.count ≡ length bytes / 8 → Holds image offset bytes
     → ((i : ℕ) → 8 * i + 8 ≤ length bytes → be (image_of bytes) (8 * i) 8 ≡ slice_index numbers (range.first + i))
     → table_numbers image offset range.count ≡ numbers_in range numbers
 written_entries image offset bytes range numbers count held each =
-    table_numbers-held image offset range.count bytes held (omega (arith, count))
-    ∙ ranges_same (λ i. be (image_of bytes) (0 + 8 * i) 8) (λ i. slice_index numbers i) 0 range.first range.count
+    counters_at-held 6 range.count (8 * range.count) image offset bytes (lit≤ tt) (omega arith) (omega (arith, count)) held
+    ∙ map_range_at (λ i. be (image_of bytes) (0 + 8 * i) 8) (λ i. slice_index numbers i) 0 range.first range.count
     (λ j below. let place : 0 + 8 * (0 + j) ≡ 8 * j = omega arith in rw place (each j (omega (arith, count))))
 
 -- the greater of two powers of two is one
 max-power : (a b : ℕ) → IsPowerOfTwo a → IsPowerOfTwo b → IsPowerOfTwo (max a b)
 max-power a b left right = elim (cases_lt a b) [
-  | inl less ↦ let is : max a b ≡ b = omega (arith, less) in rw is right
-  | inr more ↦ let is : max a b ≡ a = omega (arith, more) in rw is left
+  | inl less ↦ let is : max a b ≡ b = omega arith in rw is right
+  | inr more ↦ let is : max a b ≡ a = omega arith in rw is left
 ]
 
 -- the entries of an alignment that a cluster's size is no less than
 part_of_power : (a cb : ℕ) → IsPowerOfTwo a → 8 ≤ a → a ≤ 2 ^ cb → IsPartOfCluster cb (a / 8)
 part_of_power a cb (n, is) some few =
-    let three : 3 ≤ n = elim (cases_lt n 3) [
-      | inl less ↦ absurd (omega (arith, pow_below n 3 less, is, some))
-      | inr least ↦ least
-    ] in
-    let within : n ≤ cb = elim (cases_lt cb n) [
-      | inl more ↦ absurd (omega (arith, pow_below cb n more, is, few))
-      | inr most ↦ most
-    ] in
+    let three : 3 ≤ n = grind (arith, pow_below n 3, is, some) in
+    let within : n ≤ cb = grind (arith, pow_below cb n, is, few) in
     let exponent : n - 3 + 3 ≡ n = omega (arith, three) in
     let eights : a ≡ 2 ^ (n - 3) * 8 = is ∙ ap (λ m. 2 ^ m) (sym exponent) ∙ pow-add 2 (n - 3) 3 in
     (n - 3, rw eights (mul-div_cancel (2 ^ (n - 3)) (omega arith)), omega (arith, exponent, within))
@@ -59,73 +43,50 @@ pub part_of_alignments : (cb mem_align req_align : ℕ) → IsPowerOfTwo mem_ali
 part_of_alignments cb mem_align req_align mem req few =
     part_of_power (max (max mem_align req_align) 8) cb (max-power (max mem_align req_align) 8 (max-power mem_align req_align mem req) (3, refl)) (omega arith) few
 
--- the entry at an index is among those written with it
-pub among : (index count : ℕ) → 0 < count → (index / count * count ≤ index) × (index < index / count * count + count)
-among index count some =
-    let whole = div-add-mod index count in
-    let small = mod_below index count some in
-    (omega (arith, whole), omega (arith, whole, small))
+-- the multiple of a number at or before another, and the next one
+pub multiple_before : (x s : ℕ) → 0 < s → (x / s * s ≤ x) × (x < x / s * s + s)
+multiple_before x s some = (omega (arith, div-add-mod x s), omega (arith, div-add-mod x s, mod_below x s some))
+
+-- a group that begins before a whole number of groups ends there
+next_within : (x s parts : ℕ) → 0 < s → x < parts * s → x / s * s + s ≤ parts * s
+next_within x s parts some below = grind (arith, div_below, mul-le-mul_right)
 
 -- a cluster is a whole number of groups of entries, and so is the longest file
-cluster_is_parts : (cb count : ℕ) → IsPartOfCluster cb count → (parts : ℕ) × (2 ^ cb ≡ parts * (8 * count)) × (0 < parts)
+cluster_is_parts : (cb count : ℕ) → IsPartOfCluster cb count → (parts : ℕ) × (2 ^ cb ≡ parts * (8 * count))
 cluster_is_parts cb count (k, is, few) =
-    let exponent : cb - 3 - k + 3 + k ≡ cb = omega (arith, few) in
-    let split : 2 ^ cb ≡ 2 ^ (cb - 3 - k) * 2 ^ 3 * 2 ^ k = ap (λ n. 2 ^ n) (sym exponent) ∙ pow-add 2 (cb - 3 - k + 3) k ∙ ap (λ n. n * 2 ^ k) (pow-add 2 (cb - 3 - k) 3) in
-    let turned : 2 ^ (cb - 3 - k) * 8 * count ≡ 2 ^ (cb - 3 - k) * (8 * count) = omega arith in
-    (2 ^ (cb - 3 - k), rw (← is) at split ∙ turned, pow_pos (cb - 3 - k))
+    let exponent : cb - 3 - k + (k + 3) ≡ cb = omega (arith, few) in
+    let split : 2 ^ cb ≡ 2 ^ (cb - 3 - k) * (2 ^ k * 2 ^ 3) = ap (λ n. 2 ^ n) (sym exponent) ∙ pow-add 2 (cb - 3 - k) (k + 3) ∙ ap (λ n. 2 ^ (cb - 3 - k) * n) (pow-add 2 k 3) in
+    (2 ^ (cb - 3 - k), rw (← is) at split ∙ omega arith)
 
-file_is_parts : (cb count : ℕ) → cb ≤ 56 → IsPartOfCluster cb count → (parts : ℕ) × (2 ^ 56 ≡ parts * (8 * count))
-file_is_parts cb count low (k, is, few) = let whole = cluster_is_parts 56 count (k, is, omega (arith, few, low)) in (whole.0, whole.1)
-
--- where a group begins, as a number of groups
-group_offset : (cluster parts group count : ℕ) → cluster * (parts * (8 * count)) + 8 * (group * count) ≡ (cluster * parts + group) * (8 * count)
-group_offset cluster parts group count = omega arith
+-- where a group begins
+group_start : (cb count cluster index : ℕ) → IsPartOfCluster cb count → 0 < count → cluster * 2 ^ cb + 8 * (index / count * count) ≡ (cluster * 2 ^ cb + 8 * index) / (8 * count) * (8 * count)
+group_start cb count cluster index part some =
+    let whole = cluster_is_parts cb count part in
+    let group = cluster * whole.0 + index / count in
+    let rest : cluster * (whole.0 * (8 * count)) + 8 * index ≡ group * (8 * count) + 8 * (index % count) = omega (arith, div-add-mod index count) in
+    let inside : 8 * (index % count) < 8 * count = omega (arith, mod_below index count some) in
+    rw (whole.1, rest, div-mul-add group (8 * count) (8 * (index % count)) inside) (omega arith)
 
 -- a group that begins in a file of at most 2 ^ 56 bytes ends there
 pub group-fits : (cb count cluster index : ℕ) → cb ≤ 56 → IsPartOfCluster cb count → 0 < count → cluster * 2 ^ cb + 8 * index < 2 ^ 56 → cluster * 2 ^ cb + 8 * (index / count * count) + 8 * count ≤ 2 ^ 56
 group-fits cb count cluster index low part some below =
-    let in_cluster = cluster_is_parts cb count part in
-    let in_file = file_is_parts cb count low part in
-    let group = index / count in
-    let at : cluster * 2 ^ cb + 8 * (group * count) ≡ (cluster * in_cluster.0 + group) * (8 * count) = rw in_cluster.1 (group_offset cluster in_cluster.0 group count) in
-    let less : (cluster * in_cluster.0 + group) * (8 * count) < in_file.0 * (8 * count) = omega (arith, at, in_file.1, (among index count some).0, below) in
-    let fewer : cluster * in_cluster.0 + group + 1 ≤ in_file.0 = omega (arith, lt_of_mul-lt-mul_right (8 * count) less) in
-    let next : (cluster * in_cluster.0 + group + 1) * (8 * count) ≡ (cluster * in_cluster.0 + group) * (8 * count) + 8 * count = omega arith in
-    omega (arith, at, in_file.1, next, mul-le-mul_right (8 * count) fewer)
-
--- the cluster of the bytes from a multiple of the group's length on
-cluster_of_group : (parts group size rest : ℕ) → rest < size → (group * size + rest) / (parts * size) ≡ group / parts
-cluster_of_group parts group size rest within =
-    let turned : parts * size ≡ size * parts = omega arith in
-    rw turned (sym (div-div-eq-div-mul (group * size + rest) size parts) ∙ ap (λ n. n / parts) (div-mul-add group size rest within))
-
--- a group of bytes lies in one cluster
-group_in_cluster : (parts group size : ℕ) → 0 < parts → (group / parts * (parts * size) ≤ group * size) × (group * size + size ≤ group / parts * (parts * size) + parts * size)
-group_in_cluster parts group size some =
-    let cluster = group / parts in
-    let whole = div-add-mod group parts in
-    let small = mod_below group parts some in
-    let turned : cluster * (parts * size) ≡ parts * cluster * size = omega arith in
-    let below : parts * cluster ≤ group = omega (arith, whole) in
-    let above : group + 1 ≤ parts * cluster + parts = omega (arith, whole, small) in
-    let next : (group + 1) * size ≡ group * size + size = omega arith in
-    let all : (parts * cluster + parts) * size ≡ parts * cluster * size + parts * size = omega arith in
-    (omega (arith, turned, mul-le-mul_right size below), omega (arith, turned, next, all, mul-le-mul_right size above))
+    let file = cluster_is_parts 56 count (part.0, part.1, omega (arith, part.2, low)) in
+    rw (group_start cb count cluster index part some, file.1) (next_within (cluster * 2 ^ cb + 8 * index) (8 * count) file.0 (omega arith) (rw file.1 at below))
 
 -- entries that are written together lie in the cluster of each of them
 pub group-within : (cb count cluster index : ℕ) → IsPartOfCluster cb count → 0 < count → ((cluster * 2 ^ cb + 8 * index) / 2 ^ cb * 2 ^ cb ≤ cluster * 2 ^ cb + 8 * (index / count * count))
     × (cluster * 2 ^ cb + 8 * (index / count * count) + 8 * count ≤ (cluster * 2 ^ cb + 8 * index) / 2 ^ cb * 2 ^ cb + 2 ^ cb)
 group-within cb count cluster index part some =
-    let in_cluster = cluster_is_parts cb count part in
-    let parts = in_cluster.0 in
+    let x = cluster * 2 ^ cb + 8 * index in
     let size = 8 * count in
-    let group = cluster * parts + index / count in
-    let at = group_offset cluster parts (index / count) count in
-    let whole = div-add-mod index count in
-    let rest : cluster * (parts * size) + 8 * index ≡ group * size + 8 * (index % count) = omega (arith, at, whole) in
-    let one = cluster_of_group parts group size (8 * (index % count)) (omega (arith, mod_below index count some)) in
-    let within = group_in_cluster parts group size in_cluster.2 in
-    rw (in_cluster.1, rest, one, at) within
+    let whole = cluster_is_parts cb count part in
+    let parts = x / 2 ^ cb * whole.0 in
+    let own : x / 2 ^ cb * 2 ^ cb ≡ parts * size = ap (λ n. x / 2 ^ cb * n) whole.1 ∙ omega arith in
+    let next : (parts + whole.0) * size ≡ parts * size + whole.0 * size = omega arith in
+    let inside = multiple_before x (2 ^ cb) (pow_pos cb) in
+    let low = le-div parts x size (omega arith) (omega (arith, own, inside.0)) in
+    let high = next_within x size (parts + whole.0) (omega arith) (omega (arith, own, next, whole.1, inside.1)) in
+    rw (group_start cb count cluster index part some) (omega (arith, own, mul-le-mul_right size low), omega (arith, own, next, whole.1, high))
 
 -- a number among those that were written together is the table's
 number_written : (image : Image) (offset : ℕ) (range : EntryRange) (numbers : List ℕ) (i : ℕ) → table_numbers image (offset + 8 * range.first) range.count ≡ numbers_in range numbers
@@ -165,9 +126,7 @@ part-few cb count low (k, is, few) =
 
 -- the refusals of a write whose place is lawful
 faults_of : {T : Type 0} (range : EntryRange) (of_place : Option Fault) (answer : Result T Fault) → IfErr answer (λ fault. (fault ≡ Storage) ⊎ ((fault ≡ NoMemory) × (piece_size < 8 * range.count))) → IfErr answer (IsEntryWriteFault range of_place)
-faults_of range of_place (Ok value) faults = tt
-faults_of range of_place (Err fault) (inl failed) = inl (inr failed)
-faults_of range of_place (Err fault) (inr memory) = inr memory
+faults_of range of_place answer faults = grind arith
 
 -- the entries that were written are those that were to be, and then so is the table
 written_of : {T : Type 0} (index : ℕ) (range : EntryRange) (place : TablePlace) (numbers : List ℕ) (answer : Result T Fault) (old new : Image) → place.entries ≡ length numbers → range.first ≤ index → index < range.first + range.count
@@ -180,10 +139,7 @@ written_of index range place numbers (Ok value) old new count from below outside
 
 -- nothing else in the cluster's neighbours changed
 wider : (offset len cluster size : ℕ) (old new : Image) → cluster ≤ offset → offset + len ≤ cluster + size → SameOutside offset len old new → SameOutside cluster size old new
-wider offset len cluster size old new from within outside = record {
-  before = λ o h. outside.before o (omega (arith, h, from));
-  after = λ o h. outside.after o (omega (arith, h, within));
-}
+wider offset len cluster size old new from within outside = grind (arith)
 
 -- a write of a table's entries at a lawful place is one of the entry
 pub WritesEntry-of : {T : Type 0} (kind : Kind) (index : ℕ) (table : TableState) (cluster : HostCluster) (answer : Result T Fault) (old new : StorageState) → table.cluster ≡ Some cluster → write_fault kind table ≡ None
@@ -196,7 +152,7 @@ WritesEntry-of kind index table cluster answer old new has none low part wrote =
     let place : TablePlace = record { geometry = table.geometry; cluster = cluster; entries = length table.numbers } in
     let here : place_of table ≡ Some place = rw has refl in
     let few = part-few cb range.count low part in
-    let with_it = among index range.count few.0 in
+    let with_it = multiple_before index range.count few.0 in
     let within = group-within cb range.count cluster.0 index part few.0 in
     record {
       refused = rw none tt;

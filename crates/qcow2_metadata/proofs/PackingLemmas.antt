@@ -1,18 +1,38 @@
-use Rattle.std.proofs.Common.{◌≡◌, ℕ, zero, suc, ◌+◌, ◌-◌, ◌*◌, ◌/◌, ◌%◌, ◌^◌, ◌<◌, ◌≤◌, ◌⊎◌, false, nat_le, List, [], ◌∷◌, ◌++◌, map, length, slice_index, take, drop, refl, sym, ◌∙◌, ap, inl, inr, add-zero, zero-add, add_assoc, append_assoc, mul-zero, mod-eq_of_lt, pow-suc, pow_pos, mul-le-mul_left, le-leb, get_or-drop, get_or-take, arith}
+use Rattle.std.proofs.Common.{◌≡◌, ℕ, zero, suc, ◌+◌, ◌-◌, ◌*◌, ◌/◌, ◌%◌, ◌^◌, ◌<◌, ◌≤◌, ◌⊎◌, false, nat_le, List, [], ◌∷◌, ◌++◌, map, length, slice_index, take, drop, refl, sym, ◌∙◌, ap, inl, inr, add-zero, zero-add, add_assoc, append_assoc, mul-zero, mod-eq_of_lt, pow-suc, pow_pos, mul-le-mul_left, le-leb, get_or-drop, get_or-take, length-append, length-drop, length-take, arith}
 use Rattle.std.specs.List.{All, range_with_len}
 use Rattle.std.proofs.lemmas.Bool.{cases_lt, lt-leb}
-use Rattle.std.proofs.lemmas.List.{drop_at, get_or_past, map-append, map_push}
+use Rattle.std.proofs.lemmas.List.{get_or-append_right, get_or_append_left, get_or_past, map_push}
 use Rattle.std.proofs.lemmas.List.Elements.{All-drop, All-from_get_or, All-get_or, All-head, All-tail, All-take}
-use Rattle.std.proofs.lemmas.List.FromFn.{get_or-map-range_with_len, length-map-range_with_len, map-range_with_len_more, take-map-range_with_len}
+use Rattle.std.proofs.lemmas.List.FromFn.{fill_by_all, get_or-map-range_with_len, length-map-range_with_len, map-range_with_len_more}
 use Rattle.std.proofs.lemmas.Nat.{div-mul-add, div_below, mul-add-lt, mod-mul-add, mod-pow-add, mod_below, shr-shr}
-use Rattle.std.proofs.Math.Nat.{mul-add-div, mul-add-mod_self_left, add-mul-div_left, add-mul-mod_self_left, div-eq_of_lt, le-div_iff_mul-le, mod-one, zero-div, zero-mod, one-le-pow}
+use Rattle.std.proofs.Math.Nat.{lt_of_mul-lt-mul_right, mul-add-div, mul-add-mod_self_left, add-mul-div_left, add-mul-mod_self_left, div-eq_of_lt, le-div_iff_mul-le, mod-one, zero-div, zero-mod, one-le-pow}
 use Rattle.std.proofs.Math.Arith.{mod-mul}
 use Rattle.qcow2_base.specs.Bits.{field}
-use Rattle.qcow2_base.specs.Storage.{Image, IsBytes, be, be_fits, be_of_same, be_tells, image_of}
+use Rattle.qcow2_base.specs.Storage.{Holds, Image, IsBytes, be, be_fits, be_of_same, be_tells, image_of}
 use Rattle.qcow2_metadata.specs.Refblock.Counters.{AreCounters}
 use Rattle.qcow2_metadata.specs.Refblock.Packing.{bytes_each, counter_at, counters_at, from_digits, packed, per_byte, width}
-use Rattle.qcow2_metadata.proofs.ChunkLemmas.{map_range_at}
-use Rattle.qcow2_metadata.proofs.TableLemmas.{range-append}
+
+-- lists made from functions that agree at their places
+pub map_range_at : (f g : ℕ → ℕ) (a b n : ℕ) → ((i : ℕ) → i < n → f (a + i) ≡ g (b + i)) → map f (range_with_len a n) ≡ map g (range_with_len b n)
+map_range_at f g a b zero same = refl
+map_range_at f g a b (suc n) same =
+    let first : f a ≡ g b = simp add-zero at (same 0 (omega arith)) in
+    let rest = map_range_at f g (a + 1) (b + 1) n (λ i h. rw (add_assoc a 1 i, add_assoc b 1 i) (same (1 + i) (omega arith))) in
+    rw (first, rest) refl
+
+-- a list made from a function of the index, cut in two
+map_range-append : (f g : ℕ → ℕ) (n m : ℕ) → ((i : ℕ) → i < m → f (n + i) ≡ g i) → map f (range_with_len 0 (n + m)) ≡ map f (range_with_len 0 n) ++ map g (range_with_len 0 m)
+map_range-append f g n m same =
+    let xs = map f (range_with_len 0 n) in
+    let ys = map g (range_with_len 0 m) in
+    let len = length-map-range_with_len f 0 n in
+    sym (fill_by_all f (xs ++ ys) (n + m) 0 (omega (arith, length-append xs ys, len, length-map-range_with_len g 0 m)) (λ k below. elim (cases_lt k n) [
+      | inl before ↦ get_or_append_left xs ys 0 k (omega (arith, len)) ∙ get_or-map-range_with_len f 0 n k k 0 before (omega arith)
+      | inr after ↦
+          let at : n + (k - n) ≡ k = omega arith in
+          get_or-append_right xs ys n k 0 len after
+          ∙ get_or-map-range_with_len g 0 m (k - n) (k - n) 0 (omega arith) (omega arith) ∙ rw at at (sym (same (k - n) (omega arith)))
+    ]))
 
 -- a fact of each order of counters that are no wider than a byte
 pub narrow_cases : (P : ℕ → Type 0) → P 0 → P 1 → P 2 → P 3 → (order : ℕ) → order ≤ 3 → P order
@@ -24,13 +44,7 @@ narrow_cases P a b c d (suc (suc (suc (suc order)))) narrow = absurd (omega arit
 
 -- a fact of each order of wider counters
 wide_cases : (P : ℕ → Type 0) → P 4 → P 5 → P 6 → (order : ℕ) → 4 ≤ order → order ≤ 6 → P order
-wide_cases P a b c order low high = elim (cases_lt order 5) [
-  | inl four ↦ let is : order ≡ 4 = omega arith in rw is a
-  | inr more ↦ elim (cases_lt order 6) [
-    | inl five ↦ let is : order ≡ 5 = omega arith in rw is b
-    | inr six ↦ let is : order ≡ 6 = omega arith in rw is c
-  ]
-]
+wide_cases P a b c order low high = grind (arith)
 
 pub width-per_byte : (order : ℕ) → order ≤ 3 → width order * per_byte order ≡ 8
 width-per_byte = narrow_cases (λ order. width order * per_byte order ≡ 8) refl refl refl refl
@@ -102,42 +116,22 @@ byte_of_be image o s k small below =
     let bytes : IsBytes parts = λ j. mod_below (v / 256 ^ (s - 1 - j)) 256 (omega arith) in
     rw (zero-add k) at (be_tells parts image s 0 o bytes small number k below)
 
-is_wide : (order : ℕ) → 4 ≤ order → nat_le order 3 ≡ false
-is_wide order wide = lt-leb order 3 (omega arith)
-
--- a counter that is no wider than a byte is a digit of one
-pub counter_at-narrow : (order : ℕ) (image : Image) (offset i : ℕ) → order ≤ 3 → counter_at order image offset i ≡ field (image (offset + i / per_byte order)) (width order * (i % per_byte order)) (width order)
-counter_at-narrow order image offset i narrow = rw (le-leb order 3 narrow) refl
-
--- a wider counter is a number of whole bytes
-pub counter_at-wide : (order : ℕ) (image : Image) (offset i : ℕ) → 4 ≤ order → counter_at order image offset i ≡ be image (offset + bytes_each order * i) (bytes_each order)
-counter_at-wide order image offset i wide = rw (is_wide order wide) refl
-
-pub packed-narrow : (order : ℕ) (counters : List ℕ) (j : ℕ) → order ≤ 3 → packed order counters j ≡ from_digits (2 ^ width order) (take (per_byte order) (drop (per_byte order * j) counters))
-packed-narrow order counters j narrow = rw (le-leb order 3 narrow) refl
-
-pub packed-wide : (order : ℕ) (counters : List ℕ) (j : ℕ) → 4 ≤ order → packed order counters j ≡ slice_index counters (j / bytes_each order) / 256 ^ (bytes_each order - 1 - j % bytes_each order) % 256
-packed-wide order counters j wide = rw (is_wide order wide) refl
-
 pub counters_at-length : (order : ℕ) (image : Image) (offset n : ℕ) → length (counters_at order image offset n) ≡ n
 counters_at-length order image offset n = length-map-range_with_len (counter_at order image offset) 0 n
 
 pub counter_at-small : (order : ℕ) (image : Image) (offset i : ℕ) → order ≤ 6 → IsBytes image → counter_at order image offset i < 2 ^ width order
 counter_at-small order image offset i low bytes = elim (cases_lt order 4) [
   | inl narrow ↦
-      rw (counter_at-narrow order image offset i (omega arith))
+      rw (le-leb order 3 (omega arith))
       (mod_below (image (offset + i / per_byte order) / 2 ^ (width order * (i % per_byte order))) (2 ^ width order) (pow_pos (width order)))
   | inr wide ↦
-      rw (counter_at-wide order image offset i wide, width-bytes_each order wide low)
+      rw (lt-leb order 3 wide, width-bytes_each order wide low)
       (be_fits image (offset + bytes_each order * i) (bytes_each order) bytes)
 ]
 
 -- what is read fits its width
 pub counters_at-small : (order : ℕ) (image : Image) (offset n : ℕ) → order ≤ 6 → IsBytes image → AreCounters order (counters_at order image offset n)
-counters_at-small order image offset n low bytes =
-    All-from_get_or (λ counter. counter < 2 ^ width order) (counters_at order image offset n) 0
-    (λ i below. let within : i < n = omega (arith, counters_at-length order image offset n) in
-    rw (get_or-map-range_with_len (counter_at order image offset) 0 n i i 0 within (omega arith)) (counter_at-small order image offset i low bytes))
+counters_at-small order image offset n low bytes = grind (arith, counters_at-length, get_or-map-range_with_len, counter_at-small)
 
 counter_at-same : (order n len : ℕ) (f g : Image) (o p i : ℕ) → order ≤ 6 → width order * n ≡ 8 * len → ((k : ℕ) → k < len → f (o + k) ≡ g (p + k)) → i < n → counter_at order f o i ≡ counter_at order g p i
 counter_at-same order n len f g o p i low whole same below = elim (cases_lt order 4) [
@@ -146,11 +140,11 @@ counter_at-same order n len f g o p i low whole same below = elim (cases_lt orde
       let per = per_byte order in
       let count = narrow_count order narrow n len whole in
       let within : i / per < len = div_below i per len (pow_pos (3 - order)) (omega arith) in
-      rw (counter_at-narrow order f o i narrow, counter_at-narrow order g p i narrow, same (i / per) within) refl
+      rw (le-leb order 3 narrow, same (i / per) within) refl
   | inr wide ↦
       let s = bytes_each order in
       let count = wide_count order wide low n len whole in
-      rw (counter_at-wide order f o i wide, counter_at-wide order g p i wide)
+      rw (lt-leb order 3 wide)
       (be_of_same f g s (o + s * i) (p + s * i)
       (λ k small. rw (add_assoc o (s * i) k, add_assoc p (s * i) k) (same (s * i + k) (omega (arith, mul-add-lt i s k n below small)))))
 ]
@@ -169,33 +163,30 @@ counter_at-later order n len image offset i low whole = elim (cases_lt order 4) 
       let count = narrow_count order narrow n len whole in
       let byte = mul-add-div (pow_pos (3 - order)) len i in
       let place = mul-add-mod_self_left per len i in
-      rw (counter_at-narrow order image offset (n + i) narrow, counter_at-narrow order image (offset + len) i narrow, count, byte, place, add_assoc offset len (i / per)) refl
+      rw (le-leb order 3 narrow, count, byte, place, add_assoc offset len (i / per)) refl
   | inr wide ↦
       let s = bytes_each order in
       let count = wide_count order wide low n len whole in
       let place : offset + s * (n + i) ≡ offset + len + s * i = omega arith in
-      rw (counter_at-wide order image offset (n + i) wide, counter_at-wide order image (offset + len) i wide, place) refl
+      rw (lt-leb order 3 wide, place) refl
 ]
+
+-- the counters of bytes that an image holds are the image's
+pub counters_at-held : (order n len : ℕ) (image : Image) (offset : ℕ) (bytes : List ℕ) → order ≤ 6 → width order * n ≡ 8 * len → len ≤ length bytes → Holds image offset bytes → counters_at order image offset n ≡ counters_at order (image_of bytes) 0 n
+counters_at-held order n len image offset bytes low whole within held =
+    counters_at-same order n len image (image_of bytes) offset 0 low whole (λ k below. rw (zero-add k) (sym (held.each k (omega arith))))
 
 -- the counters of len bytes, and those that stand behind them
 pub counters_at-append : (order n m len : ℕ) (image : Image) (offset : ℕ) → order ≤ 6 → width order * n ≡ 8 * len → counters_at order image offset (n + m) ≡ counters_at order image offset n ++ counters_at order image (offset + len) m
 counters_at-append order n m len image offset low whole =
-    let counter = counter_at order image offset in
-    let later : map counter (range_with_len (0 + n) m) ≡ counters_at order image (offset + len) m =
-    map_range_at counter (counter_at order image (offset + len)) (0 + n) 0 m
-    (λ i below. rw (zero-add n, zero-add i) (counter_at-later order n len image offset i low whole)) in
-    ap (map counter) (range-append 0 n m) ∙ map-append counter (range_with_len 0 n) (range_with_len (0 + n) m)
-    ∙ ap (λ (xs : List ℕ). counters_at order image offset n ++ xs) later
+    map_range-append (counter_at order image offset) (counter_at order image (offset + len)) n m (λ i below. counter_at-later order n len image offset i low whole)
 
 -- one counter more
 pub counters_at-more : (order : ℕ) (image : Image) (offset n : ℕ) → counters_at order image offset (n + 1) ≡ counters_at order image offset n ++ counter_at order image offset n ∷ []
 counters_at-more order image offset n = map-range_with_len_more (counter_at order image offset) 0 n n (omega arith)
 
 counter_is_small : (order : ℕ) (counters : List ℕ) (i : ℕ) → AreCounters order counters → slice_index counters i < 2 ^ width order
-counter_is_small order counters i small = elim (cases_lt i (length counters)) [
-  | inl within ↦ All-get_or (λ counter. counter < 2 ^ width order) counters i 0 within small
-  | inr past ↦ rw (get_or_past counters i 0 past) (pow_pos (width order))
-]
+counter_is_small order counters i small = grind (arith, get_or_past, pow_pos)
 
 -- counters that are packed stand in their bytes
 pub counter_at-packed : (order : ℕ) (counters : List ℕ) (i : ℕ) → order ≤ 6 → AreCounters order counters → counter_at order (packed order counters) 0 i ≡ slice_index counters i
@@ -211,28 +202,16 @@ counter_at-packed order counters i low small = elim (cases_lt order 4) [
       let there : slice_index byte (i % per) ≡ slice_index counters i =
       get_or-take per (drop (per * (i / per)) counters) (i % per) 0 (mod_below i per (pow_pos (3 - order)))
       ∙ get_or-drop (per * (i / per)) counters (i % per) 0 ∙ ap (λ (n : ℕ). slice_index counters n) place in
-      rw (counter_at-narrow order (packed order counters) 0 i narrow, zero-add (i / per), packed-narrow order counters (i / per) narrow) (digit ∙ there)
+      rw (le-leb order 3 narrow, zero-add (i / per)) (digit ∙ there)
   | inr wide ↦
       let s = bytes_each order in
       let v = slice_index counters i in
       let number = be_of_parts (packed order counters) (0 + s * i) s v
       (λ k below. let at : 0 + s * i + k ≡ i * s + k = omega arith in
-      rw (at, packed-wide order counters (i * s + k) wide, div-mul-add i s k below, mod-mul-add i s k below) refl) in
+      rw (at, lt-leb order 3 wide, div-mul-add i s k below, mod-mul-add i s k below) refl) in
       let fits : v < 256 ^ s = rw (width-bytes_each order wide low) at (counter_is_small order counters i small) in
-      counter_at-wide order (packed order counters) 0 i wide ∙ number ∙ mod-eq_of_lt fits
+      rw (lt-leb order 3 wide) (number ∙ mod-eq_of_lt fits)
 ]
-
-drop-map-range : (f : ℕ → ℕ) (k m : ℕ) → drop k (map f (range_with_len 0 (k + m))) ≡ map f (range_with_len k m)
-drop-map-range f k m =
-    let split = ap (map f) (range-append 0 k m) ∙ map-append f (range_with_len 0 k) (range_with_len (0 + k) m) in
-    rw (split, drop_at (map f (range_with_len 0 k)) (map f (range_with_len (0 + k) m)) k (length-map-range_with_len f 0 k), zero-add k) refl
-
--- so many elements of a list that is made from a function of the index
-part_of_map : (f : ℕ → ℕ) (n k m : ℕ) → k + m ≤ n → take m (drop k (map f (range_with_len 0 n))) ≡ map f (range_with_len k m)
-part_of_map f n k m within =
-    let whole : n ≡ k + (n - k) = omega arith in
-    let rest = ap (λ (count : ℕ). drop k (map f (range_with_len 0 count))) whole ∙ drop-map-range f k (n - k) in
-    ap (take m) rest ∙ take-map-range_with_len f k (n - k) m (omega arith)
 
 -- a byte whose digits are read and packed again
 narrow_byte_again : (order n len : ℕ) (image : Image) (offset j : ℕ) → order ≤ 3 → IsBytes image → width order * n ≡ 8 * len → j < len → packed order (counters_at order image offset n) j ≡ image (offset + j)
@@ -243,15 +222,16 @@ narrow_byte_again order n len image offset j narrow bytes whole below =
     let counter = counter_at order image offset in
     let count = narrow_count order narrow n len whole in
     let within : per * j + per ≤ n = omega (arith, mul-le-mul_left per below) in
-    let digits : map counter (range_with_len (per * j) per) ≡ map (λ k. field v (w * k) w) (range_with_len 0 per) =
-    map_range_at counter (λ k. field v (w * k) w) (per * j) 0 per
+    let numbers = counters_at order image offset n in
+    let digits : take per (drop (per * j) numbers) ≡ map (λ k. field v (w * k) w) (range_with_len 0 per) =
+    fill_by_all (λ k. field v (w * k) w) _ per 0 (omega (arith, length-take per (drop (per * j) numbers), length-drop (per * j) numbers, counters_at-length order image offset n))
     (λ i small. let at : per * j + i ≡ j * per + i = omega arith in
-    rw (at, counter_at-narrow order image offset (j * per + i) narrow, div-mul-add j per i small, mod-mul-add j per i small, zero-add i) refl) in
+    get_or-take per (drop (per * j) numbers) i 0 small ∙ get_or-drop (per * j) numbers i 0
+    ∙ get_or-map-range_with_len counter 0 n (per * j + i) (j * per + i) 0 (omega arith) (omega arith)
+    ∙ rw (le-leb order 3 narrow, div-mul-add j per i small, mod-mul-add j per i small) refl) in
     let number = digits_of_number w v 0 per in
     let all : v / 2 ^ (w * 0) % 2 ^ (w * per) ≡ v = rw (mul-zero w, width-per_byte order narrow) (omega (arith, bytes (offset + j))) in
-    packed-narrow order (counters_at order image offset n) j narrow
-    ∙ ap (from_digits (2 ^ w)) (part_of_map counter n (per * j) per within ∙ digits)
-    ∙ number ∙ all
+    rw (le-leb order 3 narrow) (ap (from_digits (2 ^ w)) digits ∙ number ∙ all)
 
 wide_byte_again : (order n len : ℕ) (image : Image) (offset j : ℕ) → 4 ≤ order → order ≤ 6 → IsBytes image → width order * n ≡ 8 * len → j < len → packed order (counters_at order image offset n) j ≡ image (offset + j)
 wide_byte_again order n len image offset j wide low bytes whole below =
@@ -261,7 +241,7 @@ wide_byte_again order n len image offset j wide low bytes whole below =
     let within : i < n = div_below j s n (pow_pos (order - 3)) (omega arith) in
     let counter = get_or-map-range_with_len (counter_at order image offset) 0 n i i 0 within (omega arith) in
     let place : offset + s * i + j % s ≡ offset + j = omega (arith, pow_pos (order - 3)) in
-    rw (packed-wide order (counters_at order image offset n) j wide, counter, counter_at-wide order image offset i wide)
+    rw (lt-leb order 3 wide, rw (lt-leb order 3 wide) at counter)
     (byte_of_be image (offset + s * i) s (j % s) bytes (mod_below j s (pow_pos (order - 3))) ∙ ap image place)
 
 -- counters that are read from whole bytes have these bytes when they are packed
@@ -273,9 +253,7 @@ packed-counters_at order n len image offset j low bytes whole below = elim (case
 
 -- one wide counter more is read
 pub wide_counters-more : {X : Type 0} (number : X → ℕ) (order : ℕ) (image : Image) (items before : List X) (x : X) (size i : ℕ) → 4 ≤ order → size ≡ bytes_each order → be image (size * i) size ≡ number x → map number items ≡ map number before ++ counters_at order image 0 i → map number (items ++ x ∷ []) ≡ map number before ++ counters_at order image 0 (i + 1)
-wide_counters-more number order image items before x size i wide each read so_far =
-    let last : counter_at order image 0 i ≡ number x = counter_at-wide order image 0 i wide ∙ rw (← each, zero-add (size * i)) read in
-    rw (map_push number items x, so_far, counters_at-more order image 0 i, last) (append_assoc (map number before) (counters_at order image 0 i) (number x ∷ []))
+wide_counters-more number order image items before x size i wide each read so_far = grind (arith, lt-leb, zero-add, map_push, counters_at-more, append_assoc)
 
 -- one wide counter more is written
 pub wide_bytes-more : (order size first index : ℕ) (counters old new : List ℕ) → 4 ≤ order → size ≡ bytes_each order → IsBytes (image_of new)
@@ -293,7 +271,7 @@ wide_bytes-more order size first index counters old new wide each bytes so_far n
       let byte = byte_of_be (image_of new) (size * index) size k bytes within in
       let divided = div-mul-add (first + index) size k within in
       let rest = mod-mul-add (first + index) size k within in
-      rw (at, packed-wide order counters ((first + index) * size + k) wide, ← each, divided, rest, ← number, byte, place) refl
+      rw (at, lt-leb order 3 wide, ← each, divided, rest, ← number, byte, place) refl
 ]
 
 -- a counter that the bytes have room for is one of the list's
@@ -302,7 +280,4 @@ counter_within order size first index len count each below within =
     let some : 0 < size = rw each (pow_pos (order - 3)) in
     let next : index + 1 ≤ len / size = omega arith in
     let fits = (le-div_iff_mul-le {k = size} {x = index + 1} {y = len} some).0 next in
-    elim (cases_lt (first + index) count) [
-      | inl inside ↦ inside
-      | inr past ↦ absurd (omega (arith, mul-le-mul_left size past))
-    ]
+    lt_of_mul-lt-mul_right size (omega (arith, fits, within))

@@ -1,25 +1,19 @@
-use Rattle.std.proofs.Common.{◌≡◌, ℕ, zero, suc, ◌+◌, ◌-◌, ◌*◌, ◌<◌, ◌≤◌, List, [], ◌++◌, length, get_or, replicate, slice_get, slice_index, Option, Some, None, IsSome, option_map, take, refl, sym, ◌∙◌, ap, inl, inr, arith, ◌/◌, ◌%◌, ◌^◌, lit≤}
-use Rattle.std.specs.List.{All}
-use Rattle.std.proofs.lemmas.List.{get_or-append_right, get_or-replicate, get_or_append_left, get_or_past, length-replicate, take_more}
+use Rattle.std.proofs.Common.{◌≡◌, ℕ, zero, suc, ◌+◌, ◌-◌, ◌*◌, ◌<◌, ◌≤◌, List, [], ◌++◌, length, get_or, replicate, slice_get, slice_index, Option, Some, None, IfSome, IsSome, option_map, take, refl, sym, ◌∙◌, ap, inl, inr, arith, ◌/◌, ◌%◌, ◌^◌, lit≤, All}
+use Rattle.std.proofs.lemmas.List.{get_or-take, length-take, get_or-append_right, get_or-replicate, get_or_append_left, get_or_past, length-replicate, take_more}
 use Rattle.std.proofs.lemmas.Bool.{cases_lt}
 use Rattle.std.proofs.lemmas.Option.{slice_get-get_or}
-use Rattle.qcow2_base.specs.Storage.{Image, IsBytes, be, be_of_same, image_of}
+use Rattle.qcow2_base.proofs.StorageLemmas.{image_of-padded}
+use Rattle.qcow2_base.specs.Storage.{Image, IsBytes, SameOutside, be, be_of_same, image_of}
 use Rattle.qcow2_metadata.specs.Pieces.{Stand, number_bytes}
-use Rattle.qcow2_metadata.specs.Table.{IsTorn, table_numbers}
+use Rattle.qcow2_metadata.specs.Table.{TablePlace, numbers_at, offset_of, table_numbers}
 use Rattle.qcow2_metadata.proofs.PackingLemmas.{byte_of_be, counter_at-packed}
-use Rattle.qcow2_metadata.proofs.RefblockLemmas.{stand-decoded}
-use Rattle.qcow2_metadata.proofs.TableLemmas.{table_numbers_more}
+use Rattle.qcow2_metadata.proofs.RefblockLemmas.{stand-decoded, stand-same}
+use Rattle.std.proofs.lemmas.List.FromFn.{fill_by_all}
 
 -- the first so many numbers stand in the image
 pub numbers_stand : (image : Image) (offset k : ℕ) (numbers : List ℕ) → k ≤ length numbers → ((i : ℕ) → i < k → be image (offset + 8 * i) 8 ≡ get_or numbers i 0) → table_numbers image offset k ≡ take k numbers
-numbers_stand image offset zero numbers within each = refl
-numbers_stand image offset (suc k) numbers within each =
-    let more : suc k ≡ k + 1 = omega arith in
-    let rest = numbers_stand image offset k numbers (omega arith) (λ i below. each i (omega arith)) in
-    let last = each k (omega arith) in
-    let lt : k < length numbers = omega arith in
-    ap (table_numbers image offset) more ∙ table_numbers_more image offset k
-    ∙ rw (rest, last) (sym (take_more numbers k 0 lt)) ∙ ap (λ (n : ℕ). take n numbers) (sym more)
+numbers_stand image offset k numbers within each =
+    sym (fill_by_all (λ i. be image (offset + 8 * i) 8) (take k numbers) k 0 (omega (arith, length-take k numbers)) (λ i below. get_or-take k numbers i 0 below ∙ sym (each i below)))
 
 -- where the bytes of numbers of 64 bits stand, these are the table's
 pub table-stands : (numbers : List ℕ) (image : Image) (offset : ℕ) → All (λ v. v < 2 ^ 64) numbers
@@ -27,23 +21,13 @@ pub table-stands : (numbers : List ℕ) (image : Image) (offset : ℕ) → All (
 table-stands numbers image offset fits stand =
     stand-decoded 6 (length numbers) (8 * length numbers) numbers image offset (lit≤ tt) fits refl (omega arith) stand
 
--- where a write of a table failed, the numbers of the pieces before the failed one are the table's
-pub torn_numbers : (numbers : List ℕ) (offset : ℕ) (old new : Image) → All (λ v. v < 2 ^ 64) numbers
-    → IsTorn numbers offset old new
-    → (piece : ℕ) × (512 * piece < length numbers) × (table_numbers new offset (512 * piece) ≡ take (512 * piece) numbers)
-torn_numbers numbers offset old new fits torn =
-    let piece = torn.0 in
-    let within = torn.1.within in
-    let before = torn.1.before in (
-      piece,
-      omega (arith, within),
-      numbers_stand new offset (512 * piece) numbers (omega (arith, within)) (λ i below.
-          let same = be_of_same new (number_bytes numbers) 8 (offset + 8 * i) (0 + 8 * i) (λ k small.
-          let at : offset + 8 * i + k ≡ offset + (8 * i + k) = omega arith in
-          let from : 0 + 8 * i + k ≡ 8 * i + k = omega arith in
-          rw (at, from) (before (8 * i + k) (omega (arith, below, small)))) in
-          same ∙ counter_at-packed 6 numbers i (lit≤ tt) fits),
-    )
+-- a table that is written where it stands already changes no byte
+pub table-same : (numbers : List ℕ) (place : Option TablePlace) (offset : ℕ) (old new : Image) → option_map offset_of place ≡ Some offset → IfSome place (λ p. p.entries ≡ length numbers) → IsBytes old
+    → Stand (number_bytes numbers) (8 * length numbers) new offset → SameOutside offset (8 * length numbers) old new → IfSome place (λ p. numbers_at p old ≡ numbers → new ≡ old)
+table-same numbers None offset old new at count small stand outside = tt
+table-same numbers (Some place) offset old new at count small stand outside =
+    let here : offset_of place ≡ offset = cc in
+    rw (here, count) (stand-same 6 (length numbers) (8 * length numbers) numbers old new offset (lit≤ tt) small (omega arith) stand outside)
 
 -- the bytes of numbers that stand in eights are theirs
 pub piece_bytes : (bytes numbers : List ℕ) (first : ℕ) → IsBytes (image_of bytes) → length bytes % 8 ≡ 0
@@ -57,35 +41,20 @@ piece_bytes bytes numbers first small eights each i below =
     let part = byte_of_be (image_of bytes) (8 * (i / 8)) 8 (i % 8) small (omega arith) in
     rw (number, byte, ← stands) (sym (rw own at part))
 
--- zeros are 0 wherever they are read, also past their end
-zeros_read : (n k : ℕ) → get_or {A = ℕ} (replicate n 0) k 0 ≡ 0
-zeros_read n k =
-    let nothing : ℕ = 0 in
-    elim (cases_lt k n) [
-      | inl below ↦ get_or-replicate n k nothing nothing below
-      | inr past ↦ get_or_past (replicate n nothing) k nothing (rw (length-replicate n nothing) past)
-    ]
-
 -- numbers in the bytes of those that a table has from an index on, and zeros after them
 pub held_then_zeros : (bytes numbers : List ℕ) (first held n i : ℕ) → length bytes ≡ 8 * held → (held ≤ i → length numbers ≤ first + i)
     → ((j : ℕ) → 8 * j + 8 ≤ length bytes → be (image_of bytes) (8 * j) 8 ≡ slice_index numbers (first + j))
     → be (image_of (bytes ++ replicate n 0)) (8 * i) 8 ≡ slice_index numbers (first + i)
 unfolding be
-held_then_zeros bytes numbers first held n i len past each = elim (cases_lt i held) [
-  | inl below ↦
-      be_of_same (image_of (bytes ++ replicate n 0)) (image_of bytes) 8 (8 * i) (8 * i) (λ k small. get_or_append_left bytes (replicate n 0) 0 (8 * i + k) (omega (arith, below, len, small)))
-      ∙ each i (omega (arith, below, len))
-  | inr after ↦
-      be_of_same (image_of (bytes ++ replicate n 0)) (image_of (replicate n 0)) 8 (8 * i) (8 * i - length bytes) (λ k small.
-      let place : 8 * i + k - length bytes ≡ 8 * i - length bytes + k = omega (arith, after, len) in
-      rw place at (get_or-append_right bytes (replicate n 0) (length bytes) (8 * i + k) 0 refl (omega (arith, after, len))))
-      ∙ be_of_same (image_of (replicate n 0)) (image_of []) 8 (8 * i - length bytes) 0 (λ k small. zeros_read n (8 * i - length bytes + k))
-      ∙ sym (get_or_past numbers (first + i) 0 (past after))
-]
+held_then_zeros bytes numbers first held n i len past each =
+    be_of_same (image_of (bytes ++ replicate n 0)) (image_of bytes) 8 (8 * i) (8 * i) (λ k small. ap (λ (image : Image). image (8 * i + k)) (image_of-padded bytes n))
+    ∙ elim (cases_lt i held) [
+      | inl below ↦ each i (omega (arith, below, len))
+      | inr after ↦
+          be_of_same (image_of bytes) (image_of []) 8 (8 * i) 0 (λ k small. get_or_past bytes (8 * i + k) 0 (omega (arith, after, len)))
+          ∙ sym (get_or_past numbers (first + i) 0 (past after))
+    ]
 
 -- there is an element where there is one of a list
 pub found_in_list : {A : Type 0} (number : A → ℕ) (found : Option A) (numbers : List ℕ) (i : ℕ) → option_map number found ≡ slice_get numbers i → i < length numbers → IsSome found
-found_in_list number (Some entry) numbers i same below = refl
-found_in_list number None numbers i same below =
-    let no : ◌≡◌ {A = Option ℕ} None (Some (get_or numbers i 0)) = same ∙ slice_get-get_or numbers i 0 below in
-    cc
+found_in_list number found numbers i same below = grind (arith, slice_get-get_or numbers i 0 below)

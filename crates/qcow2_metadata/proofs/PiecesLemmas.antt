@@ -19,10 +19,7 @@ after_piece piece bytes len offset n old mid new short so_far outside o h =
     outside.after o (omega arith) ∙ so_far.after o (omega arith)
 
 pub others_kept : (piece : ℕ) (bytes : Image) (len offset n : ℕ) (old mid new : Image) → 4096 * piece + n ≤ len → IsWrittenUpTo piece bytes len offset old mid → SameOutside (offset + 4096 * piece) n mid new → SameOutside offset len old new
-others_kept piece bytes len offset n old mid new fits so_far outside = record {
-  before = λ o h. outside.before o (omega arith) ∙ so_far.others.before o h;
-  after = λ o h. outside.after o (omega arith) ∙ so_far.others.after o h;
-}
+others_kept piece bytes len offset n old mid new fits so_far outside = grind (arith)
 
 -- one piece more
 pub IsWrittenUpTo-more : (piece : ℕ) (bytes : Image) (len offset : ℕ) (old mid new : Image) (buffer : List ℕ) → 4096 * piece < len → length buffer ≡ min (len - 4096 * piece) 4096 → ((i : ℕ) → i < length buffer → slice_index buffer i ≡ bytes (4096 * piece + i)) → IsWrittenUpTo piece bytes len offset old mid → Holds new (offset + 4096 * piece) buffer → SameOutside (offset + 4096 * piece) (length buffer) mid new → IsWrittenUpTo (piece + 1) bytes len offset old new

@@ -1,14 +1,12 @@
-use Rattle.std.proofs.Common.{◌≡◌, ℕ, zero, suc, ◌+◌, ◌-◌, ◌*◌, ◌/◌, ◌%◌, ◌^◌, ◌<◌, ◌≤◌, Bool, List, [], ◌∷◌, ◌++◌, length, replicate, slice_index, slice_set, Option, Some, None, min, inl, inr, lit≤, refl, ap, sym, ◌∙◌, arith}
+use Rattle.std.proofs.Common.{◌≡◌, ℕ, zero, suc, ◌+◌, ◌-◌, ◌*◌, ◌/◌, ◌%◌, ◌^◌, ◌<◌, ◌≤◌, Bool, List, [], ◌∷◌, ◌++◌, length, replicate, slice_index, slice_set, Option, Some, None, min, inl, inr, lit≤, refl, ap, sym, ◌∙◌, arith, pow-add, pow_pos}
 use Rattle.std.proofs.lemmas.List.{length-replicate, length-set}
 use Rattle.std.proofs.lemmas.List.Elements.{All-replicate, All-set}
 use mathlib.Core.Path.{fun_ext}
 use Rattle.std.proofs.Math.Nat.{le-div_iff_mul-le, mul-add, mul-div_cancel_left, mul_assoc, mul_comm, pow-le-pow_right}
 use Rattle.std.proofs.lemmas.Bool.{cases_lt}
-use Rattle.std.proofs.lemmas.Grind.{same_number_lists}
-use Rattle.std.proofs.lemmas.List.FromFn.{get_or-map-range_with_len}
-use Rattle.std.proofs.lemmas.Nat.{pow-add, pow_pos}
+use Rattle.std.proofs.lemmas.List.FromFn.{fill_by_all}
 use Rattle.qcow2_base.specs.Storage.{Holds, Image, IsBytes, SameOutside, image_of}
-use Rattle.qcow2_metadata.proofs.PackingLemmas.{counter_at-packed, counters_at-append, counters_at-length, counters_at-same, packed-counters_at, width-per_byte}
+use Rattle.qcow2_metadata.proofs.PackingLemmas.{counter_at-packed, counters_at-append, counters_at-held, counters_at-same, narrow_cases, packed-counters_at, width-per_byte}
 use Rattle.qcow2_metadata.specs.Pieces.{Stand}
 use Rattle.qcow2_base.specs.Types.{IsClusterBits}
 use Rattle.qcow2_base.specs.declared.types.HostCluster.{HostCluster}
@@ -18,34 +16,13 @@ use Rattle.qcow2_metadata.specs.Refblock.Packing.{counter_at, counters_at, packe
 use Rattle.qcow2_metadata.specs.declared.refblock.counters.Counters.{Counters}
 use Rattle.qcow2_metadata.specs.declared.refblock.counters.Counters.TheVariants.{U8, U16, U32, U64}
 
--- the greatest counters of each order
-pub greatest_is : (order : ℕ) → order ≤ 6 → slice_index (1 ∷ 3 ∷ 15 ∷ 255 ∷ 65535 ∷ 4294967295 ∷ 18446744073709551615 ∷ []) order ≡ greatest_counter order
-greatest_is zero low = refl
-greatest_is (suc zero) low = refl
-greatest_is (suc (suc zero)) low = refl
-greatest_is (suc (suc (suc zero))) low = refl
-greatest_is (suc (suc (suc (suc zero)))) low = refl
-greatest_is (suc (suc (suc (suc (suc zero))))) low = refl
-greatest_is (suc (suc (suc (suc (suc (suc zero)))))) low = refl
-greatest_is (suc (suc (suc (suc (suc (suc (suc order))))))) low = absurd (omega (arith, low))
-
-narrow_fits : (order number : ℕ) → order ≤ 3 → number ≤ greatest_counter order → number < 2 ^ 8
-narrow_fits zero number low fits = omega (arith, fits)
-narrow_fits (suc zero) number low fits = omega (arith, fits)
-narrow_fits (suc (suc zero)) number low fits = omega (arith, fits)
-narrow_fits (suc (suc (suc zero))) number low fits = omega (arith, fits)
-narrow_fits (suc (suc (suc (suc order)))) number low fits = absurd (omega (arith, low))
-
 -- the integers of a list hold each number that a counter holds
 pub counter_holds : (order : ℕ) (counters : Counters) (number : ℕ) → IsOfOrder order counters → number ≤ greatest_counter order → CanHold counters number
-counter_holds order (U8 list) number kind fits = narrow_fits order number kind fits
+counter_holds order (U8 list) number kind fits =
+    narrow_cases (λ n. number ≤ greatest_counter n → number < 2 ^ 8) (λ f. omega arith) (λ f. omega arith) (λ f. omega arith) (λ f. omega arith) order kind fits
 counter_holds order (U16 list) number kind fits = let same = rw kind at fits in omega (arith, same)
 counter_holds order (U32 list) number kind fits = let same = rw kind at fits in omega (arith, same)
 counter_holds order (U64 list) number kind fits = let same = rw kind at fits in omega (arith, same)
-
--- a number that a counter holds is below the power of two of its width
-below_width : (order number : ℕ) → number ≤ greatest_counter order → number < 2 ^ width order
-below_width order number fits = omega (arith, fits, pow_pos (width order))
 
 -- a block of zeros is lawful
 pub zeros-lawful : (cb order : ℕ) (counters : Counters) → IsClusterBits cb → order ≤ 6 → kept_counters counters ≡ replicate (block_entries cb order) 0 → IsLawfulBlock cb order None (kept_counters counters)
@@ -64,7 +41,7 @@ set-lawful cb order cluster old new index number lawful set fits = record {
   orders = lawful.orders;
   place = lawful.place;
   count = ap length set ∙ length-set (kept_counters old) index number ∙ lawful.count;
-  small = rw set (All-set (λ counter. counter < 2 ^ width order) (kept_counters old) index number (below_width order number fits) lawful.small);
+  small = rw set (All-set (λ counter. counter < 2 ^ width order) (kept_counters old) index number (omega (arith, fits, pow_pos (width order))) lawful.small);
 }
 
 -- the counters of a block fill its cluster
@@ -73,20 +50,12 @@ block_bytes cb order bits orders =
     let whole : order + (cb + 3 - order) ≡ 3 + cb = omega (arith, bits.0, orders) in
     sym (pow-add 2 order (cb + 3 - order)) ∙ ap (λ n. 2 ^ n) whole ∙ pow-add 2 3 cb
 
--- counters are what stands at their indices
-counters_by_index : (order : ℕ) (image : Image) (counters : List ℕ) → ((i : ℕ) → i < length counters → counter_at order image 0 i ≡ slice_index counters i) → counters_at order image 0 (length counters) ≡ counters
-counters_by_index order image counters each =
-    same_number_lists (counters_at order image 0 (length counters)) counters (counters_at-length order image 0 (length counters))
-    (λ k below.
-    let within : k < length counters = omega (arith, below, counters_at-length order image 0 (length counters)) in
-    get_or-map-range_with_len (counter_at order image 0) 0 (length counters) k k 0 within (omega arith) ∙ each k within)
-
 -- where the bytes of counters stand, these are the block's
 pub stand-decoded : (order n len : ℕ) (counters : List ℕ) (image : Image) (offset : ℕ) → order ≤ 6 → AreCounters order counters → length counters ≡ n → width order * n ≡ 8 * len → Stand (packed order counters) len image offset → counters_at order image offset n ≡ counters
 stand-decoded order n len counters image offset orders small count whole stand =
     counters_at-same order n len image (packed order counters) offset 0 orders whole (λ k below. let zero_k : 0 + k ≡ k = omega arith in rw zero_k (stand k below))
     ∙ ap (counters_at order (packed order counters) 0) (sym count)
-    ∙ counters_by_index order (packed order counters) counters (λ i below. counter_at-packed order counters i orders small)
+    ∙ sym (fill_by_all (counter_at order (packed order counters) 0) counters (length counters) 0 refl (λ i below. sym (counter_at-packed order counters i orders small)))
 
 -- a block that is written where it stands already changes no byte
 pub stand-same : (order n len : ℕ) (counters : List ℕ) (old new : Image) (offset : ℕ) → order ≤ 6 → IsBytes old → width order * n ≡ 8 * len → Stand (packed order counters) len new offset → SameOutside offset len old new → counters_at order old offset n ≡ counters → new ≡ old
@@ -127,8 +96,7 @@ whole_counters order len orders eights =
 pub counters-more : (order done : ℕ) (image : Image) (offset : ℕ) (list buffer : List ℕ) → order ≤ 6 → length buffer % 8 ≡ 0 → Holds image (offset + done) buffer → width order * length list ≡ 8 * done → list ≡ counters_at order image offset (length list) → list ++ counters_at order (image_of buffer) 0 (8 * length buffer / width order) ≡ counters_at order image offset (length list + 8 * length buffer / width order)
 counters-more order done image offset list buffer orders eights held whole counters =
     let m = 8 * length buffer / width order in
-    let same = counters_at-same order m (length buffer) image (image_of buffer) (offset + done) 0 orders (whole_counters order (length buffer) orders eights)
-    (λ k below. let zero_k : 0 + k ≡ k = omega arith in rw zero_k (sym (held.each k below))) in
+    let same = counters_at-held order m (length buffer) image (offset + done) buffer orders (whole_counters order (length buffer) orders eights) (omega arith) held in
     ap (λ (xs : List ℕ). xs ++ counters_at order (image_of buffer) 0 m) counters
     ∙ ap (λ (xs : List ℕ). counters_at order image offset (length list) ++ xs) (sym same)
     ∙ sym (counters_at-append order (length list) m done image offset orders whole)
@@ -153,27 +121,17 @@ piece_in_eights cb piece len bits is =
 -- the counters of so many bytes, by their width
 pub narrow_length : (order len : ℕ) → order ≤ 3 → per_byte order * len ≡ 8 * len / width order
 narrow_length order len low =
-    let eight = width-per_byte order low in
-    let split : 8 * len ≡ width order * (per_byte order * len) = ap (λ n. n * len) (sym eight) ∙ mul_assoc (width order) (per_byte order) len in
-    sym (ap (λ n. n / width order) split ∙ mul-div_cancel_left (per_byte order * len) (pow_pos order))
+    narrow_cases (λ order. per_byte order * len ≡ 8 * len / width order) (omega arith) (omega arith) (omega arith) (omega arith) order low
 
 -- bytes that lie within counters have so many of them
 pub narrow_within : (order bytes count : ℕ) → order ≤ 3 → 8 * bytes ≤ width order * count → per_byte order * bytes ≤ count
 narrow_within order bytes count low within =
-    let eight = width-per_byte order low in
-    let split : 8 * bytes ≡ per_byte order * bytes * width order = ap (λ n. n * bytes) (sym eight) ∙ mul_assoc (width order) (per_byte order) bytes ∙ mul_comm (width order) (per_byte order * bytes) in
-    let below : per_byte order * bytes * width order ≤ width order * count = omega (arith, split, within) in
-    let least = (le-div_iff_mul-le {k = width order} {x = per_byte order * bytes} {y = width order * count} (pow_pos order)).1 below in
-    rw (mul-div_cancel_left count (pow_pos order)) at least
+    narrow_cases (λ order. 8 * bytes ≤ width order * count → per_byte order * bytes ≤ count) (λ h. omega arith) (λ h. omega arith) (λ h. omega arith) (λ h. omega arith) order low within
 
 -- a piece of a block lies within it
 pub piece-within : (cb order count piece len : ℕ) → IsClusterBits cb → order ≤ 6 → count ≡ block_entries cb order → 4096 * piece < 2 ^ cb → len ≡ min (2 ^ cb - 4096 * piece) 4096 → 8 * (4096 * piece + len) ≤ width order * count
-piece-within cb order count piece len bits orders entries some is =
-    let whole : width order * count ≡ 8 * 2 ^ cb = rw entries (block_bytes cb order bits orders) in
-    omega (arith, whole, some, is)
+piece-within cb order count piece len bits orders entries some is = grind (arith, block_bytes)
 
 -- a piece of a block lies in the largest cluster
 pub piece-fits : (cb piece : ℕ) → IsClusterBits cb → 4096 * piece < 2 ^ cb → 4096 * piece < 2 ^ 21
-piece-fits cb piece bits some =
-    let grows : 2 ^ cb ≤ 2 ^ 21 = pow-le-pow_right {n = 2} (lit≤ tt) bits.1 in
-    omega (arith, some, grows)
+piece-fits cb piece bits some = grind (arith, pow-le-pow_right)

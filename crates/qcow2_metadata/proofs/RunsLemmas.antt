@@ -1,13 +1,8 @@
-use Rattle.std.proofs.Common.{◌≡◌, ℕ, Bool, true, false, not, ◌&&◌, ◌||◌, nat_eq, nat_lt, if◌then◌else◌, ◌≢◌, ◌⊎◌, ◌+◌, ◌-◌, ◌*◌, ◌/◌, ◌%◌, ◌^◌, ◌<◌, ◌≤◌, List, length, get_or, take, drop, IsTrue, Option, Some, None, refl, ap, sym, ◌∙◌, inl, inr, arith, eq-eqb, length-drop, zero, suc}
-use Rattle.std.specs.Prelude.{bit_and, is_some}
-use Rattle.std.proofs.lemmas.Bool.{cases_Bool, ne_eqb, eqb-false}
+use Rattle.std.proofs.Common.{add-zero, ◌≡◌, ℕ, Bool, true, false, not, ◌&&◌, ◌||◌, nat_eq, nat_lt, if◌then◌else◌, ◌≢◌, ◌⊎◌, ◌+◌, ◌-◌, ◌*◌, ◌/◌, ◌%◌, ◌^◌, ◌<◌, ◌≤◌, List, length, get_or, take, drop, IsTrue, Option, Some, None, refl, ap, sym, ◌∙◌, inl, inr, arith, eq-eqb, length-drop, zero, suc, bit_and, is_some, mod-eq_of_lt, mod-lt, pow_mono, All, get_or-drop, get_or-take, map-id, length-take}
+use Rattle.std.proofs.lemmas.Bool.{cases_Bool, cases_lt, ne_eqb, eqb-false}
 use Rattle.std.proofs.lemmas.Bool.Decides.{same_from_decides, Decides-eqb, nat_tests}
 use Rattle.std.proofs.lemmas.Nat.{and_mask, pow_pos, mul-le, mod-mul-add, same_from_place, div-add-mod'}
 use Rattle.std.proofs.lemmas.Nat.Bits.{and_pow}
-use Rattle.std.proofs.Math.Nat.{mod-eq_of_lt, mod-lt}
-use Rattle.std.proofs.Math.Pow.{pow_mono}
-use Rattle.std.specs.List.{All}
-use Rattle.std.proofs.lemmas.List.{get_or-drop, get_or-take, map-id, length-take}
 use Rattle.std.proofs.lemmas.List.Elements.{All-get_or}
 use Rattle.qcow2_base.specs.Bits.{field}
 use Rattle.qcow2_base.specs.Types.{IsClusterBits}
@@ -24,87 +19,26 @@ use Rattle.qcow2_metadata.proofs.EntriesLemmas.{lawful_by_kind}
 use Rattle.qcow2_metadata.proofs.MappingLemmas.{bit, bit_below}
 use Rattle.qcow2_metadata.proofs.TableLemmas.{no_fault_item}
 
--- a bit as the number of a flag
-flag_of : (n : ℕ) → n < 2 → n ≡ bit (nat_eq n 1)
-flag_of n below = elim (cases_Bool (nat_eq n 1)) [
-  | inl one ↦ rw one (grind (arith, nat_tests))
-  | inr other ↦ let not_one = eqb-false n 1 other in rw other (omega arith)
-]
-
--- a compressed entry goes on at each compressed one
-after_compressed : (b z cp : Bool) (h : Option ℕ) (k a l o m p : ℕ) → reads_on k (compressed a l) (if b then compressed o m else standard_mapping z h cp p) ≡ b
-after_compressed true z cp h k a l o m p = refl
-after_compressed false true cp (Some c) k a l o m p = refl
-after_compressed false true cp None k a l o m p = refl
-after_compressed false false cp (Some c) k a l o m p = refl
-after_compressed false false cp None k a l o m p = refl
-
 -- and no other at one
 before_compressed : (z cp : Bool) (h : Option ℕ) (k p o m : ℕ) → reads_on k (standard_mapping z h cp p) (compressed o m) ≡ false
-before_compressed true cp (Some c) k p o m = refl
-before_compressed true cp None k p o m = refl
-before_compressed false cp (Some c) k p o m = refl
-before_compressed false cp None k p o m = refl
+before_compressed z cp h k p o m = grind arith
 
--- an entry with a cluster, and one after it
-further : (n q q0 k z : ℕ) → 2 ≤ n → nat_eq (q * n + z) (q0 * n + z + k * n) ≡ nat_eq q (q0 + k)
-further n q q0 k z some =
-    same_from_decides _ _ (Decides-eqb (q * n + z) (q0 * n + z + k * n)) (
-      λ t. let same = (Decides-eqb q (q0 + k)).0 t in rw same (omega arith),
-      λ e. (Decides-eqb q (q0 + k)).1 (same_from_place q 0 (q0 + k) 0 n (omega arith) (omega arith) (omega (arith, e))).0,
-    )
-
--- with another zero flag it isn't one, and without a cluster neither
-flag_differs : (n q q0 k : ℕ) → 2 ≤ n → (nat_eq (q * n + 1) (q0 * n + 0 + k * n) ≡ false) × (nat_eq (q * n + 0) (q0 * n + 1 + k * n) ≡ false)
-flag_differs n q q0 k some = (
-  ne_eqb _ _ (λ e. let parts = same_from_place q 1 (q0 + k) 0 n (omega arith) (omega arith) (omega (arith, e)) in omega (arith, parts.1)),
-  ne_eqb _ _ (λ e. let parts = same_from_place q 0 (q0 + k) 1 n (omega arith) (omega arith) (omega (arith, e)) in omega (arith, parts.1)),
-)
-
-no_cluster_differs : (n q q0 k z : ℕ) → 2 ≤ n → 1 ≤ k → q ≡ 0 → nat_eq (q * n + z) (q0 * n + z + k * n) ≡ false
-no_cluster_differs n q q0 k z some far none =
-    ne_eqb _ _ (λ e. let parts = same_from_place q 0 (q0 + k) 0 n (omega arith) (omega arith) (omega (arith, e)) in omega (arith, parts.0))
-
-none_if : (q : ℕ) → (1 ≤ q → false ≡ true) → q ≡ 0
-none_if q told = elim (cases_Bool (nat_eq q 0)) [
-  | inl nothing ↦ (Decides-eqb q 0).0 nothing
-  | inr some ↦ let above = eqb-false q 0 some in let bad = told (omega arith) in cc
-]
+-- an entry with a cluster, and one after it, have the same flag and the cluster so many further on
+same_place : (n q q0 k z z0 : ℕ) → 2 ≤ n → z < 2 → z0 < 2 → nat_eq (q * n + z) (q0 * n + z0 + k * n) ≡ (nat_eq z z0 && nat_eq q (q0 + k))
+same_place n q q0 k z z0 some low low0 =
+    let moved : q0 * n + z0 + k * n ≡ (q0 + k) * n + z0 = omega arith in
+    let parts = same_from_place q z (q0 + k) z0 n (omega arith) (omega arith) in
+    rw moved (same_from_decides _ _ (Decides-eqb (q * n + z) ((q0 + k) * n + z0)) (λ t. let both : (q ≡ q0 + k) × (z ≡ z0) = grind (arith, nat_tests) in rw (both.0, both.1) refl, λ e. let both = parts e in grind (arith, nat_tests)))
 
 after_cluster : (zb zb0 alloc cp cp0 : Bool) (n q q0 k o p : ℕ) → 2 ≤ n → 1 ≤ k → (1 ≤ q → alloc ≡ true)
     → nat_eq (q * n + bit zb) (q0 * n + bit zb0 + k * n)
     ≡ reads_on k (standard_mapping zb0 (Some q0) cp0 o) (standard_mapping zb (if alloc then Some q else None) cp p)
-after_cluster true true true cp cp0 n q q0 k o p some far told = further n q q0 k 1 some
-after_cluster false false true cp cp0 n q q0 k o p some far told = further n q q0 k 0 some
-after_cluster true false true cp cp0 n q q0 k o p some far told = (flag_differs n q q0 k some).0
-after_cluster true false false cp cp0 n q q0 k o p some far told = (flag_differs n q q0 k some).0
-after_cluster false true true cp cp0 n q q0 k o p some far told = (flag_differs n q q0 k some).1
-after_cluster false true false cp cp0 n q q0 k o p some far told = (flag_differs n q q0 k some).1
-after_cluster true true false cp cp0 n q q0 k o p some far told = no_cluster_differs n q q0 k 1 some far (none_if q told)
-after_cluster false false false cp cp0 n q q0 k o p some far told = no_cluster_differs n q q0 k 0 some far (none_if q told)
-
--- an entry without one, and one after it
-large_differs : (x k : ℕ) (b : Bool) → 2 ≤ x → nat_eq x (bit b + k * 0) ≡ false
-large_differs x k true large = ne_eqb _ _ (λ e. omega (arith, e))
-large_differs x k false large = ne_eqb _ _ (λ e. omega (arith, e))
-
-same_flag : (x k z : ℕ) → x ≡ z → nat_eq x (z + k * 0) ≡ true
-same_flag x k z is = eq-eqb _ _ (omega arith)
-
-other_flag : (x k : ℕ) → (x ≡ 1 → nat_eq x (0 + k * 0) ≡ false) × (x ≡ 0 → nat_eq x (1 + k * 0) ≡ false)
-other_flag x k = (λ one. ne_eqb _ _ (λ e. omega (arith, e)), λ none. ne_eqb _ _ (λ e. omega (arith, e)))
+after_cluster zb zb0 alloc cp cp0 n q q0 k o p some far told = grind (arith, nat_tests, same_place, bit, bit_below)
 
 after_no_cluster : (zb zb0 alloc cp cp0 : Bool) (x q k o p : ℕ) → (alloc ≡ true → 2 ≤ x) → (alloc ≡ false → x ≡ bit zb)
     → nat_eq x (bit zb0 + k * 0)
     ≡ reads_on k (standard_mapping zb0 None cp0 o) (standard_mapping zb (if alloc then Some q else None) cp p)
-after_no_cluster true true true cp cp0 x q k o p large small = large_differs x k true (large refl)
-after_no_cluster true false true cp cp0 x q k o p large small = large_differs x k false (large refl)
-after_no_cluster false true true cp cp0 x q k o p large small = large_differs x k true (large refl)
-after_no_cluster false false true cp cp0 x q k o p large small = large_differs x k false (large refl)
-after_no_cluster true true false cp cp0 x q k o p large small = same_flag x k 1 (small refl)
-after_no_cluster false false false cp cp0 x q k o p large small = same_flag x k 0 (small refl)
-after_no_cluster true false false cp cp0 x q k o p large small = (other_flag x k).0 (small refl)
-after_no_cluster false true false cp cp0 x q k o p large small = (other_flag x k).1 (small refl)
+after_no_cluster zb zb0 alloc cp cp0 x q k o p large small = grind (arith, nat_tests)
 
 -- the parts of a lawful standard entry
 record Parts (cb v : ℕ) : Type 0 where
@@ -113,71 +47,11 @@ record Parts (cb v : ℕ) : Type 0 where
   small : offset_field v < 2 ^ 56
 
 parts_of : (cb v : ℕ) → l2_fault cb v ≡ None → is_compressed v ≡ false → Parts cb v
-parts_of cb v lawful standard =
-    let kinds = (lawful_by_kind (nat_eq (l2_reserved_bits v) 0) (is_compressed v) (nat_lt (v % 2 ^ (70 - cb)) (2 ^ 56)) (nat_eq (offset_field v % 2 ^ cb) 0)).1 lawful in
-    let tests : IsTrue (nat_eq (field v 1 8 * 2 ^ 1 + field v 56 6 * 2 ^ 56) 0 && nat_eq (offset_field v % 2 ^ cb) 0) = rw standard at kinds in
-    let reserved : field v 1 8 * 2 ^ 1 + field v 56 6 * 2 ^ 56 ≡ 0 = grind (arith, nat_tests, tests) in
-    let aligned : offset_field v % 2 ^ cb ≡ 0 = grind (arith, nat_tests, tests) in
-    let kind : field v 62 1 ≢ 1 = eqb-false (field v 62 1) 1 standard in
-    let flag : field v 0 1 ≡ bit (is_zero v) = flag_of (field v 0 1) (omega arith) in
-    let offset : offset_field v ≡ offset_field v / 2 ^ cb * 2 ^ cb = omega (arith, div-add-mod' (offset_field v) (2 ^ cb)) in
-    let fields : v % 2 ^ 63 ≡ offset_field v + field v 0 1 = omega (arith, reserved, kind) in
-    record {
-      lower = rw (← offset, ← flag) fields;
-      offset = offset;
-      small = omega arith;
-    }
-
--- whether a number has a cluster tells how large it is
-some_if : (zero told : Bool) → (not zero || told) ≡ true → (zero ≡ false) ⊎ (told ≡ true)
-some_if true true is = inr refl
-some_if true false is = cc
-some_if false told is = inl refl
-
-none_both : (zero told : Bool) → (not zero || told) ≡ false → (zero ≡ true) × (told ≡ false)
-none_both true true is = cc
-none_both true false is = (refl, refl)
-none_both false told is = cc
-
-offset_of_zero : (v : ℕ) → nat_eq (offset_field v) 0 ≡ true → offset_field v ≡ 0
-offset_of_zero v is = (Decides-eqb (offset_field v) 0).0 is
-
-offset_of_some : (v : ℕ) → nat_eq (offset_field v) 0 ≡ false → 512 ≤ offset_field v
-offset_of_some v is = let some = eqb-false (offset_field v) 0 is in omega (arith, some)
-
-plain_large : (cb v : ℕ) → Parts cb v → is_allocated false v ≡ true → 2 ≤ v % 2 ^ 63
-plain_large cb v parts is = elim (some_if (nat_eq (offset_field v) 0) false is) [
-  | inl some ↦ omega (arith, parts.lower, parts.offset, offset_of_some v some)
-  | inr told ↦ cc
-]
-
-plain_small : (cb v : ℕ) → Parts cb v → is_allocated false v ≡ false → v % 2 ^ 63 ≡ bit (is_zero v)
-plain_small cb v parts is =
-    let none = offset_of_zero v (none_both (nat_eq (offset_field v) 0) false is).0 in
-    omega (arith, parts.lower, parts.offset, none)
-
-external_large : (cb v : ℕ) → Parts cb v → is_allocated true v ≡ true → 2 ≤ v
-external_large cb v parts is = elim (some_if (nat_eq (offset_field v) 0) (is_copied v) is) [
-  | inl some ↦ let above = offset_of_some v some in omega (arith, parts.lower, parts.offset, above)
-  | inr told ↦ let copied : field v 63 1 ≡ 1 = (Decides-eqb (field v 63 1) 1).0 told in omega (arith, copied)
-]
-
-external_small : (cb v : ℕ) → v < 2 ^ 64 → Parts cb v → is_allocated true v ≡ false → v ≡ bit (is_zero v)
-external_small cb v fits parts is =
-    let both = none_both (nat_eq (offset_field v) 0) (is_copied v) is in
-    let none = offset_of_zero v both.0 in
-    let not_copied = eqb-false (field v 63 1) 1 both.1 in
-    let same : v ≡ v % 2 ^ 63 = omega (arith, not_copied) in
-    omega (arith, same, parts.lower, parts.offset, none)
-
-no_offset : (external : Bool) (cb v : ℕ) → Parts cb v → is_allocated external v ≡ false → v % 2 ^ 63 ≡ bit (is_zero v)
-no_offset external cb v parts is =
-    let none = offset_of_zero v (none_both (nat_eq (offset_field v) 0) (external && is_copied v) is).0 in
-    omega (arith, parts.lower, parts.offset, none)
+parts_of cb v lawful standard = grind (arith, nat_tests, eqb-false, bit, div-add-mod')
 
 -- a compressed number is larger than those that go on from a standard one
 compressed_large : (v : ℕ) → is_compressed v ≡ true → 2 ^ 62 ≤ v % 2 ^ 63
-compressed_large v is = let kind : field v 62 1 ≡ 1 = (Decides-eqb (field v 62 1) 1).0 is in omega (arith, kind)
+compressed_large v is = grind (arith, nat_tests)
 
 standard_low : (cb v k : ℕ) → cb ≤ 21 → k ≤ 262144 → Parts cb v → v % 2 ^ 63 + k * 2 ^ cb < 2 ^ 62
 standard_low cb v k high few parts =
@@ -188,22 +62,15 @@ standard_low cb v k high few parts =
 
 -- what a test of an entry's offset says
 pub has_offset : (external : Bool) (v : ℕ) (found : Option HostOffset) (test : Bool) → found ≡ host_offset external v → test ≡ is_some found → test ≡ is_allocated external v
-has_offset external v found test is same = same ∙ ap is_some is ∙ some_just_if (is_allocated external v)
-  where
-    some_just_if : (b : Bool) → is_some {T = HostOffset} (if b then Some (record { 0 = offset_field v }) else None) ≡ b
-    some_just_if true = refl
-    some_just_if false = refl
+has_offset external v found test is same = rw (same, is) (grind arith)
 
 -- the patterns tell just the entries that go on
 pub after_a_compressed_entry : (cb : ℕ) (external : Bool) (k v v0 c other : ℕ) → is_compressed v0 ≡ true
     → nat_eq (bit_and v 4611686018427387904) (4611686018427387904 + k * 0) ≡ reads_on k (mapping (geometry cb external) c v0) (mapping (geometry cb external) other v)
 after_a_compressed_entry cb external k v v0 c other is =
     let test : nat_eq (bit_and v 4611686018427387904) (4611686018427387904 + k * 0) ≡ is_compressed v =
-    same_from_decides _ _ (Decides-eqb (bit_and v 4611686018427387904) (4611686018427387904 + k * 0)) (
-      λ t. let kind : field v 62 1 ≡ 1 = (Decides-eqb (field v 62 1) 1).0 t in omega (arith, and_pow v 62, kind),
-      λ e. (Decides-eqb (field v 62 1) 1).1 (omega (arith, and_pow v 62, e)),
-    ) in
-    rw is (test ∙ sym (after_compressed (is_compressed v) (is_zero v) (is_copied v) (host_cluster (geometry cb external) v) k (compressed_offset cb v0) (compressed_length cb v0) (compressed_offset cb v) (compressed_length cb v) (other * 2 ^ cb)))
+    grind (arith, nat_tests, and_pow v 62) in
+    rw is (test ∙ grind arith)
 
 pub after_an_entry_with_a_cluster : (cb : ℕ) (external : Bool) (k v v0 c other : ℕ) → cb ≤ 21 → 9 ≤ cb → 1 ≤ k → k ≤ 262144 → v < 2 ^ 64
     → l2_fault cb v ≡ None → l2_fault cb v0 ≡ None → is_compressed v0 ≡ false → is_allocated external v0 ≡ true
@@ -237,19 +104,7 @@ after_an_entry_without : (cb : ℕ) (external : Bool) (x k v v0 c other : ℕ) �
     → (is_compressed v ≡ false → (is_allocated external v ≡ true → 2 ≤ x) × (is_allocated external v ≡ false → x ≡ bit (is_zero v)))
     → l2_fault cb v0 ≡ None → is_compressed v0 ≡ false → is_allocated external v0 ≡ false
     → nat_eq x (v0 % 2 ^ 63 + k * 0) ≡ reads_on k (mapping (geometry cb external) c v0) (mapping (geometry cb external) other v)
-after_an_entry_without cb external x k v v0 c other packed_large tested lawful0 standard0 none =
-    let parts0 = parts_of cb v0 lawful0 standard0 in
-    let value = no_offset external cb v0 parts0 none in
-    elim (cases_Bool (is_compressed v)) [
-      | inl packed ↦
-          let differs : nat_eq x (v0 % 2 ^ 63 + k * 0) ≡ false = rw value (large_differs x k (is_zero v0) (packed_large packed)) in
-          differs ∙ rw (packed, standard0) (sym (before_compressed (is_zero v0) (is_copied v0) (host_cluster (geometry cb external) v0) k (c * 2 ^ cb) (compressed_offset cb v) (compressed_length cb v)))
-      | inr standard ↦
-          let sizes = tested standard in
-          let tests : nat_eq x (v0 % 2 ^ 63 + k * 0) ≡ nat_eq x (bit (is_zero v0) + k * 0) = rw value refl in
-          tests ∙ after_no_cluster (is_zero v) (is_zero v0) (is_allocated external v) (is_copied v) (is_copied v0) x (offset_field v / 2 ^ cb) k (c * 2 ^ cb) (other * 2 ^ cb) sizes.0 sizes.1
-          ∙ rw (standard, standard0, none) refl
-    ]
+after_an_entry_without cb external x k v v0 c other packed_large tested lawful0 standard0 none = grind (arith, nat_tests, parts_of, bit, bit_below, before_compressed, after_no_cluster)
 
 pub after_an_entry_without_one : (cb k v v0 c other : ℕ) → l2_fault cb v ≡ None → l2_fault cb v0 ≡ None → is_compressed v0 ≡ false → is_allocated false v0 ≡ false
     → nat_eq (bit_and v 9223372036854775807) (v0 % 2 ^ 63 + k * 0) ≡ reads_on k (mapping (geometry cb false) c v0) (mapping (geometry cb false) other v)
@@ -257,7 +112,7 @@ after_an_entry_without_one cb k v v0 c other lawful lawful0 standard0 none =
     let masked : bit_and v 9223372036854775807 ≡ v % 2 ^ 63 = and_mask v 63 in
     rw masked (after_an_entry_without cb false (v % 2 ^ 63) k v v0 c other
     (λ packed. omega (arith, compressed_large v packed))
-    (λ standard. let parts = parts_of cb v lawful standard in (plain_large cb v parts, plain_small cb v parts)) lawful0 standard0 none)
+    (λ standard. let parts = parts_of cb v lawful standard in (λ is. grind (arith, nat_tests, parts.lower, parts.offset), λ is. grind (arith, nat_tests, parts.lower, parts.offset))) lawful0 standard0 none)
 
 pub after_an_external_entry_without_one : (cb k v v0 c other : ℕ) → v < 2 ^ 64 → l2_fault cb v ≡ None → l2_fault cb v0 ≡ None → is_compressed v0 ≡ false → is_allocated true v0 ≡ false
     → nat_eq (bit_and v 18446744073709551615) (v0 % 2 ^ 63 + k * 0) ≡ reads_on k (mapping (geometry cb true) c v0) (mapping (geometry cb true) other v)
@@ -266,18 +121,14 @@ after_an_external_entry_without_one cb k v v0 c other fits lawful lawful0 standa
     let masked : bit_and v 18446744073709551615 ≡ v = and_mask v 64 ∙ whole in
     rw masked (after_an_entry_without cb true v k v v0 c other
     (λ packed. omega (arith, compressed_large v packed))
-    (λ standard. let parts = parts_of cb v lawful standard in (external_large cb v parts, external_small cb v fits parts)) lawful0 standard0 none)
+    (λ standard. let parts = parts_of cb v lawful standard in (λ is. grind (arith, nat_tests, parts.lower, parts.offset), λ is. grind (arith, nat_tests, parts.lower, parts.offset))) lawful0 standard0 none)
 
 pub step_fits : (cb : ℕ) → cb ≤ 21 → 1 * 2 ^ cb % 2 ^ 64 ≡ 2 ^ cb
 step_fits cb high = let power : 2 ^ cb ≤ 2 ^ 21 = pow_mono high in let one : 1 * 2 ^ cb ≡ 2 ^ cb = omega arith in rw one (mod-eq_of_lt (omega (arith, power)))
 
 -- what each cluster reads as goes on from itself
 reads_on_itself : (m : Mapping) → reads_on 0 m m ≡ true
-reads_on_itself (data_file cluster copied) = eq-eqb _ _ (omega arith)
-reads_on_itself (backing offset) = refl
-reads_on_itself (zeros (Some cluster) copied) = eq-eqb _ _ (omega arith)
-reads_on_itself (zeros None copied) = refl
-reads_on_itself (compressed offset length) = refl
+reads_on_itself m = grind (arith, nat_tests)
 
 -- the entries after the one at i
 record Rest (numbers : List ℕ) (i : ℕ) (rest : List ℕ) : Type 0 where
@@ -285,13 +136,7 @@ record Rest (numbers : List ℕ) (i : ℕ) (rest : List ℕ) : Type 0 where
   at : (k : ℕ) → k < length rest → get_or rest k 0 ≡ get_or numbers (i + 1 + k) 0
 
 rest_of : (numbers : List ℕ) (i : ℕ) → i < length numbers → Rest numbers i (take (length numbers - (i + 1)) (drop (i + 1) numbers))
-rest_of numbers i within =
-    let after : length (drop (i + 1) numbers) ≡ length numbers - (i + 1) = length-drop (i + 1) numbers in
-    let many : length (take (length numbers - (i + 1)) (drop (i + 1) numbers)) ≡ length numbers - (i + 1) = rw length-take (omega (arith, after)) in
-    record {
-      count = many;
-      at = λ k below. get_or-take (length numbers - (i + 1)) (drop (i + 1) numbers) k 0 (omega (arith, many, below)) ∙ get_or-drop (i + 1) numbers k 0;
-    }
+rest_of numbers i within = grind (arith, nat_tests, length-drop, length-take, get_or-take, get_or-drop)
 
 -- the place in its table of a guest cluster further on
 place_further : (first size i k : ℕ) → i ≡ first % size → i + k < size → (first + k) % size ≡ i + k
@@ -328,18 +173,14 @@ run_of_pattern table first count i entries rest pattern bits is full fits lawful
     record {
       some = omega arith;
       within = rw (← is) (omega (arith, told.count, full, counted.within, here));
-      each = λ k below. each_of table first count k (reads_on_itself (mapping_at table first)) (λ j less. sym (further j (omega (arith, less, counted.within))) ∙ counted.each j less) below;
+      each = λ k below. elim (cases_lt 0 k) [
+        | inl later ↦ let at : k - 1 + 1 ≡ k = omega arith in rw at at (sym (further (k - 1) (omega (arith, below, counted.within))) ∙ counted.each (k - 1) (omega arith))
+        | inr now ↦ let at : k ≡ 0 = omega arith in rw (at, add-zero first) (reads_on_itself (mapping_at table first))
+      ];
       ends = λ more. let inside : count < length rest = omega (arith, told.count, full, counted.within, rw (← is) at more) in
           let same : 1 + count ≡ count + 1 = omega arith in
           rw same (sym (further count inside) ∙ counted.ends inside);
     }
-  where
-    each_of : (table : TableState) (first count k : ℕ) → reads_on 0 (mapping_at table first) (mapping_at table first) ≡ true
-        → ((j : ℕ) → j < count → reads_on (j + 1) (mapping_at table first) (mapping_at table (first + (j + 1))) ≡ true)
-        → k < 1 + count → reads_on k (mapping_at table first) (mapping_at table (first + k)) ≡ true
-    each_of table first count zero itself others below = let same : first + 0 ≡ first = omega arith in rw same itself
-    each_of table first count (suc j) itself others below =
-        let same : suc j ≡ j + 1 = omega arith in rw same (others j (omega (arith, below)))
 
 -- a pattern's values fit 64 bits for as many entries as a table has
 pub pattern_fits : (cb value step n : ℕ) (xs : List ℕ) → cb ≤ 21 → n ≤ 2 ^ (cb - 3) → value + 262144 * step < 2 ^ 64 → value + length (take n xs) * step < 2 ^ 64

@@ -1,14 +1,15 @@
-use Rattle.std.proofs.Common.{◌≡◌, ℕ, Bool, true, false, not, ◌&&◌, ◌||◌, ◌==◌, nat_lt, if◌then◌else◌, ◌+◌, ◌-◌, ◌*◌, ◌/◌, ◌%◌, ◌^◌, ◌≤◌, List, [], ◌∷◌, map, Option, Some, None, refl, ap, sym, ◌∙◌, inl, inr, arith}
-use Rattle.std.proofs.lemmas.Bool.{cases_Bool}
+use Rattle.std.proofs.Common.{◌≡◌, ℕ, Bool, true, false, not, ◌&&◌, ◌||◌, ◌==◌, nat_lt, if◌then◌else◌, ◌+◌, ◌-◌, ◌*◌, ◌/◌, ◌%◌, ◌^◌, ◌<◌, ◌≤◌, List, [], ◌∷◌, map, Option, Some, None, refl, ap, sym, ◌∙◌, inl, inr, arith}
+use Rattle.std.proofs.lemmas.Bool.{cases_Bool, cases_lt}
+use Rattle.std.proofs.lemmas.Bool.Decides.{nat_tests}
 use Rattle.std.proofs.lemmas.List.Sums.{sum_by-cons}
 use Rattle.std.proofs.lemmas.Nat.{div-mul-add, mod-pow-add, pow_pos}
-use Rattle.std.proofs.Math.Nat.{mod-lt}
+use Rattle.std.proofs.Math.Nat.{mod-le, mod-lt}
 use Rattle.std.proofs.Math.Pow.{mod-mod-pow}
 use Rattle.qcow2_base.specs.Bits.{field}
 use Rattle.qcow2_base.specs.declared.fault.Fault.{Fault}
 use Rattle.qcow2_metadata.specs.Table.L2Guards.{one_if, references}
 use Rattle.qcow2_metadata.specs.Entries.L2Entry.{ByteRange, byte_range, is_compressed, l2_fault, meets, shared}
-use Rattle.qcow2_metadata.specs.Entries.{entry_fault, offset_field}
+use Rattle.qcow2_metadata.specs.Entries.{offset_field}
 use Rattle.qcow2_metadata.specs.Header.{Geometry}
 use Rattle.qcow2_metadata.specs.Table.{first_fault}
 use Rattle.qcow2_metadata.proofs.TableLemmas.{no_fault_at_all}
@@ -28,10 +29,7 @@ low_field v a b low =
     ap (λ n. n % 2 ^ b) above ∙ (rw rest at (mod-mod-pow (v / 2 ^ a) (63 - a - b) b))
 
 same_range : (packed none external copied : Bool) (a b : ByteRange) → (external && (not packed && none)) ≡ false → (if packed then Some a else (if not none || (external && false) then Some b else None)) ≡ (if packed then Some a else (if not none || (external && copied) then Some b else None))
-same_range true none external copied a b other = refl
-same_range false false external copied a b other = refl
-same_range false true false copied a b other = refl
-same_range false true true copied a b other = cc
+same_range packed none external copied a b other = grind arith
 
 -- an entry refers to the same bytes where a second table has it too
 shared-byte_range : (g : Geometry) (v : ℕ) → 9 ≤ g.cluster_bits → g.cluster_bits ≤ 21 → byte_range g (shared g.external_data_file v) ≡ byte_range g v
@@ -56,42 +54,31 @@ shared-meets g v c low high = rw (shared-byte_range g v low high) refl
 references-map : (g : Geometry) (f : ℕ → ℕ) (numbers : List ℕ) (c : ℕ) → ((v : ℕ) → meets g (f v) c ≡ meets g v c) → references g (map f numbers) c ≡ references g numbers c
 references-map g f [] c same = refl
 references-map g f (v ∷ vs) c same =
-    let first = ap one_if (same v) in
-    let rest = references-map g f vs c same in
     let refer : ℕ → ℕ = λ w. one_if (meets g w c) in
-    sum_by-cons refer (f v) (map f vs)
-    ∙ ap (λ n. n + references g (map f vs) c) first ∙ ap (λ n. one_if (meets g v c) + n) rest
-    ∙ sym (sum_by-cons refer v vs)
+    omega (arith, ap one_if (same v), references-map g f vs c same, sum_by-cons refer (f v) (map f vs), sum_by-cons refer v vs)
 
 pub references-shared : (g : Geometry) (numbers : List ℕ) (c : ℕ) → 9 ≤ g.cluster_bits → g.cluster_bits ≤ 21 → references g (map (shared g.external_data_file) numbers) c ≡ references g numbers c
 references-shared g numbers c low high =
     references-map g (shared g.external_data_file) numbers c (λ v. shared-meets g v c low high)
 
-packed_is_lawful : (high below : Bool) → entry_fault (high || not below) false ≡ None → entry_fault (false || not below) false ≡ None
-packed_is_lawful true below lawful = cc
-packed_is_lawful false below lawful = lawful
+-- what is below 2 ^ 56 in the lowest bits is so without bit 63
+low_bits_below : (v k : ℕ) → v % 2 ^ k < 2 ^ 56 → v % 2 ^ 63 % 2 ^ k < 2 ^ 56
+low_bits_below v k low = elim (cases_lt 63 k) [
+  | inl wide ↦
+      let split : k - 63 + 63 ≡ k = omega arith in
+      let same = rw split at (mod-mod-pow v (k - 63) 63) in
+      omega (arith, same, mod-le (v % 2 ^ 63) (2 ^ k), mod-le (v % 2 ^ k) (2 ^ 63))
+  | inr narrow ↦ rw (low_bits v k narrow) low
+]
 
 -- a lawful entry is lawful without its copied flag, whatever stands above bit 63
-below_is_lawful : (cb v : ℕ) → 9 ≤ cb → cb ≤ 21 → l2_fault cb v ≡ None → l2_fault cb (v % 2 ^ 63) ≡ None
-below_is_lawful cb v low high lawful =
-    let kind = low_field v 62 1 (omega arith) in
-    elim (cases_Bool (is_compressed v)) [
-      | inl packed ↦
-          let offset = low_bits v (70 - cb) (omega arith) in
-          let copied : field (v % 2 ^ 63) 63 1 ≡ 0 = omega arith in
-          let known = rw packed at lawful in
-          rw (kind, packed, copied, offset) (packed_is_lawful (not (field v 63 1 * 2 ^ 63 == 0)) (nat_lt (v % 2 ^ (70 - cb)) (2 ^ 56)) known)
-      | inr standard ↦
-          let reserved : field (v % 2 ^ 63) 1 8 * 2 ^ 1 + field (v % 2 ^ 63) 56 6 * 2 ^ 56 ≡ field v 1 8 * 2 ^ 1 + field v 56 6 * 2 ^ 56 = omega arith in
-          let offset : offset_field (v % 2 ^ 63) ≡ offset_field v = omega arith in
-          let known = rw standard at lawful in
-          rw (kind, standard, reserved, offset) known
-    ]
+pub lawful_without_copied : (cb v : ℕ) → l2_fault cb v ≡ None → l2_fault cb (v % 2 ^ 63) ≡ None
+lawful_without_copied cb v lawful = grind (arith, nat_tests, low_field, low_bits_below)
 
-shared_is_lawful : (external : Bool) (cb v : ℕ) → 9 ≤ cb → cb ≤ 21 → l2_fault cb v ≡ None → l2_fault cb (shared external v) ≡ None
-shared_is_lawful external cb v low high lawful = elim (cases_Bool (external && (not (is_compressed v) && (offset_field v == 0)))) [
+shared_is_lawful : (external : Bool) (cb v : ℕ) → l2_fault cb v ≡ None → l2_fault cb (shared external v) ≡ None
+shared_is_lawful external cb v lawful = elim (cases_Bool (external && (not (is_compressed v) && (offset_field v == 0)))) [
   | inl stays ↦ rw stays lawful
-  | inr other ↦ rw other (below_is_lawful cb v low high lawful)
+  | inr other ↦ rw other (lawful_without_copied cb v lawful)
 ]
 
 first_fault-map : (fault : ℕ → Option Fault) (f : ℕ → ℕ) (numbers : List ℕ) → ((v : ℕ) → fault v ≡ None → fault (f v) ≡ None) → first_fault fault numbers ≡ None → first_fault fault (map f numbers) ≡ None
@@ -100,6 +87,6 @@ first_fault-map fault f (v ∷ vs) keeps none =
     let both = no_fault_at_all (fault v) (first_fault fault vs) none in
     rw (keeps v both.0) (first_fault-map fault f vs keeps both.1)
 
-pub shared-lawful : (external : Bool) (cb : ℕ) (numbers : List ℕ) → 9 ≤ cb → cb ≤ 21 → first_fault (l2_fault cb) numbers ≡ None → first_fault (l2_fault cb) (map (shared external) numbers) ≡ None
-shared-lawful external cb numbers low high none =
-    first_fault-map (l2_fault cb) (shared external) numbers (λ v lawful. shared_is_lawful external cb v low high lawful) none
+pub shared-lawful : (external : Bool) (cb : ℕ) (numbers : List ℕ) → first_fault (l2_fault cb) numbers ≡ None → first_fault (l2_fault cb) (map (shared external) numbers) ≡ None
+shared-lawful external cb numbers none =
+    first_fault-map (l2_fault cb) (shared external) numbers (λ v lawful. shared_is_lawful external cb v lawful) none

@@ -1,4 +1,4 @@
-use Rattle.std.proofs.Common.{◌≡◌, ◌-◌, ◌*◌, ◌<◌, ◌∙◌, length, min, arith, rules}
+use Rattle.std.proofs.Common.{◌≡◌, ◌-◌, ◌*◌, ◌∙◌, length, min, arith, rules}
 use Rattle.std.proofs.lemmas.Result.{err_from_is_err_and}
 use Rattle.qcow2_metadata.proofs.PiecesLemmas.{IsTornAtPiece-at, IsWrittenUpTo-more, others_kept}
 use Rattle.qcow2_metadata.proofs.pieces.write_in_pieces.Goals as goal
@@ -8,42 +8,27 @@ returns-in_err-write g c =
     let bytes = g.P.Packed.bytes c.args.packed.now in
     let len = g.P.Packed.byte_count c.args.packed.now in
     let piece = c.loop-piece.piece in
-    let some : 4096 * piece < len = omega arith in
+    let before = c.loop-piece.invariant in
     let count : length c.pack.new.buffer ≡ min (len - 4096 * piece) 4096 = search rules in
     let left = err_from_is_err_and c.from_residual.result c.from_residual.ensures.1 in
-    let device = c.loop-piece.invariant.device in
     rw left.1 (record {
       written = tt;
-      torn = λ told. IsTornAtPiece-at piece bytes len c.args.offset.0 (length c.pack.new.buffer) _ _ _ some (omega arith)
-          (c.loop-piece.invariant.told told) (c.write.ensures.others (device.tells ∙ told));
+      torn = λ told. IsTornAtPiece-at piece bytes len c.args.offset.0 (length c.pack.new.buffer) _ _ _ (omega arith) (omega arith)
+          (before.told told) (c.write.ensures.others (before.device.tells ∙ told));
       others = λ told. others_kept piece bytes len c.args.offset.0 (length c.pack.new.buffer) _ _ _ (omega arith)
-          (c.loop-piece.invariant.told told) (c.write.ensures.others (device.tells ∙ told));
+          (before.told told) (c.write.ensures.others (before.device.tells ∙ told));
       failures = search rules;
       device = search rules;
     })
 
 pub loop-piece-preserved : goal.loop-piece-preserved
 loop-piece-preserved g c =
-    let bytes = g.P.Packed.bytes c.args.packed.now in
-    let len = g.P.Packed.byte_count c.args.packed.now in
-    let piece = c.loop-piece.piece in
-    let some : 4096 * piece < len = omega arith in
-    let count : length c.pack.new.buffer ≡ min (len - 4096 * piece) 4096 = search rules in
-    let device = c.loop-piece.invariant.device in
+    let before = c.loop-piece.invariant in
     record {
       told = λ told.
-          IsWrittenUpTo-more piece bytes len c.args.offset.0 _ _ _ c.pack.new.buffer some count
-          (λ i h. c.pack.ensures.packed i h) (c.loop-piece.invariant.told told)
-          (c.in_ok-write.ensures.written (device.tells ∙ told)) (c.write.ensures.others (device.tells ∙ told));
+          IsWrittenUpTo-more c.loop-piece.piece _ _ c.args.offset.0 _ _ _ c.pack.new.buffer (omega arith) (search rules)
+          (λ i h. c.pack.ensures.packed i h) (before.told told)
+          (c.in_ok-write.ensures.written (before.device.tells ∙ told)) (c.write.ensures.others (before.device.tells ∙ told));
       failures = search rules;
       device = search rules;
     }
-
-pub returns : goal.returns
-returns g c = record {
-  written = λ told i below. (c.loop-piece.invariant.told told).stand i (omega arith) below;
-  torn = tt;
-  others = λ told. (c.loop-piece.invariant.told told).others;
-  failures = c.loop-piece.invariant.failures;
-  device = c.loop-piece.invariant.device;
-}

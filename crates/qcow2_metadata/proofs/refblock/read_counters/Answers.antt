@@ -1,5 +1,4 @@
-use Rattle.std.proofs.Common.{◌≡◌, ◌+◌, ◌-◌, ◌*◌, ◌/◌, ◌%◌, ◌^◌, ◌++◌, ◌<◌, ◌∙◌, length, min, ap, arith, rules}
-use Rattle.std.proofs.lemmas.List.{length-append}
+use Rattle.std.proofs.Common.{◌≡◌, ◌+◌, ◌-◌, ◌*◌, ◌/◌, ◌%◌, ◌^◌, ◌++◌, ◌<◌, ◌∙◌, length, min, ap, arith, rules, length-append}
 use Rattle.std.proofs.lemmas.List.Elements.{All-append}
 use Rattle.qcow2_base.specs.Storage.{Holds, image_of}
 use Rattle.qcow2_metadata.proofs.PackingLemmas.{counters_at-length, counters_at-small}
@@ -28,7 +27,7 @@ loop-piece-preserved g c =
     let whole : width order * length list ≡ 8 * first = before.whole ∙ ap (λ n. 8 * n) (omega (arith, some)) in
     let numbers : new ≡ list ++ counters_at order (image_of buffer) 0 m = c.in_ok-unpack.ensures.numbers in
     let count : length new ≡ length list + m =
-    ap length numbers ∙ length-append list (counters_at order (image_of buffer) 0 m) ∙ ap (λ n. length list + n) (counters_at-length order (image_of buffer) 0 m) in
+    omega (arith, ap length numbers, length-append list (counters_at order (image_of buffer) 0 m), counters_at-length order (image_of buffer) 0 m) in
     record {
       kind = c.unpack.ensures.kind;
       whole = rw count (count-more order first (length buffer) (length list) orders eights whole ∙ ap (λ n. 8 * n) (omega (arith, len, some)));

@@ -1,5 +1,4 @@
-use Rattle.std.proofs.Common.{◌≤◌, length, arith}
-use Rattle.std.proofs.lemmas.List.{take_all}
+use Rattle.std.proofs.Common.{◌≤◌, length, arith, take_all}
 use Rattle.qcow2_base.proofs.StorageLemmas.{image_of-padded}
 use Rattle.qcow2_base.proofs.storage.memory.lengthen.Goals as goal
 

@@ -23,8 +23,7 @@ nonzero_rem-counters g c = rw (shifted_one g.row.ORDER c.requires.order, values_
 
 pub loop-index-preserved : goal.loop-index-preserved
 loop-index-preserved g c =
-    let w = width g.row.ORDER in
-    let digit = λ (i : ℕ). field c.args.byte (w * i) w in
+    let digit = λ (i : ℕ). field c.args.byte (width g.row.ORDER * i) (width g.row.ORDER) in
     record {
       len = length-set c.loop-index.counters c.loop-index.index _ ∙ c.loop-index.invariant.len;
       read = rw (shifted_one g.row.ORDER c.requires.order, values_fit g.row.ORDER c.requires.order)

@@ -8,12 +8,10 @@ write_entries-requires-clause-count g c =
 
 pub write_entries-requires-clause-fits : goal.write_entries-requires-clause-fits
 write_entries-requires-clause-fits g c =
-    let cb = c.cluster_bits-cluster_bits.result in
-    let count = c.entries_at_once-count.result in
-    let part = c.entries_at_once-count.ensures.part in
-    let few = part-few cb count c.cluster_bits-cluster_bits.ensures.range.1 part in
+    let range = c.cluster_bits-cluster_bits.ensures.range in
     let offset = c.in_ok-offset.ensures.offset in
-    rw offset (group-fits cb count c.in-Some.cluster.0 c.args.index (omega (arith, c.cluster_bits-cluster_bits.ensures.range.1)) part few.0 (omega (arith, offset, c.in_ok-offset.ensures.fits, c.entries-entries.ensures.count, c.requires)))
+    rw offset (group-fits c.cluster_bits-cluster_bits.result c.entries_at_once-count.result c.in-Some.cluster.0 c.args.index (omega (arith, range.1)) c.entries_at_once-count.ensures.part
+    (part-few _ _ range.1 c.entries_at_once-count.ensures.part).0 (omega (arith, offset, c.in_ok-offset.ensures.fits, c.entries-entries.ensures.count, c.requires)))
 
 pub returns : goal.returns
 returns g c =

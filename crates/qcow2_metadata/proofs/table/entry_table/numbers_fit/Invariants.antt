@@ -1,5 +1,4 @@
-use Rattle.std.proofs.Common.{◌^◌, ◌<◌, map, take}
-use Rattle.std.specs.List.{All}
+use Rattle.std.proofs.Common.{◌^◌, ◌<◌, map, take, All}
 use Rattle.qcow2_metadata.proofs.table.entry_table.numbers_fit.Given as goal
 
 -- the numbers so far fit

@@ -1,7 +1,7 @@
 use Rattle.std.proofs.Common.{◌≡◌, ◌+◌, ◌<◌, ◌≤◌, arith}
 use Rattle.std.specs.Int.{div_ceil}
 use Rattle.qcow2_base.specs.Format.{most_reftable_entries}
-use Rattle.qcow2_metadata.proofs.GrowthLemmas.{IsRoomy-of, enough-least, least_spare-is, needed-enough, needed-least, possible_spare-found, possible_spare-none}
+use Rattle.qcow2_metadata.proofs.GrowthLemmas.{IsRoomy-of, div_ceil-le, least-enough, least_spare-is, needed-least, possible_spare-found, possible_spare-none}
 use Rattle.qcow2_metadata.specs.Table.Growth.{clusters_with, entries_with, growth_of, least_spare}
 use Rattle.qcow2_metadata.proofs.table.growth.least_spare.Goals as goal
 
@@ -22,11 +22,10 @@ returns-then-needed-spare-clause-least c =
     let blocks = c.rb_entries-block_counters.ensures in
     let roomy = IsRoomy-of growth (rw clusters.value at clusters.some) (rw blocks.value at blocks.some) in
     let few : div_ceil (clusters_with growth spare + spare) growth.block_counters ≤ spare = rw (c.div_ceil-needed.ensures, c.entries_with-entries.ensures, clusters.value, blocks.value) at c.if-needed-spare.true in
-    let enough = needed-enough growth spare roomy few in
     record {
       some = c.loop-len.invariant.some;
-      enough = enough;
-      least = λ fewer one is. omega (arith, c.loop-len.invariant.least, enough-least growth fewer roomy is);
+      enough = (div_ceil-le (clusters_with growth spare + spare) growth.block_counters spare (omega (arith, roomy.blocks))).0 few;
+      least = λ fewer one is. omega (arith, c.loop-len.invariant.least, (least-enough growth fewer roomy).1 is);
     }
 
 pub returns-then-needed-spare-clause-spare : goal.returns-then-needed-spare-clause-spare

@@ -1,6 +1,4 @@
-use Rattle.std.proofs.Common.{ℕ, ◌≡◌, ◌∙◌, map, sym, rules}
-use Rattle.std.specs.Result.{OnOk}
-use Rattle.std.proofs.lemmas.List.{map-id}
+use Rattle.std.proofs.Common.{ℕ, ◌≡◌, ◌∙◌, map, sym, rules, OnOk, map-id}
 use Rattle.std.proofs.lemmas.Iterator.{YieldsList-from_map_by, YieldsList-from_slice}
 use Rattle.qcow2_metadata.specs.Entries.L2Entry.{shared}
 use Rattle.qcow2_metadata.proofs.ChunkLemmas.{viewed_from_extend}

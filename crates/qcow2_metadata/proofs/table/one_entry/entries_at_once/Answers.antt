@@ -6,6 +6,5 @@ pub returns-clause-part : goal.returns-clause-part
 returns-clause-part g c =
     let storage = g.S.Storage.state c.args.image.now in
     let alignment : c.max-alignment.result ≡ max (max storage.mem_align storage.req_align) 8 = search rules in
-    let few : max (max storage.mem_align storage.req_align) 8 ≤ 2 ^ c.args.cluster_bits = search rules in
     rw alignment (part_of_alignments c.args.cluster_bits storage.mem_align storage.req_align
-    (g.met.S.Storage.mem_align_is_power c.args.image.now) (g.met.S.Storage.req_align_is_power c.args.image.now) few)
+    (g.met.S.Storage.mem_align_is_power c.args.image.now) (g.met.S.Storage.req_align_is_power c.args.image.now) (search rules))

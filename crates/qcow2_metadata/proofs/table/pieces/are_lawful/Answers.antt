@@ -1,4 +1,4 @@
-use Rattle.std.proofs.Common.{◌≡◌, ◌↔◌, IsTrue, None, take, [], arith}
+use Rattle.std.proofs.Common.{take, [], arith}
 use Rattle.qcow2_metadata.proofs.ChunkLemmas.{chunk_numbers-more, lawful_more}
 use Rattle.qcow2_metadata.specs.Table.{chunk_numbers}
 use Rattle.qcow2_metadata.proofs.table.pieces.are_lawful.Goals as goal
@@ -7,7 +7,5 @@ pub loop-chunk-preserved : goal.loop-chunk-preserved
 loop-chunk-preserved g c =
     let chunks = c.args.chunks.now in
     let index = c.loop-chunk.chunk-index in
-    let fault = g.E.TableEntry.fault_of c.args.header.now.v2.cluster_bits in
-    let more = chunk_numbers-more chunks index [] (omega arith) in
-    let last : IsTrue c.is_lawful-lawful.result ↔ (fault c.number_of.result ≡ None) = c.is_lawful-lawful.ensures in
-    rw (more, ← c.number_of.ensures) (lawful_more fault (chunk_numbers (take index chunks)) c.number_of.result c.loop-chunk.lawful c.is_lawful-lawful.result c.loop-chunk.invariant last)
+    rw (chunk_numbers-more chunks index [] (omega arith), ← c.number_of.ensures)
+    (lawful_more _ (chunk_numbers (take index chunks)) c.number_of.result c.loop-chunk.lawful c.is_lawful-lawful.result c.loop-chunk.invariant c.is_lawful-lawful.ensures)

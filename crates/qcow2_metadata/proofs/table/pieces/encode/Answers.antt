@@ -2,10 +2,6 @@ use Rattle.std.proofs.Common.{◌≡◌, ◌*◌, length, arith}
 use Rattle.qcow2_metadata.proofs.PieceLemmas.{held_then_zeros}
 use Rattle.qcow2_metadata.proofs.table.pieces.encode.Goals as goal
 
-pub encode_held-requires-clause-within : goal.encode_held-requires-clause-within
-encode_held-requires-clause-within g c = λ i inside.
-    omega (arith, c.split_at_mut-inside.ensures.front_len, c.min-held.ensures, c.saturating_sub.ensures, c.entries.ensures.count, inside)
-
 pub returns-clause-written : goal.returns-clause-written
 returns-clause-written g c = λ i within.
     let parts = c.split_at_mut-inside.ensures in

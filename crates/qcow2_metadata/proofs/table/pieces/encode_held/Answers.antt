@@ -1,5 +1,4 @@
-use Rattle.std.proofs.Common.{◌≡◌, ◌+◌, ◌*◌, get_or, Some, inl, sym, ◌∙◌, add-zero, below_more, arith}
-use Rattle.std.specs.List.{slice_get}
+use Rattle.std.proofs.Common.{◌≡◌, ◌+◌, ◌*◌, Some, inl, sym, ◌∙◌, add-zero, below_more, arith, slice_get}
 use Rattle.std.proofs.lemmas.Option.{get_or_from_slice_get}
 use Rattle.qcow2_base.specs.Storage.{be_of_same, image_of}
 use Rattle.qcow2_metadata.proofs.PieceLemmas.{found_in_list}
@@ -13,17 +12,13 @@ unwrap-entry-requires g c =
 pub loop-index-preserved : goal.loop-index-preserved
 loop-index-preserved g c =
     let numbers = (g.T.Table.state c.args.table.now).numbers in
-    let index = c.loop-index.index in
-    let at = c.args.first + index in
-    let new = image_of c.write_be.new.bytes in
-    let old = image_of c.loop-index.bytes in
+    let at = c.args.first + c.loop-index.index in
     let found : slice_get numbers at ≡ Some c.to_plain.result = rw c.to_plain.ensures (sym (rw c.unwrap-entry.ensures at c.get_ref.ensures.number)) in
-    let number : c.to_plain.result ≡ get_or numbers at 0 = sym (get_or_from_slice_get numbers at c.to_plain.result 0 found) in
     record {
       len = omega arith;
       written = below_more _ _
-          (λ i below. be_of_same new old 8 (8 * i) (8 * i)
+          (λ i below. be_of_same (image_of c.write_be.new.bytes) (image_of c.loop-index.bytes) 8 (8 * i) (8 * i)
           (λ k small. c.write_be.ensures.gaps (8 * i + k) (inl (omega arith), tt))
           ∙ c.loop-index.invariant.written i below)
-          (simp add-zero at c.write_be.ensures.placed.0 ∙ number);
+          (simp add-zero at c.write_be.ensures.placed.0 ∙ sym (get_or_from_slice_get numbers at c.to_plain.result 0 found));
     }

@@ -1,9 +1,10 @@
-use Rattle.std.proofs.Common.{◌≡◌, ◌+◌, ◌-◌, ◌*◌, ◌/◌, ◌++◌, ◌<◌, ◌∙◌, None, length, map, min, ap, sym, inl, inr, arith, rules}
+use Rattle.std.proofs.Common.{◌≡◌, ◌+◌, ◌-◌, ◌*◌, ◌/◌, ◌++◌, ◌<◌, ◌∙◌, None, length, map, min, ap, inl, inr, arith, rules}
 use Rattle.std.proofs.lemmas.List.{length-append, length-map}
 use Rattle.std.proofs.lemmas.Result.{err_from_is_err_and}
 use Rattle.qcow2_base.specs.Storage.{Holds, image_of}
 use Rattle.qcow2_metadata.proofs.ChunkLemmas.{decoded-refused_piece, table_numbers-read}
-use Rattle.qcow2_metadata.proofs.TableLemmas.{first_fault-append, length-table_numbers}
+use Rattle.qcow2_metadata.proofs.PackingLemmas.{counters_at-length}
+use Rattle.qcow2_metadata.proofs.TableLemmas.{first_fault-append}
 use Rattle.qcow2_metadata.specs.Table.{first_fault, table_numbers}
 use Rattle.qcow2_metadata.proofs.table.pieces.read_entries.Goals as goal
 
@@ -11,48 +12,38 @@ pub returns-in_err-decode-clause-exact : goal.returns-in_err-decode-clause-exact
 returns-in_err-decode-clause-exact g c told =
     let exit = c.from_residual-in_err-decode in
     let left = err_from_is_err_and exit.result exit.ensures.1 in
-    let fault = g.E.TableEntry.fault_of c.args.header.now.v2.cluster_bits in
     let image = (g.S.Storage.state c.args.image.now).byte_at in
-    let offset = c.args.offset.0 in
     let bytes = c.read_range.new.buffer in
     let before = c.loop-piece.invariant in
     let k = length c.loop-piece.list.items in
-    let m = length bytes / 8 in
-    let some : 512 * c.loop-piece.piece < c.args.entries = omega arith in
     let len : length bytes ≡ 8 * min (c.args.entries - 512 * c.loop-piece.piece) 512 = search rules in
-    let place : offset + 8 * (512 * c.loop-piece.piece) ≡ offset + 8 * k = omega (arith, before.len) in
-    let held : Holds image (offset + 8 * k) bytes = rw (place, before.bytes) at (c.in_ok-read_range.ensures.held (before.device.tells ∙ told)) in
-    let none : first_fault fault (table_numbers image offset k) ≡ None = rw (before.told told) at before.valid in
+    let place : c.args.offset.0 + 8 * (512 * c.loop-piece.piece) ≡ c.args.offset.0 + 8 * k = omega (arith, before.len) in
+    let held : Holds image (c.args.offset.0 + 8 * k) bytes = rw (place, before.bytes) at (c.in_ok-read_range.ensures.held (before.device.tells ∙ told)) in
     rw (left.1, left.2) (elim c.in_err-decode.ensures.refused [
       | inl memory ↦ inr (inl memory)
-      | inr bad ↦ inr (inr (decoded-refused_piece fault image offset k m c.args.entries bytes _ (omega (arith, before.len)) held (omega arith) none bad))
+      | inr bad ↦ inr (inr (decoded-refused_piece _ image c.args.offset.0 k (length bytes / 8) c.args.entries bytes _ (omega (arith, before.len)) held (omega arith) (rw (before.told told) at before.valid) bad))
     ])
 
 pub loop-piece-preserved : goal.loop-piece-preserved
 loop-piece-preserved g c =
     let plain = g.E.TableEntry.plain in
-    let fault = g.E.TableEntry.fault_of c.args.header.now.v2.cluster_bits in
     let image = (g.S.Storage.state c.args.image.now).byte_at in
-    let offset = c.args.offset.0 in
     let bytes = c.read_range.new.buffer in
     let before = c.loop-piece.invariant in
     let old = c.loop-piece.list.items in
-    let new = c.decode.new.list.items in
     let k = length old in
     let m = length bytes / 8 in
-    let some : 512 * c.loop-piece.piece < c.args.entries = omega arith in
     let len : length bytes ≡ 8 * min (c.args.entries - 512 * c.loop-piece.piece) 512 = search rules in
-    let place : offset + 8 * (512 * c.loop-piece.piece) ≡ offset + 8 * k = omega (arith, before.len) in
-    let numbers : map plain new ≡ map plain old ++ table_numbers (image_of bytes) 0 m = c.in_ok-decode.ensures.numbers in
-    let count : length new ≡ k + m =
-    sym (length-map new plain) ∙ ap length numbers ∙ length-append (map plain old) (table_numbers (image_of bytes) 0 m)
-    ∙ ap (λ i. i + length (table_numbers (image_of bytes) 0 m)) (length-map old plain) ∙ ap (λ i. k + i) (length-table_numbers (image_of bytes) 0 m) in
+    let place : c.args.offset.0 + 8 * (512 * c.loop-piece.piece) ≡ c.args.offset.0 + 8 * k = omega (arith, before.len) in
+    let numbers = c.in_ok-decode.ensures.numbers in
+    let count : length c.decode.new.list.items ≡ k + m =
+    omega (arith, ap length numbers, length-append (map plain old) (table_numbers (image_of bytes) 0 m), length-map c.decode.new.list.items plain, length-map old plain, counters_at-length 6 (image_of bytes) 0 m) in
     record {
       told = λ told.
-          let held : Holds image (offset + 8 * k) bytes = rw (place, before.bytes) at (c.in_ok-read_range.ensures.held (before.device.tells ∙ told)) in
-          rw (count, numbers) (table_numbers-read image offset k m bytes (map plain old) held (omega arith) (before.told told));
+          let held : Holds image (c.args.offset.0 + 8 * k) bytes = rw (place, before.bytes) at (c.in_ok-read_range.ensures.held (before.device.tells ∙ told)) in
+          rw (count, numbers) (table_numbers-read image c.args.offset.0 k m bytes (map plain old) held (omega arith) (before.told told));
       len = omega (arith, before.len);
-      valid = rw numbers (first_fault-append fault (map plain old) (table_numbers (image_of bytes) 0 m) before.valid ∙ c.in_ok-decode.ensures.valid);
+      valid = rw numbers (first_fault-append _ (map plain old) (table_numbers (image_of bytes) 0 m) before.valid ∙ c.in_ok-decode.ensures.valid);
       bytes = search rules;
       failures = search rules;
       device = search rules;

@@ -3,7 +3,5 @@ use Rattle.qcow2_base.proofs.OnDiskStructLemmas.{be_of_bytes}
 use Rattle.qcow2_base.proofs.on_disk_struct.integers.U32OnDiskStruct.store_to_be.Goals as goal
 
 pub returns-clause-stored : goal.returns-clause-stored
-returns-clause-stored c = record {
-  placed = (be_of_bytes 4 _ _ _ c.write_u32.ensures (search rules), tt);
-  gaps = search rules;
-}
+returns-clause-stored c =
+    record { placed = (be_of_bytes 4 _ _ _ c.write_u32.ensures (search rules), tt); gaps = search rules }

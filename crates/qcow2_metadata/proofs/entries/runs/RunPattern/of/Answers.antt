@@ -9,27 +9,20 @@ returns-then-is_compressed-clause-exact c = λ k v a b far few fits lawful.
 
 pub returns-then-has_cluster-clause-exact : goal.returns-then-has_cluster-clause-exact
 returns-then-has_cluster-clause-exact c = λ k v a b far few fits lawful.
-    let cb = c.args.cluster_bits in
     let external = c.args.external_data_file in
     let bits = c.requires.cluster_bits in
-    let standard = sym c.is_compressed.ensures ∙ c.if-is_compressed.false in
     let allocated = sym (has_offset external c.args.entry _ _ c.cluster_offset.ensures c.is_some-has_cluster.ensures) ∙ c.if-has_cluster.true in
-    let value : c.to_plain-value.result ≡ c.args.entry % 2 ^ 63 = c.to_plain-value.ensures ∙ c.without_copied.ensures.number in
-    let step : 1 * 2 ^ cb % 2 ^ 64 ≡ 2 ^ cb = step_fits cb bits.1 in
-    rw (value, step) (after_an_entry_with_a_cluster cb external k v c.args.entry a b bits.1 bits.0 far few fits lawful c.requires.lawful standard allocated)
+    rw (c.to_plain-value.ensures ∙ c.without_copied.ensures.number, step_fits c.args.cluster_bits bits.1)
+    (after_an_entry_with_a_cluster c.args.cluster_bits external k v c.args.entry a b bits.1 bits.0 far few fits lawful c.requires.lawful (sym c.is_compressed.ensures ∙ c.if-is_compressed.false) allocated)
 
 pub returns-then-external_data_file-clause-exact : goal.returns-then-external_data_file-clause-exact
 returns-then-external_data_file-clause-exact c = λ k v a b far few fits lawful.
-    let standard = sym c.is_compressed.ensures ∙ c.if-is_compressed.false in
     let allocated = sym (has_offset c.args.external_data_file c.args.entry _ _ c.cluster_offset.ensures c.is_some-has_cluster.ensures) ∙ c.if-has_cluster.false in
-    let value : c.to_plain-value.result ≡ c.args.entry % 2 ^ 63 = c.to_plain-value.ensures ∙ c.without_copied.ensures.number in
-    let external = c.if-external_data_file.true in
-    rw (value, external) (after_an_external_entry_without_one c.args.cluster_bits k v c.args.entry a b fits lawful c.requires.lawful standard (rw external at allocated))
+    rw (c.to_plain-value.ensures ∙ c.without_copied.ensures.number, c.if-external_data_file.true)
+    (after_an_external_entry_without_one c.args.cluster_bits k v c.args.entry a b fits lawful c.requires.lawful (sym c.is_compressed.ensures ∙ c.if-is_compressed.false) (rw c.if-external_data_file.true at allocated))
 
 pub returns-else-external_data_file-clause-exact : goal.returns-else-external_data_file-clause-exact
 returns-else-external_data_file-clause-exact c = λ k v a b far few fits lawful.
-    let standard = sym c.is_compressed.ensures ∙ c.if-is_compressed.false in
     let allocated = sym (has_offset c.args.external_data_file c.args.entry _ _ c.cluster_offset.ensures c.is_some-has_cluster.ensures) ∙ c.if-has_cluster.false in
-    let value : c.to_plain-value.result ≡ c.args.entry % 2 ^ 63 = c.to_plain-value.ensures ∙ c.without_copied.ensures.number in
-    let external = c.if-external_data_file.false in
-    rw (value, external) (after_an_entry_without_one c.args.cluster_bits k v c.args.entry a b lawful c.requires.lawful standard (rw external at allocated))
+    rw (c.to_plain-value.ensures ∙ c.without_copied.ensures.number, c.if-external_data_file.false)
+    (after_an_entry_without_one c.args.cluster_bits k v c.args.entry a b lawful c.requires.lawful (sym c.is_compressed.ensures ∙ c.if-is_compressed.false) (rw c.if-external_data_file.false at allocated))

@@ -7,18 +7,15 @@ use Rattle.qcow2_metadata.proofs.table.entry_table.EntryTable.replace_entry.Goal
 pub invariant_of-self : goal.invariant_of-self
 invariant_of-self g c =
     let plain = g.E.TableEntry.plain in
-    let fault = g.E.TableEntry.fault_of c.self.inside.cluster_bits in
     let numbers = map plain c.self.inside.entries.items in
     let before = c.self.invariant in
-    let edit : map plain (slice_set c.self.inside.entries.items c.args.index c.replace.new.dest) ≡ slice_set numbers c.args.index (plain c.args.entry) = map-set plain c.self.inside.entries.items c.args.index c.replace.new.dest ∙ rw c.replace.ensures.after refl in
+    let edit = map-set plain c.self.inside.entries.items c.args.index c.replace.new.dest in
     let len = length-set numbers c.args.index (plain c.args.entry) in
-    let lawful : fault (plain c.args.entry) ≡ None = search rules in
-    let small : plain c.args.entry < 2 ^ 64 = omega arith in
-    rw edit (record {
+    rw (edit, c.replace.ensures.after) (record {
       bits = before.bits;
       place = before.place;
-      valid = first_fault-set fault numbers c.args.index (plain c.args.entry) before.valid lawful;
-      fits = All-set (λ v. v < 2 ^ 64) numbers c.args.index (plain c.args.entry) small before.fits;
+      valid = first_fault-set _ numbers c.args.index (plain c.args.entry) before.valid (search rules);
+      fits = All-set (λ v. v < 2 ^ 64) numbers c.args.index (plain c.args.entry) (omega arith) before.fits;
       count = rw len before.count;
       bound = rw len before.bound;
     })

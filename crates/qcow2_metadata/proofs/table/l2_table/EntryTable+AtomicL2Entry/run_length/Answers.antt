@@ -1,6 +1,5 @@
-use Rattle.std.proofs.Common.{◌≡◌, ◌+◌, ◌-◌, ◌%◌, ◌^◌, ◌≤◌, ◌∙◌, length, refl, sym, arith}
+use Rattle.std.proofs.Common.{◌≡◌, ◌+◌, ◌-◌, ◌%◌, ◌^◌, ◌≤◌, ◌∙◌, length, refl, sym, arith, map-id}
 use Rattle.std.proofs.lemmas.Bool.Decides.{Decides-eqb}
-use Rattle.std.proofs.lemmas.List.{map-id}
 use Rattle.qcow2_metadata.proofs.RunsLemmas.{pattern_fits, run_of_pattern}
 use Rattle.qcow2_metadata.proofs.table.l2_table.EntryTable+AtomicL2Entry.run_length.Goals as goal
 
@@ -9,8 +8,7 @@ count-requires c =
     let table = c.args.self.now in
     let bits = c.as_slice-entries.ensures.bits in
     let full = (Decides-eqb _ _).0 c.entries-end.ensures.lawful.count in
-    let few : c.entries-end.result - (c.l2_index-index.result + 1) ≤ 2 ^ (table.geometry.cluster_bits - 3) = omega (arith, c.entries-end.ensures.count, full) in
-    pattern_fits table.geometry.cluster_bits c.of-pattern.result.value c.of-pattern.result.step _ _ bits.1 few c.of-pattern.ensures.fits
+    pattern_fits table.geometry.cluster_bits c.of-pattern.result.value c.of-pattern.result.step _ _ bits.1 (omega (arith, c.entries-end.ensures.count, full)) c.of-pattern.ensures.fits
 
 pub returns : goal.returns
 returns c =
@@ -22,8 +20,7 @@ returns c =
     let external = c.has_external_data_file.ensures in
     let own = sym (map-id c.as_slice-entries.result.now) ∙ c.as_slice-entries.ensures.numbers in
     let end : c.entries-end.result ≡ length c.as_slice-entries.result.now = rw own c.entries-end.ensures.count in
-    let index : c.l2_index-index.result ≡ c.args.guest_cluster.0 % 2 ^ (table.geometry.cluster_bits - 3) = rw cb at c.l2_index-index.ensures in
     run_of_pattern table c.args.guest_cluster.0 c.count.result c.l2_index-index.result c.as_slice-entries.result.now _ c.of-pattern.result
-    bits index full lawful.fits lawful.valid own (rw end refl)
+    bits (rw cb at c.l2_index-index.ensures) full lawful.fits lawful.valid own (rw end refl)
     (λ k v a b far few fits valid. rw (cb, external, c.get.ensures.number) at (c.of-pattern.ensures.exact k v a b far few fits (rw cb valid)))
     c.count.ensures

@@ -1,28 +1,21 @@
-use Rattle.std.proofs.Common.{◌∙◌, ap, sym, arith}
-use Rattle.std.proofs.lemmas.List.{map-id}
+use Rattle.std.proofs.Common.{◌∙◌, ap, sym, arith, map-id}
 use Rattle.qcow2_metadata.specs.Table.L2Guards.{references}
-use Rattle.qcow2_metadata.specs.Entries.L2Entry.{l2_fault}
-use Rattle.qcow2_metadata.specs.Table.{TableState, first_fault}
+use Rattle.qcow2_metadata.specs.Table.{TableState}
 use Rattle.qcow2_metadata.proofs.SharedLemmas.{references-shared, shared-lawful}
 use Rattle.qcow2_metadata.proofs.table.l2_table.EntryTable+AtomicL2Entry.try_clone.Goals as goal
 
 pub with_entries-requires-clause-valid : goal.with_entries-requires-clause-valid
 with_entries-requires-clause-valid c =
     let table = c.args.self.now in
-    let external = table.geometry.external_data_file in
     let own = sym (map-id c.as_slice.result.now) ∙ c.as_slice.ensures.numbers in
     let same = map-id c.in_ok-entries.entries.items ∙ (rw (c.has_external_data_file.ensures, own) at c.in_ok-entries.ensures) in
-    let bits = c.as_slice.ensures.bits in
-    ap (first_fault (l2_fault table.geometry.cluster_bits)) same
-    ∙ shared-lawful external table.geometry.cluster_bits table.numbers (omega (arith, bits)) (omega (arith, bits)) c.as_slice.ensures.valid
+    rw same (shared-lawful table.geometry.external_data_file table.geometry.cluster_bits table.numbers c.as_slice.ensures.valid)
 
 pub returns-clause-references : goal.returns-clause-references
 returns-clause-references c = λ cluster.
     let table = c.args.self.now in
-    let external = table.geometry.external_data_file in
     let own = sym (map-id c.as_slice.result.now) ∙ c.as_slice.ensures.numbers in
     let same = map-id c.in_ok-entries.entries.items ∙ (rw (c.has_external_data_file.ensures, own) at c.in_ok-entries.ensures) in
     let bits = c.as_slice.ensures.bits in
-    let numbers = ap (λ (t : TableState). references t.geometry t.numbers cluster) c.with_entries.ensures in
-    numbers ∙ ap (λ ns. references table.geometry ns cluster) same
+    ap (λ (t : TableState). references t.geometry t.numbers cluster) c.with_entries.ensures ∙ ap (λ ns. references table.geometry ns cluster) same
     ∙ references-shared table.geometry table.numbers cluster (omega (arith, bits)) (omega (arith, bits))

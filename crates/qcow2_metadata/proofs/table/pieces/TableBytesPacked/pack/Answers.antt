@@ -2,12 +2,6 @@ use Rattle.std.proofs.Common.{◌≡◌, ◌*◌, arith}
 use Rattle.qcow2_metadata.proofs.PieceLemmas.{piece_bytes}
 use Rattle.qcow2_metadata.proofs.table.pieces.TableBytesPacked.pack.Goals as goal
 
-pub overflow_mul-piece : goal.overflow_mul-piece
-overflow_mul-piece g c = omega (arith, c.requires.piece, c.requires.bound)
-
-pub encode-requires : goal.encode-requires
-encode-requires g c = omega (arith, c.requires.piece, c.requires.bound)
-
 pub returns-clause-packed : goal.returns-clause-packed
 returns-clause-packed g c =
     let numbers = (g.T.Table.state c.args.self.now.table.now).numbers in
