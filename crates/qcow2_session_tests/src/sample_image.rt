@@ -1,8 +1,9 @@
 //! A small image, and changes of it.
 
 use qcow2_base::{Fault, MemStorage};
-use qcow2_testing::{image_with, is_cluster_bits, put};
+use qcow2_testing::{image_with, is_cluster_bits, put, same_bytes};
 use std::alloc::Global;
+use std::test::Fail;
 
 /// Numbers of eight bytes, and where each stands in an image.
 pub(crate) type Numbers<'a> = &'a [(u64, u64)];
@@ -37,4 +38,15 @@ pub(crate) fn sample_image(
         put(&mut image, *place, *number)?;
     }
     Ok(image)
+}
+
+/// Fails unless these bytes are the sample image with these changes.
+pub(crate) fn is_sample(
+    alloc: Global,
+    found: &[u8],
+    (cluster_bits, changes): (u32, Numbers<'_>),
+    row: &str,
+) -> Result<(), Fail> {
+    let image = sample_image(alloc, cluster_bits, changes)?;
+    same_bytes(found, image.bytes(), row)
 }
