@@ -4,11 +4,11 @@
 use crate::failing_output::FailingOutput;
 use crate::images::header_with;
 use crate::tables::References;
-use qcow2_base::{ClusterCount, Fault, GuestOffset, HostCluster, MemStorage, Storage};
-use qcow2_metadata::{ClustersToFreeEntry, Header, L1Table, L2Mapping, L2Table, RefBlock, Table};
+use qcow2_base::{Fault, GuestOffset, HostCluster, MemStorage, Storage};
+use qcow2_metadata::{Header, L1Table, L2Mapping, L2Table, RefBlock, Table};
 use qcow2_session::{Command, Edit, Extent, Extents, Outcome, Step, StepReply};
 use qcow2_testing::{FailingStorage, is_cluster_bits};
-use std::alloc::Global;
+use std::alloc::{AllocError, Global};
 
 pub(crate) fn edits_fit(table: &L2Table, edits: &[Edit]) -> Result<(), usize> {
     qcow2_session::edits_fit(table, edits)
@@ -177,19 +177,11 @@ pub(crate) fn settle_outcome(
 }
 
 // What edits did, as they would tell it.
-fn outcome_of(alloc: Global, (gained, freed): References<'_>) -> Result<Outcome, Fault> {
-    let mut outcome = Outcome {
-        gained: Vec::new(alloc),
-        freed: Vec::new(alloc),
-    };
-    for cluster in gained {
-        outcome.gained.push(HostCluster(*cluster))?;
-    }
-    for (first, count) in freed {
-        let (first, count) = (HostCluster(*first), ClusterCount(*count));
-        outcome.freed.push(ClustersToFreeEntry { first, count })?;
-    }
-    Ok(outcome)
+fn outcome_of(alloc: Global, (gained, freed): References<'_>) -> Result<Outcome, AllocError> {
+    Ok(Outcome {
+        gained: Vec::from_slice(alloc, gained)?,
+        freed: Vec::from_slice(alloc, freed)?,
+    })
 }
 
 /// Edits a table and settles that, with a header of such an image.

@@ -4,10 +4,11 @@ use crate::calls::{edit_table, edits_fit};
 use crate::sample_image::COPIED;
 use crate::tables::{
     DATA_5, Entries, GONE, KEEP, PAST, References, TO_0, TO_1, TO_2, TO_5, TO_6, ZERO, did, map,
-    says, table_with,
+    outcome, says, table_with,
 };
-use qcow2_base::Fault;
-use qcow2_session::Edit;
+use qcow2_base::{ClusterCount, Fault, HostCluster};
+use qcow2_metadata::ClustersToFreeEntry;
+use qcow2_session::{Edit, Outcome};
 use qcow2_testing::same;
 use std::alloc::{AllocError, Global};
 use std::test::Fail;
@@ -29,46 +30,46 @@ const CLEARED: Entries<'static> = (0, &[]);
 
 const DATA: Entries<'static> = (3, &[DATA_5]);
 
-const NOTHING: Result<References<'static>, usize> = Ok((&[], &[]));
+const NOTHING: Result<References<'static>, usize> = Ok(outcome!([], []));
 
 const MADE: &[Row<'static>] = rows! {
     ("no edit", PLAIN, DATA, &[], NOTHING, DATA),
-    ("gone again", PLAIN, DATA, &[TO_5, TO_6, GONE], Ok((&[6], &[(5, 1), (6, 1)])), CLEARED),
-    ("there and back", PLAIN, DATA, &[TO_6, TO_5], Ok((&[6, 5], &[(5, 1), (6, 1)])), DATA),
+    ("gone again", PLAIN, DATA, &[TO_5, TO_6, GONE], Ok(outcome!([6], [(5, 1), (6, 1)])), CLEARED),
+    ("there and back", PLAIN, DATA, &[TO_6, TO_5], Ok(outcome!([6, 5], [(5, 1), (6, 1)])), DATA),
     ("zeros that are data again", PLAIN, (3, &[0xa00]), &[KEEP, KEEP, TO_5], NOTHING, DATA),
-    ("zeros and new data", PLAIN, (3, &[0xa01]), &[TO_6], Ok((&[6], &[(5, 1)])), DATA_6),
-    ("zeros, gone", PLAIN, DATA, &[KEEP, ZERO, KEEP, GONE], Ok((&[], &[(5, 1)])), CLEARED),
+    ("zeros and new data", PLAIN, (3, &[0xa01]), &[TO_6], Ok(outcome!([6], [(5, 1)])), DATA_6),
+    ("zeros, gone", PLAIN, DATA, &[KEEP, ZERO, KEEP, GONE], Ok(outcome!([], [(5, 1)])), CLEARED),
     // cluster 0 of an external data file, which only the copied flag tells
     ("zeros in cluster 0", (9, true), CLEARED, &[TO_0, KEEP], GAINS_0, (3, &[COPIED + 1])),
     ("data in it again", (9, true), CLEARED, &[TO_0, KEEP, TO_0], GAINS_0, (3, &[COPIED])),
-    ("cluster 0 let go", (9, true), CLEARED, &[TO_0, KEEP, GONE], Ok((&[0], &[(0, 1)])), CLEARED),
-    ("no cluster 0 in the image", PLAIN, (3, &[COPIED]), &[KEEP, TO_5], Ok((&[5], &[])), DATA),
+    ("cluster 0 let go", (9, true), CLEARED, &[TO_0, KEEP, GONE], Ok(outcome!([0], [(0, 1)])), CLEARED),
+    ("no cluster 0 in the image", PLAIN, (3, &[COPIED]), &[KEEP, TO_5], Ok(outcome!([5], [])), DATA),
     // compressed data in its own cluster, and in three clusters, which zeros can't keep
     ("its own", (16, false), COMPRESSED_1, &[TO_1], NOTHING, (3, &[COPIED + 0x1_0000])),
-    ("the second of three", (10, false), COMPRESSED_1_TO_3, &[TO_2], Ok((&[2], &[(1, 3)])),
+    ("the second of three", (10, false), COMPRESSED_1_TO_3, &[TO_2], Ok(outcome!([2], [(1, 3)])),
         (3, &[COPIED + 0x800])),
     ("three that zeros can't keep", (10, false), COMPRESSED_1_TO_3, &[KEEP, TO_2, TO_1],
-        Ok((&[2, 1], &[(1, 3), (2, 1)])), (3, &[COPIED + 0x400])),
+        Ok(outcome!([2, 1], [(1, 3), (2, 1)])), (3, &[COPIED + 0x400])),
     // data from the last byte of cluster 5 on, that ends in the next cluster and in the one after it
     ("two and three clusters of 2 MiB", (21, true),
         (3, &[0x4002_0000_00bf_ffff, 0x6002_0000_00bf_ffff]), &[ZERO, map!(4, 5)],
-        Ok((&[5], &[(5, 2), (5, 3)])), (3, &[1, COPIED + 0xa0_0000])),
+        Ok(outcome!([5], [(5, 2), (5, 3)])), (3, &[1, COPIED + 0xa0_0000])),
     // compressed data in clusters 1 to 3 and in cluster 2, data in cluster 5, and data and zeros in cluster 6
     ("entries that share clusters", (10, false),
         (0, &[0x7000_0000_0000_0600, 0x4000_0000_0000_0900, COPIED + 0x1400, 0x1800, 0x1801, 0]),
-        MIXED, Ok((&[8, 4, 9, 2], &[(1, 3), (2, 1), (6, 1), (4, 1), (8, 1)])),
+        MIXED, Ok(outcome!([8, 4, 9, 2], [(1, 3), (2, 1), (6, 1), (4, 1), (8, 1)])),
         (0, &[0, COPIED + 0x800, COPIED + 0x1400, 0x1801, 0, COPIED + 0x2400])),
     // the last index and the greatest cluster
     ("the last entry of a table of 512 bytes", PLAIN, CLEARED, &[map!(63, 0x7fff_ffff_ffff)],
-        Ok((&[0x7fff_ffff_ffff], &[])), (63, &[0x80ff_ffff_ffff_fe00])),
+        Ok(outcome!([0x7fff_ffff_ffff], [])), (63, &[0x80ff_ffff_ffff_fe00])),
     ("the last entry of a table of 2 MiB", (21, true), (262_143, &[0x80ff_ffff_ffe0_0000]),
         &[Edit::Discard { index: 262_143 }, map!(262_143, 0x7_ffff_ffff)],
-        Ok((&[0x7_ffff_ffff], &[(0x7_ffff_ffff, 1)])), (262_143, &[0x80ff_ffff_ffe0_0000])),
+        Ok(outcome!([0x7_ffff_ffff], [(0x7_ffff_ffff, 1)])), (262_143, &[0x80ff_ffff_ffe0_0000])),
 };
 
 const DATA_6: Entries<'static> = (3, &[COPIED + 0xc00]);
 
-const GAINS_0: Result<References<'static>, usize> = Ok((&[0], &[]));
+const GAINS_0: Result<References<'static>, usize> = Ok(outcome!([0], []));
 
 const COMPRESSED_1: Entries<'static> = (3, &[0x4040_0000_0001_0010]);
 
@@ -133,24 +134,27 @@ fn leave(alloc: Global, row: Row<'_>, modified: bool) -> Result<(), Fail> {
 
 // Ten thousand edits of a table of 8192 entries: a map of each entry and a discard of it after that. Which
 // clusters they give a reference, and which lose it.
-fn many_edits(alloc: Global) -> Result<(Vec<Edit>, Vec<u64>, Vec<(u64, u64)>), AllocError> {
+fn many_edits(alloc: Global) -> Result<(Vec<Edit>, Outcome), AllocError> {
     let mut edits = Vec::new(alloc);
     let mut gained = Vec::new(alloc);
     let mut freed = Vec::new(alloc);
     for place in 0..5000usize {
-        let cluster = 1 + place as u64;
+        let first = HostCluster(1 + place as u64);
         let index = 8191 - place;
-        edits.extend_from_slice(&[map!(index, cluster), Edit::Discard { index }])?;
-        gained.push(cluster)?;
-        freed.push((cluster, 1))?;
+        edits.extend_from_slice(&[map!(index, first.0), Edit::Discard { index }])?;
+        gained.push(first)?;
+        freed.push(ClustersToFreeEntry {
+            first,
+            count: ClusterCount(1),
+        })?;
     }
-    Ok((edits, gained, freed))
+    Ok((edits, Outcome { gained, freed }))
 }
 
 #[test]
 fn ten_thousand_edits_are_made_in_their_order(rt: HostRuntime) -> Result<(), Fail> {
-    let (edits, gained, freed) = many_edits(rt.alloc())?;
-    let expected: Result<References<'_>, usize> = Ok((&gained, &freed));
+    let (edits, outcome) = many_edits(rt.alloc())?;
+    let expected: Result<References<'_>, usize> = Ok((&outcome.gained, &outcome.freed));
     let row: Row<'_> = ("many", (16, false), CLEARED, &edits, expected, CLEARED);
     leave(rt.alloc(), row, false)
 }

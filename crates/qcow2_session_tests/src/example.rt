@@ -1,6 +1,6 @@
 //! The example of the front page, over an image of 512-byte clusters whose entry 3 maps cluster 5.
 
-use crate::tables::{DATA_5, did};
+use crate::tables::{DATA_5, did, outcome};
 use qcow2_base::{Fault, HostCluster, MemStorage};
 use qcow2_example::{discard_cluster_3, mapping_of_cluster_3};
 use qcow2_metadata::L2Mapping;
@@ -28,7 +28,7 @@ fn the_mapping_is_told_and_taken_away(rt: HostRuntime) -> Result<(), Fail> {
     )?;
     did(
         discard_cluster_3(rt.alloc(), &mut image),
-        Ok((&[], &[(5, 1)])),
+        Ok(outcome!([], [(5, 1)])),
         "discard",
     )?;
     same_bytes(image.bytes(), &[0; 2048], "image")

@@ -33,7 +33,7 @@ type Row = (
     u32,
     Numbers<'static>,
     &'static [Part],
-    Option<u32>,
+    Option<Fault>,
 );
 
 const ROWS: &[Row] = rows! {
@@ -79,11 +79,11 @@ const ROWS: &[Row] = rows! {
     ("one L2 table twice", 9, &[(24, 65536), (32, 2), (520, 0x400)],
         &[(1536, Absent), DATA, (32256, Absent), DATA, (30720, Absent)], None),
     // bad entries: behind the disk's end in its last table, in a table behind it, and in the second table
-    ("in the last table", 9, &[(24, 1536), (1528, 2)], &[], Some(18)),
+    ("in the last table", 9, &[(24, 1536), (1528, 2)], &[], RESERVED),
     ("in a table behind the disk's end", 9, &[(24, 32768), (32, 2), (520, 0x600), (1536, 2)],
         &[(1536, Absent), DATA, (30720, Absent)], None),
     ("in the second table", 9, &[(24, 65536), (32, 2), (520, 0x600), (1536, 0x201), (1544, 2)],
-        &[(1536, Absent), DATA], Some(18)),
+        &[(1536, Absent), DATA], RESERVED),
     ("whole tables, in clusters of 64 KiB", 16, &[(24, 0x4000_0001), (32, 2), (0x1_0008, 0x2_0000)],
         &[(0x3_0000, Absent), data!(0x1_0000, 0x5_0000), (0x1fff_0000, Absent),
         data!(0x1_0000, 0x5_0000), (0x1ffc_0001, Absent)],
@@ -93,6 +93,8 @@ const ROWS: &[Row] = rows! {
 const DATA: Part = data!(512, 0xa00);
 
 const MAX: u64 = u64::MAX;
+
+const RESERVED: Option<Fault> = Some(Fault::EntryReserved);
 
 #[test]
 fn each_disk_is_told_as_extents(rt: HostRuntime) -> Result<(), Fail> {
@@ -110,25 +112,17 @@ fn told_as(alloc: Global, row: Row) -> Result<(), Fail> {
     is_sample(alloc, image.bytes(), (bits, changes), name)
 }
 
-// Fails unless these extents are told of an image, and then these faults, by their numbers.
+// Fails unless these extents are told of an image, and then these faults.
 fn are_told<S: Storage, R: Debug + Copy + Drop>(
     alloc: Global,
     image: &mut S,
     parts: &[Part],
-    faults: (Option<u32>, Option<u32>),
+    faults: (Option<Fault>, Option<Fault>),
     row: R,
 ) -> Result<(), Fail> {
     let (extents, found) = extents_of(alloc, image)?;
-    same(
-        (number_of(found.first()), number_of(found.get(1))),
-        faults,
-        row,
-    )?;
+    same((found.first().copied(), found.get(1).copied()), faults, row)?;
     are_parts(&extents, parts, row)
-}
-
-fn number_of(fault: Option<&Fault>) -> Option<u32> {
-    Some(fault?.number())
 }
 
 // Compares extents, which follow one another from offset 0 on.
@@ -178,7 +172,11 @@ fn read_again(alloc: Global, failing: u64) -> Result<(), Fail> {
             failing,
         );
     }
-    let fault = if failing < READS { Some(34) } else { None };
+    let fault = if failing < READS {
+        Some(Fault::Storage)
+    } else {
+        None
+    };
     are_told(alloc, &mut image, PARTS, (fault, None), failing)
 }
 

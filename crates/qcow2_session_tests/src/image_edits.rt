@@ -2,7 +2,7 @@
 
 use crate::calls::edit_image;
 use crate::images::{Image, image_holds, recording_image};
-use crate::tables::{GONE, PAST, References, TO_0, TO_5, TO_6, did, map};
+use crate::tables::{GONE, PAST, References, TO_0, TO_5, TO_6, did, map, outcome};
 use qcow2_base::Fault;
 use qcow2_session::Edit;
 use std::alloc::Global;
@@ -32,16 +32,16 @@ type Row = (
 );
 
 const ROWS: &[Row] = rows! {
-    ("gone", PLAIN, ONE, &[TO_5, TO_6, GONE], Ok((&[6], &[(5, 1), (6, 1)])), (1536, &[])),
+    ("gone", PLAIN, ONE, &[TO_5, TO_6, GONE], Ok(outcome!([6], [(5, 1), (6, 1)])), (1536, &[])),
     ("no edit", PLAIN, ONE, &[], NOTHING, ONE),
     ("no edit at the last place", (9, LAST, false), SHORT, &[], NOTHING, SHORT),
     ("an edit that leaves the entry", PLAIN, ONE, &[TO_5], NOTHING, ONE),
-    ("a table past the end", PLAIN, (1024, &[]), &[TO_5], Ok((&[5], &[])), ONE),
+    ("a table past the end", PLAIN, (1024, &[]), &[TO_5], Ok(outcome!([5], [])), ONE),
     ("cluster 0 of an external data file", (9, 2, true), (2000, &[DATA]), &[TO_0],
-        Ok((&[0], &[(5, 1)])), (2000, &[(1048, &[0x80])])),
+        Ok(outcome!([0], [(5, 1)])), (2000, &[(1048, &[0x80])])),
     ("both ends of a table of 2 MiB", (21, 1, false),
         (4_194_400, &[(2_097_152, &[0x80, 0, 0, 0, 0, 0x40, 0, 0])]), ENDS_OF_2_MIB,
-        Ok((&[3], &[(2, 1)])),
+        Ok(outcome!([3], [(2, 1)])),
         (4_194_400, &[(2_097_159, &[1]), (4_194_296, &[0x80, 0, 0, 0, 0, 0x60, 0, 0])])),
     ("past the end", PLAIN, ONE, &[GONE, PAST], Err(Fault::BadEdit(1)), ONE),
     ("at the last place", (9, LAST, false), SHORT, &[PAST], Err(Fault::BadEdit(0)), SHORT),
@@ -56,7 +56,7 @@ const ROWS: &[Row] = rows! {
 
 const PLAIN: (u32, u64, bool) = (9, 2, false);
 
-const NOTHING: Result<References<'static>, Fault> = Ok((&[], &[]));
+const NOTHING: Result<References<'static>, Fault> = Ok(outcome!([], []));
 
 // The last cluster of 512 bytes that ends by 2^56.
 const LAST: u64 = 0x7fff_ffff_ffff;

@@ -43,12 +43,15 @@ fn image_of(
     around: u8,
     (len, parts): Image<'_>,
 ) -> Result<MemStorage, Fault> {
-    let size = 1u64.wrapping_shl(bits);
-    let start = (cluster.wrapping_mul(size) as usize).min(len);
-    let end = start.saturating_add(size as usize).min(len);
+    let size = 1usize.wrapping_shl(bits);
+    let start = (cluster as usize).saturating_mul(size).min(len);
+    let end = start.saturating_add(size).min(len);
     let mut bytes = vec![in alloc; around; len]?;
     bytes[start..end].fill(0);
-    let mut image = MemStorage::new(bytes);
+    with_parts(MemStorage::new(bytes), parts)
+}
+
+fn with_parts(mut image: MemStorage, parts: Parts<'_>) -> Result<MemStorage, Fault> {
     for (place, part) in parts {
         put_bytes(&mut image, *place, *part)?;
     }

@@ -10,14 +10,14 @@ use std::alloc::Global;
 use std::fmt::Debug;
 use std::test::Fail;
 
-// What a lookup answers: a mapping by its numbers, or the number of a fault.
+// What a lookup answers: a mapping by its numbers, or a fault.
 #[derive(Clone, Copy, Debug, PartialEq, Eq)]
 enum Answer {
     Data(u64, bool),
     Zeros(Option<HostCluster>, bool),
     Compressed(u64, u64),
     Backing(u64),
-    Refused(u32),
+    Refused(Fault),
 }
 
 // Offsets, and what the cluster of each reads as.
@@ -53,35 +53,45 @@ const ROWS: &[Row] = rows! {
     ("data in external cluster 0", 9, &[(72, 4), (1048, COPIED)], &[(1543, Data(0, true))]),
     ("compressed", 9, &[(1048, 0x6000_0000_0000_0601)], &[(1543, Compressed(0x601, 1023))]),
     // damaged images: the fault is that of the first bad part
-    ("no qcow2 image", 9, &[(0, 0x5146_49fa_0000_0003), (512, 1)], &[(1543, Refused(1))]),
-    ("an unknown feature", 9, &[(72, 8)], &[(0, Refused(17))]),
-    ("an unaligned L1 table", 16, &[(40, 0x1_0200)], &[(0, Refused(6))]),
+    ("no qcow2 image", 9, &[(0, 0x5146_49fa_0000_0003), (512, 1)], &[(1543, Refused(Fault::NotQcow2))]),
+    ("an unknown feature", 9, &[(72, 8)], &[(0, Refused(Fault::Incompatible(8)))]),
+    ("an unaligned L1 table", 16, &[(40, 0x1_0200)], &[(0, Refused(Fault::L1Unaligned))]),
     ("4194305 L1 entries", 9, &[(32, 4_194_305)], TOO_MANY),
     ("2^32 - 1 L1 entries", 9, &[(32, 0xffff_ffff)], TOO_MANY),
     ("an L1 table at 2^56", 9, &[(40, 1 << 56)], PAST),
     ("an L1 table of no entry past 2^56", 9, &[(32, 0), (40, (1 << 56) + 512)], PAST),
-    ("a bad L1 entry", 9, &[(32, 2), (520, 1)], &[(1543, Refused(18)), (u64::MAX, Refused(18))]),
+    ("a bad L1 entry", 9, &[(32, 2), (520, 1)], &[(1543, RESERVED), (u64::MAX, RESERVED)]),
     ("one past the table", 9, &[(520, 1)], &[(32768, Backing(32768))]),
-    ("an unaligned L2 table", 16, &[(0x1_0000, COPIED + 0x2_0200)], &[(u64::MAX, Refused(19))]),
+    ("an unaligned L2 table", 16, &[(0x1_0000, COPIED + 0x2_0200)], &[(u64::MAX, UNALIGNED)]),
     ("a bad L2 entry", 9, &[(1528, 2)],
-        &[(0, Refused(18)), (32767, Refused(18)), (32768, Backing(32768))]),
+        &[(0, RESERVED), (32767, RESERVED), (32768, Backing(32768))]),
     ("data that begins in a cluster, and then a bad entry", 16, &[(0x2_0018, 0x200), (0x2_0020, 2)],
-        &[(0, Refused(19)), (0x2000_0000, Backing(0x2000_0000))]),
+        &[(0, UNALIGNED), (0x2000_0000, Backing(0x2000_0000))]),
 };
+
+const RESERVED: Answer = Refused(Fault::EntryReserved);
+
+const UNALIGNED: Answer = Refused(Fault::EntryUnaligned);
 
 const ABSENT: Offsets<'static> = &[(0, Backing(0)), (1543, Backing(1536))];
 
-const TOO_MANY: Offsets<'static> = &[(1543, Refused(20)), (u64::MAX, Refused(20))];
+const TOO_MANY: Offsets<'static> = &[
+    (1543, Refused(Fault::TableTooBig)),
+    (u64::MAX, Refused(Fault::TableTooBig)),
+];
 
-const PAST: Offsets<'static> = &[(1543, Refused(21)), (u64::MAX, Refused(21))];
+const PAST: Offsets<'static> = &[
+    (1543, Refused(Fault::TablePlace)),
+    (u64::MAX, Refused(Fault::TablePlace)),
+];
 
 // How many bytes of the sample image there are, from a number to before another, and what an offset reads as:
 // zeros follow where an image is cut off, up to the last byte of the entry that isn't 0.
 const CUTS: &[(usize, usize, Answer)] = &[
-    (0, 4, Refused(1)),
-    (4, 8, Refused(2)),
-    (8, 24, Refused(3)),
-    (24, 104, Refused(4)),
+    (0, 4, Refused(Fault::NotQcow2)),
+    (4, 8, Refused(Fault::Version)),
+    (8, 24, Refused(Fault::ClusterSize)),
+    (24, 104, Refused(Fault::HeaderShort)),
     (104, 1055, Backing(1536)),
     (1055, 1537, Data(5, true)),
 ];
@@ -150,26 +160,26 @@ fn by_tables(
 
 fn answer_of(found: Result<L2Mapping, Fault>) -> Answer {
     match found {
-        Ok(
-            L2Mapping::DataFile {
-                host_cluster,
-                copied,
-            },
-        ) => Data(host_cluster.0, copied),
-        Ok(
-            L2Mapping::Zero {
-                host_cluster,
-                copied,
-            },
-        ) => Zeros(host_cluster, copied),
-        Ok(
-            L2Mapping::Compressed {
-                host_offset,
-                length,
-            },
-        ) => Compressed(host_offset.0, length.get()),
-        Ok(L2Mapping::Backing { backing_offset }) => Backing(backing_offset),
-        Err(fault) => Refused(fault.number()),
+        Ok(mapping) => read_as(mapping),
+        Err(fault) => Refused(fault),
+    }
+}
+
+fn read_as(mapping: L2Mapping) -> Answer {
+    match mapping {
+        L2Mapping::DataFile {
+            host_cluster,
+            copied,
+        } => Data(host_cluster.0, copied),
+        L2Mapping::Zero {
+            host_cluster,
+            copied,
+        } => Zeros(host_cluster, copied),
+        L2Mapping::Compressed {
+            host_offset,
+            length,
+        } => Compressed(host_offset.0, length.get()),
+        L2Mapping::Backing { backing_offset } => Backing(backing_offset),
     }
 }
 

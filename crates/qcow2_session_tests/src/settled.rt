@@ -4,9 +4,11 @@ use crate::blocks::{Counters, block_of, counts};
 use crate::calls::{edit_image, edit_settled, settle, settle_outcome};
 use crate::images::header_with;
 use crate::sample_image::sample_image;
-use crate::tables::{DATA_5, GONE, KEEP, PAST, References, TO_5, TO_6, did, says, table_with};
+use crate::tables::{
+    DATA_5, GONE, KEEP, PAST, References, TO_5, TO_6, did, outcome, says, table_with,
+};
 use qcow2_base::{Fault, HostCluster, MemStorage};
-use qcow2_metadata::RefBlock;
+use qcow2_metadata::{L2Table, RefBlock};
 use qcow2_session::Edit;
 use qcow2_testing::{put_bytes, same, same_bytes};
 use std::alloc::Global;
@@ -15,14 +17,14 @@ use std::test::Fail;
 // The cluster bits, the refcount order, and whether data is external.
 type Image = (u32, u32, bool);
 
-// What is settled: the image, the block's index in the refcount table, and its counters. What edits did, and
-// whether the block counts as modified then though it didn't, or the fault. The counters then.
+// What is settled: the image, the block's index in the refcount table, and its counters. What edits did, the
+// fault, whether the block counts as modified then though it didn't, and the counters then.
 type Row<'a> = (
     Image,
     usize,
     Counters<'a>,
     References<'a>,
-    Result<bool, Fault>,
+    (Option<Fault>, bool),
     Counters<'a>,
 );
 
@@ -36,40 +38,40 @@ const ONES: Counters<'static> = &[(0, 64, 1)];
 
 const FIVE: Counters<'static> = &[(5, 1, 1)];
 
-const OUT_OF_RANGE: Result<bool, Fault> = Err(Fault::CounterRange);
+const RANGE: Option<Fault> = Some(Fault::CounterRange);
 
-const EXTERNAL: Result<bool, Fault> = Err(Fault::ExternalData);
+const EXTERNAL: Option<Fault> = Some(Fault::ExternalData);
 
 const ROWS: &[Row<'static>] = rows! {
-    ((9, 4, false), 0, FIVE, (&[6], &[(5, 1), (6, 1)]), Ok(true), &[]),
-    ((9, 4, false), 0, &[], (&[6], &[(5, 1), (6, 1)]), OUT_OF_RANGE, &[]),
-    ((10, 4, false), 0, &[(1, 3, 1)], (&[2], &[(1, 3)]), Ok(true), &[(2, 1, 1)]),
-    ((9, 6, false), 0, &[(63, 1, 1)], (&[], &[(63, 2)]), Ok(true), &[]),
-    ((9, 6, false), 1, &[(0, 1, 1)], (&[], &[(63, 2)]), Ok(true), &[]),
-    ((9, 0, false), 0, FIVE, (&[5], &[(5, 1)]), OUT_OF_RANGE, FIVE),
+    ((9, 4, false), 0, FIVE, outcome!([6], [(5, 1), (6, 1)]), (None, true), &[]),
+    ((9, 4, false), 0, &[], outcome!([6], [(5, 1), (6, 1)]), (RANGE, false), &[]),
+    ((10, 4, false), 0, &[(1, 3, 1)], outcome!([2], [(1, 3)]), (None, true), &[(2, 1, 1)]),
+    ((9, 6, false), 0, &[(63, 1, 1)], outcome!([], [(63, 2)]), (None, true), &[]),
+    ((9, 6, false), 1, &[(0, 1, 1)], outcome!([], [(63, 2)]), (None, true), &[]),
+    ((9, 0, false), 0, FIVE, outcome!([5], [(5, 1)]), (RANGE, false), FIVE),
     // a cluster that gains or loses more than one reference
-    ((9, 1, false), 0, FIVE, (&[5, 5], &[(5, 1)]), Ok(true), &[(5, 1, 2)]),
-    ((9, 4, false), 0, &[(5, 2, 1)], (&[], &[(5, 2), (5, 1)]), OUT_OF_RANGE, &[(5, 2, 1)]),
+    ((9, 1, false), 0, FIVE, outcome!([5, 5], [(5, 1)]), (None, true), &[(5, 1, 2)]),
+    ((9, 4, false), 0, &[(5, 2, 1)], outcome!([], [(5, 2), (5, 1)]), (RANGE, false), &[(5, 2, 1)]),
     // ranges that begin before the block, that end behind it, and that hold all of it
-    ((9, 6, false), 1, ONES, (&[], &[(60, 8)]), Ok(true), &[(4, 60, 1)]),
-    ((9, 6, false), 1, ONES, (&[], &[(0, 1000)]), Ok(true), &[]),
-    ((9, 6, false), 1, ONES, (&[], &[(0, 64), (128, 1)]), Ok(false), ONES),
+    ((9, 6, false), 1, ONES, outcome!([], [(60, 8)]), (None, true), &[(4, 60, 1)]),
+    ((9, 6, false), 1, ONES, outcome!([], [(0, 1000)]), (None, true), &[]),
+    ((9, 6, false), 1, ONES, outcome!([], [(0, 64), (128, 1)]), (None, false), ONES),
     // ranges of 2^64 - 1 clusters
-    ((9, 6, false), 0, ONES, (&[], &[(1, MAX)]), Ok(true), &[(0, 1, 1)]),
-    ((9, 6, false), 0, ONES, (&[], &[(MAX, MAX)]), Ok(false), ONES),
+    ((9, 6, false), 0, ONES, outcome!([], [(1, MAX)]), (None, true), &[(0, 1, 1)]),
+    ((9, 6, false), 0, ONES, outcome!([], [(MAX, MAX)]), (None, false), ONES),
     // blocks that begin past every cluster, at 2^64, behind it, and 64 clusters before it
-    ((9, 6, false), usize::MAX, ONES, (&[MAX], &[(MAX, MAX)]), Ok(false), ONES),
-    ((9, 6, false), AT_2_TO_THE_64, ONES, (&[], &[(MAX, 3)]), Ok(true), &[(2, 62, 1)]),
-    ((9, 6, false), AT_2_TO_THE_64 + 1, ONES, (&[], &[(MAX, 100)]), Ok(true), &[(35, 29, 1)]),
-    ((9, 6, false), AT_2_TO_THE_64 - 1, ONES, (&[], &[(MAX, 3)]), Ok(true), &[(0, 63, 1)]),
+    ((9, 6, false), usize::MAX, ONES, outcome!([MAX], [(MAX, MAX)]), (None, false), ONES),
+    ((9, 6, false), AT_2_TO_THE_64, ONES, outcome!([], [(MAX, 3)]), (None, true), &[(2, 62, 1)]),
+    ((9, 6, false), AT_2_TO_THE_64 + 1, ONES, outcome!([], [(MAX, 100)]), (None, true), &[(35, 29, 1)]),
+    ((9, 6, false), AT_2_TO_THE_64 - 1, ONES, outcome!([], [(MAX, 3)]), (None, true), &[(0, 63, 1)]),
     // no clusters
-    ((9, 4, false), 0, FIVE, (&[], &[(5, 0)]), Ok(false), FIVE),
+    ((9, 4, false), 0, FIVE, outcome!([], [(5, 0)]), (None, false), FIVE),
     // what was counted up or down before a refusal is put back
-    ((9, 4, false), 0, FIRST_200, (&[0, 1, 2], &[(0, 200), (255, 1)]), OUT_OF_RANGE, FIRST_200),
-    ((9, 6, false), 1, &[(0, 63, 1)], (&[64], &[(60, 1000)]), OUT_OF_RANGE, &[(0, 63, 1)]),
+    ((9, 4, false), 0, FIRST_200, outcome!([0, 1, 2], [(0, 200), (255, 1)]), (RANGE, false), FIRST_200),
+    ((9, 6, false), 1, &[(0, 63, 1)], outcome!([64], [(60, 1000)]), (RANGE, false), &[(0, 63, 1)]),
     // an external data file, which is refused before anything
-    ((9, 4, true), 0, FIVE, (&[], &[]), EXTERNAL, FIVE),
-    ((9, 4, true), 0, FIVE, (&[5], &[(6, 1)]), EXTERNAL, FIVE),
+    ((9, 4, true), 0, FIVE, outcome!([], []), (EXTERNAL, false), FIVE),
+    ((9, 4, true), 0, FIVE, outcome!([5], [(6, 1)]), (EXTERNAL, false), FIVE),
 };
 
 const FIRST_200: Counters<'static> = &[(0, 200, 1)];
@@ -115,26 +117,23 @@ fn settle_at_ends(alloc: Global, (order, count, greatest): Width) -> Result<(), 
     let image: Image = (9, order, false);
     let full = [(0, count, greatest)];
     let below = [(5, 1, greatest.wrapping_sub(1)), (0, count, greatest)];
-    let gained_and_lost: References<'_> = (&[5], &[(5, 1)]);
-    rows_settle(
-        alloc,
-        &[],
-        &[(image, 0, &[], gained_and_lost, Ok(true), &[])],
-    )?;
+    let gained_and_lost: References<'_> = outcome!([5], [(5, 1)]);
+    let row: Row<'_> = (image, 0, &[], gained_and_lost, (None, true), &[]);
+    rows_settle(alloc, &[], &[row])?;
     let rows: [Row<'_>; 2] = [
-        (image, 0, &[], gained_and_lost, OUT_OF_RANGE, &full),
-        (image, 0, &[], (&[], &[(5, 1)]), Ok(true), &below),
+        (image, 0, &[], gained_and_lost, (RANGE, false), &full),
+        (image, 0, &[], outcome!([], [(5, 1)]), (None, true), &below),
     ];
     rows_settle(alloc, &[0xff; 512], &rows)
 }
 
 // Settles a block that begins with these bytes, and has the row's counters, with this flag.
 fn settles(alloc: Global, bytes: &[u8], row: Row<'_>, modified: bool) -> Result<(), Fail> {
-    let (image, rt_index, before, references, expected, after) = row;
+    let (image, rt_index, before, references, (fault, marks), after) = row;
     let mut block = block_of(alloc, image, (bytes, before), modified)?;
     let answer = settle(&mut block, image, rt_index, references);
-    same(answer.err(), expected.err(), references)?;
-    counts(&block, after, modified || expected == Ok(true), references)
+    same(answer.err(), fault, references)?;
+    counts(&block, after, modified || marks, references)
 }
 
 // Entry 3 of a table of compressed data in clusters 0 and 1, and one of data in cluster 6.
@@ -158,26 +157,26 @@ const REFUSED: Result<References<'static>, Fault> = Err(Fault::ExternalData);
 const CANNOT_COUNT: Result<References<'static>, Fault> = Err(Fault::CounterRange);
 
 const SETTLED: &[Settled<'static>] = rows! {
-    ((4, false, 0), (FIVE, DATA_5), &[GONE], Ok((&[], &[(5, 1)])), (&[], 0, true)),
+    ((4, false, 0), (FIVE, DATA_5), &[GONE], Ok(outcome!([], [(5, 1)])), (&[], 0, true)),
     ((4, false, 0), (&[], DATA_5), &[GONE], CANNOT_COUNT, (&[], DATA_5, false)),
-    ((4, false, 0), (FIVE, DATA_5), &[KEEP], Ok((&[], &[])), (FIVE, DATA_5 + 1, false)),
-    ((4, false, 0), (&[(0, 2, 1)], COMPRESSED_0_1), &[TO_5], Ok((&[5], &[(0, 2)])),
+    ((4, false, 0), (FIVE, DATA_5), &[KEEP], Ok(outcome!([], [])), (FIVE, DATA_5 + 1, false)),
+    ((4, false, 0), (&[(0, 2, 1)], COMPRESSED_0_1), &[TO_5], Ok(outcome!([5], [(0, 2)])),
         (FIVE, DATA_5, true)),
-    ((4, false, 0), (FIVE, DATA_5), &[TO_6], Ok((&[6], &[(5, 1)])), (&[(6, 1, 1)], DATA_6, true)),
+    ((4, false, 0), (FIVE, DATA_5), &[TO_6], Ok(outcome!([6], [(5, 1)])), (&[(6, 1, 1)], DATA_6, true)),
     // there and back
     ((4, false, 0), (FIVE, DATA_5), &[TO_6, TO_5], THERE_AND_BACK, (FIVE, DATA_5, true)),
     ((0, false, 0), (FIVE, DATA_5), &[TO_6, TO_5], CANNOT_COUNT, (FIVE, DATA_5, false)),
     // a block that counts none of the clusters
-    ((4, false, 1), (FIVE, DATA_5), &[GONE], Ok((&[], &[(5, 1)])), (FIVE, 0, false)),
+    ((4, false, 1), (FIVE, DATA_5), &[GONE], Ok(outcome!([], [(5, 1)])), (FIVE, 0, false)),
     // the edits fit first
     ((4, false, 0), (&[], DATA_5), &[GONE, PAST], Err(Fault::BadEdit(1)), (&[], DATA_5, false)),
-    ((4, false, 0), (FIVE, DATA_5), &[], Ok((&[], &[])), (FIVE, DATA_5, false)),
+    ((4, false, 0), (FIVE, DATA_5), &[], Ok(outcome!([], [])), (FIVE, DATA_5, false)),
     // an external data file, which is refused before anything
     ((4, true, 0), (FIVE, DATA_5), &[], REFUSED, (FIVE, DATA_5, false)),
     ((4, true, 0), (FIVE, DATA_5), &[PAST], REFUSED, (FIVE, DATA_5, false)),
 };
 
-const THERE_AND_BACK: Result<References<'static>, Fault> = Ok((&[6, 5], &[(5, 1), (6, 1)]));
+const THERE_AND_BACK: Result<References<'static>, Fault> = Ok(outcome!([6, 5], [(5, 1), (6, 1)]));
 
 #[test]
 fn edits_are_counted_or_not_made(rt: HostRuntime) -> Result<(), Fail> {
@@ -201,8 +200,25 @@ fn edits_settle(
     let answer = edit_settled(&mut table, &mut block, image, rt_index, edits);
     did(answer, expected, edits)?;
     let table_modified = table_modified || expected.is_ok() && !edits.is_empty();
-    says(&table, (3, &[left.1]), table_modified, edits)?;
-    counts(&block, left.0, block_modified || left.2, edits)
+    are_left(
+        &table,
+        &block,
+        left,
+        (table_modified, block_modified),
+        edits,
+    )
+}
+
+// Fails unless this is left of a table and of a block that had this flag.
+fn are_left(
+    table: &L2Table,
+    block: &RefBlock,
+    (counters, entry, counts_some): (Counters<'_>, u64, bool),
+    (table_modified, block_modified): (bool, bool),
+    row: &[Edit],
+) -> Result<(), Fail> {
+    says(table, (3, &[entry]), table_modified, row)?;
+    counts(block, counters, block_modified || counts_some, row)
 }
 
 // The sample image with a refcount block at cluster 3, in which cluster 5 has a reference.

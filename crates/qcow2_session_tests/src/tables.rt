@@ -12,15 +12,27 @@ use std::test::Fail;
 /// The index of the first of some entries of a table, and the entries. All others of the table are 0.
 pub(crate) type Entries<'a> = (usize, &'a [u64]);
 
-/// What edits did to references: the clusters that gained one, and those that lost one, as the first of
-/// those that one edit handed back and how many.
-pub(crate) type References<'a> = (&'a [u64], &'a [(u64, u64)]);
+/// What edits did to references: the clusters that gained one, and those that lost one.
+pub(crate) type References<'a> = (&'a [HostCluster], &'a [ClustersToFreeEntry]);
 
 // The cluster of each table.
 const CLUSTER: HostCluster = HostCluster(0);
 
 /// The entry of data in cluster 5 of 512 bytes.
 pub(crate) const DATA_5: u64 = 0x8000_0000_0000_0a00;
+
+// References by their numbers: of those that were lost the first that one edit handed back, and how many.
+macro_rules! outcome {
+    ([$($gained:expr),*], [$(($first:expr, $count:expr)),*]) => {
+        (
+            &[$(qcow2_base::HostCluster($gained)),*],
+            &[$(qcow2_metadata::ClustersToFreeEntry {
+                first: qcow2_base::HostCluster($first),
+                count: qcow2_base::ClusterCount($count),
+            }),*],
+        )
+    };
+}
 
 // An edit that maps the entry at an index to a cluster.
 macro_rules! map {
@@ -33,6 +45,7 @@ macro_rules! map {
 }
 
 pub(crate) use map;
+pub(crate) use outcome;
 
 // Edits of the entry at index 3.
 pub(crate) const TO_0: Edit = map!(3, 0);
@@ -115,36 +128,9 @@ pub(crate) fn did<R: Debug + Drop>(
     expected: Result<References<'_>, Fault>,
     row: R,
 ) -> Result<(), Fail> {
-    if are_equal(&answer, expected) {
-        return Ok(());
-    }
-    Err(Fail::new(format_args!("{row:?}: found {answer:?}, expected {expected:?}")))
-}
-
-fn are_equal(answer: &Result<Outcome, Fault>, expected: Result<References<'_>, Fault>) -> bool {
-    match (answer, expected) {
-        (Ok(outcome), Ok((gained, freed))) => {
-            are_clusters(&outcome.gained, gained) && are_runs(&outcome.freed, freed)
-        }
-        (Err(fault), Err(expected)) => *fault == expected,
-        _ => false,
-    }
-}
-
-fn are_clusters(found: &[HostCluster], expected: &[u64]) -> bool {
-    for (cluster, number) in found.iter().zip(expected) {
-        if cluster.0 != *number {
-            return false;
-        }
-    }
-    found.len() == expected.len()
-}
-
-fn are_runs(found: &[ClustersToFreeEntry], expected: &[(u64, u64)]) -> bool {
-    for (run, (first, count)) in found.iter().zip(expected) {
-        if run.first.0 != *first || run.count.0 != *count {
-            return false;
-        }
-    }
-    found.len() == expected.len()
+    let found = match &answer {
+        Ok(outcome) => Ok((outcome.gained.as_slice(), outcome.freed.as_slice())),
+        Err(fault) => Err(*fault),
+    };
+    same(found, expected, row)
 }
