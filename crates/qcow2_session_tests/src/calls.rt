@@ -68,7 +68,7 @@ pub(crate) fn lookup(
     qcow2_session::lookup(alloc, image, header, l1_table, guest_offset)
 }
 
-pub(crate) fn load_header(alloc: Global, image: &mut MemStorage) -> Result<Header, Fault> {
+pub(crate) fn load_header<S: Storage>(alloc: Global, image: &mut S) -> Result<Header, Fault> {
     Header::load(alloc, image, false)
 }
 
@@ -127,7 +127,7 @@ pub(crate) fn extents_of<S: Storage>(
     alloc: Global,
     image: &mut S,
 ) -> Result<(Vec<Extent>, Vec<Fault>), Fault> {
-    let header = Header::load(alloc, image, false)?;
+    let header = load_header(alloc, image)?;
     read_extents(alloc, image, &header)
 }
 

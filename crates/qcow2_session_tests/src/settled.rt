@@ -91,9 +91,9 @@ const WIDTHS: &[Width] = &[
 
 // Settles a block that begins with these bytes, with each flag, as each row says.
 fn rows_settle(alloc: Global, bytes: &[u8], rows: &[Row<'_>]) -> Result<(), Fail> {
-    for row in rows {
-        settles(alloc, bytes, *row, false)?;
-        settles(alloc, bytes, *row, true)?;
+    for (place, row) in rows.iter().enumerate() {
+        settles(alloc, bytes, *row, false, place)?;
+        settles(alloc, bytes, *row, true, place)?;
     }
     Ok(())
 }
@@ -128,12 +128,18 @@ fn settle_at_ends(alloc: Global, (order, count, greatest): Width) -> Result<(), 
 }
 
 // Settles a block that begins with these bytes, and has the row's counters, with this flag.
-fn settles(alloc: Global, bytes: &[u8], row: Row<'_>, modified: bool) -> Result<(), Fail> {
+fn settles(
+    alloc: Global,
+    bytes: &[u8],
+    row: Row<'_>,
+    modified: bool,
+    place: usize,
+) -> Result<(), Fail> {
     let (image, rt_index, before, references, (fault, marks), after) = row;
     let mut block = block_of(alloc, image, (bytes, before), modified)?;
     let answer = settle(&mut block, image, rt_index, references);
-    same(answer.err(), fault, references)?;
-    counts(&block, after, modified || marks, references)
+    same(answer.err(), fault, place)?;
+    counts(&block, after, modified || marks, place)
 }
 
 // Entry 3 of a table of compressed data in clusters 0 and 1, and one of data in cluster 6.
@@ -180,9 +186,9 @@ const THERE_AND_BACK: Result<References<'static>, Fault> = Ok(outcome!([6, 5], [
 
 #[test]
 fn edits_are_counted_or_not_made(rt: HostRuntime) -> Result<(), Fail> {
-    for row in SETTLED {
-        edits_settle(rt.alloc(), *row, (false, true))?;
-        edits_settle(rt.alloc(), *row, (true, false))?;
+    for (place, row) in SETTLED.iter().enumerate() {
+        edits_settle(rt.alloc(), *row, (false, true), place)?;
+        edits_settle(rt.alloc(), *row, (true, false), place)?;
     }
     Ok(())
 }
@@ -192,21 +198,17 @@ fn edits_settle(
     alloc: Global,
     row: Settled<'_>,
     (table_modified, block_modified): (bool, bool),
+    place: usize,
 ) -> Result<(), Fail> {
     let ((order, external, rt_index), (before, entry), edits, expected, left) = row;
     let image: Image = (9, order, external);
     let mut table = table_with(alloc, (9, external), (3, &[entry]), table_modified)?;
     let mut block = block_of(alloc, image, (&[], before), block_modified)?;
     let answer = edit_settled(&mut table, &mut block, image, rt_index, edits);
-    did(answer, expected, edits)?;
+    did(answer, expected, place)?;
     let table_modified = table_modified || expected.is_ok() && !edits.is_empty();
-    are_left(
-        &table,
-        &block,
-        left,
-        (table_modified, block_modified),
-        edits,
-    )
+    let modified = (table_modified, block_modified);
+    are_left(&table, &block, left, modified, place)
 }
 
 // Fails unless this is left of a table and of a block that had this flag.
@@ -215,10 +217,10 @@ fn are_left(
     block: &RefBlock,
     (counters, entry, counts_some): (Counters<'_>, u64, bool),
     (table_modified, block_modified): (bool, bool),
-    row: &[Edit],
+    place: usize,
 ) -> Result<(), Fail> {
-    says(table, (3, &[entry]), table_modified, row)?;
-    counts(block, counters, block_modified || counts_some, row)
+    says(table, (3, &[entry]), table_modified, place)?;
+    counts(block, counters, block_modified || counts_some, place)
 }
 
 // The sample image with a refcount block at cluster 3, in which cluster 5 has a reference.

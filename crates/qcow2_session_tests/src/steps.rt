@@ -132,17 +132,17 @@ fn no_counter_passes_the_ends_of_its_width(rt: HostRuntime) -> Result<(), Fail> 
     Ok(())
 }
 
-// Ten thousand increments of 256 counters, one after the other, over and over, then a decrement for each of
-// them, the last one first, and what comes of them.
-fn many_steps(alloc: Global) -> Result<(Vec<Step>, Vec<StepReply>), AllocError> {
+// So many of ten thousand increments of 256 counters, one after the other, over and over, and then a
+// decrement for each of them, the last one first, with what comes of them.
+fn many_steps(alloc: Global, count: usize) -> Result<(Vec<Step>, Vec<StepReply>), AllocError> {
     let mut steps = Vec::new(alloc);
     let mut replies = Vec::new(alloc);
-    for place in 0..20_000usize {
+    for place in 0..count {
         if place < 10_000 {
             steps.push(Step::Inc { index: place % 256 })?;
             replies.push(Done((place / 256) as u64))?;
         } else {
-            let back = 19_999 - place;
+            let back = 19_999usize.saturating_sub(place);
             steps.push(Step::Dec { index: back % 256 })?;
             replies.push(Done((back / 256) as u64 + 1))?;
         }
@@ -150,16 +150,15 @@ fn many_steps(alloc: Global) -> Result<(Vec<Step>, Vec<StepReply>), AllocError> 
     Ok((steps, replies))
 }
 
+fn many_are_made(alloc: Global, count: usize, counters: Counters<'_>) -> Result<(), Fail> {
+    let (steps, replies) = many_steps(alloc, count)?;
+    let row: Row<'_> = ("many steps", (4, &[]), &steps, Ok(&replies), counters);
+    leave(alloc, row, false)
+}
+
 // 10,000 is 39 times 256, and 16.
 #[test]
 fn ten_thousand_steps_up_and_down_are_made_in_their_order(rt: HostRuntime) -> Result<(), Fail> {
-    let (steps, replies) = many_steps(rt.alloc())?;
-    let (up, done) = (
-        steps.get(..10_000).unwrap_or(&[]),
-        replies.get(..10_000).unwrap_or(&[]),
-    );
-    let row: Row<'_> = ("up", (4, &[]), up, Ok(done), &[(0, 16, 40), (16, 240, 39)]);
-    leave(rt.alloc(), row, false)?;
-    let row: Row<'_> = ("up and down", (4, &[]), &steps, Ok(&replies), &[]);
-    leave(rt.alloc(), row, false)
+    many_are_made(rt.alloc(), 10_000, &[(0, 16, 40), (16, 240, 39)])?;
+    many_are_made(rt.alloc(), 20_000, &[])
 }

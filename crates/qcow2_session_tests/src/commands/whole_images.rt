@@ -71,6 +71,40 @@ const TABLE_ALONE: Numbers<'static> = rows! {
 // An autoclear feature, which no command leaves that edits or counts.
 const AUTOCLEAR: Numbers<'static> = &[(88, 1)];
 
+// Commands over the sample image that leave it as it is, and what they end with.
+const LOOKS: &[(&str, Outcome<'static>)] = rows! {
+    // tables, by their cluster bits and their cluster
+    ("l2 IMAGE 9 2", (0, ONE_LINE, "")),
+    ("l2 IMAGE 9 0", BAD_ENTRY),
+    ("l2 IMAGE 10 1", (1, "", "qmeta: fault 19\n")),
+    ("l2 IMAGE 21 1", SILENT),
+    ("l2 IMAGE 9 140737488355327", SILENT),
+    ("l2 IMAGE 9 140737488355328", NO_PLACE),
+    ("l2 IMAGE 9 18446744073709551615", NO_PLACE),
+    ("l2 IMAGE 9 00000000000000000002", (0, ONE_LINE, "")),
+    ("l2 IMAGE 00000000000000000009 2", (0, ONE_LINE, "")),
+    // no file
+    ("l2 no-such-folder/image 9 2", NO_FILE),
+    ("l2 / 9 2", NO_FILE),
+    ("l2  9 140737488355328", NO_FILE),
+    ("edit no-such-folder/image 0 zero:3", NO_FILE),
+    // whole images
+    ("info IMAGE", (0, INFO, "")),
+    ("list IMAGE", (0, LIST, "")),
+    ("at IMAGE 1543", (0, DATA, "")),
+    ("at IMAGE 32768", (0, "backing 0x8000\n", "")),
+    ("at IMAGE 18446744073709551615", (0, "backing 0xfffffffffffffe00\n", "")),
+    ("edit IMAGE 0", SILENT),
+    ("count IMAGE 3 dec:0", (0, "refused\n", "")),
+    ("edit IMAGE 0 discard:3 map:64:5", BAD_EDIT),
+    ("edit IMAGE 0 map:0:0", BAD_EDIT),
+    ("edit IMAGE 0 map:63:281474976710655", BAD_EDIT),
+    ("edit IMAGE 1 discard:0", NO_TABLE),
+    ("edit IMAGE 18446744073709551615", NO_TABLE),
+    ("count IMAGE 3 inc:256", (1, "", "qmeta: fault 33\n")),
+    ("count IMAGE 140737488355328 inc:0", NO_PLACE),
+};
+
 // Changes of the sample image, a command, what it ends with, and how the image differs from the sample image
 // then.
 type Row = (
@@ -81,38 +115,9 @@ type Row = (
 );
 
 const ROWS: &[Row] = rows! {
-    // tables, by their cluster bits and their cluster
+    // a table and no header
     (TABLE_ALONE, "l2 IMAGE 9 2", (0, ONE_LINE, ""), TABLE_ALONE),
     (TABLE_ALONE, "l2 IMAGE 9 0", SILENT, TABLE_ALONE),
-    (&[], "l2 IMAGE 9 2", (0, ONE_LINE, ""), &[]),
-    (&[], "l2 IMAGE 9 0", BAD_ENTRY, &[]),
-    (&[], "l2 IMAGE 10 1", (1, "", "qmeta: fault 19\n"), &[]),
-    (&[], "l2 IMAGE 21 1", SILENT, &[]),
-    (&[], "l2 IMAGE 9 140737488355327", SILENT, &[]),
-    (&[], "l2 IMAGE 9 140737488355328", NO_PLACE, &[]),
-    (&[], "l2 IMAGE 9 18446744073709551615", NO_PLACE, &[]),
-    (&[], "l2 IMAGE 9 00000000000000000002", (0, ONE_LINE, ""), &[]),
-    (&[], "l2 IMAGE 00000000000000000009 2", (0, ONE_LINE, ""), &[]),
-    // no file
-    (&[], "l2 no-such-folder/image 9 2", NO_FILE, &[]),
-    (&[], "l2 / 9 2", NO_FILE, &[]),
-    (&[], "l2  9 140737488355328", NO_FILE, &[]),
-    (&[], "edit no-such-folder/image 0 zero:3", NO_FILE, &[]),
-    // commands that leave the image as it is
-    (&[], "info IMAGE", (0, INFO, ""), &[]),
-    (&[], "list IMAGE", (0, LIST, ""), &[]),
-    (&[], "at IMAGE 1543", (0, DATA, ""), &[]),
-    (&[], "at IMAGE 32768", (0, "backing 0x8000\n", ""), &[]),
-    (&[], "at IMAGE 18446744073709551615", (0, "backing 0xfffffffffffffe00\n", ""), &[]),
-    (&[], "edit IMAGE 0", SILENT, &[]),
-    (&[], "count IMAGE 3 dec:0", (0, "refused\n", ""), &[]),
-    (&[], "edit IMAGE 0 discard:3 map:64:5", BAD_EDIT, &[]),
-    (&[], "edit IMAGE 0 map:0:0", BAD_EDIT, &[]),
-    (&[], "edit IMAGE 0 map:63:281474976710655", BAD_EDIT, &[]),
-    (&[], "edit IMAGE 1 discard:0", NO_TABLE, &[]),
-    (&[], "edit IMAGE 18446744073709551615", NO_TABLE, &[]),
-    (&[], "count IMAGE 3 inc:256", (1, "", "qmeta: fault 33\n"), &[]),
-    (&[], "count IMAGE 140737488355328 inc:0", NO_PLACE, &[]),
     // edits and steps, which change their table or block alone, and may lengthen the image
     (&[], "edit IMAGE 0 map:3:5 map:3:6 discard:3", (0, "freed 5 1\nfreed 6 1\ngained 6\n", ""),
         &[(1048, 0)]),
@@ -151,11 +156,24 @@ const ROWS: &[Row] = rows! {
 const VERSION_4: Numbers<'static> = &[(0, 0x5146_49fb_0000_0004)];
 
 #[test]
-fn each_command_says_what_the_image_means_and_changes_just_its_part(
-    rt: HostRuntime,
-) -> Result<(), Fail> {
+fn each_command_says_what_the_image_means(rt: HostRuntime) -> Result<(), Fail> {
+    for (line, expected) in LOOKS {
+        ends_with(&rt, "looks", (&[], &[]), line, NO_FAILURES, *expected)?;
+    }
+    Ok(())
+}
+
+#[test]
+fn edits_and_steps_change_just_their_table_or_block(rt: HostRuntime) -> Result<(), Fail> {
     for (before, line, expected, after) in ROWS {
-        ends_with(&rt, "images", (before, after), line, NO_FAILURES, *expected)?;
+        ends_with(
+            &rt,
+            "changes",
+            (before, after),
+            line,
+            NO_FAILURES,
+            *expected,
+        )?;
     }
     Ok(())
 }
