@@ -1,7 +1,7 @@
 //! Lists of edits of an image: what stands in it then, what is handed back, and what refuses them.
 
 use crate::calls::edit_image;
-use crate::images::{Image, image_holds, recording_image};
+use crate::images::{Contents, image_holds, recording_image};
 use crate::tables::{GONE, PAST, References, TO_0, TO_5, TO_6, did, map, outcome};
 use qcow2_base::Fault;
 use qcow2_session::Edit;
@@ -25,10 +25,10 @@ const RESERVED: &[u8] = &[2];
 type Row = (
     &'static str,
     (u32, u64, bool),
-    Image<'static>,
+    Contents<'static>,
     &'static [Edit],
     Result<References<'static>, Fault>,
-    Image<'static>,
+    Contents<'static>,
 );
 
 const ROWS: &[Row] = rows! {
@@ -61,15 +61,15 @@ const NOTHING: Result<References<'static>, Fault> = Ok(outcome!([], []));
 // The last cluster of 512 bytes that ends by 2^56.
 const LAST: u64 = 0x7fff_ffff_ffff;
 
-const ONE: Image<'static> = (1536, &[DATA]);
+const ONE: Contents<'static> = (1536, &[DATA]);
 
-const SHORT: Image<'static> = (700, &[]);
+const SHORT: Contents<'static> = (700, &[]);
 
-const DAMAGED: Image<'static> = (1536, &[DATA, (1535, RESERVED)]);
+const DAMAGED: Contents<'static> = (1536, &[DATA, (1535, RESERVED)]);
 
-const DAMAGED_2: Image<'static> = (2048, &[DATA, (1063, RESERVED)]);
+const DAMAGED_2: Contents<'static> = (2048, &[DATA, (1063, RESERVED)]);
 
-const DAMAGED_LAST: Image<'static> = (4_194_304, &[(4_194_303, RESERVED)]);
+const DAMAGED_LAST: Contents<'static> = (4_194_304, &[(4_194_303, RESERVED)]);
 
 #[test]
 fn edits_stand_in_the_image_or_leave_it(rt: HostRuntime) -> Result<(), Fail> {

@@ -2,7 +2,7 @@
 
 use crate::blocks::answered;
 use crate::calls::step_image;
-use crate::images::{Image, image_holds, recording_image};
+use crate::images::{Contents, image_holds, recording_image};
 use crate::steps::{DEC_0, DEC_1, INC_0, UP_UP_DOWN};
 use StepReply::{Done, Refused};
 use qcow2_base::Fault;
@@ -18,10 +18,10 @@ const ENTRY: &[u8] = &[0x80, 0, 0, 0, 0, 0, 0x0a, 0];
 type Row = (
     &'static str,
     (u32, u64, u32),
-    Image<'static>,
+    Contents<'static>,
     &'static [Step],
     Result<&'static [StepReply], Fault>,
-    Image<'static>,
+    Contents<'static>,
 );
 
 const ROWS: &[Row] = rows! {
@@ -43,9 +43,9 @@ const ROWS: &[Row] = rows! {
     ("past 64 bits", (21, u64::MAX, 4), TABLE, &[], Err(Fault::TablePlace), TABLE),
 };
 
-const TABLE: Image<'static> = (1536, &[(1048, ENTRY)]);
+const TABLE: Contents<'static> = (1536, &[(1048, ENTRY)]);
 
-const SEVEN: Image<'static> = (1300, &[(512, &[0, 7])]);
+const SEVEN: Contents<'static> = (1300, &[(512, &[0, 7])]);
 
 // The last cluster of 512 bytes that ends by 2^56.
 const LAST: u64 = 0x7fff_ffff_ffff;

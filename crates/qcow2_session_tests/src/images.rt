@@ -11,7 +11,7 @@ use std::test::Fail;
 pub(crate) type Parts<'a> = &'a [(u64, &'a [u8])];
 
 /// How many bytes an image has, and the parts that stand in it.
-pub(crate) type Image<'a> = (usize, Parts<'a>);
+pub(crate) type Contents<'a> = (usize, Parts<'a>);
 
 /// A header of an image with these cluster bits and this refcount order, whose guest data may lie in an
 /// external data file.
@@ -41,7 +41,7 @@ fn image_of(
     alloc: Global,
     (bits, cluster): (u32, u64),
     around: u8,
-    (len, parts): Image<'_>,
+    (len, parts): Contents<'_>,
 ) -> Result<MemStorage, Fault> {
     let size = 1usize.wrapping_shl(bits);
     let start = (cluster as usize).saturating_mul(size).min(len);
@@ -63,7 +63,7 @@ pub(crate) fn recording_image(
     alloc: Global,
     place: (u32, u64),
     around: u8,
-    contents: Image<'_>,
+    contents: Contents<'_>,
 ) -> Result<FailingStorage<MemStorage>, Fault> {
     Ok(FailingStorage::new(alloc, image_of(alloc, place, around, contents)?))
 }
@@ -75,7 +75,7 @@ pub(crate) fn image_holds(
     alloc: Global,
     place: (u32, u64),
     around: u8,
-    contents: Image<'_>,
+    contents: Contents<'_>,
     (is_read, is_written): (bool, bool),
     row: &str,
 ) -> Result<(), Fail> {

@@ -58,8 +58,8 @@ const ROWS: &[Row] = rows! {
     ("an unaligned L1 table", 16, &[(40, 0x1_0200)], &[(0, Refused(Fault::L1Unaligned))]),
     ("4194305 L1 entries", 9, &[(32, 4_194_305)], TOO_MANY),
     ("2^32 - 1 L1 entries", 9, &[(32, 0xffff_ffff)], TOO_MANY),
-    ("an L1 table at 2^56", 9, &[(40, 1 << 56)], PAST),
-    ("an L1 table of no entry past 2^56", 9, &[(32, 0), (40, (1 << 56) + 512)], PAST),
+    ("an L1 table at 2^56", 9, &[(40, 1 << 56)], TOO_FAR),
+    ("an L1 table of no entry past 2^56", 9, &[(32, 0), (40, (1 << 56) + 512)], TOO_FAR),
     ("a bad L1 entry", 9, &[(32, 2), (520, 1)], &[(1543, RESERVED), (u64::MAX, RESERVED)]),
     ("one past the table", 9, &[(520, 1)], &[(32768, Backing(32768))]),
     ("an unaligned L2 table", 16, &[(0x1_0000, COPIED + 0x2_0200)], &[(u64::MAX, UNALIGNED)]),
@@ -80,7 +80,7 @@ const TOO_MANY: Offsets<'static> = &[
     (u64::MAX, Refused(Fault::TableTooBig)),
 ];
 
-const PAST: Offsets<'static> = &[
+const TOO_FAR: Offsets<'static> = &[
     (1543, Refused(Fault::TablePlace)),
     (u64::MAX, Refused(Fault::TablePlace)),
 ];

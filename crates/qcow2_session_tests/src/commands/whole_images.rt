@@ -14,7 +14,7 @@ const LIST: &str = "0x600 data 0xa00 copied\n";
 
 const ONE_LINE: &str = "3 data 0xa00 copied\n";
 
-const DATA: &str = "data 0xa00 copied\n";
+const DATA_LINE: &str = "data 0xa00 copied\n";
 
 const BACKING: &str = "backing 0x0\n";
 
@@ -91,7 +91,7 @@ const LOOKS: &[(&str, Outcome<'static>)] = rows! {
     // whole images
     ("info IMAGE", (0, INFO, "")),
     ("list IMAGE", (0, LIST, "")),
-    ("at IMAGE 1543", (0, DATA, "")),
+    ("at IMAGE 1543", (0, DATA_LINE, "")),
     ("at IMAGE 32768", (0, "backing 0x8000\n", "")),
     ("at IMAGE 18446744073709551615", (0, "backing 0xfffffffffffffe00\n", "")),
     ("edit IMAGE 0", SILENT),
@@ -236,7 +236,7 @@ const FAILING: &[FailingRow] = rows! {
     (LINES_5, "l2 IMAGE 9 2", (WriteAfter(30), Never), (1, CUT_LINES, STORAGE), LINES_5),
     (LINES_5, "l2 IMAGE 9 2", (WriteAfter(64), Never), (0, LINES, ""), LINES_5),
     (&[], "list IMAGE", (WriteAfter(6), Never), (1, "0x600 ", STORAGE), &[]),
-    (&[], "edit IMAGE 0 map:3:6", (WriteAfter(10), Never), (1, "freed 5 1\n", STORAGE), TO_6),
+    (&[], "edit IMAGE 0 map:3:6", (WriteAfter(10), Never), (1, "freed 5 1\n", STORAGE), MAPPED_TO_6),
     (&[], "count IMAGE 3 inc:0 dec:1", (WriteAfter(4), Never), (1, "ok 0", STORAGE), COUNTED),
     // a failed flush is told where the run has no fault of its own
     (&[], "l2 IMAGE 9 2", (Flush, Never), NO_FILE, &[]),
@@ -251,7 +251,7 @@ const FAILING: &[FailingRow] = rows! {
 
 const CUT_LINES: &str = "0 data 0xa00 copied\n2 zero\n3 z";
 
-const TO_6: Numbers<'static> = &[(1048, COPIED + 0xc00)];
+const MAPPED_TO_6: Numbers<'static> = &[(1048, COPIED + 0xc00)];
 
 const COUNTED: Numbers<'static> = &[(1536, 1 << 48), (2040, 0)];
 
@@ -267,8 +267,8 @@ fn failing_outputs_are_told_and_keep_what_they_took(rt: HostRuntime) -> Result<(
 const MAPS: &[(&str, Outcome<'static>)] = rows! {
     ("at IMAGE 32768", (0, "backing 0x8000\n", "")),
     ("edit IMAGE 1 map:0:5", (0, "gained 5\n", "")),
-    ("at IMAGE 32768", (0, DATA, "")),
-    ("at IMAGE 1543", (0, DATA, "")),
+    ("at IMAGE 32768", (0, DATA_LINE, "")),
+    ("at IMAGE 1543", (0, DATA_LINE, "")),
     ("list IMAGE", (0, "0x600 data 0xa00 copied\n0x8000 data 0xa00 copied\n", "")),
     ("edit IMAGE 0 map:3:6", (0, MAPPED, "")),
     ("at IMAGE 1543", (0, "data 0xc00 copied\n", "")),
@@ -297,7 +297,7 @@ const CALLS: &[(&str, &str, u64)] = rows! {
     ("l2 IMAGE 9 2", ONE_LINE, 1 + 8),
     ("info IMAGE", INFO, 1 + 11),
     ("list IMAGE", LIST, 1 + 11 + 3 + 8),
-    ("at IMAGE 1543", DATA, 1 + 11 + 3 + 8),
+    ("at IMAGE 1543", DATA_LINE, 1 + 11 + 3 + 8),
     ("edit IMAGE 0 map:3:6", MAPPED, 1 + 11 + 3 + 8 + 8),
     ("count IMAGE 3 inc:0 dec:1", "ok 0\nrefused\n", 1 + 11 + 1 + 8),
 };
