@@ -2,19 +2,16 @@
 //! time of a round in nanoseconds to standard error: `scripts/benchmark` runs it beside plain Rust.
 #![tactic(auto)]
 
-ghost use Rattle.std.specs.Prelude.{◌≡◌, ◌^◌, ◌-◌, ◌+◌, ◌*◌, ◌≤◌, ◌<◌, length, IfOk};
-ghost use Rattle.qcow2_base.specs.Types.{IsClusterBits};
-
 use anyhow::Result;
-use qcow2_base::{HostCluster, MemStorage};
+use qcow2_base::{Fault, HostCluster, MemStorage};
 use qcow2_metadata::{Header, L2Table, RefBlock, Table};
-use qcow2_session::{Edit, edit_settled, edit_table};
-use std::alloc::Global;
+use qcow2_session::{Edit, Outcome, edit_settled, edit_table};
+use std::alloc::{AllocError, Global};
 use std::env;
 use std::time::{CpuClock, Duration};
 
 /// Which entries a table has.
-#[derive(Clone, Copy, Debug)]
+#[derive(Clone, Copy)]
 enum Entries {
     /// Each maps its guest cluster to data.
     Data,
@@ -26,7 +23,7 @@ enum Entries {
 fn main(rt: HostRuntime) -> Result<()> {
     let rounds = rounds(&rt)?;
     for (name, entries) in [("data", Entries::Data), ("mixed", Entries::Mixed)] {
-        for cluster_bits in [16, 21u32] {
+        for cluster_bits in [16, 21] {
             measure(&rt, name, entries, cluster_bits, rounds)?;
         }
     }
@@ -40,6 +37,13 @@ fn rounds(rt: &HostRuntime) -> Result<u32> {
     }
 }
 
+// The time now, after that since a start was taken into the least of its kind.
+fn lap(rt: &HostRuntime, start: Duration, least: &mut Duration) -> Result<Duration> {
+    let now = rt.thread_cpu_time()?;
+    *least = (*least).min(now.saturating_sub(start));
+    Ok(now)
+}
+
 // The least time of a load and of a write of an L2 table that fills a cluster.
 fn measure(
     rt: &HostRuntime,
@@ -47,24 +51,18 @@ fn measure(
     entries: Entries,
     cluster_bits: u32,
     rounds: u32,
-) -> Result<()>
-    requires { IsClusterBits cluster_bits }
-{
-    let alloc = rt.alloc();
-    let header = Header::new(alloc, cluster_bits, 4, None, None, None)?;
-    let count = header.l2_entries();
-    let mut image = MemStorage::new(image_with(alloc, header.cluster_size(), count, entries)?);
-    let mut loaded = Duration::MAX;
-    let mut written = Duration::MAX;
+) -> Result<()> {
+    let header = header_with(rt.alloc(), cluster_bits)?;
+    let mut image = image_with(rt.alloc(), &header, entries)?;
+    let (mut loaded, mut written) = (Duration::MAX, Duration::MAX);
     for _ in 0..rounds {
         let start = rt.thread_cpu_time()?;
-        let mut table = L2Table::load(alloc, &mut image, &header, HostCluster(1), count)?;
-        let middle = rt.thread_cpu_time()?;
-        table.write(&mut image)?;
-        let end = rt.thread_cpu_time()?;
-        loaded = loaded.min(middle.saturating_sub(start));
-        written = written.min(end.saturating_sub(middle));
+        let mut table = load_table(rt.alloc(), &mut image, &header)?;
+        let after_load = lap(rt, start, &mut loaded)?;
+        write_table(&mut table, &mut image)?;
+        lap(rt, after_load, &mut written)?;
     }
+    let count = header.l2_entries();
     eprintln!(rt; "load-{name} {count} {}", loaded.as_nanos())?;
     eprintln!(rt; "write-{name} {count} {}", written.as_nanos())?;
     Ok(())
@@ -73,30 +71,21 @@ fn measure(
 // The least time of 8192 edits of an L2 table of 262144 entries, of a copy of the table, and of the same
 // edits together with their counters, in clusters of 2 MiB.
 fn measure_edits(rt: &HostRuntime, rounds: u32) -> Result<()> {
-    let alloc = rt.alloc();
-    let header = Header::new(alloc, 21, 4, None, None, None)?;
-    let mut image = MemStorage::new(image_with(
-        alloc,
-        header.cluster_size(),
-        262144,
-        Entries::Data,
-    )?);
-    let mut counters = image_of_ones(alloc)?;
-    let edits = edits_of_every_32nd_entry(alloc)?;
+    let header = header_with(rt.alloc(), 21)?;
+    let mut image = image_with(rt.alloc(), &header, Entries::Data)?;
+    let mut counters = image_of_ones(rt.alloc())?;
+    let edits = edits_of_every_32nd_entry(rt.alloc())?;
     let (mut edited, mut copied, mut settled) = (Duration::MAX, Duration::MAX, Duration::MAX);
     for _ in 0..rounds {
-        let mut table = L2Table::load(alloc, &mut image, &header, HostCluster(1), 262144)?;
-        let mut block = RefBlock::load(alloc, &mut counters, &header, HostCluster(0))?;
+        let mut table = load_table(rt.alloc(), &mut image, &header)?;
+        let mut block = load_block(rt.alloc(), &mut counters, &header)?;
         let start = rt.thread_cpu_time()?;
-        let mut copy = table.try_clone()?;
-        let after_copy = rt.thread_cpu_time()?;
-        edit_table(alloc, &mut copy, &edits)?;
-        let after_edits = rt.thread_cpu_time()?;
-        edit_settled(alloc, &mut table, &mut block, &header, 0, &edits)?;
-        let end = rt.thread_cpu_time()?;
-        copied = copied.min(after_copy.saturating_sub(start));
-        edited = edited.min(after_edits.saturating_sub(after_copy));
-        settled = settled.min(end.saturating_sub(after_edits));
+        let mut copy = copy_of(&table)?;
+        let after_copy = lap(rt, start, &mut copied)?;
+        edit(&mut copy, &edits)?;
+        let after_edits = lap(rt, after_copy, &mut edited)?;
+        settle(&mut table, &mut block, &header, 0, &edits)?;
+        lap(rt, after_edits, &mut settled)?;
     }
     eprintln!(rt; "copied 262144 {}", copied.as_nanos())?;
     eprintln!(rt; "edited 8192 {}", edited.as_nanos())?;
@@ -105,7 +94,7 @@ fn measure_edits(rt: &HostRuntime, rounds: u32) -> Result<()> {
 }
 
 // Each maps another cluster in place of the one that the entry has.
-fn edits_of_every_32nd_entry(alloc: Global) -> Result<Vec<Edit>> {
+fn edits_of_every_32nd_entry(alloc: Global) -> Result<Vec<Edit>, AllocError> {
     let mut edits = Vec::new(alloc);
     for at in 0..8192 {
         edits.push(Edit::Map {
@@ -117,7 +106,7 @@ fn edits_of_every_32nd_entry(alloc: Global) -> Result<Vec<Edit>> {
 }
 
 // A block of 2 MiB whose counters are all 1, of 16 bits each.
-fn image_of_ones(alloc: Global) -> Result<MemStorage> {
+fn image_of_ones(alloc: Global) -> Result<MemStorage, AllocError> {
     let mut bytes = Vec::new(alloc);
     for _ in 0..1u32 << 20 {
         bytes.extend_from_slice(&[0, 1])?;
@@ -125,15 +114,13 @@ fn image_of_ones(alloc: Global) -> Result<MemStorage> {
     Ok(MemStorage::new(bytes))
 }
 
-// An image whose second cluster is a table of so many entries.
-fn image_with(alloc: Global, cluster_size: usize, count: usize, entries: Entries) -> Result<Vec<u8>>
-    requires { cluster_size ≤ 2 ^ 21 }
-{
-    let mut bytes = vec![in alloc; 0u8; cluster_size]?;
-    for index in 0..count {
+// An image whose second cluster is a table.
+fn image_with(alloc: Global, header: &Header, entries: Entries) -> Result<MemStorage, AllocError> {
+    let mut bytes = vec![in alloc; 0u8; header.cluster_size()]?;
+    for index in 0..header.l2_entries() {
         bytes.extend_from_slice(&number(index as u64, entries).to_be_bytes())?;
     }
-    Ok(bytes)
+    Ok(MemStorage::new(bytes))
 }
 
 // The number of an entry: lawful under each cluster size.
@@ -148,4 +135,51 @@ fn number(index: u64, entries: Entries) -> u64 {
             _ => 0,
         },
     }
+}
+
+// The calls that are measured stand in functions of their own, so that no proof of a measurement has to read
+// what they ensure.
+
+fn header_with(alloc: Global, cluster_bits: u32) -> Result<Header, Fault> {
+    if cluster_bits < 9 || cluster_bits > 21 {
+        return Err(Fault::ClusterSize);
+    }
+    Header::new(alloc, cluster_bits, 4, None, None, None)
+}
+
+fn load_table(alloc: Global, image: &mut MemStorage, header: &Header) -> Result<L2Table, Fault> {
+    L2Table::load(alloc, image, header, HostCluster(1), header.l2_entries())
+}
+
+fn write_table(table: &mut L2Table, image: &mut MemStorage) -> Result<(), Fault> {
+    table.write(image)
+}
+
+fn load_block(alloc: Global, image: &mut MemStorage, header: &Header) -> Result<RefBlock, Fault> {
+    RefBlock::load(alloc, image, header, HostCluster(0))
+}
+
+fn copy_of(table: &L2Table) -> Result<L2Table, Fault> {
+    table.try_clone()
+}
+
+fn edit(table: &mut L2Table, edits: &[Edit]) -> Result<Outcome, Fault> {
+    edit_table(table.allocator(), table, edits)
+}
+
+fn settle(
+    table: &mut L2Table,
+    block: &mut RefBlock,
+    header: &Header,
+    rt_index: usize,
+    edits: &[Edit],
+) -> Result<Outcome, Fault> {
+    if header.cluster_bits() != block.cluster_bits()
+        || header.refcount_order() != block.refcount_order()
+        || header.cluster_bits() != table.cluster_bits()
+        || header.external_data_file() != table.external_data_file()
+    {
+        return Err(Fault::WrongLength);
+    }
+    edit_settled(table.allocator(), table, block, header, rt_index, edits)
 }

@@ -31,6 +31,3 @@ pub fn discard_cluster_3(alloc: Global, image: &mut MemStorage) -> Result<Outcom
     block.write(image)?;
     Ok(outcome)
 }
-
-#[cfg(test)]
-mod tests;

@@ -2,7 +2,7 @@
 
 use crate::calls::{flag, load_block, step_block};
 use qcow2_base::{Fault, HostCluster};
-use qcow2_metadata::{Header, RefBlock};
+use qcow2_metadata::RefBlock;
 use qcow2_session::{Step, StepReply};
 use qcow2_testing::same;
 use std::alloc::{AllocError, Global};
@@ -16,14 +16,15 @@ pub(crate) type Counters<'a> = &'a [(usize, usize, u64)];
 // The cluster of each block.
 const CLUSTER: HostCluster = HostCluster(0);
 
-/// A block of an image with this header that begins with these bytes. These counters are counted up then.
+/// A block that begins with these bytes, of an image with these cluster bits and this refcount order, whose
+/// guest data may be external. These counters are counted up then.
 pub(crate) fn block_of(
     alloc: Global,
-    header: &Header,
+    image: (u32, u32, bool),
     (bytes, counters): (&[u8], Counters<'_>),
     modified: bool,
 ) -> Result<RefBlock, Fault> {
-    let mut block = load_block(alloc, bytes, header)?;
+    let mut block = load_block(alloc, bytes, image)?;
     count_up(&mut block, counters)?;
     flag(&mut block, modified);
     Ok(block)

@@ -1,20 +1,15 @@
 //! An output that tells what was flushed, and fails where a test plans it, to show what a caller does
 //! then.
 
-ghost use Rattle.std.specs.Prelude.{◌≡◌, ◌<◌, ◌≤◌, [], length, Some, IsErr, IfOk, OnOk, OnErr};
-ghost use Rattle.std.specs.Io.{WritesAtMost};
-ghost use Rattle.std.specs.Io.KnownBytes.{Keeps, WriteAppends};
+ghost use Rattle.std.specs.Prelude.{None};
 
-use std::alloc::{AllocError, Global};
+use std::alloc::Global;
 use std::io;
 use std::io::Write;
 
-/// How much memory an output has from the start, so that writing asks for none.
-const CAPACITY: usize = 512;
-
 /// Where an output fails.
 #[derive(Clone, Copy)]
-pub enum Failure {
+pub(crate) enum Failure {
     /// Nowhere.
     Never,
     /// Once: at the write that would take one byte more than this.
@@ -26,56 +21,37 @@ pub enum Failure {
 /// An output that keeps what is written to it, and tells how much of it was flushed. A call that
 /// fails keeps nothing.
 #[derive(Drop)]
-pub struct FailingOutput {
+pub(crate) struct FailingOutput {
     bytes: Vec<u8>,
     flushed: usize,
     failure: Failure,
-    ghost within: { flushed ≤ length bytes.items },
 }
 
 impl FailingOutput {
-    ghost use Rattle.qcow2_session_tests.specs.FailingOutput.{failure_of, flushed_bytes, written_bytes};
-
     /// An empty output that fails there.
-    pub fn new(alloc: Global, failure: Failure) -> Result<FailingOutput, AllocError>
-        ensures bytes { IfOk result (λ output. written_bytes output ≡ []) }
-        ensures failure { IfOk result (λ output. failure_of output ≡ failure) }
-    {
-        Ok(FailingOutput {
-            bytes: Vec::with_capacity(alloc, CAPACITY)?,
+    pub(crate) fn new(alloc: Global, failure: Failure) -> FailingOutput {
+        FailingOutput {
+            bytes: Vec::new(alloc),
             flushed: 0,
             failure,
-        })
+        }
     }
 
     /// What was written, in its order.
-    pub fn bytes(&self) -> &[u8]
-        ensures { result.now ≡ written_bytes self.now }
-    {
+    pub(crate) fn bytes(&self) -> &[u8] {
         &self.bytes
     }
 
     /// What was written before the last flush.
-    pub fn flushed(&self) -> &[u8]
-        ensures { result.now ≡ flushed_bytes self.now }
-    {
-        &self.bytes[..self.flushed]
+    pub(crate) fn flushed(&self) -> &[u8] {
+        self.bytes.get(..self.flushed).unwrap_or(&[])
     }
 }
 
 impl Write for FailingOutput {
-    ghost use Rattle.qcow2_session_tests.specs.FailingOutput.{failure_of, flushed_bytes, written_bytes};
+    ghost contents = { λ _. None };
 
-    ghost contents = { λ o. Some o.bytes.items };
-
-    fn write(&mut self, buf: &[u8]) -> io::Result<usize>
-        ensures bound { WritesAtMost result buf.now }
-        ensures bytes { WriteAppends (Some (written_bytes self.old)) (Some (written_bytes self.new))
-            result buf.now }
-        ensures planned { failure_of self.old ≡ Failure.WriteAfter 0 →
-            0 < length buf.now → IsErr result }
-        ensures flushed { flushed_bytes self.new ≡ flushed_bytes self.old }
-    {
+    fn write(&mut self, buf: &[u8]) -> io::Result<usize> {
         let Failure::WriteAfter(room) = self.failure else {
             return self.bytes.write(buf);
         };
@@ -88,12 +64,7 @@ impl Write for FailingOutput {
         self.bytes.write(&buf[..taken])
     }
 
-    fn flush(&mut self) -> io::Result<()>
-        ensures bytes { Keeps (Some (written_bytes self.old)) (Some (written_bytes self.new)) }
-        ensures passed { OnOk result (flushed_bytes self.new ≡ written_bytes self.old) }
-        ensures failed { OnErr result (flushed_bytes self.new ≡ flushed_bytes self.old) }
-        ensures planned { failure_of self.old ≡ Failure.Flush → IsErr result }
-    {
+    fn flush(&mut self) -> io::Result<()> {
         if let Failure::Flush = self.failure {
             return Err(io::Error::other("the flush was planned to fail"));
         }

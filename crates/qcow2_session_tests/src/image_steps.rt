@@ -2,10 +2,10 @@
 
 use crate::blocks::answered;
 use crate::calls::step_image;
-use crate::images::{Parts, header_with, image_holds, recording_image};
-use crate::steps::{DEC_0, DEC_1, INC_0};
+use crate::images::{Contents, image_holds, recording_image};
+use crate::steps::{DEC_0, DEC_1, INC_0, UP_UP_DOWN};
 use StepReply::{Done, Refused};
-use qcow2_base::{Fault, HostCluster};
+use qcow2_base::Fault;
 use qcow2_session::{Step, StepReply};
 use std::alloc::Global;
 use std::test::Fail;
@@ -13,89 +13,46 @@ use std::test::Fail;
 // The bytes of an entry of the table in cluster 2, before the block.
 const ENTRY: &[u8] = &[0x80, 0, 0, 0, 0, 0, 0x0a, 0];
 
-// Cluster bits and the block's cluster, the refcount order, how long the image is, and what stands in it.
-type Before = ((u32, u64), u32, usize, Parts<'static>);
+// A list of steps of an image: its cluster bits, the block's cluster and the refcount order, and the image.
+// What comes of each step, or the fault that they are refused by, and the image then.
+type Row = (
+    &'static str,
+    (u32, u64, u32),
+    Contents<'static>,
+    &'static [Step],
+    Result<&'static [StepReply], Fault>,
+    Contents<'static>,
+);
 
-// What came of each step, how long the image is then, and what stands in it.
-type After = (&'static [StepReply], usize, Parts<'static>);
+const ROWS: &[Row] = rows! {
+    ("up, up, down, and one that is at 0", (9, 3, 4), TABLE, &[INC_0, INC_0, DEC_0, DEC_1],
+        Ok(UP_UP_DOWN), (2048, &[(1048, ENTRY), (1536, &[0, 1])])),
+    ("none is done", (9, 3, 4), TABLE, &[DEC_0, DEC_1], Ok(&[Refused, Refused]), TABLE),
+    ("no step at the last place", (9, LAST, 4), (700, &[]), &[], Ok(&[]), (700, &[])),
+    ("up and down", (9, 1, 4), SEVEN, &[INC_0, DEC_0], Ok(&[Done(7), Done(8)]), SEVEN),
+    ("both ends of a block of 64 KiB", (16, 1, 4), (196_608, &[]),
+        &[Step::Inc { index: 32_767 }, INC_0], Ok(&[Done(0), Done(0)]),
+        (196_608, &[(65_536, &[0, 1]), (131_070, &[0, 1])])),
+    ("both ends of a block of 2 MiB", (21, 1, 3), (4_194_400, &[(4_194_303, &[9])]),
+        &[Step::Dec { index: 2_097_151 }, INC_0], Ok(&[Done(9), Done(0)]),
+        (4_194_400, &[(2_097_152, &[1]), (4_194_303, &[8])])),
+    // indices past the end, also after steps that could be made
+    ("past the end", (9, 3, 4), TABLE, &[INC_0, DEC_0, MAX], Err(Fault::BadStep(2)), TABLE),
+    ("past it at the last place", (9, LAST, 4), TABLE, &[PAST], Err(Fault::BadStep(0)), TABLE),
+    ("past 2^56", (9, LAST + 1, 4), TABLE, &[PAST], Err(Fault::TablePlace), TABLE),
+    ("past 64 bits", (21, u64::MAX, 4), TABLE, &[], Err(Fault::TablePlace), TABLE),
+};
 
-// A list of steps, and what it leaves or the fault that it is refused by.
-type Row = (&'static str, Before, &'static [Step], Result<After, Fault>);
+const TABLE: Contents<'static> = (1536, &[(1048, ENTRY)]);
 
-const ROWS: &[Row] = &[
-    (
-        "up, up, down, and one that is at 0",
-        ((9, 3), 4, 1536, &[(1048, ENTRY)]),
-        &[INC_0, INC_0, DEC_0, DEC_1],
-        Ok((
-            &[Done(0), Done(1), Done(2), Refused],
-            2048,
-            &[(1048, ENTRY), (1536, &[0, 1])],
-        )),
-    ),
-    (
-        "none is done at 0",
-        ((9, 3), 4, 1536, &[(1048, ENTRY)]),
-        &[DEC_0, DEC_1],
-        Ok((&[Refused, Refused], 1536, &[(1048, ENTRY)])),
-    ),
-    (
-        "no step at the last place",
-        ((9, 0x7fff_ffff_ffff), 4, 700, &[]),
-        &[],
-        Ok((&[], 700, &[])),
-    ),
-    (
-        "up and down again",
-        ((9, 1), 4, 1300, &[(512, &[0, 7])]),
-        &[INC_0, DEC_0],
-        Ok((&[Done(7), Done(8)], 1300, &[(512, &[0, 7])])),
-    ),
-    (
-        "both ends of a block of 64 KiB",
-        ((16, 1), 4, 196_608, &[]),
-        &[Step::Inc { index: 32_767 }, INC_0],
-        Ok((
-            &[Done(0), Done(0)],
-            196_608,
-            &[(65_536, &[0, 1]), (131_070, &[0, 1])],
-        )),
-    ),
-    (
-        "both ends of a block of 2 MiB",
-        ((21, 1), 3, 4_194_400, &[(4_194_303, &[9])]),
-        &[Step::Dec { index: 2_097_151 }, INC_0],
-        Ok((
-            &[Done(9), Done(0)],
-            4_194_400,
-            &[(2_097_152, &[1]), (4_194_303, &[8])],
-        )),
-    ),
-    (
-        "an index past the end after steps that could be made",
-        ((9, 3), 4, 1536, &[(1048, ENTRY)]),
-        &[INC_0, DEC_0, Step::Dec { index: usize::MAX }],
-        Err(Fault::BadStep(2)),
-    ),
-    (
-        "an index past the end at the last place",
-        ((9, 0x7fff_ffff_ffff), 4, 1536, &[]),
-        &[Step::Inc { index: 256 }],
-        Err(Fault::BadStep(0)),
-    ),
-    (
-        "a place that ends past 2^56",
-        ((9, 0x8000_0000_0000), 4, 1536, &[]),
-        &[Step::Inc { index: 256 }],
-        Err(Fault::TablePlace),
-    ),
-    (
-        "a place past 64 bits",
-        ((21, u64::MAX), 4, 1536, &[]),
-        &[],
-        Err(Fault::TablePlace),
-    ),
-];
+const SEVEN: Contents<'static> = (1300, &[(512, &[0, 7])]);
+
+// The last cluster of 512 bytes that ends by 2^56.
+const LAST: u64 = 0x7fff_ffff_ffff;
+
+const PAST: Step = Step::Inc { index: 256 };
+
+const MAX: Step = Step::Dec { index: usize::MAX };
 
 #[test]
 fn steps_stand_in_the_image_or_leave_it(rt: HostRuntime) -> Result<(), Fail> {
@@ -108,19 +65,18 @@ fn steps_stand_in_the_image_or_leave_it(rt: HostRuntime) -> Result<(), Fail> {
 
 // Makes the steps of a row, where this byte stands around the block.
 fn stand(alloc: Global, row: Row, around: u8) -> Result<(), Fail> {
-    let (name, (place, order, len, parts), steps, expected) = row;
-    let header = header_with(alloc, place.0, order, false)?;
-    let mut image = recording_image(alloc, (len, place, around, parts))?;
-    let answer = step_image(alloc, &mut image, &header, HostCluster(place.1), steps);
-    let (expected, (len, parts), is_read) = match expected {
-        Ok((replies, len, parts)) => (Ok(replies), (len, parts), true),
-        Err(fault) => (Err(fault), (len, parts), fault != Fault::TablePlace),
-    };
+    let (name, (bits, cluster, order), before, steps, expected, after) = row;
+    let place = (bits, cluster);
+    let mut image = recording_image(alloc, place, around, before)?;
+    let answer = step_image(alloc, &mut image, (bits, order), cluster, steps);
+    let is_read = expected != Err(Fault::TablePlace);
     let is_written = answered(answer, expected, name)?;
     image_holds(
-        alloc,
         &image,
-        (len, place, around, parts),
+        alloc,
+        place,
+        around,
+        after,
         (is_read, is_written),
         name,
     )

@@ -10,10 +10,8 @@ use std::test::Fail;
 /// Bytes at offsets of an image.
 pub(crate) type Parts<'a> = &'a [(u64, &'a [u8])];
 
-/// What an image holds: how many bytes it has, the cluster bits and the cluster of the table or
-/// block, the byte that stands around that, and the parts that stand in the image. Else each byte
-/// of the cluster is 0.
-pub(crate) type Contents<'a> = (usize, (u32, u64), u8, Parts<'a>);
+/// How many bytes an image has, and the parts that stand in it.
+pub(crate) type Contents<'a> = (usize, Parts<'a>);
 
 /// A header of an image with these cluster bits and this refcount order, whose guest data may lie in an
 /// external data file.
@@ -37,43 +35,53 @@ pub(crate) fn header_with(
     Header::new(alloc, bits, order, None, None, name)
 }
 
-// An image that holds this.
-fn image_of(alloc: Global, contents: Contents<'_>) -> Result<MemStorage, Fault> {
-    let (len, (bits, cluster), around, parts) = contents;
-    let size = 1u64.wrapping_shl(bits);
-    let start = cluster.wrapping_mul(size);
-    let mut bytes = Vec::with_capacity(alloc, len)?;
-    for at in 0..len as u64 {
-        let is_inside = start <= at && at - start < size;
-        bytes.push(if is_inside { 0 } else { around })?;
-    }
-    let mut image = MemStorage::new(bytes);
+// An image with these parts, of cluster bits and a cluster whose other bytes are 0. This byte stands around
+// that.
+fn image_of(
+    alloc: Global,
+    (bits, cluster): (u32, u64),
+    around: u8,
+    (len, parts): Contents<'_>,
+) -> Result<MemStorage, Fault> {
+    let size = 1usize.wrapping_shl(bits);
+    let start = (cluster as usize).saturating_mul(size).min(len);
+    let end = start.saturating_add(size).min(len);
+    let mut bytes = vec![in alloc; around; len]?;
+    bytes[start..end].fill(0);
+    with_parts(MemStorage::new(bytes), parts)
+}
+
+fn with_parts(mut image: MemStorage, parts: Parts<'_>) -> Result<MemStorage, Fault> {
     for (place, part) in parts {
         put_bytes(&mut image, *place, *part)?;
     }
     Ok(image)
 }
 
-/// An image that holds this, and records its calls.
+/// Such an image that records its calls.
 pub(crate) fn recording_image(
     alloc: Global,
+    place: (u32, u64),
+    around: u8,
     contents: Contents<'_>,
 ) -> Result<FailingStorage<MemStorage>, Fault> {
-    Ok(FailingStorage::new(alloc, image_of(alloc, contents)?))
+    Ok(FailingStorage::new(alloc, image_of(alloc, place, around, contents)?))
 }
 
-/// Fails unless the image holds this, and its cluster was read or was not, and then written or not: each
+/// Fails unless the image is such a one, and its cluster was read or was not, and then written or not: each
 /// by one call for each piece of 4096 bytes.
-pub(crate) fn image_holds<R: Debug + Copy + Drop>(
-    alloc: Global,
+pub(crate) fn image_holds(
     image: &FailingStorage<MemStorage>,
+    alloc: Global,
+    place: (u32, u64),
+    around: u8,
     contents: Contents<'_>,
     (is_read, is_written): (bool, bool),
-    row: R,
+    row: &str,
 ) -> Result<(), Fail> {
-    let expected = image_of(alloc, contents)?;
+    let expected = image_of(alloc, place, around, contents)?;
     same_bytes(image.inner().bytes(), expected.bytes(), row)?;
-    let pieces = 1usize.wrapping_shl(contents.1.0).div_ceil(4096);
+    let pieces = 1usize.wrapping_shl(place.0).div_ceil(4096);
     let reads = if is_read { pieces } else { 0 };
     let writes = if is_written { pieces } else { 0 };
     same(reads_and_writes(image), (reads, writes), row)
@@ -81,10 +89,11 @@ pub(crate) fn image_holds<R: Debug + Copy + Drop>(
 
 // How many calls of the storage were reads, and how many were writes.
 fn reads_and_writes(image: &FailingStorage<MemStorage>) -> (usize, usize) {
-    let writes = image
-        .calls()
-        .iter()
-        .filter(|call: &&StorageCall| matches!(call, StorageCall::Write { .. }))
-        .count();
+    let mut writes = 0usize;
+    for call in image.calls() {
+        if let StorageCall::Write { .. } = call {
+            writes = writes.saturating_add(1);
+        }
+    }
     (image.calls().len().saturating_sub(writes), writes)
 }

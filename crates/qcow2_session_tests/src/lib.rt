@@ -1,6 +1,14 @@
-//! Tests of lists of edits and of steps, of lookups and of the program's commands, and an output that fails
-//! where a test plans it.
+//! Tests of lists of edits and of steps, of lookups, of the program's commands, and of the example of the
+//! front page.
 #![tactic(auto)]
+
+// A table or a list, laid out by hand: a row in one line, if it fits.
+#[cfg(test)]
+macro_rules! rows {
+    ($($row:expr),* $(,)?) => {
+        &[$($row),*]
+    };
+}
 
 #[cfg(test)]
 mod blocks;
@@ -11,7 +19,10 @@ mod commands;
 #[cfg(test)]
 mod edits;
 #[cfg(test)]
+mod example;
+#[cfg(test)]
 mod extents;
+#[cfg(test)]
 mod failing_output;
 #[cfg(test)]
 mod image_edits;
@@ -29,5 +40,3 @@ mod settled;
 mod steps;
 #[cfg(test)]
 mod tables;
-
-pub use failing_output::{FailingOutput, Failure};

@@ -3,21 +3,21 @@
 use crate::calls::{load_header, load_l1_table, lookup, lookup_image};
 use crate::sample_image::{COPIED, Numbers, sample_image};
 use Answer::{Backing, Compressed, Data, Refused, Zeros};
-use qcow2_base::{Fault, GuestOffset, MemStorage};
+use qcow2_base::{Fault, GuestOffset, HostCluster, MemStorage};
 use qcow2_metadata::L2Mapping;
 use qcow2_testing::{FailingStorage, StorageCall, same, same_bytes};
 use std::alloc::Global;
 use std::fmt::Debug;
 use std::test::Fail;
 
-// What a lookup answers: a mapping by its numbers, or the number of a fault.
+// What a lookup answers: a mapping by its numbers, or a fault.
 #[derive(Clone, Copy, Debug, PartialEq, Eq)]
 enum Answer {
     Data(u64, bool),
-    Zeros(Option<u64>, bool),
+    Zeros(Option<HostCluster>, bool),
     Compressed(u64, u64),
     Backing(u64),
-    Refused(u32),
+    Refused(Fault),
 }
 
 // Offsets, and what the cluster of each reads as.
@@ -26,174 +26,87 @@ type Offsets<'a> = &'a [(u64, Answer)];
 // Cluster bits, changes of the sample image, and what offsets read as then.
 type Row = (&'static str, u32, Numbers<'static>, Offsets<'static>);
 
-const ROWS: &[Row] = &[
-    (
-        "one cluster of data",
-        9,
-        &[],
-        &[
-            (1535, Backing(1024)),
-            (1536, Data(5, true)),
-            (2047, Data(5, true)),
-            (2048, Backing(2048)),
-            (32768, Backing(32768)),
-            (u64::MAX, Backing(0xffff_ffff_ffff_fe00)),
-        ],
-    ),
-    (
-        "one, in clusters of 64 KiB",
-        16,
-        &[],
-        &[
-            (0x2_ffff, Backing(0x2_0000)),
-            (0x3_ffff, Data(5, true)),
-            (u64::MAX, Backing(0xffff_ffff_ffff_0000)),
-        ],
-    ),
-    (
-        "the first entry of an L2 table, the last and one between, in clusters of 2 MiB",
-        21,
+const ROWS: &[Row] = rows! {
+    ("one cluster of data", 9, &[],
+        &[(1535, Backing(1024)), (1536, Data(5, true)), (2047, Data(5, true)), (2048, Backing(2048)),
+        (32768, Backing(32768)), (u64::MAX, Backing(0xffff_ffff_ffff_fe00))]),
+    ("one, in clusters of 64 KiB", 16, &[],
+        &[(0x2_ffff, Backing(0x2_0000)), (0x3_ffff, Data(5, true)),
+        (u64::MAX, Backing(0xffff_ffff_ffff_0000))]),
+    ("the first entry of an L2 table, the last and one between, in clusters of 2 MiB", 21,
         &[(0x40_0000, 0x60_0000), (0x5f_fff8, 0x80_0000)],
-        &[
-            (0x1f_ffff, Data(3, false)),
-            (0x7f_ffff, Data(5, true)),
-            (0x80_0000, Backing(0x80_0000)),
-            (0x7f_ffff_ffff, Data(4, false)),
-            (0x80_0000_0000, Backing(0x80_0000_0000)),
-            (u64::MAX, Backing(0xffff_ffff_ffe0_0000)),
-        ],
-    ),
-    (
-        "a second L2 table, behind the image's end",
-        9,
-        &[(32, 2), (520, COPIED + 0x600)],
-        &[(1543, Data(5, true)), (34311, Backing(34304))],
-    ),
-    (
-        "the second L1 entry alone",
-        9,
-        &[(32, 2), (512, 0), (520, 0x400)],
-        &[(1543, Backing(1536)), (34311, Data(5, true))],
-    ),
-    (
-        "an L2 table at the greatest offset",
-        9,
-        &[(512, 0x80ff_ffff_ffff_fe00)],
-        &[(0, Backing(0)), (1543, Backing(1536))],
-    ),
-    ("no L1 entry", 9, &[(32, 0)], &[(1543, Backing(1536))]),
+        &[(0x1f_ffff, Data(3, false)), (0x7f_ffff, Data(5, true)), (0x80_0000, Backing(0x80_0000)),
+        (0x7f_ffff_ffff, Data(4, false)), (0x80_0000_0000, Backing(0x80_0000_0000)),
+        (u64::MAX, Backing(0xffff_ffff_ffe0_0000))]),
+    ("a second L2 table, behind the image's end", 9, &[(32, 2), (520, COPIED + 0x600)],
+        &[(1543, Data(5, true)), (34311, Backing(34304))]),
+    ("the second L1 entry alone", 9, &[(32, 2), (512, 0), (520, 0x400)],
+        &[(1543, Backing(1536)), (34311, Data(5, true))]),
+    ("an L2 table at the end of 2^56", 9, &[(512, 0x80ff_ffff_ffff_fe00)], ABSENT),
+    ("no L1 entry", 9, &[(32, 0)], ABSENT),
+    ("no L1 entry, at 2^56", 9, &[(32, 0), (40, 1 << 56)], ABSENT),
     ("a disk of 0 bytes", 9, &[(24, 0)], &[(1543, Data(5, true))]),
-    (
-        "data that isn't copied",
-        9,
-        &[(1048, 0xa00)],
-        &[(1543, Data(5, false))],
-    ),
-    (
-        "zeros",
-        9,
-        &[(1048, COPIED + 1)],
-        &[(1543, Zeros(None, false))],
-    ),
-    (
-        "zeros with a cluster",
-        9,
-        &[(1048, 0xa01)],
-        &[(1543, Zeros(Some(5), false))],
-    ),
-    ("no data", 9, &[(1048, COPIED)], &[(1543, Backing(1536))]),
-    (
-        "data in cluster 0 of an external data file",
-        9,
-        &[(72, 4), (1048, COPIED)],
-        &[(1543, Data(0, true))],
-    ),
-    (
-        "compressed data",
-        9,
-        &[(1048, 0x6000_0000_0000_0601)],
-        &[(1543, Compressed(0x601, 1023))],
-    ),
+    ("data that isn't copied", 9, &[(1048, 0xa00)], &[(1543, Data(5, false))]),
+    ("zeros", 9, &[(1048, COPIED + 1)], &[(1543, Zeros(None, false))]),
+    ("zeros with a cluster", 9, &[(1048, 0xa01)], &[(1543, Zeros(Some(HostCluster(5)), false))]),
+    ("no data", 9, &[(1048, COPIED)], ABSENT),
+    ("data in external cluster 0", 9, &[(72, 4), (1048, COPIED)], &[(1543, Data(0, true))]),
+    ("compressed", 9, &[(1048, 0x6000_0000_0000_0601)], &[(1543, Compressed(0x601, 1023))]),
     // damaged images: the fault is that of the first bad part
-    (
-        "no qcow2 image",
-        9,
-        &[(0, 0x5146_49fa_0000_0003), (512, 1)],
-        &[(1543, Refused(1)), (32768, Refused(1))],
-    ),
-    ("an unknown feature", 9, &[(72, 8)], &[(0, Refused(17))]),
-    (
-        "an L1 table that begins in a cluster",
-        16,
-        &[(40, 0x1_0200)],
-        &[(0, Refused(6))],
-    ),
-    (
-        "too many L1 entries",
-        9,
-        &[(32, 4_194_305)],
-        &[(1543, Refused(20)), (u64::MAX, Refused(20))],
-    ),
-    (
-        "an L1 table past the greatest end",
-        9,
-        &[(40, 1 << 56)],
-        &[(1543, Refused(21)), (u64::MAX, Refused(21))],
-    ),
-    (
-        "a bad L1 entry",
-        9,
-        &[(32, 2), (520, 1)],
-        &[(1543, Refused(18)), (u64::MAX, Refused(18))],
-    ),
-    (
-        "one past the table",
-        9,
-        &[(520, 1)],
-        &[(32768, Backing(32768))],
-    ),
-    (
-        "an L2 table that begins in a cluster",
-        16,
-        &[(0x1_0000, COPIED + 0x2_0200)],
-        &[(0, Refused(19)), (u64::MAX, Refused(19))],
-    ),
-    (
-        "a bad L2 entry",
-        9,
-        &[(1528, 2)],
-        &[
-            (0, Refused(18)),
-            (32767, Refused(18)),
-            (32768, Backing(32768)),
-        ],
-    ),
-    (
-        "data that begins in a cluster, and then a bad entry",
-        16,
-        &[(0x2_0018, 0x200), (0x2_0020, 2)],
-        &[(0, Refused(19)), (0x2000_0000, Backing(0x2000_0000))],
-    ),
+    ("no qcow2 image", 9, &[(0, 0x5146_49fa_0000_0003), (512, 1)], &[(1543, Refused(Fault::NotQcow2))]),
+    ("an unknown feature", 9, &[(72, 8)], &[(0, Refused(Fault::Incompatible(8)))]),
+    ("an unaligned L1 table", 16, &[(40, 0x1_0200)], &[(0, Refused(Fault::L1Unaligned))]),
+    ("4194305 L1 entries", 9, &[(32, 4_194_305)], TOO_MANY),
+    ("2^32 - 1 L1 entries", 9, &[(32, 0xffff_ffff)], TOO_MANY),
+    ("an L1 table at 2^56", 9, &[(40, 1 << 56)], TOO_FAR),
+    ("an L1 table of no entry past 2^56", 9, &[(32, 0), (40, (1 << 56) + 512)], TOO_FAR),
+    ("a bad L1 entry", 9, &[(32, 2), (520, 1)], &[(1543, RESERVED), (u64::MAX, RESERVED)]),
+    ("one past the table", 9, &[(520, 1)], &[(32768, Backing(32768))]),
+    ("an unaligned L2 table", 16, &[(0x1_0000, COPIED + 0x2_0200)], &[(u64::MAX, UNALIGNED)]),
+    ("a bad L2 entry", 9, &[(1528, 2)],
+        &[(0, RESERVED), (32767, RESERVED), (32768, Backing(32768))]),
+    ("data that begins in a cluster, and then a bad entry", 16, &[(0x2_0018, 0x200), (0x2_0020, 2)],
+        &[(0, UNALIGNED), (0x2000_0000, Backing(0x2000_0000))]),
+};
+
+const RESERVED: Answer = Refused(Fault::EntryReserved);
+
+const UNALIGNED: Answer = Refused(Fault::EntryUnaligned);
+
+const ABSENT: Offsets<'static> = &[(0, Backing(0)), (1543, Backing(1536))];
+
+const TOO_MANY: Offsets<'static> = &[
+    (1543, Refused(Fault::TableTooBig)),
+    (u64::MAX, Refused(Fault::TableTooBig)),
+];
+
+const TOO_FAR: Offsets<'static> = &[
+    (1543, Refused(Fault::TablePlace)),
+    (u64::MAX, Refused(Fault::TablePlace)),
 ];
 
 // How many bytes of the sample image there are, from a number to before another, and what an offset reads as:
 // zeros follow where an image is cut off, up to the last byte of the entry that isn't 0.
 const CUTS: &[(usize, usize, Answer)] = &[
-    (0, 4, Refused(1)),
-    (4, 8, Refused(2)),
-    (8, 24, Refused(3)),
-    (24, 104, Refused(4)),
+    (0, 4, Refused(Fault::NotQcow2)),
+    (4, 8, Refused(Fault::Version)),
+    (8, 24, Refused(Fault::ClusterSize)),
+    (24, 104, Refused(Fault::HeaderShort)),
     (104, 1055, Backing(1536)),
     (1055, 1537, Data(5, true)),
 ];
 
 #[test]
 fn each_offset_reads_as_the_image_says(rt: HostRuntime) -> Result<(), Fail> {
-    for (name, cluster_bits, changes, offsets) in ROWS {
-        let image = sample_image(rt.alloc(), *cluster_bits, changes)?;
-        reads_as(rt.alloc(), image.bytes(), offsets, *name)?;
+    for row in ROWS {
+        row_reads(rt.alloc(), *row)?;
     }
     Ok(())
+}
+
+fn row_reads(alloc: Global, (name, cluster_bits, changes, offsets): Row) -> Result<(), Fail> {
+    let image = sample_image(alloc, cluster_bits, changes)?;
+    reads_as(alloc, image.bytes(), offsets, name)
 }
 
 #[test]
@@ -226,10 +139,10 @@ fn reads_as<R: Debug + Copy + Drop>(
 ) -> Result<(), Fail> {
     let mut image = MemStorage::new(Vec::from_slice(alloc, bytes)?);
     for (offset, expected) in offsets {
-        let found = lookup_image(alloc, &mut image, GuestOffset(*offset));
-        same(answer_of(found), *expected, (row, *offset))?;
-        let found = by_tables(alloc, &mut image, GuestOffset(*offset));
-        same(answer_of(found), *expected, (row, *offset, "by its tables"))?;
+        let guest_offset = GuestOffset(*offset);
+        let alone = answer_of(lookup_image(alloc, &mut image, guest_offset));
+        let by_tables = answer_of(by_tables(alloc, &mut image, guest_offset));
+        same((alone, by_tables), (*expected, *expected), (row, *offset))?;
     }
     same_bytes(image.bytes(), bytes, row)
 }
@@ -247,53 +160,46 @@ fn by_tables(
 
 fn answer_of(found: Result<L2Mapping, Fault>) -> Answer {
     match found {
-        Ok(
-            L2Mapping::DataFile {
-                host_cluster,
-                copied,
-            },
-        ) => Data(host_cluster.0, copied),
-        Ok(
-            L2Mapping::Zero {
-                host_cluster,
-                copied,
-            },
-        ) => Zeros(host_cluster.map(|cluster| cluster.0), copied),
-        Ok(
-            L2Mapping::Compressed {
-                host_offset,
-                length,
-            },
-        ) => Compressed(host_offset.0, length.get()),
-        Ok(L2Mapping::Backing { backing_offset }) => Backing(backing_offset),
-        Err(fault) => Refused(fault.number()),
+        Ok(mapping) => read_as(mapping),
+        Err(fault) => Refused(fault),
+    }
+}
+
+fn read_as(mapping: L2Mapping) -> Answer {
+    match mapping {
+        L2Mapping::DataFile {
+            host_cluster,
+            copied,
+        } => Data(host_cluster.0, copied),
+        L2Mapping::Zero {
+            host_cluster,
+            copied,
+        } => Zeros(host_cluster, copied),
+        L2Mapping::Compressed {
+            host_offset,
+            length,
+        } => Compressed(host_offset.0, length.get()),
+        L2Mapping::Backing { backing_offset } => Backing(backing_offset),
     }
 }
 
 // The reads of the sample image's two tables.
-const TABLES: [StorageCall; 2] = [
-    StorageCall::Read {
-        offset: 512,
-        len: 8,
-    },
-    StorageCall::Read {
-        offset: 1024,
-        len: 512,
-    },
-];
+const TABLES: &[StorageCall] = rows! {
+    StorageCall::Read { offset: 512, len: 8 },
+    StorageCall::Read { offset: 1024, len: 512 },
+};
 
 #[test]
 fn a_lookup_reads_the_header_and_one_table_of_each_kind(rt: HostRuntime) -> Result<(), Fail> {
-    let alloc = rt.alloc();
-    for (offset, tables) in [(1543, 2), (32768, 1)] {
-        let mut image = FailingStorage::new(alloc, sample_image(alloc, 9, &[])?);
-        let answer = lookup_image(alloc, &mut image, GuestOffset(offset));
-        same(answer.err(), None, offset)?;
-        let is_header = |call: &&StorageCall| {
-            matches!(call, StorageCall::Read { offset, .. } if *offset < 512)
-        };
-        let header = image.calls().iter().take_while(is_header).count();
-        same(image.calls().get(header..), TABLES.get(..tables), offset)?;
-    }
-    Ok(())
+    reads_tables(rt.alloc(), 1543, 2)?;
+    reads_tables(rt.alloc(), 32768, 1)
+}
+
+// Fails unless a lookup reads the header by two calls, and then so many tables.
+fn reads_tables(alloc: Global, offset: u64, tables: usize) -> Result<(), Fail> {
+    let mut image = FailingStorage::new(alloc, sample_image(alloc, 9, &[])?);
+    let answer = lookup_image(alloc, &mut image, GuestOffset(offset));
+    let header = image.calls().len().saturating_sub(tables);
+    let found = (answer.err(), header, image.calls().get(header..));
+    same(found, (None, 2, TABLES.get(..tables)), offset)
 }

@@ -1,8 +1,9 @@
 //! A small image, and changes of it.
 
 use qcow2_base::{Fault, MemStorage};
-use qcow2_testing::{image_with, is_cluster_bits, put};
+use qcow2_testing::{image_with, put, same_bytes};
 use std::alloc::Global;
+use std::test::Fail;
 
 /// Numbers of eight bytes, and where each stands in an image.
 pub(crate) type Numbers<'a> = &'a [(u64, u64)];
@@ -18,23 +19,31 @@ pub(crate) fn sample_image(
     cluster_bits: u32,
     changes: Numbers<'_>,
 ) -> Result<MemStorage, Fault> {
-    if !is_cluster_bits(cluster_bits) {
-        return Err(Fault::ClusterSize);
-    }
-    let size: u64 = 1 << cluster_bits;
+    let size = 1u64.wrapping_shl(cluster_bits);
     let sample = [
         (0, 0x5146_49fb_0000_0003),
         (16, cluster_bits as u64),
-        (24, 64 * size),
+        (24, size << 6),
         (32, 1),
         (40, size),
         (96, 0x0000_0004_0000_0068),
-        (size, COPIED + 2 * size),
-        (2 * size + 24, COPIED + 5 * size),
+        (size, COPIED | size << 1),
+        (size << 1 | 24, COPIED | size << 2 | size),
     ];
-    let mut image = image_with(alloc, 3 * size as usize, &sample)?;
+    let mut image = image_with(alloc, (size << 1 | size) as usize, &sample)?;
     for (place, number) in changes {
         put(&mut image, *place, *number)?;
     }
     Ok(image)
+}
+
+/// Fails unless these bytes are the sample image with these changes.
+pub(crate) fn is_sample(
+    alloc: Global,
+    found: &[u8],
+    (cluster_bits, changes): (u32, Numbers<'_>),
+    row: &str,
+) -> Result<(), Fail> {
+    let image = sample_image(alloc, cluster_bits, changes)?;
+    same_bytes(found, image.bytes(), row)
 }

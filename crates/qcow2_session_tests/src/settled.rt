@@ -1,13 +1,15 @@
 //! Counters of a block that follow what edits of a table did to references.
 
 use crate::blocks::{Counters, block_of, counts};
-use crate::calls::{edit_image, edit_settled, settle};
+use crate::calls::{edit_image, edit_settled, settle, settle_outcome};
 use crate::images::header_with;
 use crate::sample_image::sample_image;
-use crate::tables::{DATA_5, GONE, KEEP, PAST, References, TO_5, TO_6, did, says, table_with};
+use crate::tables::{
+    DATA_5, GONE, KEEP, PAST, References, TO_5, TO_6, did, outcome, says, table_with,
+};
 use qcow2_base::{Fault, HostCluster, MemStorage};
-use qcow2_metadata::{Header, L2Table, RefBlock};
-use qcow2_session::{Edit, Outcome};
+use qcow2_metadata::{L2Table, RefBlock};
+use qcow2_session::Edit;
 use qcow2_testing::{put_bytes, same, same_bytes};
 use std::alloc::Global;
 use std::test::Fail;
@@ -15,13 +17,14 @@ use std::test::Fail;
 // The cluster bits, the refcount order, and whether data is external.
 type Image = (u32, u32, bool);
 
-// What is settled: the image, the block's index in the refcount table, and the bytes that the block begins
-// with and the counters that are counted up then. What edits did, and whether the block counts as modified
-// then though it didn't, or the fault. The counters then.
+// What is settled: the image, the block's index in the refcount table, and its counters. What edits did, the
+// fault, whether the block counts as modified then though it didn't, and the counters then.
 type Row<'a> = (
-    (Image, usize, (&'a [u8], Counters<'a>)),
+    Image,
+    usize,
+    Counters<'a>,
     References<'a>,
-    Result<bool, Fault>,
+    (Option<Fault>, bool),
     Counters<'a>,
 );
 
@@ -35,153 +38,43 @@ const ONES: Counters<'static> = &[(0, 64, 1)];
 
 const FIVE: Counters<'static> = &[(5, 1, 1)];
 
-// The bytes of a block whose counters all have the greatest number.
-const FULL: &[u8] = &[0xff; 512];
+const RANGE: Option<Fault> = Some(Fault::CounterRange);
 
-const CLUSTERS: &[Row<'static>] = &[
-    (
-        ((9, 4, false), 0, (&[], &[(5, 1, 1)])),
-        (&[6], &[(5, 1), (6, 1)]),
-        Ok(true),
-        &[],
-    ),
-    (
-        ((9, 4, false), 0, (&[], &[])),
-        (&[6], &[(5, 1), (6, 1)]),
-        Err(Fault::CounterRange),
-        &[],
-    ),
-    (
-        ((10, 4, false), 0, (&[], &[(1, 3, 1)])),
-        (&[2], &[(1, 3)]),
-        Ok(true),
-        &[(2, 1, 1)],
-    ),
-    (
-        ((9, 6, false), 0, (&[], &[(63, 1, 1)])),
-        (&[], &[(63, 2)]),
-        Ok(true),
-        &[],
-    ),
-    (
-        ((9, 6, false), 1, (&[], &[(0, 1, 1)])),
-        (&[], &[(63, 2)]),
-        Ok(true),
-        &[],
-    ),
-    (
-        ((9, 0, false), 0, (&[], &[(5, 1, 1)])),
-        (&[5], &[(5, 1)]),
-        Err(Fault::CounterRange),
-        &[(5, 1, 1)],
-    ),
+const EXTERNAL: Option<Fault> = Some(Fault::ExternalData);
+
+const ROWS: &[Row<'static>] = rows! {
+    ((9, 4, false), 0, FIVE, outcome!([6], [(5, 1), (6, 1)]), (None, true), &[]),
+    ((9, 4, false), 0, &[], outcome!([6], [(5, 1), (6, 1)]), (RANGE, false), &[]),
+    ((10, 4, false), 0, &[(1, 3, 1)], outcome!([2], [(1, 3)]), (None, true), &[(2, 1, 1)]),
+    ((9, 6, false), 0, &[(63, 1, 1)], outcome!([], [(63, 2)]), (None, true), &[]),
+    ((9, 6, false), 1, &[(0, 1, 1)], outcome!([], [(63, 2)]), (None, true), &[]),
+    ((9, 0, false), 0, FIVE, outcome!([5], [(5, 1)]), (RANGE, false), FIVE),
     // a cluster that gains or loses more than one reference
-    (
-        ((9, 1, false), 0, (&[], &[(5, 1, 1)])),
-        (&[5, 5], &[(5, 1)]),
-        Ok(true),
-        &[(5, 1, 2)],
-    ),
-    (
-        ((9, 4, false), 0, (&[], &[(5, 2, 1)])),
-        (&[], &[(5, 2), (5, 1)]),
-        Err(Fault::CounterRange),
-        &[(5, 2, 1)],
-    ),
-];
-
-const RANGES: &[Row<'static>] = &[
+    ((9, 1, false), 0, FIVE, outcome!([5, 5], [(5, 1)]), (None, true), &[(5, 1, 2)]),
+    ((9, 4, false), 0, &[(5, 2, 1)], outcome!([], [(5, 2), (5, 1)]), (RANGE, false), &[(5, 2, 1)]),
     // ranges that begin before the block, that end behind it, and that hold all of it
-    (
-        ((9, 6, false), 1, (&[], ONES)),
-        (&[], &[(60, 8)]),
-        Ok(true),
-        &[(4, 60, 1)],
-    ),
-    (
-        ((9, 6, false), 1, (&[], ONES)),
-        (&[], &[(0, 1000)]),
-        Ok(true),
-        &[],
-    ),
-    (
-        ((9, 6, false), 1, (&[], ONES)),
-        (&[], &[(0, 64), (128, 1)]),
-        Ok(false),
-        ONES,
-    ),
+    ((9, 6, false), 1, ONES, outcome!([], [(60, 8)]), (None, true), &[(4, 60, 1)]),
+    ((9, 6, false), 1, ONES, outcome!([], [(0, 1000)]), (None, true), &[]),
+    ((9, 6, false), 1, ONES, outcome!([], [(0, 64), (128, 1)]), (None, false), ONES),
     // ranges of 2^64 - 1 clusters
-    (
-        ((9, 6, false), 0, (&[], ONES)),
-        (&[], &[(1, MAX)]),
-        Ok(true),
-        &[(0, 1, 1)],
-    ),
-    (
-        ((9, 6, false), 0, (&[], ONES)),
-        (&[], &[(MAX, MAX)]),
-        Ok(false),
-        ONES,
-    ),
+    ((9, 6, false), 0, ONES, outcome!([], [(1, MAX)]), (None, true), &[(0, 1, 1)]),
+    ((9, 6, false), 0, ONES, outcome!([], [(MAX, MAX)]), (None, false), ONES),
     // blocks that begin past every cluster, at 2^64, behind it, and 64 clusters before it
-    (
-        ((9, 6, false), usize::MAX, (&[], ONES)),
-        (&[MAX], &[(MAX, MAX)]),
-        Ok(false),
-        ONES,
-    ),
-    (
-        ((9, 6, false), AT_2_TO_THE_64, (&[], ONES)),
-        (&[], &[(MAX, 3)]),
-        Ok(true),
-        &[(2, 62, 1)],
-    ),
-    (
-        ((9, 6, false), AT_2_TO_THE_64 + 1, (&[], ONES)),
-        (&[], &[(MAX, 100)]),
-        Ok(true),
-        &[(35, 29, 1)],
-    ),
-    (
-        ((9, 6, false), AT_2_TO_THE_64 - 1, (&[], ONES)),
-        (&[], &[(MAX, 3)]),
-        Ok(true),
-        &[(0, 63, 1)],
-    ),
+    ((9, 6, false), usize::MAX, ONES, outcome!([MAX], [(MAX, MAX)]), (None, false), ONES),
+    ((9, 6, false), AT_2_TO_THE_64, ONES, outcome!([], [(MAX, 3)]), (None, true), &[(2, 62, 1)]),
+    ((9, 6, false), AT_2_TO_THE_64 + 1, ONES, outcome!([], [(MAX, 100)]), (None, true), &[(35, 29, 1)]),
+    ((9, 6, false), AT_2_TO_THE_64 - 1, ONES, outcome!([], [(MAX, 3)]), (None, true), &[(0, 63, 1)]),
     // no clusters
-    (
-        ((9, 4, false), 0, (&[], &[(5, 1, 1)])),
-        (&[], &[(5, 0)]),
-        Ok(false),
-        &[(5, 1, 1)],
-    ),
+    ((9, 4, false), 0, FIVE, outcome!([], [(5, 0)]), (None, false), FIVE),
     // what was counted up or down before a refusal is put back
-    (
-        ((9, 4, false), 0, (&[], &[(0, 200, 1)])),
-        (&[0, 1, 2], &[(0, 200), (255, 1)]),
-        Err(Fault::CounterRange),
-        &[(0, 200, 1)],
-    ),
-    (
-        ((9, 6, false), 1, (&[], &[(0, 63, 1)])),
-        (&[64], &[(60, 1000)]),
-        Err(Fault::CounterRange),
-        &[(0, 63, 1)],
-    ),
+    ((9, 4, false), 0, FIRST_200, outcome!([0, 1, 2], [(0, 200), (255, 1)]), (RANGE, false), FIRST_200),
+    ((9, 6, false), 1, &[(0, 63, 1)], outcome!([64], [(60, 1000)]), (RANGE, false), &[(0, 63, 1)]),
     // an external data file, which is refused before anything
-    (
-        ((9, 4, true), 0, (&[], FIVE)),
-        (&[], &[]),
-        Err(Fault::ExternalData),
-        FIVE,
-    ),
-    (
-        ((9, 4, true), 0, (&[], FIVE)),
-        (&[5], &[(6, 1)]),
-        Err(Fault::ExternalData),
-        FIVE,
-    ),
-];
+    ((9, 4, true), 0, FIVE, outcome!([], []), (EXTERNAL, false), FIVE),
+    ((9, 4, true), 0, FIVE, outcome!([5], [(6, 1)]), (EXTERNAL, false), FIVE),
+};
+
+const FIRST_200: Counters<'static> = &[(0, 200, 1)];
 
 // A refcount order, how many counters a block of 512 bytes has, and the greatest number of each.
 type Width = (u32, usize, u64);
@@ -196,23 +89,18 @@ const WIDTHS: &[Width] = &[
     (6, 64, MAX),
 ];
 
-// Settles a block with each flag as each row says.
-fn rows_settle(alloc: Global, rows: &[Row<'_>]) -> Result<(), Fail> {
-    for row in rows {
-        settles(alloc, *row, false)?;
-        settles(alloc, *row, true)?;
+// Settles a block that begins with these bytes, with each flag, as each row says.
+fn rows_settle(alloc: Global, bytes: &[u8], rows: &[Row<'_>]) -> Result<(), Fail> {
+    for (place, row) in rows.iter().enumerate() {
+        settles(alloc, bytes, *row, false, place)?;
+        settles(alloc, bytes, *row, true, place)?;
     }
     Ok(())
 }
 
 #[test]
 fn counters_follow_what_clusters_gained_and_lost(rt: HostRuntime) -> Result<(), Fail> {
-    rows_settle(rt.alloc(), CLUSTERS)
-}
-
-#[test]
-fn ranges_are_counted_as_far_as_the_block_counts_them(rt: HostRuntime) -> Result<(), Fail> {
-    rows_settle(rt.alloc(), RANGES)
+    rows_settle(rt.alloc(), &[], ROWS)
 }
 
 #[test]
@@ -223,151 +111,84 @@ fn no_counter_passes_the_greatest_number_of_its_width(rt: HostRuntime) -> Result
     Ok(())
 }
 
-// A cluster gains what it loses where its counter is 0, but not where it is at the greatest number.
+// A cluster gains what it loses where its counter is 0, but not where it is at the greatest number, as all
+// are of bytes 0xff.
 fn settle_at_ends(alloc: Global, (order, count, greatest): Width) -> Result<(), Fail> {
     let image: Image = (9, order, false);
     let full = [(0, count, greatest)];
     let below = [(5, 1, greatest.wrapping_sub(1)), (0, count, greatest)];
-    let rows: [Row<'_>; 3] = [
-        ((image, 0, (&[], &[])), (&[5], &[(5, 1)]), Ok(true), &[]),
-        (
-            (image, 0, (FULL, &[])),
-            (&[5], &[(5, 1)]),
-            Err(Fault::CounterRange),
-            &full,
-        ),
-        ((image, 0, (FULL, &[])), (&[], &[(5, 1)]), Ok(true), &below),
+    let gained_and_lost: References<'_> = outcome!([5], [(5, 1)]);
+    let row: Row<'_> = (image, 0, &[], gained_and_lost, (None, true), &[]);
+    rows_settle(alloc, &[], &[row])?;
+    let rows: [Row<'_>; 2] = [
+        (image, 0, &[], gained_and_lost, (RANGE, false), &full),
+        (image, 0, &[], outcome!([], [(5, 1)]), (None, true), &below),
     ];
-    rows_settle(alloc, &rows)
+    rows_settle(alloc, &[0xff; 512], &rows)
 }
 
-// Settles a block with this flag as the row says.
-fn settles(alloc: Global, row: Row<'_>, modified: bool) -> Result<(), Fail> {
-    let ((image, rt_index, before), references, expected, counters) = row;
-    let header = header_with(alloc, image.0, image.1, image.2)?;
-    let mut block = block_of(alloc, &header, before, modified)?;
-    let answer = settle(&mut block, &header, rt_index, references);
-    same(answer.err(), expected.err(), references)?;
-    counts(
-        &block,
-        counters,
-        modified || expected == Ok(true),
-        references,
-    )
+// Settles a block that begins with these bytes, and has the row's counters, with this flag.
+fn settles(
+    alloc: Global,
+    bytes: &[u8],
+    row: Row<'_>,
+    modified: bool,
+    place: usize,
+) -> Result<(), Fail> {
+    let (image, rt_index, before, references, (fault, marks), after) = row;
+    let mut block = block_of(alloc, image, (bytes, before), modified)?;
+    let answer = settle(&mut block, image, rt_index, references);
+    same(answer.err(), fault, place)?;
+    counts(&block, after, modified || marks, place)
 }
 
-// Entry 3 of a table of compressed data in clusters 0 and 1.
+// Entry 3 of a table of compressed data in clusters 0 and 1, and one of data in cluster 6.
 const COMPRESSED_0_1: u64 = 0x6000_0000_0000_0001;
 
-const NONE: References<'static> = (&[], &[]);
+const DATA_6: u64 = 0x8000_0000_0000_0c00;
 
-// The image, the block's index in the refcount table and its counters; entry 3 of the table; the edits; what
-// they did or the fault; and what is left: entry 3, the counters, and whether the block then counts as
-// modified though it didn't.
+// An image's refcount order and whether data is external, and the block's index in the refcount table; its
+// counters and entry 3 of the table; the edits; what they did or the fault; and what is left: the entry, the
+// counters, and whether the block then counts as modified though it didn't.
 type Settled<'a> = (
-    (Image, usize, Counters<'a>),
-    u64,
+    (u32, bool, usize),
+    (Counters<'a>, u64),
     &'a [Edit],
     Result<References<'a>, Fault>,
-    (u64, Counters<'a>, bool),
+    (Counters<'a>, u64, bool),
 );
 
-const SETTLED: &[Settled<'static>] = &[
-    (
-        ((9, 4, true), 0, FIVE),
-        DATA_5,
-        &[],
-        Err(Fault::ExternalData),
-        (DATA_5, FIVE, false),
-    ),
-    (
-        ((9, 4, false), 0, FIVE),
-        DATA_5,
-        &[GONE],
-        Ok((&[], &[(5, 1)])),
-        (0, &[], true),
-    ),
-    (
-        ((9, 4, false), 0, &[]),
-        DATA_5,
-        &[GONE],
-        Err(Fault::CounterRange),
-        (DATA_5, &[], false),
-    ),
-    (
-        ((9, 4, false), 0, FIVE),
-        DATA_5,
-        &[KEEP],
-        Ok(NONE),
-        (DATA_5 + 1, FIVE, false),
-    ),
-    (
-        ((9, 4, false), 0, &[(0, 2, 1)]),
-        COMPRESSED_0_1,
-        &[TO_5],
-        Ok((&[5], &[(0, 2)])),
-        (DATA_5, FIVE, true),
-    ),
-    (
-        ((9, 4, false), 0, FIVE),
-        DATA_5,
-        &[TO_6],
-        Ok((&[6], &[(5, 1)])),
-        (0x8000_0000_0000_0c00, &[(6, 1, 1)], true),
-    ),
+const REFUSED: Result<References<'static>, Fault> = Err(Fault::ExternalData);
+
+const CANNOT_COUNT: Result<References<'static>, Fault> = Err(Fault::CounterRange);
+
+const SETTLED: &[Settled<'static>] = rows! {
+    ((4, false, 0), (FIVE, DATA_5), &[GONE], Ok(outcome!([], [(5, 1)])), (&[], 0, true)),
+    ((4, false, 0), (&[], DATA_5), &[GONE], CANNOT_COUNT, (&[], DATA_5, false)),
+    ((4, false, 0), (FIVE, DATA_5), &[KEEP], Ok(outcome!([], [])), (FIVE, DATA_5 + 1, false)),
+    ((4, false, 0), (&[(0, 2, 1)], COMPRESSED_0_1), &[TO_5], Ok(outcome!([5], [(0, 2)])),
+        (FIVE, DATA_5, true)),
+    ((4, false, 0), (FIVE, DATA_5), &[TO_6], Ok(outcome!([6], [(5, 1)])), (&[(6, 1, 1)], DATA_6, true)),
     // there and back
-    (
-        ((9, 4, false), 0, FIVE),
-        DATA_5,
-        &[TO_6, TO_5],
-        Ok((&[6, 5], &[(5, 1), (6, 1)])),
-        (DATA_5, FIVE, true),
-    ),
-    (
-        ((9, 0, false), 0, FIVE),
-        DATA_5,
-        &[TO_6, TO_5],
-        Err(Fault::CounterRange),
-        (DATA_5, FIVE, false),
-    ),
+    ((4, false, 0), (FIVE, DATA_5), &[TO_6, TO_5], THERE_AND_BACK, (FIVE, DATA_5, true)),
+    ((0, false, 0), (FIVE, DATA_5), &[TO_6, TO_5], CANNOT_COUNT, (FIVE, DATA_5, false)),
     // a block that counts none of the clusters
-    (
-        ((9, 4, false), 1, FIVE),
-        DATA_5,
-        &[GONE],
-        Ok((&[], &[(5, 1)])),
-        (0, FIVE, false),
-    ),
+    ((4, false, 1), (FIVE, DATA_5), &[GONE], Ok(outcome!([], [(5, 1)])), (FIVE, 0, false)),
     // the edits fit first
-    (
-        ((9, 4, false), 0, &[]),
-        DATA_5,
-        &[GONE, PAST],
-        Err(Fault::BadEdit(1)),
-        (DATA_5, &[], false),
-    ),
-    (
-        ((9, 4, false), 0, FIVE),
-        DATA_5,
-        &[],
-        Ok(NONE),
-        (DATA_5, FIVE, false),
-    ),
+    ((4, false, 0), (&[], DATA_5), &[GONE, PAST], Err(Fault::BadEdit(1)), (&[], DATA_5, false)),
+    ((4, false, 0), (FIVE, DATA_5), &[], Ok(outcome!([], [])), (FIVE, DATA_5, false)),
     // an external data file, which is refused before anything
-    (
-        ((9, 4, true), 0, FIVE),
-        DATA_5,
-        &[PAST],
-        Err(Fault::ExternalData),
-        (DATA_5, FIVE, false),
-    ),
-];
+    ((4, true, 0), (FIVE, DATA_5), &[], REFUSED, (FIVE, DATA_5, false)),
+    ((4, true, 0), (FIVE, DATA_5), &[PAST], REFUSED, (FIVE, DATA_5, false)),
+};
+
+const THERE_AND_BACK: Result<References<'static>, Fault> = Ok(outcome!([6, 5], [(5, 1), (6, 1)]));
 
 #[test]
 fn edits_are_counted_or_not_made(rt: HostRuntime) -> Result<(), Fail> {
-    for row in SETTLED {
-        edits_settle(rt.alloc(), *row, (false, true))?;
-        edits_settle(rt.alloc(), *row, (true, false))?;
+    for (place, row) in SETTLED.iter().enumerate() {
+        edits_settle(rt.alloc(), *row, (false, true), place)?;
+        edits_settle(rt.alloc(), *row, (true, false), place)?;
     }
     Ok(())
 }
@@ -377,33 +198,29 @@ fn edits_settle(
     alloc: Global,
     row: Settled<'_>,
     (table_modified, block_modified): (bool, bool),
+    place: usize,
 ) -> Result<(), Fail> {
-    let ((image, rt_index, before), entry, edits, expected, left) = row;
-    let header = header_with(alloc, image.0, image.1, image.2)?;
-    let mut table = table_with(alloc, (image.0, image.2), (3, &[entry]), table_modified)?;
-    let mut block = block_of(alloc, &header, (&[], before), block_modified)?;
-    let answer = edit_settled(&mut table, &mut block, &header, rt_index, edits);
-    did(answer, expected, edits)?;
+    let ((order, external, rt_index), (before, entry), edits, expected, left) = row;
+    let image: Image = (9, order, external);
+    let mut table = table_with(alloc, (9, external), (3, &[entry]), table_modified)?;
+    let mut block = block_of(alloc, image, (&[], before), block_modified)?;
+    let answer = edit_settled(&mut table, &mut block, image, rt_index, edits);
+    did(answer, expected, place)?;
     let table_modified = table_modified || expected.is_ok() && !edits.is_empty();
-    are_left(
-        &table,
-        &block,
-        left,
-        (table_modified, block_modified),
-        edits,
-    )
+    let modified = (table_modified, block_modified);
+    are_left(&table, &block, left, modified, place)
 }
 
 // Fails unless this is left of a table and of a block that had this flag.
 fn are_left(
     table: &L2Table,
     block: &RefBlock,
-    (entry, counters, counts_some): (u64, Counters<'_>, bool),
+    (counters, entry, counts_some): (Counters<'_>, u64, bool),
     (table_modified, block_modified): (bool, bool),
-    row: &[Edit],
+    place: usize,
 ) -> Result<(), Fail> {
-    says(table, (3, &[entry]), table_modified, row)?;
-    counts(block, counters, block_modified || counts_some, row)
+    says(table, (3, &[entry]), table_modified, place)?;
+    counts(block, counters, block_modified || counts_some, place)
 }
 
 // The sample image with a refcount block at cluster 3, in which cluster 5 has a reference.
@@ -414,29 +231,19 @@ fn image_with_block(alloc: Global) -> Result<MemStorage, Fail> {
     Ok(image)
 }
 
-// Counts an outcome in the block at cluster 3 of the image.
-fn settle_in(
-    alloc: Global,
-    image: &mut MemStorage,
-    header: &Header,
-    outcome: &Outcome,
-) -> Result<(), Fault> {
-    let mut block = RefBlock::load(alloc, image, header, HostCluster(3))?;
-    if header.cluster_bits() != block.cluster_bits()
-        || header.refcount_order() != block.refcount_order()
-    {
-        return Err(Fault::WrongLength);
-    }
-    qcow2_session::settle(&mut block, header, 0, outcome)?;
+// Edits the table at cluster 2 of the image, and counts that in the block at cluster 3.
+fn edit_and_settle(alloc: Global, image: &mut MemStorage, edits: &[Edit]) -> Result<(), Fault> {
+    let outcome = edit_image(alloc, image, (9, false), 2, edits)?;
+    let header = header_with(alloc, 9, 4, false)?;
+    let mut block = RefBlock::load(alloc, image, &header, HostCluster(3))?;
+    settle_outcome(&mut block, &header, 0, &outcome)?;
     block.write(image)
 }
 
 #[test]
 fn what_edits_of_an_image_did_is_counted_in_its_block(rt: HostRuntime) -> Result<(), Fail> {
-    let header = header_with(rt.alloc(), 9, 4, false)?;
     let mut image = image_with_block(rt.alloc())?;
-    let outcome = edit_image(rt.alloc(), &mut image, &header, HostCluster(2), &[TO_6])?;
-    settle_in(rt.alloc(), &mut image, &header, &outcome)?;
+    edit_and_settle(rt.alloc(), &mut image, &[TO_6])?;
     let mut expected = image_with_block(rt.alloc())?;
     put_bytes(&mut expected, 1048, &[0x80, 0, 0, 0, 0, 0, 0xc, 0])?;
     put_bytes(&mut expected, 1546, &[0, 0, 0, 1])?;

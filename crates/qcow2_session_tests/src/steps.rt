@@ -2,7 +2,6 @@
 
 use crate::blocks::{Counters, answered, block_of, counts};
 use crate::calls::step_block;
-use crate::images::header_with;
 use StepReply::{Done, Refused};
 use qcow2_base::Fault;
 use qcow2_session::{Step, StepReply};
@@ -42,86 +41,28 @@ type Row<'a> = (
     Counters<'a>,
 );
 
-const NO_BYTES: &[u8] = &[];
-
-const NO_COUNTERS: Counters<'static> = &[];
-
-const ROWS: &[Row<'static>] = &[
+const ROWS: &[Row<'static>] = rows! {
     ("no step", (4, &[0, 7]), &[], Ok(&[]), &[(0, 1, 7)]),
-    (
-        "up, up, down, and one that is at 0",
-        (4, &[]),
-        &[INC_0, INC_0, DEC_0, DEC_1],
-        Ok(&[Done(0), Done(1), Done(2), Refused]),
-        &[(0, 1, 1)],
-    ),
-    (
-        "one past the end",
-        (4, &[0, 7]),
-        &[INC_0, Step::Inc { index: 256 }],
-        Err(1),
-        &[(0, 1, 7)],
-    ),
-    (
-        "none is done",
-        (4, &[0xff, 0xff]),
-        &[INC_0, DEC_1, INC_0],
-        Ok(&[Refused; 3]),
-        &[(0, 1, 65535)],
-    ),
-    (
-        "those after a refused one are made",
-        (4, &[0, 1, 0, 9]),
-        &[DEC_0, DEC_0, DEC_1, INC_0],
-        Ok(&[Done(1), Refused, Done(9), Done(0)]),
-        &[(0, 1, 1), (1, 1, 8)],
-    ),
-    (
-        "a refused increment isn't undone by the decrement after it",
-        (0, &[3]),
-        &[INC_1, DEC_1],
-        Ok(&[Refused, Done(1)]),
-        &[(0, 1, 1)],
-    ),
-    (
-        "two counters of a byte",
-        (1, &[0x0c]),
-        &[INC_1, INC_0, DEC_1],
-        Ok(&[Refused, Done(0), Done(3)]),
-        &[(0, 1, 1), (1, 1, 2)],
-    ),
-    (
-        "the last index",
-        (4, &[0, 7]),
-        &[Step::Inc { index: 255 }, INC_0, Step::Inc { index: 255 }],
-        Ok(&[Done(0), Done(7), Done(1)]),
-        &[(0, 1, 8), (255, 1, 2)],
-    ),
-    // what is refused
-    (
-        "two past the end",
-        (4, &[0, 7, 0, 1]),
-        &[
-            INC_0,
-            DEC_1,
-            Step::Dec { index: 257 },
-            Step::Inc { index: 256 },
-        ],
-        Err(2),
-        &[(0, 1, 7), (1, 1, 1)],
-    ),
-    (
-        "the greatest index",
-        (0, &[1]),
-        &[
-            DEC_0,
-            Step::Inc { index: 4095 },
-            Step::Dec { index: usize::MAX },
-        ],
-        Err(2),
-        &[(0, 1, 1)],
-    ),
-];
+    ("one at 0", (4, &[]), &[INC_0, INC_0, DEC_0, DEC_1], Ok(UP_UP_DOWN), &[(0, 1, 1)]),
+    ("one past the end", (4, &[0, 7]), &[INC_0, Step::Inc { index: 256 }], Err(1), &[(0, 1, 7)]),
+    ("none", (4, &[0xff, 0xff]), &[INC_0, DEC_1, INC_0], Ok(&[Refused; 3]), &[(0, 1, 65535)]),
+    ("those after a refused one are made", (4, &[0, 1, 0, 9]), &[DEC_0, DEC_0, DEC_1, INC_0],
+        Ok(&[Done(1), Refused, Done(9), Done(0)]), &[(0, 1, 1), (1, 1, 8)]),
+    // a refused increment isn't undone by the decrement after it
+    ("one bit", (0, &[3]), &[INC_1, DEC_1], Ok(&[Refused, Done(1)]), &[(0, 1, 1)]),
+    ("two counters of a byte", (1, &[0x0c]), &[INC_1, INC_0, DEC_1],
+        Ok(&[Refused, Done(0), Done(3)]), &[(0, 1, 1), (1, 1, 2)]),
+    ("the last index", (4, &[0, 7]), &[Step::Inc { index: 255 }, INC_0, Step::Inc { index: 255 }],
+        Ok(&[Done(0), Done(7), Done(1)]), &[(0, 1, 8), (255, 1, 2)]),
+    ("two past the end", (4, &[0, 7, 0, 1]),
+        &[INC_0, DEC_1, Step::Dec { index: 257 }, Step::Inc { index: 256 }], Err(2),
+        &[(0, 1, 7), (1, 1, 1)]),
+    ("the greatest index", (0, &[1]),
+        &[DEC_0, Step::Inc { index: 4095 }, Step::Dec { index: usize::MAX }], Err(2), &[(0, 1, 1)]),
+};
+
+/// What comes of two increments and a decrement of a counter at 0, and of a decrement of another one.
+pub(crate) const UP_UP_DOWN: &[StepReply] = &[Done(0), Done(1), Done(2), Refused];
 
 #[test]
 fn steps_are_made_in_their_order_or_refused_together(rt: HostRuntime) -> Result<(), Fail> {
@@ -135,14 +76,9 @@ fn steps_are_made_in_their_order_or_refused_together(rt: HostRuntime) -> Result<
 // Makes the steps of a row, of a block with this flag.
 fn leave(alloc: Global, row: Row<'_>, modified: bool) -> Result<(), Fail> {
     let (name, (order, bytes), steps, expected, counters) = row;
-    let header = header_with(alloc, 9, order, false)?;
-    let mut block = block_of(alloc, &header, (bytes, &[]), modified)?;
+    let mut block = block_of(alloc, (9, order, false), (bytes, &[]), modified)?;
     let answer = step_block(&mut block, steps);
-    let expected = match expected {
-        Ok(replies) => Ok(replies),
-        Err(position) => Err(Fault::BadStep(position)),
-    };
-    let some_done = answered(answer, expected, name)?;
+    let some_done = answered(answer, expected.map_err(Fault::BadStep), name)?;
     counts(&block, counters, modified || some_done, name)
 }
 
@@ -150,44 +86,40 @@ fn leave(alloc: Global, row: Row<'_>, modified: bool) -> Result<(), Fail> {
 // follows, one below it, and one at 0.
 type Width = (u32, &'static [u8], u64);
 
-const WIDTHS: &[Width] = &[
+const WIDTHS: &[Width] = rows! {
     (0, &[1], 1),
     (1, &[0x0b], 3),
     (2, &[0xef], 15),
     (3, &[0xff, 0xfe], 255),
     (4, &[0xff, 0xff, 0xff, 0xfe], 65535),
-    (
-        5,
-        &[0xff, 0xff, 0xff, 0xff, 0xff, 0xff, 0xff, 0xfe],
-        0xffff_ffff,
-    ),
+    (5, &[0xff, 0xff, 0xff, 0xff, 0xff, 0xff, 0xff, 0xfe], 0xffff_ffff),
     (6, ENDS_OF_64_BITS, u64::MAX),
-];
+};
 
 const ENDS_OF_64_BITS: &[u8] = &[
     0xff, 0xff, 0xff, 0xff, 0xff, 0xff, 0xff, 0xff, 0xff, 0xff, 0xff, 0xff, 0xff, 0xff, 0xff, 0xfe,
 ];
 
 fn stay_within(alloc: Global, (order, bytes, greatest): Width) -> Result<(), Fail> {
-    let below = greatest.wrapping_sub(1);
+    let (top, below) = (Done(greatest), Done(greatest.wrapping_sub(1)));
     let replies = [
-        Done(below),
+        below,
         Refused,
-        Done(greatest),
+        top,
         Refused,
-        Done(greatest),
+        top,
         Refused,
         Done(0),
         Done(1),
         Refused,
     ];
-    let counters = [(0, 2, below)];
-    let row = (
+    let counters = [(0, 2, greatest.wrapping_sub(1))];
+    let row: Row<'_> = (
         "at their ends",
         (order, bytes),
         AT_ENDS,
-        Ok(replies.as_slice()),
-        counters.as_slice(),
+        Ok(&replies),
+        &counters,
     );
     leave(alloc, row, false)
 }
@@ -200,17 +132,17 @@ fn no_counter_passes_the_ends_of_its_width(rt: HostRuntime) -> Result<(), Fail> 
     Ok(())
 }
 
-// Ten thousand increments of 256 counters, one after the other, over and over, then a decrement for each of
-// them, the last one first, and what comes of them.
-fn many_steps(alloc: Global) -> Result<(Vec<Step>, Vec<StepReply>), AllocError> {
+// So many of ten thousand increments of 256 counters, one after the other, over and over, and then a
+// decrement for each of them, the last one first, with what comes of them.
+fn many_steps(alloc: Global, count: usize) -> Result<(Vec<Step>, Vec<StepReply>), AllocError> {
     let mut steps = Vec::new(alloc);
     let mut replies = Vec::new(alloc);
-    for place in 0..20_000usize {
+    for place in 0..count {
         if place < 10_000 {
             steps.push(Step::Inc { index: place % 256 })?;
             replies.push(Done((place / 256) as u64))?;
         } else {
-            let back = 19_999 - place;
+            let back = 19_999usize.saturating_sub(place);
             steps.push(Step::Dec { index: back % 256 })?;
             replies.push(Done((back / 256) as u64 + 1))?;
         }
@@ -218,15 +150,15 @@ fn many_steps(alloc: Global) -> Result<(Vec<Step>, Vec<StepReply>), AllocError> 
     Ok((steps, replies))
 }
 
+fn many_are_made(alloc: Global, count: usize, counters: Counters<'_>) -> Result<(), Fail> {
+    let (steps, replies) = many_steps(alloc, count)?;
+    let row: Row<'_> = ("many steps", (4, &[]), &steps, Ok(&replies), counters);
+    leave(alloc, row, false)
+}
+
 // 10,000 is 39 times 256, and 16.
 #[test]
 fn ten_thousand_steps_up_and_down_are_made_in_their_order(rt: HostRuntime) -> Result<(), Fail> {
-    let (steps, replies) = many_steps(rt.alloc())?;
-    let counters: Counters<'_> = &[(0, 16, 40), (16, 240, 39)];
-    let up = Ok(&replies[..replies.len() / 2]);
-    let row = ("up", (4, NO_BYTES), &steps[..steps.len() / 2], up, counters);
-    leave(rt.alloc(), row, false)?;
-    let (steps, replies) = (steps.as_slice(), Ok(replies.as_slice()));
-    let row = ("up and down", (4, NO_BYTES), steps, replies, NO_COUNTERS);
-    leave(rt.alloc(), row, false)
+    many_are_made(rt.alloc(), 10_000, &[(0, 16, 40), (16, 240, 39)])?;
+    many_are_made(rt.alloc(), 20_000, &[])
 }

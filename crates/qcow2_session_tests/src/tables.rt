@@ -1,8 +1,7 @@
 //! L2 tables to edit, and comparisons of what edits of them leave.
 
 use crate::calls::load_l2_table;
-use crate::images::header_with;
-use qcow2_base::{Fault, HostCluster, MemStorage};
+use qcow2_base::{Fault, HostCluster};
 use qcow2_metadata::{ClustersToFreeEntry, L2Table, Table, TableEntry};
 use qcow2_session::{Edit, Outcome};
 use qcow2_testing::same;
@@ -13,9 +12,8 @@ use std::test::Fail;
 /// The index of the first of some entries of a table, and the entries. All others of the table are 0.
 pub(crate) type Entries<'a> = (usize, &'a [u64]);
 
-/// What edits did to references: the clusters that gained one, and those that lost one, as the first of
-/// those that one edit handed back and how many.
-pub(crate) type References<'a> = (&'a [u64], &'a [(u64, u64)]);
+/// What edits did to references: the clusters that gained one, and those that lost one.
+pub(crate) type References<'a> = (&'a [HostCluster], &'a [ClustersToFreeEntry]);
 
 // The cluster of each table.
 const CLUSTER: HostCluster = HostCluster(0);
@@ -23,31 +21,42 @@ const CLUSTER: HostCluster = HostCluster(0);
 /// The entry of data in cluster 5 of 512 bytes.
 pub(crate) const DATA_5: u64 = 0x8000_0000_0000_0a00;
 
+// References by their numbers: of those that were lost the first that one edit handed back, and how many.
+macro_rules! outcome {
+    ([$($gained:expr),*], [$(($first:expr, $count:expr)),*]) => {
+        (
+            &[$(qcow2_base::HostCluster($gained)),*],
+            &[$(qcow2_metadata::ClustersToFreeEntry {
+                first: qcow2_base::HostCluster($first),
+                count: qcow2_base::ClusterCount($count),
+            }),*],
+        )
+    };
+}
+
+// An edit that maps the entry at an index to a cluster.
+macro_rules! map {
+    ($index:expr, $cluster:expr) => {
+        qcow2_session::Edit::Map {
+            index: $index,
+            host_cluster: qcow2_base::HostCluster($cluster),
+        }
+    };
+}
+
+pub(crate) use map;
+pub(crate) use outcome;
+
 // Edits of the entry at index 3.
-pub(crate) const TO_0: Edit = Edit::Map {
-    index: 3,
-    host_cluster: HostCluster(0),
-};
+pub(crate) const TO_0: Edit = map!(3, 0);
 
-pub(crate) const TO_1: Edit = Edit::Map {
-    index: 3,
-    host_cluster: HostCluster(1),
-};
+pub(crate) const TO_1: Edit = map!(3, 1);
 
-pub(crate) const TO_2: Edit = Edit::Map {
-    index: 3,
-    host_cluster: HostCluster(2),
-};
+pub(crate) const TO_2: Edit = map!(3, 2);
 
-pub(crate) const TO_5: Edit = Edit::Map {
-    index: 3,
-    host_cluster: HostCluster(5),
-};
+pub(crate) const TO_5: Edit = map!(3, 5);
 
-pub(crate) const TO_6: Edit = Edit::Map {
-    index: 3,
-    host_cluster: HostCluster(6),
-};
+pub(crate) const TO_6: Edit = map!(3, 6);
 
 pub(crate) const KEEP: Edit = Edit::Zero {
     index: 3,
@@ -62,10 +71,7 @@ pub(crate) const ZERO: Edit = Edit::Zero {
 pub(crate) const GONE: Edit = Edit::Discard { index: 3 };
 
 // An edit past the end of a table of 64 entries.
-pub(crate) const PAST: Edit = Edit::Map {
-    index: 64,
-    host_cluster: HostCluster(5),
-};
+pub(crate) const PAST: Edit = map!(64, 5);
 
 /// The bytes of these entries of a table.
 pub(crate) fn table_of(alloc: Global, entries: Entries<'_>) -> Result<Vec<u8>, AllocError> {
@@ -80,13 +86,11 @@ pub(crate) fn table_of(alloc: Global, entries: Entries<'_>) -> Result<Vec<u8>, A
 /// A table of an image with these cluster bits, whose guest data may lie in an external data file.
 pub(crate) fn table_with(
     alloc: Global,
-    (bits, external): (u32, bool),
+    image: (u32, bool),
     entries: Entries<'_>,
     modified: bool,
 ) -> Result<L2Table, Fault> {
-    let header = header_with(alloc, bits, 4, external)?;
-    let mut image = MemStorage::new(table_of(alloc, entries)?);
-    let mut table = load_l2_table(alloc, &mut image, &header, CLUSTER)?;
+    let mut table = load_l2_table(alloc, table_of(alloc, entries)?, image)?;
     if modified {
         table.set_modified();
     }
@@ -124,36 +128,9 @@ pub(crate) fn did<R: Debug + Drop>(
     expected: Result<References<'_>, Fault>,
     row: R,
 ) -> Result<(), Fail> {
-    if are_equal(&answer, expected) {
-        return Ok(());
-    }
-    Err(Fail::new(format_args!("{row:?}: found {answer:?}, expected {expected:?}")))
-}
-
-fn are_equal(answer: &Result<Outcome, Fault>, expected: Result<References<'_>, Fault>) -> bool {
-    match (answer, expected) {
-        (Ok(outcome), Ok((gained, freed))) => {
-            are_clusters(&outcome.gained, gained) && are_runs(&outcome.freed, freed)
-        }
-        (Err(fault), Err(expected)) => *fault == expected,
-        _ => false,
-    }
-}
-
-fn are_clusters(found: &[HostCluster], expected: &[u64]) -> bool {
-    for (cluster, number) in found.iter().zip(expected) {
-        if cluster.0 != *number {
-            return false;
-        }
-    }
-    found.len() == expected.len()
-}
-
-fn are_runs(found: &[ClustersToFreeEntry], expected: &[(u64, u64)]) -> bool {
-    for (run, (first, count)) in found.iter().zip(expected) {
-        if run.first.0 != *first || run.count.0 != *count {
-            return false;
-        }
-    }
-    found.len() == expected.len()
+    let found = match &answer {
+        Ok(outcome) => Ok((outcome.gained.as_slice(), outcome.freed.as_slice())),
+        Err(fault) => Err(*fault),
+    };
+    same(found, expected, row)
 }

@@ -1,17 +1,13 @@
 //! Lines of words: how a run of them ends over files and outputs that fail, and which are no command.
 
 use super::whole_images::ends_with;
-use crate::{FailingOutput, Failure};
+use crate::failing_output::{FailingOutput, Failure};
 use qcow2_base::{Fault, Field};
 use qcow2_session::{report_fault, run_words};
 use qcow2_testing::{FaultyFiles, same};
 use std::alloc::Global;
 use std::rt::Files;
 use std::test::Fail;
-
-pub(crate) const USAGE: &str = "usage: qmeta COMMAND IMAGE ARGUMENTS\n";
-
-pub(crate) const STORAGE: &str = "qmeta: fault 34\n";
 
 // What a run ends with: the status, and what was flushed of the output and of the error output.
 pub(crate) type Outcome<'a> = (u8, &'a str, &'a str);
@@ -21,126 +17,112 @@ pub(crate) type Failures = (Failure, Failure);
 
 pub(crate) const NO_FAILURES: Failures = (Failure::Never, Failure::Never);
 
-// A run that has ended.
-#[derive(Drop)]
-struct Run {
-    status: u8,
-    out: FailingOutput,
-    err: FailingOutput,
-}
-
-// Runs a line of words, with the path of an image in place of the word `IMAGE`, over outputs that fail
-// there.
+// The status of a run of a line over outputs that fail there, and these outputs then.
 fn run_line(
     files: &FaultyFiles<'_, HostRuntime>,
     image: &str,
-    words: &[&str],
+    line: &str,
     (out, err): Failures,
-) -> Result<Run, Fail> {
-    let words = words_of(files.alloc(), words, image)?;
-    let mut out = FailingOutput::new(files.alloc(), out)?;
-    let mut err = FailingOutput::new(files.alloc(), err)?;
+) -> Result<(u8, FailingOutput, FailingOutput), Fail> {
+    let words = words_of(files.alloc(), line, image)?;
+    let mut out = FailingOutput::new(files.alloc(), out);
+    let mut err = FailingOutput::new(files.alloc(), err);
     let status = run_words(files, words.as_slice(), &mut out, &mut err);
-    Ok(Run { status, out, err })
+    Ok((status, out, err))
 }
 
-// These words, with the path of an image in place of the word `IMAGE`.
-pub(crate) fn words_of(alloc: Global, words: &[&str], image: &str) -> Result<Vec<String>, Fail> {
-    let mut list = Vec::new(alloc);
-    for word in words {
-        let word = if *word == "IMAGE" { image } else { word };
-        list.push(String::from_str(alloc, word)?)?;
+// The words of a line, each after one space, with the path of an image in place of the word `IMAGE`. An empty
+// line has none.
+pub(crate) fn words_of(alloc: Global, line: &str, image: &str) -> Result<Vec<String>, Fail> {
+    let mut words = Vec::new(alloc);
+    if line.is_empty() {
+        return Ok(words);
     }
-    Ok(list)
+    for word in line.split(' ') {
+        let word = if word == "IMAGE" { image } else { word };
+        words.push(String::from_str(alloc, word)?)?;
+    }
+    Ok(words)
 }
 
-// Runs a line of words, and fails unless it ends so.
+// Runs a line, and fails unless it ends so.
 pub(crate) fn runs(
     files: &FaultyFiles<'_, HostRuntime>,
     image: &str,
-    words: &[&str],
+    line: &str,
     failures: Failures,
     expected: Outcome<'_>,
 ) -> Result<(), Fail> {
-    let run = run_line(files, image, words, failures)?;
-    let out = std::str::from_utf8(run.out.flushed())?;
-    let err = std::str::from_utf8(run.err.flushed())?;
-    same((run.status, out, err), expected, words)
+    let (status, out, err) = run_line(files, image, line, failures)?;
+    let out = std::str::from_utf8(out.flushed())?;
+    let err = std::str::from_utf8(err.flushed())?;
+    same((status, out, err), expected, line)
 }
 
-// Words that are no command.
-const NO_COMMANDS: &[&[&str]] = &[
-    &[],
-    &[""],
-    &["l2"],
-    &["l2", "IMAGE"],
-    &["l2", "IMAGE", "9"],
-    &["l2", "IMAGE", "9", "2", ""],
-    &["l2", "IMAGE", "8", "2"],
-    &["l2", "IMAGE", "22", "2"],
-    &["l2", "IMAGE", "4294967305", "2"],
-    &["", "IMAGE", "9", "2"],
-    &["L2", "IMAGE", "9", "2"],
-    &["l22", "IMAGE", "9", "2"],
-    &["IMAGE", "l2", "9", "2"],
-    &["information", "IMAGE"],
-    &["--help"],
+// Lines that are no command. A number is 1 to 20 digits that fit 64 bits.
+const NO_COMMANDS: &[&str] = &[
+    "",
+    " ",
+    "l2",
+    "l2 IMAGE",
+    "l2 IMAGE 9",
+    "l2 IMAGE 9 2 ",
+    "l2 IMAGE 8 2",
+    "l2 IMAGE 22 2",
+    "l2 IMAGE 4294967305 2",
+    " IMAGE 9 2",
+    "L2 IMAGE 9 2",
+    "l22 IMAGE 9 2",
+    "IMAGE l2 9 2",
+    "information IMAGE",
+    "--help",
+    "l2 IMAGE 9 ",
+    "l2 IMAGE 9 +2",
+    "l2 IMAGE 9 -1",
+    "l2 IMAGE 9 \t2",
+    "l2 IMAGE 9 9\n",
+    "l2 IMAGE 9 1_0",
+    "l2 IMAGE 9 9.0",
+    "l2 IMAGE 9 1e1",
+    "l2 IMAGE 9 0x9",
+    "l2 IMAGE 9 a",
+    "l2 IMAGE 9 18446744073709551616",
+    "l2 IMAGE 9 000000000000000000002",
+    "l2 IMAGE 9 \u{0669}",
+    "l2 IMAGE +9 2",
+    "l2 IMAGE 000000000000000000009 2",
+    "info",
+    "info IMAGE 9",
+    "list IMAGE ",
+    "at IMAGE",
+    "at IMAGE 0x600",
+    "at IMAGE 0 0",
+    "edit IMAGE",
+    "edit IMAGE map:3:5",
+    "edit IMAGE 0 map:3",
+    "edit IMAGE 0 map:3:5:1",
+    "edit IMAGE 0 map::5",
+    "edit IMAGE 0 zero:3:1",
+    "edit IMAGE 0 keep",
+    "edit IMAGE 0 Discard:3",
+    "edit IMAGE 0 discard:3 inc:3",
+    "count IMAGE",
+    "count IMAGE 3 add:0",
+    "count IMAGE 3 inc:+1",
+    "count IMAGE 3 inc:0:1",
+    "count IMAGE 3 inc:0 discard:0",
 ];
 
-// A number is 1 to 20 digits that fit 64 bits.
-const NO_NUMBERS: &[&[&str]] = &[
-    &["l2", "IMAGE", "9", ""],
-    &["l2", "IMAGE", "9", "+2"],
-    &["l2", "IMAGE", "9", "-1"],
-    &["l2", "IMAGE", "9", " 2"],
-    &["l2", "IMAGE", "9", "9\n"],
-    &["l2", "IMAGE", "9", "1_0"],
-    &["l2", "IMAGE", "9", "9.0"],
-    &["l2", "IMAGE", "9", "1e1"],
-    &["l2", "IMAGE", "9", "0x9"],
-    &["l2", "IMAGE", "9", "a"],
-    &["l2", "IMAGE", "9", "18446744073709551616"],
-    &["l2", "IMAGE", "9", "000000000000000000002"],
-    &["l2", "IMAGE", "9", "\u{0669}"],
-    &["l2", "IMAGE", "+9", "2"],
-    &["l2", "IMAGE", "000000000000000000009", "2"],
-];
-
-const NO_ARGUMENTS: &[&[&str]] = &[
-    &["info"],
-    &["info", "IMAGE", "9"],
-    &["list", "IMAGE", ""],
-    &["at", "IMAGE"],
-    &["at", "IMAGE", "0x600"],
-    &["at", "IMAGE", "0", "0"],
-    &["edit", "IMAGE"],
-    &["edit", "IMAGE", "map:3:5"],
-    &["edit", "IMAGE", "0", "map:3"],
-    &["edit", "IMAGE", "0", "map:3:5:1"],
-    &["edit", "IMAGE", "0", "map::5"],
-    &["edit", "IMAGE", "0", "zero:3:1"],
-    &["edit", "IMAGE", "0", "keep"],
-    &["edit", "IMAGE", "0", "Discard:3"],
-    &["edit", "IMAGE", "0", "discard:3", "inc:3"],
-    &["count", "IMAGE"],
-    &["count", "IMAGE", "3", "add:0"],
-    &["count", "IMAGE", "3", "inc:+1"],
-    &["count", "IMAGE", "3", "inc:0:1"],
-    &["count", "IMAGE", "3", "inc:0", "discard:0"],
-];
+const NO_COMMAND: Outcome<'static> = (2, "", "usage: qmeta COMMAND IMAGE ARGUMENTS\n");
 
 // No file is opened.
 #[test]
 fn words_that_are_no_command_are_the_usage_line(rt: HostRuntime) -> Result<(), Fail> {
-    for lines in [NO_COMMANDS, NO_NUMBERS, NO_ARGUMENTS] {
-        for words in lines {
-            let ended = (2, "", USAGE);
-            ends_with(&rt, "no-command", (&[], &[]), words, NO_FAILURES, ended)?;
-        }
+    for line in NO_COMMANDS {
+        ends_with(&rt, "no-command", (&[], &[]), line, NO_FAILURES, NO_COMMAND)?;
     }
     Ok(())
 }
-
 // All faults, in the order of their numbers.
 const REPORTED: &[(Fault, &str)] = &[
     (Fault::NotQcow2, "qmeta: fault 1\n"),
@@ -184,7 +166,7 @@ const REPORTED: &[(Fault, &str)] = &[
 #[test]
 fn a_fault_is_reported_by_its_number(rt: HostRuntime) -> Result<(), Fail> {
     for (fault, line) in REPORTED {
-        let mut err = FailingOutput::new(rt.alloc(), Failure::Never)?;
+        let mut err = FailingOutput::new(rt.alloc(), Failure::Never);
         let status = report_fault(*fault, &mut err);
         let found = std::str::from_utf8(err.flushed())?;
         same((status, found), (1, *line), *fault)?;
