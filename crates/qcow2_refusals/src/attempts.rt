@@ -53,27 +53,26 @@ pub(crate) struct Attempt {
 
 /// Begins a run.
 pub(crate) fn begin(alloc: Global, run: &Run<'_>) -> Result<Attempt, Fault> {
-    let mut attempt = Attempt {
-        first: Numbers::new(alloc)?,
-        numbers: Numbers::new(alloc)?,
-        before: run.before(alloc)?,
-        after: run.after(alloc)?,
-        held: hold(alloc, run)?,
+    let mut first = Numbers::new(alloc)?;
+    let numbers = Numbers::new(alloc)?;
+    let before = run.before(alloc)?;
+    let after = run.after(alloc)?;
+    let held = hold(alloc, run)?;
+    held.tell(&mut first);
+    Ok(Attempt {
+        held,
+        first,
+        numbers,
+        before,
+        after,
         is_again: false,
-    };
-    attempt.held.tell(&mut attempt.first);
-    Ok(attempt)
+    })
 }
 
 impl Attempt {
     /// Makes the call.
-    pub(crate) fn make<S: Storage>(
-        &mut self,
-        alloc: Global,
-        run: &Run<'_>,
-        image: &mut S,
-    ) -> Answer {
-        make(alloc, run, &mut self.held, image)
+    pub(crate) fn make<S: Storage>(&mut self, run: &Run<'_>, image: &mut S) -> Answer {
+        make(run, &mut self.held, image)
     }
 
     /// Fails unless all stands that must after this answer: what the call told, what it works on, and where
@@ -99,8 +98,8 @@ impl Attempt {
     }
 
     /// The image's bytes where these calls have passed: those of after the call where they wrote.
-    pub(crate) fn written(&self, alloc: Global, calls: &[StorageCall]) -> Result<Vec<u8>, Fault> {
-        let mut bytes = Vec::from_slice(alloc, self.before.bytes())?;
+    pub(crate) fn written(&self, calls: &[StorageCall]) -> Result<Vec<u8>, Fault> {
+        let mut bytes = Vec::from_slice(self.held.alloc, self.before.bytes())?;
         for call in calls {
             if let StorageCall::Write { offset, len } = call {
                 write_from(self.after.bytes(), &mut bytes, *offset as usize, *len)?;
@@ -154,26 +153,12 @@ fn takes_back(numbers: &mut [u64], first: &[u64], word: &str) -> bool {
 // Whether the text, where / stands for a new line, begins with what was told.
 fn begins_with(text: &[u8], told: &[u8]) -> bool {
     for (index, byte) in told.iter().enumerate() {
-        if !stands_at(text, index, shown(*byte)) {
+        let shown = if *byte == b'\n' { b'/' } else { *byte };
+        if text.get(index) != Some(&shown) {
             return false;
         }
     }
     true
-}
-
-fn stands_at(text: &[u8], index: usize, byte: u8) -> bool {
-    match text.get(index) {
-        Some(stands) => *stands == byte,
-        None => false,
-    }
-}
-
-// How a byte of what was told stands in the table of runs.
-fn shown(byte: u8) -> u8 {
-    match byte {
-        b'\n' => b'/',
-        byte => byte,
-    }
 }
 
 // Writes so many of the new bytes in their place, after zeros where the old ones end before it.

@@ -24,6 +24,7 @@ const DISK: &str = "2048 0 2048 0=514649fb00000003 16=9 24=8000 32=1 40=200 96=4
 /// A header, a table of each kind and a block, and the text that a call has told.
 #[derive(Drop)]
 pub(crate) struct Held {
+    pub(crate) alloc: Global,
     pub(crate) header: Header,
     pub(crate) l1_table: L1Table,
     pub(crate) l2_table: L2Table,
@@ -42,8 +43,8 @@ pub(crate) fn hold(alloc: Global, run: &Run<'_>) -> Result<Held, Fault> {
 }
 
 fn hold_from(alloc: Global, source: &str, header: &str) -> Result<Held, Fault> {
-    let header = header_of(alloc, header)?;
     let mut image = image_of(alloc, source, "")?;
+    let header = header_of(alloc, header)?;
     hold_over(alloc, &mut image, header)
 }
 
@@ -53,14 +54,27 @@ pub(crate) fn hold_over(
     image: &mut MemStorage,
     header: Header,
 ) -> Result<Held, Fault> {
+    let (out, block, l1_table, l2_table, reftable) = load_each(alloc, image, &header)?;
     Ok(Held {
-        l1_table: l1_table(alloc, image, &header)?,
-        l2_table: l2_table(alloc, image, &header)?,
-        reftable: reftable(alloc, image, &header)?,
-        block: block(alloc, image, &header)?,
-        out: Output::new(alloc)?,
+        alloc,
         header,
+        l1_table,
+        l2_table,
+        reftable,
+        block,
+        out,
     })
+}
+
+type Loaded = (Output, RefBlock, L1Table, L2Table, RefTable);
+
+fn load_each(alloc: Global, image: &mut MemStorage, header: &Header) -> Result<Loaded, Fault> {
+    let out = Output::new(alloc)?;
+    let block = block(alloc, image, header)?;
+    let l1_table = l1_table(alloc, image, header)?;
+    let l2_table = l2_table(alloc, image, header)?;
+    let reftable = reftable(alloc, image, header)?;
+    Ok((out, block, l1_table, l2_table, reftable))
 }
 
 fn set_flags(held: &mut Held) {

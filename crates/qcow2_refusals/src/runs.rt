@@ -31,6 +31,7 @@ pub(crate) struct Run<'a> {
     pub(crate) done: &'a str,
     told: &'a str,
     told_again: &'a str,
+    words: &'a str,
 }
 
 /// What is done with each run.
@@ -81,6 +82,7 @@ fn run_of<'a>(setup: Setup<'a>, line: &'a str) -> Run<'a> {
         done: text_of(columns.next()),
         told: text_of(columns.next()),
         told_again: text_of(columns.next()),
+        words: text_of(columns.next()),
     }
 }
 
@@ -118,6 +120,14 @@ impl Run<'_> {
     /// Whether the call is the function of a command.
     pub(crate) fn is_command(&self) -> bool {
         self.of == "over a disk"
+    }
+
+    /// The words of a command, which are those of the call where no others stand.
+    pub(crate) fn words(&self) -> &str {
+        if self.words.is_empty() {
+            return self.call;
+        }
+        self.words
     }
 
     /// What the call must tell, over an image that it has changed before or not.

@@ -6,16 +6,11 @@ use qcow2_base::{Fault, Storage};
 use qcow2_metadata::Header;
 use std::alloc::Global;
 
-pub(super) fn make<S: Storage>(
-    call: &str,
-    alloc: Global,
-    held: &mut Held,
-    image: &mut S,
-) -> Result<(), Fault> {
+pub(super) fn make<S: Storage>(call: &str, held: &mut Held, image: &mut S) -> Result<(), Fault> {
     match call {
-        "Header::new" => new(alloc, &mut held.out),
-        "Header::load" => load(alloc, held, image, false),
-        "Header::load writable" => load(alloc, held, image, true),
+        "Header::new" => new(held),
+        "Header::load" => load(held, image, false),
+        "Header::load writable" => load(held, image, true),
         _ => write(call, &mut held.header, image),
     }
 }
@@ -30,19 +25,14 @@ fn write<S: Storage>(call: &str, header: &mut Header, image: &mut S) -> Result<(
     }
 }
 
-fn load<S: Storage>(
-    alloc: Global,
-    held: &mut Held,
-    image: &mut S,
-    is_writable: bool,
-) -> Result<(), Fault> {
-    held.header = load_header(alloc, image, is_writable)?;
+fn load<S: Storage>(held: &mut Held, image: &mut S, is_writable: bool) -> Result<(), Fault> {
+    held.header = load_header(held.alloc, image, is_writable)?;
     Ok(())
 }
 
-fn new(alloc: Global, out: &mut Output) -> Result<(), Fault> {
-    let header = header_of_names(alloc)?;
-    tell_names(&header, out)
+fn new(held: &mut Held) -> Result<(), Fault> {
+    let header = header_of_names(held.alloc)?;
+    tell_names(&header, &mut held.out)
 }
 
 fn tell_names(header: &Header, out: &mut Output) -> Result<(), Fault> {

@@ -5,6 +5,7 @@ use qcow2_base::{ClusterCount, GuestCluster, HostCluster, HostOffset};
 use qcow2_metadata::{
     AtomicL2Entry, AutoclearFeatures, CompatibleFeatures, FeatureType, Header, HeaderExtensionType,
     IncompatibleFeatures, L1Entry, L2Entry, L2Mapping, PendingClusters, RefTableEntry, TableEntry,
+    UnknownValue,
 };
 use std::num::NonZero;
 
@@ -17,7 +18,9 @@ pub(super) fn make(turn: u64, header: &Header, sum: &mut Sum) {
     cell(number, header, sum);
     mappings(sum);
     pending(turn, sum);
-    features(turn % 9, sum);
+    feature::<IncompatibleFeatures>(turn % 9, sum);
+    feature::<CompatibleFeatures>(turn % 9, sum);
+    feature::<AutoclearFeatures>(turn % 9, sum);
     types(turn, sum);
 }
 
@@ -97,21 +100,15 @@ fn pending(turn: u64, sum: &mut Sum) {
     PendingClusters::new(HostCluster(turn), ClusterCount(1)).make_persistent();
 }
 
-fn features(number: u64, sum: &mut Sum) {
-    if let Ok(feature) = IncompatibleFeatures::try_from(number) {
-        sum.add(u64::from(feature));
-        let (_, bit) = <(FeatureType, u8)>::from(feature);
-        sum.add(bit as u64);
-    }
-    if let Ok(feature) = CompatibleFeatures::try_from(number) {
-        sum.add(u64::from(feature));
-        let (_, bit) = <(FeatureType, u8)>::from(feature);
-        sum.add(bit as u64);
-    }
-    if let Ok(feature) = AutoclearFeatures::try_from(number) {
-        sum.add(u64::from(feature));
-        let (_, bit) = <(FeatureType, u8)>::from(feature);
-        sum.add(bit as u64);
+// A feature by its number, and its key.
+fn feature<F>(number: u64, sum: &mut Sum)
+where
+    F: TryFrom<u64, Error = UnknownValue> + Into<u64> + Into<(FeatureType, u8)> + Copy,
+{
+    if let Ok(feature) = F::try_from(number) {
+        let number: u64 = feature.into();
+        let (_, bit): (FeatureType, u8) = feature.into();
+        sum.add(number ^ bit as u64);
     }
 }
 

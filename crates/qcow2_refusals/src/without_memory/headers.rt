@@ -1,7 +1,7 @@
 //! Calls of headers: getters, setters, `update` and the pointer writes.
 
 use super::Sum;
-use crate::held::disk_header;
+use crate::held::{disk_header, new_header};
 use qcow2_base::{Fault, MemStorage};
 use qcow2_metadata::{FeatureType, Header};
 use std::alloc::Global;
@@ -16,11 +16,15 @@ pub(super) struct Headers {
 }
 
 pub(super) fn begin(alloc: Global) -> Result<Headers, Fault> {
+    let image = MemStorage::new(vec![in alloc; 0; 512]?);
+    let first = new_header(alloc, 9, 4)?;
+    let disk = disk_header(alloc, 32768)?;
+    let other = disk_header(alloc, 32768)?;
     Ok(Headers {
-        first: Header::new(alloc, 9, 4, None, None, None)?,
-        disk: disk_header(alloc, 32768)?,
-        other: disk_header(alloc, 32768)?,
-        image: MemStorage::new(vec![in alloc; 0; 512]?),
+        first,
+        disk,
+        other,
+        image,
     })
 }
 
