@@ -63,11 +63,15 @@ fn tables(header: &Header) -> Tables {
     )
 }
 
+fn has_sizes(alloc: Global, row: &Sizes) -> Result<(), Fail> {
+    let header = new(alloc, row.0, row.1, (None, None, None))?;
+    same((sizes(&header), tables(&header)), (*row, NO_TABLES), "new")
+}
+
 #[test]
 fn a_new_header_tells_its_sizes_and_has_no_disk_and_no_tables(rt: HostRuntime) -> Result<(), Fail> {
     for row in SIZES {
-        let header = new(rt.alloc(), row.0, row.1, (None, None, None))?;
-        same((sizes(&header), tables(&header)), (*row, NO_TABLES), "new")?;
+        has_sizes(rt.alloc(), row)?;
     }
     Ok(())
 }
@@ -135,28 +139,22 @@ fn a_new_header_has_the_names_of_eight_features(rt: HostRuntime) -> Result<(), F
     Ok(())
 }
 
-// Changes to the least header, a version, and what the header answers where that is needed.
-const VERSIONS: &[(Changes, u32, Result<(), Fault>)] = &[
-    ("", 0, Ok(())),
-    ("", 3, Ok(())),
-    ("", 4, Err(Fault::VersionNeeded)),
-    ("", u32::MAX, Err(Fault::VersionNeeded)),
-    (OLDER, 2, Ok(())),
-    (OLDER, 3, Err(Fault::VersionNeeded)),
+// Changes to the least header, its version, one that is needed, and what the header answers then.
+const VERSIONS: &[(Changes, u32, u32, Result<(), Fault>)] = &[
+    ("", 3, 0, Ok(())),
+    ("", 3, 3, Ok(())),
+    ("", 3, 4, Err(Fault::VersionNeeded)),
+    ("", 3, u32::MAX, Err(Fault::VersionNeeded)),
+    (OLDER, 2, 2, Ok(())),
+    (OLDER, 2, 3, Err(Fault::VersionNeeded)),
 ];
 
 #[test]
-fn a_header_tells_its_version(rt: HostRuntime) -> Result<(), Fail> {
-    same(load_with(rt.alloc(), "", "")?.version(), 3, "least")?;
-    same(load_with(rt.alloc(), OLDER, "")?.version(), 2, "older")
-}
-
-#[test]
-fn a_header_refuses_a_later_version_than_its_own(rt: HostRuntime) -> Result<(), Fail> {
-    for row in VERSIONS {
-        let (changes, minimum, expected) = *row;
+fn a_header_tells_its_version_and_refuses_a_later_one(rt: HostRuntime) -> Result<(), Fail> {
+    for (changes, version, needed, expected) in VERSIONS {
         let header = load_with(rt.alloc(), changes, "")?;
-        same(header.require_version(minimum), expected, row)?;
+        let found = (header.version(), header.require_version(*needed));
+        same(found, (*version, *expected), needed)?;
     }
     Ok(())
 }

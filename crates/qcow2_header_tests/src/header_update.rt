@@ -175,25 +175,25 @@ const EXTENSIONS: &[(u32, &'static str)] = &[
     (0, "row"),
     (1, ""),
     (1, "raw"),
+    (7, ""),
+    (7, "raw"),
+    (7, "row"),
+    (8, ""),
+    (8, "raw"),
     (2, ""),
-    (2, "raw"),
-    (2, "row"),
     (3, ""),
-    (3, "raw"),
-    (4, ""),
-    (5, ""),
 ];
 
 fn extension(alloc: Global, kind: u32, text: &str) -> Result<HeaderExtension, AllocError> {
     match kind {
         0 => Ok(HeaderExtension::BackingFileFormat(String::from_str(alloc, text)?)),
         1 => Ok(HeaderExtension::ExternalDataFileName(String::from_str(alloc, text)?)),
-        2 | 3 => Ok(HeaderExtension::Unknown {
+        2 => Ok(HeaderExtension::FeatureNameTable(BTreeMap::new(alloc))),
+        3 => feature(alloc, text),
+        _ => Ok(HeaderExtension::Unknown {
             extension_type: kind,
             content: Vec::from_slice(alloc, text.as_bytes())?,
         }),
-        4 => Ok(HeaderExtension::FeatureNameTable(BTreeMap::new(alloc))),
-        _ => feature(alloc, text),
     }
 }
 
@@ -207,8 +207,8 @@ fn feature(alloc: Global, text: &str) -> Result<HeaderExtension, AllocError> {
 // Fails unless the copy of an extension is equal to it and to no other.
 fn equals_itself(alloc: Global, copy: &HeaderExtension, index: usize) -> Result<(), Fail> {
     for (other, (kind, text)) in EXTENSIONS.iter().enumerate() {
-        let extension = extension(alloc, *kind, text)?;
-        same(*copy == extension, index == other, (copy, kind, text))?;
+        let is_equal = *copy == extension(alloc, *kind, text)?;
+        same(is_equal, index == other, (copy, kind, text))?;
     }
     Ok(())
 }

@@ -102,14 +102,19 @@ const LEFT: &[(Changes, &'static str)] = &[
     ("15=01, 19=02, 95=01, 102=01f8, 511=00", "24"),
 ];
 
+// Fails unless a load for writing answers this, and writes nothing.
+fn only_reads(alloc: Global, changes: Changes, answer: &str) -> Result<(), Fail> {
+    let mut image = image_with(alloc, changes)?;
+    answers(alloc, &mut image, answer)?;
+    holds(are_reads(image.calls()), changes)
+}
+
 #[test]
 fn a_load_for_writing_without_autoclear_features_or_refused_only_reads(
     rt: HostRuntime,
 ) -> Result<(), Fail> {
     for (changes, answer) in LEFT {
-        let mut image = image_with(rt.alloc(), changes)?;
-        answers(rt.alloc(), &mut image, answer)?;
-        holds(are_reads(image.calls()), changes)?;
+        only_reads(rt.alloc(), changes, answer)?;
     }
     Ok(())
 }
@@ -124,14 +129,19 @@ fn printed_load<S: Storage>(alloc: Global, image: &mut S) -> Result<String, Faul
     Ok(printed(alloc, &header)?)
 }
 
+// Fails unless a load of a file for writing places the text in it, and answers a header without the features.
+fn clears_file(rt: &HostRuntime, path: &str, text: &[u8]) -> Result<(), Fail> {
+    let mut expected = MemStorage::new(fs::read(rt, path)?);
+    put_bytes(&mut expected, 0, text)?;
+    let header = printed_load(rt.alloc(), &mut open(rt, path)?)?;
+    holds(header.as_str().contains("autoclear_features: 0,"), "header")?;
+    same_bytes(&fs::read(rt, path)?, expected.bytes(), "file")
+}
+
 #[test]
 fn a_load_for_writing_clears_autoclear_features_of_a_file(rt: HostRuntime) -> Result<(), Fail> {
-    let mut expected = least_with(rt.alloc(), RICH, "399=00")?;
+    let begun = least_with(rt.alloc(), RICH, "399=00")?;
     let text = least_with(rt.alloc(), RICH_WRITTEN, "88=0000000000000000")?;
-    let file = temporary_file(&rt, "autoclear-features", expected.bytes())?;
-    let header = printed_load(rt.alloc(), &mut open(&rt, file.path.as_str())?)?;
-    holds(header.as_str().contains("autoclear_features: 0,"), "header")?;
-    put_bytes(&mut expected, 0, text.bytes())?;
-    let found = fs::read(&rt, file.path.as_str())?;
-    same_bytes(found.as_slice(), expected.bytes(), "file")
+    let file = temporary_file(&rt, "autoclear-features", begun.bytes())?;
+    clears_file(&rt, file.path.as_str(), text.bytes())
 }
