@@ -3,7 +3,6 @@
 use crate::fixtures::{Changes, OLDER, OLDER_FILLED, least_with};
 use crate::header_calls::{called, load_with, refusal, told};
 use crate::rich_header::RICH;
-use qcow2_base::Fault;
 use qcow2_metadata::FeatureType::{self, Autoclear, Compatible, Incompatible};
 use qcow2_testing::{printed, same};
 use std::alloc::Global;
@@ -65,15 +64,14 @@ const LOADED: &[(Changes, &'static str)] = &[
     ("104=format 01:a, 120=data 01:b", "- a b"),
     // the extensions in their order, then formats, then data files
     ("104=names 01 00, 120=data 01 ff", "14"),
-    (
-        "104=data 01 ff, 120=names 01 00, 136=0000000700000191",
-        "13",
-    ),
-    (
-        "104=format 01:a, 120=format 01:b, 136=0000000700000191",
-        "12",
-    ),
+    ("104=data 01 ff, 120=names 01 00, 139=0700000191", "13"),
+    ("104=format 01:a, 120=format 01:b, 139=0700000191", "12"),
     (TWO_CONFLICTS, "15"),
+    // a name of a feature that has one byte
+    ("104=names 01 00", "14"),
+    ("104=names 01 01", "14"),
+    ("104=names 01 02", "14"),
+    ("104=names 31", "14"),
     // as many extensions as the first cluster holds
     ("104=0000000700000000*50", "- - -"),
     ("104=0000000700000000*51", "12"),
@@ -226,96 +224,74 @@ fn a_load_keeps_all_that_a_header_says(rt: HostRuntime) -> Result<(), Fail> {
 // chunks begin at bytes 112, 160 and 208.
 const NO_CHUNKS: Changes = "104=names 00";
 
-// Changes to it, a feature's field and its bit, and the name that the header has for it, or the fault.
-const NAMED: &[(Changes, FeatureType, u32, Called)] = &[
-    ("", Incompatible, 0, Ok(None)),
-    ("111=020005", Incompatible, 5, Ok(Some(""))),
-    ("111=050107:one", Compatible, 7, Ok(Some("one"))),
-    ("111=040107:one", Compatible, 7, Ok(Some("on"))),
+// Changes to it, a feature, and the name that the header has for it, or - for none.
+const NAMED: &[(Changes, Key, &'static str)] = &[
+    ("", DIRTY, "-"),
+    ("111=020005", (Incompatible, 5), ""),
+    ("111=050107:one", (Compatible, 7), "one"),
+    ("111=040107:one", (Compatible, 7), "on"),
     // the last chunk of a key decides
-    ("111=600000:a, 160=0000:b", Incompatible, 0, Ok(Some("b"))),
-    ("111=600000:a, 160=0000:b", Compatible, 0, Ok(None)),
-    ("111=600000:a, 160=0000:b", Incompatible, 256, Ok(None)),
-    ("111=600000:a, 160=0000:b", Incompatible, u32::MAX, Ok(None)),
-    ("111=320000:a", Incompatible, 0, Ok(Some(""))),
+    ("111=600000:a, 160=0000:b", DIRTY, "b"),
+    ("111=600000:a, 160=0000:b", (Compatible, 0), "-"),
+    ("111=600000:a, 160=0000:b", (Incompatible, 256), "-"),
+    ("111=600000:a, 160=0000:b", (Incompatible, u32::MAX), "-"),
+    ("111=320000:a", DIRTY, ""),
     // each field has keys of its own, up to bit 255
-    (FIELDS, Incompatible, 255, Ok(Some("i"))),
-    (FIELDS, Compatible, 255, Ok(Some("c"))),
-    (FIELDS, Autoclear, 255, Ok(Some("a"))),
+    (FIELDS, (Incompatible, 255), "i"),
+    (FIELDS, (Compatible, 255), "c"),
+    (FIELDS, (Autoclear, 255), "a"),
     // the first table that has the key decides
-    (TABLES, Incompatible, 0, Ok(Some("one"))),
-    (TABLES, Autoclear, 1, Ok(Some("raw"))),
-    (TABLES, Autoclear, 0, Ok(None)),
-    // a chunk of another type is left aside, and else one of one byte is refused
-    ("111=330201:a, 160=0301:b", Autoclear, 1, Ok(Some("a"))),
-    ("111=0103", Incompatible, 0, Ok(None)),
-    ("111=0100", Incompatible, 0, Err(Fault::FeatureNameCut)),
-    ("111=0101", Incompatible, 0, Err(Fault::FeatureNameCut)),
-    ("111=0102", Incompatible, 0, Err(Fault::FeatureNameCut)),
-    ("111=31", Incompatible, 0, Err(Fault::FeatureNameCut)),
-    ("111=31, 160=09", Incompatible, 0, Ok(Some(""))),
+    (TABLES, DIRTY, "one"),
+    (TABLES, (Autoclear, 1), "raw"),
+    (TABLES, (Autoclear, 0), "-"),
+    // a chunk of another type is left aside
+    ("111=330201:a, 160=0301:b", (Autoclear, 1), "a"),
+    ("111=0103", DIRTY, "-"),
+    ("111=31, 160=09", DIRTY, ""),
     // a name ends before its first zero byte, or with its chunk, even inside a character
-    ("111=300000 6100 62", Incompatible, 0, Ok(Some("a"))),
-    ("111=300000 00 61", Incompatible, 0, Ok(Some(""))),
+    ("111=300000 6100 62", DIRTY, "a"),
+    ("111=300000 00 61", DIRTY, ""),
     (
-        WHOLE,
-        Incompatible,
-        0,
-        Ok(Some("0123456789abcdefghijklmnopqrstuvwxyzABCDEFGHIJ")),
+        FULL,
+        DIRTY,
+        "0123456789abcdefghijklmnopqrstuvwxyzABCDEFGHIJ",
     ),
     (
         CUT,
-        Incompatible,
-        0,
-        Ok(Some("0123456789abcdefghijklmnopqrstuvwxyzABCDEFGHI\u{fffd}")),
+        DIRTY,
+        "0123456789abcdefghijklmnopqrstuvwxyzABCDEFGHI\u{fffd}",
     ),
     // what is no text is replaced
-    ("111=040000 c3a4", Incompatible, 0, Ok(Some("\u{e4}"))),
-    (
-        "111=080000 f0908057c328",
-        Incompatible,
-        0,
-        Ok(Some("\u{fffd}W\u{fffd}(")),
-    ),
-    (
-        "111=080000 eda08078c0af",
-        Incompatible,
-        0,
-        Ok(Some(FIVE_REPLACED)),
-    ),
+    ("111=040000 c3a4", DIRTY, "\u{e4}"),
+    ("111=080000 f0908057c328", DIRTY, "\u{fffd}W\u{fffd}("),
+    ("111=080000 eda08078c0af", DIRTY, FIVE_REPLACED),
 ];
+
+// A feature's field and its bit.
+type Key = (FeatureType, u32);
+
+const DIRTY: Key = (Incompatible, 0);
 
 const FIELDS: Changes = "111=6300ff:i, 160=01ff:c, 208=02ff:a";
 
-type Called = Result<Option<&'static str>, Fault>;
-
 const TABLES: Changes = "111=050000:one, 120=names 35 0000:two, 176=0201:raw";
 
-const WHOLE: Changes = "111=320000:0123456789abcdefghijklmnopqrstuvwxyzABCDEFGHIJ, 160=0300";
+const FULL: Changes = "111=320000:0123456789abcdefghijklmnopqrstuvwxyzABCDEFGHIJ, 160=0300";
 
 const CUT: Changes = "111=320000:0123456789abcdefghijklmnopqrstuvwxyzABCDEFGHI, 159=c3a400";
 
 const FIVE_REPLACED: &str = "\u{fffd}\u{fffd}\u{fffd}x\u{fffd}\u{fffd}";
 
-fn is_called(
-    alloc: Global,
-    changes: Changes,
-    key: (FeatureType, u32),
-    expected: Called,
-) -> Result<(), Fail> {
-    let answer = load_with(alloc, NO_CHUNKS, changes);
-    let found = match &answer {
-        Ok(header) => Ok(called(header, key.0, key.1)),
-        Err(fault) => Err(*fault),
-    };
+fn is_called(alloc: Global, changes: Changes, key: Key, expected: &str) -> Result<(), Fail> {
+    let header = load_with(alloc, NO_CHUNKS, changes)?;
+    let found = called(&header, key.0, key.1).unwrap_or("-");
     same(found, expected, (changes, key))
 }
 
 #[test]
 fn a_feature_is_called_by_the_last_chunk_of_the_first_table(rt: HostRuntime) -> Result<(), Fail> {
-    for row in NAMED {
-        let (changes, feature_type, bit, expected) = *row;
-        is_called(rt.alloc(), changes, (feature_type, bit), expected)?;
+    for (changes, key, expected) in NAMED {
+        is_called(rt.alloc(), changes, *key, expected)?;
     }
     Ok(())
 }

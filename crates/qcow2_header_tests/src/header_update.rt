@@ -3,9 +3,12 @@
 
 use crate::fixtures::Changes;
 use crate::header_calls::{load_with, update};
-use qcow2_base::{Fault, Field};
-use qcow2_metadata::FeatureType::Compatible;
-use qcow2_metadata::{Header, HeaderExtension};
+use qcow2_base::Fault;
+use qcow2_base::Field::{
+    self, Autoclear, BackingName, BackingOffset, BackingSize, ClusterBits, Compatible, CryptMethod,
+    Extensions, Incompatible, NbSnapshots, RefcountOrder, SnapshotsOffset, UnknownFields, Version,
+};
+use qcow2_metadata::{FeatureType, Header, HeaderExtension};
 use qcow2_testing::{printed, same};
 use std::alloc::{AllocError, Global};
 use std::collections::BTreeMap;
@@ -71,58 +74,50 @@ fn a_header_becomes_one_that_agrees_with_it(rt: HostRuntime) -> Result<(), Fail>
 // Changes to headers of these disks that leave two which differ in a field, and in none before it. The tables
 // move with the cluster size, so that they begin with a cluster.
 const DIFFERING: &[(Changes, Changes, Field)] = &[
-    ("", "7=02, 107=07", Field::Version),
-    ("", "15=70, 107=07", Field::BackingOffset),
-    ("", "15=70, 23=0a, 46=04", Field::BackingOffset),
-    ("", "19=01, 107=07", Field::BackingSize),
-    ("", "23=0a, 46=04, 107=07", Field::ClusterBits),
-    ("", "35=01, 107=07", Field::CryptMethod),
-    ("", "63=01, 107=07", Field::NbSnapshots),
-    ("", "71=01, 107=07", Field::SnapshotsOffset),
-    ("", "79=04, 107=07", Field::Incompatible),
-    ("", "87=01, 107=07", Field::Compatible),
-    ("", "95=01, 107=07", Field::Autoclear),
-    ("", "99=03, 107=07", Field::RefcountOrder),
-    ("", "103=70, 107=07", Field::UnknownFields),
-    ("", "361=:c, 107=07", Field::BackingName),
-    ("", "107=07", Field::Extensions),
+    ("", "7=02, 107=07", Version),
+    ("", "15=70, 107=07", BackingOffset),
+    ("", "15=70, 23=0a, 46=04", BackingOffset),
+    ("", "19=01, 107=07", BackingSize),
+    ("", "23=0a, 46=04, 107=07", ClusterBits),
+    ("", "35=01, 107=07", CryptMethod),
+    ("", "63=01, 107=07", NbSnapshots),
+    ("", "71=01, 107=07", SnapshotsOffset),
+    ("", "79=04, 107=07", Incompatible),
+    ("", "87=01, 107=07", Compatible),
+    ("", "95=01, 107=07", Autoclear),
+    ("", "99=03, 107=07", RefcountOrder),
+    ("", "103=70, 107=07", UnknownFields),
+    ("", "361=:c, 107=07", BackingName),
+    ("", "107=07", Extensions),
     // empty names at two places, and a length where no name is
-    ("14=01f000000000", "14=01f800000000", Field::BackingOffset),
-    ("14=000000000001", "14=000001000001", Field::BackingSize),
+    ("14=01f000000000", "14=01f800000000", BackingOffset),
+    ("14=000000000001", "14=000001000001", BackingSize),
     // unknown fields of one length
-    ("103=70, 104=01", "103=70, 104=02", Field::UnknownFields),
-    ("103=70", "103=70, 111=01", Field::UnknownFields),
+    ("103=70, 104=01", "103=70, 104=02", UnknownFields),
+    ("103=70", "103=70, 111=01", UnknownFields),
     // extensions in another order, one more, and none
     (
         FORMAT_AND_DATA,
         "104=data 01:b, 120=format 01:a",
-        Field::Extensions,
+        Extensions,
     ),
-    (
-        "104=data 01:b",
-        "104=data 01:b, 120=data 01:b",
-        Field::Extensions,
-    ),
-    ("", "104=data 00", Field::Extensions),
+    ("104=data 01:b", "104=data 01:b, 120=data 01:b", Extensions),
+    ("", "104=data 00", Extensions),
     // another name, a longer one, and another type
-    ("104=format 03:raw", "104=format 03:row", Field::Extensions),
-    ("104=data 03:raw", "104=data 04:raw2", Field::Extensions),
-    ("104=data 03:raw", "104=format 03:raw", Field::Extensions),
+    ("104=format 03:raw", "104=format 03:row", Extensions),
+    ("104=data 03:raw", "104=data 04:raw2", Extensions),
+    ("104=data 03:raw", "104=format 03:raw", Extensions),
     // extensions of no known type: another type, another byte, another length
-    ("107=0700000001:a", "107=0800000001:a", Field::Extensions),
-    ("107=0700000001:a", "107=0700000001:b", Field::Extensions),
-    ("107=0700000001", "107=0700000002", Field::Extensions),
+    ("107=0700000001:a", "107=0800000001:a", Extensions),
+    ("107=0700000001:a", "107=0700000001:b", Extensions),
+    ("107=0700000001", "107=0700000002", Extensions),
     // feature name tables: another name, bit or field, a longer name, one more, and none
-    (FEATURE, "104=names 06 0100:lame", Field::Extensions),
-    (FEATURE, "104=names 06 0101:lazy", Field::Extensions),
-    (FEATURE, "104=names 06 0200:lazy", Field::Extensions),
-    (FEATURE, "104=names 07 0100:lazy!", Field::Extensions),
-    (
-        FEATURE,
-        "104=names 36 0100:lazy, 160=0000:name",
-        Field::Extensions,
-    ),
-    (FEATURE, "104=names 00", Field::Extensions),
+    (FEATURE, "104=names 06 0100:lame", Extensions),
+    (FEATURE, "104=names 06 0101:lazy", Extensions),
+    (FEATURE, "104=names 06 0200:lazy", Extensions),
+    (FEATURE, "104=names 07 0100:lazy!", Extensions),
+    (FEATURE, "104=names 36 0100:lazy, 160=0000:name", Extensions),
+    (FEATURE, "104=names 00", Extensions),
 ];
 
 const FORMAT_AND_DATA: Changes = "104=format 01:a, 120=data 01:b";
@@ -200,7 +195,7 @@ fn extension(alloc: Global, kind: u32, text: &str) -> Result<HeaderExtension, Al
 // A table with one name.
 fn feature(alloc: Global, text: &str) -> Result<HeaderExtension, AllocError> {
     let mut names = BTreeMap::new(alloc);
-    names.insert((Compatible, 0), String::from_str(alloc, text)?)?;
+    names.insert((FeatureType::Compatible, 0), String::from_str(alloc, text)?)?;
     Ok(HeaderExtension::FeatureNameTable(names))
 }
 
