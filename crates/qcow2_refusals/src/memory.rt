@@ -90,8 +90,6 @@ fn make_in_memory(
 
 fn over_file(rt: &HostRuntime, path: &str, run: &Run<'_>) -> Result<(), Wrong> {
     let mut attempt = begin_again(rt.alloc(), run)?;
-    let is_written = fs::write(rt, path, attempt.before.bytes()).is_ok();
-    unless(is_written, Wrong::Beginning)?;
     make_in_file(rt, path, run, &mut attempt)
 }
 
@@ -103,13 +101,18 @@ fn open_again(rt: &HostRuntime, path: &str) -> Result<FileStorage, Fault> {
     }
 }
 
+fn file_of(rt: &HostRuntime, path: &str, bytes: &[u8]) -> Result<FileStorage, Wrong> {
+    unless(fs::write(rt, path, bytes).is_ok(), Wrong::Beginning)?;
+    Ok(open_again(rt, path)?)
+}
+
 fn make_in_file(
     rt: &HostRuntime,
     path: &str,
     run: &Run<'_>,
     attempt: &mut Attempt,
 ) -> Result<(), Wrong> {
-    let mut file = open_again(rt, path)?;
+    let mut file = file_of(rt, path, attempt.before.bytes())?;
     for _ in 0..2 {
         let answer = attempt.make(run, &mut file);
         if has_done_in_file(rt, path, run, attempt, answer)? {

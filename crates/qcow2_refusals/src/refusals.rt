@@ -35,9 +35,8 @@ impl<O: Write> Each for Refusals<'_, O> {
             return;
         }
         let (calls, wrong) = refuse_each(self.alloc, self.refused, run);
-        let kind = self.refused.name();
         let told = match wrong {
-            None => writeln!(self.out, "{} {}: {calls} {kind}", run.call, run.of),
+            None => tell_calls(self.out, run, self.refused.name(), calls),
             Some(wrong) => tell_wrong(self.out, run, wrong, calls),
         };
         self.all_right &= told.is_ok() && wrong.is_none();
@@ -51,6 +50,10 @@ impl Refused {
             Refused::Writes => "writes",
         }
     }
+}
+
+fn tell_calls<O: Write>(out: &mut O, run: &Run<'_>, kind: &str, calls: u64) -> io::Result<()> {
+    writeln!(out, "{} {}: {calls} {kind}", run.call, run.of)
 }
 
 fn tell_wrong<O: Write>(out: &mut O, run: &Run<'_>, wrong: Wrong, passes: u64) -> io::Result<()> {

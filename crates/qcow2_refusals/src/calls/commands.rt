@@ -13,7 +13,12 @@ fn words_of(alloc: Global, line: &str) -> Result<Vec<String>, AllocError> {
     Ok(words)
 }
 
-fn command_of(alloc: Global, words: &[String]) -> Result<Command, Fault> {
+fn command_of(alloc: Global, line: &str) -> Result<Command, Fault> {
+    let words = words_of(alloc, line)?;
+    parsed(alloc, &words)
+}
+
+fn parsed(alloc: Global, words: &[String]) -> Result<Command, Fault> {
     let [name, arguments @ ..] = words else {
         return Err(Fault::WrongLength);
     };
@@ -29,7 +34,6 @@ fn run<S: Storage>(command: &Command, held: &mut Held, image: &mut S) -> Result<
 
 /// Runs the command of these words, which name no image.
 pub(super) fn make<S: Storage>(line: &str, held: &mut Held, image: &mut S) -> Result<(), Fault> {
-    let words = words_of(held.alloc, line)?;
-    let command = command_of(held.alloc, &words)?;
+    let command = command_of(held.alloc, line)?;
     run(&command, held, image)
 }
