@@ -35,9 +35,13 @@ pub(crate) fn least_with(
 // Puts bytes into the image, which grows where it is too short.
 fn change(alloc: Global, image: &mut MemStorage, changes: Changes) -> Result<(), Fault> {
     for part in changes.split(", ") {
-        if let Some((place, text)) = part.split_once('=') {
-            let place = place.parse::<u64>().unwrap_or(u64::MAX);
-            put_bytes(image, place, &bytes_of(alloc, text)?)?;
+        match part.split_once('=') {
+            Some((place, text)) => {
+                let place = place.parse::<u64>().unwrap_or(u64::MAX);
+                put_bytes(image, place, &bytes_of(alloc, text)?)?;
+            }
+            None if part.is_empty() => (),
+            None => return Err(Fault::WrongLength),
         }
     }
     Ok(())
@@ -59,6 +63,9 @@ fn push_word(bytes: &mut Vec<u8>, word: &str) -> Result<(), Fault> {
     let (Ok(number), Ok(times)) = (u64::from_str_radix(digits, 16), times.parse::<usize>()) else {
         return Err(Fault::WrongLength);
     };
+    if digits.len() % 2 != 0 {
+        return Err(Fault::WrongLength);
+    }
     let skipped = 8usize.saturating_sub(digits.len() / 2);
     for _ in 0..times {
         bytes.extend_from_slice(number.to_be_bytes().get(skipped..).unwrap_or(&[]))?;

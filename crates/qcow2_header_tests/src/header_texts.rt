@@ -7,7 +7,7 @@ use crate::rich_header::RICH;
 pub(crate) type Repeated = (&'static str, usize);
 
 /// Cluster bits and the backing file's name of a new header, and what a write of it places: the names of
-/// features, if they are, and the rest.
+/// features, where they fit, and what else differs from the least header.
 pub(crate) const NEW: &[(u32, Repeated, Changes, Changes)] = &[
     // a name of 8 bytes, which just fits besides the names of features, and one of 9, which doesn't
     (9, ("base.img", 1), KNOWN, "14=01f800000008, 504=:base.img"),

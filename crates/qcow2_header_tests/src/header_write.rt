@@ -67,11 +67,7 @@ fn is_new(
     known: Changes,
     changes: Changes,
 ) -> Result<(), Fail> {
-    let called = if known.is_empty() {
-        None
-    } else {
-        Some("dirty")
-    };
+    let called = (!known.is_empty()).then_some("dirty");
     let text = least_with(alloc, known, changes)?;
     goes_round(alloc, header, text.bytes(), (called, called))
 }
