@@ -1,9 +1,9 @@
 //! A run that has begun, and whether all stands that must after its call.
 
-use crate::calls::{Answer, make};
-use crate::held::{Held, Numbers, hold};
-use crate::runs::{Run, number_of};
-use qcow2_base::{Fault, MemStorage, Storage};
+use crate::calls::Answer;
+use crate::held::{Held, MOST_NUMBERS, Numbers, hold};
+use crate::runs::{Run, image_of, number_of};
+use qcow2_base::{Fault, MemStorage};
 use qcow2_testing::StorageCall;
 use std::alloc::Global;
 
@@ -47,34 +47,33 @@ pub(crate) struct Attempt {
     numbers: Numbers,
     pub(crate) before: MemStorage,
     after: MemStorage,
+    /// Whether the call lengthens the image.
+    pub(crate) grows: bool,
     /// Whether the image was changed by an earlier call.
     is_again: bool,
 }
 
 /// Begins a run.
 pub(crate) fn begin(alloc: Global, run: &Run<'_>) -> Result<Attempt, Fault> {
-    let mut first = Numbers::new(alloc)?;
-    let numbers = Numbers::new(alloc)?;
+    let mut first = Numbers(Vec::with_capacity(alloc, MOST_NUMBERS)?);
+    let numbers = Numbers(Vec::with_capacity(alloc, MOST_NUMBERS)?);
     let before = run.before(alloc)?;
-    let after = run.after(alloc)?;
+    let after = image_of(alloc, run.setup.image, run.after)?;
     let held = hold(alloc, run)?;
     held.tell(&mut first);
+    let grows = before.bytes().len() < after.bytes().len();
     Ok(Attempt {
         held,
         first,
         numbers,
         before,
         after,
+        grows,
         is_again: false,
     })
 }
 
 impl Attempt {
-    /// Makes the call.
-    pub(crate) fn make<S: Storage>(&mut self, run: &Run<'_>, image: &mut S) -> Answer {
-        make(run, &mut self.held, image)
-    }
-
     /// Fails unless all stands that must after this answer: what the call told, what it works on, and where
     /// it succeeds the image, whose bytes are these now. Where a write of the output has failed, the image
     /// was changed by then, and is changed once more.
@@ -108,14 +107,9 @@ impl Attempt {
         Ok(bytes)
     }
 
-    /// Whether the call lengthens the image.
-    pub(crate) fn grows(&self) -> bool {
-        self.before.bytes().len() < self.after.bytes().len()
-    }
-
     // All is told, or a beginning of it where the call was refused.
     fn told_stands(&self, run: &Run<'_>, answer: Answer) -> bool {
-        let (all, told) = (run.told(self.is_again), self.held.out.bytes());
+        let (all, told) = (run.told(self.is_again), self.held.out.bytes.as_slice());
         let is_long_enough = answer != Answer::Done || told.len() == all.len();
         is_long_enough && begins_with(all.as_bytes(), told)
     }

@@ -21,7 +21,7 @@ pub(crate) enum Answer {
 
 /// Makes the call of a run.
 pub(crate) fn make<S: Storage>(run: &Run<'_>, held: &mut Held, image: &mut S) -> Answer {
-    held.out.restart();
+    held.out.bytes.clear();
     match make_call(run, held, image) {
         Ok(()) => Answer::Done,
         Err(Fault::Storage) => Answer::StorageFailed,

@@ -19,7 +19,7 @@ mod runs;
 mod without_memory;
 
 use crate::memory::Memory;
-use crate::refusals::{Refusals, Refused};
+use crate::refusals::Refusals;
 use crate::runs::take_all;
 use std::alloc::Global;
 use std::io::Write;
@@ -75,11 +75,11 @@ fn refuse_all<O: Write>(alloc: Global, table: &str, out: &mut O) -> bool {
     let mut refusals = Refusals {
         alloc,
         out,
-        refused: Refused::Calls,
+        of_writes: false,
         all_right: true,
     };
     take_all(table, &mut refusals);
-    refusals.refused = Refused::Writes;
+    refusals.of_writes = true;
     take_all(table, &mut refusals);
     refusals.all_right
 }
@@ -98,9 +98,9 @@ fn make_each<O: Write>(rt: &HostRuntime, call: &str, table: &str, out: &mut O) -
         all_right: true,
     };
     take_all(table, &mut memory);
-    let all_right = memory.is_told();
+    let (runs, all_right) = (memory.runs, memory.all_right);
     let _ = fs::remove_file(rt, path.as_str());
-    all_right
+    writeln!(out, "{runs} runs").is_ok() && all_right && runs > 0
 }
 
 // Where the file of a run lies, made once more where memory was refused the first time.
@@ -120,7 +120,7 @@ fn temporary_path(rt: &HostRuntime) -> io::Result<String> {
 
 fn make_calls<O: Write>(alloc: Global, turns: u64, out: &mut O) -> bool {
     match without_memory::make_calls(alloc, turns) {
-        Ok(sum) => writeln!(out, "{turns} turns: {sum:?}").is_ok(),
+        Ok(sum) => writeln!(out, "{turns} turns: {}", sum.0).is_ok(),
         Err(_) => false,
     }
 }

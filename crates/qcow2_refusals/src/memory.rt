@@ -4,7 +4,7 @@
 //! too, so that all runs are made whichever request it meets.
 
 use crate::attempts::{Attempt, Wrong, begin, unless};
-use crate::calls::Answer;
+use crate::calls::{Answer, make};
 use crate::runs::{Each, Run};
 use qcow2_base::{Fault, FileStorage, MemStorage};
 use std::alloc::Global;
@@ -24,32 +24,21 @@ pub(crate) struct Memory<'a, O> {
     pub(crate) all_right: bool,
 }
 
-impl<O: Write> Memory<'_, O> {
-    /// Prints how many runs were made, and answers whether there were any, and each was as it must be.
-    pub(crate) fn is_told(&mut self) -> bool {
-        writeln!(self.out, "{} runs", self.runs).is_ok() && self.all_right && self.runs > 0
-    }
-}
-
 impl<O: Write> Each for Memory<'_, O> {
     fn take(&mut self, run: &Run<'_>) {
         if !self.call.is_empty() && self.call != run.call {
             return;
         }
         self.runs = self.runs.saturating_add(1);
-        if let Err(wrong) = make(self.rt, self.path, run) {
+        let made = match over_memory(self.rt.alloc(), run) {
+            Ok(()) if run.is_in_a_file() => over_file(self.rt, self.path, run),
+            made => made,
+        };
+        if let Err(wrong) = made {
             self.all_right = false;
             let _ = writeln!(self.out, "{} {}: {wrong:?} is wrong", run.call, run.of);
         }
     }
-}
-
-fn make(rt: &HostRuntime, path: &str, run: &Run<'_>) -> Result<(), Wrong> {
-    over_memory(rt.alloc(), run)?;
-    if run.is_in_a_file() {
-        over_file(rt, path, run)?;
-    }
-    Ok(())
 }
 
 // Begins a run, once more where memory was refused the first time.
@@ -80,7 +69,7 @@ fn make_in_memory(
     image: &mut MemStorage,
 ) -> Result<(), Wrong> {
     for _ in 0..2 {
-        let answer = attempt.make(run, image);
+        let answer = make(run, &mut attempt.held, image);
         if has_done(run, attempt, answer, image.bytes())? {
             return Ok(());
         }
@@ -101,38 +90,25 @@ fn open_again(rt: &HostRuntime, path: &str) -> Result<FileStorage, Fault> {
     }
 }
 
-fn file_of(rt: &HostRuntime, path: &str, bytes: &[u8]) -> Result<FileStorage, Wrong> {
-    unless(fs::write(rt, path, bytes).is_ok(), Wrong::Beginning)?;
-    Ok(open_again(rt, path)?)
-}
-
 fn make_in_file(
     rt: &HostRuntime,
     path: &str,
     run: &Run<'_>,
     attempt: &mut Attempt,
 ) -> Result<(), Wrong> {
-    let mut file = file_of(rt, path, attempt.before.bytes())?;
+    let is_written = fs::write(rt, path, attempt.before.bytes()).is_ok();
+    unless(is_written, Wrong::Beginning)?;
+    let mut file = open_again(rt, path)?;
     for _ in 0..2 {
-        let answer = attempt.make(run, &mut file);
-        if has_done_in_file(rt, path, run, attempt, answer)? {
+        let answer = make(run, &mut attempt.held, &mut file);
+        let Ok(bytes) = bytes_again(rt, path) else {
+            return Err(Wrong::Beginning);
+        };
+        if has_done(run, attempt, answer, &bytes)? {
             return Ok(());
         }
     }
     Err(Wrong::Answer)
-}
-
-fn has_done_in_file(
-    rt: &HostRuntime,
-    path: &str,
-    run: &Run<'_>,
-    attempt: &mut Attempt,
-    answer: Answer,
-) -> Result<bool, Wrong> {
-    match bytes_again(rt, path) {
-        Ok(bytes) => has_done(run, attempt, answer, &bytes),
-        Err(_) => Err(Wrong::Beginning),
-    }
 }
 
 // The bytes of the file, read once more where memory was refused the first time.
@@ -151,7 +127,7 @@ fn has_done(
     answer: Answer,
     image: &[u8],
 ) -> Result<bool, Wrong> {
-    let may_fail = answer != Answer::StorageFailed || attempt.grows();
+    let may_fail = answer != Answer::StorageFailed || attempt.grows;
     unless(may_fail, Wrong::Answer)?;
     let is_done = answer == Answer::Done;
     unless(is_done || image == attempt.before.bytes(), Wrong::Image)?;

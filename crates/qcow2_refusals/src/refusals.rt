@@ -1,10 +1,10 @@
 //! Each run with each of its calls of the storage refused in turn, or each write of its output.
 
 use crate::attempts::{Attempt, Wrong, begin, unless};
-use crate::calls::Answer;
+use crate::calls::{Answer, make};
 use crate::runs::{Each, Run};
 use qcow2_base::{Fault, MemStorage};
-use qcow2_testing::{FailingStorage, StorageCall};
+use qcow2_testing::FailingStorage;
 use std::alloc::Global;
 use std::io;
 use std::io::Write;
@@ -12,48 +12,30 @@ use std::io::Write;
 /// More calls and more writes than any run makes.
 const MOST_CALLS: u64 = 1000;
 
-/// What is refused.
-#[derive(Clone, Copy, PartialEq, Eq)]
-pub(crate) enum Refused {
-    Calls,
-    Writes,
-}
-
 /// Takes each run with what is refused, and prints how often it is.
 #[derive(Drop)]
 pub(crate) struct Refusals<'a, O> {
     pub(crate) alloc: Global,
     pub(crate) out: &'a mut O,
-    pub(crate) refused: Refused,
+    /// Whether writes of the output are refused, and not calls of the storage.
+    pub(crate) of_writes: bool,
     /// Whether each run was as it must be, and could be told.
     pub(crate) all_right: bool,
 }
 
 impl<O: Write> Each for Refusals<'_, O> {
     fn take(&mut self, run: &Run<'_>) {
-        if self.refused == Refused::Writes && !run.is_command() {
+        if self.of_writes && !run.is_command() {
             return;
         }
-        let (calls, wrong) = refuse_each(self.alloc, self.refused, run);
+        let (calls, wrong) = refuse_each(self.alloc, self.of_writes, run);
+        let kind = if self.of_writes { "writes" } else { "calls" };
         let told = match wrong {
-            None => tell_calls(self.out, run, self.refused.name(), calls),
+            None => writeln!(self.out, "{} {}: {calls} {kind}", run.call, run.of),
             Some(wrong) => tell_wrong(self.out, run, wrong, calls),
         };
         self.all_right &= told.is_ok() && wrong.is_none();
     }
-}
-
-impl Refused {
-    fn name(self) -> &'static str {
-        match self {
-            Refused::Calls => "calls",
-            Refused::Writes => "writes",
-        }
-    }
-}
-
-fn tell_calls<O: Write>(out: &mut O, run: &Run<'_>, kind: &str, calls: u64) -> io::Result<()> {
-    writeln!(out, "{} {}: {calls} {kind}", run.call, run.of)
 }
 
 fn tell_wrong<O: Write>(out: &mut O, run: &Run<'_>, wrong: Wrong, passes: u64) -> io::Result<()> {
@@ -66,9 +48,9 @@ fn tell_wrong<O: Write>(out: &mut O, run: &Run<'_>, wrong: Wrong, passes: u64) -
 
 // Makes the run with its first call refused, then with its second, until none is. Answers how many there are,
 // or how many passed before the one whose refusal was not as it must be.
-fn refuse_each(alloc: Global, refused: Refused, run: &Run<'_>) -> (u64, Option<Wrong>) {
+fn refuse_each(alloc: Global, of_writes: bool, run: &Run<'_>) -> (u64, Option<Wrong>) {
     for passes in 0..MOST_CALLS {
-        match refuse(alloc, refused, run, passes) {
+        match refuse(alloc, of_writes, run, passes) {
             Ok(true) => (),
             Ok(false) => return (passes, None),
             Err(wrong) => return (passes, Some(wrong)),
@@ -78,12 +60,13 @@ fn refuse_each(alloc: Global, refused: Refused, run: &Run<'_>) -> (u64, Option<W
 }
 
 // Makes the run with so many calls passed and the next one refused. Answers whether there was one to refuse.
-fn refuse(alloc: Global, refused: Refused, run: &Run<'_>, passes: u64) -> Result<bool, Wrong> {
+fn refuse(alloc: Global, of_writes: bool, run: &Run<'_>, passes: u64) -> Result<bool, Wrong> {
     let mut image = FailingStorage::new(alloc, run.before(alloc)?);
     let mut attempt = begin(alloc, run)?;
-    match refused {
-        Refused::Calls => image.fail_after(passes),
-        Refused::Writes => attempt.held.out.plan = Some(passes),
+    if of_writes {
+        attempt.held.out.plan = Some(passes);
+    } else {
+        image.fail_after(passes);
     }
     make_twice(run, &mut attempt, &mut image)
 }
@@ -94,7 +77,7 @@ fn make_twice(
     attempt: &mut Attempt,
     image: &mut FailingStorage<MemStorage>,
 ) -> Result<bool, Wrong> {
-    let answer = attempt.make(run, image);
+    let answer = make(run, &mut attempt.held, image);
     unless(holds_what_passed(attempt, image)?, Wrong::Image)?;
     attempt.check(run, answer, image.inner().bytes())?;
     let is_refused = image.failures() > 0 || attempt.held.out.has_failed;
@@ -103,22 +86,19 @@ fn make_twice(
         return Ok(false);
     }
     unless(answer == Answer::StorageFailed, Wrong::Answer)?;
-    let answer = attempt.make(run, image);
+    let answer = make(run, &mut attempt.held, image);
     unless(answer == Answer::Done, Wrong::Answer)?;
     attempt.check(run, answer, image.inner().bytes())?;
     Ok(true)
 }
 
-// Whether the image holds what was written by the calls that passed, and nothing else is changed in it.
+// Whether the image holds what was written by the calls that passed, all but the last one where one failed,
+// and nothing else is changed in it.
 fn holds_what_passed(attempt: &Attempt, image: &FailingStorage<MemStorage>) -> Result<bool, Fault> {
-    let written = attempt.written(passed(image))?;
-    Ok(image.inner().bytes() == written.as_slice())
-}
-
-// The calls that passed: all but the last one where one failed.
-fn passed(image: &FailingStorage<MemStorage>) -> &[StorageCall] {
-    match image.calls().split_last() {
+    let passed = match image.calls().split_last() {
         Some((_, passed)) if image.failures() > 0 => passed,
         _ => image.calls(),
-    }
+    };
+    let written = attempt.written(passed)?;
+    Ok(image.inner().bytes() == written.as_slice())
 }

@@ -11,7 +11,8 @@ pub(crate) struct Setup<'a> {
     pub(crate) header: &'a str,
     /// The image that tables and block are loaded from.
     pub(crate) source: &'a str,
-    image: &'a str,
+    /// The image of the run, without the numbers that it has before or after the call.
+    pub(crate) image: &'a str,
 }
 
 /// A call of the library, with what it begins with and what must stand after it.
@@ -24,7 +25,8 @@ pub(crate) struct Run<'a> {
     /// Whether tables and block count as modified.
     pub(crate) is_modified: bool,
     before: &'a str,
-    after: &'a str,
+    /// The numbers of the image after a call that succeeds.
+    pub(crate) after: &'a str,
     /// The numbers that it changes where the storage refuses.
     pub(crate) refused: &'a str,
     /// Those that it changes where it succeeds.
@@ -49,23 +51,15 @@ pub(crate) fn take_all<E: Each>(table: &str, each: &mut E) {
     };
     for line in table.lines() {
         if let Some(columns) = line.strip_prefix("= ") {
-            setup = setup_of(columns);
-        } else if is_run(line) {
+            let mut columns = columns.split('|');
+            setup = Setup {
+                header: text_of(columns.next()),
+                source: text_of(columns.next()),
+                image: text_of(columns.next()),
+            };
+        } else if !line.is_empty() && !line.starts_with("#") {
             each.take(&run_of(setup, line));
         }
-    }
-}
-
-fn is_run(line: &str) -> bool {
-    !line.is_empty() && !line.starts_with("#")
-}
-
-fn setup_of(line: &str) -> Setup<'_> {
-    let mut columns = line.split('|');
-    Setup {
-        header: text_of(columns.next()),
-        source: text_of(columns.next()),
-        image: text_of(columns.next()),
     }
 }
 
@@ -100,11 +94,6 @@ impl Run<'_> {
         let image = image_of(alloc, self.setup.image, self.before)?;
         let alignment_bits = if self.is_aligned() { 13 } else { 0 };
         Ok(image.with_align(1 << alignment_bits))
-    }
-
-    /// The image after a call that succeeds.
-    pub(crate) fn after(&self, alloc: Global) -> Result<MemStorage, Fault> {
-        image_of(alloc, self.setup.image, self.after)
     }
 
     /// Whether the call takes an image that a file can hold, which has no alignment.

@@ -2,7 +2,7 @@
 
 use crate::held::Held;
 use qcow2_base::{Fault, Storage};
-use qcow2_session::Command;
+use qcow2_session::{Command, run};
 use std::alloc::{AllocError, Global};
 
 fn words_of(alloc: Global, line: &str) -> Result<Vec<String>, AllocError> {
@@ -15,11 +15,7 @@ fn words_of(alloc: Global, line: &str) -> Result<Vec<String>, AllocError> {
 
 fn command_of(alloc: Global, line: &str) -> Result<Command, Fault> {
     let words = words_of(alloc, line)?;
-    parsed(alloc, &words)
-}
-
-fn parsed(alloc: Global, words: &[String]) -> Result<Command, Fault> {
-    let [name, arguments @ ..] = words else {
+    let [name, arguments @ ..] = words.as_slice() else {
         return Err(Fault::WrongLength);
     };
     match Command::parse(alloc, name.as_str(), arguments) {
@@ -28,12 +24,8 @@ fn parsed(alloc: Global, words: &[String]) -> Result<Command, Fault> {
     }
 }
 
-fn run<S: Storage>(command: &Command, held: &mut Held, image: &mut S) -> Result<(), Fault> {
-    qcow2_session::run(held.alloc, image, command, &mut held.out)
-}
-
 /// Runs the command of these words, which name no image.
 pub(super) fn make<S: Storage>(line: &str, held: &mut Held, image: &mut S) -> Result<(), Fault> {
     let command = command_of(held.alloc, line)?;
-    run(&command, held, image)
+    run(held.alloc, image, &command, &mut held.out)
 }

@@ -1,6 +1,6 @@
 //! Calls that take memory and no storage: tables, blocks and an extension that are made, copied and grown.
 
-use crate::held::{Held, text};
+use crate::held::Held;
 use crate::outputs::{Output, tell};
 use qcow2_base::{Fault, MemStorage};
 use qcow2_metadata::{HeaderExtension, L2Table, RefBlock, Table, TableEntry};
@@ -20,13 +20,10 @@ pub(super) fn make(call: &str, of: &str, held: &mut Held) -> Result<(), Fault> {
 
 // Tells the extension that is copied too, whatever comes of its copy.
 fn clone_extension(held: &mut Held) -> Result<(), Fault> {
-    let extension = HeaderExtension::BackingFileFormat(text(held.alloc, "qcow2")?);
-    tell_twice(&extension, &mut held.out)
-}
-
-fn tell_twice(extension: &HeaderExtension, out: &mut Output) -> Result<(), Fault> {
-    tell(out, extension)?;
-    tell(out, &copy_of(extension)?)
+    let name = String::from_str(held.alloc, "qcow2")?;
+    let extension = HeaderExtension::BackingFileFormat(name);
+    tell(&mut held.out, &extension)?;
+    tell(&mut held.out, &copy_of(&extension)?)
 }
 
 fn copy_of(extension: &HeaderExtension) -> Result<HeaderExtension, AllocError> {

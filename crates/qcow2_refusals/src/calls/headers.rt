@@ -1,6 +1,6 @@
 //! Calls of headers.
 
-use crate::held::{Held, load_header, text};
+use crate::held::{Held, load_header};
 use crate::outputs::{Output, tell};
 use qcow2_base::{Fault, Storage};
 use qcow2_metadata::Header;
@@ -9,8 +9,7 @@ use std::alloc::Global;
 pub(super) fn make<S: Storage>(call: &str, held: &mut Held, image: &mut S) -> Result<(), Fault> {
     match call {
         "Header::new" => new(held),
-        "Header::load" => load(held, image, false),
-        "Header::load writable" => load(held, image, true),
+        "Header::load" | "Header::load writable" => load(call, held, image),
         _ => write(call, &mut held.header, image),
     }
 }
@@ -25,7 +24,8 @@ fn write<S: Storage>(call: &str, header: &mut Header, image: &mut S) -> Result<(
     }
 }
 
-fn load<S: Storage>(held: &mut Held, image: &mut S, is_writable: bool) -> Result<(), Fault> {
+fn load<S: Storage>(call: &str, held: &mut Held, image: &mut S) -> Result<(), Fault> {
+    let is_writable = call == "Header::load writable";
     held.header = load_header(held.alloc, image, is_writable)?;
     Ok(())
 }
@@ -42,8 +42,8 @@ fn tell_names(header: &Header, out: &mut Output) -> Result<(), Fault> {
 }
 
 fn header_of_names(alloc: Global) -> Result<Header, Fault> {
-    let name = text(alloc, "base.img")?;
-    let format = text(alloc, "qcow2")?;
-    let data_file = text(alloc, "data.raw")?;
+    let name = String::from_str(alloc, "base.img")?;
+    let format = String::from_str(alloc, "qcow2")?;
+    let data_file = String::from_str(alloc, "data.raw")?;
     Header::new(alloc, 9, 4, Some(name), Some(format), Some(data_file))
 }

@@ -29,34 +29,27 @@ pub(super) fn begin(alloc: Global) -> Result<Headers, Fault> {
 }
 
 pub(super) fn make(turn: u64, headers: &mut Headers, sum: &mut Sum) {
-    getters(&headers.first, sum);
-    names(&headers.first, sum);
-    places(&headers.disk, sum);
+    look_at(&headers.first, sum);
+    look_at(&headers.disk, sum);
     headers.disk.set_size(turn);
     sum.note(headers.other.update(&headers.disk).is_ok());
     sum.add(headers.other.size());
     pointers(&headers.disk, &mut headers.image, sum);
 }
 
-fn getters(header: &Header, sum: &mut Sum) {
+fn look_at(header: &Header, sum: &mut Sum) {
     sum.add(header.size() ^ header.cluster_bits() as u64 ^ header.cluster_size() as u64);
     sum.add(header.version() as u64 ^ header.l2_entries() as u64 ^ header.refcount_order() as u64);
     sum.add(header.rb_bits() as u64 ^ header.rb_entries() as u64);
+    sum.add(header.l1_table_offset().0 ^ header.l1_table_entries() as u64);
+    sum.add(header.reftable_offset().0 ^ header.reftable_clusters().0);
+    sum.add(header.reftable_entries() as u64);
     sum.note(header.external_data_file());
     sum.note(header.require_version(3).is_ok());
-}
-
-fn names(header: &Header, sum: &mut Sum) {
     sum.note(header.backing_filename().is_some());
     sum.note(header.backing_format().is_some());
     sum.note(header.external_data_filename().is_some());
     sum.note(header.feature_name(FeatureType::Incompatible, 0).is_some());
-}
-
-fn places(header: &Header, sum: &mut Sum) {
-    sum.add(header.l1_table_offset().0 ^ header.l1_table_entries() as u64);
-    sum.add(header.reftable_offset().0 ^ header.reftable_clusters().0);
-    sum.add(header.reftable_entries() as u64);
 }
 
 fn pointers(header: &Header, image: &mut MemStorage, sum: &mut Sum) {

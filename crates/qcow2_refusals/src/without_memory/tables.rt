@@ -53,29 +53,22 @@ fn begin_outcome(alloc: Global) -> Result<Outcome, Fault> {
 }
 
 pub(super) fn make(turn: u64, tables: &mut Tables, sum: &mut Sum) {
-    let index = (turn % 32 + 4) as usize;
-    make_in_memory(&mut tables.held, index, sum);
+    make_in_memory(&mut tables.held, (turn % 32 + 4) as usize, sum);
     settle_outcome(&mut tables.held, &tables.outcome, sum);
     write(&mut tables.held, &mut tables.image, sum);
 }
 
 fn make_in_memory(held: &mut Held, index: usize, sum: &mut Sum) {
-    look_at_each(held, index, sum);
-    enter_l2_table(&mut held.l1_table, &mut held.l2_table, index, sum);
-    enter_refblock(&mut held.reftable, &mut held.block, index, sum);
-    point_to_l1_table(&mut held.header, &held.l1_table, sum);
-    point_to_reftable(&mut held.header, &held.reftable, sum);
-    look_up(&mut held.l2_table, sum);
-    change(&mut held.l2_table, index, sum);
-    count(&mut held.block, index, sum);
-    grow(&held.header, index, sum);
-    make_empty(held.l1_table.allocator(), &held.header, sum);
-}
-
-fn look_at_each(held: &mut Held, index: usize, sum: &mut Sum) {
     look_at(&mut held.l1_table, index, sum);
     look_at(&mut held.l2_table, index, sum);
     look_at(&mut held.reftable, index, sum);
+    enter_l2_table(&mut held.l1_table, &mut held.l2_table, index, sum);
+    enter_refblock(&mut held.reftable, &mut held.block, index, sum);
+    point(&mut held.header, &held.l1_table, &held.reftable, sum);
+    look_up(&mut held.l2_table, sum);
+    change(&mut held.l2_table, index, sum);
+    count(&mut held.block, index, sum);
+    make_new(held.alloc, &held.header, index, sum);
 }
 
 fn look_at<T: Table>(table: &mut T, index: usize, sum: &mut Sum) {
@@ -134,15 +127,12 @@ fn enter_refblock(reftable: &mut RefTable, block: &mut RefBlock, index: usize, s
     note_answer(reftable.enter_refblock(index, block, Some(pending)), sum);
 }
 
-fn point_to_l1_table(header: &mut Header, table: &L1Table, sum: &mut Sum) {
-    if header.cluster_bits() == table.cluster_bits() {
-        note_answer(header.set_l1_table(table, None), sum);
+fn point(header: &mut Header, l1_table: &L1Table, reftable: &RefTable, sum: &mut Sum) {
+    if header.cluster_bits() == l1_table.cluster_bits() {
+        note_answer(header.set_l1_table(l1_table, None), sum);
     }
-}
-
-fn point_to_reftable(header: &mut Header, table: &RefTable, sum: &mut Sum) {
-    if header.cluster_bits() == table.cluster_bits() {
-        sum.note(header.set_reftable(table).is_ok());
+    if header.cluster_bits() == reftable.cluster_bits() {
+        sum.note(header.set_reftable(reftable).is_ok());
     }
 }
 
@@ -175,25 +165,19 @@ fn change(table: &mut L2Table, index: usize, sum: &mut Sum) {
 }
 
 fn count(block: &mut RefBlock, index: usize, sum: &mut Sum) {
-    mark_block(block, sum);
+    sum.note(block.get_cluster().is_some() && block.get_offset().is_some());
+    block.clear_modified();
+    sum.note(block.is_modified());
+    block.set_modified();
     if index >= block.entries() {
         return;
     }
-    sum.add(block.get(index));
+    sum.add(block.get(index) ^ block.cluster_bits() as u64);
     sum.note(block.is_zero(index));
     let mut guard = block.lock_write();
     sum.note(guard.increment(index).is_ok());
     sum.note(guard.is_zero(index));
     sum.note(guard.decrement(index).is_ok());
-}
-
-fn mark_block(block: &mut RefBlock, sum: &mut Sum) {
-    sum.note(block.get_cluster().is_some());
-    sum.note(block.get_offset().is_some());
-    sum.add(block.cluster_bits() as u64);
-    block.clear_modified();
-    sum.note(block.is_modified());
-    block.set_modified();
 }
 
 fn settle_outcome(held: &mut Held, outcome: &Outcome, sum: &mut Sum) {
@@ -203,15 +187,6 @@ fn settle_outcome(held: &mut Held, outcome: &Outcome, sum: &mut Sum) {
     {
         sum.note(settle(block, header, 0, outcome).is_ok());
     }
-}
-
-fn grow(header: &Header, index: usize, sum: &mut Sum) {
-    if index >= 4194304 {
-        return;
-    }
-    let mut turns = Turns::new();
-    sum.note(least_spare(64, index, header, &mut turns).is_some());
-    sum.add(turns.count() as u64);
 }
 
 fn write(held: &mut Held, image: &mut MemStorage, sum: &mut Sum) {
@@ -227,8 +202,13 @@ fn write_kind(kind: &str, held: &mut Held, image: &mut MemStorage, sum: &mut Sum
     }
 }
 
-fn make_empty(alloc: Global, header: &Header, sum: &mut Sum) {
+fn make_new(alloc: Global, header: &Header, index: usize, sum: &mut Sum) {
     let l1_table = L1Table::from_data(Vec::new(alloc), header);
     let reftable = RefTable::from_data(Vec::new(alloc), header);
     sum.add(l1_table.entries() as u64 ^ reftable.entries() as u64);
+    if index < 4194304 {
+        let mut turns = Turns::new();
+        sum.note(least_spare(64, index, header, &mut turns).is_some());
+        sum.add(turns.count() as u64);
+    }
 }
