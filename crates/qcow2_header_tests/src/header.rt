@@ -1,12 +1,18 @@
 //! What headers tell of an image.
 
 use crate::fixtures::{Changes, OLDER};
-use crate::header_calls::{Names, Sizes, Tables, called, load_with, names, new, sizes, tables};
+use crate::header_calls::{Names, called, load_with, names, new};
 use crate::rich_header::RICH;
 use qcow2_base::{ClusterCount, Fault, HostOffset};
 use qcow2_metadata::FeatureType::{self, Autoclear, Compatible, Incompatible};
+use qcow2_metadata::Header;
 use qcow2_testing::same;
+use std::alloc::Global;
 use std::test::Fail;
+
+// Cluster bits and the refcount order, and then the cluster size, the entries of an L2 table, the refcounts
+// of a block and their logarithm.
+type Sizes = (u32, u32, usize, usize, usize, u32);
 
 const SIZES: &[Sizes] = &[
     (9, 0, 512, 64, 4096, 12),
@@ -20,36 +26,85 @@ const SIZES: &[Sizes] = &[
     (21, 6, 2097152, 262144, 262144, 18),
 ];
 
+fn sizes(header: &Header) -> Sizes {
+    (
+        header.cluster_bits(),
+        header.refcount_order(),
+        header.cluster_size(),
+        header.l2_entries(),
+        header.rb_entries(),
+        header.rb_bits(),
+    )
+}
+
+// The size of the disk, where the L1 table begins and its entries, and where the refcount table begins, its
+// clusters and its entries.
+type Tables = (u64, HostOffset, usize, HostOffset, ClusterCount, usize);
+
 const NO_TABLES: Tables = (0, HostOffset(0), 0, HostOffset(0), ClusterCount(0), 0);
+
+const RICH_TABLES: Tables = (
+    0x0102_0304_0506_0708,
+    HostOffset(0x3132_3334_3536_3a00),
+    0x2122_2324,
+    HostOffset(0x4142_4344_4546_4800),
+    ClusterCount(0x5152_5354),
+    0x14_5494_d500,
+);
+
+fn tables(header: &Header) -> Tables {
+    (
+        header.size(),
+        header.l1_table_offset(),
+        header.l1_table_entries(),
+        header.reftable_offset(),
+        header.reftable_clusters(),
+        header.reftable_entries(),
+    )
+}
+
+fn has_sizes(alloc: Global, row: &Sizes) -> Result<(), Fail> {
+    let header = new(alloc, row.0, row.1, (None, None, None))?;
+    same((sizes(&header), tables(&header)), (*row, NO_TABLES), "new")
+}
 
 #[test]
 fn a_new_header_tells_its_sizes_and_has_no_disk_and_no_tables(rt: HostRuntime) -> Result<(), Fail> {
     for row in SIZES {
-        let header = new(rt.alloc(), row.0, row.1, (None, None, None))?;
-        same(sizes(&header), *row, *row)?;
-        same(tables(&header), NO_TABLES, *row)?;
+        has_sizes(rt.alloc(), row)?;
     }
     Ok(())
 }
 
-const NAMES: &[Names<'static>] = &[
-    (None, None, None, false),
-    (Some("base.img"), None, None, false),
-    (Some("base.img"), Some("qcow2"), None, false),
-    (None, Some("raw"), None, false),
-    (None, None, Some("data.raw"), true),
-    (None, None, Some(""), true),
-    (Some("base.img"), Some("qcow2"), Some("data.raw"), true),
+#[test]
+fn a_loaded_header_tells_its_names_and_its_numbers(rt: HostRuntime) -> Result<(), Fail> {
+    let header = load_with(rt.alloc(), RICH, "")?;
+    let found = (sizes(&header), tables(&header));
+    same(found, ((9, 5, 512, 64, 128, 7), RICH_TABLES), "rich")?;
+    tells(rt.alloc(), &header, "ä.img qcow2 dät.raw external")
+}
+
+// What a new header tells of its names.
+const NAMES: &[(Names<'static>, &'static str)] = &[
+    ((None, None, None), "- - -"),
+    ((Some("base.img"), None, None), "base.img - -"),
+    ((Some("base.img"), Some("qcow2"), None), "base.img qcow2 -"),
+    ((None, Some("raw"), None), "- raw -"),
+    ((None, None, Some("data.raw")), "- - data.raw external"),
+    ((None, None, Some("")), "- -  external"),
+    ((Some("a"), Some("qcow2"), Some("b")), "a qcow2 b external"),
 ];
+
+fn tells(alloc: Global, header: &Header, expected: &str) -> Result<(), Fail> {
+    same(names(alloc, header)?.as_str(), expected, "names")
+}
 
 #[test]
 fn a_new_header_tells_its_names_and_that_data_is_external_where_a_data_file_is_named(
     rt: HostRuntime,
 ) -> Result<(), Fail> {
-    for row in NAMES {
-        let (backing, format, data, _) = *row;
-        let header = new(rt.alloc(), 9, 4, (backing, format, data))?;
-        same(names(&header), *row, *row)?;
+    for (names, expected) in NAMES {
+        tells(rt.alloc(), &new(rt.alloc(), 9, 4, *names)?, expected)?;
     }
     Ok(())
 }
@@ -84,50 +139,22 @@ fn a_new_header_has_the_names_of_eight_features(rt: HostRuntime) -> Result<(), F
     Ok(())
 }
 
-#[test]
-fn a_loaded_header_tells_its_names_and_its_numbers(rt: HostRuntime) -> Result<(), Fail> {
-    let header = load_with(rt.alloc(), RICH, &[])?;
-    let expected = (
-        Some("\u{e4}.img"),
-        Some("qcow2"),
-        Some("d\u{e4}t.raw"),
-        true,
-    );
-    same(names(&header), expected, "names")?;
-    same(sizes(&header), (9, 5, 512, 64, 128, 7), "sizes")?;
-    let expected = (
-        0x0102_0304_0506_0708,
-        HostOffset(0x3132_3334_3536_3a00),
-        0x2122_2324,
-        HostOffset(0x4142_4344_4546_4800),
-        ClusterCount(0x5152_5354),
-        0x14_5494_d500,
-    );
-    same(tables(&header), expected, "tables")
-}
-
-// Changes to the least header, a version, and what the header answers where that is needed.
-const VERSIONS: &[(Changes, u32, Result<(), Fault>)] = &[
-    (&[], 0, Ok(())),
-    (&[], 3, Ok(())),
-    (&[], 4, Err(Fault::VersionNeeded)),
-    (&[], u32::MAX, Err(Fault::VersionNeeded)),
-    (OLDER, 2, Ok(())),
-    (OLDER, 3, Err(Fault::VersionNeeded)),
+// Changes to the least header, its version, one that is needed, and what the header answers then.
+const VERSIONS: &[(Changes, u32, u32, Result<(), Fault>)] = &[
+    ("", 3, 0, Ok(())),
+    ("", 3, 3, Ok(())),
+    ("", 3, 4, Err(Fault::VersionNeeded)),
+    ("", 3, u32::MAX, Err(Fault::VersionNeeded)),
+    (OLDER, 2, 2, Ok(())),
+    (OLDER, 2, 3, Err(Fault::VersionNeeded)),
 ];
 
 #[test]
-fn a_header_tells_its_version(rt: HostRuntime) -> Result<(), Fail> {
-    same(load_with(rt.alloc(), &[], &[])?.version(), 3, "least")?;
-    same(load_with(rt.alloc(), OLDER, &[])?.version(), 2, "older")
-}
-
-#[test]
-fn a_header_refuses_a_later_version_than_its_own(rt: HostRuntime) -> Result<(), Fail> {
-    for row in VERSIONS {
-        let (changes, minimum, expected) = *row;
-        let header = load_with(rt.alloc(), changes, &[])?;
-        same(header.require_version(minimum), expected, row)?;
+fn a_header_tells_its_version_and_refuses_a_later_one(rt: HostRuntime) -> Result<(), Fail> {
+    for (changes, version, needed, expected) in VERSIONS {
+        let header = load_with(rt.alloc(), changes, "")?;
+        let found = (header.version(), header.require_version(*needed));
+        same(found, (*version, *expected), needed)?;
     }
     Ok(())
 }

@@ -1,7 +1,7 @@
 //! Calls of headers without any clauses, for tests that look at what is answered.
 
 use crate::fixtures::{Changes, least_with};
-use qcow2_base::{ClusterCount, Fault, HostOffset, Storage};
+use qcow2_base::{Fault, MemStorage, Storage};
 use qcow2_metadata::{FeatureType, Header};
 use qcow2_testing::is_cluster_bits;
 use std::alloc::{AllocError, Global};
@@ -20,6 +20,14 @@ pub(crate) fn load_with(alloc: Global, changes: Changes, others: Changes) -> Res
     load(alloc, &mut least_with(alloc, changes, others)?, false)
 }
 
+/// The number of the fault that a load answers, or 0 for none.
+pub(crate) fn refusal(alloc: Global, image: &mut MemStorage) -> u32 {
+    match load(alloc, image, false) {
+        Ok(_) => 0,
+        Err(fault) => fault.number(),
+    }
+}
+
 // The name as a text of its own, if there is one.
 fn text(alloc: Global, name: Option<&str>) -> Result<Option<String>, AllocError> {
     match name {
@@ -28,32 +36,20 @@ fn text(alloc: Global, name: Option<&str>) -> Result<Option<String>, AllocError>
     }
 }
 
-/// A new header, with a backing file's name and its format, and a data file's name.
-pub(crate) fn new(
-    alloc: Global,
-    cluster_bits: u32,
-    refcount_order: u32,
-    names: (Option<&str>, Option<&str>, Option<&str>),
-) -> Result<Header, Fault> {
-    if !is_cluster_bits(cluster_bits) {
+/// A backing file's name and its format, and a data file's name.
+pub(crate) type Names<'a> = (Option<&'a str>, Option<&'a str>, Option<&'a str>);
+
+/// A new header with these names.
+pub(crate) fn new(alloc: Global, bits: u32, order: u32, names: Names<'_>) -> Result<Header, Fault> {
+    if !is_cluster_bits(bits) {
         return Err(Fault::ClusterSize);
     }
-    if refcount_order > 6 {
+    if order > 6 {
         return Err(Fault::RefcountWidth);
     }
-    let (backing, format, data_file) = (
-        text(alloc, names.0)?,
-        text(alloc, names.1)?,
-        text(alloc, names.2)?,
-    );
-    Header::new(
-        alloc,
-        cluster_bits,
-        refcount_order,
-        backing,
-        format,
-        data_file,
-    )
+    let (backing, format, data_file) = names;
+    let (backing, format) = (text(alloc, backing)?, text(alloc, format)?);
+    Header::new(alloc, bits, order, backing, format, text(alloc, data_file)?)
 }
 
 /// What a write of the header answers.
@@ -66,49 +62,31 @@ pub(crate) fn update(header: &mut Header, other: &Header) -> Result<(), Fault> {
     header.update(other)
 }
 
-/// The backing file's name, its format, the data file's name, and whether guest data is external.
-pub(crate) type Names<'a> = (Option<&'a str>, Option<&'a str>, Option<&'a str>, bool);
-
-/// The names that a header tells.
-pub(crate) fn names(header: &Header) -> Names<'_> {
-    (
-        header.backing_filename().map(|name| name.as_str()),
-        header.backing_format().map(|name| name.as_str()),
-        header.external_data_filename().map(|name| name.as_str()),
-        header.external_data_file(),
-    )
+/// What a load answers: the names that the header tells, or the number of the fault.
+pub(crate) fn told(alloc: Global, answer: &Result<Header, Fault>) -> Result<String, AllocError> {
+    match answer {
+        Ok(header) => names(alloc, header),
+        Err(Fault::Incompatible(found)) => format!(in alloc; "17 with {found:#x}"),
+        Err(fault) => format!(in alloc; "{}", fault.number()),
+    }
 }
 
-/// Cluster bits and the refcount order, and then the cluster size, the entries of an L2 table, the refcounts
-/// of a block and their logarithm.
-pub(crate) type Sizes = (u32, u32, usize, usize, usize, u32);
-
-/// The sizes that a header tells.
-pub(crate) fn sizes(header: &Header) -> Sizes {
-    (
-        header.cluster_bits(),
-        header.refcount_order(),
-        header.cluster_size(),
-        header.l2_entries(),
-        header.rb_entries(),
-        header.rb_bits(),
-    )
+/// The names that a header tells: the backing file's, its format and the data file's, or - for each that it
+/// doesn't have, and whether guest data is external.
+pub(crate) fn names(alloc: Global, header: &Header) -> Result<String, AllocError> {
+    let backing = shown(header.backing_filename());
+    let format = shown(header.backing_format());
+    let data_file = shown(header.external_data_filename());
+    let external = header.external_data_file();
+    let external = if external { " external" } else { "" };
+    format!(in alloc; "{backing} {format} {data_file}{external}")
 }
 
-/// The size of the disk, where the L1 table begins and its entries, and where the refcount table begins, its
-/// clusters and its entries.
-pub(crate) type Tables = (u64, HostOffset, usize, HostOffset, ClusterCount, usize);
-
-/// The disk and the tables that a header tells.
-pub(crate) fn tables(header: &Header) -> Tables {
-    (
-        header.size(),
-        header.l1_table_offset(),
-        header.l1_table_entries(),
-        header.reftable_offset(),
-        header.reftable_clusters(),
-        header.reftable_entries(),
-    )
+fn shown(name: Option<&String>) -> &str {
+    match name {
+        Some(name) => name.as_str(),
+        None => "-",
+    }
 }
 
 /// What a header calls a feature.

@@ -1,289 +1,111 @@
-//! Headers, and the bytes that a write of each places.
+//! Headers, and the bytes that a write of each places, as changes to the least header.
 
-use crate::fixtures::{Changes, OLDER};
+use crate::fixtures::Changes;
 use crate::rich_header::RICH;
 
 /// A backing file's name, which is a text so many times.
 pub(crate) type Repeated = (&'static str, usize);
 
-/// A new header: cluster bits, the backing file's name, its format, and a data file's name.
-pub(crate) type New = (u32, Repeated, Option<&'static str>, Option<&'static str>);
-
-/// A new header, how many bytes a write of it places, and how they differ from the least header: with the
-/// names of features in it, or without.
-pub(crate) type NewWritten = (New, usize, Changes, bool);
-
-/// New headers and their texts.
-pub(crate) const NEW: &[NewWritten] = &[
+/// Cluster bits and the backing file's name of a new header, and what a write of it places: the names of
+/// features, where they fit, and what else differs from the least header.
+pub(crate) const NEW: &[(u32, Repeated, Changes, Changes)] = &[
     // a name of 8 bytes, which just fits besides the names of features, and one of 9, which doesn't
-    (
-        (9, ("base.img", 1), None, None),
-        512,
-        &[(14, &[1, 0xf8, 0, 0, 0, 8]), (504, b"base.img")],
-        true,
-    ),
-    (
-        (9, ("backing.1", 1), None, None),
-        121,
-        &[(15, &[112, 0, 0, 0, 9]), (112, b"backing.1")],
-        false,
-    ),
-    (
-        (16, ("base.img", 1), Some("qcow2"), Some("data.raw")),
-        544,
-        &[
-            (14, &[2, 0x18, 0, 0, 0, 8, 0, 0, 0, 16]),
-            (79, &[4]),
-            (496, b"\xe2\x79\x2a\xca\0\0\0\x05qcow2"),
-            (512, b"DATA\0\0\0\x08data.raw"),
-            (536, b"base.img"),
-        ],
-        true,
-    ),
+    (9, ("base.img", 1), KNOWN, "14=01f800000008, 504=:base.img"),
+    (9, ("backing.1", 1), "", "15=7000000009, 112=:backing.1"),
     // the longest name in clusters of 512 bytes, and the longest of all
-    (
-        (9, ("a", 400), None, None),
-        512,
-        &[(15, &[112, 0, 0, 1, 0x90]), (112, &[b'a'; 400])],
-        false,
-    ),
-    (
-        (16, ("a", 1023), None, None),
-        1527,
-        &[
-            (14, &[1, 0xf8, 0, 0, 3, 0xff, 0, 0, 0, 16]),
-            (504, &[b'a'; 1023]),
-        ],
-        true,
-    ),
+    (9, ("a", 400), "", "15=7000000190, 112=61*400"),
+    (16, ("a", 1023), KNOWN, LONGEST),
     // an empty name has a place too
-    ((9, ("", 1), None, None), 504, &[(14, &[1, 0xf8])], true),
+    (9, ("", 1), KNOWN, "14=01f8, 503=00"),
 ];
+
+const LONGEST: Changes = "14=01f8000003ff, 23=10, 504=61*1023";
 
 /// The names of features in new headers.
-pub(crate) const KNOWN: Changes = &[
-    (104, b"\x68\x03\xf8\x57\0\0\x01\x80"),
-    (112, b"\0\0dirty"),
-    (160, b"\0\x01corrupt"),
-    (208, b"\0\x02external data file"),
-    (256, b"\0\x03extended compression type"),
-    (304, b"\0\x04extended L2 entries"),
-    (352, b"\x01\0lazy refcounts"),
-    (400, b"\x02\0persistent dirty bitmaps"),
-    (448, b"\x02\x01raw external data file"),
-];
+pub(crate) const KNOWN: Changes = "104=6803f857 00000180, 112=0000:dirty, 160=0001:corrupt, \
+    208=0002:external data file, 256=0003:extended compression type, \
+    304=0004:extended L2 entries, 352=0100:lazy refcounts, \
+    400=0200:persistent dirty bitmaps, 448=0201:raw external data file";
+
+/// What a write of a new header places with clusters of 65536 bytes, the backing file base.img of the format
+/// qcow2, and the data file data.raw.
+pub(crate) const THREE_NAMES: Changes = "14=021800000008, 23=10, 79=04, 496=format 05:qcow2, \
+    512=data 08:data.raw, 536=:base.img";
 
 /// What is written of the header with all that a header can have: names of features in whole chunks, and the
 /// backing file's name behind End.
-pub(crate) const RICH_WRITTEN: Changes = &[
-    (0, b"\x51\x46\x49\xfb\0\0\0\x03"),
-    (20, &[0, 0, 0, 9]),
-    (24, &[1, 2, 3, 4, 5, 6, 7, 8]),
-    (32, &[0x11, 0x12, 0x13, 0x14]),
-    (36, &[0x21, 0x22, 0x23, 0x24]),
-    (40, &[0x31, 0x32, 0x33, 0x34, 0x35, 0x36, 0x3a, 0]),
-    (48, &[0x41, 0x42, 0x43, 0x44, 0x45, 0x46, 0x48, 0]),
-    (56, &[0x51, 0x52, 0x53, 0x54]),
-    (60, &[0x61, 0x62, 0x63, 0x64]),
-    (64, &[0x71, 0x72, 0x73, 0x74, 0x75, 0x76, 0x77, 0x78]),
-    (72, &[0, 0, 0, 0, 0, 0, 0, 4]),
-    (80, &[0x81, 0x82, 0x83, 0x84, 0x85, 0x86, 0x87, 0x88]),
-    (88, &[0x91, 0x92, 0x93, 0x94, 0x95, 0x96, 0x97, 0x98]),
-    (96, &[0, 0, 0, 5, 0, 0, 0, 104]),
-    (14, &[1, 0x30, 0, 0, 0, 6]),
-    (103, &[112, 0xa1, 0xa2, 0xa3, 0xa4, 0xa5, 0xa6, 0xa7, 0xa8]),
-    (112, b"\xe2\x79\x2a\xca\0\0\0\x05qcow2"),
-    (128, b"\x68\x03\xf8\x57\0\0\0\x60\0\0new"),
-    (184, b"\x01\0lazy"),
-    (232, b"DATA\0\0\0\x08d\xc3\xa4t.raw"),
-    (248, b"\0\0\0\x07\0\0\0\x03xyz"),
-    (264, b"\xe2\x79\x2a\xca\0\0\0\x05qcow2"),
-    (280, b"DATA\0\0\0\x08d\xc3\xa4t.raw"),
-    (304, b"\xc3\xa4.img"),
-];
+pub(crate) const RICH_WRITTEN: Changes = "14=013000000006, 24=0102030405060708, 32=11121314, \
+    36=21222324, 40=3132333435363a00, 48=4142434445464800, 56=51525354, 60=61626364, \
+    64=7172737475767778, 79=04, 80=8182838485868788, 88=9192939495969798, 99=05, \
+    103=70 a1a2a3a4a5a6a7a8, 112=format 05:qcow2, 128=names 60 0000:new, 184=0100:lazy, \
+    232=data 08:dät.raw, 248=0000000700000003:xyz, 264=format 05:qcow2, 280=data 08:dät.raw, \
+    304=:ä.img";
 
-// Chunks that stand in no order, twice, with a type that isn't known, and cut.
-const CHUNKS: Changes = &[
-    (104, b"\x68\x03\xf8\x57\0\0\0\xc4\x02\x01c"),
-    (160, b"\0\x09old"),
-    (208, b"\x03\0none"),
-    (256, b"\0\x09b"),
-    (304, b"\0\0a\0"),
-];
+/// What is written of a header of version 2, in 85 bytes.
+pub(crate) const OLDER_WRITTEN: Changes = "7=02, 15=5000000005, 23=10, 80=:a.img";
 
-/// Changes to the least header, how many bytes a write of it places, how they differ from the least header,
-/// and what the header calls the first incompatible feature then.
-pub(crate) type Written = (Changes, usize, Changes, Option<&'static str>);
-
-/// Loaded headers and their texts.
-pub(crate) const LOADED: &[Written] = &[
+/// Headers by their changes to the least one, what a write of each places, and what it calls the first
+/// incompatible feature then.
+pub(crate) const LOADED: &[(Changes, Changes, Option<&'static str>)] = &[
     // an empty name has a place, and no name has none
-    (&[(14, &[2, 0])], 112, &[(15, &[112])], None),
-    (&[(16, &[0xff; 4])], 112, &[], None),
+    ("14=0200", "15=70, 111=00", None),
+    ("16=ffffffff", "111=00", None),
     // a name that lay within the magic
-    (
-        &[(15, &[1]), (19, &[2])],
-        114,
-        &[(15, &[112, 0, 0, 0, 2]), (112, b"FI")],
-        None,
-    ),
+    ("15=01, 19=02", "15=7000000002, 112=:FI", None),
     // unknown fields and their padding
-    (&[(103, &[105, 0xab])], 120, &[(103, &[112, 0xab])], None),
-    (
-        &[(102, &[1, 0xf8, 0xab])],
-        512,
-        &[(102, &[1, 0xf8, 0xab])],
-        None,
-    ),
-    // version 2, whatever stands behind its 72 bytes
-    (
-        OLDER,
-        85,
-        &[
-            (7, &[2]),
-            (15, &[80, 0, 0, 0, 5, 0, 0, 0, 16]),
-            (80, b"a.img"),
-        ],
-        None,
-    ),
+    ("103=69ab", "103=70ab, 119=00", None),
+    ("102=01f8ab", "102=01f8ab, 511=00", None),
     // all that a header can have
-    (RICH, 310, RICH_WRITTEN, Some("new")),
+    (RICH, RICH_WRITTEN, Some("new")),
     // End loses its data
-    (&[(110, &[1, 0x90])], 112, &[], None),
+    ("110=0190", "111=00", None),
     // an extension of 5 bytes at an odd place
-    (
-        &[(103, &[105]), (108, b"\x07\0\0\0\x05\xa1\xa2\xa3\xa4\xa5")],
-        136,
-        &[(103, &[112]), (115, b"\x07\0\0\0\x05\xa1\xa2\xa3\xa4\xa5")],
-        None,
-    ),
+    (FIVE_BYTES, "103=70, 115=0700000005:abcde, 135=00", None),
     // a header that fills a cluster of 2 MiB
-    (
-        &[(23, &[21]), (101, &[0x1f, 0xff, 0xf8])],
-        2097152,
-        &[(23, &[21]), (101, &[0x1f, 0xff, 0xf8])],
-        None,
-    ),
+    ("23=15, 101=1ffff8", "23=15, 101=1ffff8, 2097151=00", None),
+    // no names of features, an empty one, and many
+    ("104=names 00", "104=names 00, 119=00", None),
+    ("104=names 02", "104=names 30, 167=00", Some("")),
+    (MANY_NAMES, MANY_WRITTEN, Some("a")),
+    // two tables of names, which both stay where they just fit, and else both go
+    (TWO_TABLES, TWO_WRITTEN, Some("a")),
+    (TWO_LONG_TABLES, "15=7800000119, 107=07, 400=00", None),
 ];
 
-/// Loaded headers with names of features, and their texts.
-pub(crate) const NAMED: &[Written] = &[
-    // no names, an empty one, and many
-    (
-        &[(104, b"\x68\x03\xf8\x57")],
-        120,
-        &[(104, b"\x68\x03\xf8\x57")],
-        None,
-    ),
-    (
-        &[(104, b"\x68\x03\xf8\x57\0\0\0\x02")],
-        168,
-        &[(104, b"\x68\x03\xf8\x57\0\0\0\x30")],
-        Some(""),
-    ),
-    (
-        CHUNKS,
-        264,
-        &[
-            (104, b"\x68\x03\xf8\x57\0\0\0\x90\0\0a"),
-            (160, b"\0\x09b"),
-            (208, b"\x02\x01c"),
-        ],
-        Some("a"),
-    ),
-    // two tables, which both stay where they just fit, and else both go
-    (
-        &[
-            (15, &[152, 0, 0, 1, 0x18]),
-            (104, b"\x68\x03\xf8\x57\0\0\0\x03\0\0a"),
-            (123, b"\x07"),
-            (128, b"\x68\x03\xf8\x57\0\0\0\x03\x01\x07b"),
-        ],
-        512,
-        &[
-            (15, &[232, 0, 0, 1, 0x18]),
-            (104, b"\x68\x03\xf8\x57\0\0\0\x30\0\0a"),
-            (163, b"\x07"),
-            (168, b"\x68\x03\xf8\x57\0\0\0\x30\x01\x07b"),
-        ],
-        Some("a"),
-    ),
-    (
-        &[
-            (15, &[152, 0, 0, 1, 0x19]),
-            (104, b"\x68\x03\xf8\x57\0\0\0\x03\0\0a"),
-            (123, b"\x07"),
-            (128, b"\x68\x03\xf8\x57\0\0\0\x03\x01\x07b"),
-        ],
-        401,
-        &[(15, &[120, 0, 0, 1, 0x19]), (107, b"\x07")],
-        None,
-    ),
-];
+const FIVE_BYTES: Changes = "103=69, 108=0700000005:abcde";
+
+// In no order, twice, with a type that isn't known, and cut.
+const MANY_NAMES: Changes = "104=names c4 0201:c, 160=0009:old, 208=0300:none, 256=0009:b, \
+    304=00006100";
+
+const MANY_WRITTEN: Changes = "104=names 90 0000:a, 160=0009:b, 208=0201:c, 263=00";
+
+const TWO_TABLES: Changes = "15=9800000118, 104=names 03 0000:a, 123=07, 128=names 03 0107:b";
+
+const TWO_WRITTEN: Changes = "15=e800000118, 104=names 30 0000:a, 163=07, \
+    168=names 30 0107:b, 511=00";
+
+const TWO_LONG_TABLES: Changes = "15=9800000119, 104=names 03 0000:a, 123=07, \
+    128=names 03 0107:b";
+
+/// How often `a` stands in a name, and U+FFFD behind it.
+pub(crate) type Name = (usize, usize);
 
 /// The bytes of a feature's name, what the feature is called when they are loaded, the bytes that are written
 /// then, and what it is called from the next load on. A feature name table has place for 46 bytes of a name.
-pub(crate) type Cut = (&'static [u8], &'static str, &'static [u8], &'static str);
+pub(crate) type Cut = (Changes, Name, Changes, Name);
 
 /// Names that are cut when they are written.
 pub(crate) const CUT: &[Cut] = &[
-    (
-        &[0xff; 46],
-        REPLACED,
-        b"\xef\xbf\xbd\xef\xbf\xbd\xef\xbf\xbd\xef\xbf\xbd\xef\xbf\xbd\
-            \xef\xbf\xbd\xef\xbf\xbd\xef\xbf\xbd\xef\xbf\xbd\xef\xbf\xbd\
-            \xef\xbf\xbd\xef\xbf\xbd\xef\xbf\xbd\xef\xbf\xbd\xef\xbf\xbd\xef",
-        REPLACED_AGAIN,
-    ),
-    // 48, 47 and 46 bytes of text, of which 46 are written
-    (
-        b"0123456789abcdefghijklmnopqrstuvwxyzABCDEFGHI\xff",
-        "0123456789abcdefghijklmnopqrstuvwxyzABCDEFGHI\u{fffd}",
-        b"0123456789abcdefghijklmnopqrstuvwxyzABCDEFGHI\xef",
-        "0123456789abcdefghijklmnopqrstuvwxyzABCDEFGHI\u{fffd}",
-    ),
-    (
-        b"0123456789abcdefghijklmnopqrstuvwxyzABCDEFGH\xff",
-        "0123456789abcdefghijklmnopqrstuvwxyzABCDEFGH\u{fffd}",
-        b"0123456789abcdefghijklmnopqrstuvwxyzABCDEFGH\xef\xbf",
-        "0123456789abcdefghijklmnopqrstuvwxyzABCDEFGH\u{fffd}",
-    ),
-    (
-        b"0123456789abcdefghijklmnopqrstuvwxyzABCDEFG\xff",
-        "0123456789abcdefghijklmnopqrstuvwxyzABCDEFG\u{fffd}",
-        b"0123456789abcdefghijklmnopqrstuvwxyzABCDEFG\xef\xbf\xbd",
-        "0123456789abcdefghijklmnopqrstuvwxyzABCDEFG\u{fffd}",
-    ),
+    // 138 bytes of text
+    ("114=ff*46", (0, 46), "114=efbfbd*15 ef", (0, 16)),
+    // 48, 47 and 46, of which 46 are written
+    ("114=61*45 ff", (45, 1), "114=61*45 ef", (45, 1)),
+    ("114=61*44 ff", (44, 1), "114=61*44 efbf", (44, 1)),
+    ("114=61*43 ff", (43, 1), "114=61*43 efbfbd", (43, 1)),
     // a character that was cut, and text of 46 bytes
-    (
-        b"0123456789abcdefghijklmnopqrstuvwxyzABCDEFGHI\xc3",
-        "0123456789abcdefghijklmnopqrstuvwxyzABCDEFGHI\u{fffd}",
-        b"0123456789abcdefghijklmnopqrstuvwxyzABCDEFGHI\xef",
-        "0123456789abcdefghijklmnopqrstuvwxyzABCDEFGHI\u{fffd}",
-    ),
-    (
-        b"0123456789abcdefghijklmnopqrstuvwxyzABCDEFGHIJ",
-        "0123456789abcdefghijklmnopqrstuvwxyzABCDEFGHIJ",
-        b"0123456789abcdefghijklmnopqrstuvwxyzABCDEFGHIJ",
-        "0123456789abcdefghijklmnopqrstuvwxyzABCDEFGHIJ",
-    ),
+    ("114=61*45 c3", (45, 1), "114=61*45 ef", (45, 1)),
+    ("114=61*46", (46, 0), "114=61*46", (46, 0)),
     // what stands behind a zero byte goes
-    (
-        b"a\0b",
-        "a",
-        b"a\0\0\0\0\0\0\0\0\0\0\0\0\0\0\0\0\0\0\0\0\0\0\
-            \0\0\0\0\0\0\0\0\0\0\0\0\0\0\0\0\0\0\0\0\0\0\0",
-        "a",
-    ),
+    ("114=610062", (1, 0), "114=61", (1, 0)),
 ];
-
-// 46 and 16 times U+FFFD, which has three bytes.
-pub(crate) const REPLACED: &str = "\u{fffd}\u{fffd}\u{fffd}\u{fffd}\u{fffd}\u{fffd}\u{fffd}\u{fffd}\
-    \u{fffd}\u{fffd}\u{fffd}\u{fffd}\u{fffd}\u{fffd}\u{fffd}\u{fffd}\
-    \u{fffd}\u{fffd}\u{fffd}\u{fffd}\u{fffd}\u{fffd}\u{fffd}\u{fffd}\
-    \u{fffd}\u{fffd}\u{fffd}\u{fffd}\u{fffd}\u{fffd}\u{fffd}\u{fffd}\
-    \u{fffd}\u{fffd}\u{fffd}\u{fffd}\u{fffd}\u{fffd}\u{fffd}\u{fffd}\
-    \u{fffd}\u{fffd}\u{fffd}\u{fffd}\u{fffd}\u{fffd}";
-
-const REPLACED_AGAIN: &str = "\u{fffd}\u{fffd}\u{fffd}\u{fffd}\u{fffd}\u{fffd}\u{fffd}\u{fffd}\
-    \u{fffd}\u{fffd}\u{fffd}\u{fffd}\u{fffd}\u{fffd}\u{fffd}\u{fffd}";

@@ -1,128 +1,139 @@
 //! What a write of a header places, and what it leaves as it was.
 
-use crate::fixtures::{Changes, filled_with, text_of};
+use crate::fixtures::{Changes, OLDER, filled_with, least_with};
 use crate::header_calls::{dirty, load, load_with, names, new, write};
-use crate::header_texts::{CUT, Cut, KNOWN, LOADED, NAMED, NEW, New, NewWritten, Written};
+use crate::header_texts::{
+    CUT, Cut, KNOWN, LOADED, NEW, Name, OLDER_WRITTEN, Repeated, THREE_NAMES,
+};
 use qcow2_base::{Fault, MemStorage};
 use qcow2_metadata::Header;
-use qcow2_testing::{
-    FailingStorage, StorageCall, filled_image, printed, put_bytes, same, same_bytes,
-};
-use std::alloc::Global;
+use qcow2_testing::{FailingStorage, StorageCall, filled_image, printed, same, same_bytes};
+use std::alloc::{AllocError, Global};
 use std::test::Fail;
 
-// What a header calls the first incompatible feature.
-type Called = Option<&'static str>;
-
-// Writes the header over an image of 300 bytes. Fails unless that is one call.
-fn written(alloc: Global, header: &mut Header, len: usize) -> Result<MemStorage, Fail> {
-    let mut image = FailingStorage::new(alloc, filled_image(alloc, 300)?);
-    same(write(header, &mut image), Ok(()), len)?;
-    let call = StorageCall::Write { offset: 0, len };
-    same(image.calls(), &[call], len)?;
-    let found = image.inner().bytes();
-    Ok(MemStorage::new(Vec::from_slice(alloc, found)?))
-}
-
-// Fails unless a write of the header places the text and leaves what stands behind it.
-fn places(alloc: Global, header: &mut Header, text: &[u8], called: Called) -> Result<(), Fail> {
-    let image = written(alloc, header, text.len())?;
+// Fails unless a write of the header over an image of 300 bytes is one call, which places the text and leaves
+// what stands behind it.
+fn places(alloc: Global, header: &mut Header, text: &[u8]) -> Result<(), Fail> {
     let expected = filled_with(alloc, 300, text)?;
-    same_bytes(image.bytes(), expected.bytes(), text.len())?;
-    same(dirty(header), called, text.len())
+    let mut image = FailingStorage::new(alloc, filled_image(alloc, 300)?);
+    let answer = write(header, &mut image);
+    is_placed(answer, &image, text.len(), expected.bytes())
 }
 
-// Fails unless that is so, and the text is loaded as the header, which is written again as it is.
+fn is_placed(
+    answer: Result<(), Fault>,
+    image: &FailingStorage<MemStorage>,
+    len: usize,
+    expected: &[u8],
+) -> Result<(), Fail> {
+    let call = StorageCall::Write { offset: 0, len };
+    let found = (answer, image.calls().len(), image.calls().first());
+    same(found, (Ok(()), 1, Some(&call)), len)?;
+    same_bytes(image.inner().bytes(), expected, len)
+}
+
+// Fails unless that is so, and the text is loaded as the header, which is written again as it is; and unless
+// the first incompatible feature is called so after each of both writes.
 fn goes_round(
     alloc: Global,
     header: &mut Header,
     text: &[u8],
-    called: (Called, Called),
+    called: (Option<&str>, Option<&str>),
 ) -> Result<(), Fail> {
-    places(alloc, header, text, called.0)?;
+    places(alloc, header, text)?;
     let mut loaded = load(alloc, &mut filled_with(alloc, 2048, text)?, false)?;
-    same(names(&loaded), names(header), text.len())?;
-    places(alloc, &mut loaded, text, called.1)
+    is_the_same(alloc, header, &mut loaded, text)?;
+    same((dirty(header), dirty(&loaded)), called, text.len())
 }
 
-fn made(alloc: Global, row: New) -> Result<Header, Fault> {
-    let (cluster_bits, (part, times), format, data_file) = row;
-    let name = part.repeat(alloc, times)?;
-    new(
-        alloc,
-        cluster_bits,
-        4,
-        (Some(name.as_str()), format, data_file),
-    )
+fn is_the_same(
+    alloc: Global,
+    header: &Header,
+    loaded: &mut Header,
+    text: &[u8],
+) -> Result<(), Fail> {
+    same(names(alloc, loaded)?, names(alloc, header)?, text.len())?;
+    places(alloc, loaded, text)
 }
 
-fn is_new(alloc: Global, row: &NewWritten) -> Result<(), Fail> {
-    let (new, len, changes, is_named) = *row;
-    let mut header = made(alloc, new)?;
-    let (known, called) = if is_named {
-        (KNOWN, Some("dirty"))
-    } else {
-        (NONE, None)
-    };
-    let text = text_of(alloc, known, changes, len)?;
-    goes_round(alloc, &mut header, &text, (called, called))
+fn made(alloc: Global, cluster_bits: u32, name: Repeated) -> Result<Header, Fault> {
+    let name = name.0.repeat(alloc, name.1)?;
+    new(alloc, cluster_bits, 4, (Some(name.as_str()), None, None))
 }
 
-const NONE: Changes = &[];
+fn is_new(
+    alloc: Global,
+    header: &mut Header,
+    known: Changes,
+    changes: Changes,
+) -> Result<(), Fail> {
+    let called = (!known.is_empty()).then_some("dirty");
+    let text = least_with(alloc, known, changes)?;
+    goes_round(alloc, header, text.bytes(), (called, called))
+}
 
 #[test]
 fn a_new_header_is_written_with_the_names_of_features_where_they_fit(
     rt: HostRuntime,
 ) -> Result<(), Fail> {
-    for row in NEW {
-        is_new(rt.alloc(), row)?;
+    for (cluster_bits, name, known, changes) in NEW {
+        let mut header = made(rt.alloc(), *cluster_bits, *name)?;
+        is_new(rt.alloc(), &mut header, known, changes)?;
     }
     Ok(())
 }
 
-fn is_written(alloc: Global, row: &Written) -> Result<(), Fail> {
-    let (changes, len, text, called) = *row;
-    let mut header = load_with(alloc, changes, &[])?;
-    let text = text_of(alloc, text, &[], len)?;
-    goes_round(alloc, &mut header, &text, (called, called))
+#[test]
+fn a_new_header_is_written_with_its_names(rt: HostRuntime) -> Result<(), Fail> {
+    let names = (Some("base.img"), Some("qcow2"), Some("data.raw"));
+    let mut header = new(rt.alloc(), 16, 4, names)?;
+    is_new(rt.alloc(), &mut header, KNOWN, THREE_NAMES)
+}
+
+fn is_written(
+    alloc: Global,
+    changes: Changes,
+    text: Changes,
+    called: Option<&str>,
+) -> Result<(), Fail> {
+    let text = least_with(alloc, text, "")?;
+    let mut header = load_with(alloc, changes, "")?;
+    goes_round(alloc, &mut header, text.bytes(), (called, called))
 }
 
 #[test]
 fn a_write_places_each_part_and_pads_it(rt: HostRuntime) -> Result<(), Fail> {
-    for row in LOADED {
-        is_written(rt.alloc(), row)?;
+    for (changes, text, called) in LOADED {
+        is_written(rt.alloc(), changes, text, *called)?;
     }
     Ok(())
 }
 
 #[test]
-fn names_of_features_are_written_in_whole_chunks_or_not_at_all(
-    rt: HostRuntime,
-) -> Result<(), Fail> {
-    for row in NAMED {
-        is_written(rt.alloc(), row)?;
-    }
-    Ok(())
+fn a_header_of_version_2_ends_with_its_name(rt: HostRuntime) -> Result<(), Fail> {
+    let image = least_with(rt.alloc(), OLDER_WRITTEN, "")?;
+    let mut text = Vec::from_slice(rt.alloc(), image.bytes())?;
+    text.truncate(85);
+    let mut header = load_with(rt.alloc(), OLDER, "")?;
+    goes_round(rt.alloc(), &mut header, &text, (None, None))
 }
 
 // A feature name table that has one name of 46 bytes, whose type and bit are 0.
-const FULL_NAME: Changes = &[(104, b"\x68\x03\xf8\x57\0\0\0\x30"), (160, &[0; 8])];
+const FULL_NAME: Changes = "104=names 30, 167=00";
 
-// The least header with this name for a feature.
-fn text_with(alloc: Global, name: &[u8]) -> Result<MemStorage, Fault> {
-    let text = text_of(alloc, FULL_NAME, &[], 168)?;
-    let mut image = MemStorage::new(text);
-    put_bytes(&mut image, 114, name)?;
-    Ok(image)
+fn name_of(alloc: Global, name: Name) -> Result<String, AllocError> {
+    let mut text = "a".repeat(alloc, name.0)?;
+    text.push_str(&"\u{fffd}".repeat(alloc, name.1)?)?;
+    Ok(text)
 }
 
-fn is_cut(alloc: Global, row: &Cut) -> Result<(), Fail> {
+fn is_cut(alloc: Global, header: &mut Header, row: &Cut) -> Result<(), Fail> {
     let (found, first, written, later) = *row;
-    let mut header = load(alloc, &mut text_with(alloc, found)?, false)?;
-    same(dirty(&header), Some(first), first)?;
-    let text = text_with(alloc, written)?;
-    let called = (Some(first), Some(later));
-    goes_round(alloc, &mut header, text.bytes(), called)
+    let (first, later) = (name_of(alloc, first)?, name_of(alloc, later)?);
+    same(dirty(header), Some(first.as_str()), found)?;
+    let text = least_with(alloc, FULL_NAME, written)?;
+    let called = (Some(first.as_str()), Some(later.as_str()));
+    goes_round(alloc, header, text.bytes(), called)
 }
 
 #[test]
@@ -130,7 +141,8 @@ fn a_feature_name_that_is_cut_is_the_same_from_the_second_load_on(
     rt: HostRuntime,
 ) -> Result<(), Fail> {
     for row in CUT {
-        is_cut(rt.alloc(), row)?;
+        let mut header = load_with(rt.alloc(), FULL_NAME, row.0)?;
+        is_cut(rt.alloc(), &mut header, row)?;
     }
     Ok(())
 }
@@ -139,9 +151,9 @@ fn a_feature_name_that_is_cut_is_the_same_from_the_second_load_on(
 fn refuses(alloc: Global, header: &mut Header, fault: Fault) -> Result<(), Fail> {
     let before = printed(alloc, header)?;
     let mut image = FailingStorage::new(alloc, filled_image(alloc, 2048)?);
-    same(write(header, &mut image), Err(fault), fault)?;
-    same(image.calls(), &[], fault)?;
-    same(&printed(alloc, header)?, &before, fault)
+    let answer = write(header, &mut image);
+    let found = (answer, image.calls().len(), printed(alloc, header)?);
+    same(found, (Err(fault), 0, before), fault)
 }
 
 // New headers by their cluster bits and the length of the name, and the fault of a write.
@@ -155,19 +167,14 @@ const LONG_NAMES: &[(u32, usize, Fault)] = &[
 // Loaded headers that are too long: with 400 unknown bytes and the name FI, and with 384 unknown bytes, the
 // name of a feature, and a backing file's name of 48 zero bytes.
 const TOO_LONG: &[Changes] = &[
-    &[(102, &[1, 0xf8]), (15, &[1]), (19, &[2])],
-    &[
-        (102, &[1, 0xe8]),
-        (488, b"\x68\x03\xf8\x57\0\0\0\x02"),
-        (15, &[24, 0, 0, 0, 48]),
-    ],
+    "102=01f8, 15=01, 19=02",
+    "102=01e8, 488=names 02, 15=1800000030",
 ];
 
 #[test]
 fn a_write_refuses_a_name_or_a_header_that_is_too_long(rt: HostRuntime) -> Result<(), Fail> {
     for (cluster_bits, len, fault) in LONG_NAMES {
-        let row = (*cluster_bits, ("a", *len), None, None);
-        let mut header = made(rt.alloc(), row)?;
+        let mut header = made(rt.alloc(), *cluster_bits, ("a", *len))?;
         refuses(rt.alloc(), &mut header, *fault)?;
     }
     Ok(())
@@ -176,7 +183,7 @@ fn a_write_refuses_a_name_or_a_header_that_is_too_long(rt: HostRuntime) -> Resul
 #[test]
 fn a_write_refuses_a_loaded_header_that_is_too_long(rt: HostRuntime) -> Result<(), Fail> {
     for changes in TOO_LONG {
-        let mut header = load_with(rt.alloc(), changes, &[])?;
+        let mut header = load_with(rt.alloc(), changes, "")?;
         refuses(rt.alloc(), &mut header, Fault::HeaderTooLong)?;
     }
     Ok(())

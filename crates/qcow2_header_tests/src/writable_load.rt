@@ -1,7 +1,7 @@
 //! Loads of an image that is to be changed: autoclear features are cleared, by a write of the whole header.
 
-use crate::fixtures::{Changes, OLDER, filled_with, text_of};
-use crate::header_calls::{load, names};
+use crate::fixtures::{Changes, OLDER, OLDER_FILLED, filled_with, least_with};
+use crate::header_calls::{load, told};
 use crate::header_texts::RICH_WRITTEN;
 use crate::rich_header::RICH;
 use qcow2_base::{Fault, FileStorage, MemStorage, Storage};
@@ -12,75 +12,38 @@ use std::alloc::Global;
 use std::fs;
 use std::test::Fail;
 
-// What a load answers: the backing file's name or the fault.
-type Finding<'a> = Result<Option<&'a str>, Fault>;
-
-// An image of 2048 bytes that begins with the least header and these changes, of which so many bytes count.
-fn image_with(alloc: Global, changes: Changes, len: usize) -> Result<MemStorage, Fault> {
-    let text = text_of(alloc, changes, &[], len)?;
-    filled_with(alloc, 2048, &text)
+// An image of 2048 bytes that begins with the least header and these changes.
+fn image_with(alloc: Global, changes: Changes) -> Result<FailingStorage<MemStorage>, Fault> {
+    let text = least_with(alloc, changes, "")?;
+    let image = filled_with(alloc, 2048, text.bytes())?;
+    Ok(FailingStorage::new(alloc, image))
 }
 
-// What a load for writing answers.
-fn answers<S: Storage>(
-    alloc: Global,
-    image: &mut S,
-    expected: Finding<'static>,
-) -> Result<(), Fail> {
+// Fails unless a load of the image for writing answers this.
+fn answers<S: Storage>(alloc: Global, image: &mut S, expected: &str) -> Result<(), Fail> {
     let answer = load(alloc, image, true);
-    let found = match &answer {
-        Ok(header) => Ok(names(header).0),
-        Err(fault) => Err(*fault),
-    };
-    same(found, expected, expected)
+    same(told(alloc, &answer)?.as_str(), expected, expected)
 }
 
-// Autoclear features and other changes to the least header, in so many bytes, the text that is written, and
-// the backing file's name.
-const CLEARED: &[(Changes, usize, usize, Changes, Option<&'static str>)] = &[
-    (&[(95, &[1])], 112, 112, &[], None),
+// Autoclear features and other changes to the least header, the text that is written, and what a load for
+// writing answers.
+const CLEARED: &[(Changes, Changes, &'static str)] = &[
+    ("95=01, 111=00", "111=00", "- - -"),
     // names of features that take more place when they are written, and then don't fit
-    (
-        &[
-            (95, &[1]),
-            (104, b"\x68\x03\xf8\x57\0\0\0\x03\0\0d"),
-            (120, b"\0\0\0\x07\0\0\x01\x78"),
-        ],
-        512,
-        496,
-        &[(104, b"\0\0\0\x07\0\0\x01\x78")],
-        None,
-    ),
+    (NAMED, "104=0000000700000178, 495=00", "- - -"),
     // the highest feature, and all
-    (&[(88, &[0x80])], 512, 112, &[], None),
-    (&[(88, &[0xff; 8])], 512, 112, &[], None),
+    ("88=80, 511=00", "111=00", "- - -"),
+    ("88=ffffffffffffffff, 511=00", "111=00", "- - -"),
     // a header of 105 bytes
-    (
-        &[(95, &[1]), (103, &[105, 0xab])],
-        113,
-        120,
-        &[(103, &[112, 0xab])],
-        None,
-    ),
+    ("95=01, 103=69ab, 112=00", "103=70ab, 119=00", "- - -"),
     // a name that lies within the magic, and a length without a name
-    (
-        &[(95, &[1]), (15, &[1]), (19, &[2])],
-        112,
-        114,
-        &[(15, &[112, 0, 0, 0, 2]), (112, b"FI")],
-        Some("FI"),
-    ),
-    (&[(95, &[1]), (16, &[0xff; 4])], 112, 112, &[], None),
+    (WITHIN_MAGIC, "15=7000000002, 112=:FI", "FI - -"),
+    ("95=01, 16=ffffffff, 111=00", "111=00", "- - -"),
 ];
 
-// Fails unless the calls are two that read, and then one that writes so many bytes.
-fn are_two_reads_and_a_write(calls: &[StorageCall], len: usize) -> Result<(), Fail> {
-    let write = StorageCall::Write { offset: 0, len };
-    let reads = calls.split_last().map(|(_, reads)| reads);
-    same(calls.last(), Some(&write), len)?;
-    same(calls.len(), 3, len)?;
-    holds(are_reads(reads.unwrap_or(&[])), len)
-}
+const NAMED: Changes = "95=01, 104=names 03 0000:d, 120=0000000700000178, 511=00";
+
+const WITHIN_MAGIC: Changes = "95=01, 15=01, 19=02, 111=00";
 
 // Whether there is no write among the calls.
 fn are_reads(calls: &[StorageCall]) -> bool {
@@ -89,98 +52,96 @@ fn are_reads(calls: &[StorageCall]) -> bool {
         .all(|call| matches!(call, StorageCall::Read { .. }))
 }
 
-#[test]
-fn a_load_for_writing_clears_autoclear_features_by_one_write(rt: HostRuntime) -> Result<(), Fail> {
-    for row in CLEARED {
-        let (changes, begun, len, text, name) = *row;
-        let image = image_with(rt.alloc(), changes, begun)?;
-        clears(
-            rt.alloc(),
-            image,
-            &text_of(rt.alloc(), text, &[], len)?,
-            name,
-        )?;
-    }
-    Ok(())
+// Fails unless the calls are two that read, and then one that writes so many bytes.
+fn are_two_reads_and_a_write(calls: &[StorageCall], len: usize) -> Result<(), Fail> {
+    let write = StorageCall::Write { offset: 0, len };
+    let Some((last, reads)) = calls.split_last() else {
+        return holds(false, "calls");
+    };
+    same(
+        (reads.len(), are_reads(reads), last),
+        (2, true, &write),
+        len,
+    )
 }
 
-// Fails unless a load for writing places the text in the image, and answers the name.
+// Fails unless a load for writing places the text in the image, and answers this.
 fn clears(
     alloc: Global,
-    image: MemStorage,
+    image: &mut FailingStorage<MemStorage>,
     text: &[u8],
-    name: Option<&'static str>,
+    answer: &str,
 ) -> Result<(), Fail> {
-    let mut expected = MemStorage::new(Vec::from_slice(alloc, image.bytes())?);
+    let mut expected = MemStorage::new(Vec::from_slice(alloc, image.inner().bytes())?);
     put_bytes(&mut expected, 0, text)?;
-    let mut image = FailingStorage::new(alloc, image);
-    answers(alloc, &mut image, Ok(name))?;
+    answers(alloc, image, answer)?;
     are_two_reads_and_a_write(image.calls(), text.len())?;
     same_bytes(image.inner().bytes(), expected.bytes(), text.len())
 }
 
-// Changes to the least header, in so many bytes, and what a load for writing answers, which writes nothing.
-const LEFT: &[(Changes, usize, Finding<'static>)] = &[
+#[test]
+fn a_load_for_writing_clears_autoclear_features_by_one_write(rt: HostRuntime) -> Result<(), Fail> {
+    for (changes, text, answer) in CLEARED {
+        let text = least_with(rt.alloc(), text, "")?;
+        let mut image = image_with(rt.alloc(), changes)?;
+        clears(rt.alloc(), &mut image, text.bytes(), answer)?;
+    }
+    Ok(())
+}
+
+// Changes to the least header, and what a load for writing answers, which writes nothing.
+const LEFT: &[(Changes, &'static str)] = &[
     // other features, and a header that can't be written
-    (&[(80, &[0xff; 8])], 112, Ok(None)),
-    (
-        &[(102, &[1, 0xf8]), (15, &[1]), (19, &[2])],
-        512,
-        Ok(Some("FI")),
-    ),
+    ("80=ffffffffffffffff, 111=00", "- - -"),
+    ("15=01, 19=02, 102=01f8, 511=00", "FI - -"),
     // version 2 has no features, whatever stands in their place
-    (OLDER, 517, Ok(Some("a.img"))),
-    (
-        &[
-            (7, &[2]),
-            (14, &[2, 0]),
-            (19, &[5]),
-            (23, &[16]),
-            (72, &[0xff; 32]),
-            (512, b"a.img"),
-        ],
-        517,
-        Ok(Some("a.img")),
-    ),
+    (OLDER, "a.img - -"),
+    (OLDER_FILLED, "a.img - -"),
     // what is refused, for the header or for its length
-    (&[(79, &[2]), (95, &[1])], 112, Err(Fault::Incompatible(2))),
-    (
-        &[(95, &[1]), (102, &[1, 0xf8]), (15, &[1]), (19, &[2])],
-        512,
-        Err(Fault::HeaderTooLong),
-    ),
+    ("79=02, 95=01, 111=00", "17 with 0x2"),
+    ("15=01, 19=02, 95=01, 102=01f8, 511=00", "24"),
 ];
+
+// Fails unless a load for writing answers this, and writes nothing.
+fn only_reads(alloc: Global, changes: Changes, answer: &str) -> Result<(), Fail> {
+    let mut image = image_with(alloc, changes)?;
+    answers(alloc, &mut image, answer)?;
+    holds(are_reads(image.calls()), changes)
+}
 
 #[test]
 fn a_load_for_writing_without_autoclear_features_or_refused_only_reads(
     rt: HostRuntime,
 ) -> Result<(), Fail> {
-    for row in LEFT {
-        let (changes, len, expected) = *row;
-        let image = image_with(rt.alloc(), changes, len)?;
-        let mut image = FailingStorage::new(rt.alloc(), image);
-        answers(rt.alloc(), &mut image, expected)?;
-        holds(are_reads(image.calls()), row)?;
+    for (changes, answer) in LEFT {
+        only_reads(rt.alloc(), changes, answer)?;
     }
     Ok(())
 }
 
-// Fails unless a load of the file for writing answers a header without autoclear features.
-fn loads_file(rt: &HostRuntime, path: &str) -> Result<(), Fail> {
-    let mut image = FileStorage::open(rt, path, true)?;
-    let header = load(rt.alloc(), &mut image, true)?;
-    let text = printed(rt.alloc(), &header)?;
-    holds(text.as_str().contains("autoclear_features: 0,"), "header")
+fn open(rt: &HostRuntime, path: &str) -> Result<FileStorage, Fault> {
+    Ok(FileStorage::open(rt, path, true)?)
+}
+
+// What a header prints that a load of the image for writing answers.
+fn printed_load<S: Storage>(alloc: Global, image: &mut S) -> Result<String, Fault> {
+    let header = load(alloc, image, true)?;
+    Ok(printed(alloc, &header)?)
+}
+
+// Fails unless a load of a file for writing places the text in it, and answers a header without the features.
+fn clears_file(rt: &HostRuntime, path: &str, text: &[u8]) -> Result<(), Fail> {
+    let mut expected = MemStorage::new(fs::read(rt, path)?);
+    put_bytes(&mut expected, 0, text)?;
+    let header = printed_load(rt.alloc(), &mut open(rt, path)?)?;
+    holds(header.as_str().contains("autoclear_features: 0,"), "header")?;
+    same_bytes(&fs::read(rt, path)?, expected.bytes(), "file")
 }
 
 #[test]
 fn a_load_for_writing_clears_autoclear_features_of_a_file(rt: HostRuntime) -> Result<(), Fail> {
-    let begun = text_of(rt.alloc(), RICH, &[], 400)?;
-    let file = temporary_file(&rt, "autoclear-features", &begun)?;
-    loads_file(&rt, file.path.as_str())?;
-    let mut expected = MemStorage::new(begun);
-    let text = text_of(rt.alloc(), RICH_WRITTEN, &[(88, &[0; 8])], 310)?;
-    put_bytes(&mut expected, 0, &text)?;
-    let found = fs::read(&rt, file.path.as_str())?;
-    same_bytes(found.as_slice(), expected.bytes(), "file")
+    let begun = least_with(rt.alloc(), RICH, "399=00")?;
+    let text = least_with(rt.alloc(), RICH_WRITTEN, "88=0000000000000000")?;
+    let file = temporary_file(&rt, "autoclear-features", begun.bytes())?;
+    clears_file(&rt, file.path.as_str(), text.bytes())
 }

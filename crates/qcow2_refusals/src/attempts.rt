@@ -1,9 +1,9 @@
 //! A run that has begun, and whether all stands that must after its call.
 
-use crate::calls::{Answer, make};
-use crate::held::{Held, Numbers, hold};
-use crate::runs::{Run, number_of};
-use qcow2_base::{Fault, MemStorage, Storage};
+use crate::calls::Answer;
+use crate::held::{Held, MOST_NUMBERS, Numbers, hold};
+use crate::runs::{Run, image_of, number_of};
+use qcow2_base::{Fault, MemStorage};
 use qcow2_testing::StorageCall;
 use std::alloc::Global;
 
@@ -47,35 +47,33 @@ pub(crate) struct Attempt {
     numbers: Numbers,
     pub(crate) before: MemStorage,
     after: MemStorage,
+    /// Whether the call lengthens the image.
+    pub(crate) grows: bool,
     /// Whether the image was changed by an earlier call.
     is_again: bool,
 }
 
 /// Begins a run.
 pub(crate) fn begin(alloc: Global, run: &Run<'_>) -> Result<Attempt, Fault> {
-    let mut attempt = Attempt {
-        first: Numbers::new(alloc)?,
-        numbers: Numbers::new(alloc)?,
-        before: run.before(alloc)?,
-        after: run.after(alloc)?,
-        held: hold(alloc, run)?,
+    let mut first = Numbers(Vec::with_capacity(alloc, MOST_NUMBERS)?);
+    let numbers = Numbers(Vec::with_capacity(alloc, MOST_NUMBERS)?);
+    let before = run.before(alloc)?;
+    let after = image_of(alloc, run.setup.image, run.after)?;
+    let held = hold(alloc, run)?;
+    held.tell(&mut first);
+    let grows = before.bytes().len() < after.bytes().len();
+    Ok(Attempt {
+        held,
+        first,
+        numbers,
+        before,
+        after,
+        grows,
         is_again: false,
-    };
-    attempt.held.tell(&mut attempt.first);
-    Ok(attempt)
+    })
 }
 
 impl Attempt {
-    /// Makes the call.
-    pub(crate) fn make<S: Storage>(
-        &mut self,
-        alloc: Global,
-        run: &Run<'_>,
-        image: &mut S,
-    ) -> Answer {
-        make(alloc, run, &mut self.held, image)
-    }
-
     /// Fails unless all stands that must after this answer: what the call told, what it works on, and where
     /// it succeeds the image, whose bytes are these now. Where a write of the output has failed, the image
     /// was changed by then, and is changed once more.
@@ -99,8 +97,8 @@ impl Attempt {
     }
 
     /// The image's bytes where these calls have passed: those of after the call where they wrote.
-    pub(crate) fn written(&self, alloc: Global, calls: &[StorageCall]) -> Result<Vec<u8>, Fault> {
-        let mut bytes = Vec::from_slice(alloc, self.before.bytes())?;
+    pub(crate) fn written(&self, calls: &[StorageCall]) -> Result<Vec<u8>, Fault> {
+        let mut bytes = Vec::from_slice(self.held.alloc, self.before.bytes())?;
         for call in calls {
             if let StorageCall::Write { offset, len } = call {
                 write_from(self.after.bytes(), &mut bytes, *offset as usize, *len)?;
@@ -109,14 +107,9 @@ impl Attempt {
         Ok(bytes)
     }
 
-    /// Whether the call lengthens the image.
-    pub(crate) fn grows(&self) -> bool {
-        self.before.bytes().len() < self.after.bytes().len()
-    }
-
     // All is told, or a beginning of it where the call was refused.
     fn told_stands(&self, run: &Run<'_>, answer: Answer) -> bool {
-        let (all, told) = (run.told(self.is_again), self.held.out.bytes());
+        let (all, told) = (run.told(self.is_again), self.held.out.bytes.as_slice());
         let is_long_enough = answer != Answer::Done || told.len() == all.len();
         is_long_enough && begins_with(all.as_bytes(), told)
     }
@@ -154,26 +147,12 @@ fn takes_back(numbers: &mut [u64], first: &[u64], word: &str) -> bool {
 // Whether the text, where / stands for a new line, begins with what was told.
 fn begins_with(text: &[u8], told: &[u8]) -> bool {
     for (index, byte) in told.iter().enumerate() {
-        if !stands_at(text, index, shown(*byte)) {
+        let shown = if *byte == b'\n' { b'/' } else { *byte };
+        if text.get(index) != Some(&shown) {
             return false;
         }
     }
     true
-}
-
-fn stands_at(text: &[u8], index: usize, byte: u8) -> bool {
-    match text.get(index) {
-        Some(stands) => *stands == byte,
-        None => false,
-    }
-}
-
-// How a byte of what was told stands in the table of runs.
-fn shown(byte: u8) -> u8 {
-    match byte {
-        b'\n' => b'/',
-        byte => byte,
-    }
 }
 
 // Writes so many of the new bytes in their place, after zeros where the old ones end before it.

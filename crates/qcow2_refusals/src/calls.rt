@@ -9,7 +9,6 @@ pub(crate) mod tables;
 use crate::held::Held;
 use crate::runs::Run;
 use qcow2_base::{Fault, Storage};
-use std::alloc::Global;
 
 /// What a call answered, as far as refusals go.
 #[derive(Clone, Copy, PartialEq, Eq)]
@@ -21,18 +20,9 @@ pub(crate) enum Answer {
 }
 
 /// Makes the call of a run.
-pub(crate) fn make<S: Storage>(
-    alloc: Global,
-    run: &Run<'_>,
-    held: &mut Held,
-    image: &mut S,
-) -> Answer {
-    held.out.restart();
-    answer_of(make_call(alloc, run, held, image))
-}
-
-fn answer_of(answer: Result<(), Fault>) -> Answer {
-    match answer {
+pub(crate) fn make<S: Storage>(run: &Run<'_>, held: &mut Held, image: &mut S) -> Answer {
+    held.out.bytes.clear();
+    match make_call(run, held, image) {
         Ok(()) => Answer::Done,
         Err(Fault::Storage) => Answer::StorageFailed,
         Err(Fault::NoMemory) => Answer::NoMemory,
@@ -40,39 +30,31 @@ fn answer_of(answer: Result<(), Fault>) -> Answer {
     }
 }
 
-fn make_call<S: Storage>(
-    alloc: Global,
-    run: &Run<'_>,
-    held: &mut Held,
-    image: &mut S,
-) -> Result<(), Fault> {
+fn make_call<S: Storage>(run: &Run<'_>, held: &mut Held, image: &mut S) -> Result<(), Fault> {
     if run.is_command() {
-        return commands::run(run.call, alloc, &mut held.out, image);
+        return commands::make(run.words(), held, image);
+    }
+    if run.call.starts_with("Header::") {
+        return headers::make(run.call, held, image);
     }
     match run.call {
-        "load" => tables::load(run.of, alloc, held, image),
-        "write" => tables::write(run.of, held, image),
-        "write_entry" | "aligned write_entry" => tables::write_entry(run.of, held, image),
-        "write_if_modified" => tables::write_if_modified(run.of, held, image),
-        call if call.starts_with("Header::") => headers::make(call, alloc, held, image),
-        "edit_image" | "step_image" => sessions::change_image(run.call, alloc, held, image),
-        "lookup" => sessions::look_up(alloc, held, image),
-        "lookup_image" => sessions::look_up_image(alloc, held, image),
-        call => make_in_memory(call, run.of, alloc, held),
+        "load" | "write" | "write_entry" | "aligned write_entry" | "write_if_modified" => {
+            tables::make(run.call, run.of, held, image)
+        }
+        "edit_image" | "step_image" | "lookup" | "lookup_image" => {
+            sessions::make(run.call, held, image)
+        }
+        call => make_in_memory(call, run.of, held),
     }
 }
 
 // Makes a call that takes no image.
-fn make_in_memory(call: &str, of: &str, alloc: Global, held: &mut Held) -> Result<(), Fault> {
+fn make_in_memory(call: &str, of: &str, held: &mut Held) -> Result<(), Fault> {
     match call {
-        "new_cleared" => copies::clear(of, alloc, held),
-        "clone_and_grow" => copies::grow(of, held),
-        "try_clone" => copies::clone_table(held),
-        "HeaderExtension::clone" => copies::clone_extension(alloc, &mut held.out),
-        "edit_table" => sessions::edit(alloc, held),
-        "step_block" => sessions::step(alloc, held),
-        "edit_settled" => sessions::settle(alloc, held),
-        "edit_settled in vain" => sessions::settle_in_vain(alloc, held),
-        _ => Err(Fault::WrongLength),
+        "edit_table" => sessions::edit(held),
+        "step_block" => sessions::step(held),
+        "edit_settled" => sessions::settle(held),
+        "edit_settled in vain" => sessions::settle_in_vain(held),
+        _ => copies::make(call, of, held),
     }
 }

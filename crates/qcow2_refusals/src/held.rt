@@ -6,7 +6,7 @@ use qcow2_base::{Fault, HostCluster, MemStorage, Storage};
 use qcow2_metadata::{
     FeatureType, Header, L1Table, L2Table, RefBlock, RefTable, Table, TableEntry,
 };
-use std::alloc::{AllocError, Global};
+use std::alloc::Global;
 
 /// The cluster that each table begins with.
 pub(crate) const TABLES: HostCluster = HostCluster(1);
@@ -15,7 +15,7 @@ pub(crate) const TABLES: HostCluster = HostCluster(1);
 pub(crate) const BLOCK: HostCluster = HostCluster(2);
 
 /// More numbers than are told of any of them.
-const MOST_NUMBERS: usize = 1 << 17;
+pub(crate) const MOST_NUMBERS: usize = 1 << 17;
 
 /// A disk of 64 clusters of 512 bytes, of which guest cluster 3 is the data in host cluster 5.
 const DISK: &str = "2048 0 2048 0=514649fb00000003 16=9 24=8000 32=1 40=200 96=400000068 \
@@ -24,6 +24,7 @@ const DISK: &str = "2048 0 2048 0=514649fb00000003 16=9 24=8000 32=1 40=200 96=4
 /// A header, a table of each kind and a block, and the text that a call has told.
 #[derive(Drop)]
 pub(crate) struct Held {
+    pub(crate) alloc: Global,
     pub(crate) header: Header,
     pub(crate) l1_table: L1Table,
     pub(crate) l2_table: L2Table,
@@ -34,17 +35,16 @@ pub(crate) struct Held {
 
 /// What a run's call begins with.
 pub(crate) fn hold(alloc: Global, run: &Run<'_>) -> Result<Held, Fault> {
-    let mut held = hold_from(alloc, run.setup.source, run.setup.header)?;
+    let mut image = image_of(alloc, run.setup.source, "")?;
+    let header = header_of(alloc, run.setup.header)?;
+    let mut held = hold_over(alloc, &mut image, header)?;
     if run.is_modified {
-        set_flags(&mut held);
+        held.l1_table.set_modified();
+        held.l2_table.set_modified();
+        held.reftable.set_modified();
+        held.block.set_modified();
     }
     Ok(held)
-}
-
-fn hold_from(alloc: Global, source: &str, header: &str) -> Result<Held, Fault> {
-    let header = header_of(alloc, header)?;
-    let mut image = image_of(alloc, source, "")?;
-    hold_over(alloc, &mut image, header)
 }
 
 /// The same over an image, by this header.
@@ -53,21 +53,27 @@ pub(crate) fn hold_over(
     image: &mut MemStorage,
     header: Header,
 ) -> Result<Held, Fault> {
+    let (out, block, l1_table, l2_table, reftable) = load_each(alloc, image, &header)?;
     Ok(Held {
-        l1_table: l1_table(alloc, image, &header)?,
-        l2_table: l2_table(alloc, image, &header)?,
-        reftable: reftable(alloc, image, &header)?,
-        block: block(alloc, image, &header)?,
-        out: Output::new(alloc)?,
+        alloc,
         header,
+        l1_table,
+        l2_table,
+        reftable,
+        block,
+        out,
     })
 }
 
-fn set_flags(held: &mut Held) {
-    held.l1_table.set_modified();
-    held.l2_table.set_modified();
-    held.reftable.set_modified();
-    held.block.set_modified();
+type Loaded = (Output, RefBlock, L1Table, L2Table, RefTable);
+
+fn load_each(alloc: Global, image: &mut MemStorage, header: &Header) -> Result<Loaded, Fault> {
+    let out = Output::new(alloc)?;
+    let block = block(alloc, image, header)?;
+    let l1_table = l1_table(alloc, image, header)?;
+    let l2_table = l2_table(alloc, image, header)?;
+    let reftable = reftable(alloc, image, header)?;
+    Ok((out, block, l1_table, l2_table, reftable))
 }
 
 // A new header of these cluster bits and this refcount order, a new one for the backing file backing.1, or
@@ -79,7 +85,14 @@ fn header_of(alloc: Global, header: &str) -> Result<Header, Fault> {
     match kind {
         Some("new") => new_header(alloc, first, second),
         Some("disk") => disk_header(alloc, first as u64),
-        _ => named_header(alloc),
+        _ => Header::new(
+            alloc,
+            9,
+            4,
+            Some(String::from_str(alloc, "backing.1")?),
+            None,
+            None,
+        ),
     }
 }
 
@@ -94,21 +107,12 @@ pub(crate) fn new_header(
     Header::new(alloc, cluster_bits, refcount_order, None, None, None)
 }
 
-fn named_header(alloc: Global) -> Result<Header, Fault> {
-    let name = text(alloc, "backing.1")?;
-    Header::new(alloc, 9, 4, Some(name), None, None)
-}
-
 /// The header of the disk, where its size is this.
 pub(crate) fn disk_header(alloc: Global, size: u64) -> Result<Header, Fault> {
     let mut image = image_of(alloc, DISK, "")?;
     let mut header = load_header(alloc, &mut image, false)?;
     header.set_size(size);
     Ok(header)
-}
-
-pub(crate) fn text(alloc: Global, text: &str) -> Result<String, AllocError> {
-    String::from_str(alloc, text)
 }
 
 // ---- Loads of which no clause matters here
@@ -160,10 +164,6 @@ pub(crate) fn block<S: Storage>(
 pub(crate) struct Numbers(pub(crate) Vec<u64>);
 
 impl Numbers {
-    pub(crate) fn new(alloc: Global) -> Result<Numbers, AllocError> {
-        Ok(Numbers(Vec::with_capacity(alloc, MOST_NUMBERS)?))
-    }
-
     fn add(&mut self, number: u64) {
         let _ = self.0.push(number);
     }
@@ -196,15 +196,8 @@ fn tell_header(header: &Header, numbers: &mut Numbers) {
     numbers.add(header.l1_table_entries() as u64);
     numbers.add(header.reftable_offset().0);
     numbers.add(header.reftable_clusters().0);
-    numbers.note(has_names(header));
-}
-
-// Whether a header has a name for the first incompatible feature.
-fn has_names(header: &Header) -> bool {
-    match header.feature_name(FeatureType::Incompatible, 0) {
-        Some(name) => name.as_str() == "dirty",
-        None => false,
-    }
+    let name = header.feature_name(FeatureType::Incompatible, 0);
+    numbers.note(matches!(name, Some(name) if name.as_str() == "dirty"));
 }
 
 fn tell_table<T: Table>(table: &T, numbers: &mut Numbers) {

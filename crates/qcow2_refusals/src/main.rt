@@ -18,25 +18,19 @@ mod refusals;
 mod runs;
 mod without_memory;
 
-use crate::attempts::begin;
-use crate::calls::Answer;
 use crate::memory::Memory;
-use crate::refusals::{Refusals, Refused};
-use crate::runs::{Each, Run, take_all};
-use qcow2_base::MemStorage;
+use crate::refusals::Refusals;
+use crate::runs::take_all;
 use std::alloc::Global;
 use std::io::Write;
 use std::process::ExitCode;
 use std::{env, fs, io, process};
 
 fn main(rt: HostRuntime) -> ExitCode {
-    let mut out = rt.stdout();
-    let word = word_again(&rt);
-    let table = table_again(&rt);
-    let (Ok(word), Ok(table)) = (word, table) else {
+    let (Ok(word), Ok(table)) = (word_again(&rt), table_again(&rt)) else {
         return ExitCode::FAILURE;
     };
-    if does(&rt, &word, &table, &mut out) {
+    if does(&rt, &word, &table, &mut rt.stdout()) {
         ExitCode::SUCCESS
     } else {
         ExitCode::FAILURE
@@ -67,12 +61,12 @@ fn table_again(rt: &HostRuntime) -> io::Result<String> {
 // Does what the word says, and answers whether all was as it must be.
 fn does<O: Write>(rt: &HostRuntime, word: &str, table: &str, out: &mut O) -> bool {
     match word {
-        "" => refuse_all(rt.alloc(), table, out) && make_each(rt, table, out),
-        "memory" => make_each(rt, table, out),
+        "" => refuse_all(rt.alloc(), table, out) && make_each(rt, "", table, out),
+        "memory" => make_each(rt, "", table, out),
         "once" => make_calls(rt.alloc(), 1, out),
         "often" => make_calls(rt.alloc(), 1000, out),
-        "settled" => make_only(rt.alloc(), "edit_settled", table),
-        "refused" => make_only(rt.alloc(), "edit_settled in vain", table),
+        "settled" => make_each(rt, "edit_settled", table, out),
+        "refused" => make_each(rt, "edit_settled in vain", table, out),
         _ => false,
     }
 }
@@ -81,34 +75,32 @@ fn refuse_all<O: Write>(alloc: Global, table: &str, out: &mut O) -> bool {
     let mut refusals = Refusals {
         alloc,
         out,
-        refused: Refused::Calls,
+        of_writes: false,
         all_right: true,
     };
     take_all(table, &mut refusals);
-    refusals.refused = Refused::Writes;
+    refusals.of_writes = true;
     take_all(table, &mut refusals);
     refusals.all_right
 }
 
-fn make_each<O: Write>(rt: &HostRuntime, table: &str, out: &mut O) -> bool {
+// Makes each run, or each of one call.
+fn make_each<O: Write>(rt: &HostRuntime, call: &str, table: &str, out: &mut O) -> bool {
     let Ok(path) = path_again(rt) else {
         return false;
     };
-    make_each_at(rt, path.as_str(), table, out)
-}
-
-fn make_each_at<O: Write>(rt: &HostRuntime, path: &str, table: &str, out: &mut O) -> bool {
     let mut memory = Memory {
         rt,
         out,
-        path,
+        path: path.as_str(),
+        call,
         runs: 0,
         all_right: true,
     };
     take_all(table, &mut memory);
     let (runs, all_right) = (memory.runs, memory.all_right);
-    let _ = fs::remove_file(rt, path);
-    writeln!(out, "{runs} runs").is_ok() && all_right
+    let _ = fs::remove_file(rt, path.as_str());
+    writeln!(out, "{runs} runs").is_ok() && all_right && runs > 0
 }
 
 // Where the file of a run lies, made once more where memory was refused the first time.
@@ -128,47 +120,7 @@ fn temporary_path(rt: &HostRuntime) -> io::Result<String> {
 
 fn make_calls<O: Write>(alloc: Global, turns: u64, out: &mut O) -> bool {
     match without_memory::make_calls(alloc, turns) {
-        Ok(sum) => writeln!(out, "{turns} turns: {sum:?}").is_ok(),
+        Ok(sum) => writeln!(out, "{turns} turns: {}", sum.0).is_ok(),
         Err(_) => false,
     }
-}
-
-/// Makes the runs of one call, which takes no image, and counts them and those that were refused nothing.
-#[derive(Drop)]
-struct Only<'a> {
-    alloc: Global,
-    call: &'a str,
-    runs: u64,
-    done: u64,
-}
-
-impl Each for Only<'_> {
-    fn take(&mut self, run: &Run<'_>) {
-        if run.call != self.call {
-            return;
-        }
-        self.runs = self.runs.saturating_add(1);
-        if makes(self.alloc, run) {
-            self.done = self.done.saturating_add(1);
-        }
-    }
-}
-
-fn makes(alloc: Global, run: &Run<'_>) -> bool {
-    let Ok(mut attempt) = begin(alloc, run) else {
-        return false;
-    };
-    let mut image = MemStorage::new(Vec::new(alloc));
-    attempt.make(alloc, run, &mut image) == Answer::Done
-}
-
-fn make_only(alloc: Global, call: &str, table: &str) -> bool {
-    let mut only = Only {
-        alloc,
-        call,
-        runs: 0,
-        done: 0,
-    };
-    take_all(table, &mut only);
-    only.runs > 0 && only.done == only.runs
 }

@@ -4,9 +4,9 @@
 //! too, so that all runs are made whichever request it meets.
 
 use crate::attempts::{Attempt, Wrong, begin, unless};
-use crate::calls::Answer;
+use crate::calls::{Answer, make};
 use crate::runs::{Each, Run};
-use qcow2_base::{Fault, FileStorage, MemStorage, Storage};
+use qcow2_base::{Fault, FileStorage, MemStorage};
 use std::alloc::Global;
 use std::io::Write;
 use std::{fs, io};
@@ -18,12 +18,17 @@ pub(crate) struct Memory<'a, O> {
     pub(crate) out: &'a mut O,
     /// Where the file of a run lies.
     pub(crate) path: &'a str,
+    /// The call of the runs that are made, or nothing for all runs.
+    pub(crate) call: &'a str,
     pub(crate) runs: u64,
     pub(crate) all_right: bool,
 }
 
 impl<O: Write> Each for Memory<'_, O> {
     fn take(&mut self, run: &Run<'_>) {
+        if !self.call.is_empty() && self.call != run.call {
+            return;
+        }
         self.runs = self.runs.saturating_add(1);
         let made = match over_memory(self.rt.alloc(), run) {
             Ok(()) if run.is_in_a_file() => over_file(self.rt, self.path, run),
@@ -53,49 +58,28 @@ fn image_again(alloc: Global, run: &Run<'_>) -> Result<MemStorage, Fault> {
 }
 
 fn over_memory(alloc: Global, run: &Run<'_>) -> Result<(), Wrong> {
-    let mut attempt = begin_again(alloc, run)?;
     let mut image = image_again(alloc, run)?;
-    make_over_memory(alloc, run, &mut attempt, &mut image)
+    let mut attempt = begin_again(alloc, run)?;
+    make_in_memory(run, &mut attempt, &mut image)
 }
 
-fn make_over_memory(
-    alloc: Global,
+fn make_in_memory(
     run: &Run<'_>,
     attempt: &mut Attempt,
     image: &mut MemStorage,
 ) -> Result<(), Wrong> {
-    if make_in_memory(alloc, run, attempt, image)? == Answer::Done {
-        return Ok(());
+    for _ in 0..2 {
+        let answer = make(run, &mut attempt.held, image);
+        if has_done(run, attempt, answer, image.bytes())? {
+            return Ok(());
+        }
     }
-    is_done(make_in_memory(alloc, run, attempt, image)?)
-}
-
-fn make_in_memory(
-    alloc: Global,
-    run: &Run<'_>,
-    attempt: &mut Attempt,
-    image: &mut MemStorage,
-) -> Result<Answer, Wrong> {
-    let answer = attempt.make(alloc, run, image);
-    has_answered(run, attempt, answer, image.bytes())?;
-    Ok(answer)
+    Err(Wrong::Answer)
 }
 
 fn over_file(rt: &HostRuntime, path: &str, run: &Run<'_>) -> Result<(), Wrong> {
     let mut attempt = begin_again(rt.alloc(), run)?;
-    make_over_file(rt, path, run, &mut attempt)
-}
-
-fn make_over_file(
-    rt: &HostRuntime,
-    path: &str,
-    run: &Run<'_>,
-    attempt: &mut Attempt,
-) -> Result<(), Wrong> {
-    let is_written = fs::write(rt, path, attempt.before.bytes()).is_ok();
-    unless(is_written, Wrong::Beginning)?;
-    let mut file = open_again(rt, path)?;
-    make_in_opened(rt, path, run, attempt, &mut file)
+    make_in_file(rt, path, run, &mut attempt)
 }
 
 // Opens the file for writing, once more where memory was refused the first time.
@@ -106,32 +90,25 @@ fn open_again(rt: &HostRuntime, path: &str) -> Result<FileStorage, Fault> {
     }
 }
 
-fn make_in_opened(
-    rt: &HostRuntime,
-    path: &str,
-    run: &Run<'_>,
-    attempt: &mut Attempt,
-    file: &mut FileStorage,
-) -> Result<(), Wrong> {
-    if make_in_file(rt, path, run, attempt, file)? == Answer::Done {
-        return Ok(());
-    }
-    is_done(make_in_file(rt, path, run, attempt, file)?)
-}
-
 fn make_in_file(
     rt: &HostRuntime,
     path: &str,
     run: &Run<'_>,
     attempt: &mut Attempt,
-    file: &mut FileStorage,
-) -> Result<Answer, Wrong> {
-    let answer = attempt.make(rt.alloc(), run, file);
-    let Ok(bytes) = bytes_again(rt, path) else {
-        return Err(Wrong::Beginning);
-    };
-    has_answered(run, attempt, answer, &bytes)?;
-    Ok(answer)
+) -> Result<(), Wrong> {
+    let is_written = fs::write(rt, path, attempt.before.bytes()).is_ok();
+    unless(is_written, Wrong::Beginning)?;
+    let mut file = open_again(rt, path)?;
+    for _ in 0..2 {
+        let answer = make(run, &mut attempt.held, &mut file);
+        let Ok(bytes) = bytes_again(rt, path) else {
+            return Err(Wrong::Beginning);
+        };
+        if has_done(run, attempt, answer, &bytes)? {
+            return Ok(());
+        }
+    }
+    Err(Wrong::Answer)
 }
 
 // The bytes of the file, read once more where memory was refused the first time.
@@ -142,21 +119,18 @@ fn bytes_again(rt: &HostRuntime, path: &str) -> io::Result<Vec<u8>> {
     }
 }
 
-fn is_done(answer: Answer) -> Result<(), Wrong> {
-    unless(answer == Answer::Done, Wrong::Answer)
-}
-
-// Fails unless all stands that must after this answer: a refusal of memory, which is one of the storage where
-// that had to grow, or none.
-fn has_answered(
+// Answers whether all is done. Fails unless all stands that must after this answer: a refusal of memory,
+// which is one of the storage where that had to grow, or none.
+fn has_done(
     run: &Run<'_>,
     attempt: &mut Attempt,
     answer: Answer,
     image: &[u8],
-) -> Result<(), Wrong> {
-    let may_fail = answer != Answer::StorageFailed || attempt.grows();
+) -> Result<bool, Wrong> {
+    let may_fail = answer != Answer::StorageFailed || attempt.grows;
     unless(may_fail, Wrong::Answer)?;
-    let is_whole = answer == Answer::Done || image == attempt.before.bytes();
-    unless(is_whole, Wrong::Image)?;
-    attempt.check(run, answer, image)
+    let is_done = answer == Answer::Done;
+    unless(is_done || image == attempt.before.bytes(), Wrong::Image)?;
+    attempt.check(run, answer, image)?;
+    Ok(is_done)
 }

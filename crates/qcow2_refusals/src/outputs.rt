@@ -15,7 +15,8 @@ const CAPACITY: usize = 1024;
 /// An output. A write that fails keeps nothing, and later ones pass again.
 #[derive(Drop)]
 pub(crate) struct Output {
-    bytes: Vec<u8>,
+    /// What was written since it began.
+    pub(crate) bytes: Vec<u8>,
     /// How many writes pass before the one that fails; without it none fails.
     pub(crate) plan: Option<u64>,
     pub(crate) has_failed: bool,
@@ -29,16 +30,6 @@ impl Output {
             plan: None,
             has_failed: false,
         })
-    }
-
-    /// What was written since it began.
-    pub(crate) fn bytes(&self) -> &[u8] {
-        &self.bytes
-    }
-
-    /// Begins anew, with what it plans.
-    pub(crate) fn restart(&mut self) {
-        self.bytes.clear();
     }
 }
 

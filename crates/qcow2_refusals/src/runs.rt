@@ -11,7 +11,8 @@ pub(crate) struct Setup<'a> {
     pub(crate) header: &'a str,
     /// The image that tables and block are loaded from.
     pub(crate) source: &'a str,
-    image: &'a str,
+    /// The image of the run, without the numbers that it has before or after the call.
+    pub(crate) image: &'a str,
 }
 
 /// A call of the library, with what it begins with and what must stand after it.
@@ -24,13 +25,15 @@ pub(crate) struct Run<'a> {
     /// Whether tables and block count as modified.
     pub(crate) is_modified: bool,
     before: &'a str,
-    after: &'a str,
+    /// The numbers of the image after a call that succeeds.
+    pub(crate) after: &'a str,
     /// The numbers that it changes where the storage refuses.
     pub(crate) refused: &'a str,
     /// Those that it changes where it succeeds.
     pub(crate) done: &'a str,
     told: &'a str,
     told_again: &'a str,
+    words: &'a str,
 }
 
 /// What is done with each run.
@@ -48,23 +51,15 @@ pub(crate) fn take_all<E: Each>(table: &str, each: &mut E) {
     };
     for line in table.lines() {
         if let Some(columns) = line.strip_prefix("= ") {
-            setup = setup_of(columns);
-        } else if is_run(line) {
+            let mut columns = columns.split('|');
+            setup = Setup {
+                header: text_of(columns.next()),
+                source: text_of(columns.next()),
+                image: text_of(columns.next()),
+            };
+        } else if !line.is_empty() && !line.starts_with("#") {
             each.take(&run_of(setup, line));
         }
-    }
-}
-
-fn is_run(line: &str) -> bool {
-    !line.is_empty() && !line.starts_with("#")
-}
-
-fn setup_of(line: &str) -> Setup<'_> {
-    let mut columns = line.split('|');
-    Setup {
-        header: text_of(columns.next()),
-        source: text_of(columns.next()),
-        image: text_of(columns.next()),
     }
 }
 
@@ -81,6 +76,7 @@ fn run_of<'a>(setup: Setup<'a>, line: &'a str) -> Run<'a> {
         done: text_of(columns.next()),
         told: text_of(columns.next()),
         told_again: text_of(columns.next()),
+        words: text_of(columns.next()),
     }
 }
 
@@ -100,11 +96,6 @@ impl Run<'_> {
         Ok(image.with_align(1 << alignment_bits))
     }
 
-    /// The image after a call that succeeds.
-    pub(crate) fn after(&self, alloc: Global) -> Result<MemStorage, Fault> {
-        image_of(alloc, self.setup.image, self.after)
-    }
-
     /// Whether the call takes an image that a file can hold, which has no alignment.
     pub(crate) fn is_in_a_file(&self) -> bool {
         !self.setup.image.is_empty() && !self.is_aligned()
@@ -118,6 +109,14 @@ impl Run<'_> {
     /// Whether the call is the function of a command.
     pub(crate) fn is_command(&self) -> bool {
         self.of == "over a disk"
+    }
+
+    /// The words of a command, which are those of the call where no others stand.
+    pub(crate) fn words(&self) -> &str {
+        if self.words.is_empty() {
+            return self.call;
+        }
+        self.words
     }
 
     /// What the call must tell, over an image that it has changed before or not.

@@ -1,75 +1,68 @@
 //! Calls that take memory and no storage: tables, blocks and an extension that are made, copied and grown.
 
-use crate::held::{Held, text};
+use crate::held::Held;
 use crate::outputs::{Output, tell};
 use qcow2_base::{Fault, MemStorage};
-use qcow2_metadata::{
-    Header, HeaderExtension, L1Table, L2Table, RefBlock, RefTable, Table, TableEntry,
-};
-use std::alloc::{AllocError, Global};
+use qcow2_metadata::{HeaderExtension, L2Table, RefBlock, Table, TableEntry};
+use std::alloc::AllocError;
 
-// Tells the extension that is copied too, whatever comes of its copy.
-pub(super) fn clone_extension(alloc: Global, out: &mut Output) -> Result<(), Fault> {
-    let extension = HeaderExtension::BackingFileFormat(text(alloc, "qcow2")?);
-    let copy: Result<HeaderExtension, AllocError> = extension.clone();
-    tell(out, &extension)?;
-    tell(out, &copy?)
-}
-
-pub(super) fn clear(of: &str, alloc: Global, held: &mut Held) -> Result<(), Fault> {
-    match of {
-        "L2 table" => clear_table(alloc, held),
-        _ => clear_block(alloc, held),
+pub(super) fn make(call: &str, of: &str, held: &mut Held) -> Result<(), Fault> {
+    match (call, of) {
+        ("new_cleared", "L2 table") => clear_table(held),
+        ("new_cleared", _) => clear_block(held),
+        ("clone_and_grow", "L1 table") => grow_l1_table(held),
+        ("clone_and_grow", _) => grow_reftable(held),
+        ("try_clone", _) => clone_table(held),
+        ("HeaderExtension::clone", _) => clone_extension(held),
+        _ => Err(Fault::WrongLength),
     }
 }
 
-fn clear_table(alloc: Global, held: &mut Held) -> Result<(), Fault> {
-    let table = L2Table::new_cleared(alloc, &held.header)?;
+// Tells the extension that is copied too, whatever comes of its copy.
+fn clone_extension(held: &mut Held) -> Result<(), Fault> {
+    let name = String::from_str(held.alloc, "qcow2")?;
+    let extension = HeaderExtension::BackingFileFormat(name);
+    tell(&mut held.out, &extension)?;
+    tell(&mut held.out, &copy_of(&extension)?)
+}
+
+fn copy_of(extension: &HeaderExtension) -> Result<HeaderExtension, AllocError> {
+    extension.clone()
+}
+
+fn clear_table(held: &mut Held) -> Result<(), Fault> {
+    let table = L2Table::new_cleared(held.alloc, &held.header)?;
     tell_table(&mut held.out, &table)
 }
 
-fn clear_block(alloc: Global, held: &mut Held) -> Result<(), Fault> {
-    let block = RefBlock::new_cleared(alloc, &MemStorage::new(Vec::new(alloc)), &held.header)?;
+fn clear_block(held: &mut Held) -> Result<(), Fault> {
+    let image = MemStorage::new(Vec::new(held.alloc));
+    let block = RefBlock::new_cleared(held.alloc, &image, &held.header)?;
     tell(
         &mut held.out,
         &(block.entries(), block.get_cluster(), block.is_modified()),
     )
 }
 
-pub(super) fn clone_table(held: &mut Held) -> Result<(), Fault> {
+fn clone_table(held: &mut Held) -> Result<(), Fault> {
     let table = held.l2_table.try_clone()?;
     tell_table(&mut held.out, &table)
 }
 
-pub(super) fn grow(of: &str, held: &mut Held) -> Result<(), Fault> {
-    match of {
-        "L1 table" => grow_l1_table(held),
-        _ => grow_reftable(held),
-    }
-}
-
 fn grow_l1_table(held: &mut Held) -> Result<(), Fault> {
-    let table = grown_l1_table(&held.header, &held.l1_table)?;
-    tell_table(&mut held.out, &table)
-}
-
-fn grown_l1_table(header: &Header, table: &L1Table) -> Result<L1Table, Fault> {
-    if header.cluster_bits() != table.cluster_bits() {
+    if held.header.cluster_bits() != held.l1_table.cluster_bits() {
         return Err(Fault::WrongLength);
     }
-    table.clone_and_grow(128, header)
+    let table = held.l1_table.clone_and_grow(128, &held.header)?;
+    tell_table(&mut held.out, &table)
 }
 
 fn grow_reftable(held: &mut Held) -> Result<(), Fault> {
-    let table = grown_reftable(&held.header, &held.reftable)?;
-    tell_table(&mut held.out, &table)
-}
-
-fn grown_reftable(header: &Header, table: &RefTable) -> Result<RefTable, Fault> {
-    if header.cluster_bits() != table.cluster_bits() {
+    if held.header.cluster_bits() != held.reftable.cluster_bits() {
         return Err(Fault::WrongLength);
     }
-    table.clone_and_grow(header, 126)
+    let table = held.reftable.clone_and_grow(&held.header, 126)?;
+    tell_table(&mut held.out, &table)
 }
 
 // Tells how many entries a table has, that at index 3, its cluster and its flag.

@@ -1,21 +1,15 @@
 //! Calls of headers.
 
-use crate::held::{Held, load_header, text};
+use crate::held::{Held, load_header};
 use crate::outputs::{Output, tell};
 use qcow2_base::{Fault, Storage};
 use qcow2_metadata::Header;
 use std::alloc::Global;
 
-pub(super) fn make<S: Storage>(
-    call: &str,
-    alloc: Global,
-    held: &mut Held,
-    image: &mut S,
-) -> Result<(), Fault> {
+pub(super) fn make<S: Storage>(call: &str, held: &mut Held, image: &mut S) -> Result<(), Fault> {
     match call {
-        "Header::new" => new(alloc, &mut held.out),
-        "Header::load" => load(alloc, held, image, false),
-        "Header::load writable" => load(alloc, held, image, true),
+        "Header::new" => new(held),
+        "Header::load" | "Header::load writable" => load(call, held, image),
         _ => write(call, &mut held.header, image),
     }
 }
@@ -30,19 +24,15 @@ fn write<S: Storage>(call: &str, header: &mut Header, image: &mut S) -> Result<(
     }
 }
 
-fn load<S: Storage>(
-    alloc: Global,
-    held: &mut Held,
-    image: &mut S,
-    is_writable: bool,
-) -> Result<(), Fault> {
-    held.header = load_header(alloc, image, is_writable)?;
+fn load<S: Storage>(call: &str, held: &mut Held, image: &mut S) -> Result<(), Fault> {
+    let is_writable = call == "Header::load writable";
+    held.header = load_header(held.alloc, image, is_writable)?;
     Ok(())
 }
 
-fn new(alloc: Global, out: &mut Output) -> Result<(), Fault> {
-    let header = header_of_names(alloc)?;
-    tell_names(&header, out)
+fn new(held: &mut Held) -> Result<(), Fault> {
+    let header = header_of_names(held.alloc)?;
+    tell_names(&header, &mut held.out)
 }
 
 fn tell_names(header: &Header, out: &mut Output) -> Result<(), Fault> {
@@ -52,8 +42,8 @@ fn tell_names(header: &Header, out: &mut Output) -> Result<(), Fault> {
 }
 
 fn header_of_names(alloc: Global) -> Result<Header, Fault> {
-    let name = text(alloc, "base.img")?;
-    let format = text(alloc, "qcow2")?;
-    let data_file = text(alloc, "data.raw")?;
+    let name = String::from_str(alloc, "base.img")?;
+    let format = String::from_str(alloc, "qcow2")?;
+    let data_file = String::from_str(alloc, "data.raw")?;
     Header::new(alloc, 9, 4, Some(name), Some(format), Some(data_file))
 }

@@ -7,7 +7,6 @@ use qcow2_metadata::Table;
 use qcow2_session::{
     Edit, Step, edit_image, edit_settled, edit_table, lookup, lookup_image, step_block, step_image,
 };
-use std::alloc::Global;
 
 // Edits of a table in memory, and of the first and the last entry of one of 65536 bytes.
 const TABLE_EDITS: &[Edit] = &[
@@ -46,20 +45,20 @@ const IMAGE_STEPS: &[Step] = &[
     Step::Inc { index: 2047 },
 ];
 
-/// An offset in guest cluster 3 of the disk.
-pub(super) const GUEST_OFFSET: GuestOffset = GuestOffset(1543);
+// An offset in guest cluster 3 of the disk.
+const GUEST_OFFSET: GuestOffset = GuestOffset(1543);
 
-pub(super) fn edit(alloc: Global, held: &mut Held) -> Result<(), Fault> {
-    let outcome = edit_table(alloc, &mut held.l2_table, TABLE_EDITS)?;
+pub(super) fn edit(held: &mut Held) -> Result<(), Fault> {
+    let outcome = edit_table(held.alloc, &mut held.l2_table, TABLE_EDITS)?;
     tell(&mut held.out, &outcome)
 }
 
-pub(super) fn step(alloc: Global, held: &mut Held) -> Result<(), Fault> {
-    let replies = step_block(alloc, &mut held.block, BLOCK_STEPS)?;
+pub(super) fn step(held: &mut Held) -> Result<(), Fault> {
+    let replies = step_block(held.alloc, &mut held.block, BLOCK_STEPS)?;
     tell(&mut held.out, &replies)
 }
 
-pub(super) fn settle(alloc: Global, held: &mut Held) -> Result<(), Fault> {
+pub(super) fn settle(held: &mut Held) -> Result<(), Fault> {
     let (header, table, block) = (&held.header, &mut held.l2_table, &mut held.block);
     if header.cluster_bits() != block.cluster_bits()
         || header.refcount_order() != block.refcount_order()
@@ -68,58 +67,53 @@ pub(super) fn settle(alloc: Global, held: &mut Held) -> Result<(), Fault> {
     {
         return Err(Fault::WrongLength);
     }
-    let outcome = edit_settled(alloc, table, block, header, 0, TABLE_EDITS)?;
+    let outcome = edit_settled(held.alloc, table, block, header, 0, TABLE_EDITS)?;
     tell(&mut held.out, &outcome)
 }
 
 // The same where the counters can't follow.
-pub(super) fn settle_in_vain(alloc: Global, held: &mut Held) -> Result<(), Fault> {
-    match settle(alloc, held) {
+pub(super) fn settle_in_vain(held: &mut Held) -> Result<(), Fault> {
+    match settle(held) {
         Err(Fault::CounterRange) => Ok(()),
         Err(fault) => Err(fault),
         Ok(()) => Err(Fault::CounterRange),
     }
 }
 
-pub(super) fn change_image<S: Storage>(
-    call: &str,
-    alloc: Global,
-    held: &mut Held,
-    image: &mut S,
-) -> Result<(), Fault> {
+pub(super) fn make<S: Storage>(call: &str, held: &mut Held, image: &mut S) -> Result<(), Fault> {
     match call {
-        "edit_image" => edit_in(alloc, held, image),
-        _ => step_in(alloc, held, image),
+        "edit_image" => edit_in(held, image),
+        "step_image" => step_in(held, image),
+        "lookup" => look_up(held, image),
+        _ => look_up_image(held, image),
     }
 }
 
-fn edit_in<S: Storage>(alloc: Global, held: &mut Held, image: &mut S) -> Result<(), Fault> {
-    let outcome = edit_image(alloc, image, &held.header, TABLES, IMAGE_EDITS)?;
+fn edit_in<S: Storage>(held: &mut Held, image: &mut S) -> Result<(), Fault> {
+    let outcome = edit_image(held.alloc, image, &held.header, TABLES, IMAGE_EDITS)?;
     tell(&mut held.out, &outcome)
 }
 
-fn step_in<S: Storage>(alloc: Global, held: &mut Held, image: &mut S) -> Result<(), Fault> {
-    let replies = step_image(alloc, image, &held.header, BLOCK, IMAGE_STEPS)?;
+fn step_in<S: Storage>(held: &mut Held, image: &mut S) -> Result<(), Fault> {
+    let replies = step_image(held.alloc, image, &held.header, BLOCK, IMAGE_STEPS)?;
     tell(&mut held.out, &replies)
 }
 
-pub(super) fn look_up<S: Storage>(
-    alloc: Global,
-    held: &mut Held,
-    image: &mut S,
-) -> Result<(), Fault> {
+fn look_up<S: Storage>(held: &mut Held, image: &mut S) -> Result<(), Fault> {
     if held.header.cluster_bits() != held.l1_table.cluster_bits() {
         return Err(Fault::WrongLength);
     }
-    let mapping = lookup(alloc, image, &held.header, &held.l1_table, GUEST_OFFSET)?;
+    let mapping = lookup(
+        held.alloc,
+        image,
+        &held.header,
+        &held.l1_table,
+        GUEST_OFFSET,
+    )?;
     tell(&mut held.out, &mapping)
 }
 
-pub(super) fn look_up_image<S: Storage>(
-    alloc: Global,
-    held: &mut Held,
-    image: &mut S,
-) -> Result<(), Fault> {
-    let mapping = lookup_image(alloc, image, GUEST_OFFSET)?;
+fn look_up_image<S: Storage>(held: &mut Held, image: &mut S) -> Result<(), Fault> {
+    let mapping = lookup_image(held.alloc, image, GUEST_OFFSET)?;
     tell(&mut held.out, &mapping)
 }

@@ -5,31 +5,28 @@ use qcow2_base::{ClusterCount, GuestCluster, HostCluster, HostOffset};
 use qcow2_metadata::{
     AtomicL2Entry, AutoclearFeatures, CompatibleFeatures, FeatureType, Header, HeaderExtensionType,
     IncompatibleFeatures, L1Entry, L2Entry, L2Mapping, PendingClusters, RefTableEntry, TableEntry,
+    UnknownValue,
 };
 use std::num::NonZero;
 
 pub(super) fn make(turn: u64, header: &Header, sum: &mut Sum) {
     let number = turn % 1024 * 512;
-    l1_entry(number, header, sum);
-    reftable_entry(number, header, sum);
+    table_entries(number, header, sum);
     l2_entry(number, header, sum);
     l2_entry(number + (1 << 62), header, sum);
-    cell(number, header, sum);
-    mappings(sum);
-    pending(turn, sum);
-    features(turn % 9, sum);
+    mappings_and_pending(turn, sum);
+    feature::<IncompatibleFeatures>(turn % 9, sum);
+    feature::<CompatibleFeatures>(turn % 9, sum);
+    feature::<AutoclearFeatures>(turn % 9, sum);
     types(turn, sum);
 }
 
-fn l1_entry(number: u64, header: &Header, sum: &mut Sum) {
+fn table_entries(number: u64, header: &Header, sum: &mut Sum) {
     if let Ok(entry) = L1Entry::try_from_plain(number, header) {
         sum.note(entry.l2_offset().is_some());
         sum.note(entry.is_copied());
         sum.add(entry.reserved_bits() ^ entry.to_plain());
     }
-}
-
-fn reftable_entry(number: u64, header: &Header, sum: &mut Sum) {
     if let Ok(entry) = RefTableEntry::try_from_plain(number, header) {
         sum.note(entry.refblock_offset().is_some());
         sum.add(entry.reserved_bits() ^ entry.to_plain());
@@ -51,13 +48,8 @@ fn l2_entry(number: u64, header: &Header, sum: &mut Sum) {
     sum.note(entry.compressed_range(bits).is_some());
     sum.note(entry.allocation(bits, false).is_some());
     sum.note(entry.into_mapping(GuestCluster(3), bits, false).is_ok());
-}
-
-fn cell(number: u64, header: &Header, sum: &mut Sum) {
-    if let Ok(entry) = L2Entry::try_from_plain(number, header) {
-        let mut cell = AtomicL2Entry::new(entry);
-        sum.add(cell.get().to_plain() ^ cell.swap(entry).to_plain());
-    }
+    let mut cell = AtomicL2Entry::new(entry);
+    sum.add(cell.get().to_plain() ^ cell.swap(entry).to_plain());
 }
 
 const DATA: L2Mapping = L2Mapping::DataFile {
@@ -74,7 +66,11 @@ const ZERO: L2Mapping = L2Mapping::Zero {
     copied: false,
 };
 
-fn mappings(sum: &mut Sum) {
+fn mappings_and_pending(turn: u64, sum: &mut Sum) {
+    let clusters = PendingClusters::new(HostCluster(turn), ClusterCount(2));
+    sum.add(clusters.cluster().0);
+    sum.add(clusters.give_up().count.0);
+    PendingClusters::new(HostCluster(turn), ClusterCount(1)).make_persistent();
     sum.add(L2Entry::from_mapping(DATA, 9).to_plain());
     sum.add(L2Entry::from_mapping(BACKING, 9).to_plain());
     sum.add(L2Entry::from_mapping(ZERO, 9).to_plain());
@@ -90,28 +86,15 @@ fn mappings(sum: &mut Sum) {
     sum.note(compressed.is_consecutive(&compressed, 9));
 }
 
-fn pending(turn: u64, sum: &mut Sum) {
-    let clusters = PendingClusters::new(HostCluster(turn), ClusterCount(2));
-    sum.add(clusters.cluster().0);
-    sum.add(clusters.give_up().count.0);
-    PendingClusters::new(HostCluster(turn), ClusterCount(1)).make_persistent();
-}
-
-fn features(number: u64, sum: &mut Sum) {
-    if let Ok(feature) = IncompatibleFeatures::try_from(number) {
-        sum.add(u64::from(feature));
-        let (_, bit) = <(FeatureType, u8)>::from(feature);
-        sum.add(bit as u64);
-    }
-    if let Ok(feature) = CompatibleFeatures::try_from(number) {
-        sum.add(u64::from(feature));
-        let (_, bit) = <(FeatureType, u8)>::from(feature);
-        sum.add(bit as u64);
-    }
-    if let Ok(feature) = AutoclearFeatures::try_from(number) {
-        sum.add(u64::from(feature));
-        let (_, bit) = <(FeatureType, u8)>::from(feature);
-        sum.add(bit as u64);
+// A feature by its number, and its key.
+fn feature<F>(number: u64, sum: &mut Sum)
+where
+    F: TryFrom<u64, Error = UnknownValue> + Into<u64> + Into<(FeatureType, u8)> + Copy,
+{
+    if let Ok(feature) = F::try_from(number) {
+        let number: u64 = feature.into();
+        let (_, bit): (FeatureType, u8) = feature.into();
+        sum.add(number ^ bit as u64);
     }
 }
 

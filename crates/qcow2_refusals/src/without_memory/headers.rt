@@ -1,7 +1,7 @@
 //! Calls of headers: getters, setters, `update` and the pointer writes.
 
 use super::Sum;
-use crate::held::disk_header;
+use crate::held::{disk_header, new_header};
 use qcow2_base::{Fault, MemStorage};
 use qcow2_metadata::{FeatureType, Header};
 use std::alloc::Global;
@@ -16,43 +16,40 @@ pub(super) struct Headers {
 }
 
 pub(super) fn begin(alloc: Global) -> Result<Headers, Fault> {
+    let image = MemStorage::new(vec![in alloc; 0; 512]?);
+    let first = new_header(alloc, 9, 4)?;
+    let disk = disk_header(alloc, 32768)?;
+    let other = disk_header(alloc, 32768)?;
     Ok(Headers {
-        first: Header::new(alloc, 9, 4, None, None, None)?,
-        disk: disk_header(alloc, 32768)?,
-        other: disk_header(alloc, 32768)?,
-        image: MemStorage::new(vec![in alloc; 0; 512]?),
+        first,
+        disk,
+        other,
+        image,
     })
 }
 
 pub(super) fn make(turn: u64, headers: &mut Headers, sum: &mut Sum) {
-    getters(&headers.first, sum);
-    names(&headers.first, sum);
-    places(&headers.disk, sum);
+    look_at(&headers.first, sum);
+    look_at(&headers.disk, sum);
     headers.disk.set_size(turn);
     sum.note(headers.other.update(&headers.disk).is_ok());
     sum.add(headers.other.size());
     pointers(&headers.disk, &mut headers.image, sum);
 }
 
-fn getters(header: &Header, sum: &mut Sum) {
+fn look_at(header: &Header, sum: &mut Sum) {
     sum.add(header.size() ^ header.cluster_bits() as u64 ^ header.cluster_size() as u64);
     sum.add(header.version() as u64 ^ header.l2_entries() as u64 ^ header.refcount_order() as u64);
     sum.add(header.rb_bits() as u64 ^ header.rb_entries() as u64);
+    sum.add(header.l1_table_offset().0 ^ header.l1_table_entries() as u64);
+    sum.add(header.reftable_offset().0 ^ header.reftable_clusters().0);
+    sum.add(header.reftable_entries() as u64);
     sum.note(header.external_data_file());
     sum.note(header.require_version(3).is_ok());
-}
-
-fn names(header: &Header, sum: &mut Sum) {
     sum.note(header.backing_filename().is_some());
     sum.note(header.backing_format().is_some());
     sum.note(header.external_data_filename().is_some());
     sum.note(header.feature_name(FeatureType::Incompatible, 0).is_some());
-}
-
-fn places(header: &Header, sum: &mut Sum) {
-    sum.add(header.l1_table_offset().0 ^ header.l1_table_entries() as u64);
-    sum.add(header.reftable_offset().0 ^ header.reftable_clusters().0);
-    sum.add(header.reftable_entries() as u64);
 }
 
 fn pointers(header: &Header, image: &mut MemStorage, sum: &mut Sum) {

@@ -1,7 +1,5 @@
 //! Conversions and operators of offsets and clusters, layouts, faults and storages in memory.
 
-ghost use Rattle.std.specs.Prelude.{◌<◌};
-
 use super::Sum;
 use qcow2_base::{
     ClusterCount, Fault, FaultKind, GuestCluster, GuestOffset, HeaderExtensionHeader, HostCluster,
@@ -9,24 +7,22 @@ use qcow2_base::{
 };
 use std::alloc::Global;
 
-pub(super) fn make(turn: u64, sum: &mut Sum) {
-    let turn = turn % 1024;
+pub(super) fn make(alloc: Global, turn: u64, sum: &mut Sum) {
     guest_offset(turn, sum);
     guest_cluster(turn, sum);
-    host_offset(turn, sum);
-    host_cluster(turn, sum);
+    host(turn, sum);
     counts(turn, sum);
     stored::<V2Header>(sum);
     stored::<V3HeaderBase>(sum);
     stored::<HeaderExtensionHeader>(sum);
-    integers(turn as u32, sum);
+    integers((turn % 1024) as u32, sum);
+    storage(MemStorage::new(Vec::new(alloc)), 9, sum);
     sum.add(V3HeaderBase::default().header_length as u64 ^ Fault::Storage.number() as u64);
     sum.note(Fault::NoMemory.kind() == FaultKind::Other);
 }
 
-fn guest_offset(turn: u64, sum: &mut Sum)
-    requires { turn < 1024 }
-{
+fn guest_offset(turn: u64, sum: &mut Sum) {
+    let turn = turn % 1024;
     let offset = GuestOffset(turn);
     sum.add(offset.in_cluster_offset(9) ^ offset.cluster(9).0 ^ offset.l2_index(9) as u64);
     sum.add(offset.l1_index(9) as u64 ^ offset.remaining_in_cluster(9));
@@ -35,9 +31,8 @@ fn guest_offset(turn: u64, sum: &mut Sum)
     sum.note(offset.checked_cluster(9).is_some());
 }
 
-fn guest_cluster(turn: u64, sum: &mut Sum)
-    requires { turn < 1024 }
-{
+fn guest_cluster(turn: u64, sum: &mut Sum) {
+    let turn = turn % 1024;
     let (mut cluster, last) = (GuestCluster(turn), GuestCluster(1024));
     sum.add(cluster.offset(9).0 ^ cluster.l2_index(9) as u64 ^ cluster.l1_index(9) as u64);
     sum.add(GuestCluster::from_l1_l2_indices(3, turn as usize, 9).0);
@@ -49,18 +44,12 @@ fn guest_cluster(turn: u64, sum: &mut Sum)
     sum.add(cluster.0);
 }
 
-fn host_offset(turn: u64, sum: &mut Sum)
-    requires { turn < 1024 }
-{
+fn host(turn: u64, sum: &mut Sum) {
+    let turn = turn % 1024;
     let offset = HostOffset(turn);
     sum.add(offset.in_cluster_offset(9) ^ offset.cluster(9).0 ^ (offset + 512).0);
     sum.add((HostOffset(1024) - turn).0 ^ (HostOffset(1024) - offset));
     sum.note(offset.checked_cluster(9).is_some());
-}
-
-fn host_cluster(turn: u64, sum: &mut Sum)
-    requires { turn < 1024 }
-{
     let (mut cluster, last) = (HostCluster(turn), HostCluster(1024));
     sum.add(cluster.offset(9).0 ^ cluster.rb_index(8) as u64 ^ cluster.rt_index(8) as u64);
     let (rt_index, rb_index) = cluster.rt_rb_indices(8);
@@ -73,9 +62,8 @@ fn host_cluster(turn: u64, sum: &mut Sum)
     sum.add(cluster.0);
 }
 
-fn counts(turn: u64, sum: &mut Sum)
-    requires { turn < 1024 }
-{
+fn counts(turn: u64, sum: &mut Sum) {
+    let turn = turn % 1024;
     let mut count = ClusterCount(turn);
     sum.add(ClusterCount::from_byte_size(turn, 9).0 ^ count.byte_size(9));
     sum.add((count + ClusterCount(1)).0 ^ (ClusterCount(1024) - count).0);
@@ -109,9 +97,9 @@ fn integers(turn: u32, sum: &mut Sum) {
     sum.note(u64::load_from(&bytes).is_err());
 }
 
-// A storage in memory of no byte, which a read finds zero.
-pub(super) fn make_storage(alloc: Global, alignment_bits: u32, sum: &mut Sum) {
-    let mut image = MemStorage::new(Vec::new(alloc)).with_align(1 << alignment_bits.min(30));
+// Calls of a storage in memory of no byte, which a read finds zero.
+fn storage(image: MemStorage, alignment_bits: u32, sum: &mut Sum) {
+    let mut image = image.with_align(1 << alignment_bits.min(30));
     let mut bytes = [1u8; 16];
     sum.note(image.read(&mut bytes, 3).is_ok());
     sum.add(image.mem_align() as u64 ^ image.req_align() as u64);

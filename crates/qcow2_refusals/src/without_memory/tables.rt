@@ -1,8 +1,8 @@
 //! Calls of tables and blocks, of their guards, of growth, and the calls of lists that take no memory.
 
 use super::Sum;
-use crate::calls::tables;
-use crate::held::{Held, TABLES, hold_over, l2_table, new_header};
+use crate::calls::tables::{self, load_l2_table};
+use crate::held::{Held, TABLES, hold_over, new_header};
 use qcow2_base::{ClusterCount, Fault, GuestCluster, HostCluster, MemStorage};
 use qcow2_metadata::{
     ClustersToFreeEntry, Header, L1Table, L2Table, MAX_OFFSET, PendingClusters, RefBlock, RefTable,
@@ -24,28 +24,22 @@ pub(super) struct Tables {
 const COMPRESSED: u64 = 0x4000_0000_0000_0600;
 
 pub(super) fn begin(alloc: Global) -> Result<Tables, Fault> {
-    let mut tables = begin_empty(alloc)?;
-    load(alloc, &mut tables)?;
-    Ok(tables)
-}
-
-fn begin_empty(alloc: Global) -> Result<Tables, Fault> {
+    let outcome = begin_outcome(alloc)?;
+    let mut image = image_with(alloc, 1536, &[(536, COMPRESSED)])?;
+    let held = begin_held(alloc, &mut image)?;
     Ok(Tables {
-        held: hold_empty(alloc)?,
-        image: image_with(alloc, 1536, &[(536, COMPRESSED)])?,
-        outcome: begin_outcome(alloc)?,
+        held,
+        image,
+        outcome,
     })
 }
 
-fn load(alloc: Global, tables: &mut Tables) -> Result<(), Fault> {
-    let (held, image) = (&mut tables.held, &mut tables.image);
-    held.l2_table = l2_table(alloc, image, &held.header)?;
-    Ok(())
-}
-
-fn hold_empty(alloc: Global) -> Result<Held, Fault> {
+// Tables and a block that have no entries, but for the L2 table, which is that of the image.
+fn begin_held(alloc: Global, image: &mut MemStorage) -> Result<Held, Fault> {
     let header = new_header(alloc, 9, 4)?;
-    hold_over(alloc, &mut MemStorage::new(Vec::new(alloc)), header)
+    let mut held = hold_over(alloc, &mut MemStorage::new(Vec::new(alloc)), header)?;
+    load_l2_table(&mut held, image)?;
+    Ok(held)
 }
 
 fn begin_outcome(alloc: Global) -> Result<Outcome, Fault> {
@@ -59,8 +53,7 @@ fn begin_outcome(alloc: Global) -> Result<Outcome, Fault> {
 }
 
 pub(super) fn make(turn: u64, tables: &mut Tables, sum: &mut Sum) {
-    let index = (turn % 32 + 4) as usize;
-    make_in_memory(&mut tables.held, index, sum);
+    make_in_memory(&mut tables.held, (turn % 32 + 4) as usize, sum);
     settle_outcome(&mut tables.held, &tables.outcome, sum);
     write(&mut tables.held, &mut tables.image, sum);
 }
@@ -71,20 +64,21 @@ fn make_in_memory(held: &mut Held, index: usize, sum: &mut Sum) {
     look_at(&mut held.reftable, index, sum);
     enter_l2_table(&mut held.l1_table, &mut held.l2_table, index, sum);
     enter_refblock(&mut held.reftable, &mut held.block, index, sum);
-    point(held, sum);
+    point(&mut held.header, &held.l1_table, &held.reftable, sum);
     look_up(&mut held.l2_table, sum);
     change(&mut held.l2_table, index, sum);
     count(&mut held.block, index, sum);
-    grow(&held.header, index, sum);
-    make_empty(held.l1_table.allocator(), &held.header, sum);
+    make_new(held.alloc, &held.header, index, sum);
 }
 
 fn look_at<T: Table>(table: &mut T, index: usize, sum: &mut Sum) {
-    sum.add(table.entries() as u64);
+    sum.add(table.entries() as u64 ^ table.byte_size() as u64 ^ table.cluster_count().0);
     sum.note(table.get_ref(index).is_some());
     sum.add(table.get(index).to_plain());
-    sum.add(table.byte_size() as u64);
-    sum.add(table.cluster_count().0);
+    mark(table, sum);
+}
+
+fn mark<T: Table>(table: &mut T, sum: &mut Sum) {
     sum.note(table.get_cluster().is_some());
     sum.note(table.get_offset().is_some());
     sum.add(table.cluster_bits() as u64);
@@ -133,20 +127,12 @@ fn enter_refblock(reftable: &mut RefTable, block: &mut RefBlock, index: usize, s
     note_answer(reftable.enter_refblock(index, block, Some(pending)), sum);
 }
 
-fn point(held: &mut Held, sum: &mut Sum) {
-    point_to_l1_table(&mut held.header, &held.l1_table, sum);
-    point_to_reftable(&mut held.header, &held.reftable, sum);
-}
-
-fn point_to_l1_table(header: &mut Header, table: &L1Table, sum: &mut Sum) {
-    if header.cluster_bits() == table.cluster_bits() {
-        note_answer(header.set_l1_table(table, None), sum);
+fn point(header: &mut Header, l1_table: &L1Table, reftable: &RefTable, sum: &mut Sum) {
+    if header.cluster_bits() == l1_table.cluster_bits() {
+        note_answer(header.set_l1_table(l1_table, None), sum);
     }
-}
-
-fn point_to_reftable(header: &mut Header, table: &RefTable, sum: &mut Sum) {
-    if header.cluster_bits() == table.cluster_bits() {
-        sum.note(header.set_reftable(table).is_ok());
+    if header.cluster_bits() == reftable.cluster_bits() {
+        sum.note(header.set_reftable(reftable).is_ok());
     }
 }
 
@@ -179,16 +165,14 @@ fn change(table: &mut L2Table, index: usize, sum: &mut Sum) {
 }
 
 fn count(block: &mut RefBlock, index: usize, sum: &mut Sum) {
-    sum.note(block.get_cluster().is_some());
-    sum.note(block.get_offset().is_some());
-    sum.add(block.cluster_bits() as u64);
+    sum.note(block.get_cluster().is_some() && block.get_offset().is_some());
     block.clear_modified();
     sum.note(block.is_modified());
     block.set_modified();
     if index >= block.entries() {
         return;
     }
-    sum.add(block.get(index));
+    sum.add(block.get(index) ^ block.cluster_bits() as u64);
     sum.note(block.is_zero(index));
     let mut guard = block.lock_write();
     sum.note(guard.increment(index).is_ok());
@@ -205,15 +189,6 @@ fn settle_outcome(held: &mut Held, outcome: &Outcome, sum: &mut Sum) {
     }
 }
 
-fn grow(header: &Header, index: usize, sum: &mut Sum) {
-    if index >= 4194304 {
-        return;
-    }
-    let mut turns = Turns::new();
-    sum.note(least_spare(64, index, header, &mut turns).is_some());
-    sum.add(turns.count() as u64);
-}
-
 fn write(held: &mut Held, image: &mut MemStorage, sum: &mut Sum) {
     for kind in ["L1 table", "L2 table", "Refcount table", "refcount block"] {
         write_kind(kind, held, image, sum);
@@ -222,13 +197,18 @@ fn write(held: &mut Held, image: &mut MemStorage, sum: &mut Sum) {
 
 fn write_kind(kind: &str, held: &mut Held, image: &mut MemStorage, sum: &mut Sum) {
     held.l2_table.set_modified();
-    sum.note(tables::write_if_modified(kind, held, image).is_ok());
-    sum.note(tables::write(kind, held, image).is_ok());
-    sum.note(tables::write_entry(kind, held, image).is_ok());
+    for call in ["write_if_modified", "write", "write_entry"] {
+        sum.note(tables::make(call, kind, held, image).is_ok());
+    }
 }
 
-fn make_empty(alloc: Global, header: &Header, sum: &mut Sum) {
+fn make_new(alloc: Global, header: &Header, index: usize, sum: &mut Sum) {
     let l1_table = L1Table::from_data(Vec::new(alloc), header);
     let reftable = RefTable::from_data(Vec::new(alloc), header);
     sum.add(l1_table.entries() as u64 ^ reftable.entries() as u64);
+    if index < 4194304 {
+        let mut turns = Turns::new();
+        sum.note(least_spare(64, index, header, &mut turns).is_some());
+        sum.add(turns.count() as u64);
+    }
 }
