@@ -60,7 +60,8 @@ extension_by len place number size content =
     provided ((nat_le (place + 8 + size) len, ExtensionsExceed) ∷ []) (λ _.
     elim (number == 0) [
       | true ↦ Ok None
-      | false ↦ result_map (λ extension. Some (extension, place + 8 + next_multiple_of size 8)) (parsed number content)
+      | false ↦ result_map (λ extension. Some (extension, place + 8 + next_multiple_of size 8))
+          (parsed number content)
     ])
 
 -- the extension at a place is the same

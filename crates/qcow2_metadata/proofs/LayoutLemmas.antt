@@ -118,14 +118,17 @@ too_long inside header with_names lawful same long =
     grind (arith, nat_tests, past, length-header_text (chosen with_names header) known.version)
 
 -- and it has one where the text isn't longer
-pub laid_out : (inside header : HeaderRecord) (layout : Layout) (end place : ℕ) → IsLawfulHeader inside → inside ≡ header
+pub laid_out : (inside header : HeaderRecord) (layout : Layout) (end place : ℕ) → IsLawfulHeader inside
+    → inside ≡ header
     → end ≡ header_end header → place ≡ name_place (chosen layout.with_names header)
     → layout.v2 ≡ v2_with_name header.v2 place header.backing_filename
     → layout.base ≡ base_with_length header.v2.version header.base end
-    → layout.len ≡ place + length (name_text header.backing_filename) → layout.len ≤ 2 ^ header.v2.cluster_bits
+    → layout.len ≡ place + length (name_text header.backing_filename)
+    → layout.len ≤ 2 ^ header.v2.cluster_bits
     → IsLayout (chosen layout.with_names header) layout
 laid_out inside header layout end place lawful same ends begins v2 base len short =
-    let count = length-header_text (chosen layout.with_names header) (subst IsLawfulHeader same lawful).version in
+    let count =
+    length-header_text (chosen layout.with_names header) (subst IsLawfulHeader same lawful).version in
     record {
       v2 = rw begins at v2;
       base = rw ends at base;
@@ -151,21 +154,25 @@ pub text_pieces : (header : HeaderRecord) (first second third fourth : List ℕ)
     → third ≡ second ++ extensions_text header.extensions → fourth ≡ third ++ name_text header.backing_filename
     → fourth ≡ header_text header
 unfolding header_text
-text_pieces header first second third fourth none parts extensions name = rw (name, extensions, parts, none) refl
+text_pieces header first second third fourth none parts extensions name =
+    rw (name, extensions, parts, none) refl
 
 -- a name that is too long is refused
-pub kept_long : (header : HeaderRecord) → 1023 < length (name_text header.backing_filename) → kept header ≡ Err NameTooLong
+pub kept_long : (header : HeaderRecord) → 1023 < length (name_text header.backing_filename)
+    → kept header ≡ Err NameTooLong
 unfolding kept
 kept_long header long = grind (arith, nat_tests)
 
 -- a layout with feature names that was found is the one that is written
-pub whole_chosen : (header : HeaderRecord) (layout : Layout) → length (name_text header.backing_filename) ≤ 1023
+pub whole_chosen : (header : HeaderRecord) (layout : Layout)
+    → length (name_text header.backing_filename) ≤ 1023
     → IsLayout (chosen true header) layout → layout.with_names ≡ true → IsChosen header (Ok layout)
 unfolding kept
 whole_chosen header layout short is names = grind (arith, nat_tests)
 
 -- where there is none, the answer is the layout without feature names, or the fault
-pub bare_chosen : (header : HeaderRecord) (found : Option Layout) → length (name_text header.backing_filename) ≤ 1023
+pub bare_chosen : (header : HeaderRecord) (found : Option Layout)
+    → length (name_text header.backing_filename) ≤ 1023
     → fits_first_cluster (chosen true header) ≡ false
     → MatchOption found (fits_first_cluster (chosen false header) ≡ false) (IsLayout (chosen false header))
     → IfSome found (λ layout. layout.with_names ≡ false) → IsChosen header (ok_or found HeaderTooLong)

@@ -22,11 +22,11 @@ padded-once bytes = grind (arith, nat_tests, length-padded, append-nil)
 -- an extension as it reads back has as much data
 length-normal_data : (extension : Extension)
     → length (data_of (normal_extension extension)) ≡ length (data_of extension)
-length-normal_data x0 = grind (arith, nat_tests, normal_named, name_chunks_len, length-map)
+length-normal_data extension = grind (arith, nat_tests, normal_named, name_chunks_len, length-map)
 
 -- and its number
 number_of-normal : (extension : Extension) → type_number (normal_extension extension) ≡ type_number extension
-number_of-normal x0 = grind (arith, nat_tests)
+number_of-normal extension = grind (arith, nat_tests)
 
 -- its text is as long
 length-normal_text : (extension : Extension)
@@ -56,7 +56,7 @@ pub record KeepsV2 (old new : V2Header) : Type 0 where
   pub refcount_table_offset : new.refcount_table_offset ≡ old.refcount_table_offset
 
 pub v2_with_name-keeps : (v2 : V2Header) (place : ℕ) (name : Option (List ℕ)) → KeepsV2 v2 (v2_with_name v2 place name)
-v2_with_name-keeps v2 place x2 = grind (arith, nat_tests)
+v2_with_name-keeps v2 place name = grind (arith, nat_tests)
 
 -- a header with its places ends where it ends without them
 header_end-placed : (header : HeaderRecord) → header_end (placed header) ≡ header_end header
@@ -106,7 +106,8 @@ placed-normal header =
 -- the same stands before its extensions
 parts_text-normal : (header : HeaderRecord) → parts_text (normal header) ≡ parts_text header
 parts_text-normal header =
-    grind (arith, placed_v2-normal header, placed_base-normal header, padded-once header.unknown_header_fields)
+    let fields = padded-once header.unknown_header_fields in
+    grind (arith, placed_v2-normal header, placed_base-normal header, fields)
 
 -- and its text is as long
 length-normal_header : (header : HeaderRecord)

@@ -46,7 +46,8 @@ known_names-ordered = assumption
 -- names of which each is text
 all_texts : (names : FeatureNames) → list_all (λ named. is_utf8 named.1) names ≡ true → All (λ (named : FeatureKey × List ℕ). IsUtf8 named.1) names
 all_texts names test = λ i named below.
-    IsUtf8-from_is_utf8 _ (AllPass-from_list_all (λ (named : FeatureKey × List ℕ). is_utf8 named.1) names test i named below)
+    IsUtf8-from_is_utf8 _
+    (AllPass-from_list_all (λ (named : FeatureKey × List ℕ). is_utf8 named.1) names test i named below)
 
 -- what features are called in new images can be stored
 pub known_names-storable : IsStorable (FeatureNameTable known_names)

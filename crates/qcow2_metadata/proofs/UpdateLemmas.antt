@@ -22,11 +22,12 @@ use Rattle.qcow2_metadata.specs.Header.Update.{AgreeIn, FieldValue, Number, Byte
 
 -- two names, which may be missing
 name-Decides : (a b : Option (List ℕ)) → Decides (option_eq bytes_eq a b) (a ≡ b)
-name-Decides x0 x1 = grind (arith, nat_tests, bytes_eq-Decides)
+name-Decides a b = grind (arith, nat_tests, bytes_eq-Decides)
 
 -- the test of two values says whether they are the same
 pub same_value-Decides : (a b : FieldValue) → Decides (same_value a b) (a ≡ b)
-same_value-Decides x0 x1 = grind (arith, nat_tests, bytes_eq-Decides, name-Decides, slice_eq-Decides, same_extension-Decides)
+same_value-Decides a b =
+    grind (arith, nat_tests, bytes_eq-Decides, name-Decides, slice_eq-Decides, same_extension-Decides)
 
 -- the conditions that the headers agree in these fields
 abbrev agreements_in : HeaderRecord → HeaderRecord → List Field → List (Bool × Fault)
@@ -107,7 +108,8 @@ numbers a b same = cc
 pub with_size_and_tables-agreed : (here there : HeaderRecord) → All (AgreeIn here there) kept_fields
     → with_size_and_tables here there ≡ with_header_length there here.base.header_length
 with_size_and_tables-agreed here there agree =
-    let bytes : here.unknown_header_fields ≡ there.unknown_header_fields = cc (agree 12 field.Magic (lit< tt)) in
+    let bytes : here.unknown_header_fields ≡ there.unknown_header_fields =
+    cc (agree 12 field.Magic (lit< tt)) in
     let name : here.backing_filename ≡ there.backing_filename = cc (agree 13 field.Magic (lit< tt)) in
     let list : here.extensions ≡ there.extensions = cc (agree 14 field.Magic (lit< tt)) in
     λ i. record {
@@ -143,5 +145,6 @@ pub with_size_and_tables-lawful : (here there : HeaderRecord) → IsLawfulHeader
     → here.v2.cluster_bits ≡ there.v2.cluster_bits → IsLawfulHeader (with_size_and_tables here there)
 with_size_and_tables-lawful here there lawful other bits =
     let l1_table : there.v2.l1_table_offset % 2 ^ here.v2.cluster_bits ≡ 0 = rw bits other.l1_table_aligned in
-    let reftable : there.v2.refcount_table_offset % 2 ^ here.v2.cluster_bits ≡ 0 = rw bits other.reftable_aligned in
+    let reftable : there.v2.refcount_table_offset % 2 ^ here.v2.cluster_bits ≡ 0 =
+    rw bits other.reftable_aligned in
     assumption

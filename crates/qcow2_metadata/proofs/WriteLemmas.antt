@@ -26,7 +26,7 @@ use Rattle.qcow2_metadata.specs.declared.header.extensions.HeaderExtensionType.T
 -- a table of feature names says no name
 no_name : (type : HeaderExtensionType) (extension : Extension) → is_other extension ≡ false
     → name_in type extension ≡ None
-no_name type x1 is = grind (arith, nat_tests)
+no_name type extension is = grind (arith, nat_tests)
 
 -- without such tables the names are the same
 filter-names_by : (type : HeaderExtensionType) (extensions : List Extension)
@@ -48,8 +48,9 @@ chosen-storable true extensions storable = storable
 chosen-storable false extensions storable = All-filter is_other IsStorable extensions storable
 
 -- a length changes nothing else that the second part says
-base_with_length-keeps : (version : ℕ) (base : V3HeaderBase) (len : ℕ) → let new = base_with_length version base len in
-    (new.refcount_order ≡ base.refcount_order) × (other_features new ≡ other_features base)
+base_with_length-keeps : (version : ℕ) (base : V3HeaderBase) (len : ℕ)
+    → ((base_with_length version base len).refcount_order ≡ base.refcount_order)
+    × (other_features (base_with_length version base len) ≡ other_features base)
 base_with_length-keeps version base len = (grind (arith, nat_tests), grind (arith, nat_tests))
 
 -- the second part stays in version 2
@@ -59,7 +60,7 @@ older-base version base len two = rw two refl
 -- of no extensions none are written
 chosen-nil : (with_names : Bool) (extensions : List Extension) → extensions ≡ []
     → chosen_extensions with_names extensions ≡ []
-chosen-nil x0 extensions none = grind (arith, nat_tests)
+chosen-nil with_names extensions none = grind (arith, nat_tests)
 
 -- the header that is written is lawful
 pub placed-lawful : (with_names : Bool) (header : HeaderRecord) → IsLawfulHeader header
@@ -97,7 +98,7 @@ kept-extensions (extension ∷ held) = grind (arith, nat_tests, kept-extensions 
 
 -- what isn't so
 pub not_true : (test : Bool) → not test ≡ true → test ≡ false
-not_true x0 is = grind (arith, nat_tests)
+not_true test is = grind (arith, nat_tests)
 
 -- why a header isn't written
 pub kept-fault : (header : HeaderRecord) (fault : Fault) → kept header ≡ Err fault
