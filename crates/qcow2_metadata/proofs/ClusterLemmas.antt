@@ -1,17 +1,17 @@
-use Rattle.std.proofs.Common.{◌≡◌, ℕ, zero, suc, ◌+◌, ◌-◌, ◌^◌, ◌<◌, ◌≤◌, ◌==◌, nat_le, true, false, List, [], ◌∷◌, map, Option, Some, None, Result, Ok, Err, refl, sym, ap, ◌∙◌, inl, inr, arith}
+use Rattle.std.proofs.Common.{◌≡◌, ℕ, zero, suc, ◌+◌, ◌^◌, ◌<◌, ◌≤◌, ◌==◌, nat_le, true, false, List, [], ◌∷◌, map, Option, Some, None, Result, Ok, Err, refl, ap, ◌∙◌, inl, inr, arith}
 use Rattle.std.specs.Int.{next_multiple_of}
 use Rattle.std.specs.List.{range_with_len}
-use Rattle.std.proofs.lemmas.Bool.{cases_Bool, cases_lt}
+use Rattle.std.proofs.lemmas.Bool.{cases_Bool}
 use Rattle.std.proofs.lemmas.Bool.Decides.{nat_tests}
 use Rattle.qcow2_base.specs.Storage.{Image, be, be_of_same}
 use Rattle.qcow2_base.specs.declared.fault.Fault.{Fault}
 use Rattle.qcow2_base.specs.declared.fault.Fault.TheVariants.{ExtensionsExceed}
 use Rattle.qcow2_base.specs.declared.on_disk_struct.v2_header.V2Header.{V2Header}
 use Rattle.qcow2_base.specs.declared.on_disk_struct.v3_header_base.V3HeaderBase.{V3HeaderBase}
-use Rattle.qcow2_metadata.specs.Results.{and_then, provided, result_map}
-use Rattle.qcow2_metadata.specs.Header.Chain.{data_end, extension_at, extensions_at, few_extensions, link_at}
+use Rattle.qcow2_metadata.specs.Results.{provided, result_map}
+use Rattle.qcow2_metadata.specs.Header.Chain.{extension_at, extensions_at, few_extensions}
 use Rattle.qcow2_metadata.specs.Header.Extensions.{Extension, parsed}
-use Rattle.qcow2_metadata.specs.Header.Grammar.{SameFirstCluster, backing_name, base_at, fixed_parts, header_extensions, header_of, last_conditions, v2_at}
+use Rattle.qcow2_metadata.specs.Header.Grammar.{SameFirstCluster, backing_name, base_at, fixed_parts, header_extensions, header_of, v2_at}
 use Rattle.qcow2_metadata.specs.Range.{bytes_at}
 use Rattle.qcow2_metadata.proofs.ChainLemmas.{extension_at-past}
 use Rattle.qcow2_metadata.proofs.GrammarLemmas.{after_parts, fixed_parts-are, parts_by}

@@ -1,21 +1,20 @@
-use Rattle.std.proofs.Common.{◌≡◌, ℕ, ◌+◌, ◌-◌, ◌%◌, ◌^◌, ◌<◌, ◌≤◌, Bool, true, false, List, [], ◌∷◌, ◌++◌, length, get_or, map, take, replicate, refl, ap, sym, inl, inr, subst, ◌∙◌, append_assoc, append-nil, length-append, take_all, arith, min}
+use Rattle.std.proofs.Common.{◌≡◌, ℕ, ◌+◌, ◌-◌, ◌%◌, ◌^◌, ◌<◌, ◌≤◌, Bool, true, false, List, [], ◌∷◌, ◌++◌, length, get_or, map, take, replicate, refl, ap, sym, subst, ◌∙◌, append_assoc, append-nil, length-append, take_all, arith, min}
 use Rattle.std.specs.BTreeMap.{BTreeMap}
 use Rattle.std.specs.Global.{Global}
 use Rattle.std.specs.Int.{next_multiple_of}
-use Rattle.std.specs.List.{filter, flat_map}
-use Rattle.std.specs.Prelude.{Err, IfSome, MatchOption, None, Ok, Option, Some, String, nat_le, ok_or, string_bytes}
+use Rattle.std.specs.List.{flat_map}
+use Rattle.std.specs.Prelude.{Err, IfSome, MatchOption, None, Ok, Option, Some, String, ok_or, string_bytes}
 use Rattle.std.proofs.lemmas.List.{length-map, take_min}
 use Rattle.std.proofs.lemmas.List.Folds.{flat_map-map, length-flat_map-take}
 use Rattle.std.proofs.Math.Pow.{pow_mono}
-use Rattle.std.proofs.lemmas.Bool.{cases_Bool}
 use Rattle.std.proofs.lemmas.Bool.Decides.{nat_tests}
 use Rattle.qcow2_metadata.proofs.TextLemmas.{IsKnown, length-header_text, newer-parts}
 use Rattle.qcow2_base.specs.declared.fault.Fault.TheVariants.{HeaderTooLong, NameTooLong}
 use Rattle.qcow2_metadata.specs.Header.{HeaderRecord, IsLawfulHeader}
-use Rattle.qcow2_metadata.specs.Header.Extensions.{Extension, FeatureKey, FeatureNameTable, FeatureNames, data_of, extension_of, name_chunk, names_of}
+use Rattle.qcow2_metadata.specs.Header.Extensions.{Extension, FeatureKey, FeatureNameTable, FeatureNames, extension_of, name_chunk, names_of}
 use Rattle.qcow2_base.specs.OnDiskStruct.{header_extension_header, v2_header, v3_header_base}
 use Rattle.qcow2_metadata.specs.Header.Features.{feature_type_number}
-use Rattle.qcow2_metadata.specs.Header.Text.{IsChosen, IsLayout, bare, base_with_length, header_end, v2_with_name, is_short, kept, placed, chosen, chosen_extensions, header_text, extension_header_of, extension_text, extensions_text, fields_text, is_other, fits_first_cluster, name_place, name_text, padded, parts_text, placed_base, written_text}
+use Rattle.qcow2_metadata.specs.Header.Text.{IsChosen, IsLayout, base_with_length, header_end, v2_with_name, kept, placed, chosen, chosen_extensions, header_text, extension_header_of, extension_text, extensions_text, fields_text, fits_first_cluster, name_place, name_text, padded, parts_text, written_text}
 use Rattle.qcow2_metadata.specs.declared.header.text.Layout.{Layout}
 use Rattle.qcow2_metadata.specs.declared.header.extensions.HeaderExtension.{HeaderExtension}
 use Rattle.qcow2_metadata.proofs.NamesLemmas.{name_chunks_len}

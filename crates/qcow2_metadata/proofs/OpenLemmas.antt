@@ -1,4 +1,4 @@
-use Rattle.std.proofs.Common.{◌≡◌, ◌⊎◌, Bool, true, ap, ◌∙◌, inl, inr, arith}
+use Rattle.std.proofs.Common.{◌≡◌, ◌⊎◌, Bool, true, ap, ◌∙◌, arith}
 use Rattle.std.proofs.lemmas.Bool.Decides.{nat_tests}
 use Rattle.std.specs.Prelude.{Err, IfErr, Ok, Result}
 use Rattle.qcow2_base.specs.Storage.{Image}
@@ -7,7 +7,7 @@ use Rattle.qcow2_base.specs.declared.fault.Fault.TheVariants.{HeaderTooLong, NoM
 use Rattle.qcow2_metadata.specs.Results.{Answers, RefusesFirst}
 use Rattle.qcow2_metadata.specs.Header.{HeaderRecord}
 use Rattle.qcow2_metadata.specs.Header.Grammar.{SameFirstCluster, header_of}
-use Rattle.qcow2_metadata.specs.Header.Open.{IsOpenFault, opened, without_autoclear}
+use Rattle.qcow2_metadata.specs.Header.Open.{IsOpenFault, opened}
 use Rattle.qcow2_metadata.specs.Header.Text.{is_short, kept}
 use Rattle.qcow2_metadata.proofs.ClusterLemmas.{header_of-same}
 

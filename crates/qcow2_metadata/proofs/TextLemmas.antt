@@ -1,11 +1,11 @@
-use Rattle.std.proofs.Common.{◌≡◌, zero-add, ℕ, zero, suc, ◌+◌, ◌-◌, ◌^◌, ◌/◌, ◌<◌, ◌≤◌, List, [], ◌∷◌, ◌++◌, length, All, ◌⊎◌, ◌==◌, nat_le, IfSome, Option, Some, None, true, false, Result, Ok, refl, sym, ap, ◌∙◌, subst, inl, inr, append-nil, append_assoc, length-append, map, replicate, arith}
+use Rattle.std.proofs.Common.{◌≡◌, zero-add, ℕ, zero, suc, ◌+◌, ◌-◌, ◌^◌, ◌/◌, ◌<◌, ◌≤◌, List, [], ◌∷◌, ◌++◌, length, All, ◌⊎◌, IfSome, Option, true, Result, Ok, refl, sym, ap, ◌∙◌, subst, inl, inr, append-nil, append_assoc, length-append, map, replicate, arith}
 use Rattle.std.specs.Int.{bytes_high_first, next_multiple_of}
 use Rattle.std.specs.Str.{IsUtf8}
 use Rattle.std.proofs.Math.Nat.{mod-lt}
 use Rattle.std.proofs.Math.Pow.{pow_mono}
 use Rattle.std.specs.List.{flat_map}
 use Rattle.std.specs.Prelude.{OnOk}
-use Rattle.std.proofs.lemmas.Bool.{cases_Bool, cases_lt}
+use Rattle.std.proofs.lemmas.Bool.{cases_lt}
 use Rattle.std.proofs.lemmas.Bool.Decides.{nat_tests}
 use Rattle.std.proofs.lemmas.List.{get_or-append_right, get_or-append-add, get_or_append_left, ext_get_or, length-replicate}
 use Rattle.std.proofs.lemmas.List.Elements.{All-cons, All-head, All-nil, All-tail}
@@ -16,9 +16,9 @@ use Rattle.qcow2_base.specs.declared.on_disk_struct.v3_header_base.V3HeaderBase.
 use Rattle.qcow2_base.proofs.OnDiskStructLemmas.{be_of_bytes}
 use Rattle.qcow2_metadata.specs.Header.{HeaderRecord, IsLawfulHeader, names_by}
 use Rattle.qcow2_metadata.specs.Header.Chain.{IsEnd, SaysExtensions, link_at}
-use Rattle.qcow2_metadata.specs.Header.Extensions.{Extension, FeatureNameTable, TextOf, Unknown, data_of, name_in, normal_extension, type_number}
+use Rattle.qcow2_metadata.specs.Header.Extensions.{Extension, data_of, name_in, normal_extension}
 use Rattle.qcow2_metadata.specs.Header.Grammar.{AreSame, HasExtensions, IsBackingName, IsBase, IsHeader}
-use Rattle.qcow2_metadata.specs.Header.Text.{AreFitting, bare, extension_header_of, extension_text, extensions_text, fields_text, fits_first_cluster, header_end, header_text, is_short, name_place, name_text, kept, normal, padded, parts_text, placed, placed_base, placed_v2}
+use Rattle.qcow2_metadata.specs.Header.Text.{AreFitting, extension_header_of, extension_text, extensions_text, fields_text, header_end, header_text, is_short, name_place, name_text, kept, normal, padded, parts_text, placed, placed_base, placed_v2}
 use Rattle.qcow2_metadata.specs.Range.{bytes_at}
 use Rattle.qcow2_metadata.specs.declared.header.extensions.HeaderExtensionType.{HeaderExtensionType}
 use Rattle.qcow2_metadata.specs.declared.header.extensions.HeaderExtensionType.TheVariants as kind

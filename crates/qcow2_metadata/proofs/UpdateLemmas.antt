@@ -4,11 +4,10 @@ use Rattle.std.proofs.Math.Seq.{drop-cons}
 use Rattle.std.proofs.lemmas.List.{take-append-drop, take_all}
 use Rattle.std.proofs.lemmas.List.Elements.{All-more}
 use Rattle.std.specs.Bool.{Decides}
-use Rattle.std.specs.Cmp.{booleans_Decides}
 use Rattle.std.specs.List.{All}
 use Rattle.std.specs.Option.{option_eq}
 use Rattle.std.specs.Str.{bytes_eq}
-use Rattle.std.proofs.lemmas.Bool.Decides.{Decides-eqb, Decides-like, not_from_Decides}
+use Rattle.std.proofs.lemmas.Bool.Decides.{not_from_Decides}
 use Rattle.std.proofs.lemmas.Slice.Eq.{bytes_eq-Decides, slice_eq-Decides}
 use Rattle.qcow2_base.specs.declared.fault.Fault.{Fault}
 use Rattle.qcow2_base.specs.declared.fault.Fault.TheVariants.{FieldChanged}
@@ -17,8 +16,7 @@ use Rattle.qcow2_base.specs.declared.fault.Field.TheVariants as field
 use Rattle.qcow2_metadata.proofs.ExtensionsLemmas.{same_extension-Decides}
 use Rattle.qcow2_metadata.specs.Results.{first_failed, provided}
 use Rattle.qcow2_metadata.specs.Header.{HeaderRecord, IsLawfulHeader}
-use Rattle.qcow2_metadata.specs.Header.Extensions.{Extension}
-use Rattle.qcow2_metadata.specs.Header.Update.{AgreeIn, FieldValue, Number, Bytes, Name, Extensions, Flag, IsFirstChange, agreements, kept_fields, same_value, value_in, with_header_length, with_size_and_tables}
+use Rattle.qcow2_metadata.specs.Header.Update.{AgreeIn, FieldValue, Number, IsFirstChange, agreements, kept_fields, same_value, value_in, with_header_length, with_size_and_tables}
 
 -- two names, which may be missing
 name-Decides : (a b : Option (List ℕ)) → Decides (option_eq bytes_eq a b) (a ≡ b)

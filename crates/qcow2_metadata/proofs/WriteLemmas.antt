@@ -1,7 +1,6 @@
-use Rattle.std.proofs.Common.{◌≡◌, ◌⊎◌, ℕ, ◌^◌, ◌<◌, ◌≤◌, Bool, true, false, not, List, [], ◌∷◌, map, refl, ap, sym, subst, ◌∙◌, arith, inl, inr, lit<, Some, None}
+use Rattle.std.proofs.Common.{◌≡◌, ◌⊎◌, ℕ, ◌^◌, ◌<◌, ◌≤◌, Bool, true, false, not, List, [], ◌∷◌, map, refl, ap, sym, subst, ◌∙◌, arith, lit<, Some, None}
 use Rattle.std.specs.Prelude.{All, Err, Ok, length}
 use Rattle.std.specs.List.{filter}
-use Rattle.std.proofs.lemmas.Bool.{cases_Bool}
 use Rattle.std.proofs.lemmas.Bool.Decides.{nat_tests}
 use Rattle.std.proofs.lemmas.List.Elements.{All-filter, All-from_recursion, All-weaker}
 use Rattle.std.proofs.Math.Pow.{pow_mono}
@@ -12,7 +11,7 @@ use Rattle.qcow2_base.specs.declared.fault.Fault.TheVariants.{HeaderTooLong, Nam
 use Rattle.qcow2_base.specs.declared.on_disk_struct.v2_header.V2Header.{V2Header}
 use Rattle.qcow2_base.specs.declared.on_disk_struct.v3_header_base.V3HeaderBase.{V3HeaderBase}
 use Rattle.qcow2_metadata.specs.Header.{HeaderRecord, IsLawfulHeader, default_base, names_by, other_features}
-use Rattle.qcow2_metadata.specs.Header.Extensions.{Extension, FeatureNameTable, IsStorable, TextOf, Unknown, extension_of, name_in}
+use Rattle.qcow2_metadata.specs.Header.Extensions.{Extension, IsStorable, extension_of, name_in}
 use Rattle.qcow2_metadata.specs.Header.Text.{AreFitting, IsLayout, IsWrittenHeader, base_with_length, chosen, chosen_extensions, chosen_text, fits_first_cluster, header_end, header_text, kept, placed_text, is_other, name_place, placed}
 use Rattle.qcow2_metadata.specs.declared.header.text.Layout.{Layout}
 use Rattle.qcow2_metadata.proofs.ExtensionsLemmas.{ReadsBack}

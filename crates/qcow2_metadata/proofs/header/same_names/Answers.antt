@@ -1,6 +1,4 @@
-use Rattle.std.proofs.Common.{arith}
-use Rattle.std.proofs.Common.{rules, ◌∙◌, sym, string_bytes}
-use Rattle.qcow2_metadata.specs.Header.Extensions.{name_in}
+use Rattle.std.proofs.Common.{rules}
 use Rattle.qcow2_metadata.proofs.HeaderLemmas.{differs_at, is_first_name, is_other_name, same_with_first, same_with_no_name}
 use Rattle.qcow2_metadata.proofs.header.same_names.Goals as goal
 use Rattle.qcow2_metadata.proofs.header.same_names.Goals.{in-Some+else-ne, in_default}

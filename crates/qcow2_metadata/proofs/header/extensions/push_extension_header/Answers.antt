@@ -1,4 +1,3 @@
-use Rattle.std.proofs.Common.{arith}
 use Rattle.std.proofs.Common.{rules}
 use Rattle.qcow2_base.specs.OnDiskStruct.{header_extension_header}
 use Rattle.qcow2_metadata.proofs.TextLemmas.{pushed-fields}

@@ -4,7 +4,7 @@ use Rattle.std.specs.Int.{div_ceil}
 use Rattle.qcow2_base.specs.Storage.{Holds}
 use Rattle.qcow2_metadata.proofs.FeatureNamesLemmas.{names_of_chunks-fault, names_of_chunks-more}
 use Rattle.qcow2_metadata.proofs.RangeLemmas.{chunk_at-held, length-bytes_at}
-use Rattle.qcow2_metadata.specs.Header.Extensions.{names_of, names_of_chunks, with_feature_name}
+use Rattle.qcow2_metadata.specs.Header.Extensions.{names_of, with_feature_name}
 use Rattle.qcow2_metadata.specs.Range.{bytes_at}
 use Rattle.qcow2_metadata.proofs.StorableLemmas.{ordered-storable}
 use Rattle.qcow2_metadata.proofs.header.feature_names.read_feature_names.Goals as goal

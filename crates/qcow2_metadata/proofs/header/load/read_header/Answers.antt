@@ -1,4 +1,3 @@
-use Rattle.std.proofs.Common.{arith}
 use Rattle.qcow2_metadata.specs.Header.Grammar.{fixed_parts, header_of}
 use Rattle.qcow2_metadata.proofs.LoadLemmas.{header-parts-fault, passed_on}
 use Rattle.qcow2_metadata.proofs.header.load.read_header.Goals as goal

@@ -1,9 +1,8 @@
 use Rattle.std.proofs.Common.{rules}
-use Rattle.std.proofs.Common.{◌≡◌, ◌^◌, ◌≤◌, Ok, inr, arith, length, map, option_map, string_bytes, sym, ap, ◌∙◌}
+use Rattle.std.proofs.Common.{Ok, inr, arith, map, option_map, string_bytes, ◌∙◌}
 use Rattle.std.proofs.lemmas.Result.{err_from_is_err_and}
 use Rattle.std.proofs.lemmas.List.{nil_from_length}
 use Rattle.std.proofs.Math.Pow.{pow_mono}
-use Rattle.qcow2_base.specs.declared.on_disk_struct.v3_header_base.V3HeaderBase.{V3HeaderBase}
 use Rattle.qcow2_metadata.proofs.GrammarLemmas.{header_from, last-hold}
 use Rattle.qcow2_metadata.proofs.LoadLemmas.{header-extensions-fault, header-last, header-name-fault, passed_on, provided-fault, provided-next}
 use Rattle.qcow2_metadata.proofs.StorableLemmas.{name-text}
