@@ -126,11 +126,6 @@ pub extensions_at-fault : (image : Image) (len place : ℕ) (fault : Fault) → 
     → extensions_at image len place ≡ Err fault
 extensions_at-fault image len place fault is = extensions_at-unfold image len place ∙ rw is refl
 
--- the extensions of version 3 are those from the header's end on
-pub header_extensions-newer : (image : Image) (v2 : V2Header) (base : V3HeaderBase) → v2.version ≡ 3
-    → header_extensions image v2 base ≡ extensions_at image (2 ^ v2.cluster_bits) base.header_length
-header_extensions-newer image v2 base newer = grind (arith, nat_tests)
-
 -- an answer that is the function's follows the grammar
 pub follows-grammar : (answer : Result HeaderRecord Fault) (image : Image) → Answers (λ header. header) answer (header_of image)
     → FollowsGrammar answer image

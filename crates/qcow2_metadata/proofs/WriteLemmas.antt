@@ -1,9 +1,8 @@
-use Rattle.std.proofs.Common.{◌≡◌, ◌⊎◌, ℕ, ◌^◌, ◌<◌, ◌≤◌, Bool, true, false, not, List, [], ◌∷◌, map, refl, ap, sym, subst, ◌∙◌, arith, lit<, Some, None}
-use Rattle.std.specs.Prelude.{All, Err, Ok, length}
+use Rattle.std.proofs.Common.{◌≡◌, ◌⊎◌, ℕ, ◌^◌, ◌<◌, Bool, true, false, not, List, [], ◌∷◌, map, refl, ap, sym, subst, ◌∙◌, arith, lit<, Some, None}
+use Rattle.std.specs.Prelude.{All, Err, Ok}
 use Rattle.std.specs.List.{filter}
 use Rattle.std.proofs.lemmas.Bool.Decides.{nat_tests}
 use Rattle.std.proofs.lemmas.List.Elements.{All-filter, All-from_recursion, All-weaker}
-use Rattle.std.proofs.Math.Pow.{pow_mono}
 use Rattle.qcow2_base.specs.OnDiskStruct.{LayoutField, v2_header, v3_header_base}
 use Rattle.qcow2_base.specs.Storage.{Holds, Image, OnlyWrites, StorageState}
 use Rattle.qcow2_base.specs.declared.fault.Fault.{Fault}
@@ -12,7 +11,7 @@ use Rattle.qcow2_base.specs.declared.on_disk_struct.v2_header.V2Header.{V2Header
 use Rattle.qcow2_base.specs.declared.on_disk_struct.v3_header_base.V3HeaderBase.{V3HeaderBase}
 use Rattle.qcow2_metadata.specs.Header.{HeaderRecord, IsLawfulHeader, default_base, names_by, other_features}
 use Rattle.qcow2_metadata.specs.Header.Extensions.{Extension, IsStorable, extension_of, name_in}
-use Rattle.qcow2_metadata.specs.Header.Text.{AreFitting, IsLayout, IsWrittenHeader, base_with_length, chosen, chosen_extensions, chosen_text, fits_first_cluster, header_end, header_text, kept, placed_text, is_other, name_place, placed}
+use Rattle.qcow2_metadata.specs.Header.Text.{AreFitting, IsLayout, IsWrittenHeader, base_with_length, chosen, chosen_extensions, chosen_text, header_end, header_text, kept, placed_text, is_other, name_place, placed}
 use Rattle.qcow2_metadata.specs.declared.header.text.Layout.{Layout}
 use Rattle.qcow2_metadata.proofs.ExtensionsLemmas.{ReadsBack}
 use Rattle.qcow2_metadata.proofs.NamesLemmas.{storable-reads_back}
@@ -104,11 +103,6 @@ pub kept-fault : (header : HeaderRecord) (fault : Fault) → kept header ≡ Err
     → (fault ≡ NameTooLong) ⊎ (fault ≡ HeaderTooLong)
 unfolding kept
 kept-fault header fault is = grind arith
-
--- a text that fits is short
-pub text-short : (header : HeaderRecord) → header.v2.cluster_bits ≤ 21 → fits_first_cluster header ≡ true
-    → length (header_text header) ≤ 2 ^ 21
-text-short header bits inside = grind (arith, nat_tests, pow_mono)
 
 -- the text that a write places
 pub chosen_text-placed : (header written : HeaderRecord) → kept header ≡ Ok (placed written)
