@@ -23,7 +23,8 @@ pub record IsFirst (image : Image) (len place : ℕ) (extension : Extension) (ne
 -- what stands at a place, by what is found there
 extension_at-end : (image : Image) (len place : ℕ) → extension_at image len place ≡ Ok None
     → IsEnd len (link_at image place)
-extension_at-end image len place is = record { bounded = grind (arith, nat_tests); end = grind (arith, nat_tests) }
+extension_at-end image len place is =
+    record { bounded = grind (arith, nat_tests); end = grind (arith, nat_tests) }
 
 extension_at-some : (image : Image) (len place : ℕ) (extension : Extension) (next : ℕ)
     → extension_at image len place ≡ Ok (Some (extension, next)) → IsFirst image len place extension next
@@ -84,9 +85,10 @@ unfolding extensions_at
 extensions_at-unfold image len place =
     few_extensions-same (suc len) (suc (suc len)) image len place (omega arith) (omega arith)
 
--- what an answer says of the extensions from a place on: those of a complete chain, or the fault of a broken one
+-- what an answer says of the extensions from a place on: a complete chain's, or the fault of a broken one
 abbrev pub Follows : Image → ℕ → ℕ → Result (List Extension) Fault → Type 0
-Follows image len place answer = MatchResult answer (SaysExtensions image len place) (BreaksWith image len place)
+Follows image len place answer =
+    MatchResult answer (SaysExtensions image len place) (BreaksWith image len place)
 
 -- what a chain says that ends right away
 pub says_none : (image : Image) (len place : ℕ) → IsEnd len (link_at image place)
@@ -108,7 +110,8 @@ chain_more image len place next extension links last first rest =
     (refl, first.bounded, first.more, rw first.says refl, rw first.next_is at rest)
 
 -- what is said from a place on, by the first extension and what is said after it
-pub follows_more : (image : Image) (len place next : ℕ) (extension : Extension) (others : Result (List Extension) Fault)
+pub follows_more : (image : Image) (len place next : ℕ) (extension : Extension)
+    (others : Result (List Extension) Fault)
     → IsFirst image len place extension next → Follows image len next others
     → Follows image len place (result_map (λ xs. extension ∷ xs) others)
 follows_more image len place next extension (Ok others) first rest = record {
@@ -131,7 +134,8 @@ few_extensions-follow : (most : ℕ) (image : Image) (len place : ℕ) → len <
 few_extensions-follow zero image len place enough =
     breaks_here image len place ExtensionsExceed (inl (omega arith, refl))
 few_extensions-follow (suc most) image len place enough =
-    by_found (extension_at image len place) refl (λ next on. few_extensions-follow most image len next (omega arith))
+    by_found (extension_at image len place) refl
+    (λ next on. few_extensions-follow most image len next (omega arith))
   where
     by_found : (found : Result (Option (Extension × ℕ)) Fault) → extension_at image len place ≡ found
         → ((next : ℕ) → place + 8 ≤ next → Follows image len next (few_extensions most image len next))
@@ -141,9 +145,10 @@ few_extensions-follow (suc most) image len place enough =
         let first = extension_at-some image len place extension next is in
         follows_more image len place next extension (few_extensions most image len next) first
         (later next (omega (arith, first.next_is)))
-    by_found (Err fault) is later = breaks_here image len place fault (extension_at-broken image len place fault is)
+    by_found (Err fault) is later =
+        breaks_here image len place fault (extension_at-broken image len place fault is)
 
--- the extensions that are found from a place on are those that the chain says, and a fault is that of the broken chain
+-- what is found from a place on is what the chain says, or its fault
 pub extensions_at-follow : (image : Image) (len place : ℕ) (answer : Result (List Extension) Fault)
     → extensions_at image len place ≡ answer → Follows image len place answer
 unfolding extensions_at
@@ -151,9 +156,11 @@ extensions_at-follow image len place answer is =
     rw is at (few_extensions-follow (suc len) image len place (omega arith))
 
 -- what is found where a chain has more than one extension
-chain_first : (image : Image) (len place : ℕ) (link : Link) (links : List Link) (last : Link) (extension : Extension)
+chain_first : (image : Image) (len place : ℕ) (link : Link) (links : List Link) (last : Link)
+    (extension : Extension)
     → IsChain image len place (link ∷ links) last → said image link ≡ Ok extension
-    → extensions_at image len place ≡ result_map (λ others. extension ∷ others) (extensions_at image len (next_place link))
+    → extensions_at image len place ≡ result_map (λ others. extension ∷ others)
+    (extensions_at image len (next_place link))
 chain_first image len place link links last extension chain says =
     let first : IsFirst image len place extension (next_place link) = record {
       bounded = grind (arith, chain.0, chain.1);
@@ -161,7 +168,8 @@ chain_first image len place link links last extension chain says =
       says = grind (arith, chain.0, says);
       next_is = ap next_place chain.0;
     } in
-    extensions_at-unfold image len place ∙ rw (some-extension_at image len place extension (next_place link) first) refl
+    extensions_at-unfold image len place
+    ∙ rw (some-extension_at image len place extension (next_place link) first) refl
 
 -- the extensions of a complete chain are found
 chain-says : (image : Image) (len place : ℕ) (links : List Link) (last : Link) (extensions : List Extension)
@@ -180,9 +188,11 @@ chain-breaks : (image : Image) (len place : ℕ) (links : List Link) (last : Lin
     → IsChain image len place links last → IsBroken image len last fault
     → extensions_at image len place ≡ Err fault
 chain-breaks image len place [] last fault chain broken =
-    extensions_at-unfold image len place ∙ rw (broken-extension_at image len place fault (rw chain at broken)) refl
+    extensions_at-unfold image len place
+    ∙ rw (broken-extension_at image len place fault (rw chain at broken)) refl
 chain-breaks image len place (link ∷ links) last fault chain broken =
-    by_said (said image link) refl chain.3 (chain-breaks image len (next_place link) links last fault chain.4 broken)
+    by_said (said image link) refl chain.3
+    (chain-breaks image len (next_place link) links last fault chain.4 broken)
   where
     by_said : (answer : Result Extension Fault) → said image link ≡ answer → IsOk answer
         → extensions_at image len (next_place link) ≡ Err fault → extensions_at image len place ≡ Err fault

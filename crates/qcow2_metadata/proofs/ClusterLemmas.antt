@@ -1,17 +1,13 @@
-use Rattle.std.proofs.Common.{◌≡◌, ℕ, zero, suc, ◌+◌, ◌-◌, ◌^◌, ◌<◌, ◌≤◌, ◌==◌, nat_le, true, false, List, [], ◌∷◌, map, Option, Some, None, Result, Ok, Err, refl, sym, ap, ◌∙◌, inl, inr, arith}
-use Rattle.std.specs.Int.{next_multiple_of}
+use Rattle.std.proofs.Common.{◌≡◌, ℕ, zero, suc, ◌+◌, ◌^◌, ◌<◌, ◌≤◌, ◌==◌, ◌∷◌, map, Result, Ok, Err, refl, ap, ◌∙◌, inl, inr, arith}
 use Rattle.std.specs.List.{range_with_len}
-use Rattle.std.proofs.lemmas.Bool.{cases_Bool, cases_lt}
+use Rattle.std.proofs.lemmas.Bool.{cases_Bool}
 use Rattle.std.proofs.lemmas.Bool.Decides.{nat_tests}
 use Rattle.qcow2_base.specs.Storage.{Image, be, be_of_same}
 use Rattle.qcow2_base.specs.declared.fault.Fault.{Fault}
-use Rattle.qcow2_base.specs.declared.fault.Fault.TheVariants.{ExtensionsExceed}
 use Rattle.qcow2_base.specs.declared.on_disk_struct.v2_header.V2Header.{V2Header}
 use Rattle.qcow2_base.specs.declared.on_disk_struct.v3_header_base.V3HeaderBase.{V3HeaderBase}
-use Rattle.qcow2_metadata.specs.Results.{and_then, provided, result_map}
-use Rattle.qcow2_metadata.specs.Header.Chain.{data_end, extension_at, extensions_at, few_extensions, link_at}
-use Rattle.qcow2_metadata.specs.Header.Extensions.{Extension, parsed}
-use Rattle.qcow2_metadata.specs.Header.Grammar.{SameFirstCluster, backing_name, base_at, fixed_parts, header_extensions, header_of, last_conditions, v2_at}
+use Rattle.qcow2_metadata.specs.Header.Chain.{extension_at, extensions_at, few_extensions}
+use Rattle.qcow2_metadata.specs.Header.Grammar.{SameFirstCluster, backing_name, base_at, fixed_parts, header_extensions, header_of, v2_at}
 use Rattle.qcow2_metadata.specs.Range.{bytes_at}
 use Rattle.qcow2_metadata.proofs.ChainLemmas.{extension_at-past}
 use Rattle.qcow2_metadata.proofs.GrammarLemmas.{after_parts, fixed_parts-are, parts_by}
@@ -53,15 +49,6 @@ base_at-same end image other same enough version = grind (arith, nat_tests, be-s
 backing_name-same : (image other : Image) (v2 : V2Header) → AgreeWithin (2 ^ v2.cluster_bits) image other
     → backing_name other v2 ≡ backing_name image v2
 backing_name-same image other v2 same = grind (arith, nat_tests, bytes_at-same)
-
--- what comes of an extension's number, its size and its data
-abbrev extension_by : ℕ → ℕ → ℕ → ℕ → List ℕ → Result (Option (Extension × ℕ)) Fault
-extension_by len place number size content =
-    provided ((nat_le (place + 8 + size) len, ExtensionsExceed) ∷ []) (λ _.
-    elim (number == 0) [
-      | true ↦ Ok None
-      | false ↦ result_map (λ extension. Some (extension, place + 8 + next_multiple_of size 8)) (parsed number content)
-    ])
 
 -- the extension at a place is the same
 extension_at-same : (len : ℕ) (image other : Image) → AgreeWithin len image other → (place : ℕ)

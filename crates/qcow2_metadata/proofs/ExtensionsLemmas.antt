@@ -1,18 +1,16 @@
-use Rattle.std.proofs.Common.{◌≡◌, ◌≢◌, ◌∙◌, ℕ, ◌^◌, ◌<◌, Bool, true, false, ◌==◌, ◌&&◌, List, map, Ok, Err, refl, sym, ap, arith, String, string_bytes}
+use Rattle.std.proofs.Common.{◌≡◌, ◌≢◌, ◌∙◌, ℕ, ◌^◌, ◌<◌, true, ◌==◌, ◌&&◌, List, map, Ok, Err, refl, sym, ap, arith, String, string_bytes}
 use Rattle.std.proofs.Math.Path.{fun_ext}
 use Rattle.std.specs.Bool.{Decides}
 use Rattle.std.specs.Cmp.Derive.Mapped.{pointwise-map}
 use Rattle.std.specs.Cmp.Lexicographic.{pointwise}
 use Rattle.std.specs.Global.{Global}
-use Rattle.std.specs.Str.{IsUtf8, bytes_eq, is_utf8}
+use Rattle.std.specs.Str.{IsUtf8, bytes_eq}
 use Rattle.std.proofs.lemmas.Bool.Decides.{Decides-and, Decides-eqb, Decides-like, nat_tests}
 use Rattle.std.proofs.lemmas.Slice.Eq.{bytes_eq-Decides, slice_eq-Decides}
 use Rattle.std.proofs.lemmas.Str.{IsUtf8-from_is_utf8, IsUtf8-had, IsUtf8-string_bytes, is_utf8-from_IsUtf8}
 use Rattle.qcow2_base.specs.declared.fault.Fault.{Fault}
-use Rattle.qcow2_base.specs.declared.fault.Fault.TheVariants.{ExtensionText}
 use Rattle.qcow2_metadata.proofs.GrammarLemmas.{text_of_utf8}
-use Rattle.qcow2_metadata.specs.Results.{result_map}
-use Rattle.qcow2_metadata.specs.Header.Extensions.{Extension, FeatureKey, FeatureNameTable, TextOf, Unknown, data_of, extension_number, extension_of, is_text, normal_extension, parsed, same_extension, same_feature_name, text, type_number}
+use Rattle.qcow2_metadata.specs.Header.Extensions.{Extension, FeatureKey, TextOf, Unknown, data_of, extension_number, extension_of, is_text, normal_extension, parsed, same_extension, same_feature_name, text, type_number}
 use Rattle.qcow2_metadata.specs.Header.Features.{feature_type_number}
 use Rattle.qcow2_metadata.specs.declared.header.extensions.HeaderExtension.{HeaderExtension}
 use Rattle.qcow2_metadata.specs.declared.header.extensions.HeaderExtension.TheVariants as held
@@ -36,7 +34,10 @@ pub ruleset texts = (text_invalid, text_of_utf8, IsUtf8-had)
 pub parsed-unknown : (number : ℕ) (bytes : List ℕ) → ((kind : HeaderExtensionType) → extension_number kind ≢ number)
     → parsed number bytes ≡ Ok (Unknown number bytes)
 parsed-unknown number bytes unknown =
-    grind (arith, nat_tests, unknown kind.BackingFileFormat, unknown kind.FeatureNameTable, unknown kind.ExternalDataFileName)
+    let format = unknown kind.BackingFileFormat in
+    let names = unknown kind.FeatureNameTable in
+    let file = unknown kind.ExternalDataFileName in
+    grind (arith, nat_tests, format, names, file)
 
 -- the number of its type fits its field and isn't End's, and its data reads as what it reads back as
 abbrev pub ReadsBack : Extension → Type 0
@@ -51,7 +52,7 @@ string_is_text = IsUtf8-string_bytes
 -- text of a type that is text reads back
 pub text-reads_back : (type : HeaderExtensionType) (name : List ℕ) → is_text type ≡ true → IsUtf8 name
     → ReadsBack (TextOf type name)
-text-reads_back x0 name is valid = grind (arith, nat_tests, is_utf8-from_IsUtf8)
+text-reads_back type name is valid = grind (arith, nat_tests, is_utf8-from_IsUtf8)
 
 -- the numbers of two types of extensions are the same exactly where the types are
 extension_number-Decides : (a b : HeaderExtensionType) → Decides (extension_number a == extension_number b) (a ≡ b)
@@ -78,11 +79,12 @@ same_feature_name-Decides ((kind, bit), name) ((other_kind, other_bit), other) =
 
 -- the test of two extensions says whether they are the same
 pub same_extension-Decides : (a b : Extension) → Decides (same_extension a b) (a ≡ b)
-same_extension-Decides x0 x1 = grind (arith, nat_tests, extension_number-Decides, bytes_eq-Decides, slice_eq-Decides, same_feature_name-Decides)
+same_extension-Decides a b =
+    grind (arith, extension_number-Decides, bytes_eq-Decides, slice_eq-Decides, same_feature_name-Decides)
 
 -- the derived test of two types of features is that of their numbers
 feature_type_eq-number : (a b : FeatureType) → (feature_type_eq.ghosts).eq a b ≡ (feature_type_number a == feature_type_number b)
-feature_type_eq-number x0 x1 = grind (arith, nat_tests)
+feature_type_eq-number a b = grind (arith, nat_tests)
 
 -- the derived test of two extensions in memory is that of what they say
 pub same_extension-of : (a b : HeaderExtension) → (extension_eq.ghosts).eq a b ≡ same_extension (extension_of a) (extension_of b)

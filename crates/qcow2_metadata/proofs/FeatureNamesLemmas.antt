@@ -1,20 +1,19 @@
-use Rattle.std.proofs.Common.{◌≡◌, ◌≢◌, ◌⊎◌, ℕ, zero, suc, add-one, zero-add, ◌+◌, ◌*◌, ◌<◌, ◌≤◌, List, [], ◌∷◌, length, slice_index, take, drop, map, refl, sym, ap, ◌∙◌, inl, inr, subst, arith, Bool, true, false, Option, None, Some, unwrap_or, option_map}
+use Rattle.std.proofs.Common.{◌≡◌, ◌≢◌, ◌⊎◌, ℕ, zero, suc, add-one, zero-add, ◌+◌, ◌*◌, ◌<◌, ◌≤◌, List, [], ◌∷◌, length, slice_index, take, drop, map, refl, sym, ap, ◌∙◌, inl, inr, arith, false, Option, None, Some, unwrap_or}
 use Rattle.std.specs.Prelude.{◌↔◌, Ok, Err}
 use Rattle.std.specs.BTreeMap.{insert_entry}
 use Rattle.std.specs.Str.Lossy.{utf8_lossy}
 use Rattle.std.specs.Map.{lookup}
 use Rattle.std.specs.Int.{div_ceil}
-use Rattle.std.specs.Ordering.{is_eq, match_ordering}
+use Rattle.std.specs.Ordering.{is_eq}
 use Rattle.std.proofs.lemmas.Cmp.{nat_cmp_total, ranked, tied_itself}
 use Rattle.std.proofs.lemmas.List.{length-drop, length-take}
 use Rattle.std.specs.declared.cmp.Ordering.{Ordering}
-use Rattle.std.specs.declared.cmp.Ordering.TheVariants.{Less, Equal, Greater}
+use Rattle.std.specs.declared.cmp.Ordering.TheVariants.{Equal}
 use Rattle.bstr.proofs.lemmas.LossyLemmas.{lossy_chars-utf8_lossy}
 use Rattle.memchr.specs.Find.{IsFirstByte, is_byte}
 use Rattle.qcow2_base.specs.declared.fault.Fault.{Fault}
-use Rattle.qcow2_base.specs.declared.fault.Fault.TheVariants.{FeatureNameCut}
-use Rattle.std.proofs.lemmas.Bool.{cases_Bool, cases_lt}
-use Rattle.std.proofs.lemmas.Bool.Decides.{eqb_tells, nat_tests}
+use Rattle.std.proofs.lemmas.Bool.{cases_lt}
+use Rattle.std.proofs.lemmas.Bool.Decides.{nat_tests}
 use Rattle.qcow2_metadata.proofs.GrammarLemmas.{and_then-ok}
 use Rattle.qcow2_metadata.specs.Header.Extensions.{FeatureKey, FeatureNameTable, FeatureNames, HasKey, IsLastNamed, chunk_at, feature_name_in, feature_names, key_cmp, name_at, names_of_chunks, until_zero, with_feature_name}
 use Rattle.qcow2_metadata.specs.Header.Features.{feature_type_number, feature_type_of}
@@ -44,7 +43,7 @@ pub ruleset names_read = (until_zero-found, lossy_chars-utf8_lossy)
 
 -- the type of a number is the one that has it
 feature_type_of-number : (kind : FeatureType) → feature_type_of (feature_type_number kind) ≡ Some kind
-feature_type_of-number x0 = grind (arith, nat_tests)
+feature_type_of-number kind = grind (arith, nat_tests)
 
 feature_type_of-unknown : (number : ℕ) → ((kind : FeatureType) → feature_type_number kind ≢ number) → feature_type_of number ≡ None
 feature_type_of-unknown number unknown = grind (arith, unknown Incompatible, unknown Compatible, unknown Autoclear)
@@ -52,12 +51,12 @@ feature_type_of-unknown number unknown = grind (arith, unknown Incompatible, unk
 -- what a chunk does that is of a type that isn't known, or of two bytes and more
 pub with_feature_name-unknown : (names : FeatureNames) (chunk : List ℕ)
     → ((kind : FeatureType) → feature_type_number kind ≢ slice_index chunk 0) → with_feature_name names chunk ≡ Ok names
-with_feature_name-unknown names x1 unknown = grind (arith, nat_tests, feature_type_of-unknown)
+with_feature_name-unknown names chunk unknown = grind (arith, nat_tests, feature_type_of-unknown)
 
 pub with_feature_name-named : (names : FeatureNames) (kind : FeatureType) (chunk : List ℕ) → 2 ≤ length chunk
     → feature_type_number kind ≡ slice_index chunk 0 → with_feature_name names chunk
     ≡ Ok (insert_entry key_cmp names (kind, slice_index chunk 1) (utf8_lossy (until_zero (drop 2 chunk))))
-with_feature_name-named names kind x2 two known = grind (arith, nat_tests, feature_type_of-number)
+with_feature_name-named names kind chunk two known = grind (arith, nat_tests, feature_type_of-number)
 
 -- to set a value and then map all values is to map them and then set the value's image
 pub insert_entry-map : {K X Y : Type 0} (f : X → Y) (cmp : K → K → Ordering) (entries : List (K × X))
@@ -83,11 +82,11 @@ names_of_chunks-more bytes chunks names before = rw (add-one chunks, before) ref
 
 -- keys that compare as equal are one key
 key_cmp-same : (a b : FeatureKey) → key_cmp a b ≡ Equal → a ≡ b
-key_cmp-same x0 x1 is = grind (arith, nat_tests, ranked)
+key_cmp-same a b is = grind (arith, nat_tests, ranked)
 
 -- a key compares as equal to itself
 key_cmp-itself : (a : FeatureKey) → key_cmp a a ≡ Equal
-key_cmp-itself x0 = grind (arith, nat_tests, tied_itself, nat_cmp_total)
+key_cmp-itself a = grind (arith, nat_tests, tied_itself, nat_cmp_total)
 
 -- two keys are one, or don't compare as equal
 same_key : (a b : FeatureKey) → (a ≡ b) ⊎ (is_eq (key_cmp a b) ≡ false)
@@ -138,10 +137,12 @@ with_feature_name-leaves key number bit bytes old new none is = by_type (feature
         elim (same_key key (kind, bit)) [
           | inl same ↦ absurd (none (record {
             long = omega arith;
-            type = feature_type_of-found number kind known ∙ ap (λ (k : FeatureKey). feature_type_number k.0) (sym same);
+            type = feature_type_of-found number kind known
+                ∙ ap (λ (k : FeatureKey). feature_type_number k.0) (sym same);
             bit = ap (λ (k : FeatureKey). k.1) (sym same);
           }))
-          | inr other ↦ ap (named key) set ∙ named-others key (kind, bit) (utf8_lossy (until_zero bytes)) old other
+          | inr other ↦ ap (named key) set
+              ∙ named-others key (kind, bit) (utf8_lossy (until_zero bytes)) old other
         ]
 
 -- and one with it sets the name
@@ -155,7 +156,8 @@ with_feature_name-sets key chunk old new has is =
 -- a chunk sets the name of its key, and leaves the names of others
 with_feature_name-does : (key : FeatureKey) (chunk : List ℕ) (old new : FeatureNames)
     → with_feature_name old chunk ≡ Ok new → SetsName key chunk old new
-with_feature_name-does key x1 old new is = grind (arith, nat_tests, with_feature_name-leaves, with_feature_name-sets)
+with_feature_name-does key chunk old new is =
+    grind (arith, nat_tests, with_feature_name-leaves, with_feature_name-sets)
 
 -- the last of so many chunks that has the key says this name
 record IsLastOf (bytes : List ℕ) (count : ℕ) (key : FeatureKey) (name : List ℕ) : Type 0 where
@@ -167,11 +169,13 @@ record IsLastOf (bytes : List ℕ) (count : ℕ) (key : FeatureKey) (name : List
 
 -- a chunk that doesn't have the key changes nothing of that
 IsLastOf-more : (bytes : List ℕ) (count : ℕ) (key : FeatureKey) (name : List ℕ)
-    → ¬ (HasKey (chunk_at bytes count) key) → IsLastOf bytes count key name ↔ IsLastOf bytes (suc count) key name
+    → ¬ (HasKey (chunk_at bytes count) key)
+    → IsLastOf bytes count key name ↔ IsLastOf bytes (suc count) key name
 IsLastOf-more bytes count key name none = grind (arith, nat_tests)
 
 -- and one that has it is the last
-IsLastOf-set : (bytes : List ℕ) (count : ℕ) (key : FeatureKey) (name : List ℕ) → HasKey (chunk_at bytes count) key
+IsLastOf-set : (bytes : List ℕ) (count : ℕ) (key : FeatureKey) (name : List ℕ)
+    → HasKey (chunk_at bytes count) key
     → (Some (name_at (chunk_at bytes count)) ≡ Some name) ↔ IsLastOf bytes (suc count) key name
 IsLastOf-set bytes count key name has = (
   λ is. record {
@@ -194,7 +198,8 @@ names_of_chunks-last : (bytes : List ℕ) (count : ℕ) (names : FeatureNames) (
     → names_of_chunks bytes count ≡ Ok names → (named key names ≡ Some name) ↔ IsLastOf bytes count key name
 names_of_chunks-last bytes zero names key name is =
     let none : [] ≡ names = cc in
-    (λ found. let absent : None ≡ Some name = ap (named key) none ∙ found in cc, λ last. absurd (omega (arith, last.below)))
+    let absent = ap (named key) none in
+    (λ found. cc (absent, found), λ last. absurd (omega (arith, last.below)))
 names_of_chunks-last bytes (suc count) names key name is =
     let next = λ (old : FeatureNames). with_feature_name old (chunk_at bytes count) in
     let before = and_then-ok (names_of_chunks bytes count) next names is in

@@ -27,11 +27,13 @@ laid (part ∷ parts) offset = elim (nat_le part.0 offset && nat_lt offset (part
   | false ↦ laid parts offset
 ]
 
--- the header of an image with these parts, which else has version 3, clusters of 512 bytes, refcounts of 16 bits, and a
--- length of 104 bytes
+-- version 3, clusters of 512 bytes, refcounts of 16 bits, and a length of 104 bytes
+abbrev plain : List Part
+plain = (0, 0x51 ∷ 0x46 ∷ 0x49 ∷ 0xfb ∷ 0 ∷ 0 ∷ 0 ∷ 3 ∷ []) ∷ (23, 9 ∷ []) ∷ (99, 4 ∷ []) ∷ (103, 104 ∷ []) ∷ []
+
+-- the header of an image that has this, but for some parts
 abbrev header_with : List Part → Result HeaderRecord Fault
-header_with parts =
-    header_of (laid (parts ++ (0, 0x51 ∷ 0x46 ∷ 0x49 ∷ 0xfb ∷ 0 ∷ 0 ∷ 0 ∷ 3 ∷ []) ∷ (23, 9 ∷ []) ∷ (99, 4 ∷ []) ∷ (103, 104 ∷ []) ∷ []))
+header_with parts = header_of (laid (parts ++ plain))
 
 -- so many extensions without data
 abbrev empty_extensions : ℕ → List ℕ
@@ -39,18 +41,21 @@ empty_extensions zero = []
 empty_extensions (suc count) = 0 ∷ 0 ∷ 0 ∷ 7 ∷ 0 ∷ 0 ∷ 0 ∷ 0 ∷ empty_extensions count
 
 -- a header of 112 bytes has 8 unknown ones, one of 504 bytes has 400
-pub eight_unknown_bytes : result_map (λ header. header.unknown_header_fields) (header_with ((103, 112 ∷ []) ∷ []))
+pub eight_unknown_bytes : result_map (λ header. header.unknown_header_fields)
+    (header_with ((103, 112 ∷ []) ∷ []))
     ≡ Ok (replicate 8 0)
 unfolding computing
 eight_unknown_bytes = refl
 
 pub four_hundred_unknown_bytes :
-    result_map (λ header. length header.unknown_header_fields) (header_with ((102, 1 ∷ 0xf8 ∷ []) ∷ [])) ≡ Ok 400
+    result_map (λ header. length header.unknown_header_fields)
+    (header_with ((102, 1 ∷ 0xf8 ∷ []) ∷ [])) ≡ Ok 400
 unfolding computing
 four_hundred_unknown_bytes = refl
 
 -- 50 extensions leave place for the last one
-pub fifty_extensions : result_map (λ header. length header.extensions) (header_with ((104, empty_extensions 50) ∷ []))
+pub fifty_extensions : result_map (λ header. length header.extensions)
+    (header_with ((104, empty_extensions 50) ∷ []))
     ≡ Ok 50
 unfolding computing
 fifty_extensions = refl

@@ -1,4 +1,4 @@
-use Rattle.std.proofs.Common.{◌≡◌, ◌⊎◌, ℕ, zero, suc, ◌-◌, true, nat_eq, List, [], ◌∷◌, Option, Some, None, Result, Ok, Err, refl, sym, ap, ◌∙◌, inl, inr, subst, arith}
+use Rattle.std.proofs.Common.{◌≡◌, ◌⊎◌, ℕ, zero, suc, ◌-◌, true, nat_eq, List, [], ◌∷◌, Option, Some, None, Result, Ok, refl, sym, ap, ◌∙◌, inl, inr, subst, arith}
 use Rattle.std.specs.Cmp.Lexicographic.{pointwise, bytes_decides}
 use Rattle.std.specs.List.{IsAmong, list_all}
 use Rattle.std.specs.Str.{IsUtf8, is_utf8}
@@ -22,7 +22,7 @@ use Rattle.qcow2_metadata.proofs.ChainLemmas.{extensions_at-follow, follow-exten
 -- the two answers of which one came
 pub and_then-ok : {A B : Type 0} (answer : Result A Fault) (next : A → Result B Fault) (y : B)
     → and_then answer next ≡ Ok y → (x : A) × (answer ≡ Ok x) × (next x ≡ Ok y)
-and_then-ok x0 next y is = grind (arith, nat_tests)
+and_then-ok answer next y is = grind (arith, nat_tests)
 
 -- what is among the others is among all
 among_more : (x : List ℕ) (xs : List (List ℕ)) (a : List ℕ) → IsAmong xs a → IsAmong (x ∷ xs) a
@@ -33,7 +33,8 @@ is_first : (first : List ℕ) (names : List (List ℕ)) → list_all (pointwise 
     → (a : List ℕ) → IsAmong (first ∷ names) a → first ≡ a
 is_first first names is a (zero, (below, here)) = sym here
 is_first first names is a (suc i, (below, here)) =
-    (bytes_decides first _).0 (AllPass-from_list_all (pointwise nat_eq first) names is i a (omega arith)) ∙ sym here
+    (bytes_decides first _).0
+    (AllPass-from_list_all (pointwise nat_eq first) names is i a (omega arith)) ∙ sym here
 
 -- where any is the first one, all others are
 first_are : (first : List ℕ) (names : List (List ℕ)) → ((a : List ℕ) → IsAmong names a → first ≡ a)
@@ -54,12 +55,14 @@ all_same-AreSame (first ∷ names) is a b here there =
 AreSame-all_same : (names : List (List ℕ)) → AreSame names → all_same names ≡ true
 AreSame-all_same [] same = refl
 AreSame-all_same (first ∷ names) same =
-    first_are first names (λ a among. same first a (zero, (omega arith, refl)) (among_more first names a among))
+    first_are first names
+    (λ a among. same first a (zero, (omega arith, refl)) (among_more first names a among))
 
 -- the first part that an image has is the one that is read
 pub holds-v2_at : (image : Image) (v2 : V2Header) → HoldsLayout image (v2_header v2) → v2_at image ≡ v2
 holds-v2_at image v2 (is_magic, (is_version, (is_place, (is_length, (is_bits, (is_size, more)))))) =
-    let (is_method, (is_l1, (is_l1_place, (is_table, (is_clusters, (is_count, (is_snapshots, t))))))) = more in
+    let (is_method, (is_l1, (is_l1_place, (is_table, (is_clusters, (is_count, (is_snapshots, t))))))) =
+    more in
     λ i. record {
       magic = is_magic i;
       version = is_version i;
@@ -98,7 +101,7 @@ base_at-IsBase image version = record {
 -- an image's second part is the one that is read
 IsBase-base_at : (image : Image) (version : ℕ) (base : V3HeaderBase) → (version ≡ 2) ⊎ (version ≡ 3)
     → IsBase image version base → base_at image version ≡ base
-IsBase-base_at image version base x3 is = grind (arith, nat_tests, holds-base_at)
+IsBase-base_at image version base known is = grind (arith, nat_tests, holds-base_at)
 
 -- the two fixed parts, or the fault of the first condition that they fail
 abbrev pub parts_by : V2Header → V3HeaderBase → Result (V2Header × V3HeaderBase) Fault
@@ -118,7 +121,8 @@ parts_by-same v2 base parts is = grind (arith, nat_tests)
 
 -- fixed parts that are read stand there, and are lawful
 pub fixed_parts-are : (image : Image) (parts : V2Header × V3HeaderBase) → fixed_parts image ≡ Ok parts
-    → (v2_at image ≡ parts.0) × (base_at image parts.0.version ≡ parts.1) × (parts_by parts.0 parts.1 ≡ Ok parts)
+    → (v2_at image ≡ parts.0) × (base_at image parts.0.version ≡ parts.1)
+    × (parts_by parts.0 parts.1 ≡ Ok parts)
 fixed_parts-are image parts is =
     let same = parts_by-same (v2_at image) (base_at image (v2_at image).version) parts is in
     let Are = λ (p : V2Header × V3HeaderBase).
@@ -151,12 +155,12 @@ some_name-text image v2 name is = grind (arith, nat_tests)
 -- the backing file's name that is read
 backing_name-is : (image : Image) (v2 : V2Header) (name : Option (List ℕ))
     → backing_name image v2 ≡ Ok name → IsBackingName image v2 name
-backing_name-is image v2 x2 is = grind (arith, nat_tests, no_name-is, text-ok, some_name-text)
+backing_name-is image v2 name is = grind (arith, nat_tests, no_name-is, text-ok, some_name-text)
 
 -- the backing file's name is read
 is-backing_name : (image : Image) (v2 : V2Header) (name : Option (List ℕ)) → IsBackingName image v2 name
     → backing_name image v2 ≡ Ok name
-is-backing_name image v2 x2 is = grind (arith, nat_tests, is_utf8-from_IsUtf8)
+is-backing_name image v2 name is = grind (arith, nat_tests, is_utf8-from_IsUtf8)
 
 -- the extensions that are read
 header_extensions-has : (image : Image) (v2 : V2Header) (base : V3HeaderBase) (extensions : List Extension)
@@ -185,7 +189,8 @@ header_from image parts name extensions = record {
 }
 
 -- the header after its extensions were read, after the backing file's name, and after its fixed parts
-abbrev pub after_extensions : Image → V2Header × V3HeaderBase → Option (List ℕ) → List Extension → Result HeaderRecord Fault
+abbrev pub after_extensions : Image → V2Header × V3HeaderBase → Option (List ℕ) → List Extension
+    → Result HeaderRecord Fault
 after_extensions image parts name extensions =
     provided (last_conditions parts.1 extensions) (λ _. Ok (header_from image parts name extensions))
 
@@ -205,7 +210,11 @@ pub record HoldLast (base : V3HeaderBase) (extensions : List Extension) : Type 0
 pub last-hold : {T : Type 0} (base : V3HeaderBase) (extensions : List Extension) (x y : T)
     → provided (last_conditions base extensions) (λ _. Ok x) ≡ Ok y → HoldLast base extensions × (x ≡ y)
 last-hold base extensions x y is = (
-  record { one_format = grind (arith, nat_tests); one_data_file = grind (arith, nat_tests); features = grind (arith, nat_tests) },
+  record {
+    one_format = grind (arith, nat_tests);
+    one_data_file = grind (arith, nat_tests);
+    features = grind (arith, nat_tests);
+  },
   grind (arith, nat_tests),
 )
 
@@ -221,7 +230,8 @@ header_of-is image header is =
     let fixed = and_then-ok (fixed_parts image) (after_parts image) header is in
     let parts = fixed.0 in
     let named = and_then-ok (backing_name image parts.0) (after_name image parts) header fixed.2 in
-    let found = and_then-ok (header_extensions image parts.0 parts.1) (after_extensions image parts named.0) header named.2 in
+    let found = and_then-ok (header_extensions image parts.0 parts.1)
+    (after_extensions image parts named.0) header named.2 in
     let last = last-hold parts.1 found.0 (header_from image parts named.0 found.0) header found.2 in
     let are = fixed_parts-are image parts fixed.1 in
     let lawful = are.2 in
@@ -262,4 +272,5 @@ is-header_of image header is =
       features = is.features;
     } in
     rw (fixed, named, found) (hold-last base header.extensions _ hold
-    ∙ ap (λ (fields : List ℕ). Ok (record header { unknown_header_fields = fields })) (sym is.unknown_header_fields))
+    ∙ ap (λ (fields : List ℕ). Ok (record header { unknown_header_fields = fields }))
+    (sym is.unknown_header_fields))

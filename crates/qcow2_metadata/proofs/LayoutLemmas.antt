@@ -1,21 +1,20 @@
-use Rattle.std.proofs.Common.{◌≡◌, ℕ, ◌+◌, ◌-◌, ◌%◌, ◌^◌, ◌<◌, ◌≤◌, Bool, true, false, List, [], ◌∷◌, ◌++◌, length, get_or, map, take, replicate, refl, ap, sym, inl, inr, subst, ◌∙◌, append_assoc, append-nil, length-append, take_all, arith, min}
+use Rattle.std.proofs.Common.{◌≡◌, ℕ, ◌+◌, ◌-◌, ◌%◌, ◌^◌, ◌<◌, ◌≤◌, Bool, true, false, List, [], ◌∷◌, ◌++◌, length, get_or, map, take, replicate, refl, ap, sym, subst, ◌∙◌, append_assoc, append-nil, length-append, take_all, arith, min}
 use Rattle.std.specs.BTreeMap.{BTreeMap}
 use Rattle.std.specs.Global.{Global}
 use Rattle.std.specs.Int.{next_multiple_of}
-use Rattle.std.specs.List.{filter, flat_map}
-use Rattle.std.specs.Prelude.{Err, IfSome, MatchOption, None, Ok, Option, Some, String, nat_le, ok_or, string_bytes}
+use Rattle.std.specs.List.{flat_map}
+use Rattle.std.specs.Prelude.{Err, IfSome, MatchOption, None, Ok, Option, Some, String, ok_or, string_bytes}
 use Rattle.std.proofs.lemmas.List.{length-map, take_min}
 use Rattle.std.proofs.lemmas.List.Folds.{flat_map-map, length-flat_map-take}
 use Rattle.std.proofs.Math.Pow.{pow_mono}
-use Rattle.std.proofs.lemmas.Bool.{cases_Bool}
 use Rattle.std.proofs.lemmas.Bool.Decides.{nat_tests}
 use Rattle.qcow2_metadata.proofs.TextLemmas.{IsKnown, length-header_text, newer-parts}
 use Rattle.qcow2_base.specs.declared.fault.Fault.TheVariants.{HeaderTooLong, NameTooLong}
 use Rattle.qcow2_metadata.specs.Header.{HeaderRecord, IsLawfulHeader}
-use Rattle.qcow2_metadata.specs.Header.Extensions.{Extension, FeatureKey, FeatureNameTable, FeatureNames, data_of, extension_of, name_chunk, names_of}
+use Rattle.qcow2_metadata.specs.Header.Extensions.{Extension, FeatureKey, FeatureNameTable, FeatureNames, extension_of, name_chunk, names_of}
 use Rattle.qcow2_base.specs.OnDiskStruct.{header_extension_header, v2_header, v3_header_base}
 use Rattle.qcow2_metadata.specs.Header.Features.{feature_type_number}
-use Rattle.qcow2_metadata.specs.Header.Text.{IsChosen, IsLayout, bare, base_with_length, header_end, v2_with_name, is_short, kept, placed, chosen, chosen_extensions, header_text, extension_header_of, extension_text, extensions_text, fields_text, is_other, fits_first_cluster, name_place, name_text, padded, parts_text, placed_base, written_text}
+use Rattle.qcow2_metadata.specs.Header.Text.{IsChosen, IsLayout, base_with_length, header_end, v2_with_name, kept, placed, chosen, chosen_extensions, header_text, extension_header_of, extension_text, extensions_text, fields_text, fits_first_cluster, name_place, name_text, padded, parts_text, written_text}
 use Rattle.qcow2_metadata.specs.declared.header.text.Layout.{Layout}
 use Rattle.qcow2_metadata.specs.declared.header.extensions.HeaderExtension.{HeaderExtension}
 use Rattle.qcow2_metadata.proofs.NamesLemmas.{name_chunks_len}
@@ -118,14 +117,17 @@ too_long inside header with_names lawful same long =
     grind (arith, nat_tests, past, length-header_text (chosen with_names header) known.version)
 
 -- and it has one where the text isn't longer
-pub laid_out : (inside header : HeaderRecord) (layout : Layout) (end place : ℕ) → IsLawfulHeader inside → inside ≡ header
+pub laid_out : (inside header : HeaderRecord) (layout : Layout) (end place : ℕ) → IsLawfulHeader inside
+    → inside ≡ header
     → end ≡ header_end header → place ≡ name_place (chosen layout.with_names header)
     → layout.v2 ≡ v2_with_name header.v2 place header.backing_filename
     → layout.base ≡ base_with_length header.v2.version header.base end
-    → layout.len ≡ place + length (name_text header.backing_filename) → layout.len ≤ 2 ^ header.v2.cluster_bits
+    → layout.len ≡ place + length (name_text header.backing_filename)
+    → layout.len ≤ 2 ^ header.v2.cluster_bits
     → IsLayout (chosen layout.with_names header) layout
 laid_out inside header layout end place lawful same ends begins v2 base len short =
-    let count = length-header_text (chosen layout.with_names header) (subst IsLawfulHeader same lawful).version in
+    let count =
+    length-header_text (chosen layout.with_names header) (subst IsLawfulHeader same lawful).version in
     record {
       v2 = rw begins at v2;
       base = rw ends at base;
@@ -151,21 +153,25 @@ pub text_pieces : (header : HeaderRecord) (first second third fourth : List ℕ)
     → third ≡ second ++ extensions_text header.extensions → fourth ≡ third ++ name_text header.backing_filename
     → fourth ≡ header_text header
 unfolding header_text
-text_pieces header first second third fourth none parts extensions name = rw (name, extensions, parts, none) refl
+text_pieces header first second third fourth none parts extensions name =
+    rw (name, extensions, parts, none) refl
 
 -- a name that is too long is refused
-pub kept_long : (header : HeaderRecord) → 1023 < length (name_text header.backing_filename) → kept header ≡ Err NameTooLong
+pub kept_long : (header : HeaderRecord) → 1023 < length (name_text header.backing_filename)
+    → kept header ≡ Err NameTooLong
 unfolding kept
 kept_long header long = grind (arith, nat_tests)
 
 -- a layout with feature names that was found is the one that is written
-pub whole_chosen : (header : HeaderRecord) (layout : Layout) → length (name_text header.backing_filename) ≤ 1023
+pub whole_chosen : (header : HeaderRecord) (layout : Layout)
+    → length (name_text header.backing_filename) ≤ 1023
     → IsLayout (chosen true header) layout → layout.with_names ≡ true → IsChosen header (Ok layout)
 unfolding kept
 whole_chosen header layout short is names = grind (arith, nat_tests)
 
 -- where there is none, the answer is the layout without feature names, or the fault
-pub bare_chosen : (header : HeaderRecord) (found : Option Layout) → length (name_text header.backing_filename) ≤ 1023
+pub bare_chosen : (header : HeaderRecord) (found : Option Layout)
+    → length (name_text header.backing_filename) ≤ 1023
     → fits_first_cluster (chosen true header) ≡ false
     → MatchOption found (fits_first_cluster (chosen false header) ≡ false) (IsLayout (chosen false header))
     → IfSome found (λ layout. layout.with_names ≡ false) → IsChosen header (ok_or found HeaderTooLong)

@@ -36,17 +36,21 @@ read-v2_at image bytes v2 held within layout =
     holds-v2_at image v2 (read-layout image 0 bytes (v2_header v2) held within layout)
 
 -- the fixed parts that were read are the image's; version 2 has no second part
-pub read-fixed_parts : (image : Image) (bytes : List ℕ) (v2 : V2Header) (base : V3HeaderBase) → Holds image 0 bytes
+pub read-fixed_parts : (image : Image) (bytes : List ℕ) (v2 : V2Header) (base : V3HeaderBase)
+    → Holds image 0 bytes
     → 104 ≤ length bytes → HoldsLayout (image_of bytes) (v2_header v2)
     → ((v2.version ≡ 3) × HoldsLayout (image_of bytes) (moved 72 (v3_header_base base)))
     ⊎ ((v2.version ≢ 3) × (base ≡ default_base))
     → fixed_parts image ≡ parts_by v2 base
 read-fixed_parts image bytes v2 base held within layout (inl newer) =
-    let second = holds-base_at image base (read-layout image 0 bytes (moved 72 (v3_header_base base)) held within newer.1) in
-    fixed_parts-by image v2 base (read-v2_at image bytes v2 held (omega arith) layout) (ap (base_at image) newer.0 ∙ second)
+    let second = holds-base_at image base
+    (read-layout image 0 bytes (moved 72 (v3_header_base base)) held within newer.1) in
+    fixed_parts-by image v2 base (read-v2_at image bytes v2 held (omega arith) layout)
+    (ap (base_at image) newer.0 ∙ second)
 read-fixed_parts image bytes v2 base held within layout (inr older) =
     let test : (v2.version == 3) ≡ false = grind (arith, nat_tests, older.0) in
-    fixed_parts-by image v2 base (read-v2_at image bytes v2 held (omega arith) layout) (rw (test, base_at) (sym older.1))
+    fixed_parts-by image v2 base (read-v2_at image bytes v2 held (omega arith) layout)
+    (rw (test, base_at) (sym older.1))
 
 -- what was read before an extension's data is the image's
 pub read-extension_header_at : (image : Image) (place : ℕ) (bytes : List ℕ) (header : HeaderExtensionHeader)
@@ -72,10 +76,12 @@ pub provided-next : {T : Type 0} (conditions : List (Bool × Fault)) (next : Uni
 provided-next conditions next hold = grind arith
 
 -- what the tests of the fixed parts say of both
-pub parts-fault : (v2 : V2Header) (base : V3HeaderBase) (fault : Fault) → Err fault ≡ tested (version_conditions v2)
+pub parts-fault : (v2 : V2Header) (base : V3HeaderBase) (fault : Fault)
+    → Err fault ≡ tested (version_conditions v2)
     → parts_by v2 base ≡ Err fault
 parts-fault v2 base fault fails =
-    provided-fault (version_conditions v2) (λ _. provided (field_conditions v2 base) (λ _. Ok (v2, base))) fault fails
+    provided-fault (version_conditions v2)
+    (λ _. provided (field_conditions v2 base) (λ _. Ok (v2, base))) fault fails
 
 pub parts-next : (v2 : V2Header) (base : V3HeaderBase) → Ok tt ≡ tested (version_conditions v2)
     → parts_by v2 base ≡ provided (field_conditions v2 base) (λ _. Ok (v2, base))
@@ -85,7 +91,8 @@ parts-next v2 base hold =
 -- a fault that is passed on is the expected answer's, where it was that of an earlier step
 pub passed_on : {T U V : Type 0} (view : T → V) (answer : Result T Fault) (expected : Result V Fault)
     (before : Result U Fault) (fault : Fault) → IsErrAnd answer (λ f. f ≡ fault)
-    → (fault ≡ Storage) ⊎ (fault ≡ NoMemory) ⊎ (before ≡ Err fault) → (before ≡ Err fault → expected ≡ Err fault)
+    → (fault ≡ Storage) ⊎ (fault ≡ NoMemory) ⊎ (before ≡ Err fault)
+    → (before ≡ Err fault → expected ≡ Err fault)
     → Answers view answer expected
 passed_on view answer expected before fault exit why later =
     let err = err_from_is_err_and answer exit in
@@ -104,7 +111,8 @@ extensions_at-more image len place first before is =
     rw (extensions_at-unfold image len place, is) (by_others (extensions_at image len first.1))
   where
     by_others : (others : Result (List Extension) Fault)
-        → result_map (λ (xs : List Extension). before ++ xs) (result_map (λ (xs : List Extension). first.0 ∷ xs) others)
+        → result_map (λ (xs : List Extension). before ++ xs)
+        (result_map (λ (xs : List Extension). first.0 ∷ xs) others)
         ≡ result_map (λ (xs : List Extension). (before ++ first.0 ∷ []) ++ xs) others
     by_others (Ok xs) = ap Ok (sym (append_assoc before (first.0 ∷ []) xs))
     by_others (Err fault) = refl
@@ -118,15 +126,10 @@ pub extensions_at-fault : (image : Image) (len place : ℕ) (fault : Fault) → 
     → extensions_at image len place ≡ Err fault
 extensions_at-fault image len place fault is = extensions_at-unfold image len place ∙ rw is refl
 
--- the extensions of version 3 are those from the header's end on
-pub header_extensions-newer : (image : Image) (v2 : V2Header) (base : V3HeaderBase) → v2.version ≡ 3
-    → header_extensions image v2 base ≡ extensions_at image (2 ^ v2.cluster_bits) base.header_length
-header_extensions-newer image v2 base newer = grind (arith, nat_tests)
-
 -- an answer that is the function's follows the grammar
 pub follows-grammar : (answer : Result HeaderRecord Fault) (image : Image) → Answers (λ header. header) answer (header_of image)
     → FollowsGrammar answer image
-follows-grammar x0 image is = grind (arith, nat_tests, header_of-is, is-header_of)
+follows-grammar answer image is = grind (arith, nat_tests, header_of-is, is-header_of)
 
 -- the fault of the fixed parts is the header's
 pub header-parts-fault : (image : Image) (fault : Fault) → fixed_parts image ≡ Err fault → header_of image ≡ Err fault
@@ -147,8 +150,10 @@ unfolding header_of
 header-extensions-fault image v2 base name fault fixed named bad = rw (fixed, named, bad) refl
 
 -- after all parts their last conditions tell what comes
-pub header-last : (image : Image) (v2 : V2Header) (base : V3HeaderBase) (name : Option (List ℕ)) (extensions : List Extension)
-    → fixed_parts image ≡ Ok (v2, base) → backing_name image v2 ≡ Ok name → header_extensions image v2 base ≡ Ok extensions
+pub header-last : (image : Image) (v2 : V2Header) (base : V3HeaderBase) (name : Option (List ℕ))
+    (extensions : List Extension)
+    → fixed_parts image ≡ Ok (v2, base) → backing_name image v2 ≡ Ok name
+    → header_extensions image v2 base ≡ Ok extensions
     → header_of image
     ≡ provided (last_conditions base extensions) (λ _. Ok (header_from image (v2, base) name extensions))
 unfolding header_of

@@ -1,4 +1,4 @@
-use Rattle.std.proofs.Common.{◌≡◌, ◌⊎◌, Bool, true, ap, ◌∙◌, inl, inr, arith}
+use Rattle.std.proofs.Common.{◌≡◌, ◌⊎◌, Bool, true, ap, ◌∙◌, arith}
 use Rattle.std.proofs.lemmas.Bool.Decides.{nat_tests}
 use Rattle.std.specs.Prelude.{Err, IfErr, Ok, Result}
 use Rattle.qcow2_base.specs.Storage.{Image}
@@ -7,7 +7,7 @@ use Rattle.qcow2_base.specs.declared.fault.Fault.TheVariants.{HeaderTooLong, NoM
 use Rattle.qcow2_metadata.specs.Results.{Answers, RefusesFirst}
 use Rattle.qcow2_metadata.specs.Header.{HeaderRecord}
 use Rattle.qcow2_metadata.specs.Header.Grammar.{SameFirstCluster, header_of}
-use Rattle.qcow2_metadata.specs.Header.Open.{IsOpenFault, opened, without_autoclear}
+use Rattle.qcow2_metadata.specs.Header.Open.{IsOpenFault, opened}
 use Rattle.qcow2_metadata.specs.Header.Text.{is_short, kept}
 use Rattle.qcow2_metadata.proofs.ClusterLemmas.{header_of-same}
 
@@ -25,19 +25,19 @@ opened-too_long header fault short is = grind (arith, nat_tests, kept-too_long)
 -- what is answered once refusals come first is what is answered
 pub answers-first : (answer : Result HeaderRecord Fault) (expected : Result HeaderRecord Fault)
     → RefusesFirst (λ h. h) answer expected → Answers (λ h. h) answer expected
-answers-first x0 expected is = grind (arith, nat_tests)
+answers-first answer expected is = grind (arith, nat_tests)
 
 -- the faults of a load for who means to write
 pub opened-faults : (answer : Result HeaderRecord Fault) (header : HeaderRecord) (writable : Bool) → writable ≡ true
     → is_short header.backing_filename ≡ true → Answers (λ h. h) answer (opened true (Ok header))
     → IfErr answer (IsOpenFault writable)
-opened-faults x0 header writable is short answers = grind (arith, nat_tests, opened-too_long)
+opened-faults answer header writable is short answers = grind (arith, nat_tests, opened-too_long)
 
 -- the fault of one image's header is that of another one with the same first cluster
 pub opened-same_fault : (writable : Bool) (image other : Image) (fault : Fault) → SameFirstCluster image other
     → ((fault ≡ Storage) ⊎ (fault ≡ NoMemory) ⊎ (header_of image ≡ Err fault))
     → ((fault ≡ Storage) ⊎ (fault ≡ NoMemory) ⊎ (opened writable (header_of other) ≡ Err fault))
-opened-same_fault writable image other fault same x5 = grind (arith, nat_tests, header_of-same)
+opened-same_fault writable image other fault same why = grind (arith, nat_tests, header_of-same)
 
 -- and so is the header
 pub opened-same : (writable : Bool) (image other : Image) (header : HeaderRecord) → SameFirstCluster image other

@@ -27,7 +27,8 @@ part-between image bytes first end (f ∷ fields) within held layout = (
 )
 
 -- a table's offset is a multiple of the cluster size
-pub table_offset_aligned : (table : TableState) (offset cb : ℕ) → Some offset ≡ option_map offset_of (place_of table)
+pub table_offset_aligned : (table : TableState) (offset cb : ℕ)
+    → Some offset ≡ option_map offset_of (place_of table)
     → table.geometry.cluster_bits ≡ cb → offset % 2 ^ cb ≡ 0
 table_offset_aligned table offset cb is same = by_cluster table.cluster refl
   where

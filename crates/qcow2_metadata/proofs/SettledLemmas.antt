@@ -1,17 +1,13 @@
 use Rattle.std.proofs.lemmas.Bool.Decides.{nat_tests}
-use Rattle.std.proofs.Common.{◌≡◌, ℕ, ◌+◌, ◌-◌, ◌^◌, List, [], ◌∷◌, ◌++◌, length, map, replicate, refl, ap, ◌∙◌, subst, inl, inr, arith, Bool, true, false, ◌==◌, nat_le, Option, None, Some, Ok, All}
-use Rattle.std.specs.Int.{next_multiple_of}
+use Rattle.std.proofs.Common.{◌≡◌, ℕ, ◌^◌, List, [], ◌∷◌, length, map, refl, ap, ◌∙◌, subst, inl, inr, arith, true, nat_le, Option, Ok, All}
 use Rattle.std.specs.List.{flat_map}
 use Rattle.std.proofs.lemmas.Bool.{cases_Bool}
 use Rattle.std.proofs.lemmas.List.{append-nil, length-append, length-map}
 use Rattle.std.proofs.lemmas.List.Elements.{All-filter}
-use Rattle.qcow2_base.specs.OnDiskStruct.{header_extension_header, v2_header, v3_header_base}
 use Rattle.qcow2_base.specs.declared.on_disk_struct.v2_header.V2Header.{V2Header}
-use Rattle.qcow2_base.specs.declared.on_disk_struct.v3_header_base.V3HeaderBase.{V3HeaderBase}
-use Rattle.qcow2_base.specs.declared.on_disk_struct.header_extension_header.HeaderExtensionHeader.{HeaderExtensionHeader}
 use Rattle.qcow2_metadata.specs.Header.{HeaderRecord}
-use Rattle.qcow2_metadata.specs.Header.Extensions.{Extension, FeatureNameTable, IsStorable, TextOf, Unknown, data_of, normal_extension, type_number}
-use Rattle.qcow2_metadata.specs.Header.Text.{IsSettled, bare, extension_header_of, extension_text, extensions_text, fields_text, fits_first_cluster, header_end, header_text, is_other, is_short, kept, name_place, name_text, normal, padded, parts_text, placed, placed_base, placed_v2, v2_with_name}
+use Rattle.qcow2_metadata.specs.Header.Extensions.{Extension, IsStorable, data_of, normal_extension, type_number}
+use Rattle.qcow2_metadata.specs.Header.Text.{IsSettled, bare, extension_text, extensions_text, fits_first_cluster, header_end, header_text, is_other, is_short, kept, name_place, normal, padded, parts_text, placed, placed_base, placed_v2, v2_with_name}
 use Rattle.qcow2_metadata.proofs.NamesLemmas.{name_chunks_len, normal_extensions-once, normal_named}
 use Rattle.qcow2_metadata.proofs.TextLemmas.{length-padded}
 
@@ -22,11 +18,11 @@ padded-once bytes = grind (arith, nat_tests, length-padded, append-nil)
 -- an extension as it reads back has as much data
 length-normal_data : (extension : Extension)
     → length (data_of (normal_extension extension)) ≡ length (data_of extension)
-length-normal_data x0 = grind (arith, nat_tests, normal_named, name_chunks_len, length-map)
+length-normal_data extension = grind (arith, nat_tests, normal_named, name_chunks_len, length-map)
 
 -- and its number
 number_of-normal : (extension : Extension) → type_number (normal_extension extension) ≡ type_number extension
-number_of-normal x0 = grind (arith, nat_tests)
+number_of-normal extension = grind (arith, nat_tests)
 
 -- its text is as long
 length-normal_text : (extension : Extension)
@@ -56,7 +52,7 @@ pub record KeepsV2 (old new : V2Header) : Type 0 where
   pub refcount_table_offset : new.refcount_table_offset ≡ old.refcount_table_offset
 
 pub v2_with_name-keeps : (v2 : V2Header) (place : ℕ) (name : Option (List ℕ)) → KeepsV2 v2 (v2_with_name v2 place name)
-v2_with_name-keeps v2 place x2 = grind (arith, nat_tests)
+v2_with_name-keeps v2 place name = grind (arith, nat_tests)
 
 -- a header with its places ends where it ends without them
 header_end-placed : (header : HeaderRecord) → header_end (placed header) ≡ header_end header
@@ -106,7 +102,8 @@ placed-normal header =
 -- the same stands before its extensions
 parts_text-normal : (header : HeaderRecord) → parts_text (normal header) ≡ parts_text header
 parts_text-normal header =
-    grind (arith, placed_v2-normal header, placed_base-normal header, padded-once header.unknown_header_fields)
+    let fields = padded-once header.unknown_header_fields in
+    grind (arith, placed_v2-normal header, placed_base-normal header, fields)
 
 -- and its text is as long
 length-normal_header : (header : HeaderRecord)

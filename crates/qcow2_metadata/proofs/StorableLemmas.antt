@@ -1,14 +1,13 @@
-use Rattle.std.proofs.Common.{◌≡◌, List, [], ◌∷◌, ◌++◌, ℕ, map, refl, sym, ap, subst}
+use Rattle.std.proofs.Common.{◌≡◌, List, [], ◌∷◌, ◌++◌, ℕ, map, refl, sym, subst}
 use lib.Utf8.{encode}
 use Rattle.std.specs.Prelude.{All, true, IfSome, None, Option, Some, String, option_to_list, option_map, string_bytes}
-use Rattle.std.proofs.lemmas.Bool.{and_parts}
 use Rattle.std.proofs.lemmas.List.Sums.{AllPass-from_list_all}
 use Rattle.std.proofs.lemmas.Map.Made.{keys_of-map_values}
-use Rattle.std.proofs.lemmas.List.Elements.{All-append, All-cons, All-from_recursion, All-nil}
+use Rattle.std.proofs.lemmas.List.Elements.{All-append, All-cons, All-nil}
 use Rattle.std.proofs.lemmas.Str.{IsUtf8-from_is_utf8, IsUtf8-string_bytes}
 use Rattle.std.specs.BTreeMap.{BTreeMap, IsOrdered}
 use Rattle.std.specs.Global.{Global}
-use Rattle.std.specs.List.{AllByRecursion, list_all}
+use Rattle.std.specs.List.{list_all}
 use Rattle.std.specs.List.Sorted.{IsStrictlySortedBy}
 use Rattle.std.specs.Map.{keys_of}
 use Rattle.std.specs.Str.{IsUtf8, chars, is_utf8}
@@ -46,7 +45,8 @@ known_names-ordered = assumption
 -- names of which each is text
 all_texts : (names : FeatureNames) → list_all (λ named. is_utf8 named.1) names ≡ true → All (λ (named : FeatureKey × List ℕ). IsUtf8 named.1) names
 all_texts names test = λ i named below.
-    IsUtf8-from_is_utf8 _ (AllPass-from_list_all (λ (named : FeatureKey × List ℕ). is_utf8 named.1) names test i named below)
+    IsUtf8-from_is_utf8 _
+    (AllPass-from_list_all (λ (named : FeatureKey × List ℕ). is_utf8 named.1) names test i named below)
 
 -- what features are called in new images can be stored
 pub known_names-storable : IsStorable (FeatureNameTable known_names)

@@ -68,7 +68,8 @@ older_to_the_end = refl
 abbrev with_empty_table : ℕ → HeaderRecord
 with_empty_table len = least [] (Some (replicate len 0x61)) (FeatureNameTable [] ∷ [])
 
-pub empty_table_goes : map (λ len. result_map (λ header. header.extensions) (kept (with_empty_table len))) (392 ∷ 393 ∷ [])
+pub empty_table_goes : map (λ len. result_map (λ header. header.extensions) (kept (with_empty_table len)))
+    (392 ∷ 393 ∷ [])
     ≡ Ok (FeatureNameTable [] ∷ []) ∷ Ok [] ∷ []
 unfolding computing
 empty_table_goes = refl

@@ -1,11 +1,11 @@
-use Rattle.std.proofs.Common.{◌≡◌, zero-add, ℕ, zero, suc, ◌+◌, ◌-◌, ◌^◌, ◌/◌, ◌<◌, ◌≤◌, List, [], ◌∷◌, ◌++◌, length, All, ◌⊎◌, ◌==◌, nat_le, IfSome, Option, Some, None, true, false, Result, Ok, refl, sym, ap, ◌∙◌, subst, inl, inr, append-nil, append_assoc, length-append, map, replicate, arith}
+use Rattle.std.proofs.Common.{◌≡◌, zero-add, ℕ, zero, suc, ◌+◌, ◌-◌, ◌^◌, ◌/◌, ◌<◌, ◌≤◌, List, [], ◌∷◌, ◌++◌, length, All, ◌⊎◌, IfSome, Option, true, Result, Ok, refl, sym, ap, ◌∙◌, subst, inl, inr, append-nil, append_assoc, length-append, map, replicate, arith}
 use Rattle.std.specs.Int.{bytes_high_first, next_multiple_of}
 use Rattle.std.specs.Str.{IsUtf8}
 use Rattle.std.proofs.Math.Nat.{mod-lt}
 use Rattle.std.proofs.Math.Pow.{pow_mono}
 use Rattle.std.specs.List.{flat_map}
 use Rattle.std.specs.Prelude.{OnOk}
-use Rattle.std.proofs.lemmas.Bool.{cases_Bool, cases_lt}
+use Rattle.std.proofs.lemmas.Bool.{cases_lt}
 use Rattle.std.proofs.lemmas.Bool.Decides.{nat_tests}
 use Rattle.std.proofs.lemmas.List.{get_or-append_right, get_or-append-add, get_or_append_left, ext_get_or, length-replicate}
 use Rattle.std.proofs.lemmas.List.Elements.{All-cons, All-head, All-nil, All-tail}
@@ -16,9 +16,9 @@ use Rattle.qcow2_base.specs.declared.on_disk_struct.v3_header_base.V3HeaderBase.
 use Rattle.qcow2_base.proofs.OnDiskStructLemmas.{be_of_bytes}
 use Rattle.qcow2_metadata.specs.Header.{HeaderRecord, IsLawfulHeader, names_by}
 use Rattle.qcow2_metadata.specs.Header.Chain.{IsEnd, SaysExtensions, link_at}
-use Rattle.qcow2_metadata.specs.Header.Extensions.{Extension, FeatureNameTable, TextOf, Unknown, data_of, name_in, normal_extension, type_number}
+use Rattle.qcow2_metadata.specs.Header.Extensions.{Extension, data_of, name_in, normal_extension}
 use Rattle.qcow2_metadata.specs.Header.Grammar.{AreSame, HasExtensions, IsBackingName, IsBase, IsHeader}
-use Rattle.qcow2_metadata.specs.Header.Text.{AreFitting, bare, extension_header_of, extension_text, extensions_text, fields_text, fits_first_cluster, header_end, header_text, is_short, name_place, name_text, kept, normal, padded, parts_text, placed, placed_base, placed_v2}
+use Rattle.qcow2_metadata.specs.Header.Text.{AreFitting, extension_header_of, extension_text, extensions_text, fields_text, header_end, header_text, is_short, name_place, name_text, kept, normal, padded, parts_text, placed, placed_base, placed_v2}
 use Rattle.qcow2_metadata.specs.Range.{bytes_at}
 use Rattle.qcow2_metadata.specs.declared.header.extensions.HeaderExtensionType.{HeaderExtensionType}
 use Rattle.qcow2_metadata.specs.declared.header.extensions.HeaderExtensionType.TheVariants as kind
@@ -56,7 +56,8 @@ number-held image place n value small is =
     let bytes = bytes_high_first n value in
     let own = be_of_bytes n value bytes [] (sym (append-nil bytes)) fits in
     let tells = be_tells (image_of bytes) image n 0 place (are_bytes n value) small (own ∙ sym is) in
-    (record { each = λ i below. rw zero-add at (tells i (omega (arith, length-bytes_high_first n value))) }, fits)
+    let count = length-bytes_high_first n value in
+    (record { each = λ i below. rw zero-add at (tells i (omega (arith, count))) }, fits)
 
 -- the number of bytes that an image has
 held-number : (image : Image) (place n value : ℕ) → Holds image place (bytes_high_first n value)
@@ -144,12 +145,14 @@ layout-text : (bytes : List ℕ) (fields : List LayoutField) → IsBytes (image_
     → (bytes ≡ fields_text fields) × AreFitting fields
 layout-text bytes fields small joined count held =
     let text = fields-text (image_of bytes) 0 0 fields small joined held in (
-      ext_get_or 0 bytes (fields_text fields) count (λ i below. sym (rw (zero-add i) at (text.0.each i (omega arith)))),
+      ext_get_or 0 bytes (fields_text fields) count
+          (λ i below. sym (rw (zero-add i) at (text.0.each i (omega arith)))),
       text.1,
     )
 
 -- such bytes behind a text are the fields' text there
-pub pushed-fields : {T E : Type 0} (answer : Result T E) (text after bytes : List ℕ) (fields : List LayoutField)
+pub pushed-fields : {T E : Type 0} (answer : Result T E) (text after bytes : List ℕ)
+    (fields : List LayoutField)
     → IsBytes (image_of bytes) → AreJoined 0 fields → length bytes ≡ length (fields_text fields)
     → HoldsLayout (image_of bytes) (moved 0 fields) → OnOk answer (after ≡ text ++ bytes)
     → OnOk answer (after ≡ text ++ fields_text fields) × AreFitting fields
@@ -196,7 +199,8 @@ first-extension image len place extension back small held within =
     let are = held-header image place (extension_header_of extension) back.0 (omega (arith, count)) first in
     let second = Holds-second image place header (padded bytes) held in
     let padding : List ℕ = replicate (next_multiple_of (length bytes) 8 - length bytes) 0 in
-    let content = held-bytes_at image (place + 8) bytes (Holds-first image (place + 8) bytes padding second) in
+    let content =
+    held-bytes_at image (place + 8) bytes (Holds-first image (place + 8) bytes padding second) in
     record {
       bounded = omega (arith, count, are.1);
       more = λ none. back.1 (sym are.0 ∙ none);
@@ -233,12 +237,13 @@ text-says image len place (extension ∷ extensions) small back held within =
     let others_back = All-tail ReadsBack extension extensions back in
     let first = first-extension image len place extension here_back small here_held (omega (arith, count)) in
     let rest = text-says image len next extensions small others_back others_held (omega (arith, count)) in
-    follows_more image len place next (normal_extension extension) (Ok (map normal_extension extensions)) first rest
+    follows_more image len place next (normal_extension extension)
+    (Ok (map normal_extension extensions)) first rest
 
 -- what an extension reads back as says the same name
 same-name_in : (type : HeaderExtensionType) (extension : Extension)
     → name_in type (normal_extension extension) ≡ name_in type extension
-same-name_in type x1 = grind (arith, nat_tests)
+same-name_in type extension = grind (arith, nat_tests)
 
 -- so the names are the same
 pub same-names_by : (type : HeaderExtensionType) (extensions : List Extension)
@@ -362,7 +367,7 @@ held-pieces image header known held =
 -- the length of a header that has its places
 placed-length : (header : HeaderRecord) → IsLawfulHeader header → IsPlaced header → IsKnown header
     → header.base.header_length ≡ 104 + length (padded header.unknown_header_fields)
-placed-length header lawful is x3 = grind (arith, nat_tests, newer-parts)
+placed-length header lawful is known = grind (arith, nat_tests, newer-parts)
 
 -- it fits the first cluster
 placed-fits : (image : Image) (header : HeaderRecord) → IsLawfulHeader header → IsPlaced header
@@ -379,7 +384,7 @@ placed-fits image header lawful is pieces (inr three) =
 held-unknown : (image : Image) (header : HeaderRecord) → IsLawfulHeader header → HasPieces image header
     → IsKnown header → padded header.unknown_header_fields
     ≡ bytes_at image 104 (length (padded header.unknown_header_fields))
-held-unknown image header lawful pieces x4 = grind (arith, nat_tests, held-bytes_at)
+held-unknown image header lawful pieces known = grind (arith, nat_tests, held-bytes_at)
 
 -- the second part stands in the image
 held-base : (image : Image) (header : HeaderRecord) → IsLawfulHeader header → IsPlaced header
@@ -397,7 +402,7 @@ held-base image header lawful is pieces fits = record {
 held-name : (image : Image) (header : HeaderRecord) (name : Option (List ℕ)) → header.backing_filename ≡ name
     → IsPlaced header → HasPieces image header → IfSome name IsUtf8
     → IsBackingName image header.v2 name
-held-name image header x2 none is pieces text = grind (arith, nat_tests, held-bytes_at)
+held-name image header name none is pieces text = grind (arith, nat_tests, held-bytes_at)
 
 -- the extensions stand in the image
 held-extensions : (image : Image) (header : HeaderRecord) → IsLawfulHeader header → IsPlaced header

@@ -4,11 +4,10 @@ use Rattle.std.proofs.Math.Seq.{drop-cons}
 use Rattle.std.proofs.lemmas.List.{take-append-drop, take_all}
 use Rattle.std.proofs.lemmas.List.Elements.{All-more}
 use Rattle.std.specs.Bool.{Decides}
-use Rattle.std.specs.Cmp.{booleans_Decides}
 use Rattle.std.specs.List.{All}
 use Rattle.std.specs.Option.{option_eq}
 use Rattle.std.specs.Str.{bytes_eq}
-use Rattle.std.proofs.lemmas.Bool.Decides.{Decides-eqb, Decides-like, not_from_Decides}
+use Rattle.std.proofs.lemmas.Bool.Decides.{not_from_Decides}
 use Rattle.std.proofs.lemmas.Slice.Eq.{bytes_eq-Decides, slice_eq-Decides}
 use Rattle.qcow2_base.specs.declared.fault.Fault.{Fault}
 use Rattle.qcow2_base.specs.declared.fault.Fault.TheVariants.{FieldChanged}
@@ -17,16 +16,16 @@ use Rattle.qcow2_base.specs.declared.fault.Field.TheVariants as field
 use Rattle.qcow2_metadata.proofs.ExtensionsLemmas.{same_extension-Decides}
 use Rattle.qcow2_metadata.specs.Results.{first_failed, provided}
 use Rattle.qcow2_metadata.specs.Header.{HeaderRecord, IsLawfulHeader}
-use Rattle.qcow2_metadata.specs.Header.Extensions.{Extension}
-use Rattle.qcow2_metadata.specs.Header.Update.{AgreeIn, FieldValue, Number, Bytes, Name, Extensions, Flag, IsFirstChange, agreements, kept_fields, same_value, value_in, with_header_length, with_size_and_tables}
+use Rattle.qcow2_metadata.specs.Header.Update.{AgreeIn, FieldValue, Number, IsFirstChange, agreements, kept_fields, same_value, value_in, with_header_length, with_size_and_tables}
 
 -- two names, which may be missing
 name-Decides : (a b : Option (List ℕ)) → Decides (option_eq bytes_eq a b) (a ≡ b)
-name-Decides x0 x1 = grind (arith, nat_tests, bytes_eq-Decides)
+name-Decides a b = grind (arith, nat_tests, bytes_eq-Decides)
 
 -- the test of two values says whether they are the same
 pub same_value-Decides : (a b : FieldValue) → Decides (same_value a b) (a ≡ b)
-same_value-Decides x0 x1 = grind (arith, nat_tests, bytes_eq-Decides, name-Decides, slice_eq-Decides, same_extension-Decides)
+same_value-Decides a b =
+    grind (arith, nat_tests, bytes_eq-Decides, name-Decides, slice_eq-Decides, same_extension-Decides)
 
 -- the conditions that the headers agree in these fields
 abbrev agreements_in : HeaderRecord → HeaderRecord → List Field → List (Bool × Fault)
@@ -107,7 +106,8 @@ numbers a b same = cc
 pub with_size_and_tables-agreed : (here there : HeaderRecord) → All (AgreeIn here there) kept_fields
     → with_size_and_tables here there ≡ with_header_length there here.base.header_length
 with_size_and_tables-agreed here there agree =
-    let bytes : here.unknown_header_fields ≡ there.unknown_header_fields = cc (agree 12 field.Magic (lit< tt)) in
+    let bytes : here.unknown_header_fields ≡ there.unknown_header_fields =
+    cc (agree 12 field.Magic (lit< tt)) in
     let name : here.backing_filename ≡ there.backing_filename = cc (agree 13 field.Magic (lit< tt)) in
     let list : here.extensions ≡ there.extensions = cc (agree 14 field.Magic (lit< tt)) in
     λ i. record {
@@ -143,5 +143,6 @@ pub with_size_and_tables-lawful : (here there : HeaderRecord) → IsLawfulHeader
     → here.v2.cluster_bits ≡ there.v2.cluster_bits → IsLawfulHeader (with_size_and_tables here there)
 with_size_and_tables-lawful here there lawful other bits =
     let l1_table : there.v2.l1_table_offset % 2 ^ here.v2.cluster_bits ≡ 0 = rw bits other.l1_table_aligned in
-    let reftable : there.v2.refcount_table_offset % 2 ^ here.v2.cluster_bits ≡ 0 = rw bits other.reftable_aligned in
+    let reftable : there.v2.refcount_table_offset % 2 ^ here.v2.cluster_bits ≡ 0 =
+    rw bits other.reftable_aligned in
     assumption

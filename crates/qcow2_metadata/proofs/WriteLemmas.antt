@@ -1,10 +1,8 @@
-use Rattle.std.proofs.Common.{◌≡◌, ◌⊎◌, ℕ, ◌^◌, ◌<◌, ◌≤◌, Bool, true, false, not, List, [], ◌∷◌, map, refl, ap, sym, subst, ◌∙◌, arith, inl, inr, lit<, Some, None}
-use Rattle.std.specs.Prelude.{All, Err, Ok, length}
+use Rattle.std.proofs.Common.{◌≡◌, ◌⊎◌, ℕ, ◌^◌, ◌<◌, Bool, true, false, not, List, [], ◌∷◌, map, refl, ap, sym, subst, ◌∙◌, arith, lit<, Some, None}
+use Rattle.std.specs.Prelude.{All, Err, Ok}
 use Rattle.std.specs.List.{filter}
-use Rattle.std.proofs.lemmas.Bool.{cases_Bool}
 use Rattle.std.proofs.lemmas.Bool.Decides.{nat_tests}
 use Rattle.std.proofs.lemmas.List.Elements.{All-filter, All-from_recursion, All-weaker}
-use Rattle.std.proofs.Math.Pow.{pow_mono}
 use Rattle.qcow2_base.specs.OnDiskStruct.{LayoutField, v2_header, v3_header_base}
 use Rattle.qcow2_base.specs.Storage.{Holds, Image, OnlyWrites, StorageState}
 use Rattle.qcow2_base.specs.declared.fault.Fault.{Fault}
@@ -12,8 +10,8 @@ use Rattle.qcow2_base.specs.declared.fault.Fault.TheVariants.{HeaderTooLong, Nam
 use Rattle.qcow2_base.specs.declared.on_disk_struct.v2_header.V2Header.{V2Header}
 use Rattle.qcow2_base.specs.declared.on_disk_struct.v3_header_base.V3HeaderBase.{V3HeaderBase}
 use Rattle.qcow2_metadata.specs.Header.{HeaderRecord, IsLawfulHeader, default_base, names_by, other_features}
-use Rattle.qcow2_metadata.specs.Header.Extensions.{Extension, FeatureNameTable, IsStorable, TextOf, Unknown, extension_of, name_in}
-use Rattle.qcow2_metadata.specs.Header.Text.{AreFitting, IsLayout, IsWrittenHeader, base_with_length, chosen, chosen_extensions, chosen_text, fits_first_cluster, header_end, header_text, kept, placed_text, is_other, name_place, placed}
+use Rattle.qcow2_metadata.specs.Header.Extensions.{Extension, IsStorable, extension_of, name_in}
+use Rattle.qcow2_metadata.specs.Header.Text.{AreFitting, IsLayout, IsWrittenHeader, base_with_length, chosen, chosen_extensions, chosen_text, header_end, header_text, kept, placed_text, is_other, name_place, placed}
 use Rattle.qcow2_metadata.specs.declared.header.text.Layout.{Layout}
 use Rattle.qcow2_metadata.proofs.ExtensionsLemmas.{ReadsBack}
 use Rattle.qcow2_metadata.proofs.NamesLemmas.{storable-reads_back}
@@ -26,7 +24,7 @@ use Rattle.qcow2_metadata.specs.declared.header.extensions.HeaderExtensionType.T
 -- a table of feature names says no name
 no_name : (type : HeaderExtensionType) (extension : Extension) → is_other extension ≡ false
     → name_in type extension ≡ None
-no_name type x1 is = grind (arith, nat_tests)
+no_name type extension is = grind (arith, nat_tests)
 
 -- without such tables the names are the same
 filter-names_by : (type : HeaderExtensionType) (extensions : List Extension)
@@ -48,8 +46,9 @@ chosen-storable true extensions storable = storable
 chosen-storable false extensions storable = All-filter is_other IsStorable extensions storable
 
 -- a length changes nothing else that the second part says
-base_with_length-keeps : (version : ℕ) (base : V3HeaderBase) (len : ℕ) → let new = base_with_length version base len in
-    (new.refcount_order ≡ base.refcount_order) × (other_features new ≡ other_features base)
+base_with_length-keeps : (version : ℕ) (base : V3HeaderBase) (len : ℕ)
+    → ((base_with_length version base len).refcount_order ≡ base.refcount_order)
+    × (other_features (base_with_length version base len) ≡ other_features base)
 base_with_length-keeps version base len = (grind (arith, nat_tests), grind (arith, nat_tests))
 
 -- the second part stays in version 2
@@ -59,7 +58,7 @@ older-base version base len two = rw two refl
 -- of no extensions none are written
 chosen-nil : (with_names : Bool) (extensions : List Extension) → extensions ≡ []
     → chosen_extensions with_names extensions ≡ []
-chosen-nil x0 extensions none = grind (arith, nat_tests)
+chosen-nil with_names extensions none = grind (arith, nat_tests)
 
 -- the header that is written is lawful
 pub placed-lawful : (with_names : Bool) (header : HeaderRecord) → IsLawfulHeader header
@@ -97,18 +96,13 @@ kept-extensions (extension ∷ held) = grind (arith, nat_tests, kept-extensions 
 
 -- what isn't so
 pub not_true : (test : Bool) → not test ≡ true → test ≡ false
-not_true x0 is = grind (arith, nat_tests)
+not_true test is = grind (arith, nat_tests)
 
 -- why a header isn't written
 pub kept-fault : (header : HeaderRecord) (fault : Fault) → kept header ≡ Err fault
     → (fault ≡ NameTooLong) ⊎ (fault ≡ HeaderTooLong)
 unfolding kept
 kept-fault header fault is = grind arith
-
--- a text that fits is short
-pub text-short : (header : HeaderRecord) → header.v2.cluster_bits ≤ 21 → fits_first_cluster header ≡ true
-    → length (header_text header) ≤ 2 ^ 21
-text-short header bits inside = grind (arith, nat_tests, pow_mono)
 
 -- the text that a write places
 pub chosen_text-placed : (header written : HeaderRecord) → kept header ≡ Ok (placed written)

@@ -1,6 +1,4 @@
-use Rattle.std.proofs.Common.{arith}
-use Rattle.std.proofs.Common.{rules, ◌∙◌, sym, string_bytes}
-use Rattle.qcow2_metadata.specs.Header.Extensions.{name_in}
+use Rattle.std.proofs.Common.{rules}
 use Rattle.qcow2_metadata.proofs.HeaderLemmas.{differs_at, is_first_name, is_other_name, same_with_first, same_with_no_name}
 use Rattle.qcow2_metadata.proofs.header.same_names.Goals as goal
 use Rattle.qcow2_metadata.proofs.header.same_names.Goals.{in-Some+else-ne, in_default}
@@ -9,8 +7,4 @@ pub loop-extension-preserved : goal.loop-extension-preserved
 loop-extension-preserved c = search (rules, same_with_first, same_with_no_name, is_first_name)
 
 pub returns-then-ne : goal.returns-then-ne
-returns-then-ne c =
-    let other = is_other_name c.first_name-first.result c.in-Some.name c.if-ne.ensures in
-    sym (differs_at (name_in c.args.extension_type) c.args.extensions.now c.loop-extension.extension-index
-    c.extension-item.result (string_bytes c.in-Some.name.now) c.loop-extension-test.true c.extension-item.is
-    (sym c.in-Some.ensures) (λ is. other (c.first_name-first.ensures ∙ is)))
+returns-then-ne c = search (rules, is_other_name, differs_at)

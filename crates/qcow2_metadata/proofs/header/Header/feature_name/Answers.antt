@@ -1,4 +1,3 @@
-use Rattle.std.proofs.Common.{arith}
 use Rattle.std.proofs.Common.{rules, ◌≡◌, ◌∙◌, ℕ, ◌<◌, map, sym, ap, Some, Result, Ok, Err, string_bytes}
 use Rattle.std.specs.Result.{OkIff, result_ok}
 use Rattle.qcow2_metadata.specs.Header.{HeaderRecord}

@@ -18,9 +18,11 @@ returns-then-len-cluster_size-clause-layout c = grind (arith, held_are, too_long
 
 pub returns-clause-layout : goal.returns-clause-layout
 returns-clause-layout c =
-    let extensions = rw (held_are _ _ _ _ c.self.view_is refl c.deref.ensures.value) at c.in_ok-extensions_len.ensures in
+    let extensions =
+    rw (held_are _ _ _ _ c.self.view_is refl c.deref.ensures.value) at c.in_ok-extensions_len.ensures in
     let place : c.in_ok-name_place.name_place ≡ name_place (chosen c.args.with_names c.args.self.now) =
     omega (arith, extensions, c.in_ok-header_end.ensures, c.in_ok-name_place.ensures) in
-    laid_out _ _ _ _ _ c.self.invariant c.self.view_is c.in_ok-header_end.ensures.1 place c.placed_v2.ensures c.placed_base.ensures
+    laid_out _ _ _ _ _ c.self.invariant c.self.view_is c.in_ok-header_end.ensures.1 place c.placed_v2.ensures
+    c.placed_base.ensures
     (omega (arith, c.backing_filename_len.ensures, c.in_ok-len.ensures))
     (omega (arith, c.cluster_size.ensures.value, c.if-len-cluster_size.false))

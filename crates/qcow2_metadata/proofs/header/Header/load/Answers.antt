@@ -1,4 +1,3 @@
-use Rattle.std.proofs.Common.{arith}
 use Rattle.std.proofs.Common.{◌≡◌, Err, Ok, refl, rules, true, false}
 use Rattle.std.proofs.lemmas.Result.{err_from_is_err_and}
 use Rattle.qcow2_metadata.specs.Header.Open.{opened}

@@ -1,4 +1,3 @@
-use Rattle.std.proofs.Common.{arith}
 use Rattle.std.proofs.Common.{rules, ◌≡◌, ◌++◌, ◌∷◌, map, option_map, string_bytes}
 use Rattle.std.specs.Prelude.{option_to_list}
 use Rattle.qcow2_metadata.specs.Header.{known_names}

@@ -1,10 +1,9 @@
-use Rattle.std.proofs.Common.{arith}
 use Rattle.std.proofs.Common.{◌≡◌, Bool, ap, map, refl, ◌∙◌, rules, subst, sym}
 use Rattle.std.proofs.lemmas.Fn.{filter_same}
 use Rattle.std.specs.List.{filter}
 use Rattle.qcow2_metadata.proofs.HeaderLemmas.{held_are}
 use Rattle.qcow2_metadata.proofs.WriteLemmas.{kept-extensions, not_true, placed-lawful}
-use Rattle.qcow2_metadata.specs.Header.{HeaderRecord, IsLawfulHeader}
+use Rattle.qcow2_metadata.specs.Header.{IsLawfulHeader}
 use Rattle.qcow2_metadata.specs.Header.Extensions.{extension_of}
 use Rattle.qcow2_metadata.specs.Header.Text.{chosen_extensions, is_other}
 use Rattle.qcow2_metadata.proofs.header.Header.take_over.Goals as goal

@@ -1,9 +1,8 @@
-use Rattle.std.proofs.Common.{arith, refl, ◌≡◌, ◌++◌, List, ap, map, ◌∙◌, subst}
+use Rattle.std.proofs.Common.{arith, refl, subst}
 use Rattle.qcow2_metadata.proofs.HeaderLemmas.{held_are}
 use Rattle.qcow2_metadata.proofs.LayoutLemmas.{extensions_short, text_pieces}
-use Rattle.qcow2_metadata.specs.Header.{HeaderRecord, IsLawfulHeader}
-use Rattle.qcow2_metadata.specs.Header.Extensions.{Extension, extension_of}
-use Rattle.qcow2_metadata.specs.Header.Text.{chosen, chosen_extensions, extensions_text}
+use Rattle.qcow2_metadata.specs.Header.{IsLawfulHeader}
+use Rattle.qcow2_metadata.specs.Header.Text.{chosen}
 use Rattle.qcow2_metadata.proofs.header.Header.text.Goals as goal
 
 pub push_extensions-requires : goal.push_extensions-requires

@@ -1,9 +1,8 @@
-use Rattle.std.proofs.Common.{ap, arith, length, ◌∙◌, rules, subst, sym}
-use Rattle.std.proofs.lemmas.Result.{err_from_is_err_and}
+use Rattle.std.proofs.Common.{◌∙◌, rules, subst, sym}
 use Rattle.qcow2_base.specs.Storage.{Holds}
-use Rattle.qcow2_metadata.specs.Header.Text.{IsSettled, IsWrittenHeader, chosen, chosen_text, placed}
+use Rattle.qcow2_metadata.specs.Header.Text.{IsSettled, IsWrittenHeader, chosen, placed}
 use Rattle.qcow2_metadata.proofs.SettledLemmas.{kept-settled}
-use Rattle.qcow2_metadata.proofs.WriteLemmas.{chosen_text-placed, kept-fault, refused-writes, text-short, written-header}
+use Rattle.qcow2_metadata.proofs.WriteLemmas.{chosen_text-placed, kept-fault, refused-writes, written-header}
 use Rattle.qcow2_metadata.proofs.header.Header.write.Goals as goal
 
 pub returns-in_err-layout-clause-storage : goal.returns-in_err-layout-clause-storage

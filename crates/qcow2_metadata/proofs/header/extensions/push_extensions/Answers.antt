@@ -1,3 +1,4 @@
+use Rattle.std.proofs.Common.{rules}
 use Rattle.std.proofs.Common.{arith}
 use Rattle.std.proofs.lemmas.Result.{on_ok_weaker}
 use Rattle.qcow2_metadata.proofs.LayoutLemmas.{extensions_pieces, extensions_text_len, parts_within_len}
@@ -11,8 +12,4 @@ push_written-requires c =
     omega (arith, all, within, c.requires)
 
 pub returns : goal.returns
-returns c =
-    on_ok_weaker c.push_zeros.result
-    (extensions_pieces c.args.text.now.items c.loop-extension.text.items c.push_zeros.new.text.items c.args.with_names
-    c.args.extensions.now c.loop-extension.extension-index c.loop-extension-test.false c.loop-extension.invariant)
-    c.push_zeros.ensures
+returns c = search (rules, on_ok_weaker, extensions_pieces)

@@ -1,5 +1,4 @@
-use Rattle.std.proofs.Common.{arith}
-use Rattle.std.proofs.Common.{◌≡◌, ◌++◌, [], ◌∷◌, List, Ok, map, append-nil, inl, inr, ap, ◌∙◌, rules}
+use Rattle.std.proofs.Common.{◌≡◌, ◌++◌, [], ◌∷◌, List, map, inl, inr, ap, ◌∙◌, rules}
 use Rattle.std.proofs.lemmas.List.{map-append}
 use Rattle.std.proofs.lemmas.List.Elements.{All-push}
 use Rattle.std.proofs.lemmas.Result.{err_from_is_err_and}
@@ -49,12 +48,4 @@ loop-extensions-preserved g c =
     }
 
 pub returns-clause-exact : goal.returns-clause-exact
-returns-clause-exact g c told =
-    let image = (g.S.Storage.state c.loop-extensions.image.image.now).byte_at in
-    let before = c.loop-extensions.invariant in
-    let len = c.args.len in
-    let place = c.loop-extensions.place in
-    let known = map extension_of c.loop-extensions.extensions.items in
-    let exact = rw c.in_default.is at (c.in_ok-extension.ensures.exact (before.device.tells ∙ told)) in
-    let rest = rw before.bytes at (extensions_at-end image len place exact) in
-    before.told told ∙ ap (result_map (λ (xs : List Extension). known ++ xs)) rest ∙ ap Ok (append-nil known)
+returns-clause-exact g c told = search (rules, extensions_at-end)

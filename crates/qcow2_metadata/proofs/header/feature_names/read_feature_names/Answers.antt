@@ -4,7 +4,7 @@ use Rattle.std.specs.Int.{div_ceil}
 use Rattle.qcow2_base.specs.Storage.{Holds}
 use Rattle.qcow2_metadata.proofs.FeatureNamesLemmas.{names_of_chunks-fault, names_of_chunks-more}
 use Rattle.qcow2_metadata.proofs.RangeLemmas.{chunk_at-held, length-bytes_at}
-use Rattle.qcow2_metadata.specs.Header.Extensions.{names_of, names_of_chunks, with_feature_name}
+use Rattle.qcow2_metadata.specs.Header.Extensions.{names_of, with_feature_name}
 use Rattle.qcow2_metadata.specs.Range.{bytes_at}
 use Rattle.qcow2_metadata.proofs.StorableLemmas.{ordered-storable}
 use Rattle.qcow2_metadata.proofs.header.feature_names.read_feature_names.Goals as goal
@@ -37,27 +37,7 @@ returns-in_err-add_feature_name-clause-exact g c told =
     ])
 
 pub loop-index-preserved : goal.loop-index-preserved
-loop-index-preserved g c =
-    let image = (g.S.Storage.state c.args.image.now.image.now).byte_at in
-    let place = c.args.place in
-    let len = c.args.len in
-    let index = c.loop-index.index in
-    let before = c.loop-index.invariant in
-    let names = names_of c.loop-index.names in
-    let read = c.read_range.new.buffer in
-    let count : length read ≡ min 48 (len - 48 * index) = search rules in
-    record {
-      told = λ told.
-          let held : Holds image (place + 48 * index) read = rw before.bytes at (c.in_ok-read_range.ensures.held (before.device.tells ∙ told)) in
-          let chunk = chunk_at-held image place len index read held count in
-          names_of_chunks-more (bytes_at image place len) index names (before.told told)
-          ∙ ap (with_feature_name names) chunk ∙ c.in_ok-add_feature_name.ensures.exact;
-      ordered = c.in_ok-add_feature_name.ensures.ordered before.ordered;
-      bytes = search rules;
-      failures = search rules;
-      device = search rules;
-      same = search rules;
-    }
+loop-index-preserved g c = search (rules, chunk_at-held, names_of_chunks-more)
 
 pub returns-clause-exact : goal.returns-clause-exact
 returns-clause-exact g c told = grind (arith, length-bytes_at)

@@ -1,4 +1,3 @@
-use Rattle.std.proofs.Common.{arith}
 use Rattle.std.proofs.Common.{◌∙◌, ap, map, string_bytes}
 use Rattle.std.specs.BTreeMap.{insert_entry}
 use Rattle.qcow2_metadata.specs.Header.Extensions.{key_cmp, names_of}

@@ -1,8 +1,8 @@
-use Rattle.std.proofs.Common.{◌≡◌, ◌^◌, ◌≤◌, Ok, inr, arith, length, map, option_map, string_bytes, sym, ap, ◌∙◌}
+use Rattle.std.proofs.Common.{rules}
+use Rattle.std.proofs.Common.{Ok, inr, arith, map, option_map, string_bytes, ◌∙◌}
 use Rattle.std.proofs.lemmas.Result.{err_from_is_err_and}
 use Rattle.std.proofs.lemmas.List.{nil_from_length}
 use Rattle.std.proofs.Math.Pow.{pow_mono}
-use Rattle.qcow2_base.specs.declared.on_disk_struct.v3_header_base.V3HeaderBase.{V3HeaderBase}
 use Rattle.qcow2_metadata.proofs.GrammarLemmas.{header_from, last-hold}
 use Rattle.qcow2_metadata.proofs.LoadLemmas.{header-extensions-fault, header-last, header-name-fault, passed_on, provided-fault, provided-next}
 use Rattle.qcow2_metadata.proofs.StorableLemmas.{name-text}
@@ -17,7 +17,8 @@ pub returns-in_err-backing_filename-clause-exact : goal.returns-in_err-backing_f
 returns-in_err-backing_filename-clause-exact g c told fixed =
     let image = (g.S.Storage.state c.args.image.now.image.now).byte_at in
     let one = c.in_ok-unknown_header_fields.ensures.storage.reads in
-    passed_on (λ h. h) c.from_residual-in_err-backing_filename.result (header_of image) (backing_name image c.args.v2) _
+    passed_on (λ h. h) c.from_residual-in_err-backing_filename.result (header_of image)
+    (backing_name image c.args.v2) _
     c.from_residual-in_err-backing_filename.ensures.1
     (rw one.bytes at (c.in_err-backing_filename.ensures.exact (one.device.tells ∙ told)))
     (header-name-fault image c.args.v2 c.args.base c.in_err-backing_filename.field-0.0 fixed)
@@ -29,7 +30,8 @@ returns-in_err-extensions-clause-exact g c told fixed =
     let two = c.in_ok-backing_filename.ensures.storage.reads in
     let first = one.device.tells ∙ told in
     let named = rw one.bytes at (c.in_ok-backing_filename.ensures.exact first) in
-    passed_on (λ h. h) c.from_residual-in_err-extensions.result (header_of image) (header_extensions image c.args.v2 c.args.base) _
+    passed_on (λ h. h) c.from_residual-in_err-extensions.result (header_of image)
+    (header_extensions image c.args.v2 c.args.base) _
     c.from_residual-in_err-extensions.ensures.1
     (rw (two.bytes ∙ one.bytes) at (c.in_err-extensions.ensures.exact (two.device.tells ∙ first)))
     (header-extensions-fault image c.args.v2 c.args.base _ c.in_err-extensions.field-0.0 fixed named)
@@ -41,13 +43,17 @@ returns-in_err-check_extensions-clause-exact g c told fixed =
     let two = c.in_ok-backing_filename.ensures.storage.reads in
     let first = one.device.tells ∙ told in
     let named = rw one.bytes at (c.in_ok-backing_filename.ensures.exact first) in
-    let extended = rw (two.bytes ∙ one.bytes) at (c.in_ok-extensions.ensures.exact (two.device.tells ∙ first)) in
+    let extended =
+    rw (two.bytes ∙ one.bytes) at (c.in_ok-extensions.ensures.exact (two.device.tells ∙ first)) in
     let exit = err_from_is_err_and c.from_residual-in_err-check_extensions.result c.from_residual-in_err-check_extensions.ensures.1 in
     let name = option_map string_bytes c.in_ok-backing_filename.backing_filename in
     let extensions = map extension_of c.in_ok-extensions.extensions.items in
-    rw (exit.1, exit.2) (inr (inr (header-last image c.args.v2 c.args.base name extensions fixed named extended
-    ∙ provided-fault (last_conditions c.args.base extensions) (λ _. Ok (header_from image (c.args.v2, c.args.base) name extensions))
-    c.in_err-check_extensions.field-0.0 (rw c.deref.ensures.value at c.in_err-check_extensions.ensures.exact))))
+    rw (exit.1, exit.2)
+    (inr (inr (header-last image c.args.v2 c.args.base name extensions fixed named extended
+    ∙ provided-fault (last_conditions c.args.base extensions)
+    (λ _. Ok (header_from image (c.args.v2, c.args.base) name extensions))
+    c.in_err-check_extensions.field-0.0
+    (rw c.deref.ensures.value at c.in_err-check_extensions.ensures.exact))))
 
 pub returns-clause-exact : goal.returns-clause-exact
 returns-clause-exact g c told fixed =
@@ -56,35 +62,15 @@ returns-clause-exact g c told fixed =
     let two = c.in_ok-backing_filename.ensures.storage.reads in
     let first = one.device.tells ∙ told in
     let named = rw one.bytes at (c.in_ok-backing_filename.ensures.exact first) in
-    let extended = rw (two.bytes ∙ one.bytes) at (c.in_ok-extensions.ensures.exact (two.device.tells ∙ first)) in
+    let extended =
+    rw (two.bytes ∙ one.bytes) at (c.in_ok-extensions.ensures.exact (two.device.tells ∙ first)) in
     let name = option_map string_bytes c.in_ok-backing_filename.backing_filename in
     let extensions = map extension_of c.in_ok-extensions.extensions.items in
-    rw (c.in_ok-unknown_header_fields.ensures.read told) (header-last image c.args.v2 c.args.base name extensions fixed named extended
-    ∙ provided-next (last_conditions c.args.base extensions) (λ _. Ok (header_from image (c.args.v2, c.args.base) name extensions))
+    rw (c.in_ok-unknown_header_fields.ensures.read told)
+    (header-last image c.args.v2 c.args.base name extensions fixed named extended
+    ∙ provided-next (last_conditions c.args.base extensions)
+    (λ _. Ok (header_from image (c.args.v2, c.args.base) name extensions))
     (rw c.deref.ensures.value at c.in_ok-check_extensions.ensures.exact))
 
 pub invariant_of-result : goal.invariant_of-result
-invariant_of-result g c =
-    let base = c.args.base in
-    let extensions = map extension_of c.in_ok-extensions.extensions.items in
-    let unknown = c.in_ok-unknown_header_fields.unknown_header_fields.items in
-    let lawful = c.requires in
-    let checked = rw c.deref.ensures.value at c.in_ok-check_extensions.ensures.exact in
-    let hold = (last-hold base extensions (tt {0}) (tt {0}) (sym checked)).0 in
-    record {
-      magic = lawful.magic;
-      version = lawful.version;
-      cluster_bits = lawful.cluster_bits;
-      refcount_order = lawful.refcount_order;
-      l1_table_aligned = lawful.l1_table_aligned;
-      reftable_aligned = lawful.reftable_aligned;
-      features = hold.features;
-      one_format = hold.one_format;
-      one_data_file = hold.one_data_file;
-      backing_filename = name-text c.in_ok-backing_filename.backing_filename;
-      storable = c.in_ok-extensions.ensures.storable;
-      older = λ two.
-          let length_is : base.header_length ≡ 104 = ap (λ (b : V3HeaderBase). b.header_length) (lawful.older two) in
-          let none : length unknown ≡ 0 = omega (arith, c.in_ok-unknown_header_fields.ensures.len, length_is) in
-          (lawful.older two, nil_from_length unknown none, ap (map extension_of) (c.in_ok-extensions.ensures.older two));
-    }
+invariant_of-result g c = search (rules, last-hold, name-text, nil_from_length)

@@ -1,4 +1,3 @@
-use Rattle.std.proofs.Common.{arith}
 use Rattle.std.proofs.Common.{◌≤◌, length, rules}
 use Rattle.qcow2_base.specs.OnDiskStruct.{v2_header}
 use Rattle.qcow2_metadata.proofs.PointerLemmas.{part-between}

@@ -1,4 +1,3 @@
-use Rattle.std.proofs.Common.{arith}
 use Rattle.std.proofs.Common.{◌≡◌, ◌∙◌, ap, refl, sym, Option, None, Some, option_map, Bor, String, string_bytes}
 use Rattle.std.specs.Global.{Global}
 use Rattle.std.specs.Option.{option_copied}
