@@ -308,11 +308,8 @@ fn leaves<T: OnDiskStruct + Copy + Debug + PartialEq>(
         Err(fault) => Err(fault),
     };
     let stored = store(call, &value, bytes);
-    same(
-        (stored, load(call, bytes)),
-        (answer, wanted),
-        (call, value, len),
-    )?;
+    let found = (stored, load(call, bytes));
+    same(found, (answer, wanted), (call, value, len))?;
     let start = expected.len();
     same_bytes(buffer.get(..start).unwrap_or(&[]), expected, (call, value))?;
     let past = FILLED.get(start..).unwrap_or(&[]);

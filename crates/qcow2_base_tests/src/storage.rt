@@ -4,7 +4,9 @@ mod files;
 mod large_files;
 
 use qcow2_base::{MemStorage, Storage, StorageFault};
-use qcow2_testing::{FailingStorage, StorageCall, holds, printed, recorded, same, same_bytes};
+use qcow2_testing::{
+    FailingStorage, StorageCall, each, holds, printed, recorded, same, same_bytes,
+};
 use std::alloc::Global;
 use std::fmt::Debug;
 use std::test::Fail;
@@ -133,10 +135,7 @@ fn is_written(alloc: Global, row: Written) -> Result<(), Fail> {
 
 #[test]
 fn a_write_replaces_its_range_and_lengthens_with_zeros(rt: HostRuntime) -> Result<(), Fail> {
-    for row in WRITES {
-        is_written(rt.alloc(), *row)?;
-    }
-    Ok(())
+    each(rt.alloc(), WRITES, is_written)
 }
 
 // No memory has room for an image that ends at 2^56.
@@ -150,11 +149,8 @@ fn are_refused(alloc: Global, storage: &mut MemStorage) -> Result<(), Fail> {
     is_refused(alloc, storage, 2)?;
     is_refused(alloc, storage, 3)?;
     let answers = (write(storage, &[], LIMIT), write(storage, &[7, 8], 1));
-    same(
-        (answers, storage.bytes()),
-        ((Ok(()), Ok(())), &[1, 7, 8]),
-        "written",
-    )?;
+    same(answers, (Ok(()), Ok(())), "written")?;
+    same_bytes(storage.bytes(), &[1, 7, 8], "written")?;
     has_failed(alloc, storage, 3)
 }
 
@@ -170,11 +166,8 @@ fn are_recorded(storage: &mut FailingStorage<MemStorage>) -> Result<(), Fail> {
     let answer = read(storage, &mut bytes, 1);
     storage.fail_after(0);
     let found = (aligned, answer, bytes, write(storage, &[4, 5, 6], 7));
-    same(
-        found,
-        ((512, 512), Ok(()), [2, 3], Err(StorageFault)),
-        "first calls",
-    )?;
+    let expected = ((512, 512), Ok(()), [2, 3], Err(StorageFault));
+    same(found, expected, "first calls")?;
     let calls = [
         StorageCall::Read { offset: 1, len: 2 },
         StorageCall::Write { offset: 7, len: 3 },
@@ -190,11 +183,8 @@ fn are_counted(storage: &mut FailingStorage<MemStorage>) -> Result<(), Fail> {
     let refused = write(storage, &[9], LIMIT - 1);
     let planned = read(storage, &mut bytes, 0);
     let found = (refused, planned, read(storage, &mut bytes, 0));
-    same(
-        found,
-        (Err(StorageFault), Err(StorageFault), Ok(())),
-        "next calls",
-    )?;
+    let expected = (Err(StorageFault), Err(StorageFault), Ok(()));
+    same(found, expected, "next calls")?;
     let found = (
         storage.calls().len(),
         storage.failures(),

@@ -1,7 +1,7 @@
 //! Conversions, operators and texts of offsets, clusters and counts.
 
 use qcow2_base::{ClusterCount, GuestCluster, GuestOffset, HostCluster, HostOffset};
-use qcow2_testing::{fits, holds, is_cluster_bits, same, same_text};
+use qcow2_testing::{each_row, fits, holds, is_cluster_bits, same, same_text};
 use std::test::Fail;
 
 /// The largest offset of all.
@@ -25,11 +25,8 @@ fn has_place(row: Offset) -> Result<(), Fail> {
     let (guest, host) = (GuestOffset(offset), HostOffset(offset));
     let found = (guest.in_cluster_offset(bits), guest.cluster(bits).0);
     let of_host = (host.in_cluster_offset(bits), host.cluster(bits).0);
-    same(
-        (found, of_host),
-        ((before, cluster), (before, cluster)),
-        row,
-    )?;
+    let expected = ((before, cluster), (before, cluster));
+    same((found, of_host), expected, row)?;
     let indices = (guest.l1_index(bits), guest.l2_index(bits));
     let remaining = (
         guest.remaining_in_cluster(bits),
@@ -41,10 +38,7 @@ fn has_place(row: Offset) -> Result<(), Fail> {
 
 #[test]
 fn an_offset_has_its_place_in_a_cluster_and_in_the_tables() -> Result<(), Fail> {
-    for row in OFFSETS {
-        has_place(*row)?;
-    }
-    Ok(())
+    each_row(OFFSETS, has_place)
 }
 
 // An offset and the cluster bits, the cluster that starts there, and how many clusters it takes to there.
@@ -74,10 +68,7 @@ fn starts(row: Start) -> Result<(), Fail> {
 
 #[test]
 fn only_a_cluster_s_start_is_a_checked_cluster_or_count() -> Result<(), Fail> {
-    for row in STARTS {
-        starts(*row)?;
-    }
-    Ok(())
+    each_row(STARTS, starts)
 }
 
 // A cluster and the cluster bits, its places in the L1 and the L2 table, and the next cluster.
@@ -107,9 +98,7 @@ fn has_indices(row: Cluster) -> Result<(), Fail> {
 
 #[test]
 fn a_guest_cluster_and_its_places_tell_each_other() -> Result<(), Fail> {
-    for row in CLUSTERS {
-        has_indices(*row)?;
-    }
+    each_row(CLUSTERS, has_indices)?;
     let found = (
         GuestCluster(127).first_in_next_l2(9).0,
         GuestCluster(LAST - 262144).first_in_next_l2(21).0,
@@ -143,10 +132,7 @@ fn is_counted(row: Counted) -> Result<(), Fail> {
 
 #[test]
 fn a_host_cluster_and_its_places_tell_each_other() -> Result<(), Fail> {
-    for row in HOST_CLUSTERS {
-        is_counted(*row)?;
-    }
-    Ok(())
+    each_row(HOST_CLUSTERS, is_counted)
 }
 
 // A cluster and the cluster bits, its offset, a guest offset, and the byte of the cluster with its place.
@@ -176,10 +162,7 @@ fn begins(row: Byte) -> Result<(), Fail> {
 
 #[test]
 fn a_cluster_begins_at_its_offset_and_a_mapped_byte_keeps_its_place() -> Result<(), Fail> {
-    for row in BYTES {
-        begins(*row)?;
-    }
-    Ok(())
+    each_row(BYTES, begins)
 }
 
 #[test]

@@ -3,7 +3,7 @@
 use crate::blocks::{load, new_cleared};
 use qcow2_base::{Fault, MemStorage};
 use qcow2_metadata::RefBlock;
-use qcow2_testing::{holds, printed};
+use qcow2_testing::{each, holds, printed};
 use std::alloc::{AllocError, Global};
 use std::test::Fail;
 
@@ -39,10 +39,8 @@ fn beginning(alloc: Global, row: Kept, first: First) -> Result<String, AllocErro
 fn keeps(block: &RefBlock, row: Kept, first: First) -> Result<(), Fail> {
     let expected = beginning(block.allocator(), row, first)?;
     let found = printed(block.allocator(), block)?;
-    holds(
-        found.as_str().starts_with(expected.as_str()),
-        (row.0, found),
-    )
+    let begins = found.as_str().starts_with(expected.as_str());
+    holds(begins, (row.0, found))
 }
 
 // The block of an image of these bytes, and zeros behind them.
@@ -58,8 +56,5 @@ fn both_keep(alloc: Global, row: Kept) -> Result<(), Fail> {
 
 #[test]
 fn a_block_keeps_one_number_for_each_counter(rt: HostRuntime) -> Result<(), Fail> {
-    for row in KEPT {
-        both_keep(rt.alloc(), *row)?;
-    }
-    Ok(())
+    each(rt.alloc(), KEPT, both_keep)
 }

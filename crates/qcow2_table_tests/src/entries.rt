@@ -5,7 +5,7 @@ use crate::l2_mapping::Reads::{Backing, Compressed, Data, Zeros};
 use crate::l2_mapping::{Reads, mapping_of};
 use qcow2_base::{Fault, GuestCluster, HostOffset};
 use qcow2_metadata::{AtomicL2Entry, Header, L1Entry, L2Entry, RefTableEntry, TableEntry};
-use qcow2_testing::{fits, holds, same};
+use qcow2_testing::{each, fits, holds, same};
 use std::alloc::Global;
 use std::test::Fail;
 
@@ -79,10 +79,7 @@ fn is_judged(alloc: Global, row: Number) -> Result<(), Fail> {
 
 #[test]
 fn a_reserved_bit_and_else_an_unaligned_offset_is_refused(rt: HostRuntime) -> Result<(), Fail> {
-    for row in NUMBERS {
-        is_judged(rt.alloc(), *row)?;
-    }
-    Ok(())
+    each(rt.alloc(), NUMBERS, is_judged)
 }
 
 // Where an L2 table lies by an L1 entry, whether it is copied, and where a refcount block lies.
@@ -167,10 +164,7 @@ fn means(alloc: Global, row: Meaning) -> Result<(), Fail> {
 
 #[test]
 fn an_entry_reads_as_its_bits_and_refers_to_its_clusters(rt: HostRuntime) -> Result<(), Fail> {
-    for row in MEANINGS {
-        means(rt.alloc(), *row)?;
-    }
-    Ok(())
+    each(rt.alloc(), MEANINGS, means)
 }
 
 // A number, whether it is compressed, copied and a zero entry, and the number without bit 63.
@@ -184,9 +178,9 @@ const BITS: &[Bits] = &[
 
 const COMPRESSED: u64 = 0x60ff_ffff_ffff_ffff;
 
-fn tells_its_bits(header: &Header, row: Bits) -> Result<(), Fail> {
+fn tells_its_bits(alloc: Global, row: Bits) -> Result<(), Fail> {
     let (number, bits, rest) = row;
-    let entry = L2Entry::try_from_plain(number, header)?;
+    let entry = L2Entry::try_from_plain(number, &header_with(alloc, 9)?)?;
     let found = (entry.is_compressed(), entry.is_copied(), entry.is_zero());
     let kept = (entry.reserved_bits(), entry.compressed_descriptor());
     let other = entry.without_copied();
@@ -198,9 +192,5 @@ fn tells_its_bits(header: &Header, row: Bits) -> Result<(), Fail> {
 
 #[test]
 fn an_entry_tells_its_bits_and_keeps_all_but_copied(rt: HostRuntime) -> Result<(), Fail> {
-    let header = header_with(rt.alloc(), 9)?;
-    for row in BITS {
-        tells_its_bits(&header, *row)?;
-    }
-    Ok(())
+    each(rt.alloc(), BITS, tells_its_bits)
 }

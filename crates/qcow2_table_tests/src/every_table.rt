@@ -3,7 +3,7 @@
 use crate::fixtures::{cleared_l1_table, load, tells, write, write_entry};
 use qcow2_base::{ClusterCount, Fault};
 use qcow2_metadata::{L1Table, L2Table, RefTable, Table, TableEntry};
-use qcow2_testing::{filled_image, image_with, put, recorded, same, same_image};
+use qcow2_testing::{each, filled_image, image_with, put, recorded, same, same_image};
 use std::alloc::Global;
 use std::test::Fail;
 
@@ -69,10 +69,7 @@ fn loads_by_its_place(alloc: Global, row: Place) -> Result<(), Fail> {
 
 #[test]
 fn a_table_is_loaded_from_where_it_may_be(rt: HostRuntime) -> Result<(), Fail> {
-    for row in PLACES {
-        loads_by_its_place(rt.alloc(), *row)?;
-    }
-    Ok(())
+    each(rt.alloc(), PLACES, loads_by_its_place)
 }
 
 // How many entries a table has, its cluster, whether it is modified, and why neither it nor an entry can be
@@ -102,10 +99,7 @@ fn is_not_written(alloc: Global, row: Refusal) -> Result<(), Fail> {
 
 #[test]
 fn a_table_without_a_lawful_place_is_not_written(rt: HostRuntime) -> Result<(), Fail> {
-    for row in REFUSALS {
-        is_not_written(rt.alloc(), *row)?;
-    }
-    Ok(())
+    each(rt.alloc(), REFUSALS, is_not_written)
 }
 
 fn has_entry(table: &L1Table, index: usize, number: Option<u64>) -> Result<(), Fail> {

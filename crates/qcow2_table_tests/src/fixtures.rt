@@ -142,11 +142,14 @@ pub(crate) fn tells<T: Table, R: Debug + Drop>(table: &T, told: Told, row: R) ->
         (table.get_cluster(), table.get_offset()),
         table.is_modified(),
     );
-    let offset = match cluster {
-        Some(cluster) => Some(HostOffset(cluster.wrapping_mul(1 << table.cluster_bits()))),
-        None => None,
+    let size = 1 << table.cluster_bits();
+    let place = match cluster {
+        Some(cluster) => (
+            Some(HostCluster(cluster)),
+            Some(HostOffset(cluster.wrapping_mul(size))),
+        ),
+        None => (None, None),
     };
-    let place = (cluster.map(HostCluster), offset);
     same(found, ((entries, None), place, modified), row)
 }
 
@@ -170,17 +173,9 @@ pub(crate) fn table_that_tells<T: Loads>(
 ) -> Result<T, Fault> {
     let (entries, (index, number), cluster, modified) = told;
     let start = l2_entries(disk.0).saturating_mul(16);
-    let entry = (
-        (start as u64).saturating_add((index as u64).saturating_mul(8)),
-        number,
-    );
-    let mut table = load(
-        alloc,
-        &mut image_with(alloc, start, &[entry])?,
-        disk,
-        2,
-        entries,
-    )?;
+    let offset = (start as u64).saturating_add((index as u64).saturating_mul(8));
+    let at = [(offset, number)];
+    let mut table = load(alloc, &mut image_with(alloc, start, &at)?, disk, 2, entries)?;
     place(&mut table, cluster, modified)?;
     Ok(table)
 }

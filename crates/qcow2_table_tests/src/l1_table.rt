@@ -4,7 +4,7 @@ use crate::fixtures::{DISK, LOADED, NUMBER, header_with, is_grown, table_that_te
 use crate::pending_clusters::{Entered, Refusal, is_entered, refusal};
 use qcow2_base::{ClusterCount, Fault, HostCluster};
 use qcow2_metadata::{L1Table, L2Table, PendingClusters, Table};
-use qcow2_testing::holds;
+use qcow2_testing::{each, holds};
 use std::alloc::Global;
 use std::test::Fail;
 
@@ -46,23 +46,15 @@ fn grows(alloc: Global, row: Growth) -> Result<(), Fail> {
 
 #[test]
 fn an_l1_table_grows_by_whole_clusters(rt: HostRuntime) -> Result<(), Fail> {
-    for row in GROWTHS {
-        grows(rt.alloc(), *row)?;
-    }
-    Ok(())
+    each(rt.alloc(), GROWTHS, grows)
 }
 
 // Enters an L2 table as entry 3, with a pending cluster or without.
 fn enter(table: &mut L1Table, l2_table: &L2Table, is_pending: bool) -> Result<Refusal, Fail> {
-    holds(
-        table.cluster_bits() == 9 && l2_table.cluster_bits() == 9,
-        is_pending,
-    )?;
+    holds(table.cluster_bits() == 9 && table.in_bounds(3), "L1 table")?;
+    holds(l2_table.cluster_bits() == 9, "L2 table")?;
     let cluster = l2_table.get_cluster().unwrap_or(HostCluster(7));
-    holds(
-        0 < cluster.0 && cluster.0 < 1 << 47 && table.in_bounds(3),
-        cluster,
-    )?;
+    holds(0 < cluster.0 && cluster.0 < 1 << 47, cluster)?;
     let pending = if is_pending {
         Some(PendingClusters::new(cluster, ClusterCount(1)))
     } else {
@@ -80,15 +72,12 @@ const ENTERED: &[Entered] = &[
 
 fn enters(alloc: Global, row: Entered) -> Result<(), Fail> {
     let mut table: L1Table = table_that_tells(alloc, DISK, LOADED)?;
-    let l2_table = table_that_tells(alloc, DISK, (64, (0, 0), row.0, true))?;
-    let found = enter(&mut table, &l2_table, row.1)?;
+    let entered = (64, (0, 0), row.0, true);
+    let found = enter(&mut table, &table_that_tells(alloc, DISK, entered)?, row.1)?;
     is_entered(&table, found, row)
 }
 
 #[test]
 fn an_entered_l2_table_is_copied_and_at_its_offset(rt: HostRuntime) -> Result<(), Fail> {
-    for row in ENTERED {
-        enters(rt.alloc(), *row)?;
-    }
-    Ok(())
+    each(rt.alloc(), ENTERED, enters)
 }

@@ -10,7 +10,7 @@ use qcow2_metadata::{
     ClustersToFreeEntry, CompressedClusterReadGuard, L2Mapping, L2Table, MAX_OFFSET,
     PendingClusters, Table,
 };
-use qcow2_testing::{fits, holds, same};
+use qcow2_testing::{each, fits, holds, same};
 use std::alloc::Global;
 use std::test::Fail;
 
@@ -77,11 +77,8 @@ fn reads_as(table: &mut L2Table, reads: Reads) -> Result<(), Fail> {
         Compressed(offset, length) => Some((offset, length)),
         _ => None,
     };
-    same(
-        (compressed(table, 7)?, compressed(table, 8)?),
-        (range, None),
-        reads,
-    )
+    let found = (compressed(table, 7)?, compressed(table, 8)?);
+    same(found, (range, None), reads)
 }
 
 // Reads by an entry of a table.
@@ -95,10 +92,7 @@ fn is_read(alloc: Global, row: Meaning) -> Result<(), Fail> {
 fn a_guest_cluster_reads_as_its_entry_and_has_a_range_if_compressed(
     rt: HostRuntime,
 ) -> Result<(), Fail> {
-    for row in MEANINGS {
-        is_read(rt.alloc(), *row)?;
-    }
-    Ok(())
+    each(rt.alloc(), MEANINGS, is_read)
 }
 
 // An edit of an entry.
@@ -185,8 +179,5 @@ fn is_edited(alloc: Global, row: Edited) -> Result<(), Fail> {
 
 #[test]
 fn an_edit_leaves_its_entry_and_hands_back_what_it_drops(rt: HostRuntime) -> Result<(), Fail> {
-    for row in EDITED {
-        is_edited(rt.alloc(), *row)?;
-    }
-    Ok(())
+    each(rt.alloc(), EDITED, is_edited)
 }

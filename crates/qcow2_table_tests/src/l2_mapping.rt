@@ -7,7 +7,7 @@ ghost use Rattle.qcow2_metadata.specs.Entries.L2Mapping.{FitsEntry, IsPlaced};
 use crate::fixtures::COPIED;
 use qcow2_base::{GuestCluster, HostCluster, HostOffset};
 use qcow2_metadata::{L2Entry, L2Mapping, TableEntry};
-use qcow2_testing::{fits, holds, is_cluster_bits, same};
+use qcow2_testing::{each_row, fits, holds, is_cluster_bits, same};
 use std::num::NonZero;
 use std::test::Fail;
 
@@ -133,14 +133,13 @@ fn enters(row: Entered) -> Result<(), Fail> {
 
 #[test]
 fn a_mapping_has_an_entry_that_reads_as_it() -> Result<(), Fail> {
-    for row in ENTERED {
-        enters(*row)?;
-    }
-    Ok(())
+    each_row(ENTERED, enters)
 }
 
 // Two mappings of an image of 512-byte clusters, and whether the second goes on after the first.
-const GOES_ON: &[(Reads, Reads, bool)] = &[
+type Pair = (Reads, Reads, bool);
+
+const GOES_ON: &[Pair] = &[
     (Data(5, true), Data(6, true), true),
     (Data(5, true), Data(6, false), false),
     (Data(5, true), Data(7, true), false),
@@ -155,12 +154,12 @@ const GOES_ON: &[(Reads, Reads, bool)] = &[
     (Compressed(0x1_0000, 7), Data(1, true), false),
 ];
 
+fn goes_on(row: Pair) -> Result<(), Fail> {
+    let (first, second) = (mapping_of(row.0)?, mapping_of(row.1)?);
+    same(second.is_consecutive(&first, 9), row.2, row)
+}
+
 #[test]
 fn a_mapping_goes_on_in_the_next_cluster_and_zeros_in_any() -> Result<(), Fail> {
-    for row in GOES_ON {
-        let (first, second, want) = *row;
-        let (first, second) = (mapping_of(first)?, mapping_of(second)?);
-        same(second.is_consecutive(&first, 9), want, *row)?;
-    }
-    Ok(())
+    each_row(GOES_ON, goes_on)
 }

@@ -9,7 +9,7 @@ use crate::l2_mapping::Reads::{Backing, Data};
 use crate::l2_mapping::mapping_of;
 use qcow2_base::{Fault, MemStorage};
 use qcow2_metadata::{L2Table, Table};
-use qcow2_testing::{image_with, recorded, same, same_image};
+use qcow2_testing::{each, image_with, recorded, same, same_image};
 use std::alloc::Global;
 use std::test::Fail;
 
@@ -59,10 +59,7 @@ fn is_copied(alloc: Global, row: Copied) -> Result<(), Fail> {
 
 #[test]
 fn a_copy_has_the_same_mappings_and_no_copied_entry(rt: HostRuntime) -> Result<(), Fail> {
-    for row in COPIES {
-        is_copied(rt.alloc(), *row)?;
-    }
-    Ok(())
+    each(rt.alloc(), COPIES, is_copied)
 }
 
 // A table's cluster and whether it is modified, and then the answer and how many calls the storage gets.
@@ -102,10 +99,7 @@ fn is_written(alloc: Global, row: Written) -> Result<(), Fail> {
 
 #[test]
 fn write_if_modified_writes_a_modified_table_alone(rt: HostRuntime) -> Result<(), Fail> {
-    for row in WRITES {
-        is_written(rt.alloc(), *row)?;
-    }
-    Ok(())
+    each(rt.alloc(), WRITES, is_written)
 }
 
 // An image whose cluster 2 is a table of one entry that isn't 0, which maps guest cluster 3 to cluster 5.

@@ -4,7 +4,7 @@ use crate::fixtures::{Told, table_that_tells, tells, write_entry};
 use qcow2_base::{Fault, MemStorage};
 use qcow2_metadata::{L1Table, Table};
 use qcow2_testing::{
-    FailingStorage, StorageCall, filled_image, put, put_bytes, recorded, same, same_image,
+    FailingStorage, StorageCall, each, filled_image, put, put_bytes, recorded, same, same_image,
 };
 use std::alloc::Global;
 use std::test::Fail;
@@ -68,8 +68,5 @@ fn is_written(alloc: Global, row: Written) -> Result<(), Fail> {
 
 #[test]
 fn one_entry_is_written_with_its_aligned_bytes(rt: HostRuntime) -> Result<(), Fail> {
-    for row in WRITTEN {
-        is_written(rt.alloc(), *row)?;
-    }
-    Ok(())
+    each(rt.alloc(), WRITTEN, is_written)
 }

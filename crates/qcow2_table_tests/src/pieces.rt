@@ -4,7 +4,7 @@ use crate::fixtures::{COPIED, DISK, load, write};
 use qcow2_base::{Fault, MemStorage};
 use qcow2_metadata::{L1Table, Table};
 use qcow2_testing::{
-    FailingStorage, StorageCall, filled_image, put, put_bytes, recorded, same, same_bytes,
+    FailingStorage, StorageCall, each, filled_image, put, put_bytes, recorded, same, same_bytes,
     same_image,
 };
 use std::alloc::Global;
@@ -79,17 +79,15 @@ fn is_in_pieces(alloc: Global, row: Pieces) -> Result<(), Fail> {
 
 #[test]
 fn a_table_is_read_and_written_in_its_pieces(rt: HostRuntime) -> Result<(), Fail> {
-    for row in TABLES {
-        is_in_pieces(rt.alloc(), *row)?;
-    }
-    Ok(())
+    each(rt.alloc(), TABLES, is_in_pieces)
 }
 
 // A byte of the image that is 1 and makes its entry a bad one, and how many pieces are read.
 const BAD: &[(u64, usize)] = &[(4103, 1), (8191, 1), (8199, 2), (12287, 2), (12295, 3)];
 
 // Loads a table of 1025 entries from byte 4096 on.
-fn reads_up_to(alloc: Global, at: u64, count: usize) -> Result<(), Fail> {
+fn reads_up_to(alloc: Global, row: (u64, usize)) -> Result<(), Fail> {
+    let (at, count) = row;
     let mut image = image_with_entries(alloc, 4096, 1025)?;
     put_bytes(&mut image, at, &[1])?;
     let mut image = recorded(alloc, image);
@@ -102,10 +100,7 @@ fn reads_up_to(alloc: Global, at: u64, count: usize) -> Result<(), Fail> {
 
 #[test]
 fn a_load_reads_no_piece_after_that_of_a_bad_entry(rt: HostRuntime) -> Result<(), Fail> {
-    for (at, count) in BAD {
-        reads_up_to(rt.alloc(), *at, *count)?;
-    }
-    Ok(())
+    each(rt.alloc(), BAD, reads_up_to)
 }
 
 // Writes a table whose third piece the storage refuses, and then once more.
@@ -115,18 +110,12 @@ fn is_torn(table: &mut L1Table, image: &mut FailingStorage<MemStorage>) -> Resul
     let answer = write(table, image);
     let refused = (Err(Fault::Storage), true);
     same((answer, table.is_modified()), refused, "refused")?;
-    same_image(
-        image.inner(),
-        image_with_entries(alloc, 4096, 1024),
-        "refused",
-    )?;
+    let torn = image_with_entries(alloc, 4096, 1024);
+    same_image(image.inner(), torn, "refused")?;
     let answer = write(table, image);
     same((answer, table.is_modified()), (Ok(()), false), "again")?;
-    same_image(
-        image.inner(),
-        image_with_entries(alloc, 4096, 1025),
-        "again",
-    )
+    let whole = image_with_entries(alloc, 4096, 1025);
+    same_image(image.inner(), whole, "again")
 }
 
 #[test]

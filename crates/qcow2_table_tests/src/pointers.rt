@@ -34,11 +34,8 @@ fn set_reftable(alloc: Global, header: &mut Header, cluster: Option<u64>) -> Res
 // tables without a cluster, which are refused.
 fn set_tables(alloc: Global, header: &mut Header) -> Result<(), Fail> {
     let found = set_l1_table(header, &cleared_l1_table(alloc, 1, Some(1), true)?)?;
-    same(
-        (found, set_reftable(alloc, header, Some(4))),
-        (None, Ok(())),
-        "placed",
-    )?;
+    let answer = set_reftable(alloc, header, Some(4));
+    same((found, answer), (None, Ok(())), "placed")?;
     let found = set_l1_table(header, &cleared_l1_table(alloc, 1, None, true)?)?;
     let answer = set_reftable(alloc, header, None);
     let expected = (not_placed(Some((7, 3))), Err(Fault::NotPlaced));
@@ -59,13 +56,9 @@ fn a_header_refers_to_the_tables_that_it_was_given(rt: HostRuntime) -> Result<()
     let l1_table = (header.l1_table_offset(), header.l1_table_entries());
     let clusters = (header.reftable_clusters(), header.reftable_entries());
     let found = (header.size(), l1_table, header.reftable_offset(), clusters);
-    let l1_table = (HostOffset(0x200), 1);
     let clusters = (ClusterCount(2), 128);
-    same(
-        found,
-        (4096, l1_table, HostOffset(0x800), clusters),
-        "tables",
-    )
+    let expected = (4096, (HostOffset(0x200), 1), HostOffset(0x800), clusters);
+    same(found, expected, "tables")
 }
 
 // Writes one of the three parts.

@@ -5,7 +5,9 @@ use crate::fixtures::{DISK, LOADED, NUMBER, table_that_tells};
 use crate::pending_clusters::{Entered, Refusal, is_entered, refusal};
 use qcow2_base::{ClusterCount, Fault, HostCluster, HostOffset, MemStorage, Storage};
 use qcow2_metadata::{PendingClusters, RefBlock, RefTable, Table};
-use qcow2_testing::{FailingStorage, filled_image, holds, recorded, same, same_bytes, same_image};
+use qcow2_testing::{
+    FailingStorage, each, filled_image, holds, recorded, same, same_bytes, same_image,
+};
 use std::alloc::Global;
 use std::test::Fail;
 
@@ -101,11 +103,8 @@ fn steps(block: &mut RefBlock, image: &mut MemStorage, row: Stepped) -> Result<(
     }
     let found = (block.get_cluster(), write(block, image));
     same(found, (Some(HostCluster(1)), Ok(())), row)?;
-    same_image(
-        image,
-        image_with(block.allocator(), (place, len, after)),
-        row,
-    )
+    let expected = image_with(block.allocator(), (place, len, after));
+    same_image(image, expected, row)
 }
 
 fn is_stepped(alloc: Global, row: Stepped) -> Result<(), Fail> {
@@ -117,10 +116,7 @@ fn is_stepped(alloc: Global, row: Stepped) -> Result<(), Fail> {
 
 #[test]
 fn steps_change_one_counter_and_say_what_it_was(rt: HostRuntime) -> Result<(), Fail> {
-    for row in STEPPED {
-        is_stepped(rt.alloc(), *row)?;
-    }
-    Ok(())
+    each(rt.alloc(), STEPPED, is_stepped)
 }
 
 // An image of so many bytes, of which byte i is `i mod 251`.
@@ -235,10 +231,7 @@ fn is_written(alloc: Global, row: Written) -> Result<(), Fail> {
 
 #[test]
 fn a_block_is_written_where_it_may_be(rt: HostRuntime) -> Result<(), Fail> {
-    for row in WRITES {
-        is_written(rt.alloc(), *row)?;
-    }
-    Ok(())
+    each(rt.alloc(), WRITES, is_written)
 }
 
 // What a load from a cluster tells.
@@ -251,11 +244,8 @@ fn loaded(alloc: Global, cluster: u64) -> Result<(usize, Option<HostOffset>, boo
 fn a_block_is_loaded_from_where_it_may_be(rt: HostRuntime) -> Result<(), Fail> {
     let last = (256, Some(HostOffset(0xff_ffff_ffff_fe00)), false);
     same(loaded(rt.alloc(), (1 << 47) - 1), Ok(last), "last")?;
-    same(
-        loaded(rt.alloc(), 1 << 47),
-        Err(Fault::TablePlace),
-        "past the last",
-    )
+    let answer = loaded(rt.alloc(), 1 << 47);
+    same(answer, Err(Fault::TablePlace), "past the last")
 }
 
 fn is_cleared(block: &mut RefBlock) -> Result<(), Fail> {
@@ -275,15 +265,10 @@ fn a_cleared_block_has_no_reference_and_no_place(rt: HostRuntime) -> Result<(), 
 
 // Enters the block as entry 3, with a pending cluster or without.
 fn enter(table: &mut RefTable, block: &RefBlock, is_pending: bool) -> Result<Refusal, Fail> {
-    holds(
-        table.cluster_bits() == 9 && block.cluster_bits() == 9,
-        is_pending,
-    )?;
+    holds(table.cluster_bits() == 9 && table.in_bounds(3), "table")?;
+    holds(block.cluster_bits() == 9, "block")?;
     let cluster = block.get_cluster().unwrap_or(HostCluster(7));
-    holds(
-        0 < cluster.0 && cluster.0 < 1 << 47 && table.in_bounds(3),
-        cluster,
-    )?;
+    holds(0 < cluster.0 && cluster.0 < 1 << 47, cluster)?;
     let pending = if is_pending {
         Some(PendingClusters::new(cluster, ClusterCount(1)))
     } else {
@@ -299,20 +284,19 @@ const ENTERED: &[Entered] = &[
     (None, true, NUMBER),
 ];
 
-fn enters(alloc: Global, row: Entered) -> Result<(), Fail> {
-    let mut table: RefTable = table_that_tells(alloc, DISK, LOADED)?;
-    let mut block = new_cleared(alloc, 4)?;
+fn enters(table: &mut RefTable, block: &mut RefBlock, row: Entered) -> Result<(), Fail> {
     if let Some(cluster) = row.0 {
-        place(&mut block, cluster, true)?;
+        place(block, cluster, true)?;
     }
-    let found = enter(&mut table, &block, row.1)?;
-    is_entered(&table, found, row)
+    let found = enter(table, block, row.1)?;
+    is_entered(table, found, row)
 }
 
 #[test]
 fn a_block_is_entered_by_its_offset_alone(rt: HostRuntime) -> Result<(), Fail> {
     for row in ENTERED {
-        enters(rt.alloc(), *row)?;
+        let mut table = table_that_tells(rt.alloc(), DISK, LOADED)?;
+        enters(&mut table, &mut new_cleared(rt.alloc(), 4)?, *row)?;
     }
     Ok(())
 }

@@ -3,7 +3,7 @@
 use crate::fixtures::{NUMBER, header_of, is_grown, table_that_tells, tells};
 use qcow2_base::Fault;
 use qcow2_metadata::{RefTable, Table, Turns, least_spare};
-use qcow2_testing::{holds, same};
+use qcow2_testing::{each, holds, same};
 use std::alloc::Global;
 use std::test::Fail;
 
@@ -85,9 +85,7 @@ fn grows(alloc: Global, row: Growth) -> Result<(), Fail> {
 
 #[test]
 fn a_refcount_table_grows_with_the_least_spare_entries(rt: HostRuntime) -> Result<(), Fail> {
-    for row in GROWTHS {
-        has_spare(rt.alloc(), *row)?;
-        grows(rt.alloc(), *row)?;
-    }
+    each(rt.alloc(), GROWTHS, has_spare)?;
+    each(rt.alloc(), GROWTHS, grows)?;
     same(spare_of(rt.alloc(), THOUSAND)?, (Some(1041), 3), "turns")
 }

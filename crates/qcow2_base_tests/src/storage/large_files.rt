@@ -62,14 +62,20 @@ fn is_read(rt: &HostRuntime, path: &str, bytes: &[u8], row: Range) -> Result<(),
     reads(rt.alloc(), &mut open(rt, path, true)?, row.0 as u64, bytes)
 }
 
+// A file of 5 MiB reads as with zeros behind it.
+fn are_read(rt: &HostRuntime, path: &str) -> Result<(), Fail> {
+    let mut padded = image(rt.alloc(), 5 * MIB, 0, 0)?;
+    padded.resize(6 * MIB, 0)?;
+    for row in READS {
+        is_read(rt, path, &padded, *row)?;
+    }
+    Ok(())
+}
+
 #[test]
 fn a_large_read_gives_its_range_and_changes_no_byte(rt: HostRuntime) -> Result<(), Fail> {
     let bytes = image(rt.alloc(), 5 * MIB, 0, 0)?;
-    let mut padded = image(rt.alloc(), 5 * MIB, 0, 0)?;
-    padded.resize(6 * MIB, 0)?;
     let file = temporary_file(&rt, "large-read", &bytes)?;
-    for row in READS {
-        is_read(&rt, file.path.as_str(), &padded, *row)?;
-    }
+    are_read(&rt, file.path.as_str())?;
     file_holds(&rt, file.path.as_str(), &bytes, "after all reads")
 }
