@@ -86,15 +86,18 @@ const REFUSALS: &[Refusal] = &[
     (4194305, Some(1 << 47), true, Fault::TableTooBig),
 ];
 
-fn is_not_written(alloc: Global, row: Refusal) -> Result<(), Fail> {
+fn refuses(table: &mut L1Table, row: Refusal) -> Result<(), Fail> {
     let (entries, cluster, modified, fault) = row;
-    let mut table = cleared_l1_table(alloc, entries, cluster, modified)?;
-    let mut image = filled_image(alloc, 512)?;
-    let answer = write(&mut table, &mut image);
-    let found = (answer, write_entry(&mut table, &mut image, 0));
+    let mut image = filled_image(table.allocator(), 512)?;
+    let answer = write(table, &mut image);
+    let found = (answer, write_entry(table, &mut image, 0));
     same(found, (Err(fault), Err(fault)), row)?;
-    same_image(&image, filled_image(alloc, 512), row)?;
-    tells(&table, (entries, (0, 0), cluster, modified), row)
+    same_image(&image, filled_image(table.allocator(), 512), row)?;
+    tells(table, (entries, (0, 0), cluster, modified), row)
+}
+
+fn is_not_written(alloc: Global, row: Refusal) -> Result<(), Fail> {
+    refuses(&mut cleared_l1_table(alloc, row.0, row.1, row.2)?, row)
 }
 
 #[test]

@@ -3,25 +3,25 @@
 use crate::blocks::{counter, load, new_cleared, place, told, write, write_if_modified};
 use crate::fixtures::{DISK, LOADED, NUMBER, table_that_tells};
 use crate::pending_clusters::{Entered, Refusal, is_entered, refusal};
-use qcow2_base::{ClusterCount, Fault, HostCluster, HostOffset, MemStorage, Storage};
+use qcow2_base::{ClusterCount, Fault, HostCluster, HostOffset, MemStorage};
 use qcow2_metadata::{PendingClusters, RefBlock, RefTable, Table};
 use qcow2_testing::{
-    FailingStorage, each, filled_image, holds, recorded, same, same_bytes, same_image,
+    FailingStorage, each, filled_image, holds, put_bytes, recorded, same, same_bytes, same_image,
 };
 use std::alloc::Global;
 use std::test::Fail;
 
 // Bytes of a block that aren't 0: their place, how many, and the number that they are.
-type Bytes = (usize, usize, u64);
+type Bytes = (u64, usize, u64);
 
 // Three clusters of 512 bytes: 0xa5, zeros but for these bytes, and 0xa5 again.
 fn image_with(alloc: Global, bytes: Bytes) -> Result<MemStorage, Fault> {
     let (place, len, number) = bytes;
+    let number = number.to_be_bytes();
+    let bytes = number.get(8usize.saturating_sub(len)..).unwrap_or(&[]);
     let mut image = filled_image(alloc, 1536)?;
-    image.write(&[0; 512], 512)?;
-    if place < 512 && len <= 8 {
-        image.write(&number.to_be_bytes()[8 - len..], 512 + place as u64)?;
-    }
+    put_bytes(&mut image, 512, &[0; 512])?;
+    put_bytes(&mut image, place.saturating_add(512), bytes)?;
     Ok(image)
 }
 
@@ -40,7 +40,7 @@ type Tallies = &'static [Tally];
 
 // A refcount order, the index of a counter, the place of its bytes and how many, the number that they are,
 // its steps, and the number then.
-type Stepped = (u32, usize, usize, usize, u64, Tallies, u64);
+type Stepped = (u32, usize, u64, usize, u64, Tallies, u64);
 
 const STEPPED: &[Stepped] = &[
     (0, 9, 1, 1, 0, &[Up(0), Full], 2),

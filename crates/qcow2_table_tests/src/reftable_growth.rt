@@ -19,10 +19,10 @@ fn grow(table: &RefTable, order: u32, index: usize) -> Result<RefTable, Fault> {
 // The least spare entries, if there may be so many, and the turns that it took to find them.
 fn spare_of(alloc: Global, row: Growth) -> Result<(Option<usize>, usize), Fault> {
     let (bits, order, entries, index, ..) = row;
-    let header = header_of(alloc, bits, order, false)?;
     if index >= 4194304 {
         return Ok((None, 0));
     }
+    let header = header_of(alloc, bits, order, false)?;
     let mut turns = Turns::new();
     let spare = least_spare(entries, index, &header, &mut turns);
     Ok((spare, turns.count()))
