@@ -1,10 +1,9 @@
 //! Loads and stores of integers and of structures, each by each call.
 
-ghost use Rattle.std.specs.Prelude.{◌≡◌, ◌<◌, ◌≤◌, ◌+◌, false, [], ◌∷◌, length, refl, IfOk};
+ghost use Rattle.std.specs.Prelude.{◌≡◌, false, [], ◌∷◌, refl, IfOk};
 ghost use Rattle.std.proofs.Common.{rules};
 ghost use Rattle.qcow2_base.specs.OnDiskStruct.{big, little};
 
-use crate::gaps::TestGaps;
 use qcow2_base::{
     Fault, HeaderExtensionHeader, OnDiskSize, OnDiskStruct, V2Header, V3HeaderBase, read_be,
     read_le, write_be, write_le,
@@ -164,6 +163,54 @@ impl OnDiskStruct for TestAtomics {
     ghost loads_back = { λ order image a b held_a held_b. Prim.search rules };
 }
 
+/// Four bytes between the fields belong to none.
+#[derive(Clone, Copy, Debug, PartialEq, Eq)]
+struct TestGaps {
+    first: u32,
+    second: u16,
+}
+
+impl OnDiskStruct for TestGaps {
+    const ON_DISK_SIZE: usize = 10;
+
+    ghost ON_DISK_SIZE = { 10 };
+
+    ghost exact = { false };
+
+    ghost layout = { λ _ value. big 0 4 value.first ∷ big 8 2 value.second ∷ [] };
+
+    fn load_from_le(bytes: &[u8]) -> Result<TestGaps, Fault> {
+        Self::load_from_be(bytes)
+    }
+
+    fn load_from_be(bytes: &[u8]) -> Result<TestGaps, Fault> {
+        if bytes.len() < Self::ON_DISK_SIZE {
+            return Err(Fault::WrongLength);
+        }
+        Ok(TestGaps {
+            first: read_be(bytes, 0),
+            second: read_be(bytes, 8),
+        })
+    }
+
+    fn store_to_le(&self, bytes: &mut [u8]) -> Result<(), Fault> {
+        self.store_to_be(bytes)
+    }
+
+    fn store_to_be(&self, bytes: &mut [u8]) -> Result<(), Fault> {
+        if bytes.len() < Self::ON_DISK_SIZE {
+            return Err(Fault::WrongLength);
+        }
+        write_be(bytes, 0, &self.first);
+        write_be(bytes, 8, &self.second);
+        Ok(())
+    }
+
+    ghost size_is_end = { λ order value. refl };
+
+    ghost loads_back = { λ order image a b held_a held_b. Prim.search rules };
+}
+
 /// One field.
 #[derive(Clone, Copy, Debug, PartialEq, Eq)]
 struct TestSingle {
@@ -241,42 +288,42 @@ fn reload<T: OnDiskStruct + Drop>(value: &T, bytes: &mut [u8]) -> Result<T, Faul
     T::load_from_be(bytes)
 }
 
-/// That the call stores the value as these bytes into a buffer of bytes 0xff that is `len` long,
-/// leaves those that follow, and loads it from there.
-fn stands<T: OnDiskStruct + Copy + Debug + PartialEq>(
+const FILLED: [u8; 80] = [0xff; 80];
+
+/// That the call stores the value as these bytes into a buffer of bytes 0xff that is `len` long, leaves those
+/// that follow, and loads it from there, or that both are refused by this fault.
+fn leaves<T: OnDiskStruct + Copy + Debug + PartialEq>(
     call: Call,
     value: T,
     expected: &[u8],
     len: usize,
-) -> Result<(), Fail>
-    requires fits { length expected.now ≤ len }
-    requires room { len ≤ 80 }
-{
-    let row = (call, value, len);
-    let mut buffer = [0xff; 80];
-    let bytes = &mut buffer[..len];
-    same(store(call, &value, bytes), Ok(()), row)?;
-    let (stored, past) = bytes.split_at(expected.len());
-    same_bytes(stored, expected, row)?;
-    same_bytes(past, &[0xff; 80][..past.len()], row)?;
-    same(load(call, bytes), Ok(value), row)
+    answer: Result<(), Fault>,
+) -> Result<(), Fail> {
+    let mut buffer = FILLED;
+    let Some(bytes) = buffer.get_mut(..len) else {
+        return Err("a longer buffer".into());
+    };
+    let wanted = match answer {
+        Ok(()) => Ok(value),
+        Err(fault) => Err(fault),
+    };
+    let stored = store(call, &value, bytes);
+    let found = (stored, load(call, bytes));
+    same(found, (answer, wanted), (call, value, len))?;
+    let start = expected.len();
+    same_bytes(buffer.get(..start).unwrap_or(&[]), expected, (call, value))?;
+    let past = FILLED.get(start..).unwrap_or(&[]);
+    same_bytes(buffer.get(start..).unwrap_or(&[]), past, (call, value))
 }
+
+const REFUSED: Result<(), Fault> = Err(Fault::WrongLength);
 
 /// That each call refuses to store the value into a buffer that is `len` long, leaves it, and
 /// refuses to load from it.
-fn refuse<T: OnDiskStruct + Copy + Debug + PartialEq>(value: T, len: usize) -> Result<(), Fail>
-    requires { len ≤ 80 }
-{
-    for call in [Call::LittleEndian, Call::BigEndian, Call::Native] {
-        let row = (call, value, len);
-        let mut buffer = [0xff; 80];
-        let bytes = &mut buffer[..len];
-        same(store(call, &value, bytes), Err(Fault::WrongLength), row)?;
-        same_bytes(bytes, &[0xff; 80][..len], row)?;
-        let loaded: Result<T, Fault> = load(call, bytes);
-        same(loaded, Err(Fault::WrongLength), row)?;
-    }
-    Ok(())
+fn refuse<T: OnDiskStruct + Copy + Debug + PartialEq>(value: T, len: usize) -> Result<(), Fail> {
+    leaves(Call::LittleEndian, value, &[], len, REFUSED)?;
+    leaves(Call::BigEndian, value, &[], len, REFUSED)?;
+    leaves(Call::Native, value, &[], len, REFUSED)
 }
 
 /// That the calls store the value as these bytes, need as many bytes, and leave so many that follow.
@@ -285,19 +332,17 @@ fn each_call<T: OnDiskStruct + Copy + Debug + PartialEq>(
     little: &[u8],
     big: &[u8],
     spare: usize,
-) -> Result<(), Fail>
-    requires bytes { 0 < length little.now }
-    requires room { length little.now + spare ≤ 80 }
-    requires both { length big.now ≡ length little.now }
-{
+) -> Result<(), Fail> {
     let size = little.len();
     same((T::ON_DISK_SIZE, value.on_disk_size()), (size, size), value)?;
-    stands(Call::LittleEndian, value, little, size + spare)?;
-    stands(Call::BigEndian, value, big, size + spare)?;
-    stands(Call::Native, value, little, size + spare)?;
-    refuse(value, size - 1)?;
-    let mut buffer = [0xff; 80];
-    same(reload(&value, &mut buffer[..size]), Ok(value), value)
+    let len = size.saturating_add(spare);
+    leaves(Call::LittleEndian, value, little, len, Ok(()))?;
+    leaves(Call::BigEndian, value, big, len, Ok(()))?;
+    leaves(Call::Native, value, little, len, Ok(()))?;
+    refuse(value, size.saturating_sub(1))?;
+    let mut buffer = FILLED;
+    let bytes = buffer.get_mut(..size);
+    same(reload(&value, bytes.unwrap_or(&mut [])), Ok(value), value)
 }
 
 #[test]
@@ -317,10 +362,7 @@ fn integers_stand_in_the_order_asked_for_and_need_just_their_bytes() -> Result<(
 fn structure<T: OnDiskStruct + Copy + Debug + PartialEq>(
     value: T,
     expected: &[u8],
-) -> Result<(), Fail>
-    requires bytes { 0 < length expected.now }
-    requires room { length expected.now ≤ 77 }
-{
+) -> Result<(), Fail> {
     each_call(value, expected, expected, 3)
 }
 
@@ -344,30 +386,21 @@ fn the_fields_of_a_small_structure_stand_at_their_places() -> Result<(), Fail> {
 fn a_structure_stands_in_its_own_order_whatever_is_asked_for() -> Result<(), Fail> {
     let value = TestBE {
         a: 0x0102_0304,
-        b: 0x1112_1314_1516_1718,
-        c: 0x2122,
+        b: 0x0506_0708_090a_0b0c,
+        c: 0x0d0e,
     };
-    let expected = [
-        1, 2, 3, 4, 0x11, 0x12, 0x13, 0x14, 0x15, 0x16, 0x17, 0x18, 0x21, 0x22,
-    ];
-    structure(value, &expected)?;
+    structure(value, &[1, 2, 3, 4, 5, 6, 7, 8, 9, 10, 11, 12, 13, 14])?;
     let value = TestLE {
         x: 0x0102_0304,
-        y: 0x1112_1314,
+        y: 0x0506_0708,
     };
-    structure(value, &[4, 3, 2, 1, 0x14, 0x13, 0x12, 0x11])
-}
-
-#[test]
-fn a_structure_of_one_length_or_of_one_field_stands_at_its_places() -> Result<(), Fail> {
+    structure(value, &[4, 3, 2, 1, 8, 7, 6, 5])?;
     let value = TestAtomics {
         plain: 0x0102_0304,
-        atomic32: 0x1112_1314,
-        atomic64: 0x2122_2324_2526_2728,
+        atomic32: 0x0506_0708,
+        atomic64: 0x090a_0b0c_0d0e_0f10,
     };
-    let expected = [
-        1, 2, 3, 4, 0x11, 0x12, 0x13, 0x14, 0x21, 0x22, 0x23, 0x24, 0x25, 0x26, 0x27, 0x28,
-    ];
+    let expected = [1, 2, 3, 4, 5, 6, 7, 8, 9, 10, 11, 12, 13, 14, 15, 16];
     structure(value, &expected)?;
     let value = TestSingle {
         only: 0x0102_0304_0506_0708,

@@ -1,12 +1,12 @@
 //! Storages in memory, and what the tests of all storages share.
 
-ghost use Rattle.std.specs.Prelude.{◌+◌, ◌^◌, ◌<◌, ◌≤◌, length};
-
 mod files;
 mod large_files;
 
 use qcow2_base::{MemStorage, Storage, StorageFault};
-use qcow2_testing::{FailingStorage, StorageCall, holds, printed, same, same_bytes};
+use qcow2_testing::{
+    FailingStorage, StorageCall, each, holds, printed, recorded, same, same_bytes,
+};
 use std::alloc::Global;
 use std::fmt::Debug;
 use std::test::Fail;
@@ -18,21 +18,36 @@ fn memory(alloc: Global, bytes: &[u8]) -> Result<MemStorage, Fail> {
     Ok(MemStorage::new(Vec::from_slice(alloc, bytes)?))
 }
 
-// The same image with both alignments 2^exponent.
-pub(crate) fn aligned(storage: MemStorage, exponent: u32) -> MemStorage
-    requires { exponent < 64 }
-{
-    storage.with_align(1 << exponent)
+fn aligned(image: MemStorage, bits: u32) -> MemStorage {
+    image.with_align(1 << bits.min(63))
 }
 
 // That so many calls have failed, which no call tells, but `Debug` writes.
 pub(crate) fn has_failed<S: Debug>(alloc: Global, storage: &S, failures: u32) -> Result<(), Fail> {
     let shown = printed(alloc, storage)?;
     let count = format!(in alloc; "failures: {failures} ")?;
-    holds(
-        shown.as_str().contains(count.as_str()),
-        (count.as_str(), shown.as_str()),
-    )
+    let found = shown.as_str().contains(count.as_str());
+    holds(found, (failures, shown))
+}
+
+// What a read answers.
+fn read<S: Storage>(storage: &mut S, bytes: &mut [u8], offset: u64) -> Result<(), StorageFault> {
+    if offset > LIMIT || bytes.len() as u64 > LIMIT - offset {
+        return Err(StorageFault);
+    }
+    storage.read(bytes, offset)
+}
+
+// What a write answers.
+pub(crate) fn write<S: Storage>(
+    storage: &mut S,
+    bytes: &[u8],
+    offset: u64,
+) -> Result<(), StorageFault> {
+    if offset > LIMIT || bytes.len() as u64 > LIMIT - offset {
+        return Err(StorageFault);
+    }
+    storage.write(bytes, offset)
 }
 
 // That a read gives these bytes, and that one into an empty buffer does not fail.
@@ -41,12 +56,10 @@ pub(crate) fn reads<S: Storage>(
     storage: &mut S,
     offset: u64,
     bytes: &[u8],
-) -> Result<(), Fail>
-    requires { offset + length bytes.now ≤ 2 ^ 56 }
-{
+) -> Result<(), Fail> {
     let mut found = vec![in alloc; 0xa5; bytes.len()]?;
-    storage.read(found.as_mut_slice(), offset)?;
-    storage.read(&mut [], offset)?;
+    read(storage, found.as_mut_slice(), offset)?;
+    read(storage, &mut [], offset)?;
     same_bytes(&found, bytes, offset)
 }
 
@@ -54,65 +67,56 @@ pub(crate) fn reads<S: Storage>(
 pub(crate) fn read_fails<S: Storage + Debug>(
     alloc: Global,
     storage: &mut S,
-    offset: u64,
     failures: u32,
-) -> Result<(), Fail>
-    requires { offset + 4 ≤ 2 ^ 56 }
-{
-    same(
-        storage.read(&mut [0; 4], offset),
-        Err(StorageFault),
-        (offset, failures),
-    )?;
+) -> Result<(), Fail> {
+    same(read(storage, &mut [0; 4], 1), Err(StorageFault), failures)?;
     has_failed(alloc, storage, failures)
 }
 
-// That a write of four bytes fails, the so manyth call that does.
+// That a write of these bytes fails, the so manyth call that does.
 pub(crate) fn write_fails<S: Storage + Debug>(
     alloc: Global,
     storage: &mut S,
+    bytes: &[u8],
     offset: u64,
     failures: u32,
-) -> Result<(), Fail>
-    requires { offset + 4 ≤ 2 ^ 56 }
-{
-    same(
-        storage.write(&[9; 4], offset),
-        Err(StorageFault),
-        (offset, failures),
-    )?;
+) -> Result<(), Fail> {
+    same(write(storage, bytes, offset), Err(StorageFault), failures)?;
     has_failed(alloc, storage, failures)
 }
 
 // An offset, and the four bytes that are read there.
 const READS: &[(u64, [u8; 4])] = &[
-    (0, [1, 2, 3, 4]),
     (2, [3, 4, 5, 0]),
+    (0, [1, 2, 3, 4]),
+    (LIMIT - 4, [0, 0, 0, 0]),
     (1, [2, 3, 4, 5]),
     (4, [5, 0, 0, 0]),
-    (5, [0, 0, 0, 0]),
     (900, [0, 0, 0, 0]),
-    (LIMIT - 4, [0, 0, 0, 0]),
+    (5, [0, 0, 0, 0]),
+    (0, [1, 2, 3, 4]),
 ];
+
+// That the bytes 1 to 5 are read by offset, with zeros past the end, and that no alignment is asked for.
+pub(crate) fn is_read<S: Storage + Debug>(alloc: Global, storage: &mut S) -> Result<(), Fail> {
+    same((storage.mem_align(), storage.req_align()), (1, 1), "new")?;
+    for (offset, bytes) in READS {
+        reads(alloc, storage, *offset, bytes)?;
+    }
+    has_failed(alloc, storage, 0)
+}
 
 #[test]
 fn a_read_gives_the_bytes_and_zeros_past_the_end(rt: HostRuntime) -> Result<(), Fail> {
     let mut storage = memory(rt.alloc(), &[1, 2, 3, 4, 5])?;
-    same((storage.mem_align(), storage.req_align()), (1, 1), "new")?;
-    for row in READS {
-        let (offset, want) = *row;
-        assert!(rt; offset <= LIMIT - 4);
-        reads(rt.alloc(), &mut storage, offset, &want)?;
-    }
-    same(
-        storage.bytes(),
-        [1, 2, 3, 4, 5].as_slice(),
-        "after all reads",
-    )
+    is_read(rt.alloc(), &mut storage)?;
+    same_bytes(storage.bytes(), &[1, 2, 3, 4, 5], "after all reads")
 }
 
 // An offset, and the bytes after a write of 7 and 8 there.
-const WRITES: &[(u64, &'static [u8])] = &[
+pub(crate) type Written = (u64, &'static [u8]);
+
+pub(crate) const WRITES: &[Written] = &[
     (0, &[7, 8, 3]),
     (1, &[1, 7, 8]),
     (2, &[1, 2, 7, 8]),
@@ -121,74 +125,78 @@ const WRITES: &[(u64, &'static [u8])] = &[
     (7, &[1, 2, 3, 0, 0, 0, 0, 7, 8]),
 ];
 
+fn is_written(alloc: Global, row: Written) -> Result<(), Fail> {
+    let (offset, bytes) = row;
+    let mut storage = memory(alloc, &[1, 2, 3])?;
+    write(&mut storage, &[7, 8], offset)?;
+    same_bytes(storage.bytes(), bytes, row)?;
+    reads(alloc, &mut storage, offset, &[7, 8])
+}
+
 #[test]
 fn a_write_replaces_its_range_and_lengthens_with_zeros(rt: HostRuntime) -> Result<(), Fail> {
-    for row in WRITES {
-        let (offset, want) = *row;
-        assert!(rt; offset <= LIMIT - 2);
-        let mut storage = memory(rt.alloc(), &[1, 2, 3])?;
-        storage.write(&[7, 8], offset)?;
-        same(storage.bytes(), want, offset)?;
-        reads(rt.alloc(), &mut storage, offset, &[7, 8])?;
-    }
-    Ok(())
+    each(rt.alloc(), WRITES, is_written)
 }
 
 // No memory has room for an image that ends at 2^56.
-#[test]
-fn a_refused_growth_is_counted_and_changes_nothing(rt: HostRuntime) -> Result<(), Fail> {
-    let mut storage = memory(rt.alloc(), &[1, 2, 3])?;
-    for failures in 1..4u32 {
-        same(
-            storage.write(&[7, 8], LIMIT - 2),
-            Err(StorageFault),
-            failures,
-        )?;
-        same(storage.bytes(), [1, 2, 3].as_slice(), failures)?;
-        has_failed(rt.alloc(), &storage, failures)?;
-    }
-    storage.write(&[], LIMIT)?;
-    storage.write(&[7, 8], 1)?;
-    same(storage.bytes(), [1, 7, 8].as_slice(), "written")?;
-    has_failed(rt.alloc(), &storage, 3)
+fn is_refused(alloc: Global, storage: &mut MemStorage, failures: u32) -> Result<(), Fail> {
+    write_fails(alloc, storage, &[7, 8], LIMIT - 2, failures)?;
+    same_bytes(storage.bytes(), &[1, 2, 3], failures)
+}
+
+fn are_refused(alloc: Global, storage: &mut MemStorage) -> Result<(), Fail> {
+    is_refused(alloc, storage, 1)?;
+    is_refused(alloc, storage, 2)?;
+    is_refused(alloc, storage, 3)?;
+    let answers = (write(storage, &[], LIMIT), write(storage, &[7, 8], 1));
+    same(answers, (Ok(()), Ok(())), "written")?;
+    same_bytes(storage.bytes(), &[1, 7, 8], "written")?;
+    has_failed(alloc, storage, 3)
 }
 
 #[test]
-fn a_failing_storage_records_each_call(rt: HostRuntime) -> Result<(), Fail> {
-    let inner = aligned(memory(rt.alloc(), &[1, 2, 3])?, 9);
-    let mut storage = FailingStorage::new(rt.alloc(), inner);
-    same(
-        (storage.mem_align(), storage.req_align()),
-        (512, 512),
-        "alignments",
-    )?;
-    let mut buf = [0; 2];
-    storage.read(&mut buf, 1)?;
-    same(buf, [2, 3], "read")?;
+fn a_refused_growth_is_counted_and_changes_nothing(rt: HostRuntime) -> Result<(), Fail> {
+    are_refused(rt.alloc(), &mut memory(rt.alloc(), &[1, 2, 3])?)
+}
+
+// A read that passes, and a write that is planned to fail.
+fn are_recorded(storage: &mut FailingStorage<MemStorage>) -> Result<(), Fail> {
+    let aligned = (storage.mem_align(), storage.req_align());
+    let mut bytes = [0; 2];
+    let answer = read(storage, &mut bytes, 1);
     storage.fail_after(0);
-    same(
-        storage.write(&[4, 5, 6], 7),
-        Err(StorageFault),
-        "the next call",
-    )?;
+    let found = (aligned, answer, bytes, write(storage, &[4, 5, 6], 7));
+    let expected = ((512, 512), Ok(()), [2, 3], Err(StorageFault));
+    same(found, expected, "first calls")?;
     let calls = [
         StorageCall::Read { offset: 1, len: 2 },
         StorageCall::Write { offset: 7, len: 3 },
     ];
-    same(storage.calls(), calls.as_slice(), "calls")?;
+    same(storage.calls(), calls.as_slice(), "calls")
+}
+
+// A write that is passed on and refused there, a read that is planned to fail, and one that passes.
+fn are_counted(storage: &mut FailingStorage<MemStorage>) -> Result<(), Fail> {
     storage.forget_calls();
     storage.fail_after(1);
-    same(
-        storage.write(&[9], LIMIT - 1),
-        Err(StorageFault),
-        "passed on and refused there",
-    )?;
-    same(storage.read(&mut buf, 0), Err(StorageFault), "planned")?;
-    storage.read(&mut buf, 0)?;
+    let mut bytes = [0; 2];
+    let refused = write(storage, &[9], LIMIT - 1);
+    let planned = read(storage, &mut bytes, 0);
+    let found = (refused, planned, read(storage, &mut bytes, 0));
+    let expected = (Err(StorageFault), Err(StorageFault), Ok(()));
+    same(found, expected, "next calls")?;
     let found = (
         storage.calls().len(),
         storage.failures(),
         storage.inner().bytes(),
     );
     same(found, (3, 3, &[1, 2, 3]), "calls, failures and bytes")
+}
+
+#[test]
+fn a_failing_storage_records_each_call(rt: HostRuntime) -> Result<(), Fail> {
+    let inner = aligned(memory(rt.alloc(), &[1, 2, 3])?, 9);
+    let mut storage = recorded(rt.alloc(), inner);
+    are_recorded(&mut storage)?;
+    are_counted(&mut storage)
 }

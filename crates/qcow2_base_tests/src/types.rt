@@ -1,10 +1,7 @@
 //! Conversions, operators and texts of offsets, clusters and counts.
 
-ghost use Rattle.std.specs.Prelude.{◌↔◌, IsTrue};
-ghost use Rattle.qcow2_base.specs.Types.{IsRefblockBits};
-
 use qcow2_base::{ClusterCount, GuestCluster, GuestOffset, HostCluster, HostOffset};
-use qcow2_testing::{fits, is_cluster_bits, same, same_text};
+use qcow2_testing::{each_row, fits, holds, is_cluster_bits, same, same_text};
 use std::test::Fail;
 
 /// The largest offset of all.
@@ -12,50 +9,42 @@ const LAST: u64 = u64::MAX;
 
 // An offset and the cluster bits, and then the bytes before it in its cluster and its cluster, its places in
 // the L1 and the L2 table, and the bytes from it on in its cluster and in the clusters of its L2 table.
-const OFFSETS: &[(u64, u32, (u64, u64), (usize, usize), (u64, u64))] = &[
-    (0, 21, (0, 0), (0, 0), (2097152, 549755813888)),
-    (1543, 9, (7, 3), (0, 3), (505, 31225)),
-    (0x20000000, 16, (0, 8192), (1, 0), (65536, 536870912)),
-    (
-        LAST,
-        9,
-        (511, 36028797018963967),
-        (562949953421311, 63),
-        (1, 1),
-    ),
-    (
-        LAST,
-        21,
-        (2097151, 8796093022207),
-        (33554431, 262143),
-        (1, 1),
-    ),
+type Offset = (u64, u32, u64, u64, usize, usize, u64, u64);
+
+const OFFSETS: &[Offset] = &[
+    (0, 21, 0, 0, 0, 0, 2097152, 549755813888),
+    (1543, 9, 7, 3, 0, 3, 505, 31225),
+    (0x20000000, 16, 0, 8192, 1, 0, 65536, 536870912),
+    (LAST, 9, 511, 36028797018963967, 562949953421311, 63, 1, 1),
+    (LAST, 21, 2097151, 8796093022207, 33554431, 262143, 1, 1),
 ];
 
+fn has_place(row: Offset) -> Result<(), Fail> {
+    let (offset, bits, before, cluster, l1_index, l2_index, left, left_in_table) = row;
+    holds(is_cluster_bits(bits), row)?;
+    let (guest, host) = (GuestOffset(offset), HostOffset(offset));
+    let found = (guest.in_cluster_offset(bits), guest.cluster(bits).0);
+    let of_host = (host.in_cluster_offset(bits), host.cluster(bits).0);
+    let expected = ((before, cluster), (before, cluster));
+    same((found, of_host), expected, row)?;
+    let indices = (guest.l1_index(bits), guest.l2_index(bits));
+    let remaining = (
+        guest.remaining_in_cluster(bits),
+        guest.remaining_in_l2_table(bits),
+    );
+    let expected = ((l1_index, l2_index), (left, left_in_table));
+    same((indices, remaining), expected, row)
+}
+
 #[test]
-fn an_offset_has_its_place_in_a_cluster_and_in_the_tables(rt: HostRuntime) -> Result<(), Fail> {
-    for row in OFFSETS {
-        let (offset, bits, place, indices, left) = *row;
-        assert!(rt; is_cluster_bits(bits));
-        let guest = GuestOffset(offset);
-        let host = HostOffset(offset);
-        let found = (guest.in_cluster_offset(bits), guest.cluster(bits).0);
-        same(found, place, row)?;
-        let found = (host.in_cluster_offset(bits), host.cluster(bits).0);
-        same(found, place, row)?;
-        let found = (guest.l1_index(bits), guest.l2_index(bits));
-        same(found, indices, row)?;
-        let found = (
-            guest.remaining_in_cluster(bits),
-            guest.remaining_in_l2_table(bits),
-        );
-        same(found, left, row)?;
-    }
-    Ok(())
+fn an_offset_has_its_place_in_a_cluster_and_in_the_tables() -> Result<(), Fail> {
+    each_row(OFFSETS, has_place)
 }
 
 // An offset and the cluster bits, the cluster that starts there, and how many clusters it takes to there.
-const STARTS: &[(u64, u32, Option<u64>, u64)] = &[
+type Start = (u64, u32, Option<u64>, u64);
+
+const STARTS: &[Start] = &[
     (0, 9, Some(0), 0),
     (513, 9, None, 2),
     (1024, 9, Some(2), 2),
@@ -65,28 +54,27 @@ const STARTS: &[(u64, u32, Option<u64>, u64)] = &[
     (LAST, 9, None, 36028797018963968),
 ];
 
+fn starts(row: Start) -> Result<(), Fail> {
+    let (offset, bits, cluster, count) = row;
+    holds(is_cluster_bits(bits), row)?;
+    let guest = GuestOffset(offset).checked_cluster(bits);
+    let host = HostOffset(offset).checked_cluster(bits);
+    let expected = (cluster.map(GuestCluster), cluster.map(HostCluster));
+    same((guest, host), expected, row)?;
+    let whole = ClusterCount::checked_from_byte_size(offset, bits);
+    let found = (whole, ClusterCount::from_byte_size(offset, bits));
+    same(found, (cluster.map(ClusterCount), ClusterCount(count)), row)
+}
+
 #[test]
-fn only_a_cluster_s_start_is_a_checked_cluster_or_count(rt: HostRuntime) -> Result<(), Fail> {
-    for row in STARTS {
-        let (offset, bits, cluster, count) = *row;
-        assert!(rt; is_cluster_bits(bits));
-        let guest = GuestOffset(offset).checked_cluster(bits);
-        let host = HostOffset(offset).checked_cluster(bits);
-        let whole = ClusterCount::checked_from_byte_size(offset, bits);
-        same(guest, cluster.map(GuestCluster), row)?;
-        same(host, cluster.map(HostCluster), row)?;
-        same(whole, cluster.map(ClusterCount), row)?;
-        same(
-            ClusterCount::from_byte_size(offset, bits),
-            ClusterCount(count),
-            row,
-        )?;
-    }
-    Ok(())
+fn only_a_cluster_s_start_is_a_checked_cluster_or_count() -> Result<(), Fail> {
+    each_row(STARTS, starts)
 }
 
 // A cluster and the cluster bits, its places in the L1 and the L2 table, and the next cluster.
-const CLUSTERS: &[(u64, u32, usize, usize, Option<u64>)] = &[
+type Cluster = (u64, u32, usize, usize, Option<u64>);
+
+const CLUSTERS: &[Cluster] = &[
     (0, 21, 0, 0, Some(1)),
     (62, 9, 0, 62, Some(63)),
     (63, 9, 0, 63, None),
@@ -97,34 +85,32 @@ const CLUSTERS: &[(u64, u32, usize, usize, Option<u64>)] = &[
     (LAST, 21, 70368744177663, 262143, None),
 ];
 
-#[test]
-fn a_guest_cluster_and_its_places_tell_each_other(rt: HostRuntime) -> Result<(), Fail> {
-    for row in CLUSTERS {
-        let (number, bits, l1_index, l2_index, next) = *row;
-        assert!(rt; is_cluster_bits(bits));
-        assert!(rt; fits(l1_index as u64, l2_index as u64, bits - 3));
-        let cluster = GuestCluster(number);
-        let found = (cluster.l1_index(bits), cluster.l2_index(bits));
-        same(found, (l1_index, l2_index), row)?;
-        let found = GuestCluster::from_l1_l2_indices(l1_index, l2_index, bits);
-        same(found, cluster, row)?;
-        same(cluster.next_in_l2(bits), next.map(GuestCluster), row)?;
-    }
-    Ok(())
+fn has_indices(row: Cluster) -> Result<(), Fail> {
+    let (number, bits, l1_index, l2_index, next) = row;
+    holds(is_cluster_bits(bits), row)?;
+    holds(fits(l1_index as u64, l2_index as u64, bits - 3), row)?;
+    let cluster = GuestCluster(number);
+    let found = (cluster.l1_index(bits), cluster.l2_index(bits));
+    let back = GuestCluster::from_l1_l2_indices(l1_index, l2_index, bits);
+    let expected = ((l1_index, l2_index), cluster, next.map(GuestCluster));
+    same((found, back, cluster.next_in_l2(bits)), expected, row)
 }
 
 #[test]
-fn the_next_l2_table_begins_at_a_multiple() -> Result<(), Fail> {
+fn a_guest_cluster_and_its_places_tell_each_other() -> Result<(), Fail> {
+    each_row(CLUSTERS, has_indices)?;
     let found = (
         GuestCluster(127).first_in_next_l2(9).0,
         GuestCluster(LAST - 262144).first_in_next_l2(21).0,
     );
-    same(found, (128, LAST - 262143), "64 and 262144 entries")
+    same(found, (128, LAST - 262143), "the next L2 table")
 }
 
 // A cluster, the number of bits of a place in a refcount block, and then the places in the
 // refcount table and in the block.
-const HOST_CLUSTERS: &[(u64, u32, usize, usize)] = &[
+type Counted = (u64, u32, usize, usize);
+
+const HOST_CLUSTERS: &[Counted] = &[
     (0, 24, 0, 0),
     (255, 8, 0, 255),
     (256, 8, 1, 0),
@@ -132,56 +118,51 @@ const HOST_CLUSTERS: &[(u64, u32, usize, usize)] = &[
     (LAST, 24, 1099511627775, 16777215),
 ];
 
-fn is_refblock_bits(bits: u32) -> bool
-    ensures { IsTrue result ↔ IsRefblockBits bits }
-{
-    6 <= bits && bits <= 24
+fn is_counted(row: Counted) -> Result<(), Fail> {
+    let (number, bits, rt_index, rb_index) = row;
+    holds(6 <= bits && bits <= 24, row)?;
+    holds(fits(rt_index as u64, rb_index as u64, bits), row)?;
+    let cluster = HostCluster(number);
+    let found = (cluster.rt_index(bits), cluster.rb_index(bits));
+    let back = HostCluster::from_ref_indices(rt_index, rb_index, bits);
+    let indices = (rt_index, rb_index);
+    let expected = (indices, indices, cluster);
+    same((found, cluster.rt_rb_indices(bits), back), expected, row)
 }
 
 #[test]
-fn a_host_cluster_and_its_places_tell_each_other(rt: HostRuntime) -> Result<(), Fail> {
-    for row in HOST_CLUSTERS {
-        let (number, bits, rt_index, rb_index) = *row;
-        assert!(rt; is_refblock_bits(bits));
-        assert!(rt; fits(rt_index as u64, rb_index as u64, bits));
-        let cluster = HostCluster(number);
-        let found = (cluster.rt_index(bits), cluster.rb_index(bits));
-        same(found, (rt_index, rb_index), row)?;
-        same(cluster.rt_rb_indices(bits), (rt_index, rb_index), row)?;
-        let found = HostCluster::from_ref_indices(rt_index, rb_index, bits);
-        same(found, cluster, row)?;
-    }
-    Ok(())
+fn a_host_cluster_and_its_places_tell_each_other() -> Result<(), Fail> {
+    each_row(HOST_CLUSTERS, is_counted)
 }
 
 // A cluster and the cluster bits, its offset, a guest offset, and the byte of the cluster with its place.
-const BYTES: &[(u64, u32, u64, u64, u64)] = &[
+type Byte = (u64, u32, u64, u64, u64);
+
+const BYTES: &[Byte] = &[
     (0, 21, 0, LAST, 2097151),
     (5, 9, 2560, 1543, 2567),
     (36028797018963967, 9, LAST - 511, LAST, LAST),
     (8796093022207, 21, LAST - 2097151, 0, LAST - 2097151),
 ];
 
+fn begins(row: Byte) -> Result<(), Fail> {
+    let (number, bits, start, guest, byte) = row;
+    let guest = GuestOffset(guest);
+    holds(is_cluster_bits(bits), row)?;
+    holds(fits(number, 0, bits), row)?;
+    holds(fits(number, guest.in_cluster_offset(bits), bits), row)?;
+    let found = (
+        GuestCluster(number).offset(bits).0,
+        HostCluster(number).offset(bits).0,
+        ClusterCount(number).byte_size(bits),
+    );
+    let mapped = HostCluster(number).relative_offset(guest, bits).0;
+    same((found, mapped), ((start, start, start), byte), row)
+}
+
 #[test]
-fn a_cluster_begins_at_its_offset_and_a_mapped_byte_keeps_its_place(
-    rt: HostRuntime,
-) -> Result<(), Fail> {
-    for row in BYTES {
-        let (number, bits, start, guest, byte) = *row;
-        let guest = GuestOffset(guest);
-        assert!(rt; is_cluster_bits(bits));
-        assert!(rt; fits(number, 0, bits));
-        assert!(rt; fits(number, guest.in_cluster_offset(bits), bits));
-        let found = (
-            GuestCluster(number).offset(bits).0,
-            HostCluster(number).offset(bits).0,
-            ClusterCount(number).byte_size(bits),
-        );
-        same(found, (start, start, start), row)?;
-        let found = HostCluster(number).relative_offset(guest, bits);
-        same(found, HostOffset(byte), row)?;
-    }
-    Ok(())
+fn a_cluster_begins_at_its_offset_and_a_mapped_byte_keeps_its_place() -> Result<(), Fail> {
+    each_row(BYTES, begins)
 }
 
 #[test]

@@ -1,23 +1,26 @@
 //! Refcount blocks to test with, and calls of blocks without any clauses.
 
+use crate::fixtures::header_of;
 use qcow2_base::{Fault, HostCluster, MemStorage, Storage};
-use qcow2_metadata::{Header, RefBlock};
+use qcow2_metadata::RefBlock;
 use qcow2_testing::fits;
 use std::alloc::Global;
 
-/// What a load of a block answers.
+/// What a load of a block answers, by cluster bits and refcount order of the image.
 pub(crate) fn load<S: Storage>(
     alloc: Global,
     image: &mut S,
-    header: &Header,
+    size: (u32, u32),
     cluster: u64,
 ) -> Result<RefBlock, Fault> {
-    RefBlock::load(alloc, image, header, HostCluster(cluster))
+    let header = header_of(alloc, size.0, size.1, false)?;
+    RefBlock::load(alloc, image, &header, HostCluster(cluster))
 }
 
-/// A block in which no cluster has a reference.
-pub(crate) fn new_cleared(alloc: Global, header: &Header) -> Result<RefBlock, Fault> {
-    RefBlock::new_cleared(alloc, &MemStorage::new(Vec::new(alloc)), header)
+/// A block of 512 bytes in which no cluster has a reference.
+pub(crate) fn new_cleared(alloc: Global, order: u32) -> Result<RefBlock, Fault> {
+    let header = header_of(alloc, 9, order, false)?;
+    RefBlock::new_cleared(alloc, &MemStorage::new(Vec::new(alloc)), &header)
 }
 
 /// What a write of a block answers.
@@ -30,11 +33,10 @@ pub(crate) fn write_if_modified<S: Storage>(
     block: &mut RefBlock,
     image: &mut S,
 ) -> Result<(), Fault> {
-    match block.get_cluster() {
-        Some(cluster) => block.write_if_modified(image, cluster),
-        None if block.is_modified() => Err(Fault::WrongLength),
-        None => block.write_if_modified(image, HostCluster(0)),
-    }
+    let Some(cluster) = block.get_cluster() else {
+        return Err(Fault::NoOffset);
+    };
+    block.write_if_modified(image, cluster)
 }
 
 /// Gives the block a cluster, and sets or clears its flag. Fails where the cluster's offset doesn't fit

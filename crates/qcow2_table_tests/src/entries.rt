@@ -1,11 +1,11 @@
 //! Which numbers are entries of tables, and what they mean.
 
-use crate::fixtures::{header_of, header_with};
+use crate::fixtures::{COPIED, header_of, header_with};
 use crate::l2_mapping::Reads::{Backing, Compressed, Data, Zeros};
 use crate::l2_mapping::{Reads, mapping_of};
 use qcow2_base::{Fault, GuestCluster, HostOffset};
 use qcow2_metadata::{AtomicL2Entry, Header, L1Entry, L2Entry, RefTableEntry, TableEntry};
-use qcow2_testing::{fits, same};
+use qcow2_testing::{each, fits, holds, same};
 use std::alloc::Global;
 use std::test::Fail;
 
@@ -24,7 +24,7 @@ const RESERVED: Option<Fault> = Some(Fault::EntryReserved);
 const UNALIGNED: Option<Fault> = Some(Fault::EntryUnaligned);
 
 // A kind of entry, cluster bits, a number, and why it is no entry, if it is none.
-const NUMBERS: &[(Kind, u32, u64, Option<Fault>)] = &[
+const NUMBERS: &[Number] = &[
     (L1, 9, 0x8000_0000_0000_0400, None),
     (L1, 9, 1, RESERVED),
     (L1, 9, 0x8000_0000_0000_0001, RESERVED),
@@ -62,169 +62,135 @@ fn is_entry<E: TableEntry + Drop>(
     }
 }
 
-#[test]
-fn a_reserved_bit_and_else_an_unaligned_offset_is_refused(rt: HostRuntime) -> Result<(), Fail> {
-    for (kind, bits, number, fault) in NUMBERS {
-        let header = header_with(rt.alloc(), *bits)?;
-        match kind {
-            L1 => is_entry::<L1Entry>(&header, *number, *fault)?,
-            Reftable => is_entry::<RefTableEntry>(&header, *number, *fault)?,
-            L2 => {
-                is_entry::<L2Entry>(&header, *number, *fault)?;
-                is_entry::<AtomicL2Entry>(&header, *number, *fault)?;
-            }
+type Number = (Kind, u32, u64, Option<Fault>);
+
+fn is_judged(alloc: Global, row: Number) -> Result<(), Fail> {
+    let (kind, bits, number, fault) = row;
+    let header = header_with(alloc, bits)?;
+    match kind {
+        L1 => is_entry::<L1Entry>(&header, number, fault),
+        Reftable => is_entry::<RefTableEntry>(&header, number, fault),
+        L2 => {
+            is_entry::<L2Entry>(&header, number, fault)?;
+            is_entry::<AtomicL2Entry>(&header, number, fault)
         }
     }
-    Ok(())
+}
+
+#[test]
+fn a_reserved_bit_and_else_an_unaligned_offset_is_refused(rt: HostRuntime) -> Result<(), Fail> {
+    each(rt.alloc(), NUMBERS, is_judged)
+}
+
+// Where an L2 table lies by an L1 entry, whether it is copied, and where a refcount block lies.
+fn offsets(
+    header: &Header,
+    l1_entry: u64,
+    reftable_entry: u64,
+) -> Result<(Option<HostOffset>, bool, Option<HostOffset>), Fault> {
+    let entry = L1Entry::try_from_plain(l1_entry, header)?;
+    let other = RefTableEntry::try_from_plain(reftable_entry, header)?;
+    if entry.reserved_bits() | other.reserved_bits() != 0 {
+        return Err(Fault::EntryReserved);
+    }
+    Ok((
+        entry.l2_offset(),
+        entry.is_copied(),
+        other.refblock_offset(),
+    ))
 }
 
 #[test]
 fn entries_tell_where_l2_tables_and_blocks_lie(rt: HostRuntime) -> Result<(), Fail> {
     let header = header_with(rt.alloc(), 9)?;
-    let entry = L1Entry::try_from_plain(0x8000_0000_0000_0400, &header)?;
-    let found = (entry.l2_offset(), entry.is_copied(), entry.reserved_bits());
-    same(found, (Some(HostOffset(0x400)), true, 0), "L1 table")?;
-    let entry = RefTableEntry::try_from_plain(0xffff_ffff_ffff_fe00, &header)?;
-    let found = (entry.refblock_offset(), entry.reserved_bits());
-    same(
-        found,
-        (Some(HostOffset(0xffff_ffff_ffff_fe00)), 0),
-        "refcount table",
-    )
+    let found = offsets(&header, COPIED + 0x400, 0xffff_ffff_ffff_fe00);
+    let block = HostOffset(0xffff_ffff_ffff_fe00);
+    let expected = (Some(HostOffset(0x400)), true, Some(block));
+    same(found, Ok(expected), "L1 table and refcount table")
 }
 
 /// Cluster bits, whether data is external, the number of an entry, the clusters that it refers to as the
-/// first and how many, if any, and what guest cluster 7 reads as by it.
-pub(crate) type Meaning = (u32, bool, u64, Option<(u64, u64)>, Reads);
-
-/// Bit 63 of an entry: its cluster has no other reference.
-const COPIED: u64 = 0x8000_0000_0000_0000;
+/// first and how many, or 0 and 0, and what guest cluster 7 reads as by it.
+pub(crate) type Meaning = (u32, bool, u64, (u64, u64), Reads);
 
 pub(crate) const MEANINGS: &[Meaning] = &[
-    (9, false, 0, None, Backing(3584)),
-    (9, false, COPIED, None, Backing(3584)),
-    (9, true, COPIED, Some((0, 1)), Data(0, true)),
-    (9, false, COPIED + 0xa00, Some((5, 1)), Data(5, true)),
-    (9, false, COPIED + 1, None, Zeros(None, false)),
-    (9, true, COPIED + 1, Some((0, 1)), Zeros(Some(0), true)),
-    (9, false, 0xa01, Some((5, 1)), Zeros(Some(5), false)),
-    (
-        21,
-        false,
-        COPIED + 0x20_0001,
-        Some((1, 1)),
-        Zeros(Some(1), true),
-    ),
-    // compressed data
-    (
-        9,
-        false,
-        0x4000_0000_0000_0000,
-        Some((0, 1)),
-        Compressed(0, 512),
-    ),
-    (
-        9,
-        true,
-        0x6000_0000_0000_0001,
-        Some((0, 2)),
-        Compressed(1, 1023),
-    ),
-    (
-        9,
-        false,
-        0x40ff_ffff_ffff_ffff,
-        Some((0x7fff_ffff_ffff, 1)),
-        Compressed(0xff_ffff_ffff_ffff, 1),
-    ),
-    (
-        21,
-        false,
-        0x7ffe_0000_001f_fe00,
-        Some((0, 3)),
-        Compressed(0x1f_fe00, 4194304),
-    ),
-    (
-        9,
-        false,
-        0x60ff_ffff_ffff_ffff,
-        Some((0x7fff_ffff_ffff, 2)),
-        Compressed(0xff_ffff_ffff_ffff, 513),
-    ),
-    (
-        10,
-        false,
-        0x7000_0000_0000_0600,
-        Some((1, 3)),
-        Compressed(0x600, 2048),
-    ),
-    (
-        16,
-        true,
-        0x4040_0000_0001_fff0,
-        Some((1, 2)),
-        Compressed(0x1_fff0, 528),
-    ),
-    (
-        21,
-        true,
-        0x7fff_ffff_ffff_ffff,
-        Some((268435455, 3)),
-        Compressed(0x1_ffff_ffff_ffff, 4193793),
-    ),
+    (9, false, 0, (0, 0), Backing(3584)),
+    (9, false, COPIED, (0, 0), Backing(3584)),
+    (9, true, COPIED, (0, 1), Data(0, true)),
+    (9, false, COPIED + 0xa00, (5, 1), Data(5, true)),
+    (9, false, COPIED + 1, (0, 0), Zeros(None, false)),
+    (9, true, COPIED + 1, (0, 1), Zeros(Some(0), true)),
+    (9, false, 0xa01, (5, 1), Zeros(Some(5), false)),
+    (21, false, COPIED + 0x20_0001, (1, 1), Zeros(Some(1), true)),
+    (9, false, 0x4000_0000_0000_0000, (0, 1), Compressed(0, 512)),
+    (9, true, 0x6000_0000_0000_0001, (0, 2), Compressed(1, 1023)),
+    (9, false, 0x40ff_ffff_ffff_ffff, (LAST, 1), LAST_BYTE),
+    (21, false, 0x7ffe_0000_001f_fe00, (0, 3), MOST_SECTORS),
+    (9, false, 0x60ff_ffff_ffff_ffff, (LAST, 2), LAST_SECTORS),
+    (10, false, 0x7000_0000_0000_0600, (1, 3), IN_THREE),
+    (16, true, 0x4040_0000_0001_fff0, (1, 2), IN_TWO),
+    (21, true, 0x7fff_ffff_ffff_ffff, (268435455, 3), LONGEST),
 ];
+
+const IN_TWO: Reads = Compressed(0x1_fff0, 528);
+
+const IN_THREE: Reads = Compressed(0x600, 2048);
+
+const MOST_SECTORS: Reads = Compressed(0x1f_fe00, 4194304);
+
+const LONGEST: Reads = Compressed(0x1_ffff_ffff_ffff, 4193793);
+
+// What begins at the last byte of all images, and the last cluster.
+const LAST_BYTE: Reads = Compressed((1 << 56) - 1, 1);
+
+const LAST_SECTORS: Reads = Compressed((1 << 56) - 1, 513);
+
+const LAST: u64 = (1 << 47) - 1;
 
 // Fails unless the entry has this meaning.
 fn means(alloc: Global, row: Meaning) -> Result<(), Fail> {
     let (bits, external, number, clusters, reads) = row;
+    let mapping = mapping_of(reads)?;
     let header = header_of(alloc, bits, 4, external)?;
     let bits = header.cluster_bits();
-    if !fits(7, 0, bits) {
-        return Err("a guest cluster past all disks".into());
-    }
+    holds(fits(7, 0, bits), row)?;
     let entry = L2Entry::try_from_plain(number, &header)?;
     let found = entry.into_mapping(GuestCluster(7), bits, external);
-    same(found, Ok(mapping_of(reads)?), row)?;
-    let found = entry.allocation(bits, external);
-    same(
-        found.map(|(first, count)| (first.0, count.0)),
-        clusters,
-        row,
-    )
+    let allocation = entry.allocation(bits, external);
+    let allocation = allocation.map(|(first, count)| (first.0, count.0));
+    let expected = if clusters.1 > 0 { Some(clusters) } else { None };
+    same((found, allocation), (Ok(mapping), expected), row)
 }
 
 #[test]
 fn an_entry_reads_as_its_bits_and_refers_to_its_clusters(rt: HostRuntime) -> Result<(), Fail> {
-    for row in MEANINGS {
-        means(rt.alloc(), *row)?;
-    }
-    Ok(())
+    each(rt.alloc(), MEANINGS, means)
 }
 
 // A number, whether it is compressed, copied and a zero entry, and the number without bit 63.
-const BITS: &[(u64, (bool, bool, bool), u64)] = &[
+type Bits = (u64, (bool, bool, bool), u64);
+
+const BITS: &[Bits] = &[
     (0xa00, (false, false, false), 0xa00),
-    (0x8000_0000_0000_0a01, (false, true, true), 0xa01),
-    (
-        0x60ff_ffff_ffff_ffff,
-        (true, false, true),
-        0x60ff_ffff_ffff_ffff,
-    ),
+    (COPIED + 0xa01, (false, true, true), 0xa01),
+    (COMPRESSED, (true, false, true), COMPRESSED),
 ];
+
+const COMPRESSED: u64 = 0x60ff_ffff_ffff_ffff;
+
+fn tells_its_bits(alloc: Global, row: Bits) -> Result<(), Fail> {
+    let (number, bits, rest) = row;
+    let entry = L2Entry::try_from_plain(number, &header_with(alloc, 9)?)?;
+    let found = (entry.is_compressed(), entry.is_copied(), entry.is_zero());
+    let kept = (entry.reserved_bits(), entry.compressed_descriptor());
+    let other = entry.without_copied();
+    let expected = (bits, (0, number & 0x3fff_ffff_ffff_ffff), rest);
+    same((found, kept, other.to_plain()), expected, row)?;
+    let mut cell = AtomicL2Entry::new(entry);
+    same((cell.swap(other), cell.get()), (entry, other), row)
+}
 
 #[test]
 fn an_entry_tells_its_bits_and_keeps_all_but_copied(rt: HostRuntime) -> Result<(), Fail> {
-    let header = header_with(rt.alloc(), 9)?;
-    for (number, bits, rest) in BITS {
-        let entry = L2Entry::try_from_plain(*number, &header)?;
-        let found = (entry.is_compressed(), entry.is_copied(), entry.is_zero());
-        same(found, *bits, *number)?;
-        let found = (entry.reserved_bits(), entry.compressed_descriptor());
-        same(found, (0, *number & 0x3fff_ffff_ffff_ffff), *number)?;
-        let other = entry.without_copied();
-        same(other.to_plain(), *rest, *number)?;
-        let mut cell = AtomicL2Entry::new(entry);
-        same((cell.swap(other), cell.get()), (entry, other), *number)?;
-    }
-    Ok(())
+    each(rt.alloc(), BITS, tells_its_bits)
 }

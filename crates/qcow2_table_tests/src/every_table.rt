@@ -1,11 +1,9 @@
 //! What holds of L1 tables, L2 tables and refcount tables alike.
 
-use crate::fixtures::{
-    CLEARED, Loads, Told, cleared_l1_table, header_with, place, tells, write, write_entry,
-};
+use crate::fixtures::{cleared_l1_table, load, tells, write, write_entry};
 use qcow2_base::{ClusterCount, Fault};
 use qcow2_metadata::{L1Table, L2Table, RefTable, Table, TableEntry};
-use qcow2_testing::{FailingStorage, filled_image, image_with, put, same, same_bytes};
+use qcow2_testing::{each, filled_image, image_with, put, recorded, same, same_image};
 use std::alloc::Global;
 use std::test::Fail;
 
@@ -44,29 +42,26 @@ const PLACES: &[Place] = &[
     (16, 2, 8192, &[(135168, 0x202), (135176, 0x200)], RESERVED),
 ];
 
+// What a load answers where the storage refuses each call if none may be made.
+fn load_of(alloc: Global, row: Place) -> Result<L1Table, Fault> {
+    let (bits, cluster, entries, numbers, fault) = row;
+    let mut image = image_with(alloc, 64, numbers)?;
+    put(&mut image, 0, u64::MAX)?;
+    let mut image = recorded(alloc, image);
+    if entries == 0 || fault == PAST || fault == TOO_BIG {
+        image.fail_after(0);
+    }
+    load(alloc, &mut image, (bits, false), cluster, entries)
+}
+
 // A table is loaded from where it may be, and else no byte is read. Past the image's end all bytes are
 // zero. One without entries takes no call of the storage.
 fn loads_by_its_place(alloc: Global, row: Place) -> Result<(), Fail> {
-    let (bits, cluster, entries, numbers, fault) = row;
-    let header = header_with(alloc, bits)?;
-    let mut image = image_with(alloc, 64, &[(0, u64::MAX)])?;
-    for (at, number) in numbers {
-        put(&mut image, *at, *number)?;
-    }
-    let mut image = FailingStorage::new(alloc, image);
-    let answer = L1Table::load_from(alloc, &mut image, &header, cluster, entries);
-    let is_read = entries > 0 && fault != PAST && fault != TOO_BIG;
-    same(!image.calls().is_empty(), is_read, row)?;
-    match answer {
+    let (_, cluster, entries, _, fault) = row;
+    match load_of(alloc, row) {
         Ok(table) => {
             same(None, fault, row)?;
-            let told = Told {
-                entries,
-                cluster: Some(cluster),
-                modified: false,
-                ..CLEARED
-            };
-            tells(&table, &told, row)
+            tells(&table, (entries, (0, 0), Some(cluster), false), row)
         }
         Err(found) => same(Some(found), fault, row),
     }
@@ -74,10 +69,7 @@ fn loads_by_its_place(alloc: Global, row: Place) -> Result<(), Fail> {
 
 #[test]
 fn a_table_is_loaded_from_where_it_may_be(rt: HostRuntime) -> Result<(), Fail> {
-    for row in PLACES {
-        loads_by_its_place(rt.alloc(), *row)?;
-    }
-    Ok(())
+    each(rt.alloc(), PLACES, loads_by_its_place)
 }
 
 // How many entries a table has, its cluster, whether it is modified, and why neither it nor an entry can be
@@ -94,45 +86,44 @@ const REFUSALS: &[Refusal] = &[
     (4194305, Some(1 << 47), true, Fault::TableTooBig),
 ];
 
-fn is_not_written(alloc: Global, row: Refusal) -> Result<(), Fail> {
+fn refuses(table: &mut L1Table, row: Refusal) -> Result<(), Fail> {
     let (entries, cluster, modified, fault) = row;
-    let header = header_with(alloc, 9)?;
-    let mut table = cleared_l1_table(alloc, &header, entries)?;
-    let mut image = filled_image(alloc, 512)?;
-    place(&mut table, cluster, modified)?;
-    same(write(&mut table, &mut image), Err(fault), row)?;
-    same(write_entry(&mut table, &mut image, 0), Err(fault), row)?;
-    same_bytes(image.bytes(), &[0xa5; 512], row)?;
-    let told = Told {
-        entries,
-        cluster,
-        modified,
-        ..CLEARED
-    };
-    tells(&table, &told, row)
+    let mut image = filled_image(table.allocator(), 512)?;
+    let answer = write(table, &mut image);
+    let found = (answer, write_entry(table, &mut image, 0));
+    same(found, (Err(fault), Err(fault)), row)?;
+    same_image(&image, filled_image(table.allocator(), 512), row)?;
+    tells(table, (entries, (0, 0), cluster, modified), row)
+}
+
+fn is_not_written(alloc: Global, row: Refusal) -> Result<(), Fail> {
+    refuses(&mut cleared_l1_table(alloc, row.0, row.1, row.2)?, row)
 }
 
 #[test]
 fn a_table_without_a_lawful_place_is_not_written(rt: HostRuntime) -> Result<(), Fail> {
-    for row in REFUSALS {
-        is_not_written(rt.alloc(), *row)?;
-    }
-    Ok(())
+    each(rt.alloc(), REFUSALS, is_not_written)
+}
+
+fn has_entry(table: &L1Table, index: usize, number: Option<u64>) -> Result<(), Fail> {
+    let entry = table.get_ref(index).map(|entry| entry.to_plain());
+    let found = (entry, table.get(index).to_plain(), table.in_bounds(index));
+    same(found, (number, 0, number.is_some()), index)
+}
+
+// A table of 65 entries has as many as two clusters hold in part.
+fn has_entries(table: &L1Table) -> Result<(), Fail> {
+    let size = (table.byte_size(), table.cluster_count());
+    same(size, (520, ClusterCount(2)), "size")?;
+    has_entry(table, 0, Some(0))?;
+    has_entry(table, 64, Some(0))?;
+    has_entry(table, 65, None)?;
+    has_entry(table, usize::MAX, None)
 }
 
 #[test]
 fn an_entry_past_the_end_is_the_entry_0(rt: HostRuntime) -> Result<(), Fail> {
-    let header = header_with(rt.alloc(), 9)?;
-    let table = cleared_l1_table(rt.alloc(), &header, 65)?;
-    let size = (table.byte_size(), table.cluster_count());
-    same(size, (520, ClusterCount(2)), "size")?;
-    for index in [0, 64, 65, usize::MAX] {
-        let number = table.get_ref(index).map(|entry| entry.to_plain());
-        let expected = if index < 65 { Some(0) } else { None };
-        let found = (number, table.get(index).to_plain(), table.in_bounds(index));
-        same(found, (expected, 0, index < 65), index)?;
-    }
-    Ok(())
+    has_entries(&cleared_l1_table(rt.alloc(), 65, None, true)?)
 }
 
 #[test]

@@ -1,13 +1,13 @@
-//! Headers and tables to test with, and calls of tables without any clauses: tests compare what is
-//! answered, and no proof about a test has to read what the call ensures.
+//! Tables to test with, and calls of tables without any clauses: tests compare what is answered, and no
+//! proof about a test has to read what the call ensures.
 
 ghost use Rattle.std.specs.Prelude.{◌^◌, ◌≤◌, IsTrue};
 
-use qcow2_base::{Fault, HostCluster, HostOffset, Storage};
+use qcow2_base::{Fault, HostCluster, HostOffset, MemStorage, Storage};
 use qcow2_metadata::{
     EntryTable, Header, L1Table, L2Table, RefTable, Table, TableEntry, TableKind,
 };
-use qcow2_testing::{fits, image_with, is_cluster_bits, same};
+use qcow2_testing::{fits, image_with, is_cluster_bits, same, same_image};
 use std::alloc::Global;
 use std::fmt::Debug;
 use std::test::Fail;
@@ -36,55 +36,50 @@ pub(crate) fn header_with(alloc: Global, cluster_bits: u32) -> Result<Header, Fa
     header_of(alloc, cluster_bits, 4, false)
 }
 
-/// A kind of table that tests load: an L2 table only with as many entries as fill a cluster.
+/// Cluster bits of an image, and whether guest data lies in a file of its own.
+pub(crate) type Disk = (u32, bool);
+
+/// The disk of most tests.
+pub(crate) const DISK: Disk = (9, false);
+
+/// A kind of table that tests load.
 pub(crate) trait Loads: Table + Drop {
-    /// What a load of so many entries from a cluster on answers.
-    fn load_from<S: Storage>(
-        alloc: Global,
-        image: &mut S,
-        header: &Header,
-        cluster: u64,
-        entries: usize,
-    ) -> Result<Self, Fault>;
+    /// Whether a table of an image with this header may have so many entries.
+    fn may_have(header: &Header, entries: usize) -> bool
+        ensures { IsTrue result → IsTrue (Self.has_lawful_count header.now.v2.cluster_bits entries) };
 }
 
 impl Loads for L1Table {
-    fn load_from<S: Storage>(
-        alloc: Global,
-        image: &mut S,
-        header: &Header,
-        cluster: u64,
-        entries: usize,
-    ) -> Result<L1Table, Fault> {
-        L1Table::load(alloc, image, header, HostCluster(cluster), entries)
+    fn may_have(_header: &Header, _entries: usize) -> bool {
+        true
     }
 }
 
 impl Loads for RefTable {
-    fn load_from<S: Storage>(
-        alloc: Global,
-        image: &mut S,
-        header: &Header,
-        cluster: u64,
-        entries: usize,
-    ) -> Result<RefTable, Fault> {
-        RefTable::load(alloc, image, header, HostCluster(cluster), entries)
+    fn may_have(_header: &Header, _entries: usize) -> bool {
+        true
     }
 }
 
 impl Loads for L2Table {
-    fn load_from<S: Storage>(
-        alloc: Global,
-        image: &mut S,
-        header: &Header,
-        cluster: u64,
-        entries: usize,
-    ) -> Result<L2Table, Fault> {
-        if entries != header.l2_entries() {
-            return Err(Fault::WrongLength);
-        }
-        L2Table::load(alloc, image, header, HostCluster(cluster), entries)
+    fn may_have(header: &Header, entries: usize) -> bool {
+        entries == header.l2_entries()
     }
+}
+
+/// What a load of so many entries from a cluster on answers, of an image with such a disk.
+pub(crate) fn load<T: Loads, S: Storage>(
+    alloc: Global,
+    image: &mut S,
+    disk: Disk,
+    cluster: u64,
+    entries: usize,
+) -> Result<T, Fault> {
+    let header = header_of(alloc, disk.0, 4, disk.1)?;
+    if !T::may_have(&header, entries) {
+        return Err(Fault::WrongLength);
+    }
+    T::load(alloc, image, &header, HostCluster(cluster), entries)
 }
 
 /// What a write of the table answers.
@@ -116,56 +111,52 @@ pub(crate) fn write_if_modified<S: Storage>(
     }
 }
 
+/// Writes the table, and fails unless the image is then the other.
+pub(crate) fn is_written_as<T: Table>(
+    table: &mut T,
+    image: &mut MemStorage,
+    expected: Result<MemStorage, Fault>,
+) -> Result<(), Fail> {
+    same(write(table, image), Ok(()), "write")?;
+    same_image(image, expected, "written")
+}
+
 /// An L1 entry and a standard L2 entry that is copied, and a refcount table entry, for each cluster size.
 pub(crate) const NUMBER: u64 = 0x8000_0000_0020_0000;
 
+/// Bit 63 of an L1 or L2 entry: its cluster has no other reference.
+pub(crate) const COPIED: u64 = 0x8000_0000_0000_0000;
+
 /// What a table says whose entries but one are 0: how many they are, that one with its index, the
 /// table's cluster, and whether it counts as modified.
-#[derive(Clone, Copy, Debug)]
-pub(crate) struct Told {
-    pub(crate) entries: usize,
-    pub(crate) entry: (usize, u64),
-    pub(crate) cluster: Option<u64>,
-    pub(crate) modified: bool,
-}
+pub(crate) type Told = (usize, (usize, u64), Option<u64>, bool);
 
 /// What a table says that cluster 2 of an image of 512-byte clusters holds.
-pub(crate) const LOADED: Told = Told {
-    entries: 64,
-    entry: (3, NUMBER),
-    cluster: Some(2),
-    modified: false,
-};
-
-/// What a table of entries 0 alone says that has no cluster.
-pub(crate) const CLEARED: Told = Told {
-    entries: 64,
-    entry: (0, 0),
-    cluster: None,
-    modified: true,
-};
+pub(crate) const LOADED: Told = (64, (3, NUMBER), Some(2), false);
 
 /// Fails unless the table says this.
-pub(crate) fn tells<T: Table, R: Debug + Copy>(table: &T, told: &Told, row: R) -> Result<(), Fail> {
-    same(table.entries(), told.entries, row)?;
-    same(other_entry(table, told), None, row)?;
+pub(crate) fn tells<T: Table, R: Debug + Drop>(table: &T, told: Told, row: R) -> Result<(), Fail> {
+    let (entries, entry, cluster, modified) = told;
+    let found = (
+        (table.entries(), other_entry(table, entries, entry)),
+        (table.get_cluster(), table.get_offset()),
+        table.is_modified(),
+    );
     let size = 1 << table.cluster_bits();
-    same(
-        (table.get_cluster(), table.get_offset(), table.is_modified()),
-        (
-            told.cluster.map(HostCluster),
-            told.cluster
-                .map(|cluster| HostOffset(cluster.wrapping_mul(size))),
-            told.modified,
+    let place = match cluster {
+        Some(cluster) => (
+            Some(HostCluster(cluster)),
+            Some(HostOffset(cluster.wrapping_mul(size))),
         ),
-        row,
-    )
+        None => (None, None),
+    };
+    same(found, ((entries, None), place, modified), row)
 }
 
 // The first entry that isn't as it is told, with its index.
-fn other_entry<T: Table>(table: &T, told: &Told) -> Option<(usize, u64)> {
-    let (place, number) = told.entry;
-    for index in 0..told.entries {
+fn other_entry<T: Table>(table: &T, entries: usize, entry: (usize, u64)) -> Option<(usize, u64)> {
+    let (place, number) = entry;
+    for index in 0..entries {
         let found = table.get(index).to_plain();
         if found != if index == place { number } else { 0 } {
             return Some((index, found));
@@ -174,30 +165,33 @@ fn other_entry<T: Table>(table: &T, told: &Told) -> Option<(usize, u64)> {
     None
 }
 
-/// A table of an image with this header that says this.
+/// A table of an image with such a disk that says this.
 pub(crate) fn table_that_tells<T: Loads>(
     alloc: Global,
-    header: &Header,
-    told: &Told,
+    disk: Disk,
+    told: Told,
 ) -> Result<T, Fault> {
-    let (index, number) = told.entry;
-    if index >= 1 << 22 {
-        return Err(Fault::TableTooBig);
-    }
-    let start = 2 * header.cluster_size();
-    let mut image = image_with(alloc, start, &[(start as u64 + 8 * index as u64, number)])?;
-    let mut table = T::load_from(alloc, &mut image, header, 2, told.entries)?;
-    place(&mut table, told.cluster, told.modified)?;
+    let (entries, (index, number), cluster, modified) = told;
+    let start = l2_entries(disk.0).saturating_mul(16);
+    let offset = (start as u64).saturating_add((index as u64).saturating_mul(8));
+    let at = [(offset, number)];
+    let mut table = load(alloc, &mut image_with(alloc, start, &at)?, disk, 2, entries)?;
+    place(&mut table, cluster, modified)?;
     Ok(table)
 }
 
-/// Gives the table a cluster or none, and sets or clears its flag. Fails where the cluster's offset
-/// doesn't fit 64 bits.
-pub(crate) fn place<T: Table>(
-    table: &mut T,
-    cluster: Option<u64>,
-    modified: bool,
-) -> Result<(), Fault> {
+/// How many entries an L2 table has.
+pub(crate) fn l2_entries(cluster_bits: u32) -> usize {
+    if cluster_bits < 64 {
+        (1 << cluster_bits) / 8
+    } else {
+        0
+    }
+}
+
+// Gives the table a cluster or none, and sets or clears its flag. Fails where the cluster's offset
+// doesn't fit 64 bits.
+fn place<T: Table>(table: &mut T, cluster: Option<u64>, modified: bool) -> Result<(), Fault> {
     match cluster {
         Some(cluster) => {
             if !fits(cluster, 0, table.cluster_bits()) {
@@ -229,14 +223,35 @@ fn cleared_table<E: TableKind>(
     Ok(EntryTable::from_data(list, header))
 }
 
-/// An L1 table of so many entries 0, 4194305 at most. It has no cluster, and counts as modified.
+/// An L1 table of so many entries 0, 4194305 at most, of an image of 512-byte clusters.
 pub(crate) fn cleared_l1_table(
     alloc: Global,
-    header: &Header,
     entries: usize,
+    cluster: Option<u64>,
+    modified: bool,
 ) -> Result<L1Table, Fault> {
     if entries > 4194305 {
         return Err(Fault::WrongLength);
     }
-    cleared_table(alloc, header, entries)
+    let mut table = cleared_table(alloc, &header_with(alloc, 9)?, entries)?;
+    place(&mut table, cluster, modified)?;
+    Ok(table)
+}
+
+/// A new L2 table.
+pub(crate) fn cleared_l2_table(alloc: Global, cluster_bits: u32) -> Result<L2Table, Fault> {
+    L2Table::new_cleared(alloc, &header_with(alloc, cluster_bits)?)
+}
+
+/// Fails unless a table grew to so many entries, of which one may not be 0, or could not if they are 0.
+pub(crate) fn is_grown<T: Table + Drop, R: Debug + Drop>(
+    answer: Result<T, Fault>,
+    entries: usize,
+    entry: (usize, u64),
+    row: R,
+) -> Result<(), Fail> {
+    match answer {
+        Ok(table) => tells(&table, (entries, entry, None, true), row),
+        Err(fault) => same((fault, entries), (Fault::CannotGrow, 0), row),
+    }
 }

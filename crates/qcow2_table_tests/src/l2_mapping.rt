@@ -4,9 +4,10 @@ ghost use Rattle.std.specs.Prelude.{◌*◌, ◌^◌, ◌<◌, ◌↔◌, IsTrue
 ghost use Rattle.qcow2_base.specs.Types.{IsClusterBits};
 ghost use Rattle.qcow2_metadata.specs.Entries.L2Mapping.{FitsEntry, IsPlaced};
 
+use crate::fixtures::COPIED;
 use qcow2_base::{GuestCluster, HostCluster, HostOffset};
 use qcow2_metadata::{L2Entry, L2Mapping, TableEntry};
-use qcow2_testing::{fits, is_cluster_bits, same};
+use qcow2_testing::{each_row, fits, holds, is_cluster_bits, same};
 use std::num::NonZero;
 use std::test::Fail;
 
@@ -85,86 +86,60 @@ fn has_entry(mapping: L2Mapping, bits: u32) -> bool
 }
 
 // Cluster bits, a mapping, the number of its entry, and what guest cluster 3 reads as by it without an
-// external data file and with one.
-const ENTERED: &[(u32, Reads, u64, Reads, Reads)] = &[
-    (
-        9,
-        Data(5, true),
-        0x8000_0000_0000_0a00,
-        Data(5, true),
-        Data(5, true),
-    ),
-    (
-        16,
-        Zeros(Some(2), false),
-        0x2_0001,
-        Zeros(Some(2), false),
-        Zeros(Some(2), false),
-    ),
-    (
-        21,
-        Zeros(None, false),
-        1,
-        Zeros(None, false),
-        Zeros(None, false),
-    ),
-    (9, Backing(0), 0, Backing(1536), Backing(1536)),
+// external data file and with one, if as another mapping.
+type Entered = (u32, Reads, u64, Option<Reads>, Option<Reads>);
+
+const ENTERED: &[Entered] = &[
+    (9, Data(5, true), COPIED + 0xa00, None, None),
+    (16, Zeros(Some(2), false), 0x2_0001, None, None),
+    (21, Zeros(None, false), 1, None, None),
+    (9, Backing(0), 0, THIRD, THIRD),
     // cluster 0 is one only where it is copied in an external data file
-    (9, Data(0, true), 1 << 63, Backing(1536), Data(0, true)),
-    (
-        9,
-        Zeros(Some(0), true),
-        (1 << 63) + 1,
-        Zeros(None, false),
-        Zeros(Some(0), true),
-    ),
+    (9, Data(0, true), COPIED, THIRD, None),
+    (9, Zeros(Some(0), true), COPIED + 1, NO_CLUSTER, None),
     // compressed data reaches to the end of its last sector
-    (
-        16,
-        Compressed(0x1_0010, 1000),
-        0x4040_0000_0001_0010,
-        Compressed(0x1_0010, 1008),
-        Compressed(0x1_0010, 1008),
-    ),
-    (
-        21,
-        Compressed(0x600, 2097151),
-        0x5ffe_0000_0000_0600,
-        Compressed(0x600, 2097152),
-        Compressed(0x600, 2097152),
-    ),
+    (16, SHORT, 0x4040_0000_0001_0010, SECTORS, SECTORS),
+    (21, LONG, 0x5ffe_0000_0000_0600, LONG_SECTORS, LONG_SECTORS),
 ];
 
+const THIRD: Option<Reads> = Some(Backing(1536));
+
+const NO_CLUSTER: Option<Reads> = Some(Zeros(None, false));
+
+const SHORT: Reads = Compressed(0x1_0010, 1000);
+
+const SECTORS: Option<Reads> = Some(Compressed(0x1_0010, 1008));
+
+const LONG: Reads = Compressed(0x600, 2097151);
+
+const LONG_SECTORS: Option<Reads> = Some(Compressed(0x600, 2097152));
+
 // A mapping's entry has this number, and reads as the other mappings.
-fn enters(row: (u32, Reads, u64, Reads, Reads)) -> Result<(), Fail> {
-    let (bits, mapping, number, plain, external) = row;
-    let mapping = mapping_of(mapping)?;
-    if !is_cluster_bits(bits) || !has_entry(mapping, bits) || !fits(3, 0, bits) {
-        return Err("a mapping without an entry".into());
-    }
+fn enters(row: Entered) -> Result<(), Fail> {
+    let (bits, reads, number, plain, external) = row;
+    let mapping = mapping_of(reads)?;
+    holds(is_cluster_bits(bits), row)?;
+    holds(has_entry(mapping, bits) && fits(3, 0, bits), row)?;
     let entry = L2Entry::from_mapping(mapping, bits);
     same(entry.to_plain(), number, row)?;
     let found = (
-        entry.into_mapping(GuestCluster(3), bits, false),
-        entry.into_mapping(GuestCluster(3), bits, true),
+        entry.into_mapping(GuestCluster(3), bits, false)?,
+        entry.into_mapping(GuestCluster(3), bits, true)?,
     );
-    same(
-        found,
-        (Ok(mapping_of(plain)?), Ok(mapping_of(external)?)),
-        row,
-    )
+    let plain = mapping_of(plain.unwrap_or(reads))?;
+    let external = mapping_of(external.unwrap_or(reads))?;
+    same(found, (plain, external), row)
 }
 
 #[test]
 fn a_mapping_has_an_entry_that_reads_as_it() -> Result<(), Fail> {
-    for row in ENTERED {
-        enters(*row)?;
-    }
-    Ok(())
+    each_row(ENTERED, enters)
 }
 
 // Two mappings of an image of 512-byte clusters, and whether the second goes on after the first.
-const GOES_ON: &[(Reads, Reads, bool)] = &[
+type Pair = (Reads, Reads, bool);
+
+const GOES_ON: &[Pair] = &[
     (Data(5, true), Data(6, true), true),
     (Data(5, true), Data(6, false), false),
     (Data(5, true), Data(7, true), false),
@@ -179,12 +154,12 @@ const GOES_ON: &[(Reads, Reads, bool)] = &[
     (Compressed(0x1_0000, 7), Data(1, true), false),
 ];
 
+fn goes_on(row: Pair) -> Result<(), Fail> {
+    let (first, second) = (mapping_of(row.0)?, mapping_of(row.1)?);
+    same(second.is_consecutive(&first, 9), row.2, row)
+}
+
 #[test]
 fn a_mapping_goes_on_in_the_next_cluster_and_zeros_in_any() -> Result<(), Fail> {
-    for row in GOES_ON {
-        let (first, second, want) = *row;
-        let (first, second) = (mapping_of(first)?, mapping_of(second)?);
-        same(second.is_consecutive(&first, 9), want, *row)?;
-    }
-    Ok(())
+    each_row(GOES_ON, goes_on)
 }

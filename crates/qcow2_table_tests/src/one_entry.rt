@@ -1,9 +1,11 @@
 //! Writes of one entry: which bytes of the image change, by how many calls, and what they are then.
 
-use crate::fixtures::{Told, header_with, table_that_tells, tells, write_entry};
+use crate::fixtures::{Told, table_that_tells, tells, write_entry};
 use qcow2_base::{Fault, MemStorage};
-use qcow2_metadata::L1Table;
-use qcow2_testing::{FailingStorage, StorageCall, filled_image, put, put_bytes, same, same_bytes};
+use qcow2_metadata::{L1Table, Table};
+use qcow2_testing::{
+    FailingStorage, StorageCall, each, filled_image, put, put_bytes, recorded, same, same_image,
+};
 use std::alloc::Global;
 use std::test::Fail;
 
@@ -31,6 +33,12 @@ const WRITTEN: &[Written] = &[
     (13, 1, 1024, 1023, 16376, 13, 8192, 8192),
 ];
 
+// An image of 0xa5 with this alignment.
+fn aligned_image(alloc: Global, bits: u32) -> Result<FailingStorage<MemStorage>, Fault> {
+    let image = filled_image(alloc, 16384)?;
+    Ok(recorded(alloc, image.with_align(1 << bits.min(30))))
+}
+
 // An image of 0xa5 but for zeros from an offset on, and the number at its place.
 fn image_after(alloc: Global, offset: u64, len: usize, place: u64) -> Result<MemStorage, Fault> {
     let mut image = filled_image(alloc, 16384)?;
@@ -39,32 +47,26 @@ fn image_after(alloc: Global, offset: u64, len: usize, place: u64) -> Result<Mem
     Ok(image)
 }
 
-fn is_written(alloc: Global, row: Written) -> Result<(), Fail> {
-    let (cluster_bits, cluster, entries, index, place, bits, offset, len) = row;
-    let header = header_with(alloc, cluster_bits)?;
-    let told = Told {
-        entries,
-        entry: (index, NUMBER),
-        cluster: Some(cluster),
-        modified: bits % 2 == 1,
-    };
-    let mut table: L1Table = table_that_tells(alloc, &header, &told)?;
-    let image = filled_image(alloc, 16384)?.with_align(1 << bits.min(30));
-    let mut image = FailingStorage::new(alloc, image);
-    same(write_entry(&mut table, &mut image, index), Ok(()), row)?;
+// Writes the entry by one call.
+fn writes(table: &mut L1Table, row: Written) -> Result<(), Fail> {
+    let (_, _, _, index, place, bits, offset, len) = row;
+    let mut image = aligned_image(table.allocator(), bits)?;
+    let answer = write_entry(table, &mut image, index);
     let call = StorageCall::Write { offset, len };
-    same(image.calls(), [call].as_slice(), row)?;
-    let want = image_after(alloc, offset, len, place)?;
-    same_bytes(image.inner().bytes(), want.bytes(), row)?;
-    tells(&table, &told, row)
+    same((answer, image.calls()), (Ok(()), [call].as_slice()), row)?;
+    let expected = image_after(table.allocator(), offset, len, place);
+    same_image(image.inner(), expected, row)
+}
+
+fn is_written(alloc: Global, row: Written) -> Result<(), Fail> {
+    let (cluster_bits, cluster, entries, index, _, bits, ..) = row;
+    let told: Told = (entries, (index, NUMBER), Some(cluster), bits % 2 == 1);
+    let mut table: L1Table = table_that_tells(alloc, (cluster_bits, false), told)?;
+    writes(&mut table, row)?;
+    tells(&table, told, row)
 }
 
 #[test]
-fn one_entry_is_written_with_its_aligned_bytes_within_a_cluster(
-    rt: HostRuntime,
-) -> Result<(), Fail> {
-    for row in WRITTEN {
-        is_written(rt.alloc(), *row)?;
-    }
-    Ok(())
+fn one_entry_is_written_with_its_aligned_bytes(rt: HostRuntime) -> Result<(), Fail> {
+    each(rt.alloc(), WRITTEN, is_written)
 }

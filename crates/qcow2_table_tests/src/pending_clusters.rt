@@ -1,7 +1,8 @@
 //! Clusters that wait for a reference, and are handed back where nothing refers to them.
 
+use crate::fixtures::tells;
 use qcow2_base::{ClusterCount, Fault, HostCluster};
-use qcow2_metadata::{ClustersToFreeEntry, PendingClusters, Refused};
+use qcow2_metadata::{ClustersToFreeEntry, PendingClusters, Refused, Table};
 use qcow2_testing::same;
 use std::test::Fail;
 
@@ -10,20 +11,10 @@ pub(crate) type Refusal = Option<(Fault, Option<ClustersToFreeEntry>)>;
 
 /// The refusal of an answer, whose clusters are given up.
 pub(crate) fn refusal(answer: Result<(), Refused>) -> Refusal {
-    match answer {
-        Ok(()) => None,
-        Err(
-            Refused {
-                fault,
-                pending: Some(pending),
-            },
-        ) => Some((fault, Some(pending.give_up()))),
-        Err(
-            Refused {
-                fault,
-                pending: None,
-            },
-        ) => Some((fault, None)),
+    let Refused { fault, pending } = answer.err()?;
+    match pending {
+        Some(pending) => Some((fault, Some(pending.give_up()))),
+        None => Some((fault, None)),
     }
 }
 
@@ -34,6 +25,21 @@ pub(crate) fn not_placed(clusters: Option<(u64, u64)>) -> Refusal {
         count: ClusterCount(count),
     });
     Some((Fault::NotPlaced, clusters))
+}
+
+/// The cluster of what is entered as entry 3 of a table whose entry 3 is of another one, if it has one,
+/// whether with pending clusters, and the entry then.
+pub(crate) type Entered = (Option<u64>, bool, u64);
+
+/// Fails unless the table has the entry, or else the refusal handed pending cluster 7 back.
+pub(crate) fn is_entered<T: Table>(table: &T, found: Refusal, row: Entered) -> Result<(), Fail> {
+    let (cluster, is_pending, number) = row;
+    let want = match cluster {
+        Some(_) => None,
+        None => not_placed(if is_pending { Some((7, 1)) } else { None }),
+    };
+    same(found, want, row)?;
+    tells(table, (64, (3, number), Some(2), cluster.is_some()), row)
 }
 
 #[test]

@@ -1,9 +1,12 @@
 //! Tables are read and written in pieces of 4096 bytes, counted from where they begin.
 
-use crate::fixtures::{Loads, header_with, write};
+use crate::fixtures::{COPIED, DISK, load, write};
 use qcow2_base::{Fault, MemStorage};
 use qcow2_metadata::{L1Table, Table};
-use qcow2_testing::{FailingStorage, StorageCall, filled_image, put, put_bytes, same, same_bytes};
+use qcow2_testing::{
+    FailingStorage, StorageCall, each, filled_image, put, put_bytes, recorded, same, same_bytes,
+    same_image,
+};
 use std::alloc::Global;
 use std::test::Fail;
 
@@ -31,7 +34,7 @@ fn image_with_entries(alloc: Global, start: u64, entries: usize) -> Result<MemSt
     let mut image = filled_image(alloc, 20000)?;
     for index in 0..entries {
         let place = start.wrapping_add((index as u64).wrapping_mul(8));
-        let number = 0x8000_0000_0000_0000 + 0x20_0000 * (1 + index as u64 % 4096);
+        let number = COPIED + 0x20_0000 * (1 + index as u64 % 4096);
         put(&mut image, place, number)?;
     }
     Ok(image)
@@ -47,48 +50,49 @@ fn are_calls(
     let mut want = Vec::new(alloc);
     for (offset, len) in pieces {
         let (offset, len) = (*offset, *len);
-        let call = if is_read {
+        want.push(if is_read {
             StorageCall::Read { offset, len }
         } else {
             StorageCall::Write { offset, len }
-        };
-        want.push(call)?;
+        })?;
     }
     same(calls, want.as_slice(), pieces)
 }
 
-// Loads the table, and writes it to an image of other bytes.
+// Writes the table to an image of other bytes, which are then these.
+fn is_written(table: &mut L1Table, expected: &[u8], row: Pieces) -> Result<(), Fail> {
+    let alloc = table.allocator();
+    let mut image = recorded(alloc, filled_image(alloc, 20000)?);
+    let answer = write(table, &mut image);
+    same((answer, table.is_modified()), (Ok(()), false), row)?;
+    are_calls(alloc, image.calls(), row.4, false)?;
+    same_bytes(image.inner().bytes(), expected, row)
+}
+
 fn is_in_pieces(alloc: Global, row: Pieces) -> Result<(), Fail> {
     let (bits, cluster, start, entries, pieces) = row;
-    let header = header_with(alloc, bits)?;
-    let mut image = FailingStorage::new(alloc, image_with_entries(alloc, start, entries)?);
-    let mut table = L1Table::load_from(alloc, &mut image, &header, cluster, entries)?;
+    let mut image = recorded(alloc, image_with_entries(alloc, start, entries)?);
+    let mut table: L1Table = load(alloc, &mut image, (bits, false), cluster, entries)?;
     are_calls(alloc, image.calls(), pieces, true)?;
-    let mut other = FailingStorage::new(alloc, filled_image(alloc, 20000)?);
-    same(write(&mut table, &mut other), Ok(()), row)?;
-    are_calls(alloc, other.calls(), pieces, false)?;
-    same_bytes(other.inner().bytes(), image.inner().bytes(), row)?;
-    same(table.is_modified(), false, row)
+    is_written(&mut table, image.inner().bytes(), row)
 }
 
 #[test]
 fn a_table_is_read_and_written_in_its_pieces(rt: HostRuntime) -> Result<(), Fail> {
-    for row in TABLES {
-        is_in_pieces(rt.alloc(), *row)?;
-    }
-    Ok(())
+    each(rt.alloc(), TABLES, is_in_pieces)
 }
 
 // A byte of the image that is 1 and makes its entry a bad one, and how many pieces are read.
 const BAD: &[(u64, usize)] = &[(4103, 1), (8191, 1), (8199, 2), (12287, 2), (12295, 3)];
 
 // Loads a table of 1025 entries from byte 4096 on.
-fn reads_up_to(alloc: Global, at: u64, count: usize) -> Result<(), Fail> {
-    let header = header_with(alloc, 9)?;
+fn reads_up_to(alloc: Global, row: (u64, usize)) -> Result<(), Fail> {
+    let (at, count) = row;
     let mut image = image_with_entries(alloc, 4096, 1025)?;
     put_bytes(&mut image, at, &[1])?;
-    let mut image = FailingStorage::new(alloc, image);
-    let answer = L1Table::load_from(alloc, &mut image, &header, 8, 1025);
+    let mut image = recorded(alloc, image);
+    image.fail_after(count as u64);
+    let answer: Result<L1Table, Fault> = load(alloc, &mut image, DISK, 8, 1025);
     same(answer.err(), Some(Fault::EntryReserved), at)?;
     let pieces = THREE_PIECES.get(..count).unwrap_or(&[]);
     are_calls(alloc, image.calls(), pieces, true)
@@ -96,34 +100,30 @@ fn reads_up_to(alloc: Global, at: u64, count: usize) -> Result<(), Fail> {
 
 #[test]
 fn a_load_reads_no_piece_after_that_of_a_bad_entry(rt: HostRuntime) -> Result<(), Fail> {
-    for (at, count) in BAD {
-        reads_up_to(rt.alloc(), *at, *count)?;
-    }
-    Ok(())
+    each(rt.alloc(), BAD, reads_up_to)
 }
 
-// Writes a table whose third piece the storage refuses.
-fn fails_at_the_third_piece(
-    table: &mut L1Table,
-    other: &mut FailingStorage<MemStorage>,
-) -> Result<(), Fail> {
-    other.fail_after(2);
-    same(write(table, other), Err(Fault::Storage), "refused")?;
-    same(table.is_modified(), true, "refused")
+// Writes a table whose third piece the storage refuses, and then once more.
+fn is_torn(table: &mut L1Table, image: &mut FailingStorage<MemStorage>) -> Result<(), Fail> {
+    let alloc = table.allocator();
+    image.fail_after(2);
+    let answer = write(table, image);
+    let refused = (Err(Fault::Storage), true);
+    same((answer, table.is_modified()), refused, "refused")?;
+    let torn = image_with_entries(alloc, 4096, 1024);
+    same_image(image.inner(), torn, "refused")?;
+    let answer = write(table, image);
+    same((answer, table.is_modified()), (Ok(()), false), "again")?;
+    let whole = image_with_entries(alloc, 4096, 1025);
+    same_image(image.inner(), whole, "again")
 }
 
 #[test]
-fn a_write_that_fails_at_its_third_piece_is_torn_there_and_then_made_whole(
-    rt: HostRuntime,
-) -> Result<(), Fail> {
-    let header = header_with(rt.alloc(), 9)?;
+fn a_write_torn_at_its_third_piece_is_made_whole_by_the_next(rt: HostRuntime) -> Result<(), Fail> {
     let mut image = image_with_entries(rt.alloc(), 4096, 1025)?;
-    let mut table = L1Table::load_from(rt.alloc(), &mut image, &header, 8, 1025)?;
-    let mut other = FailingStorage::new(rt.alloc(), filled_image(rt.alloc(), 20000)?);
-    fails_at_the_third_piece(&mut table, &mut other)?;
-    let torn = image_with_entries(rt.alloc(), 4096, 1024)?;
-    same_bytes(other.inner().bytes(), torn.bytes(), "refused")?;
-    same(write(&mut table, &mut other), Ok(()), "again")?;
-    same(table.is_modified(), false, "again")?;
-    same_bytes(other.inner().bytes(), image.bytes(), "again")
+    let mut table: L1Table = load(rt.alloc(), &mut image, DISK, 8, 1025)?;
+    is_torn(
+        &mut table,
+        &mut recorded(rt.alloc(), filled_image(rt.alloc(), 20000)?),
+    )
 }

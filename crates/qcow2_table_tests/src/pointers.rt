@@ -1,26 +1,16 @@
 //! Setting where a header's tables lie, and writing that and the disk's size by themselves.
 
-use crate::fixtures::{CLEARED, Told, cleared_l1_table, header_with, place, table_that_tells};
+use crate::fixtures::{DISK, cleared_l1_table, header_with, table_that_tells};
 use crate::pending_clusters::{Refusal, not_placed, refusal};
 use qcow2_base::{ClusterCount, Fault, HostCluster, HostOffset, Storage};
 use qcow2_metadata::{Header, L1Table, PendingClusters, RefTable, Table};
-use qcow2_testing::{FailingStorage, filled_image, put_bytes, same, same_bytes};
+use qcow2_testing::{filled_image, put_bytes, recorded, same, same_image};
 use std::alloc::Global;
 use std::test::Fail;
 
 // Gives the header an L1 table of one entry with a cluster, whose clusters are pending, or without one and
 // with pending clusters 7 to 9.
-fn set_l1_table(
-    alloc: Global,
-    header: &mut Header,
-    cluster: Option<u64>,
-) -> Result<Refusal, Fault> {
-    let mut table = cleared_l1_table(alloc, header, 1)?;
-    place(&mut table, cluster, true)?;
-    refer_to(header, &table)
-}
-
-fn refer_to(header: &mut Header, table: &L1Table) -> Result<Refusal, Fault> {
+fn set_l1_table(header: &mut Header, table: &L1Table) -> Result<Refusal, Fault> {
     if table.cluster_bits() != header.cluster_bits() {
         return Err(Fault::ClusterSize);
     }
@@ -33,45 +23,42 @@ fn refer_to(header: &mut Header, table: &L1Table) -> Result<Refusal, Fault> {
 
 // Gives the header a refcount table of 65 entries with a cluster or none.
 fn set_reftable(alloc: Global, header: &mut Header, cluster: Option<u64>) -> Result<(), Fault> {
-    let told = Told {
-        entries: 65,
-        cluster,
-        ..CLEARED
-    };
-    let table: RefTable = table_that_tells(alloc, header, &told)?;
+    let table: RefTable = table_that_tells(alloc, DISK, (65, (0, 0), cluster, true))?;
     if table.cluster_bits() != header.cluster_bits() {
         return Err(Fault::ClusterSize);
     }
     header.set_reftable(&table)
 }
 
-// A header whose disk has 4096 bytes, whose L1 table has one entry at 0x200, and whose refcount table has
-// 65 entries at 0x800: two clusters of 512 bytes. Tables without a cluster were refused.
+// Gives the header an L1 table of one entry at 0x200 and a refcount table of 65 entries at 0x800, and then
+// tables without a cluster, which are refused.
+fn set_tables(alloc: Global, header: &mut Header) -> Result<(), Fail> {
+    let found = set_l1_table(header, &cleared_l1_table(alloc, 1, Some(1), true)?)?;
+    let answer = set_reftable(alloc, header, Some(4));
+    same((found, answer), (None, Ok(())), "placed")?;
+    let found = set_l1_table(header, &cleared_l1_table(alloc, 1, None, true)?)?;
+    let answer = set_reftable(alloc, header, None);
+    let expected = (not_placed(Some((7, 3))), Err(Fault::NotPlaced));
+    same((found, answer), expected, "not placed")
+}
+
+// A header whose disk has 4096 bytes, and that has these tables.
 fn header_with_tables(alloc: Global) -> Result<Header, Fail> {
     let mut header = header_with(alloc, 9)?;
     header.set_size(4096);
-    same(set_l1_table(alloc, &mut header, Some(1))?, None, "L1 table")?;
-    set_reftable(alloc, &mut header, Some(4))?;
-    let found = set_l1_table(alloc, &mut header, None)?;
-    same(found, not_placed(Some((7, 3))), "L1 table")?;
-    let answer = set_reftable(alloc, &mut header, None);
-    same(answer, Err(Fault::NotPlaced), "refcount table")?;
+    set_tables(alloc, &mut header)?;
     Ok(header)
 }
 
 #[test]
 fn a_header_refers_to_the_tables_that_it_was_given(rt: HostRuntime) -> Result<(), Fail> {
     let header = header_with_tables(rt.alloc())?;
-    same(header.size(), 4096, "size")?;
     let l1_table = (header.l1_table_offset(), header.l1_table_entries());
-    same(l1_table, (HostOffset(0x200), 1), "L1 table")?;
-    let reftable = (
-        header.reftable_offset(),
-        header.reftable_clusters(),
-        header.reftable_entries(),
-    );
-    let expected = (HostOffset(0x800), ClusterCount(2), 128);
-    same(reftable, expected, "refcount table")
+    let clusters = (header.reftable_clusters(), header.reftable_entries());
+    let found = (header.size(), l1_table, header.reftable_offset(), clusters);
+    let clusters = (ClusterCount(2), 128);
+    let expected = (4096, (HostOffset(0x200), 1), HostOffset(0x800), clusters);
+    same(found, expected, "tables")
 }
 
 // Writes one of the three parts.
@@ -84,22 +71,30 @@ fn write_part<S: Storage>(header: &Header, image: &mut S, part: u32) -> Result<(
 }
 
 // Which bytes each part has, and where.
-const PARTS: &[(u32, u64, &'static [u8])] = &[
+type Part = (u32, u64, &'static [u8]);
+
+const PARTS: &[Part] = &[
     (0, 24, &[0, 0, 0, 0, 0, 0, 0x10, 0]),
     (1, 36, &[0, 0, 0, 1, 0, 0, 0, 0, 0, 0, 2, 0]),
     (2, 48, &[0, 0, 0, 0, 0, 0, 8, 0, 0, 0, 0, 2]),
 ];
 
+// Writes the part over 72 bytes of 0xa5 by one call.
+fn is_written(alloc: Global, header: &Header, row: Part) -> Result<(), Fail> {
+    let (part, at, bytes) = row;
+    let mut expected = filled_image(alloc, 72)?;
+    put_bytes(&mut expected, at, bytes)?;
+    let mut image = recorded(alloc, filled_image(alloc, 72)?);
+    let answer = write_part(header, &mut image, part);
+    same((answer, image.calls().len()), (Ok(()), 1), row)?;
+    same_image(image.inner(), Ok(expected), row)
+}
+
 #[test]
 fn a_part_is_written_by_one_call_and_no_other_byte_changes(rt: HostRuntime) -> Result<(), Fail> {
     let header = header_with_tables(rt.alloc())?;
-    for (part, at, bytes) in PARTS {
-        let mut image = FailingStorage::new(rt.alloc(), filled_image(rt.alloc(), 72)?);
-        same(write_part(&header, &mut image, *part), Ok(()), *part)?;
-        same(image.calls().len(), 1, *part)?;
-        let mut expected = filled_image(rt.alloc(), 72)?;
-        put_bytes(&mut expected, *at, bytes)?;
-        same_bytes(image.inner().bytes(), expected.bytes(), *part)?;
+    for row in PARTS {
+        is_written(rt.alloc(), &header, *row)?;
     }
     Ok(())
 }

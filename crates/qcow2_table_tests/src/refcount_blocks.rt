@@ -1,152 +1,122 @@
 //! Refcount blocks: their counters at each width, what steps leave, and where they are read and written.
 
 use crate::blocks::{counter, load, new_cleared, place, told, write, write_if_modified};
-use crate::fixtures::{LOADED, NUMBER, Told, header_of, header_with, table_that_tells, tells};
-use crate::pending_clusters::{Refusal, not_placed, refusal};
-use qcow2_base::{ClusterCount, Fault, HostCluster, HostOffset, MemStorage, Storage};
+use crate::fixtures::{DISK, LOADED, NUMBER, table_that_tells};
+use crate::pending_clusters::{Entered, Refusal, is_entered, refusal};
+use qcow2_base::{ClusterCount, Fault, HostCluster, HostOffset, MemStorage};
 use qcow2_metadata::{PendingClusters, RefBlock, RefTable, Table};
-use qcow2_testing::{FailingStorage, filled_image, same, same_bytes};
+use qcow2_testing::{
+    FailingStorage, each, filled_image, holds, put_bytes, recorded, same, same_bytes, same_image,
+};
 use std::alloc::Global;
 use std::test::Fail;
 
-// Three clusters of 512 bytes: 0xa5, zeros but for these bytes at a place, and 0xa5 again.
-fn image_with(alloc: Global, place: usize, bytes: &[u8]) -> Result<MemStorage, Fault> {
+// Bytes of a block that aren't 0: their place, how many, and the number that they are.
+type Bytes = (u64, usize, u64);
+
+// Three clusters of 512 bytes: 0xa5, zeros but for these bytes, and 0xa5 again.
+fn image_with(alloc: Global, bytes: Bytes) -> Result<MemStorage, Fault> {
+    let (place, len, number) = bytes;
+    let number = number.to_be_bytes();
+    let bytes = number.get(8usize.saturating_sub(len)..).unwrap_or(&[]);
     let mut image = filled_image(alloc, 1536)?;
-    image.write(&[0; 512], 512)?;
-    if place < 512 && bytes.len() <= 512 {
-        image.write(bytes, 512 + place as u64)?;
-    }
+    put_bytes(&mut image, 512, &[0; 512])?;
+    put_bytes(&mut image, place.saturating_add(512), bytes)?;
     Ok(image)
 }
 
-// A change of a counter.
+// A step of a counter with the number that it answers, or one that is refused.
 #[derive(Clone, Copy, Debug)]
-enum Way {
-    Up,
-    Down,
+enum Tally {
+    Up(u64),
+    Full,
+    Down(u64),
+    Empty,
 }
 
-use Way::{Down, Up};
+use Tally::{Down, Empty, Full, Up};
 
-// Steps with the number that each answers, or none where it is refused.
-type Answers = &'static [(Way, Option<u64>)];
+type Tallies = &'static [Tally];
 
-// A refcount order, the index of a counter, the place of its bytes and these, its steps, and the bytes then.
-type Stepped = (u32, usize, usize, &'static [u8], Answers, &'static [u8]);
+// A refcount order, the index of a counter, the place of its bytes and how many, the number that they are,
+// its steps, and the number then.
+type Stepped = (u32, usize, u64, usize, u64, Tallies, u64);
 
 const STEPPED: &[Stepped] = &[
-    (0, 9, 1, &[0], &[(Up, Some(0)), (Up, None)], &[2]),
-    (0, 0, 0, &[0xff], &[(Down, Some(1)), (Down, None)], &[0xfe]),
-    (0, 4095, 511, &[0x7f], &[(Up, Some(0))], &[0xff]),
-    (1, 1, 0, &[0], &[(Up, Some(0))], &[4]),
-    (
-        1,
-        1,
-        0,
-        &[0],
-        &[(Up, Some(0)), (Up, Some(1)), (Up, Some(2)), (Up, None)],
-        &[0x0c],
-    ),
-    (1, 2, 0, &[0xff], &[(Down, Some(3))], &[0xef]),
-    (1, 2047, 511, &[0x80], &[(Up, Some(2))], &[0xc0]),
-    (2, 3, 1, &[0], &[(Up, Some(0))], &[0x10]),
-    (2, 3, 1, &[0xff], &[(Up, None), (Down, Some(15))], &[0xef]),
-    (2, 1023, 511, &[0x12], &[(Down, Some(1))], &[2]),
-    (3, 511, 511, &[0xfe], &[(Up, Some(254)), (Up, None)], &[255]),
-    (3, 0, 0, &[1, 7], &[(Down, Some(1)), (Down, None)], &[0, 7]),
-    (4, 0, 0, &[0, 0xff], &[(Up, Some(255))], &[1, 0]),
-    (4, 0, 0, &[0, 0], &[(Down, None)], &[0, 0]),
-    (4, 255, 510, &[1, 0], &[(Down, Some(256))], &[0, 0xff]),
-    (
-        5,
-        0,
-        0,
-        &[0, 0, 0xff, 0xff],
-        &[(Up, Some(65535))],
-        &[0, 1, 0, 0],
-    ),
-    (5, 0, 0, &[0xff; 4], &[(Up, None)], &[0xff; 4]),
-    (
-        5,
-        127,
-        508,
-        &[1, 0, 0, 0],
-        &[(Down, Some(1 << 24))],
-        &[0, 0xff, 0xff, 0xff],
-    ),
-    (
-        6,
-        0,
-        0,
-        &[0, 0, 0, 0, 0xff, 0xff, 0xff, 0xff],
-        &[(Up, Some(4294967295))],
-        &[0, 0, 0, 1, 0, 0, 0, 0],
-    ),
-    (
-        6,
-        63,
-        504,
-        &[0xff, 0xff, 0xff, 0xff, 0xff, 0xff, 0xff, 0xfe],
-        &[(Up, Some(u64::MAX - 1)), (Up, None), (Down, Some(u64::MAX))],
-        &[0xff, 0xff, 0xff, 0xff, 0xff, 0xff, 0xff, 0xfe],
-    ),
-    (
-        6,
-        1,
-        8,
-        &[0; 8],
-        &[(Down, None), (Up, Some(0))],
-        &[0, 0, 0, 0, 0, 0, 0, 1],
-    ),
+    (0, 9, 1, 1, 0, &[Up(0), Full], 2),
+    (0, 0, 0, 1, 0xff, &[Down(1), Empty], 0xfe),
+    (0, 4095, 511, 1, 0x7f, &[Up(0)], 0xff),
+    (1, 1, 0, 1, 0, &[Up(0)], 4),
+    (1, 1, 0, 1, 0, &[Up(0), Up(1), Up(2), Full], 0x0c),
+    (1, 2, 0, 1, 0xff, &[Down(3)], 0xef),
+    (1, 2047, 511, 1, 0x80, &[Up(2)], 0xc0),
+    (2, 3, 1, 1, 0, &[Up(0)], 0x10),
+    (2, 3, 1, 1, 0xff, &[Full, Down(15)], 0xef),
+    (2, 1023, 511, 1, 0x12, &[Down(1)], 2),
+    (3, 511, 511, 1, 0xfe, &[Up(254), Full], 0xff),
+    (3, 0, 0, 2, 0x0107, &[Down(1), Empty], 7),
+    (4, 0, 0, 2, 0x00ff, &[Up(255)], 0x0100),
+    (4, 0, 0, 2, 0, &[Empty], 0),
+    (4, 255, 510, 2, 0x0100, &[Down(256)], 0x00ff),
+    (5, 0, 0, 4, 0xffff, &[Up(65535)], 0x0001_0000),
+    (5, 0, 0, 4, 0xffff_ffff, &[Full], 0xffff_ffff),
+    (5, 127, 508, 4, 0x0100_0000, &[Down(1 << 24)], 0x00ff_ffff),
+    (6, 0, 0, 8, 0xffff_ffff, &[Up(4294967295)], 1 << 32),
+    (6, 63, 504, 8, LESS, &[Up(LESS), Full, Down(u64::MAX)], LESS),
+    (6, 1, 8, 8, 0, &[Empty, Up(0)], 1),
 ];
 
-// What one step of the counter answers: the number before it, or nothing where it is refused.
-fn step(block: &mut RefBlock, index: usize, way: Way) -> Result<Option<u64>, Fail> {
+// One less than the most references.
+const LESS: u64 = u64::MAX - 1;
+
+// What one step of the counter answers: the number before it.
+fn step(block: &mut RefBlock, index: usize, is_up: bool) -> Result<u64, Fault> {
     if index >= block.entries() {
-        return Err("an index past the block's end".into());
+        return Err(Fault::WrongLength);
     }
     let mut guard = block.lock_write();
-    let answer = match way {
-        Up => guard.increment(index),
-        Down => guard.decrement(index),
-    };
-    match answer {
-        Ok(before) => Ok(Some(before)),
-        Err(Fault::CounterRange) => Ok(None),
-        Err(fault) => Err(fault.into()),
+    if is_up {
+        guard.increment(index)
+    } else {
+        guard.decrement(index)
     }
 }
 
-// Makes the steps, of which each that isn't refused sets the flag.
-fn are_answers(block: &mut RefBlock, index: usize, steps: Answers) -> Result<(), Fail> {
-    let mut modified = false;
-    for made in steps {
-        let (way, answer) = *made;
-        same(step(block, index, way)?, answer, steps)?;
-        modified |= answer.is_some();
-        same(block.is_modified(), modified, steps)?;
+// Makes the step, which sets the flag if it isn't refused.
+fn is_answered(block: &mut RefBlock, index: usize, tally: Tally) -> Result<(), Fail> {
+    let (is_up, answer) = match tally {
+        Up(before) => (true, Ok(before)),
+        Full => (true, Err(Fault::CounterRange)),
+        Down(before) => (false, Ok(before)),
+        Empty => (false, Err(Fault::CounterRange)),
+    };
+    let modified = block.is_modified() || answer.is_ok();
+    let found = step(block, index, is_up);
+    same((found, block.is_modified()), (answer, modified), tally)
+}
+
+// Steps a block, and writes it.
+fn steps(block: &mut RefBlock, image: &mut MemStorage, row: Stepped) -> Result<(), Fail> {
+    let (_, index, place, len, _, tallies, after) = row;
+    for tally in tallies {
+        is_answered(block, index, *tally)?;
     }
-    Ok(())
+    let found = (block.get_cluster(), write(block, image));
+    same(found, (Some(HostCluster(1)), Ok(())), row)?;
+    let expected = image_with(block.allocator(), (place, len, after));
+    same_image(image, expected, row)
 }
 
 fn is_stepped(alloc: Global, row: Stepped) -> Result<(), Fail> {
-    let (order, index, place, bytes, steps, after) = row;
-    let header = header_of(alloc, 9, order, false)?;
-    let mut image = image_with(alloc, place, bytes)?;
-    let mut block = load(alloc, &mut image, &header, 1)?;
-    are_answers(&mut block, index, steps)?;
-    same(block.get_cluster(), Some(HostCluster(1)), row)?;
-    same(write(&mut block, &mut image), Ok(()), row)?;
-    let expected = image_with(alloc, place, after)?;
-    same_bytes(image.bytes(), expected.bytes(), row)
+    let (order, _, place, len, number, ..) = row;
+    let mut image = image_with(alloc, (place, len, number))?;
+    let mut block = load(alloc, &mut image, (9, order), 1)?;
+    steps(&mut block, &mut image, row)
 }
 
 #[test]
 fn steps_change_one_counter_and_say_what_it_was(rt: HostRuntime) -> Result<(), Fail> {
-    for row in STEPPED {
-        is_stepped(rt.alloc(), *row)?;
-    }
-    Ok(())
+    each(rt.alloc(), STEPPED, is_stepped)
 }
 
 // An image of so many bytes, of which byte i is `i mod 251`.
@@ -179,24 +149,26 @@ const WHOLE: &[Whole] = &[
     (21, 6, 262144, 0x2728_292a_2b2c_2d2e),
 ];
 
+// Fails unless the block is that of these bytes, and writes them.
+fn is_whole(block: &mut RefBlock, bytes: &[u8], row: Whole) -> Result<(), Fail> {
+    let (_, _, entries, last) = row;
+    let found = (told(block), counter(block, entries.saturating_sub(1)));
+    let expected = (entries, Some(HostCluster(0)), false);
+    same(found, (expected, Some((last, last == 0))), row)?;
+    let mut other = filled_image(block.allocator(), bytes.len())?;
+    same(write(block, &mut other), Ok(()), row)?;
+    same_bytes(other.bytes(), bytes, row)
+}
+
 // Reads the block of the image, and writes it to another.
 fn is_read_and_written(alloc: Global, image: &mut MemStorage, row: Whole) -> Result<(), Fail> {
-    let (bits, order, entries, last) = row;
-    let header = header_of(alloc, bits, order, false)?;
-    let mut block = load(alloc, image, &header, 0)?;
-    same(told(&block), (entries, Some(HostCluster(0)), false), row)?;
-    let found = counter(&block, entries.saturating_sub(1));
-    same(found, Some((last, last == 0)), row)?;
-    let mut other = filled_image(alloc, header.cluster_size())?;
-    same(write(&mut block, &mut other), Ok(()), row)?;
-    let block_bytes = image.bytes().get(..header.cluster_size());
-    same_bytes(other.bytes(), block_bytes.unwrap_or(&[]), row)
+    let mut block = load(alloc, image, (row.0, row.1), 0)?;
+    let len = if row.0 == 9 { 512 } else { 2097152 };
+    is_whole(&mut block, image.bytes().get(..len).unwrap_or(&[]), row)
 }
 
 #[test]
-fn the_least_and_the_largest_blocks_are_read_and_written_again(
-    rt: HostRuntime,
-) -> Result<(), Fail> {
+fn the_least_and_the_largest_blocks_are_written_as_read(rt: HostRuntime) -> Result<(), Fail> {
     let mut image = pattern(rt.alloc(), 2097152)?;
     for row in WHOLE {
         is_read_and_written(rt.alloc(), &mut image, *row)?;
@@ -233,117 +205,98 @@ fn written(
     (answer, image.calls().len())
 }
 
+// Writes the block to an image of 0xa5 if it is modified, and then in any case.
+fn writes(block: &mut RefBlock, row: Written) -> Result<(), Fail> {
+    let (cluster, modified, first, second) = row;
+    let alloc = block.allocator();
+    let mut image = recorded(alloc, filled_image(alloc, 1536)?);
+    let flag = modified && first.0.is_err();
+    let found = (written(block, &mut image, true), told(block));
+    same(found, (first, (256, Some(HostCluster(cluster)), flag)), row)?;
+    same(written(block, &mut image, false), second, row)?;
+    let expected = if second.0.is_err() {
+        filled_image(alloc, 1536)
+    } else {
+        image_with(alloc, (0, 1, 7))
+    };
+    same_image(image.inner(), expected, row)
+}
+
 // Writes a block of an image at the same place or at another.
 fn is_written(alloc: Global, row: Written) -> Result<(), Fail> {
-    let (cluster, modified, first, second) = row;
-    let header = header_with(alloc, 9)?;
-    let mut image = image_with(alloc, 0, &[0, 7])?;
-    let mut block = load(alloc, &mut image, &header, 1)?;
-    place(&mut block, cluster, modified)?;
-    let mut other = FailingStorage::new(alloc, filled_image(block.allocator(), 1536)?);
-    same(written(&mut block, &mut other, true), first, row)?;
-    let flag = modified && first.0.is_err();
-    same(told(&block), (256, Some(HostCluster(cluster)), flag), row)?;
-    same(written(&mut block, &mut other, false), second, row)?;
-    if second.0.is_err() {
-        image = filled_image(alloc, 1536)?;
-    }
-    same_bytes(other.inner().bytes(), image.bytes(), row)
+    let mut block = load(alloc, &mut image_with(alloc, (0, 1, 7))?, (9, 4), 1)?;
+    place(&mut block, row.0, row.1)?;
+    writes(&mut block, row)
 }
 
 #[test]
 fn a_block_is_written_where_it_may_be(rt: HostRuntime) -> Result<(), Fail> {
-    for row in WRITES {
-        is_written(rt.alloc(), *row)?;
-    }
-    Ok(())
+    each(rt.alloc(), WRITES, is_written)
+}
+
+// What a load from a cluster tells.
+fn loaded(alloc: Global, cluster: u64) -> Result<(usize, Option<HostOffset>, bool), Fault> {
+    let block = load(alloc, &mut filled_image(alloc, 16)?, (9, 4), cluster)?;
+    Ok((block.entries(), block.get_offset(), block.is_modified()))
 }
 
 #[test]
 fn a_block_is_loaded_from_where_it_may_be(rt: HostRuntime) -> Result<(), Fail> {
-    let header = header_with(rt.alloc(), 9)?;
-    let mut image = filled_image(rt.alloc(), 16)?;
-    let last = (1 << 47) - 1;
-    let block = load(rt.alloc(), &mut image, &header, last)?;
-    same(told(&block), (256, Some(HostCluster(last)), false), "last")?;
-    same(
-        block.get_offset(),
-        Some(HostOffset(0xff_ffff_ffff_fe00)),
-        "last",
-    )?;
-    let answer = load(rt.alloc(), &mut image, &header, 1 << 47);
-    same(answer.err(), Some(Fault::TablePlace), "past the last")
+    let last = (256, Some(HostOffset(0xff_ffff_ffff_fe00)), false);
+    same(loaded(rt.alloc(), (1 << 47) - 1), Ok(last), "last")?;
+    let answer = loaded(rt.alloc(), 1 << 47);
+    same(answer, Err(Fault::TablePlace), "past the last")
+}
+
+fn is_cleared(block: &mut RefBlock) -> Result<(), Fail> {
+    block.clear_modified();
+    block.set_modified();
+    let found = (told(block), counter(block, 255));
+    same(found, ((256, None, true), Some((0, true))), "cleared")?;
+    let answer = write(block, &mut filled_image(block.allocator(), 0)?);
+    let refused = (Err(Fault::NoOffset), (256, None, true));
+    same((answer, told(block)), refused, "written")
 }
 
 #[test]
 fn a_cleared_block_has_no_reference_and_no_place(rt: HostRuntime) -> Result<(), Fail> {
-    let header = header_with(rt.alloc(), 9)?;
-    let mut block = new_cleared(rt.alloc(), &header)?;
-    block.clear_modified();
-    block.set_modified();
-    same(told(&block), (256, None, true), "cleared")?;
-    same(counter(&block, 255), Some((0, true)), "cleared")?;
-    let mut image = MemStorage::new(Vec::new(rt.alloc()));
-    same(
-        write(&mut block, &mut image),
-        Err(Fault::NoOffset),
-        "cleared",
-    )
+    is_cleared(&mut new_cleared(rt.alloc(), 4)?)
 }
 
-// Enters the block in the table's entry 3, which may be that at the cluster, and with pending clusters or
-// with none.
-fn enter(
-    table: &mut RefTable,
-    block: &mut RefBlock,
-    cluster: Option<u64>,
-    pending: bool,
-) -> Result<Refusal, Fail> {
-    if table.cluster_bits() != 9 || block.cluster_bits() != 9 || !table.in_bounds(3) {
-        return Err("another cluster size, or no entry".into());
-    }
-    if let Some(cluster) = cluster {
-        if cluster == 0 || cluster > (1 << 47) - 1 {
-            return Err("a cluster that no entry holds".into());
-        }
-        block.set_cluster(HostCluster(cluster));
-    } else if block.get_cluster().is_some() {
-        return Err("a block that has a cluster".into());
-    }
-    let pending = if pending {
-        let first = HostCluster(cluster.unwrap_or(7));
-        Some(PendingClusters::new(first, ClusterCount(1)))
+// Enters the block as entry 3, with a pending cluster or without.
+fn enter(table: &mut RefTable, block: &RefBlock, is_pending: bool) -> Result<Refusal, Fail> {
+    holds(table.cluster_bits() == 9 && table.in_bounds(3), "table")?;
+    holds(block.cluster_bits() == 9, "block")?;
+    let cluster = block.get_cluster().unwrap_or(HostCluster(7));
+    holds(0 < cluster.0 && cluster.0 < 1 << 47, cluster)?;
+    let pending = if is_pending {
+        Some(PendingClusters::new(cluster, ClusterCount(1)))
     } else {
         None
     };
     Ok(refusal(table.enter_refblock(3, block, pending)))
 }
 
-// Enters a block in a table whose entry 3 is of another one, and fails unless the entry is then this number,
-// or else the refusal.
-fn is_entered(alloc: Global, cluster: Option<u64>, pending: bool, number: u64) -> Result<(), Fail> {
-    let row = (cluster, pending);
-    let header = header_with(alloc, 9)?;
-    let mut table: RefTable = table_that_tells(alloc, &header, &LOADED)?;
-    let mut block = new_cleared(alloc, &header)?;
-    let found = enter(&mut table, &mut block, cluster, pending)?;
-    let want = match cluster {
-        Some(_) => None,
-        None => not_placed(if pending { Some((7, 1)) } else { None }),
-    };
-    same(found, want, row)?;
-    let told = Told {
-        entry: (3, number),
-        modified: cluster.is_some(),
-        ..LOADED
-    };
-    tells(&table, &told, row)
+const ENTERED: &[Entered] = &[
+    (Some(3), false, 0x600),
+    (Some((1 << 47) - 1), true, 0xff_ffff_ffff_fe00),
+    (None, false, NUMBER),
+    (None, true, NUMBER),
+];
+
+fn enters(table: &mut RefTable, block: &mut RefBlock, row: Entered) -> Result<(), Fail> {
+    if let Some(cluster) = row.0 {
+        place(block, cluster, true)?;
+    }
+    let found = enter(table, block, row.1)?;
+    is_entered(table, found, row)
 }
 
 #[test]
 fn a_block_is_entered_by_its_offset_alone(rt: HostRuntime) -> Result<(), Fail> {
-    is_entered(rt.alloc(), Some(3), false, 0x600)?;
-    is_entered(rt.alloc(), Some((1 << 47) - 1), true, 0xff_ffff_ffff_fe00)?;
-    is_entered(rt.alloc(), None, false, NUMBER)?;
-    is_entered(rt.alloc(), None, true, NUMBER)
+    for row in ENTERED {
+        let mut table = table_that_tells(rt.alloc(), DISK, LOADED)?;
+        enters(&mut table, &mut new_cleared(rt.alloc(), 4)?, *row)?;
+    }
+    Ok(())
 }

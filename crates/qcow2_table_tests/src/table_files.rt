@@ -1,96 +1,99 @@
 //! Tables of the most entries that their kind may have, and tables of images in real files.
 
-use crate::fixtures::{LOADED, Loads, NUMBER, Told, header_with, table_that_tells, tells, write};
-use qcow2_base::FileStorage;
-use qcow2_metadata::{L1Table, L2Table};
-use qcow2_testing::{filled_image, put, same, same_bytes, temporary_file};
+use crate::fixtures::{DISK, NUMBER, Told, is_written_as, load, table_that_tells, tells, write};
+use qcow2_base::{Fault, FileStorage, MemStorage};
+use qcow2_metadata::{L1Table, L2Table, Table};
+use qcow2_testing::{file_holds, filled_image, put, put_bytes, same, temporary_file};
+use std::alloc::Global;
 use std::fs;
+use std::fs::File;
 use std::test::Fail;
 
-// What the table says of which only the last of the most entries isn't 0.
-const LARGEST: Told = Told {
-    entries: 4194304,
-    entry: (4194303, NUMBER),
-    cluster: Some(8),
-    modified: false,
-};
-
-// That table, which begins at byte 4096 of a file. The file then has zeros before the last entry.
-fn largest_table(rt: &HostRuntime, path: &str) -> Result<L1Table, Fail> {
-    let header = header_with(rt.alloc(), 9)?;
-    let mut image = FileStorage::open(rt, path, true)?;
-    put(&mut image, 4096 + 8 * 4194303, NUMBER)?;
-    Ok(L1Table::load_from(rt.alloc(), &mut image, &header, 8, 4194304)?)
+fn open(rt: &HostRuntime, path: &str) -> Result<FileStorage<File>, Fault> {
+    FileStorage::open(rt, path, true)
 }
 
-fn is_written_to(rt: &HostRuntime, table: &mut L1Table, path: &str) -> Result<(), Fail> {
-    let mut image = FileStorage::open(rt, path, true)?;
-    same(write(table, &mut image), Ok(()), "write")
+// What the table says of which only the last of the most entries isn't 0.
+const LARGEST: Told = (4194304, (4194303, NUMBER), Some(8), false);
+
+// That table, which begins at byte 4096 of a file. The file then has zeros before the last entry.
+fn largest_table(rt: &HostRuntime, path: &str) -> Result<L1Table, Fault> {
+    let mut image = open(rt, path)?;
+    put(&mut image, 4096 + 8 * 4194303, NUMBER)?;
+    load(rt.alloc(), &mut image, DISK, 8, 4194304)
+}
+
+// Loads the table from one file and writes it to another.
+fn goes(rt: &HostRuntime, path: &str, other: &str) -> Result<(), Fail> {
+    let mut table = largest_table(rt, path)?;
+    tells(&table, LARGEST, "loaded")?;
+    same(write(&mut table, &mut open(rt, other)?), Ok(()), "write")?;
+    tells(&table, LARGEST, "written")
 }
 
 fn are_the_same(rt: &HostRuntime, path: &str, other: &str) -> Result<(), Fail> {
     let bytes = fs::read(rt, path)?;
-    let written = fs::read(rt, other)?;
     same(bytes.len(), 33558528, "length")?;
-    same_bytes(written.as_slice(), bytes.as_slice(), "written")
+    file_holds(rt, other, &bytes, "written")
 }
 
 #[test]
 fn an_l1_table_of_the_most_entries_goes_from_file_to_file(rt: HostRuntime) -> Result<(), Fail> {
     let file = temporary_file(&rt, "largest-l1-table", &[0xa5; 4096])?;
     let other = temporary_file(&rt, "written-l1-table", &[0xa5; 4096])?;
-    let mut table = largest_table(&rt, file.path.as_str())?;
-    tells(&table, &LARGEST, "loaded")?;
-    is_written_to(&rt, &mut table, other.path.as_str())?;
-    tells(&table, &LARGEST, "written")?;
+    goes(&rt, file.path.as_str(), other.path.as_str())?;
     are_the_same(&rt, file.path.as_str(), other.path.as_str())
 }
 
 // Loads the table at a cluster of a file, of which entry 3 alone may not be 0.
 fn is_loaded(rt: &HostRuntime, path: &str, cluster: u64, number: u64) -> Result<(), Fail> {
-    let header = header_with(rt.alloc(), 9)?;
-    let mut image = FileStorage::open(rt, path, true)?;
-    let table = L2Table::load_from(rt.alloc(), &mut image, &header, cluster, 64)?;
-    let told = Told {
-        entry: (3, number),
-        cluster: Some(cluster),
-        ..LOADED
-    };
-    tells(&table, &told, cluster)
+    let table: L2Table = load(rt.alloc(), &mut open(rt, path)?, DISK, cluster, 64)?;
+    tells(&table, (64, (3, number), Some(cluster), false), cluster)
+}
+
+// Two clusters of 0xa5, and a table that ends with its entry 3.
+fn cut_table(alloc: Global) -> Result<MemStorage, Fault> {
+    let mut image = filled_image(alloc, 1024)?;
+    put_bytes(&mut image, 1024, &[0; 24])?;
+    put(&mut image, 1048, NUMBER)?;
+    Ok(image)
 }
 
 // The file ends within the table at cluster 2 or before the others.
+fn are_loaded(rt: &HostRuntime, path: &str, bytes: &[u8]) -> Result<(), Fail> {
+    is_loaded(rt, path, 2, NUMBER)?;
+    is_loaded(rt, path, 3, 0)?;
+    is_loaded(rt, path, (1 << 47) - 1, 0)?;
+    file_holds(rt, path, bytes, "the file")
+}
+
 #[test]
 fn a_load_near_the_end_of_a_writable_file_leaves_the_file(rt: HostRuntime) -> Result<(), Fail> {
-    let mut bytes = [0xa5; 1056];
-    bytes[1024..1048].fill(0);
-    bytes[1048..].copy_from_slice(&NUMBER.to_be_bytes());
-    let file = temporary_file(&rt, "end-of-file", &bytes)?;
-    for (cluster, number) in [(2, NUMBER), (3, 0), ((1 << 47) - 1, 0)] {
-        is_loaded(&rt, file.path.as_str(), cluster, number)?;
-    }
-    let found = fs::read(&rt, file.path.as_str())?;
-    same_bytes(found.as_slice(), &bytes, "the file")
+    let image = cut_table(rt.alloc())?;
+    let file = temporary_file(&rt, "end-of-file", image.bytes())?;
+    are_loaded(&rt, file.path.as_str(), image.bytes())
+}
+
+// 0xa5 but for the table that begins at byte 2097152 with zeros.
+fn largest_l2_table(alloc: Global) -> Result<MemStorage, Fault> {
+    let mut image = filled_image(alloc, 2097152)?;
+    put(&mut image, 4194296, NUMBER)?;
+    put(&mut image, 4194304, 0xa5a5_a5a5_a5a5_a5a5)?;
+    Ok(image)
+}
+
+const LARGEST_L2: Told = (262144, (262143, NUMBER), Some(1), false);
+
+// Writes the table, and reads it back.
+fn goes_and_comes(table: &mut L2Table) -> Result<(), Fail> {
+    let alloc = table.allocator();
+    let mut image = filled_image(alloc, 4194312)?;
+    is_written_as(table, &mut image, largest_l2_table(alloc))?;
+    let found: L2Table = load(alloc, &mut image, (21, false), 1, 262144)?;
+    tells(&found, LARGEST_L2, "read back")
 }
 
 #[test]
 fn an_l2_table_of_the_most_entries_is_written_and_read_back(rt: HostRuntime) -> Result<(), Fail> {
-    let header = header_with(rt.alloc(), 21)?;
-    let told = Told {
-        entries: 262144,
-        entry: (262143, NUMBER),
-        cluster: Some(1),
-        modified: false,
-    };
-    let mut table: L2Table = table_that_tells(rt.alloc(), &header, &told)?;
-    tells(&table, &told, "made")?;
-    let mut image = filled_image(rt.alloc(), 4194312)?;
-    same(write(&mut table, &mut image), Ok(()), "written")?;
-    // The table begins at byte 2097152 with zeros.
-    let mut want = filled_image(rt.alloc(), 2097152)?;
-    put(&mut want, 4194296, NUMBER)?;
-    put(&mut want, 4194304, 0xa5a5_a5a5_a5a5_a5a5)?;
-    same_bytes(image.bytes(), want.bytes(), "written")?;
-    let found = L2Table::load_from(rt.alloc(), &mut image, &header, 1, 262144)?;
-    tells(&found, &told, "read back")
+    goes_and_comes(&mut table_that_tells(rt.alloc(), (21, false), LARGEST_L2)?)
 }

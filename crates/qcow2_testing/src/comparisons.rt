@@ -67,3 +67,27 @@ fn first_difference(found: &[u8], expected: &[u8]) -> usize {
     }
     found.len()
 }
+
+/// Makes a test of each row, until one fails.
+pub fn each<R: Copy, F: Fn(Global, R) -> Result<(), Fail>>(
+    alloc: Global,
+    rows: &[R],
+    test: F,
+) -> Result<(), Fail>
+    requires { F.IsAlwaysCallable test }
+{
+    for row in rows {
+        test(alloc, *row)?;
+    }
+    Ok(())
+}
+
+/// Makes a test that takes no memory of each row, until one fails.
+pub fn each_row<R: Copy, F: Fn(R) -> Result<(), Fail>>(rows: &[R], test: F) -> Result<(), Fail>
+    requires { F.IsAlwaysCallable test }
+{
+    for row in rows {
+        test(*row)?;
+    }
+    Ok(())
+}

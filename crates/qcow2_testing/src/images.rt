@@ -1,7 +1,10 @@
-//! Images in memory, and what is put into them.
+//! Images in memory, what is put into them, and what they are compared with.
 
+use crate::{FailingStorage, same_bytes};
 use qcow2_base::{Fault, MemStorage, Storage};
 use std::alloc::Global;
+use std::fmt::Debug;
+use std::test::Fail;
 
 /// An image of so many bytes of 0xa5.
 pub fn filled_image(alloc: Global, len: usize) -> Result<MemStorage, Fault> {
@@ -29,4 +32,18 @@ pub fn put_bytes<S: Storage>(image: &mut S, place: u64, bytes: &[u8]) -> Result<
     }
     image.write(bytes, place)?;
     Ok(())
+}
+
+/// The image, which records its calls.
+pub fn recorded(alloc: Global, image: MemStorage) -> FailingStorage<MemStorage> {
+    FailingStorage::new(alloc, image)
+}
+
+/// Fails unless the image has the bytes of the other.
+pub fn same_image<R: Debug + Drop>(
+    found: &MemStorage,
+    expected: Result<MemStorage, Fault>,
+    row: R,
+) -> Result<(), Fail> {
+    same_bytes(found.bytes(), expected?.bytes(), row)
 }

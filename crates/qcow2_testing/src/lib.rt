@@ -10,9 +10,9 @@ mod faulty_files;
 mod images;
 mod temporary_files;
 
-pub use comparisons::{holds, printed, same, same_bytes, same_text};
+pub use comparisons::{each, each_row, holds, printed, same, same_bytes, same_text};
 pub use conditions::{fits, is_cluster_bits};
 pub use failing::{FailingStorage, StorageCall, take_turn};
 pub use faulty_files::{FaultyFile, FaultyFiles, Opens};
-pub use images::{filled_image, image_with, put, put_bytes};
-pub use temporary_files::{TemporaryFile, temporary_file, temporary_path};
+pub use images::{filled_image, image_with, put, put_bytes, recorded, same_image};
+pub use temporary_files::{TemporaryFile, file_holds, temporary_file, temporary_path};

@@ -1,5 +1,7 @@
 //! Files of tests in the folder for temporary files.
 
+use crate::same_bytes;
+use std::fmt::Debug;
 use std::rt::Files;
 use std::test::Fail;
 use std::{env, fs, process};
@@ -35,4 +37,14 @@ pub fn temporary_file<'a>(
     let path = temporary_path(rt, name)?;
     fs::write(rt, path.as_str(), bytes)?;
     Ok(TemporaryFile { files: rt, path })
+}
+
+/// Fails unless the file holds these bytes and no others.
+pub fn file_holds<R: Debug + Drop>(
+    rt: &HostRuntime,
+    path: &str,
+    bytes: &[u8],
+    row: R,
+) -> Result<(), Fail> {
+    same_bytes(fs::read(rt, path)?.as_slice(), bytes, row)
 }

@@ -1,192 +1,212 @@
 //! Storages over real files, and over ones that fail.
 
-use super::{LIMIT, has_failed, read_fails, reads, write_fails};
-use qcow2_base::{Fault, FileStorage, Storage};
+use super::{LIMIT, WRITES, Written, has_failed, is_read, read_fails, reads, write, write_fails};
+use qcow2_base::{Fault, FileStorage, Storage, StorageFault};
 use qcow2_testing::{
-    FaultyFile, FaultyFiles, holds, same, same_bytes, temporary_file, temporary_path,
+    FaultyFile, FaultyFiles, file_holds, holds, same, temporary_file, temporary_path,
 };
+use std::alloc::Global;
 use std::fmt::Debug;
+use std::fs;
 use std::fs::File;
 use std::test::Fail;
-use std::{env, fs};
 
-// That the file holds these bytes and no others.
-pub(crate) fn file_holds<R: Debug + Drop>(
+pub(crate) fn open(
     rt: &HostRuntime,
     path: &str,
-    bytes: &[u8],
-    row: R,
-) -> Result<(), Fail> {
-    same_bytes(fs::read(rt, path)?.as_slice(), bytes, row)
+    writable: bool,
+) -> Result<FileStorage<File>, Fault> {
+    FileStorage::open(rt, path, writable)
+}
+
+fn is_refused(rt: &HostRuntime, path: &str) -> Result<(), Fail> {
+    let found = (open(rt, path, false).err(), open(rt, path, true).err());
+    same(found, (Some(Fault::Storage), Some(Fault::Storage)), path)
+}
+
+fn is_not_there(rt: &HostRuntime, name: &str) -> Result<(), Fail> {
+    let path = temporary_path(rt, name)?;
+    is_refused(rt, path.as_str())?;
+    holds(fs::metadata(rt, path.as_str()).is_err(), path)
 }
 
 #[test]
 fn only_a_file_that_is_there_is_opened(rt: HostRuntime) -> Result<(), Fail> {
-    let missing = temporary_path(&rt, "missing")?;
-    let below = format!(in rt.alloc(); "{missing}/file")?;
-    let folder = env::temp_dir(&rt)?.into_string();
-    for path in [missing.as_str(), below.as_str(), folder.as_str(), ""] {
-        for writable in [false, true] {
-            let answer = FileStorage::open(&rt, path, writable);
-            same(answer.err(), Some(Fault::Storage), (path, writable))?;
-        }
-    }
-    holds(fs::metadata(&rt, missing.as_str()).is_err(), missing)
+    is_not_there(&rt, "missing")?;
+    is_not_there(&rt, "missing/file")?;
+    is_refused(&rt, ".")?;
+    is_refused(&rt, "")
 }
-
-// An offset, and the four bytes that are read there.
-const READS: &[(u64, [u8; 4])] = &[
-    (2, [3, 4, 5, 0]),
-    (0, [1, 2, 3, 4]),
-    (LIMIT - 4, [0, 0, 0, 0]),
-    (1, [2, 3, 4, 5]),
-    (4, [5, 0, 0, 0]),
-    (900, [0, 0, 0, 0]),
-    (5, [0, 0, 0, 0]),
-    (0, [1, 2, 3, 4]),
-];
 
 #[test]
 fn a_file_is_read_by_offset_with_zeros_past_its_end(rt: HostRuntime) -> Result<(), Fail> {
     let file = temporary_file(&rt, "read", &[1, 2, 3, 4, 5])?;
-    let mut storage = FileStorage::open(&rt, file.path.as_str(), false)?;
-    same(
-        (storage.mem_align(), storage.req_align()),
-        (1, 1),
-        "alignments",
-    )?;
-    for row in READS {
-        let (offset, want) = *row;
-        assert!(rt; offset <= LIMIT - 4);
-        reads(rt.alloc(), &mut storage, offset, &want)?;
-    }
-    has_failed(rt.alloc(), &storage, 0)
+    is_read(rt.alloc(), &mut open(&rt, file.path.as_str(), false)?)
 }
 
-// An offset, and the bytes after a write of 7 and 8 there.
-const WRITES: &[(u64, &'static [u8])] = &[
-    (0, &[7, 8, 3]),
-    (1, &[1, 7, 8]),
-    (2, &[1, 2, 7, 8]),
-    (3, &[1, 2, 3, 7, 8]),
-    (6, &[1, 2, 3, 0, 0, 0, 7, 8]),
-];
+fn is_written(rt: &HostRuntime, path: &str, row: Written) -> Result<(), Fail> {
+    let (offset, bytes) = row;
+    fs::write(rt, path, &[1, 2, 3])?;
+    let mut storage = open(rt, path, true)?;
+    reads(rt.alloc(), &mut storage, 1, &[2, 3])?;
+    write(&mut storage, &[7, 8], offset)?;
+    file_holds(rt, path, bytes, row)?;
+    reads(rt.alloc(), &mut storage, offset, &[7, 8])
+}
 
 #[test]
 fn a_write_to_a_file_stands_at_its_offset(rt: HostRuntime) -> Result<(), Fail> {
+    let file = temporary_file(&rt, "write", &[])?;
     for row in WRITES {
-        let (offset, want) = *row;
-        assert!(rt; offset <= LIMIT - 2);
-        let file = temporary_file(&rt, "write", &[1, 2, 3])?;
-        let mut storage = FileStorage::open(&rt, file.path.as_str(), true)?;
-        reads(rt.alloc(), &mut storage, 1, &[2, 3])?;
-        storage.write(&[7, 8], offset)?;
-        file_holds(&rt, file.path.as_str(), want, offset)?;
-        reads(rt.alloc(), &mut storage, offset, &[7, 8])?;
+        is_written(&rt, file.path.as_str(), *row)?;
     }
     Ok(())
+}
+
+fn refuses_writes(rt: &HostRuntime, path: &str) -> Result<(), Fail> {
+    let mut storage = open(rt, path, false)?;
+    write_fails(rt.alloc(), &mut storage, &[9; 4], 1, 1)?;
+    write_fails(rt.alloc(), &mut storage, &[9; 4], 1, 2)?;
+    same(write(&mut storage, &[], 900), Ok(()), "no bytes")?;
+    reads(rt.alloc(), &mut storage, 0, &[1, 2, 3, 0])?;
+    has_failed(rt.alloc(), &storage, 2)
 }
 
 #[test]
 fn a_file_opened_for_reading_refuses_a_write_that_has_bytes(rt: HostRuntime) -> Result<(), Fail> {
     let file = temporary_file(&rt, "read-only", &[1, 2, 3])?;
-    let mut storage = FileStorage::open(&rt, file.path.as_str(), false)?;
-    write_fails(rt.alloc(), &mut storage, 1, 1)?;
-    write_fails(rt.alloc(), &mut storage, 1, 2)?;
-    storage.write(&[], 900)?;
-    reads(rt.alloc(), &mut storage, 0, &[1, 2, 3, 0])?;
-    has_failed(rt.alloc(), &storage, 2)
+    refuses_writes(&rt, file.path.as_str())
+}
+
+// Writes at the last offset, and answers whether that failed.
+fn fails_at_the_end(rt: &HostRuntime, path: &str) -> Result<bool, Fail> {
+    let mut storage = open(rt, path, true)?;
+    let (failures, last) = match write(&mut storage, &[9], LIMIT - 1) {
+        Ok(()) => (0, 9),
+        Err(StorageFault) => (1, 0),
+    };
+    has_failed(rt.alloc(), &storage, failures)?;
+    reads(rt.alloc(), &mut storage, LIMIT - 4, &[0, 0, 0, last])?;
+    Ok(failures > 0)
 }
 
 // Some file systems hold a file of 2^56 bytes, with a hole in it, and others refuse the offset.
 #[test]
 fn a_write_at_the_last_offset_stands_or_is_the_storage_fault(rt: HostRuntime) -> Result<(), Fail> {
     let file = temporary_file(&rt, "last-offset", &[1, 2, 3])?;
-    let mut storage = FileStorage::open(&rt, file.path.as_str(), true)?;
-    let held = storage.write(&[9], LIMIT - 1).is_ok();
-    let (failures, len, last) = if held { (0, LIMIT, 9) } else { (1, 3, 0) };
-    has_failed(rt.alloc(), &storage, failures)?;
-    same(fs::metadata(&rt, file.path.as_str())?.len(), len, held)?;
-    reads(rt.alloc(), &mut storage, LIMIT - 4, &[0, 0, 0, last])
+    let failed = fails_at_the_end(&rt, file.path.as_str())?;
+    let len = fs::metadata(&rt, file.path.as_str())?.len();
+    same(len, if failed { 3 } else { LIMIT }, failed)
 }
 
-// A file that passes so many calls and then fails one, reads and writes so many bytes at a time, and
-// ends there for reads.
+// How many calls of a file pass before one fails, if one is to, how many bytes it reads and writes at a time,
+// and where it ends for reads.
+type Plan = (Option<u64>, usize, u64);
+
 fn faulty(
     rt: &HostRuntime,
     path: &str,
-    plan: Option<u64>,
-    step: usize,
-    end: u64,
+    plan: Plan,
 ) -> Result<FileStorage<FaultyFile<File>>, Fault> {
     let mut files = FaultyFiles::new(rt);
-    files.plan = plan;
-    files.step = step;
-    files.end = end;
+    (files.plan, files.step, files.end) = plan;
     FileStorage::open(&files, path, true)
+}
+
+fn goes_on<S: Storage>(rt: &HostRuntime, path: &str, storage: &mut S) -> Result<(), Fail> {
+    reads(rt.alloc(), storage, 2, &[3, 4, 5, 0])?;
+    same(write(storage, &[6, 7, 8, 9], 2), Ok(()), "a write")?;
+    file_holds(rt, path, &[1, 2, 6, 7, 8, 9], "written")
+}
+
+fn is_short(rt: &HostRuntime, path: &str, step: usize) -> Result<(), Fail> {
+    fs::write(rt, path, &[1, 2, 3, 4, 5])?;
+    goes_on(rt, path, &mut faulty(rt, path, (None, step, u64::MAX))?)
 }
 
 #[test]
 fn short_reads_and_writes_are_gone_on_with(rt: HostRuntime) -> Result<(), Fail> {
+    let file = temporary_file(&rt, "short", &[])?;
     for step in 1..6 {
-        let file = temporary_file(&rt, "short", &[1, 2, 3, 4, 5])?;
-        let mut storage = faulty(&rt, file.path.as_str(), None, step, u64::MAX)?;
-        reads(rt.alloc(), &mut storage, 2, &[3, 4, 5, 0])?;
-        storage.write(&[6, 7, 8, 9], 2)?;
-        file_holds(&rt, file.path.as_str(), &[1, 2, 6, 7, 8, 9], step)?;
+        is_short(&rt, file.path.as_str(), step)?;
     }
     Ok(())
 }
 
-#[test]
-fn a_file_whose_open_fails_half_way_is_refused(rt: HostRuntime) -> Result<(), Fail> {
-    let file = temporary_file(&rt, "half-open", &[1, 2, 3])?;
-    let answer = faulty(&rt, file.path.as_str(), Some(0), 2, u64::MAX);
-    same(answer.err(), Some(Fault::Storage), "at its metadata")
+fn fails_once<S: Storage + Debug>(alloc: Global, storage: &mut S) -> Result<(), Fail> {
+    read_fails(alloc, storage, 1)?;
+    reads(alloc, storage, 1, &[2, 3, 4, 5])
 }
 
-// A read of four bytes, two at a time, asks a file four times: for its end, for a place, and twice
-// for bytes.
+fn fails_to_read(rt: &HostRuntime, path: &str, passes: u64) -> Result<(), Fail> {
+    fails_once(
+        rt.alloc(),
+        &mut faulty(rt, path, (Some(passes), 2, u64::MAX))?,
+    )
+}
+
+// A file is asked for its metadata when it is opened. A read of four bytes, two at a time, asks it four
+// times: for its end, for a place, and twice for bytes.
 #[test]
-fn a_read_fails_where_one_call_of_the_file_does(rt: HostRuntime) -> Result<(), Fail> {
+fn an_open_or_a_read_fails_where_one_call_of_the_file_does(rt: HostRuntime) -> Result<(), Fail> {
     let file = temporary_file(&rt, "failed-read", &[1, 2, 3, 4, 5])?;
+    let answer = faulty(&rt, file.path.as_str(), (Some(0), 2, u64::MAX));
+    same(answer.err(), Some(Fault::Storage), "at its metadata")?;
     for passes in 1..5 {
-        let mut storage = faulty(&rt, file.path.as_str(), Some(passes), 2, u64::MAX)?;
-        read_fails(rt.alloc(), &mut storage, 1, 1)?;
-        reads(rt.alloc(), &mut storage, 1, &[2, 3, 4, 5])?;
+        fails_to_read(&rt, file.path.as_str(), passes)?;
     }
     Ok(())
+}
+
+// Writes once more what a failed write left, in part or not at all.
+fn is_made_good<S: Storage + Debug>(
+    rt: &HostRuntime,
+    path: &str,
+    storage: &mut S,
+) -> Result<(), Fail> {
+    write_fails(rt.alloc(), storage, &[9; 4], 1, 1)?;
+    same(ends_of(rt, path)?, (6, Some(1), Some(6)), "failed")?;
+    same(write(storage, &[9; 4], 1), Ok(()), "again")?;
+    file_holds(rt, path, &[1, 9, 9, 9, 9, 6], "again")
 }
 
 // Fails unless a write fails by this call of the file and leaves the bytes around it, and the next one
 // makes it good.
-fn write_fails_by(rt: &HostRuntime, path: &str, passes: u64) -> Result<(), Fail> {
-    let mut storage = faulty(rt, path, Some(passes), 2, u64::MAX)?;
-    write_fails(rt.alloc(), &mut storage, 1, 1)?;
+fn fails_to_write(rt: &HostRuntime, path: &str, passes: u64) -> Result<(), Fail> {
+    fs::write(rt, path, &[1, 2, 3, 4, 5, 6])?;
+    is_made_good(
+        rt,
+        path,
+        &mut faulty(rt, path, (Some(passes), 2, u64::MAX))?,
+    )
+}
+
+// How many bytes a file has, and the first and the last.
+fn ends_of(rt: &HostRuntime, path: &str) -> Result<(usize, Option<u8>, Option<u8>), Fail> {
     let bytes = fs::read(rt, path)?;
-    let found = (bytes.len(), bytes.first().copied(), bytes.last().copied());
-    same(found, (6, Some(1), Some(6)), passes)?;
-    storage.write(&[9, 9, 9, 9], 1)?;
-    file_holds(rt, path, &[1, 9, 9, 9, 9, 6], passes)
+    Ok((bytes.len(), bytes.first().copied(), bytes.last().copied()))
 }
 
 // A write of four bytes, two at a time, asks a file four times: for a place, twice to take bytes,
 // and to pass them on.
 #[test]
 fn a_write_fails_where_one_call_of_the_file_does(rt: HostRuntime) -> Result<(), Fail> {
+    let file = temporary_file(&rt, "failed-write", &[])?;
     for passes in 1..5 {
-        let file = temporary_file(&rt, "failed-write", &[1, 2, 3, 4, 5, 6])?;
-        write_fails_by(&rt, file.path.as_str(), passes)?;
+        fails_to_write(&rt, file.path.as_str(), passes)?;
     }
     Ok(())
+}
+
+fn fails_early(rt: &HostRuntime, path: &str, end: u64) -> Result<(), Fail> {
+    read_fails(rt.alloc(), &mut faulty(rt, path, (None, 2, end))?, 1)
 }
 
 #[test]
 fn a_file_that_ends_before_its_length_is_no_zeros(rt: HostRuntime) -> Result<(), Fail> {
     let file = temporary_file(&rt, "early-end", &[1, 2, 3, 4, 5])?;
     for end in 0..5 {
-        let mut storage = faulty(&rt, file.path.as_str(), None, 2, end)?;
-        read_fails(rt.alloc(), &mut storage, 1, 1)?;
+        fails_early(&rt, file.path.as_str(), end)?;
     }
     Ok(())
 }

@@ -1,9 +1,8 @@
 //! Reads and writes of more bytes than any buffer on their way may have.
 
-use super::files::file_holds;
-use super::reads;
-use qcow2_base::{FileStorage, Storage};
-use qcow2_testing::temporary_file;
+use super::files::open;
+use super::{reads, write};
+use qcow2_testing::{file_holds, temporary_file};
 use std::alloc::{AllocError, Global};
 use std::test::Fail;
 
@@ -21,26 +20,10 @@ fn image(alloc: Global, len: usize, start: usize, end: usize) -> Result<Vec<u8>,
     Ok(bytes)
 }
 
-// Writes the bytes to the file from a place on.
-fn write_at(rt: &HostRuntime, path: &str, bytes: &[u8], start: usize) -> Result<(), Fail> {
-    if bytes.len() > 8 * MIB || start > 8 * MIB {
-        return Err(Fail::new("too large"));
-    }
-    let mut storage = FileStorage::open(rt, path, true)?;
-    storage.write(bytes, start as u64)?;
-    Ok(())
-}
+// Where a read or a write begins and ends.
+type Range = (usize, usize);
 
-// Reads as many bytes from the place on, and fails unless they are these.
-fn reads_at(rt: &HostRuntime, path: &str, bytes: &[u8], start: usize) -> Result<(), Fail> {
-    if bytes.len() > 8 * MIB || start > 8 * MIB {
-        return Err(Fail::new("too large"));
-    }
-    let mut storage = FileStorage::open(rt, path, true)?;
-    reads(rt.alloc(), &mut storage, start as u64, bytes)
-}
-
-const WRITES: &[(usize, usize)] = &[
+const WRITES: &[Range] = &[
     (1000, 1512),
     (1000, 1513),
     (1024, 1535),
@@ -48,35 +31,51 @@ const WRITES: &[(usize, usize)] = &[
     (65536, 65536 + 2 * MIB + 1),
 ];
 
+// Writes a range of the file, and fails unless it has the other bytes then and all else stays.
+fn is_written(rt: &HostRuntime, path: &str, row: Range) -> Result<(), Fail> {
+    let (start, end) = row;
+    let new = image(rt.alloc(), 3 * MIB, start, end)?;
+    let bytes = new.get(start..end).unwrap_or(&[]);
+    write(&mut open(rt, path, true)?, bytes, start as u64)?;
+    file_holds(rt, path, &new, row)
+}
+
 #[test]
 fn a_large_write_replaces_its_range_and_no_other_byte(rt: HostRuntime) -> Result<(), Fail> {
     let old = image(rt.alloc(), 3 * MIB, 0, 0)?;
-    for (start, end) in WRITES {
-        let new = image(rt.alloc(), 3 * MIB, *start, *end)?;
+    for row in WRITES {
         let file = temporary_file(&rt, "large-write", &old)?;
-        let range = new.get(*start..*end).unwrap_or(&[]);
-        write_at(&rt, file.path.as_str(), range, *start)?;
-        file_holds(&rt, file.path.as_str(), &new, (start, end))?;
+        is_written(&rt, file.path.as_str(), *row)?;
     }
     Ok(())
 }
 
-const READS: &[(usize, usize)] = &[
+const READS: &[Range] = &[
     (1000, 1512),
     (1000, 66537),
     (1000, 4 * MIB + 1001),
     (500, 5 * MIB + 500),
 ];
 
+fn is_read(rt: &HostRuntime, path: &str, bytes: &[u8], row: Range) -> Result<(), Fail> {
+    let bytes = bytes.get(row.0..row.1).unwrap_or(&[]);
+    reads(rt.alloc(), &mut open(rt, path, true)?, row.0 as u64, bytes)
+}
+
+// A file of 5 MiB reads as with zeros behind it.
+fn are_read(rt: &HostRuntime, path: &str) -> Result<(), Fail> {
+    let mut padded = image(rt.alloc(), 5 * MIB, 0, 0)?;
+    padded.resize(6 * MIB, 0)?;
+    for row in READS {
+        is_read(rt, path, &padded, *row)?;
+    }
+    Ok(())
+}
+
 #[test]
 fn a_large_read_gives_its_range_and_changes_no_byte(rt: HostRuntime) -> Result<(), Fail> {
-    let mut padded = image(rt.alloc(), 5 * MIB, 0, 0)?;
-    let file = temporary_file(&rt, "large-read", &padded)?;
-    padded.resize(6 * MIB, 0)?;
-    for (start, end) in READS {
-        let range = padded.get(*start..*end).unwrap_or(&[]);
-        reads_at(&rt, file.path.as_str(), range, *start)?;
-    }
-    let bytes = padded.get(..5 * MIB).unwrap_or(&[]);
-    file_holds(&rt, file.path.as_str(), bytes, "after all reads")
+    let bytes = image(rt.alloc(), 5 * MIB, 0, 0)?;
+    let file = temporary_file(&rt, "large-read", &bytes)?;
+    are_read(&rt, file.path.as_str())?;
+    file_holds(&rt, file.path.as_str(), &bytes, "after all reads")
 }
