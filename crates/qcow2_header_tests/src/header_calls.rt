@@ -62,12 +62,11 @@ pub(crate) fn update(header: &mut Header, other: &Header) -> Result<(), Fault> {
     header.update(other)
 }
 
-/// What a load answers: the names that the header tells, or the number of the fault.
+/// What a load answers: the names that the header tells, or the fault.
 pub(crate) fn told(alloc: Global, answer: &Result<Header, Fault>) -> Result<String, AllocError> {
     match answer {
         Ok(header) => names(alloc, header),
-        Err(Fault::Incompatible(found)) => format!(in alloc; "17 with {found:#x}"),
-        Err(fault) => format!(in alloc; "{}", fault.number()),
+        Err(fault) => format!(in alloc; "{fault:?}"),
     }
 }
 

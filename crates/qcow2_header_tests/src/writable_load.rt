@@ -98,8 +98,8 @@ const LEFT: &[(Changes, &'static str)] = &[
     (OLDER, "a.img - -"),
     (OLDER_FILLED, "a.img - -"),
     // what is refused, for the header or for its length
-    ("79=02, 95=01, 111=00", "17 with 0x2"),
-    ("15=01, 19=02, 95=01, 102=01f8, 511=00", "24"),
+    ("79=02, 95=01, 111=00", "Incompatible(2)"),
+    ("15=01, 19=02, 95=01, 102=01f8, 511=00", "HeaderTooLong"),
 ];
 
 // Fails unless a load for writing answers this, and writes nothing.
