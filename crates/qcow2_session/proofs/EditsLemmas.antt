@@ -1,4 +1,4 @@
-use Rattle.std.proofs.Common.{◌≡◌, ℕ, true, not, ◌&&◌, nat_le, nat_eq, ◌+◌, ◌-◌, ◌*◌, ◌/◌, ◌^◌, ◌<◌, if◌then◌else◌, Option, Some, None, option_map, slice_index, List, [], ◌∷◌, ◌++◌, length, take, drop, get_or, suc, option_to_list, append_assoc, append-nil, ap, subst, sym, refl, ◌∙◌, arith}
+use Rattle.std.proofs.Common.{◌≡◌, ℕ, true, not, ◌&&◌, nat_le, nat_eq, ◌+◌, ◌-◌, ◌/◌, ◌^◌, ◌<◌, if◌then◌else◌, Option, Some, None, option_map, slice_index, List, [], ◌∷◌, ◌++◌, length, take, drop, get_or, suc, option_to_list, append_assoc, append-nil, ap, subst, sym, refl, ◌∙◌, arith}
 use Rattle.std.proofs.Math.Nat.{le-div_iff_mul-le}
 use Rattle.std.proofs.lemmas.Nat.{pow_pos}
 use Rattle.std.proofs.lemmas.Bool.Decides.{nat_tests}
@@ -20,22 +20,15 @@ use Rattle.qcow2_session.specs.declared.session.edits.Change.{Change}
 use Rattle.qcow2_session.specs.declared.session.edits.Edit.{Edit}
 use Rattle.qcow2_session.specs.declared.session.edits.Outcome.{Outcome}
 
--- an offset is at most another where its cluster is at most the other's
-nat_le-div : (cluster size most : ℕ) → 0 < size → nat_le cluster (most / size) ≡ nat_le (cluster * size) most
-nat_le-div cluster size most some = grind (arith, nat_tests, le-div_iff_mul-le {k = size} {x = cluster} {y = most} some)
-
 -- whether a cluster can be mapped to, by the greatest that can
 pub mappable_by_greatest : (g : Geometry) (cluster greatest : ℕ) → greatest ≡ (2 ^ 56 - 512) / 2 ^ g.cluster_bits → is_mappable g cluster ≡ (nat_le cluster greatest && (if g.external_data_file then true else not (nat_eq cluster 0)))
-mappable_by_greatest g cluster greatest is = rw (is, nat_le-div cluster (2 ^ g.cluster_bits) (2 ^ 56 - 512) (pow_pos g.cluster_bits)) refl
-
--- an entry that is changed twice is as after the second change
-edited-edited : (table : TableState) (index v w : ℕ) → edited (edited table index v) index w ≡ edited table index w
-edited-edited table index v w = rw (set-set table.numbers index v w) refl
+mappable_by_greatest g cluster greatest is =
+    grind (arith, nat_tests, le-div_iff_mul-le {k = 2 ^ g.cluster_bits} {x = cluster} {y = 2 ^ 56 - 512} (pow_pos g.cluster_bits))
 
 -- mapping an entry that was taken away before
 pub Makes-mapping : (index cluster : ℕ) (before : Option ClustersToFreeEntry) (change : Change) (old cleared new : TableState) → cleared ≡ edited old index 0 → new ≡ edited cleared index (data_entry cleared.geometry.cluster_bits cluster) → before ≡ allocation old.geometry (slice_index old.numbers index) → option_map (λ (c : HostCluster). c.0) change.gained ≡ (if is_just cluster before then None else Some cluster) → change.freed ≡ (if is_just cluster before then None else before) → Makes (record { index = index; edit = to_data cluster }) change old new
 Makes-mapping index cluster before change old cleared new is_cleared is_mapped is_before gained freed = record {
-  table = is_mapped ∙ rw is_cleared (edited-edited old index 0 (data_entry old.geometry.cluster_bits cluster));
+  table = is_mapped ∙ rw (is_cleared, set-set old.numbers index 0 (data_entry old.geometry.cluster_bits cluster)) refl;
   gained = rw is_before at gained;
   freed = rw is_before at freed;
 }

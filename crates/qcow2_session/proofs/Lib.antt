@@ -1,12 +1,6 @@
 mod ChangingExamples
-mod CommandsExamples
-mod EditsExamples
-mod ExtentsExamples
-mod LinesExamples
 mod LookupsExamples
-mod PrintingExamples
 mod SampleImage
-mod StepsExamples
 mod WholeImageExamples
 pub mod ChangingLemmas
 pub mod CommandsLemmas

@@ -1,6 +1,7 @@
-use Rattle.std.proofs.Common.{inl, inr, refl, rules}
+use Rattle.std.proofs.Common.{refl, rules}
 use Rattle.std.proofs.lemmas.Result.{err_from_is_err_and}
 use Rattle.qcow2_session.proofs.ChangingLemmas.{change-printed, change-refused, loads-part, of-any, part-follows, part-refused}
+use Rattle.qcow2_session.proofs.PrintingLemmas.{refused-as}
 use Rattle.qcow2_session.specs.Commands.Counting.{block_format, end_of_steps, reply_lines, told_steps}
 use Rattle.qcow2_session.specs.Session.Images.{steps_end}
 use Rattle.qcow2_session.specs.Session.Steps.{StepsEnd}
@@ -16,11 +17,7 @@ returns-in_err-replies-clause-counts g c =
     let image = (g.S.Storage.state c.args.image.now).byte_at in
     rw (exit.1, exit.2) (change-refused _ (block_format header) (told_steps cluster) (end_of_steps cluster steps header image) (steps_end header cluster steps image) _ _ _ _
     (λ told. refl)
-    (λ told. elim (ran.exact told) [
-      | inl storage ↦ inl storage
-      | inr (inl memory) ↦ inr (inl memory)
-      | inr (inr bad) ↦ inr (inr (part-refused _ (λ (left : StepsEnd). left.replies) _ bad))
-    ]) (λ storage. search rules) ran.storage.refused (λ told failed. ran.faults.torn told (search rules)) ran.idle
+    (λ told. refused-as _ (part-refused _ (λ (left : StepsEnd). left.replies) _) (ran.exact told)) (λ storage. search rules) ran.storage.refused (λ told failed. ran.faults.torn told (search rules)) ran.idle
     (λ told. of-any (steps_end header cluster steps image) (λ left. ran.storage.others told)))
 
 pub returns-clause-counts : goal.returns-clause-counts

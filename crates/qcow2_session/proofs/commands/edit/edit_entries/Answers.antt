@@ -1,7 +1,7 @@
-use Rattle.std.proofs.Common.{ℕ, List, ◌++◌, arith, inl, inr, refl, rules, ◌∙◌}
+use Rattle.std.proofs.Common.{ℕ, List, ◌++◌, arith, refl, rules, ◌∙◌}
 use Rattle.std.proofs.lemmas.Result.{err_from_is_err_and}
 use Rattle.qcow2_session.proofs.ChangingLemmas.{change-printed, change-refused, change-unplaced, idle-edits, loads-part, of-any, part-follows, part-refused}
-use Rattle.qcow2_session.proofs.PrintingLemmas.{last-printed, last-unprinted}
+use Rattle.qcow2_session.proofs.PrintingLemmas.{last-printed, last-unprinted, refused-as}
 use Rattle.qcow2_session.specs.Commands.Editing.{end_of_edits, freed_lines, gained_lines, table_format, told_edits}
 use Rattle.qcow2_metadata.specs.Table.L2Guards.{RunEnd}
 use Rattle.qcow2_metadata.specs.declared.entries.ClustersToFreeEntry.{ClustersToFreeEntry}
@@ -25,11 +25,7 @@ returns-in_err-cluster-clause-edits g c =
     let header = c.args.header.now in
     let image = (g.S.Storage.state c.args.image.now).byte_at in
     rw (exit.1, exit.2) (change-unplaced _ (table_format header) (end_of_edits c.args.l1_index c.args.edits.now header image) _ _ _ _
-    (λ told. elim (ran.exact told) [
-      | inl storage ↦ inl storage
-      | inr (inl memory) ↦ inr (inl memory)
-      | inr (inr bad) ↦ inr (inr (rw bad refl))
-    ]) (λ storage. search rules) ran.storage.bytes)
+    (λ told. refused-as _ (λ bad. rw bad refl) (ran.exact told)) (λ storage. search rules) ran.storage.bytes)
 
 pub returns-in_err-outcome-clause-edits : goal.returns-in_err-outcome-clause-edits
 returns-in_err-outcome-clause-edits g c =
@@ -42,11 +38,7 @@ returns-in_err-outcome-clause-edits g c =
     let image = (g.S.Storage.state c.args.image.now).byte_at in
     rw (exit.1, exit.2) (change-refused _ (table_format header) (told_edits cluster edits) (end_of_edits c.args.l1_index edits header image) (edits_end header cluster edits image) _ _ _ _
     (λ told. rw (named.exact told) refl)
-    (λ told. elim (ran.exact (named.storage.device.tells ∙ told)) [
-      | inl storage ↦ inl storage
-      | inr (inl memory) ↦ inr (inl memory)
-      | inr (inr bad) ↦ inr (inr (part-refused _ references _ (rw named.storage.bytes at bad)))
-    ])
+    (λ told. refused-as _ (λ bad. part-refused _ references _ (rw named.storage.bytes at bad)) (ran.exact (named.storage.device.tells ∙ told)))
     (λ storage. grind (arith, storage, named.storage.told, ran.storage.told))
     (λ other. ran.storage.refused other ∙ named.storage.bytes)
     (λ told failed. rw named.storage.bytes at (ran.faults.torn (named.storage.device.tells ∙ told) (grind (arith, failed, named.storage.told, ran.storage.told))))
