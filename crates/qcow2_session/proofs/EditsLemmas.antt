@@ -2,9 +2,12 @@ use Rattle.std.proofs.Common.{◌≡◌, ℕ, true, not, ◌&&◌, nat_le, nat_e
 use Rattle.std.proofs.Math.Nat.{le-div_iff_mul-le}
 use Rattle.std.proofs.lemmas.Nat.{pow_pos}
 use Rattle.std.proofs.lemmas.Bool.Decides.{nat_tests}
+use Rattle.std.proofs.lemmas.Iterator.{YieldsList-from_slice}
+use Rattle.std.proofs.lemmas.Iterator.Search.{position_from_yields_List}
 use Rattle.std.proofs.lemmas.List.Folds.{list_all-map}
 use Rattle.std.proofs.Math.Seq.{drop-cons}
 use Rattle.std.proofs.lemmas.List.{length-set, map-append, set-set}
+use Rattle.std.proofs.lemmas.List.Sums.{AllPass-from_list_all}
 use Rattle.std.specs.List.{list_all}
 use Rattle.qcow2_base.specs.Types.{IsClusterBits}
 use Rattle.qcow2_base.specs.declared.types.HostCluster.{HostCluster}
@@ -14,7 +17,7 @@ use Rattle.qcow2_metadata.specs.Entries.L2Entry.{allocation}
 use Rattle.qcow2_metadata.specs.Header.{Geometry}
 use Rattle.qcow2_metadata.specs.Table.{TableState, edited}
 use Rattle.qcow2_metadata.specs.declared.entries.ClustersToFreeEntry.{ClustersToFreeEntry}
-use Rattle.qcow2_session.proofs.FirstLemmas.{all_pass, each_passes}
+use Rattle.qcow2_session.proofs.FirstLemmas.{all_pass}
 use Rattle.qcow2_session.specs.Session.Edits.{Balances, HasRoom, Makes, are_some, edits_left, first_unfit_edit, edit_fits, table_left, cluster_numbers, table_edit, table_edits}
 use Rattle.qcow2_session.specs.declared.session.edits.Change.{Change}
 use Rattle.qcow2_session.specs.declared.session.edits.Edit.{Edit}
@@ -26,8 +29,8 @@ mappable_by_greatest g cluster greatest is =
     grind (arith, nat_tests, le-div_iff_mul-le {k = 2 ^ g.cluster_bits} {x = cluster} {y = 2 ^ 56 - 512} (pow_pos g.cluster_bits))
 
 -- mapping an entry that was taken away before
-pub Makes-mapping : (index cluster : ℕ) (before : Option ClustersToFreeEntry) (change : Change) (old cleared new : TableState) → cleared ≡ edited old index 0 → new ≡ edited cleared index (data_entry cleared.geometry.cluster_bits cluster) → before ≡ allocation old.geometry (slice_index old.numbers index) → option_map (λ (c : HostCluster). c.0) change.gained ≡ (if is_just cluster before then None else Some cluster) → change.freed ≡ (if is_just cluster before then None else before) → Makes (record { index = index; edit = to_data cluster }) change old new
-Makes-mapping index cluster before change old cleared new is_cleared is_mapped is_before gained freed = record {
+pub makes_mapping : (index cluster : ℕ) (before : Option ClustersToFreeEntry) (change : Change) (old cleared new : TableState) → cleared ≡ edited old index 0 → new ≡ edited cleared index (data_entry cleared.geometry.cluster_bits cluster) → before ≡ allocation old.geometry (slice_index old.numbers index) → option_map (λ (c : HostCluster). c.0) change.gained ≡ (if is_just cluster before then None else Some cluster) → change.freed ≡ (if is_just cluster before then None else before) → Makes (record { index = index; edit = to_data cluster }) change old new
+makes_mapping index cluster before change old cleared new is_cleared is_mapped is_before gained freed = record {
   table = is_mapped ∙ rw (is_cleared, set-set old.numbers index 0 (data_entry old.geometry.cluster_bits cluster)) refl;
   gained = rw is_before at gained;
   freed = rw is_before at freed;
@@ -88,11 +91,14 @@ all_fit table edits none =
 pub part_way-fits : (edits : List Edit) (done : ℕ) (default : Edit) (before now : TableState) (outcome : Outcome) → first_unfit_edit before edits ≡ None → done < length edits → IsPartWay edits done before now outcome → edit_fits now (get_or edits done default) ≡ true
 part_way-fits edits done default before now outcome none below way =
     let geometry : now.geometry ≡ before.geometry = ap (λ (table : TableState). table.geometry) way.table in
-    rw (geometry, way.entries) (each_passes (edit_fits before) edits done default (all_pass (edit_fits before) edits none) below)
+    rw (geometry, way.entries) (AllPass-from_list_all (edit_fits before) edits (all_pass (edit_fits before) edits none) done default below)
 
 -- what a run of edits that fit leaves and hands back is in balance
-pub run-balances : (edits : List Edit) (outcome : Outcome) (old new : TableState) → IsClusterBits old.geometry.cluster_bits → first_unfit_edit old edits ≡ None → edits_left new outcome ≡ run_of old.geometry (table_edits edits) old.numbers → new ≡ table_left edits old new.numbers → Balances outcome old new
-run-balances edits outcome old new bits none run left = λ cluster.
+pub run_balances : (edits : List Edit) (outcome : Outcome) (old new : TableState) → IsClusterBits old.geometry.cluster_bits → first_unfit_edit old edits ≡ None → edits_left new outcome ≡ run_of old.geometry (table_edits edits) old.numbers → new ≡ table_left edits old new.numbers → Balances outcome old new
+run_balances edits outcome old new bits none run left = λ cluster.
     let geometry : new.geometry ≡ old.geometry = ap (λ (table : TableState). table.geometry) left in
     let balance = balance-run old.geometry (table_edits edits) old.numbers cluster bits (all_fit old edits none) in
     rw (geometry) (subst (λ (end : RunEnd). references old.geometry end.numbers cluster + handed_back end.freed cluster ≡ references old.geometry old.numbers cluster + times_gained end.gained cluster) (sym run) balance)
+
+-- the position that a search for an edit answers
+pub ruleset unfit_position = (YieldsList-from_slice, position_from_yields_List)

@@ -1,6 +1,7 @@
-use Rattle.std.proofs.Common.{◌≡◌, ℕ, zero, suc, ◌+◌, ◌/◌, ◌%◌, ◌^◌, ◌<◌, ◌≤◌, Bool, true, false, ◌&&◌, ◌==◌, List, [], ◌∷◌, ◌++◌, length, ap, refl, sym, ◌∙◌, append_assoc, length-append, arith, codes, slice_index}
+use Rattle.std.proofs.Common.{◌≡◌, ℕ, zero, suc, ◌+◌, ◌/◌, ◌%◌, ◌^◌, ◌<◌, ◌≤◌, Bool, true, false, ◌&&◌, ◌==◌, List, [], ◌∷◌, ◌++◌, length, ap, refl, sym, ◌∙◌, append_assoc, length-append, length-set, arith, codes, slice_index}
 use Rattle.std.proofs.lemmas.Bool.Decides.{nat_tests}
 use Rattle.std.proofs.lemmas.Fmt.{hex_one_digit}
+use Rattle.std.proofs.lemmas.List.{drop-set}
 use Rattle.std.specs.Fmt.{digit_glyph, digits, digits_onto}
 
 -- the last k hexadecimal digits of n at most, followed by others
@@ -69,3 +70,6 @@ glyph-below (suc n) d all below = grind (arith, nat_tests, all, glyph-below n d)
 
 pub glyph_at : (d : ℕ) → d < 16 → slice_index hex_digits d ≡ digit_glyph false d
 glyph_at d below = glyph-below 16 d refl below
+
+-- what the digits are written by
+pub ruleset hex_written = (glyph_at, hex-longer, hex-one, hex_short, hex-step, drop-set, append_assoc, length-set, length-append)

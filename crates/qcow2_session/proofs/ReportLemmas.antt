@@ -5,12 +5,12 @@ use Rattle.std.proofs.lemmas.List.{take-take}
 use Rattle.std.specs.Io.KnownBytes.{Appends}
 
 -- a beginning of some bytes was written, and then the next ones of them
-pub appends-more : (old between new : Option (List ℕ)) (bytes : List ℕ) (written count : ℕ)
+pub appends_more : (old between new : Option (List ℕ)) (bytes : List ℕ) (written count : ℕ)
     → count ≤ length bytes - written
     → Appends old between (take written bytes)
     → Appends between new (take count (take (length bytes - written) (drop written bytes)))
     → Appends old new (take (written + count) bytes)
-appends-more old between new bytes written count fits first next =
+appends_more old between new bytes written count fits first next =
     let part = take-take count (length bytes - written) (drop written bytes) fits in
     let whole = ap (λ (rest : List ℕ). take written bytes ++ rest) part ∙ sym (take-add written count bytes) in
     subst (Appends old new) whole (Appends-trans old between new _ _ first next)

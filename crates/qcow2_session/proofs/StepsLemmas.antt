@@ -3,10 +3,11 @@ use Rattle.std.proofs.Math.Bool.{or_assoc}
 use Rattle.std.proofs.Math.Seq.{drop-cons}
 use Rattle.std.proofs.lemmas.Bool.Decides.{nat_tests}
 use Rattle.std.proofs.lemmas.List.{drop_all, length-set, set-get_or, set-set}
+use Rattle.std.proofs.lemmas.List.Sums.{AllPass-from_list_all}
 use Rattle.std.specs.List.{list_all}
 use Rattle.qcow2_metadata.specs.Refblock.{BlockState, greatest_counter}
 use Rattle.qcow2_metadata.specs.Refblock.Guard.{after_change, stepped}
-use Rattle.qcow2_session.proofs.FirstLemmas.{all_pass, each_passes}
+use Rattle.qcow2_session.proofs.FirstLemmas.{all_pass}
 use Rattle.qcow2_session.specs.Session.Steps.{Counts, MakesStep, StepsEnd, Undoes, are_some_done, change_of, decrements, steps_left, first_unfit_step, increments, index_of, is_done, block_left, reply_of, run_of_steps, times_made}
 use Rattle.qcow2_session.specs.declared.session.steps.Step.{Step}
 use Rattle.qcow2_session.specs.declared.session.steps.Step.TheVariants.{Dec, Inc}
@@ -69,7 +70,7 @@ all_in_bounds block steps none = all_pass (in_bounds (length block.counters)) st
 -- and so is each of them
 pub each_in_bounds : (entries : ℕ) (steps : List Step) (i : ℕ) (default : Step) → list_all (in_bounds entries) steps ≡ true → i < length steps → index_of (get_or steps i default) < entries
 each_in_bounds entries steps i default all below =
-    let passes = each_passes (in_bounds entries) steps i default all below in
+    let passes = AllPass-from_list_all (in_bounds entries) steps all i default below in
     grind (arith, nat_tests, passes)
 
 -- what a step does to each counter

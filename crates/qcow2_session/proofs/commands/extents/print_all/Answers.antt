@@ -1,24 +1,11 @@
-use Rattle.std.proofs.Common.{◌++◌, [], ◌∷◌, ap, inr, rules, subst, ◌∙◌}
-use Rattle.std.proofs.lemmas.Result.{err_from_is_err_and}
-use Rattle.qcow2_session.specs.Session.Extents.{ExtentsState, IsExtent, RefusesExtent, contents_for}
+use Rattle.std.proofs.Common.{arith, ◌++◌, [], ◌∷◌, ap, rules, subst, ◌∙◌}
+use Rattle.qcow2_session.specs.Session.Extents.{ExtentsState, IsExtent, contents_for}
 use Rattle.qcow2_session.proofs.ExtentsLemmas.{extents_more}
 use Rattle.qcow2_session.proofs.PrintedExtentsLemmas.{extents_text-more}
 use Rattle.qcow2_session.proofs.commands.extents.print_all.Goals as goal
 
 pub returns-in_err-extent-clause-prints : goal.returns-in_err-extent-clause-prints
-returns-in_err-extent-clause-prints g c =
-    let left = err_from_is_err_and c.from_residual.result c.from_residual.ensures.1 in
-    let image = (g.S.Storage.state c.args.image.now).byte_at in
-    let before = c.loop-extent.invariant in
-    let at = c.loop-extent.extents.position in
-    rw (left.1, left.2) (record {
-      extents = tt;
-      refused = λ told.
-          let here = rw before.reads.bytes at (c.in_err-extent.ensures.told (before.reads.device.tells ∙ told)) in
-          let same = subst (λ (reader : ExtentsState). RefusesExtent (contents_for reader image) reader.header.v2.size at c.in_err-extent.field-0.0) before.same here in
-          let printed = before.printed told in
-          inr (printed.0, (at, printed.1, same), printed.2);
-    })
+returns-in_err-extent-clause-prints g c = grind (arith, extents_more)
 
 pub loop-extent-preserved : goal.loop-extent-preserved
 loop-extent-preserved g c =
