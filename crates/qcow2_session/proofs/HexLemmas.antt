@@ -41,16 +41,13 @@ hex-step n large small = hex-onto n ∙ onto-more 63 n [] large
 pub hex-longer : (n : ℕ) → 16 ≤ n → n < 2 ^ 64 → length (digits 16 false n) ≡ length (digits 16 false (n / 16)) + 1
 hex-longer n large small = ap length (hex-step n large small) ∙ length-append (digits 16 false (n / 16)) (glyph n ∷ [])
 
--- that of a number of one digit
-pub hex-one : (n : ℕ) → n < 16 → digits 16 false n ≡ digit_glyph false n ∷ []
-hex-one n small = hex_one_digit false n small
-
-hex-short-one : (n : ℕ) → n < 16 → length (digits 16 false n) ≡ 1
-hex-short-one n small = ap length (hex-one n small)
+-- how many digits there are
+hex-one : (n : ℕ) → n < 16 → length (digits 16 false n) ≡ 1
+hex-one n small = ap length (hex_one_digit false n small)
 
 hex-length : (k n : ℕ) → n < 16 ^ suc k → n < 2 ^ 64 → length (digits 16 false n) ≤ suc k
-hex-length zero n fits small = omega (arith, hex-short-one n (omega arith))
-hex-length (suc k) n fits small = grind (arith, hex-short-one n, hex-length k (n / 16), hex-longer n)
+hex-length zero n fits small = omega (arith, hex-one n (omega arith))
+hex-length (suc k) n fits small = grind (arith, hex-one n, hex-length k (n / 16), hex-longer n)
 
 -- a number of 64 bits has 16 digits at most
 pub hex_short : (n : ℕ) → n < 2 ^ 64 → length (digits 16 false n) ≤ 16
@@ -72,4 +69,4 @@ pub glyph_at : (d : ℕ) → d < 16 → slice_index hex_digits d ≡ digit_glyph
 glyph_at d below = glyph-below 16 d refl below
 
 -- what the digits are written by
-pub ruleset hex_written = (glyph_at, hex-longer, hex-one, hex_short, hex-step, drop-set, append_assoc, length-set, length-append)
+pub ruleset hex_written = (glyph_at, hex-longer, hex_one_digit, hex_short, hex-step, drop-set, append_assoc, length-set, length-append)

@@ -8,7 +8,6 @@ pub mod EditsLemmas
 pub mod ExtentsLemmas
 pub mod FirstLemmas
 pub mod HexLemmas
-pub mod PrintedExtentsLemmas
 pub mod ImagesLemmas
 pub mod LinesLemmas
 pub mod ListingLemmas

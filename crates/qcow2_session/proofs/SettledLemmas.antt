@@ -1,4 +1,4 @@
-use Rattle.std.proofs.Common.{◌≡◌, ◌⊎◌, ℕ, ◌==◌, nat_lt, ◌+◌, ◌<◌, ◌≤◌, Option, Some, None, MatchOption, Result, Ok, Err, List, [], ◌∷◌, map, take, length, get_or, get_or-set_same, get_or-set_other, slice_index, ap, subst, sym, refl, ◌∙◌, inr, arith}
+use Rattle.std.proofs.Common.{◌≡◌, ◌⊎◌, ℕ, ◌==◌, nat_lt, ◌+◌, ◌<◌, ◌≤◌, Some, None, Result, Ok, Err, List, [], ◌∷◌, map, take, length, get_or, get_or-set_same, get_or-set_other, slice_index, ap, subst, sym, refl, ◌∙◌, arith}
 use Rattle.std.proofs.lemmas.List.Sums.{sum_by-cons, sum_by_more, sum_by_more_le}
 use Rattle.qcow2_base.specs.declared.types.HostCluster.{HostCluster}
 use Rattle.qcow2_session.specs.Session.Edits.{cluster_numbers}
@@ -7,7 +7,6 @@ use Rattle.std.proofs.lemmas.List.{length-set}
 use Rattle.std.proofs.lemmas.List.FromFn.{get_or-map-range_with_len, length-map-range_with_len}
 use Rattle.std.specs.List.{range_with_len}
 use Rattle.qcow2_base.specs.declared.fault.Fault.{Fault}
-use Rattle.qcow2_base.specs.declared.fault.Fault.TheVariants.{CounterRange}
 use Rattle.qcow2_metadata.specs.Table.L2Guards.{handed_back, one_if, times_gained}
 use Rattle.std.proofs.lemmas.Grind.{same_number_lists}
 use Rattle.qcow2_metadata.specs.Entries.{is_among}
@@ -62,21 +61,7 @@ set-moves change index v a below moved = record {
 pub step-moves : (change : CounterChange) (index before : ℕ) (answer : Result ℕ Fault) (a b : BlockState) → index < length a.counters
     → Steps change index answer a b → answer ≡ Ok before → ChangesCounters change (λ i. one_if (i == index)) a b × MarksModified (λ i. one_if (i == index)) a b
 step-moves change index before answer a b below steps is =
-    by_answer (stepped a.refcount_order change (slice_index a.counters index)) refl steps.answers steps.steps
-  where
-    self : one_if (index == index) ≡ 1
-    self = grind (arith, nat_tests)
-
-    by_answer : (after : Option ℕ) → stepped a.refcount_order change (slice_index a.counters index) ≡ after
-        → MatchOption after (answer ≡ Err CounterRange) (λ counter. answer ≡ Ok (slice_index a.counters index))
-        → MatchOption after (b ≡ a) (λ counter. b ≡ stepped_block a index counter)
-        → ChangesCounters change (λ i. one_if (i == index)) a b × MarksModified (λ i. one_if (i == index)) a b
-    by_answer None after answers same = absurd cc
-    by_answer (Some counter) after answers same =
-        subst (λ (block : BlockState). ChangesCounters change (λ i. one_if (i == index)) a block × MarksModified (λ i. one_if (i == index)) a block) (sym same) (
-          set-moves change index counter a below (stepped-is change a.refcount_order (slice_index a.counters index) counter after),
-          (λ set. inr (index, below, omega (arith, self)), λ either. refl),
-        )
+    grind (arith, nat_tests, steps.answers, steps.steps, λ (counter : ℕ) (after : stepped a.refcount_order change (slice_index a.counters index) ≡ Some counter). set-moves change index counter a below (stepped-is change a.refcount_order (slice_index a.counters index) counter after))
 
 -- so far from a start on
 pub between-more : (start at i : ℕ) → start ≤ at → one_if (is_between start (at + 1) i) ≡ one_if (is_between start at i) + one_if (i == at)
@@ -99,6 +84,7 @@ range-next change start at before answer a b c from below moves flags steps is =
       flags-twice (λ i. one_if (is_between start at i)) (λ i. one_if (i == at)) (λ i. one_if (is_between start (at + 1) i)) a b c more moves.entries flags step.1,
     )
 
+-- the width of counters stays
 order-kept : (change : CounterChange) (by : ℕ → ℕ) (a b : BlockState) → ChangesCounters change by a b → b.refcount_order ≡ a.refcount_order
 order-kept change by a b moves = ap (λ (block : BlockState). block.refcount_order) moves.others
 

@@ -1,8 +1,21 @@
-use Rattle.std.proofs.Common.{arith, ◌++◌, [], ◌∷◌, ap, rules, subst, ◌∙◌}
+use Rattle.std.proofs.Common.{arith, List, Option, ℕ, ◌++◌, [], ◌∷◌, append-nil, ap, rules, subst, ◌∙◌}
+use Rattle.std.specs.Io.KnownBytes.{Appends}
+use Rattle.std.proofs.KnownBytes.{Appends-trans}
+use Rattle.std.proofs.lemmas.Grind.{flat_map-append}
+use Rattle.qcow2_session.specs.Commands.Extents.{extent_text, extents_text}
+use Rattle.qcow2_session.specs.declared.commands.extents.ExtentFormat.{ExtentFormat}
+use Rattle.qcow2_session.specs.declared.session.extents.Extent.{Extent}
 use Rattle.qcow2_session.specs.Session.Extents.{ExtentsState, IsExtent, contents_for}
 use Rattle.qcow2_session.proofs.ExtentsLemmas.{extents_more}
-use Rattle.qcow2_session.proofs.PrintedExtentsLemmas.{extents_text-more}
 use Rattle.qcow2_session.proofs.commands.extents.print_all.Goals as goal
+
+-- the text of extents, and of one more
+extents_text-more : (format : ExtentFormat) (extents : List Extent) (extent : Extent) (a b c : Option (List ℕ))
+    → Appends a b (extents_text format extents) → Appends b c (extent_text format extent)
+    → Appends a c (extents_text format (extents ++ (extent ∷ [])))
+extents_text-more format extents extent a b c before here =
+    rw (flat_map-append (extent_text format) extents (extent ∷ []), append-nil (extent_text format extent))
+    (Appends-trans a b c _ _ before here)
 
 pub returns-in_err-extent-clause-prints : goal.returns-in_err-extent-clause-prints
 returns-in_err-extent-clause-prints g c = grind (arith, extents_more)
