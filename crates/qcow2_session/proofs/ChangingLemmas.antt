@@ -1,5 +1,5 @@
-use Rattle.std.proofs.Common.{◌≡◌, ◌≢◌, ◌⊎◌, ℕ, false, List, [], ◌∷◌, Option, Result, Ok, Err, OnOk, IsTrue, inl, inr, refl, true≢false, arith}
-use Rattle.std.specs.Result.{IfOk, IsOkAnd, IsOkUnless, MatchResult}
+use Rattle.std.proofs.Common.{◌≡◌, ◌≢◌, ◌⊎◌, ℕ, false, List, [], Option, Result, Ok, Err, OnOk, IsTrue, inl, inr, refl, arith}
+use Rattle.std.specs.Result.{IfOk, IsOkAnd, IsOkUnless}
 use Rattle.std.specs.Io.KnownBytes.{Appends}
 use Rattle.std.proofs.lemmas.Result.{IfErr-weaker, on_ok_weaker}
 use Rattle.qcow2_base.specs.Storage.{Image, StorageState}
@@ -13,13 +13,11 @@ use Rattle.qcow2_session.specs.declared.session.edits.Edit.{Edit}
 
 -- there is no edit where not some are there
 none-of : (edits : List Edit) → are_some edits ≡ false → edits ≡ []
-none-of [] none = refl
-none-of (edit ∷ edits) none = absurd (true≢false none)
+none-of edits none = grind arith
 
 -- what holds of any value holds of that of an answer
 pub of-any : {V E : Type 0} {P : V → Type 0} (answer : Result V E) → ((value : V) → P value) → IfOk answer P
-of-any (Ok value) all = all value
-of-any (Err error) all = tt
+of-any answer all = grind (arith, all)
 
 -- a list without an edit leaves an image as it was
 pub idle-edits : {End : Type 0} (edits : List Edit) (end : Result End Fault) (old new : Image) → (edits ≡ [] → new ≡ old)
@@ -28,8 +26,7 @@ idle-edits edits end old new idle = of-any end (λ left none. idle (none-of edit
 
 -- a run of which a part is known left something
 ok-left : {E V : Type 0} (run : Result E Fault) (part : E → V) (value : V) → result_map part run ≡ Ok value → (left : E) × (run ≡ Ok left) × (part left ≡ value)
-ok-left (Ok left) part value is = (left, refl, cc)
-ok-left (Err fault) part value is = cc
+ok-left run part value is = grind arith
 
 -- what follows from a part of what a run left
 pub part-follows : {E V L : Type 0} (run : Result E Fault) (part : E → V) (next : V → L) (value : V) → result_map part run ≡ Ok value
@@ -89,14 +86,9 @@ change-unplaced fault format end old new a b refused failed same = record {
   written = λ made. absurd (failed made.0 made.1);
   unchanged = λ other. same;
   idle = λ told. of-any end (λ left writes. same);
-  others = λ told. unchanged-anywhere format end old.byte_at new.byte_at same;
+  others = λ told. grind (arith, same);
   torn = λ told call. inl same;
 }
-  where
-    unchanged-anywhere : (format : ClusterFormat) (end : Result ChangeEnd Fault) (old new : Image) → new ≡ old
-        → MatchResult end (λ left. SameOutsideCluster format.cluster_bits left.cluster old new) (λ fault. new ≡ old)
-    unchanged-anywhere format (Ok left) old new same = rw same (record { before = λ o below. refl; after = λ o past. refl })
-    unchanged-anywhere format (Err fault) old new same = same
 
 -- there is a place for a change, which is refused
 pub change-refused : {T E : Type 0} (fault : Fault) (format : ClusterFormat) (tell : E → ChangeEnd) (end : Result ChangeEnd Fault) (run : Result E Fault) (old new : StorageState) (a b : Option (List ℕ))

@@ -59,8 +59,7 @@ numbers_of-more clusters (Some cluster) = map-append (λ (c : HostCluster). c.0)
 
 -- some edits are made once one more is
 are_some-take : (edits : List Edit) (done : ℕ) → done < length edits → are_some (take (done + 1) edits) ≡ true
-are_some-take [] done below = absurd (omega (arith, below))
-are_some-take (edit ∷ edits) done below = let next : done + 1 ≡ suc done = omega arith in rw next refl
+are_some-take edits done below = grind (arith, below)
 
 -- one more edit is made
 pub part_way-next : (edits : List Edit) (done : ℕ) (default : Edit) (before now next : TableState) (change : Change) (outcome after : Outcome) → done < length edits → IsPartWay edits done before now outcome → Makes (table_edit (get_or edits done default)) change now next → after.gained.items ≡ outcome.gained.items ++ option_to_list change.gained → after.freed.items ≡ outcome.freed.items ++ option_to_list change.freed → ((more : ℕ) → HasRoom (more + 1) outcome → HasRoom more after) → IsPartWay edits (done + 1) before next after

@@ -172,8 +172,7 @@ piece_in_image g l1 image size from table cluster piece same named loaded told i
 
 -- what an answer that is `Ok` leads to
 pub ok_and_then : {T E : Type 0} (P Q : T → Type 0) (R : E → Type 0) (result : Result T E) → IsOkAnd result P → ((value : T) → P value → Q value) → MatchResult result Q R
-ok_and_then P Q R (Ok value) holds leads = leads value holds
-ok_and_then P Q R (Err error) holds leads = absurd holds
+ok_and_then P Q R result holds leads = grind (arith, holds, leads)
 
 -- a piece and one that goes on from it
 moved_twice : (m n : ℕ) (content : Content) → moved_on n (moved_on m content) ≡ moved_on (m + n) content
@@ -243,11 +242,8 @@ size_stays reader later same = ap (λ (r : ExtentsState). r.header.v2.size) same
 pub stays_twice : (old new : StorageState) (first second third : ExtentsState) → OnlyReads {T = ℕ} (Ok 0) old new → StaysReader old first second → StaysReader new second third → StaysReader old first third
 stays_twice old new first second third reads one other = record {
   same = other.same ∙ ap (λ (r : ExtentsState). record r { table = third.table }) one.same;
-  kept = λ told. kept_in old.byte_at new.byte_at third reads.bytes (other.kept (reads.device.tells ∙ told));
+  kept = λ told. subst (λ (image : Image). KeepsTableOf image third) reads.bytes (other.kept (reads.device.tells ∙ told));
 }
-  where
-    kept_in : (before after : Image) (reader : ExtentsState) → after ≡ before → KeepsTableOf after reader → KeepsTableOf before reader
-    kept_in before after reader same holds = subst (λ (image : Image). KeepsTableOf image reader) same holds
 
 -- reads that were answered, whatever the answer
 pub reads_any : {A B : Type 0} (value : A) (other : B) (old new : StorageState) → OnlyReads (Ok value) old new → OnlyReads (Ok other) old new

@@ -1,5 +1,4 @@
 use Rattle.std.proofs.Common.{◌≡◌, ℕ, ◌+◌, ◌-◌, ◌*◌, ◌^◌, IfSome, IsOkAnd, Option, Some, option_map, Result, Ok, Err, List, length, ap, subst, sym, refl, ◌∙◌, arith}
-use Rattle.qcow2_base.specs.Format.{most_l2_entries}
 use Rattle.qcow2_base.specs.Storage.{Image, OnlyWrites, SameOutside, StorageState}
 use Rattle.qcow2_base.specs.Types.{IsClusterBits}
 use Rattle.qcow2_base.specs.declared.fault.Fault.{Fault}
@@ -15,7 +14,7 @@ use Rattle.qcow2_metadata.proofs.GrammarLemmas.{header_of-is}
 use Rattle.qcow2_session.proofs.WholeImageLemmas.{balances-image, changes-own-lookups, avoids-others, full_cluster, stays-sound}
 use Rattle.qcow2_session.specs.Session.WholeImage.{ChangesL2Table, AvoidsHeaderAndL1Table, l2_bytes}
 use Rattle.qcow2_metadata.specs.Refblock.{BlockState, block_entries, block_offset}
-use Rattle.qcow2_metadata.specs.Table.{IsTorn, TableState, l2_table_at, loaded_l2_table, numbers_at, offset_of, place_fault, place_of}
+use Rattle.qcow2_metadata.specs.Table.{IsTorn, TableState, l2_table_at, loaded_l2_table, numbers_at, offset_of, place_of}
 use Rattle.qcow2_session.specs.Session.Edits.{Balances, edits_left, first_unfit_edit, cluster_numbers, edits_or_refusal}
 use Rattle.qcow2_session.specs.Session.Images.{EditsImage, block_in, edits_end, table_in}
 use Rattle.qcow2_session.specs.Session.Steps.{first_unfit_step, steps_or_refusal}
@@ -23,16 +22,9 @@ use Rattle.qcow2_session.specs.declared.session.edits.Edit.{Edit}
 use Rattle.qcow2_session.specs.declared.session.edits.Outcome.{Outcome}
 use Rattle.qcow2_session.specs.declared.session.steps.Step.{Step}
 
--- a value that wasn't refused
-unrefused : {T : Type 0} (refusal : Option Fault) (answer : Result T Fault) (value : T) → unless_refused refusal answer ≡ Ok value → answer ≡ Ok value
-unrefused refusal answer value is = grind arith
-
 -- a table that stands at a cluster has the numbers there
 standing-numbers : (g : Geometry) (cluster : HostCluster) (image : Image) (numbers : List ℕ) → loaded_l2_table g cluster image ≡ Ok numbers → numbers ≡ numbers_at (l2_table_at g cluster) image
-standing-numbers g cluster image numbers stands =
-    let decoded = unrefused (place_fault most_l2_entries (l2_table_at g cluster)) _ numbers stands in
-    let same = unrefused _ (Ok (numbers_at (l2_table_at g cluster) image)) numbers decoded in
-    cc
+standing-numbers g cluster image numbers stands = grind (arith, stands)
 
 -- the place of a table that fills a cluster
 place_of-full : (table : TableState) (cluster : HostCluster) → table.cluster ≡ Some cluster → length table.numbers ≡ 2 ^ (table.geometry.cluster_bits - 3) → place_of table ≡ Some (l2_table_at table.geometry cluster)

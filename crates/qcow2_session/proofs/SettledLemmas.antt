@@ -140,9 +140,7 @@ can-settle first gained freed a b c up fit down = λ i below.
     let within : i < length b.counters = omega (arith, below, up.entries) in
     let order = order-kept Increment (λ i. times_among range_of_one gained (first + i)) a b up in
     let most = rw order at (fits b.refcount_order b.counters i fit within) in
-    let is = up.counters i below in
-    let down_is = down.counters i within in
-    (omega (arith, most, is, times-gained gained (first + i)), omega (arith, is, down_is, times-gained gained (first + i)))
+    omega (arith, most, up.counters i below, down.counters i within, times-gained gained (first + i))
 
 -- losses that don't fit
 pub losses-short : (first : ℕ) (gained : List HostCluster) (freed : List ClustersToFreeEntry) (a b : BlockState)

@@ -5,9 +5,7 @@ use Rattle.qcow2_session.specs.Commands.Words.{all_of, both}
 -- what was put together, by its parts
 both-parts : {T : Type 0} (one : Option T) (other : Option (List T)) (all : List T) → both (λ first rest. first ∷ rest) one other ≡ Some all
     → (first : T) × (rest : List T) × (one ≡ Some first) × (other ≡ Some rest) × (all ≡ first ∷ rest)
-both-parts (Some first) (Some rest) all is = (first, rest, refl, refl, cc)
-both-parts (Some first) None all is = cc
-both-parts None other all is = cc
+both-parts one other all is = grind arith
 
 both-more : {T : Type 0} (one : Option T) (other : Option (List T)) (first : T) (rest all : List T) (last : T) → one ≡ Some first → other ≡ Some (rest ++ last ∷ [])
     → all ≡ first ∷ rest → both (λ first rest. first ∷ rest) one other ≡ Some (all ++ last ∷ [])
