@@ -1,25 +1,23 @@
-use Rattle.std.proofs.Common.{◌≡◌, ◌≢◌, ◌⊎◌, ℕ, false, List, [], ◌∷◌, Option, Result, Ok, Err, OnOk, IsTrue, inl, inr, refl, true≢false}
-use Rattle.std.specs.Result.{IfOk, IsOkAnd, IsOkUnless, MatchResult}
+use Rattle.std.proofs.Common.{◌≡◌, ◌≢◌, ◌⊎◌, ℕ, false, List, [], Option, Result, Ok, Err, OnOk, IsTrue, inl, inr, refl, arith}
+use Rattle.std.specs.Result.{IfOk, IsOkAnd, IsOkUnless}
 use Rattle.std.specs.Io.KnownBytes.{Appends}
-use Rattle.std.proofs.lemmas.Bool.{cases_eq}
+use Rattle.std.proofs.lemmas.Result.{IfErr-weaker, on_ok_weaker}
 use Rattle.qcow2_base.specs.Storage.{Image, StorageState}
 use Rattle.qcow2_base.specs.declared.fault.Fault.{Fault}
 use Rattle.qcow2_base.specs.declared.fault.Fault.TheVariants.{NoMemory, Storage}
 use Rattle.qcow2_metadata.specs.Results.{result_map}
-use Rattle.qcow2_session.proofs.PrintingLemmas.{refusal-of}
+use Rattle.qcow2_session.proofs.PrintingLemmas.{refusal-of, refused-as}
 use Rattle.qcow2_session.specs.Commands.Changing.{ChangeEnd, ClusterFormat, PrintsChange, SameOutsideCluster}
 use Rattle.qcow2_session.specs.Session.Edits.{are_some}
 use Rattle.qcow2_session.specs.declared.session.edits.Edit.{Edit}
 
 -- there is no edit where not some are there
 none-of : (edits : List Edit) → are_some edits ≡ false → edits ≡ []
-none-of [] none = refl
-none-of (edit ∷ edits) none = absurd (true≢false none)
+none-of edits none = grind arith
 
 -- what holds of any value holds of that of an answer
 pub of-any : {V E : Type 0} {P : V → Type 0} (answer : Result V E) → ((value : V) → P value) → IfOk answer P
-of-any (Ok value) all = all value
-of-any (Err error) all = tt
+of-any answer all = grind (arith, all)
 
 -- a list without an edit leaves an image as it was
 pub idle-edits : {End : Type 0} (edits : List Edit) (end : Result End Fault) (old new : Image) → (edits ≡ [] → new ≡ old)
@@ -28,25 +26,21 @@ idle-edits edits end old new idle = of-any end (λ left none. idle (none-of edit
 
 -- a run of which a part is known left something
 ok-left : {E V : Type 0} (run : Result E Fault) (part : E → V) (value : V) → result_map part run ≡ Ok value → (left : E) × (run ≡ Ok left) × (part left ≡ value)
-ok-left (Ok left) part value is = (left, refl, cc)
-ok-left (Err fault) part value is = cc
+ok-left run part value is = grind arith
 
 -- what follows from a part of what a run left
 pub part-follows : {E V L : Type 0} (run : Result E Fault) (part : E → V) (next : V → L) (value : V) → result_map part run ≡ Ok value
     → result_map (λ left. next (part left)) run ≡ Ok (next value)
-part-follows (Ok left) part next value is = let same : part left ≡ value = cc in rw same refl
-part-follows (Err fault) part next value is = cc
+part-follows run part next value is = grind arith
 
 -- a run is refused where a part of what it leaves is
 pub part-refused : {E V : Type 0} (run : Result E Fault) (part : E → V) (fault : Fault) → result_map part run ≡ Err fault → run ≡ Err fault
-part-refused (Ok left) part fault is = cc
-part-refused (Err other) part fault is = cc
+part-refused run part fault is = grind arith
 
 -- the numbers that load are those that a run left
 pub loads-part : {E : Type 0} (run : Result E Fault) (part : E → List ℕ) (loaded : Result (List ℕ) Fault) → loaded ≡ result_map part run
     → IfOk run (λ left. loaded ≡ Ok (part left))
-loads-part (Ok left) part loaded is = is
-loads-part (Err fault) part loaded is = tt
+loads-part run part loaded is = grind arith
 
 -- which bytes stay, and which are written, where a change is told by what its run left
 abbrev Loads : {E : Type 0} → ClusterFormat → (E → ChangeEnd) → Result E Fault → Image → Type 0
@@ -70,22 +64,12 @@ pub change-printed : {T E : Type 0} (answer : Result T Fault) (format : ClusterF
     → (IsTrue old.tells → StaysIdle tell run old.byte_at new.byte_at)
     → (IsTrue old.tells → StaysOutside format tell run old.byte_at new.byte_at)
     → IsOkUnless answer Storage → OnOk answer (Appends a b lines) → PrintsChange answer format end old new a b
-change-printed (Ok value) format tell end run lines old new a b is made loads calm idle outside fault printed =
+change-printed answer format tell end run lines old new a b is made loads calm idle outside fault printed =
     let found = λ (told : IsTrue old.tells). ok-left run (λ left. (tell left).lines) lines (made told) in record {
-      lines = λ told. rw (is told, (found told).1) (rw (found told).2 printed);
-      refused = tt;
+      lines = on_ok_weaker answer (λ appended told. rw (is told, (found told).1) (rw (found told).2 appended)) printed;
+      refused = IfErr-weaker answer _ _ (λ error storage told. inr (inr (storage, inr (rw (is told, (found told).1) refl)))) fault;
       written = λ calls told. rw (is told, (found told).1) (rw (found told).1 at (loads told));
-      unchanged = tt;
-      idle = λ told. rw (is told, (found told).1) (rw (found told).1 at (idle told));
-      others = λ told. rw (is told, (found told).1) (rw (found told).1 at (outside told));
-      torn = λ told failed. absurd (failed calm);
-    }
-change-printed (Err error) format tell end run lines old new a b is made loads calm idle outside fault printed =
-    let found = λ (told : IsTrue old.tells). ok-left run (λ left. (tell left).lines) lines (made told) in record {
-      lines = tt;
-      refused = λ told. inr (inr (fault, inr (rw (is told, (found told).1) refl)));
-      written = λ calls told. rw (is told, (found told).1) (rw (found told).1 at (loads told));
-      unchanged = λ other. absurd (other fault);
+      unchanged = IfErr-weaker answer _ _ (λ error storage other. absurd (other storage)) fault;
       idle = λ told. rw (is told, (found told).1) (rw (found told).1 at (idle told));
       others = λ told. rw (is told, (found told).1) (rw (found told).1 at (outside told));
       torn = λ told failed. absurd (failed calm);
@@ -102,39 +86,9 @@ change-unplaced fault format end old new a b refused failed same = record {
   written = λ made. absurd (failed made.0 made.1);
   unchanged = λ other. same;
   idle = λ told. of-any end (λ left writes. same);
-  others = λ told. unchanged-anywhere format end old.byte_at new.byte_at same;
+  others = λ told. grind (arith, same);
   torn = λ told call. inl same;
 }
-  where
-    unchanged-anywhere : (format : ClusterFormat) (end : Result ChangeEnd Fault) (old new : Image) → new ≡ old
-        → MatchResult end (λ left. SameOutsideCluster format.cluster_bits left.cluster old new) (λ fault. new ≡ old)
-    unchanged-anywhere format (Ok left) old new same = rw same (record { before = λ o below. refl; after = λ o past. refl })
-    unchanged-anywhere format (Err fault) old new same = same
-
--- what a refused change leaves outside its cluster, where there is one
-outside-refused : {E : Type 0} (fault : Fault) (format : ClusterFormat) (tell : E → ChangeEnd) (run : Result E Fault) (old new : StorageState)
-    → (fault ≡ Storage → new.failures ≢ old.failures) → (fault ≢ Storage → new.byte_at ≡ old.byte_at)
-    → (new.failures ≢ old.failures → LeavesTorn format tell run old.byte_at new.byte_at)
-    → StaysOutside format tell run old.byte_at new.byte_at
-    → MatchResult (result_map tell run) (λ left. SameOutsideCluster format.cluster_bits left.cluster old.byte_at new.byte_at) (λ other. new.byte_at ≡ old.byte_at)
-outside-refused fault format tell (Ok left) old new failed unchanged torn outside = outside
-outside-refused fault format tell (Err other) old new failed unchanged torn outside = elim (cases_eq new.failures old.failures) [
-  | inl calm ↦ unchanged (λ storage. failed storage calm)
-  | inr moved ↦ elim (torn moved) [
-    | inl same ↦ same
-    | inr none ↦ absurd none
-  ]
-]
-
-told-torn : {E : Type 0} (format : ClusterFormat) (tell : E → ChangeEnd) (run : Result E Fault) (old new : Image) → LeavesTorn format tell run old new
-    → (new ≡ old) ⊎ IsOkAnd (result_map tell run) (λ left. format.Torn left.cluster left.numbers old new)
-told-torn format tell (Ok left) old new torn = torn
-told-torn format tell (Err fault) old new torn = torn
-
-told-idle : {E : Type 0} (tell : E → ChangeEnd) (run : Result E Fault) (old new : Image) → StaysIdle tell run old new
-    → IfOk (result_map tell run) (λ left. left.is_written ≡ false → new ≡ old)
-told-idle tell (Ok left) old new idle = idle
-told-idle tell (Err fault) old new idle = tt
 
 -- there is a place for a change, which is refused
 pub change-refused : {T E : Type 0} (fault : Fault) (format : ClusterFormat) (tell : E → ChangeEnd) (end : Result ChangeEnd Fault) (run : Result E Fault) (old new : StorageState) (a b : Option (List ℕ))
@@ -147,14 +101,10 @@ pub change-refused : {T E : Type 0} (fault : Fault) (format : ClusterFormat) (te
     → PrintsChange {T = T} (Err fault) format end old new a b
 change-refused fault format tell end run old new a b is refused failed unchanged torn idle outside = record {
   lines = tt;
-  refused = refusal-of fault end old new (λ told. elim (refused told) [
-    | inl storage ↦ inl storage
-    | inr (inl memory) ↦ inr (inl memory)
-    | inr (inr bad) ↦ inr (inr (rw (is told, bad) refl))
-  ]) failed;
+  refused = refusal-of fault end old new (λ told. refused-as fault (λ (bad : run ≡ Err fault). rw (is told, bad) refl) (refused told)) failed;
   written = λ made. absurd (failed made.0 made.1);
   unchanged = unchanged;
-  idle = λ told. rw (is told) (told-idle tell run old.byte_at new.byte_at (idle told));
-  others = λ told. rw (is told) (outside-refused fault format tell run old new failed unchanged (torn told) (outside told));
-  torn = λ told call. rw (is told) (told-torn format tell run old.byte_at new.byte_at (torn told call));
+  idle = λ told. rw (is told) (grind (arith, idle told));
+  others = λ told. rw (is told) (grind (arith, failed, unchanged, torn told, outside told));
+  torn = λ told call. rw (is told) (grind (arith, torn told call));
 }

@@ -1,10 +1,13 @@
-use Rattle.std.proofs.Common.{◌≡◌, ℕ, true, not, ◌&&◌, nat_le, nat_eq, ◌+◌, ◌-◌, ◌*◌, ◌/◌, ◌^◌, ◌<◌, if◌then◌else◌, Option, Some, None, option_map, List, [], ◌∷◌, ◌++◌, length, take, drop, get_or, suc, option_to_list, append_assoc, append-nil, ap, subst, sym, refl, ◌∙◌, arith}
+use Rattle.std.proofs.Common.{◌≡◌, ℕ, true, not, ◌&&◌, nat_le, nat_eq, ◌+◌, ◌-◌, ◌/◌, ◌^◌, ◌<◌, if◌then◌else◌, Option, Some, None, option_map, slice_index, List, [], ◌∷◌, ◌++◌, length, take, drop, get_or, suc, option_to_list, append_assoc, append-nil, ap, subst, sym, refl, ◌∙◌, arith}
 use Rattle.std.proofs.Math.Nat.{le-div_iff_mul-le}
 use Rattle.std.proofs.lemmas.Nat.{pow_pos}
 use Rattle.std.proofs.lemmas.Bool.Decides.{nat_tests}
+use Rattle.std.proofs.lemmas.Iterator.{YieldsList-from_slice}
+use Rattle.std.proofs.lemmas.Iterator.Search.{position_from_yields_List}
 use Rattle.std.proofs.lemmas.List.Folds.{list_all-map}
 use Rattle.std.proofs.Math.Seq.{drop-cons}
 use Rattle.std.proofs.lemmas.List.{length-set, map-append, set-set}
+use Rattle.std.proofs.lemmas.List.Sums.{AllPass-from_list_all}
 use Rattle.std.specs.List.{list_all}
 use Rattle.qcow2_base.specs.Types.{IsClusterBits}
 use Rattle.qcow2_base.specs.declared.types.HostCluster.{HostCluster}
@@ -13,19 +16,16 @@ use Rattle.qcow2_metadata.specs.Table.L2Guards.{RunEnd, TableEdit, after_edit, f
 use Rattle.qcow2_metadata.specs.Header.{Geometry}
 use Rattle.qcow2_metadata.specs.Table.{TableState, edited}
 use Rattle.qcow2_metadata.specs.declared.entries.ClustersToFreeEntry.{ClustersToFreeEntry}
-use Rattle.qcow2_session.proofs.FirstLemmas.{all_pass, each_passes}
+use Rattle.qcow2_session.proofs.FirstLemmas.{all_pass}
 use Rattle.qcow2_session.specs.Session.Edits.{Balances, HasRoom, Makes, are_some, edits_left, first_unfit_edit, edit_fits, table_left, cluster_numbers, table_edit, table_edits}
 use Rattle.qcow2_session.specs.declared.session.edits.Change.{Change}
 use Rattle.qcow2_session.specs.declared.session.edits.Edit.{Edit}
 use Rattle.qcow2_session.specs.declared.session.edits.Outcome.{Outcome}
 
--- an offset is at most another where its cluster is at most the other's
-nat_le-div : (cluster size most : ℕ) → 0 < size → nat_le cluster (most / size) ≡ nat_le (cluster * size) most
-nat_le-div cluster size most some = grind (arith, nat_tests, le-div_iff_mul-le {k = size} {x = cluster} {y = most} some)
-
 -- whether a cluster can be mapped to, by the greatest that can
 pub mappable_by_greatest : (g : Geometry) (cluster greatest : ℕ) → greatest ≡ (2 ^ 56 - 512) / 2 ^ g.cluster_bits → is_mappable g cluster ≡ (nat_le cluster greatest && (if g.external_data_file then true else not (nat_eq cluster 0)))
-mappable_by_greatest g cluster greatest is = rw (is, nat_le-div cluster (2 ^ g.cluster_bits) (2 ^ 56 - 512) (pow_pos g.cluster_bits)) refl
+mappable_by_greatest g cluster greatest is =
+    grind (arith, nat_tests, le-div_iff_mul-le {k = 2 ^ g.cluster_bits} {x = cluster} {y = 2 ^ 56 - 512} (pow_pos g.cluster_bits))
 
 -- an entry that is changed twice is as after the second change
 pub edited_twice : (table : TableState) (index v w : ℕ) → edited (edited table index v) index w ≡ edited table index w
@@ -54,8 +54,7 @@ numbers_of-more clusters (Some cluster) = map-append (λ (c : HostCluster). c.0)
 
 -- some edits are made once one more is
 are_some-take : (edits : List Edit) (done : ℕ) → done < length edits → are_some (take (done + 1) edits) ≡ true
-are_some-take [] done below = absurd (omega (arith, below))
-are_some-take (edit ∷ edits) done below = let next : done + 1 ≡ suc done = omega arith in rw next refl
+are_some-take edits done below = grind (arith, below)
 
 -- one more edit is made
 pub part_way-next : (edits : List Edit) (done : ℕ) (default : Edit) (before now next : TableState) (change : Change) (outcome after : Outcome) → done < length edits → IsPartWay edits done before now outcome → Makes (table_edit (get_or edits done default)) change now next → after.gained.items ≡ outcome.gained.items ++ option_to_list change.gained → after.freed.items ≡ outcome.freed.items ++ option_to_list change.freed → ((more : ℕ) → HasRoom (more + 1) outcome → HasRoom more after) → IsPartWay edits (done + 1) before next after
@@ -86,11 +85,14 @@ all_fit table edits none =
 pub part_way-fits : (edits : List Edit) (done : ℕ) (default : Edit) (before now : TableState) (outcome : Outcome) → first_unfit_edit before edits ≡ None → done < length edits → IsPartWay edits done before now outcome → edit_fits now (get_or edits done default) ≡ true
 part_way-fits edits done default before now outcome none below way =
     let geometry : now.geometry ≡ before.geometry = ap (λ (table : TableState). table.geometry) way.table in
-    rw (geometry, way.entries) (each_passes (edit_fits before) edits done default (all_pass (edit_fits before) edits none) below)
+    rw (geometry, way.entries) (AllPass-from_list_all (edit_fits before) edits (all_pass (edit_fits before) edits none) done default below)
 
 -- what a run of edits that fit leaves and hands back is in balance
-pub run-balances : (edits : List Edit) (outcome : Outcome) (old new : TableState) → IsClusterBits old.geometry.cluster_bits → first_unfit_edit old edits ≡ None → edits_left new outcome ≡ run_of old.geometry (table_edits edits) old.numbers → new ≡ table_left edits old new.numbers → Balances outcome old new
-run-balances edits outcome old new bits none run left = λ cluster.
+pub run_balances : (edits : List Edit) (outcome : Outcome) (old new : TableState) → IsClusterBits old.geometry.cluster_bits → first_unfit_edit old edits ≡ None → edits_left new outcome ≡ run_of old.geometry (table_edits edits) old.numbers → new ≡ table_left edits old new.numbers → Balances outcome old new
+run_balances edits outcome old new bits none run left = λ cluster.
     let geometry : new.geometry ≡ old.geometry = ap (λ (table : TableState). table.geometry) left in
     let balance = balance-run old.geometry (table_edits edits) old.numbers cluster bits (all_fit old edits none) in
     rw (geometry) (subst (λ (end : RunEnd). references old.geometry end.numbers cluster + handed_back end.freed cluster ≡ references old.geometry old.numbers cluster + times_gained end.gained cluster) (sym run) balance)
+
+-- the position that a search for an edit answers
+pub ruleset unfit_position = (YieldsList-from_slice, position_from_yields_List)

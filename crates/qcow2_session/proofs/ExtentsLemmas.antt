@@ -1,26 +1,25 @@
-use Rattle.std.proofs.Common.{◌≡◌, ◌⊎◌, ℕ, true, false, true≢false, Option, ◌+◌, ◌-◌, ◌*◌, ◌/◌, ◌%◌, ◌^◌, ◌<◌, ◌≤◌, min, List, [], ◌∷◌, ◌++◌, length, get_or, Some, None, Result, Ok, Err, IsOkAnd, MatchResult, refl, ap, subst, sym, ◌∙◌, inl, inr, arith}
+use Rattle.std.proofs.Common.{◌≡◌, ◌↔◌, ℕ, true, false, Option, ◌+◌, ◌-◌, ◌*◌, ◌/◌, ◌%◌, ◌^◌, ◌<◌, ◌≤◌, min, List, [], ◌∷◌, ◌++◌, length, get_or, Some, None, Result, Ok, Err, IsOkAnd, MatchResult, refl, ap, subst, sym, ◌∙◌, inl, inr, arith}
 use Rattle.std.proofs.lemmas.Bool.{cases_lt}
-use Rattle.std.proofs.lemmas.Bool.Decides.{Decides-eqb}
+use Rattle.std.proofs.lemmas.Bool.Decides.{nat_tests}
 use Rattle.std.proofs.lemmas.List.{get_or_past}
 use Rattle.std.proofs.lemmas.Nat.{div-add-mod', div-mul-add, mod-mul-add, mul-le, pow_pos, pow-add}
-use Rattle.std.proofs.Math.Nat.{le-div_iff_mul-le, mod-eq_of_lt, mod-lt, mul_assoc}
+use Rattle.std.proofs.Math.Nat.{div-lt_iff_lt-mul, mod-eq_of_lt, mod-lt, mul_assoc}
 use Rattle.std.proofs.Math.Pow.{pow_mono}
 use Rattle.std.specs.Option.{is_some}
 use Rattle.qcow2_base.specs.Storage.{Image, OnlyReads, StorageState}
 use Rattle.qcow2_base.specs.declared.fault.Fault.{Fault}
-use Rattle.qcow2_base.specs.declared.fault.Fault.TheVariants.{NoMemory, Storage}
 use Rattle.qcow2_base.specs.declared.types.HostCluster.{HostCluster}
 use Rattle.qcow2_metadata.proofs.EntriesLemmas.{div_rises}
-use Rattle.qcow2_metadata.specs.Entries.L2Mapping.{Mapping, backing, compressed, data_file, zeros}
+use Rattle.qcow2_metadata.specs.Entries.L2Mapping.{Mapping}
 use Rattle.qcow2_metadata.specs.Entries.Runs.{reads_on}
 use Rattle.qcow2_metadata.specs.Header.{Geometry}
 use Rattle.qcow2_metadata.specs.Table.{TableState, loaded_l2_table, mapping_at}
 use Rattle.qcow2_metadata.specs.Table.L2Table.{IsMappedRun}
 use Rattle.qcow2_session.specs.Session.Lookups.{l2_cluster, named_cluster}
-use Rattle.qcow2_session.specs.Session.Extents.{AreExtents, AreInOneTable, Contents, ExtentsState, HasNoTable, IsExtent, IsPiece, IsRefusedFrom, KeepsTableOf, ReadAsOne, RefusesExtent, StaysReader, content_in, contents_for, contents_in, contents_of, extent_of, moved_on}
+use Rattle.qcow2_session.specs.Session.Extents.{AreExtents, AreInOneTable, Contents, ExtentsState, HasNoTable, IsExtent, IsPiece, IsRefusedFrom, KeepsTableOf, ReadAsOne, StaysReader, content_in, contents_for, contents_in, contents_of, extent_of, moved_on}
 use Rattle.qcow2_session.specs.declared.session.extents.Extent.{Extent}
 use Rattle.qcow2_session.specs.declared.session.extents.Content.{Content}
-use Rattle.qcow2_session.specs.declared.session.extents.Content.TheVariants.{Absent, AllocatedZeros, Compressed, Data, Zeros}
+use Rattle.qcow2_session.specs.declared.session.extents.Content.TheVariants.{Absent}
 
 -- an offset's distance from its cluster's begin is less than the largest cluster
 pub distance_below : (cb offset distance : ℕ) → cb ≤ 21 → distance ≡ offset % 2 ^ cb → distance < 2 ^ 21
@@ -31,19 +30,12 @@ distance_below cb offset distance high is =
 -- where no L2 table is named before an L1 entry, nor by it, none is up to it
 pub unnamed_more : (cb : ℕ) (l1 : List ℕ) (first index : ℕ) (found : Option HostCluster) → ((k : ℕ) → first ≤ k → k < index → named_cluster cb (get_or l1 k 0) ≡ None)
     → found ≡ named_cluster cb (get_or l1 index 0) → is_some found ≡ false → (k : ℕ) → first ≤ k → k < index + 1 → named_cluster cb (get_or l1 k 0) ≡ None
-unnamed_more cb l1 first index (Some cluster) before is none k from below = absurd (true≢false none)
-unnamed_more cb l1 first index None before is none k from below = elim (cases_lt k index) [
-  | inl less ↦ before k from less
-  | inr least ↦ let same : k ≡ index = omega arith in rw same (sym is)
-]
+unnamed_more cb l1 first index found before is none k from below = grind (arith, nat_tests, before)
 
 -- past the L1 table's end no L2 table is named
 pub unnamed_from : (cb : ℕ) (l1 : List ℕ) (first index : ℕ) → length l1 ≤ index → ((k : ℕ) → first ≤ k → k < index → named_cluster cb (get_or l1 k 0) ≡ None)
     → (k : ℕ) → first ≤ k → named_cluster cb (get_or l1 k 0) ≡ None
-unnamed_from cb l1 first index past before k from = elim (cases_lt k index) [
-  | inl below ↦ before k from below
-  | inr above ↦ rw (get_or_past l1 k 0 (omega arith)) refl
-]
+unnamed_from cb l1 first index past before k from = grind (arith, before, get_or_past l1 k 0)
 
 -- the parts of the disk that so many L2 tables are for
 tables_size : (cb n : ℕ) → 9 ≤ cb → n * 2 ^ (2 * cb - 3) ≡ n * 2 ^ (cb - 3) * 2 ^ cb
@@ -51,25 +43,15 @@ tables_size cb n low =
     let whole : cb - 3 + cb ≡ 2 * cb - 3 = omega arith in
     ap (λ x. n * x) (rw whole at (pow-add 2 (cb - 3) cb)) ∙ sym (mul_assoc n (2 ^ (cb - 3)) (2 ^ cb))
 
--- a guest cluster's place in the L1 table, by the offset
-below_next : (cb offset next : ℕ) → 9 ≤ cb → offset < next * 2 ^ (2 * cb - 3) → offset / 2 ^ cb / 2 ^ (cb - 3) < next
-below_next cb offset next low below = elim (cases_lt (offset / 2 ^ cb / 2 ^ (cb - 3)) next) [
-  | inl less ↦ less
-  | inr more ↦
-      let clusters : next * 2 ^ (cb - 3) ≤ offset / 2 ^ cb = (le-div_iff_mul-le (pow_pos (cb - 3))).0 more in
-      let bytes : next * 2 ^ (cb - 3) * 2 ^ cb ≤ offset = (le-div_iff_mul-le (pow_pos cb)).0 clusters in
-      absurd (omega (arith, bytes, below, tables_size cb next low))
-]
+-- an offset is before the part of an L1 entry where its L1 index is less
+before_entry : (cb offset next : ℕ) → 9 ≤ cb → (offset / 2 ^ cb / 2 ^ (cb - 3) < next) ↔ (offset < next * 2 ^ (2 * cb - 3))
+before_entry cb offset next low =
+    let clusters = div-lt_iff_lt-mul {x = offset / 2 ^ cb} {y = next} (pow_pos (cb - 3)) in
+    let bytes = div-lt_iff_lt-mul {x = offset} {y = next * 2 ^ (cb - 3)} (pow_pos cb) in
+    rw (tables_size cb next low) (λ less. bytes.0 (clusters.0 less), λ less. clusters.1 (bytes.1 less))
 
 pub reaches_next : (cb from next : ℕ) → 9 ≤ cb → from / 2 ^ cb / 2 ^ (cb - 3) + 1 ≤ next → from < next * 2 ^ (2 * cb - 3)
-reaches_next cb from next low above = elim (cases_lt from (next * 2 ^ (2 * cb - 3))) [
-  | inl less ↦ less
-  | inr more ↦
-      let bytes : next * 2 ^ (cb - 3) * 2 ^ cb ≤ from = omega (arith, more, tables_size cb next low) in
-      let clusters : next * 2 ^ (cb - 3) ≤ from / 2 ^ cb = (le-div_iff_mul-le (pow_pos cb)).1 bytes in
-      let tables : next ≤ from / 2 ^ cb / 2 ^ (cb - 3) = (le-div_iff_mul-le (pow_pos (cb - 3))).1 clusters in
-      absurd (omega (arith, tables, above))
-]
+reaches_next cb from next low above = (before_entry cb from next low).0 (omega (arith, above))
 
 -- no L2 table is for the bytes up to the next L1 entry that names one
 pub no_table_before : (cb : ℕ) (l1 : List ℕ) (from next to : ℕ) → 9 ≤ cb → l2_cluster cb l1 (from / 2 ^ cb) ≡ None → to ≤ next * 2 ^ (2 * cb - 3)
@@ -77,7 +59,7 @@ pub no_table_before : (cb : ℕ) (l1 : List ℕ) (from next to : ℕ) → 9 ≤ 
     → HasNoTable cb l1 from to
 no_table_before cb l1 from next to low here end none = λ offset above below.
     let k = offset / 2 ^ cb / 2 ^ (cb - 3) in
-    let less : k < next = below_next cb offset next low (omega (arith, below, end)) in
+    let less : k < next = (before_entry cb offset next low).1 (omega (arith, below, end)) in
     let more = div_rises (from / 2 ^ cb) (offset / 2 ^ cb) (2 ^ (cb - 3)) (pow_pos (cb - 3)) (div_rises from offset (2 ^ cb) (pow_pos cb) above) in
     elim (cases_lt (from / 2 ^ cb / 2 ^ (cb - 3)) k) [
       | inl later ↦ none k (omega (arith, later)) less
@@ -100,30 +82,7 @@ data_moves : (cb k before cluster d e n : ℕ) → cluster ≡ before + k → k 
 data_moves cb k before cluster d e n is on = rw is (omega (arith, on))
 
 content_moves : (cb k d e n : ℕ) (m m' : Mapping) → reads_on k m m' ≡ true → k * 2 ^ cb + e ≡ d + n → content_in cb e m' ≡ moved_on n (content_in cb d m)
-content_moves cb k d e n (data_file before was) (data_file cluster copied) goes on =
-    rw (data_moves cb k before cluster d e n ((Decides-eqb cluster (before + k)).0 goes) on) refl
-content_moves cb k d e n (zeros (Some before) was) (zeros (Some cluster) copied) goes on =
-    rw (data_moves cb k before cluster d e n ((Decides-eqb cluster (before + k)).0 goes) on) refl
-content_moves cb k d e n (zeros None was) (zeros None copied) goes on = refl
-content_moves cb k d e n (compressed o l) (compressed p m) goes on = refl
-content_moves cb k d e n (backing o) (backing p) goes on = refl
-content_moves cb k d e n (data_file before was) (backing p) goes on = cc
-content_moves cb k d e n (data_file before was) (compressed p m) goes on = cc
-content_moves cb k d e n (data_file before was) (zeros h copied) goes on = cc
-content_moves cb k d e n (backing o) (data_file cluster copied) goes on = cc
-content_moves cb k d e n (backing o) (compressed p m) goes on = cc
-content_moves cb k d e n (backing o) (zeros h copied) goes on = cc
-content_moves cb k d e n (compressed o l) (data_file cluster copied) goes on = cc
-content_moves cb k d e n (compressed o l) (backing p) goes on = cc
-content_moves cb k d e n (compressed o l) (zeros h copied) goes on = cc
-content_moves cb k d e n (zeros (Some before) was) (data_file cluster copied) goes on = cc
-content_moves cb k d e n (zeros (Some before) was) (backing p) goes on = cc
-content_moves cb k d e n (zeros (Some before) was) (compressed p m) goes on = cc
-content_moves cb k d e n (zeros (Some before) was) (zeros None copied) goes on = cc
-content_moves cb k d e n (zeros None was) (data_file cluster copied) goes on = cc
-content_moves cb k d e n (zeros None was) (backing p) goes on = cc
-content_moves cb k d e n (zeros None was) (compressed p m) goes on = cc
-content_moves cb k d e n (zeros None was) (zeros (Some cluster) copied) goes on = cc
+content_moves cb k d e n m m' goes on = grind (arith, nat_tests, λ (before cluster : ℕ) (is : cluster ≡ before + k). data_moves cb k before cluster d e n is on)
 
 -- the byte n bytes after another: its cluster, and its distance in it
 record IsFurther (size from n k e : ℕ) : Type 0 where
@@ -144,10 +103,7 @@ further size from n some =
     }
 
 clusters_below : (size n count : ℕ) → 0 < size → n < count * size → n / size < count
-clusters_below size n count some below = elim (cases_lt (n / size) count) [
-  | inl less ↦ less
-  | inr more ↦ absurd (omega (arith, (le-div_iff_mul-le some).0 more, below))
-]
+clusters_below size n count some below = (div-lt_iff_lt-mul some).1 below
 
 -- a run in a table is a piece: its bytes read as one, and their entries are in that table
 pub run_reads_as_one : (table : TableState) (from count length : ℕ) → IsMappedRun table (from / 2 ^ table.geometry.cluster_bits) count
@@ -200,11 +156,6 @@ in_its_table : (g : Geometry) (l1 : List ℕ) (image : Image) (offset : ℕ) (ta
     → contents_of g l1 image offset ≡ contents_in table offset
 in_its_table g l1 image offset table cluster same named loaded = rw (named, loaded, same) refl
 
-pub refused_table : (g : Geometry) (l1 : List ℕ) (image : Image) (offset : ℕ) (cluster : HostCluster) (fault : Fault)
-    → l2_cluster g.cluster_bits l1 (offset / 2 ^ g.cluster_bits) ≡ Some cluster → loaded_l2_table g cluster image ≡ Err fault
-    → contents_of g l1 image offset ≡ Err fault
-refused_table g l1 image offset cluster fault named refused = rw (named, refused) refl
-
 pub piece_in_image : (g : Geometry) (l1 : List ℕ) (image : Image) (size from : ℕ) (table : TableState) (cluster : HostCluster) (piece : Content × ℕ) → table.geometry ≡ g
     → l2_cluster g.cluster_bits l1 (from / 2 ^ g.cluster_bits) ≡ Some cluster → loaded_l2_table g cluster image ≡ Ok table.numbers
     → IsPiece (contents_in table) size from piece → AreInOneTable g.cluster_bits from piece.1
@@ -219,27 +170,13 @@ piece_in_image g l1 image size from table cluster piece same named loaded told i
       in_its_table g l1 image (from + n) table cluster same here loaded ∙ told.2 n below,
 )
 
-pub gap_in_image : (g : Geometry) (l1 : List ℕ) (image : Image) (size from to : ℕ) → from < to → to ≤ size → HasNoTable g.cluster_bits l1 from to
-    → IsPiece (contents_of g l1 image) size from (Absent, to)
-gap_in_image g l1 image size from to some within none = (
-  some,
-  within,
-  λ n below.
-      rw (none (from + n) (omega arith) (omega (arith, below))) refl,
-)
-
 -- what an answer that is `Ok` leads to
 pub ok_and_then : {T E : Type 0} (P Q : T → Type 0) (R : E → Type 0) (result : Result T E) → IsOkAnd result P → ((value : T) → P value → Q value) → MatchResult result Q R
-ok_and_then P Q R (Ok value) holds leads = leads value holds
-ok_and_then P Q R (Err error) holds leads = absurd holds
+ok_and_then P Q R result holds leads = grind (arith, holds, leads)
 
 -- a piece and one that goes on from it
 moved_twice : (m n : ℕ) (content : Content) → moved_on n (moved_on m content) ≡ moved_on (m + n) content
-moved_twice m n (Data offset) = let same : offset.0 + m + n ≡ offset.0 + (m + n) = omega arith in rw same refl
-moved_twice m n Zeros = refl
-moved_twice m n (AllocatedZeros offset) = let same : offset.0 + m + n ≡ offset.0 + (m + n) = omega arith in rw same refl
-moved_twice m n Compressed = refl
-moved_twice m n Absent = refl
+moved_twice m n content = grind arith
 
 pub pieces_join : (contents : Contents) (from middle to : ℕ) (content next : Content) → from < middle → middle < to
     → ReadAsOne contents from (middle - from) content → next ≡ moved_on (middle - from) content → ReadAsOne contents middle (to - middle) next
@@ -262,26 +199,12 @@ shift_fits cb high =
 
 -- where an extent ends
 moved_nowhere : (content : Content) → moved_on 0 content ≡ content
-moved_nowhere (Data offset) = let same : offset.0 + 0 ≡ offset.0 = omega arith in rw same refl
-moved_nowhere Zeros = refl
-moved_nowhere (AllocatedZeros offset) = let same : offset.0 + 0 ≡ offset.0 = omega arith in rw same refl
-moved_nowhere Compressed = refl
-moved_nowhere Absent = refl
+moved_nowhere content = grind arith
 
 piece_begins : (contents : Contents) (size from : ℕ) (piece : Content × ℕ) → IsPiece contents size from piece → contents from ≡ Ok piece.0
 piece_begins contents size from piece told =
     let place : from + 0 ≡ from = omega arith in
     rw (place, moved_nowhere piece.0) at (told.2 0 (omega (arith, told.0)))
-
-pub extent_to_the_end : (contents : Contents) (size start : ℕ) (found : Content × ℕ) → start < found.1 → found.1 ≤ size → size ≤ found.1 → ReadAsOne contents start (found.1 - start) found.0
-    → IsExtent contents size start (extent_of start found)
-extent_to_the_end contents size start found some within last reads = record {
-  start = refl;
-  some = omega (arith, some);
-  within = omega (arith, some, within);
-  reads = reads;
-  ends = λ more. absurd (omega (arith, more, last, some));
-}
 
 pub extent_that_ends : (contents : Contents) (size start : ℕ) (found : Content × ℕ) (next : Content × ℕ) → start < found.1 → found.1 ≤ size → ReadAsOne contents start (found.1 - start) found.0
     → IsPiece contents size found.1 next → (next.0 ≡ moved_on (found.1 - start) found.0 → ⊥) → IsExtent contents size start (extent_of start found)
@@ -306,13 +229,6 @@ refused_at_start contents size start fault within refused =
     let at : start + 0 ≡ start = omega arith in
     (0, Absent, omega (arith, within), λ n none. absurd (omega (arith, none)), rw at refused)
 
--- a piece that was refused, as the extent's refusal
-pub refusal_of_piece : (contents : Contents) (size start end : ℕ) (fault : Fault) → (contents end ≡ Err fault → IsRefusedFrom contents size start fault)
-    → (fault ≡ Storage) ⊎ (fault ≡ NoMemory) ⊎ (contents end ≡ Err fault) → RefusesExtent contents size start fault
-refusal_of_piece contents size start end fault refuses (inl storage) = inl storage
-refusal_of_piece contents size start end fault refuses (inr (inl memory)) = inr (inl memory)
-refusal_of_piece contents size start end fault refuses (inr (inr bad)) = inr (inr (refuses bad))
-
 -- what holds of an image by a reader holds later too, where both stay
 pub carried : (old new : Image) (reader later : ExtentsState) (P : Contents → ℕ → Type 0) → later ≡ record reader { table = later.table } → new ≡ old
     → P (contents_for later new) later.header.v2.size → P (contents_for reader old) reader.header.v2.size
@@ -326,36 +242,14 @@ size_stays reader later same = ap (λ (r : ExtentsState). r.header.v2.size) same
 pub stays_twice : (old new : StorageState) (first second third : ExtentsState) → OnlyReads {T = ℕ} (Ok 0) old new → StaysReader old first second → StaysReader new second third → StaysReader old first third
 stays_twice old new first second third reads one other = record {
   same = other.same ∙ ap (λ (r : ExtentsState). record r { table = third.table }) one.same;
-  kept = λ told. kept_in old.byte_at new.byte_at third reads.bytes (other.kept (reads.device.tells ∙ told));
+  kept = λ told. subst (λ (image : Image). KeepsTableOf image third) reads.bytes (other.kept (reads.device.tells ∙ told));
 }
-  where
-    kept_in : (before after : Image) (reader : ExtentsState) → after ≡ before → KeepsTableOf after reader → KeepsTableOf before reader
-    kept_in before after reader same holds = subst (λ (image : Image). KeepsTableOf image reader) same holds
 
 -- reads that were answered, whatever the answer
 pub reads_any : {A B : Type 0} (value : A) (other : B) (old new : StorageState) → OnlyReads (Ok value) old new → OnlyReads (Ok other) old new
 reads_any value other old new reads = record { told = (λ failed. cc, λ moved. let failed = reads.told.1 moved in cc); bytes = reads.bytes; device = reads.device }
 
 -- extents are determined by where they begin
-abbrev extent_with : ℕ → ℕ → Content → Extent
-extent_with start length content = record { start = record { 0 = start }; length = length; content = content }
-
-same_extent : (one other : Extent) → one.start.0 ≡ other.start.0 → one.length ≡ other.length → one.content ≡ other.content → one ≡ other
-same_extent one other starts lengths contents =
-    ap (λ (s : ℕ). extent_with s one.length one.content) starts
-    ∙ ap (λ (n : ℕ). extent_with other.start.0 n one.content) lengths
-    ∙ ap (λ (c : Content). extent_with other.start.0 other.length c) contents
-
--- what an offset reads as is one content, and no fault
-abbrev told : Content → Result Content Fault
-told content = Ok content
-
-told_once : (x y : Content) → told x ≡ told y → x ≡ y
-told_once x y same = cc
-
-told_or_refused : (x : Content) (fault : Fault) → told x ≡ Err fault → ⊥
-told_or_refused x fault same = cc
-
 extent_begins : (contents : Contents) (size from : ℕ) (extent : Extent) → IsExtent contents size from extent → contents from ≡ Ok extent.content
 extent_begins contents size from extent is =
     let place : from + 0 ≡ from = omega arith in
@@ -366,19 +260,18 @@ no_shorter : (contents : Contents) (size from length : ℕ) (content : Content) 
 no_shorter contents size from length content extent is same reads within less =
     let differs = is.ends (omega (arith, within, less)) in
     let known : contents (from + extent.length) ≡ Ok (moved_on extent.length extent.content) = rw same (reads extent.length less) in
-    differs.2 (told_once _ _ (sym differs.1 ∙ known))
+    let told : Ok differs.0 ≡ Ok (moved_on extent.length extent.content) = sym differs.1 ∙ known in
+    differs.2 (cc told)
 
 pub extent_once : (contents : Contents) (size from : ℕ) (one other : Extent) → IsExtent contents size from one → IsExtent contents size from other → one ≡ other
 extent_once contents size from one other first second =
-    let content : one.content ≡ other.content = told_once _ _ (sym (extent_begins contents size from one first) ∙ extent_begins contents size from other second) in
-    let lengths : one.length ≡ other.length = elim (cases_lt one.length other.length) [
-      | inl less ↦ absurd (no_shorter contents size from other.length other.content one first content second.reads second.within less)
-      | inr more ↦ elim (cases_lt other.length one.length) [
-        | inl less ↦ absurd (no_shorter contents size from one.length one.content other second (sym content) first.reads first.within less)
-        | inr least ↦ omega (arith, more, least)
-      ]
-    ] in
-    same_extent one other (first.start ∙ sym second.start) lengths content
+    let told : Ok one.content ≡ Ok other.content = sym (extent_begins contents size from one first) ∙ extent_begins contents size from other second in
+    let content : one.content ≡ other.content = cc told in
+    let starts : one.start.0 ≡ other.start.0 = first.start ∙ sym second.start in
+    let least = no_shorter contents size from other.length other.content one first content second.reads second.within in
+    let most = no_shorter contents size from one.length one.content other second (sym content) first.reads first.within in
+    let length : one.length ≡ other.length = omega (arith, least, most) in
+    λ i. record { start = record { 0 = starts i }; length = length i; content = content i }
 
 -- a disk has one map
 pub map_once : (contents : Contents) (size from : ℕ) (xs ys : List Extent) → AreExtents contents size from xs size → AreExtents contents size from ys size → xs ≡ ys
@@ -390,24 +283,6 @@ map_once contents size from (x ∷ xs) (y ∷ ys) one other =
     let rest : AreExtents contents size (from + x.length) ys size = subst (λ (e : Extent). AreExtents contents size (from + e.length) ys size) (sym same) other.1 in
     let tails = map_once contents size (from + x.length) xs ys one.1 rest in
     rw (same, tails) refl
-
--- where an extent begins no fault is told
-pub extent_or_refusal : (contents : Contents) (size from : ℕ) (extent : Extent) (fault : Fault) → IsExtent contents size from extent → IsRefusedFrom contents size from fault → ⊥
-extent_or_refusal contents size from extent fault is refused = elim (cases_lt refused.0 extent.length) [
-  | inl inside ↦ let known = is.reads refused.0 inside in let refusal = refused.4 in told_or_refused _ fault (sym known ∙ refusal)
-  | inr past ↦ elim (cases_lt extent.length refused.0) [
-    | inl before ↦
-        let place : from + 0 ≡ from = omega arith in
-        let begins : contents from ≡ Ok refused.1 = rw (place, moved_nowhere refused.1) at (refused.3 0 (omega (arith, before))) in
-        let own = extent_begins contents size from extent is in
-        no_shorter contents size from refused.0 refused.1 extent is (told_once _ _ (sym own ∙ begins)) refused.3 (omega (arith, refused.2)) before
-    | inr least ↦
-        let end : refused.0 ≡ extent.length = omega (arith, past, least) in
-        let differs = is.ends (omega (arith, refused.2, end)) in
-        let refusal : contents (from + extent.length) ≡ Err fault = rw end at refused.4 in
-        told_or_refused _ fault (sym differs.1 ∙ refusal)
-  ]
-]
 
 -- extents, and one more
 pub extents_more : (contents : Contents) (size from to : ℕ) (extents : List Extent) (extent : Extent) → AreExtents contents size from extents to → IsExtent contents size to extent

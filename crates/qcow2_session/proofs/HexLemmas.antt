@@ -1,8 +1,7 @@
-use Rattle.std.proofs.Common.{◌≡◌, ℕ, zero, suc, ◌+◌, ◌/◌, ◌%◌, ◌^◌, ◌<◌, ◌≤◌, Bool, true, false, ◌&&◌, ◌==◌, if◌then◌else◌, List, [], ◌∷◌, ◌++◌, length, inl, inr, ap, refl, sym, ◌∙◌, append_assoc, length-append, arith, codes, slice_index}
-use Rattle.std.proofs.Math.Bool.{and-eq-true_iff}
-use Rattle.std.proofs.lemmas.Bool.{cases_lt}
+use Rattle.std.proofs.Common.{◌≡◌, ℕ, zero, suc, ◌+◌, ◌/◌, ◌%◌, ◌^◌, ◌<◌, ◌≤◌, Bool, true, false, ◌&&◌, ◌==◌, List, [], ◌∷◌, ◌++◌, length, ap, refl, sym, ◌∙◌, append_assoc, length-append, length-set, arith, codes, slice_index}
 use Rattle.std.proofs.lemmas.Bool.Decides.{nat_tests}
 use Rattle.std.proofs.lemmas.Fmt.{hex_one_digit}
+use Rattle.std.proofs.lemmas.List.{drop-set}
 use Rattle.std.specs.Fmt.{digit_glyph, digits, digits_onto}
 
 -- the last k hexadecimal digits of n at most, followed by others
@@ -14,33 +13,20 @@ glyph n = digit_glyph false (n % 16)
 
 -- a number of one digit, and one of more
 onto-last : (k n : ℕ) (acc : List ℕ) → n < 16 → onto (suc k) n acc ≡ glyph n ∷ acc
-onto-last k n acc small =
-    let one : (n / 16 == 0) ≡ true = grind (arith, nat_tests) in
-    ap (λ (b : Bool). if b then glyph n ∷ acc else onto k (n / 16) (glyph n ∷ acc)) one
+onto-last k n acc small = grind (arith, nat_tests)
 
 onto-more : (k n : ℕ) (acc : List ℕ) → 16 ≤ n → onto (suc k) n acc ≡ onto k (n / 16) (glyph n ∷ acc)
-onto-more k n acc large =
-    let more : (n / 16 == 0) ≡ false = grind (arith, nat_tests) in
-    ap (λ (b : Bool). if b then glyph n ∷ acc else onto k (n / 16) (glyph n ∷ acc)) more
+onto-more k n acc large = grind (arith, nat_tests)
 
 onto-append : (k n : ℕ) (acc : List ℕ) → onto k n acc ≡ onto k n [] ++ acc
 onto-append zero n acc = refl
-onto-append (suc k) n acc = elim (cases_lt n 16) [
-  | inl small ↦ onto-last k n acc small ∙ ap (λ x. x ++ acc) (sym (onto-last k n [] small))
-  | inr large ↦ onto-more k n acc large ∙ onto-append k (n / 16) (glyph n ∷ acc)
-      ∙ sym (append_assoc (onto k (n / 16) []) (glyph n ∷ []) acc)
-      ∙ ap (λ x. x ++ acc) (sym (onto-more k n [] large ∙ onto-append k (n / 16) (glyph n ∷ [])))
-]
+onto-append (suc k) n acc = grind (arith, nat_tests, onto-append k (n / 16) (glyph n ∷ acc), onto-append k (n / 16) (glyph n ∷ []), append_assoc {A = ℕ})
 
 -- how many digits there may be doesn't matter where they are enough
 onto-enough : (j k n : ℕ) (acc : List ℕ) → n < 16 ^ suc j → n < 16 ^ suc k → onto (suc j) n acc ≡ onto (suc k) n acc
 onto-enough zero k n acc p q = onto-last zero n acc (omega arith) ∙ sym (onto-last k n acc (omega arith))
 onto-enough (suc j) zero n acc p q = onto-last (suc j) n acc (omega arith) ∙ sym (onto-last zero n acc (omega arith))
-onto-enough (suc j) (suc k) n acc p q = elim (cases_lt n 16) [
-  | inl small ↦ onto-last (suc j) n acc small ∙ sym (onto-last (suc k) n acc small)
-  | inr large ↦ onto-more (suc j) n acc large ∙ onto-enough j k (n / 16) (glyph n ∷ acc) (omega arith) (omega arith)
-      ∙ sym (onto-more (suc k) n acc large)
-]
+onto-enough (suc j) (suc k) n acc p q = grind (arith, nat_tests, onto-enough j k (n / 16) (glyph n ∷ acc) (omega arith) (omega arith))
 
 hex-onto : (n : ℕ) → digits 16 false n ≡ onto 64 n []
 unfolding digits
@@ -55,18 +41,13 @@ hex-step n large small = hex-onto n ∙ onto-more 63 n [] large
 pub hex-longer : (n : ℕ) → 16 ≤ n → n < 2 ^ 64 → length (digits 16 false n) ≡ length (digits 16 false (n / 16)) + 1
 hex-longer n large small = ap length (hex-step n large small) ∙ length-append (digits 16 false (n / 16)) (glyph n ∷ [])
 
--- that of a number of one digit
-pub hex-one : (n : ℕ) → n < 16 → digits 16 false n ≡ digit_glyph false n ∷ []
-hex-one n small = hex_one_digit false n small
+-- how many digits there are
+hex-one : (n : ℕ) → n < 16 → length (digits 16 false n) ≡ 1
+hex-one n small = ap length (hex_one_digit false n small)
 
 hex-length : (k n : ℕ) → n < 16 ^ suc k → n < 2 ^ 64 → length (digits 16 false n) ≤ suc k
-hex-length zero n fits small = omega (arith, ap length (hex-one n (omega arith)))
-hex-length (suc k) n fits small = elim (cases_lt n 16) [
-  | inl one ↦ omega (arith, ap length (hex-one n one))
-  | inr large ↦
-      let front = hex-length k (n / 16) (omega arith) (omega arith) in
-      omega (arith, front, hex-longer n large small)
-]
+hex-length zero n fits small = omega (arith, hex-one n (omega arith))
+hex-length (suc k) n fits small = grind (arith, hex-one n, hex-length k (n / 16), hex-longer n)
 
 -- a number of 64 bits has 16 digits at most
 pub hex_short : (n : ℕ) → n < 2 ^ 64 → length (digits 16 false n) ≤ 16
@@ -82,12 +63,10 @@ are_glyphs (suc d) = (slice_index hex_digits d == digit_glyph false d) && are_gl
 
 glyph-below : (n d : ℕ) → are_glyphs n ≡ true → d < n → slice_index hex_digits d ≡ digit_glyph false d
 glyph-below zero d all below = absurd (omega arith)
-glyph-below (suc n) d all below =
-    let parts = (and-eq-true_iff (slice_index hex_digits n == digit_glyph false n) (are_glyphs n)).0 all in
-    elim (cases_lt d n) [
-      | inl earlier ↦ glyph-below n d parts.1 earlier
-      | inr last ↦ let here : d ≡ n = omega arith in rw here (grind (arith, nat_tests, parts.0))
-    ]
+glyph-below (suc n) d all below = grind (arith, nat_tests, all, glyph-below n d)
 
 pub glyph_at : (d : ℕ) → d < 16 → slice_index hex_digits d ≡ digit_glyph false d
 glyph_at d below = glyph-below 16 d refl below
+
+-- what the digits are written by
+pub ruleset hex_written = (glyph_at, hex-longer, hex_one_digit, hex_short, hex-step, drop-set, append_assoc, length-set, length-append)

@@ -1,4 +1,4 @@
-use Rattle.std.proofs.Common.{◌≡◌, ℕ, ◌+◌, ◌-◌, ◌*◌, ◌^◌, IfSome, IsOkAnd, Option, Some, None, option_map, Result, Ok, Err, List, length, ap, subst, pow-add, sym, refl, ◌∙◌, arith}
+use Rattle.std.proofs.Common.{◌≡◌, ℕ, ◌+◌, ◌-◌, ◌*◌, ◌^◌, IfSome, IsOkAnd, Option, Some, option_map, Result, Ok, Err, List, length, ap, subst, sym, refl, ◌∙◌, arith}
 use Rattle.qcow2_base.specs.Storage.{Image, OnlyWrites, SameOutside, StorageState}
 use Rattle.qcow2_base.specs.Types.{IsClusterBits}
 use Rattle.qcow2_base.specs.declared.fault.Fault.{Fault}
@@ -11,10 +11,10 @@ use Rattle.qcow2_metadata.specs.Table.L2Guards.{RunEnd, handed_back, references,
 use Rattle.qcow2_metadata.specs.Header.{Geometry, HeaderRecord, geometry_of}
 use Rattle.qcow2_metadata.specs.Header.Grammar.{header_of}
 use Rattle.qcow2_metadata.proofs.GrammarLemmas.{header_of-is}
-use Rattle.qcow2_session.proofs.WholeImageLemmas.{balances-image, changes-own-lookups, avoids-others, stays-sound}
+use Rattle.qcow2_session.proofs.WholeImageLemmas.{balances-image, changes-own-lookups, avoids-others, full_cluster, stays-sound}
 use Rattle.qcow2_session.specs.Session.WholeImage.{ChangesL2Table, AvoidsHeaderAndL1Table, l2_bytes}
 use Rattle.qcow2_metadata.specs.Refblock.{BlockState, block_entries, block_offset}
-use Rattle.qcow2_metadata.specs.Table.{l2_kind, IsTorn, TableState, l2_table_at, loaded_l2_table, numbers_at, offset_of, place_fault, place_of}
+use Rattle.qcow2_metadata.specs.Table.{IsTorn, TableState, l2_table_at, loaded_l2_table, numbers_at, offset_of, place_of}
 use Rattle.qcow2_session.specs.Session.Edits.{Balances, edits_left, first_unfit_edit, cluster_numbers, edits_or_refusal}
 use Rattle.qcow2_session.specs.Session.Images.{EditsImage, block_in, edits_end, table_in}
 use Rattle.qcow2_session.specs.Session.Steps.{first_unfit_step, steps_or_refusal}
@@ -22,34 +22,20 @@ use Rattle.qcow2_session.specs.declared.session.edits.Edit.{Edit}
 use Rattle.qcow2_session.specs.declared.session.edits.Outcome.{Outcome}
 use Rattle.qcow2_session.specs.declared.session.steps.Step.{Step}
 
--- a value that wasn't refused
-unrefused : {T : Type 0} (refusal : Option Fault) (answer : Result T Fault) (value : T) → unless_refused refusal answer ≡ Ok value → answer ≡ Ok value
-unrefused None answer value is = is
-unrefused (Some fault) answer value is = cc
-
 -- a table that stands at a cluster has the numbers there
 standing-numbers : (g : Geometry) (cluster : HostCluster) (image : Image) (numbers : List ℕ) → loaded_l2_table g cluster image ≡ Ok numbers → numbers ≡ numbers_at (l2_table_at g cluster) image
-standing-numbers g cluster image numbers stands =
-    let decoded = unrefused (place_fault l2_kind (l2_table_at g cluster)) _ numbers stands in
-    let same = unrefused _ (Ok (numbers_at (l2_table_at g cluster) image)) numbers decoded in
-    cc
+standing-numbers g cluster image numbers stands = grind (arith, stands)
 
 -- the place of a table that fills a cluster
 place_of-full : (table : TableState) (cluster : HostCluster) → table.cluster ≡ Some cluster → length table.numbers ≡ 2 ^ (table.geometry.cluster_bits - 3) → place_of table ≡ Some (l2_table_at table.geometry cluster)
 place_of-full table cluster has full = rw (has, full) refl
-
--- so many entries are the bytes of a cluster
-full_cluster : (cb n : ℕ) → IsClusterBits cb → n ≡ 2 ^ (cb - 3) → 8 * n ≡ 2 ^ cb
-full_cluster cb n bits full =
-    let three : 3 + (cb - 3) ≡ cb = omega (arith, bits.0) in
-    rw full (sym (pow-add 2 3 (cb - 3)) ∙ ap (λ k. 2 ^ k) three)
 
 -- a write of a table that fills a cluster changes bytes of that cluster alone
 pub full-writes : (table : TableState) (cluster : HostCluster) (answer : Result (Unit {0}) Fault) (old new : StorageState) → IsClusterBits table.geometry.cluster_bits → table.cluster ≡ Some cluster → length table.numbers ≡ 2 ^ (table.geometry.cluster_bits - 3)
     → OnlyWrites answer (option_map offset_of (place_of table)) (8 * length table.numbers) old new
     → OnlyWrites answer (Some (cluster.0 * 2 ^ table.geometry.cluster_bits)) (2 ^ table.geometry.cluster_bits) old new
 full-writes table cluster answer old new bits has full writes =
-    rw (place_of-full table cluster has full, full_cluster table.geometry.cluster_bits (length table.numbers) bits full) at writes
+    rw (place_of-full table cluster has full, full, full_cluster table.geometry.cluster_bits bits.0) at writes
 
 -- where a write of a table that fills a cluster failed at a piece
 pub full-torn : (table : TableState) (cluster : HostCluster) (old new : Image) → table.cluster ≡ Some cluster → length table.numbers ≡ 2 ^ (table.geometry.cluster_bits - 3)
@@ -99,8 +85,7 @@ image-torn header cluster edits outcome after between old new g same is torn = r
 
 -- what a refusal is
 refused-by : {T : Type 0} (refusal : Option Fault) (value : T) (fault : Fault) → unless_refused refusal (Ok value) ≡ Err fault → refusal ≡ Some fault
-refused-by None value fault is = cc
-refused-by (Some first) value fault is = cc
+refused-by refusal value fault is = grind arith
 
 -- the refusal of edits that can't be made of a table is the one by its geometry and the number of its entries
 pub refused-edits : (header : HeaderRecord) (cluster : HostCluster) (table : TableState) (edits : List Edit) (image : Image) (fault : Fault)

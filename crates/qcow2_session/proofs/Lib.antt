@@ -1,12 +1,6 @@
 mod ChangingExamples
-mod CommandsExamples
-mod EditsExamples
-mod ExtentsExamples
-mod LinesExamples
 mod LookupsExamples
-mod PrintingExamples
 mod SampleImage
-mod StepsExamples
 mod WholeImageExamples
 pub mod ChangingLemmas
 pub mod CommandsLemmas
@@ -14,7 +8,6 @@ pub mod EditsLemmas
 pub mod ExtentsLemmas
 pub mod FirstLemmas
 pub mod HexLemmas
-pub mod PrintedExtentsLemmas
 pub mod ImagesLemmas
 pub mod L2TablesLemmas
 pub mod LinesLemmas

@@ -1,10 +1,11 @@
-use Rattle.std.proofs.Common.{◌≡◌, ◌≢◌, ◌⊎◌, ℕ, ◌+◌, ◌<◌, List, [], ◌∷◌, ◌++◌, append-nil, flat_map, get_or, length, take, Option, Result, Ok, Err, OnOk, IsTrue, ap, inl, inr, refl}
+use Rattle.std.proofs.Common.{◌≡◌, ◌≢◌, ◌⊎◌, ℕ, ◌+◌, ◌<◌, List, [], ◌∷◌, ◌++◌, append-nil, flat_map, take_all, get_or, length, take, Option, Result, Ok, Err, OnOk, IsTrue, ap, inl, inr, refl, arith}
 use Rattle.std.specs.Result.{IsOkUnless}
 use Rattle.std.specs.Io.KnownBytes.{Appends}
 use Rattle.std.proofs.KnownBytes.{Appends-trans}
 use Rattle.std.proofs.lemmas.Grind.{flat_map-append}
 use Rattle.std.proofs.lemmas.List.{take_more}
-use Rattle.std.proofs.lemmas.Bool.{cases_eq}
+use Rattle.std.proofs.lemmas.List.Folds.{flat_map-map}
+use Rattle.std.proofs.lemmas.Result.{IfErr-weaker, on_ok_weaker}
 use Rattle.qcow2_base.specs.Storage.{OnlyReads, SameDevice, StorageState}
 use Rattle.qcow2_base.specs.declared.fault.Fault.{Fault}
 use Rattle.qcow2_base.specs.declared.fault.Fault.TheVariants.{NoMemory, Storage}
@@ -13,25 +14,28 @@ use Rattle.qcow2_session.specs.Commands.Printing.{IsReadFault, IsRefusal, Prints
 
 -- what was printed before, and then these lines, if the print of these succeeds
 pub then_prints : {T E : Type 0} (answer : Result T E) (a b c : Option (List ℕ)) (lines more : List ℕ) → Appends a b lines → OnOk answer (Appends b c more) → OnOk answer (Appends a c (lines ++ more))
-then_prints (Ok value) a b c lines more before after = Appends-trans a b c lines more before after
-then_prints (Err error) a b c lines more before after = tt
+then_prints answer a b c lines more before after = on_ok_weaker answer (Appends-trans a b c lines more before) after
+
+-- why a call is refused, where one reason leads to another
+pub refused-as : {P Q : Type 0} (fault : Fault) → (P → Q) → (fault ≡ Storage) ⊎ (fault ≡ NoMemory) ⊎ P → (fault ≡ Storage) ⊎ (fault ≡ NoMemory) ⊎ Q
+refused-as fault leads (inl storage) = inl storage
+refused-as fault leads (inr (inl memory)) = inr (inl memory)
+refused-as fault leads (inr (inr bad)) = inr (inr (leads bad))
 
 -- the fault that is meant, want of memory, or a failed call of the image
-pub refusal-of : {V : Type 0} (fault : Fault) (meant : Result V Fault) (old new : StorageState)
-    → (IsTrue old.tells → (fault ≡ Storage) ⊎ (fault ≡ NoMemory) ⊎ (meant ≡ Err fault)) → (fault ≡ Storage → new.failures ≢ old.failures) → IsRefusal meant old new fault
-refusal-of fault meant old new refused failed told = elim (refused told) [
-  | inl storage ↦ inr (inr (storage, inl (failed storage)))
-  | inr (inl memory) ↦ inr (inl memory)
-  | inr (inr bad) ↦ inl bad
-]
-
--- the fault of a read
 pub read_fault-of : {V : Type 0} (fault : Fault) (meant : Result V Fault) (old new : StorageState)
     → (fault ≡ Storage) ⊎ (fault ≡ NoMemory) ⊎ (meant ≡ Err fault) → (fault ≡ Storage → new.failures ≢ old.failures) → IsReadFault meant old new fault
-read_fault-of fault meant old new refused failed = elim refused [
-  | inl storage ↦ inr (inr (storage, failed storage))
+read_fault-of fault meant old new (inl storage) failed = inr (inr (storage, failed storage))
+read_fault-of fault meant old new (inr (inl memory)) failed = inr (inl memory)
+read_fault-of fault meant old new (inr (inr bad)) failed = inl bad
+
+-- and of a command, whose output may fail too
+pub refusal-of : {V : Type 0} (fault : Fault) (meant : Result V Fault) (old new : StorageState)
+    → (IsTrue old.tells → (fault ≡ Storage) ⊎ (fault ≡ NoMemory) ⊎ (meant ≡ Err fault)) → (fault ≡ Storage → new.failures ≢ old.failures) → IsRefusal meant old new fault
+refusal-of fault meant old new refused failed told = elim (read_fault-of fault meant old new (refused told) failed) [
+  | inl bad ↦ inl bad
   | inr (inl memory) ↦ inr (inl memory)
-  | inr (inr bad) ↦ inl bad
+  | inr (inr (storage, moved)) ↦ inr (inr (storage, inl moved))
 ]
 
 -- what is read from the bytes is refused, so no line of it is meant
@@ -39,11 +43,7 @@ pub Prints-refused : {T A : Type 0} (fault : Fault) (read : Result A Fault) (lin
     → (IsTrue old.tells → (fault ≡ Storage) ⊎ (fault ≡ NoMemory) ⊎ (read ≡ Err fault)) → (fault ≡ Storage → new.failures ≢ old.failures) → Prints {T = T} (Err fault) (result_map lines_of read) old new a b
 Prints-refused fault read lines_of old new a b refused failed = record {
   lines = tt;
-  refused = refusal-of fault (result_map lines_of read) old new (λ told. elim (refused told) [
-    | inl storage ↦ inl storage
-    | inr (inl memory) ↦ inr (inl memory)
-    | inr (inr bad) ↦ inr (inr (ap (result_map lines_of) bad))
-  ]) failed;
+  refused = refusal-of fault (result_map lines_of read) old new (λ told. refused-as fault (ap (result_map lines_of)) (refused told)) failed;
 }
 
 -- the lines of one item more
@@ -53,12 +53,12 @@ printed-more line items i default a b c below before here =
     rw (take_more items i default below, flat_map-append line (take i items) (get_or items i default ∷ []), append-nil (line (get_or items i default)))
     (Appends-trans a b c _ _ before here)
 
+-- what lists of lines are printed by
+pub ruleset lines_printed = (printed-more, flat_map-map, take_all)
+
 -- reads that were answered leave no failure
 pub reads-calm : {T : Type 0} (value : T) (old new : StorageState) → OnlyReads (Ok value) old new → new.failures ≡ old.failures
-reads-calm value old new reads = elim (cases_eq new.failures old.failures) [
-  | inl same ↦ same
-  | inr moved ↦ let failed = reads.told.1 moved in cc
-]
+reads-calm value old new reads = grind (arith, reads.told)
 
 -- calls that printed nothing, whose fault tells whether one of the image failed
 pub last-unprinted : {T O : Type 0} (fault : Fault) (old new : StorageState) (a : O) → (new.failures ≢ old.failures → fault ≡ Storage)
@@ -68,9 +68,8 @@ last-unprinted fault old new a failed device = record { refused = λ other. refl
 -- a print that comes last, after calls of the image of which none failed
 pub last-printed : {T O : Type 0} (answer : Result T Fault) (old new : StorageState) (a b : O) → IsOkUnless answer Storage → new.failures ≡ old.failures
     → SameDevice old new → PrintsLast answer old new a b
-last-printed (Ok value) old new a b fault calm device = record { refused = tt; failed = λ moved. absurd (moved calm); device = device }
-last-printed (Err error) old new a b fault calm device = record {
-  refused = λ other. absurd (other fault);
+last-printed answer old new a b fault calm device = record {
+  refused = IfErr-weaker answer _ _ (λ error is other. absurd (other is)) fault;
   failed = λ moved. absurd (moved calm);
   device = device;
 }

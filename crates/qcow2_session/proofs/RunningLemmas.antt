@@ -1,5 +1,4 @@
-use Rattle.std.proofs.Common.{◌≡◌, ℕ, Bool, List, None, Option, Result, Ok, arith, inl, inr, refl, ◌∙◌}
-use Rattle.std.proofs.lemmas.Bool.{cases_eq}
+use Rattle.std.proofs.Common.{◌≡◌, ℕ, Bool, List, None, Option, Result, Ok, arith, ◌∙◌}
 use Rattle.qcow2_base.specs.Storage.{StorageState}
 use Rattle.qcow2_base.specs.declared.fault.Fault.{Fault}
 use Rattle.qcow2_base.specs.declared.types.HostCluster.{HostCluster}
@@ -19,21 +18,16 @@ IsOther command = (cluster_bits : ClusterBits) (cluster : HostCluster) → comma
 -- it loads the header, and the words alone tell no fault
 pub other-runs : {T : Type 0} (command : Command) (answer : Result T Fault) (old new : StorageState) (a b : Option (List ℕ)) → IsOther command
     → LoadsAndRuns command answer old new a b → Runs command answer old new a b
-other-runs (ListTable cluster_bits cluster) answer old new a b other runs = absurd (other cluster_bits cluster refl)
-other-runs command answer old new a b other runs = runs
+other-runs command answer old new a b other runs = grind (arith, other)
 
 pub other-placed : (command : Command) → IsOther command → place_fault_of command ≡ None
-other-placed (ListTable cluster_bits cluster) other = absurd (other cluster_bits cluster refl)
-other-placed command other = refl
+other-placed command other = grind (arith, other)
 
 -- what a command prints last, after the header was loaded
 pub last-after_load : {T O : Type 0} (writable : Bool) (header : HeaderRecord) (answer : Result T Fault) (old left new : StorageState) (a b : O)
     → Opens writable (Ok header) old left → PrintsLast answer left new a b → PrintsLast answer old new a b
 last-after_load writable header answer old left new a b load last =
-    let calm : left.failures ≡ old.failures = elim (cases_eq left.failures old.failures) [
-      | inl same ↦ same
-      | inr moved ↦ let failed = load.writes.told.1 moved in cc
-    ] in record {
+    let calm : left.failures ≡ old.failures = grind (arith, load.writes.told) in record {
       refused = last.refused;
       failed = λ moved. last.failed (λ same. moved (same ∙ calm));
       device = grind (arith, load.writes.device, last.device);

@@ -1,14 +1,13 @@
-use Rattle.std.proofs.Common.{◌≡◌, ℕ, suc, Bool, true, false, ◌&&◌, ◌||◌, ◌==◌, nat_lt, ◌+◌, ◌-◌, ◌<◌, ◌≤◌, if◌then◌else◌, Option, Some, None, List, [], ◌∷◌, ◌++◌, length, drop, get_or, get_or-set_same, get_or-set_other, slice_get, slice_index, slice_set, append_assoc, append-nil, ap, subst, sym, refl, ◌∙◌, inl, inr, arith}
+use Rattle.std.proofs.Common.{◌≡◌, ℕ, suc, Bool, true, false, ◌&&◌, ◌||◌, ◌==◌, nat_lt, ◌+◌, ◌-◌, ◌<◌, ◌≤◌, if◌then◌else◌, Option, Some, None, List, [], ◌∷◌, ◌++◌, length, drop, get_or, get_or-set_same, get_or-set_other, slice_get, slice_index, slice_set, append_assoc, append-nil, ap, subst, sym, refl, ◌∙◌, arith}
 use Rattle.std.proofs.Math.Bool.{or_assoc}
 use Rattle.std.proofs.Math.Seq.{drop-cons}
-use Rattle.std.proofs.lemmas.Bool.{cases_eq}
 use Rattle.std.proofs.lemmas.Bool.Decides.{nat_tests}
 use Rattle.std.proofs.lemmas.List.{drop_all, length-set, set-get_or, set-set}
-use Rattle.std.proofs.lemmas.Option.{none-some}
+use Rattle.std.proofs.lemmas.List.Sums.{AllPass-from_list_all}
 use Rattle.std.specs.List.{list_all}
 use Rattle.qcow2_metadata.specs.Refblock.{BlockState, greatest_counter}
 use Rattle.qcow2_metadata.specs.Refblock.Guard.{after_change, stepped}
-use Rattle.qcow2_session.proofs.FirstLemmas.{all_pass, each_passes}
+use Rattle.qcow2_session.proofs.FirstLemmas.{all_pass}
 use Rattle.qcow2_session.specs.Session.Steps.{Counts, MakesStep, StepsEnd, Undoes, are_some_done, change_of, decrements, steps_left, first_unfit_step, increments, index_of, is_done, block_left, reply_of, run_of_steps, times_made}
 use Rattle.qcow2_session.specs.declared.session.steps.Step.{Step}
 use Rattle.qcow2_session.specs.declared.session.steps.Step.TheVariants.{Dec, Inc}
@@ -27,21 +26,11 @@ pub record IsPartWay (steps : List Step) (made : ℕ) (before now : BlockState) 
   pub entries : length now.counters ≡ length before.counters
 
 length-after_change : (counters : List ℕ) (index : ℕ) (after : Option ℕ) → length (after_change counters index after) ≡ length counters
-length-after_change counters index None = refl
-length-after_change counters index (Some counter) = length-set counters index counter
-
-or_false : (a : Bool) → (a || false) ≡ (a || false || false)
-or_false true = refl
-or_false false = refl
-
-swapped : (a b c : Bool) → (a || (b || c)) ≡ (b || (a || c))
-swapped true true c = refl
-swapped true false c = refl
-swapped false b c = refl
+length-after_change counters index after = grind (arith, length-set {A = ℕ})
 
 done-more : (replies : List StepReply) (reply : StepReply) → are_some_done (replies ++ reply ∷ []) ≡ (are_some_done (reply ∷ []) || are_some_done replies)
-done-more [] reply = or_false (is_done reply)
-done-more (first ∷ replies) reply = ap (λ some. is_done first || some) (done-more replies reply) ∙ swapped (is_done first) (is_done reply || false) (are_some_done replies)
+done-more [] reply = grind arith
+done-more (first ∷ replies) reply = grind (arith, done-more replies reply)
 
 -- one more step is made
 pub part_way-next : (steps : List Step) (made : ℕ) (default : Step) (before now next : BlockState) (reply : StepReply) (replies : List StepReply) → made < length steps → IsPartWay steps made before now replies → MakesStep (get_or steps made default) reply now next → IsPartWay steps (made + 1) before next (replies ++ reply ∷ [])
@@ -81,49 +70,12 @@ all_in_bounds block steps none = all_pass (in_bounds (length block.counters)) st
 -- and so is each of them
 pub each_in_bounds : (entries : ℕ) (steps : List Step) (i : ℕ) (default : Step) → list_all (in_bounds entries) steps ≡ true → i < length steps → index_of (get_or steps i default) < entries
 each_in_bounds entries steps i default all below =
-    let passes = each_passes (in_bounds entries) steps i default all below in
+    let passes = AllPass-from_list_all (in_bounds entries) steps all i default below in
     grind (arith, nat_tests, passes)
-
-and_false : (a : Bool) → (a && false) ≡ false
-and_false true = refl
-and_false false = refl
-
-zero_either : (a : Bool) → let nothing : ℕ = 0 in (if a then nothing else nothing) ≡ nothing
-zero_either true = refl
-zero_either false = refl
-
--- a counter that is put in the place of one
-set_counts : (counters : List ℕ) (i v index more less : ℕ) → i < length counters → v + less ≡ slice_index counters i + more → slice_index (slice_set counters i v) index + (if (i == index) && true then less else 0) ≡ slice_index counters index + (if (i == index) && true then more else 0)
-set_counts counters i v index more less below change = elim (cases_eq index i) [
-  | inl same ↦
-      let set = get_or-set_same counters i v 0 below in
-      rw same (grind (arith, nat_tests, set, change))
-  | inr other ↦
-      let kept = get_or-set_other counters i index v 0 other in
-      grind (arith, nat_tests, kept, other)
-]
-
-counted-inc : (counters : List ℕ) (i index : ℕ) (full : Bool) → i < length counters → slice_index (after_change counters i (if full then None else Some (slice_index counters i + 1))) index + 0 ≡ slice_index counters index + (if (i == index) && is_done (reply_of (if full then None else Some (slice_index counters i + 1)) (slice_index counters i)) then 1 else 0)
-counted-inc counters i index true below = rw and_false refl
-counted-inc counters i index false below = rw zero_either at (set_counts counters i (slice_index counters i + 1) index 1 0 below (omega arith))
-
-counted-dec : (counters : List ℕ) (i index : ℕ) (none : Bool) → (slice_index counters i == 0) ≡ none → i < length counters → slice_index (after_change counters i (if none then None else Some (slice_index counters i - 1))) index + (if (i == index) && is_done (reply_of (if none then None else Some (slice_index counters i - 1)) (slice_index counters i)) then 1 else 0) ≡ slice_index counters index + 0
-counted-dec counters i index true is below = rw and_false refl
-counted-dec counters i index false is below =
-    let some : slice_index counters i - 1 + 1 ≡ slice_index counters i + 0 = grind (arith, nat_tests, is) in
-    rw zero_either at (set_counts counters i (slice_index counters i - 1) index 0 1 below some)
 
 -- what a step does to each counter
 counted : (order : ℕ) (step : Step) (counters : List ℕ) (index : ℕ) → index_of step < length counters → let before = slice_index counters (index_of step) in let after = stepped order (change_of step) before in slice_index (after_change counters (index_of step) after) index + (if decrements index step && is_done (reply_of after before) then 1 else 0) ≡ slice_index counters index + (if increments index step && is_done (reply_of after before) then 1 else 0)
-counted order (Inc i) counters index below = counted-inc counters i index (slice_index counters i == greatest_counter order) below
-counted order (Dec i) counters index below = counted-dec counters i index (slice_index counters i == 0) refl below
-
-rest_in_bounds : (step : Step) (steps : List Step) (entries : ℕ) → list_all (in_bounds entries) (step ∷ steps) ≡ true → list_all (in_bounds entries) steps ≡ true
-rest_in_bounds step steps entries all = second_holds (in_bounds entries step) (list_all (in_bounds entries) steps) all
-  where
-    second_holds : (a b : Bool) → (a && b) ≡ true → b ≡ true
-    second_holds true b both = both
-    second_holds false b both = cc
+counted order step counters index below = grind (arith, nat_tests, get_or-set_same {A = ℕ}, get_or-set_other {A = ℕ})
 
 -- each counter after a run is as before it, plus the increments that were made, minus the decrements
 pub run_counts : (order : ℕ) (steps : List Step) (counters : List ℕ) (index : ℕ) → list_all (in_bounds (length counters)) steps ≡ true → slice_index (run_of_steps order steps counters).counters index + times_made (decrements index) steps (run_of_steps order steps counters).replies ≡ slice_index counters index + times_made (increments index) steps (run_of_steps order steps counters).replies
@@ -133,27 +85,8 @@ run_counts order (step ∷ steps) counters index all =
     let after = stepped order (change_of step) before in
     let below : index_of step < length counters = each_in_bounds (length counters) (step ∷ steps) 0 step all (omega arith) in
     let len = length-after_change counters (index_of step) after in
-    let rest = run_counts order steps (after_change counters (index_of step) after) index (rw len (rest_in_bounds step steps (length counters) all)) in
+    let rest = run_counts order steps (after_change counters (index_of step) after) index (rw len (grind (arith, all))) in
     omega (arith, rest, counted order step counters index below)
-
-undone_at : (counters : List ℕ) (i after : ℕ) (full : Bool) → i < length counters → (if full then None else Some (slice_index counters i + 1)) ≡ Some after →
-    let before = slice_index counters i in
-    let first : Option ℕ = if full then None else Some (before + 1) in
-    let between = after_change counters i first in
-    let second : Option ℕ = if slice_index between i == 0 then None else Some (slice_index between i - 1) in
-    let end : StepsEnd = record { counters = after_change between i second; replies = reply_of first before ∷ reply_of second (slice_index between i) ∷ [] } in
-    end ≡ record { counters = counters; replies = Done before ∷ Done (before + 1) ∷ [] }
-undone_at counters i after true below made = absurd (none-some after made)
-undone_at counters i after false below made =
-    let before = slice_index counters i in
-    let at : slice_index (slice_set counters i (before + 1)) i ≡ before + 1 = get_or-set_same counters i (before + 1) 0 below in
-    let some : (before + 1 == 0) ≡ false = grind (arith, nat_tests) in
-    let back : before + 1 - 1 ≡ before = omega arith in
-    let same : slice_set (slice_set counters i (before + 1)) i before ≡ counters = set-set counters i (before + 1) before ∙ set-get_or counters i 0 in
-    rw (at, some, back, same) refl
-
-abbrev two_done : List ℕ → ℕ → StepsEnd
-two_done counters before = record { counters = counters; replies = Done before ∷ Done (before + 1) ∷ [] }
 
 -- an increment that was made, as the first reply says, is undone by a decrement right after it
 undone_first : (counters : List ℕ) (i before : ℕ) (full : Bool) → i < length counters →
@@ -165,7 +98,11 @@ undone_first : (counters : List ℕ) (i before : ℕ) (full : Bool) → i < leng
 undone_first counters i before true below made = cc
 undone_first counters i before false below made =
     let is : slice_index counters i ≡ before = cc in
-    undone_at counters i (slice_index counters i + 1) false below refl ∙ ap (two_done counters) is
+    let at : slice_index (slice_set counters i (before + 1)) i ≡ before + 1 = get_or-set_same counters i (before + 1) 0 below in
+    let some : (before + 1 == 0) ≡ false = grind (arith, nat_tests) in
+    let back : before + 1 - 1 ≡ before = omega arith in
+    let same : slice_set (slice_set counters i (before + 1)) i before ≡ counters = set-set counters i (before + 1) before ∙ rw is at (set-get_or counters i 0) in
+    rw (is, at, some, back, same) refl
 
 run-undoes : (steps : List Step) (replies : List StepReply) (old new : BlockState) → list_all (in_bounds (length old.counters)) steps ≡ true → new.refcount_order ≡ old.refcount_order → steps_left new replies ≡ run_of_steps old.refcount_order steps old.counters → Undoes steps replies old new
 run-undoes steps replies old new all order run = λ index before is made.
@@ -196,22 +133,12 @@ counts-same steps replies old new before after counts same_old same_new order_ol
 -- where no step is made, the counters stay
 pub run-idle : (order : ℕ) (steps : List Step) (counters : List ℕ) → are_some_done (run_of_steps order steps counters).replies ≡ false → (run_of_steps order steps counters).counters ≡ counters
 run-idle order [] counters idle = refl
-run-idle order (step ∷ steps) counters idle =
-    let before = slice_index counters (index_of step) in
-    by_first (stepped order (change_of step) before) before (run-idle order steps counters) idle
-  where
-    by_first : (after : Option ℕ) (before : ℕ) → (are_some_done (run_of_steps order steps counters).replies ≡ false → (run_of_steps order steps counters).counters ≡ counters) → (is_done (reply_of after before) || are_some_done (run_of_steps order steps (after_change counters (index_of step) after)).replies) ≡ false → (run_of_steps order steps (after_change counters (index_of step) after)).counters ≡ counters
-    by_first None before rest idle = rest idle
-    by_first (Some counter) before rest idle = cc
-
-neither : (a b : Bool) → (a || b) ≡ false → a ≡ false
-neither true b none = cc
-neither false b none = refl
+run-idle order (step ∷ steps) counters idle = grind (arith, nat_tests, idle, run-idle order steps counters)
 
 -- and so do those of a block that isn't modified
 pub block-idle : (steps : List Step) (replies : List StepReply) (old new : BlockState) → steps_left new replies ≡ run_of_steps old.refcount_order steps old.counters → new ≡ block_left replies old new.counters → new.modified ≡ false → new.counters ≡ old.counters
 block-idle steps replies old new run left unmodified =
     let none : (are_some_done replies || old.modified) ≡ false = sym (ap (λ (block : BlockState). block.modified) left) ∙ unmodified in
     let made : replies ≡ (run_of_steps old.refcount_order steps old.counters).replies = ap (λ (end : StepsEnd). end.replies) run in
-    let idle = subst (λ replies. are_some_done replies ≡ false) made (neither (are_some_done replies) old.modified none) in
+    let idle = subst (λ replies. are_some_done replies ≡ false) made (grind (arith, none)) in
     ap (λ (end : StepsEnd). end.counters) run ∙ run-idle old.refcount_order steps old.counters idle

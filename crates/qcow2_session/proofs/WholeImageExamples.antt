@@ -1,12 +1,10 @@
-use Rattle.std.proofs.Common.{◌≡◌, ℕ, ◌+◌, ◌∷◌, ◌++◌, [], List, map, false, true, Result, Ok, refl}
+use Rattle.std.proofs.Common.{◌≡◌, ℕ, ◌∷◌, ◌++◌, [], List, map, false, true, Result, Ok, refl}
 use Rattle.qcow2_base.specs.declared.fault.Fault.{Fault}
-use Rattle.qcow2_metadata.specs.Table.L2Guards.{handed_back, times_gained}
 use Rattle.qcow2_metadata.specs.Entries.L2Mapping.{Mapping, backing, data_file}
 use Rattle.qcow2_metadata.specs.Header.{geometry}
-use Rattle.qcow2_metadata.specs.declared.entries.ClustersToFreeEntry.{ClustersToFreeEntry}
 use Rattle.qcow2_session.proofs.SampleImage.{Part, byte, computing, entry, laid, sample}
 use Rattle.qcow2_session.specs.Session.Lookups.{image_mapping}
-use Rattle.qcow2_session.specs.Session.WholeImage.{image_references, l2_clusters}
+use Rattle.qcow2_session.specs.Session.WholeImage.{image_references}
 
 -- what the cluster of an offset reads as with these changes of the sample image, one list of them after another
 abbrev with_changes : ℕ → List (List Part) → List (Result Mapping Fault)
@@ -16,15 +14,9 @@ with_changes offset changes = map (λ parts. image_mapping offset (laid (parts +
 abbrev two_tables : List Part
 two_tables = byte 39 2 ++ entry 520 0x80 0x08 0 ++ entry 2048 0x80 0x0e 0
 
-abbrev l1 : List ℕ
-l1 = 0x8000000000000400 ∷ 0x8000000000000800 ∷ []
-
 -- the first L2 table's entry 3 is mapped to cluster 6, where it was mapped to cluster 5
 abbrev edited : List Part
 edited = entry 1048 0x80 0x0c 0 ++ two_tables
-
-pub two_clusters : l2_clusters 9 l1 ≡ record { 0 = 2 } ∷ record { 0 = 4 } ∷ []
-two_clusters = refl
 
 -- the edited table's offset reads as the edit says, and the other table's reads the same
 pub own_offset : with_changes 1543 (two_tables ∷ edited ∷ []) ≡ Ok (data_file 5 true) ∷ Ok (data_file 6 true) ∷ []
@@ -35,34 +27,13 @@ pub other_offset : with_changes 32768 (two_tables ∷ edited ∷ []) ≡ Ok (dat
 unfolding computing
 other_offset = refl
 
--- references to a cluster in the whole image, before and after
-abbrev before : ℕ → ℕ
-before = image_references (geometry 9 false) l1 (laid (two_tables ++ sample))
+-- references to clusters 5, 6 and 7 in the whole image: cluster 5 is handed back, 6 gains one, and 7 keeps its own
+abbrev referred : List Part → List ℕ
+referred parts = map (image_references (geometry 9 false) (0x8000000000000400 ∷ 0x8000000000000800 ∷ []) (laid (parts ++ sample))) (5 ∷ 6 ∷ 7 ∷ [])
 
-abbrev after : ℕ → ℕ
-after = image_references (geometry 9 false) l1 (laid (edited ++ sample))
-
--- cluster 5 was handed back, cluster 6 gained a reference, and cluster 7 keeps its own
-abbrev freed : List ClustersToFreeEntry
-freed = record { first = record { 0 = 5 }; count = record { 0 = 1 } } ∷ []
-
-abbrev gained : List ℕ
-gained = 6 ∷ []
-
-abbrev clusters : List ℕ
-clusters = 5 ∷ 6 ∷ 7 ∷ []
-
-pub balance : map (λ c. after c + handed_back freed c) clusters ≡ map (λ c. before c + times_gained gained c) clusters
+pub references : map referred (two_tables ∷ edited ∷ []) ≡ (1 ∷ 0 ∷ 1 ∷ []) ∷ (0 ∷ 1 ∷ 1 ∷ []) ∷ []
 unfolding computing
-balance = refl
-
-pub references_before : map before clusters ≡ 1 ∷ 0 ∷ 1 ∷ []
-unfolding computing
-references_before = refl
-
-pub references_after : map after clusters ≡ 0 ∷ 1 ∷ 1 ∷ []
-unfolding computing
-references_after = refl
+references = refl
 
 -- why an offset's own L2 table has to share no byte with the edited one: the second L1 entry names that table too, and
 -- its offset, in which nothing was edited, reads as the edit says

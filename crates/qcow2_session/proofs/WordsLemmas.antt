@@ -1,21 +1,18 @@
-use Rattle.std.proofs.Common.{◌≡◌, ℕ, zero, suc, ◌+◌, ◌<◌, List, [], ◌∷◌, ◌++◌, get_or, length, map, take, Option, Some, None, add-one, ap, refl, arith}
+use Rattle.std.proofs.Common.{◌≡◌, ℕ, zero, suc, ◌+◌, ◌<◌, List, [], ◌∷◌, ◌++◌, get_or, length, length-append, map, take, Option, Some, None, add-one, ap, refl, arith}
 use Rattle.std.specs.Option.{IsSome}
 use Rattle.qcow2_session.specs.Commands.Words.{all_of, both}
 
 -- what was put together, by its parts
 both-parts : {T : Type 0} (one : Option T) (other : Option (List T)) (all : List T) → both (λ first rest. first ∷ rest) one other ≡ Some all
     → (first : T) × (rest : List T) × (one ≡ Some first) × (other ≡ Some rest) × (all ≡ first ∷ rest)
-both-parts (Some first) (Some rest) all is = (first, rest, refl, refl, cc)
-both-parts (Some first) None all is = cc
-both-parts None other all is = cc
+both-parts one other all is = grind arith
 
 both-more : {T : Type 0} (one : Option T) (other : Option (List T)) (first : T) (rest all : List T) (last : T) → one ≡ Some first → other ≡ Some (rest ++ last ∷ [])
     → all ≡ first ∷ rest → both (λ first rest. first ∷ rest) one other ≡ Some (all ++ last ∷ [])
 both-more one other first rest all last is more whole = rw (is, more, whole) refl
 
 both-none : {A B C : Type 0} (join : A → B → C) (one : Option A) → both join one None ≡ None
-both-none join (Some value) = refl
-both-none join None = refl
+both-none join one = grind arith
 
 -- a word more says something
 pub said-more : {X T : Type 0} (said : List ℕ → Option T) (bytes : X → List ℕ) (words : List X) (i : ℕ) (default : X) (items : List T) (found : T) → i < length words
@@ -37,8 +34,7 @@ pub said-none : {X T : Type 0} (said : List ℕ → Option T) (bytes : X → Lis
 said-none said bytes [] i default below here = absurd (omega (arith, below))
 said-none said bytes (x ∷ xs) zero default below here = rw here refl
 said-none said bytes (x ∷ xs) (suc i) default below here =
-    let rest = said-none said bytes xs i default (omega (arith, below)) here in
-    rw rest (both-none (λ first more. first ∷ more) (said (bytes x)))
+    rw (said-none said bytes xs i default (omega (arith, below)) here) (both-none (λ first more. first ∷ more) (said (bytes x)))
 
 -- and where the list of what they say isn't known, they still say something
 pub said-kept : {X T : Type 0} (said : List ℕ → Option T) (bytes : X → List ℕ) (words : List X) (i : ℕ) (default : X) (found : T) → i < length words
@@ -49,3 +45,6 @@ said-kept {X} {T} said bytes words i default found below before here = kept-by (
     kept-by : (items : Option (List T)) → all_of said (map bytes (take i words)) ≡ items → IsSome items → IsSome (all_of said (map bytes (take (i + 1) words)))
     kept-by (Some items) is some = rw (said-more said bytes words i default items found below is here) some
     kept-by None is some = cc
+
+-- what the words so far say, and the next one
+pub ruleset said = (said-kept, said-more, said-none, length-append)

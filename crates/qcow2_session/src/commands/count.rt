@@ -39,6 +39,7 @@ pub fn count_references<S: Storage, O: Write>(
 }
 
 // Prints the line of each reply.
+#[tactic(auto, using(crate::proofs::PrintingLemmas::lines_printed))]
 fn print_replies<O: Write>(replies: &[StepReply], out: &mut O) -> Result<(), Fault>
     ensures fault { IsOkUnless result Fault.Storage }
     ensures lines { OnOk result

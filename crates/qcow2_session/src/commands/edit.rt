@@ -69,6 +69,7 @@ fn print_outcome<O: Write>(outcome: &Outcome, out: &mut O) -> Result<(), Fault>
 }
 
 // Prints the line of each range of clusters that lost a reference.
+#[tactic(auto, using(crate::proofs::PrintingLemmas::lines_printed))]
 fn print_freed<O: Write>(freed: &[ClustersToFreeEntry], out: &mut O) -> Result<(), Fault>
     ensures fault { IsOkUnless result Fault.Storage }
     ensures lines { OnOk result
@@ -91,6 +92,7 @@ fn print_freed_range<O: Write>(clusters: ClustersToFreeEntry, out: &mut O) -> Re
 }
 
 // Prints the line of each cluster that gained a reference.
+#[tactic(auto, using(crate::proofs::PrintingLemmas::lines_printed))]
 fn print_gained<O: Write>(gained: &[HostCluster], out: &mut O) -> Result<(), Fault>
     ensures fault { IsOkUnless result Fault.Storage }
     ensures lines { OnOk result

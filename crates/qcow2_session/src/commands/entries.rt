@@ -22,6 +22,7 @@ pub(super) enum Label {
 
 /// Prints the lines of the L2 table of the L1 entry at an index, one for each entry that isn't left to the
 /// backing file.
+#[tactic(auto, using(crate::proofs::CommandsLemmas::table_printed))]
 pub(super) fn print_entries<O: Write>(
     table: &L2Table,
     l1_index: usize,

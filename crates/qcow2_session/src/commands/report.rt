@@ -55,6 +55,7 @@ fn write_line<E: Write>(line: &str, err: &mut E)
 }
 
 // Writes bytes until all are written or a write fails, and answers how many were.
+#[tactic(auto, using(crate::proofs::ReportLemmas::appends_more))]
 fn write_out<E: Write>(bytes: &[u8], err: &mut E) -> usize
     ensures bound { result ≤ length bytes.now }
     ensures bytes { Appends (E.contents err.old) (E.contents err.new) (take result bytes.now) }

@@ -42,6 +42,7 @@ impl<T> Changes<T> {
 
 impl<T: Said> Changes<T> {
     // The changes that words say, if each says one.
+    #[tactic(auto, using(crate::proofs::WordsLemmas::said))]
     pub(super) fn parse(alloc: Global, words: &[String]) -> Option<Result<Changes<T>, AllocError>>
         ensures { Parses result (spec.all_of T.said (map string_bytes words.now)) }
     {
@@ -60,6 +61,7 @@ impl<T: Said> Changes<T> {
 }
 
 /// The number that 1 to 20 decimal digits say, if it fits 64 bits. There is no sign.
+#[tactic(auto, using(crate::proofs::CommandsLemmas::number_of_parsed))]
 pub(super) fn number(word: &str) -> Option<u64>
     ensures { result ≡ spec.word_number word.now }
 {

@@ -70,6 +70,7 @@ impl LineBuffer {
 
     /// Puts an offset in front, as `0x` and hexadecimal digits.
     #[inline]
+    #[tactic(auto, using(crate::proofs::HexLemmas::hex_written))]
     pub(crate) fn prepend_offset(&mut self, offset: u64)
         requires { length self.old ≤ 200 }
         ensures text { self.new ≡ offset_text offset ++ self.old }
@@ -91,6 +92,7 @@ impl LineBuffer {
 }
 
 // Writes the digits of a number so that they end before an index, and answers where they start.
+#[tactic(auto, using(crate::proofs::HexLemmas::hex_written))]
 fn write_hex(number: u64, bytes: &mut [u8], end: usize) -> usize
     requires { (16 ≤ end) × (end ≤ length bytes.old) }
     ensures start { result + length (digits 16 false number) ≡ end }

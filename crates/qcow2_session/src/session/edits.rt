@@ -196,6 +196,7 @@ impl Outcome {
 }
 
 // The position of the first edit that can't be made of the table.
+#[tactic(auto, using(crate::proofs::EditsLemmas::unfit_position))]
 fn first_unfit(table: &L2Table, edits: &[Edit]) -> Option<usize>
     ensures position { result ≡ first_unfit_edit table.now edits.now }
     ensures bits { IsClusterBits table.now.geometry.cluster_bits }
@@ -247,6 +248,7 @@ fn make_edits(table: &mut L2Table, edits: &[Edit], outcome: &mut Outcome)
 ///
 /// Refuses edits that don't all fit, by the position of the first that `edits_fit` names. Takes memory for
 /// the outcome before the first edit. After any refusal the table is as before. Its cluster stays.
+#[tactic(auto, using(crate::proofs::EditsLemmas::run_balances))]
 pub fn edit_table(alloc: Global, table: &mut L2Table, edits: &[Edit]) -> Result<Outcome, Fault>
     ensures unfit { IfSome (first_unfit_edit table.old edits.now) (λ at. result ≡ Err (BadEdit at)) }
     ensures exact { Computes (edits_left table.new) result (edits_or_refusal table.old edits.now) }

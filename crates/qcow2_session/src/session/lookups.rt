@@ -133,6 +133,7 @@ pub(crate) fn named_cluster(l1_table: &L1Table, index: usize) -> Option<HostClus
 }
 
 /// The first L1 entry from an index on that names an L2 table, if there is one.
+#[tactic(auto, using(crate::proofs::ExtentsLemmas::unnamed_from, crate::proofs::ExtentsLemmas::unnamed_more))]
 pub(super) fn next_named(l1_table: &L1Table, first: usize) -> Option<usize>
     ensures { let cb = l1_table.now.geometry.cluster_bits in
         MatchOption result

@@ -1,24 +1,24 @@
-use Rattle.std.proofs.Common.{◌++◌, [], ◌∷◌, ap, inr, rules, subst, ◌∙◌}
-use Rattle.std.proofs.lemmas.Result.{err_from_is_err_and}
-use Rattle.qcow2_session.specs.Session.Extents.{ExtentsState, IsExtent, RefusesExtent, contents_for}
+use Rattle.std.proofs.Common.{arith, List, Option, ℕ, ◌++◌, [], ◌∷◌, append-nil, ap, rules, subst, ◌∙◌}
+use Rattle.std.specs.Io.KnownBytes.{Appends}
+use Rattle.std.proofs.KnownBytes.{Appends-trans}
+use Rattle.std.proofs.lemmas.Grind.{flat_map-append}
+use Rattle.qcow2_session.specs.Commands.Extents.{extent_text, extents_text}
+use Rattle.qcow2_session.specs.declared.commands.extents.ExtentFormat.{ExtentFormat}
+use Rattle.qcow2_session.specs.declared.session.extents.Extent.{Extent}
+use Rattle.qcow2_session.specs.Session.Extents.{ExtentsState, IsExtent, contents_for}
 use Rattle.qcow2_session.proofs.ExtentsLemmas.{extents_more}
-use Rattle.qcow2_session.proofs.PrintedExtentsLemmas.{extents_text-more}
 use Rattle.qcow2_session.proofs.commands.extents.print_all.Goals as goal
 
+-- the text of extents, and of one more
+extents_text-more : (format : ExtentFormat) (extents : List Extent) (extent : Extent) (a b c : Option (List ℕ))
+    → Appends a b (extents_text format extents) → Appends b c (extent_text format extent)
+    → Appends a c (extents_text format (extents ++ (extent ∷ [])))
+extents_text-more format extents extent a b c before here =
+    rw (flat_map-append (extent_text format) extents (extent ∷ []), append-nil (extent_text format extent))
+    (Appends-trans a b c _ _ before here)
+
 pub returns-in_err-extent-clause-prints : goal.returns-in_err-extent-clause-prints
-returns-in_err-extent-clause-prints g c =
-    let left = err_from_is_err_and c.from_residual.result c.from_residual.ensures.1 in
-    let image = (g.S.Storage.state c.args.image.now).byte_at in
-    let before = c.loop-extent.invariant in
-    let at = c.loop-extent.extents.position in
-    rw (left.1, left.2) (record {
-      extents = tt;
-      refused = λ told.
-          let here = rw before.reads.bytes at (c.in_err-extent.ensures.told (before.reads.device.tells ∙ told)) in
-          let same = subst (λ (reader : ExtentsState). RefusesExtent (contents_for reader image) reader.header.v2.size at c.in_err-extent.field-0.0) before.same here in
-          let printed = before.printed told in
-          inr (printed.0, (at, printed.1, same), printed.2);
-    })
+returns-in_err-extent-clause-prints g c = grind (arith, extents_more)
 
 pub loop-extent-preserved : goal.loop-extent-preserved
 loop-extent-preserved g c =

@@ -1,10 +1,9 @@
+use Rattle.std.proofs.Common.{arith}
 use Rattle.qcow2_session.proofs.EditsLemmas.{part_way-fits, part_way-next}
 use Rattle.qcow2_session.proofs.session.edits.make_edits.Goals as goal
 
 pub make-requires : goal.make-requires
-make-requires c =
-    part_way-fits c.args.edits.now c.loop-edit.edit-index _ c.args.table.now c.loop-edit.table c.loop-edit.outcome
-    c.requires.fit c.loop-edit-test.true c.loop-edit.invariant
+make-requires c = grind (arith, part_way-fits)
 
 pub loop-edit-preserved : goal.loop-edit-preserved
 loop-edit-preserved c =

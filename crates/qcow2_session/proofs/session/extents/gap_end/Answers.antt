@@ -1,15 +1,9 @@
-use Rattle.std.proofs.Common.{◌+◌, ◌*◌, ◌-◌, ◌/◌, ◌^◌, ◌≤◌, arith}
+use Rattle.std.proofs.Common.{◌*◌, ◌-◌, ◌^◌, ◌≤◌, arith}
 use Rattle.qcow2_session.proofs.ExtentsLemmas.{no_table_after, no_table_before, reaches_next, shift_fits}
 use Rattle.qcow2_session.proofs.session.extents.gap_end.Goals as goal
 
 pub returns-in-Some-clause-some : goal.returns-in-Some-clause-some
-returns-in-Some-clause-some c =
-    let bits = c.cluster_bits-cluster_bits.ensures in
-    let cb = c.cluster_bits-cluster_bits.result in
-    let index : c.args.from / 2 ^ cb / 2 ^ (cb - 3) + 1 ≤ c.in-Some.next = rw c.l1_index-index.ensures at c.in-Some.ensures.0 in
-    let reaches = reaches_next cb c.args.from c.in-Some.next bits.range.0 index in
-    let shift = shift_fits cb bits.range.1 in
-    omega (arith, reaches, rw shift at c.saturating_mul.ensures, c.min.ensures, c.ranges.size.fits, c.requires.within)
+returns-in-Some-clause-some c = grind (arith, reaches_next, shift_fits)
 
 pub returns-in-Some-clause-none : goal.returns-in-Some-clause-none
 returns-in-Some-clause-none c =

@@ -1,4 +1,4 @@
-use Rattle.std.proofs.Common.{◌≡◌, Err, ap, rules, inl, inr}
+use Rattle.std.proofs.Common.{arith, ◌≡◌, ap, rules, inl, inr}
 use Rattle.std.proofs.lemmas.Result.{err_from_is_err_and}
 use Rattle.qcow2_metadata.specs.Header.{Geometry, geometry_of}
 use Rattle.qcow2_session.proofs.ImagesLemmas.{image-edited, image-torn, refused-edits}
@@ -19,18 +19,7 @@ returns-in_err-outcome-clause-faults g c =
     }
 
 pub returns-in_err-write_table_back-clause-faults : goal.returns-in_err-write_table_back-clause-faults
-returns-in_err-write_table_back-clause-faults g c =
-    let exit = err_from_is_err_and c.from_residual-in_err-write_table_back.result c.from_residual-in_err-write_table_back.ensures.1 in
-    let failed = c.in_err-write_table_back.ensures in
-    record {
-      place = search rules;
-      faults = rw (exit.1, exit.2) (inl (inr (inr (inr (inr failed.fault)))));
-      torn = λ told storage.
-          let old = (g.S.Storage.state c.args.image.now).byte_at in
-          let new = (g.S.Storage.state c.write_table_back.new.image).byte_at in
-          inr (image-torn c.args.header.now c.args.cluster c.args.edits.now c.in_ok-outcome.outcome c.edit_table.new.table _ old new
-          (search rules) c.load_l2_table.ensures.storage.bytes (search rules) (failed.torn (rw c.load_l2_table.ensures.storage.device.tells told) (ap Err failed.fault)));
-    }
+returns-in_err-write_table_back-clause-faults g c = grind (arith, image-torn)
 
 pub returns-clause-written : goal.returns-clause-written
 returns-clause-written g c = λ told.

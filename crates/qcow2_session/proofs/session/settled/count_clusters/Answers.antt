@@ -8,11 +8,7 @@ use Rattle.qcow2_session.proofs.SettledLemmas.{among-between, clusters-short, fl
 use Rattle.qcow2_session.proofs.session.settled.count_clusters.Goals as goal
 
 pub returns-in_default-clause-changed : goal.returns-in_default-clause-changed
-returns-in_default-clause-changed c =
-    moves-as (change_in c.args.direction) (λ i. one_if (is_between c.counters_before-start.result c.counters_before-end.result i)) (λ i. one_if (is_among c.args.clusters (c.args.first + i))) c.args.block.now c.step_range.new.block
-    (λ i below. among-between c.args.clusters c.args.first c.counters_before-start.result c.counters_before-end.result i
-    (c.counters_before-start.ensures.each i (omega (arith, below, c.entries-entries.ensures.count))) (c.counters_before-end.ensures.each i (omega (arith, below, c.entries-entries.ensures.count))))
-    (search rules)
+returns-in_default-clause-changed c = grind (arith, moves-as, among-between)
 
 pub returns-in_default-clause-flag : goal.returns-in_default-clause-flag
 returns-in_default-clause-flag c =

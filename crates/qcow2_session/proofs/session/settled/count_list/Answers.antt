@@ -1,21 +1,13 @@
-use Rattle.std.proofs.Common.{ℕ, ◌+◌, ◌<◌, length, subst, take, rules}
+use Rattle.std.proofs.Common.{arith, ℕ, ◌+◌, ◌<◌, length, subst, take, rules}
 use Rattle.qcow2_metadata.specs.Table.L2Guards.{one_if}
 use Rattle.qcow2_metadata.specs.Entries.{is_among}
 use Rattle.qcow2_metadata.specs.declared.entries.ClustersToFreeEntry.{ClustersToFreeEntry}
-use Rattle.qcow2_session.specs.Session.Settled.{MarksModified, ChangesCounters, SomeLeavesRange, change_in, times_among}
+use Rattle.qcow2_session.specs.Session.Settled.{MarksModified, ChangesCounters, change_in, times_among}
 use Rattle.qcow2_session.proofs.SettledLemmas.{flags-twice, list-short, moves-twice, times-more, times-within}
 use Rattle.qcow2_session.proofs.session.settled.count_list.Goals as goal
 
 pub returns-in-Err-clause-out_of_range : goal.returns-in-Err-clause-out_of_range
-returns-in-Err-clause-out_of_range g c =
-    let clusters = g.C.Counted.clusters in
-    let list = c.args.list.now in
-    let at = c.loop-at.at in
-    let item = c.index-list-at.result in
-    list-short (change_in c.args.direction) (λ i. times_among clusters (take at list) (c.args.first + i)) (λ i. one_if (is_among (clusters item) (c.args.first + i)))
-    (λ i. times_among clusters list (c.args.first + i)) c.args.block.now c.loop-at.block c.loop-at.invariant.moves
-    (λ i. times-within clusters list at item (c.args.first + i) c.loop-at-test.true c.index-list-at.is)
-    (subst (λ (some : ClustersToFreeEntry). SomeLeavesRange (change_in c.args.direction) (λ i. one_if (is_among some (c.args.first + i))) c.loop-at.block) c.clusters.ensures c.in-Err.ensures.out_of_range)
+returns-in-Err-clause-out_of_range g c = grind (arith, list-short, times-within)
 
 pub loop-at-preserved : goal.loop-at-preserved
 loop-at-preserved g c =

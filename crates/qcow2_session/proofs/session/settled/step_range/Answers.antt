@@ -1,6 +1,5 @@
 use Rattle.std.proofs.Common.{arith, inl}
-use Rattle.qcow2_metadata.specs.Table.L2Guards.{one_if}
-use Rattle.qcow2_session.specs.Session.Settled.{change_in, is_between}
+use Rattle.qcow2_session.specs.Session.Settled.{change_in}
 use Rattle.qcow2_session.proofs.SettledLemmas.{between-end, flags-as, moves-as, range-next, range-stops}
 use Rattle.qcow2_session.proofs.session.settled.step_range.Goals as goal
 
@@ -17,11 +16,7 @@ returns-in-Err-clause-stopped c =
     (c.loop-index.auto.index, c.loop-index-test.true, stops.0)
 
 pub returns-clause-changed : goal.returns-clause-changed
-returns-clause-changed c =
-    moves-as (change_in c.args.direction) (λ i. one_if (is_between c.args.start c.loop-index.index i)) (λ i. one_if (is_between c.args.start c.args.end i)) c.args.block.now c.loop-index.block
-    (λ i below. between-end c.args.start c.args.end c.loop-index.index i c.loop-index-test.false c.loop-index.invariant.end) c.loop-index.invariant.moves
+returns-clause-changed c = grind (arith, moves-as, between-end)
 
 pub returns-clause-flag : goal.returns-clause-flag
-returns-clause-flag c =
-    flags-as (λ i. one_if (is_between c.args.start c.loop-index.index i)) (λ i. one_if (is_between c.args.start c.args.end i)) c.args.block.now c.loop-index.block
-    (λ i below. between-end c.args.start c.args.end c.loop-index.index i c.loop-index-test.false c.loop-index.invariant.end) c.loop-index.invariant.flags
+returns-clause-flag c = grind (arith, flags-as, between-end)

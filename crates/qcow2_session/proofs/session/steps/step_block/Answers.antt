@@ -1,15 +1,11 @@
-use Rattle.std.proofs.Common.{◌≡◌, ◌++◌, [], ◌∷◌, ◌∙◌, None, length, length-append, ap, sym, arith, rules}
+use Rattle.std.proofs.Common.{◌≡◌, ◌++◌, [], ◌∷◌, ◌∙◌, None, length-append, ap, sym, arith, rules}
 use Rattle.qcow2_session.proofs.StepsLemmas.{all_in_bounds, each_in_bounds, part_way-end, part_way-next, run-counts}
 use Rattle.qcow2_metadata.specs.Refblock.{BlockState}
 use Rattle.qcow2_session.specs.Session.Steps.{first_unfit_step}
 use Rattle.qcow2_session.proofs.session.steps.step_block.Goals as goal
 
 pub make-requires : goal.make-requires
-make-requires c =
-    let steps = c.args.steps.now in
-    let before = c.args.block.now in
-    let none : first_unfit_step before steps ≡ None = sym c.first_unfit.ensures ∙ c.in_default.is in
-    rw c.loop-step.invariant.way.entries (each_in_bounds (length before.counters) steps c.loop-step.step-index _ (all_in_bounds before steps none) c.loop-step-test.true)
+make-requires c = grind (arith, each_in_bounds, all_in_bounds)
 
 pub loop-step-preserved : goal.loop-step-preserved
 loop-step-preserved c =

@@ -1,8 +1,9 @@
 use Rattle.std.proofs.Common.{ap, ◌≡◌, ◌⊎◌, ◌∙◌, ◌<◌, ℕ, Ok, Err, arith}
 use Rattle.std.proofs.lemmas.Result.{err_from_is_err_and}
 use Rattle.qcow2_base.specs.declared.fault.Fault.TheVariants.{NoMemory, Storage}
-use Rattle.qcow2_session.proofs.ExtentsLemmas.{carried, extent_that_ends, pieces_join, reads_any, refusal_of_piece, refused_at_end, refused_at_start, size_stays, stays_twice}
+use Rattle.qcow2_session.proofs.ExtentsLemmas.{carried, extent_that_ends, pieces_join, reads_any, refused_at_end, refused_at_start, size_stays, stays_twice}
 use Rattle.qcow2_session.proofs.LookupsLemmas.{reads-then}
+use Rattle.qcow2_session.proofs.PrintingLemmas.{refused-as}
 use Rattle.qcow2_session.specs.Session.Extents.{Contents, ExtentsState, IsPiece, contents_for}
 use Rattle.qcow2_session.specs.declared.session.extents.Content.{Content}
 use Rattle.qcow2_session.proofs.session.extents.Extents.pass_extent.Goals as goal
@@ -14,8 +15,7 @@ returns-in_err-content-in-None-clause-told g c = λ told.
     let position : c.self.inside.position ≡ reader.position = ap (λ (state : ExtentsState). state.position) c.self.view_is in
     let old = (g.S.Storage.state c.args.image.now).byte_at in
     let contents : Contents = contents_for reader old in
-    rw (exit.1, exit.2) (refusal_of_piece contents reader.header.v2.size reader.position reader.position c.in_err-content-in-None.field-0.0
-    (refused_at_start contents reader.header.v2.size reader.position c.in_err-content-in-None.field-0.0 c.requires.within) (rw position at (c.in_err-content-in-None.ensures.told told)))
+    rw (exit.1, exit.2) (refused-as _ (refused_at_start contents reader.header.v2.size reader.position c.in_err-content-in-None.field-0.0 c.requires.within) (rw position at (c.in_err-content-in-None.ensures.told told)))
 
 pub returns-in_err-next-clause-told : goal.returns-in_err-next-clause-told
 returns-in_err-next-clause-told g c = λ told.
@@ -29,8 +29,7 @@ returns-in_err-next-clause-told g c = λ told.
     let below : end < reader.header.v2.size = omega (arith, c.loop-end-test.true, kept.size) in
     let why = carried old (g.S.Storage.state c.loop-end.image).byte_at reader c.loop-end.self (λ (found : Contents) (size : ℕ). (fault ≡ Storage) ⊎ (fault ≡ NoMemory) ⊎ (found end ≡ Err fault)) kept.reader.same kept.storage.bytes
     (c.in_err-next.ensures.told (kept.storage.device.tells ∙ told)) in
-    rw (exit.1, exit.2) (refusal_of_piece contents reader.header.v2.size reader.position end fault
-    (refused_at_end contents reader.header.v2.size reader.position end c.match-self.content.0 fault kept.some below (kept.reads told)) why)
+    rw (exit.1, exit.2) (refused-as _ (refused_at_end contents reader.header.v2.size reader.position end c.match-self.content.0 fault kept.some below (kept.reads told)) why)
 
 pub returns-then-not-goes_on_as-clause-told : goal.returns-then-not-goes_on_as-clause-told
 returns-then-not-goes_on_as-clause-told g c = λ told.
