@@ -1,14 +1,9 @@
-use Rattle.std.proofs.Common.{map-id, ◌≡◌, ℕ, zero, suc, ◌+◌, ◌-◌, ◌*◌, ◌/◌, ◌%◌, ◌<◌, ◌≤◌, List, [], ◌∷◌, ◌++◌, map, length, get_or, slice_index, replicate, set, take, Option, Some, None, option_map, IfSome, refl, sym, ◌∙◌, ap, inl, inr, add-zero, add_assoc, arith, Bor}
-use Rattle.std.specs.List.{range_with_len}
+use Rattle.std.proofs.Common.{map-id, ◌≡◌, ℕ, zero, suc, ◌-◌, ◌<◌, ◌≤◌, List, [], ◌∷◌, ◌++◌, map, length, get_or, replicate, set, take, Option, Some, None, IfSome, refl, ◌∙◌, ap, arith, Bor}
 use Rattle.std.specs.Option.{option_or}
 use Rattle.std.proofs.lemmas.List.{length-map, map-append, take_all}
-use Rattle.std.proofs.lemmas.List.FromFn.{get_or-map-range_with_len, map-range_with_len_more, length-map-range_with_len}
-use Rattle.std.proofs.lemmas.Bool.{cases_lt}
 use Rattle.std.specs.Slice.{IsGetResult}
-use mathlib.Core.Path.{fun_ext}
-use Rattle.qcow2_base.specs.Storage.{Holds, Image, IsBytes, SameOutside, be, be_of_same, be_tells, image_of}
 use Rattle.qcow2_base.specs.declared.fault.Fault.{Fault}
-use Rattle.qcow2_metadata.specs.Table.{TablePlace, first_fault, numbers_at, offset_of, table_numbers}
+use Rattle.qcow2_metadata.specs.Table.{first_fault}
 use Rattle.qcow2_metadata.specs.Table.Growth.{grown_numbers}
 
 pub no_fault_at_all : (first rest : Option Fault) → option_or first rest ≡ None → (first ≡ None) × (rest ≡ None)
