@@ -1,23 +1,18 @@
-use Rattle.std.proofs.Common.{◌≡◌, ℕ, zero, suc, Bool, true, false, not, ◌&&◌, ◌||◌, ◌==◌, if◌then◌else◌, ◌+◌, ◌-◌, ◌*◌, ◌/◌, ◌^◌, ◌<◌, ◌≤◌, ◌↔◌, Option, Some, None, option_map, unwrap_or, option_to_list, IfSome, All, List, [], ◌∷◌, length, slice_get, slice_index, inl, inr, get_or-set_same, get_or-set_other, map-id, refl, ap, sym, ◌∙◌, subst, suc-mul, arith, length-set}
+use Rattle.std.proofs.Common.{◌≡◌, ℕ, zero, suc, Bool, true, false, ◌&&◌, ◌==◌, if◌then◌else◌, ◌+◌, ◌-◌, ◌*◌, ◌/◌, ◌^◌, ◌<◌, ◌≤◌, ◌↔◌, Option, Some, None, option_map, unwrap_or, option_to_list, IfSome, List, [], ◌∷◌, length, slice_get, slice_index, get_or-set_same, get_or-set_other, refl, sym, ◌∙◌, subst, arith, length-set}
 use Rattle.std.proofs.lemmas.Nat.{div-mul-add, mul-le, pow_pos}
-use Rattle.std.proofs.Math.Nat.{mul-div_cancel, mul-mod_left, zero-mod}
-use Rattle.std.proofs.lemmas.List.Elements.{All-set}
+use Rattle.std.proofs.Math.Nat.{mul-div_cancel}
 use Rattle.std.proofs.lemmas.Bool.Decides.{nat_tests}
 use Rattle.std.proofs.lemmas.List.Sums.{sum_by-append, sum_by-set}
 use Rattle.std.proofs.lemmas.Grind.{elements, same_number_lists}
 use Rattle.std.proofs.lemmas.Option.{none-some, same_Some}
-use Rattle.std.proofs.lemmas.Bool.{cases_eq}
 use Rattle.std.specs.List.{list_all}
 use Rattle.qcow2_base.specs.Bits.{field}
 use Rattle.qcow2_base.specs.Types.{IsClusterBits}
-use Rattle.qcow2_base.specs.declared.fault.Fault.{Fault}
 use Rattle.qcow2_metadata.specs.Header.{Geometry}
 use Rattle.qcow2_metadata.specs.declared.entries.ClustersToFreeEntry.{ClustersToFreeEntry}
-use Rattle.qcow2_metadata.specs.Entries.L2Entry.{ByteRange, IsAllocation, Meets, allocation, byte_range, cluster_count, clusters_met, first_cluster, has_host_cluster, is_allocated, is_compressed, l2_fault, meets, with_zero_flag}
+use Rattle.qcow2_metadata.specs.Entries.L2Entry.{ByteRange, IsAllocation, Meets, allocation, byte_range, cluster_count, clusters_met, first_cluster, has_host_cluster, is_compressed, l2_fault, meets, with_zero_flag}
 use Rattle.qcow2_metadata.specs.Entries.{is_among, offset_field}
-use Rattle.qcow2_metadata.proofs.EntriesLemmas.{l2_fault_zero, meets_is_met, offset_in_sectors}
-use Rattle.qcow2_metadata.proofs.TableLemmas.{first_fault-set, no_fault_item}
-use Rattle.qcow2_metadata.specs.Table.{first_fault}
+use Rattle.qcow2_metadata.proofs.EntriesLemmas.{meets_is_met, offset_in_sectors}
 use Rattle.qcow2_metadata.specs.Table.L2Guards.{EntryEdit, GivesUp, IsEdit, IsRun, RunsTo, TableEdit, after_edit, can_be_made, changed, data_entry, dropped, fits_table, gained, handed_back, is_just, is_mappable, keeps, one_if, references, run_of, times_gained, to_data, to_nothing, to_zeros}
 
 -- an entry of data in a host cluster at an offset: it is standard and copied, with no reserved bit

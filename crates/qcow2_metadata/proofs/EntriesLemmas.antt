@@ -1,14 +1,14 @@
-use Rattle.std.proofs.Common.{◌≡◌, ℕ, Bool, true, false, not, IsTrue, ◌&&◌, ◌||◌, nat_eq, nat_lt, if◌then◌else◌, ◌+◌, ◌-◌, ◌*◌, ◌/◌, ◌%◌, ◌^◌, ◌<◌, ◌≤◌, ◌↔◌, Option, Some, None, option_map, unwrap_or, refl, ap, sym, ◌∙◌, inl, inr, subst, add-zero, arith}
+use Rattle.std.proofs.Common.{◌≡◌, ℕ, Bool, true, false, not, IsTrue, ◌&&◌, ◌||◌, nat_eq, nat_lt, if◌then◌else◌, ◌+◌, ◌-◌, ◌*◌, ◌/◌, ◌%◌, ◌^◌, ◌<◌, ◌≤◌, ◌↔◌, Option, Some, None, option_map, unwrap_or, refl, sym, ◌∙◌, inl, inr, subst, add-zero, arith}
 use Rattle.std.proofs.lemmas.Bool.{cases_lt}
 use Rattle.std.proofs.lemmas.Nat.{pow_pos, pow-add, mod-pow-add}
 use Rattle.std.proofs.Math.Nat.{mul_assoc, mul-mod_left, le-div_iff_mul-le, div-mul-le_self, mul-div_cancel, zero-mod, add-mul-div_right}
 use Rattle.std.proofs.Math.Pow.{mod-mod-pow, pow_mono}
-use Rattle.std.proofs.lemmas.Bool.Decides.{same_from_decides, Decides-eqb, Decides-ltb, nat_tests}
+use Rattle.std.proofs.lemmas.Bool.Decides.{nat_tests}
 use Rattle.qcow2_metadata.specs.Header.{Geometry}
-use Rattle.qcow2_metadata.specs.Entries.L2Entry.{ByteRange, IsAllocation, Meets, RangeMeets, byte_range, cluster_count, clusters_met, compressed_length, compressed_offset, first_cluster, is_allocated, is_compressed, l2_fault, l2_reserved_bits, meets}
+use Rattle.qcow2_metadata.specs.Entries.L2Entry.{ByteRange, IsAllocation, Meets, RangeMeets, byte_range, cluster_count, clusters_met, first_cluster, is_compressed, l2_fault, l2_reserved_bits, meets}
 use Rattle.qcow2_metadata.specs.Entries.{IsAmong, entry_fault, is_among, offset_field}
 use Rattle.qcow2_metadata.specs.Entries.L1Entry.{l1_entry_for, l1_fault, l1_reserved_bits}
-use Rattle.qcow2_metadata.specs.Entries.RefTableEntry.{ref_fault, ref_reserved_bits}
+use Rattle.qcow2_metadata.specs.Entries.RefTableEntry.{ref_fault}
 
 -- the quotients of numbers by one are in their order
 pub div_rises : (a b k : ℕ) → 0 < k → a ≤ b → a / k ≤ b / k

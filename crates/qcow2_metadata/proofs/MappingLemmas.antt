@@ -1,16 +1,15 @@
-use Rattle.std.proofs.Common.{◌≡◌, ℕ, Bool, true, false, not, ◌&&◌, ◌||◌, nat_eq, nat_lt, if◌then◌else◌, ◌+◌, ◌-◌, ◌*◌, ◌/◌, ◌%◌, ◌^◌, ◌<◌, ◌≤◌, Some, None, refl, ap, sym, ◌∙◌, inl, inr, arith, pow_mono}
-use Rattle.std.proofs.lemmas.Bool.{lt-ltb, cases_Bool}
-use Rattle.std.proofs.lemmas.Bool.Decides.{same_from_decides, Decides-eqb, nat_tests}
+use Rattle.std.proofs.Common.{◌≡◌, ℕ, Bool, true, false, nat_eq, if◌then◌else◌, ◌+◌, ◌-◌, ◌*◌, ◌%◌, ◌^◌, ◌<◌, ◌≤◌, Some, None, ap, ◌∙◌, arith, pow_mono}
+use Rattle.std.proofs.lemmas.Bool.{lt-ltb}
+use Rattle.std.proofs.lemmas.Bool.Decides.{nat_tests}
 use Rattle.std.proofs.lemmas.Nat.{pow_pos, pow-add, shl-shr, mul-le, div-mul-add, mod-mul-add}
-use Rattle.std.proofs.Math.Nat.{mul-mod_left, add-mod_left, mod-eq_of_lt, zero-mul, zero-div}
+use Rattle.std.proofs.Math.Nat.{mul-mod_left, add-mod_left, mod-eq_of_lt}
 use Rattle.qcow2_base.specs.Bits.{field}
-use Rattle.qcow2_base.specs.declared.fault.Fault.TheVariants.{EntryReserved}
 use Rattle.qcow2_metadata.specs.Header.{geometry}
 use Rattle.qcow2_metadata.specs.declared.entries.l2_mapping.L2Mapping.{L2Mapping}
 use Rattle.qcow2_metadata.specs.declared.entries.l2_mapping.L2Mapping.TheVariants.{DataFile, Backing, Zero, Compressed}
 use Rattle.qcow2_metadata.specs.Entries.L2Mapping.{FitsEntry, IsPlaced, copied_bit, entry_of, is_told, mapping, meaning, stored_mapping, sector_end, sectors_beyond, standard_mapping, backing, compressed, data_file, zeros}
-use Rattle.qcow2_metadata.specs.Entries.{entry_fault, offset_field}
-use Rattle.qcow2_metadata.specs.Entries.L2Entry.{is_compressed, l2_fault}
+use Rattle.qcow2_metadata.specs.Entries.{offset_field}
+use Rattle.qcow2_metadata.specs.Entries.L2Entry.{l2_fault}
 use Rattle.qcow2_metadata.proofs.EntriesLemmas.{l2_fault_zero, offset_in_sectors, sectors_fill_two_clusters}
 
 -- the number of a flag

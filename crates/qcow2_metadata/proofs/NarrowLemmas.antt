@@ -1,4 +1,4 @@
-use Rattle.std.proofs.Common.{le-leb, ◌≡◌, ℕ, suc, ◌+◌, ◌-◌, ◌*◌, ◌/◌, ◌%◌, ◌^◌, ◌<◌, ◌≤◌, List, [], ◌∷◌, ◌++◌, length, length-take, slice_index, slice_range, take, refl, sym, ◌∙◌, ap, add-zero, zero-add, append_assoc, mul-zero, mul_assoc, mul-le-mul_left, mod-eq_of_lt, pow_mono, arith}
+use Rattle.std.proofs.Common.{le-leb, ◌≡◌, ℕ, suc, ◌+◌, ◌*◌, ◌/◌, ◌%◌, ◌^◌, ◌<◌, ◌≤◌, List, [], ◌∷◌, ◌++◌, length, length-take, slice_index, take, refl, sym, ◌∙◌, ap, add-zero, zero-add, append_assoc, mul-zero, mul_assoc, mod-eq_of_lt, pow_mono, arith}
 use Rattle.std.proofs.lemmas.List.{take_more}
 use Rattle.std.proofs.lemmas.List.Elements.{All-get_or}
 use Rattle.std.proofs.lemmas.List.FromFn.{fill_by_all}
@@ -7,7 +7,7 @@ use Rattle.std.proofs.Math.Nat.{div-eq_of_lt, div-one, mod-one}
 use Rattle.qcow2_base.specs.Bits.{field}
 use Rattle.qcow2_base.specs.Storage.{IsBytes, image_of}
 use Rattle.qcow2_metadata.specs.Refblock.Counters.{AreCounters}
-use Rattle.qcow2_metadata.specs.Refblock.Packing.{counter_at, counters_at, from_digits, packed, per_byte, width}
+use Rattle.qcow2_metadata.specs.Refblock.Packing.{counter_at, counters_at, from_digits, per_byte, width}
 use Rattle.qcow2_metadata.proofs.PackingLemmas.{counters_at-append, counters_at-same, narrow_cases, width-per_byte}
 
 -- a width as the code makes it, and the number of values that a counter has

@@ -1,6 +1,5 @@
-use Rattle.std.proofs.Common.{◌≡◌, ◌≢◌, ℕ, zero, suc, ◌+◌, ◌-◌, ◌*◌, ◌/◌, ◌%◌, ◌^◌, ◌<◌, ◌≤◌, max, List, map, length, get_or, slice_index, refl, ◌⊎◌, Option, Some, None, Result, Ok, Err, OnOk, IfErr, sym, ◌∙◌, ap, inl, inr, lit≤, arith, pow_mono, take_all}
-use Rattle.std.specs.List.{range_with_len}
-use Rattle.std.proofs.Math.Nat.{div-add-mod, div-div-eq-div-mul, lt_of_mul-lt-mul_right, mul-div_cancel, mul-le-mul_right}
+use Rattle.std.proofs.Common.{◌≡◌, ◌≢◌, ℕ, ◌+◌, ◌-◌, ◌*◌, ◌/◌, ◌%◌, ◌^◌, ◌<◌, ◌≤◌, max, List, length, get_or, slice_index, refl, ◌⊎◌, Option, Some, None, Result, Ok, Err, OnOk, IfErr, sym, ◌∙◌, ap, inl, inr, lit≤, arith, pow_mono, take_all}
+use Rattle.std.proofs.Math.Nat.{div-add-mod, mul-div_cancel, mul-le-mul_right}
 use Rattle.std.proofs.lemmas.Bool.{cases_lt}
 use Rattle.std.proofs.lemmas.Nat.{div-mul-add, div_below, le-div, mod_below, pow-add, pow_below, pow_pos}
 use Rattle.qcow2_metadata.specs.Pieces.{piece_size}

@@ -1,8 +1,8 @@
-use Rattle.std.proofs.Common.{◌≡◌, ℕ, zero, suc, ◌+◌, ◌-◌, ◌*◌, ◌/◌, ◌%◌, ◌^◌, ◌<◌, ◌≤◌, ◌⊎◌, false, nat_le, List, [], ◌∷◌, ◌++◌, map, length, slice_index, take, drop, refl, sym, ◌∙◌, ap, inl, inr, add-zero, zero-add, add_assoc, append_assoc, mul-zero, mod-eq_of_lt, pow-suc, pow_pos, mul-le-mul_left, le-leb, get_or-drop, get_or-take, length-append, length-drop, length-take, arith}
+use Rattle.std.proofs.Common.{◌≡◌, ℕ, zero, suc, ◌+◌, ◌-◌, ◌*◌, ◌/◌, ◌%◌, ◌^◌, ◌<◌, ◌≤◌, ◌⊎◌, List, [], ◌∷◌, ◌++◌, map, length, slice_index, take, drop, refl, sym, ◌∙◌, ap, inl, inr, add-zero, zero-add, add_assoc, append_assoc, mul-zero, mod-eq_of_lt, pow-suc, pow_pos, mul-le-mul_left, le-leb, get_or-drop, get_or-take, length-append, length-drop, length-take, arith}
 use Rattle.std.specs.List.{All, range_with_len}
 use Rattle.std.proofs.lemmas.Bool.{cases_lt, lt-leb}
 use Rattle.std.proofs.lemmas.List.{get_or-append_right, get_or_append_left, get_or_past, map_push}
-use Rattle.std.proofs.lemmas.List.Elements.{All-drop, All-from_get_or, All-get_or, All-head, All-tail, All-take}
+use Rattle.std.proofs.lemmas.List.Elements.{All-drop, All-head, All-tail, All-take}
 use Rattle.std.proofs.lemmas.List.FromFn.{fill_by_all, get_or-map-range_with_len, length-map-range_with_len, map-range_with_len_more}
 use Rattle.std.proofs.lemmas.Nat.{div-mul-add, div_below, mul-add-lt, mod-mul-add, mod-pow-add, mod_below, shr-shr}
 use Rattle.std.proofs.Math.Nat.{lt_of_mul-lt-mul_right, mul-add-div, mul-add-mod_self_left, add-mul-div_left, add-mul-mod_self_left, div-eq_of_lt, le-div_iff_mul-le, mod-one, zero-div, zero-mod, one-le-pow}

@@ -1,12 +1,12 @@
-use Rattle.std.proofs.Common.{◌≡◌, ℕ, zero, suc, ◌+◌, ◌-◌, ◌*◌, ◌<◌, ◌≤◌, List, [], ◌++◌, length, get_or, replicate, slice_get, slice_index, Option, Some, None, IfSome, IsSome, option_map, take, refl, sym, ◌∙◌, ap, inl, inr, arith, ◌/◌, ◌%◌, ◌^◌, lit≤, All}
-use Rattle.std.proofs.lemmas.List.{get_or-take, length-take, get_or-append_right, get_or-replicate, get_or_append_left, get_or_past, length-replicate, take_more}
+use Rattle.std.proofs.Common.{◌≡◌, ℕ, ◌+◌, ◌*◌, ◌<◌, ◌≤◌, List, [], ◌++◌, length, get_or, replicate, slice_get, slice_index, Option, Some, None, IfSome, IsSome, option_map, take, refl, sym, ◌∙◌, ap, inl, inr, arith, ◌/◌, ◌%◌, ◌^◌, lit≤, All}
+use Rattle.std.proofs.lemmas.List.{get_or-take, length-take, get_or_past}
 use Rattle.std.proofs.lemmas.Bool.{cases_lt}
 use Rattle.std.proofs.lemmas.Option.{slice_get-get_or}
 use Rattle.qcow2_base.proofs.StorageLemmas.{image_of-padded}
 use Rattle.qcow2_base.specs.Storage.{Image, IsBytes, SameOutside, be, be_of_same, image_of}
 use Rattle.qcow2_metadata.specs.Pieces.{Stand, number_bytes}
 use Rattle.qcow2_metadata.specs.Table.{TablePlace, numbers_at, offset_of, table_numbers}
-use Rattle.qcow2_metadata.proofs.PackingLemmas.{byte_of_be, counter_at-packed}
+use Rattle.qcow2_metadata.proofs.PackingLemmas.{byte_of_be}
 use Rattle.qcow2_metadata.proofs.RefblockLemmas.{stand-decoded, stand-same}
 use Rattle.std.proofs.lemmas.List.FromFn.{fill_by_all}
 

@@ -1,5 +1,4 @@
-use Rattle.std.proofs.Common.{◌≡◌, ℕ, suc, ◌+◌, ◌<◌, List, [], ◌∷◌, drop, get_or, length, map, min, slice_index, ◌-◌, ◌*◌, ap, sym, ◌∙◌, refl, add-zero, arith, get_or-drop, get_or-take, length-drop, length-take}
-use Rattle.std.specs.List.{range_with_len}
+use Rattle.std.proofs.Common.{◌≡◌, ℕ, ◌+◌, ◌<◌, List, drop, get_or, length, min, ◌-◌, ◌*◌, ap, sym, ◌∙◌, refl, arith, get_or-drop, get_or-take, length-drop, length-take}
 use Rattle.std.proofs.lemmas.List.FromFn.{fill_by_all, get_or-map-range_with_len, length-map-range_with_len}
 use Rattle.qcow2_metadata.specs.Header.Extensions.{chunk_at}
 use Rattle.qcow2_base.specs.Storage.{Holds, Image}

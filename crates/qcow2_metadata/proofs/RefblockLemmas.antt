@@ -1,12 +1,11 @@
-use Rattle.std.proofs.Common.{◌≡◌, ℕ, zero, suc, ◌+◌, ◌-◌, ◌*◌, ◌/◌, ◌%◌, ◌^◌, ◌<◌, ◌≤◌, Bool, List, [], ◌∷◌, ◌++◌, length, replicate, slice_index, slice_set, Option, Some, None, min, inl, inr, lit≤, refl, ap, sym, ◌∙◌, arith, pow-add, pow_pos}
-use Rattle.std.proofs.lemmas.List.{length-replicate, length-set}
-use Rattle.std.proofs.lemmas.List.Elements.{All-replicate, All-set}
+use Rattle.std.proofs.Common.{◌≡◌, ℕ, ◌+◌, ◌-◌, ◌*◌, ◌/◌, ◌%◌, ◌^◌, ◌<◌, ◌≤◌, Bool, List, ◌++◌, length, replicate, slice_set, Option, Some, None, min, inl, inr, refl, ap, sym, ◌∙◌, arith, pow-add, pow_pos}
 use mathlib.Core.Path.{fun_ext}
-use Rattle.std.proofs.Math.Nat.{le-div_iff_mul-le, mul-add, mul-div_cancel_left, mul_assoc, mul_comm, pow-le-pow_right}
+use Rattle.std.proofs.Math.Nat.{mul-add, mul-div_cancel_left, mul_assoc, pow-le-pow_right}
 use Rattle.std.proofs.lemmas.Bool.{cases_lt}
+use Rattle.std.proofs.lemmas.Grind.{common_steps}
 use Rattle.std.proofs.lemmas.List.FromFn.{fill_by_all}
 use Rattle.qcow2_base.specs.Storage.{Holds, Image, IsBytes, SameOutside, image_of}
-use Rattle.qcow2_metadata.proofs.PackingLemmas.{counter_at-packed, counters_at-append, counters_at-held, counters_at-same, narrow_cases, packed-counters_at, width-per_byte}
+use Rattle.qcow2_metadata.proofs.PackingLemmas.{counter_at-packed, counters_at-append, counters_at-held, counters_at-same, narrow_cases, packed-counters_at}
 use Rattle.qcow2_metadata.specs.Pieces.{Stand}
 use Rattle.qcow2_base.specs.Types.{IsClusterBits}
 use Rattle.qcow2_base.specs.declared.types.HostCluster.{HostCluster}
@@ -26,23 +25,11 @@ counter_holds order (U64 list) number kind fits = let same = rw kind at fits in 
 
 -- a block of zeros is lawful
 pub zeros-lawful : (cb order : ℕ) (counters : Counters) → IsClusterBits cb → order ≤ 6 → kept_counters counters ≡ replicate (block_entries cb order) 0 → IsLawfulBlock cb order None (kept_counters counters)
-zeros-lawful cb order counters bits orders zeros = record {
-  bits = bits;
-  orders = orders;
-  place = tt;
-  count = ap length zeros ∙ length-replicate (block_entries cb order) 0;
-  small = rw zeros (All-replicate (λ counter. counter < 2 ^ width order) (block_entries cb order) 0 (pow_pos (width order)));
-}
+zeros-lawful cb order counters bits orders zeros = grind (arith, pow_pos, common_steps)
 
 -- and so is one with another counter
 pub set-lawful : (cb order : ℕ) (cluster : Option HostCluster) (old new : Counters) (index number : ℕ) → IsLawfulBlock cb order cluster (kept_counters old) → kept_counters new ≡ slice_set (kept_counters old) index number → number ≤ greatest_counter order → IsLawfulBlock cb order cluster (kept_counters new)
-set-lawful cb order cluster old new index number lawful set fits = record {
-  bits = lawful.bits;
-  orders = lawful.orders;
-  place = lawful.place;
-  count = ap length set ∙ length-set (kept_counters old) index number ∙ lawful.count;
-  small = rw set (All-set (λ counter. counter < 2 ^ width order) (kept_counters old) index number (omega (arith, fits, pow_pos (width order))) lawful.small);
-}
+set-lawful cb order cluster old new index number lawful set fits = grind (arith, pow_pos, common_steps)
 
 -- the counters of a block fill its cluster
 pub block_bytes : (cb order : ℕ) → IsClusterBits cb → order ≤ 6 → width order * block_entries cb order ≡ 8 * 2 ^ cb

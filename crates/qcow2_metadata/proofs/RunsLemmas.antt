@@ -1,21 +1,19 @@
-use Rattle.std.proofs.Common.{add-zero, ◌≡◌, ℕ, Bool, true, false, not, ◌&&◌, ◌||◌, nat_eq, nat_lt, if◌then◌else◌, ◌≢◌, ◌⊎◌, ◌+◌, ◌-◌, ◌*◌, ◌/◌, ◌%◌, ◌^◌, ◌<◌, ◌≤◌, List, length, get_or, take, drop, IsTrue, Option, Some, None, refl, ap, sym, ◌∙◌, inl, inr, arith, eq-eqb, length-drop, zero, suc, bit_and, is_some, mod-eq_of_lt, mod-lt, pow_mono, All, get_or-drop, get_or-take, map-id, length-take}
+use Rattle.std.proofs.Common.{add-zero, ◌≡◌, ℕ, Bool, true, false, ◌&&◌, nat_eq, if◌then◌else◌, ◌≢◌, ◌+◌, ◌-◌, ◌*◌, ◌/◌, ◌%◌, ◌^◌, ◌<◌, ◌≤◌, List, length, get_or, take, drop, Option, Some, None, refl, ap, sym, ◌∙◌, inl, inr, arith, length-drop, bit_and, is_some, mod-eq_of_lt, mod-lt, pow_mono, All, get_or-drop, get_or-take, map-id, length-take}
 use Rattle.std.proofs.lemmas.Bool.{cases_Bool, cases_lt, ne_eqb, eqb-false}
 use Rattle.std.proofs.lemmas.Bool.Decides.{same_from_decides, Decides-eqb, nat_tests}
 use Rattle.std.proofs.lemmas.Nat.{and_mask, pow_pos, mul-le, mod-mul-add, same_from_place, div-add-mod'}
 use Rattle.std.proofs.lemmas.Nat.Bits.{and_pow}
 use Rattle.std.proofs.lemmas.List.Elements.{All-get_or}
-use Rattle.qcow2_base.specs.Bits.{field}
 use Rattle.qcow2_base.specs.Types.{IsClusterBits}
 use Rattle.qcow2_base.specs.declared.types.HostOffset.{HostOffset}
 use Rattle.qcow2_metadata.specs.Header.{geometry}
-use Rattle.qcow2_metadata.specs.Entries.L2Mapping.{Mapping, backing, compressed, data_file, zeros, mapping, standard_mapping, host_cluster}
+use Rattle.qcow2_metadata.specs.Entries.L2Mapping.{Mapping, compressed, mapping, standard_mapping, host_cluster}
 use Rattle.qcow2_metadata.specs.Entries.{is_copied, offset_field}
-use Rattle.qcow2_metadata.specs.Entries.L2Entry.{compressed_length, compressed_offset, host_offset, is_allocated, is_compressed, is_zero, l2_fault, l2_reserved_bits}
+use Rattle.qcow2_metadata.specs.Entries.L2Entry.{compressed_length, compressed_offset, host_offset, is_allocated, is_compressed, is_zero, l2_fault}
 use Rattle.qcow2_metadata.specs.Entries.Runs.{FollowJust, IsPatternOf, follows, reads_on}
 use Rattle.qcow2_metadata.specs.Table.{TableState, first_fault, mapping_at}
 use Rattle.qcow2_metadata.specs.Table.L2Table.{IsMappedRun}
 use Rattle.qcow2_metadata.specs.declared.entries.runs.RunPattern.{RunPattern}
-use Rattle.qcow2_metadata.proofs.EntriesLemmas.{lawful_by_kind}
 use Rattle.qcow2_metadata.proofs.MappingLemmas.{bit, bit_below}
 use Rattle.qcow2_metadata.proofs.TableLemmas.{no_fault_item}
 

@@ -1,4 +1,4 @@
-use Rattle.std.proofs.Common.{◌≡◌, ℕ, Bool, true, false, not, ◌&&◌, ◌||◌, ◌==◌, nat_lt, if◌then◌else◌, ◌+◌, ◌-◌, ◌*◌, ◌/◌, ◌%◌, ◌^◌, ◌<◌, ◌≤◌, List, [], ◌∷◌, map, Option, Some, None, refl, ap, sym, ◌∙◌, inl, inr, arith}
+use Rattle.std.proofs.Common.{◌≡◌, ℕ, Bool, false, not, ◌&&◌, ◌||◌, ◌==◌, if◌then◌else◌, ◌+◌, ◌-◌, ◌*◌, ◌/◌, ◌%◌, ◌^◌, ◌<◌, ◌≤◌, List, [], ◌∷◌, map, Option, Some, None, refl, ap, ◌∙◌, inl, inr, arith}
 use Rattle.std.proofs.lemmas.Bool.{cases_Bool, cases_lt}
 use Rattle.std.proofs.lemmas.Bool.Decides.{nat_tests}
 use Rattle.std.proofs.lemmas.List.Sums.{sum_by-cons}
@@ -76,10 +76,7 @@ pub lawful_without_copied : (cb v : ℕ) → l2_fault cb v ≡ None → l2_fault
 lawful_without_copied cb v lawful = grind (arith, nat_tests, low_field, low_bits_below)
 
 shared_is_lawful : (external : Bool) (cb v : ℕ) → l2_fault cb v ≡ None → l2_fault cb (shared external v) ≡ None
-shared_is_lawful external cb v lawful = elim (cases_Bool (external && (not (is_compressed v) && (offset_field v == 0)))) [
-  | inl stays ↦ rw stays lawful
-  | inr other ↦ rw other (lawful_without_copied cb v lawful)
-]
+shared_is_lawful external cb v lawful = grind (arith, lawful_without_copied)
 
 first_fault-map : (fault : ℕ → Option Fault) (f : ℕ → ℕ) (numbers : List ℕ) → ((v : ℕ) → fault v ≡ None → fault (f v) ≡ None) → first_fault fault numbers ≡ None → first_fault fault (map f numbers) ≡ None
 first_fault-map fault f [] keeps none = refl

@@ -1,14 +1,11 @@
-use Rattle.std.proofs.Common.{map-id, ◌≡◌, ℕ, zero, suc, ◌+◌, ◌-◌, ◌*◌, ◌/◌, ◌%◌, ◌<◌, ◌≤◌, List, [], ◌∷◌, ◌++◌, map, length, get_or, slice_index, replicate, set, take, Option, Some, None, option_map, IfSome, refl, sym, ◌∙◌, ap, inl, inr, add-zero, add_assoc, arith, Bor}
-use Rattle.std.specs.List.{range_with_len}
+use Rattle.std.proofs.Common.{map-id, ◌≡◌, ℕ, zero, suc, ◌+◌, ◌-◌, ◌*◌, ◌<◌, ◌≤◌, lit≤, List, [], ◌∷◌, ◌++◌, map, length, get_or, replicate, set, take, Option, Some, None, IfSome, refl, ◌∙◌, ap, arith, Bor}
 use Rattle.std.specs.Option.{option_or}
 use Rattle.std.proofs.lemmas.List.{length-map, map-append, take_all}
-use Rattle.std.proofs.lemmas.List.FromFn.{get_or-map-range_with_len, map-range_with_len_more, length-map-range_with_len}
-use Rattle.std.proofs.lemmas.Bool.{cases_lt}
 use Rattle.std.specs.Slice.{IsGetResult}
-use mathlib.Core.Path.{fun_ext}
-use Rattle.qcow2_base.specs.Storage.{Holds, Image, IsBytes, SameOutside, be, be_of_same, be_tells, image_of}
+use Rattle.qcow2_base.specs.Storage.{Image}
 use Rattle.qcow2_base.specs.declared.fault.Fault.{Fault}
-use Rattle.qcow2_metadata.specs.Table.{TablePlace, first_fault, numbers_at, offset_of, table_numbers}
+use Rattle.qcow2_metadata.proofs.PackingLemmas.{counters_at-length, counters_at-same}
+use Rattle.qcow2_metadata.specs.Table.{first_fault, table_numbers}
 use Rattle.qcow2_metadata.specs.Table.Growth.{grown_numbers}
 
 pub no_fault_at_all : (first rest : Option Fault) → option_or first rest ≡ None → (first ≡ None) × (rest ≡ None)
@@ -25,6 +22,13 @@ first_fault-join fault (x ∷ xs) ys = rw (first_fault-join fault xs ys) (or_eit
 -- past numbers with no fault, the first fault is that of the others
 pub first_fault-append : (fault : ℕ → Option Fault) (xs ys : List ℕ) → first_fault fault xs ≡ None → first_fault fault (xs ++ ys) ≡ first_fault fault ys
 first_fault-append fault xs ys none = rw (first_fault-join fault xs ys, none) refl
+
+pub length-table_numbers : (image : Image) (offset n : ℕ) → length (table_numbers image offset n) ≡ n
+length-table_numbers image offset n = counters_at-length 6 image offset n
+
+-- images that agree over a table's bytes have the same numbers there
+pub table_numbers_same : (f g : Image) (o p n : ℕ) → ((k : ℕ) → k < 8 * n → f (o + k) ≡ g (p + k)) → table_numbers f o n ≡ table_numbers g p n
+table_numbers_same f g o p n same = counters_at-same 6 n (8 * n) f g o p (lit≤ tt) (omega arith) same
 
 -- a number more that is an entry
 pub first_fault_more : (fault : ℕ → Option Fault) (xs : List ℕ) (v : ℕ) → first_fault fault xs ≡ None → fault v ≡ None → first_fault fault (xs ++ v ∷ []) ≡ None

@@ -1,4 +1,4 @@
-use Rattle.std.proofs.Common.{length, rules}
+use Rattle.std.proofs.Common.{rules}
 use Rattle.qcow2_metadata.proofs.PieceLemmas.{table-same, table-stands}
 use Rattle.qcow2_metadata.proofs.table.Table.write.Goals as goal
 

@@ -1,4 +1,4 @@
-use Rattle.std.proofs.Common.{◌≡◌, ◌^◌, ◌≤◌, max, rules}
+use Rattle.std.proofs.Common.{◌≡◌, max, rules}
 use Rattle.qcow2_metadata.proofs.OneEntryLemmas.{part_of_alignments}
 use Rattle.qcow2_metadata.proofs.table.one_entry.entries_at_once.Goals as goal
 

@@ -1,4 +1,4 @@
-use Rattle.std.proofs.Common.{◌≡◌, ◌*◌, ◌%◌, ◌^◌, ◌∙◌, sym}
+use Rattle.std.proofs.Common.{◌∙◌, sym}
 use Rattle.qcow2_metadata.proofs.RunsLemmas.{after_a_compressed_entry, after_an_entry_with_a_cluster, after_an_entry_without_one, after_an_external_entry_without_one, has_offset, step_fits}
 use Rattle.qcow2_metadata.proofs.entries.runs.RunPattern.of.Goals as goal
 

@@ -1,4 +1,4 @@
-use Rattle.std.proofs.Common.{◌≡◌, ◌+◌, ◌-◌, ◌%◌, ◌^◌, ◌≤◌, ◌∙◌, length, refl, sym, arith, map-id}
+use Rattle.std.proofs.Common.{◌≡◌, ◌∙◌, length, refl, sym, arith, map-id}
 use Rattle.std.proofs.lemmas.Bool.Decides.{Decides-eqb}
 use Rattle.qcow2_metadata.proofs.RunsLemmas.{pattern_fits, run_of_pattern}
 use Rattle.qcow2_metadata.proofs.table.l2_table.EntryTable+AtomicL2Entry.run_length.Goals as goal
