@@ -1,4 +1,4 @@
-use Rattle.std.proofs.Common.{◌≡◌, ℕ, true, not, ◌&&◌, nat_le, nat_eq, ◌+◌, ◌-◌, ◌/◌, ◌^◌, ◌<◌, if◌then◌else◌, Option, Some, None, option_map, slice_index, List, [], ◌∷◌, ◌++◌, length, take, drop, get_or, suc, option_to_list, append_assoc, append-nil, ap, subst, sym, refl, ◌∙◌, arith}
+use Rattle.std.proofs.Common.{◌≡◌, ℕ, true, not, ◌&&◌, nat_le, nat_eq, ◌+◌, ◌-◌, ◌/◌, ◌^◌, ◌<◌, if◌then◌else◌, Option, Some, None, option_map, List, [], ◌∷◌, ◌++◌, length, take, drop, get_or, suc, option_to_list, append_assoc, append-nil, ap, subst, sym, refl, ◌∙◌, arith}
 use Rattle.std.proofs.Math.Nat.{le-div_iff_mul-le}
 use Rattle.std.proofs.lemmas.Nat.{pow_pos}
 use Rattle.std.proofs.lemmas.Bool.Decides.{nat_tests}
