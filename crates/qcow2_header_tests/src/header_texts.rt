@@ -54,12 +54,18 @@ pub(crate) const LOADED: &[(Changes, Changes, Option<&'static str>)] = &[
     ("15=01, 19=02", "15=7000000002, 112=:FI", None),
     // unknown fields and their padding
     ("103=69ab", "103=70ab, 119=00", None),
+    ("103=70", "103=70, 119=00", None),
     ("102=01f8ab", "102=01f8ab, 511=00", None),
     // all that a header can have
     (RICH, RICH_WRITTEN, Some("new")),
     // End loses its data
     ("110=0190", "111=00", None),
-    // an extension of 5 bytes at an odd place
+    // fifty empty extensions, and one of 5 bytes at an odd place
+    (
+        "104=0000000700000000*50",
+        "104=0000000700000000*50, 511=00",
+        None,
+    ),
     (FIVE_BYTES, "103=70, 115=0700000005:abcde, 135=00", None),
     // a header that fills a cluster of 2 MiB
     ("23=15, 101=1ffff8", "23=15, 101=1ffff8, 2097151=00", None),

@@ -44,6 +44,7 @@ const ROWS: &[Row] = rows! {
         &[(1543, Backing(1536)), (34311, Data(5, true))]),
     ("an L2 table at the end of 2^56", 9, &[(512, 0x80ff_ffff_ffff_fe00)], ABSENT),
     ("no L1 entry", 9, &[(32, 0)], ABSENT),
+    ("an L1 entry that is copied and names none", 9, &[(512, COPIED)], ABSENT),
     ("no L1 entry, at 2^56", 9, &[(32, 0), (40, 1 << 56)], ABSENT),
     ("a disk of 0 bytes", 9, &[(24, 0)], &[(1543, Data(5, true))]),
     ("data that isn't copied", 9, &[(1048, 0xa00)], &[(1543, Data(5, false))]),

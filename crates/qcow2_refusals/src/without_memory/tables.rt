@@ -68,7 +68,7 @@ fn make_in_memory(held: &mut Held, index: usize, sum: &mut Sum) {
     look_up(&mut held.l2_table, sum);
     change(&mut held.l2_table, index, sum);
     count(&mut held.block, index, sum);
-    make_new(held.alloc, &held.header, index, sum);
+    make_new(held.l1_table.allocator(), &held.header, index, sum);
 }
 
 fn look_at<T: Table>(table: &mut T, index: usize, sum: &mut Sum) {

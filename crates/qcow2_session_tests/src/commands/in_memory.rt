@@ -41,6 +41,7 @@ const ROWS: &[Row] = rows! {
     ("edit IMAGE 0 discard:3 map:64:5", &[(88, 1)], (Some(Err(Fault::BadEdit(1))), ""), &[]),
     ("edit IMAGE 0 map:0:0", &[], (Some(Err(Fault::BadEdit(0))), ""), &[]),
     ("count IMAGE 2 dec:15 dec:0", &[], (DONE, "ok 2560\nrefused\n"), &[(1048, COPIED + 0x9ff)]),
+    ("count IMAGE 3 inc:0 inc:256", &[], (Some(Err(Fault::BadStep(1))), ""), &[]),
     ("at IMAGE 0", &[(0, 0)], (Some(Err(Fault::NotQcow2)), ""), &[(0, 0)]),
     ("map IMAGE", &[], (DONE, EXTENTS), &[]),
     ("map IMAGE json", &[], (DONE, JSON), &[]),

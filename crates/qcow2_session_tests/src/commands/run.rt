@@ -106,6 +106,7 @@ const NO_COMMANDS: &[&str] = &[
     "edit IMAGE 0 keep",
     "edit IMAGE 0 Discard:3",
     "edit IMAGE 0 discard:3 inc:3",
+    "count IMAGE 3 inc:",
     "count IMAGE",
     "count IMAGE 3 add:0",
     "count IMAGE 3 inc:+1",

@@ -52,6 +52,21 @@ const NAMES: Numbers<'static> = &[
 const NAMES_INFO: &str = "version 3\ncluster-bits 9\nsize 32768\nrefcount-order 4\nl1 0x200 1\n\
     refcount-table 0x0 0\nbacking 8 base.img\nformat 5 qcow2\nexternal yes\ndata-file 8 data.raw\n";
 
+// Version 2 with a refcount table, and a backing file whose name has a character of two bytes.
+const OLDER: Numbers<'static> = rows! {
+    (0, 0x5146_49fb_0000_0002), (8, 144), (16, 0x0000_0006_0000_0009), (48, 0x800), (56, 2 << 32),
+    (144, 0xc3a4_2e69_6d67_0000)
+};
+
+const OLDER_INFO: &str = "version 2\ncluster-bits 9\nsize 32768\nrefcount-order 4\nl1 0x200 1\n\
+    refcount-table 0x800 2\nbacking 6 \u{e4}.img\nformat none\nexternal no\ndata-file none\n";
+
+const TABLE_TWICE: Numbers<'static> = &[(32, 2), (520, COPIED + 0x400)];
+
+const TWO_LINES: &str = "0x600 data 0xa00 copied\n0x8600 data 0xa00 copied\n";
+
+const SECOND_ALONE: Numbers<'static> = &[(32, 2), (512, 0), (520, 0x400)];
+
 const FAR_L1_TABLE: Numbers<'static> = &[(32, 65), (40, (1 << 56) - 512)];
 
 const FAR_INFO: &str = "version 3\ncluster-bits 9\nsize 32768\nrefcount-order 4\n\
@@ -91,6 +106,7 @@ const LOOKS: &[(&str, Outcome<'static>)] = rows! {
     // whole images
     ("info IMAGE", (0, INFO, "")),
     ("list IMAGE", (0, LIST, "")),
+    ("at IMAGE 0", (0, BACKING, "")),
     ("at IMAGE 1543", (0, DATA_LINE, "")),
     ("at IMAGE 32768", (0, "backing 0x8000\n", "")),
     ("at IMAGE 18446744073709551615", (0, "backing 0xfffffffffffffe00\n", "")),
@@ -138,6 +154,12 @@ const ROWS: &[Row] = rows! {
     (HEADER_ALONE, "at IMAGE 0", (0, BACKING, ""), HEADER_ALONE),
     (HEADER_ALONE, "edit IMAGE 0", NO_TABLE, HEADER_ALONE),
     (NAMES, "info IMAGE", (0, NAMES_INFO, ""), NAMES),
+    (OLDER, "info IMAGE", (0, OLDER_INFO, ""), OLDER),
+    // one L2 table named twice, one by the second L1 entry alone, and an L1 entry that is copied and names none
+    (TABLE_TWICE, "list IMAGE", (0, TWO_LINES, ""), TABLE_TWICE),
+    (SECOND_ALONE, "list IMAGE", (0, "0x8600 data 0xa00 copied\n", ""), SECOND_ALONE),
+    (&[(512, COPIED)], "list IMAGE", SILENT, &[(512, COPIED)]),
+    (&[(512, COPIED)], "edit IMAGE 0 zero:3", NO_TABLE, &[(512, COPIED)]),
     // a damaged part is its fault where a command reads it
     (&[(0, 0)], "list IMAGE", NO_IMAGE, &[(0, 0)]),
     (&[(0, 0)], "edit IMAGE 0 discard:3", NO_IMAGE, &[(0, 0)]),
