@@ -155,7 +155,7 @@ const ROWS: &[Row] = rows! {
     (HEADER_ALONE, "edit IMAGE 0", NO_TABLE, HEADER_ALONE),
     (NAMES, "info IMAGE", (0, NAMES_INFO, ""), NAMES),
     (OLDER, "info IMAGE", (0, OLDER_INFO, ""), OLDER),
-    // one L2 table named twice, one by the second L1 entry alone, and an L1 entry that is copied and names none
+    // one L2 table named twice, one by the second L1 entry alone, and a copied L1 entry that names none
     (TABLE_TWICE, "list IMAGE", (0, TWO_LINES, ""), TABLE_TWICE),
     (SECOND_ALONE, "list IMAGE", (0, "0x8600 data 0xa00 copied\n", ""), SECOND_ALONE),
     (&[(512, COPIED)], "list IMAGE", SILENT, &[(512, COPIED)]),
