@@ -1,7 +1,8 @@
-use Rattle.std.proofs.Common.{◌≡◌, ◌≢◌, ◌⊎◌, ℕ, false, List, [], Option, Result, Ok, Err, OnOk, IsTrue, inl, inr, refl, arith}
+use Rattle.std.proofs.lemmas.Bool.Decides.{nat_tests}
+use Rattle.std.proofs.Common.{◌≡◌, ◌≢◌, ◌⊎◌, ℕ, false, List, [], Option, Result, Ok, Err, OnOk, IsTrue, arith}
 use Rattle.std.specs.Result.{IfOk, IsOkAnd, IsOkUnless}
 use Rattle.std.specs.Io.KnownBytes.{Appends}
-use Rattle.std.proofs.lemmas.Result.{IfErr-weaker, on_ok_weaker}
+use Rattle.std.proofs.lemmas.Result.{on_ok_weaker}
 use Rattle.qcow2_base.specs.Storage.{Image, StorageState}
 use Rattle.qcow2_base.specs.declared.fault.Fault.{Fault}
 use Rattle.qcow2_base.specs.declared.fault.Fault.TheVariants.{NoMemory, Storage}
@@ -65,30 +66,15 @@ pub change-printed : {T E : Type 0} (answer : Result T Fault) (format : ClusterF
     → (IsTrue old.tells → StaysOutside format tell run old.byte_at new.byte_at)
     → IsOkUnless answer Storage → OnOk answer (Appends a b lines) → PrintsChange answer format end old new a b
 change-printed answer format tell end run lines old new a b is made loads calm idle outside fault printed =
-    let found = λ (told : IsTrue old.tells). ok-left run (λ left. (tell left).lines) lines (made told) in record {
-      lines = on_ok_weaker answer (λ appended told. rw (is told, (found told).1) (rw (found told).2 appended)) printed;
-      refused = IfErr-weaker answer _ _ (λ error storage told. inr (inr (storage, inr (rw (is told, (found told).1) refl)))) fault;
-      written = λ calls told. rw (is told, (found told).1) (rw (found told).1 at (loads told));
-      unchanged = IfErr-weaker answer _ _ (λ error storage other. absurd (other storage)) fault;
-      idle = λ told. rw (is told, (found told).1) (rw (found told).1 at (idle told));
-      others = λ told. rw (is told, (found told).1) (rw (found told).1 at (outside told));
-      torn = λ told failed. absurd (failed calm);
-    }
+    grind (arith, nat_tests, ok-left, on_ok_weaker)
 
 -- there is no place for a change, so none is made
 pub change-unplaced : {T : Type 0} (fault : Fault) (format : ClusterFormat) (end : Result ChangeEnd Fault) (old new : StorageState) (a b : Option (List ℕ))
     → (IsTrue old.tells → (fault ≡ Storage) ⊎ (fault ≡ NoMemory) ⊎ (end ≡ Err fault))
     → (fault ≡ Storage → new.failures ≢ old.failures) → new.byte_at ≡ old.byte_at
     → PrintsChange {T = T} (Err fault) format end old new a b
-change-unplaced fault format end old new a b refused failed same = record {
-  lines = tt;
-  refused = refusal-of fault end old new refused failed;
-  written = λ made. absurd (failed made.0 made.1);
-  unchanged = λ other. same;
-  idle = λ told. of-any end (λ left writes. same);
-  others = λ told. grind (arith, same);
-  torn = λ told call. inl same;
-}
+change-unplaced fault format end old new a b refused failed same =
+    grind (arith, nat_tests, refusal-of, of-any)
 
 -- there is a place for a change, which is refused
 pub change-refused : {T E : Type 0} (fault : Fault) (format : ClusterFormat) (tell : E → ChangeEnd) (end : Result ChangeEnd Fault) (run : Result E Fault) (old new : StorageState) (a b : Option (List ℕ))
@@ -99,12 +85,5 @@ pub change-refused : {T E : Type 0} (fault : Fault) (format : ClusterFormat) (te
     → (IsTrue old.tells → StaysIdle tell run old.byte_at new.byte_at)
     → (IsTrue old.tells → StaysOutside format tell run old.byte_at new.byte_at)
     → PrintsChange {T = T} (Err fault) format end old new a b
-change-refused fault format tell end run old new a b is refused failed unchanged torn idle outside = record {
-  lines = tt;
-  refused = refusal-of fault end old new (λ told. refused-as fault (λ (bad : run ≡ Err fault). rw (is told, bad) refl) (refused told)) failed;
-  written = λ made. absurd (failed made.0 made.1);
-  unchanged = unchanged;
-  idle = λ told. rw (is told) (grind (arith, idle told));
-  others = λ told. rw (is told) (grind (arith, failed, unchanged, torn told, outside told));
-  torn = λ told call. rw (is told) (grind (arith, torn told call));
-}
+change-refused fault format tell end run old new a b is refused failed unchanged torn idle outside =
+    grind (arith, nat_tests, refusal-of, refused-as)

@@ -16,16 +16,13 @@ use Rattle.qcow2_metadata.specs.Header.{Geometry}
 use Rattle.qcow2_metadata.specs.Table.{TableState, loaded_l2_table, mapping_at}
 use Rattle.qcow2_metadata.specs.Table.L2Table.{IsMappedRun}
 use Rattle.qcow2_session.specs.Session.Lookups.{l2_cluster, named_cluster}
-use Rattle.qcow2_session.specs.Session.Extents.{AreExtents, AreInOneTable, Contents, ExtentsState, HasNoTable, IsExtent, IsPiece, IsRefusedFrom, KeepsTableOf, ReadAsOne, StaysReader, content_in, contents_for, contents_in, contents_of, extent_of, moved_on}
+use Rattle.qcow2_session.specs.Session.Extents.{AreExtents, AreInOneTable, Contents, ExtentsState, HasNoTable, IsExtent, IsPiece, IsRefusedFrom, ReadAsOne, StaysReader, content_in, contents_for, contents_in, contents_of, extent_of, moved_on}
 use Rattle.qcow2_session.specs.declared.session.extents.Extent.{Extent}
 use Rattle.qcow2_session.specs.declared.session.extents.Content.{Content}
-use Rattle.qcow2_session.specs.declared.session.extents.Content.TheVariants.{Absent}
 
 -- an offset's distance from its cluster's begin is less than the largest cluster
 pub distance_below : (cb offset distance : ℕ) → cb ≤ 21 → distance ≡ offset % 2 ^ cb → distance < 2 ^ 21
-distance_below cb offset distance high is =
-    let power : 2 ^ cb ≤ 2 ^ 21 = pow_mono high in
-    omega (arith, is, mod-lt offset (pow_pos cb), power)
+distance_below cb offset distance high is = grind (arith, nat_tests, pow_mono, mod-lt, pow_pos)
 
 -- where no L2 table is named before an L1 entry, nor by it, none is up to it
 pub unnamed_more : (cb : ℕ) (l1 : List ℕ) (first index : ℕ) (found : Option HostCluster) → ((k : ℕ) → first ≤ k → k < index → named_cluster cb (get_or l1 k 0) ≡ None)
@@ -57,25 +54,13 @@ reaches_next cb from next low above = (before_entry cb from next low).0 (omega (
 pub no_table_before : (cb : ℕ) (l1 : List ℕ) (from next to : ℕ) → 9 ≤ cb → l2_cluster cb l1 (from / 2 ^ cb) ≡ None → to ≤ next * 2 ^ (2 * cb - 3)
     → ((k : ℕ) → from / 2 ^ cb / 2 ^ (cb - 3) + 1 ≤ k → k < next → named_cluster cb (get_or l1 k 0) ≡ None)
     → HasNoTable cb l1 from to
-no_table_before cb l1 from next to low here end none = λ offset above below.
-    let k = offset / 2 ^ cb / 2 ^ (cb - 3) in
-    let less : k < next = (before_entry cb offset next low).1 (omega (arith, below, end)) in
-    let more = div_rises (from / 2 ^ cb) (offset / 2 ^ cb) (2 ^ (cb - 3)) (pow_pos (cb - 3)) (div_rises from offset (2 ^ cb) (pow_pos cb) above) in
-    elim (cases_lt (from / 2 ^ cb / 2 ^ (cb - 3)) k) [
-      | inl later ↦ none k (omega (arith, later)) less
-      | inr same ↦ let is : k ≡ from / 2 ^ cb / 2 ^ (cb - 3) = omega (arith, same, more) in rw is here
-    ]
+no_table_before cb l1 from next to low here end none =
+    grind (arith, nat_tests, before_entry, div_rises, pow_pos)
 
 pub no_table_after : (cb : ℕ) (l1 : List ℕ) (from to : ℕ) → l2_cluster cb l1 (from / 2 ^ cb) ≡ None
     → ((k : ℕ) → from / 2 ^ cb / 2 ^ (cb - 3) + 1 ≤ k → named_cluster cb (get_or l1 k 0) ≡ None)
     → HasNoTable cb l1 from to
-no_table_after cb l1 from to here none = λ offset above below.
-    let k = offset / 2 ^ cb / 2 ^ (cb - 3) in
-    let more = div_rises (from / 2 ^ cb) (offset / 2 ^ cb) (2 ^ (cb - 3)) (pow_pos (cb - 3)) (div_rises from offset (2 ^ cb) (pow_pos cb) above) in
-    elim (cases_lt (from / 2 ^ cb / 2 ^ (cb - 3)) k) [
-      | inl later ↦ none k (omega (arith, later))
-      | inr same ↦ let is : k ≡ from / 2 ^ cb / 2 ^ (cb - 3) = omega (arith, same, more) in rw is here
-    ]
+no_table_after cb l1 from to here none = grind (arith, nat_tests, div_rises, pow_pos)
 
 -- what clusters read as goes on byte by byte
 data_moves : (cb k before cluster d e n : ℕ) → cluster ≡ before + k → k * 2 ^ cb + e ≡ d + n → cluster * 2 ^ cb + e ≡ before * 2 ^ cb + d + n
@@ -160,15 +145,8 @@ pub piece_in_image : (g : Geometry) (l1 : List ℕ) (image : Image) (size from :
     → l2_cluster g.cluster_bits l1 (from / 2 ^ g.cluster_bits) ≡ Some cluster → loaded_l2_table g cluster image ≡ Ok table.numbers
     → IsPiece (contents_in table) size from piece → AreInOneTable g.cluster_bits from piece.1
     → IsPiece (contents_of g l1 image) size from piece
-piece_in_image g l1 image size from table cluster piece same named loaded told inside = (
-  told.0,
-  told.1,
-  λ n below.
-      let cb = g.cluster_bits in
-      let index = inside (from + n) (omega arith) (omega (arith, below)) in
-      let here : l2_cluster cb l1 ((from + n) / 2 ^ cb) ≡ Some cluster = rw index named in
-      in_its_table g l1 image (from + n) table cluster same here loaded ∙ told.2 n below,
-)
+piece_in_image g l1 image size from table cluster piece same named loaded told inside =
+    grind (arith, nat_tests, in_its_table)
 
 -- what an answer that is `Ok` leads to
 pub ok_and_then : {T E : Type 0} (P Q : T → Type 0) (R : E → Type 0) (result : Result T E) → IsOkAnd result P → ((value : T) → P value → Q value) → MatchResult result Q R
@@ -225,9 +203,7 @@ refused_at_end contents size start end content fault some within reads refused =
     (end - start, content, omega (arith, at, within), reads, rw at refused)
 
 pub refused_at_start : (contents : Contents) (size start : ℕ) (fault : Fault) → start < size → contents start ≡ Err fault → IsRefusedFrom contents size start fault
-refused_at_start contents size start fault within refused =
-    let at : start + 0 ≡ start = omega arith in
-    (0, Absent, omega (arith, within), λ n none. absurd (omega (arith, none)), rw at refused)
+refused_at_start contents size start fault within refused = grind (arith, nat_tests)
 
 -- what holds of an image by a reader holds later too, where both stay
 pub carried : (old new : Image) (reader later : ExtentsState) (P : Contents → ℕ → Type 0) → later ≡ record reader { table = later.table } → new ≡ old
@@ -240,10 +216,7 @@ pub size_stays : (reader later : ExtentsState) → later ≡ record reader { tab
 size_stays reader later same = ap (λ (r : ExtentsState). r.header.v2.size) same
 
 pub stays_twice : (old new : StorageState) (first second third : ExtentsState) → OnlyReads {T = ℕ} (Ok 0) old new → StaysReader old first second → StaysReader new second third → StaysReader old first third
-stays_twice old new first second third reads one other = record {
-  same = other.same ∙ ap (λ (r : ExtentsState). record r { table = third.table }) one.same;
-  kept = λ told. subst (λ (image : Image). KeepsTableOf image third) reads.bytes (other.kept (reads.device.tells ∙ told));
-}
+stays_twice old new first second third reads one other = grind (arith, nat_tests)
 
 -- reads that were answered, whatever the answer
 pub reads_any : {A B : Type 0} (value : A) (other : B) (old new : StorageState) → OnlyReads (Ok value) old new → OnlyReads (Ok other) old new
@@ -257,21 +230,10 @@ extent_begins contents size from extent is =
 
 no_shorter : (contents : Contents) (size from length : ℕ) (content : Content) (extent : Extent) → IsExtent contents size from extent → extent.content ≡ content
     → ReadAsOne contents from length content → from + length ≤ size → extent.length < length → ⊥
-no_shorter contents size from length content extent is same reads within less =
-    let differs = is.ends (omega (arith, within, less)) in
-    let known : contents (from + extent.length) ≡ Ok (moved_on extent.length extent.content) = rw same (reads extent.length less) in
-    let told : Ok differs.0 ≡ Ok (moved_on extent.length extent.content) = sym differs.1 ∙ known in
-    differs.2 (cc told)
+no_shorter contents size from length content extent is same reads within less = grind (arith, nat_tests)
 
 pub extent_once : (contents : Contents) (size from : ℕ) (one other : Extent) → IsExtent contents size from one → IsExtent contents size from other → one ≡ other
-extent_once contents size from one other first second =
-    let told : Ok one.content ≡ Ok other.content = sym (extent_begins contents size from one first) ∙ extent_begins contents size from other second in
-    let content : one.content ≡ other.content = cc told in
-    let starts : one.start.0 ≡ other.start.0 = first.start ∙ sym second.start in
-    let least = no_shorter contents size from other.length other.content one first content second.reads second.within in
-    let most = no_shorter contents size from one.length one.content other second (sym content) first.reads first.within in
-    let length : one.length ≡ other.length = omega (arith, least, most) in
-    λ i. record { start = record { 0 = starts i }; length = length i; content = content i }
+extent_once contents size from one other first second = grind (arith, nat_tests, extent_begins, no_shorter)
 
 -- a disk has one map
 pub map_once : (contents : Contents) (size from : ℕ) (xs ys : List Extent) → AreExtents contents size from xs size → AreExtents contents size from ys size → xs ≡ ys

@@ -1,3 +1,4 @@
+use Rattle.std.proofs.lemmas.Bool.Decides.{nat_tests}
 use Rattle.std.proofs.Common.{◌≡◌, ℕ, zero, suc, ◌+◌, ◌<◌, ◌≤◌, List, [], ◌∷◌, ◌++◌, drop, get_or, length, Some, None, inl, inr, refl, ap, arith}
 use Rattle.std.proofs.lemmas.Bool.{cases_lt}
 use Rattle.std.proofs.lemmas.List.{drop_more, get_or_past}
@@ -25,10 +26,7 @@ none_left g l1 image (suc n) i past none = elim (cases_lt i (length l1)) [
 
 -- an entry that names a table is one of the L1 table's
 named_below : (cb : ℕ) (l1 : List ℕ) (k : ℕ) (cluster : HostCluster) → named_cluster cb (get_or l1 k 0) ≡ Some cluster → k < length l1
-named_below cb l1 k cluster named = elim (cases_lt k (length l1)) [
-  | inl below ↦ below
-  | inr past ↦ let bad = rw (get_or_past l1 k 0 past) at named in cc
-]
+named_below cb l1 k cluster named = grind (arith, nat_tests, get_or_past)
 
 -- where the next entry that names a table is so many further on, its table is the first
 pub first_left : (g : Geometry) (l1 : List ℕ) (image : Image) (n i next : ℕ) (cluster : HostCluster) → next ≡ i + n

@@ -1,3 +1,4 @@
+use Rattle.std.proofs.lemmas.Bool.Decides.{nat_tests}
 use Rattle.std.proofs.Common.{◌≡◌, ◌≢◌, ◌⊎◌, ℕ, inl, inr, ◌+◌, ◌-◌, ◌*◌, ◌%◌, ◌^◌, ◌<◌, ◌≤◌, List, [], ◌∷◌, ◌++◌, length, get_or, map, take, Option, Result, Ok, Err, IsTrue, ap, sym, ◌∙◌, add-one, append_assoc, append-nil, arith}
 use Rattle.std.specs.List.{concat}
 use Rattle.std.specs.Io.KnownBytes.{Appends}
@@ -9,13 +10,13 @@ use Rattle.std.proofs.lemmas.Nat.{mod-mul-add, mul-add-lt, mul-lt}
 use Rattle.qcow2_base.specs.Storage.{Image, OnlyReads, StorageState}
 use Rattle.qcow2_base.specs.declared.fault.Fault.{Fault}
 use Rattle.qcow2_base.specs.declared.fault.Fault.TheVariants.{NoMemory, Storage}
-use Rattle.qcow2_metadata.specs.Header.{Geometry, HeaderRecord, geometry_of}
+use Rattle.qcow2_metadata.specs.Header.{Geometry, geometry_of}
 use Rattle.qcow2_metadata.specs.Entries.L2Mapping.{Mapping, mapping}
 use Rattle.qcow2_session.proofs.LinesLemmas.{entry_lines-take-suc}
 use Rattle.qcow2_session.proofs.PrintingLemmas.{read_fault-of, reads-calm}
 use Rattle.qcow2_session.specs.Lines.{entry_line, entry_lines}
 use Rattle.qcow2_session.specs.Commands.Entries.{table_lines}
-use Rattle.qcow2_session.specs.Commands.Listing.{PrintsList, PrintsTables, PrintsTablesBefore, TableTexts, texts_left, texts_of}
+use Rattle.qcow2_session.specs.Commands.Listing.{PrintsList, PrintsTables, PrintsTablesBefore, TableTexts, texts_left}
 use Rattle.qcow2_session.specs.Session.L2Tables.{WalkState, tables_left}
 use Rattle.qcow2_session.specs.declared.commands.entries.Label.TheVariants.{Offset}
 
@@ -55,9 +56,7 @@ tables-known some more rest all are = rw (map-append {B = Result (List ℕ) Faul
 pub texts-more : (left next : WalkState) (index : ℕ) (numbers : List ℕ) (image : Image) → next.header ≡ left.header
     → tables_left left image ≡ (index, Ok numbers) ∷ tables_left next image
     → texts_left left image ≡ Ok (table_lines Offset (geometry_of left.header) index numbers) ∷ texts_left next image
-texts-more left next index numbers image header first =
-    let g = geometry_of left.header in
-    ap (texts_of g) first ∙ ap (λ (h : HeaderRecord). Ok (table_lines Offset g index numbers) ∷ texts_of (geometry_of h) (tables_left next image)) (sym header)
+texts-more left next index numbers image header first = grind (arith, nat_tests)
 
 -- the print of some tables ended after others were printed
 pub PrintsTablesBefore-after : (fault : Fault) (known : List (List ℕ)) (some more all : TableTexts) (old between new : StorageState) (a b c : Option (List ℕ))

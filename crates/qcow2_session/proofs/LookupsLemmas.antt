@@ -1,4 +1,5 @@
-use Rattle.std.proofs.Common.{◌≡◌, ℕ, ◌+◌, ◌-◌, ◌*◌, ◌/◌, ◌^◌, ◌<◌, ◌≤◌, Some, None, Result, Ok, ap, lit<, sym, ◌∙◌, arith}
+use Rattle.std.proofs.lemmas.Bool.Decides.{nat_tests}
+use Rattle.std.proofs.Common.{◌≡◌, ℕ, ◌+◌, ◌-◌, ◌*◌, ◌/◌, ◌^◌, ◌<◌, ◌≤◌, Some, None, Result, Ok, ap, sym, ◌∙◌, arith}
 use Rattle.std.proofs.Math.Nat.{div-mul-le_self, pow-le-pow_right}
 use Rattle.std.proofs.lemmas.Nat.{mul-le, pow-add, shr_below}
 use Rattle.qcow2_base.specs.Storage.{OnlyReads, ReadsFor, StorageState}
@@ -25,36 +26,19 @@ cluster_ends offset cb high below =
 -- and so does the one that an L1 entry's offset lies in
 pub l2_cluster_ends : (v cb cluster : ℕ) (offset : HostOffset) → cb ≤ 21 →
     offset_unless_zero (offset_field v) ≡ Some offset → cluster ≡ offset.0 / 2 ^ cb → cluster * 2 ^ cb + 2 ^ cb ≤ 2 ^ 56
-l2_cluster_ends v cb cluster offset high says is =
-    let below : offset_field v < 2 ^ 56 = omega arith in
-    let field_is : offset.0 ≡ offset_field v = grind (arith, says) in
-    rw is (cluster_ends offset.0 cb high (omega (arith, below, field_is)))
+l2_cluster_ends v cb cluster offset high says is = grind (arith, nat_tests, cluster_ends)
 
 -- an L2 table that begins with a cluster of the image can lie there
 pub l2_table-lawful : (place : TablePlace) → place.entries ≡ 2 ^ (place.geometry.cluster_bits - 3) →
     IsInImage place.geometry.cluster_bits place.cluster → place_fault l2_kind place ≡ None
-l2_table-lawful place full within =
-    let cb = place.geometry.cluster_bits in
-    let high : cb - 3 ≤ 18 = omega (arith, within.0.1) in
-    let few : 2 ^ (cb - 3) ≤ 2 ^ 18 = pow-le-pow_right (lit< tt) high in
-    let whole : 3 + (cb - 3) ≡ cb = omega (arith, within.0.0) in
-    let size : 2 ^ cb ≡ 2 ^ 3 * 2 ^ (cb - 3) = sym (ap (λ x. 2 ^ x) whole) ∙ pow-add 2 3 (cb - 3) in
-    grind (arith, few, size, full, within.1)
+l2_table-lawful place full within = grind (arith, nat_tests, pow-le-pow_right, pow-add)
 
 -- reads one after the other, of which the first succeeded, are reads
 pub reads-then : {A B : Type 0} (value : A) (answer : Result B Fault) (first second third : StorageState) →
     OnlyReads (Ok value) first second → OnlyReads answer second third → OnlyReads answer first third
-reads-then value answer first second third one other = record {
-  told = grind (arith, one.told, other.told);
-  bytes = other.bytes ∙ one.bytes;
-  device = grind (arith, one.device, other.device);
-}
+reads-then value answer first second third one other = grind (arith, nat_tests)
 
 -- reads that were answered, and then calls that only read
 pub reads-then_for : {A told : Type 0} (value : A) (first second third : StorageState) →
     OnlyReads (Ok value) first second → ReadsFor told second third → ReadsFor told first third
-reads-then_for value first second third one other = record {
-  failed = grind (arith, one.told, other.failed);
-  bytes = other.bytes ∙ one.bytes;
-  device = grind (arith, one.device, other.device);
-}
+reads-then_for value first second third one other = grind (arith, nat_tests)

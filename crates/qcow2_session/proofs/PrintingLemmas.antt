@@ -1,3 +1,4 @@
+use Rattle.std.proofs.lemmas.Bool.Decides.{nat_tests}
 use Rattle.std.proofs.Common.{◌≡◌, ◌≢◌, ◌⊎◌, ℕ, ◌+◌, ◌<◌, List, [], ◌∷◌, ◌++◌, append-nil, flat_map, take_all, get_or, length, take, Option, Result, Ok, Err, OnOk, IsTrue, ap, inl, inr, refl, arith}
 use Rattle.std.specs.Result.{IsOkUnless}
 use Rattle.std.specs.Io.KnownBytes.{Appends}
@@ -5,7 +6,7 @@ use Rattle.std.proofs.KnownBytes.{Appends-trans}
 use Rattle.std.proofs.lemmas.Grind.{flat_map-append}
 use Rattle.std.proofs.lemmas.List.{take_more}
 use Rattle.std.proofs.lemmas.List.Folds.{flat_map-map}
-use Rattle.std.proofs.lemmas.Result.{IfErr-weaker, on_ok_weaker}
+use Rattle.std.proofs.lemmas.Result.{on_ok_weaker}
 use Rattle.qcow2_base.specs.Storage.{OnlyReads, SameDevice, StorageState}
 use Rattle.qcow2_base.specs.declared.fault.Fault.{Fault}
 use Rattle.qcow2_base.specs.declared.fault.Fault.TheVariants.{NoMemory, Storage}
@@ -32,19 +33,13 @@ read_fault-of fault meant old new (inr (inr bad)) failed = inl bad
 -- and of a command, whose output may fail too
 pub refusal-of : {V : Type 0} (fault : Fault) (meant : Result V Fault) (old new : StorageState)
     → (IsTrue old.tells → (fault ≡ Storage) ⊎ (fault ≡ NoMemory) ⊎ (meant ≡ Err fault)) → (fault ≡ Storage → new.failures ≢ old.failures) → IsRefusal meant old new fault
-refusal-of fault meant old new refused failed told = elim (read_fault-of fault meant old new (refused told) failed) [
-  | inl bad ↦ inl bad
-  | inr (inl memory) ↦ inr (inl memory)
-  | inr (inr (storage, moved)) ↦ inr (inr (storage, inl moved))
-]
+refusal-of fault meant old new refused failed told = grind (arith, nat_tests, read_fault-of)
 
 -- what is read from the bytes is refused, so no line of it is meant
 pub Prints-refused : {T A : Type 0} (fault : Fault) (read : Result A Fault) (lines_of : A → List ℕ) (old new : StorageState) (a b : Option (List ℕ))
     → (IsTrue old.tells → (fault ≡ Storage) ⊎ (fault ≡ NoMemory) ⊎ (read ≡ Err fault)) → (fault ≡ Storage → new.failures ≢ old.failures) → Prints {T = T} (Err fault) (result_map lines_of read) old new a b
-Prints-refused fault read lines_of old new a b refused failed = record {
-  lines = tt;
-  refused = refusal-of fault (result_map lines_of read) old new (λ told. refused-as fault (ap (result_map lines_of)) (refused told)) failed;
-}
+Prints-refused fault read lines_of old new a b refused failed =
+    grind (arith, nat_tests, refusal-of, refused-as)
 
 -- the lines of one item more
 pub printed-more : {X : Type 0} (line : X → List ℕ) (items : List X) (i : ℕ) (default : X) (a b c : Option (List ℕ)) → i < length items
@@ -68,8 +63,4 @@ last-unprinted fault old new a failed device = record { refused = λ other. refl
 -- a print that comes last, after calls of the image of which none failed
 pub last-printed : {T O : Type 0} (answer : Result T Fault) (old new : StorageState) (a b : O) → IsOkUnless answer Storage → new.failures ≡ old.failures
     → SameDevice old new → PrintsLast answer old new a b
-last-printed answer old new a b fault calm device = record {
-  refused = IfErr-weaker answer _ _ (λ error is other. absurd (other is)) fault;
-  failed = λ moved. absurd (moved calm);
-  device = device;
-}
+last-printed answer old new a b fault calm device = grind (arith, nat_tests)

@@ -1,4 +1,5 @@
-use Rattle.std.proofs.Common.{◌≡◌, ℕ, Bool, List, None, Option, Result, Ok, arith, ◌∙◌}
+use Rattle.std.proofs.lemmas.Bool.Decides.{nat_tests}
+use Rattle.std.proofs.Common.{◌≡◌, ℕ, Bool, List, None, Option, Result, Ok, arith}
 use Rattle.qcow2_base.specs.Storage.{StorageState}
 use Rattle.qcow2_base.specs.declared.fault.Fault.{Fault}
 use Rattle.qcow2_base.specs.declared.types.HostCluster.{HostCluster}
@@ -26,9 +27,4 @@ other-placed command other = grind (arith, other)
 -- what a command prints last, after the header was loaded
 pub last-after_load : {T O : Type 0} (writable : Bool) (header : HeaderRecord) (answer : Result T Fault) (old left new : StorageState) (a b : O)
     → Opens writable (Ok header) old left → PrintsLast answer left new a b → PrintsLast answer old new a b
-last-after_load writable header answer old left new a b load last =
-    let calm : left.failures ≡ old.failures = grind (arith, load.writes.told) in record {
-      refused = last.refused;
-      failed = λ moved. last.failed (λ same. moved (same ∙ calm));
-      device = grind (arith, load.writes.device, last.device);
-    }
+last-after_load writable header answer old left new a b load last = grind (arith, nat_tests)

@@ -7,7 +7,7 @@ use Rattle.std.proofs.lemmas.List.{length-set}
 use Rattle.std.proofs.lemmas.List.FromFn.{get_or-map-range_with_len, length-map-range_with_len}
 use Rattle.std.specs.List.{range_with_len}
 use Rattle.qcow2_base.specs.declared.fault.Fault.{Fault}
-use Rattle.qcow2_metadata.specs.Table.L2Guards.{handed_back, one_if, times_gained}
+use Rattle.qcow2_metadata.specs.Table.L2Guards.{one_if, times_gained}
 use Rattle.std.proofs.lemmas.Grind.{same_number_lists}
 use Rattle.qcow2_metadata.specs.Entries.{is_among}
 use Rattle.qcow2_metadata.specs.Refblock.Counters.{AreCounters}
@@ -20,11 +20,7 @@ use Rattle.qcow2_session.specs.Session.Settled.{CanSettle, MarksModified, IsSame
 pub moves-twice : (change : CounterChange) (first second total : ℕ → ℕ) (a b c : BlockState)
     → ((index : ℕ) → index < length a.counters → total index ≡ first index + second index)
     → ChangesCounters change first a b → ChangesCounters change second b c → ChangesCounters change total a c
-moves-twice change first second total a b c is one other = record {
-  counters = λ index below. grind (arith, is index below, one.counters index below, other.counters index (omega (arith, one.entries, below)));
-  entries = other.entries ∙ one.entries;
-  others = other.others ∙ ap (λ (block : BlockState). record block { counters = c.counters; modified = c.modified }) one.others;
-}
+moves-twice change first second total a b c is one other = grind (arith, nat_tests)
 
 -- counters that move there and back
 pub moves-back : (change : CounterChange) (by : ℕ → ℕ) (a b c : BlockState) → ChangesCounters change by a b → ChangesCounters (opposite change) by b c → IsSameButFlag a c
@@ -93,10 +89,7 @@ pub range-stops : (change : CounterChange) (start at : ℕ) (fault : Fault) (ans
     → ChangesCounters change (λ i. one_if (is_between start at i)) a b → Steps change at answer b c → answer ≡ Err fault
     → ChangesCounters change (λ i. one_if (is_between start at i)) a c × (stepped a.refcount_order change (slice_index a.counters at) ≡ None)
 range-stops change start at fault answer a b c below moves steps is =
-    let refused = step-refused change at fault answer b c steps is in
-    let order = order-kept change (λ i. one_if (is_between start at i)) a b moves in
-    let same : slice_index b.counters at ≡ slice_index a.counters at = grind (arith, nat_tests, moves.counters at below) in
-    (subst (λ (block : BlockState). ChangesCounters change (λ i. one_if (is_between start at i)) a block) (sym refused.1) moves, rw (same, order) at refused.0)
+    grind (arith, nat_tests, step-refused, order-kept)
 
 -- a cluster is among itself alone
 one-among : (cluster : HostCluster) (c : ℕ) → one_if (is_among (range_of_one cluster) c) ≡ one_if (cluster.0 == c)
@@ -122,25 +115,15 @@ pub settled-by : (first : ℕ) (gained : List HostCluster) (freed : List Cluster
     → ChangesCounters Increment (λ i. times_among range_of_one gained (first + i)) a b → MarksModified (λ i. times_among range_of_one gained (first + i)) a b
     → ChangesCounters Decrement (λ i. times_among (λ (item : ClustersToFreeEntry). item) freed (first + i)) b c → MarksModified (λ i. times_among (λ (item : ClustersToFreeEntry). item) freed (first + i)) b c
     → Settles first freed (cluster_numbers gained) a c
-settled-by first gained freed a b c up up_flag down down_flag = record {
-  counters = λ i below. omega (arith, up.counters i below, down.counters i (omega (arith, below, up.entries)), times-gained gained (first + i));
-  entries = down.entries ∙ up.entries;
-  flag = flags-twice (λ i. times_among range_of_one gained (first + i)) (λ i. handed_back freed (first + i))
-      (λ i. times_gained (cluster_numbers gained) (first + i) + handed_back freed (first + i)) a b c
-      (λ i below. omega (arith, times-gained gained (first + i))) up.entries up_flag down_flag;
-  others = down.others ∙ ap (λ (block : BlockState). record block { counters = c.counters; modified = c.modified }) up.others;
-}
+settled-by first gained freed a b c up up_flag down down_flag =
+    grind (arith, nat_tests, times-gained, flags-twice)
 
 -- and that could
 pub can-settle : (first : ℕ) (gained : List HostCluster) (freed : List ClustersToFreeEntry) (a b c : BlockState)
     → ChangesCounters Increment (λ i. times_among range_of_one gained (first + i)) a b → AreCounters b.refcount_order b.counters
     → ChangesCounters Decrement (λ i. times_among (λ (item : ClustersToFreeEntry). item) freed (first + i)) b c
     → (index : ℕ) → index < length a.counters → CanSettle a first freed (cluster_numbers gained) index
-can-settle first gained freed a b c up fit down = λ i below.
-    let within : i < length b.counters = omega (arith, below, up.entries) in
-    let order = order-kept Increment (λ i. times_among range_of_one gained (first + i)) a b up in
-    let most = rw order at (fits b.refcount_order b.counters i fit within) in
-    omega (arith, most, up.counters i below, down.counters i within, times-gained gained (first + i))
+can-settle first gained freed a b c up fit down = grind (arith, nat_tests, order-kept, fits, times-gained)
 
 -- losses that don't fit
 pub losses-short : (first : ℕ) (gained : List HostCluster) (freed : List ClustersToFreeEntry) (a b : BlockState)
@@ -154,22 +137,14 @@ losses-short first gained freed a b up (i, below, short) =
 -- the same moves, counted otherwise
 pub moves-as : (change : CounterChange) (by other : ℕ → ℕ) (a b : BlockState) → ((i : ℕ) → i < length a.counters → other i ≡ by i)
     → ChangesCounters change by a b → ChangesCounters change other a b
-moves-as change by other a b same moves = record {
-  counters = λ i below. subst (λ (n : ℕ). IsChangedBy change n (slice_index a.counters i) (slice_index b.counters i)) (sym (same i below)) (moves.counters i below);
-  entries = moves.entries;
-  others = moves.others;
-}
+moves-as change by other a b same moves = grind (arith, nat_tests)
 
 pub flags-as : (by other : ℕ → ℕ) (a b : BlockState) → ((i : ℕ) → i < length a.counters → other i ≡ by i) → MarksModified by a b → MarksModified other a b
 flags-as by other a b same flags = grind (arith, same, flags)
 
 -- and with another flag
 pub moves-flagged : (change : CounterChange) (by : ℕ → ℕ) (a b c : BlockState) → IsSameButFlag b c → ChangesCounters change by a b → ChangesCounters change by a c
-moves-flagged change by a b c back moves = subst (λ (block : BlockState). ChangesCounters change by a block) (sym back) (record {
-  counters = moves.counters;
-  entries = moves.entries;
-  others = ap (λ (block : BlockState). record block { modified = c.modified }) moves.others;
-})
+moves-flagged change by a b c back moves = grind (arith, nat_tests)
 
 -- the counters of clusters are those from the first one's to before that of the one after the last
 pub among-between : (clusters : ClustersToFreeEntry) (first start end i : ℕ) → nat_lt i start ≡ nat_lt (first + i) clusters.first.0
@@ -185,15 +160,11 @@ clusters-short change by at a below one none =
 -- one more of a list
 pub times-more : {C : Type 0} (clusters : C → ClustersToFreeEntry) (list : List C) (at : ℕ) (item : C) (c : ℕ) → at < length list → item ≡ get_or list at item
     → times_among clusters (take (at + 1) list) c ≡ times_among clusters (take at list) c + one_if (is_among (clusters item) c)
-times-more clusters list at item c below is =
-    sum_by_more (λ one. one_if (is_among (clusters one) c)) list at item below
-    ∙ ap (λ one. times_among clusters (take at list) c + one_if (is_among (clusters one) c)) (sym is)
+times-more clusters list at item c below is = grind (arith, nat_tests, sum_by_more)
 
 pub times-within : {C : Type 0} (clusters : C → ClustersToFreeEntry) (list : List C) (at : ℕ) (item : C) (c : ℕ) → at < length list → item ≡ get_or list at item
     → times_among clusters (take at list) c + one_if (is_among (clusters item) c) ≤ times_among clusters list c
-times-within clusters list at item c below is =
-    subst (λ one. times_among clusters (take at list) c + one_if (is_among (clusters one) c) ≤ times_among clusters list c) (sym is)
-    (sum_by_more_le (λ one. one_if (is_among (clusters one) c)) list at item below)
+times-within clusters list at item c below is = grind (arith, nat_tests, sum_by_more_le)
 
 -- what can't be changed after a part can't be changed at all
 pub list-short : (change : CounterChange) (part one total : ℕ → ℕ) (a b : BlockState) → ChangesCounters change part a b
@@ -210,6 +181,4 @@ between-end start end at i past within = grind (arith, nat_tests)
 -- the numbers of a list, each by its index
 pub by-index : (numbers : List ℕ) → map (λ i. slice_index numbers i) (range_with_len 0 (length numbers)) ≡ numbers
 by-index numbers =
-    let len = length-map-range_with_len (λ i. slice_index numbers i) 0 (length numbers) in
-    same_number_lists (map (λ i. slice_index numbers i) (range_with_len 0 (length numbers))) numbers len
-    (λ k below. get_or-map-range_with_len (λ i. slice_index numbers i) 0 (length numbers) k k 0 (omega (arith, below, len)) (omega arith))
+    grind (arith, nat_tests, length-map-range_with_len, same_number_lists, get_or-map-range_with_len)

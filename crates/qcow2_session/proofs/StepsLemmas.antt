@@ -125,10 +125,8 @@ run-counts steps replies old new none order run = record {
 
 -- blocks of the same counters
 pub counts-same : (steps : List Step) (replies : List StepReply) (old new before after : BlockState) → Counts steps replies old new → before.counters ≡ old.counters → after.counters ≡ new.counters → before.refcount_order ≡ old.refcount_order → after.refcount_order ≡ new.refcount_order → Counts steps replies before after
-counts-same steps replies old new before after counts same_old same_new order_old order_new = record {
-  balance = λ index. rw (same_old, same_new) (counts.balance index);
-  undone = λ index number is made. rw (same_old, same_new, order_old, order_new) (counts.undone index number is made);
-}
+counts-same steps replies old new before after counts same_old same_new order_old order_new =
+    grind (arith, nat_tests)
 
 -- where no step is made, the counters stay
 pub run-idle : (order : ℕ) (steps : List Step) (counters : List ℕ) → are_some_done (run_of_steps order steps counters).replies ≡ false → (run_of_steps order steps counters).counters ≡ counters
@@ -137,8 +135,4 @@ run-idle order (step ∷ steps) counters idle = grind (arith, nat_tests, idle, r
 
 -- and so do those of a block that isn't modified
 pub block-idle : (steps : List Step) (replies : List StepReply) (old new : BlockState) → steps_left new replies ≡ run_of_steps old.refcount_order steps old.counters → new ≡ block_left replies old new.counters → new.modified ≡ false → new.counters ≡ old.counters
-block-idle steps replies old new run left unmodified =
-    let none : (are_some_done replies || old.modified) ≡ false = sym (ap (λ (block : BlockState). block.modified) left) ∙ unmodified in
-    let made : replies ≡ (run_of_steps old.refcount_order steps old.counters).replies = ap (λ (end : StepsEnd). end.replies) run in
-    let idle = subst (λ replies. are_some_done replies ≡ false) made (grind (arith, none)) in
-    ap (λ (end : StepsEnd). end.counters) run ∙ run-idle old.refcount_order steps old.counters idle
+block-idle steps replies old new run left unmodified = grind (arith, nat_tests, run-idle)

@@ -1,4 +1,5 @@
-use Rattle.std.proofs.Common.{◌≡◌, ◌≢◌, ℕ, zero, suc, ◌+◌, ◌-◌, ◌*◌, ◌/◌, ◌^◌, ◌<◌, ◌≤◌, List, [], ◌∷◌, slice_get, Option, Some, None, option_map, Result, Ok, Err, ap, lit<, pow-add, refl, sym, ◌∙◌, inl, inr, arith}
+use Rattle.std.proofs.lemmas.Bool.Decides.{nat_tests}
+use Rattle.std.proofs.Common.{◌≡◌, ◌≢◌, ℕ, zero, suc, ◌+◌, ◌-◌, ◌*◌, ◌/◌, ◌^◌, ◌<◌, ◌≤◌, List, [], ◌∷◌, slice_get, Option, Some, None, Result, Ok, Err, ap, lit<, pow-add, refl, sym, ◌∙◌, inl, inr, arith}
 use Rattle.std.proofs.Math.Nat.{pow-le-pow_right}
 use Rattle.std.proofs.lemmas.Bool.{cases_eq}
 use Rattle.std.proofs.lemmas.List.Sums.{sum_by-cons}
@@ -104,10 +105,7 @@ lookup-own header cluster old new is change offset names = by_answer (loaded_l1_
 -- a change of an L2 table reaches the lookups of its own offsets alone
 pub changes-own-lookups : (header : HeaderRecord) (cluster : HostCluster) (old new : Image) → header_of old ≡ Ok header
     → ChangesL2Table header cluster old new → ChangesOwnLookups header cluster old new
-changes-own-lookups header cluster old new is change = record {
-  others = lookup-kept header cluster old new is change;
-  own = lookup-own header cluster old new is change;
-}
+changes-own-lookups header cluster old new is change = grind (arith, nat_tests, lookup-kept, lookup-own)
 
 -- L2 tables of two clusters share no byte
 l2-apart : (g : Geometry) (a b : HostCluster) → 9 ≤ g.cluster_bits → a.0 ≢ b.0 → ShareNoByte (l2_bytes g a) (l2_bytes g b)
@@ -144,9 +142,7 @@ sum-one f h (y ∷ ys) (suc k) x a b found change others =
 table-bytes : (header : HeaderRecord) (l1 : List ℕ) (cluster : HostCluster) (k : ℕ)
     → slice_get (l2_clusters header.v2.cluster_bits l1) k ≡ Some cluster
     → slice_get (bytes_of_tables header l1) (suc (suc k)) ≡ Some (l2_bytes (geometry_of header) cluster)
-table-bytes header l1 cluster k found =
-    let g = geometry_of header in
-    slice_get-map (l2_bytes g) (l2_clusters g.cluster_bits l1) k ∙ ap (option_map (l2_bytes g)) found
+table-bytes header l1 cluster k found = grind (arith, nat_tests, slice_get-map)
 
 -- where no two tables share a byte, the header and the L1 table lie in no L2 table
 pub avoids-others : (header : HeaderRecord) (l1 : List ℕ) (cluster : HostCluster) (k : ℕ) → AreApart (bytes_of_tables header l1)
