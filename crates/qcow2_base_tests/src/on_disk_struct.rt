@@ -12,6 +12,27 @@ use qcow2_testing::{same, same_bytes};
 use std::fmt::Debug;
 use std::test::Fail;
 
+// Loads a structure whose fields stand at these places, if there are as many bytes.
+macro_rules! loaded {
+    ($bytes:ident, $read:ident, $name:ident { $($field:ident: $at:literal),* }) => {{
+        if $bytes.len() < Self::ON_DISK_SIZE {
+            return Err(Fault::WrongLength);
+        }
+        Ok($name { $($field: $read($bytes, $at)),* })
+    }};
+}
+
+// Stores the fields at these places, if there are as many bytes.
+macro_rules! stored {
+    ($bytes:ident, $write:ident, $value:ident { $($field:ident: $at:literal),* }) => {{
+        if $bytes.len() < Self::ON_DISK_SIZE {
+            return Err(Fault::WrongLength);
+        }
+        $($write($bytes, $at, &$value.$field);)*
+        Ok(())
+    }};
+}
+
 /// Fields one after the other, of three lengths.
 #[derive(Clone, Copy, Debug, PartialEq, Eq)]
 struct TestBE {
@@ -34,14 +55,7 @@ impl OnDiskStruct for TestBE {
     }
 
     fn load_from_be(bytes: &[u8]) -> Result<TestBE, Fault> {
-        if bytes.len() < Self::ON_DISK_SIZE {
-            return Err(Fault::WrongLength);
-        }
-        Ok(TestBE {
-            a: read_be(bytes, 0),
-            b: read_be(bytes, 4),
-            c: read_be(bytes, 12),
-        })
+        loaded! { bytes, read_be, TestBE { a: 0, b: 4, c: 12 } }
     }
 
     fn store_to_le(&self, bytes: &mut [u8]) -> Result<(), Fault> {
@@ -49,13 +63,7 @@ impl OnDiskStruct for TestBE {
     }
 
     fn store_to_be(&self, bytes: &mut [u8]) -> Result<(), Fault> {
-        if bytes.len() < Self::ON_DISK_SIZE {
-            return Err(Fault::WrongLength);
-        }
-        write_be(bytes, 0, &self.a);
-        write_be(bytes, 4, &self.b);
-        write_be(bytes, 12, &self.c);
-        Ok(())
+        stored! { bytes, write_be, self { a: 0, b: 4, c: 12 } }
     }
 
     ghost size_is_end = { λ order value. refl };
@@ -80,13 +88,7 @@ impl OnDiskStruct for TestLE {
     ghost layout = { λ _ value. little 0 4 value.x ∷ little 4 4 value.y ∷ [] };
 
     fn load_from_le(bytes: &[u8]) -> Result<TestLE, Fault> {
-        if bytes.len() < Self::ON_DISK_SIZE {
-            return Err(Fault::WrongLength);
-        }
-        Ok(TestLE {
-            x: read_le(bytes, 0),
-            y: read_le(bytes, 4),
-        })
+        loaded! { bytes, read_le, TestLE { x: 0, y: 4 } }
     }
 
     fn load_from_be(bytes: &[u8]) -> Result<TestLE, Fault> {
@@ -94,12 +96,7 @@ impl OnDiskStruct for TestLE {
     }
 
     fn store_to_le(&self, bytes: &mut [u8]) -> Result<(), Fault> {
-        if bytes.len() < Self::ON_DISK_SIZE {
-            return Err(Fault::WrongLength);
-        }
-        write_le(bytes, 0, &self.x);
-        write_le(bytes, 4, &self.y);
-        Ok(())
+        stored! { bytes, write_le, self { x: 0, y: 4 } }
     }
 
     fn store_to_be(&self, bytes: &mut [u8]) -> Result<(), Fault> {
@@ -134,14 +131,7 @@ impl OnDiskStruct for TestAtomics {
     }
 
     fn load_from_be(bytes: &[u8]) -> Result<TestAtomics, Fault> {
-        if bytes.len() < Self::ON_DISK_SIZE {
-            return Err(Fault::WrongLength);
-        }
-        Ok(TestAtomics {
-            plain: read_be(bytes, 0),
-            atomic32: read_be(bytes, 4),
-            atomic64: read_be(bytes, 8),
-        })
+        loaded! { bytes, read_be, TestAtomics { plain: 0, atomic32: 4, atomic64: 8 } }
     }
 
     fn store_to_le(&self, bytes: &mut [u8]) -> Result<(), Fault> {
@@ -149,13 +139,7 @@ impl OnDiskStruct for TestAtomics {
     }
 
     fn store_to_be(&self, bytes: &mut [u8]) -> Result<(), Fault> {
-        if bytes.len() < Self::ON_DISK_SIZE {
-            return Err(Fault::WrongLength);
-        }
-        write_be(bytes, 0, &self.plain);
-        write_be(bytes, 4, &self.atomic32);
-        write_be(bytes, 8, &self.atomic64);
-        Ok(())
+        stored! { bytes, write_be, self { plain: 0, atomic32: 4, atomic64: 8 } }
     }
 
     ghost size_is_end = { λ order value. refl };
@@ -184,13 +168,7 @@ impl OnDiskStruct for TestGaps {
     }
 
     fn load_from_be(bytes: &[u8]) -> Result<TestGaps, Fault> {
-        if bytes.len() < Self::ON_DISK_SIZE {
-            return Err(Fault::WrongLength);
-        }
-        Ok(TestGaps {
-            first: read_be(bytes, 0),
-            second: read_be(bytes, 8),
-        })
+        loaded! { bytes, read_be, TestGaps { first: 0, second: 8 } }
     }
 
     fn store_to_le(&self, bytes: &mut [u8]) -> Result<(), Fault> {
@@ -198,12 +176,7 @@ impl OnDiskStruct for TestGaps {
     }
 
     fn store_to_be(&self, bytes: &mut [u8]) -> Result<(), Fault> {
-        if bytes.len() < Self::ON_DISK_SIZE {
-            return Err(Fault::WrongLength);
-        }
-        write_be(bytes, 0, &self.first);
-        write_be(bytes, 8, &self.second);
-        Ok(())
+        stored! { bytes, write_be, self { first: 0, second: 8 } }
     }
 
     ghost size_is_end = { λ order value. refl };
@@ -231,12 +204,7 @@ impl OnDiskStruct for TestSingle {
     }
 
     fn load_from_be(bytes: &[u8]) -> Result<TestSingle, Fault> {
-        if bytes.len() < Self::ON_DISK_SIZE {
-            return Err(Fault::WrongLength);
-        }
-        Ok(TestSingle {
-            only: read_be(bytes, 0),
-        })
+        loaded! { bytes, read_be, TestSingle { only: 0 } }
     }
 
     fn store_to_le(&self, bytes: &mut [u8]) -> Result<(), Fault> {
@@ -244,11 +212,7 @@ impl OnDiskStruct for TestSingle {
     }
 
     fn store_to_be(&self, bytes: &mut [u8]) -> Result<(), Fault> {
-        if bytes.len() < Self::ON_DISK_SIZE {
-            return Err(Fault::WrongLength);
-        }
-        write_be(bytes, 0, &self.only);
-        Ok(())
+        stored! { bytes, write_be, self { only: 0 } }
     }
 
     ghost size_is_end = { λ order value. refl };
@@ -358,105 +322,60 @@ fn integers_stand_in_the_order_asked_for_and_need_just_their_bytes() -> Result<(
     refuse(0x0102_0304_0506_0708u64, 9)
 }
 
-/// That the calls store the structure as these bytes, and leave three that follow.
-fn structure<T: OnDiskStruct + Copy + Debug + PartialEq>(
-    value: T,
-    expected: &[u8],
-) -> Result<(), Fail> {
-    each_call(value, expected, expected, 3)
-}
-
-#[test]
-fn the_fields_of_a_small_structure_stand_at_their_places() -> Result<(), Fail> {
-    // The bytes between its fields stay.
-    let value = TestGaps {
-        first: 0x1122_3344,
-        second: 0x5566,
-    };
-    let expected = [0x11, 0x22, 0x33, 0x44, 0xff, 0xff, 0xff, 0xff, 0x55, 0x66];
-    structure(value, &expected)?;
-    let value = HeaderExtensionHeader {
-        extension_type: 0xe279_2aca,
-        length: 5,
-    };
-    structure(value, &[0xe2, 0x79, 0x2a, 0xca, 0, 0, 0, 5])
+// That the calls store each structure as the bytes behind its arrow, and leave three that follow.
+macro_rules! structures {
+    ($($value:expr => $bytes:expr),* $(,)?) => {{
+        $(each_call($value, &$bytes, &$bytes, 3)?;)*
+        Ok(())
+    }};
 }
 
 #[test]
 fn a_structure_stands_in_its_own_order_whatever_is_asked_for() -> Result<(), Fail> {
-    let value = TestBE {
-        a: 0x0102_0304,
-        b: 0x0506_0708_090a_0b0c,
-        c: 0x0d0e,
-    };
-    structure(value, &[1, 2, 3, 4, 5, 6, 7, 8, 9, 10, 11, 12, 13, 14])?;
-    let value = TestLE {
-        x: 0x0102_0304,
-        y: 0x0506_0708,
-    };
-    structure(value, &[4, 3, 2, 1, 8, 7, 6, 5])?;
-    let value = TestAtomics {
-        plain: 0x0102_0304,
-        atomic32: 0x0506_0708,
-        atomic64: 0x090a_0b0c_0d0e_0f10,
-    };
-    let expected = [1, 2, 3, 4, 5, 6, 7, 8, 9, 10, 11, 12, 13, 14, 15, 16];
-    structure(value, &expected)?;
-    let value = TestSingle {
-        only: 0x0102_0304_0506_0708,
-    };
-    structure(value, &[1, 2, 3, 4, 5, 6, 7, 8])
-}
-
-const DEFAULT_BASE: [u8; 32] = [
-    0, 0, 0, 0, 0, 0, 0, 0, 0, 0, 0, 0, 0, 0, 0, 0, 0, 0, 0, 0, 0, 0, 0, 0, 0, 0, 0, 4, 0, 0, 0,
-    0x68,
-];
-
-const BASE: [u8; 32] = [
-    0x01, 0x02, 0x03, 0x04, 0x05, 0x06, 0x07, 0x08, 0x11, 0x12, 0x13, 0x14, 0x15, 0x16, 0x17, 0x18,
-    0x21, 0x22, 0x23, 0x24, 0x25, 0x26, 0x27, 0x28, 0x31, 0x32, 0x33, 0x34, 0x41, 0x42, 0x43, 0x44,
-];
-
-#[test]
-fn a_base_has_five_fields_and_none_is_a_feature_by_default() -> Result<(), Fail> {
-    let value = V3HeaderBase {
-        incompatible_features: 0x0102_0304_0506_0708,
-        compatible_features: 0x1112_1314_1516_1718,
-        autoclear_features: 0x2122_2324_2526_2728,
-        refcount_order: 0x3132_3334,
-        header_length: 0x4142_4344,
-    };
-    structure(value, &BASE)?;
-    structure(V3HeaderBase::default(), &DEFAULT_BASE)
+    structures! {
+        TestBE { a: 0x0102_0304, b: 0x0506_0708_090a_0b0c, c: 0x0d0e }
+            => [1, 2, 3, 4, 5, 6, 7, 8, 9, 10, 11, 12, 13, 14],
+        TestLE { x: 0x0102_0304, y: 0x0506_0708 } => [4, 3, 2, 1, 8, 7, 6, 5],
+        TestAtomics { plain: 0x0102_0304, atomic32: 0x0506_0708, atomic64: 0x090a_0b0c_0d0e_0f10 }
+            => [1, 2, 3, 4, 5, 6, 7, 8, 9, 10, 11, 12, 13, 14, 15, 16],
+        // the bytes between the fields stay
+        TestGaps { first: 0x1122_3344, second: 0x5566 }
+            => [0x11, 0x22, 0x33, 0x44, 0xff, 0xff, 0xff, 0xff, 0x55, 0x66],
+        TestSingle { only: 0x0102_0304_0506_0708 } => [1, 2, 3, 4, 5, 6, 7, 8],
+        HeaderExtensionHeader { extension_type: 0xe279_2aca, length: 5 }
+            => [0xe2, 0x79, 0x2a, 0xca, 0, 0, 0, 5],
+        // no feature by default
+        V3HeaderBase::default() => [
+            0, 0, 0, 0, 0, 0, 0, 0, 0, 0, 0, 0, 0, 0, 0, 0, 0, 0, 0, 0, 0, 0, 0, 0, 0, 0, 0, 4, 0, 0, 0, 0x68,
+        ],
+    }
 }
 
 #[test]
-fn a_version_2_header_has_thirteen_fields() -> Result<(), Fail> {
-    // Each field has bytes of its own.
-    let value = V2Header {
-        magic: 0x5146_49fb,
-        version: 2,
-        backing_file_offset: 0x1112_1314_1516_1718,
-        backing_file_size: 0x2122_2324,
-        cluster_bits: 16,
-        size: 0x3132_3334_3536_3738,
-        crypt_method: 0x4142_4344,
-        l1_size: 0x5152_5354,
-        l1_table_offset: 0x6162_6364_6566_6768,
-        refcount_table_offset: 0x7172_7374_7576_7778,
-        refcount_table_clusters: 0x8182_8384,
-        nb_snapshots: 0x9192_9394,
-        snapshots_offset: 0xa1a2_a3a4_a5a6_a7a8,
-    };
-    let expected = [
-        0x51, 0x46, 0x49, 0xfb, 0, 0, 0, 2, 0x11, 0x12, 0x13, 0x14, 0x15, 0x16, 0x17, 0x18, 0x21,
-        0x22, 0x23, 0x24, 0, 0, 0, 16, 0x31, 0x32, 0x33, 0x34, 0x35, 0x36, 0x37, 0x38, 0x41, 0x42,
-        0x43, 0x44, 0x51, 0x52, 0x53, 0x54, 0x61, 0x62, 0x63, 0x64, 0x65, 0x66, 0x67, 0x68, 0x71,
-        0x72, 0x73, 0x74, 0x75, 0x76, 0x77, 0x78, 0x81, 0x82, 0x83, 0x84, 0x91, 0x92, 0x93, 0x94,
-        0xa1, 0xa2, 0xa3, 0xa4, 0xa5, 0xa6, 0xa7, 0xa8,
-    ];
-    structure(value, &expected)
+fn each_field_of_a_header_has_bytes_of_its_own() -> Result<(), Fail> {
+    structures! {
+        V3HeaderBase {
+            incompatible_features: 0x0102_0304_0506_0708, compatible_features: 0x1112_1314_1516_1718,
+            autoclear_features: 0x2122_2324_2526_2728, refcount_order: 0x3132_3334,
+            header_length: 0x4142_4344,
+        } => [
+            0x01, 0x02, 0x03, 0x04, 0x05, 0x06, 0x07, 0x08, 0x11, 0x12, 0x13, 0x14, 0x15, 0x16, 0x17, 0x18,
+            0x21, 0x22, 0x23, 0x24, 0x25, 0x26, 0x27, 0x28, 0x31, 0x32, 0x33, 0x34, 0x41, 0x42, 0x43, 0x44,
+        ],
+        V2Header {
+            magic: 0x5146_49fb, version: 2, backing_file_offset: 0x1112_1314_1516_1718,
+            backing_file_size: 0x2122_2324, cluster_bits: 16, size: 0x3132_3334_3536_3738,
+            crypt_method: 0x4142_4344, l1_size: 0x5152_5354, l1_table_offset: 0x6162_6364_6566_6768,
+            refcount_table_offset: 0x7172_7374_7576_7778, refcount_table_clusters: 0x8182_8384,
+            nb_snapshots: 0x9192_9394, snapshots_offset: 0xa1a2_a3a4_a5a6_a7a8,
+        } => [
+            0x51, 0x46, 0x49, 0xfb, 0, 0, 0, 2, 0x11, 0x12, 0x13, 0x14, 0x15, 0x16, 0x17, 0x18, 0x21, 0x22,
+            0x23, 0x24, 0, 0, 0, 16, 0x31, 0x32, 0x33, 0x34, 0x35, 0x36, 0x37, 0x38, 0x41, 0x42, 0x43, 0x44,
+            0x51, 0x52, 0x53, 0x54, 0x61, 0x62, 0x63, 0x64, 0x65, 0x66, 0x67, 0x68, 0x71, 0x72, 0x73, 0x74,
+            0x75, 0x76, 0x77, 0x78, 0x81, 0x82, 0x83, 0x84, 0x91, 0x92, 0x93, 0x94, 0xa1, 0xa2, 0xa3, 0xa4,
+            0xa5, 0xa6, 0xa7, 0xa8,
+        ],
+    }
 }
 
 #[test]

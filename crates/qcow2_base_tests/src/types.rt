@@ -1,7 +1,7 @@
 //! Conversions, operators and texts of offsets, clusters and counts.
 
 use qcow2_base::{ClusterCount, GuestCluster, GuestOffset, HostCluster, HostOffset};
-use qcow2_testing::{each_row, fits, holds, is_cluster_bits, same, same_text};
+use qcow2_testing::{all_same, each_row, fits, holds, is_cluster_bits, same_text};
 use std::test::Fail;
 
 /// The largest offset of all.
@@ -23,17 +23,13 @@ fn has_place(row: Offset) -> Result<(), Fail> {
     let (offset, bits, before, cluster, l1_index, l2_index, left, left_in_table) = row;
     holds(is_cluster_bits(bits), row)?;
     let (guest, host) = (GuestOffset(offset), HostOffset(offset));
-    let found = (guest.in_cluster_offset(bits), guest.cluster(bits).0);
-    let of_host = (host.in_cluster_offset(bits), host.cluster(bits).0);
-    let expected = ((before, cluster), (before, cluster));
-    same((found, of_host), expected, row)?;
-    let indices = (guest.l1_index(bits), guest.l2_index(bits));
-    let remaining = (
-        guest.remaining_in_cluster(bits),
-        guest.remaining_in_l2_table(bits),
-    );
-    let expected = ((l1_index, l2_index), (left, left_in_table));
-    same((indices, remaining), expected, row)
+    all_same! {
+        row,
+        guest.in_cluster_offset(bits) => before, guest.cluster(bits).0 => cluster,
+        host.in_cluster_offset(bits) => before, host.cluster(bits).0 => cluster,
+        guest.l1_index(bits) => l1_index, guest.l2_index(bits) => l2_index,
+        guest.remaining_in_cluster(bits) => left, guest.remaining_in_l2_table(bits) => left_in_table,
+    }
 }
 
 #[test]
@@ -57,13 +53,13 @@ const STARTS: &[Start] = &[
 fn starts(row: Start) -> Result<(), Fail> {
     let (offset, bits, cluster, count) = row;
     holds(is_cluster_bits(bits), row)?;
-    let guest = GuestOffset(offset).checked_cluster(bits);
-    let host = HostOffset(offset).checked_cluster(bits);
-    let expected = (cluster.map(GuestCluster), cluster.map(HostCluster));
-    same((guest, host), expected, row)?;
-    let whole = ClusterCount::checked_from_byte_size(offset, bits);
-    let found = (whole, ClusterCount::from_byte_size(offset, bits));
-    same(found, (cluster.map(ClusterCount), ClusterCount(count)), row)
+    all_same! {
+        row,
+        GuestOffset(offset).checked_cluster(bits) => cluster.map(GuestCluster),
+        HostOffset(offset).checked_cluster(bits) => cluster.map(HostCluster),
+        ClusterCount::checked_from_byte_size(offset, bits) => cluster.map(ClusterCount),
+        ClusterCount::from_byte_size(offset, bits) => ClusterCount(count),
+    }
 }
 
 #[test]
@@ -90,20 +86,22 @@ fn has_indices(row: Cluster) -> Result<(), Fail> {
     holds(is_cluster_bits(bits), row)?;
     holds(fits(l1_index as u64, l2_index as u64, bits - 3), row)?;
     let cluster = GuestCluster(number);
-    let found = (cluster.l1_index(bits), cluster.l2_index(bits));
-    let back = GuestCluster::from_l1_l2_indices(l1_index, l2_index, bits);
-    let expected = ((l1_index, l2_index), cluster, next.map(GuestCluster));
-    same((found, back, cluster.next_in_l2(bits)), expected, row)
+    all_same! {
+        row,
+        cluster.l1_index(bits) => l1_index, cluster.l2_index(bits) => l2_index,
+        GuestCluster::from_l1_l2_indices(l1_index, l2_index, bits) => cluster,
+        cluster.next_in_l2(bits) => next.map(GuestCluster),
+    }
 }
 
 #[test]
 fn a_guest_cluster_and_its_places_tell_each_other() -> Result<(), Fail> {
     each_row(CLUSTERS, has_indices)?;
-    let found = (
-        GuestCluster(127).first_in_next_l2(9).0,
-        GuestCluster(LAST - 262144).first_in_next_l2(21).0,
-    );
-    same(found, (128, LAST - 262143), "the next L2 table")
+    all_same! {
+        "the next L2 table",
+        GuestCluster(127).first_in_next_l2(9).0 => 128,
+        GuestCluster(LAST - 262144).first_in_next_l2(21).0 => LAST - 262143,
+    }
 }
 
 // A cluster, the number of bits of a place in a refcount block, and then the places in the
@@ -123,11 +121,12 @@ fn is_counted(row: Counted) -> Result<(), Fail> {
     holds(6 <= bits && bits <= 24, row)?;
     holds(fits(rt_index as u64, rb_index as u64, bits), row)?;
     let cluster = HostCluster(number);
-    let found = (cluster.rt_index(bits), cluster.rb_index(bits));
-    let back = HostCluster::from_ref_indices(rt_index, rb_index, bits);
-    let indices = (rt_index, rb_index);
-    let expected = (indices, indices, cluster);
-    same((found, cluster.rt_rb_indices(bits), back), expected, row)
+    all_same! {
+        row,
+        cluster.rt_index(bits) => rt_index, cluster.rb_index(bits) => rb_index,
+        cluster.rt_rb_indices(bits) => (rt_index, rb_index),
+        HostCluster::from_ref_indices(rt_index, rb_index, bits) => cluster,
+    }
 }
 
 #[test]
@@ -151,13 +150,12 @@ fn begins(row: Byte) -> Result<(), Fail> {
     holds(is_cluster_bits(bits), row)?;
     holds(fits(number, 0, bits), row)?;
     holds(fits(number, guest.in_cluster_offset(bits), bits), row)?;
-    let found = (
-        GuestCluster(number).offset(bits).0,
-        HostCluster(number).offset(bits).0,
-        ClusterCount(number).byte_size(bits),
-    );
-    let mapped = HostCluster(number).relative_offset(guest, bits).0;
-    same((found, mapped), ((start, start, start), byte), row)
+    all_same! {
+        row,
+        GuestCluster(number).offset(bits).0 => start, HostCluster(number).offset(bits).0 => start,
+        ClusterCount(number).byte_size(bits) => start,
+        HostCluster(number).relative_offset(guest, bits).0 => byte,
+    }
 }
 
 #[test]
@@ -168,43 +166,32 @@ fn a_cluster_begins_at_its_offset_and_a_mapped_byte_keeps_its_place() -> Result<
 #[test]
 fn a_sum_is_so_much_further_on_and_a_difference_so_much_before() -> Result<(), Fail> {
     let count = ClusterCount(5);
-    let found = (
-        (GuestOffset(LAST - 5) + 5, GuestOffset(LAST) - 5),
-        (HostOffset(LAST - 5) + 5, HostOffset(LAST) - 5),
-        (GuestCluster(3) + count, GuestCluster(8) - count),
-        (HostCluster(3) + count, HostCluster(8) - count),
-        (ClusterCount(3) + count, ClusterCount(8) - count),
-    );
-    let expected = (
-        (GuestOffset(LAST), GuestOffset(LAST - 5)),
-        (HostOffset(LAST), HostOffset(LAST - 5)),
-        (GuestCluster(8), GuestCluster(3)),
-        (HostCluster(8), HostCluster(3)),
-        (ClusterCount(8), ClusterCount(3)),
-    );
-    same(found, expected, "sums and differences")?;
-    let found = (
-        GuestOffset(LAST) - GuestOffset(7),
-        HostOffset(LAST) - HostOffset(7),
-        GuestCluster(8) - GuestCluster(3),
-        HostCluster(8) - HostCluster(3),
-    );
-    same(found, (LAST - 7, LAST - 7, count, count), "distances")
+    all_same! {
+        "sums and differences",
+        GuestOffset(LAST - 5) + 5 => GuestOffset(LAST), GuestOffset(LAST) - 5 => GuestOffset(LAST - 5),
+        HostOffset(LAST - 5) + 5 => HostOffset(LAST), HostOffset(LAST) - 5 => HostOffset(LAST - 5),
+        GuestCluster(3) + count => GuestCluster(8), GuestCluster(8) - count => GuestCluster(3),
+        HostCluster(3) + count => HostCluster(8), HostCluster(8) - count => HostCluster(3),
+        ClusterCount(3) + count => ClusterCount(8), ClusterCount(8) - count => ClusterCount(3),
+    }?;
+    all_same! {
+        "distances",
+        GuestOffset(LAST) - GuestOffset(7) => LAST - 7, HostOffset(LAST) - HostOffset(7) => LAST - 7,
+        GuestCluster(8) - GuestCluster(3) => count, HostCluster(8) - HostCluster(3) => count,
+    }
 }
 
 #[test]
 fn clusters_and_counts_move_in_place() -> Result<(), Fail> {
-    let mut moved = (GuestCluster(3), HostCluster(3), ClusterCount(3));
-    moved.0 += ClusterCount(5);
-    moved.1 += ClusterCount(5);
-    moved.2 += ClusterCount(5);
-    let expected = (GuestCluster(8), HostCluster(8), ClusterCount(8));
-    same(moved, expected, "further on")?;
-    moved.0 -= ClusterCount(7);
-    moved.1 -= ClusterCount(7);
-    moved.2 -= ClusterCount(7);
-    let expected = (GuestCluster(1), HostCluster(1), ClusterCount(1));
-    same(moved, expected, "before")
+    let (mut guest, mut host, mut count) = (GuestCluster(3), HostCluster(3), ClusterCount(3));
+    guest += ClusterCount(5);
+    host += ClusterCount(5);
+    count += ClusterCount(5);
+    all_same! { "on", guest => GuestCluster(8), host => HostCluster(8), count => ClusterCount(8) }?;
+    guest -= ClusterCount(7);
+    host -= ClusterCount(7);
+    count -= ClusterCount(7);
+    all_same! { "back", guest => GuestCluster(1), host => HostCluster(1), count => ClusterCount(1) }
 }
 
 // A number, and its text in hexadecimal and in decimal.
@@ -227,12 +214,10 @@ fn offsets_print_in_hexadecimal_and_counts_in_decimal(rt: HostRuntime) -> Result
 
 #[test]
 fn places_and_counts_are_ordered_by_number() -> Result<(), Fail> {
-    let found = (
-        GuestOffset(255) < GuestOffset(256),
-        HostOffset(255) < HostOffset(256),
-        GuestCluster(255) < GuestCluster(256),
-        HostCluster(255) < HostCluster(256),
-        ClusterCount(255) < ClusterCount(256),
-    );
-    same(found, (true, true, true, true, true), "255 and 256")
+    all_same! {
+        "255 and 256",
+        GuestOffset(255) < GuestOffset(256) => true, HostOffset(255) < HostOffset(256) => true,
+        GuestCluster(255) < GuestCluster(256) => true, HostCluster(255) < HostCluster(256) => true,
+        ClusterCount(255) < ClusterCount(256) => true,
+    }
 }

@@ -7,6 +7,22 @@ use std::alloc::{AllocError, Global};
 use std::fmt::{Debug, Display};
 use std::test::Fail;
 
+/// A table or a list, laid out by hand: a row in one line, if it fits.
+#[macro_export]
+macro_rules! rows {
+    ($($row:expr),* $(,)?) => {
+        &[$($row),*]
+    };
+}
+
+/// Fails unless each value is the one behind its arrow: `all_same! { "sums", 1 + 2 => 3, 2 + 2 => 4 }`.
+#[macro_export]
+macro_rules! all_same {
+    ($row:expr, $($found:expr => $expected:expr),* $(,)?) => {
+        $crate::same(($($found),*), ($($expected),*), $row)
+    };
+}
+
 /// Fails unless both are the same.
 pub fn same<T: PartialEq + Debug + Drop, R: Debug + Drop>(
     found: T,
