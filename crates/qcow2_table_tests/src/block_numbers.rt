@@ -1,14 +1,17 @@
 //! The numbers that blocks keep in memory: one for each counter, in the smallest integers that hold it.
 
 use crate::blocks::{load, new_cleared};
-use qcow2_base::{Fault, MemStorage};
+use qcow2_base::{Fault, HostCluster, MemStorage};
 use qcow2_metadata::RefBlock;
-use qcow2_testing::{each, holds, printed};
+use qcow2_testing::{each, printed, same};
 use std::alloc::{AllocError, Global};
 use std::test::Fail;
 
 // Numbers that stand first as they print, and how many.
 type First = (&'static str, usize);
+
+// The cluster that a block begins with, and whether it was changed.
+type Place = (Option<HostCluster>, bool);
 
 // A refcount order, how many counters a block of 512 bytes has, and in which integers it keeps their numbers;
 // the first bytes of a block, and the first of these numbers.
@@ -24,23 +27,32 @@ const KEPT: &[Kept] = &[
     (6, 64, "U64", &[0xff; 8], ("18446744073709551615", 1)),
 ];
 
-// How a block prints that keeps these numbers first, and 0 behind them.
-fn beginning(alloc: Global, row: Kept, first: First) -> Result<String, AllocError> {
-    let (_, count, integers, ..) = row;
+// How a block prints that keeps these numbers first, 0 behind them, and nothing else: where it stands, and
+// whether it was changed.
+fn shown(
+    alloc: Global,
+    row: Kept,
+    first: First,
+    (cluster, modified): Place,
+) -> Result<String, AllocError> {
+    let (order, count, integers, ..) = row;
     let mut text = format!(in alloc; "RefBlock {{ counters: {integers}([{}", first.0)?;
     for _ in first.1..count {
         text.push_str(", 0")?;
     }
-    text.push_str("]), ")?;
+    let rest = format!(in alloc;
+        "]), cluster: {cluster:?}, modified: {modified}, cluster_bits: 9, \
+        refcount_order: {order} }}"
+    )?;
+    text.push_str(rest.as_str())?;
     Ok(text)
 }
 
 // Fails unless the block prints so.
-fn keeps(block: &RefBlock, row: Kept, first: First) -> Result<(), Fail> {
-    let expected = beginning(block.allocator(), row, first)?;
+fn keeps(block: &RefBlock, row: Kept, first: First, place: Place) -> Result<(), Fail> {
+    let expected = shown(block.allocator(), row, first, place)?;
     let found = printed(block.allocator(), block)?;
-    let begins = found.as_str().starts_with(expected.as_str());
-    holds(begins, (row.0, found))
+    same(found.as_str(), expected.as_str(), row.0)
 }
 
 // The block of an image of these bytes, and zeros behind them.
@@ -50,8 +62,9 @@ fn loaded(alloc: Global, order: u32, bytes: &[u8]) -> Result<RefBlock, Fault> {
 }
 
 fn both_keep(alloc: Global, row: Kept) -> Result<(), Fail> {
-    keeps(&loaded(alloc, row.0, row.3)?, row, row.4)?;
-    keeps(&new_cleared(alloc, row.0)?, row, ("0", 1))
+    let cluster = Some(HostCluster(0));
+    keeps(&loaded(alloc, row.0, row.3)?, row, row.4, (cluster, false))?;
+    keeps(&new_cleared(alloc, row.0)?, row, ("0", 1), (None, true))
 }
 
 #[test]

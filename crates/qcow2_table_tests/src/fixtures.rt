@@ -46,7 +46,7 @@ pub(crate) const DISK: Disk = (9, false);
 pub(crate) trait Loads: Table + Drop {
     /// Whether a table of an image with this header may have so many entries.
     fn may_have(header: &Header, entries: usize) -> bool
-        ensures { IsTrue result → IsTrue (Self.has_lawful_count header.now.v2.cluster_bits entries) };
+        ensures { IsTrue result → IsTrue (Self.kind.has_lawful_count header.now.v2.cluster_bits entries) };
 }
 
 impl Loads for L1Table {

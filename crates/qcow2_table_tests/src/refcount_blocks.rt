@@ -213,7 +213,8 @@ fn writes(block: &mut RefBlock, row: Written) -> Result<(), Fail> {
     let flag = modified && first.0.is_err();
     let found = (written(block, &mut image, true), told(block));
     same(found, (first, (256, Some(HostCluster(cluster)), flag)), row)?;
-    same(written(block, &mut image, false), second, row)?;
+    let found = (written(block, &mut image, false), block.is_modified());
+    same(found, (second, flag && second.0.is_err()), row)?;
     let expected = if second.0.is_err() {
         filled_image(alloc, 1536)
     } else {
