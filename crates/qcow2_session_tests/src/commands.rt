@@ -8,7 +8,7 @@ use crate::calls::list_l2_table;
 use crate::failing_output::{FailingOutput, Failure};
 use crate::tables::table_of;
 use qcow2_base::{Fault, MemStorage};
-use qcow2_testing::{FailingStorage, same, same_bytes};
+use qcow2_testing::{FailingStorage, rows, same, same_bytes};
 use std::alloc::Global;
 use std::io::Write;
 use std::test::Fail;

@@ -9,7 +9,7 @@ use crate::tables::{
 use qcow2_base::{ClusterCount, Fault, HostCluster};
 use qcow2_metadata::ClustersToFreeEntry;
 use qcow2_session::{Edit, Outcome};
-use qcow2_testing::same;
+use qcow2_testing::{rows, same};
 use std::alloc::{AllocError, Global};
 use std::test::Fail;
 

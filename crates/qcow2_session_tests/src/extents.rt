@@ -6,7 +6,7 @@ use crate::sample_image::{COPIED, Numbers, is_sample, sample_image};
 use Content::{Absent, Compressed, Zeros};
 use qcow2_base::{Fault, GuestOffset, HostOffset, Storage};
 use qcow2_session::{Content, Extent};
-use qcow2_testing::{FailingStorage, same};
+use qcow2_testing::{FailingStorage, rows, same};
 use std::alloc::Global;
 use std::fmt::Debug;
 use std::test::Fail;

@@ -5,6 +5,7 @@ use crate::images::{Contents, image_holds, recording_image};
 use crate::tables::{GONE, PAST, References, TO_0, TO_5, TO_6, did, map, outcome};
 use qcow2_base::Fault;
 use qcow2_session::Edit;
+use qcow2_testing::rows;
 use std::alloc::Global;
 use std::test::Fail;
 

@@ -7,6 +7,7 @@ use crate::steps::{DEC_0, DEC_1, INC_0, UP_UP_DOWN};
 use StepReply::{Done, Refused};
 use qcow2_base::Fault;
 use qcow2_session::{Step, StepReply};
+use qcow2_testing::rows;
 use std::alloc::Global;
 use std::test::Fail;
 

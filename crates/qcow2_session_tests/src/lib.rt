@@ -2,14 +2,6 @@
 //! front page.
 #![tactic(auto)]
 
-// A table or a list, laid out by hand: a row in one line, if it fits.
-#[cfg(test)]
-macro_rules! rows {
-    ($($row:expr),* $(,)?) => {
-        &[$($row),*]
-    };
-}
-
 #[cfg(test)]
 mod blocks;
 #[cfg(test)]

@@ -5,7 +5,7 @@ use crate::sample_image::{COPIED, Numbers, sample_image};
 use Answer::{Backing, Compressed, Data, Refused, Zeros};
 use qcow2_base::{Fault, GuestOffset, HostCluster, MemStorage};
 use qcow2_metadata::L2Mapping;
-use qcow2_testing::{FailingStorage, StorageCall, same, same_bytes};
+use qcow2_testing::{FailingStorage, StorageCall, rows, same, same_bytes};
 use std::alloc::Global;
 use std::fmt::Debug;
 use std::test::Fail;

@@ -10,7 +10,7 @@ use crate::tables::{
 use qcow2_base::{Fault, HostCluster, MemStorage};
 use qcow2_metadata::{L2Table, RefBlock};
 use qcow2_session::Edit;
-use qcow2_testing::{put_bytes, same, same_bytes};
+use qcow2_testing::{put_bytes, rows, same, same_bytes};
 use std::alloc::Global;
 use std::test::Fail;
 

@@ -5,6 +5,7 @@ use crate::calls::step_block;
 use StepReply::{Done, Refused};
 use qcow2_base::Fault;
 use qcow2_session::{Step, StepReply};
+use qcow2_testing::rows;
 use std::alloc::{AllocError, Global};
 use std::test::Fail;
 

@@ -5,7 +5,7 @@ use crate::l2_mapping::Reads::{Backing, Compressed, Data, Zeros};
 use crate::l2_mapping::{Reads, mapping_of};
 use qcow2_base::{Fault, GuestCluster, HostOffset};
 use qcow2_metadata::{AtomicL2Entry, Header, L1Entry, L2Entry, RefTableEntry, TableEntry};
-use qcow2_testing::{each, fits, holds, same};
+use qcow2_testing::{each, fits, holds, rows, same};
 use std::alloc::Global;
 use std::test::Fail;
 
@@ -113,7 +113,7 @@ fn entries_tell_where_l2_tables_and_blocks_lie(rt: HostRuntime) -> Result<(), Fa
 /// first and how many, or 0 and 0, and what guest cluster 7 reads as by it.
 pub(crate) type Meaning = (u32, bool, u64, (u64, u64), Reads);
 
-pub(crate) const MEANINGS: &[Meaning] = &[
+pub(crate) const MEANINGS: &[Meaning] = rows! {
     (9, false, 0, (0, 0), Backing(3584)),
     (9, false, COPIED, (0, 0), Backing(3584)),
     (9, true, COPIED, (0, 1), Data(0, true)),
@@ -124,27 +124,15 @@ pub(crate) const MEANINGS: &[Meaning] = &[
     (21, false, COPIED + 0x20_0001, (1, 1), Zeros(Some(1), true)),
     (9, false, 0x4000_0000_0000_0000, (0, 1), Compressed(0, 512)),
     (9, true, 0x6000_0000_0000_0001, (0, 2), Compressed(1, 1023)),
-    (9, false, 0x40ff_ffff_ffff_ffff, (LAST, 1), LAST_BYTE),
-    (21, false, 0x7ffe_0000_001f_fe00, (0, 3), MOST_SECTORS),
-    (9, false, 0x60ff_ffff_ffff_ffff, (LAST, 2), LAST_SECTORS),
-    (10, false, 0x7000_0000_0000_0600, (1, 3), IN_THREE),
-    (16, true, 0x4040_0000_0001_fff0, (1, 2), IN_TWO),
-    (21, true, 0x7fff_ffff_ffff_ffff, (268435455, 3), LONGEST),
-];
+    (9, false, 0x40ff_ffff_ffff_ffff, (LAST, 1), Compressed((1 << 56) - 1, 1)),
+    (21, false, 0x7ffe_0000_001f_fe00, (0, 3), Compressed(0x1f_fe00, 4194304)),
+    (9, false, 0x60ff_ffff_ffff_ffff, (LAST, 2), Compressed((1 << 56) - 1, 513)),
+    (10, false, 0x7000_0000_0000_0600, (1, 3), Compressed(0x600, 2048)),
+    (16, true, 0x4040_0000_0001_fff0, (1, 2), Compressed(0x1_fff0, 528)),
+    (21, true, 0x7fff_ffff_ffff_ffff, (268435455, 3), Compressed(0x1_ffff_ffff_ffff, 4193793)),
+};
 
-const IN_TWO: Reads = Compressed(0x1_fff0, 528);
-
-const IN_THREE: Reads = Compressed(0x600, 2048);
-
-const MOST_SECTORS: Reads = Compressed(0x1f_fe00, 4194304);
-
-const LONGEST: Reads = Compressed(0x1_ffff_ffff_ffff, 4193793);
-
-// What begins at the last byte of all images, and the last cluster.
-const LAST_BYTE: Reads = Compressed((1 << 56) - 1, 1);
-
-const LAST_SECTORS: Reads = Compressed((1 << 56) - 1, 513);
-
+// The last cluster of all images.
 const LAST: u64 = (1 << 47) - 1;
 
 // Fails unless the entry has this meaning.

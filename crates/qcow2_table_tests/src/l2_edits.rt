@@ -10,7 +10,7 @@ use qcow2_metadata::{
     ClustersToFreeEntry, CompressedClusterReadGuard, L2Mapping, L2Table, MAX_OFFSET,
     PendingClusters, Table,
 };
-use qcow2_testing::{each, fits, holds, same};
+use qcow2_testing::{each, fits, holds, rows, same};
 use std::alloc::Global;
 use std::test::Fail;
 
@@ -110,29 +110,26 @@ use Edit::{Discard, Map, Zero};
 // Cluster bits, whether data is external, an entry, an edit of it, what it hands back, and the entry then.
 type Edited = (u32, bool, u64, Edit, Freed, u64);
 
-const FIVE: Freed = Some((5, 1));
-
-// Copied data in cluster 5, and in cluster 6.
+// Copied data in cluster 5, and in cluster 6; compressed data of three clusters; and what is handed back.
 const DATA_5: u64 = COPIED + 0xa00;
 
 const DATA_6: u64 = COPIED + 0xc00;
 
-// Compressed data that one cluster holds, one on the border of two, and one of three clusters.
-const IN_ONE: u64 = 0x4040_0000_0001_0010;
-
-const IN_TWO: u64 = 0x4040_0000_0001_fff0;
-
 const IN_THREE: u64 = 0x7000_0000_0000_0600;
 
-const EDITED: &[Edited] = &[
+const FIVE: Freed = Some((5, 1));
+
+const THREE: Freed = Some((1, 3));
+
+const EDITED: &[Edited] = rows! {
     (9, false, DATA_5, Map(5, false), None, DATA_5),
     (9, false, DATA_5, Map(6, true), FIVE, DATA_6),
     (9, false, 0, Map(5, true), None, DATA_5),
     (9, false, 0xa01, Map(6, true), FIVE, DATA_6),
-    (9, false, 0xa00, Map(LAST, true), FIVE, LAST_DATA),
+    (9, false, 0xa00, Map(0x7fff_ffff_ffff, true), FIVE, 0x80ff_ffff_ffff_fe00),
     (9, true, 0xa00, Map(0, true), FIVE, COPIED),
     // compressed data: all of it in the cluster, and on both sides
-    (16, false, IN_ONE, Map(1, true), None, COPIED + 0x1_0000),
+    (16, false, 0x4040_0000_0001_0010, Map(1, true), None, COPIED + 0x1_0000),
     (10, false, IN_THREE, Map(2, true), THREE, COPIED + 0x800),
     (9, false, DATA_5, Zero(true), None, DATA_5 + 1),
     (9, false, 0xa01, Zero(true), None, 0xa01),
@@ -144,19 +141,9 @@ const EDITED: &[Edited] = &[
     (9, true, COPIED, Zero(false), Some((0, 1)), 1),
     (9, false, COPIED, Discard, None, 0),
     (9, true, COPIED, Discard, Some((0, 1)), 0),
-    (16, true, IN_TWO, Discard, Some((1, 2)), 0),
-    (21, false, LONGEST, Discard, Some((268435455, 3)), 0),
-];
-
-const THREE: Freed = Some((1, 3));
-
-// The last cluster that an entry holds, and copied data there.
-const LAST: u64 = 0x7fff_ffff_ffff;
-
-const LAST_DATA: u64 = 0x80ff_ffff_ffff_fe00;
-
-// The compressed data that begins last and takes the most sectors.
-const LONGEST: u64 = 0x7fff_ffff_ffff_ffff;
+    (16, true, 0x4040_0000_0001_fff0, Discard, Some((1, 2)), 0),
+    (21, false, 0x7fff_ffff_ffff_ffff, Discard, Some((268435455, 3)), 0),
+};
 
 // Edits entry 63.
 fn make(table: &mut L2Table, edit: Edit) -> Result<Freed, Fail> {

@@ -7,7 +7,7 @@ ghost use Rattle.qcow2_metadata.specs.Entries.L2Mapping.{FitsEntry, IsPlaced};
 use crate::fixtures::COPIED;
 use qcow2_base::{GuestCluster, HostCluster, HostOffset};
 use qcow2_metadata::{L2Entry, L2Mapping, TableEntry};
-use qcow2_testing::{each_row, fits, holds, is_cluster_bits, same};
+use qcow2_testing::{each_row, fits, holds, is_cluster_bits, rows, same};
 use std::num::NonZero;
 use std::test::Fail;
 
@@ -89,28 +89,20 @@ fn has_entry(mapping: L2Mapping, bits: u32) -> bool
 // external data file and with one, if as another mapping.
 type Entered = (u32, Reads, u64, Option<Reads>, Option<Reads>);
 
-const ENTERED: &[Entered] = &[
+const ENTERED: &[Entered] = rows! {
     (9, Data(5, true), COPIED + 0xa00, None, None),
     (16, Zeros(Some(2), false), 0x2_0001, None, None),
     (21, Zeros(None, false), 1, None, None),
-    (9, Backing(0), 0, THIRD, THIRD),
+    (9, Backing(0), 0, Some(Backing(1536)), Some(Backing(1536))),
     // cluster 0 is one only where it is copied in an external data file
-    (9, Data(0, true), COPIED, THIRD, None),
-    (9, Zeros(Some(0), true), COPIED + 1, NO_CLUSTER, None),
+    (9, Data(0, true), COPIED, Some(Backing(1536)), None),
+    (9, Zeros(Some(0), true), COPIED + 1, Some(Zeros(None, false)), None),
     // compressed data reaches to the end of its last sector
-    (16, SHORT, 0x4040_0000_0001_0010, SECTORS, SECTORS),
-    (21, LONG, 0x5ffe_0000_0000_0600, LONG_SECTORS, LONG_SECTORS),
-];
-
-const THIRD: Option<Reads> = Some(Backing(1536));
-
-const NO_CLUSTER: Option<Reads> = Some(Zeros(None, false));
-
-const SHORT: Reads = Compressed(0x1_0010, 1000);
+    (16, Compressed(0x1_0010, 1000), 0x4040_0000_0001_0010, SECTORS, SECTORS),
+    (21, Compressed(0x600, 2097151), 0x5ffe_0000_0000_0600, LONG_SECTORS, LONG_SECTORS),
+};
 
 const SECTORS: Option<Reads> = Some(Compressed(0x1_0010, 1008));
-
-const LONG: Reads = Compressed(0x600, 2097151);
 
 const LONG_SECTORS: Option<Reads> = Some(Compressed(0x600, 2097152));
 

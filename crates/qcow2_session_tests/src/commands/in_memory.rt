@@ -6,7 +6,7 @@ use crate::calls::run_command;
 use crate::failing_output::{FailingOutput, Failure};
 use crate::sample_image::{COPIED, Numbers, is_sample, sample_image};
 use qcow2_base::{Fault, MemStorage};
-use qcow2_testing::same;
+use qcow2_testing::{rows, same};
 use std::alloc::Global;
 use std::test::Fail;
 

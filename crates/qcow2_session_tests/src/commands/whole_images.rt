@@ -3,7 +3,7 @@
 use super::run::{Failures, NO_FAILURES, Outcome, runs};
 use crate::failing_output::Failure::{Flush, Never, WriteAfter};
 use crate::sample_image::{COPIED, Numbers, is_sample, sample_image};
-use qcow2_testing::{FaultyFiles, Opens, TemporaryFile, same, temporary_file};
+use qcow2_testing::{FaultyFiles, Opens, TemporaryFile, rows, same, temporary_file};
 use std::fs;
 use std::test::Fail;
 
