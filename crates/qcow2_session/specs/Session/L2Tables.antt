@@ -1,4 +1,4 @@
-use Rattle.std.specs.Prelude.{◌≡◌, ◌⊎◌, ℕ, ◌+◌, ◌-◌, ◌^◌, ◌<◌, ◌≤◌, List, [], ◌∷◌, ◌++◌, drop, length, Option, Some, None, Result, Ok, Err, IfOk, IfSome}
+use Rattle.std.specs.Prelude.{◌≡◌, ◌⊎◌, ℕ, ◌+◌, ◌-◌, ◌^◌, ◌<◌, ◌≤◌, List, [], ◌∷◌, ◌++◌, drop, length, Option, Some, None, Result, Ok, Err, IfErr, IfOk, IfSome}
 use Rattle.qcow2_base.specs.Format.{most_l1_entries}
 use Rattle.qcow2_base.specs.Storage.{Image}
 use Rattle.qcow2_base.specs.declared.fault.Fault.{Fault}
@@ -45,8 +45,9 @@ TellsTable before after (Ok (Some found)) = before ≡ (found.0, Ok found.1.numb
 TellsTable before after (Err fault) = (index : ℕ) × (table : Result (List ℕ) Fault) × (rest : NamedTables)
     × (before ≡ (index, table) ∷ rest) × ((fault ≡ Storage) ⊎ (fault ≡ NoMemory) ⊎ (table ≡ Err fault))
 
--- how far a walk goes by an answer: past the table that it tells, if it tells one
+-- how far a walk goes by an answer: past the table that it tells, if it tells one. After a fault it is where it was
 pub record GoesOn (answer : Result (Option (ℕ × TableState)) Fault) (old new : WalkState) : Type 0 where
   pub same : new ≡ record old { index = new.index }
   pub within : new.index ≤ length old.l1
   pub further : IfOk answer (λ next. IfSome next (λ found. old.index < new.index))
+  pub stays : IfErr answer (λ fault. new ≡ old)
