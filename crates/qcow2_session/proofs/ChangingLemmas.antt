@@ -7,7 +7,7 @@ use Rattle.qcow2_base.specs.Storage.{Image, StorageState}
 use Rattle.qcow2_base.specs.declared.fault.Fault.{Fault}
 use Rattle.qcow2_base.specs.declared.fault.Fault.TheVariants.{NoMemory, Storage}
 use Rattle.qcow2_metadata.specs.Results.{result_map}
-use Rattle.qcow2_session.proofs.PrintingLemmas.{refusal-of, refused-as}
+use Rattle.qcow2_session.proofs.PrintingLemmas.{read_fault-of, refused-as}
 use Rattle.qcow2_session.specs.Commands.Changing.{ChangeEnd, ClusterFormat, PrintsChange, SameOutsideCluster}
 use Rattle.qcow2_session.specs.Session.Edits.{are_some}
 use Rattle.qcow2_session.specs.declared.session.edits.Edit.{Edit}
@@ -57,8 +57,8 @@ abbrev LeavesTorn : {E : Type 0} → ClusterFormat → (E → ChangeEnd) → Res
 LeavesTorn format tell run old new = (new ≡ old) ⊎ IsOkAnd run (λ left. format.Torn (tell left).cluster (tell left).numbers old new)
 
 -- a change was made, and then printed, if the output didn't fail
-pub change-printed : {T E : Type 0} (answer : Result T Fault) (format : ClusterFormat) (tell : E → ChangeEnd) (end : Result ChangeEnd Fault) (run : Result E Fault) (lines : List ℕ) (old new : StorageState) (a b : Option (List ℕ))
-    → (IsTrue old.tells → end ≡ result_map tell run)
+pub change-printed : {T E : Type 0} (answer : Result T Fault) (format : ClusterFormat) (tell : E → ChangeEnd) (end : Image → Result ChangeEnd Fault) (run : Result E Fault) (lines : List ℕ) (old new : StorageState) (a b : Option (List ℕ))
+    → (IsTrue old.tells → end old.byte_at ≡ result_map tell run)
     → (IsTrue old.tells → result_map (λ left. (tell left).lines) run ≡ Ok lines)
     → (IsTrue old.tells → Loads format tell run new.byte_at)
     → new.failures ≡ old.failures
@@ -69,16 +69,16 @@ change-printed answer format tell end run lines old new a b is made loads calm i
     grind (arith, nat_tests, ok-left, on_ok_weaker)
 
 -- there is no place for a change, so none is made
-pub change-unplaced : {T : Type 0} (fault : Fault) (format : ClusterFormat) (end : Result ChangeEnd Fault) (old new : StorageState) (a b : Option (List ℕ))
-    → (IsTrue old.tells → (fault ≡ Storage) ⊎ (fault ≡ NoMemory) ⊎ (end ≡ Err fault))
+pub change-unplaced : {T : Type 0} (fault : Fault) (format : ClusterFormat) (end : Image → Result ChangeEnd Fault) (old new : StorageState) (a b : Option (List ℕ))
+    → (IsTrue old.tells → (fault ≡ Storage) ⊎ (fault ≡ NoMemory) ⊎ (end old.byte_at ≡ Err fault))
     → (fault ≡ Storage → new.failures ≢ old.failures) → new.byte_at ≡ old.byte_at
     → PrintsChange {T = T} (Err fault) format end old new a b
 change-unplaced fault format end old new a b refused failed same =
-    grind (arith, nat_tests, refusal-of, of-any)
+    grind (arith, nat_tests, read_fault-of, of-any)
 
 -- there is a place for a change, which is refused
-pub change-refused : {T E : Type 0} (fault : Fault) (format : ClusterFormat) (tell : E → ChangeEnd) (end : Result ChangeEnd Fault) (run : Result E Fault) (old new : StorageState) (a b : Option (List ℕ))
-    → (IsTrue old.tells → end ≡ result_map tell run)
+pub change-refused : {T E : Type 0} (fault : Fault) (format : ClusterFormat) (tell : E → ChangeEnd) (end : Image → Result ChangeEnd Fault) (run : Result E Fault) (old new : StorageState) (a b : Option (List ℕ))
+    → (IsTrue old.tells → end old.byte_at ≡ result_map tell run)
     → (IsTrue old.tells → (fault ≡ Storage) ⊎ (fault ≡ NoMemory) ⊎ (run ≡ Err fault))
     → (fault ≡ Storage → new.failures ≢ old.failures) → (fault ≢ Storage → new.byte_at ≡ old.byte_at)
     → (IsTrue old.tells → new.failures ≢ old.failures → LeavesTorn format tell run old.byte_at new.byte_at)
@@ -86,4 +86,4 @@ pub change-refused : {T E : Type 0} (fault : Fault) (format : ClusterFormat) (te
     → (IsTrue old.tells → StaysOutside format tell run old.byte_at new.byte_at)
     → PrintsChange {T = T} (Err fault) format end old new a b
 change-refused fault format tell end run old new a b is refused failed unchanged torn idle outside =
-    grind (arith, nat_tests, refusal-of, refused-as)
+    grind (arith, nat_tests, read_fault-of, refused-as)

@@ -1,5 +1,5 @@
 use Rattle.std.proofs.lemmas.Bool.Decides.{nat_tests}
-use Rattle.std.proofs.Common.{◌≡◌, ◌≢◌, ◌⊎◌, ℕ, inl, inr, ◌+◌, ◌-◌, ◌*◌, ◌%◌, ◌^◌, ◌<◌, ◌≤◌, List, [], ◌∷◌, ◌++◌, length, get_or, map, take, Option, Result, Ok, Err, IsTrue, ap, sym, ◌∙◌, add-one, append_assoc, append-nil, arith}
+use Rattle.std.proofs.Common.{◌≡◌, ◌≢◌, ◌⊎◌, ℕ, inl, inr, ◌+◌, ◌-◌, ◌*◌, ◌%◌, ◌^◌, ◌<◌, ◌≤◌, List, [], ◌∷◌, ◌++◌, length, get_or, map, take, Option, Result, Ok, Err, IsTrue, ap, subst, sym, ◌∙◌, add-one, append_assoc, append-nil, arith}
 use Rattle.std.specs.List.{concat}
 use Rattle.std.specs.Io.KnownBytes.{Appends}
 use Rattle.std.proofs.KnownBytes.{Appends-nil, Appends-trans}
@@ -80,22 +80,22 @@ ended-after value fault tables old between new a b reads ended =
     PrintsTablesBefore-after fault [] tables [] tables old between new a a b (sym (append-nil tables)) (Appends-nil a) (reads-calm value old between reads) ended
 
 -- tables that can't be told: nothing is printed
-pub PrintsList-none : {T : Type 0} (fault : Fault) (tables : Result TableTexts Fault) (old new : StorageState) (a : Option (List ℕ))
-    → (IsTrue old.tells → (fault ≡ Storage) ⊎ (fault ≡ NoMemory) ⊎ (tables ≡ Err fault)) → (fault ≡ Storage → new.failures ≢ old.failures)
+pub PrintsList-none : {T : Type 0} (fault : Fault) (tables : Image → Result TableTexts Fault) (old new : StorageState) (a : Option (List ℕ))
+    → (IsTrue old.tells → (fault ≡ Storage) ⊎ (fault ≡ NoMemory) ⊎ (tables old.byte_at ≡ Err fault)) → (fault ≡ Storage → new.failures ≢ old.failures)
     → PrintsList {T = T} (Err fault) tables old new a a
 PrintsList-none fault tables old new a refused failed = record {
   lines = tt;
-  refused = λ told. inl (read_fault-of fault tables old new (refused told) failed, Appends-nil a);
+  refused = λ told. inl (read_fault-of fault (tables old.byte_at) old new (refused told) failed, Appends-nil a);
 }
 
 -- the tables that an L1 table names, after that was loaded
-pub PrintsList-tables : {T V : Type 0} (value : V) (answer : Result T Fault) (tables : Result TableTexts Fault) (each : TableTexts) (old between new : StorageState) (a b : Option (List ℕ))
-    → (IsTrue old.tells → tables ≡ Ok each) → OnlyReads (Ok value) old between → PrintsTables answer each between new a b → PrintsList answer tables old new a b
+pub PrintsList-tables : {T V : Type 0} (value : V) (answer : Result T Fault) (tables : Image → Result TableTexts Fault) (each : Image → TableTexts) (old between new : StorageState) (a b : Option (List ℕ))
+    → (IsTrue old.tells → tables old.byte_at ≡ Ok (each old.byte_at)) → OnlyReads (Ok value) old between → PrintsTables answer each between new a b → PrintsList answer tables old new a b
 PrintsList-tables value (Ok done) tables each old between new a b are reads prints = record {
-  lines = λ told. rw (are told) (prints.lines (reads.device.tells ∙ told));
+  lines = λ told. rw (are told) (rw reads.bytes at (prints.lines (reads.device.tells ∙ told)));
   refused = tt;
 }
 PrintsList-tables value (Err fault) tables each old between new a b are reads prints = record {
   lines = tt;
-  refused = λ told. rw (are told) (inr (ended-after value fault each old between new a b reads (prints.refused (reads.device.tells ∙ told))));
+  refused = λ told. rw (are told) (inr (ended-after value fault (each old.byte_at) old between new a b reads (subst (λ bytes. PrintsTablesBefore fault between new a b (each bytes)) reads.bytes (prints.refused (reads.device.tells ∙ told)))));
 }

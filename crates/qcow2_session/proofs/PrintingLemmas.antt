@@ -7,11 +7,11 @@ use Rattle.std.proofs.lemmas.Grind.{flat_map-append}
 use Rattle.std.proofs.lemmas.List.{take_more}
 use Rattle.std.proofs.lemmas.List.Folds.{flat_map-map}
 use Rattle.std.proofs.lemmas.Result.{on_ok_weaker}
-use Rattle.qcow2_base.specs.Storage.{OnlyReads, SameDevice, StorageState}
+use Rattle.qcow2_base.specs.Storage.{Image, OnlyReads, SameDevice, StorageState}
 use Rattle.qcow2_base.specs.declared.fault.Fault.{Fault}
 use Rattle.qcow2_base.specs.declared.fault.Fault.TheVariants.{NoMemory, Storage}
 use Rattle.qcow2_metadata.specs.Results.{result_map}
-use Rattle.qcow2_session.specs.Commands.Printing.{IsReadFault, IsRefusal, Prints, PrintsLast}
+use Rattle.qcow2_session.specs.Commands.Printing.{IsReadFault, Prints, PrintsLast}
 
 -- what was printed before, and then these lines, if the print of these succeeds
 pub then_prints : {T E : Type 0} (answer : Result T E) (a b c : Option (List ℕ)) (lines more : List ℕ) → Appends a b lines → OnOk answer (Appends b c more) → OnOk answer (Appends a c (lines ++ more))
@@ -30,16 +30,11 @@ read_fault-of fault meant old new (inl storage) failed = inr (inr (storage, fail
 read_fault-of fault meant old new (inr (inl memory)) failed = inr (inl memory)
 read_fault-of fault meant old new (inr (inr bad)) failed = inl bad
 
--- and of a command, whose output may fail too
-pub refusal-of : {V : Type 0} (fault : Fault) (meant : Result V Fault) (old new : StorageState)
-    → (IsTrue old.tells → (fault ≡ Storage) ⊎ (fault ≡ NoMemory) ⊎ (meant ≡ Err fault)) → (fault ≡ Storage → new.failures ≢ old.failures) → IsRefusal meant old new fault
-refusal-of fault meant old new refused failed told = grind (arith, nat_tests, read_fault-of)
-
 -- what is read from the bytes is refused, so no line of it is meant
-pub Prints-refused : {T A : Type 0} (fault : Fault) (read : Result A Fault) (lines_of : A → List ℕ) (old new : StorageState) (a b : Option (List ℕ))
-    → (IsTrue old.tells → (fault ≡ Storage) ⊎ (fault ≡ NoMemory) ⊎ (read ≡ Err fault)) → (fault ≡ Storage → new.failures ≢ old.failures) → Prints {T = T} (Err fault) (result_map lines_of read) old new a b
+pub Prints-refused : {T A : Type 0} (fault : Fault) (read : Image → Result A Fault) (lines_of : A → List ℕ) (old new : StorageState) (a b : Option (List ℕ))
+    → (IsTrue old.tells → (fault ≡ Storage) ⊎ (fault ≡ NoMemory) ⊎ (read old.byte_at ≡ Err fault)) → (fault ≡ Storage → new.failures ≢ old.failures) → Prints {T = T} (Err fault) (λ image. result_map lines_of (read image)) old new a b
 Prints-refused fault read lines_of old new a b refused failed =
-    grind (arith, nat_tests, refusal-of, refused-as)
+    grind (arith, nat_tests, read_fault-of, refused-as)
 
 -- the lines of one item more
 pub printed-more : {X : Type 0} (line : X → List ℕ) (items : List X) (i : ℕ) (default : X) (a b c : Option (List ℕ)) → i < length items

@@ -71,16 +71,16 @@ is_silent_on_faults _ = true
 -- a command over an image with this header ended in this answer: what it printed, why it was refused, and what it changed
 abbrev pub RunsWith : {T : Type 0} → Command → HeaderRecord → Result T Fault → StorageState → StorageState → Option (List ℕ) → Option (List ℕ) → Type 0
 RunsWith (ListTable cluster_bits cluster) header answer old new before after =
-    Prints answer (lines_of_l2_table cluster_bits cluster old.byte_at) old new before after
+    Prints answer (lines_of_l2_table cluster_bits cluster) old new before after
 RunsWith PrintInfo header answer old new before after =
     (new ≡ old) × IsOkUnless answer Storage × OnOk answer (Appends before after (info_lines header))
 RunsWith ListTables header answer old new before after =
-    PrintsList answer (tables_of header old.byte_at) old new before after × ReadsFor (IsErrOf answer Storage) old new
+    PrintsList answer (tables_of header) old new before after × ReadsFor (IsErrOf answer Storage) old new
 RunsWith (PrintMapping guest_offset) header answer old new before after =
-    Prints answer (line_at header guest_offset.0 old.byte_at) old new before after
+    Prints answer (line_at header guest_offset.0) old new before after
 RunsWith (PrintExtents format) header answer old new before after =
-    PrintsExtents answer format (disk_of header old.byte_at) old new before after × ReadsFor (IsErrOf answer Storage) old new
+    PrintsExtents answer format (disk_of header) old new before after × ReadsFor (IsErrOf answer Storage) old new
 RunsWith (EditEntries l1_index edits) header answer old new before after =
-    PrintsChange answer (table_format header) (end_of_edits l1_index edits header old.byte_at) old new before after
+    PrintsChange answer (table_format header) (end_of_edits l1_index edits header) old new before after
 RunsWith (CountReferences cluster steps) header answer old new before after =
-    PrintsChange answer (block_format header) (end_of_steps cluster steps header old.byte_at) old new before after
+    PrintsChange answer (block_format header) (end_of_steps cluster steps header) old new before after

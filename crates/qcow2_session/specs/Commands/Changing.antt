@@ -1,6 +1,6 @@
-use Rattle.std.specs.Prelude.{◌≡◌, ◌≢◌, ◌⊎◌, ℕ, ◌*◌, ◌^◌, Bool, false, List, Option, Result, Ok, IfErr, IfOk, IsOkAnd, IsTrue, MatchResult, OnOk}
+use Rattle.std.specs.Prelude.{◌≡◌, ◌≢◌, ◌⊎◌, ℕ, ◌*◌, ◌^◌, Bool, false, List, Option, Result, Ok, IfErr, IfOk, IsOkAnd, MatchResult, OnOk}
 use Rattle.std.specs.Io.KnownBytes.{Appends}
-use Rattle.qcow2_base.specs.Storage.{Image, SameOutside, StorageState}
+use Rattle.qcow2_base.specs.Storage.{Image, OnImage, OnImages, SameOutside, StorageState}
 use Rattle.qcow2_base.specs.declared.fault.Fault.{Fault}
 use Rattle.qcow2_base.specs.declared.fault.Fault.TheVariants.{Storage}
 use Rattle.qcow2_base.specs.declared.types.HostCluster.{HostCluster}
@@ -33,15 +33,14 @@ IsMade answer old new = IfErr answer (λ fault. IsOutputFault fault old new)
 -- lines tell of it, or this is why it was refused, or the output failed. The new image has its numbers, once it is made;
 -- it is as before where it is refused or nothing is to be written, and always outside the cluster. Where a call of the
 -- image failed it is as before, or the numbers are written up to a piece
-pub record PrintsChange {T : Type 0} (answer : Result T Fault) (format : ClusterFormat) (end : Result ChangeEnd Fault) (old new : StorageState) (before after : Option (List ℕ)) : Type 0 where
-  pub lines : OnOk answer (IsTrue old.tells → IsOkAnd end (λ left. Appends before after left.lines))
-  pub refused : IfErr answer (IsRefusal end old new)
-  pub written : IsMade answer old new → IsTrue old.tells → IsOkAnd end (λ left.
-      format.loaded left.cluster new.byte_at ≡ Ok left.numbers)
+pub record PrintsChange {T : Type 0} (answer : Result T Fault) (format : ClusterFormat) (end : Image → Result ChangeEnd Fault) (old new : StorageState) (before after : Option (List ℕ)) : Type 0 where
+  pub lines : OnOk answer (OnImage old (λ bytes. IsOkAnd (end bytes) (λ left. Appends before after left.lines)))
+  pub refused : IfErr answer (λ fault. OnImage old (λ bytes. IsRefusal (end bytes) old new fault))
+  pub written : IsMade answer old new → OnImages old new (λ was is.
+      IsOkAnd (end was) (λ left. format.loaded left.cluster is ≡ Ok left.numbers))
   pub unchanged : IfErr answer (λ fault. fault ≢ Storage → new.byte_at ≡ old.byte_at)
-  pub idle : IsTrue old.tells → IfOk end (λ left. left.is_written ≡ false → new.byte_at ≡ old.byte_at)
-  pub others : IsTrue old.tells → MatchResult end
-      (λ left. SameOutsideCluster format.cluster_bits left.cluster old.byte_at new.byte_at)
-      (λ fault. new.byte_at ≡ old.byte_at)
-  pub torn : IsTrue old.tells → new.failures ≢ old.failures → (new.byte_at ≡ old.byte_at)
-      ⊎ IsOkAnd end (λ left. format.Torn left.cluster left.numbers old.byte_at new.byte_at)
+  pub idle : OnImages old new (λ was is. IfOk (end was) (λ left. left.is_written ≡ false → is ≡ was))
+  pub others : OnImages old new (λ was is. MatchResult (end was)
+      (λ left. SameOutsideCluster format.cluster_bits left.cluster was is) (λ fault. is ≡ was))
+  pub torn : OnImages old new (λ was is. new.failures ≢ old.failures →
+      (is ≡ was) ⊎ IsOkAnd (end was) (λ left. format.Torn left.cluster left.numbers was is))

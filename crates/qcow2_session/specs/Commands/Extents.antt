@@ -1,7 +1,7 @@
-use Rattle.std.specs.Prelude.{◌⊎◌, ℕ, ◌==◌, if◌then◌else◌, IsTrue, List, [], ◌∷◌, ◌++◌, flat_map, Option, Some, None, Result, IfErr, IsOkAnd, OnOk, bytes_eq, codes}
+use Rattle.std.specs.Prelude.{◌⊎◌, ℕ, ◌==◌, if◌then◌else◌, List, [], ◌∷◌, ◌++◌, flat_map, Option, Some, None, Result, IfErr, IsOkAnd, OnOk, bytes_eq, codes}
 use Rattle.std.specs.Fmt.{decimal}
 use Rattle.std.specs.Io.KnownBytes.{Appends}
-use Rattle.qcow2_base.specs.Storage.{Image, StorageState}
+use Rattle.qcow2_base.specs.Storage.{Image, OnImage, StorageState}
 use Rattle.qcow2_base.specs.declared.fault.Fault.{Fault}
 use Rattle.qcow2_metadata.specs.Header.{HeaderRecord, geometry_of}
 use Rattle.qcow2_metadata.specs.Results.{result_map}
@@ -118,17 +118,18 @@ PrintsMapBefore format fault before after disk = (extents : List Extent)
 -- the extents from a reader's offset on were printed: up to the disk's size after `Ok`, and after a fault up to the extent
 -- that can't be told. Of what an output got that failed, nothing is said
 pub record PrintsRest {T : Type 0} (answer : Result T Fault) (format : ExtentFormat) (reader : ExtentsState) (old new : StorageState) (before after : Option (List ℕ)) : Type 0 where
-  pub extents : OnOk answer (IsTrue old.tells → (extents : List Extent)
-      × AreExtents (contents_for reader old.byte_at) reader.header.v2.size reader.position extents reader.header.v2.size
-      × Appends before after (extents_text format extents))
-  pub refused : IfErr answer (λ fault. IsTrue old.tells → IsOutputFault fault old new ⊎ ((extents : List Extent)
-      × AreExtentsBefore (contents_for reader old.byte_at) reader.header.v2.size reader.position extents fault
+  pub extents : OnOk answer (OnImage old (λ bytes. (extents : List Extent)
+      × AreExtents (contents_for reader bytes) reader.header.v2.size reader.position extents reader.header.v2.size
       × Appends before after (extents_text format extents)))
+  pub refused : IfErr answer (λ fault. OnImage old (λ bytes. IsOutputFault fault old new ⊎ ((extents : List Extent)
+      × AreExtentsBefore (contents_for reader bytes) reader.header.v2.size reader.position extents fault
+      × Appends before after (extents_text format extents))))
 
 -- the command `map` of a disk ended in this answer: it printed all extents, or it was refused. Where the disk can't be told
 -- at all nothing is printed, else the extents before the one that can't be told. Of what an output got that failed, nothing
 -- is said
-pub record PrintsExtents {T : Type 0} (answer : Result T Fault) (format : ExtentFormat) (disk : Result Disk Fault) (old new : StorageState) (before after : Option (List ℕ)) : Type 0 where
-  pub extents : OnOk answer (IsTrue old.tells → IsOkAnd disk (PrintsMap format before after))
-  pub refused : IfErr answer (λ fault. IsTrue old.tells → (IsReadFault disk old new fault × Appends before after [])
-      ⊎ IsOkAnd disk (λ told. IsOutputFault fault old new ⊎ PrintsMapBefore format fault before after told))
+pub record PrintsExtents {T : Type 0} (answer : Result T Fault) (format : ExtentFormat) (disk : Image → Result Disk Fault) (old new : StorageState) (before after : Option (List ℕ)) : Type 0 where
+  pub extents : OnOk answer (OnImage old (λ bytes. IsOkAnd (disk bytes) (PrintsMap format before after)))
+  pub refused : IfErr answer (λ fault. OnImage old (λ bytes.
+      (IsReadFault (disk bytes) old new fault × Appends before after [])
+      ⊎ IsOkAnd (disk bytes) (λ told. IsOutputFault fault old new ⊎ PrintsMapBefore format fault before after told)))

@@ -1,7 +1,7 @@
-use Rattle.std.specs.Prelude.{◌≡◌, ◌⊎◌, ℕ, List, [], ◌∷◌, ◌++◌, map, Option, Result, Ok, IfErr, IsOk, IsOkAnd, IsTrue, OnOk}
+use Rattle.std.specs.Prelude.{◌≡◌, ◌⊎◌, ℕ, List, [], ◌∷◌, ◌++◌, map, Option, Result, Ok, IfErr, IsOk, IsOkAnd, OnOk}
 use Rattle.std.specs.List.{concat}
 use Rattle.std.specs.Io.KnownBytes.{Appends}
-use Rattle.qcow2_base.specs.Storage.{Image, StorageState}
+use Rattle.qcow2_base.specs.Storage.{Image, OnImage, StorageState}
 use Rattle.qcow2_base.specs.declared.fault.Fault.{Fault}
 use Rattle.qcow2_metadata.specs.Results.{result_map}
 use Rattle.qcow2_metadata.specs.Header.{Geometry, HeaderRecord, geometry_of}
@@ -46,13 +46,14 @@ pub record PrintsTablesBefore (fault : Fault) (old new : StorageState) (before a
       ⊎ (IsOutputFault fault old new × IsOk table)
 
 -- the print of tables ended in this answer
-pub record PrintsTables {T : Type 0} (answer : Result T Fault) (tables : TableTexts) (old new : StorageState) (before after : Option (List ℕ)) : Type 0 where
-  pub lines : OnOk answer (IsTrue old.tells → PrintsAllTables before after tables)
-  pub refused : IfErr answer (λ fault. IsTrue old.tells → PrintsTablesBefore fault old new before after tables)
+pub record PrintsTables {T : Type 0} (answer : Result T Fault) (tables : Image → TableTexts) (old new : StorageState) (before after : Option (List ℕ)) : Type 0 where
+  pub lines : OnOk answer (OnImage old (λ bytes. PrintsAllTables before after (tables bytes)))
+  pub refused : IfErr answer (λ fault. OnImage old (λ bytes. PrintsTablesBefore fault old new before after (tables bytes)))
 
 -- the command `list` of the L2 tables of an image ended in this answer: it printed all of them, or it was refused. Where
 -- they can't be told at all nothing is printed, else the lines of those before the one at which it ended
-pub record PrintsList {T : Type 0} (answer : Result T Fault) (tables : Result TableTexts Fault) (old new : StorageState) (before after : Option (List ℕ)) : Type 0 where
-  pub lines : OnOk answer (IsTrue old.tells → IsOkAnd tables (PrintsAllTables before after))
-  pub refused : IfErr answer (λ fault. IsTrue old.tells → (IsReadFault tables old new fault × Appends before after [])
-      ⊎ IsOkAnd tables (PrintsTablesBefore fault old new before after))
+pub record PrintsList {T : Type 0} (answer : Result T Fault) (tables : Image → Result TableTexts Fault) (old new : StorageState) (before after : Option (List ℕ)) : Type 0 where
+  pub lines : OnOk answer (OnImage old (λ bytes. IsOkAnd (tables bytes) (PrintsAllTables before after)))
+  pub refused : IfErr answer (λ fault. OnImage old (λ bytes.
+      (IsReadFault (tables bytes) old new fault × Appends before after [])
+      ⊎ IsOkAnd (tables bytes) (PrintsTablesBefore fault old new before after)))

@@ -1,14 +1,8 @@
-use Rattle.std.specs.Prelude.{◌≡◌, ◌≢◌, ◌⊎◌, ℕ, true, is_ok, List, Option, Result, Err, IfErr, IsErrOf, IsOkAnd, IsTrue, OnOk}
+use Rattle.std.specs.Prelude.{◌≡◌, ◌≢◌, ◌⊎◌, ℕ, List, Option, Result, Err, IfErr, IsErrOf, IsOk, IsOkAnd, OnOk}
 use Rattle.std.specs.Io.KnownBytes.{Appends}
-use Rattle.qcow2_base.specs.Storage.{SameDevice, StorageState}
+use Rattle.qcow2_base.specs.Storage.{Image, OnImage, SameDevice, StorageState}
 use Rattle.qcow2_base.specs.declared.fault.Fault.{Fault}
 use Rattle.qcow2_base.specs.declared.fault.Fault.TheVariants.{NoMemory, Storage}
-
--- calls over an image that was so before and is so now ended in this fault: it is the one that is meant, want of memory,
--- or a failed storage, which is that of the image or, where no fault is meant, of the output
-abbrev pub IsRefusal : {V : Type 0} → Result V Fault → StorageState → StorageState → Fault → Type 0
-IsRefusal meant old new fault = IsTrue old.tells → (meant ≡ Err fault) ⊎ (fault ≡ NoMemory)
-    ⊎ ((fault ≡ Storage) × ((new.failures ≢ old.failures) ⊎ (is_ok meant ≡ true)))
 
 -- calls that read an image that was so before and is so now ended in this fault: it is the one that is meant, want of
 -- memory, or a failed call of the image
@@ -20,6 +14,11 @@ IsReadFault meant old new fault =
 abbrev pub IsOutputFault : Fault → StorageState → StorageState → Type 0
 IsOutputFault fault old new = (fault ≡ Storage) × (new.failures ≡ old.failures)
 
+-- a command over an image that was so before and is so now ended in this fault: that of what it read, or that of its
+-- output, where what it read is no fault
+abbrev pub IsRefusal : {V : Type 0} → Result V Fault → StorageState → StorageState → Fault → Type 0
+IsRefusal meant old new fault = IsReadFault meant old new fault ⊎ (IsOutputFault fault old new × IsOk meant)
+
 -- a command that prints last ended in this answer: a fault other than the storage fault comes before any line, and so
 -- does a failed call of the image, which is that fault
 pub record PrintsLast {T O : Type 0} (answer : Result T Fault) (old new : StorageState) (before after : O) : Type 0 where
@@ -28,6 +27,6 @@ pub record PrintsLast {T O : Type 0} (answer : Result T Fault) (old new : Storag
   pub device : SameDevice old new
 
 -- a command that prints what an image's bytes mean ended in this answer: it printed these lines, or it was refused
-pub record Prints {T : Type 0} (answer : Result T Fault) (meant : Result (List ℕ) Fault) (old new : StorageState) (before after : Option (List ℕ)) : Type 0 where
-  pub lines : OnOk answer (IsTrue old.tells → IsOkAnd meant (Appends before after))
-  pub refused : IfErr answer (IsRefusal meant old new)
+pub record Prints {T : Type 0} (answer : Result T Fault) (meant : Image → Result (List ℕ) Fault) (old new : StorageState) (before after : Option (List ℕ)) : Type 0 where
+  pub lines : OnOk answer (OnImage old (λ bytes. IsOkAnd (meant bytes) (Appends before after)))
+  pub refused : IfErr answer (λ fault. OnImage old (λ bytes. IsRefusal (meant bytes) old new fault))

@@ -26,5 +26,5 @@ LoadsAndRuns command answer old new before after = (load : Result HeaderRecord F
 -- header
 abbrev pub Runs : {T : Type 0} → Command → Result T Fault → StorageState → StorageState → Option (List ℕ) → Option (List ℕ) → Type 0
 Runs (ListTable cluster_bits cluster) answer old new before after =
-    Prints answer (lines_of_l2_table cluster_bits cluster old.byte_at) old new before after
+    Prints answer (lines_of_l2_table cluster_bits cluster) old new before after
 Runs command answer old new before after = LoadsAndRuns command answer old new before after

@@ -26,7 +26,7 @@ pub fn print_mapping_at<S: Storage, O: Write>(
     guest_offset: GuestOffset,
     out: &mut O,
 ) -> Result<(), Fault>
-    ensures prints { Prints result (line_at header.now guest_offset.0 (S.state image.old).byte_at)
+    ensures prints { Prints result (line_at header.now guest_offset.0)
         (S.state image.old) (S.state image.new) (O.contents out.old) (O.contents out.new) }
     ensures last { PrintsLast result (S.state image.old) (S.state image.new) out.old out.new }
     ensures unchanged { (S.state image.new).byte_at ≡ (S.state image.old).byte_at }

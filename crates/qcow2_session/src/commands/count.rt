@@ -30,7 +30,7 @@ pub fn count_references<S: Storage, O: Write>(
     out: &mut O,
 ) -> Result<(), Fault>
     ensures counts { PrintsChange result (block_format header.now)
-        (end_of_steps cluster steps.now header.now (S.state image.old).byte_at)
+        (end_of_steps cluster steps.now header.now)
         (S.state image.old) (S.state image.new) (O.contents out.old) (O.contents out.new) }
     ensures last { PrintsLast result (S.state image.old) (S.state image.new) out.old out.new }
 {

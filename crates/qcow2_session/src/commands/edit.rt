@@ -34,7 +34,7 @@ pub fn edit_entries<S: Storage, O: Write>(
     out: &mut O,
 ) -> Result<(), Fault>
     ensures edits { PrintsChange result (table_format header.now)
-        (end_of_edits l1_index edits.now header.now (S.state image.old).byte_at)
+        (end_of_edits l1_index edits.now header.now)
         (S.state image.old) (S.state image.new) (O.contents out.old) (O.contents out.new) }
     ensures last { PrintsLast result (S.state image.old) (S.state image.new) out.old out.new }
 {

@@ -59,7 +59,7 @@ pub fn print_extents<S: Storage, O: Write>(
     format: ExtentFormat,
     out: &mut O,
 ) -> Result<(), Fault>
-    ensures prints { PrintsExtents result format (disk_of header.now (S.state image.old).byte_at)
+    ensures prints { PrintsExtents result format (disk_of header.now)
         (S.state image.old) (S.state image.new) (O.contents out.old) (O.contents out.new) }
     ensures storage { ReadsFor (IsErrOf result StorageFailed) (S.state image.old) (S.state image.new) }
 {

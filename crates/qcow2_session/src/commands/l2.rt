@@ -80,7 +80,7 @@ pub fn list_l2_table<S: Storage, O: Write>(
         (λ fault. (result ≡ Err fault) ⊎ (result ≡ Err NoMemory)) }
 
     // The lines are what the bytes mean.
-    ensures prints { Prints result (lines_of_l2_table cluster_bits cluster (S.state image.old).byte_at)
+    ensures prints { Prints result (lines_of_l2_table cluster_bits cluster)
         (S.state image.old) (S.state image.new) (O.contents out.old) (O.contents out.new) }
 
     // A fault comes before the first line, but the storage fault of the output.

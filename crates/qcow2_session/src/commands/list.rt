@@ -25,7 +25,7 @@ pub fn list_tables<S: Storage, O: Write>(
     header: &Header,
     out: &mut O,
 ) -> Result<(), Fault>
-    ensures prints { PrintsList result (tables_of header.now (S.state image.old).byte_at)
+    ensures prints { PrintsList result (tables_of header.now)
         (S.state image.old) (S.state image.new) (O.contents out.old) (O.contents out.new) }
     ensures storage { ReadsFor (IsErrOf result StorageFailed) (S.state image.old) (S.state image.new) }
 {
@@ -39,7 +39,7 @@ fn print_tables<S: Storage, O: Write>(
     image: &mut S,
     out: &mut O,
 ) -> Result<(), Fault>
-    ensures prints { PrintsTables result (texts_left tables.old (S.state image.old).byte_at)
+    ensures prints { PrintsTables result (texts_left tables.old)
         (S.state image.old) (S.state image.new) (O.contents out.old) (O.contents out.new) }
     ensures storage { ReadsFor (IsErrOf result StorageFailed) (S.state image.old) (S.state image.new) }
 {

@@ -16,13 +16,13 @@ returns-clause-prints g c =
     let reads = c.in_ok-tables.ensures.storage in
     let header = c.args.header.now in
     let tables = c.in_ok-tables.tables in
-    PrintsList-tables tables c.print_tables.result (tables_of header image) (texts_left tables image) _ (g.S.Storage.state c.new.new.image) _ _ _
+    PrintsList-tables tables c.print_tables.result (tables_of header) (texts_left tables) _ (g.S.Storage.state c.new.new.image) _ _ _
     (λ told.
     let loaded : loaded_l1_table (l1_place header) image ≡ Ok tables.l1 = search rules in
     rw (loaded, c.in_ok-tables.ensures.begun) refl)
-    reads (rw reads.bytes at c.print_tables.ensures.prints)
+    reads c.print_tables.ensures.prints
 
 pub returns-in_err-tables-clause-prints : goal.returns-in_err-tables-clause-prints
 returns-in_err-tables-clause-prints g c =
     let left = err_from_is_err_and c.from_residual.result c.from_residual.ensures.1 in
-    rw (left.1, left.2) (PrintsList-none _ (tables_of c.args.header.now (g.S.Storage.state c.args.image.now).byte_at) (g.S.Storage.state c.args.image.now) _ _ (λ told. search rules) (λ storage. search rules))
+    rw (left.1, left.2) (PrintsList-none _ (tables_of c.args.header.now) (g.S.Storage.state c.args.image.now) _ _ (λ told. search rules) (λ storage. search rules))
