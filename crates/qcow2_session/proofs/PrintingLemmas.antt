@@ -33,7 +33,7 @@ read_fault-of fault meant old new (inr (inr bad)) failed = inl bad
 -- and of a command, whose output may fail too
 pub refusal-of : {V : Type 0} (fault : Fault) (meant : Result V Fault) (old new : StorageState)
     → (IsTrue old.tells → (fault ≡ Storage) ⊎ (fault ≡ NoMemory) ⊎ (meant ≡ Err fault)) → (fault ≡ Storage → new.failures ≢ old.failures) → IsRefusal meant old new fault
-refusal-of fault meant old new refused failed told = grind (arith, nat_tests, read_fault-of)
+refusal-of fault meant old new refused failed told = inl (read_fault-of fault meant old new (refused told) failed)
 
 -- what is read from the bytes is refused, so no line of it is meant
 pub Prints-refused : {T A : Type 0} (fault : Fault) (read : Result A Fault) (lines_of : A → List ℕ) (old new : StorageState) (a b : Option (List ℕ))

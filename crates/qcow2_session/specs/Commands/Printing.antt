@@ -1,14 +1,8 @@
-use Rattle.std.specs.Prelude.{◌≡◌, ◌≢◌, ◌⊎◌, ℕ, true, is_ok, List, Option, Result, Err, IfErr, IsErrOf, IsOkAnd, IsTrue, OnOk}
+use Rattle.std.specs.Prelude.{◌≡◌, ◌≢◌, ◌⊎◌, ℕ, List, Option, Result, Err, IfErr, IsErrOf, IsOk, IsOkAnd, IsTrue, OnOk}
 use Rattle.std.specs.Io.KnownBytes.{Appends}
 use Rattle.qcow2_base.specs.Storage.{SameDevice, StorageState}
 use Rattle.qcow2_base.specs.declared.fault.Fault.{Fault}
 use Rattle.qcow2_base.specs.declared.fault.Fault.TheVariants.{NoMemory, Storage}
-
--- calls over an image that was so before and is so now ended in this fault: it is the one that is meant, want of memory,
--- or a failed storage, which is that of the image or, where no fault is meant, of the output
-abbrev pub IsRefusal : {V : Type 0} → Result V Fault → StorageState → StorageState → Fault → Type 0
-IsRefusal meant old new fault = IsTrue old.tells → (meant ≡ Err fault) ⊎ (fault ≡ NoMemory)
-    ⊎ ((fault ≡ Storage) × ((new.failures ≢ old.failures) ⊎ (is_ok meant ≡ true)))
 
 -- calls that read an image that was so before and is so now ended in this fault: it is the one that is meant, want of
 -- memory, or a failed call of the image
@@ -19,6 +13,12 @@ IsReadFault meant old new fault =
 -- the fault is that of a failed output: the storage fault, where no call of the image failed
 abbrev pub IsOutputFault : Fault → StorageState → StorageState → Type 0
 IsOutputFault fault old new = (fault ≡ Storage) × (new.failures ≡ old.failures)
+
+-- calls that read an image, and then print, ended in this fault: it is one of the reads, or no fault is meant and it is that
+-- of a failed output
+abbrev pub IsRefusal : {V : Type 0} → Result V Fault → StorageState → StorageState → Fault → Type 0
+IsRefusal meant old new fault =
+    IsTrue old.tells → IsReadFault meant old new fault ⊎ (IsOutputFault fault old new × IsOk meant)
 
 -- a command that prints last ended in this answer: a fault other than the storage fault comes before any line, and so
 -- does a failed call of the image, which is that fault
