@@ -1,6 +1,3 @@
-mod ChangingExamples
-mod LookupsExamples
-mod SampleImage
 mod WholeImageExamples
 pub mod ChangingLemmas
 pub mod CommandsLemmas

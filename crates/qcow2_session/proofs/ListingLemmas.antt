@@ -1,5 +1,5 @@
 use Rattle.std.proofs.lemmas.Bool.Decides.{nat_tests}
-use Rattle.std.proofs.Common.{◌≡◌, ◌≢◌, ◌⊎◌, ℕ, inl, inr, ◌+◌, ◌-◌, ◌*◌, ◌%◌, ◌^◌, ◌<◌, ◌≤◌, List, [], ◌∷◌, ◌++◌, length, get_or, map, take, Option, Result, Ok, Err, IsTrue, ap, subst, sym, ◌∙◌, add-one, append_assoc, append-nil, arith}
+use Rattle.std.proofs.Common.{◌≡◌, ◌≢◌, ◌⊎◌, ℕ, inl, inr, ◌+◌, ◌-◌, ◌*◌, ◌%◌, ◌^◌, ◌<◌, ◌≤◌, List, [], ◌∷◌, ◌++◌, length, get_or, map, take, Option, Result, Ok, Err, IsTrue, ap, refl, subst, sym, ◌∙◌, add-one, append_assoc, append-nil, arith}
 use Rattle.std.specs.List.{concat}
 use Rattle.std.specs.Io.KnownBytes.{Appends}
 use Rattle.std.proofs.KnownBytes.{Appends-nil, Appends-trans}
@@ -13,11 +13,12 @@ use Rattle.qcow2_base.specs.declared.fault.Fault.TheVariants.{NoMemory, Storage}
 use Rattle.qcow2_metadata.specs.Header.{Geometry, geometry_of}
 use Rattle.qcow2_metadata.specs.Entries.L2Mapping.{Mapping, mapping}
 use Rattle.qcow2_session.proofs.LinesLemmas.{entry_lines-take-suc}
-use Rattle.qcow2_session.proofs.PrintingLemmas.{read_fault-of, reads-calm}
+use Rattle.qcow2_metadata.specs.Results.{result_map}
+use Rattle.qcow2_session.proofs.PrintingLemmas.{read_fault-of, reads-calm, refused-as}
 use Rattle.qcow2_session.specs.Lines.{entry_line, entry_lines}
 use Rattle.qcow2_session.specs.Commands.Entries.{table_lines}
-use Rattle.qcow2_session.specs.Commands.Listing.{PrintsList, PrintsTables, PrintsTablesBefore, TableTexts, texts_left}
-use Rattle.qcow2_session.specs.Session.L2Tables.{WalkState, tables_left}
+use Rattle.qcow2_session.specs.Commands.Listing.{PrintsList, PrintsTables, PrintsTablesBefore, TableTexts, texts_left, texts_of}
+use Rattle.qcow2_session.specs.Session.L2Tables.{NamedTables, RefusesTable, WalkState, tables_left}
 use Rattle.qcow2_session.specs.declared.commands.entries.Label.TheVariants.{Offset}
 
 -- the offset of each guest cluster that an L1 table of the most entries leads to fits 64 bits
@@ -71,6 +72,19 @@ PrintsTablesBefore-after fault known some more all old between new a b c are bef
     | inl refused ↦ inl (refused.0, tables-printed known ended.printed a b c before refused.1)
     | inr output ↦ inr output
   ];
+}
+
+-- the print of tables ended at the first of those that are left
+pub ended-at : (fault : Fault) (g : Geometry) (known : List (List ℕ)) (left : NamedTables) (all : TableTexts) (old new : StorageState) (a b : Option (List ℕ))
+    → all ≡ map Ok known ++ texts_of g left → Appends a b (concat known) → RefusesTable left fault → (fault ≡ Storage → new.failures ≢ old.failures)
+    → PrintsTablesBefore fault old new a b all
+ended-at fault g known [] all old new a b are before refused failed = absurd refused
+ended-at fault g known (table ∷ rest) all old new a b are before refused failed = record {
+  printed = known;
+  table = result_map (table_lines Offset g table.0) table.1;
+  rest = texts_of g rest;
+  are = are;
+  why = inl (read_fault-of fault _ old new (refused-as fault (λ bad. rw bad refl) refused) failed, before);
 }
 
 -- and so after reads that were answered

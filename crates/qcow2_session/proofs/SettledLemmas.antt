@@ -14,27 +14,29 @@ use Rattle.qcow2_metadata.specs.Refblock.Counters.{AreCounters}
 use Rattle.qcow2_metadata.specs.Refblock.{BlockState, greatest_counter, stepped_block}
 use Rattle.qcow2_metadata.specs.Refblock.Guard.{Decrement, Increment, CounterChange, Steps, stepped}
 use Rattle.qcow2_metadata.specs.declared.entries.ClustersToFreeEntry.{ClustersToFreeEntry}
-use Rattle.qcow2_session.specs.Session.Settled.{CanSettle, MarksModified, IsSameButFlag, IsChangedBy, LeavesRange, ChangesCounters, Settles, SomeLeavesRange, opposite, is_between, range_of_one, times_among}
+use Rattle.qcow2_session.specs.declared.session.edits.Outcome.{Outcome}
+use Rattle.qcow2_session.specs.Session.Settled.{CanSettle, ChangesBlock, ChangesCounters, IsChangedBy, IsSameButFlag, LeavesRange, Settles, SomeCannotSettle, SomeLeavesRange, is_between, opposite, range_of_one, times_counted}
 
 -- counters that move twice
-pub moves-twice : (change : CounterChange) (first second total : ℕ → ℕ) (a b c : BlockState)
+moves-twice : (change : CounterChange) (first second total : ℕ → ℕ) (a b c : BlockState)
     → ((index : ℕ) → index < length a.counters → total index ≡ first index + second index)
     → ChangesCounters change first a b → ChangesCounters change second b c → ChangesCounters change total a c
 moves-twice change first second total a b c is one other = grind (arith, nat_tests)
 
+pub changes-twice : (change : CounterChange) (first second total : ℕ → ℕ) (a b c : BlockState)
+    → ((index : ℕ) → index < length a.counters → total index ≡ first index + second index)
+    → ChangesBlock change first a b → ChangesBlock change second b c → ChangesBlock change total a c
+changes-twice change first second total a b c is one other =
+    grind (arith, is, one.flag, other.flag, one.counters.entries, moves-twice change first second total a b c is one.counters other.counters)
+
 -- counters that move there and back
-pub moves-back : (change : CounterChange) (by : ℕ → ℕ) (a b c : BlockState) → ChangesCounters change by a b → ChangesCounters (opposite change) by b c → IsSameButFlag a c
-moves-back change by a b c one other =
+pub moves-back : (change back : CounterChange) (by : ℕ → ℕ) (a b c : BlockState) → back ≡ opposite change
+    → ChangesCounters change by a b → ChangesCounters back by b c → IsSameButFlag a c
+moves-back change back by a b c is one other =
     let same : c.counters ≡ a.counters = same_number_lists c.counters a.counters (other.entries ∙ one.entries)
-    (λ k below. grind (arith, one.counters k (omega (arith, below, other.entries, one.entries)), other.counters k (omega (arith, below, other.entries)))) in
+    (λ k below. grind (arith, is, one.counters k (omega (arith, below, other.entries, one.entries)), other.counters k (omega (arith, below, other.entries)))) in
     other.others ∙ ap (λ (block : BlockState). record block { counters = c.counters; modified = c.modified }) one.others
     ∙ ap (λ (counters : List ℕ). record a { counters = counters; modified = c.modified }) same
-
--- the flag of counters that move twice
-pub flags-twice : (first second total : ℕ → ℕ) (a b c : BlockState)
-    → ((index : ℕ) → index < length a.counters → total index ≡ first index + second index)
-    → length b.counters ≡ length a.counters → MarksModified first a b → MarksModified second b c → MarksModified total a c
-flags-twice first second total a b c is same one other = grind (arith, is, one, other)
 
 -- what a step makes of a counter
 stepped-is : (change : CounterChange) (order v counter : ℕ) → stepped order change v ≡ Some counter → IsChangedBy change 1 v counter
@@ -55,7 +57,7 @@ set-moves change index v a below moved = record {
 
 -- one counter's step
 pub step-moves : (change : CounterChange) (index before : ℕ) (answer : Result ℕ Fault) (a b : BlockState) → index < length a.counters
-    → Steps change index answer a b → answer ≡ Ok before → ChangesCounters change (λ i. one_if (i == index)) a b × MarksModified (λ i. one_if (i == index)) a b
+    → Steps change index answer a b → answer ≡ Ok before → ChangesBlock change (λ i. one_if (i == index)) a b
 step-moves change index before answer a b below steps is =
     grind (arith, nat_tests, steps.answers, steps.steps, λ (counter : ℕ) (after : stepped a.refcount_order change (slice_index a.counters index) ≡ Some counter). set-moves change index counter a below (stepped-is change a.refcount_order (slice_index a.counters index) counter after))
 
@@ -70,15 +72,11 @@ step-refused change index fault answer a b steps is = grind (arith, steps.answer
 
 -- a step range as far as the next index
 pub range-next : (change : CounterChange) (start at before : ℕ) (answer : Result ℕ Fault) (a b c : BlockState) → start ≤ at → at < length a.counters
-    → ChangesCounters change (λ i. one_if (is_between start at i)) a b → MarksModified (λ i. one_if (is_between start at i)) a b
-    → Steps change at answer b c → answer ≡ Ok before
-    → ChangesCounters change (λ i. one_if (is_between start (at + 1) i)) a c × MarksModified (λ i. one_if (is_between start (at + 1) i)) a c
-range-next change start at before answer a b c from below moves flags steps is =
-    let step = step-moves change at before answer b c (omega (arith, below, moves.entries)) steps is in
-    let more = λ (i : ℕ) (within : i < length a.counters). between-more start at i from in (
-      moves-twice change (λ i. one_if (is_between start at i)) (λ i. one_if (i == at)) (λ i. one_if (is_between start (at + 1) i)) a b c more moves step.0,
-      flags-twice (λ i. one_if (is_between start at i)) (λ i. one_if (i == at)) (λ i. one_if (is_between start (at + 1) i)) a b c more moves.entries flags step.1,
-    )
+    → ChangesBlock change (λ i. one_if (is_between start at i)) a b → Steps change at answer b c → answer ≡ Ok before
+    → ChangesBlock change (λ i. one_if (is_between start (at + 1) i)) a c
+range-next change start at before answer a b c from below changed steps is =
+    changes-twice change (λ i. one_if (is_between start at i)) (λ i. one_if (i == at)) (λ i. one_if (is_between start (at + 1) i)) a b c
+    (λ i within. between-more start at i from) changed (step-moves change at before answer b c (omega (arith, below, changed.counters.entries)) steps is)
 
 -- the width of counters stays
 order-kept : (change : CounterChange) (by : ℕ → ℕ) (a b : BlockState) → ChangesCounters change by a b → b.refcount_order ≡ a.refcount_order
@@ -96,14 +94,14 @@ one-among : (cluster : HostCluster) (c : ℕ) → one_if (is_among (range_of_one
 one-among cluster c = grind (arith, nat_tests)
 
 -- gains are counted by clusters or by their numbers
-times-gained : (gained : List HostCluster) (c : ℕ) → times_among range_of_one gained c ≡ times_gained (cluster_numbers gained) c
-times-gained [] c = refl
-times-gained (cluster ∷ gained) c = omega (
+times-gained : (gained : List HostCluster) (first index : ℕ) → times_counted range_of_one gained first index ≡ times_gained (cluster_numbers gained) (first + index)
+times-gained [] first index = refl
+times-gained (cluster ∷ gained) first index = omega (
   arith,
-  sum_by-cons (λ (item : HostCluster). one_if (is_among (range_of_one item) c)) cluster gained,
-  sum_by-cons (λ (number : ℕ). one_if (number == c)) cluster.0 (cluster_numbers gained),
-  one-among cluster c,
-  times-gained gained c,
+  sum_by-cons (λ (item : HostCluster). one_if (is_among (range_of_one item) (first + index))) cluster gained,
+  sum_by-cons (λ (number : ℕ). one_if (number == first + index)) cluster.0 (cluster_numbers gained),
+  one-among cluster (first + index),
+  times-gained gained first index,
 )
 
 -- a counter that fits
@@ -111,36 +109,29 @@ fits : (order : ℕ) (counters : List ℕ) (index : ℕ) → AreCounters order c
 fits order counters index fit below = omega (arith, fit index 0 below)
 
 -- counters that gained all and then lost all
-pub settled-by : (first : ℕ) (gained : List HostCluster) (freed : List ClustersToFreeEntry) (a b c : BlockState)
-    → ChangesCounters Increment (λ i. times_among range_of_one gained (first + i)) a b → MarksModified (λ i. times_among range_of_one gained (first + i)) a b
-    → ChangesCounters Decrement (λ i. times_among (λ (item : ClustersToFreeEntry). item) freed (first + i)) b c → MarksModified (λ i. times_among (λ (item : ClustersToFreeEntry). item) freed (first + i)) b c
-    → Settles first freed (cluster_numbers gained) a c
-settled-by first gained freed a b c up up_flag down down_flag =
-    grind (arith, nat_tests, times-gained, flags-twice)
+pub settled-by : (first : ℕ) (outcome : Outcome) (a b c : BlockState) → ChangesBlock Increment (times_counted range_of_one outcome.gained.items first) a b
+    → ChangesBlock Decrement (times_counted (λ item. item) outcome.freed.items first) b c → Settles first outcome a c
+settled-by first outcome a b c up down = grind (arith, nat_tests, times-gained)
 
 -- and that could
 pub can-settle : (first : ℕ) (gained : List HostCluster) (freed : List ClustersToFreeEntry) (a b c : BlockState)
-    → ChangesCounters Increment (λ i. times_among range_of_one gained (first + i)) a b → AreCounters b.refcount_order b.counters
-    → ChangesCounters Decrement (λ i. times_among (λ (item : ClustersToFreeEntry). item) freed (first + i)) b c
+    → ChangesCounters Increment (times_counted range_of_one gained first) a b → AreCounters b.refcount_order b.counters
+    → ChangesCounters Decrement (times_counted (λ item. item) freed first) b c
     → (index : ℕ) → index < length a.counters → CanSettle a first freed (cluster_numbers gained) index
 can-settle first gained freed a b c up fit down = grind (arith, nat_tests, order-kept, fits, times-gained)
 
 -- losses that don't fit
 pub losses-short : (first : ℕ) (gained : List HostCluster) (freed : List ClustersToFreeEntry) (a b : BlockState)
-    → ChangesCounters Increment (λ i. times_among range_of_one gained (first + i)) a b
-    → SomeLeavesRange Decrement (λ i. times_among (λ (item : ClustersToFreeEntry). item) freed (first + i)) b
-    → (index : ℕ) × (index < length a.counters) × (CanSettle a first freed (cluster_numbers gained) index → ⊥)
+    → ChangesCounters Increment (times_counted range_of_one gained first) a b
+    → SomeLeavesRange Decrement (times_counted (λ item. item) freed first) b → SomeCannotSettle a first freed (cluster_numbers gained)
 losses-short first gained freed a b up (i, below, short) =
     let within : i < length a.counters = omega (arith, below, up.entries) in
-    (i, within, λ can. omega (arith, short, can.1, up.counters i within, times-gained gained (first + i)))
+    (i, within, λ can. omega (arith, short, can.1, up.counters i within, times-gained gained first i))
 
--- the same moves, counted otherwise
-pub moves-as : (change : CounterChange) (by other : ℕ → ℕ) (a b : BlockState) → ((i : ℕ) → i < length a.counters → other i ≡ by i)
-    → ChangesCounters change by a b → ChangesCounters change other a b
-moves-as change by other a b same moves = grind (arith, nat_tests)
-
-pub flags-as : (by other : ℕ → ℕ) (a b : BlockState) → ((i : ℕ) → i < length a.counters → other i ≡ by i) → MarksModified by a b → MarksModified other a b
-flags-as by other a b same flags = grind (arith, same, flags)
+-- the same changes, counted otherwise
+pub changes-as : (change : CounterChange) (by other : ℕ → ℕ) (a b : BlockState) → ((i : ℕ) → i < length a.counters → other i ≡ by i)
+    → ChangesBlock change by a b → ChangesBlock change other a b
+changes-as change by other a b same changed = grind (arith, nat_tests, same, changed.flag)
 
 -- and with another flag
 pub moves-flagged : (change : CounterChange) (by : ℕ → ℕ) (a b c : BlockState) → IsSameButFlag b c → ChangesCounters change by a b → ChangesCounters change by a c
@@ -158,13 +149,13 @@ clusters-short change by at a below one none =
     (at, below, subst (λ (n : ℕ). LeavesRange change a.refcount_order n (slice_index a.counters at)) (sym one) (stepped-short change a.refcount_order (slice_index a.counters at) none))
 
 -- one more of a list
-pub times-more : {C : Type 0} (clusters : C → ClustersToFreeEntry) (list : List C) (at : ℕ) (item : C) (c : ℕ) → at < length list → item ≡ get_or list at item
-    → times_among clusters (take (at + 1) list) c ≡ times_among clusters (take at list) c + one_if (is_among (clusters item) c)
-times-more clusters list at item c below is = grind (arith, nat_tests, sum_by_more)
+pub times-more : {C : Type 0} (clusters : C → ClustersToFreeEntry) (list : List C) (at : ℕ) (item : C) (first index : ℕ) → at < length list → item ≡ get_or list at item
+    → times_counted clusters (take (at + 1) list) first index ≡ times_counted clusters (take at list) first index + one_if (is_among (clusters item) (first + index))
+times-more clusters list at item first index below is = grind (arith, nat_tests, sum_by_more)
 
-pub times-within : {C : Type 0} (clusters : C → ClustersToFreeEntry) (list : List C) (at : ℕ) (item : C) (c : ℕ) → at < length list → item ≡ get_or list at item
-    → times_among clusters (take at list) c + one_if (is_among (clusters item) c) ≤ times_among clusters list c
-times-within clusters list at item c below is = grind (arith, nat_tests, sum_by_more_le)
+pub times-within : {C : Type 0} (clusters : C → ClustersToFreeEntry) (list : List C) (at : ℕ) (item : C) (first index : ℕ) → at < length list → item ≡ get_or list at item
+    → times_counted clusters (take at list) first index + one_if (is_among (clusters item) (first + index)) ≤ times_counted clusters list first index
+times-within clusters list at item first index below is = grind (arith, nat_tests, sum_by_more_le)
 
 -- what can't be changed after a part can't be changed at all
 pub list-short : (change : CounterChange) (part one total : ℕ → ℕ) (a b : BlockState) → ChangesCounters change part a b

@@ -64,8 +64,8 @@ part_way-end steps made before now replies all way =
 abbrev in_bounds : ℕ → Step → Bool
 in_bounds entries step = nat_lt (index_of step) entries
 
-pub all_in_bounds : (block : BlockState) (steps : List Step) → first_unfit_step block steps ≡ None → list_all (in_bounds (length block.counters)) steps ≡ true
-all_in_bounds block steps none = all_pass (in_bounds (length block.counters)) steps none
+pub all_in_bounds : (entries : ℕ) (steps : List Step) → first_unfit_step entries steps ≡ None → list_all (in_bounds entries) steps ≡ true
+all_in_bounds entries steps none = all_pass (in_bounds entries) steps none
 
 -- and so is each of them
 pub each_in_bounds : (entries : ℕ) (steps : List Step) (i : ℕ) (default : Step) → list_all (in_bounds entries) steps ≡ true → i < length steps → index_of (get_or steps i default) < entries
@@ -115,12 +115,12 @@ run-undoes steps replies old new all order run = λ index before is made.
     (ap (λ (end : StepsEnd). end.replies) end, rw (order, counters) refl)
 
 -- a block that a run led to
-pub run-counts : (steps : List Step) (replies : List StepReply) (old new : BlockState) → first_unfit_step old steps ≡ None → new.refcount_order ≡ old.refcount_order → steps_left new replies ≡ run_of_steps old.refcount_order steps old.counters → Counts steps replies old new
+pub run-counts : (steps : List Step) (replies : List StepReply) (old new : BlockState) → first_unfit_step (length old.counters) steps ≡ None → new.refcount_order ≡ old.refcount_order → steps_left new replies ≡ run_of_steps old.refcount_order steps old.counters → Counts steps replies old new
 run-counts steps replies old new none order run = record {
   balance = λ index.
       subst (λ (end : StepsEnd). slice_index end.counters index + times_made (decrements index) steps end.replies ≡ slice_index old.counters index + times_made (increments index) steps end.replies)
-      (sym run) (run_counts old.refcount_order steps old.counters index (all_in_bounds old steps none));
-  undone = run-undoes steps replies old new (all_in_bounds old steps none) order run;
+      (sym run) (run_counts old.refcount_order steps old.counters index (all_in_bounds (length old.counters) steps none));
+  undone = run-undoes steps replies old new (all_in_bounds (length old.counters) steps none) order run;
 }
 
 -- blocks of the same counters

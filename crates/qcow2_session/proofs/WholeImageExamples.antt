@@ -1,39 +1,57 @@
-use Rattle.std.proofs.Common.{◌≡◌, ℕ, ◌∷◌, ◌++◌, [], List, map, false, true, Result, Ok, refl}
+use Rattle.std.proofs.Common.{◌≡◌, ℕ, ◌+◌, ◌-◌, ◌&&◌, ◌∷◌, ◌++◌, [], List, length, map, nat_le, nat_lt, slice_index, false, true, Result, Ok, refl}
+use Rattle.std.specs.Prelude.{⊤}
+use Rattle.qcow2_base.specs.Storage.{Image, be}
 use Rattle.qcow2_base.specs.declared.fault.Fault.{Fault}
 use Rattle.qcow2_metadata.specs.Entries.L2Mapping.{Mapping, backing, data_file}
 use Rattle.qcow2_metadata.specs.Header.{geometry}
-use Rattle.qcow2_session.proofs.SampleImage.{Part, byte, computing, entry, laid, sample}
+use Rattle.qcow2_metadata.specs.Header.Chain.{extensions_at}
+use Rattle.qcow2_metadata.specs.Header.Grammar.{header_of}
 use Rattle.qcow2_session.specs.Session.Lookups.{image_mapping}
 use Rattle.qcow2_session.specs.Session.WholeImage.{image_references}
+
+-- `unfolding computing` opens what is needed to compute what an image that is written out means
+unfoldable computing : ⊤
+unfolding header_of extensions_at be
+computing = tt
+
+-- bytes at a place
+abbrev Part : Type 0
+Part = ℕ × List ℕ
+
+-- the image that has these parts, an earlier one over a later one, and is 0 elsewhere
+abbrev laid : List Part → Image
+laid [] offset = 0
+laid (part ∷ parts) offset = elim (nat_le part.0 offset && nat_lt offset (part.0 + length part.1)) [
+  | true ↦ slice_index part.1 (offset - part.0)
+  | false ↦ laid parts offset
+]
+
+abbrev byte : ℕ → ℕ → List Part
+byte place value = (place, value ∷ []) ∷ []
+
+-- an entry's number at a place: its first byte, and its last two
+abbrev entry : ℕ → ℕ → ℕ → ℕ → List Part
+entry place first seventh eighth = (place, first ∷ 0 ∷ 0 ∷ 0 ∷ 0 ∷ 0 ∷ seventh ∷ eighth ∷ []) ∷ []
+
+-- a disk of 32768 bytes in clusters of 512, an L1 table of one entry at 512, its L2 table at 1024, and in that the data
+-- of guest cluster 3, at 2560
+abbrev sample : List Part
+sample = byte 30 0x80 ++ byte 39 1 ++ byte 46 2 ++ entry 512 0x80 4 0 ++ entry 1048 0x80 0x0a 0
+    ++ (0, 0x51 ∷ 0x46 ∷ 0x49 ∷ 0xfb ∷ 0 ∷ 0 ∷ 0 ∷ 3 ∷ []) ∷ byte 23 9 ++ byte 99 4 ++ byte 103 104
+
+-- references to clusters 5, 6 and 7 in the whole image, where a second L2 table at 2048 maps its first cluster to cluster
+-- 7, and the first one's entry 3 is mapped to cluster 6, where it was mapped to cluster 5
+abbrev referred : List Part → List ℕ
+referred parts = map (image_references (geometry 9 false) (0x8000000000000400 ∷ 0x8000000000000800 ∷ [])
+    (laid (parts ++ entry 2048 0x80 0x0e 0 ++ sample))) (5 ∷ 6 ∷ 7 ∷ [])
+
+pub references : map referred ([] ∷ entry 1048 0x80 0x0c 0 ∷ []) ≡ (1 ∷ 0 ∷ 1 ∷ []) ∷ (0 ∷ 1 ∷ 1 ∷ []) ∷ []
+unfolding computing
+references = refl
 
 -- what the cluster of an offset reads as with these changes of the sample image, one list of them after another
 abbrev with_changes : ℕ → List (List Part) → List (Result Mapping Fault)
 with_changes offset changes = map (λ parts. image_mapping offset (laid (parts ++ sample))) changes
-
--- two L1 entries: the second one's L2 table at 2048 maps its first cluster to the data at 3584, in cluster 7
-abbrev two_tables : List Part
-two_tables = byte 39 2 ++ entry 520 0x80 0x08 0 ++ entry 2048 0x80 0x0e 0
-
--- the first L2 table's entry 3 is mapped to cluster 6, where it was mapped to cluster 5
-abbrev edited : List Part
-edited = entry 1048 0x80 0x0c 0 ++ two_tables
-
--- the edited table's offset reads as the edit says, and the other table's reads the same
-pub own_offset : with_changes 1543 (two_tables ∷ edited ∷ []) ≡ Ok (data_file 5 true) ∷ Ok (data_file 6 true) ∷ []
-unfolding computing
-own_offset = refl
-
-pub other_offset : with_changes 32768 (two_tables ∷ edited ∷ []) ≡ Ok (data_file 7 true) ∷ Ok (data_file 7 true) ∷ []
-unfolding computing
-other_offset = refl
-
--- references to clusters 5, 6 and 7 in the whole image: cluster 5 is handed back, 6 gains one, and 7 keeps its own
-abbrev referred : List Part → List ℕ
-referred parts = map (image_references (geometry 9 false) (0x8000000000000400 ∷ 0x8000000000000800 ∷ []) (laid (parts ++ sample))) (5 ∷ 6 ∷ 7 ∷ [])
-
-pub references : map referred (two_tables ∷ edited ∷ []) ≡ (1 ∷ 0 ∷ 1 ∷ []) ∷ (0 ∷ 1 ∷ 1 ∷ []) ∷ []
-unfolding computing
-references = refl
 
 -- why an offset's own L2 table has to share no byte with the edited one: the second L1 entry names that table too, and
 -- its offset, in which nothing was edited, reads as the edit says

@@ -6,11 +6,11 @@ use Rattle.std.proofs.lemmas.List.Sums.{sum_by-cons}
 use Rattle.std.proofs.lemmas.Nat.{div-mul-add}
 use Rattle.std.proofs.lemmas.Option.{none-some, same_Some, slice_get-map}
 use Rattle.std.specs.List.{sum_by}
-use Rattle.qcow2_base.specs.Storage.{Image, be}
+use Rattle.qcow2_base.specs.Storage.{Image, SameOutside, be}
 use Rattle.qcow2_base.specs.declared.fault.Fault.{Fault}
 use Rattle.qcow2_base.specs.declared.on_disk_struct.v2_header.V2Header.{V2Header}
 use Rattle.qcow2_base.specs.declared.types.HostCluster.{HostCluster}
-use Rattle.qcow2_session.specs.Session.WholeImage.{AreApart, BalancesImage, ChangesOwnLookups, ChangesL2Table, AvoidsHeaderAndL1Table, IsSoundImage, IsWithin, ShareNoByte, first_cluster_bytes, l2_bytes, l2_cluster_in, l2_clusters, table_bytes, bytes_of_tables}
+use Rattle.qcow2_session.specs.Session.WholeImage.{AreApart, AvoidsHeaderAndL1Table, BalancesImage, ChangesOwnLookups, HasTableApart, IsL2Table, IsSoundImage, IsWithin, KeepsImageSound, KeepsOtherLookups, ShareNoByte, first_cluster_bytes, l2_bytes, l2_cluster_in, l2_clusters, table_bytes, bytes_of_tables}
 use Rattle.qcow2_metadata.specs.Table.L2Guards.{handed_back, references, times_gained}
 use Rattle.qcow2_metadata.specs.Entries.L2Entry.{ByteRange}
 use Rattle.qcow2_metadata.specs.Entries.L2Mapping.{Mapping}
@@ -18,10 +18,16 @@ use Rattle.qcow2_metadata.specs.Header.{Geometry, HeaderRecord, geometry_of}
 use Rattle.qcow2_metadata.specs.Header.Grammar.{header_of}
 use Rattle.qcow2_session.specs.Session.Lookups.{image_mapping, l1_place, l2_cluster, mapping_by}
 use Rattle.qcow2_metadata.specs.Table.{TablePlace, l2_table_at, loaded_l1_table, loaded_l2_table, numbers_at, offset_of}
-use Rattle.qcow2_metadata.specs.declared.entries.ClustersToFreeEntry.{ClustersToFreeEntry}
+use Rattle.qcow2_session.specs.Session.Edits.{cluster_numbers}
+use Rattle.qcow2_session.specs.declared.session.edits.Outcome.{Outcome}
 use Rattle.qcow2_metadata.proofs.ClusterLemmas.{header_of-same}
 use Rattle.qcow2_metadata.proofs.GrammarLemmas.{header_of-is, holds-v2_at}
 use Rattle.qcow2_metadata.proofs.TableLemmas.{table_numbers_same}
+
+-- only the L2 table at a cluster was changed, which shares no byte with the first cluster and the L1 table
+pub record ChangesL2Table (header : HeaderRecord) (cluster : HostCluster) (old new : Image) : Type 0 where
+  pub apart : HasTableApart (geometry_of header) cluster header old
+  pub same : SameOutside (cluster.0 * 2 ^ header.v2.cluster_bits) (2 ^ header.v2.cluster_bits) old new
 
 -- the new image has the old one's bytes in a range
 abbrev Keeps : ByteRange → Image → Image → Type 0
@@ -49,20 +55,24 @@ full_cluster cb least =
     let three : 3 + (cb - 3) ≡ cb = omega (arith, least) in
     sym (pow-add 2 3 (cb - 3)) ∙ ap (λ k. 2 ^ k) three
 
+-- a header has 9 cluster bits at least
+least_bits : (header : HeaderRecord) (image : Image) → header_of image ≡ Ok header → 9 ≤ header.v2.cluster_bits
+least_bits header image is = (header_of-is image header is).cluster_bits.0
+
 -- what shares no byte with the table that is changed is kept
 kept : (header : HeaderRecord) (cluster : HostCluster) (old new : Image) → ChangesL2Table header cluster old new
     → (range : ByteRange) → ShareNoByte range (l2_bytes (geometry_of header) cluster) → Keeps range old new
 kept header cluster old new change range apart = λ o within.
-    grind (arith, change.same.before o, change.same.after o, apart o within, full_cluster header.v2.cluster_bits change.bits)
+    grind (arith, change.same.before o, change.same.after o, apart o within, full_cluster header.v2.cluster_bits (least_bits header old change.apart.begins))
 
 -- the header and the L1 table are
-tables-kept : (header : HeaderRecord) (cluster : HostCluster) (old new : Image) → header_of old ≡ Ok header
-    → ChangesL2Table header cluster old new
+tables-kept : (header : HeaderRecord) (cluster : HostCluster) (old new : Image) → ChangesL2Table header cluster old new
     → (header_of new ≡ Ok header) × (loaded_l1_table (l1_place header) new ≡ loaded_l1_table (l1_place header) old)
-tables-kept header cluster old new is change = (
-  header-kept header old new is (kept header cluster old new change _ change.avoids.first_cluster) ∙ is,
-  rw (numbers-kept (l1_place header) old new (kept header cluster old new change _ change.avoids.l1_table)) refl,
-)
+tables-kept header cluster old new change =
+    let is = change.apart.begins in (
+      header-kept header old new is (kept header cluster old new change _ change.apart.avoids.first_cluster) ∙ is,
+      rw (numbers-kept (l1_place header) old new (kept header cluster old new change _ change.apart.avoids.l1_table)) refl,
+    )
 
 -- what a guest cluster reads as is kept with its L2 table
 mapping-kept : (g : Geometry) (found : Option HostCluster) (guest_cluster : ℕ) (old new : Image)
@@ -72,40 +82,46 @@ mapping-kept g None guest_cluster old new kept = refl
 mapping-kept g (Some cluster) guest_cluster old new kept = rw (numbers-kept (l2_table_at g cluster) old new (kept cluster refl)) refl
 
 -- the offsets of other L2 tables read as before
-lookup-kept : (header : HeaderRecord) (cluster : HostCluster) (old new : Image) → header_of old ≡ Ok header
-    → ChangesL2Table header cluster old new → (offset : ℕ)
+lookup-kept : (header : HeaderRecord) (cluster : HostCluster) (old new : Image) → ChangesL2Table header cluster old new → (offset : ℕ)
     → ((other : HostCluster) → l2_cluster_in offset old ≡ Ok (Some other)
     → ShareNoByte (l2_bytes (geometry_of header) other) (l2_bytes (geometry_of header) cluster))
     → image_mapping offset new ≡ image_mapping offset old
-lookup-kept header cluster old new is change offset apart = by_answer (loaded_l1_table (l1_place header) old) refl
+lookup-kept header cluster old new change offset apart = by_answer (loaded_l1_table (l1_place header) old) refl
   where
     by_answer : (answer : Result (List ℕ) Fault) → loaded_l1_table (l1_place header) old ≡ answer
         → image_mapping offset new ≡ image_mapping offset old
-    by_answer (Err fault) refusal = let tables = tables-kept header cluster old new is change in rw (tables.0, is, tables.1, refusal) refl
+    by_answer (Err fault) refusal = let tables = tables-kept header cluster old new change in rw (tables.0, change.apart.begins, tables.1, refusal) refl
     by_answer (Ok l1) there =
-        let tables = tables-kept header cluster old new is change in
-        rw (tables.0, is, tables.1, there) (mapping-kept (geometry_of header) _ _ old new
-        (λ other names. kept header cluster old new change _ (apart other (rw (is, there) (ap Ok names)))))
+        let tables = tables-kept header cluster old new change in
+        rw (tables.0, change.apart.begins, tables.1, there) (mapping-kept (geometry_of header) _ _ old new
+        (λ other names. kept header cluster old new change _ (apart other (rw (change.apart.begins, there) (ap Ok names)))))
 
 -- the offsets of the table read as it says now
-lookup-own : (header : HeaderRecord) (cluster : HostCluster) (old new : Image) → header_of old ≡ Ok header
-    → ChangesL2Table header cluster old new → (offset : ℕ) → l2_cluster_in offset old ≡ Ok (Some cluster)
+lookup-own : (header : HeaderRecord) (cluster : HostCluster) (old new : Image) → ChangesL2Table header cluster old new → (offset : ℕ) → l2_cluster_in offset old ≡ Ok (Some cluster)
     → image_mapping offset new ≡ mapping_by (geometry_of header) (Some cluster) (offset / 2 ^ header.v2.cluster_bits) new
-lookup-own header cluster old new is change offset names = by_answer (loaded_l1_table (l1_place header) old) refl
+lookup-own header cluster old new change offset names = by_answer (loaded_l1_table (l1_place header) old) refl
   where
     by_answer : (answer : Result (List ℕ) Fault) → loaded_l1_table (l1_place header) old ≡ answer
         → image_mapping offset new ≡ mapping_by (geometry_of header) (Some cluster) (offset / 2 ^ header.v2.cluster_bits) new
-    by_answer (Err fault) refusal = let named = rw (is, refusal) at names in cc
+    by_answer (Err fault) refusal = let named = rw (change.apart.begins, refusal) at names in cc
     by_answer (Ok l1) there =
-        let tables = tables-kept header cluster old new is change in
+        let tables = tables-kept header cluster old new change in
         let named : l2_cluster header.v2.cluster_bits l1 (offset / 2 ^ header.v2.cluster_bits) ≡ Some cluster =
-        let ok = rw (is, there) at names in cc in
+        let ok = rw (change.apart.begins, there) at names in cc in
         rw (tables.0, tables.1, there, named) refl
 
 -- a change of an L2 table reaches the lookups of its own offsets alone
-pub changes-own-lookups : (header : HeaderRecord) (cluster : HostCluster) (old new : Image) → header_of old ≡ Ok header
-    → ChangesL2Table header cluster old new → ChangesOwnLookups header cluster old new
-changes-own-lookups header cluster old new is change = grind (arith, nat_tests, lookup-kept, lookup-own)
+changes-own-lookups : (header : HeaderRecord) (cluster : HostCluster) (old new : Image) → ChangesL2Table header cluster old new → ChangesOwnLookups header cluster old new
+changes-own-lookups header cluster old new change = grind (arith, nat_tests, lookup-kept, lookup-own)
+
+-- a write of the table of an image that has it apart
+changed-by : (g : Geometry) (header : HeaderRecord) (cluster : HostCluster) (old new : Image) → HasTableApart g cluster header old
+    → SameOutside (cluster.0 * 2 ^ g.cluster_bits) (2 ^ g.cluster_bits) old new → ChangesL2Table header cluster old new
+changed-by g header cluster old new has outside = grind (arith, nat_tests)
+
+pub keeps-other-lookups : (g : Geometry) (cluster : HostCluster) (old new : Image)
+    → SameOutside (cluster.0 * 2 ^ g.cluster_bits) (2 ^ g.cluster_bits) old new → KeepsOtherLookups g cluster old new
+keeps-other-lookups g cluster old new outside = λ header has. changes-own-lookups header cluster old new (changed-by g header cluster old new has outside)
 
 -- L2 tables of two clusters share no byte
 l2-apart : (g : Geometry) (a b : HostCluster) → 9 ≤ g.cluster_bits → a.0 ≢ b.0 → ShareNoByte (l2_bytes g a) (l2_bytes g b)
@@ -145,7 +161,7 @@ table-bytes : (header : HeaderRecord) (l1 : List ℕ) (cluster : HostCluster) (k
 table-bytes header l1 cluster k found = grind (arith, nat_tests, slice_get-map)
 
 -- where no two tables share a byte, the header and the L1 table lie in no L2 table
-pub avoids-others : (header : HeaderRecord) (l1 : List ℕ) (cluster : HostCluster) (k : ℕ) → AreApart (bytes_of_tables header l1)
+avoids-others : (header : HeaderRecord) (l1 : List ℕ) (cluster : HostCluster) (k : ℕ) → AreApart (bytes_of_tables header l1)
     → slice_get (l2_clusters header.v2.cluster_bits l1) k ≡ Some cluster → AvoidsHeaderAndL1Table header (l2_bytes (geometry_of header) cluster)
 avoids-others header l1 cluster k apart found =
     let at = table-bytes header l1 cluster k found in
@@ -154,23 +170,27 @@ avoids-others header l1 cluster k apart found =
       l1_table = apart 1 (suc (suc k)) (table_bytes (l1_place header)) _ (λ is. omega (arith, is)) refl at;
     }
 
+-- references in the L2 table at a cluster
+abbrev BalancesTable : Geometry → HostCluster → Outcome → Image → Image → Type 0
+BalancesTable g cluster outcome old new = (c : ℕ) →
+    references g (numbers_at (l2_table_at g cluster) new) c + handed_back outcome.freed.items c
+    ≡ references g (numbers_at (l2_table_at g cluster) old) c + times_gained (cluster_numbers outcome.gained.items) c
+
 -- what one L2 table loses and gains, the image does
-pub balances-image : (header : HeaderRecord) (l1 : List ℕ) (cluster : HostCluster) (k : ℕ) (freed : List ClustersToFreeEntry) (gained : List ℕ) (old new : Image)
+balances-image : (header : HeaderRecord) (l1 : List ℕ) (cluster : HostCluster) (k : ℕ) (outcome : Outcome) (old new : Image)
     → AreApart (bytes_of_tables header l1) → slice_get (l2_clusters header.v2.cluster_bits l1) k ≡ Some cluster
     → ChangesL2Table header cluster old new
-    → ((c : ℕ) → references (geometry_of header) (numbers_at (l2_table_at (geometry_of header) cluster) new) c + handed_back freed c
-    ≡ references (geometry_of header) (numbers_at (l2_table_at (geometry_of header) cluster) old) c + times_gained gained c)
-    → BalancesImage (geometry_of header) l1 freed gained old new
-balances-image header l1 cluster k freed gained old new apart found change balance = λ c.
+    → BalancesTable (geometry_of header) cluster outcome old new → BalancesImage (geometry_of header) l1 outcome old new
+balances-image header l1 cluster k outcome old new apart found change balance = λ c.
     let g = geometry_of header in
     sum-one (λ table. references g (numbers_at (l2_table_at g table) old) c) (λ table. references g (numbers_at (l2_table_at g table) new) c)
-    (l2_clusters g.cluster_bits l1) k cluster (handed_back freed c) (times_gained gained c) found (balance c)
+    (l2_clusters g.cluster_bits l1) k cluster (handed_back outcome.freed.items c) (times_gained (cluster_numbers outcome.gained.items) c) found (balance c)
     (λ j table differs there. ap (λ numbers. references g numbers c) (numbers-kept (l2_table_at g table) old new
     (kept header cluster old new change _ (apart (suc (suc j)) (suc (suc k)) _ _ (λ is. differs (omega (arith, is)))
     (table-bytes header l1 table j there) (table-bytes header l1 cluster k found)))))
 
 -- an image in which all can be read is such an image after a change of an L2 table to one that can be read
-pub stays-sound : (header : HeaderRecord) (l1 : List ℕ) (cluster : HostCluster) (numbers : List ℕ) (old new : Image)
+stays-sound : (header : HeaderRecord) (l1 : List ℕ) (cluster : HostCluster) (numbers : List ℕ) (old new : Image)
     → IsSoundImage old header l1 → ChangesL2Table header cluster old new
     → loaded_l2_table (geometry_of header) cluster new ≡ Ok numbers → IsSoundImage new header l1
 stays-sound header l1 cluster numbers old new sound change loads = record {
@@ -180,7 +200,7 @@ stays-sound header l1 cluster numbers old new sound change loads = record {
 }
   where
     tables : (header_of new ≡ Ok header) × (loaded_l1_table (l1_place header) new ≡ loaded_l1_table (l1_place header) old)
-    tables = tables-kept header cluster old new sound.tables.begins change
+    tables = tables-kept header cluster old new change
 
     reads : (offset : ℕ) → image_mapping offset new
         ≡ mapping_by (geometry_of header) (l2_cluster header.v2.cluster_bits l1 (offset / 2 ^ header.v2.cluster_bits)) (offset / 2 ^ header.v2.cluster_bits) new
@@ -194,8 +214,30 @@ stays-sound header l1 cluster numbers old new sound change loads = record {
       | inr differs ↦
           let before = sound.readable offset in (
             before.0,
-            lookup-kept header cluster old new sound.tables.begins change offset (λ table names.
+            lookup-kept header cluster old new change offset (λ table names.
                 let named : Ok (Some other) ≡ Ok (Some table) = rw (sound.tables.begins, sound.tables.l1_table, is) at names in
-                l2-apart (geometry_of header) table cluster change.bits (λ is_cluster. differs (cc))) ∙ before.1,
+                l2-apart (geometry_of header) table cluster (least_bits header old change.apart.begins) (λ is_cluster. differs (cc))) ∙ before.1,
           )
     ]
+
+-- a write of one of its L2 tables keeps an image sound
+sound-after : (header : HeaderRecord) (l1 : List ℕ) (cluster : HostCluster) (outcome : Outcome) (numbers : List ℕ) (old new : Image)
+    → IsSoundImage old header l1 → IsL2Table header l1 cluster → SameOutside (cluster.0 * 2 ^ header.v2.cluster_bits) (2 ^ header.v2.cluster_bits) old new
+    → loaded_l2_table (geometry_of header) cluster new ≡ Ok numbers → BalancesTable (geometry_of header) cluster outcome old new
+    → IsSoundImage new header l1 × BalancesImage (geometry_of header) l1 outcome old new
+sound-after header l1 cluster outcome numbers old new sound found outside loads balance =
+    let avoids = avoids-others header l1 cluster found.0 sound.apart found.1 in
+    let change : ChangesL2Table header cluster old new = record {
+      apart = record { begins = sound.tables.begins; geometry = refl; avoids = avoids };
+      same = outside;
+    } in (
+      stays-sound header l1 cluster numbers old new sound change loads,
+      balances-image header l1 cluster found.0 outcome old new sound.apart found.1 change balance,
+    )
+
+pub keeps-image-sound : (g : Geometry) (cluster : HostCluster) (outcome : Outcome) (numbers : List ℕ) (old new : Image)
+    → SameOutside (cluster.0 * 2 ^ g.cluster_bits) (2 ^ g.cluster_bits) old new → loaded_l2_table g cluster new ≡ Ok numbers
+    → BalancesTable g cluster outcome old new → KeepsImageSound g cluster outcome old new
+keeps-image-sound g cluster outcome numbers old new outside loads balance = λ header l1 has.
+    rw (← has.geometry) (sound-after header l1 cluster outcome numbers old new has.sound has.table
+    (rw (← has.geometry) at outside) (rw (← has.geometry) at loads) (rw (← has.geometry) at balance))

@@ -4,8 +4,7 @@ use Rattle.qcow2_base.specs.declared.fault.Fault.{Fault}
 use Rattle.qcow2_metadata.specs.Header.{HeaderRecord}
 use Rattle.qcow2_metadata.specs.Header.Open.{Loads}
 use Rattle.qcow2_session.specs.Commands.{RunsWith, changes_image, is_silent_on_faults}
-use Rattle.qcow2_session.specs.Commands.L2.{lines_of_l2_table}
-use Rattle.qcow2_session.specs.Commands.Printing.{Prints, PrintsLast}
+use Rattle.qcow2_session.specs.Commands.Printing.{PrintsLast}
 use Rattle.qcow2_session.specs.declared.commands.Command.{Command}
 use Rattle.qcow2_session.specs.declared.commands.Command.TheVariants.{ListTable}
 
@@ -23,8 +22,8 @@ LoadsAndRuns command answer old new before after = (load : Result HeaderRecord F
     (λ fault. (answer ≡ Err fault) × (new ≡ left) × (after ≡ before))
 
 -- a command over an image ended in this answer: what it printed, why it was refused, and what it changed. `l2` looks at no
--- header
+-- header, and runs as with any
 abbrev pub Runs : {T : Type 0} → Command → Result T Fault → StorageState → StorageState → Option (List ℕ) → Option (List ℕ) → Type 0
 Runs (ListTable cluster_bits cluster) answer old new before after =
-    Prints answer (lines_of_l2_table cluster_bits cluster) old new before after
+    (header : HeaderRecord) → RunsWith (ListTable cluster_bits cluster) header answer old new before after
 Runs command answer old new before after = LoadsAndRuns command answer old new before after

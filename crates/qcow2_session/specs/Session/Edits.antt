@@ -4,6 +4,7 @@ use Rattle.std.specs.Vec.{vec_capacity}
 use Rattle.qcow2_base.specs.declared.fault.Fault.{Fault}
 use Rattle.qcow2_base.specs.declared.fault.Fault.TheVariants.{BadEdit}
 use Rattle.qcow2_base.specs.declared.types.HostCluster.{HostCluster}
+use Rattle.qcow2_metadata.specs.Header.{Geometry}
 use Rattle.qcow2_metadata.specs.Results.{unless_refused}
 use Rattle.qcow2_metadata.specs.Table.L2Guards.{RunEnd, TableEdit, changed, dropped, fits_table, gained, handed_back, references, run_of, times_gained, to_data, to_nothing, to_zeros}
 use Rattle.qcow2_metadata.specs.Table.{TableState, edited}
@@ -26,9 +27,13 @@ table_edits edits = map table_edit edits
 abbrev pub edit_fits : TableState → Edit → Bool
 edit_fits table edit = fits_table table.geometry (length table.numbers) (table_edit edit)
 
--- the position of the first edit that can't be made of the table, if there is one
+-- the position of the first edit that can't be made of a table with so many entries, if there is one
+abbrev pub first_unfit_edit_in : Geometry → ℕ → List Edit → Option ℕ
+first_unfit_edit_in g entries edits = position (λ edit. not (fits_table g entries (table_edit edit))) edits
+
+-- and of this table
 abbrev pub first_unfit_edit : TableState → List Edit → Option ℕ
-first_unfit_edit table edits = position (λ edit. not (edit_fits table edit)) edits
+first_unfit_edit table edits = first_unfit_edit_in table.geometry (length table.numbers) edits
 
 -- a change of a table, and what it did to references
 pub record Makes (e : TableEdit) (change : Change) (old new : TableState) : Type 0 where

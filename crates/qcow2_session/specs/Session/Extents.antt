@@ -1,4 +1,4 @@
-use Rattle.std.specs.Prelude.{◌≡◌, ◌≢◌, ◌⊎◌, ℕ, ◌+◌, ◌-◌, ◌*◌, ◌/◌, ◌%◌, ◌^◌, ◌<◌, ◌≤◌, List, [], ◌∷◌, Option, Some, None, Result, Ok, Err, IfSome, ⊤}
+use Rattle.std.specs.Prelude.{◌≡◌, ◌≢◌, ◌⊎◌, ℕ, ◌+◌, ◌-◌, ◌*◌, ◌/◌, ◌%◌, ◌^◌, ◌<◌, ◌≤◌, List, [], ◌∷◌, Option, Some, None, Result, Ok, Err, IfSome}
 use Rattle.qcow2_base.specs.Storage.{Image, OnImage, StorageState}
 use Rattle.qcow2_base.specs.declared.fault.Fault.{Fault}
 use Rattle.qcow2_base.specs.declared.fault.Fault.TheVariants.{NoMemory, Storage}
@@ -128,17 +128,17 @@ pub record MovesReader (image : StorageState) (old new : ExtentsState) : Type 0 
   pub same : new ≡ record old { position = new.position; table = new.table; ahead = new.ahead }
   pub kept : OnImage image (λ bytes. IsReaderOf bytes new)
 
--- how far a reader comes by an answer. `None` comes at the disk's end, and only there. An extent begins where the reader
--- was, has bytes, and ends in the disk or with it. After a fault the reader is where it was
+-- how far a reader comes by an answer: past the extent that begins where it was, and at most to the disk's end. There it
+-- tells none and stays; after a fault it is where it was, before the end
 abbrev pub ComesTo : ℕ → ℕ → Result (Option Extent) Fault → ℕ → Type 0
 ComesTo size from (Ok None) to = (from ≡ size) × (to ≡ from)
 ComesTo size from (Ok (Some extent)) to =
     (extent.start.0 ≡ from) × (from < to) × (to ≡ from + extent.length) × (to ≤ size)
 ComesTo size from (Err fault) to = (to ≡ from) × (from < size)
 
--- what a reader tells at an offset: the extent that begins there, or why it can't be told (when `None` comes is above)
+-- what a reader tells at an offset: that the disk ends there, the extent that begins there, or why it can't be told
 abbrev pub TellsExtent : Contents → ℕ → ℕ → Result (Option Extent) Fault → Type 0
-TellsExtent contents size from (Ok None) = ⊤
+TellsExtent contents size from (Ok None) = from ≡ size
 TellsExtent contents size from (Ok (Some extent)) = IsExtent contents size from extent
 TellsExtent contents size from (Err fault) = RefusesExtent contents size from fault
 

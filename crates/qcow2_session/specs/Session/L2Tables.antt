@@ -38,12 +38,16 @@ pub record IsTableOf (header : HeaderRecord) (found : ℕ × TableState) : Type 
   pub geometry : found.1.geometry ≡ geometry_of header
   pub entries : length found.1.numbers ≡ 2 ^ (header.v2.cluster_bits - 3)
 
+-- there is a table, and the first one can't be loaded, for this fault
+abbrev pub RefusesTable : NamedTables → Fault → Type 0
+RefusesTable [] fault = ⊥
+RefusesTable (table ∷ tables) fault = (fault ≡ Storage) ⊎ (fault ≡ NoMemory) ⊎ (table.1 ≡ Err fault)
+
 -- what a walk tells, by the tables that are left before and after: the first of them, or why it can't be loaded
 abbrev pub TellsTable : NamedTables → NamedTables → Result (Option (ℕ × TableState)) Fault → Type 0
 TellsTable before after (Ok None) = before ≡ []
 TellsTable before after (Ok (Some found)) = before ≡ (found.0, Ok found.1.numbers) ∷ after
-TellsTable before after (Err fault) = (index : ℕ) × (table : Result (List ℕ) Fault) × (rest : NamedTables)
-    × (before ≡ (index, table) ∷ rest) × ((fault ≡ Storage) ⊎ (fault ≡ NoMemory) ⊎ (table ≡ Err fault))
+TellsTable before after (Err fault) = RefusesTable before fault
 
 -- how far a walk goes by an answer: past the table that it tells, if it tells one. After a fault it is where it was
 pub record GoesOn (answer : Result (Option (ℕ × TableState)) Fault) (old new : WalkState) : Type 0 where

@@ -32,20 +32,22 @@ SomeCannotSettle block first freed gained =
     (index : ℕ) × (index < length block.counters) × (CanSettle block first freed gained index → ⊥)
 
 -- the answer of settling a block: each counter can settle, or one can't and that is the fault
-abbrev pub SettlesOrRefuses : {T : Type 0} → BlockState → ℕ → List ClustersToFreeEntry → List ℕ → Result T Fault → Type 0
-SettlesOrRefuses block first freed gained answer = MatchResult answer
+abbrev pub SettlesOrRefuses : {T : Type 0} → BlockState → ℕ → Outcome → Result T Fault → Type 0
+SettlesOrRefuses block first outcome answer =
+    let freed = outcome.freed.items in
+    let gained = cluster_numbers outcome.gained.items in MatchResult answer
     (λ _. (index : ℕ) → index < length block.counters → CanSettle block first freed gained index)
     (λ fault. (fault ≡ CounterRange) × SomeCannotSettle block first freed gained)
 
 -- a block that was settled: each counter, with what its cluster lost, is the one before, with what it gained. The block
 -- counts as modified where it did, and where one of its clusters gained or lost a reference. All else stays
-pub record Settles (first : ℕ) (freed : List ClustersToFreeEntry) (gained : List ℕ) (old new : BlockState) : Type 0 where
+pub record Settles (first : ℕ) (outcome : Outcome) (old new : BlockState) : Type 0 where
   pub counters : (index : ℕ) → index < length old.counters →
-      slice_index new.counters index + handed_back freed (first + index)
-      ≡ slice_index old.counters index + times_gained gained (first + index)
+      slice_index new.counters index + handed_back outcome.freed.items (first + index)
+      ≡ slice_index old.counters index + times_gained (cluster_numbers outcome.gained.items) (first + index)
   pub entries : length new.counters ≡ length old.counters
   pub flag : (new.modified ≡ true) ↔ ((old.modified ≡ true) ⊎ ((index : ℕ) × (index < length old.counters)
-      × (0 < times_gained gained (first + index) + handed_back freed (first + index))))
+      × (0 < times_gained (cluster_numbers outcome.gained.items) (first + index) + handed_back outcome.freed.items (first + index))))
   pub others : new ≡ record old { counters = new.counters; modified = new.modified }
 
 -- the fault that comes before all others: there is an external data file, or an edit doesn't fit
@@ -76,7 +78,7 @@ FollowsReferences first old_table old_block new_table new_block = (index : ℕ) 
 pub record EditsAndSettles (first : ℕ) (edits : List Edit) (outcome : Outcome) (old_table : TableState) (old_block : BlockState) (new_table : TableState) (new_block : BlockState) : Type 0 where
   pub table : new_table ≡ table_left edits old_table new_table.numbers
   pub balance : Balances outcome old_table new_table
-  pub settled : Settles first outcome.freed.items (cluster_numbers outcome.gained.items) old_block new_block
+  pub settled : Settles first outcome old_block new_block
   pub follows : FollowsReferences first old_table old_block new_table new_block
 
 -- each counter of the block is at least the table's references to its cluster
@@ -88,6 +90,13 @@ CoversReferences first block table = (index : ℕ) → index < length block.coun
 abbrev pub SomeCannotGain : ℕ → BlockState → List ℕ → Type 0
 SomeCannotGain first block gained = (index : ℕ) × (index < length block.counters)
     × (greatest_counter block.refcount_order < slice_index block.counters index + times_gained gained (first + index))
+
+-- counters that covered the references cover them after edits too, and only gains that can't be counted are out of range
+abbrev pub StaysCovered : {T : Type 0} → ℕ → List Edit → Result T Fault → TableState → BlockState → TableState → BlockState → Type 0
+StaysCovered first edits answer old_table old_block new_table new_block =
+    CoversReferences first old_block old_table → MatchResult answer
+    (λ _. CoversReferences first new_block new_table)
+    (λ fault. fault ≡ CounterRange → SomeCannotGain first old_block (run_of_table old_table edits).gained)
 
 -- the parts of settling: counters go up, or they go down
 
@@ -118,10 +127,10 @@ pub record ChangesCounters (change : CounterChange) (by : ℕ → ℕ) (old new 
   pub entries : length new.counters ≡ length old.counters
   pub others : new ≡ record old { counters = new.counters; modified = new.modified }
 
--- the block counts as modified where it did, and where a counter was changed
-abbrev pub MarksModified : (ℕ → ℕ) → BlockState → BlockState → Type 0
-MarksModified by old new = (new.modified ≡ true)
-    ↔ ((old.modified ≡ true) ⊎ ((index : ℕ) × (index < length old.counters) × (0 < by index)))
+-- the same, and the block counts as modified where it did, and where a counter was changed
+pub record ChangesBlock (change : CounterChange) (by : ℕ → ℕ) (old new : BlockState) : Type 0 where
+  pub counters : ChangesCounters change by old new
+  pub flag : (new.modified ≡ true) ↔ ((old.modified ≡ true) ⊎ ((index : ℕ) × (index < length old.counters) × (0 < by index)))
 
 -- some counter can't be changed so many times
 abbrev pub SomeLeavesRange : CounterChange → (ℕ → ℕ) → BlockState → Type 0
@@ -140,6 +149,6 @@ IsSameButFlag old new = new ≡ record old { modified = new.modified }
 abbrev pub range_of_one : HostCluster → ClustersToFreeEntry
 range_of_one cluster = record { first = cluster; count = record { 0 = 1 } }
 
--- how many items of a list have a cluster among theirs
-abbrev pub times_among : {C : Type 0} → (C → ClustersToFreeEntry) → List C → ℕ → ℕ
-times_among clusters list cluster = sum_by (λ item. one_if (is_among (clusters item) cluster)) list
+-- how many items of a list have the cluster of the counter at an index among theirs
+abbrev pub times_counted : {C : Type 0} → (C → ClustersToFreeEntry) → List C → ℕ → ℕ → ℕ
+times_counted clusters list first index = sum_by (λ item. one_if (is_among (clusters item) (first + index))) list

@@ -26,9 +26,9 @@ abbrev pub reply_of : Option ℕ → ℕ → StepReply
 reply_of None before = Refused
 reply_of (Some after) before = Done before
 
--- the position of the first step whose index is past the block's end, if there is one
-abbrev pub first_unfit_step : BlockState → List Step → Option ℕ
-first_unfit_step block steps = position (λ step. not (nat_lt (index_of step) (length block.counters))) steps
+-- the position of the first step whose index is past the end of a block with so many counters, if there is one
+abbrev pub first_unfit_step : ℕ → List Step → Option ℕ
+first_unfit_step entries steps = position (λ step. not (nat_lt (index_of step) entries)) steps
 
 -- what steps leave: the block's counters, and in order what came of each
 pub record StepsEnd : Type 0 where
@@ -46,7 +46,7 @@ run_of_steps order (step ∷ steps) counters =
 
 -- what steps leave of the block, or the refusal of the first whose index is past its end
 abbrev pub steps_or_refusal : BlockState → List Step → Result StepsEnd Fault
-steps_or_refusal block steps = unless_refused (option_map BadStep (first_unfit_step block steps))
+steps_or_refusal block steps = unless_refused (option_map BadStep (first_unfit_step (length block.counters) steps))
     (Ok (run_of_steps block.refcount_order steps block.counters))
 
 -- what a block and the replies to its steps say that they left
@@ -89,8 +89,8 @@ abbrev pub decrements : ℕ → Step → Bool
 decrements at (Inc index) = false
 decrements at (Dec index) = index == at
 
--- an increment that was made, and after it just a decrement of the same counter: that is made too, and the bytes that
--- the block takes in an image are as before
+-- where the steps are an increment and then a decrement of the same counter, and the increment was made, the decrement
+-- was made too, and the block takes the same bytes in an image as before
 abbrev pub Undoes : List Step → List StepReply → BlockState → BlockState → Type 0
 Undoes steps replies old new = (index before : ℕ) →
     steps ≡ Inc index ∷ Dec index ∷ [] → slice_get replies 0 ≡ Some (Done before) →

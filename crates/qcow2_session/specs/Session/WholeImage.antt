@@ -1,6 +1,6 @@
 use Rattle.std.specs.Prelude.{◌≡◌, ◌≢◌, ℕ, ◌+◌, ◌*◌, ◌/◌, ◌^◌, ◌<◌, ◌≤◌, List, ◌∷◌, map, slice_get, Option, Some, Result, Ok}
 use Rattle.std.specs.List.{filter_map, sum_by}
-use Rattle.qcow2_base.specs.Storage.{Image, SameOutside}
+use Rattle.qcow2_base.specs.Storage.{Image}
 use Rattle.qcow2_base.specs.declared.fault.Fault.{Fault}
 use Rattle.qcow2_base.specs.declared.types.HostCluster.{HostCluster}
 use Rattle.qcow2_metadata.specs.Results.{and_then}
@@ -9,9 +9,10 @@ use Rattle.qcow2_metadata.specs.Entries.L2Entry.{ByteRange}
 use Rattle.qcow2_metadata.specs.Entries.L2Mapping.{Mapping}
 use Rattle.qcow2_metadata.specs.Header.{Geometry, HeaderRecord, geometry_of}
 use Rattle.qcow2_metadata.specs.Header.Grammar.{header_of}
+use Rattle.qcow2_session.specs.Session.Edits.{cluster_numbers}
+use Rattle.qcow2_session.specs.declared.session.edits.Outcome.{Outcome}
 use Rattle.qcow2_session.specs.Session.Lookups.{image_mapping, l1_place, l2_cluster, mapping_by, named_cluster}
 use Rattle.qcow2_metadata.specs.Table.{TablePlace, l2_table_at, loaded_l1_table, numbers_at, offset_of}
-use Rattle.qcow2_metadata.specs.declared.entries.ClustersToFreeEntry.{ClustersToFreeEntry}
 
 -- the byte at an offset is one of the range's
 abbrev pub IsWithin : ByteRange → ℕ → Type 0
@@ -48,12 +49,6 @@ pub record AvoidsHeaderAndL1Table (header : HeaderRecord) (bytes : ByteRange) : 
   pub first_cluster : ShareNoByte (first_cluster_bytes header) bytes
   pub l1_table : ShareNoByte (table_bytes (l1_place header)) bytes
 
--- two images agree but in an L2 table's cluster, and that is neither the header's nor the L1 table's
-pub record ChangesL2Table (header : HeaderRecord) (cluster : HostCluster) (old new : Image) : Type 0 where
-  pub same : SameOutside (l2_bytes (geometry_of header) cluster).start (2 ^ header.v2.cluster_bits) old new
-  pub bits : 9 ≤ header.v2.cluster_bits
-  pub avoids : AvoidsHeaderAndL1Table header (l2_bytes (geometry_of header) cluster)
-
 -- the cluster that the L2 table of a guest offset begins with in an image, if there is one
 abbrev pub l2_cluster_in : ℕ → Image → Result (Option HostCluster) Fault
 l2_cluster_in offset image =
@@ -71,6 +66,18 @@ pub record ChangesOwnLookups (header : HeaderRecord) (cluster : HostCluster) (ol
   pub own : (offset : ℕ) → l2_cluster_in offset old ≡ Ok (Some cluster) →
       image_mapping offset new
       ≡ mapping_by (geometry_of header) (Some cluster) (offset / 2 ^ header.v2.cluster_bits) new
+
+-- an image has a header of this geometry, and its L2 table at a cluster shares no byte with the first cluster and the L1
+-- table
+pub record HasTableApart (g : Geometry) (cluster : HostCluster) (header : HeaderRecord) (image : Image) : Type 0 where
+  pub begins : header_of image ≡ Ok header
+  pub geometry : geometry_of header ≡ g
+  pub avoids : AvoidsHeaderAndL1Table header (l2_bytes g cluster)
+
+-- where the image had the L2 table at a cluster apart, its change reaches the lookups of its own offsets alone
+abbrev pub KeepsOtherLookups : Geometry → HostCluster → Image → Image → Type 0
+KeepsOtherLookups g cluster old new =
+    (header : HeaderRecord) → HasTableApart g cluster header old → ChangesOwnLookups header cluster old new
 
 -- the clusters that the L2 tables of an L1 table begin with, in its order
 abbrev pub l2_clusters : ℕ → List ℕ → List HostCluster
@@ -96,7 +103,19 @@ pub record IsSoundImage (image : Image) (header : HeaderRecord) (l1 : List ℕ) 
   pub readable : (offset : ℕ) → (found : Mapping) × (image_mapping offset image ≡ Ok found)
   pub apart : AreApart (bytes_of_tables header l1)
 
--- references in a whole image: those after a change and those handed back are those before and those gained
-abbrev pub BalancesImage : Geometry → List ℕ → List ClustersToFreeEntry → List ℕ → Image → Image → Type 0
-BalancesImage g l1 freed gained old new = (c : ℕ) →
-    image_references g l1 new c + handed_back freed c ≡ image_references g l1 old c + times_gained gained c
+-- references in a whole image: those after edits and those handed back are those before and those gained
+abbrev pub BalancesImage : Geometry → List ℕ → Outcome → Image → Image → Type 0
+BalancesImage g l1 outcome old new = (c : ℕ) →
+    image_references g l1 new c + handed_back outcome.freed.items c
+    ≡ image_references g l1 old c + times_gained (cluster_numbers outcome.gained.items) c
+
+-- a sound image with a header of this geometry, one of whose L2 tables begins with a cluster
+pub record HasSoundTable (g : Geometry) (cluster : HostCluster) (header : HeaderRecord) (l1 : List ℕ) (image : Image) : Type 0 where
+  pub sound : IsSoundImage image header l1
+  pub geometry : geometry_of header ≡ g
+  pub table : IsL2Table header l1 cluster
+
+-- where the image was sound and had the L2 table at a cluster, it stays sound, and no reference of it is lost
+abbrev pub KeepsImageSound : Geometry → HostCluster → Outcome → Image → Image → Type 0
+KeepsImageSound g cluster outcome old new = (header : HeaderRecord) (l1 : List ℕ) →
+    HasSoundTable g cluster header l1 old → IsSoundImage new header l1 × BalancesImage g l1 outcome old new

@@ -1,6 +1,6 @@
 //! Counters of a refcount block that follow what edits of a table did to references.
 
-ghost use Rattle.std.specs.Prelude.{◌≡◌, ℕ, ◌+◌, ◌<◌, ◌≤◌, Err, IfErr, IfOk, IfSome, MatchResult, None, OnOk, false, length, nat_lt, slice_index, take, true};
+ghost use Rattle.std.specs.Prelude.{◌≡◌, ℕ, ◌+◌, ◌<◌, ◌≤◌, Err, IfErr, IfOk, IfSome, None, OnOk, false, length, nat_lt, slice_index, take, true};
 ghost use Rattle.qcow2_base.specs.declared.fault.Fault.TheVariants.{CounterRange, ExternalData};
 ghost use Rattle.qcow2_metadata.specs.Table.L2Guards.{one_if};
 ghost use Rattle.qcow2_metadata.specs.Entries.{is_among};
@@ -8,8 +8,7 @@ ghost use Rattle.qcow2_metadata.specs.Header.{geometry_of, uses_external_data};
 ghost use Rattle.qcow2_metadata.specs.Refblock.Counters.{AreCounters};
 ghost use Rattle.qcow2_metadata.specs.Refblock.Guard.{Steps, stepped};
 ghost use Rattle.qcow2_metadata.specs.declared.entries.ClustersToFreeEntry.{ClustersToFreeEntry as Clusters};
-ghost use Rattle.qcow2_session.specs.Session.Edits.{cluster_numbers};
-ghost use Rattle.qcow2_session.specs.Session.Settled.{ChangesCounters, CoversReferences, EditsAndSettles, EditsSettleOrRefuse, IsSameButFlag, MarksModified, Settles, SettlesOrRefuses, SomeCannotGain, SomeLeavesRange, change_in, first_counted, first_refusal, is_between, range_of_one, opposite, run_of_table, times_among};
+ghost use Rattle.qcow2_session.specs.Session.Settled.{ChangesBlock, ChangesCounters, EditsAndSettles, EditsSettleOrRefuse, IsSameButFlag, Settles, SettlesOrRefuses, SomeLeavesRange, StaysCovered, change_in, first_counted, first_refusal, is_between, opposite, range_of_one, run_of_table, times_counted};
 
 use super::{Edit, Outcome, edit_table, edits_fit};
 use qcow2_base::{ClusterCount, Fault, HostCluster};
@@ -56,9 +55,8 @@ fn step_range(
     direction: Direction,
 ) -> Result<(), usize>
     requires { end ≤ length block.old.counters }
-    ensures changed { OnOk result (ChangesCounters (change_in direction)
+    ensures changed { OnOk result (ChangesBlock (change_in direction)
         (λ i. one_if (is_between start end i)) block.old block.new) }
-    ensures flag { OnOk result (MarksModified (λ i. one_if (is_between start end i)) block.old block.new) }
     ensures stopped { IfErr result (λ at. (start ≤ at) × (at < end)
         × ChangesCounters (change_in direction)
         (λ i. one_if (is_between start at i)) block.old block.new) }
@@ -96,9 +94,7 @@ fn count_clusters(
     clusters: ClustersToFreeEntry,
     direction: Direction,
 ) -> Result<(), Fault>
-    ensures changed { OnOk result (ChangesCounters (change_in direction)
-        (λ i. one_if (is_among clusters (first + i))) block.old block.new) }
-    ensures flag { OnOk result (MarksModified
+    ensures changed { OnOk result (ChangesBlock (change_in direction)
         (λ i. one_if (is_among clusters (first + i))) block.old block.new) }
     ensures back { IfErr result (λ fault. (fault ≡ CounterRange) × IsSameButFlag block.old block.new) }
     ensures out_of_range { IfErr result (λ fault.
@@ -153,16 +149,12 @@ fn count_list<C: Counted>(
     direction: Direction,
 ) -> Result<(), usize>
     ensures fit { AreCounters block.old.refcount_order block.old.counters }
-    ensures changed { OnOk result (ChangesCounters (change_in direction)
-        (λ i. times_among C.clusters list.now (first + i)) block.old block.new) }
-    ensures flag { OnOk result (MarksModified
-        (λ i. times_among C.clusters list.now (first + i)) block.old block.new) }
-    ensures stopped { IfErr result (λ at. (at < length list.now)
-        × ChangesCounters (change_in direction)
-        (λ i. times_among C.clusters (take at list.now) (first + i)) block.old block.new) }
+    ensures changed { OnOk result (ChangesBlock (change_in direction)
+        (times_counted C.clusters list.now first) block.old block.new) }
+    ensures stopped { IfErr result (λ at. (at < length list.now) × ChangesCounters (change_in direction)
+        (times_counted C.clusters (take at list.now) first) block.old block.new) }
     ensures out_of_range { IfErr result (λ at.
-        SomeLeavesRange (change_in direction)
-        (λ i. times_among C.clusters list.now (first + i)) block.old) }
+        SomeLeavesRange (change_in direction) (times_counted C.clusters list.now first) block.old) }
 {
     // Asked for since it says that each counter fits its width.
     let _ = block.entries();
@@ -182,14 +174,11 @@ fn count_all<C: Counted>(
     direction: Direction,
 ) -> Result<(), Fault>
     ensures fit { AreCounters block.old.refcount_order block.old.counters }
-    ensures changed { OnOk result (ChangesCounters (change_in direction)
-        (λ i. times_among C.clusters list.now (first + i)) block.old block.new) }
-    ensures flag { OnOk result (MarksModified
-        (λ i. times_among C.clusters list.now (first + i)) block.old block.new) }
+    ensures changed { OnOk result (ChangesBlock (change_in direction)
+        (times_counted C.clusters list.now first) block.old block.new) }
     ensures back { IfErr result (λ fault. (fault ≡ CounterRange) × IsSameButFlag block.old block.new) }
     ensures out_of_range { IfErr result (λ fault.
-        SomeLeavesRange (change_in direction)
-        (λ i. times_among C.clusters list.now (first + i)) block.old) }
+        SomeLeavesRange (change_in direction) (times_counted C.clusters list.now first) block.old) }
 {
     let Err(stopped) = count_list(block, first, list, direction) else {
         return Ok(());
@@ -201,10 +190,8 @@ fn count_all<C: Counted>(
 // Counts all that clusters gained by the outcome, and then all that they lost, or nothing. Only the
 // flag may be another after a refusal.
 fn count_outcome(block: &mut RefBlock, first: u128, outcome: &Outcome) -> Result<(), Fault>
-    ensures answer { SettlesOrRefuses block.old first outcome.now.freed.items
-        (cluster_numbers outcome.now.gained.items) result }
-    ensures settled { OnOk result (Settles first outcome.now.freed.items
-        (cluster_numbers outcome.now.gained.items) block.old block.new) }
+    ensures answer { SettlesOrRefuses block.old first outcome.now result }
+    ensures settled { OnOk result (Settles first outcome.now block.old block.new) }
     ensures back { IfErr result (λ fault. IsSameButFlag block.old block.new) }
 {
     let gained = outcome.gained.as_slice();
@@ -238,11 +225,10 @@ pub fn settle(
     requires cluster_bits { header.now.v2.cluster_bits ≡ block.old.cluster_bits }
     requires refcount_order { header.now.base.refcount_order ≡ block.old.refcount_order }
     ensures external { uses_external_data header.now ≡ true → result ≡ Err ExternalData }
-    ensures answer { uses_external_data header.now ≡ false → SettlesOrRefuses block.old
-        (first_counted block.old rt_index) outcome.now.freed.items
-        (cluster_numbers outcome.now.gained.items) result }
-    ensures settled { OnOk result (Settles (first_counted block.old rt_index) outcome.now.freed.items
-        (cluster_numbers outcome.now.gained.items) block.old block.new) }
+    ensures answer { uses_external_data header.now ≡ false →
+        SettlesOrRefuses block.old (first_counted block.old rt_index) outcome.now result }
+    ensures settled { OnOk result
+        (Settles (first_counted block.old rt_index) outcome.now block.old block.new) }
     ensures unchanged { IfErr result (λ fault. block.new ≡ block.old) }
 {
     if header.external_data_file() {
@@ -324,11 +310,8 @@ pub fn edit_settled(
     ensures unchanged { IfErr result (λ fault. (table.new ≡ table.old) × (block.new ≡ block.old)) }
     ensures edited { IfOk result (λ outcome. EditsAndSettles (first_counted block.old rt_index)
         edits.now outcome table.old block.old table.new block.new) }
-    ensures covered { let first = first_counted block.old rt_index in
-        CoversReferences first block.old table.old → MatchResult result
-        (λ outcome. CoversReferences first block.new table.new)
-        (λ fault. fault ≡ CounterRange →
-        SomeCannotGain first block.old (run_of_table table.old edits.now).gained) }
+    ensures covered { StaysCovered (first_counted block.old rt_index) edits.now result
+        table.old block.old table.new block.new }
 {
     if header.external_data_file() {
         return Err(Fault::ExternalData);

@@ -57,7 +57,7 @@ impl Step {
 
 // The position of the first step whose index is past the block's end.
 fn first_unfit(block: &RefBlock, steps: &[Step]) -> Option<usize>
-    ensures { result ≡ first_unfit_step block.now steps.now }
+    ensures { result ≡ first_unfit_step (length block.now.counters) steps.now }
 {
     let entries = block.entries();
     steps.iter().position(
@@ -78,7 +78,8 @@ pub fn step_block(
     block: &mut RefBlock,
     steps: &[Step],
 ) -> Result<Vec<StepReply>, Fault>
-    ensures unfit { IfSome (first_unfit_step block.old steps.now) (λ at. result ≡ Err (BadStep at)) }
+    ensures unfit { IfSome (first_unfit_step (length block.old.counters) steps.now)
+        (λ at. result ≡ Err (BadStep at)) }
     ensures exact { Computes (λ replies. steps_left block.new replies.items) result
         (steps_or_refusal block.old steps.now) }
     ensures unchanged { IfErr result (λ fault. block.new ≡ block.old) }

@@ -1,11 +1,14 @@
-use Rattle.std.proofs.Common.{◌≡◌, [], ◌∷◌, ◌++◌, ap, append-nil, rules, ◌∙◌}
+use Rattle.std.proofs.Common.{◌≡◌, [], ◌∷◌, ◌++◌, ap, append-nil, arith, rules, ◌∙◌}
 use Rattle.qcow2_metadata.specs.Header.{geometry_of}
-use Rattle.qcow2_session.proofs.ListingLemmas.{tables-known, tables-printed, texts-more}
+use Rattle.qcow2_session.proofs.ListingLemmas.{ended-at, tables-known, tables-printed, texts-more}
 use Rattle.qcow2_session.specs.Commands.Entries.{table_lines}
 use Rattle.qcow2_session.specs.Commands.Listing.{texts_left}
 use Rattle.qcow2_session.specs.Session.L2Tables.{WalkState}
 use Rattle.qcow2_session.specs.declared.commands.entries.Label.TheVariants.{Offset}
 use Rattle.qcow2_session.proofs.commands.list.print_tables.Goals as goal
+
+pub returns-in_err-index-clause-prints : goal.returns-in_err-index-clause-prints
+returns-in_err-index-clause-prints g c = grind (arith, ended-at)
 
 pub loop-index-preserved : goal.loop-index-preserved
 loop-index-preserved g c =

@@ -3,7 +3,7 @@ use Rattle.qcow2_session.proofs.RunningLemmas.{last-after_load, other-placed, ot
 use Rattle.qcow2_session.proofs.commands.running.run.Goals as goal
 
 pub returns-in-ListTable-clause-runs : goal.returns-in-ListTable-clause-runs
-returns-in-ListTable-clause-runs g c = rw c.in-ListTable.is (rw c.get.ensures.value at c.list_l2_table.ensures.prints)
+returns-in-ListTable-clause-runs g c = rw c.in-ListTable.is (λ header. rw c.get.ensures.value at c.list_l2_table.ensures.prints)
 
 pub returns-in_err-header-clause-runs : goal.returns-in_err-header-clause-runs
 returns-in_err-header-clause-runs g c = grind (arith, other-runs)

@@ -6,14 +6,12 @@ use Rattle.qcow2_session.proofs.session.images.edit_image.Goals as goal
 
 pub returns-in_err-outcome-clause-faults : goal.returns-in_err-outcome-clause-faults
 returns-in_err-outcome-clause-faults g c =
-    let image = (g.S.Storage.state c.args.image.now).byte_at in
     let exit = err_from_is_err_and c.from_residual-in_err-outcome.result c.from_residual-in_err-outcome.ensures.1 in
     record {
       place = search rules;
       faults = rw (exit.1, exit.2) (elim c.in_err-outcome.ensures.exact [
         | inl memory ↦ inl (inr (inr (inr (inl memory))))
-        | inr refused ↦ inr (refused-edits c.args.header.now c.args.cluster c.in_ok-table.table c.args.edits.now image
-            c.in_err-outcome.field-0.0 (search rules) (search rules) refused)
+        | inr refused ↦ inr (refused-edits c.args.header.now c.in_ok-table.table c.args.edits.now c.in_err-outcome.field-0.0 (search rules) (search rules) refused)
       ]);
       torn = λ told failed. inl c.load_l2_table.ensures.storage.bytes;
     }

@@ -7,14 +7,12 @@ use Rattle.qcow2_session.proofs.session.images.step_image.Goals as goal
 
 pub returns-in_err-replies-clause-faults : goal.returns-in_err-replies-clause-faults
 returns-in_err-replies-clause-faults g c =
-    let image = (g.S.Storage.state c.args.image.now).byte_at in
     let exit = err_from_is_err_and c.from_residual-in_err-replies.result c.from_residual-in_err-replies.ensures.1 in
     record {
       place = search rules;
       faults = rw (exit.1, exit.2) (elim c.in_err-replies.ensures.exact [
         | inl memory ↦ inr (inl memory)
-        | inr refused ↦ inr (inr (inr (refused-steps c.args.header.now c.args.cluster c.in_ok-block.block c.args.steps.now image
-            c.in_err-replies.field-0.0 (search rules) refused)))
+        | inr refused ↦ inr (inr (inr (refused-steps c.args.header.now c.in_ok-block.block c.args.steps.now c.in_err-replies.field-0.0 (search rules) refused)))
       ]);
       torn = λ told failed. inl c.load.ensures.storage.bytes;
     }

@@ -1,29 +1,20 @@
-use Rattle.std.proofs.Common.{◌≡◌, ℕ, ◌+◌, ◌<◌, length, refl, subst, arith, rules, ◌∙◌}
+use Rattle.std.proofs.Common.{◌≡◌, ◌+◌, ◌<◌, length, refl, arith, ◌∙◌}
 use Rattle.std.proofs.lemmas.Bool.Decides.{nat_tests}
 use Rattle.qcow2_metadata.specs.Table.L2Guards.{one_if}
 use Rattle.qcow2_metadata.specs.Entries.{is_among}
-use Rattle.qcow2_metadata.specs.Refblock.Guard.{CounterChange}
-use Rattle.qcow2_session.specs.Session.Settled.{ChangesCounters, change_in, is_between}
-use Rattle.qcow2_session.proofs.SettledLemmas.{among-between, clusters-short, flags-as, moves-as, moves-back}
+use Rattle.qcow2_session.specs.Session.Settled.{change_in, is_between}
+use Rattle.qcow2_session.proofs.SettledLemmas.{among-between, changes-as, clusters-short, moves-back}
 use Rattle.qcow2_session.proofs.session.settled.count_clusters.Goals as goal
 
 pub returns-in_default-clause-changed : goal.returns-in_default-clause-changed
-returns-in_default-clause-changed c = grind (arith, moves-as, among-between)
-
-pub returns-in_default-clause-flag : goal.returns-in_default-clause-flag
-returns-in_default-clause-flag c =
-    flags-as (λ i. one_if (is_between c.counters_before-start.result c.counters_before-end.result i)) (λ i. one_if (is_among c.args.clusters (c.args.first + i))) c.args.block.now c.step_range.new.block
-    (λ i below. among-between c.args.clusters c.args.first c.counters_before-start.result c.counters_before-end.result i
-    (c.counters_before-start.ensures.each i (omega (arith, below, c.entries-entries.ensures.count))) (c.counters_before-end.ensures.each i (omega (arith, below, c.entries-entries.ensures.count))))
-    (search rules)
+returns-in_default-clause-changed c = grind (arith, changes-as, among-between)
 
 pub returns-clause-back : goal.returns-clause-back
-returns-clause-back c =
-    let by = λ (i : ℕ). one_if (is_between c.counters_before-start.result c.in-Err.stopped i) in (
-      refl,
-      moves-back (change_in c.args.direction) by c.args.block.now c.step_range.new.block c.step_range-2.new.block c.in-Err.ensures.stopped.2
-          (subst (λ (d : CounterChange). ChangesCounters d by c.step_range.new.block c.step_range-2.new.block) c.back.ensures (rw c.unwrap.ensures at c.step_range-2.ensures.changed)),
-    )
+returns-clause-back c = (
+  refl,
+  moves-back (change_in c.args.direction) _ (λ i. one_if (is_between c.counters_before-start.result c.in-Err.stopped i)) c.args.block.now c.step_range.new.block c.step_range-2.new.block
+      c.back.ensures c.in-Err.ensures.stopped.2 (rw c.unwrap.ensures at c.step_range-2.ensures.changed).counters,
+)
 
 pub returns-clause-out_of_range : goal.returns-clause-out_of_range
 returns-clause-out_of_range c =

@@ -1,10 +1,8 @@
-use Rattle.std.proofs.Common.{take, ◌+◌}
-use Rattle.qcow2_session.specs.Session.Settled.{MarksModified, ChangesCounters, change_in, times_among}
+use Rattle.std.proofs.Common.{take}
+use Rattle.qcow2_session.specs.Session.Settled.{ChangesBlock, change_in, times_counted}
 use Rattle.qcow2_session.proofs.session.settled.count_list.Given as goal
 
 -- the counters of the clusters before this one are changed
 abbrev pub invariant-loop-at : goal.invariant-loop-at
-invariant-loop-at g l = record {
-  moves : ChangesCounters (change_in l.direction) (λ i. times_among g.C.Counted.clusters (take l.at l.list) (l.first + i)) l.initial.block l.block;
-  flags : MarksModified (λ i. times_among g.C.Counted.clusters (take l.at l.list) (l.first + i)) l.initial.block l.block;
-}
+invariant-loop-at g l =
+    ChangesBlock (change_in l.direction) (times_counted g.C.Counted.clusters (take l.at l.list) l.first) l.initial.block l.block

@@ -1,4 +1,4 @@
-use Rattle.std.proofs.Common.{◌≡◌, ◌++◌, [], ◌∷◌, ◌∙◌, None, length-append, ap, sym, arith, rules}
+use Rattle.std.proofs.Common.{◌≡◌, ◌++◌, [], ◌∷◌, ◌∙◌, None, length, length-append, ap, sym, arith, rules}
 use Rattle.qcow2_session.proofs.StepsLemmas.{all_in_bounds, each_in_bounds, part_way-end, part_way-next, run-counts}
 use Rattle.qcow2_metadata.specs.Refblock.{BlockState}
 use Rattle.qcow2_session.specs.Session.Steps.{first_unfit_step}
@@ -18,7 +18,7 @@ loop-step-preserved c =
 
 pub returns-clause-counts : goal.returns-clause-counts
 returns-clause-counts c =
-    let none : first_unfit_step c.args.block.now c.args.steps.now ≡ None = sym c.first_unfit.ensures ∙ c.in_default.is in
+    let none : first_unfit_step (length c.args.block.now.counters) c.args.steps.now ≡ None = sym c.first_unfit.ensures ∙ c.in_default.is in
     let order = ap (λ (block : BlockState). block.refcount_order) c.loop-step.invariant.way.block in
     run-counts c.args.steps.now c.loop-step.replies.items c.args.block.now c.loop-step.block none order
     (part_way-end c.args.steps.now c.loop-step.step-index c.args.block.now c.loop-step.block c.loop-step.replies.items (omega arith) c.loop-step.invariant.way)

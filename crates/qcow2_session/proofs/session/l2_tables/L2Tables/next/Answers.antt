@@ -17,7 +17,7 @@ returns-in_err-table-clause-told g c told =
     let exit = err_from_is_err_and c.from_residual.result c.from_residual.ensures.1 in
     let further : next ≡ walk.index + (next - walk.index) = search rules in
     let first = first_left (geometry_of walk.header) walk.l1 (g.S.Storage.state c.args.image.now).byte_at (next - walk.index) walk.index next cluster further (search rules) (search rules) in
-    rw (exit.1, exit.2) (next, _, _, first, search rules)
+    rw (exit.1, exit.2, first) (search rules)
 
 pub returns-clause-told : goal.returns-clause-told
 returns-clause-told g c told =
