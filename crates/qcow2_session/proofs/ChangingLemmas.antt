@@ -1,7 +1,6 @@
 use Rattle.std.proofs.lemmas.Bool.Decides.{nat_tests}
-use Rattle.std.proofs.Common.{◌≡◌, ◌≢◌, ◌⊎◌, ℕ, false, List, [], Option, Result, Ok, Err, OnOk, IsTrue, arith}
-use Rattle.std.specs.Result.{IfOk, IsOkAnd, IsOkUnless}
-use Rattle.std.specs.Io.KnownBytes.{Appends}
+use Rattle.std.proofs.Common.{◌≡◌, ◌≢◌, ◌⊎◌, ℕ, false, List, [], Option, Result, Ok, Err, IsTrue, arith}
+use Rattle.std.specs.Result.{IfOk, IsOkAnd}
 use Rattle.std.proofs.lemmas.Result.{on_ok_weaker}
 use Rattle.qcow2_base.specs.Storage.{Image, StorageState}
 use Rattle.qcow2_base.specs.declared.fault.Fault.{Fault}
@@ -9,6 +8,7 @@ use Rattle.qcow2_base.specs.declared.fault.Fault.TheVariants.{NoMemory, Storage}
 use Rattle.qcow2_metadata.specs.Results.{result_map}
 use Rattle.qcow2_session.proofs.PrintingLemmas.{read_fault-of, refused-as}
 use Rattle.qcow2_session.specs.Commands.Changing.{ChangeEnd, ClusterFormat, PrintsChange, SameOutsideCluster}
+use Rattle.qcow2_session.specs.Commands.Printing.{PrintsText}
 use Rattle.qcow2_session.specs.Session.Edits.{are_some}
 use Rattle.qcow2_session.specs.declared.session.edits.Edit.{Edit}
 
@@ -64,8 +64,8 @@ pub change-printed : {T E : Type 0} (answer : Result T Fault) (format : ClusterF
     → new.failures ≡ old.failures
     → (IsTrue old.tells → StaysIdle tell run old.byte_at new.byte_at)
     → (IsTrue old.tells → StaysOutside format tell run old.byte_at new.byte_at)
-    → IsOkUnless answer Storage → OnOk answer (Appends a b lines) → PrintsChange answer format end old new a b
-change-printed answer format tell end run lines old new a b is made loads calm idle outside fault printed =
+    → PrintsText answer a b lines → PrintsChange answer format end old new a b
+change-printed answer format tell end run lines old new a b is made loads calm idle outside printed =
     grind (arith, nat_tests, ok-left, on_ok_weaker)
 
 -- there is no place for a change, so none is made

@@ -1,5 +1,5 @@
 use Rattle.std.proofs.lemmas.Bool.Decides.{nat_tests}
-use Rattle.std.proofs.Common.{◌≡◌, ◌≢◌, ◌⊎◌, ℕ, ◌+◌, ◌<◌, List, [], ◌∷◌, ◌++◌, append-nil, flat_map, take_all, get_or, length, take, Option, Result, Ok, Err, OnOk, IsTrue, ap, inl, inr, refl, arith}
+use Rattle.std.proofs.Common.{◌≡◌, ◌≢◌, ◌⊎◌, ℕ, ◌+◌, ◌<◌, List, [], ◌∷◌, ◌++◌, append-nil, flat_map, take_all, get_or, length, take, Option, Result, Ok, Err, IsTrue, ap, inl, inr, refl, arith}
 use Rattle.std.specs.Result.{IsOkUnless}
 use Rattle.std.specs.Io.KnownBytes.{Appends}
 use Rattle.std.proofs.KnownBytes.{Appends-trans}
@@ -11,11 +11,11 @@ use Rattle.qcow2_base.specs.Storage.{Image, OnlyReads, SameDevice, StorageState}
 use Rattle.qcow2_base.specs.declared.fault.Fault.{Fault}
 use Rattle.qcow2_base.specs.declared.fault.Fault.TheVariants.{NoMemory, Storage}
 use Rattle.qcow2_metadata.specs.Results.{result_map}
-use Rattle.qcow2_session.specs.Commands.Printing.{IsReadFault, Prints, PrintsLast}
+use Rattle.qcow2_session.specs.Commands.Printing.{IsReadFault, Prints, PrintsLast, PrintsText}
 
 -- what was printed before, and then these lines, if the print of these succeeds
-pub then_prints : {T E : Type 0} (answer : Result T E) (a b c : Option (List ℕ)) (lines more : List ℕ) → Appends a b lines → OnOk answer (Appends b c more) → OnOk answer (Appends a c (lines ++ more))
-then_prints answer a b c lines more before after = on_ok_weaker answer (Appends-trans a b c lines more before) after
+pub then_prints : {T : Type 0} (answer : Result T Fault) (a b c : Option (List ℕ)) (lines more : List ℕ) → Appends a b lines → PrintsText answer b c more → PrintsText answer a c (lines ++ more)
+then_prints answer a b c lines more before after = record { fault = after.fault; text = on_ok_weaker answer (Appends-trans a b c lines more before) after.text }
 
 -- why a call is refused, where one reason leads to another
 pub refused-as : {P Q : Type 0} (fault : Fault) → (P → Q) → (fault ≡ Storage) ⊎ (fault ≡ NoMemory) ⊎ P → (fault ≡ Storage) ⊎ (fault ≡ NoMemory) ⊎ Q
@@ -44,7 +44,10 @@ printed-more line items i default a b c below before here =
     (Appends-trans a b c _ _ before here)
 
 -- what lists of lines are printed by
-pub ruleset lines_printed = (printed-more, flat_map-map, take_all)
+pub ruleset lines_printed = (printed-more, take_all)
+
+-- and two lists after each other
+pub ruleset outcome_printed = (then_prints, flat_map-map)
 
 -- reads that were answered leave no failure
 pub reads-calm : {T : Type 0} (value : T) (old new : StorageState) → OnlyReads (Ok value) old new → new.failures ≡ old.failures

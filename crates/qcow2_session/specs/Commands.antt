@@ -11,8 +11,7 @@ pub mod Printing
 pub mod Report
 pub mod Running
 pub mod Words
-use Rattle.std.specs.Prelude.{◌≡◌, Bool, false, true, if◌then◌else◌, List, ◌∷◌, ℕ, Option, None, Result, IsErrOf, IsOkUnless, OnOk, bytes_eq, codes}
-use Rattle.std.specs.Io.KnownBytes.{Appends}
+use Rattle.std.specs.Prelude.{◌≡◌, Bool, false, true, if◌then◌else◌, List, ◌∷◌, ℕ, Option, None, Result, IsErrOf, bytes_eq, codes}
 use Rattle.qcow2_base.specs.Format.{most_l2_entries}
 use Rattle.qcow2_base.specs.Storage.{ReadsFor, StorageState}
 use Rattle.qcow2_base.specs.declared.fault.Fault.{Fault}
@@ -27,7 +26,7 @@ use Rattle.qcow2_session.specs.Commands.Extents.{PrintsExtents, disk_of, extents
 use Rattle.qcow2_session.specs.Commands.Info.{info_lines}
 use Rattle.qcow2_session.specs.Commands.L2.{lines_of_l2_table, table_of}
 use Rattle.qcow2_session.specs.Commands.Listing.{PrintsList, tables_of}
-use Rattle.qcow2_session.specs.Commands.Printing.{Prints}
+use Rattle.qcow2_session.specs.Commands.Printing.{Prints, PrintsText}
 use Rattle.qcow2_session.specs.Commands.Words.{without_arguments}
 use Rattle.qcow2_session.specs.declared.commands.Command.{Command}
 use Rattle.qcow2_session.specs.declared.commands.Command.TheVariants.{CountReferences, EditEntries, ListTable, ListTables, PrintExtents, PrintInfo, PrintMapping}
@@ -73,7 +72,7 @@ abbrev pub RunsWith : {T : Type 0} → Command → HeaderRecord → Result T Fau
 RunsWith (ListTable cluster_bits cluster) header answer old new before after =
     Prints answer (lines_of_l2_table cluster_bits cluster) old new before after
 RunsWith PrintInfo header answer old new before after =
-    (new ≡ old) × IsOkUnless answer Storage × OnOk answer (Appends before after (info_lines header))
+    (new ≡ old) × PrintsText answer before after (info_lines header)
 RunsWith ListTables header answer old new before after =
     PrintsList answer (tables_of header) old new before after × ReadsFor (IsErrOf answer Storage) old new
 RunsWith (PrintMapping guest_offset) header answer old new before after =

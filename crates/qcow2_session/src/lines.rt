@@ -1,9 +1,9 @@
 //! The lines that several commands print: what a mapping is, and the line of an entry.
 
-ghost use Rattle.std.specs.Prelude.{◌≡◌, ◌+◌, ◌≤◌, ◌++◌, ℕ, List, length, IsOkUnless, OnOk};
+ghost use Rattle.std.specs.Prelude.{◌≡◌, ◌+◌, ◌≤◌, ◌++◌, ℕ, List, flat_map, length};
 ghost use Rattle.std.specs.Fmt.{decimal};
-ghost use Rattle.std.specs.Io.KnownBytes.{Appends};
 ghost use Rattle.qcow2_metadata.specs.Entries.L2Mapping.{IsPlaced, meaning};
+ghost use Rattle.qcow2_session.specs.Commands.Printing.{PrintsText};
 ghost use Rattle.qcow2_session.specs.Lines.{copied_text, entry_line, mapping_text, offset_text};
 
 mod line_buffer;
@@ -44,6 +44,27 @@ impl EntryLabel for GuestOffset {
     }
 }
 
+/// An item of a list that is printed as a line.
+pub(crate) trait PrintLine {
+    /// Its line.
+    ghost line: { Self → List ℕ };
+
+    /// Prints it.
+    fn print_line<O: Write>(&self, out: &mut O) -> Result<(), Fault>
+        ensures { PrintsText result (O.contents out.old) (O.contents out.new) (line self.now) };
+}
+
+/// Prints the line of each item.
+#[tactic(auto, using(crate::proofs::PrintingLemmas::lines_printed))]
+pub(crate) fn print_lines<T: PrintLine, O: Write>(items: &[T], out: &mut O) -> Result<(), Fault>
+    ensures { PrintsText result (O.contents out.old) (O.contents out.new) (flat_map T.line items.now) }
+{
+    for item in items {
+        item.print_line(out)?;
+    }
+    Ok(())
+}
+
 /// Prints the line of an entry: a label, a space, and its mapping. An entry that is left to the
 /// backing file has no line.
 pub(crate) fn print_entry<L: EntryLabel, O: Write>(
@@ -53,9 +74,8 @@ pub(crate) fn print_entry<L: EntryLabel, O: Write>(
     out: &mut O,
 ) -> Result<(), Fault>
     requires placed { IsPlaced cluster_bits mapping.now }
-    ensures fault { IsOkUnless result Fault.Storage }
-    ensures line { OnOk result (Appends (O.contents out.old) (O.contents out.new)
-        (entry_line cluster_bits (L.text label) (meaning mapping.now))) }
+    ensures { PrintsText result (O.contents out.old) (O.contents out.new)
+        (entry_line cluster_bits (L.text label) (meaning mapping.now)) }
 {
     if let L2Mapping::Backing { .. } = mapping {
         return Ok(());
@@ -75,9 +95,8 @@ pub(crate) fn print_mapping<O: Write>(
     out: &mut O,
 ) -> Result<(), Fault>
     requires placed { IsPlaced cluster_bits mapping.now }
-    ensures fault { IsOkUnless result Fault.Storage }
-    ensures text { OnOk result (Appends (O.contents out.old) (O.contents out.new)
-        (mapping_text cluster_bits (meaning mapping.now))) }
+    ensures { PrintsText result (O.contents out.old) (O.contents out.new)
+        (mapping_text cluster_bits (meaning mapping.now)) }
 {
     let mut line = LineBuffer::new();
     prepend_mapping(&mut line, mapping, cluster_bits);

@@ -38,10 +38,6 @@ abbrev pub reply_line : StepReply → List ℕ
 reply_line (Done before) = codes "ok " ++ decimal before ++ codes "\n"
 reply_line Refused = codes "refused\n"
 
--- the lines of what came of steps
-abbrev pub reply_lines : List StepReply → List ℕ
-reply_lines replies = flat_map reply_line replies
-
 -- how refcount blocks stand in an image with this header
 abbrev pub block_format : HeaderRecord → ClusterFormat
 block_format header = record {
@@ -56,7 +52,7 @@ told_steps cluster left = record {
   cluster = cluster;
   numbers = left.counters;
   is_written = are_some_done left.replies;
-  lines = reply_lines left.replies;
+  lines = flat_map reply_line left.replies;
 }
 
 -- what steps of the block that begins with a cluster come to, in an image with this header, or why they are refused

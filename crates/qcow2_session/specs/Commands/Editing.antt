@@ -49,17 +49,9 @@ edits_of (l1_index ∷ words) = both EditEntries (word_number l1_index) (all_of 
 abbrev pub freed_line : ClustersToFreeEntry → List ℕ
 freed_line clusters = codes "freed " ++ decimal clusters.first.0 ++ codes " " ++ decimal clusters.count.0 ++ codes "\n"
 
--- the lines of such clusters
-abbrev pub freed_lines : List ClustersToFreeEntry → List ℕ
-freed_lines freed = flat_map freed_line freed
-
 -- the line of a cluster that gained a reference
 abbrev pub gained_line : ℕ → List ℕ
 gained_line cluster = codes "gained " ++ decimal cluster ++ codes "\n"
-
--- the lines of such clusters, one after another
-abbrev pub gained_lines : List ℕ → List ℕ
-gained_lines gained = flat_map gained_line gained
 
 -- the cluster that the L2 table of an L1 entry begins with, or why there is none
 abbrev pub named_table : HeaderRecord → ℕ → Image → Result HostCluster Fault
@@ -85,7 +77,7 @@ told_edits cluster edits left = record {
   cluster = cluster;
   numbers = left.numbers;
   is_written = are_some edits;
-  lines = freed_lines left.freed ++ gained_lines left.gained;
+  lines = flat_map freed_line left.freed ++ flat_map gained_line left.gained;
 }
 
 -- what edits of the L2 table that an L1 entry names come to, in an image with this header, or why they are refused

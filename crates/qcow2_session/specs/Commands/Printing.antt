@@ -1,4 +1,4 @@
-use Rattle.std.specs.Prelude.{◌≡◌, ◌≢◌, ◌⊎◌, ℕ, List, Option, Result, Err, IfErr, IsErrOf, IsOk, IsOkAnd, OnOk}
+use Rattle.std.specs.Prelude.{◌≡◌, ◌≢◌, ◌⊎◌, ℕ, List, Option, Result, Err, IfErr, IsErrOf, IsOk, IsOkAnd, IsOkUnless, OnOk}
 use Rattle.std.specs.Io.KnownBytes.{Appends}
 use Rattle.qcow2_base.specs.Storage.{Image, OnImage, SameDevice, StorageState}
 use Rattle.qcow2_base.specs.declared.fault.Fault.{Fault}
@@ -18,6 +18,11 @@ IsOutputFault fault old new = (fault ≡ Storage) × (new.failures ≡ old.failu
 -- output, where what it read is no fault
 abbrev pub IsRefusal : {V : Type 0} → Result V Fault → StorageState → StorageState → Fault → Type 0
 IsRefusal meant old new fault = IsReadFault meant old new fault ⊎ (IsOutputFault fault old new × IsOk meant)
+
+-- a print of these bytes to an output ended in this answer: the output got them, or it failed
+pub record PrintsText {T : Type 0} (answer : Result T Fault) (before after : Option (List ℕ)) (bytes : List ℕ) : Type 0 where
+  pub fault : IsOkUnless answer Storage
+  pub text : OnOk answer (Appends before after bytes)
 
 -- a command that prints last ended in this answer: a fault other than the storage fault comes before any line, and so
 -- does a failed call of the image, which is that fault

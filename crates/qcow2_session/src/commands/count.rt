@@ -1,14 +1,14 @@
 //! The command `count`: steps of a refcount block's counters.
 
-ghost use Rattle.std.specs.Prelude.{◌≡◌, IsOkUnless, OnOk, map, string_bytes};
-ghost use Rattle.std.specs.Io.KnownBytes.{Appends};
+ghost use Rattle.std.specs.Prelude.{◌≡◌, map, string_bytes};
 ghost use Rattle.qcow2_session.specs.Commands.Changing.{PrintsChange};
-ghost use Rattle.qcow2_session.specs.Commands.Counting.{block_format, end_of_steps, reply_line, reply_lines, step_of, steps_of};
+ghost use Rattle.qcow2_session.specs.Commands.Counting.{block_format, end_of_steps, reply_line, step_of, steps_of};
 ghost use Rattle.qcow2_session.specs.Commands.Printing.{PrintsLast};
 ghost use Rattle.qcow2_session.specs.Commands.Words.{Parses};
 
 use super::Command;
 use super::words::{Changes, Said, number, parts};
+use crate::lines::{PrintLine, print_lines};
 use crate::session::{Step, StepReply, step_image};
 use qcow2_base::{Fault, HostCluster, Storage};
 use qcow2_metadata::Header;
@@ -35,33 +35,20 @@ pub fn count_references<S: Storage, O: Write>(
     ensures last { PrintsLast result (S.state image.old) (S.state image.new) out.old out.new }
 {
     let replies = step_image(alloc, image, header, cluster, steps)?;
-    print_replies(replies.as_slice(), out)
+    print_lines(replies.as_slice(), out)
 }
 
-// Prints the line of each reply.
-#[tactic(auto, using(crate::proofs::PrintingLemmas::lines_printed))]
-fn print_replies<O: Write>(replies: &[StepReply], out: &mut O) -> Result<(), Fault>
-    ensures fault { IsOkUnless result Fault.Storage }
-    ensures lines { OnOk result
-        (Appends (O.contents out.old) (O.contents out.new) (reply_lines replies.now)) }
-{
-    for reply in replies {
-        print_reply(*reply, out)?;
-    }
-    Ok(())
-}
+/// What came of a step.
+impl PrintLine for StepReply {
+    ghost line = { reply_line };
 
-// Prints the line of a reply.
-fn print_reply<O: Write>(reply: StepReply, out: &mut O) -> Result<(), Fault>
-    ensures fault { IsOkUnless result Fault.Storage }
-    ensures line { OnOk result
-        (Appends (O.contents out.old) (O.contents out.new) (reply_line reply)) }
-{
-    match reply {
-        StepReply::Done(before) => writeln!(out, "ok {before}"),
-        StepReply::Refused => writeln!(out, "refused"),
+    fn print_line<O: Write>(&self, out: &mut O) -> Result<(), Fault> {
+        match *self {
+            StepReply::Done(before) => writeln!(out, "ok {before}"),
+            StepReply::Refused => writeln!(out, "refused"),
+        }
+        .map_err(|_| Fault::Storage)
     }
-    .map_err(|_| Fault::Storage)
 }
 
 /// What the words of the command `count` ask for.

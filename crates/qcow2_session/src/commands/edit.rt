@@ -1,17 +1,17 @@
 //! The command `edit`: edits of an L2 table.
 
-ghost use Rattle.std.specs.Prelude.{◌≡◌, ◌++◌, IsOkUnless, IsTrue, OnOk, map, string_bytes};
-ghost use Rattle.std.specs.Io.KnownBytes.{Appends};
+ghost use Rattle.std.specs.Prelude.{◌≡◌, ◌++◌, IsTrue, flat_map, map, string_bytes};
 ghost use Rattle.qcow2_base.specs.Storage.{OnImage, OnlyReads};
 ghost use Rattle.qcow2_metadata.specs.Results.{Answers};
 ghost use Rattle.qcow2_session.specs.Commands.Changing.{PrintsChange};
-ghost use Rattle.qcow2_session.specs.Commands.Editing.{edit_of, edits_of, end_of_edits, freed_line, freed_lines, gained_line, gained_lines, map_edit_of, named_table, table_format};
-ghost use Rattle.qcow2_session.specs.Commands.Printing.{PrintsLast};
+ghost use Rattle.qcow2_session.specs.Commands.Editing.{edit_of, edits_of, end_of_edits, freed_line, gained_line, map_edit_of, named_table, table_format};
+ghost use Rattle.qcow2_session.specs.Commands.Printing.{PrintsLast, PrintsText};
 ghost use Rattle.qcow2_session.specs.Commands.Words.{Parses, parts_of};
 ghost use Rattle.qcow2_session.specs.Session.Edits.{cluster_numbers};
 
 use super::Command;
 use super::words::{Changes, Said, number, parts};
+use crate::lines::{PrintLine, print_lines};
 use crate::session::{Edit, Outcome, edit_image, load_l1_table, named_cluster};
 use qcow2_base::{Fault, HostCluster, Storage};
 use qcow2_metadata::{ClustersToFreeEntry, Header};
@@ -59,58 +59,33 @@ fn table_of_entry<S: Storage>(
 }
 
 // Prints what edits did to references.
+#[tactic(auto, using(crate::proofs::PrintingLemmas::outcome_printed))]
 fn print_outcome<O: Write>(outcome: &Outcome, out: &mut O) -> Result<(), Fault>
-    ensures fault { IsOkUnless result Fault.Storage }
-    ensures lines { OnOk result (Appends (O.contents out.old) (O.contents out.new)
-        (freed_lines outcome.now.freed.items ++ gained_lines (cluster_numbers outcome.now.gained.items))) }
+    ensures { PrintsText result (O.contents out.old) (O.contents out.new)
+        (flat_map freed_line outcome.now.freed.items
+        ++ flat_map gained_line (cluster_numbers outcome.now.gained.items)) }
 {
-    print_freed(outcome.freed.as_slice(), out)?;
-    print_gained(outcome.gained.as_slice(), out)
+    print_lines(outcome.freed.as_slice(), out)?;
+    print_lines(outcome.gained.as_slice(), out)
 }
 
-// Prints the line of each range of clusters that lost a reference.
-#[tactic(auto, using(crate::proofs::PrintingLemmas::lines_printed))]
-fn print_freed<O: Write>(freed: &[ClustersToFreeEntry], out: &mut O) -> Result<(), Fault>
-    ensures fault { IsOkUnless result Fault.Storage }
-    ensures lines { OnOk result
-        (Appends (O.contents out.old) (O.contents out.new) (freed_lines freed.now)) }
-{
-    for clusters in freed {
-        print_freed_range(*clusters, out)?;
+/// Clusters that lost a reference.
+impl PrintLine for ClustersToFreeEntry {
+    ghost line = { freed_line };
+
+    fn print_line<O: Write>(&self, out: &mut O) -> Result<(), Fault> {
+        let (first, count) = (self.first.0, self.count.0);
+        writeln!(out, "freed {first} {count}").map_err(|_| Fault::Storage)
     }
-    Ok(())
 }
 
-// Prints the line of clusters that lost a reference.
-fn print_freed_range<O: Write>(clusters: ClustersToFreeEntry, out: &mut O) -> Result<(), Fault>
-    ensures fault { IsOkUnless result Fault.Storage }
-    ensures line { OnOk result
-        (Appends (O.contents out.old) (O.contents out.new) (freed_line clusters)) }
-{
-    let (first, count) = (clusters.first.0, clusters.count.0);
-    writeln!(out, "freed {first} {count}").map_err(|_| Fault::Storage)
-}
+/// A cluster that gained a reference.
+impl PrintLine for HostCluster {
+    ghost line = { λ cluster. gained_line cluster.0 };
 
-// Prints the line of each cluster that gained a reference.
-#[tactic(auto, using(crate::proofs::PrintingLemmas::lines_printed))]
-fn print_gained<O: Write>(gained: &[HostCluster], out: &mut O) -> Result<(), Fault>
-    ensures fault { IsOkUnless result Fault.Storage }
-    ensures lines { OnOk result
-        (Appends (O.contents out.old) (O.contents out.new) (gained_lines (cluster_numbers gained.now))) }
-{
-    for cluster in gained {
-        print_gained_cluster(*cluster, out)?;
+    fn print_line<O: Write>(&self, out: &mut O) -> Result<(), Fault> {
+        writeln!(out, "gained {}", self.0).map_err(|_| Fault::Storage)
     }
-    Ok(())
-}
-
-// Prints the line of a cluster that gained a reference.
-fn print_gained_cluster<O: Write>(cluster: HostCluster, out: &mut O) -> Result<(), Fault>
-    ensures fault { IsOkUnless result Fault.Storage }
-    ensures line { OnOk result
-        (Appends (O.contents out.old) (O.contents out.new) (gained_line cluster.0)) }
-{
-    writeln!(out, "gained {}", cluster.0).map_err(|_| Fault::Storage)
 }
 
 /// What the words of the command `edit` ask for.

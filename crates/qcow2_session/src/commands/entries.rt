@@ -1,10 +1,10 @@
 //! The lines of an L2 table's entries, which the commands `l2` and `list` print.
 
-ghost use Rattle.std.specs.Prelude.{◌≡◌, ◌-◌, ◌*◌, ◌^◌, ◌<◌, IsOkUnless, OnOk, length};
-ghost use Rattle.std.specs.Io.KnownBytes.{Appends};
+ghost use Rattle.std.specs.Prelude.{◌≡◌, ◌-◌, ◌*◌, ◌^◌, ◌<◌, length};
 ghost use Rattle.qcow2_base.specs.Format.{most_l1_entries};
 ghost use Rattle.qcow2_metadata.specs.Entries.L2Mapping.{IsPlaced, meaning};
 ghost use Rattle.qcow2_session.specs.Commands.Entries.{label_text, table_lines};
+ghost use Rattle.qcow2_session.specs.Commands.Printing.{PrintsText};
 ghost use Rattle.qcow2_session.specs.Lines.{entry_line};
 
 use crate::lines::print_entry;
@@ -31,9 +31,8 @@ pub(super) fn print_entries<O: Write>(
 ) -> Result<(), Fault>
     requires entries { length table.now.numbers ≡ 2 ^ (table.now.geometry.cluster_bits - 3) }
     requires index { l1_index < most_l1_entries }
-    ensures fault { IsOkUnless result Fault.Storage }
-    ensures lines { OnOk result (Appends (O.contents out.old) (O.contents out.new)
-        (table_lines label table.now.geometry l1_index table.now.numbers)) }
+    ensures { PrintsText result (O.contents out.old) (O.contents out.new)
+        (table_lines label table.now.geometry l1_index table.now.numbers) }
 {
     let cluster_bits = table.cluster_bits();
     for l2_index in 0..table.entries() {
@@ -54,9 +53,8 @@ fn print_labelled<O: Write>(
 ) -> Result<(), Fault>
     requires placed { IsPlaced cluster_bits mapping.now }
     requires fits { guest_cluster.0 * 2 ^ cluster_bits < 2 ^ 64 }
-    ensures fault { IsOkUnless result Fault.Storage }
-    ensures line { OnOk result (Appends (O.contents out.old) (O.contents out.new)
-        (entry_line cluster_bits (label_text label cluster_bits guest_cluster.0) (meaning mapping.now))) }
+    ensures { PrintsText result (O.contents out.old) (O.contents out.new)
+        (entry_line cluster_bits (label_text label cluster_bits guest_cluster.0) (meaning mapping.now)) }
 {
     match label {
         Label::Index => print_entry(guest_cluster.0, mapping, cluster_bits, out),

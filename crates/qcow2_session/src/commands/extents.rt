@@ -1,11 +1,11 @@
 //! The command `map`: what the guest's disk reads as, extent after extent.
 
-ghost use Rattle.std.specs.Prelude.{◌≡◌, ◌+◌, ◌≤◌, ◌++◌, IsErrOf, IsOkUnless, IsTrue, OnOk, length, map, string_bytes};
-ghost use Rattle.std.specs.Io.KnownBytes.{Appends};
+ghost use Rattle.std.specs.Prelude.{◌≡◌, ◌+◌, ◌≤◌, ◌++◌, IsErrOf, IsTrue, length, map, string_bytes};
 ghost use Rattle.qcow2_base.specs.Storage.{OnImage, ReadsFor};
 ghost use Rattle.qcow2_base.specs.declared.fault.Fault.TheVariants.{Storage as StorageFailed};
 ghost use Rattle.qcow2_session.specs.Session.Extents.{IsReaderOf};
 ghost use Rattle.qcow2_session.specs.Commands.Extents.{PrintsExtents, PrintsRest, closing, content_text, disk_of, extent_line, extent_text, extents_of, json_content, json_flags, json_length, json_object, json_offset, json_row, opening};
+ghost use Rattle.qcow2_session.specs.Commands.Printing.{PrintsText};
 ghost use Rattle.qcow2_session.specs.Commands.Words.{Parses};
 
 use super::Command;
@@ -90,8 +90,7 @@ fn print_all<S: Storage, O: Write>(
 
 // Prints a text.
 fn print_text<O: Write>(text: &str, out: &mut O) -> Result<(), Fault>
-    ensures fault { IsOkUnless result Fault.Storage }
-    ensures text { OnOk result (Appends (O.contents out.old) (O.contents out.new) text.now) }
+    ensures { PrintsText result (O.contents out.old) (O.contents out.new) text.now }
 {
     out.write_all(text.as_bytes()).map_err(|_| Fault::Storage)
 }
@@ -103,9 +102,8 @@ fn print_extent<O: Write>(
     line: &mut LineBuffer,
     out: &mut O,
 ) -> Result<(), Fault>
-    ensures fault { IsOkUnless result Fault.Storage }
-    ensures text { OnOk result
-        (Appends (O.contents out.old) (O.contents out.new) (extent_text format extent.now)) }
+    ensures { PrintsText result (O.contents out.old) (O.contents out.new)
+        (extent_text format extent.now) }
 {
     line.clear();
     match format {

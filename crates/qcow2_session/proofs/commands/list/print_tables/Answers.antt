@@ -27,7 +27,7 @@ loop-index-preserved g c =
           let texts = texts-more left next c.in-Some.index c.in-Some.table.numbers image header here in (
             printed.0 ++ (lines ∷ []),
             tables-known printed.0 (lines ∷ []) (texts_left next image) _ (rw texts at printed.1),
-            tables-printed printed.0 (lines ∷ []) _ _ _ printed.2 (rw (append-nil lines) (rw is at c.in_ok-print_entries.ensures.lines)),
+            tables-printed printed.0 (lines ∷ []) _ _ _ printed.2 (rw (append-nil lines) (rw is at c.in_ok-print_entries.ensures.text)),
           );
       same = c.in_ok-index.ensures.walk.same ∙ ap (λ (w : WalkState). record w { index = next.index }) before.same;
       reads = search rules;
