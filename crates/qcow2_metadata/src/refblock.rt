@@ -233,10 +233,7 @@ impl RefBlock {
         ensures { option_map (λ (offset : Offset). offset.0) result
             ≡ option_map (block_offset self.now.cluster_bits) self.now.cluster }
     {
-        match self.cluster {
-            Some(cluster) => Some(cluster.offset(self.cluster_bits)),
-            None => None,
-        }
+        Some(self.cluster?.offset(self.cluster_bits))
     }
 
     /// Says where in the image the block begins: at a cluster whose offset fits 64 bits. The block then

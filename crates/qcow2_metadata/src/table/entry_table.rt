@@ -233,10 +233,7 @@ impl<E: TableKind> Table for EntryTable<E> {
     }
 
     fn get_offset(&self) -> Option<HostOffset> {
-        match self.cluster {
-            Some(cluster) => Some(cluster.offset(self.cluster_bits)),
-            None => None,
-        }
+        Some(self.cluster?.offset(self.cluster_bits))
     }
 
     fn set_cluster(&mut self, cluster: HostCluster) {
