@@ -55,8 +55,7 @@ pub insert_entry-map : {K X Y : Type 0} (f : X → Y) (cmp : K → K → Orderin
     (key : K) (value : X) → map (λ other. (other.0, f other.1)) (insert_entry cmp entries key value)
     ≡ insert_entry cmp (map (λ other. (other.0, f other.1)) entries) key (f value)
 insert_entry-map f cmp [] key value = refl
-insert_entry-map f cmp (entry ∷ entries) key value =
-    grind (arith, nat_tests, insert_entry-map f cmp entries key value)
+insert_entry-map f cmp (entry ∷ entries) key value = grind (arith, nat_tests, insert_entry-map f cmp entries key value)
 
 -- a fault of the first chunks is the fault of more
 pub names_of_chunks-fault : (bytes : List ℕ) (fault : Fault) (few more : ℕ) → names_of_chunks bytes few ≡ Err fault

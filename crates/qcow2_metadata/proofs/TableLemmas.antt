@@ -7,6 +7,7 @@ use Rattle.qcow2_base.specs.declared.fault.Fault.{Fault}
 use Rattle.qcow2_metadata.proofs.PackingLemmas.{counters_at-length, counters_at-same}
 use Rattle.qcow2_metadata.specs.Table.{first_fault, table_numbers}
 use Rattle.qcow2_metadata.specs.Table.Growth.{grown_numbers}
+use Rattle.std.proofs.lemmas.Bool.Decides.{nat_tests}
 
 pub no_fault_at_all : (first rest : Option Fault) → option_or first rest ≡ None → (first ≡ None) × (rest ≡ None)
 no_fault_at_all first rest h = grind arith
@@ -55,8 +56,7 @@ no_fault_item number fault (x ∷ xs) (suc i) d h below =
 
 pub lawful_if_found : {X : Type 0} (number : X → ℕ) (fault : ℕ → Option Fault) (xs : List X) (i : ℕ) (found : Option (Bor X)) → first_fault fault (map number xs) ≡ None → IsGetResult xs i i found → IfSome found (λ entry. fault (number entry.now) ≡ None)
 lawful_if_found number fault xs i None h is = tt
-lawful_if_found number fault xs i (Some entry) h is =
-    rw is.1 (no_fault_item number fault xs i entry.now h is.3.0)
+lawful_if_found number fault xs i (Some entry) h is = grind (arith, nat_tests, no_fault_item)
 
 map-replicate-zero : {X : Type 0} (number : X → ℕ) (n : ℕ) (x : X) → number x ≡ 0 → map number (replicate n x) ≡ replicate n 0
 map-replicate-zero number zero x is = refl
@@ -64,8 +64,7 @@ map-replicate-zero number (suc n) x is = rw is (ap (λ (xs : List ℕ). 0 ∷ xs
 
 -- entries, and then entries 0, have the numbers of a grown table
 pub grown_items : {X : Type 0} (number : X → ℕ) (xs : List X) (n : ℕ) (x : X) → length xs ≤ n → number x ≡ 0 → map number (take n xs ++ replicate (n - length xs) x) ≡ grown_numbers (map number xs) n
-grown_items number xs n x short is =
-    rw (take_all n xs short, map-append number xs (replicate (n - length xs) x), map-replicate-zero number (n - length xs) x is, length-map xs number) refl
+grown_items number xs n x short is = grind (arith, nat_tests, take_all, map-append, map-replicate-zero, length-map)
 
 -- a table stays one with zeros at its end
 pub first_fault-grown : (fault : ℕ → Option Fault) (numbers : List ℕ) (n : ℕ) → first_fault fault numbers ≡ None → fault 0 ≡ None → first_fault fault (grown_numbers numbers n) ≡ None
