@@ -1,8 +1,7 @@
-use Rattle.std.proofs.Common.{◌≤◌, length, rules}
+use Rattle.std.proofs.Common.{arith}
 use Rattle.qcow2_metadata.proofs.RefblockLemmas.{narrow_length}
 use Rattle.qcow2_metadata.proofs.refblock.counters.Counters.unpack.Goals as goal
+use Rattle.std.proofs.lemmas.Bool.Decides.{nat_tests}
 
 pub returns-in-U8-clause-numbers : goal.returns-in-U8-clause-numbers
-returns-in-U8-clause-numbers c =
-    let low : c.args.order ≤ 3 = rw c.in-U8.is at c.requires.kind in
-    rw (← narrow_length c.args.order (length c.args.bytes.now) low) (search rules)
+returns-in-U8-clause-numbers c = grind (arith, nat_tests, narrow_length)
