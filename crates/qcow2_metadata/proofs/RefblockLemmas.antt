@@ -25,8 +25,8 @@ counter_holds order (U32 list) number kind fits = let same = rw kind at fits in 
 counter_holds order (U64 list) number kind fits = let same = rw kind at fits in omega (arith, same)
 
 -- a block of zeros is lawful
-pub zeros-lawful : (cb order : ℕ) (counters : Counters) → IsClusterBits cb → order ≤ 6 → kept_counters counters ≡ replicate (block_entries cb order) 0 → IsLawfulBlock cb order None (kept_counters counters)
-zeros-lawful cb order counters bits orders zeros = grind (arith, pow_pos, common_steps)
+pub zeros_are_lawful : (cb order : ℕ) (counters : Counters) → IsClusterBits cb → order ≤ 6 → kept_counters counters ≡ replicate (block_entries cb order) 0 → IsLawfulBlock cb order None (kept_counters counters)
+zeros_are_lawful cb order counters bits orders zeros = grind (arith, pow_pos, common_steps)
 
 -- and so is one with another counter
 pub set-lawful : (cb order : ℕ) (cluster : Option HostCluster) (old new : Counters) (index number : ℕ) → IsLawfulBlock cb order cluster (kept_counters old) → kept_counters new ≡ slice_set (kept_counters old) index number → number ≤ greatest_counter order → IsLawfulBlock cb order cluster (kept_counters new)

@@ -183,3 +183,6 @@ pattern_fits cb value step n xs high below fits =
     let few : 2 ^ (cb - 3) ≤ 2 ^ 18 = pow_mono small in
     let count : length (take n xs) ≤ 262144 = rw length-take (omega (arith, few, below)) in
     omega (arith, mul-le (length (take n xs)) step 262144 step count (omega arith), fits)
+
+-- what the patterns of entries are
+pub ruleset patterns = (has_offset, step_fits, after_a_compressed_entry, after_an_entry_with_a_cluster, after_an_external_entry_without_one, after_an_entry_without_one)

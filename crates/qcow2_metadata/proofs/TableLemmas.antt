@@ -1,4 +1,4 @@
-use Rattle.std.proofs.Common.{map-id, ◌≡◌, ℕ, zero, suc, ◌+◌, ◌-◌, ◌*◌, ◌<◌, ◌≤◌, lit≤, List, [], ◌∷◌, ◌++◌, map, length, get_or, replicate, set, take, Option, Some, None, IfSome, refl, ◌∙◌, ap, arith, Bor}
+use Rattle.std.proofs.Common.{map-id, vec_len, ◌≡◌, ℕ, zero, suc, ◌+◌, ◌-◌, ◌*◌, ◌<◌, ◌≤◌, lit≤, List, [], ◌∷◌, ◌++◌, map, length, get_or, replicate, set, take, Option, Some, None, IfSome, refl, ◌∙◌, ap, arith, Bor}
 use Rattle.std.specs.Option.{option_or}
 use Rattle.std.proofs.lemmas.List.{length-map, map-append, take_all}
 use Rattle.std.specs.Slice.{IsGetResult}
@@ -43,9 +43,9 @@ first_fault-set fault (x ∷ xs) (suc i) v h lawful =
     let parts = no_fault_at_all (fault x) (first_fault fault xs) h in
     rw parts.0 (first_fault-set fault xs i v parts.1 lawful)
 
-pub first_fault-map-replicate : {X : Type 0} (number : X → ℕ) (fault : ℕ → Option Fault) (n : ℕ) (x : X) → fault (number x) ≡ None → first_fault fault (map number (replicate n x)) ≡ None
-first_fault-map-replicate number fault zero x lawful = refl
-first_fault-map-replicate number fault (suc n) x lawful = rw lawful (first_fault-map-replicate number fault n x lawful)
+pub no_fault_in_copies : {X : Type 0} (number : X → ℕ) (fault : ℕ → Option Fault) (n : ℕ) (x : X) → fault (number x) ≡ None → first_fault fault (map number (replicate n x)) ≡ None
+no_fault_in_copies number fault zero x lawful = refl
+no_fault_in_copies number fault (suc n) x lawful = rw lawful (no_fault_in_copies number fault n x lawful)
 
 -- an entry that is found is lawful
 pub no_fault_item : {X : Type 0} (number : X → ℕ) (fault : ℕ → Option Fault) (xs : List X) (i : ℕ) (d : X) → first_fault fault (map number xs) ≡ None → i < length xs → fault (number (get_or xs i d)) ≡ None
@@ -69,4 +69,9 @@ grown_items number xs n x short is = grind (arith, nat_tests, take_all, map-appe
 -- a table stays one with zeros at its end
 pub first_fault-grown : (fault : ℕ → Option Fault) (numbers : List ℕ) (n : ℕ) → first_fault fault numbers ≡ None → fault 0 ≡ None → first_fault fault (grown_numbers numbers n) ≡ None
 first_fault-grown fault numbers n h lawful =
-    first_fault-append fault numbers (replicate (n - length numbers) 0) h ∙ rw map-id at (first_fault-map-replicate (λ (v : ℕ). v) fault (n - length numbers) 0 lawful)
+    first_fault-append fault numbers (replicate (n - length numbers) 0) h ∙ rw map-id at (no_fault_in_copies (λ (v : ℕ). v) fault (n - length numbers) 0 lawful)
+
+-- what an item of a table is, and what a table is with zeros at its end
+pub ruleset items = (no_fault_item, length-map)
+
+pub ruleset paddings = (vec_len, grown_items, first_fault-grown)

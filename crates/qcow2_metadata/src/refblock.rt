@@ -93,6 +93,7 @@ fn read_counters<S: Storage>(
 impl RefBlock {
     /// A block of an image with this header in which no cluster has a reference. It has no cluster, and
     /// counts as modified. Fails only for want of memory.
+    #[tactic(auto, using(crate::proofs::RefblockLemmas::zeros_are_lawful))]
     pub fn new_cleared<S: Storage>(
         alloc: Global,
         image: &S,
