@@ -1,5 +1,3 @@
-mod OnDiskStructExamples
 pub mod OnDiskStructLemmas
-mod StorageExamples
 pub mod StorageLemmas
 pub mod TypesLemmas

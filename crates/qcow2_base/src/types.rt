@@ -52,11 +52,7 @@ impl ClusterCount {
         ensures { result ≡ (if size % 2 ^ cluster_bits == 0
             then Some (record { 0 = size / 2 ^ cluster_bits }) else None) }
     {
-        if size % (1 << cluster_bits) == 0 {
-            Some(ClusterCount(size >> cluster_bits))
-        } else {
-            None
-        }
+        (size % (1 << cluster_bits) == 0).then_some(ClusterCount(size >> cluster_bits))
     }
 
     /// How many bytes so many clusters have.

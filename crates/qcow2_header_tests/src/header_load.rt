@@ -15,6 +15,10 @@ const LOADED: &[(Changes, &'static str)] = &[
     ("7=00", "Version"),
     ("7=01", "Version"),
     ("7=02", "- - -"),
+    // where the magic, the version or the cluster size is bad, all fields behind it may be bad too
+    ("0=ff*104", "NotQcow2"),
+    ("4=ff*100", "Version"),
+    ("8=ff*96", "ClusterSize"),
     ("4=01", "Version"),
     ("23=08", "ClusterSize"),
     ("23=15", "- - -"),
@@ -25,6 +29,7 @@ const LOADED: &[(Changes, &'static str)] = &[
     // tables that begin with a cluster of 512 bytes, but not with one of 1024
     ("46=02, 54=02", "- - -"),
     ("46=02, 23=0a", "L1Unaligned"),
+    ("46=02, 23=0a, 7=02", "L1Unaligned"),
     ("54=02, 23=0a", "ReftableUnaligned"),
     ("40=80, 48=80", "- - -"),
     // header lengths, up to the cluster's end
@@ -44,6 +49,7 @@ const LOADED: &[(Changes, &'static str)] = &[
     // End has a length too, and nothing after it is read
     ("110=0190", "- - -"),
     ("110=0191", "ExtensionsExceed"),
+    ("107=0700000180, 503=09", "ExtensionsExceed"),
     ("108=ffffffff", "ExtensionsExceed"),
     ("112=format 01 ff", "- - -"),
     // data that ends within the cluster, though its padding doesn't

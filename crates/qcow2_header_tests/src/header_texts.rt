@@ -56,6 +56,12 @@ pub(crate) const LOADED: &[(Changes, Changes, Option<&'static str>)] = &[
     ("103=69ab", "103=70ab, 119=00", None),
     ("103=70", "103=70, 119=00", None),
     ("102=01f8ab", "102=01f8ab, 511=00", None),
+    // a name that ends with the cluster: an empty one, one in version 2, and one behind an empty table of
+    // names of features, which goes where it takes the last byte
+    ("14=0200, 102=01f8", "14=0200, 102=01f8, 511=00", None),
+    (OLDER_FULL, OLDER_FULL, None),
+    (NO_NAMES, NO_NAMES, None),
+    (NO_NAMES_MORE, "15=7000000189, 112=61*393", None),
     // all that a header can have
     (RICH, RICH_WRITTEN, Some("new")),
     // End loses its data
@@ -77,6 +83,12 @@ pub(crate) const LOADED: &[(Changes, Changes, Option<&'static str>)] = &[
     (TWO_TABLES, TWO_WRITTEN, Some("a")),
     (TWO_LONG_TABLES, "15=7800000119, 107=07, 400=00", None),
 ];
+
+const OLDER_FULL: Changes = "7=02, 15=50000001b0, 80=61*432";
+
+const NO_NAMES: Changes = "104=names 00, 15=7800000188, 120=61*392";
+
+const NO_NAMES_MORE: Changes = "104=names 00, 15=7700000189, 119=61*393";
 
 const FIVE_BYTES: Changes = "103=69, 108=0700000005:abcde";
 

@@ -165,10 +165,11 @@ const LONG_NAMES: &[(u32, usize, Fault)] = &[
 ];
 
 // Loaded headers that are too long: with 400 unknown bytes and the name FI, and with 384 unknown bytes, the
-// name of a feature, and a backing file's name of 48 zero bytes.
+// name of a feature, and a backing file's name of 48 zero bytes; in version 2 with a name of 433 bytes.
 const TOO_LONG: &[Changes] = &[
     "102=01f8, 15=01, 19=02",
     "102=01e8, 488=names 02, 15=1800000030",
+    "7=02, 15=4f000001b1, 79=61*433",
 ];
 
 #[test]

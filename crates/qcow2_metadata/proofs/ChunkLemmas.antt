@@ -1,4 +1,4 @@
-use Rattle.std.proofs.Common.{◌≡◌, ℕ, zero, suc, ◌+◌, ◌-◌, ◌*◌, ◌/◌, ◌<◌, ◌≤◌, ◌↔◌, Bool, true, false, ◌&&◌, IsTrue, List, [], ◌∷◌, ◌++◌, map, length, get_or, take, drop, Option, Some, None, Result, Err, refl, sym, ◌∙◌, ap, subst, lit≤, arith, OnOk, MatchResult}
+use Rattle.std.proofs.Common.{◌≡◌, ℕ, zero, suc, ◌+◌, ◌-◌, ◌*◌, ◌/◌, ◌<◌, ◌≤◌, ◌↔◌, Bool, true, false, ◌&&◌, IsTrue, List, [], ◌∷◌, ◌++◌, map, length, get_or, take, drop, Option, Some, None, Result, Err, refl, sym, ◌∙◌, ap, lit≤, arith, OnOk, MatchResult}
 use Rattle.std.specs.Simd.{first_chunks}
 use Rattle.std.proofs.lemmas.List.{drop_more, get_or-drop, get_or-take, length-drop, map-append, take-append-drop, take_more}
 use Rattle.std.proofs.lemmas.Iterator.{YieldsList}
@@ -10,6 +10,7 @@ use Rattle.qcow2_base.specs.declared.fault.Fault.{Fault}
 use Rattle.qcow2_metadata.specs.Table.{chunk_numbers, decoded, first_fault, table_numbers}
 use Rattle.qcow2_metadata.proofs.PackingLemmas.{counters_at-append, counters_at-held, counters_at-same}
 use Rattle.qcow2_metadata.proofs.TableLemmas.{first_fault-append, first_fault-join, no_fault_item, no_fault_at_all}
+use Rattle.std.proofs.lemmas.Bool.Decides.{nat_tests}
 
 -- the numbers of a table's first entries, and those of the entries after them
 table_numbers-append : (image : Image) (offset k m : ℕ) → table_numbers image offset (k + m) ≡ table_numbers image offset k ++ table_numbers image (offset + 8 * k) m
@@ -37,11 +38,8 @@ chunk_numbers-more chunks i d within =
 
 -- whether a number more is an entry too
 pub lawful_more : (fault : ℕ → Option Fault) (xs : List ℕ) (v : ℕ) (before this : Bool) → IsTrue before ↔ (first_fault fault xs ≡ None) → IsTrue this ↔ (fault v ≡ None) → IsTrue (before && this) ↔ (first_fault fault (xs ++ v ∷ []) ≡ None)
-lawful_more fault xs v false this before last =
-    (λ t. cc, λ none. before.1 (no_fault_at_all (first_fault fault xs) _ (rw (first_fault-join fault xs (v ∷ [])) at none)).0)
-lawful_more fault xs v true this before last =
-    let whole = first_fault-append fault xs (v ∷ []) (before.0 refl) in
-    (λ t. let one = last.0 t in whole ∙ rw one refl, λ none. last.1 (no_fault_at_all (fault v) None (sym whole ∙ none)).0)
+lawful_more fault xs v false this before last = grind (arith, nat_tests, no_fault_at_all, first_fault-join)
+lawful_more fault xs v true this before last = grind (arith, nat_tests, first_fault-append, no_fault_at_all)
 
 -- the first number that is no entry decides
 pub first_fault-at : (fault : ℕ → Option Fault) (chunks : List (List ℕ)) (i : ℕ) (d : List ℕ) (f : Fault) → i < length chunks → first_fault fault (chunk_numbers (take i chunks)) ≡ None → fault (be (image_of (get_or chunks i d)) 0 8) ≡ Some f → first_fault fault (chunk_numbers chunks) ≡ Some f
@@ -74,7 +72,4 @@ viewed_from_extend v r ran road says = fact_from_extend v r ran (λ it b. Yields
 
 -- each piece of eight bytes holds an entry's number, where all do
 pub lawful_chunk : (fault : ℕ → Option Fault) (chunks : List (List ℕ)) (k : ℕ) (chunk : List ℕ) → first_fault fault (chunk_numbers chunks) ≡ None → k < length chunks → chunk ≡ get_or chunks k chunk → fault (be (image_of chunk) 0 8) ≡ None
-lawful_chunk fault chunks k chunk none below is =
-    let found = no_fault_item (λ (bytes : List ℕ). be (image_of bytes) 0 8) fault chunks k chunk none below in
-    let P : List ℕ → Type 0 = λ bytes. fault (be (image_of bytes) 0 8) ≡ None in
-    subst P (sym is) found
+lawful_chunk fault chunks k chunk none below is = grind (arith, nat_tests, no_fault_item)

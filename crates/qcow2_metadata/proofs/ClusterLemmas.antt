@@ -1,4 +1,4 @@
-use Rattle.std.proofs.Common.{◌≡◌, ℕ, zero, suc, ◌+◌, ◌^◌, ◌<◌, ◌≤◌, ◌==◌, ◌∷◌, map, Result, Ok, Err, refl, ap, ◌∙◌, inl, inr, arith}
+use Rattle.std.proofs.Common.{◌≡◌, ℕ, zero, suc, ◌+◌, ◌^◌, ◌<◌, ◌≤◌, ◌==◌, map, Result, Ok, Err, refl, ap, ◌∙◌, inl, inr, arith}
 use Rattle.std.specs.List.{range_with_len}
 use Rattle.std.proofs.lemmas.Bool.{cases_Bool}
 use Rattle.std.proofs.lemmas.Bool.Decides.{nat_tests}
@@ -27,8 +27,7 @@ map-same : (f g : ℕ → ℕ) (count first : ℕ) → ((i : ℕ) → i < first 
     → map f (range_with_len first count) ≡ map g (range_with_len first count)
 map-same f g zero first same = refl
 map-same f g (suc count) first same =
-    let rest = map-same f g count (first + 1) (λ i below. same i (omega arith)) in
-    λ k. same first (omega arith) k ∷ rest k
+    grind (arith, nat_tests, map-same f g count (first + 1) (λ i below. same i (omega arith)))
 
 -- the same bytes stand in both
 bytes_at-same : (end : ℕ) (image other : Image) → AgreeWithin end image other → (offset count : ℕ)
@@ -53,8 +52,7 @@ backing_name-same image other v2 same = grind (arith, nat_tests, bytes_at-same)
 -- the extension at a place is the same
 extension_at-same : (len : ℕ) (image other : Image) → AgreeWithin len image other → (place : ℕ)
     → extension_at other len place ≡ extension_at image len place
-extension_at-same len image other same place =
-    grind (arith, nat_tests, extension_at-past, be-same, bytes_at-same)
+extension_at-same len image other same place = grind (arith, nat_tests, extension_at-past, be-same, bytes_at-same)
 
 -- so many extensions from a place on are the same
 few_extensions-same : (len : ℕ) (image other : Image) → AgreeWithin len image other → (most place : ℕ)

@@ -53,10 +53,8 @@ unfolding utf8_error_len
 utf8_invalid_len-wide [] rest wide some more = absurd (omega arith)
 utf8_invalid_len-wide (a ∷ []) rest wide some more = rw wide.first refl
 utf8_invalid_len-wide (a ∷ b ∷ []) rest wide some more = rw (wide.first, wide.second) refl
-utf8_invalid_len-wide (a ∷ b ∷ c ∷ []) rest wide some more =
-    rw (wide.first, wide.second, wide.third (omega arith)) refl
-utf8_invalid_len-wide (a ∷ b ∷ c ∷ d ∷ bytes) rest wide some more =
-    absurd (omega (arith, wide.short, length-append bytes rest))
+utf8_invalid_len-wide (a ∷ b ∷ c ∷ []) rest wide some more = grind (arith, nat_tests)
+utf8_invalid_len-wide (a ∷ b ∷ c ∷ d ∷ bytes) rest wide some more = grind (arith, nat_tests, length-append)
 
 -- the first bytes of a character aren't text
 cut-invalid : (bytes : List ℕ) → IsCut bytes → ¬ (IsUtf8 bytes)

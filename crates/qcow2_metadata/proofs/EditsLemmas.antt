@@ -1,10 +1,8 @@
-use Rattle.std.proofs.Common.{ap, ◌≡◌, ℕ, zero, suc, Bool, true, false, ◌&&◌, ◌==◌, if◌then◌else◌, ◌+◌, ◌-◌, ◌*◌, ◌/◌, ◌^◌, ◌<◌, ◌≤◌, ◌↔◌, Option, Some, None, option_map, unwrap_or, option_to_list, IfSome, List, [], ◌∷◌, length, slice_get, slice_index, get_or-set_same, get_or-set_other, refl, sym, ◌∙◌, subst, arith, length-set}
+use Rattle.std.proofs.Common.{ap, ◌≡◌, ℕ, Bool, true, false, ◌&&◌, ◌==◌, if◌then◌else◌, ◌+◌, ◌-◌, ◌*◌, ◌/◌, ◌^◌, ◌<◌, ◌≤◌, ◌↔◌, Option, Some, None, option_map, unwrap_or, option_to_list, IfSome, List, [], ◌∷◌, length, slice_index, refl, ◌∙◌, arith, length-set}
 use Rattle.std.proofs.lemmas.Nat.{div-mul-add, mul-le, pow_pos}
 use Rattle.std.proofs.Math.Nat.{mul-div_cancel}
 use Rattle.std.proofs.lemmas.Bool.Decides.{nat_tests}
 use Rattle.std.proofs.lemmas.List.Sums.{sum_by-append, sum_by-set}
-use Rattle.std.proofs.lemmas.Grind.{elements, same_number_lists}
-use Rattle.std.proofs.lemmas.Option.{none-some, same_Some}
 use Rattle.std.specs.List.{list_all}
 use Rattle.qcow2_base.specs.Bits.{field}
 use Rattle.qcow2_base.specs.Types.{IsClusterBits}
@@ -13,7 +11,7 @@ use Rattle.qcow2_metadata.specs.declared.entries.ClustersToFreeEntry.{ClustersTo
 use Rattle.qcow2_metadata.specs.Entries.L2Entry.{ByteRange, IsAllocation, Meets, allocation, byte_range, cluster_count, clusters_met, first_cluster, has_host_cluster, is_compressed, l2_fault, meets, with_zero_flag}
 use Rattle.qcow2_metadata.specs.Entries.{is_among, offset_field}
 use Rattle.qcow2_metadata.proofs.EntriesLemmas.{meets_is_met, offset_in_sectors}
-use Rattle.qcow2_metadata.specs.Table.L2Guards.{EntryEdit, GivesUp, IsEdit, IsRun, RunsTo, TableEdit, after_edit, can_be_made, changed, data_entry, dropped, fits_table, gained, handed_back, is_just, is_mappable, keeps, one_if, references, run_of, times_gained, to_data, to_nothing, to_zeros}
+use Rattle.qcow2_metadata.specs.Table.L2Guards.{EntryEdit, GivesUp, TableEdit, after_edit, can_be_made, changed, data_entry, dropped, fits_table, gained, handed_back, is_just, is_mappable, keeps, one_if, references, run_of, times_gained, to_data, to_nothing, to_zeros}
 
 -- an entry of data in a host cluster at an offset: it is standard and copied, with no reserved bit
 record IsDataAt (v offset : ℕ) : Type 0 where
@@ -152,79 +150,3 @@ balance-run g (e ∷ edits) numbers c bits fit =
     let freed = sum_by-append (λ (clusters : ClustersToFreeEntry). one_if (is_among clusters c)) (option_to_list (dropped g e.edit v)) rest.freed in
     let gains = sum_by-append (λ (d : ℕ). one_if (d == c)) (option_to_list (gained g e.edit v)) rest.gained in
     rw (freed, gains) (omega (arith, entry, table, more))
-
--- the numbers after an edit are what the edit makes of them
-pub after_edit-is : (g : Geometry) (e : TableEdit) (numbers : List ℕ) → e.index < length numbers → IsEdit g e numbers (after_edit g e numbers)
-after_edit-is g e numbers below = grind (arith, nat_tests, get_or-set_same, get_or-set_other, after_edit-length)
-
--- and nothing else is
-pub edit-determines : (g : Geometry) (e : TableEdit) (old new : List ℕ) → IsEdit g e old new → new ≡ after_edit g e old
-edit-determines g e old new is =
-    same_number_lists new (after_edit g e old) (is.entries ∙ sym (after_edit-length g e old)) (λ k below. grind (arith, elements, is.entry, is.others k, is.entries))
-
-next_step : (step : List ℕ) (steps : List (List ℕ)) (i : ℕ) → slice_get (step ∷ steps) (suc i + 1) ≡ slice_get steps (i + 1)
-next_step step steps i = let next : suc i + 1 ≡ suc (i + 1) = omega arith in rw next refl
-
-each_more : (g : Geometry) (e : TableEdit) (edits : List TableEdit) (before next : List ℕ) (steps : List (List ℕ)) (after : List ℕ) → IsEdit g e before next → IsRun g edits next steps after → (i : ℕ) (f : TableEdit) (old new : List ℕ) → slice_get (e ∷ edits) i ≡ Some f → slice_get (before ∷ steps) i ≡ Some old → slice_get (before ∷ steps) (i + 1) ≡ Some new → IsEdit g f old new
-each_more g e edits before next steps after is run zero f old new edit here there =
-    let same : e ≡ f = cc in
-    let same_old : before ≡ old = cc in
-    let same_new : next ≡ new = same_Some next new (sym run.first ∙ there) in
-    rw (← same, ← same_old, ← same_new) is
-each_more g e edits before next steps after is run (suc i) f old new edit here there =
-    run.each i f old new edit here (sym (next_step before steps i) ∙ there)
-
--- an edit ahead of a run
-run_more : (g : Geometry) (e : TableEdit) (edits : List TableEdit) (before next : List ℕ) (steps : List (List ℕ)) (after : List ℕ) → IsEdit g e before next → IsRun g edits next steps after → IsRun g (e ∷ edits) before (before ∷ steps) after
-run_more g e edits before next steps after is run = record {
-  count = omega (arith, run.count);
-  first = refl;
-  last = run.last;
-  each = each_more g e edits before next steps after is run;
-}
-
--- edits that fit a table lead from it to the numbers after the run
-pub run_of-runs : (g : Geometry) (edits : List TableEdit) (numbers : List ℕ) → list_all (fits_table g (length numbers)) edits ≡ true → RunsTo g edits numbers (run_of g edits numbers).numbers
-run_of-runs g [] numbers fit = (
-  numbers ∷ [],
-  record {
-    count = refl;
-    first = refl;
-    last = refl;
-    each = λ i e old new edit here there. absurd (none-some e edit);
-  },
-)
-run_of-runs g (e ∷ edits) numbers fit =
-    let first = first_fits g e edits numbers fit in
-    let rest = run_of-runs g edits (after_edit g e numbers) first.2 in
-    (numbers ∷ rest.0, run_more g e edits numbers (after_edit g e numbers) rest.0 (run_of g edits (after_edit g e numbers)).numbers (after_edit-is g e numbers first.0) rest.1)
-
--- a run without its first edit
-run_rest : (g : Geometry) (e : TableEdit) (edits : List TableEdit) (before step next : List ℕ) (steps : List (List ℕ)) (after : List ℕ) → IsRun g (e ∷ edits) before (step ∷ next ∷ steps) after → IsEdit g e before next × IsRun g edits next (next ∷ steps) after
-run_rest g e edits before step next steps after run =
-    let same : before ≡ step = sym (same_Some step before run.first) in (
-      rw same (run.each 0 e step next refl refl refl),
-      record {
-        count = omega (arith, run.count);
-        first = refl;
-        last = run.last;
-        each = λ i f old new edit here there. run.each (suc i) f old new edit here (next_step step (next ∷ steps) i ∙ there);
-      },
-    )
-
--- and they lead to no other numbers
-pub run-determines : (g : Geometry) (edits : List TableEdit) (before : List ℕ) (steps : List (List ℕ)) (after : List ℕ) → IsRun g edits before steps after → after ≡ (run_of g edits before).numbers
-run-determines g [] before steps after run = same_Some after before (sym run.last ∙ run.first)
-run-determines g (e ∷ edits) before [] after run = absurd (omega (arith, run.count))
-run-determines g (e ∷ edits) before (step ∷ []) after run = absurd (omega (arith, run.count))
-run-determines g (e ∷ edits) before (step ∷ next ∷ steps) after run =
-    let parts = run_rest g e edits before step next steps after run in
-    let same = edit-determines g e before next parts.0 in
-    rw (← same) (run-determines g edits next (next ∷ steps) after parts.1)
-
--- edits that fit a table lead from it to the numbers after their run, and to no others
-pub runs-to : (g : Geometry) (edits : List TableEdit) (before after : List ℕ) → list_all (fits_table g (length before)) edits ≡ true → RunsTo g edits before after ↔ (after ≡ (run_of g edits before).numbers)
-runs-to g edits before after fit = (
-  λ runs. run-determines g edits before runs.0 after runs.1,
-  λ same. subst (λ (numbers : List ℕ). RunsTo g edits before numbers) (sym same) (run_of-runs g edits before fit),
-)

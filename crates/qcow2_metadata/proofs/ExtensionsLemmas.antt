@@ -23,9 +23,7 @@ use Rattle.qcow2_metadata.specs.contracts.header.features.FeatureTypePartialEq.T
 
 -- bytes that are no text
 pub text_invalid : (fault : Fault) (bytes : List ℕ) → ¬ (IsUtf8 bytes) → text fault bytes ≡ Err fault
-text_invalid fault bytes invalid =
-    let valid = IsUtf8-from_is_utf8 bytes in
-    grind (arith, valid, invalid)
+text_invalid fault bytes invalid = grind (arith, nat_tests, IsUtf8-from_is_utf8)
 
 -- bytes that are text or aren't
 pub ruleset texts = (text_invalid, text_of_utf8, IsUtf8-had)
@@ -72,10 +70,7 @@ feature_type_number-Decides _ _ = (λ h. cc, λ h. cc)
 -- the test of two names with their keys says whether they are the same
 same_feature_name-Decides : (a b : FeatureKey × List ℕ) → Decides (same_feature_name a b) (a ≡ b)
 same_feature_name-Decides ((kind, bit), name) ((other_kind, other_bit), other) =
-    let keys = Decides-and _ _ (feature_type_number-Decides kind other_kind) (Decides-eqb bit other_bit) in
-    Decides-like _ (λ ((kinds, bits), names). cc)
-    (λ same. ((ap (λ (e : FeatureKey × List ℕ). e.0.0) same, ap (λ (e : FeatureKey × List ℕ). e.0.1) same), ap (λ (e : FeatureKey × List ℕ). e.1) same))
-    (Decides-and _ _ keys (bytes_eq-Decides name other))
+    grind (arith, nat_tests, Decides-and, feature_type_number-Decides, Decides-eqb, Decides-like, bytes_eq-Decides)
 
 -- the test of two extensions says whether they are the same
 pub same_extension-Decides : (a b : Extension) → Decides (same_extension a b) (a ≡ b)

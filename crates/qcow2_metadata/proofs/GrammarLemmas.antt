@@ -1,7 +1,7 @@
-use Rattle.std.proofs.Common.{◌≡◌, ◌⊎◌, ℕ, zero, suc, ◌-◌, true, nat_eq, List, [], ◌∷◌, Option, Some, None, Result, Ok, refl, sym, ap, ◌∙◌, inl, inr, subst, arith}
-use Rattle.std.specs.Cmp.Lexicographic.{pointwise, bytes_decides}
+use Rattle.std.proofs.Common.{◌≡◌, ◌⊎◌, ℕ, zero, suc, ◌-◌, true, nat_eq, List, [], ◌∷◌, Option, Some, None, Result, Ok, refl, sym, ap, ◌∙◌, inl, inr, subst, arith, rules}
+use Rattle.std.specs.Cmp.Lexicographic.{pointwise}
 use Rattle.std.specs.List.{IsAmong, list_all}
-use Rattle.std.specs.Str.{IsUtf8, is_utf8}
+use Rattle.std.specs.Str.{IsUtf8}
 use Rattle.std.proofs.lemmas.Bool.Decides.{nat_tests}
 use Rattle.std.proofs.lemmas.List.Sums.{AllPass-from_list_all}
 use Rattle.std.proofs.lemmas.Str.{IsUtf8-from_is_utf8, is_utf8-from_IsUtf8}
@@ -17,7 +17,7 @@ use Rattle.qcow2_metadata.specs.Header.Extensions.{Extension, name_in, text}
 use Rattle.qcow2_metadata.specs.Header.Grammar.{AreSame, HasExtensions, IsBackingName, IsBase, IsHeader, backing_name, base_at, field_conditions, fixed_parts, header_extensions, header_of, last_conditions, v2_at, version_conditions}
 use Rattle.qcow2_metadata.specs.Range.{bytes_at}
 use Rattle.qcow2_metadata.specs.declared.header.extensions.HeaderExtensionType.TheVariants as kind
-use Rattle.qcow2_metadata.proofs.ChainLemmas.{extensions_at-follow, follow-extensions_at}
+use Rattle.qcow2_metadata.proofs.ChainLemmas.{extensions_at-says, says-extensions_at}
 
 -- the two answers of which one came
 pub and_then-ok : {A B : Type 0} (answer : Result A Fault) (next : A → Result B Fault) (y : B)
@@ -32,18 +32,14 @@ among_more x xs a (i, (below, is)) = (suc i, (omega arith, is))
 is_first : (first : List ℕ) (names : List (List ℕ)) → list_all (pointwise nat_eq first) names ≡ true
     → (a : List ℕ) → IsAmong (first ∷ names) a → first ≡ a
 is_first first names is a (zero, (below, here)) = sym here
-is_first first names is a (suc i, (below, here)) =
-    (bytes_decides first _).0
-    (AllPass-from_list_all (pointwise nat_eq first) names is i a (omega arith)) ∙ sym here
+is_first first names is a (suc i, (below, here)) = search (rules, AllPass-from_list_all)
 
 -- where any is the first one, all others are
 first_are : (first : List ℕ) (names : List (List ℕ)) → ((a : List ℕ) → IsAmong names a → first ≡ a)
     → list_all (pointwise nat_eq first) names ≡ true
 first_are first [] same = refl
 first_are first (name ∷ names) same =
-    let here : pointwise nat_eq first name ≡ true =
-    (bytes_decides first name).1 (same name (zero, (omega arith, refl))) in
-    rw here (first_are first names (λ a among. same a (among_more name names a among)))
+    search (rules, among_more, first_are first names (λ a among. same a (among_more name names a among)))
 
 -- where all names are the first one, any two are the same
 pub all_same-AreSame : (names : List (List ℕ)) → all_same names ≡ true → AreSame names
@@ -61,42 +57,17 @@ AreSame-all_same (first ∷ names) same =
 -- the first part that an image has is the one that is read
 pub holds-v2_at : (image : Image) (v2 : V2Header) → HoldsLayout image (v2_header v2) → v2_at image ≡ v2
 holds-v2_at image v2 (is_magic, (is_version, (is_place, (is_length, (is_bits, (is_size, more)))))) =
-    let (is_method, (is_l1, (is_l1_place, (is_table, (is_clusters, (is_count, (is_snapshots, t))))))) =
-    more in
-    λ i. record {
-      magic = is_magic i;
-      version = is_version i;
-      backing_file_offset = is_place i;
-      backing_file_size = is_length i;
-      cluster_bits = is_bits i;
-      size = is_size i;
-      crypt_method = is_method i;
-      l1_size = is_l1 i;
-      l1_table_offset = is_l1_place i;
-      refcount_table_offset = is_table i;
-      refcount_table_clusters = is_clusters i;
-      nb_snapshots = is_count i;
-      snapshots_offset = is_snapshots i;
-    }
+    grind (arith, nat_tests)
 
 -- the second part that an image has in version 3 is the one that is read
 pub holds-base_at : (image : Image) (base : V3HeaderBase) → HoldsLayout image (moved 72 (v3_header_base base))
     → base_at image 3 ≡ base
 holds-base_at image base (is_incompatible, (is_compatible, (is_autoclear, (is_order, (is_length, t))))) =
-    λ i. record {
-      incompatible_features = is_incompatible i;
-      compatible_features = is_compatible i;
-      autoclear_features = is_autoclear i;
-      refcount_order = is_order i;
-      header_length = is_length i;
-    }
+    grind (arith, nat_tests)
 
 -- the second part that is read is the image's
 base_at-IsBase : (image : Image) (version : ℕ) → IsBase image version (base_at image version)
-base_at-IsBase image version = record {
-  version_3 = λ three. rw three assumption;
-  version_2 = λ two. ap (base_at image) two;
-}
+base_at-IsBase image version = grind (arith, nat_tests)
 
 -- an image's second part is the one that is read
 IsBase-base_at : (image : Image) (version : ℕ) (base : V3HeaderBase) → (version ≡ 2) ⊎ (version ≡ 3)
@@ -111,8 +82,7 @@ parts_by v2 base =
 -- the fixed parts of an image, by what stands there
 pub fixed_parts-by : (image : Image) (v2 : V2Header) (base : V3HeaderBase) → v2_at image ≡ v2
     → base_at image v2.version ≡ base → fixed_parts image ≡ parts_by v2 base
-fixed_parts-by image v2 base is_v2 is_base =
-    ap (λ (v : V2Header). parts_by v (base_at image v.version)) is_v2 ∙ ap (parts_by v2) is_base
+fixed_parts-by image v2 base is_v2 is_base = grind (arith, nat_tests)
 
 -- parts that pass all conditions are answered
 parts_by-same : (v2 : V2Header) (base : V3HeaderBase) (parts : V2Header × V3HeaderBase)
@@ -131,10 +101,7 @@ fixed_parts-are image parts is =
 
 -- bytes that are taken as text are text
 text-ok : (fault : Fault) (bytes name : List ℕ) → text fault bytes ≡ Ok name → (name ≡ bytes) × IsUtf8 name
-text-ok fault bytes name found =
-    let valid : is_utf8 bytes ≡ true = grind arith in
-    let same : name ≡ bytes = grind arith in
-    (same, rw same (IsUtf8-from_is_utf8 bytes valid))
+text-ok fault bytes name found = grind (arith, nat_tests, IsUtf8-from_is_utf8)
 
 -- text is taken
 pub text_of_utf8 : (fault : Fault) (bytes : List ℕ) → IsUtf8 bytes → text fault bytes ≡ Ok bytes
@@ -166,7 +133,7 @@ is-backing_name image v2 name is = grind (arith, nat_tests, is_utf8-from_IsUtf8)
 header_extensions-has : (image : Image) (v2 : V2Header) (base : V3HeaderBase) (extensions : List Extension)
     → header_extensions image v2 base ≡ Ok extensions → HasExtensions image v2 base extensions
 header_extensions-has image v2 base extensions is = record {
-  version_3 = λ three. extensions_at-follow image _ base.header_length (Ok extensions) (rw three at is);
+  version_3 = λ three. extensions_at-says image _ base.header_length extensions (rw three at is);
   version_2 = λ two. let none : Ok [] ≡ Ok extensions = rw two at is in cc;
 }
 
@@ -176,7 +143,7 @@ has-header_extensions : (image : Image) (v2 : V2Header) (base : V3HeaderBase) (e
     → header_extensions image v2 base ≡ Ok extensions
 has-header_extensions image v2 base extensions (inl two) has = rw (two, has.version_2 two) refl
 has-header_extensions image v2 base extensions (inr three) has =
-    rw three (follow-extensions_at image _ base.header_length (Ok extensions) (has.version_3 three))
+    rw three (says-extensions_at image _ base.header_length extensions (has.version_3 three))
 
 -- the header of these parts, this name and these extensions
 abbrev pub header_from : Image → V2Header × V3HeaderBase → Option (List ℕ) → List Extension → HeaderRecord
@@ -209,14 +176,7 @@ pub record HoldLast (base : V3HeaderBase) (extensions : List Extension) : Type 0
 
 pub last-hold : {T : Type 0} (base : V3HeaderBase) (extensions : List Extension) (x y : T)
     → provided (last_conditions base extensions) (λ _. Ok x) ≡ Ok y → HoldLast base extensions × (x ≡ y)
-last-hold base extensions x y is = (
-  record {
-    one_format = grind (arith, nat_tests);
-    one_data_file = grind (arith, nat_tests);
-    features = grind (arith, nat_tests);
-  },
-  grind (arith, nat_tests),
-)
+last-hold base extensions x y is = grind (arith, nat_tests)
 
 hold-last : {T : Type 0} (base : V3HeaderBase) (extensions : List Extension) (x : T)
     → HoldLast base extensions → provided (last_conditions base extensions) (λ _. Ok x) ≡ Ok x
@@ -259,18 +219,4 @@ pub is-header_of : (image : Image) (header : HeaderRecord) → IsHeader image he
     → header_of image ≡ Ok header
 unfolding header_of
 is-header_of image header is =
-    let v2 = header.v2 in
-    let base = header.base in
-    let lawful : parts_by v2 base ≡ Ok (v2, base) = grind (arith, nat_tests) in
-    let second = IsBase-base_at image v2.version base is.version is.base in
-    let fixed = fixed_parts-by image v2 base (holds-v2_at image v2 is.v2) second ∙ lawful in
-    let named = is-backing_name image v2 header.backing_filename is.backing_filename in
-    let found = has-header_extensions image v2 base header.extensions is.version is.extensions in
-    let hold : HoldLast base header.extensions = record {
-      one_format = AreSame-all_same _ is.one_format;
-      one_data_file = AreSame-all_same _ is.one_data_file;
-      features = is.features;
-    } in
-    rw (fixed, named, found) (hold-last base header.extensions _ hold
-    ∙ ap (λ (fields : List ℕ). Ok (record header { unknown_header_fields = fields }))
-    (sym is.unknown_header_fields))
+    grind (arith, nat_tests, IsBase-base_at, fixed_parts-by, holds-v2_at, is-backing_name, has-header_extensions, AreSame-all_same, hold-last)

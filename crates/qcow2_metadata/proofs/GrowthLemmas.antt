@@ -1,4 +1,4 @@
-use Rattle.std.proofs.Common.{◌≡◌, ℕ, ◌+◌, ◌-◌, ◌*◌, ◌%◌, ◌<◌, ◌≤◌, ◌↔◌, false, true, nat_le, max, min, None, Some, refl, inl, inr, arith}
+use Rattle.std.proofs.Common.{◌≡◌, ℕ, ◌+◌, ◌-◌, ◌*◌, ◌%◌, ◌<◌, ◌≤◌, ◌↔◌, false, nat_le, max, min, None, Some, refl, inl, inr, arith}
 use Rattle.std.specs.Int.{div_ceil, next_multiple_of}
 use Rattle.std.proofs.Math.Nat.{div-add-mod, lt_of_mul-lt-mul_right, mod-eq_of_lt, mod_self, mul-div_cancel, mul-le-mul_right}
 use Rattle.std.proofs.lemmas.Bool.{cases_lt}
@@ -10,12 +10,7 @@ use Rattle.qcow2_metadata.specs.Table.Growth.{Growth, IsEnough, IsLeastSpare, cl
 
 -- a quotient that is rounded up is at most a number exactly where the dividend is at most that many times the divisor
 pub div_ceil-le : (x n k : ℕ) → 0 < n → (div_ceil x n ≤ k) ↔ (x ≤ k * n)
-div_ceil-le x n k some =
-    let times = div_ceil_times x n some in
-    let next : (k + 1) * n ≡ k * n + n = omega arith in (
-      λ few. omega (arith, times.0, mul-le-mul_right n few),
-      λ within. let less : div_ceil x n < k + 1 = lt_of_mul-lt-mul_right n (omega (arith, times.1, next, within)) in omega (arith, less),
-    )
+div_ceil-le x n k some = grind (arith, nat_tests, div_ceil_times, mul-le-mul_right, lt_of_mul-lt-mul_right)
 
 -- the next multiple is so many times the number
 next_multiple-times : (x n : ℕ) → 0 < n → next_multiple_of x n ≡ div_ceil x n * n
@@ -36,8 +31,7 @@ next_multiple-times x n some =
 
 -- the clusters of a table that has grown
 pub clusters_with-is : (g : Growth) (spare : ℕ) → 0 < g.cluster_entries → clusters_with g spare ≡ div_ceil (max (g.index + 1 + spare) g.len) g.cluster_entries
-clusters_with-is g spare some =
-    rw (next_multiple-times (max (g.index + 1 + spare) g.len) g.cluster_entries some) (mul-div_cancel (div_ceil (max (g.index + 1 + spare) g.len) g.cluster_entries) some)
+clusters_with-is g spare some = grind (arith, nat_tests, next_multiple-times, mul-div_cancel)
 
 -- what holds of the growth of any table: clusters and blocks have entries and counters enough
 pub record IsRoomy (g : Growth) : Type 0 where
@@ -56,10 +50,7 @@ times_less n m some =
 -- the entries that are wanted fit the clusters that spare blocks count exactly where these are enough: a block counts
 -- its own cluster, and as many of the table as it has other counters
 enough-fits : (g : Growth) (spare : ℕ) → IsRoomy g → IsEnough g spare ↔ (max (g.index + 1 + spare) g.len ≤ spare * (g.block_counters - 1) * g.cluster_entries)
-enough-fits g spare roomy =
-    let few = div_ceil-le (max (g.index + 1 + spare) g.len) g.cluster_entries (spare * (g.block_counters - 1)) roomy.clusters in
-    let counted = times_less g.block_counters spare roomy.blocks in
-    rw (clusters_with-is g spare roomy.clusters, counted) (λ enough. few.0 (omega (arith, enough)), λ fits. omega (arith, few.1 fits))
+enough-fits g spare roomy = grind (arith, nat_tests, div_ceil-le, times_less, clusters_with-is)
 
 -- so many spare blocks are enough exactly from the least number on
 pub least-enough : (g : Growth) (spare : ℕ) → IsRoomy g → (least_spare g ≤ spare) ↔ IsEnough g spare
@@ -90,22 +81,15 @@ entries_with-more g a b some more =
 
 -- where a cluster has 64 entries and a block 64 counters at least
 pub IsRoomy-of : (g : Growth) → 64 ≤ g.cluster_entries → 64 ≤ g.block_counters → IsRoomy g
-IsRoomy-of g entries counters =
-    let more = mul-le-mul_right (g.block_counters - 1) entries in
-    record { clusters = omega (arith, entries); blocks = omega (arith, counters); both = omega (arith, more, counters) }
+IsRoomy-of g entries counters = grind (arith, nat_tests, mul-le-mul_right)
 
 -- where a number isn't enough, the least is no less than what its blocks would need
 pub needed-least : (g : Growth) (spare least : ℕ) → IsRoomy g → spare ≤ least → IsEnough g least → div_ceil (clusters_with g spare + spare) g.block_counters ≤ least
-needed-least g spare least roomy below enough =
-    let fewer = clusters_with-more g spare least roomy.clusters below in
-    (div_ceil-le (clusters_with g spare + spare) g.block_counters least (omega (arith, roomy.blocks))).1 (omega (arith, fewer, below, enough))
+needed-least g spare least roomy below enough = grind (arith, nat_tests, clusters_with-more, div_ceil-le)
 
 -- the answer, where the number that is tried is the least, and where it takes too many entries already
 pub possible_spare-found : (g : Growth) (spare : ℕ) → IsLeastSpare g spare → IsRoomy g → entries_with g spare ≤ most_reftable_entries → Some spare ≡ possible_spare g
-possible_spare-found g spare least roomy few =
-    let is : spare ≡ least_spare g = omega (arith, least.least (least_spare g) (least_spare-is g roomy).some (least_spare-is g roomy).enough, (least-enough g spare roomy).1 least.enough) in
-    let within : nat_le (grown_reftable_count g) most_reftable_entries ≡ true = rw (← is) (grind (arith, nat_tests, few)) in
-    rw (within, is) refl
+possible_spare-found g spare least roomy few = grind (arith, nat_tests, least_spare-is, least-enough)
 
 pub possible_spare-none : (g : Growth) (spare : ℕ) → IsRoomy g → spare ≤ least_spare g → most_reftable_entries < entries_with g spare → None ≡ possible_spare g
 possible_spare-none g spare roomy below many =

@@ -1,5 +1,5 @@
 use Rattle.std.proofs.lemmas.Bool.Decides.{nat_tests}
-use Rattle.std.proofs.Common.{◌≡◌, ℕ, zero, suc, ◌+◌, ◌^◌, ◌<◌, ◌≤◌, List, [], ◌∷◌, ◌++◌, length, get_or, take, drop, map, refl, ap, sym, ◌∙◌, add-one, append_assoc, append-nil, length-append, arith, Option, None, Some, Bool, true, false, not, nat_eq, ◌≢◌, option_map, Bor, String, string_bytes}
+use Rattle.std.proofs.Common.{◌≡◌, ℕ, zero, suc, ◌+◌, ◌^◌, ◌<◌, ◌≤◌, List, [], ◌∷◌, ◌++◌, length, get_or, take, drop, map, refl, ap, sym, append-nil, length-append, arith, Option, None, Some, Bool, true, false, not, nat_eq, ◌≢◌, option_map, Bor, String, string_bytes}
 use Rattle.std.specs.Global.{Global}
 use Rattle.std.specs.Cmp.Lexicographic.{pointwise}
 use Rattle.std.specs.List.{list_all, slice_get}
@@ -23,8 +23,7 @@ pub ruleset powers = (pow_mono, some_entries)
 -- what the extensions in memory say, as a slice of them
 pub held_are : (inside header : HeaderRecord) (held items : List HeaderExtension) → inside ≡ header
     → inside.extensions ≡ map extension_of items → held ≡ items → map extension_of held ≡ header.extensions
-held_are inside header held items same says is =
-    rw is (sym says ∙ ap (λ (h : HeaderRecord). h.extensions) same)
+held_are inside header held items same says is = grind (arith, nat_tests)
 
 -- whether all names are this one, where it is one
 abbrev pub all_are : Option (List ℕ) → List (List ℕ) → Bool
@@ -76,19 +75,14 @@ pub is_first_name : (first : Option (Bor (String Global))) (name : Bor (String G
     → false ≡ not (option_eq (λ x y. bytes_eq (string_bytes x.now) (string_bytes y.now)) first (Some name))
     → option_map (λ found. string_bytes found.now) first ≡ Some (string_bytes name.now)
 is_first_name None name test = cc
-is_first_name (Some found) name test =
-    let same = (bytes_eq-Decides (string_bytes found.now) (string_bytes name.now)).0 in
-    grind (arith, same, test)
+is_first_name (Some found) name test = grind (arith, nat_tests, bytes_eq-Decides, string_bytes)
 
 -- and it isn't, where the test says that it does
 pub is_other_name : (first : Option (Bor (String Global))) (name : Bor (String Global))
     → true ≡ not (option_eq (λ x y. bytes_eq (string_bytes x.now) (string_bytes y.now)) first (Some name))
     → option_map (λ found. string_bytes found.now) first ≢ Some (string_bytes name.now)
 is_other_name None name test = λ is. cc
-is_other_name (Some found) name test = λ is.
-    let equal : string_bytes found.now ≡ string_bytes name.now = cc in
-    let same = (bytes_eq-Decides (string_bytes found.now) (string_bytes name.now)).1 equal in
-    cc
+is_other_name (Some found) name test = grind (arith, nat_tests, string_bytes, bytes_eq-Decides)
 
 -- an extension that says no name leaves all names the first one
 pub same_with_no_name : (first : Option (List ℕ)) (name_in : Extension → Option (List ℕ))

@@ -1,7 +1,6 @@
-use Rattle.std.proofs.Common.{◌≡◌, ℕ, ◌+◌, ◌-◌, ◌%◌, ◌^◌, ◌<◌, ◌≤◌, Bool, true, false, List, [], ◌∷◌, ◌++◌, length, get_or, map, take, replicate, refl, ap, sym, subst, ◌∙◌, append_assoc, append-nil, length-append, take_all, arith, min}
+use Rattle.std.proofs.Common.{◌≡◌, ℕ, ◌+◌, ◌-◌, ◌%◌, ◌^◌, ◌<◌, ◌≤◌, Bool, true, false, List, [], ◌∷◌, ◌++◌, length, get_or, map, take, replicate, refl, append_assoc, append-nil, length-append, take_all, arith, min}
 use Rattle.std.specs.BTreeMap.{BTreeMap}
 use Rattle.std.specs.Global.{Global}
-use Rattle.std.specs.Int.{next_multiple_of}
 use Rattle.std.specs.List.{flat_map}
 use Rattle.std.specs.Prelude.{Err, IfSome, MatchOption, None, Ok, Option, Some, String, ok_or, string_bytes}
 use Rattle.std.proofs.lemmas.List.{length-map, take_min}
@@ -14,7 +13,7 @@ use Rattle.qcow2_metadata.specs.Header.{HeaderRecord, IsLawfulHeader}
 use Rattle.qcow2_metadata.specs.Header.Extensions.{Extension, FeatureKey, FeatureNameTable, FeatureNames, extension_of, name_chunk, names_of}
 use Rattle.qcow2_base.specs.OnDiskStruct.{header_extension_header, v2_header, v3_header_base}
 use Rattle.qcow2_metadata.specs.Header.Features.{feature_type_number}
-use Rattle.qcow2_metadata.specs.Header.Text.{IsChosen, IsLayout, base_with_length, header_end, v2_with_name, kept, placed, chosen, chosen_extensions, header_text, extension_header_of, extension_text, extensions_text, fields_text, fits_first_cluster, name_place, name_text, padded, parts_text, written_text}
+use Rattle.qcow2_metadata.specs.Header.Text.{IsChosen, IsLayout, base_with_length, header_end, v2_with_name, kept, chosen, chosen_extensions, header_text, extension_header_of, extension_text, extensions_text, fields_text, fits_first_cluster, name_place, name_text, padded, parts_text, written_text}
 use Rattle.qcow2_metadata.specs.declared.header.text.Layout.{Layout}
 use Rattle.qcow2_metadata.specs.declared.header.extensions.HeaderExtension.{HeaderExtension}
 use Rattle.qcow2_metadata.proofs.NamesLemmas.{name_chunks_len}
@@ -23,8 +22,7 @@ use Rattle.qcow2_metadata.proofs.NamesLemmas.{name_chunks_len}
 pub chosen-parts : (with_names : Bool) (extensions : List Extension)
     → flat_map extension_text (chosen_extensions with_names extensions) ≡ flat_map (written_text with_names) extensions
 chosen-parts true [] = refl
-chosen-parts true (extension ∷ extensions) =
-    ap (λ rest. extension_text extension ++ rest) (chosen-parts true extensions)
+chosen-parts true (extension ∷ extensions) = grind (arith, nat_tests, chosen-parts true extensions)
 chosen-parts false [] = refl
 chosen-parts false (extension ∷ extensions) = grind (arith, nat_tests, chosen-parts false extensions)
 
@@ -49,9 +47,7 @@ extensions_text-held with_names held = grind (arith, nat_tests, chosen-parts, fl
 pub extensions_text_len : (with_names : Bool) (held : List HeaderExtension)
     → length (extensions_text (chosen_extensions with_names (map extension_of held)))
     ≡ 8 + length (flat_map (held_part with_names) held)
-extensions_text_len with_names held =
-    let parts = flat_map (held_part with_names) held in
-    omega (arith, ap length (extensions_text-held with_names held), length-append parts (replicate 8 0))
+extensions_text_len with_names held = grind (arith, nat_tests, extensions_text-held, length-append)
 
 -- the extensions up to a place, and the next one, are among all
 pub parts_within_len : (with_names : Bool) (held : List HeaderExtension) (i : ℕ) (extension : HeaderExtension)
@@ -66,38 +62,24 @@ pub ruleset lens = (extensions_text_len, parts_within_len)
 
 -- bytes behind others, and the zeros behind them, are the padded bytes behind the others
 pub padded_pieces : (text bytes : List ℕ) → (text ++ bytes) ++ replicate ((8 - length bytes % 8) % 8) 0 ≡ text ++ padded bytes
-padded_pieces text bytes =
-    let count : (8 - length bytes % 8) % 8 ≡ next_multiple_of (length bytes) 8 - length bytes = omega arith in
-    append_assoc text bytes (replicate ((8 - length bytes % 8) % 8) 0)
-    ∙ ap (λ n. text ++ (bytes ++ replicate n 0)) count
+padded_pieces text bytes = grind (arith, nat_tests, append_assoc)
 
 -- the pieces of a feature's name
 pub name_chunk_pieces : (text : List ℕ) (key : FeatureKey) (name : List ℕ)
     → (((text ++ feature_type_number key.0 ∷ []) ++ key.1 ∷ []) ++ take (min 46 (length name)) name)
     ++ replicate (46 - min 46 (length name)) 0
     ≡ text ++ name_chunk (key, name)
-name_chunk_pieces text key name =
-    let front = take (min 46 (length name)) name in
-    let zeros : List ℕ = replicate (46 - min 46 (length name)) 0 in
-    let count : 46 - min 46 (length name) ≡ 46 - length name = omega arith in
-    let joined : (((text ++ feature_type_number key.0 ∷ []) ++ key.1 ∷ []) ++ front) ++ zeros
-    ≡ text ++ (feature_type_number key.0 ∷ key.1 ∷ (front ++ zeros)) = simp append_assoc in
-    joined ∙ ap (λ taken. text ++ (feature_type_number key.0 ∷ key.1 ∷ (taken ++ zeros))) (take_min 46 name)
-    ∙ ap (λ n. text ++ (feature_type_number key.0 ∷ key.1 ∷ (take 46 name ++ replicate n 0))) count
+name_chunk_pieces text key name = grind (arith, nat_tests, append_assoc, take_min)
 
 -- names need no padding
 pub names_padded : (names : FeatureNames) → padded (flat_map name_chunk names) ≡ flat_map name_chunk names
-names_padded names =
-    let bytes = flat_map name_chunk names in
-    let none : next_multiple_of (length bytes) 8 - length bytes ≡ 0 = omega (arith, name_chunks_len names) in
-    ap (λ n. bytes ++ replicate n 0) none ∙ append-nil bytes
+names_padded names = grind (arith, nat_tests, name_chunks_len, append-nil)
 
 -- the pieces of an extension of names
 pub names_pieces : (text before after : List ℕ) (extension : Extension) (names : FeatureNames) → extension ≡ FeatureNameTable names
     → before ≡ text ++ fields_text (header_extension_header (extension_header_of extension))
     → after ≡ before ++ flat_map name_chunk names → after ≡ text ++ extension_text extension
-names_pieces text before after extension names is header more =
-    rw (more, header, is, names_padded names) (simp append_assoc)
+names_pieces text before after extension names is header more = grind (arith, nat_tests, names_padded, append_assoc)
 
 -- the pieces of the extensions and of End
 pub extensions_pieces : (text before after : List ℕ) (with_names : Bool) (held : List HeaderExtension) (i : ℕ)
@@ -111,10 +93,7 @@ pub too_long : (inside header : HeaderRecord) (with_names : Bool) → IsLawfulHe
     → (2 ^ header.v2.cluster_bits ≤ 2 ^ 21 → 2 ^ header.v2.cluster_bits
     < name_place (chosen with_names header) + length (name_text header.backing_filename))
     → fits_first_cluster (chosen with_names header) ≡ false
-too_long inside header with_names lawful same long =
-    let known = subst IsLawfulHeader same lawful in
-    let past = long (pow_mono known.cluster_bits.1) in
-    grind (arith, nat_tests, past, length-header_text (chosen with_names header) known.version)
+too_long inside header with_names lawful same long = grind (arith, nat_tests, pow_mono, length-header_text)
 
 -- and it has one where the text isn't longer
 pub laid_out : (inside header : HeaderRecord) (layout : Layout) (end place : ℕ) → IsLawfulHeader inside
@@ -126,14 +105,7 @@ pub laid_out : (inside header : HeaderRecord) (layout : Layout) (end place : ℕ
     → layout.len ≤ 2 ^ header.v2.cluster_bits
     → IsLayout (chosen layout.with_names header) layout
 laid_out inside header layout end place lawful same ends begins v2 base len short =
-    let count =
-    length-header_text (chosen layout.with_names header) (subst IsLawfulHeader same lawful).version in
-    record {
-      v2 = rw begins at v2;
-      base = rw ends at base;
-      len = omega (arith, count, begins, len);
-      fits = grind (arith, nat_tests, count, begins, len, short);
-    }
+    grind (arith, nat_tests, length-header_text)
 
 -- the pieces before the extensions in version 3
 pub newer_pieces : (header : HeaderRecord) (layout : Layout) (text first second third : List ℕ) → header.v2.version ≡ 3
@@ -153,8 +125,7 @@ pub text_pieces : (header : HeaderRecord) (first second third fourth : List ℕ)
     → third ≡ second ++ extensions_text header.extensions → fourth ≡ third ++ name_text header.backing_filename
     → fourth ≡ header_text header
 unfolding header_text
-text_pieces header first second third fourth none parts extensions name =
-    rw (name, extensions, parts, none) refl
+text_pieces header first second third fourth none parts extensions name = grind (arith, nat_tests)
 
 -- a name that is too long is refused
 pub kept_long : (header : HeaderRecord) → 1023 < length (name_text header.backing_filename)
@@ -177,9 +148,7 @@ pub bare_chosen : (header : HeaderRecord) (found : Option Layout)
     → IfSome found (λ layout. layout.with_names ≡ false) → IsChosen header (ok_or found HeaderTooLong)
 unfolding kept
 bare_chosen header None short whole few names = grind (arith, nat_tests, short, whole, few)
-bare_chosen header (Some layout) short whole is names =
-    subst (λ (b : Bool). IsLayout (chosen b header) layout × (kept header ≡ Ok (placed (chosen b header))))
-    (sym names) (is, grind (arith, nat_tests, short, whole, is.fits))
+bare_chosen header (Some layout) short whole is names = grind (arith, nat_tests)
 
 -- which layout is chosen
 pub ruleset choices = (kept_long, whole_chosen, bare_chosen)

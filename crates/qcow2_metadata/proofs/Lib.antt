@@ -1,11 +1,5 @@
-mod EditsExamples
-mod EntriesExamples
-mod GrammarExamples
 mod GrowthExamples
 mod OneEntryExamples
-mod RefblockExamples
-mod TableExamples
-mod TextExamples
 pub mod ChainLemmas
 pub mod ChunkLemmas
 pub mod ClusterLemmas

@@ -1,4 +1,4 @@
-use Rattle.std.proofs.Common.{◌≡◌, ◌≢◌, ◌⊎◌, ◌==◌, ℕ, ◌^◌, ◌≤◌, Bool, false, List, [], ◌∷◌, ◌++◌, length, Option, Some, None, Result, Ok, Err, inl, inr, refl, sym, ap, ◌∙◌, add-zero, append_assoc, arith}
+use Rattle.std.proofs.Common.{◌≡◌, ◌≢◌, ◌⊎◌, ◌==◌, ℕ, ◌≤◌, Bool, false, List, [], ◌∷◌, ◌++◌, length, Option, Some, None, Result, Ok, Err, inl, inr, refl, sym, ap, ◌∙◌, add-zero, append_assoc, arith}
 use Rattle.std.specs.Prelude.{IsErrAnd}
 use Rattle.std.proofs.lemmas.Bool.Decides.{nat_tests}
 use Rattle.std.proofs.lemmas.Result.{err_from_is_err_and}
@@ -79,14 +79,11 @@ provided-next conditions next hold = grind arith
 pub parts-fault : (v2 : V2Header) (base : V3HeaderBase) (fault : Fault)
     → Err fault ≡ tested (version_conditions v2)
     → parts_by v2 base ≡ Err fault
-parts-fault v2 base fault fails =
-    provided-fault (version_conditions v2)
-    (λ _. provided (field_conditions v2 base) (λ _. Ok (v2, base))) fault fails
+parts-fault v2 base fault fails = grind (arith, nat_tests, provided-fault)
 
 pub parts-next : (v2 : V2Header) (base : V3HeaderBase) → Ok tt ≡ tested (version_conditions v2)
     → parts_by v2 base ≡ provided (field_conditions v2 base) (λ _. Ok (v2, base))
-parts-next v2 base hold =
-    provided-next (version_conditions v2) (λ _. provided (field_conditions v2 base) (λ _. Ok (v2, base))) hold
+parts-next v2 base hold = grind (arith, nat_tests, provided-next)
 
 -- a fault that is passed on is the expected answer's, where it was that of an earlier step
 pub passed_on : {T U V : Type 0} (view : T → V) (answer : Result T Fault) (expected : Result V Fault)
@@ -94,13 +91,7 @@ pub passed_on : {T U V : Type 0} (view : T → V) (answer : Result T Fault) (exp
     → (fault ≡ Storage) ⊎ (fault ≡ NoMemory) ⊎ (before ≡ Err fault)
     → (before ≡ Err fault → expected ≡ Err fault)
     → Answers view answer expected
-passed_on view answer expected before fault exit why later =
-    let err = err_from_is_err_and answer exit in
-    rw (err.1, err.2) (elim why [
-      | inl failed ↦ inl failed
-      | inr (inl memory) ↦ inr (inl memory)
-      | inr (inr bad) ↦ inr (inr (later bad))
-    ])
+passed_on view answer expected before fault exit why later = grind (arith, nat_tests, err_from_is_err_and)
 
 -- the extensions from a place on are the first and those from the next place on
 pub extensions_at-more : (image : Image) (len place : ℕ) (first : Extension × ℕ) (before : List Extension)

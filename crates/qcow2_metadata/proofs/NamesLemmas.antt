@@ -47,15 +47,13 @@ length-name_chunk named =
 -- so many names have chunks of 48 bytes each
 pub name_chunks_len : (names : FeatureNames) → length (flat_map name_chunk names) ≡ 48 * length names
 name_chunks_len [] = refl
-name_chunks_len (named ∷ names) =
-    grind (arith, nat_tests, length-append, length-name_chunk, name_chunks_len names)
+name_chunks_len (named ∷ names) = grind (arith, nat_tests, length-append, length-name_chunk, name_chunks_len names)
 
 -- a name's chunk sets what it reads back as
 with_feature_name-chunk : (names : FeatureNames) (named : FeatureKey × List ℕ)
     → with_feature_name names (name_chunk named)
     ≡ Ok (insert_entry key_cmp names named.0 (normal_name named.1))
-with_feature_name-chunk names named =
-    grind (arith, nat_tests, with_feature_name-named, length-name_chunk, until_zero-zeros)
+with_feature_name-chunk names named = grind (arith, nat_tests, with_feature_name-named, length-name_chunk, until_zero-zeros)
 
 -- a key above another one
 key_cmp-above : (a b : FeatureKey) → key_cmp a b ≡ Less → key_cmp b a ≡ Greater
@@ -208,9 +206,7 @@ map-once : {X : Type 0} (change : X → X) (P : X → Type 0)
     → map change (map change xs) ≡ map change xs
 map-once change P once [] all = refl
 map-once change P once (x ∷ xs) all =
-    let first = once x (All-head P x xs all) in
-    let rest = map-once change P once xs (All-tail P x xs all) in
-    cc
+    grind (arith, nat_tests, All-head, All-tail, map-once change P once xs (All-tail P x xs all))
 
 -- what an extension reads back as reads back as itself
 pub normal_extension-once : (extension : Extension) → IsStorable extension

@@ -32,8 +32,8 @@ counters_of_byte order per byte xs narrow each len digits =
     digits i below ∙ rw (le-leb order 3 narrow, first, mod-eq_of_lt within) refl)
 
 -- the counters of one byte more
-pub narrow_counters-more : (order per i byte : ℕ) (bytes before items : List ℕ) → order ≤ 3 → per ≡ per_byte order → byte ≡ slice_index bytes i → items ≡ before ++ counters_at order (image_of bytes) 0 (per * i) → items ++ counters_at order (image_of (byte ∷ [])) 0 per ≡ before ++ counters_at order (image_of bytes) 0 (per * (i + 1))
-narrow_counters-more order per i byte bytes before items narrow each is so_far =
+pub narrow_counters_more : (order per i byte : ℕ) (bytes before items : List ℕ) → order ≤ 3 → per ≡ per_byte order → byte ≡ slice_index bytes i → items ≡ before ++ counters_at order (image_of bytes) 0 (per * i) → items ++ counters_at order (image_of (byte ∷ [])) 0 per ≡ before ++ counters_at order (image_of bytes) 0 (per * (i + 1))
+narrow_counters_more order per i byte bytes before items narrow each is so_far =
     let image = image_of bytes in
     let one : width order * per ≡ 8 * 1 = rw each (width-per_byte order narrow) in
     let whole : width order * (per * i) ≡ 8 * i = sym (mul_assoc (width order) per i) ∙ ap (λ (x : ℕ). x * i) one in

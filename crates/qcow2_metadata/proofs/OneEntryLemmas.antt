@@ -1,4 +1,4 @@
-use Rattle.std.proofs.Common.{◌≡◌, ◌≢◌, ℕ, ◌+◌, ◌-◌, ◌*◌, ◌/◌, ◌%◌, ◌^◌, ◌<◌, ◌≤◌, max, List, length, get_or, slice_index, refl, ◌⊎◌, Option, Some, None, Result, Ok, Err, OnOk, IfErr, sym, ◌∙◌, ap, inl, inr, lit≤, arith, pow_mono, take_all}
+use Rattle.std.proofs.Common.{◌≡◌, ◌≢◌, ℕ, ◌+◌, ◌-◌, ◌*◌, ◌/◌, ◌%◌, ◌^◌, ◌<◌, ◌≤◌, max, List, length, get_or, slice_index, refl, ◌⊎◌, Option, Some, None, Result, Ok, Err, OnOk, IfErr, sym, ◌∙◌, ap, inl, inr, lit≤, arith, pow_mono, take_all, rules}
 use Rattle.std.proofs.Math.Nat.{div-add-mod, mul-div_cancel, mul-le-mul_right}
 use Rattle.std.proofs.lemmas.Bool.{cases_lt}
 use Rattle.std.proofs.lemmas.Nat.{div-mul-add, div_below, le-div, mod_below, pow-add, pow_below, pow_pos}
@@ -119,9 +119,7 @@ table_with_entry offset index range numbers old new from below written outside o
 
 -- how many they are at most, and at least
 pub part-few : (cb count : ℕ) → cb ≤ 21 → IsPartOfCluster cb count → (0 < count) × (count ≤ 2 ^ 18)
-part-few cb count low (k, is, few) =
-    let most : k ≤ 18 = omega (arith, low, few) in
-    rw is (pow_pos k, pow_mono most)
+part-few cb count low (k, is, few) = search (rules, pow_pos, pow_mono)
 
 -- the refusals of a write whose place is lawful
 faults_of : {T : Type 0} (range : EntryRange) (of_place : Option Fault) (answer : Result T Fault) → IfErr answer (λ fault. (fault ≡ Storage) ⊎ ((fault ≡ NoMemory) × (piece_size < 8 * range.count))) → IfErr answer (IsEntryWriteFault range of_place)

@@ -11,6 +11,7 @@ use Rattle.qcow2_base.specs.Bits.{field}
 use Rattle.qcow2_base.specs.Storage.{Holds, Image, IsBytes, be, be_fits, be_of_same, be_tells, image_of}
 use Rattle.qcow2_metadata.specs.Refblock.Counters.{AreCounters}
 use Rattle.qcow2_metadata.specs.Refblock.Packing.{bytes_each, counter_at, counters_at, from_digits, packed, per_byte, width}
+use Rattle.std.proofs.lemmas.Bool.Decides.{nat_tests}
 
 -- lists made from functions that agree at their places
 pub map_range_at : (f g : ℕ → ℕ) (a b n : ℕ) → ((i : ℕ) → i < n → f (a + i) ≡ g (b + i)) → map f (range_with_len a n) ≡ map g (range_with_len b n)
@@ -71,15 +72,9 @@ shifted_by_digit w x rest k small =
 -- digit k of a number with these digits
 pub digit_is : (w : ℕ) (digits : List ℕ) (k : ℕ) → All (λ digit. digit < 2 ^ w) digits → field (from_digits (2 ^ w) digits) (w * k) w ≡ slice_index digits k
 digit_is w [] k small = rw (zero-div, zero-mod) refl
-digit_is w (x ∷ digits) zero small =
-    let first : x < 2 ^ w = All-head (λ digit. digit < 2 ^ w) x digits small in
-    let here : (x + 2 ^ w * from_digits (2 ^ w) digits) % 2 ^ w ≡ x = add-mul-mod_self_left x (2 ^ w) (from_digits (2 ^ w) digits) ∙ mod-eq_of_lt first in
-    let whole : (x + 2 ^ w * from_digits (2 ^ w) digits) / 1 ≡ x + 2 ^ w * from_digits (2 ^ w) digits = omega arith in
-    rw (mul-zero, whole) here
+digit_is w (x ∷ digits) zero small = grind (arith, nat_tests, All-head, add-mul-mod_self_left, mod-eq_of_lt, mul-zero)
 digit_is w (x ∷ digits) (suc k) small =
-    let first : x < 2 ^ w = All-head (λ digit. digit < 2 ^ w) x digits small in
-    let rest = digit_is w digits k (All-tail (λ digit. digit < 2 ^ w) x digits small) in
-    rw (shifted_by_digit w x (from_digits (2 ^ w) digits) k first) rest
+    grind (arith, nat_tests, All-head, All-tail, shifted_by_digit, digit_is w digits k (All-tail (λ digit. digit < 2 ^ w) x digits small))
 
 -- the number with so many digits of v from digit a on
 pub digits_of_number : (w v a m : ℕ) → from_digits (2 ^ w) (map (λ k. field v (w * k) w) (range_with_len a m)) ≡ v / 2 ^ (w * a) % 2 ^ (w * m)
@@ -178,8 +173,7 @@ counters_at-held order n len image offset bytes low whole within held =
 
 -- the counters of len bytes, and those that stand behind them
 pub counters_at-append : (order n m len : ℕ) (image : Image) (offset : ℕ) → order ≤ 6 → width order * n ≡ 8 * len → counters_at order image offset (n + m) ≡ counters_at order image offset n ++ counters_at order image (offset + len) m
-counters_at-append order n m len image offset low whole =
-    map_range-append (counter_at order image offset) (counter_at order image (offset + len)) n m (λ i below. counter_at-later order n len image offset i low whole)
+counters_at-append order n m len image offset low whole = grind (arith, nat_tests, map_range-append, counter_at-later)
 
 -- one counter more
 pub counters_at-more : (order : ℕ) (image : Image) (offset n : ℕ) → counters_at order image offset (n + 1) ≡ counters_at order image offset n ++ counter_at order image offset n ∷ []

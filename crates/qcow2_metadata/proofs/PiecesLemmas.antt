@@ -2,6 +2,7 @@ use Rattle.std.proofs.Common.{◌≡◌, ℕ, ◌+◌, ◌-◌, ◌*◌, ◌<◌
 use Rattle.std.proofs.lemmas.Bool.{cases_lt}
 use Rattle.qcow2_base.specs.Storage.{Holds, Image, SameOutside}
 use Rattle.qcow2_metadata.specs.Pieces.{IsTornAtPiece}
+use Rattle.std.proofs.lemmas.Bool.Decides.{nat_tests}
 
 -- the pieces before one are written, and after them each byte is the old one
 pub record IsWrittenUpTo (piece : ℕ) (bytes : Image) (len offset : ℕ) (old new : Image) : Type 0 where
@@ -11,12 +12,10 @@ pub record IsWrittenUpTo (piece : ℕ) (bytes : Image) (len offset : ℕ) (old n
 
 -- a write of a piece, or of some of its bytes, leaves what was written before it
 stand_before : (piece : ℕ) (bytes : Image) (len offset n : ℕ) (old mid new : Image) → IsWrittenUpTo piece bytes len offset old mid → SameOutside (offset + 4096 * piece) n mid new → (i : ℕ) → i < 4096 * piece → i < len → new (offset + i) ≡ bytes i
-stand_before piece bytes len offset n old mid new so_far outside i below within =
-    outside.before (offset + i) (omega arith) ∙ so_far.stand i below within
+stand_before piece bytes len offset n old mid new so_far outside i below within = grind (arith, nat_tests)
 
 after_piece : (piece : ℕ) (bytes : Image) (len offset n : ℕ) (old mid new : Image) → n ≤ 4096 → IsWrittenUpTo piece bytes len offset old mid → SameOutside (offset + 4096 * piece) n mid new → (o : ℕ) → offset + 4096 * (piece + 1) ≤ o → new o ≡ old o
-after_piece piece bytes len offset n old mid new short so_far outside o h =
-    outside.after o (omega arith) ∙ so_far.after o (omega arith)
+after_piece piece bytes len offset n old mid new short so_far outside o h = grind (arith, nat_tests)
 
 pub others_kept : (piece : ℕ) (bytes : Image) (len offset n : ℕ) (old mid new : Image) → 4096 * piece + n ≤ len → IsWrittenUpTo piece bytes len offset old mid → SameOutside (offset + 4096 * piece) n mid new → SameOutside offset len old new
 others_kept piece bytes len offset n old mid new fits so_far outside = grind (arith)

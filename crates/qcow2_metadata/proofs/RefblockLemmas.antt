@@ -14,6 +14,7 @@ use Rattle.qcow2_metadata.specs.Refblock.{IsLawfulBlock, IsWrittenBlock, block_e
 use Rattle.qcow2_metadata.specs.Refblock.Packing.{counter_at, counters_at, packed, per_byte, width}
 use Rattle.qcow2_metadata.specs.declared.refblock.counters.Counters.{Counters}
 use Rattle.qcow2_metadata.specs.declared.refblock.counters.Counters.TheVariants.{U8, U16, U32, U64}
+use Rattle.std.proofs.lemmas.Bool.Decides.{nat_tests}
 
 -- the integers of a list hold each number that a counter holds
 pub counter_holds : (order : ℕ) (counters : Counters) (number : ℕ) → IsOfOrder order counters → number ≤ greatest_counter order → CanHold counters number
@@ -24,8 +25,8 @@ counter_holds order (U32 list) number kind fits = let same = rw kind at fits in 
 counter_holds order (U64 list) number kind fits = let same = rw kind at fits in omega (arith, same)
 
 -- a block of zeros is lawful
-pub zeros-lawful : (cb order : ℕ) (counters : Counters) → IsClusterBits cb → order ≤ 6 → kept_counters counters ≡ replicate (block_entries cb order) 0 → IsLawfulBlock cb order None (kept_counters counters)
-zeros-lawful cb order counters bits orders zeros = grind (arith, pow_pos, common_steps)
+pub zeros_are_lawful : (cb order : ℕ) (counters : Counters) → IsClusterBits cb → order ≤ 6 → kept_counters counters ≡ replicate (block_entries cb order) 0 → IsLawfulBlock cb order None (kept_counters counters)
+zeros_are_lawful cb order counters bits orders zeros = grind (arith, pow_pos, common_steps)
 
 -- and so is one with another counter
 pub set-lawful : (cb order : ℕ) (cluster : Option HostCluster) (old new : Counters) (index number : ℕ) → IsLawfulBlock cb order cluster (kept_counters old) → kept_counters new ≡ slice_set (kept_counters old) index number → number ≤ greatest_counter order → IsLawfulBlock cb order cluster (kept_counters new)
@@ -90,13 +91,11 @@ counters-more order done image offset list buffer orders eights held whole count
 
 -- as many bits are as many counters
 pub same_count : (order a b len : ℕ) → width order * a ≡ 8 * len → width order * b ≡ 8 * len → a ≡ b
-same_count order a b len left right =
-    sym (mul-div_cancel_left a (pow_pos order)) ∙ ap (λ n. n / width order) (left ∙ sym right) ∙ mul-div_cancel_left b (pow_pos order)
+same_count order a b len left right = grind (arith, nat_tests, mul-div_cancel_left, pow_pos)
 
 -- and so many bytes more are so many counters more
 pub count-more : (order done len count : ℕ) → order ≤ 6 → len % 8 ≡ 0 → width order * count ≡ 8 * done → width order * (count + 8 * len / width order) ≡ 8 * (done + len)
-count-more order done len count orders eights whole =
-    mul-add (width order) count (8 * len / width order) ∙ omega (arith, whole, whole_counters order len orders eights)
+count-more order done len count orders eights whole = grind (arith, nat_tests, mul-add, whole_counters)
 
 -- a piece of a cluster is whole numbers of eight bytes
 pub piece_in_eights : (cb piece len : ℕ) → IsClusterBits cb → len ≡ min (2 ^ cb - 4096 * piece) 4096 → len % 8 ≡ 0

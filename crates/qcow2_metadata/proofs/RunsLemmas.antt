@@ -52,11 +52,7 @@ compressed_large : (v : ℕ) → is_compressed v ≡ true → 2 ^ 62 ≤ v % 2 ^
 compressed_large v is = grind (arith, nat_tests)
 
 standard_low : (cb v k : ℕ) → cb ≤ 21 → k ≤ 262144 → Parts cb v → v % 2 ^ 63 + k * 2 ^ cb < 2 ^ 62
-standard_low cb v k high few parts =
-    let power : 2 ^ cb ≤ 2 ^ 21 = pow_mono high in
-    let grown = mul-le k (2 ^ cb) 262144 (2 ^ 21) few power in
-    let flag : bit (is_zero v) ≤ 1 = omega (arith, bit_below (is_zero v)) in
-    omega (arith, grown, parts.lower, parts.offset, parts.small, flag)
+standard_low cb v k high few parts = grind (arith, nat_tests, pow_mono, mul-le, bit_below)
 
 -- what a test of an entry's offset says
 pub has_offset : (external : Bool) (v : ℕ) (found : Option HostOffset) (test : Bool) → found ≡ host_offset external v → test ≡ is_some found → test ≡ is_allocated external v
@@ -187,3 +183,6 @@ pattern_fits cb value step n xs high below fits =
     let few : 2 ^ (cb - 3) ≤ 2 ^ 18 = pow_mono small in
     let count : length (take n xs) ≤ 262144 = rw length-take (omega (arith, few, below)) in
     omega (arith, mul-le (length (take n xs)) step 262144 step count (omega arith), fits)
+
+-- what the patterns of entries are
+pub ruleset patterns = (has_offset, step_fits, after_a_compressed_entry, after_an_entry_with_a_cluster, after_an_external_entry_without_one, after_an_entry_without_one)

@@ -7,7 +7,7 @@ use Rattle.std.proofs.lemmas.List.Elements.{All-filter}
 use Rattle.qcow2_base.specs.declared.on_disk_struct.v2_header.V2Header.{V2Header}
 use Rattle.qcow2_metadata.specs.Header.{HeaderRecord}
 use Rattle.qcow2_metadata.specs.Header.Extensions.{Extension, IsStorable, data_of, normal_extension, type_number}
-use Rattle.qcow2_metadata.specs.Header.Text.{IsSettled, bare, extension_text, extensions_text, fits_first_cluster, header_end, header_text, is_other, is_short, kept, name_place, normal, padded, parts_text, placed, placed_base, placed_v2, v2_with_name}
+use Rattle.qcow2_metadata.specs.Header.Text.{IsSettled, bare, extension_text, extensions_text, fits_first_cluster, header_end, header_text, is_other, is_short, kept, normal, padded, parts_text, placed, placed_base, placed_v2, v2_with_name}
 use Rattle.qcow2_metadata.proofs.NamesLemmas.{name_chunks_len, normal_extensions-once, normal_named}
 use Rattle.qcow2_metadata.proofs.TextLemmas.{length-padded}
 
@@ -27,8 +27,7 @@ number_of-normal extension = grind (arith, nat_tests)
 -- its text is as long
 length-normal_text : (extension : Extension)
     → length (extension_text (normal_extension extension)) ≡ length (extension_text extension)
-length-normal_text extension =
-    grind (arith, nat_tests, length-normal_data, number_of-normal, length-padded, length-append)
+length-normal_text extension = grind (arith, nat_tests, length-normal_data, number_of-normal, length-padded, length-append)
 
 -- and so are those of all
 length-flat_map-normal : (extensions : List Extension)
@@ -68,8 +67,7 @@ placed_base-placed header = grind (arith, header_end-placed header)
 
 -- so it keeps its places
 placed-placed : (header : HeaderRecord) → placed (placed header) ≡ placed header
-placed-placed header =
-    λ i. record header { v2 = placed_v2-placed header i; base = placed_base-placed header i }
+placed-placed header = grind (arith, nat_tests, placed_v2-placed, placed_base-placed)
 
 -- and its text is the same
 pub header_text-placed : (header : HeaderRecord) → header_text (placed header) ≡ header_text header
@@ -78,9 +76,7 @@ header_text-placed header = grind (arith, placed_v2-placed header, placed_base-p
 
 -- which fits where it fits without the places
 fits-placed : (header : HeaderRecord) → fits_first_cluster (placed header) ≡ fits_first_cluster header
-fits-placed header =
-    let bits = (v2_with_name-keeps header.v2 (name_place header) header.backing_filename).cluster_bits in
-    λ i. nat_le (length (header_text-placed header i)) (2 ^ bits i)
+fits-placed header = grind (arith, nat_tests, v2_with_name-keeps, header_text-placed)
 
 -- what a header reads back as ends where the header ends
 header_end-normal : (header : HeaderRecord) → header_end (normal header) ≡ header_end header
@@ -96,14 +92,11 @@ placed_base-normal header = grind (arith, header_end-normal header)
 
 -- so its places are those of the header
 placed-normal : (header : HeaderRecord) → placed (normal header) ≡ normal (placed header)
-placed-normal header =
-    λ i. record (normal header) { v2 = placed_v2-normal header i; base = placed_base-normal header i }
+placed-normal header = grind (arith, nat_tests, placed_v2-normal, placed_base-normal)
 
 -- the same stands before its extensions
 parts_text-normal : (header : HeaderRecord) → parts_text (normal header) ≡ parts_text header
-parts_text-normal header =
-    let fields = padded-once header.unknown_header_fields in
-    grind (arith, placed_v2-normal header, placed_base-normal header, fields)
+parts_text-normal header = grind (arith, nat_tests, padded-once, placed_v2-normal, placed_base-normal)
 
 -- and its text is as long
 length-normal_header : (header : HeaderRecord)

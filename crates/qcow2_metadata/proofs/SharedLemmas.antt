@@ -1,4 +1,4 @@
-use Rattle.std.proofs.Common.{◌≡◌, ℕ, Bool, false, not, ◌&&◌, ◌||◌, ◌==◌, if◌then◌else◌, ◌+◌, ◌-◌, ◌*◌, ◌/◌, ◌%◌, ◌^◌, ◌<◌, ◌≤◌, List, [], ◌∷◌, map, Option, Some, None, refl, ap, ◌∙◌, inl, inr, arith}
+use Rattle.std.proofs.Common.{map-id, ◌≡◌, ℕ, Bool, false, not, ◌&&◌, ◌||◌, ◌==◌, if◌then◌else◌, ◌+◌, ◌-◌, ◌*◌, ◌/◌, ◌%◌, ◌^◌, ◌<◌, ◌≤◌, List, [], ◌∷◌, map, Option, Some, None, refl, ap, ◌∙◌, inl, inr, arith}
 use Rattle.std.proofs.lemmas.Bool.{cases_Bool, cases_lt}
 use Rattle.std.proofs.lemmas.Bool.Decides.{nat_tests}
 use Rattle.std.proofs.lemmas.List.Sums.{sum_by-cons}
@@ -87,3 +87,6 @@ first_fault-map fault f (v ∷ vs) keeps none =
 pub shared-lawful : (external : Bool) (cb : ℕ) (numbers : List ℕ) → first_fault (l2_fault cb) numbers ≡ None → first_fault (l2_fault cb) (map (shared external) numbers) ≡ None
 shared-lawful external cb numbers none =
     first_fault-map (l2_fault cb) (shared external) numbers (λ v lawful. shared_is_lawful external cb v lawful) none
+
+-- what a copy of a table is
+pub ruleset clones = (map-id, shared-lawful, references-shared)

@@ -1,4 +1,4 @@
-use Rattle.std.proofs.Common.{◌≡◌, List, [], ◌∷◌, ◌++◌, ℕ, map, refl, sym, subst}
+use Rattle.std.proofs.Common.{◌≡◌, List, [], ◌∷◌, ◌++◌, ℕ, map, refl, sym, subst, arith, rules}
 use lib.Utf8.{encode}
 use Rattle.std.specs.Prelude.{All, true, IfSome, None, Option, Some, String, option_to_list, option_map, string_bytes}
 use Rattle.std.proofs.lemmas.List.Sums.{AllPass-from_list_all}
@@ -15,14 +15,13 @@ use Rattle.qcow2_metadata.specs.Header.{known_names}
 use Rattle.qcow2_metadata.specs.declared.header.extensions.HeaderExtensionType.{HeaderExtensionType}
 use Rattle.qcow2_metadata.specs.declared.header.extensions.HeaderExtensionType.TheVariants as kind
 use Rattle.qcow2_metadata.specs.Header.Extensions.{FeatureKey, FeatureNameTable, FeatureNames, IsStorable, TextOf, is_text, key_cmp, names_of}
+use Rattle.std.proofs.lemmas.Bool.Decides.{nat_tests}
 
 -- the texts of names in memory are text
 names_of-texts : (entries : List (FeatureKey × String Global))
     → All (λ (named : FeatureKey × List ℕ). IsUtf8 named.1) (map (λ entry. (entry.0, string_bytes entry.1)) entries)
 names_of-texts [] = All-nil (λ (named : FeatureKey × List ℕ). IsUtf8 named.1)
-names_of-texts (entry ∷ entries) =
-    All-cons (λ (named : FeatureKey × List ℕ). IsUtf8 named.1) (entry.0, string_bytes entry.1)
-    (map (λ other. (other.0, string_bytes other.1)) entries) (IsUtf8-string_bytes entry.1) (names_of-texts entries)
+names_of-texts (entry ∷ entries) = search (rules, All-cons, IsUtf8-string_bytes, names_of-texts entries)
 
 -- names in memory are in the order of their keys, as those of an image
 pub ordered-storable : (names : BTreeMap FeatureKey (String Global)) → IsOrdered key_cmp names
@@ -44,9 +43,7 @@ known_names-ordered = assumption
 
 -- names of which each is text
 all_texts : (names : FeatureNames) → list_all (λ named. is_utf8 named.1) names ≡ true → All (λ (named : FeatureKey × List ℕ). IsUtf8 named.1) names
-all_texts names test = λ i named below.
-    IsUtf8-from_is_utf8 _
-    (AllPass-from_list_all (λ (named : FeatureKey × List ℕ). is_utf8 named.1) names test i named below)
+all_texts names test = grind (arith, nat_tests, IsUtf8-from_is_utf8, AllPass-from_list_all)
 
 -- what features are called in new images can be stored
 pub known_names-storable : IsStorable (FeatureNameTable known_names)
@@ -57,8 +54,7 @@ known_names-storable = (known_names-ordered, all_texts known_names refl)
 texts-storable : (type : HeaderExtensionType) → is_text type ≡ true → (name : Option (String Global))
     → All IsStorable (map (TextOf type) (option_to_list (option_map string_bytes name)))
 texts-storable type is None = All-nil IsStorable
-texts-storable type is (Some name) =
-    All-cons IsStorable (TextOf type (string_bytes name)) [] (is, IsUtf8-string_bytes name) (All-nil IsStorable)
+texts-storable type is (Some name) = grind (arith, nat_tests, All-cons, IsUtf8-string_bytes, All-nil)
 
 -- the extensions of a new image can be stored
 pub new_extensions-storable : (format data_file : Option (String Global))
@@ -66,6 +62,4 @@ pub new_extensions-storable : (format data_file : Option (String Global))
     (FeatureNameTable known_names
     ∷ map (TextOf kind.BackingFileFormat) (option_to_list (option_map string_bytes format))
     ++ map (TextOf kind.ExternalDataFileName) (option_to_list (option_map string_bytes data_file)))
-new_extensions-storable format data_file =
-    All-cons IsStorable (FeatureNameTable known_names) _ known_names-storable
-    (All-append IsStorable _ _ (texts-storable kind.BackingFileFormat refl format) (texts-storable kind.ExternalDataFileName refl data_file))
+new_extensions-storable format data_file = search (rules, All-cons, known_names-storable, All-append, texts-storable)

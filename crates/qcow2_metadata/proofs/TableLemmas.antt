@@ -1,4 +1,4 @@
-use Rattle.std.proofs.Common.{map-id, ◌≡◌, ℕ, zero, suc, ◌+◌, ◌-◌, ◌*◌, ◌<◌, ◌≤◌, lit≤, List, [], ◌∷◌, ◌++◌, map, length, get_or, replicate, set, take, Option, Some, None, IfSome, refl, ◌∙◌, ap, arith, Bor}
+use Rattle.std.proofs.Common.{map-id, vec_len, ◌≡◌, ℕ, zero, suc, ◌+◌, ◌-◌, ◌*◌, ◌<◌, ◌≤◌, lit≤, List, [], ◌∷◌, ◌++◌, map, length, get_or, replicate, set, take, Option, Some, None, IfSome, refl, ◌∙◌, ap, arith, Bor}
 use Rattle.std.specs.Option.{option_or}
 use Rattle.std.proofs.lemmas.List.{length-map, map-append, take_all}
 use Rattle.std.specs.Slice.{IsGetResult}
@@ -7,6 +7,7 @@ use Rattle.qcow2_base.specs.declared.fault.Fault.{Fault}
 use Rattle.qcow2_metadata.proofs.PackingLemmas.{counters_at-length, counters_at-same}
 use Rattle.qcow2_metadata.specs.Table.{first_fault, table_numbers}
 use Rattle.qcow2_metadata.specs.Table.Growth.{grown_numbers}
+use Rattle.std.proofs.lemmas.Bool.Decides.{nat_tests}
 
 pub no_fault_at_all : (first rest : Option Fault) → option_or first rest ≡ None → (first ≡ None) × (rest ≡ None)
 no_fault_at_all first rest h = grind arith
@@ -42,9 +43,9 @@ first_fault-set fault (x ∷ xs) (suc i) v h lawful =
     let parts = no_fault_at_all (fault x) (first_fault fault xs) h in
     rw parts.0 (first_fault-set fault xs i v parts.1 lawful)
 
-pub first_fault-map-replicate : {X : Type 0} (number : X → ℕ) (fault : ℕ → Option Fault) (n : ℕ) (x : X) → fault (number x) ≡ None → first_fault fault (map number (replicate n x)) ≡ None
-first_fault-map-replicate number fault zero x lawful = refl
-first_fault-map-replicate number fault (suc n) x lawful = rw lawful (first_fault-map-replicate number fault n x lawful)
+pub no_fault_in_copies : {X : Type 0} (number : X → ℕ) (fault : ℕ → Option Fault) (n : ℕ) (x : X) → fault (number x) ≡ None → first_fault fault (map number (replicate n x)) ≡ None
+no_fault_in_copies number fault zero x lawful = refl
+no_fault_in_copies number fault (suc n) x lawful = rw lawful (no_fault_in_copies number fault n x lawful)
 
 -- an entry that is found is lawful
 pub no_fault_item : {X : Type 0} (number : X → ℕ) (fault : ℕ → Option Fault) (xs : List X) (i : ℕ) (d : X) → first_fault fault (map number xs) ≡ None → i < length xs → fault (number (get_or xs i d)) ≡ None
@@ -55,8 +56,7 @@ no_fault_item number fault (x ∷ xs) (suc i) d h below =
 
 pub lawful_if_found : {X : Type 0} (number : X → ℕ) (fault : ℕ → Option Fault) (xs : List X) (i : ℕ) (found : Option (Bor X)) → first_fault fault (map number xs) ≡ None → IsGetResult xs i i found → IfSome found (λ entry. fault (number entry.now) ≡ None)
 lawful_if_found number fault xs i None h is = tt
-lawful_if_found number fault xs i (Some entry) h is =
-    rw is.1 (no_fault_item number fault xs i entry.now h is.3.0)
+lawful_if_found number fault xs i (Some entry) h is = grind (arith, nat_tests, no_fault_item)
 
 map-replicate-zero : {X : Type 0} (number : X → ℕ) (n : ℕ) (x : X) → number x ≡ 0 → map number (replicate n x) ≡ replicate n 0
 map-replicate-zero number zero x is = refl
@@ -64,10 +64,14 @@ map-replicate-zero number (suc n) x is = rw is (ap (λ (xs : List ℕ). 0 ∷ xs
 
 -- entries, and then entries 0, have the numbers of a grown table
 pub grown_items : {X : Type 0} (number : X → ℕ) (xs : List X) (n : ℕ) (x : X) → length xs ≤ n → number x ≡ 0 → map number (take n xs ++ replicate (n - length xs) x) ≡ grown_numbers (map number xs) n
-grown_items number xs n x short is =
-    rw (take_all n xs short, map-append number xs (replicate (n - length xs) x), map-replicate-zero number (n - length xs) x is, length-map xs number) refl
+grown_items number xs n x short is = grind (arith, nat_tests, take_all, map-append, map-replicate-zero, length-map)
 
 -- a table stays one with zeros at its end
 pub first_fault-grown : (fault : ℕ → Option Fault) (numbers : List ℕ) (n : ℕ) → first_fault fault numbers ≡ None → fault 0 ≡ None → first_fault fault (grown_numbers numbers n) ≡ None
 first_fault-grown fault numbers n h lawful =
-    first_fault-append fault numbers (replicate (n - length numbers) 0) h ∙ rw map-id at (first_fault-map-replicate (λ (v : ℕ). v) fault (n - length numbers) 0 lawful)
+    first_fault-append fault numbers (replicate (n - length numbers) 0) h ∙ rw map-id at (no_fault_in_copies (λ (v : ℕ). v) fault (n - length numbers) 0 lawful)
+
+-- what an item of a table is, and what a table is with zeros at its end
+pub ruleset items = (no_fault_item, length-map)
+
+pub ruleset paddings = (vec_len, grown_items, first_fault-grown)

@@ -5,7 +5,6 @@ use Rattle.std.proofs.Math.Nat.{mod-lt}
 use Rattle.std.proofs.Math.Pow.{pow_mono}
 use Rattle.std.specs.List.{flat_map}
 use Rattle.std.specs.Prelude.{OnOk}
-use Rattle.std.proofs.lemmas.Bool.{cases_lt}
 use Rattle.std.proofs.lemmas.Bool.Decides.{nat_tests}
 use Rattle.std.proofs.lemmas.List.{get_or-append_right, get_or-append-add, get_or_append_left, ext_get_or, length-replicate}
 use Rattle.std.proofs.lemmas.List.Elements.{All-cons, All-head, All-nil, All-tail}
@@ -24,7 +23,7 @@ use Rattle.qcow2_metadata.specs.declared.header.extensions.HeaderExtensionType.{
 use Rattle.qcow2_metadata.specs.declared.header.extensions.HeaderExtensionType.TheVariants as kind
 use Rattle.qcow2_metadata.proofs.GrammarLemmas.{all_same-AreSame}
 use Rattle.qcow2_metadata.proofs.ExtensionsLemmas.{ReadsBack}
-use Rattle.qcow2_metadata.proofs.ChainLemmas.{IsFirst, follows_more, says_none}
+use Rattle.qcow2_metadata.proofs.ChainLemmas.{IsFirst, says_more, says_none}
 use Rattle.qcow2_metadata.proofs.RangeLemmas.{held-bytes_at}
 
 -- a field's value fits its bytes
@@ -71,35 +70,18 @@ held-number image place n value held fits =
 -- what an image has, it has in two pieces
 pub Holds-first : (image : Image) (place : ℕ) (xs ys : List ℕ) → Holds image place (xs ++ ys)
     → Holds image place xs
-Holds-first image place xs ys held = record {
-  each = λ i below.
-      let same = held.each i (omega (arith, length-append xs ys)) in
-      sym (get_or_append_left xs ys 0 i below) ∙ same;
-}
+Holds-first image place xs ys held = grind (arith, nat_tests, length-append, get_or_append_left)
 
 -- the second one stands behind the first
 pub Holds-second : (image : Image) (place : ℕ) (xs ys : List ℕ) → Holds image place (xs ++ ys)
     → Holds image (place + length xs) ys
-Holds-second image place xs ys held = record {
-  each = λ i below.
-      let there : place + (length xs + i) ≡ place + length xs + i = omega arith in
-      let same = held.each (length xs + i) (omega (arith, length-append xs ys)) in
-      sym (get_or-append-add xs ys i 0) ∙ same ∙ ap image there;
-}
+Holds-second image place xs ys held = grind (arith, nat_tests, length-append, get_or-append-add)
 
 -- two pieces of which one stands behind the other are one
 pub Holds-append : (image : Image) (place : ℕ) (xs ys : List ℕ) → Holds image place xs
     → Holds image (place + length xs) ys → Holds image place (xs ++ ys)
-Holds-append image place xs ys first second = record {
-  each = λ i below. elim (cases_lt i (length xs)) [
-    | inl inside ↦ get_or_append_left xs ys 0 i inside ∙ first.each i inside
-    | inr after ↦
-        let j = i - length xs in
-        let there : place + length xs + j ≡ place + i = omega arith in
-        get_or-append_right xs ys (length xs) i 0 refl after
-        ∙ second.each j (omega (arith, length-append xs ys)) ∙ ap image there
-  ];
-}
+Holds-append image place xs ys first second =
+    grind (arith, nat_tests, get_or_append_left, get_or-append_right, length-append)
 
 -- the empty list stands at any place
 Holds-none : (image : Image) (place : ℕ) → Holds image place []
@@ -161,9 +143,7 @@ pushed-fields answer text after bytes fields small joined count held pushed =
 
 -- padding makes as many bytes as the next multiple of 8
 pub length-padded : (bytes : List ℕ) → length (padded bytes) ≡ next_multiple_of (length bytes) 8
-length-padded bytes =
-    let rest = next_multiple_of (length bytes) 8 - length bytes in
-    omega (arith, length-append bytes (replicate rest 0), length-replicate {A = ℕ} rest 0)
+length-padded bytes = grind (arith, nat_tests, length-append, length-replicate)
 
 -- how many bytes an extension takes
 pub length-extension_text : (extension : Extension)
@@ -237,8 +217,7 @@ text-says image len place (extension ∷ extensions) small back held within =
     let others_back = All-tail ReadsBack extension extensions back in
     let first = first-extension image len place extension here_back small here_held (omega (arith, count)) in
     let rest = text-says image len next extensions small others_back others_held (omega (arith, count)) in
-    follows_more image len place next (normal_extension extension)
-    (Ok (map normal_extension extensions)) first rest
+    says_more image len place next (normal_extension extension) (map normal_extension extensions) first rest
 
 -- what an extension reads back as says the same name
 same-name_in : (type : HeaderExtensionType) (extension : Extension)
@@ -249,8 +228,7 @@ same-name_in type extension = grind (arith, nat_tests)
 pub same-names_by : (type : HeaderExtensionType) (extensions : List Extension)
     → names_by (name_in type) (map normal_extension extensions) ≡ names_by (name_in type) extensions
 same-names_by type [] = refl
-same-names_by type (extension ∷ extensions) =
-    rw (same-name_in type extension, same-names_by type extensions) refl
+same-names_by type (extension ∷ extensions) = grind (arith, nat_tests, same-name_in, same-names_by type extensions)
 
 -- the header has the places of its text, which fits the first cluster, and a name that isn't too long
 pub record IsPlaced (header : HeaderRecord) : Type 0 where
@@ -285,25 +263,14 @@ newer-parts header three = grind (arith, nat_tests)
 
 -- the text before the extensions ends where they begin
 pub length-parts_text : (header : HeaderRecord) → IsKnown header → length (parts_text header) ≡ header_end header
-length-parts_text header (inl two) =
-    let parts = older-parts header two in
-    ap length parts.0 ∙ sym parts.1
-length-parts_text header (inr three) =
-    let parts = newer-parts header three in
-    let count = length-append (fixed_text header) (padded header.unknown_header_fields) in
-    ap length parts.0 ∙ count ∙ sym parts.1
+length-parts_text header (inl two) = grind (arith, nat_tests, older-parts)
+length-parts_text header (inr three) = grind (arith, nat_tests, newer-parts, length-append)
 
 -- how many bytes a header's text has
 pub length-header_text : (header : HeaderRecord) → IsKnown header
     → length (header_text header) ≡ name_place header + length (name_text header.backing_filename)
 unfolding header_text
-length-header_text header known =
-    let parts = parts_text header in
-    let extensions = extensions_text header.extensions in
-    let name = name_text header.backing_filename in
-    let place : length (parts ++ extensions) ≡ name_place header =
-    length-append parts extensions ∙ ap (λ n. n + length extensions) (length-parts_text header known) in
-    length-append (parts ++ extensions) name ∙ ap (λ n. n + length name) place
+length-header_text header known = grind (arith, nat_tests, length-append, length-parts_text)
 
 -- the pieces of the text before the extensions in version 3
 record HasNewerParts (image : Image) (header : HeaderRecord) : Type 0 where

@@ -1,5 +1,5 @@
 use Rattle.std.proofs.lemmas.Bool.Decides.{nat_tests}
-use Rattle.std.proofs.Common.{◌≡◌, ◌∙◌, ℕ, suc, ◌+◌, ◌%◌, ◌^◌, ◌<◌, ◌≤◌, Bool, true, false, List, [], ◌∷◌, ◌++◌, map, get_or, take, drop, Option, None, Some, Result, Ok, Err, refl, sym, ap, arith, lit<}
+use Rattle.std.proofs.Common.{◌≡◌, ◌∙◌, ℕ, suc, ◌+◌, ◌<◌, ◌≤◌, Bool, true, false, List, [], ◌∷◌, ◌++◌, map, get_or, take, drop, Option, None, Some, Result, Ok, Err, refl, sym, ap, arith, lit<}
 use Rattle.std.proofs.Math.Seq.{drop-cons}
 use Rattle.std.proofs.lemmas.List.{take-append-drop, take_all}
 use Rattle.std.proofs.lemmas.List.Elements.{All-more}
@@ -24,8 +24,7 @@ name-Decides a b = grind (arith, nat_tests, bytes_eq-Decides)
 
 -- the test of two values says whether they are the same
 pub same_value-Decides : (a b : FieldValue) → Decides (same_value a b) (a ≡ b)
-same_value-Decides a b =
-    grind (arith, nat_tests, bytes_eq-Decides, name-Decides, slice_eq-Decides, same_extension-Decides)
+same_value-Decides a b = grind (arith, nat_tests, bytes_eq-Decides, name-Decides, slice_eq-Decides, same_extension-Decides)
 
 -- the conditions that the headers agree in these fields
 abbrev agreements_in : HeaderRecord → HeaderRecord → List Field → List (Bool × Fault)
@@ -141,8 +140,4 @@ with_size_and_tables-agreed here there agree =
 -- tables of another header lie where clusters begin, and so they do in a header of the same cluster size
 pub with_size_and_tables-lawful : (here there : HeaderRecord) → IsLawfulHeader here → IsLawfulHeader there
     → here.v2.cluster_bits ≡ there.v2.cluster_bits → IsLawfulHeader (with_size_and_tables here there)
-with_size_and_tables-lawful here there lawful other bits =
-    let l1_table : there.v2.l1_table_offset % 2 ^ here.v2.cluster_bits ≡ 0 = rw bits other.l1_table_aligned in
-    let reftable : there.v2.refcount_table_offset % 2 ^ here.v2.cluster_bits ≡ 0 =
-    rw bits other.reftable_aligned in
-    assumption
+with_size_and_tables-lawful here there lawful other bits = grind (arith, nat_tests)

@@ -1,9 +1,9 @@
-use Rattle.std.proofs.Common.{◌≡◌, ◌⊎◌, ℕ, ◌^◌, ◌<◌, Bool, true, false, not, List, [], ◌∷◌, map, refl, ap, sym, subst, ◌∙◌, arith, lit<, Some, None}
+use Rattle.std.proofs.Common.{◌≡◌, ◌⊎◌, ℕ, Bool, true, false, not, List, [], ◌∷◌, map, refl, ap, sym, subst, ◌∙◌, arith, Some, None}
 use Rattle.std.specs.Prelude.{All, Err, Ok}
 use Rattle.std.specs.List.{filter}
 use Rattle.std.proofs.lemmas.Bool.Decides.{nat_tests}
 use Rattle.std.proofs.lemmas.List.Elements.{All-filter, All-from_recursion, All-weaker}
-use Rattle.qcow2_base.specs.OnDiskStruct.{LayoutField, v2_header, v3_header_base}
+use Rattle.qcow2_base.specs.OnDiskStruct.{v2_header, v3_header_base}
 use Rattle.qcow2_base.specs.Storage.{Holds, Image, OnlyWrites, StorageState}
 use Rattle.qcow2_base.specs.declared.fault.Fault.{Fault}
 use Rattle.qcow2_base.specs.declared.fault.Fault.TheVariants.{HeaderTooLong, NameTooLong}
@@ -30,8 +30,7 @@ no_name type extension is = grind (arith, nat_tests)
 filter-names_by : (type : HeaderExtensionType) (extensions : List Extension)
     → names_by (name_in type) (filter is_other extensions) ≡ names_by (name_in type) extensions
 filter-names_by type [] = refl
-filter-names_by type (extension ∷ extensions) =
-    grind (arith, nat_tests, no_name, filter-names_by type extensions)
+filter-names_by type (extension ∷ extensions) = grind (arith, nat_tests, no_name, filter-names_by type extensions)
 
 -- the names are the same, whether such tables are written or not
 chosen-names_by : (with_names : Bool) (type : HeaderExtensionType) (extensions : List Extension)
@@ -111,8 +110,7 @@ chosen_text-placed header written is = ap placed_text is ∙ header_text-placed 
 
 -- the second part of version 2 fits
 default-fits : AreFitting (v3_header_base default_base)
-default-fits = All-from_recursion (λ (f : LayoutField). f.value < 256 ^ f.size) (v3_header_base default_base)
-    (lit< tt, (lit< tt, (lit< tt, (lit< tt, (lit< tt, tt)))))
+default-fits = grind (arith, nat_tests, All-from_recursion)
 
 -- the second part that is written fits
 base-fits : (with_names : Bool) (header : HeaderRecord) (layout : Layout) → IsLawfulHeader header

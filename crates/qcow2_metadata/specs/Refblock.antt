@@ -1,7 +1,7 @@
 pub mod Counters
 pub mod Guard
 pub mod Packing
-use Rattle.std.specs.Prelude.{◌≡◌, ◌⊎◌, IfErr, IsErrOf, IsTrue, OnOk, Result, Ok, Err, option_map, ℕ, Bool, false, true, ◌+◌, ◌-◌, ◌*◌, ◌^◌, ◌<◌, ◌≤◌, List, length, slice_set, Option, Some, None, IfSome}
+use Rattle.std.specs.Prelude.{◌≡◌, ◌⊎◌, IfErr, IsErrOf, OnOk, Result, Ok, Err, option_map, ℕ, Bool, false, true, ◌+◌, ◌-◌, ◌*◌, ◌^◌, ◌<◌, ◌≤◌, List, length, slice_set, Option, Some, None, IfSome}
 use Rattle.qcow2_base.specs.Storage.{Image, OnImage, OnImages, OnlyWrites, StorageState}
 use Rattle.qcow2_base.specs.Types.{IsClusterBits}
 use Rattle.qcow2_base.specs.declared.fault.Fault.{Fault}

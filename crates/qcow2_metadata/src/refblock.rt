@@ -93,6 +93,7 @@ fn read_counters<S: Storage>(
 impl RefBlock {
     /// A block of an image with this header in which no cluster has a reference. It has no cluster, and
     /// counts as modified. Fails only for want of memory.
+    #[tactic(auto, using(crate::proofs::RefblockLemmas::zeros_are_lawful))]
     pub fn new_cleared<S: Storage>(
         alloc: Global,
         image: &S,
@@ -233,10 +234,7 @@ impl RefBlock {
         ensures { option_map (λ (offset : Offset). offset.0) result
             ≡ option_map (block_offset self.now.cluster_bits) self.now.cluster }
     {
-        match self.cluster {
-            Some(cluster) => Some(cluster.offset(self.cluster_bits)),
-            None => None,
-        }
+        Some(self.cluster?.offset(self.cluster_bits))
     }
 
     /// Says where in the image the block begins: at a cluster whose offset fits 64 bits. The block then

@@ -205,8 +205,8 @@ pub trait Table: Sized {
     /// Writes one entry of the table to the image, by one call of the storage: the aligned bytes that hold
     /// it, counted from the table's begin, with the table's entries and with zeros past its end. They are as
     /// long as the greater of the storage's alignments, eight bytes at least, or eight bytes where that is
-    /// more than a cluster, so no byte of another cluster changes. Takes memory where they are more than
-    /// 4096. The index is in bounds.
+    /// more than a cluster. So whatever the alignments are, which callers may not know, no byte of another
+    /// cluster than the entry's changes. Takes memory for more than 4096 bytes. The index is in bounds.
     ///
     /// Refuses what `write` refuses, then want of memory; nothing has changed then. The table stays as it
     /// is, and counts as modified as before, whatever it answers.

@@ -39,11 +39,7 @@ impl GuestOffset {
         ensures own_offset { (c : GuestCluster) →
             self.0 ≡ c.0 * 2 ^ cluster_bits → result ≡ Some c }
     {
-        if self.in_cluster_offset(cluster_bits) == 0 {
-            Some(self.cluster(cluster_bits))
-        } else {
-            None
-        }
+        (self.in_cluster_offset(cluster_bits) == 0).then_some(self.cluster(cluster_bits))
     }
 
     /// The place of the offset's cluster in its L2 table.

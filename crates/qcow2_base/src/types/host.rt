@@ -39,11 +39,7 @@ impl HostOffset {
         ensures own_offset { (c : HostCluster) →
             self.0 ≡ c.0 * 2 ^ cluster_bits → result ≡ Some c }
     {
-        if self.in_cluster_offset(cluster_bits) == 0 {
-            Some(self.cluster(cluster_bits))
-        } else {
-            None
-        }
+        (self.in_cluster_offset(cluster_bits) == 0).then_some(self.cluster(cluster_bits))
     }
 }
 

@@ -1,4 +1,4 @@
-use Rattle.std.specs.Prelude.{◌≡◌, ◌≢◌, ◌⊎◌, ℕ, zero, suc, ◌+◌, ◌<◌, ◌≤◌, ◌==◌, nat_le, IsOk, List, [], ◌∷◌, map, Option, Some, None, Result, Ok, Err, true, false}
+use Rattle.std.specs.Prelude.{◌≡◌, ◌≢◌, ℕ, zero, suc, ◌+◌, ◌≤◌, ◌==◌, nat_le, IsOk, List, [], ◌∷◌, map, Option, Some, None, Result, Ok, Err, true, false}
 use Rattle.std.specs.Int.{next_multiple_of}
 use Rattle.qcow2_base.specs.Storage.{Image, be}
 use Rattle.qcow2_base.specs.declared.fault.Fault.{Fault}
@@ -47,12 +47,6 @@ pub record IsEnd (len : ℕ) (last : Link) : Type 0 where
   pub bounded : data_end last ≤ len
   pub end : last.number ≡ 0
 
--- the chain is broken: its last extension ends past so many bytes, or has data that its type can't read
-abbrev pub IsBroken : Image → ℕ → Link → Fault → Type 0
-IsBroken image len last fault =
-    ((len < data_end last) × (fault ≡ ExtensionsExceed))
-    ⊎ ((data_end last ≤ len) × (last.number ≢ 0) × (said image last ≡ Err fault))
-
 -- the extensions that a complete chain from a place on says
 pub record SaysExtensions (image : Image) (len place : ℕ) (extensions : List Extension) : Type 0 where
   pub links : List Link
@@ -60,13 +54,6 @@ pub record SaysExtensions (image : Image) (len place : ℕ) (extensions : List E
   pub chain : IsChain image len place links last
   pub complete : IsEnd len last
   pub said : map (said image) links ≡ map Ok extensions
-
--- the fault of a chain from a place on that is broken
-pub record BreaksWith (image : Image) (len place : ℕ) (fault : Fault) : Type 0 where
-  pub links : List Link
-  pub last : Link
-  pub chain : IsChain image len place links last
-  pub broken : IsBroken image len last fault
 
 -- what the extension at a place says, and where the next one stands; nothing where it is End
 abbrev pub extension_at : Image → ℕ → ℕ → Result (Option (Extension × ℕ)) Fault

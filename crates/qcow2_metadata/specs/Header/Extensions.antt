@@ -1,4 +1,4 @@
-use Rattle.std.specs.Prelude.{◌≡◌, ◌≢◌, ℕ, zero, suc, ◌-◌, ◌*◌, ◌^◌, ◌<◌, ◌≤◌, ◌==◌, ◌&&◌, Bool, true, false, if◌then◌else◌, All, List, [], ◌∷◌, ◌++◌, length, map, slice_index, take, drop, replicate, Option, Some, None, Result, Ok, Err, String, string_bytes}
+use Rattle.std.specs.Prelude.{◌≡◌, ◌≢◌, ℕ, zero, suc, ◌-◌, ◌*◌, ◌^◌, ◌<◌, ◌==◌, ◌&&◌, Bool, true, false, if◌then◌else◌, All, List, [], ◌∷◌, ◌++◌, length, map, take, drop, replicate, Option, Some, None, Result, Ok, Err, String, string_bytes}
 use Rattle.std.specs.Global.{Global}
 use Rattle.std.specs.BTreeMap.{BTreeMap, insert_entry}
 use Rattle.std.specs.Cmp.Lexicographic.{pointwise}
@@ -97,23 +97,6 @@ names_of_chunks bytes (suc chunks) =
 -- the names of a feature name table; its last chunk may be shorter
 abbrev pub feature_names : List ℕ → Result FeatureNames Fault
 feature_names bytes = names_of_chunks bytes (div_ceil (length bytes) 48)
-
--- a chunk begins with the number of the key's type and its bit
-pub record HasKey (chunk : List ℕ) (key : FeatureKey) : Type 0 where
-  pub long : 2 ≤ length chunk
-  pub type : slice_index chunk 0 ≡ feature_type_number key.0
-  pub bit : slice_index chunk 1 ≡ key.1
-
--- the name that a chunk says: the text behind its key, up to the first zero byte
-abbrev pub name_at : List ℕ → List ℕ
-name_at chunk = utf8_lossy (until_zero (drop 2 chunk))
-
--- the last chunk of a table that has the key says this name
-pub record IsLastNamed (bytes : List ℕ) (key : FeatureKey) (name : List ℕ) : Type 0 where
-  pub index : ℕ
-  pub has : HasKey (chunk_at bytes index) key
-  pub last : (later : ℕ) → index < later → ¬ (HasKey (chunk_at bytes later) key)
-  pub says : name ≡ name_at (chunk_at bytes index)
 
 -- an extension that an image can say: texts are UTF-8, names of features are in the order of their keys, and only
 -- data of a type that isn't known is kept as it stands

@@ -30,6 +30,11 @@ opened_text writable (Ok header) = elim (is_rewritten writable header) [
   | false ↦ []
 ]
 
+-- how many bytes a load may change: as many as it places of what it reads. What a write says of its range is said only
+-- where the storage tells its bytes, so elsewhere the number says nothing
+abbrev pub opened_length : Bool → StorageState → ℕ
+opened_length writable old = length (opened_text writable (header_of old.byte_at))
+
 -- the faults of a load, whatever the storage tells: a header that is written may be too long
 abbrev pub IsOpenFault : Bool → Fault → Type 0
 IsOpenFault writable fault = IsHeaderFault fault ⊎ ((writable ≡ true) × (fault ≡ HeaderTooLong))
@@ -44,7 +49,7 @@ HadToWrite writable old =
 -- settled, as after any write
 pub record Opens (writable : Bool) (answer : Result HeaderRecord Fault) (old new : StorageState) : Type 0 where
   pub reads : writable ≡ false → OnlyReads answer old new
-  pub writes : OnlyWrites answer (Some 0) (length (opened_text writable (header_of old.byte_at))) old new
+  pub writes : OnlyWrites answer (Some 0) (opened_length writable old) old new
   pub placed : OnImages old new (λ before after. OnOk answer (Holds after 0 (opened_text writable (header_of before))))
   pub written : HadToWrite writable old → IfOk answer (IsWrittenHeader new.byte_at)
   pub settled : HadToWrite writable old → IfOk answer IsSettled

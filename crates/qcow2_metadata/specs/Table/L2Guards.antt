@@ -1,4 +1,4 @@
-use Rattle.std.specs.Prelude.{◌≡◌, ◌≢◌, ℕ, Bool, true, false, not, ◌&&◌, ◌==◌, ◌+◌, ◌*◌, ◌^◌, List, [], ◌∷◌, ◌++◌, length, slice_get, slice_index, slice_set, if◌then◌else◌, Option, Some, None, option_to_list, nat_le}
+use Rattle.std.specs.Prelude.{◌≡◌, ℕ, Bool, true, false, not, ◌&&◌, ◌==◌, ◌+◌, ◌*◌, ◌^◌, List, [], ◌∷◌, ◌++◌, length, slice_index, slice_set, if◌then◌else◌, Option, Some, None, option_to_list, nat_le}
 use Rattle.std.specs.Borrow.{MutBor}
 use Rattle.std.specs.Int.NonZero.{non_zero_u64_get}
 use Rattle.std.specs.List.{sum_by}
@@ -107,25 +107,6 @@ run_of g (e ∷ edits) numbers =
       freed = option_to_list (dropped g e.edit v) ++ rest.freed;
       gained = option_to_list (gained g e.edit v) ++ rest.gained;
     }
-
--- one edit of a table: the entry at its index is the changed one, and all others are as they were
-pub record IsEdit (g : Geometry) (e : TableEdit) (old new : List ℕ) : Type 0 where
-  pub entry : slice_index new e.index ≡ changed g e.edit (slice_index old e.index)
-  pub others : (i : ℕ) → i ≢ e.index → slice_index new i ≡ slice_index old i
-  pub entries : length new ≡ length old
-
--- a run of edits in steps from the numbers before to those after: each edit leads from one step to the next
-pub record IsRun (g : Geometry) (edits : List TableEdit) (before : List ℕ) (steps : List (List ℕ))
-    (after : List ℕ) : Type 0 where
-  pub count : length steps ≡ length edits + 1
-  pub first : slice_get steps 0 ≡ Some before
-  pub last : slice_get steps (length edits) ≡ Some after
-  pub each : (i : ℕ) (e : TableEdit) (old new : List ℕ) → slice_get edits i ≡ Some e →
-      slice_get steps i ≡ Some old → slice_get steps (i + 1) ≡ Some new → IsEdit g e old new
-
--- some run of the edits leads from the numbers before to those after
-abbrev pub RunsTo : Geometry → List TableEdit → List ℕ → List ℕ → Type 0
-RunsTo g edits before after = (steps : List (List ℕ)) × IsRun g edits before steps after
 
 -- whether an entry can hold a host cluster's offset, and it isn't the header's, but in an external data file
 abbrev pub is_mappable : Geometry → ℕ → Bool

@@ -65,7 +65,8 @@ pub record WritesEntries {T : Type 0} (answer : Result T Fault) (offset : ℕ) (
       OnOk answer (table_numbers after offset range.count ≡ numbers_in range numbers))
   pub storage : OnlyWrites answer (Some offset) (8 * range.count) old new
 
--- a write of one entry of a table that ended in this answer
+-- a write of one entry of a table that ended in this answer. `storage` tells which bytes may change by the alignment, and
+-- `cluster` tells callers who don't know that: none of any cluster but the entry's
 pub record WritesEntry (kind : Kind) (index : ℕ) (range : EntryRange) {T : Type 0} (answer : Result T Fault) (old new : TableOnStorage) : Type 0 where
   pub refused : IfSome (write_fault kind old.table) (λ fault. answer ≡ Err fault)
   pub faults : IfErr answer (IsEntryWriteFault range (write_fault kind old.table))

@@ -57,11 +57,7 @@ impl L2Entry {
         ensures { result ≡ host_offset external_data_file self.now }
     {
         let offset = field(self.value, 9, 47) * 512;
-        if offset != 0 || external_data_file && self.is_copied() {
-            Some(HostOffset(offset))
-        } else {
-            None
-        }
+        (offset != 0 || external_data_file && self.is_copied()).then_some(HostOffset(offset))
     }
 
     /// Whether the entry is a compressed one: bit 62.
@@ -247,13 +243,9 @@ impl L2Entry {
         let copied = self.is_copied();
         let host_cluster = self.host_cluster(cluster_bits, external_data_file);
         Ok(match (self.is_zero(), host_cluster) {
-            (true, Some(_)) => L2Mapping::Zero {
+            (true, _) => L2Mapping::Zero {
                 host_cluster,
-                copied,
-            },
-            (true, None) => L2Mapping::Zero {
-                host_cluster,
-                copied: false,
+                copied: copied && host_cluster.is_some(),
             },
             (false, Some(host_cluster)) => L2Mapping::DataFile {
                 host_cluster,

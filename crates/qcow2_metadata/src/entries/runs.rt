@@ -28,6 +28,7 @@ impl RunPattern {
     /// and the same zero flag; those without one have no offset. The copied flag tells nothing, but where it
     /// tells cluster 0 of an external data file from none.
     #[inline]
+    #[tactic(auto, using(crate::proofs::RunsLemmas::patterns))]
     pub(crate) fn of(entry: L2Entry, cluster_bits: u32, external_data_file: bool) -> RunPattern
         requires cluster_bits { IsClusterBits cluster_bits }
         requires lawful { l2_fault cluster_bits entry ≡ None }

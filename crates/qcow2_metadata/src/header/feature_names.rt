@@ -13,7 +13,7 @@ ghost use Rattle.qcow2_metadata.specs.Header.Grammar.{IsHeaderFault};
 ghost use Rattle.qcow2_metadata.specs.Range.{bytes_at};
 ghost use Rattle.qcow2_metadata.specs.ReadAhead.{ReadsThrough};
 
-use super::FeatureType;
+use super::FeatureType::{self, Autoclear, Compatible, Incompatible};
 use super::text::push_zeros;
 use crate::read_ahead::ReadAhead;
 use bstr::ByteSlice;
@@ -32,44 +32,24 @@ pub(super) fn known_names(alloc: Global) -> Result<BTreeMap<(FeatureType, u8), S
     ensures { IfOk result (λ names. names_of names ≡ known_names) }
 {
     let mut names = BTreeMap::new(alloc);
-    set_name(alloc, &mut names, (FeatureType::Incompatible, 0), "dirty")?;
-    set_name(alloc, &mut names, (FeatureType::Incompatible, 1), "corrupt")?;
+    set_name(alloc, &mut names, (Incompatible, 0), "dirty")?;
+    set_name(alloc, &mut names, (Incompatible, 1), "corrupt")?;
+    set_name(alloc, &mut names, (Incompatible, 2), "external data file")?;
     set_name(
         alloc,
         &mut names,
-        (FeatureType::Incompatible, 2),
-        "external data file",
-    )?;
-    set_name(
-        alloc,
-        &mut names,
-        (FeatureType::Incompatible, 3),
+        (Incompatible, 3),
         "extended compression type",
     )?;
+    set_name(alloc, &mut names, (Incompatible, 4), "extended L2 entries")?;
+    set_name(alloc, &mut names, (Compatible, 0), "lazy refcounts")?;
     set_name(
         alloc,
         &mut names,
-        (FeatureType::Incompatible, 4),
-        "extended L2 entries",
-    )?;
-    set_name(
-        alloc,
-        &mut names,
-        (FeatureType::Compatible, 0),
-        "lazy refcounts",
-    )?;
-    set_name(
-        alloc,
-        &mut names,
-        (FeatureType::Autoclear, 0),
+        (Autoclear, 0),
         "persistent dirty bitmaps",
     )?;
-    set_name(
-        alloc,
-        &mut names,
-        (FeatureType::Autoclear, 1),
-        "raw external data file",
-    )?;
+    set_name(alloc, &mut names, (Autoclear, 1), "raw external data file")?;
     Ok(names)
 }
 

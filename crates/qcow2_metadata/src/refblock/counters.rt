@@ -93,6 +93,7 @@ impl Counters {
     }
 
     // Puts the counters of some bytes of a block behind those before them.
+    #[tactic(auto, using(crate::proofs::RefblockLemmas::narrow_length))]
     pub(super) fn unpack(&mut self, order: u32, bytes: &[u8]) -> Result<(), AllocError>
         requires order { order ≤ 6 }
         requires kind { IsOfOrder order self.old }
@@ -109,6 +110,7 @@ impl Counters {
     }
 
     // Puts the bytes of a piece of the block into the buffer, which is as long as that piece.
+    #[tactic(auto, using(crate::proofs::RefblockLemmas::narrow_within))]
     pub(super) fn pack(&self, order: u32, piece: usize, buffer: &mut [u8])
         requires kind { IsOfOrder order self.now }
         requires piece { piece_size * piece < 2 ^ 21 }

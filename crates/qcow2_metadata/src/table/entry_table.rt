@@ -72,6 +72,7 @@ impl<E: TableKind> Model for EntryTable<E> {
 }
 
 // The entries, and then entries 0 up to a count.
+#[tactic(auto, using(crate::proofs::TableLemmas::paddings))]
 fn padded<E: TableKind>(alloc: Global, entries: &[E], count: usize) -> Result<Vec<E>, AllocError>
     requires { length entries.now ≤ count }
     ensures numbers { IfOk result (λ list.
@@ -160,6 +161,7 @@ impl<E: TableKind> EntryTable<E> {
 
     // The entry at an index that isn't past the end, as callers get it.
     #[inline]
+    #[tactic(auto, using(crate::proofs::TableLemmas::items))]
     pub(super) fn entry_within(&self, index: usize) -> E::Entry
         requires { index < length self.now.numbers }
         ensures number { E.Entry.plain result ≡ slice_index self.now.numbers index }
@@ -233,10 +235,7 @@ impl<E: TableKind> Table for EntryTable<E> {
     }
 
     fn get_offset(&self) -> Option<HostOffset> {
-        match self.cluster {
-            Some(cluster) => Some(cluster.offset(self.cluster_bits)),
-            None => None,
-        }
+        Some(self.cluster?.offset(self.cluster_bits))
     }
 
     fn set_cluster(&mut self, cluster: HostCluster) {

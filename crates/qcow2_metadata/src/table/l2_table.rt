@@ -64,6 +64,7 @@ impl EntryTable<AtomicL2Entry> {
 
     /// A table of an image with this header in which no cluster has data. It has no cluster, and
     /// counts as modified. Fails only for want of memory.
+    #[tactic(auto, using(crate::proofs::TableLemmas::no_fault_in_copies))]
     pub fn new_cleared(alloc: Global, header: &Header) -> Result<L2Table, Fault>
         ensures fault { IsOkUnless result Fault.NoMemory }
         ensures table { IfOk result (λ table.
@@ -158,6 +159,7 @@ impl EntryTable<AtomicL2Entry> {
     /// host clusters that entries refer to then have a reference more, so no entry of the new table is a
     /// copied one; but one of cluster 0 of an external data file stays, since just its flag tells of that
     /// cluster. This table stays as it is. Fails only for want of memory.
+    #[tactic(auto, using(crate::proofs::SharedLemmas::clones))]
     pub fn try_clone(&self) -> Result<L2Table, Fault>
         ensures fault { IsOkUnless result Fault.NoMemory }
         ensures table { IfOk result (λ table. table ≡ elsewhere self.now

@@ -1,10 +1,10 @@
-use Rattle.std.proofs.Common.{◌≡◌, Err, Ok, refl, rules, true, false}
+use Rattle.std.proofs.Common.{◌≡◌, Err, refl, rules, false, arith}
 use Rattle.std.proofs.lemmas.Result.{err_from_is_err_and}
-use Rattle.qcow2_metadata.specs.Header.Open.{opened}
 use Rattle.qcow2_metadata.proofs.GrammarLemmas.{header_of-is}
 use Rattle.qcow2_metadata.proofs.LoadLemmas.{follows-grammar}
 use Rattle.qcow2_metadata.proofs.OpenLemmas.{answers-first, opened-faults, opened-same, opened-same_fault}
 use Rattle.qcow2_metadata.proofs.header.Header.load.Goals as goal
+use Rattle.std.proofs.lemmas.Bool.Decides.{nat_tests}
 
 pub returns-in_err-header : goal.returns-in_err-header
 returns-in_err-header g c =
@@ -34,15 +34,4 @@ returns-then-not-writable g c =
     })
 
 pub returns : goal.returns
-returns g c =
-    let image = (g.S.Storage.state c.args.image.now).byte_at in
-    let header = c.in_ok-header.header in
-    let to_write : c.args.writable ≡ true = search rules in
-    let prepared = answers-first c.prepared.result (opened true (Ok header)) c.prepared.ensures.exact in
-    rw to_write (record {
-      exact = λ told. search rules;
-      grammar = λ read_only told. cc;
-      first_cluster = λ told other same. rw (opened-same true image other header same (c.in_ok-header.ensures.exact told)) prepared;
-      faults = opened-faults c.prepared.result header true refl c.in_ok-header.ensures.short prepared;
-      storage = search rules;
-    })
+returns g c = grind (arith, nat_tests, answers-first, opened-same, opened-faults)

@@ -1,14 +1,10 @@
-use Rattle.std.proofs.Common.{length}
+use Rattle.std.proofs.Common.{length, arith}
 use Rattle.qcow2_metadata.proofs.RefblockLemmas.{piece_in_eights, piece-fits, piece-within}
-use Rattle.qcow2_metadata.specs.Refblock.Counters.{kept_counters}
 use Rattle.qcow2_metadata.proofs.refblock.RefBlockPacked.pack.Goals as goal
+use Rattle.std.proofs.lemmas.Bool.Decides.{nat_tests}
 
 pub pack-requires-clause-within : goal.pack-requires-clause-within
-pack-requires-clause-within c =
-    let block = c.self.inside in
-    let lawful = c.self.invariant.1 in
-    piece-within block.cluster_bits block.refcount_order (length (kept_counters c.kept.result.now)) c.args.piece (length c.args.buffer.now) lawful.bits lawful.orders
-    (rw (← c.self.view_is) at c.kept.ensures.count) (rw (← c.self.view_is) at c.requires.piece) (rw (← c.self.view_is) at c.requires.len)
+pack-requires-clause-within c = grind (arith, nat_tests, piece-within)
 
 pub pack-requires-clause-whole : goal.pack-requires-clause-whole
 pack-requires-clause-whole c =

@@ -2,11 +2,10 @@ use Rattle.std.proofs.Common.{◌≡◌, ◌+◌, ◌*◌, ◌/◌, ◌<◌, len
 use Rattle.std.proofs.lemmas.List.{get_or-map}
 use Rattle.qcow2_metadata.proofs.PackingLemmas.{counter_within, wide_bytes-more}
 use Rattle.qcow2_metadata.proofs.refblock.packing.pack_wide.Goals as goal
+use Rattle.std.proofs.lemmas.Bool.Decides.{nat_tests}
 
 pub bounds-list-first : goal.bounds-list-first
-bounds-list-first g c =
-    let room : c.loop-index.index < length c.args.buffer.now / g.T.OnDiskStruct.ON_DISK_SIZE = rw c.ON_DISK_SIZE.ensures at c.loop-index-test.true in
-    counter_within g.T.WideCounter.order g.T.OnDiskStruct.ON_DISK_SIZE c.args.first c.loop-index.index (length c.args.buffer.now) (length c.args.list.now) g.met.T.WideCounter.size room c.requires.within
+bounds-list-first g c = grind (arith, nat_tests, counter_within)
 
 pub overflow_add-first : goal.overflow_add-first
 overflow_add-first g c = let below = bounds-list-first g c in omega arith

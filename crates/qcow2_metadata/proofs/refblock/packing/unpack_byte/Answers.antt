@@ -1,9 +1,10 @@
-use Rattle.std.proofs.Common.{ℕ, ◌*◌, ◌^◌, ◌≤◌, ◌∙◌, length-set, pow_mono, pow_pos, arith}
+use Rattle.std.proofs.Common.{ℕ, ◌*◌, ◌∙◌, length-set, pow_mono, pow_pos, arith}
 use Rattle.std.proofs.lemmas.List.Edits.{fill_by_more}
 use Rattle.qcow2_base.specs.Bits.{field}
 use Rattle.qcow2_metadata.specs.Refblock.Packing.{width}
 use Rattle.qcow2_metadata.proofs.NarrowLemmas.{counters_of_byte, place_fits, shifted_one, values_fit}
 use Rattle.qcow2_metadata.proofs.refblock.packing.unpack_byte.Goals as goal
+use Rattle.std.proofs.lemmas.Bool.Decides.{nat_tests}
 
 pub overflow_shr-counters : goal.overflow_shr-counters
 overflow_shr-counters g c =
@@ -14,9 +15,7 @@ pub overflow_cast-counters : goal.overflow_cast-counters
 overflow_cast-counters g c = let below = overflow_shr-counters g c in omega arith
 
 pub overflow_shl-counters : goal.overflow_shl-counters
-overflow_shl-counters g c =
-    let power : width g.row.ORDER ≤ 2 ^ 2 = pow_mono {i = g.row.ORDER} {j = 2} c.requires.order in
-    rw (shifted_one g.row.ORDER c.requires.order) (omega (arith, power))
+overflow_shl-counters g c = grind (arith, nat_tests, pow_mono, shifted_one)
 
 pub nonzero_rem-counters : goal.nonzero_rem-counters
 nonzero_rem-counters g c = rw (shifted_one g.row.ORDER c.requires.order, values_fit g.row.ORDER c.requires.order) (pow_pos (width g.row.ORDER))
@@ -31,6 +30,4 @@ loop-index-preserved g c =
     }
 
 pub returns : goal.returns
-returns g c =
-    counters_of_byte g.row.ORDER g.row.PER c.args.byte c.loop-index.counters (omega arith) c.requires.per c.loop-index.invariant.len
-    (λ i below. c.loop-index.invariant.read i (omega arith))
+returns g c = grind (arith, nat_tests, counters_of_byte)

@@ -1,17 +1,14 @@
 use Rattle.std.proofs.Common.{arith, rules}
 use Rattle.qcow2_metadata.proofs.OneEntryLemmas.{WritesEntry-of, group-fits, part-few}
 use Rattle.qcow2_metadata.proofs.table.Table.write_entry.Goals as goal
+use Rattle.std.proofs.lemmas.Bool.Decides.{nat_tests}
 
 pub write_entries-requires-clause-count : goal.write_entries-requires-clause-count
 write_entries-requires-clause-count g c =
     (part-few c.cluster_bits-cluster_bits.result c.entries_at_once-count.result c.cluster_bits-cluster_bits.ensures.range.1 c.entries_at_once-count.ensures.part).1
 
 pub write_entries-requires-clause-fits : goal.write_entries-requires-clause-fits
-write_entries-requires-clause-fits g c =
-    let range = c.cluster_bits-cluster_bits.ensures.range in
-    let offset = c.in_ok-offset.ensures.offset in
-    rw offset (group-fits c.cluster_bits-cluster_bits.result c.entries_at_once-count.result c.in-Some.cluster.0 c.args.index (omega (arith, range.1)) c.entries_at_once-count.ensures.part
-    (part-few _ _ range.1 c.entries_at_once-count.ensures.part).0 (omega (arith, offset, c.in_ok-offset.ensures.fits, c.entries-entries.ensures.count, c.requires)))
+write_entries-requires-clause-fits g c = grind (arith, nat_tests, group-fits, part-few)
 
 pub returns : goal.returns
 returns g c =

@@ -1,8 +1,9 @@
-use Rattle.std.proofs.Common.{◌^◌, ◌<◌, map, refl, arith, rules}
+use Rattle.std.proofs.Common.{◌^◌, ◌<◌, map, arith, rules}
 use Rattle.std.proofs.lemmas.List.Elements.{All-set}
 use Rattle.std.proofs.lemmas.List.{length-set, map-set}
 use Rattle.qcow2_metadata.proofs.TableLemmas.{first_fault-set}
 use Rattle.qcow2_metadata.proofs.table.entry_table.EntryTable.replace_entry.Goals as goal
+use Rattle.std.proofs.lemmas.Bool.Decides.{nat_tests}
 
 pub invariant_of-self : goal.invariant_of-self
 invariant_of-self g c =
@@ -21,7 +22,4 @@ invariant_of-self g c =
     })
 
 pub returns-clause-edit : goal.returns-clause-edit
-returns-clause-edit g c =
-    let plain = g.E.TableEntry.plain in
-    let edit = map-set plain c.self.inside.entries.items c.args.index c.replace.new.dest in
-    rw (edit, c.replace.ensures.after, ← c.self.view_is) refl
+returns-clause-edit g c = grind (arith, nat_tests, map-set)
