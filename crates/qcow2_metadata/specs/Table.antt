@@ -153,11 +153,14 @@ loaded_l2_table g cluster image = loaded_table l2_kind (l2_table_at g cluster) i
 abbrev pub loaded_l1_table : TablePlace → Image → Result (List ℕ) Fault
 loaded_l1_table place image = loaded_table l1_kind place image
 
--- the refusals of a load, whatever the storage tells: the fault of the table's place, if it has one, or
--- one of an entry, want of memory or a failed storage
+-- the refusals of what is read of a table at a lawful place, whatever the storage tells: the fault of an entry, want of
+-- memory or a failed storage
+abbrev pub IsContentFault : Fault → Type 0
+IsContentFault fault = (fault ≡ EntryReserved) ⊎ (fault ≡ EntryUnaligned) ⊎ (fault ≡ NoMemory) ⊎ (fault ≡ Storage)
+
+-- the refusals of a load: the fault of the table's place, if it has one, or one of what is read there
 abbrev pub IsLoadFault : Option Fault → Fault → Type 0
-IsLoadFault of_place fault =
-    (of_place ≡ Some fault) ⊎ (fault ≡ EntryReserved) ⊎ (fault ≡ EntryUnaligned) ⊎ (fault ≡ NoMemory) ⊎ (fault ≡ Storage)
+IsLoadFault of_place fault = (of_place ≡ Some fault) ⊎ IsContentFault fault
 
 -- a load that ended in this answer: the fault of the place comes before all others
 pub record LoadRefuses {T : Type 0} (of_place : Option Fault) (answer : Result T Fault) : Type 0 where

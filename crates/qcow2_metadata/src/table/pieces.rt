@@ -3,10 +3,10 @@
 ghost use Rattle.std.specs.Prelude.{◌≡◌, ℕ, ◌⊎◌, ◌+◌, ◌++◌, ◌*◌, ◌/◌, ◌^◌, ◌<◌, ◌≤◌, ◌↔◌, IsTrue, length, map, slice_index, None, Some, IfOk, IfErr, OnOk};
 ghost use Rattle.qcow2_base.specs.Format.{max_file_length};
 ghost use Rattle.qcow2_base.specs.Storage.{OnImage, OnlyReads, be, image_of};
-ghost use Rattle.qcow2_base.specs.declared.fault.Fault.TheVariants.{EntryReserved, EntryUnaligned, NoMemory, Storage as StorageFailed};
+ghost use Rattle.qcow2_base.specs.declared.fault.Fault.TheVariants.{EntryReserved, EntryUnaligned, NoMemory};
 ghost use Rattle.qcow2_metadata.specs.Results.{Answers};
 ghost use Rattle.qcow2_metadata.specs.Pieces.{WritesInPieces, number_bytes};
-ghost use Rattle.qcow2_metadata.specs.Table.{chunk_numbers, decoded, first_fault, table_numbers};
+ghost use Rattle.qcow2_metadata.specs.Table.{IsContentFault, chunk_numbers, decoded, first_fault, table_numbers};
 
 use super::Table;
 use crate::pieces::{PIECE_BYTES, Packed, write_in_pieces};
@@ -35,8 +35,7 @@ pub(super) fn read_entries<E: TableEntry + Drop, S: Storage>(
         IfOk result (λ list. map E.plain list.items ≡ table_numbers bytes offset.0 entries)) }
     ensures lawful { IfOk result (λ list. (length list.items ≡ entries)
         × (first_fault (E.fault_of header.now.v2.cluster_bits) (map E.plain list.items) ≡ None)) }
-    ensures faults { IfErr result (λ fault.
-        (fault ≡ EntryReserved) ⊎ (fault ≡ EntryUnaligned) ⊎ (fault ≡ NoMemory) ⊎ (fault ≡ StorageFailed)) }
+    ensures faults { IfErr result IsContentFault }
     ensures storage { OnlyReads result (S.state image.old) (S.state image.new) }
 {
     let mut list = Vec::with_capacity(alloc, entries)?;
