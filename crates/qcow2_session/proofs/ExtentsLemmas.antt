@@ -179,10 +179,10 @@ shift_fits cb high =
 moved_nowhere : (content : Content) → moved_on 0 content ≡ content
 moved_nowhere content = grind arith
 
-piece_begins : (contents : Contents) (size from : ℕ) (piece : Content × ℕ) → IsPiece contents size from piece → contents from ≡ Ok piece.0
-piece_begins contents size from piece told =
+begins_as : (contents : Contents) (from length : ℕ) (content : Content) → 0 < length → ReadAsOne contents from length content → contents from ≡ Ok content
+begins_as contents from length content some reads =
     let place : from + 0 ≡ from = omega arith in
-    rw (place, moved_nowhere piece.0) at (told.2 0 (omega (arith, told.0)))
+    rw (place, moved_nowhere content) at (reads 0 some)
 
 pub extent_that_ends : (contents : Contents) (size start : ℕ) (found : Content × ℕ) (next : Content × ℕ) → start < found.1 → found.1 ≤ size → ReadAsOne contents start (found.1 - start) found.0
     → IsPiece contents size found.1 next → (next.0 ≡ moved_on (found.1 - start) found.0 → ⊥) → IsExtent contents size start (extent_of start found)
@@ -193,7 +193,7 @@ extent_that_ends contents size start found next some within reads piece differs 
       some = omega (arith, some);
       within = omega (arith, some, within);
       reads = reads;
-      ends = λ more. (next.0, rw end (piece_begins contents size found.1 next piece), differs);
+      ends = λ more. (next.0, rw end (begins_as contents found.1 (next.1 - found.1) next.0 (omega (arith, piece.0)) piece.2), differs);
     }
 
 pub refused_at_end : (contents : Contents) (size start end : ℕ) (content : Content) (fault : Fault) → start < end → end < size → ReadAsOne contents start (end - start) content → contents end ≡ Err fault
@@ -223,17 +223,18 @@ pub reads_any : {A B : Type 0} (value : A) (other : B) (old new : StorageState) 
 reads_any value other old new reads = record { told = (λ failed. cc, λ moved. let failed = reads.told.1 moved in cc); bytes = reads.bytes; device = reads.device }
 
 -- extents are determined by where they begin
-extent_begins : (contents : Contents) (size from : ℕ) (extent : Extent) → IsExtent contents size from extent → contents from ≡ Ok extent.content
-extent_begins contents size from extent is =
-    let place : from + 0 ≡ from = omega arith in
-    rw (place, moved_nowhere extent.content) at (is.reads 0 is.some)
-
 no_shorter : (contents : Contents) (size from length : ℕ) (content : Content) (extent : Extent) → IsExtent contents size from extent → extent.content ≡ content
     → ReadAsOne contents from length content → from + length ≤ size → extent.length < length → ⊥
 no_shorter contents size from length content extent is same reads within less = grind (arith, nat_tests)
 
 pub extent_once : (contents : Contents) (size from : ℕ) (one other : Extent) → IsExtent contents size from one → IsExtent contents size from other → one ≡ other
-extent_once contents size from one other first second = grind (arith, nat_tests, extent_begins, no_shorter)
+extent_once contents size from one other first second = grind (
+  arith,
+  nat_tests,
+  begins_as contents from one.length one.content first.some first.reads,
+  begins_as contents from other.length other.content second.some second.reads,
+  no_shorter,
+)
 
 -- a disk has one map
 pub map_once : (contents : Contents) (size from : ℕ) (xs ys : List Extent) → AreExtents contents size from xs size → AreExtents contents size from ys size → xs ≡ ys

@@ -194,7 +194,8 @@ stays-sound : (header : HeaderRecord) (l1 : List ℕ) (cluster : HostCluster) (n
     → IsSoundImage old header l1 → ChangesL2Table header cluster old new
     → loaded_l2_table (geometry_of header) cluster new ≡ Ok numbers → IsSoundImage new header l1
 stays-sound header l1 cluster numbers old new sound change loads = record {
-  tables = record { begins = tables.0; l1_table = tables.1 ∙ sound.tables.l1_table };
+  begins = tables.0;
+  l1_table = tables.1 ∙ sound.l1_table;
   readable = λ offset. read offset (l2_cluster header.v2.cluster_bits l1 (offset / 2 ^ header.v2.cluster_bits)) refl;
   apart = sound.apart;
 }
@@ -204,7 +205,7 @@ stays-sound header l1 cluster numbers old new sound change loads = record {
 
     reads : (offset : ℕ) → image_mapping offset new
         ≡ mapping_by (geometry_of header) (l2_cluster header.v2.cluster_bits l1 (offset / 2 ^ header.v2.cluster_bits)) (offset / 2 ^ header.v2.cluster_bits) new
-    reads offset = rw (tables.0, tables.1, sound.tables.l1_table) refl
+    reads offset = rw (tables.0, tables.1, sound.l1_table) refl
 
     read : (offset : ℕ) (found : Option HostCluster) → l2_cluster header.v2.cluster_bits l1 (offset / 2 ^ header.v2.cluster_bits) ≡ found
         → (mapping : Mapping) × (image_mapping offset new ≡ Ok mapping)
@@ -215,7 +216,7 @@ stays-sound header l1 cluster numbers old new sound change loads = record {
           let before = sound.readable offset in (
             before.0,
             lookup-kept header cluster old new change offset (λ table names.
-                let named : Ok (Some other) ≡ Ok (Some table) = rw (sound.tables.begins, sound.tables.l1_table, is) at names in
+                let named : Ok (Some other) ≡ Ok (Some table) = rw (sound.begins, sound.l1_table, is) at names in
                 l2-apart (geometry_of header) table cluster (least_bits header old change.apart.begins) (λ is_cluster. differs (cc))) ∙ before.1,
           )
     ]
@@ -228,7 +229,7 @@ sound-after : (header : HeaderRecord) (l1 : List ℕ) (cluster : HostCluster) (o
 sound-after header l1 cluster outcome numbers old new sound found outside loads balance =
     let avoids = avoids-others header l1 cluster found.0 sound.apart found.1 in
     let change : ChangesL2Table header cluster old new = record {
-      apart = record { begins = sound.tables.begins; geometry = refl; avoids = avoids };
+      apart = record { begins = sound.begins; geometry = refl; avoids = avoids };
       same = outside;
     } in (
       stays-sound header l1 cluster numbers old new sound change loads,

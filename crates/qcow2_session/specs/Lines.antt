@@ -23,10 +23,6 @@ mapping_text cb (compressed offset length) =
     codes "compressed " ++ offset_text offset ++ codes " " ++ decimal length
 mapping_text cb (backing offset) = codes "backing " ++ offset_text offset
 
--- the line of a mapping alone
-abbrev pub mapping_line : ℕ → Mapping → List ℕ
-mapping_line cb found = mapping_text cb found ++ codes "\n"
-
 -- the line of an entry: its label, a space and the text of its mapping, or none where the backing file is asked
 abbrev pub entry_line : ℕ → List ℕ → Mapping → List ℕ
 entry_line cb label (backing offset) = []

@@ -1,48 +1,16 @@
-//! The lines that several commands print: what a mapping is, and the line of an entry.
+//! What several commands print: a mapping, and the lines of a list.
 
 ghost use Rattle.std.specs.Prelude.{◌≡◌, ◌+◌, ◌≤◌, ◌++◌, ℕ, List, flat_map, length};
-ghost use Rattle.std.specs.Fmt.{decimal};
 ghost use Rattle.qcow2_metadata.specs.Entries.L2Mapping.{IsPlaced, meaning};
 ghost use Rattle.qcow2_session.specs.Commands.Printing.{PrintsText};
-ghost use Rattle.qcow2_session.specs.Lines.{copied_text, entry_line, mapping_text, offset_text};
+ghost use Rattle.qcow2_session.specs.Lines.{copied_text, mapping_text, offset_text};
 
 mod line_buffer;
 
 pub(crate) use line_buffer::LineBuffer;
-use qcow2_base::{Fault, GuestOffset};
+use qcow2_base::Fault;
 use qcow2_metadata::L2Mapping;
 use std::io::Write;
-
-/// What stands before the mapping of an entry.
-pub(crate) trait EntryLabel: Copy {
-    /// How it is printed.
-    ghost text: { Self → List ℕ };
-
-    /// Puts it in front of a line.
-    fn prepend_to(self, line: &mut LineBuffer)
-        requires { length line.old ≤ 200 }
-        ensures { line.new ≡ text self ++ line.old };
-}
-
-/// The number of an entry, in decimal.
-impl EntryLabel for u64 {
-    ghost text = { decimal };
-
-    #[inline]
-    fn prepend_to(self, line: &mut LineBuffer) {
-        line.prepend_decimal(self);
-    }
-}
-
-/// The guest offset of an entry's cluster, in hexadecimal.
-impl EntryLabel for GuestOffset {
-    ghost text = { λ offset. offset_text offset.0 };
-
-    #[inline]
-    fn prepend_to(self, line: &mut LineBuffer) {
-        line.prepend_offset(self.0);
-    }
-}
 
 /// An item of a list that is printed as a line.
 pub(crate) trait PrintLine {
@@ -65,29 +33,6 @@ pub(crate) fn print_lines<T: PrintLine, O: Write>(items: &[T], out: &mut O) -> R
     Ok(())
 }
 
-/// Prints the line of an entry: a label, a space, and its mapping. An entry that is left to the
-/// backing file has no line.
-pub(crate) fn print_entry<L: EntryLabel, O: Write>(
-    label: L,
-    mapping: &L2Mapping,
-    cluster_bits: u32,
-    out: &mut O,
-) -> Result<(), Fault>
-    requires placed { IsPlaced cluster_bits mapping.now }
-    ensures { PrintsText result (O.contents out.old) (O.contents out.new)
-        (entry_line cluster_bits (L.text label) (meaning mapping.now)) }
-{
-    if let L2Mapping::Backing { .. } = mapping {
-        return Ok(());
-    }
-    let mut line = LineBuffer::new();
-    line.prepend("\n");
-    prepend_mapping(&mut line, mapping, cluster_bits);
-    line.prepend(" ");
-    label.prepend_to(&mut line);
-    out.write_all(line.as_bytes()).map_err(|_| Fault::Storage)
-}
-
 /// Prints a mapping: what it is, its offset, and its length or whether it is copied.
 pub(crate) fn print_mapping<O: Write>(
     mapping: &L2Mapping,
@@ -103,8 +48,8 @@ pub(crate) fn print_mapping<O: Write>(
     out.write_all(line.as_bytes()).map_err(|_| Fault::Storage)
 }
 
-// Puts a mapping in front of a line.
-fn prepend_mapping(line: &mut LineBuffer, mapping: &L2Mapping, cluster_bits: u32)
+/// Puts a mapping in front of a line.
+pub(crate) fn prepend_mapping(line: &mut LineBuffer, mapping: &L2Mapping, cluster_bits: u32)
     requires placed { IsPlaced cluster_bits mapping.now }
     requires room { length line.old ≤ 100 }
     ensures text { line.new ≡ mapping_text cluster_bits (meaning mapping.now) ++ line.old }

@@ -1,9 +1,9 @@
-use Rattle.std.specs.Prelude.{ℕ, List, [], ◌∷◌, Option, None, option_map, Result}
+use Rattle.std.specs.Prelude.{ℕ, List, [], ◌∷◌, ◌++◌, Option, None, option_map, Result, codes}
 use Rattle.qcow2_base.specs.Storage.{Image}
 use Rattle.qcow2_base.specs.declared.fault.Fault.{Fault}
 use Rattle.qcow2_metadata.specs.Results.{result_map}
 use Rattle.qcow2_metadata.specs.Header.{HeaderRecord}
-use Rattle.qcow2_session.specs.Lines.{mapping_line}
+use Rattle.qcow2_session.specs.Lines.{mapping_text}
 use Rattle.qcow2_session.specs.Session.Lookups.{mapping_in}
 use Rattle.qcow2_session.specs.Commands.Words.{word_number}
 use Rattle.qcow2_session.specs.declared.commands.Command.{Command}
@@ -16,4 +16,5 @@ mapping_of _ = None
 
 -- the line of the command `at`: what the cluster of a guest offset reads as, in an image with this header
 abbrev pub line_at : HeaderRecord → ℕ → Image → Result (List ℕ) Fault
-line_at header offset image = result_map (mapping_line header.v2.cluster_bits) (mapping_in header offset image)
+line_at header offset image = result_map (λ found. mapping_text header.v2.cluster_bits found ++ codes "\n")
+    (mapping_in header offset image)

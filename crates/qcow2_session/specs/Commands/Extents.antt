@@ -6,7 +6,7 @@ use Rattle.qcow2_base.specs.declared.fault.Fault.{Fault}
 use Rattle.qcow2_metadata.specs.Header.{HeaderRecord, geometry_of}
 use Rattle.qcow2_metadata.specs.Results.{result_map}
 use Rattle.qcow2_metadata.specs.Table.{loaded_l1_table}
-use Rattle.qcow2_session.specs.Session.Extents.{AreExtents, AreExtentsBefore, Contents, ExtentsState, IsMap, contents_for, contents_of}
+use Rattle.qcow2_session.specs.Session.Extents.{AreExtents, AreExtentsBefore, Contents, ExtentsState, contents_for, contents_of}
 use Rattle.qcow2_session.specs.Session.Lookups.{l1_place}
 use Rattle.qcow2_session.specs.Commands.Printing.{IsOutputFault, IsReadFault}
 use Rattle.qcow2_session.specs.Lines.{offset_text}
@@ -55,21 +55,14 @@ json_offset _ = []
 abbrev pub json_content : Content → List ℕ
 json_content content = codes ", \"depth\": 0, " ++ json_flags content ++ json_offset content ++ codes "}"
 
--- how long it goes on
-abbrev pub json_length : ℕ → List ℕ
-json_length length = codes ", \"length\": " ++ decimal length
-
 -- an extent in JSON
 abbrev pub json_object : Extent → List ℕ
-json_object extent = codes "{ \"start\": " ++ decimal extent.start.0 ++ json_length extent.length ++ json_content extent.content
+json_object extent = codes "{ \"start\": " ++ decimal extent.start.0 ++ codes ", \"length\": " ++ decimal extent.length
+    ++ json_content extent.content
 
--- what stands between an extent and the one before it: nothing before the first, which begins at 0
-abbrev pub json_separator : ℕ → List ℕ
-json_separator start = if start == 0 then [] else codes ",\n"
-
--- an extent in a list of JSON
+-- an extent in a list of JSON, with what stands between it and the one before it; the first begins at 0
 abbrev pub json_row : Extent → List ℕ
-json_row extent = json_separator extent.start.0 ++ json_object extent
+json_row extent = (if extent.start.0 == 0 then [] else codes ",\n") ++ json_object extent
 
 -- the text of an extent
 abbrev pub extent_text : ExtentFormat → Extent → List ℕ
@@ -90,10 +83,6 @@ closing Json = codes "]\n"
 abbrev pub extents_text : ExtentFormat → List Extent → List ℕ
 extents_text format extents = flat_map (extent_text format) extents
 
--- the text of all extents of a disk
-abbrev pub map_text : ExtentFormat → List Extent → List ℕ
-map_text format extents = opening format ++ extents_text format extents ++ closing format
-
 -- a guest's disk: what each byte reads as, and how many they are
 pub record Disk : Type 0 where
   pub contents : Contents
@@ -107,7 +96,8 @@ disk_of header image = result_map (λ l1. record { contents = contents_of (geome
 -- the output got the text of all extents of a disk
 abbrev pub PrintsMap : ExtentFormat → Option (List ℕ) → Option (List ℕ) → Disk → Type 0
 PrintsMap format before after disk = (extents : List Extent)
-    × IsMap disk.contents disk.size extents × Appends before after (map_text format extents)
+    × AreExtents disk.contents disk.size 0 extents disk.size
+    × Appends before after (opening format ++ extents_text format extents ++ closing format)
 
 -- the output got the text of the extents before one that can't be told for this fault
 abbrev pub PrintsMapBefore : ExtentFormat → Fault → Option (List ℕ) → Option (List ℕ) → Disk → Type 0

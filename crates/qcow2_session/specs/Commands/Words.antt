@@ -1,18 +1,15 @@
-use Rattle.std.specs.Prelude.{◌≡◌, ℕ, ◌^◌, Bool, ◌&&◌, nat_lt, nat_le, ◌==◌, if◌then◌else◌, List, [], ◌∷◌, length, Option, Some, None, IsSome, Result, Ok, Err}
+use Rattle.std.specs.Prelude.{◌≡◌, ℕ, ◌^◌, ◌&&◌, nat_lt, nat_le, ◌==◌, if◌then◌else◌, List, [], ◌∷◌, length, Option, Some, None, IsSome, Result, Ok, Err}
 use Rattle.std.specs.List.{after_first, before_first, position_or_len}
 use Rattle.std.specs.Str.{all_ascii_digits}
 use Rattle.std.specs.Str.Parse.{digits_value}
 use Rattle.qcow2_session.specs.declared.commands.Command.{Command}
 
--- a word is 1 to 20 decimal digits whose number fits 64 bits
-abbrev pub is_number : List ℕ → Bool
-is_number word =
-    all_ascii_digits word && nat_lt 0 (length word) && nat_le (length word) 20
-    && nat_lt (digits_value 10 word) (2 ^ 64)
-
--- the number that a word says, if it says one
+-- the number that a word says, if it is 1 to 20 decimal digits whose number fits 64 bits
 abbrev pub word_number : List ℕ → Option ℕ
-word_number word = if is_number word then Some (digits_value 10 word) else None
+word_number word =
+    let number = digits_value 10 word in
+    let is_short = nat_lt 0 (length word) && nat_le (length word) 20 in
+    if all_ascii_digits word && is_short && nat_lt number (2 ^ 64) then Some number else None
 
 -- what stands before the first colon of a word, and after it
 abbrev pub parts_of : List ℕ → Option (List ℕ × List ℕ)

@@ -60,10 +60,6 @@ AreExtents contents size from [] to = from ≡ to
 AreExtents contents size from (extent ∷ extents) to =
     IsExtent contents size from extent × AreExtents contents size (from + extent.length) extents to
 
--- the extents of a whole disk
-abbrev pub IsMap : Contents → ℕ → List Extent → Type 0
-IsMap contents size extents = AreExtents contents size 0 extents size
-
 -- no extent can be told at an offset: the bytes from there on, perhaps none, read as one up to a byte of the disk whose
 -- L2 table is refused by this fault
 abbrev pub IsRefusedFrom : Contents → ℕ → ℕ → Fault → Type 0

@@ -23,17 +23,13 @@ l1_place header =
 abbrev pub table_fault : HeaderRecord → HostCluster → Option Fault
 table_fault header cluster = place_fault l2_kind (l2_table_at (geometry_of header) cluster)
 
--- the number of the L1 entry for a guest cluster; past the table's end, the entry 0
-abbrev pub l1_number : ℕ → List ℕ → ℕ → ℕ
-l1_number cb l1 guest_cluster = slice_index l1 (guest_cluster / 2 ^ (cb - 3))
-
 -- the cluster that the L2 table of an L1 entry begins with, if there is one
 abbrev pub named_cluster : ℕ → ℕ → Option HostCluster
 named_cluster cb v = option_map (λ (offset : HostOffset). record { 0 = offset.0 / 2 ^ cb }) (offset_unless_zero (offset_field v))
 
--- and that of a guest cluster
+-- and that of a guest cluster; past the L1 table's end its entry is 0
 abbrev pub l2_cluster : ℕ → List ℕ → ℕ → Option HostCluster
-l2_cluster cb l1 guest_cluster = named_cluster cb (l1_number cb l1 guest_cluster)
+l2_cluster cb l1 guest_cluster = named_cluster cb (slice_index l1 (guest_cluster / 2 ^ (cb - 3)))
 
 -- a cluster of an image with clusters of 2 ^ cb bytes, which ends by the greatest end
 abbrev pub IsInImage : ℕ → HostCluster → Type 0

@@ -39,11 +39,6 @@ table_bytes place = record { start = offset_of place; end = offset_of place + 8 
 abbrev pub l2_bytes : Geometry → HostCluster → ByteRange
 l2_bytes g cluster = table_bytes (l2_table_at g cluster)
 
--- an image begins with this header and has this L1 table
-pub record HasL1Table (image : Image) (header : HeaderRecord) (l1 : List ℕ) : Type 0 where
-  pub begins : header_of image ≡ Ok header
-  pub l1_table : loaded_l1_table (l1_place header) image ≡ Ok l1
-
 -- bytes that are none of the first cluster's, and none of the L1 table's
 pub record AvoidsHeaderAndL1Table (header : HeaderRecord) (bytes : ByteRange) : Type 0 where
   pub first_cluster : ShareNoByte (first_cluster_bytes header) bytes
@@ -99,7 +94,8 @@ bytes_of_tables header l1 = first_cluster_bytes header ∷ table_bytes (l1_place
 
 -- an image with this header and this L1 table in which each guest offset can be looked up, and no two tables share a byte
 pub record IsSoundImage (image : Image) (header : HeaderRecord) (l1 : List ℕ) : Type 0 where
-  pub tables : HasL1Table image header l1
+  pub begins : header_of image ≡ Ok header
+  pub l1_table : loaded_l1_table (l1_place header) image ≡ Ok l1
   pub readable : (offset : ℕ) → (found : Mapping) × (image_mapping offset image ≡ Ok found)
   pub apart : AreApart (bytes_of_tables header l1)
 

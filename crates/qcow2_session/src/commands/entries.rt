@@ -1,13 +1,14 @@
 //! The lines of an L2 table's entries, which the commands `l2` and `list` print.
 
-ghost use Rattle.std.specs.Prelude.{◌≡◌, ◌-◌, ◌*◌, ◌^◌, ◌<◌, length};
+ghost use Rattle.std.specs.Prelude.{◌≡◌, ◌-◌, ◌*◌, ◌^◌, ◌<◌, ◌≤◌, ◌++◌, length};
 ghost use Rattle.qcow2_base.specs.Format.{most_l1_entries};
+ghost use Rattle.qcow2_base.specs.Types.{IsClusterBits};
 ghost use Rattle.qcow2_metadata.specs.Entries.L2Mapping.{IsPlaced, meaning};
 ghost use Rattle.qcow2_session.specs.Commands.Entries.{label_text, table_lines};
 ghost use Rattle.qcow2_session.specs.Commands.Printing.{PrintsText};
 ghost use Rattle.qcow2_session.specs.Lines.{entry_line};
 
-use crate::lines::print_entry;
+use crate::lines::{LineBuffer, prepend_mapping};
 use qcow2_base::{Fault, GuestCluster};
 use qcow2_metadata::{L2Mapping, L2Table, Table};
 use std::io::Write;
@@ -38,13 +39,14 @@ pub(super) fn print_entries<O: Write>(
     for l2_index in 0..table.entries() {
         let guest_cluster = GuestCluster::from_l1_l2_indices(l1_index, l2_index, cluster_bits);
         let mapping = table.get_mapping(guest_cluster)?;
-        print_labelled(guest_cluster, label, &mapping, cluster_bits, out)?;
+        print_entry(guest_cluster, label, &mapping, cluster_bits, out)?;
     }
     Ok(())
 }
 
-// Prints the line of the entry of a guest cluster, if its mapping has one.
-fn print_labelled<O: Write>(
+// Prints the line of the entry of a guest cluster: its label, a space, and its mapping. An entry that is
+// left to the backing file has no line.
+fn print_entry<O: Write>(
     guest_cluster: GuestCluster,
     label: Label,
     mapping: &L2Mapping,
@@ -56,11 +58,32 @@ fn print_labelled<O: Write>(
     ensures { PrintsText result (O.contents out.old) (O.contents out.new)
         (entry_line cluster_bits (label_text label cluster_bits guest_cluster.0) (meaning mapping.now)) }
 {
+    if let L2Mapping::Backing { .. } = mapping {
+        return Ok(());
+    }
+    let mut line = LineBuffer::new();
+    line.prepend("\n");
+    prepend_mapping(&mut line, mapping, cluster_bits);
+    line.prepend(" ");
+    prepend_label(&mut line, label, guest_cluster, cluster_bits);
+    out.write_all(line.as_bytes()).map_err(|_| Fault::Storage)
+}
+
+// Puts the label of a guest cluster in front of a line.
+#[inline]
+fn prepend_label(
+    line: &mut LineBuffer,
+    label: Label,
+    guest_cluster: GuestCluster,
+    cluster_bits: u32,
+)
+    requires room { length line.old ≤ 200 }
+    requires bits { IsClusterBits cluster_bits }
+    requires fits { guest_cluster.0 * 2 ^ cluster_bits < 2 ^ 64 }
+    ensures { line.new ≡ label_text label cluster_bits guest_cluster.0 ++ line.old }
+{
     match label {
-        Label::Index => print_entry(guest_cluster.0, mapping, cluster_bits, out),
-        Label::Offset => {
-            let offset = guest_cluster.offset(cluster_bits);
-            print_entry(offset, mapping, cluster_bits, out)
-        }
+        Label::Index => line.prepend_decimal(guest_cluster.0),
+        Label::Offset => line.prepend_offset(guest_cluster.offset(cluster_bits).0),
     }
 }

@@ -4,7 +4,7 @@ ghost use Rattle.std.specs.Prelude.{◌≡◌, ◌+◌, ◌≤◌, ◌++◌, IsE
 ghost use Rattle.qcow2_base.specs.Storage.{OnImage, ReadsFor};
 ghost use Rattle.qcow2_base.specs.declared.fault.Fault.TheVariants.{Storage as StorageFailed};
 ghost use Rattle.qcow2_session.specs.Session.Extents.{IsReaderOf};
-ghost use Rattle.qcow2_session.specs.Commands.Extents.{PrintsExtents, PrintsRest, closing, content_text, disk_of, extent_line, extent_text, extents_of, json_content, json_flags, json_length, json_object, json_offset, json_row, opening};
+ghost use Rattle.qcow2_session.specs.Commands.Extents.{PrintsExtents, PrintsRest, closing, content_text, disk_of, extent_line, extent_text, extents_of, json_content, json_flags, json_object, json_offset, json_row, opening};
 ghost use Rattle.qcow2_session.specs.Commands.Printing.{PrintsText};
 ghost use Rattle.qcow2_session.specs.Commands.Words.{Parses};
 
@@ -165,19 +165,10 @@ fn prepend_object(line: &mut LineBuffer, extent: &Extent)
     ensures bound { length line.new ≤ length line.old + 160 }
 {
     prepend_json_content(line, extent.content);
-    prepend_json_length(line, extent.length);
+    line.prepend_decimal(extent.length);
+    line.prepend(", \"length\": ");
     line.prepend_decimal(extent.start.0);
     line.prepend("{ \"start\": ");
-}
-
-// Puts in front of a line how long an extent goes on.
-fn prepend_json_length(line: &mut LineBuffer, count: u64)
-    requires { length line.old ≤ 120 }
-    ensures text { line.new ≡ json_length count ++ line.old }
-    ensures bound { length line.new ≤ length line.old + 32 }
-{
-    line.prepend_decimal(count);
-    line.prepend(", \"length\": ");
 }
 
 // Puts all that JSON says of a content in front of a line.

@@ -6,7 +6,7 @@ ghost use Rattle.qcow2_base.specs.declared.fault.Fault.TheVariants.{NoMemory, St
 ghost use Rattle.qcow2_metadata.specs.Results.{Answers};
 ghost use Rattle.qcow2_metadata.specs.Entries.L2Mapping.{IsPlaced, meaning};
 ghost use Rattle.qcow2_metadata.specs.Header.{geometry_of};
-ghost use Rattle.qcow2_metadata.specs.Table.{l1_kind, IsLoadFault, LoadRefuses, loaded_l1_table, loaded_l2_table, place_fault};
+ghost use Rattle.qcow2_metadata.specs.Table.{l1_kind, IsContentFault, LoadRefuses, loaded_l1_table, loaded_l2_table, place_fault};
 ghost use Rattle.qcow2_session.specs.Session.Lookups.{IsInImage, l1_place, l2_cluster};
 ghost use Rattle.qcow2_session.specs.Session.Extents.{AreInOneTable, HasNoTable, IsKeptOf, IsPiece, content_in, contents_in, kept_numbers, moved_on};
 
@@ -177,7 +177,7 @@ fn keep_table<S: Storage>(
     ensures exact { OnImage (S.state image.old) (λ bytes.
         Answers (λ done. kept_numbers kept.new) result
         (loaded_l2_table (geometry_of header.now) cluster bytes)) }
-    ensures faults { IfErr result (IsLoadFault None) }
+    ensures faults { IfErr result IsContentFault }
     ensures storage { OnlyReads result (S.state image.old) (S.state image.new) }
 {
     let is_kept = match kept {
@@ -227,7 +227,7 @@ impl<'a> Extents<'a> {
             ⊎ (contents_for self.old bytes from ≡ Err fault))) }
         ensures within { IfOk result (λ piece. (from < piece.1) × (piece.1 ≤ self.old.header.v2.size)) }
         ensures reader { StaysReader (S.state image.old) self.old self.new }
-        ensures faults { IfErr result (IsLoadFault None) }
+        ensures faults { IfErr result IsContentFault }
         ensures storage { OnlyReads result (S.state image.old) (S.state image.new) }
     {
         let cluster_bits = self.header.cluster_bits();
@@ -255,7 +255,7 @@ impl<'a> Extents<'a> {
             × (self.new.position ≤ self.old.header.v2.size))
             (λ fault. self.new.position ≡ self.old.position) }
         ensures reader { MovesReader (S.state image.old) self.old self.new }
-        ensures faults { IfErr result (IsLoadFault None) }
+        ensures faults { IfErr result IsContentFault }
         ensures storage { OnlyReads result (S.state image.old) (S.state image.new) }
     {
         let start = self.position;
@@ -292,7 +292,7 @@ impl<'a> Extents<'a> {
             self.old.position result) }
         ensures position { ComesTo self.old.header.v2.size self.old.position result self.new.position }
         ensures reader { MovesReader (S.state image.old) self.old self.new }
-        ensures faults { IfErr result (IsLoadFault None) }
+        ensures faults { IfErr result IsContentFault }
         ensures storage { OnlyReads result (S.state image.old) (S.state image.new) }
     {
         let start = self.position;

@@ -5,7 +5,7 @@ ghost use Rattle.qcow2_base.specs.Storage.{OnImage, OnlyReads};
 ghost use Rattle.qcow2_metadata.specs.Results.{Answers};
 ghost use Rattle.qcow2_metadata.specs.Entries.L2Mapping.{IsPlaced, meaning, backing};
 ghost use Rattle.qcow2_metadata.specs.Header.{geometry_of};
-ghost use Rattle.qcow2_metadata.specs.Table.{l1_kind, IsLoadFault, IsLoaded, LoadRefuses, l2_table_at, loaded_l1_table, loaded_l2_table, place_fault};
+ghost use Rattle.qcow2_metadata.specs.Table.{l1_kind, IsContentFault, IsLoaded, LoadRefuses, l2_table_at, loaded_l1_table, loaded_l2_table, place_fault};
 ghost use Rattle.qcow2_session.specs.Session.Lookups.{IsInImage, IsLookupFault, guest_mapping, image_mapping, l1_place, l2_cluster, mapping_in, named_cluster, table_fault};
 
 use qcow2_base::{Fault, GuestCluster, GuestOffset, HostCluster, Storage};
@@ -36,7 +36,7 @@ pub fn lookup<S: Storage>(
         l2_cluster cb l1_table.now.numbers (guest_offset.0 / 2 ^ cb) ≡ None →
         IsOkAnd result (λ found. meaning found ≡ backing (guest_offset.0 / 2 ^ cb * 2 ^ cb))
         × (image.new ≡ image.old) }
-    ensures faults { IfErr result (IsLoadFault None) }
+    ensures faults { IfErr result IsContentFault }
     ensures placed { IfOk result (IsPlaced header.now.v2.cluster_bits) }
     ensures storage { OnlyReads result (S.state image.old) (S.state image.new) }
 {
@@ -103,6 +103,7 @@ pub(crate) fn load_l1_table<S: Storage>(
 }
 
 /// The L2 table that begins with a cluster of an image with this header, as `L2Table::load` loads it.
+#[tactic(auto, using(crate::proofs::LookupsLemmas::content_fault))]
 pub(crate) fn load_l2_table<S: Storage>(
     alloc: Global,
     image: &mut S,
@@ -110,6 +111,7 @@ pub(crate) fn load_l2_table<S: Storage>(
     cluster: HostCluster,
 ) -> Result<L2Table, Fault>
     ensures refused { LoadRefuses (table_fault header.now cluster) result }
+    ensures lawful { IsInImage header.now.v2.cluster_bits cluster → IfErr result IsContentFault }
     ensures exact { OnImage (S.state image.old) (λ bytes.
         Answers (λ table. table.numbers) result
         (loaded_l2_table (geometry_of header.now) cluster bytes)) }

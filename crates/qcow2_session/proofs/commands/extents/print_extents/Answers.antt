@@ -1,5 +1,4 @@
-use Rattle.std.proofs.Common.{Err, IsErrOf, inl, inr, ◌∙◌}
-use Rattle.qcow2_base.specs.declared.fault.Fault.TheVariants.{Storage}
+use Rattle.std.proofs.Common.{inl, inr, ◌∙◌, arith}
 use Rattle.std.proofs.KnownBytes.{Appends-trans}
 use Rattle.std.proofs.lemmas.Result.{err_from_is_err_and}
 use Rattle.qcow2_session.proofs.LookupsLemmas.{reads-then_for}
@@ -22,6 +21,4 @@ returns-in_err-print_all-clause-prints g c =
     })
 
 pub returns-in_err-print_all-clause-storage : goal.returns-in_err-print_all-clause-storage
-returns-in_err-print_all-clause-storage g c =
-    let left = err_from_is_err_and c.from_residual-in_err-print_all.result c.from_residual-in_err-print_all.ensures.1 in
-    rw (left.1, left.2) (reads-then_for {told = IsErrOf {T = Unit} (Err c.in_err-print_all.field-0.0) Storage} _ _ _ _ c.in_ok-extents.ensures.storage c.in_err-print_all.ensures.storage)
+returns-in_err-print_all-clause-storage g c = grind (arith, reads-then_for)

@@ -1,4 +1,4 @@
-use Rattle.std.proofs.Common.{◌≡◌, Ok, refl, rules}
+use Rattle.std.proofs.Common.{◌≡◌, Ok, refl, rules, arith}
 use Rattle.std.proofs.lemmas.Result.{err_from_is_err_and}
 use Rattle.qcow2_metadata.specs.Table.{loaded_l1_table}
 use Rattle.qcow2_session.proofs.ListingLemmas.{PrintsList-none, PrintsList-tables}
@@ -8,7 +8,7 @@ use Rattle.qcow2_session.specs.Session.Lookups.{l1_place}
 use Rattle.qcow2_session.proofs.commands.list.list_tables.Goals as goal
 
 pub returns-clause-storage : goal.returns-clause-storage
-returns-clause-storage g c = reads-then_for _ _ _ _ c.in_ok-tables.ensures.storage c.print_tables.ensures.storage
+returns-clause-storage g c = grind (arith, reads-then_for)
 
 pub returns-clause-prints : goal.returns-clause-prints
 returns-clause-prints g c =

@@ -1,20 +1,10 @@
-use Rattle.std.proofs.Common.{arith, ◌≡◌, ap, rules, inl, inr}
-use Rattle.std.proofs.lemmas.Result.{err_from_is_err_and}
+use Rattle.std.proofs.Common.{arith, ◌≡◌, ap, rules}
 use Rattle.qcow2_metadata.specs.Header.{Geometry, geometry_of}
 use Rattle.qcow2_session.proofs.ImagesLemmas.{image-edited, image-torn, refused-edits}
 use Rattle.qcow2_session.proofs.session.images.edit_image.Goals as goal
 
 pub returns-in_err-outcome-clause-faults : goal.returns-in_err-outcome-clause-faults
-returns-in_err-outcome-clause-faults g c =
-    let exit = err_from_is_err_and c.from_residual-in_err-outcome.result c.from_residual-in_err-outcome.ensures.1 in
-    record {
-      place = search rules;
-      faults = rw (exit.1, exit.2) (elim c.in_err-outcome.ensures.exact [
-        | inl memory ↦ inl (inr (inr (inr (inl memory))))
-        | inr refused ↦ inr (refused-edits c.args.header.now c.in_ok-table.table c.args.edits.now c.in_err-outcome.field-0.0 (search rules) (search rules) refused)
-      ]);
-      torn = λ told failed. inl c.load_l2_table.ensures.storage.bytes;
-    }
+returns-in_err-outcome-clause-faults g c = grind (arith, refused-edits)
 
 pub returns-in_err-write_table_back-clause-faults : goal.returns-in_err-write_table_back-clause-faults
 returns-in_err-write_table_back-clause-faults g c = grind (arith, image-torn)
