@@ -106,10 +106,6 @@ text-ok fault bytes name found = grind (arith, nat_tests, IsUtf8-from_is_utf8)
 pub text_of_utf8 : (fault : Fault) (bytes : List ℕ) → IsUtf8 bytes → text fault bytes ≡ Ok bytes
 text_of_utf8 fault bytes is = rw (is_utf8-from_IsUtf8 bytes is) refl
 
--- the bytes of the backing file's name
-abbrev name_bytes : Image → V2Header → List ℕ
-name_bytes image v2 = bytes_at image v2.backing_file_offset v2.backing_file_size
-
 -- there is no backing file's name exactly where none is read
 no_name-is : (image : Image) (v2 : V2Header) → backing_name image v2 ≡ Ok None → v2.backing_file_offset ≡ 0
 no_name-is image v2 is = grind (arith, nat_tests)

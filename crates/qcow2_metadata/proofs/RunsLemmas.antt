@@ -17,7 +17,7 @@ use Rattle.qcow2_metadata.specs.declared.entries.runs.RunPattern.{RunPattern}
 use Rattle.qcow2_metadata.proofs.MappingLemmas.{bit, bit_below}
 use Rattle.qcow2_metadata.proofs.TableLemmas.{no_fault_item}
 
--- and no other at one
+-- compressed data reads on from no standard entry
 before_compressed : (z cp : Bool) (h : Option ℕ) (k p o m : ℕ) → reads_on k (standard_mapping z h cp p) (compressed o m) ≡ false
 before_compressed z cp h k p o m = grind arith
 

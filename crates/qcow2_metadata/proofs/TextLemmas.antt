@@ -219,7 +219,7 @@ text-says image len place (extension ∷ extensions) small back held within =
     let rest = text-says image len next extensions small others_back others_held (omega (arith, count)) in
     says_more image len place next (normal_extension extension) (map normal_extension extensions) first rest
 
--- so the names are the same
+-- what extensions read back as says the same names
 pub same-names_by : (type : HeaderExtensionType) (extensions : List Extension)
     → names_by (name_in type) (map normal_extension extensions) ≡ names_by (name_in type) extensions
 same-names_by type [] = refl

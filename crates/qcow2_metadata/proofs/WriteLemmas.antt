@@ -21,7 +21,7 @@ use Rattle.qcow2_metadata.specs.declared.header.extensions.HeaderExtension.{Head
 use Rattle.qcow2_metadata.specs.declared.header.extensions.HeaderExtensionType.{HeaderExtensionType}
 use Rattle.qcow2_metadata.specs.declared.header.extensions.HeaderExtensionType.TheVariants as kind
 
--- without such tables the names are the same
+-- without tables of feature names the names are the same
 filter-names_by : (type : HeaderExtensionType) (extensions : List Extension)
     → names_by (name_in type) (filter is_other extensions) ≡ names_by (name_in type) extensions
 filter-names_by type [] = refl
