@@ -33,10 +33,6 @@ end-extension_at : (image : Image) (len place : ℕ) → IsEnd len (link_at imag
     → extension_at image len place ≡ Ok None
 end-extension_at image len place is = grind (arith, nat_tests)
 
-some-extension_at : (image : Image) (len place : ℕ) (extension : Extension) (next : ℕ)
-    → IsFirst image len place extension next → extension_at image len place ≡ Ok (Some (extension, next))
-some-extension_at image len place extension next is = grind (arith, nat_tests)
-
 -- the rest of a chain after what its first extension says
 abbrev with_others : Image → ℕ → ℕ → Option (Extension × ℕ) → Result (List Extension) Fault
 with_others image len most found = elim found [
@@ -135,7 +131,7 @@ chain_first : (image : Image) (len place : ℕ) (link : Link) (links : List Link
     → extensions_at image len place ≡ result_map (λ others. extension ∷ others)
     (extensions_at image len (next_place link))
 chain_first image len place link links last extension chain says =
-    grind (arith, nat_tests, extensions_at-unfold, some-extension_at)
+    grind (arith, nat_tests, extensions_at-unfold)
 
 -- the extensions of a complete chain are found
 chain-says : (image : Image) (len place : ℕ) (links : List Link) (last : Link) (extensions : List Extension)

@@ -8,7 +8,7 @@ use Rattle.qcow2_base.specs.Bits.{field}
 use Rattle.qcow2_base.specs.Types.{IsClusterBits}
 use Rattle.qcow2_metadata.specs.Header.{Geometry}
 use Rattle.qcow2_metadata.specs.declared.entries.ClustersToFreeEntry.{ClustersToFreeEntry}
-use Rattle.qcow2_metadata.specs.Entries.L2Entry.{ByteRange, IsAllocation, Meets, allocation, byte_range, cluster_count, clusters_met, first_cluster, has_host_cluster, is_compressed, l2_fault, meets, with_zero_flag}
+use Rattle.qcow2_metadata.specs.Entries.L2Entry.{ByteRange, IsAllocation, Meets, allocation, byte_range, cluster_count, clusters_met, first_cluster, has_host_cluster, is_compressed, meets, with_zero_flag}
 use Rattle.qcow2_metadata.specs.Entries.{is_among, offset_field}
 use Rattle.qcow2_metadata.proofs.EntriesLemmas.{meets_is_met, offset_in_sectors}
 use Rattle.qcow2_metadata.specs.Table.L2Guards.{EntryEdit, GivesUp, TableEdit, after_edit, can_be_made, changed, data_entry, dropped, fits_table, gained, handed_back, is_just, is_mappable, keeps, one_if, references, run_of, times_gained, to_data, to_nothing, to_zeros}
@@ -74,9 +74,6 @@ allocation-one g = grind arith
 
 pub allocation-zero : (g : Geometry) → allocation g 0 ≡ None
 allocation-zero g = grind arith
-
-pub with_zero_flag-fault : (cb v : ℕ) → is_compressed v ≡ false → l2_fault cb (with_zero_flag v) ≡ l2_fault cb v
-with_zero_flag-fault cb v standard = grind arith
 
 -- clusters one after another are the one alone just where they have it among them and no other
 just_is_all : (cluster : ℕ) (found : Option ClustersToFreeEntry) → IfSome found (λ some. 1 ≤ some.count.0) → (is_just cluster found ≡ true) ↔ ((refer found cluster ≡ true) × ((c : ℕ) → refer found c ≡ true → c ≡ cluster))

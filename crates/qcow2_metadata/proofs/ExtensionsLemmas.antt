@@ -17,7 +17,6 @@ use Rattle.qcow2_metadata.specs.declared.header.extensions.HeaderExtension.TheVa
 use Rattle.qcow2_metadata.specs.declared.header.extensions.HeaderExtensionType.{HeaderExtensionType}
 use Rattle.qcow2_metadata.specs.declared.header.extensions.HeaderExtensionType.TheVariants as kind
 use Rattle.qcow2_metadata.specs.declared.header.features.FeatureType.{FeatureType}
-use Rattle.qcow2_metadata.specs.declared.header.features.FeatureType.TheVariants.{Autoclear, Compatible, Incompatible}
 use Rattle.qcow2_metadata.specs.contracts.header.extensions.HeaderExtensionPartialEq.TheImpl as extension_eq
 use Rattle.qcow2_metadata.specs.contracts.header.features.FeatureTypePartialEq.TheImpl as feature_type_eq
 
@@ -52,30 +51,15 @@ pub text-reads_back : (type : HeaderExtensionType) (name : List ℕ) → is_text
     → ReadsBack (TextOf type name)
 text-reads_back type name is valid = grind (arith, nat_tests, is_utf8-from_IsUtf8)
 
--- the numbers of two types of extensions are the same exactly where the types are
-extension_number-Decides : (a b : HeaderExtensionType) → Decides (extension_number a == extension_number b) (a ≡ b)
-extension_number-Decides kind.End kind.End = (λ _. refl, λ _. refl)
-extension_number-Decides kind.BackingFileFormat kind.BackingFileFormat = (λ _. refl, λ _. refl)
-extension_number-Decides kind.FeatureNameTable kind.FeatureNameTable = (λ _. refl, λ _. refl)
-extension_number-Decides kind.ExternalDataFileName kind.ExternalDataFileName = (λ _. refl, λ _. refl)
-extension_number-Decides _ _ = (λ h. cc, λ h. cc)
-
--- the numbers of two types of features are the same exactly where the types are
-feature_type_number-Decides : (a b : FeatureType) → Decides (feature_type_number a == feature_type_number b) (a ≡ b)
-feature_type_number-Decides Incompatible Incompatible = (λ _. refl, λ _. refl)
-feature_type_number-Decides Compatible Compatible = (λ _. refl, λ _. refl)
-feature_type_number-Decides Autoclear Autoclear = (λ _. refl, λ _. refl)
-feature_type_number-Decides _ _ = (λ h. cc, λ h. cc)
-
 -- the test of two names with their keys says whether they are the same
 same_feature_name-Decides : (a b : FeatureKey × List ℕ) → Decides (same_feature_name a b) (a ≡ b)
 same_feature_name-Decides ((kind, bit), name) ((other_kind, other_bit), other) =
-    grind (arith, nat_tests, Decides-and, feature_type_number-Decides, Decides-eqb, Decides-like, bytes_eq-Decides)
+    grind (arith, nat_tests, Decides-and, Decides-eqb, Decides-like, bytes_eq-Decides)
 
 -- the test of two extensions says whether they are the same
 pub same_extension-Decides : (a b : Extension) → Decides (same_extension a b) (a ≡ b)
 same_extension-Decides a b =
-    grind (arith, extension_number-Decides, bytes_eq-Decides, slice_eq-Decides, same_feature_name-Decides)
+    grind (arith, bytes_eq-Decides, slice_eq-Decides, same_feature_name-Decides)
 
 -- the derived test of two types of features is that of their numbers
 feature_type_eq-number : (a b : FeatureType) → (feature_type_eq.ghosts).eq a b ≡ (feature_type_number a == feature_type_number b)

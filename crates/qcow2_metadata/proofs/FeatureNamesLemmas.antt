@@ -33,10 +33,6 @@ until_zero-found bytes (Some n) found =
 -- what a name is read as
 pub ruleset names_read = (until_zero-found, lossy_chars-utf8_lossy)
 
--- the type of a number is the one that has it
-feature_type_of-number : (kind : FeatureType) → feature_type_of (feature_type_number kind) ≡ Some kind
-feature_type_of-number kind = grind (arith, nat_tests)
-
 feature_type_of-unknown : (number : ℕ) → ((kind : FeatureType) → feature_type_number kind ≢ number) → feature_type_of number ≡ None
 feature_type_of-unknown number unknown = grind (arith, unknown Incompatible, unknown Compatible, unknown Autoclear)
 
@@ -48,7 +44,7 @@ with_feature_name-unknown names chunk unknown = grind (arith, nat_tests, feature
 pub with_feature_name-named : (names : FeatureNames) (kind : FeatureType) (chunk : List ℕ) → 2 ≤ length chunk
     → feature_type_number kind ≡ slice_index chunk 0 → with_feature_name names chunk
     ≡ Ok (insert_entry key_cmp names (kind, slice_index chunk 1) (utf8_lossy (until_zero (drop 2 chunk))))
-with_feature_name-named names kind chunk two known = grind (arith, nat_tests, feature_type_of-number)
+with_feature_name-named names kind chunk two known = grind (arith, nat_tests)
 
 -- to set a value and then map all values is to map them and then set the value's image
 pub insert_entry-map : {K X Y : Type 0} (f : X → Y) (cmp : K → K → Ordering) (entries : List (K × X))

@@ -1,4 +1,4 @@
-use Rattle.std.proofs.Common.{◌≡◌, ◌⊎◌, ℕ, zero, suc, ◌-◌, true, nat_eq, List, [], ◌∷◌, Option, Some, None, Result, Ok, refl, sym, ap, ◌∙◌, inl, inr, subst, arith, rules}
+use Rattle.std.proofs.Common.{◌≡◌, ◌⊎◌, ℕ, zero, suc, ◌-◌, true, nat_eq, List, [], ◌∷◌, Option, None, Result, Ok, refl, sym, ap, ◌∙◌, inl, inr, subst, arith, rules}
 use Rattle.std.specs.Cmp.Lexicographic.{pointwise}
 use Rattle.std.specs.List.{IsAmong, list_all}
 use Rattle.std.specs.Str.{IsUtf8}
@@ -8,7 +8,6 @@ use Rattle.std.proofs.lemmas.Str.{IsUtf8-from_is_utf8, is_utf8-from_IsUtf8}
 use Rattle.qcow2_base.specs.OnDiskStruct.{HoldsLayout, moved, v2_header, v3_header_base}
 use Rattle.qcow2_base.specs.Storage.{Image}
 use Rattle.qcow2_base.specs.declared.fault.Fault.{Fault}
-use Rattle.qcow2_base.specs.declared.fault.Fault.TheVariants.{BackingNameText}
 use Rattle.qcow2_base.specs.declared.on_disk_struct.v2_header.V2Header.{V2Header}
 use Rattle.qcow2_base.specs.declared.on_disk_struct.v3_header_base.V3HeaderBase.{V3HeaderBase}
 use Rattle.qcow2_metadata.specs.Results.{and_then, provided}
@@ -107,22 +106,14 @@ text-ok fault bytes name found = grind (arith, nat_tests, IsUtf8-from_is_utf8)
 pub text_of_utf8 : (fault : Fault) (bytes : List ℕ) → IsUtf8 bytes → text fault bytes ≡ Ok bytes
 text_of_utf8 fault bytes is = rw (is_utf8-from_IsUtf8 bytes is) refl
 
--- the bytes of the backing file's name
-abbrev name_bytes : Image → V2Header → List ℕ
-name_bytes image v2 = bytes_at image v2.backing_file_offset v2.backing_file_size
-
 -- there is no backing file's name exactly where none is read
 no_name-is : (image : Image) (v2 : V2Header) → backing_name image v2 ≡ Ok None → v2.backing_file_offset ≡ 0
 no_name-is image v2 is = grind (arith, nat_tests)
 
-some_name-text : (image : Image) (v2 : V2Header) (name : List ℕ) → backing_name image v2 ≡ Ok (Some name)
-    → text BackingNameText (name_bytes image v2) ≡ Ok name
-some_name-text image v2 name is = grind (arith, nat_tests)
-
 -- the backing file's name that is read
 backing_name-is : (image : Image) (v2 : V2Header) (name : Option (List ℕ))
     → backing_name image v2 ≡ Ok name → IsBackingName image v2 name
-backing_name-is image v2 name is = grind (arith, nat_tests, no_name-is, text-ok, some_name-text)
+backing_name-is image v2 name is = grind (arith, nat_tests, no_name-is, text-ok)
 
 -- the backing file's name is read
 is-backing_name : (image : Image) (v2 : V2Header) (name : Option (List ℕ)) → IsBackingName image v2 name

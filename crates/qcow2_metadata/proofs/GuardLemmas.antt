@@ -4,13 +4,13 @@ use Rattle.qcow2_metadata.specs.Entries.L2Entry.{IsAllocation, has_host_cluster,
 use Rattle.qcow2_metadata.specs.Header.{Geometry}
 use Rattle.qcow2_metadata.specs.Table.{TableState, edited}
 use Rattle.qcow2_metadata.specs.declared.entries.ClustersToFreeEntry.{ClustersToFreeEntry}
-use Rattle.qcow2_metadata.proofs.EditsLemmas.{standard_if_host_cluster, with_zero_flag-fault}
+use Rattle.qcow2_metadata.proofs.EditsLemmas.{standard_if_host_cluster}
 use Rattle.std.proofs.lemmas.Bool.Decides.{nat_tests}
 
 -- an entry that refers to a host cluster is lawful with the zero flag
 pub zeros-lawful : (g : Geometry) (v : ℕ) → has_host_cluster g v ≡ true
     → l2_fault g.cluster_bits v ≡ None → l2_fault g.cluster_bits (with_zero_flag v) ≡ None
-zeros-lawful g v has lawful = grind (arith, nat_tests, with_zero_flag-fault, standard_if_host_cluster)
+zeros-lawful g v has lawful = grind (arith, nat_tests, standard_if_host_cluster)
 
 -- an entry that keeps its host cluster is zeroed
 pub zeros-kept : (table new : TableState) (index : ℕ) (keep : Bool)

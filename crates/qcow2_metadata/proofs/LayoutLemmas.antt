@@ -58,7 +58,7 @@ parts_within_len with_names held i extension below is =
     rw (← is) at (length-flat_map-take (held_part with_names) held i extension below)
 
 -- how many bytes extensions take
-pub ruleset lens = (extensions_text_len, parts_within_len)
+pub ruleset lens = (extensions_text_len, parts_within_len, take_all)
 
 -- bytes behind others, and the zeros behind them, are the padded bytes behind the others
 pub padded_pieces : (text bytes : List ℕ) → (text ++ bytes) ++ replicate ((8 - length bytes % 8) % 8) 0 ≡ text ++ padded bytes

@@ -1,4 +1,4 @@
-use Rattle.std.proofs.Common.{◌≡◌, ℕ, Bool, true, false, nat_eq, if◌then◌else◌, ◌+◌, ◌-◌, ◌*◌, ◌%◌, ◌^◌, ◌<◌, ◌≤◌, Some, None, ap, ◌∙◌, arith, pow_mono}
+use Rattle.std.proofs.Common.{◌≡◌, ℕ, Bool, true, false, if◌then◌else◌, ◌+◌, ◌-◌, ◌*◌, ◌%◌, ◌^◌, ◌<◌, ◌≤◌, Some, None, ap, ◌∙◌, arith, pow_mono}
 use Rattle.std.proofs.lemmas.Bool.{lt-ltb}
 use Rattle.std.proofs.lemmas.Bool.Decides.{nat_tests}
 use Rattle.std.proofs.lemmas.Nat.{pow_pos, pow-add, shl-shr, mul-le, div-mul-add, mod-mul-add}
@@ -20,9 +20,6 @@ bit false = 0
 pub bit_below : (b : Bool) → bit b < 2
 bit_below b = grind arith
 
-bit_is_set : (b : Bool) → nat_eq (bit b) 1 ≡ b
-bit_is_set b = grind arith
-
 -- the fields of a standard entry
 record IsStandard (v offset copied zeros : ℕ) : Type 0 where
   kind : field v 62 1 ≡ 0
@@ -42,7 +39,7 @@ standard_is_lawful : (cb cluster : ℕ) (copied flag : Bool) → 9 ≤ cb → cl
 standard_is_lawful cb cluster copied flag low placed = grind (arith, nat_tests, is_standard, mul-mod_left)
 
 standard_reads : (cb guest_cluster cluster : ℕ) (copied flag external : Bool) → 9 ≤ cb → cluster * 2 ^ cb < 2 ^ 56 → mapping (geometry cb external) guest_cluster (standard_number cb cluster copied flag) ≡ standard_mapping flag (if is_told external cluster copied then Some cluster else None) copied (guest_cluster * 2 ^ cb)
-standard_reads cb guest_cluster cluster copied flag external low placed = grind (arith, nat_tests, mul-le, pow_pos, is_standard, bit_is_set, shl-shr)
+standard_reads cb guest_cluster cluster copied flag external low placed = grind (arith, nat_tests, mul-le, pow_pos, is_standard, shl-shr)
 
 told_data : (told copied : Bool) (cluster offset : ℕ) → standard_mapping false (if told then Some cluster else None) copied offset ≡ (if told then data_file cluster copied else backing offset)
 told_data told copied cluster offset = grind arith

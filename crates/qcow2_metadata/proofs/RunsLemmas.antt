@@ -17,7 +17,7 @@ use Rattle.qcow2_metadata.specs.declared.entries.runs.RunPattern.{RunPattern}
 use Rattle.qcow2_metadata.proofs.MappingLemmas.{bit, bit_below}
 use Rattle.qcow2_metadata.proofs.TableLemmas.{no_fault_item}
 
--- and no other at one
+-- compressed data reads on from no standard entry
 before_compressed : (z cp : Bool) (h : Option ℕ) (k p o m : ℕ) → reads_on k (standard_mapping z h cp p) (compressed o m) ≡ false
 before_compressed z cp h k p o m = grind arith
 
@@ -32,11 +32,6 @@ after_cluster : (zb zb0 alloc cp cp0 : Bool) (n q q0 k o p : ℕ) → 2 ≤ n �
     → nat_eq (q * n + bit zb) (q0 * n + bit zb0 + k * n)
     ≡ reads_on k (standard_mapping zb0 (Some q0) cp0 o) (standard_mapping zb (if alloc then Some q else None) cp p)
 after_cluster zb zb0 alloc cp cp0 n q q0 k o p some far told = grind (arith, nat_tests, same_place, bit, bit_below)
-
-after_no_cluster : (zb zb0 alloc cp cp0 : Bool) (x q k o p : ℕ) → (alloc ≡ true → 2 ≤ x) → (alloc ≡ false → x ≡ bit zb)
-    → nat_eq x (bit zb0 + k * 0)
-    ≡ reads_on k (standard_mapping zb0 None cp0 o) (standard_mapping zb (if alloc then Some q else None) cp p)
-after_no_cluster zb zb0 alloc cp cp0 x q k o p large small = grind (arith, nat_tests)
 
 -- the parts of a lawful standard entry
 record Parts (cb v : ℕ) : Type 0 where
@@ -98,7 +93,7 @@ after_an_entry_without : (cb : ℕ) (external : Bool) (x k v v0 c other : ℕ) �
     → (is_compressed v ≡ false → (is_allocated external v ≡ true → 2 ≤ x) × (is_allocated external v ≡ false → x ≡ bit (is_zero v)))
     → l2_fault cb v0 ≡ None → is_compressed v0 ≡ false → is_allocated external v0 ≡ false
     → nat_eq x (v0 % 2 ^ 63 + k * 0) ≡ reads_on k (mapping (geometry cb external) c v0) (mapping (geometry cb external) other v)
-after_an_entry_without cb external x k v v0 c other packed_large tested lawful0 standard0 none = grind (arith, nat_tests, parts_of, bit, bit_below, before_compressed, after_no_cluster)
+after_an_entry_without cb external x k v v0 c other packed_large tested lawful0 standard0 none = grind (arith, nat_tests, parts_of, bit, bit_below, before_compressed)
 
 pub after_an_entry_without_one : (cb k v v0 c other : ℕ) → l2_fault cb v ≡ None → l2_fault cb v0 ≡ None → is_compressed v0 ≡ false → is_allocated false v0 ≡ false
     → nat_eq (bit_and v 9223372036854775807) (v0 % 2 ^ 63 + k * 0) ≡ reads_on k (mapping (geometry cb false) c v0) (mapping (geometry cb false) other v)

@@ -219,16 +219,11 @@ text-says image len place (extension ∷ extensions) small back held within =
     let rest = text-says image len next extensions small others_back others_held (omega (arith, count)) in
     says_more image len place next (normal_extension extension) (map normal_extension extensions) first rest
 
--- what an extension reads back as says the same name
-same-name_in : (type : HeaderExtensionType) (extension : Extension)
-    → name_in type (normal_extension extension) ≡ name_in type extension
-same-name_in type extension = grind (arith, nat_tests)
-
--- so the names are the same
+-- what extensions read back as says the same names
 pub same-names_by : (type : HeaderExtensionType) (extensions : List Extension)
     → names_by (name_in type) (map normal_extension extensions) ≡ names_by (name_in type) extensions
 same-names_by type [] = refl
-same-names_by type (extension ∷ extensions) = grind (arith, nat_tests, same-name_in, same-names_by type extensions)
+same-names_by type (extension ∷ extensions) = grind (arith, nat_tests, same-names_by type extensions)
 
 -- the header has the places of its text, which fits the first cluster, and a name that isn't too long
 pub record IsPlaced (header : HeaderRecord) : Type 0 where

@@ -1,15 +1,15 @@
-use Rattle.std.proofs.Common.{◌≡◌, ◌⊎◌, ℕ, Bool, true, false, not, List, [], ◌∷◌, map, refl, ap, sym, subst, ◌∙◌, arith, Some, None}
+use Rattle.std.proofs.Common.{◌≡◌, ◌⊎◌, ℕ, Bool, true, false, not, List, [], ◌∷◌, map, refl, ap, sym, subst, ◌∙◌, arith, Some}
 use Rattle.std.specs.Prelude.{All, Err, Ok}
 use Rattle.std.specs.List.{filter}
 use Rattle.std.proofs.lemmas.Bool.Decides.{nat_tests}
-use Rattle.std.proofs.lemmas.List.Elements.{All-filter, All-from_recursion, All-weaker}
+use Rattle.std.proofs.lemmas.List.Elements.{All-filter, All-weaker}
 use Rattle.qcow2_base.specs.OnDiskStruct.{v2_header, v3_header_base}
 use Rattle.qcow2_base.specs.Storage.{Holds, Image, OnlyWrites, StorageState}
 use Rattle.qcow2_base.specs.declared.fault.Fault.{Fault}
 use Rattle.qcow2_base.specs.declared.fault.Fault.TheVariants.{HeaderTooLong, NameTooLong}
 use Rattle.qcow2_base.specs.declared.on_disk_struct.v2_header.V2Header.{V2Header}
 use Rattle.qcow2_base.specs.declared.on_disk_struct.v3_header_base.V3HeaderBase.{V3HeaderBase}
-use Rattle.qcow2_metadata.specs.Header.{HeaderRecord, IsLawfulHeader, default_base, names_by, other_features}
+use Rattle.qcow2_metadata.specs.Header.{HeaderRecord, IsLawfulHeader, names_by, other_features}
 use Rattle.qcow2_metadata.specs.Header.Extensions.{Extension, IsStorable, extension_of, name_in}
 use Rattle.qcow2_metadata.specs.Header.Text.{AreFitting, IsLayout, IsWrittenHeader, base_with_length, chosen, chosen_extensions, chosen_text, header_end, header_text, kept, placed_text, is_other, name_place, placed}
 use Rattle.qcow2_metadata.specs.declared.header.text.Layout.{Layout}
@@ -21,16 +21,11 @@ use Rattle.qcow2_metadata.specs.declared.header.extensions.HeaderExtension.{Head
 use Rattle.qcow2_metadata.specs.declared.header.extensions.HeaderExtensionType.{HeaderExtensionType}
 use Rattle.qcow2_metadata.specs.declared.header.extensions.HeaderExtensionType.TheVariants as kind
 
--- a table of feature names says no name
-no_name : (type : HeaderExtensionType) (extension : Extension) → is_other extension ≡ false
-    → name_in type extension ≡ None
-no_name type extension is = grind (arith, nat_tests)
-
--- without such tables the names are the same
+-- without tables of feature names the names are the same
 filter-names_by : (type : HeaderExtensionType) (extensions : List Extension)
     → names_by (name_in type) (filter is_other extensions) ≡ names_by (name_in type) extensions
 filter-names_by type [] = refl
-filter-names_by type (extension ∷ extensions) = grind (arith, nat_tests, no_name, filter-names_by type extensions)
+filter-names_by type (extension ∷ extensions) = grind (arith, nat_tests, filter-names_by type extensions)
 
 -- the names are the same, whether such tables are written or not
 chosen-names_by : (with_names : Bool) (type : HeaderExtensionType) (extensions : List Extension)
@@ -108,15 +103,11 @@ pub chosen_text-placed : (header written : HeaderRecord) → kept header ≡ Ok 
     → chosen_text header ≡ header_text written
 chosen_text-placed header written is = ap placed_text is ∙ header_text-placed written
 
--- the second part of version 2 fits
-default-fits : AreFitting (v3_header_base default_base)
-default-fits = grind (arith, nat_tests, All-from_recursion)
-
 -- the second part that is written fits
 base-fits : (with_names : Bool) (header : HeaderRecord) (layout : Layout) → IsLawfulHeader header
     → IsLayout (chosen with_names header) layout
     → (header.v2.version ≡ 3 → AreFitting (v3_header_base layout.base)) → AreFitting (v3_header_base layout.base)
-base-fits with_names header layout lawful is fits = grind (arith, nat_tests, older-base, default-fits)
+base-fits with_names header layout lawful is fits = grind (arith, nat_tests, older-base)
 
 -- a header whose text stands in an image is written there
 pub written-header : (image : Image) (header : HeaderRecord) (layout : Layout) → IsLawfulHeader header

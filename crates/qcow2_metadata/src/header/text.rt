@@ -28,6 +28,7 @@ pub(super) struct Layout {
 impl Header {
     // The layout of its text, with feature names or without; none where the text doesn't fit the first
     // cluster.
+    #[tactic(auto, using(crate::proofs::HeaderLemmas::held_are, crate::proofs::LayoutLemmas::too_long))]
     pub(super) fn layout(&self, with_names: bool) -> Option<Layout>
         ensures layout { MatchOption result (fits_first_cluster (chosen with_names self.now) ≡ false)
             (IsLayout (chosen with_names self.now)) }

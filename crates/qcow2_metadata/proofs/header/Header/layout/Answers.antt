@@ -1,20 +1,8 @@
 use Rattle.std.proofs.Common.{◌≡◌, arith, refl}
 use Rattle.qcow2_metadata.proofs.HeaderLemmas.{held_are}
-use Rattle.qcow2_metadata.proofs.LayoutLemmas.{laid_out, too_long}
+use Rattle.qcow2_metadata.proofs.LayoutLemmas.{laid_out}
 use Rattle.qcow2_metadata.specs.Header.Text.{chosen, name_place}
 use Rattle.qcow2_metadata.proofs.header.Header.layout.Goals as goal
-
-pub returns-in_err-extensions_len-clause-layout : goal.returns-in_err-extensions_len-clause-layout
-returns-in_err-extensions_len-clause-layout c = grind (arith, held_are, too_long)
-
-pub returns-in_err-name_place-clause-layout : goal.returns-in_err-name_place-clause-layout
-returns-in_err-name_place-clause-layout c = grind (arith, held_are, too_long)
-
-pub returns-in_err-len-clause-layout : goal.returns-in_err-len-clause-layout
-returns-in_err-len-clause-layout c = grind (arith, held_are, too_long)
-
-pub returns-then-len-cluster_size-clause-layout : goal.returns-then-len-cluster_size-clause-layout
-returns-then-len-cluster_size-clause-layout c = grind (arith, held_are, too_long)
 
 pub returns-clause-layout : goal.returns-clause-layout
 returns-clause-layout c =
