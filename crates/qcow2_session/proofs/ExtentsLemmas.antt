@@ -190,7 +190,8 @@ extent_that_ends contents size start found next some within reads piece differs 
 pub refused_at_end : (contents : Contents) (size start end : ℕ) (content : Content) (fault : Fault) → start < end → end < size → ReadAsOne contents start (end - start) content → contents end ≡ Err fault
     → IsRefusedFrom contents size start fault
 refused_at_end contents size start end content fault some within reads refused =
-    let at : start + (end - start) ≡ end = omega (arith, some) in (end - start, content, grind (arith, at, within), reads, rw at refused)
+    let at : start + (end - start) ≡ end = omega (arith, some) in
+    (end - start, content, omega (arith, at, within), reads, rw at refused)
 
 pub refused_at_start : (contents : Contents) (size start : ℕ) (fault : Fault) → start < size → contents start ≡ Err fault → IsRefusedFrom contents size start fault
 refused_at_start contents size start fault within refused = grind (arith, nat_tests)

@@ -102,11 +102,6 @@ PrintsList-none fault tables old new a refused failed = grind (arith, nat_tests,
 -- the tables that an L1 table names, after that was loaded
 pub PrintsList-tables : {T V : Type 0} (value : V) (answer : Result T Fault) (tables : Result TableTexts Fault) (each : TableTexts) (old between new : StorageState) (a b : Option (List ℕ))
     → (IsTrue old.tells → tables ≡ Ok each) → OnlyReads (Ok value) old between → PrintsTables answer each between new a b → PrintsList answer tables old new a b
-PrintsList-tables value (Ok done) tables each old between new a b are reads prints = record {
-  lines = λ told. rw (are told) (prints.lines (reads.device.tells ∙ told));
-  refused = tt;
-}
-PrintsList-tables value (Err fault) tables each old between new a b are reads prints = record {
-  lines = tt;
-  refused = λ told. rw (are told) (inr (ended-after value fault each old between new a b reads (prints.refused (reads.device.tells ∙ told))));
-}
+PrintsList-tables value (Ok done) tables each old between new a b are reads prints = grind (arith, nat_tests, are, reads.device, prints.lines)
+PrintsList-tables value (Err fault) tables each old between new a b are reads prints =
+    grind (arith, nat_tests, are, reads.device, prints.refused, ended-after value fault each old between new a b reads)

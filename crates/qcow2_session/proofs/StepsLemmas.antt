@@ -61,8 +61,7 @@ all_in_bounds entries steps none = all_pass (in_bounds entries) steps none
 -- and so is each of them
 pub each_in_bounds : (entries : ℕ) (steps : List Step) (i : ℕ) (default : Step) → list_all (in_bounds entries) steps ≡ true → i < length steps → index_of (get_or steps i default) < entries
 each_in_bounds entries steps i default all below =
-    let passes = AllPass-from_list_all (in_bounds entries) steps all i default below in
-    grind (arith, nat_tests, passes)
+    grind (arith, nat_tests, AllPass-from_list_all (in_bounds entries) steps all i default below)
 
 -- what a step does to each counter
 counted : (order : ℕ) (step : Step) (counters : List ℕ) (index : ℕ) → index_of step < length counters → let before = slice_index counters (index_of step) in let after = stepped order (change_of step) before in slice_index (after_change counters (index_of step) after) index + (if decrements index step && is_done (reply_of after before) then 1 else 0) ≡ slice_index counters index + (if increments index step && is_done (reply_of after before) then 1 else 0)
