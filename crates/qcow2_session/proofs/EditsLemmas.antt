@@ -1,4 +1,4 @@
-use Rattle.std.proofs.Common.{◌≡◌, ℕ, true, not, ◌&&◌, nat_le, nat_eq, ◌+◌, ◌-◌, ◌/◌, ◌^◌, ◌<◌, if◌then◌else◌, Option, Some, None, option_map, List, [], ◌∷◌, ◌++◌, length, take, drop, get_or, suc, option_to_list, append_assoc, append-nil, ap, subst, sym, refl, ◌∙◌, arith}
+use Rattle.std.proofs.Common.{◌≡◌, ℕ, true, not, ◌&&◌, nat_le, nat_eq, ◌+◌, ◌-◌, ◌/◌, ◌^◌, ◌<◌, if◌then◌else◌, Option, None, option_map, List, ◌∷◌, ◌++◌, length, take, drop, get_or, suc, option_to_list, append_assoc, append-nil, ap, refl, ◌∙◌, arith}
 use Rattle.std.proofs.Math.Nat.{le-div_iff_mul-le}
 use Rattle.std.proofs.lemmas.Nat.{pow_pos}
 use Rattle.std.proofs.lemmas.Bool.Decides.{nat_tests}
@@ -12,7 +12,7 @@ use Rattle.std.specs.List.{list_all}
 use Rattle.qcow2_base.specs.Types.{IsClusterBits}
 use Rattle.qcow2_base.specs.declared.types.HostCluster.{HostCluster}
 use Rattle.qcow2_metadata.proofs.EditsLemmas.{balance-run}
-use Rattle.qcow2_metadata.specs.Table.L2Guards.{RunEnd, TableEdit, after_edit, fits_table, handed_back, is_mappable, references, run_of, times_gained}
+use Rattle.qcow2_metadata.specs.Table.L2Guards.{RunEnd, TableEdit, after_edit, fits_table, is_mappable, run_of}
 use Rattle.qcow2_metadata.specs.Header.{Geometry}
 use Rattle.qcow2_metadata.specs.Table.{TableState, edited}
 use Rattle.qcow2_metadata.specs.declared.entries.ClustersToFreeEntry.{ClustersToFreeEntry}
@@ -49,8 +49,7 @@ joined-more freed gained one other rest = rw (append_assoc freed (option_to_list
 
 -- the numbers of one more cluster, if there is one
 numbers_of-more : (clusters : List HostCluster) (other : Option HostCluster) → cluster_numbers (clusters ++ option_to_list other) ≡ cluster_numbers clusters ++ option_to_list (option_map (λ (cluster : HostCluster). cluster.0) other)
-numbers_of-more clusters None = rw (append-nil (cluster_numbers clusters), append-nil clusters) refl
-numbers_of-more clusters (Some cluster) = map-append (λ (c : HostCluster). c.0) clusters (cluster ∷ [])
+numbers_of-more clusters other = grind (arith, map-append, append-nil)
 
 -- some edits are made once one more is
 are_some-take : (edits : List Edit) (done : ℕ) → done < length edits → are_some (take (done + 1) edits) ≡ true
@@ -63,15 +62,13 @@ part_way-next edits done default before now next change outcome after below way 
     let one_more : done + 1 ≡ suc done = omega arith in
     let enough : length edits - (done + 1) + 1 ≡ length edits - done = omega (arith, below) in
     let geometry : now.geometry ≡ before.geometry = ap (λ (table : TableState). table.geometry) way.table in
-    let cluster : now.cluster ≡ before.cluster = ap (λ (table : TableState). table.cluster) way.table in
     let changed : next.numbers ≡ after_edit now.geometry e now.numbers = ap (λ (table : TableState). table.numbers) made.table in
     let numbers : next.numbers ≡ after_edit before.geometry e now.numbers = rw (← geometry) changed in
     let left : drop done edits ≡ get_or edits done default ∷ drop (suc done) edits = drop-cons edits done default below in
     let run : joined outcome.freed.items (cluster_numbers outcome.gained.items) (run_of before.geometry (e ∷ table_edits (drop (suc done) edits)) now.numbers) ≡ run_of before.geometry (table_edits edits) before.numbers = rw left at way.run in
-    let left_is : (v : ℕ) → edited now e.index v ≡ table_left (take (done + 1) edits) before (edited now e.index v).numbers = λ v. rw (are_some-take edits done below, cluster, geometry) refl in
     record {
       run = rw (freed, gained, numbers_of-more, joined-more, made.freed, made.gained, geometry, numbers, one_more) run;
-      table = subst (λ (table : TableState). table ≡ table_left (take (done + 1) edits) before table.numbers) (sym made.table) (left_is _);
+      table = grind (arith, made.table, way.table, are_some-take edits done below);
       entries = ap length changed ∙ length-set now.numbers e.index _ ∙ way.entries;
       room = room (length edits - (done + 1)) (rw enough way.room);
     }
@@ -84,15 +81,13 @@ all_fit table edits none =
 -- what is left fits the table as it is
 pub part_way-fits : (edits : List Edit) (done : ℕ) (default : Edit) (before now : TableState) (outcome : Outcome) → first_unfit_edit before edits ≡ None → done < length edits → IsPartWay edits done before now outcome → edit_fits now (get_or edits done default) ≡ true
 part_way-fits edits done default before now outcome none below way =
-    let geometry : now.geometry ≡ before.geometry = ap (λ (table : TableState). table.geometry) way.table in
-    rw (geometry, way.entries) (AllPass-from_list_all (edit_fits before) edits (all_pass (edit_fits before) edits none) done default below)
+    let fits = AllPass-from_list_all (edit_fits before) edits (all_pass (edit_fits before) edits none) done default below in
+    grind (arith, nat_tests, way.table, way.entries, fits)
 
 -- what a run of edits that fit leaves and hands back is in balance
 pub run_balances : (edits : List Edit) (outcome : Outcome) (old new : TableState) → IsClusterBits old.geometry.cluster_bits → first_unfit_edit old edits ≡ None → edits_left new outcome ≡ run_of old.geometry (table_edits edits) old.numbers → new ≡ table_left edits old new.numbers → Balances outcome old new
 run_balances edits outcome old new bits none run left = λ cluster.
-    let geometry : new.geometry ≡ old.geometry = ap (λ (table : TableState). table.geometry) left in
-    let balance = balance-run old.geometry (table_edits edits) old.numbers cluster bits (all_fit old edits none) in
-    rw (geometry) (subst (λ (end : RunEnd). references old.geometry end.numbers cluster + handed_back end.freed cluster ≡ references old.geometry old.numbers cluster + times_gained end.gained cluster) (sym run) balance)
+    grind (arith, run, left, balance-run old.geometry (table_edits edits) old.numbers cluster bits (all_fit old edits none))
 
 -- the position that a search for an edit answers
 pub ruleset unfit_position = (YieldsList-from_slice, position_from_yields_List)

@@ -42,10 +42,7 @@ tables_size cb n low =
 
 -- an offset is before the part of an L1 entry where its L1 index is less
 before_entry : (cb offset next : ℕ) → 9 ≤ cb → (offset / 2 ^ cb / 2 ^ (cb - 3) < next) ↔ (offset < next * 2 ^ (2 * cb - 3))
-before_entry cb offset next low =
-    let clusters = div-lt_iff_lt-mul {x = offset / 2 ^ cb} {y = next} (pow_pos (cb - 3)) in
-    let bytes = div-lt_iff_lt-mul {x = offset} {y = next * 2 ^ (cb - 3)} (pow_pos cb) in
-    rw (tables_size cb next low) (λ less. bytes.0 (clusters.0 less), λ less. clusters.1 (bytes.1 less))
+before_entry cb offset next low = grind (arith, nat_tests, tables_size, div-lt_iff_lt-mul, pow_pos)
 
 pub reaches_next : (cb from next : ℕ) → 9 ≤ cb → from / 2 ^ cb / 2 ^ (cb - 3) + 1 ≤ next → from < next * 2 ^ (2 * cb - 3)
 reaches_next cb from next low above = (before_entry cb from next low).0 (omega (arith, above))
@@ -161,11 +158,7 @@ pub pieces_join : (contents : Contents) (from middle to : ℕ) (content next : C
     → ReadAsOne contents from (to - from) content
 pieces_join contents from middle to content next some more first goes second = λ n below. elim (cases_lt n (middle - from)) [
   | inl before ↦ first n before
-  | inr after ↦
-      let rest = n - (middle - from) in
-      let place : from + n ≡ middle + rest = omega (arith, some, after) in
-      let on : middle - from + rest ≡ n = omega (arith, after) in
-      rw place (second rest (omega (arith, below, after, some, more)) ∙ ap (λ c. Ok c) (ap (moved_on rest) goes ∙ moved_twice (middle - from) rest content ∙ ap (λ m. moved_on m content) on))
+  | inr after ↦ grind (arith, moved_twice, goes, second (n - (middle - from)) (omega (arith, below, after, some, more)))
 ]
 
 pub shift_fits : (cb : ℕ) → cb ≤ 21 → 1 * 2 ^ (2 * cb - 3) % 2 ^ 64 ≡ 2 ^ (2 * cb - 3)
@@ -186,15 +179,13 @@ begins_as contents from length content some reads =
 
 pub extent_that_ends : (contents : Contents) (size start : ℕ) (found : Content × ℕ) (next : Content × ℕ) → start < found.1 → found.1 ≤ size → ReadAsOne contents start (found.1 - start) found.0
     → IsPiece contents size found.1 next → (next.0 ≡ moved_on (found.1 - start) found.0 → ⊥) → IsExtent contents size start (extent_of start found)
-extent_that_ends contents size start found next some within reads piece differs =
-    let end : start + (found.1 - start) ≡ found.1 = omega (arith, some) in
-    record {
-      start = refl;
-      some = omega (arith, some);
-      within = omega (arith, some, within);
-      reads = reads;
-      ends = λ more. (next.0, rw end (begins_as contents found.1 (next.1 - found.1) next.0 (omega (arith, piece.0)) piece.2), differs);
-    }
+extent_that_ends contents size start found next some within reads piece differs = record {
+  start = refl;
+  some = omega (arith, some);
+  within = omega (arith, some, within);
+  reads = reads;
+  ends = λ more. (next.0, grind (arith, some, begins_as contents found.1 (next.1 - found.1) next.0 (omega (arith, piece.0)) piece.2), differs);
+}
 
 pub refused_at_end : (contents : Contents) (size start end : ℕ) (content : Content) (fault : Fault) → start < end → end < size → ReadAsOne contents start (end - start) content → contents end ≡ Err fault
     → IsRefusedFrom contents size start fault
@@ -228,24 +219,18 @@ no_shorter : (contents : Contents) (size from length : ℕ) (content : Content) 
 no_shorter contents size from length content extent is same reads within less = grind (arith, nat_tests)
 
 pub extent_once : (contents : Contents) (size from : ℕ) (one other : Extent) → IsExtent contents size from one → IsExtent contents size from other → one ≡ other
-extent_once contents size from one other first second = grind (
-  arith,
-  nat_tests,
-  begins_as contents from one.length one.content first.some first.reads,
-  begins_as contents from other.length other.content second.some second.reads,
-  no_shorter,
-)
+extent_once contents size from one other first second =
+    let content = begins_as contents from one.length one.content first.some first.reads in
+    let same = begins_as contents from other.length other.content second.some second.reads in
+    grind (arith, nat_tests, content, same, no_shorter)
 
 -- a disk has one map
 pub map_once : (contents : Contents) (size from : ℕ) (xs ys : List Extent) → AreExtents contents size from xs size → AreExtents contents size from ys size → xs ≡ ys
 map_once contents size from [] [] one other = refl
-map_once contents size from [] (y ∷ ys) one other = absurd (omega (arith, one, other.0.some, other.0.within))
-map_once contents size from (x ∷ xs) [] one other = absurd (omega (arith, other, one.0.some, one.0.within))
+map_once contents size from [] (y ∷ ys) one other = grind arith
+map_once contents size from (x ∷ xs) [] one other = grind arith
 map_once contents size from (x ∷ xs) (y ∷ ys) one other =
-    let same = extent_once contents size from x y one.0 other.0 in
-    let rest : AreExtents contents size (from + x.length) ys size = subst (λ (e : Extent). AreExtents contents size (from + e.length) ys size) (sym same) other.1 in
-    let tails = map_once contents size (from + x.length) xs ys one.1 rest in
-    rw (same, tails) refl
+    grind (arith, extent_once contents size from x y one.0 other.0, map_once contents size (from + x.length) xs ys)
 
 -- extents, and one more
 pub extents_more : (contents : Contents) (size from to : ℕ) (extents : List Extent) (extent : Extent) → AreExtents contents size from extents to → IsExtent contents size to extent

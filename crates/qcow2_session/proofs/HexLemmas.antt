@@ -46,7 +46,7 @@ hex-one : (n : ℕ) → n < 16 → length (digits 16 false n) ≡ 1
 hex-one n small = ap length (hex_one_digit false n small)
 
 hex-length : (k n : ℕ) → n < 16 ^ suc k → n < 2 ^ 64 → length (digits 16 false n) ≤ suc k
-hex-length zero n fits small = omega (arith, hex-one n (omega arith))
+hex-length zero n fits small = grind (arith, hex-one n)
 hex-length (suc k) n fits small = grind (arith, hex-one n, hex-length k (n / 16), hex-longer n)
 
 -- a number of 64 bits has 16 digits at most

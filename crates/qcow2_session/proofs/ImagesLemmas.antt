@@ -1,10 +1,9 @@
-use Rattle.std.proofs.Common.{◌≡◌, ℕ, ◌-◌, ◌*◌, ◌^◌, IfSome, IsOkAnd, Option, Some, option_map, Result, Ok, Err, List, length, ap, subst, sym, refl, ◌∙◌, arith}
+use Rattle.std.proofs.Common.{◌≡◌, ℕ, ◌-◌, ◌*◌, ◌^◌, IfSome, IsOkAnd, Option, Some, option_map, Result, Ok, Err, List, length, refl, arith}
 use Rattle.qcow2_base.specs.Storage.{Image, OnlyWrites, SameOutside, StorageState}
 use Rattle.qcow2_base.specs.Types.{IsClusterBits}
 use Rattle.qcow2_base.specs.declared.fault.Fault.{Fault}
 use Rattle.qcow2_base.specs.declared.types.HostCluster.{HostCluster}
-use Rattle.qcow2_metadata.specs.Results.{result_map, unless_refused}
-use Rattle.qcow2_metadata.specs.Table.L2Guards.{RunEnd}
+use Rattle.qcow2_metadata.specs.Results.{unless_refused}
 use Rattle.qcow2_metadata.specs.Header.{Geometry, HeaderRecord, geometry_of}
 use Rattle.qcow2_session.proofs.WholeImageLemmas.{full_cluster, keeps-image-sound, keeps-other-lookups}
 use Rattle.qcow2_metadata.specs.Refblock.{BlockState, block_entries}
@@ -28,8 +27,7 @@ place_of-full table cluster has full = rw (has, full) refl
 pub full-writes : (table : TableState) (cluster : HostCluster) (answer : Result (Unit {0}) Fault) (old new : StorageState) → IsClusterBits table.geometry.cluster_bits → table.cluster ≡ Some cluster → length table.numbers ≡ 2 ^ (table.geometry.cluster_bits - 3)
     → OnlyWrites answer (option_map offset_of (place_of table)) (8 * length table.numbers) old new
     → OnlyWrites answer (Some (cluster.0 * 2 ^ table.geometry.cluster_bits)) (2 ^ table.geometry.cluster_bits) old new
-full-writes table cluster answer old new bits has full writes =
-    rw (place_of-full table cluster has full, full, full_cluster table.geometry.cluster_bits bits.0) at writes
+full-writes table cluster answer old new bits has full writes = grind (arith, full_cluster, place_of-full)
 
 -- where a write of a table that fills a cluster failed at a piece
 pub full-torn : (table : TableState) (cluster : HostCluster) (old new : Image) → table.cluster ≡ Some cluster → length table.numbers ≡ 2 ^ (table.geometry.cluster_bits - 3)
@@ -43,11 +41,11 @@ pub image-edited : (header : HeaderRecord) (cluster : HostCluster) (edits : List
     → SameOutside (cluster.0 * 2 ^ header.v2.cluster_bits) (2 ^ header.v2.cluster_bits) old new
     → Balances outcome before after → EditsImage header cluster edits outcome old new
 image-edited header cluster edits outcome before after old new g g' is end stands outside balance =
-    let there : loaded_l2_table (geometry_of header) cluster new ≡ Ok after.numbers = subst (λ g. loaded_l2_table g cluster new ≡ Ok after.numbers) g' stands in
-    let is' = standing-numbers (geometry_of header) cluster new after.numbers there in
-    let balances : Balances outcome (table_in header cluster old) (table_in header cluster new) = λ c. rw (g, g', is, is') at (balance c) in
+    let there : loaded_l2_table (geometry_of header) cluster new ≡ Ok after.numbers = rw g' at stands in
+    let balances : Balances outcome (table_in header cluster old) (table_in header cluster new) = λ c.
+    rw (g, g', is, standing-numbers (geometry_of header) cluster new after.numbers there) at (balance c) in
     record {
-      decoded = there ∙ sym (ap (result_map (λ (end : RunEnd). end.numbers)) end);
+      decoded = rw end there;
       balance = balances;
       lookups = keeps-other-lookups (geometry_of header) cluster old new outside;
       whole = keeps-image-sound (geometry_of header) cluster outcome after.numbers old new outside there balances;

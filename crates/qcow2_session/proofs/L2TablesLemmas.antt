@@ -20,7 +20,7 @@ pub none_left : (g : Geometry) (l1 : List ℕ) (image : Image) (n i : ℕ) → l
     → ((k : ℕ) → i ≤ k → named_cluster g.cluster_bits (get_or l1 k 0) ≡ None) → named_tables g i (drop i l1) image ≡ []
 none_left g l1 image zero i past none = rw (drop_of_length-le l1 {i = i} (omega (arith, past))) refl
 none_left g l1 image (suc n) i past none = elim (cases_lt i (length l1)) [
-  | inl below ↦ rw (from_index g l1 image i below, none i (omega arith)) (none_left g l1 image n (i + 1) (omega (arith, past)) (λ k after. none k (omega (arith, after))))
+  | inl below ↦ grind (arith, from_index g l1 image i below, none, none_left g l1 image n (i + 1))
   | inr end ↦ rw (drop_of_length-le l1 end) refl
 ]
 
@@ -34,8 +34,7 @@ pub first_left : (g : Geometry) (l1 : List ℕ) (image : Image) (n i next : ℕ)
     → named_cluster g.cluster_bits (get_or l1 next 0) ≡ Some cluster
     → named_tables g i (drop i l1) image ≡ (next, loaded_l2_table g cluster image) ∷ named_tables g (next + 1) (drop (next + 1) l1) image
 first_left g l1 image zero i next cluster is none named =
-    let same : i ≡ next = omega (arith, is) in
-    rw (same, from_index g l1 image next (named_below g.cluster_bits l1 next cluster named), named) refl
+    grind (arith, is, named, from_index g l1 image next (named_below g.cluster_bits l1 next cluster named))
 first_left g l1 image (suc n) i next cluster is none named =
     let below : i < length l1 = omega (arith, is, named_below g.cluster_bits l1 next cluster named) in
     rw (from_index g l1 image i below, none i (omega arith) (omega (arith, is)))

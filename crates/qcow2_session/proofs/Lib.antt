@@ -7,7 +7,6 @@ pub mod FirstLemmas
 pub mod HexLemmas
 pub mod ImagesLemmas
 pub mod L2TablesLemmas
-pub mod LinesLemmas
 pub mod ListingLemmas
 pub mod LookupsLemmas
 pub mod PrintingLemmas

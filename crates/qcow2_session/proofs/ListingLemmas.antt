@@ -1,5 +1,5 @@
 use Rattle.std.proofs.lemmas.Bool.Decides.{nat_tests}
-use Rattle.std.proofs.Common.{◌≡◌, ◌≢◌, ◌⊎◌, ℕ, inl, inr, ◌+◌, ◌-◌, ◌*◌, ◌%◌, ◌^◌, ◌<◌, ◌≤◌, List, [], ◌∷◌, ◌++◌, length, get_or, map, take, Option, Result, Ok, Err, IsTrue, ap, refl, subst, sym, ◌∙◌, add-one, append_assoc, append-nil, arith}
+use Rattle.std.proofs.Common.{◌≡◌, ◌≢◌, ◌⊎◌, ℕ, zero, suc, add-zero, inl, inr, ◌+◌, ◌-◌, ◌*◌, ◌%◌, ◌^◌, ◌<◌, ◌≤◌, List, [], ◌∷◌, ◌++◌, length, get_or, map, take, Option, Result, Ok, Err, IsTrue, ap, sym, ◌∙◌, append_assoc, append-nil, arith, refl, subst, add-one}
 use Rattle.std.specs.List.{concat}
 use Rattle.std.specs.Io.KnownBytes.{Appends}
 use Rattle.std.proofs.KnownBytes.{Appends-nil, Appends-trans}
@@ -12,11 +12,8 @@ use Rattle.qcow2_base.specs.declared.fault.Fault.{Fault}
 use Rattle.qcow2_base.specs.declared.fault.Fault.TheVariants.{NoMemory, Storage}
 use Rattle.qcow2_metadata.specs.Header.{Geometry, geometry_of}
 use Rattle.qcow2_metadata.specs.Entries.L2Mapping.{Mapping, mapping}
-use Rattle.qcow2_session.proofs.LinesLemmas.{entry_lines-take-suc}
-use Rattle.qcow2_metadata.specs.Results.{result_map}
-use Rattle.qcow2_session.proofs.PrintingLemmas.{read_fault-of, reads-calm, refused-as}
-use Rattle.qcow2_session.specs.Lines.{entry_line, entry_lines}
-use Rattle.qcow2_session.specs.Commands.Entries.{table_lines}
+use Rattle.qcow2_session.proofs.PrintingLemmas.{read_fault-of}
+use Rattle.qcow2_session.specs.Commands.Entries.{entry_line, entry_lines, table_lines}
 use Rattle.qcow2_session.specs.Commands.Listing.{PrintsList, PrintsTables, PrintsTablesBefore, TableTexts, texts_left, texts_of}
 use Rattle.qcow2_session.specs.Session.L2Tables.{NamedTables, RefusesTable, WalkState, tables_left}
 use Rattle.qcow2_session.specs.declared.commands.entries.Label.TheVariants.{Offset}
@@ -32,6 +29,19 @@ guest_offset-fits cb index l2_index low l1 l2 =
     let all = mul-lt (index * 2 ^ (cb - 3) + l2_index) (2 ^ cb) (2 ^ 40) (2 ^ 21 + 1) cluster (omega (arith, size)) in
     omega (arith, all)
 
+-- the lines of one more entry
+entry_lines-take-suc : (label : ℕ → List ℕ) (g : Geometry) (from : ℕ) (xs : List ℕ) (i : ℕ) →
+    i < length xs → entry_lines label g from (take (suc i) xs) ≡
+    entry_lines label g from (take i xs) ++
+    entry_line g.cluster_bits (label (from + i)) (mapping g (from + i) (get_or xs i 0))
+entry_lines-take-suc label g from [] i below = absurd (omega arith)
+entry_lines-take-suc label g from (x ∷ xs) zero below = simp (append-nil, add-zero)
+entry_lines-take-suc label g from (x ∷ xs) (suc i) below =
+    let place : from + 1 + i ≡ from + suc i = omega arith in
+    let rest = rw place at (entry_lines-take-suc label g (from + 1) xs i (omega arith)) in
+    let here = entry_line g.cluster_bits (label from) (mapping g from x) in
+    ap (λ t. here ++ t) rest ∙ sym (append_assoc here _ _)
+
 -- after the lines of the entries before i comes that of entry i of the table for an L1 index
 pub table_lines-more : (a b c : Option (List ℕ)) (label : ℕ → List ℕ) (g : Geometry) (index : ℕ) (xs : List ℕ) (i : ℕ) (found : Mapping) → i < length xs → length xs ≡ 2 ^ (g.cluster_bits - 3)
     → found ≡ mapping g (index * 2 ^ (g.cluster_bits - 3) + i) (get_or xs ((index * 2 ^ (g.cluster_bits - 3) + i) % 2 ^ (g.cluster_bits - 3)) 0)
@@ -39,11 +49,7 @@ pub table_lines-more : (a b c : Option (List ℕ)) (label : ℕ → List ℕ) (g
     → Appends b c (entry_line g.cluster_bits (label (index * 2 ^ (g.cluster_bits - 3) + i)) found)
     → Appends a c (entry_lines label g (index * 2 ^ (g.cluster_bits - 3)) (take (i + 1) xs))
 table_lines-more a b c label g index xs i found below count is before here =
-    let first = index * 2 ^ (g.cluster_bits - 3) in
-    let at : (first + i) % 2 ^ (g.cluster_bits - 3) ≡ i = mod-mul-add index (2 ^ (g.cluster_bits - 3)) i (omega (arith, below, count)) in
-    let line : found ≡ mapping g (first + i) (get_or xs i 0) = is ∙ ap (λ k. mapping g (first + i) (get_or xs k 0)) at in
-    let both = Appends-trans a b c _ _ before (rw line at here) in
-    rw (add-one, entry_lines-take-suc label g first xs i below) both
+    grind (arith, mod-mul-add, Appends-trans, entry_lines-take-suc)
 
 -- the lines of tables after those of others
 pub tables-printed : (some more : List (List ℕ)) (a b c : Option (List ℕ)) → Appends a b (concat some) → Appends b c (concat more) → Appends a c (concat (some ++ more))
@@ -79,37 +85,23 @@ pub ended-at : (fault : Fault) (g : Geometry) (known : List (List ℕ)) (left : 
     → all ≡ map Ok known ++ texts_of g left → Appends a b (concat known) → RefusesTable left fault → (fault ≡ Storage → new.failures ≢ old.failures)
     → PrintsTablesBefore fault old new a b all
 ended-at fault g known [] all old new a b are before refused failed = absurd refused
-ended-at fault g known (table ∷ rest) all old new a b are before refused failed = record {
-  printed = known;
-  table = result_map (table_lines Offset g table.0) table.1;
-  rest = texts_of g rest;
-  are = are;
-  why = inl (read_fault-of fault _ old new (refused-as fault (λ bad. rw bad refl) refused) failed, before);
-}
+ended-at fault g known (table ∷ rest) all old new a b are before refused failed =
+    grind (arith, nat_tests, are, before, refused, failed)
 
 -- and so after reads that were answered
 ended-after : {T : Type 0} (value : T) (fault : Fault) (tables : TableTexts) (old between new : StorageState) (a b : Option (List ℕ))
     → OnlyReads (Ok value) old between → PrintsTablesBefore fault between new a b tables → PrintsTablesBefore fault old new a b tables
-ended-after value fault tables old between new a b reads ended =
-    PrintsTablesBefore-after fault [] tables [] tables old between new a a b (sym (append-nil tables)) (Appends-nil a) (reads-calm value old between reads) ended
+ended-after value fault tables old between new a b reads ended = grind (arith, nat_tests, reads, ended)
 
 -- tables that can't be told: nothing is printed
 pub PrintsList-none : {T : Type 0} (fault : Fault) (tables : Image → Result TableTexts Fault) (old new : StorageState) (a : Option (List ℕ))
     → (IsTrue old.tells → (fault ≡ Storage) ⊎ (fault ≡ NoMemory) ⊎ (tables old.byte_at ≡ Err fault)) → (fault ≡ Storage → new.failures ≢ old.failures)
     → PrintsList {T = T} (Err fault) tables old new a a
-PrintsList-none fault tables old new a refused failed = record {
-  lines = tt;
-  refused = λ told. inl (read_fault-of fault (tables old.byte_at) old new (refused told) failed, Appends-nil a);
-}
+PrintsList-none fault tables old new a refused failed = grind (arith, nat_tests, read_fault-of, Appends-nil, refused, failed)
 
 -- the tables that an L1 table names, after that was loaded
 pub PrintsList-tables : {T V : Type 0} (value : V) (answer : Result T Fault) (tables : Image → Result TableTexts Fault) (each : Image → TableTexts) (old between new : StorageState) (a b : Option (List ℕ))
     → (IsTrue old.tells → tables old.byte_at ≡ Ok (each old.byte_at)) → OnlyReads (Ok value) old between → PrintsTables answer each between new a b → PrintsList answer tables old new a b
-PrintsList-tables value (Ok done) tables each old between new a b are reads prints = record {
-  lines = λ told. rw (are told) (rw reads.bytes at (prints.lines (reads.device.tells ∙ told)));
-  refused = tt;
-}
-PrintsList-tables value (Err fault) tables each old between new a b are reads prints = record {
-  lines = tt;
-  refused = λ told. rw (are told) (inr (ended-after value fault (each old.byte_at) old between new a b reads (subst (λ bytes. PrintsTablesBefore fault between new a b (each bytes)) reads.bytes (prints.refused (reads.device.tells ∙ told)))));
-}
+PrintsList-tables value (Ok done) tables each old between new a b are reads prints = grind (arith, nat_tests, are, reads.device, reads.bytes, prints.lines)
+PrintsList-tables value (Err fault) tables each old between new a b are reads prints =
+    grind (arith, nat_tests, are, reads.device, reads.bytes, prints.refused, ended-after value fault (each old.byte_at) old between new a b reads)

@@ -19,16 +19,12 @@ then_prints answer a b c lines more before after = record { fault = after.fault;
 
 -- why a call is refused, where one reason leads to another
 pub refused-as : {P Q : Type 0} (fault : Fault) → (P → Q) → (fault ≡ Storage) ⊎ (fault ≡ NoMemory) ⊎ P → (fault ≡ Storage) ⊎ (fault ≡ NoMemory) ⊎ Q
-refused-as fault leads (inl storage) = inl storage
-refused-as fault leads (inr (inl memory)) = inr (inl memory)
-refused-as fault leads (inr (inr bad)) = inr (inr (leads bad))
+refused-as fault leads why = grind (arith, leads)
 
 -- the fault that is meant, want of memory, or a failed call of the image
 pub read_fault-of : {V : Type 0} (fault : Fault) (meant : Result V Fault) (old new : StorageState)
     → (fault ≡ Storage) ⊎ (fault ≡ NoMemory) ⊎ (meant ≡ Err fault) → (fault ≡ Storage → new.failures ≢ old.failures) → IsReadFault meant old new fault
-read_fault-of fault meant old new (inl storage) failed = inr (inr (storage, failed storage))
-read_fault-of fault meant old new (inr (inl memory)) failed = inr (inl memory)
-read_fault-of fault meant old new (inr (inr bad)) failed = inl bad
+read_fault-of fault meant old new refused failed = grind arith
 
 -- what is read from the bytes is refused, so no line of it is meant
 pub Prints-refused : {T A : Type 0} (fault : Fault) (read : Image → Result A Fault) (lines_of : A → List ℕ) (old new : StorageState) (a b : Option (List ℕ))

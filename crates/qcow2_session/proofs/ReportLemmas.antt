@@ -1,4 +1,4 @@
-use Rattle.std.proofs.Common.{◌≤◌, ℕ, ◌+◌, ◌-◌, List, ◌++◌, length, take, drop, Option, ap, subst, sym, ◌∙◌}
+use Rattle.std.proofs.Common.{◌≤◌, ℕ, ◌+◌, ◌-◌, List, length, take, drop, Option, arith}
 use Rattle.std.proofs.KnownBytes.{Appends-trans}
 use Rattle.std.proofs.Math.Seq.{take-add}
 use Rattle.std.proofs.lemmas.List.{take-take}
@@ -11,6 +11,4 @@ pub appends_more : (old between new : Option (List ℕ)) (bytes : List ℕ) (wri
     → Appends between new (take count (take (length bytes - written) (drop written bytes)))
     → Appends old new (take (written + count) bytes)
 appends_more old between new bytes written count fits first next =
-    let part = take-take count (length bytes - written) (drop written bytes) fits in
-    let whole = ap (λ (rest : List ℕ). take written bytes ++ rest) part ∙ sym (take-add written count bytes) in
-    subst (Appends old new) whole (Appends-trans old between new _ _ first next)
+    grind (arith, take-take, take-add, Appends-trans)

@@ -1,4 +1,4 @@
-use Rattle.std.proofs.Common.{◌≡◌, ◌⊎◌, ℕ, ◌==◌, nat_lt, ◌+◌, ◌<◌, ◌≤◌, Some, None, Result, Ok, Err, List, [], ◌∷◌, map, take, length, get_or, get_or-set_same, get_or-set_other, slice_index, ap, subst, sym, refl, ◌∙◌, arith}
+use Rattle.std.proofs.Common.{◌≡◌, ◌⊎◌, ℕ, ◌==◌, nat_lt, ◌+◌, ◌<◌, ◌≤◌, Some, None, Result, Ok, Err, List, [], ◌∷◌, map, take, length, get_or, get_or-set_same, get_or-set_other, slice_index, ap, refl, ◌∙◌, arith}
 use Rattle.std.proofs.lemmas.List.Sums.{sum_by-cons, sum_by_more, sum_by_more_le}
 use Rattle.qcow2_base.specs.declared.types.HostCluster.{HostCluster}
 use Rattle.qcow2_session.specs.Session.Edits.{cluster_numbers}
@@ -35,8 +35,7 @@ pub moves-back : (change back : CounterChange) (by : ℕ → ℕ) (a b c : Block
 moves-back change back by a b c is one other =
     let same : c.counters ≡ a.counters = same_number_lists c.counters a.counters (other.entries ∙ one.entries)
     (λ k below. grind (arith, is, one.counters k (omega (arith, below, other.entries, one.entries)), other.counters k (omega (arith, below, other.entries)))) in
-    other.others ∙ ap (λ (block : BlockState). record block { counters = c.counters; modified = c.modified }) one.others
-    ∙ ap (λ (counters : List ℕ). record a { counters = counters; modified = c.modified }) same
+    grind (arith, same, one.others, other.others)
 
 -- what a step makes of a counter
 stepped-is : (change : CounterChange) (order v counter : ℕ) → stepped order change v ≡ Some counter → IsChangedBy change 1 v counter
@@ -49,11 +48,7 @@ stepped-short change order v none = grind (arith, nat_tests)
 -- a counter that is put in the place of one
 set-moves : (change : CounterChange) (index v : ℕ) (a : BlockState) → index < length a.counters → IsChangedBy change 1 (slice_index a.counters index) v
     → ChangesCounters change (λ i. one_if (i == index)) a (stepped_block a index v)
-set-moves change index v a below moved = record {
-  counters = λ i within. grind (arith, nat_tests, moved, get_or-set_same a.counters index v 0 below, get_or-set_other a.counters index i v 0);
-  entries = length-set a.counters index v;
-  others = refl;
-}
+set-moves change index v a below moved = grind (arith, nat_tests, moved, get_or-set_same, get_or-set_other, length-set)
 
 -- one counter's step
 pub step-moves : (change : CounterChange) (index before : ℕ) (answer : Result ℕ Fault) (a b : BlockState) → index < length a.counters
@@ -124,9 +119,7 @@ can-settle first gained freed a b c up fit down = grind (arith, nat_tests, order
 pub losses-short : (first : ℕ) (gained : List HostCluster) (freed : List ClustersToFreeEntry) (a b : BlockState)
     → ChangesCounters Increment (times_counted range_of_one gained first) a b
     → SomeLeavesRange Decrement (times_counted (λ item. item) freed first) b → SomeCannotSettle a first freed (cluster_numbers gained)
-losses-short first gained freed a b up (i, below, short) =
-    let within : i < length a.counters = omega (arith, below, up.entries) in
-    (i, within, λ can. omega (arith, short, can.1, up.counters i within, times-gained gained first i))
+losses-short first gained freed a b up short = grind (arith, nat_tests, times-gained, up.counters)
 
 -- the same changes, counted otherwise
 pub changes-as : (change : CounterChange) (by other : ℕ → ℕ) (a b : BlockState) → ((i : ℕ) → i < length a.counters → other i ≡ by i)
@@ -146,7 +139,7 @@ among-between clusters first start end i from to = grind (arith, nat_tests)
 pub clusters-short : (change : CounterChange) (by : ℕ → ℕ) (at : ℕ) (a : BlockState) → at < length a.counters → by at ≡ 1
     → stepped a.refcount_order change (slice_index a.counters at) ≡ None → SomeLeavesRange change by a
 clusters-short change by at a below one none =
-    (at, below, subst (λ (n : ℕ). LeavesRange change a.refcount_order n (slice_index a.counters at)) (sym one) (stepped-short change a.refcount_order (slice_index a.counters at) none))
+    (at, below, grind (arith, one, stepped-short change a.refcount_order (slice_index a.counters at) none))
 
 -- one more of a list
 pub times-more : {C : Type 0} (clusters : C → ClustersToFreeEntry) (list : List C) (at : ℕ) (item : C) (first index : ℕ) → at < length list → item ≡ get_or list at item
@@ -160,10 +153,7 @@ times-within clusters list at item first index below is = grind (arith, nat_test
 -- what can't be changed after a part can't be changed at all
 pub list-short : (change : CounterChange) (part one total : ℕ → ℕ) (a b : BlockState) → ChangesCounters change part a b
     → ((i : ℕ) → part i + one i ≤ total i) → SomeLeavesRange change one b → SomeLeavesRange change total a
-list-short change part one total a b moves few (i, below, short) =
-    let within : i < length a.counters = omega (arith, below, moves.entries) in
-    let left = rw (order-kept change part a b moves) at short in
-    (i, within, grind (arith, moves.counters i within, few i, left))
+list-short change part one total a b moves few short = grind (arith, nat_tests, order-kept)
 
 -- a range that ended
 pub between-end : (start end at i : ℕ) → end ≤ at → (at ≤ end) ⊎ (at ≡ start) → one_if (is_between start end i) ≡ one_if (is_between start at i)

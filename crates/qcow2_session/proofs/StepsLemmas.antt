@@ -1,4 +1,4 @@
-use Rattle.std.proofs.Common.{◌≡◌, ℕ, suc, Bool, true, false, ◌&&◌, ◌||◌, ◌==◌, nat_lt, ◌+◌, ◌-◌, ◌<◌, ◌≤◌, if◌then◌else◌, Option, Some, None, List, [], ◌∷◌, ◌++◌, length, drop, get_or, get_or-set_same, get_or-set_other, slice_get, slice_index, slice_set, append_assoc, append-nil, ap, subst, sym, refl, ◌∙◌, arith}
+use Rattle.std.proofs.Common.{◌≡◌, ℕ, suc, Bool, true, false, ◌&&◌, ◌||◌, ◌==◌, nat_lt, ◌+◌, ◌-◌, ◌<◌, ◌≤◌, if◌then◌else◌, Option, Some, None, List, [], ◌∷◌, ◌++◌, length, drop, get_or, get_or-set_same, get_or-set_other, slice_get, slice_index, append_assoc, append-nil, ap, refl, ◌∙◌, arith}
 use Rattle.std.proofs.Math.Bool.{or_assoc}
 use Rattle.std.proofs.Math.Seq.{drop-cons}
 use Rattle.std.proofs.lemmas.Bool.Decides.{nat_tests}
@@ -10,7 +10,6 @@ use Rattle.qcow2_metadata.specs.Refblock.Guard.{after_change, stepped}
 use Rattle.qcow2_session.proofs.FirstLemmas.{all_pass}
 use Rattle.qcow2_session.specs.Session.Steps.{Counts, MakesStep, StepsEnd, Undoes, are_some_done, change_of, decrements, steps_left, first_unfit_step, increments, index_of, is_done, block_left, reply_of, run_of_steps, times_made}
 use Rattle.qcow2_session.specs.declared.session.steps.Step.{Step}
-use Rattle.qcow2_session.specs.declared.session.steps.Step.TheVariants.{Dec, Inc}
 use Rattle.qcow2_session.specs.declared.session.steps.StepReply.{StepReply}
 use Rattle.qcow2_session.specs.declared.session.steps.StepReply.TheVariants.{Done}
 
@@ -39,26 +38,18 @@ part_way-next steps made default before now next reply replies below way makes =
     let one_more : made + 1 ≡ suc made = omega arith in
     let order : now.refcount_order ≡ before.refcount_order = ap (λ (block : BlockState). block.refcount_order) way.block in
     let left : drop made steps ≡ get_or steps made default ∷ drop (suc made) steps = drop-cons steps made default below in
-    let modified : now.modified ≡ (are_some_done replies || before.modified) = ap (λ (block : BlockState). block.modified) way.block in
-    let cluster : now.cluster ≡ before.cluster = ap (λ (block : BlockState). block.cluster) way.block in
-    let bits : now.cluster_bits ≡ before.cluster_bits = ap (λ (block : BlockState). block.cluster_bits) way.block in
     let after = stepped now.refcount_order (change_of step) (slice_index now.counters (index_of step)) in
     let changed : next.counters ≡ after_change now.counters (index_of step) after = ap (λ (block : BlockState). block.counters) makes.block in
     let run : joined replies (run_of_steps before.refcount_order (step ∷ drop (suc made) steps) now.counters) ≡ run_of_steps before.refcount_order steps before.counters = rw left at way.run in
-    let left_is : (counters : List ℕ) → block_left (reply ∷ []) now counters ≡ block_left (replies ++ reply ∷ []) before counters =
-    λ counters. rw (modified, cluster, bits, order, done-more replies reply, or_assoc (is_done reply || false) (are_some_done replies) before.modified) refl in
     record {
       run = rw (append_assoc replies (reply ∷ []), changed, makes.replies, order, one_more) run;
-      block = subst (λ (block : BlockState). block ≡ block_left (replies ++ reply ∷ []) before block.counters) (sym makes.block) (left_is (after_change now.counters (index_of step) after));
+      block = grind (arith, makes.block, way.block, done-more, or_assoc);
       entries = ap length changed ∙ length-after_change now.counters (index_of step) _ ∙ way.entries;
     }
 
 -- all steps are made
 pub part_way-end : (steps : List Step) (made : ℕ) (before now : BlockState) (replies : List StepReply) → length steps ≤ made → IsPartWay steps made before now replies → steps_left now replies ≡ run_of_steps before.refcount_order steps before.counters
-part_way-end steps made before now replies all way =
-    let none_left : drop made steps ≡ [] = drop_all made steps all in
-    let run = rw none_left at way.run in
-    ap (λ (list : List StepReply). steps_left now list) (sym (append-nil replies)) ∙ run
+part_way-end steps made before now replies all way = grind (arith, drop_all, append-nil, way.run)
 
 -- where no index is the first out of bounds, all are in bounds
 abbrev in_bounds : ℕ → Step → Bool
@@ -70,8 +61,7 @@ all_in_bounds entries steps none = all_pass (in_bounds entries) steps none
 -- and so is each of them
 pub each_in_bounds : (entries : ℕ) (steps : List Step) (i : ℕ) (default : Step) → list_all (in_bounds entries) steps ≡ true → i < length steps → index_of (get_or steps i default) < entries
 each_in_bounds entries steps i default all below =
-    let passes = AllPass-from_list_all (in_bounds entries) steps all i default below in
-    grind (arith, nat_tests, passes)
+    grind (arith, nat_tests, AllPass-from_list_all (in_bounds entries) steps all i default below)
 
 -- what a step does to each counter
 counted : (order : ℕ) (step : Step) (counters : List ℕ) (index : ℕ) → index_of step < length counters → let before = slice_index counters (index_of step) in let after = stepped order (change_of step) before in slice_index (after_change counters (index_of step) after) index + (if decrements index step && is_done (reply_of after before) then 1 else 0) ≡ slice_index counters index + (if increments index step && is_done (reply_of after before) then 1 else 0)
@@ -83,10 +73,8 @@ run_counts order [] counters index all = refl
 run_counts order (step ∷ steps) counters index all =
     let before = slice_index counters (index_of step) in
     let after = stepped order (change_of step) before in
-    let below : index_of step < length counters = each_in_bounds (length counters) (step ∷ steps) 0 step all (omega arith) in
-    let len = length-after_change counters (index_of step) after in
-    let rest = run_counts order steps (after_change counters (index_of step) after) index (rw len (grind (arith, all))) in
-    omega (arith, rest, counted order step counters index below)
+    let rest = run_counts order steps (after_change counters (index_of step) after) index in
+    grind (arith, nat_tests, all, counted order step counters index, length-after_change counters (index_of step) after, rest)
 
 -- an increment that was made, as the first reply says, is undone by a decrement right after it
 undone_first : (counters : List ℕ) (i before : ℕ) (full : Bool) → i < length counters →
@@ -97,31 +85,21 @@ undone_first : (counters : List ℕ) (i before : ℕ) (full : Bool) → i < leng
     slice_get end.replies 0 ≡ Some (Done before) → end ≡ record { counters = counters; replies = Done before ∷ Done (before + 1) ∷ [] }
 undone_first counters i before true below made = cc
 undone_first counters i before false below made =
-    let is : slice_index counters i ≡ before = cc in
-    let at : slice_index (slice_set counters i (before + 1)) i ≡ before + 1 = get_or-set_same counters i (before + 1) 0 below in
-    let some : (before + 1 == 0) ≡ false = grind (arith, nat_tests) in
-    let back : before + 1 - 1 ≡ before = omega arith in
-    let same : slice_set (slice_set counters i (before + 1)) i before ≡ counters = set-set counters i (before + 1) before ∙ rw is at (set-get_or counters i 0) in
-    rw (is, at, some, back, same) refl
+    grind (arith, nat_tests, get_or-set_same {A = ℕ}, set-set {A = ℕ}, set-get_or {A = ℕ})
 
 run-undoes : (steps : List Step) (replies : List StepReply) (old new : BlockState) → list_all (in_bounds (length old.counters)) steps ≡ true → new.refcount_order ≡ old.refcount_order → steps_left new replies ≡ run_of_steps old.refcount_order steps old.counters → Undoes steps replies old new
 run-undoes steps replies old new all order run = λ index before is made.
-    let all_two : list_all (in_bounds (length old.counters)) (Inc index ∷ Dec index ∷ []) ≡ true = rw is at all in
-    let below : index < length old.counters = each_in_bounds (length old.counters) (Inc index ∷ Dec index ∷ []) 0 (Inc index) all_two (omega arith) in
-    let run_two : steps_left new replies ≡ run_of_steps old.refcount_order (Inc index ∷ Dec index ∷ []) old.counters = rw is at run in
-    let first = subst (λ (end : StepsEnd). slice_get end.replies 0 ≡ Some (Done before)) run_two made in
-    let end = run_two ∙ undone_first old.counters index before (slice_index old.counters index == greatest_counter old.refcount_order) below first in
-    let counters : new.counters ≡ old.counters = ap (λ (end : StepsEnd). end.counters) end in
-    (ap (λ (end : StepsEnd). end.replies) end, rw (order, counters) refl)
+    let is_full = slice_index old.counters index == greatest_counter old.refcount_order in
+    grind (arith, nat_tests, is, made, undone_first old.counters index before is_full)
 
 -- a block that a run led to
 pub run-counts : (steps : List Step) (replies : List StepReply) (old new : BlockState) → first_unfit_step (length old.counters) steps ≡ None → new.refcount_order ≡ old.refcount_order → steps_left new replies ≡ run_of_steps old.refcount_order steps old.counters → Counts steps replies old new
-run-counts steps replies old new none order run = record {
-  balance = λ index.
-      subst (λ (end : StepsEnd). slice_index end.counters index + times_made (decrements index) steps end.replies ≡ slice_index old.counters index + times_made (increments index) steps end.replies)
-      (sym run) (run_counts old.refcount_order steps old.counters index (all_in_bounds (length old.counters) steps none));
-  undone = run-undoes steps replies old new (all_in_bounds (length old.counters) steps none) order run;
-}
+run-counts steps replies old new none order run =
+    let all = all_in_bounds (length old.counters) steps none in
+    record {
+      balance = λ index. grind (arith, run, run_counts old.refcount_order steps old.counters index all);
+      undone = run-undoes steps replies old new all order run;
+    }
 
 -- blocks of the same counters
 pub counts-same : (steps : List Step) (replies : List StepReply) (old new before after : BlockState) → Counts steps replies old new → before.counters ≡ old.counters → after.counters ≡ new.counters → before.refcount_order ≡ old.refcount_order → after.refcount_order ≡ new.refcount_order → Counts steps replies before after

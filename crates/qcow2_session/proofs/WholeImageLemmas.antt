@@ -4,7 +4,7 @@ use Rattle.std.proofs.Math.Nat.{pow-le-pow_right}
 use Rattle.std.proofs.lemmas.Bool.{cases_eq}
 use Rattle.std.proofs.lemmas.List.Sums.{sum_by-cons}
 use Rattle.std.proofs.lemmas.Nat.{div-mul-add}
-use Rattle.std.proofs.lemmas.Option.{none-some, same_Some, slice_get-map}
+use Rattle.std.proofs.lemmas.Option.{none-some, slice_get-map}
 use Rattle.std.specs.List.{sum_by}
 use Rattle.qcow2_base.specs.Storage.{Image, SameOutside, be}
 use Rattle.qcow2_base.specs.declared.fault.Fault.{Fault}
@@ -99,16 +99,8 @@ lookup-kept header cluster old new change offset apart = by_answer (loaded_l1_ta
 -- the offsets of the table read as it says now
 lookup-own : (header : HeaderRecord) (cluster : HostCluster) (old new : Image) → ChangesL2Table header cluster old new → (offset : ℕ) → l2_cluster_in offset old ≡ Ok (Some cluster)
     → image_mapping offset new ≡ mapping_by (geometry_of header) (Some cluster) (offset / 2 ^ header.v2.cluster_bits) new
-lookup-own header cluster old new change offset names = by_answer (loaded_l1_table (l1_place header) old) refl
-  where
-    by_answer : (answer : Result (List ℕ) Fault) → loaded_l1_table (l1_place header) old ≡ answer
-        → image_mapping offset new ≡ mapping_by (geometry_of header) (Some cluster) (offset / 2 ^ header.v2.cluster_bits) new
-    by_answer (Err fault) refusal = let named = rw (change.apart.begins, refusal) at names in cc
-    by_answer (Ok l1) there =
-        let tables = tables-kept header cluster old new change in
-        let named : l2_cluster header.v2.cluster_bits l1 (offset / 2 ^ header.v2.cluster_bits) ≡ Some cluster =
-        let ok = rw (change.apart.begins, there) at names in cc in
-        rw (tables.0, tables.1, there, named) refl
+lookup-own header cluster old new change offset names =
+    grind (arith, nat_tests, names, change.apart.begins, tables-kept header cluster old new change)
 
 -- a change of an L2 table reaches the lookups of its own offsets alone
 changes-own-lookups : (header : HeaderRecord) (cluster : HostCluster) (old new : Image) → ChangesL2Table header cluster old new → ChangesOwnLookups header cluster old new
@@ -146,13 +138,11 @@ sum-one : (f h : HostCluster → ℕ) (xs : List HostCluster) (k : ℕ) (x : Hos
     → sum_by h xs + a ≡ sum_by f xs + b
 sum-one f h [] k x a b found change others = absurd (none-some x found)
 sum-one f h (y ∷ ys) zero x a b found change others =
-    let head : h y + a ≡ f y + b = rw (same_Some y x found) change in
-    let rest = sum-same f h ys (λ j z. others (suc j) z (λ is. omega (arith, is))) in
-    omega (arith, sum_by-cons h y ys, sum_by-cons f y ys, head, rest)
+    grind (arith, nat_tests, sum_by-cons, sum-same f h ys (λ j z. others (suc j) z (λ is. omega (arith, is))))
 sum-one f h (y ∷ ys) (suc k) x a b found change others =
-    let first : h y ≡ f y = others 0 y (λ is. omega (arith, is)) refl in
+    let first = others 0 y (λ is. omega (arith, is)) refl in
     let rest = sum-one f h ys k x a b found change (λ j z differs. others (suc j) z (λ is. differs (omega (arith, is)))) in
-    omega (arith, sum_by-cons h y ys, sum_by-cons f y ys, first, rest)
+    grind (arith, nat_tests, sum_by-cons, first, rest)
 
 -- the bytes of an L2 table, among those of all tables
 table-bytes : (header : HeaderRecord) (l1 : List ℕ) (cluster : HostCluster) (k : ℕ)
@@ -166,8 +156,8 @@ avoids-others : (header : HeaderRecord) (l1 : List ℕ) (cluster : HostCluster) 
 avoids-others header l1 cluster k apart found =
     let at = table-bytes header l1 cluster k found in
     record {
-      first_cluster = apart 0 (suc (suc k)) (first_cluster_bytes header) _ (λ is. omega (arith, is)) refl at;
-      l1_table = apart 1 (suc (suc k)) (table_bytes (l1_place header)) _ (λ is. omega (arith, is)) refl at;
+      first_cluster = apart 0 (suc (suc k)) _ _ (λ is. omega (arith, is)) refl at;
+      l1_table = apart 1 (suc (suc k)) _ _ (λ is. omega (arith, is)) refl at;
     }
 
 -- references in the L2 table at a cluster

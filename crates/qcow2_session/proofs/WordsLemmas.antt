@@ -34,7 +34,7 @@ pub said-none : {X T : Type 0} (said : List ℕ → Option T) (bytes : X → Lis
 said-none said bytes [] i default below here = absurd (omega (arith, below))
 said-none said bytes (x ∷ xs) zero default below here = rw here refl
 said-none said bytes (x ∷ xs) (suc i) default below here =
-    rw (said-none said bytes xs i default (omega (arith, below)) here) (both-none (λ first more. first ∷ more) (said (bytes x)))
+    grind (arith, both-none, said-none said bytes xs i default (omega (arith, below)) here)
 
 -- and where the list of what they say isn't known, they still say something
 pub said-kept : {X T : Type 0} (said : List ℕ → Option T) (bytes : X → List ℕ) (words : List X) (i : ℕ) (default : X) (found : T) → i < length words

@@ -4,9 +4,8 @@ ghost use Rattle.std.specs.Prelude.{◌≡◌, ◌-◌, ◌*◌, ◌^◌, ◌<�
 ghost use Rattle.qcow2_base.specs.Format.{most_l1_entries};
 ghost use Rattle.qcow2_base.specs.Types.{IsClusterBits};
 ghost use Rattle.qcow2_metadata.specs.Entries.L2Mapping.{IsPlaced, meaning};
-ghost use Rattle.qcow2_session.specs.Commands.Entries.{label_text, table_lines};
+ghost use Rattle.qcow2_session.specs.Commands.Entries.{entry_line, label_text, table_lines};
 ghost use Rattle.qcow2_session.specs.Commands.Printing.{PrintsText};
-ghost use Rattle.qcow2_session.specs.Lines.{entry_line};
 
 use crate::lines::{LineBuffer, prepend_mapping};
 use qcow2_base::{Fault, GuestCluster};

@@ -1,21 +1,11 @@
-use Rattle.std.proofs.Common.{◌≡◌, rules, inl, inr, sym}
+use Rattle.std.proofs.Common.{◌≡◌, rules, sym, arith}
 use Rattle.qcow2_session.specs.Session.Images.{block_in}
-use Rattle.std.proofs.lemmas.Result.{err_from_is_err_and}
 use Rattle.qcow2_session.proofs.ImagesLemmas.{refused-steps}
 use Rattle.qcow2_session.proofs.StepsLemmas.{block-idle, counts-same}
 use Rattle.qcow2_session.proofs.session.images.step_image.Goals as goal
 
 pub returns-in_err-replies-clause-faults : goal.returns-in_err-replies-clause-faults
-returns-in_err-replies-clause-faults g c =
-    let exit = err_from_is_err_and c.from_residual-in_err-replies.result c.from_residual-in_err-replies.ensures.1 in
-    record {
-      place = search rules;
-      faults = rw (exit.1, exit.2) (elim c.in_err-replies.ensures.exact [
-        | inl memory ↦ inr (inl memory)
-        | inr refused ↦ inr (inr (inr (refused-steps c.args.header.now c.in_ok-block.block c.args.steps.now c.in_err-replies.field-0.0 (search rules) refused)))
-      ]);
-      torn = λ told failed. inl c.load.ensures.storage.bytes;
-    }
+returns-in_err-replies-clause-faults g c = grind (arith, refused-steps)
 
 pub write_block_back-requires-clause-stands : goal.write_block_back-requires-clause-stands
 write_block_back-requires-clause-stands g c = λ unmodified told.
