@@ -12,7 +12,6 @@ pub mod Report
 pub mod Running
 pub mod Words
 use Rattle.std.specs.Prelude.{◌≡◌, Bool, false, true, if◌then◌else◌, List, ◌∷◌, ℕ, Option, None, Result, IsErrOf, bytes_eq, codes}
-use Rattle.qcow2_base.specs.Format.{most_l2_entries}
 use Rattle.qcow2_base.specs.Storage.{ReadsFor, StorageState}
 use Rattle.qcow2_base.specs.declared.fault.Fault.{Fault}
 use Rattle.qcow2_base.specs.declared.fault.Fault.TheVariants.{Storage}
