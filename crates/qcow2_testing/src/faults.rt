@@ -4,7 +4,7 @@ use crate::rows;
 use FaultKind::{InvalidData, InvalidInput, NoMemory, Other, Storage, Unsupported};
 use qcow2_base::{Fault, FaultKind, Field};
 
-/// A fault, its number, its kind, and its message, which says what must hold and shows what the fault carries.
+/// A fault, its number, its kind, and its message, which says what must hold and shows what it carries.
 pub type ToldFault = (Fault, u32, FaultKind, &'static str);
 
 /// All faults, in the order of their numbers.

@@ -11,7 +11,7 @@ mod faulty_files;
 mod images;
 mod temporary_files;
 
-pub use comparisons::{each, each_row, holds, printed, same, same_bytes, same_text};
+pub use comparisons::{each, holds, printed, same, same_bytes, same_text};
 pub use conditions::{fits, is_cluster_bits};
 pub use failing::{FailingStorage, StorageCall, take_turn};
 pub use faults::{FAULTS, ToldFault};
