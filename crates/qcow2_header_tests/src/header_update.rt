@@ -1,5 +1,4 @@
-//! Taking over what changed in another header of the same image, which field is told where they differ, and
-//! when extensions are equal.
+//! Taking over what changed in another header of the same image, and which field is told where they differ.
 
 use crate::fixtures::Changes;
 use crate::header_calls::{load_with, update};
@@ -8,10 +7,9 @@ use qcow2_base::Field::{
     self, Autoclear, BackingName, BackingOffset, BackingSize, ClusterBits, Compatible, CryptMethod,
     Extensions, Incompatible, NbSnapshots, RefcountOrder, SnapshotsOffset, UnknownFields, Version,
 };
-use qcow2_metadata::{FeatureType, Header, HeaderExtension};
-use qcow2_testing::{printed, same};
-use std::alloc::{AllocError, Global};
-use std::collections::BTreeMap;
+use qcow2_metadata::Header;
+use qcow2_testing::{each, printed, rows, same};
+use std::alloc::Global;
 use std::test::Fail;
 
 // A disk of 32768 bytes, whose L1 table has one entry at 512. The backing file's name stands at two places.
@@ -25,33 +23,24 @@ const MOVED: Changes = "24=0102030405060708, 36=21222324, 40=3132333435363a00, \
     48=4142434445464800, 56=51525354";
 
 // Changes to the least header that leave two that agree in all but what is taken over.
-const AGREEING: &[(Changes, Changes)] = &[
+const AGREEING: &[(Changes, Changes)] = rows! {
     // a disk of 32768 bytes becomes one of 65536, its L1 table one of 2 entries
     ("30=80, 39=01, 46=02", "29=01, 39=02, 46=02"),
-    (SMALL, SMALL),
-    (SMALL, GROWN),
-    ("", MOVED),
-    (MOVED, ""),
-    ("", "24=01"),
-    ("", "36=01"),
-    ("", "46=02"),
-    ("", "54=02"),
-    ("", "56=01"),
+    (SMALL, SMALL), (SMALL, GROWN), ("", MOVED), (MOVED, ""),
+    ("", "24=01"), ("", "36=01"), ("", "46=02"), ("", "54=02"), ("", "56=01"),
     // what no header says: bytes behind End, padding, and in version 2 those behind byte 72
     ("200=01", "200=02, 31=01"),
     ("104=format 01:a, 113=01", "104=format 01:a, 113=02"),
     ("7=02", "7=02, 79=04, 99=09"),
+    // the same name of a data file, and the same extension of a type that isn't known
+    ("104=data 01:a, 123=0700000001:b", "104=data 01:a, 123=0700000001:b"),
     // a feature name table in another order, with a name that is replaced, and with one of no feature
-    (
-        "104=names 36 0000:d, 160=0100:lazy",
-        "104=names 33 0100:lazy, 160=0000:d",
-    ),
-    ("104=names 36 0100:old, 160=0100:lazy", FEATURE),
-    ("104=names 36 0100:lazy, 160=0300:none", FEATURE),
-];
+    ("104=names 36 0000:d, 160=0100:lazy", "104=names 33 0100:lazy, 160=0000:d"),
+    ("104=names 36 0100:old, 160=0100:lazy", FEATURE), ("104=names 36 0100:lazy, 160=0300:none", FEATURE),
+};
 
 // Fails unless the first header becomes the second one.
-fn becomes(alloc: Global, here: Changes, there: Changes) -> Result<(), Fail> {
+fn becomes(alloc: Global, (here, there): (Changes, Changes)) -> Result<(), Fail> {
     let mut header = load_with(alloc, here, "")?;
     let other = load_with(alloc, there, "")?;
     is_taken_over(alloc, &mut header, &other)
@@ -65,62 +54,41 @@ fn is_taken_over(alloc: Global, header: &mut Header, other: &Header) -> Result<(
 
 #[test]
 fn a_header_becomes_one_that_agrees_with_it(rt: HostRuntime) -> Result<(), Fail> {
-    for (here, there) in AGREEING {
-        becomes(rt.alloc(), here, there)?;
-    }
-    Ok(())
+    each(rt.alloc(), AGREEING, becomes)
 }
 
 // Changes to headers of these disks that leave two which differ in a field, and in none before it. The tables
 // move with the cluster size, so that they begin with a cluster.
-const DIFFERING: &[(Changes, Changes, Field)] = &[
-    ("", "7=02, 107=07", Version),
-    ("", "15=70, 107=07", BackingOffset),
-    ("", "15=70, 23=0a, 46=04", BackingOffset),
-    ("", "19=01, 107=07", BackingSize),
-    ("", "23=0a, 46=04, 107=07", ClusterBits),
-    ("", "35=01, 107=07", CryptMethod),
-    ("", "63=01, 107=07", NbSnapshots),
-    ("", "71=01, 107=07", SnapshotsOffset),
-    ("", "79=04, 107=07", Incompatible),
-    ("", "87=01, 107=07", Compatible),
-    ("", "95=01, 107=07", Autoclear),
-    ("", "99=03, 107=07", RefcountOrder),
-    ("", "103=70, 107=07", UnknownFields),
-    ("", "361=:c, 107=07", BackingName),
-    ("", "107=07", Extensions),
+type Differing = (Changes, Changes, Field);
+
+const DIFFERING: &[Differing] = rows! {
+    ("", "7=02, 107=07", Version), ("", "15=70, 107=07", BackingOffset),
+    ("", "15=70, 23=0a, 46=04", BackingOffset), ("", "19=01, 107=07", BackingSize),
+    ("", "23=0a, 46=04, 107=07", ClusterBits), ("", "35=01, 107=07", CryptMethod),
+    ("", "63=01, 107=07", NbSnapshots), ("", "71=01, 107=07", SnapshotsOffset),
+    ("", "79=04, 107=07", Incompatible), ("", "87=01, 107=07", Compatible),
+    ("", "95=01, 107=07", Autoclear), ("", "99=03, 107=07", RefcountOrder),
+    ("", "103=70, 107=07", UnknownFields), ("", "361=:c, 107=07", BackingName), ("", "107=07", Extensions),
     // empty names at two places, and a length where no name is
     ("14=01f000000000", "14=01f800000000", BackingOffset),
     ("14=000000000001", "14=000001000001", BackingSize),
     // unknown fields of one length
-    ("103=70, 104=01", "103=70, 104=02", UnknownFields),
-    ("103=70", "103=70, 111=01", UnknownFields),
+    ("103=70, 104=01", "103=70, 104=02", UnknownFields), ("103=70", "103=70, 111=01", UnknownFields),
     // extensions in another order, one more, and none
-    (
-        FORMAT_AND_DATA,
-        "104=data 01:b, 120=format 01:a",
-        Extensions,
-    ),
-    ("104=data 01:b", "104=data 01:b, 120=data 01:b", Extensions),
-    ("", "104=data 00", Extensions),
+    ("104=format 01:a, 120=data 01:b", "104=data 01:b, 120=format 01:a", Extensions),
+    ("104=data 01:b", "104=data 01:b, 120=data 01:b", Extensions), ("", "104=data 00", Extensions),
     // another name, a longer one, and another type
     ("104=format 03:raw", "104=format 03:row", Extensions),
     ("104=data 03:raw", "104=data 04:raw2", Extensions),
     ("104=data 03:raw", "104=format 03:raw", Extensions),
     // extensions of no known type: another type, another byte, another length
     ("107=0700000001:a", "107=0800000001:a", Extensions),
-    ("107=0700000001:a", "107=0700000001:b", Extensions),
-    ("107=0700000001", "107=0700000002", Extensions),
+    ("107=0700000001:a", "107=0700000001:b", Extensions), ("107=0700000001", "107=0700000002", Extensions),
     // feature name tables: another name, bit or field, a longer name, one more, and none
-    (FEATURE, "104=names 06 0100:lame", Extensions),
-    (FEATURE, "104=names 06 0101:lazy", Extensions),
-    (FEATURE, "104=names 06 0200:lazy", Extensions),
-    (FEATURE, "104=names 07 0100:lazy!", Extensions),
-    (FEATURE, "104=names 36 0100:lazy, 160=0000:name", Extensions),
-    (FEATURE, "104=names 00", Extensions),
-];
-
-const FORMAT_AND_DATA: Changes = "104=format 01:a, 120=data 01:b";
+    (FEATURE, "104=names 06 0100:lame", Extensions), (FEATURE, "104=names 06 0101:lazy", Extensions),
+    (FEATURE, "104=names 06 0200:lazy", Extensions), (FEATURE, "104=names 07 0100:lazy!", Extensions),
+    (FEATURE, "104=names 36 0100:lazy, 160=0000:name", Extensions), (FEATURE, "104=names 00", Extensions),
+};
 
 // A feature name table of one name.
 const FEATURE: Changes = "104=names 06 0100:lazy";
@@ -139,7 +107,7 @@ fn is_refused(
 }
 
 // Fails unless that is so whichever of two headers is updated.
-fn differ(alloc: Global, here: Changes, there: Changes, field: Field) -> Result<(), Fail> {
+fn differ(alloc: Global, (here, there, field): Differing) -> Result<(), Fail> {
     let mut header = load_with(alloc, SMALL, here)?;
     let mut other = load_with(alloc, GROWN, there)?;
     refuse_each_other(alloc, &mut header, &mut other, field)
@@ -157,62 +125,5 @@ fn refuse_each_other(
 
 #[test]
 fn the_first_field_that_differs_is_told_and_nothing_changes(rt: HostRuntime) -> Result<(), Fail> {
-    for (here, there, field) in DIFFERING {
-        differ(rt.alloc(), here, there, *field)?;
-    }
-    Ok(())
-}
-
-// Extensions of which no two are equal: of which kind they are, and a text.
-const EXTENSIONS: &[(u32, &'static str)] = &[
-    (0, ""),
-    (0, "raw"),
-    (0, "row"),
-    (1, ""),
-    (1, "raw"),
-    (7, ""),
-    (7, "raw"),
-    (7, "row"),
-    (8, ""),
-    (8, "raw"),
-    (2, ""),
-    (3, ""),
-];
-
-fn extension(alloc: Global, kind: u32, text: &str) -> Result<HeaderExtension, AllocError> {
-    match kind {
-        0 => Ok(HeaderExtension::BackingFileFormat(String::from_str(alloc, text)?)),
-        1 => Ok(HeaderExtension::ExternalDataFileName(String::from_str(alloc, text)?)),
-        2 => Ok(HeaderExtension::FeatureNameTable(BTreeMap::new(alloc))),
-        3 => feature(alloc, text),
-        _ => Ok(HeaderExtension::Unknown {
-            extension_type: kind,
-            content: Vec::from_slice(alloc, text.as_bytes())?,
-        }),
-    }
-}
-
-// A table with one name.
-fn feature(alloc: Global, text: &str) -> Result<HeaderExtension, AllocError> {
-    let mut names = BTreeMap::new(alloc);
-    names.insert((FeatureType::Compatible, 0), String::from_str(alloc, text)?)?;
-    Ok(HeaderExtension::FeatureNameTable(names))
-}
-
-// Fails unless the copy of an extension is equal to it and to no other.
-fn equals_itself(alloc: Global, copy: &HeaderExtension, index: usize) -> Result<(), Fail> {
-    for (other, (kind, text)) in EXTENSIONS.iter().enumerate() {
-        let is_equal = *copy == extension(alloc, *kind, text)?;
-        same(is_equal, index == other, (copy, kind, text))?;
-    }
-    Ok(())
-}
-
-#[test]
-fn an_extension_is_equal_to_its_copy_and_to_no_other(rt: HostRuntime) -> Result<(), Fail> {
-    for (index, (kind, text)) in EXTENSIONS.iter().enumerate() {
-        let copy = extension(rt.alloc(), *kind, text)?.clone()?;
-        equals_itself(rt.alloc(), &copy, index)?;
-    }
-    Ok(())
+    each(rt.alloc(), DIFFERING, differ)
 }

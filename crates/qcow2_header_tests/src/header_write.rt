@@ -3,11 +3,11 @@
 use crate::fixtures::{Changes, OLDER, filled_with, least_with};
 use crate::header_calls::{dirty, load, load_with, names, new, write};
 use crate::header_texts::{
-    CUT, Cut, KNOWN, LOADED, NEW, Name, OLDER_WRITTEN, Repeated, THREE_NAMES,
+    CUT, Cut, KNOWN, LOADED, Loaded, NEW, Name, OLDER_WRITTEN, Repeated, THREE_NAMES,
 };
 use qcow2_base::{Fault, MemStorage};
 use qcow2_metadata::Header;
-use qcow2_testing::{FailingStorage, StorageCall, filled_image, printed, same, same_bytes};
+use qcow2_testing::{FailingStorage, StorageCall, each, filled_image, printed, same, same_bytes};
 use std::alloc::{AllocError, Global};
 use std::test::Fail;
 
@@ -27,9 +27,9 @@ fn is_placed(
     expected: &[u8],
 ) -> Result<(), Fail> {
     let call = StorageCall::Write { offset: 0, len };
-    let found = (answer, image.calls().len(), image.calls().first());
+    let found = (answer, image.calls.len(), image.calls.first());
     same(found, (Ok(()), 1, Some(&call)), len)?;
-    same_bytes(image.inner().bytes(), expected, len)
+    same_bytes(image.inner.bytes(), expected, len)
 }
 
 // Fails unless that is so, and the text is loaded as the header, which is written again as it is; and unless
@@ -90,12 +90,7 @@ fn a_new_header_is_written_with_its_names(rt: HostRuntime) -> Result<(), Fail> {
     is_new(rt.alloc(), &mut header, KNOWN, THREE_NAMES)
 }
 
-fn is_written(
-    alloc: Global,
-    changes: Changes,
-    text: Changes,
-    called: Option<&str>,
-) -> Result<(), Fail> {
+fn is_written(alloc: Global, (changes, text, called): Loaded) -> Result<(), Fail> {
     let text = least_with(alloc, text, "")?;
     let mut header = load_with(alloc, changes, "")?;
     goes_round(alloc, &mut header, text.bytes(), (called, called))
@@ -103,10 +98,7 @@ fn is_written(
 
 #[test]
 fn a_write_places_each_part_and_pads_it(rt: HostRuntime) -> Result<(), Fail> {
-    for (changes, text, called) in LOADED {
-        is_written(rt.alloc(), changes, text, *called)?;
-    }
-    Ok(())
+    each(rt.alloc(), LOADED, is_written)
 }
 
 #[test]
@@ -127,8 +119,8 @@ fn name_of(alloc: Global, name: Name) -> Result<String, AllocError> {
     Ok(text)
 }
 
-fn is_cut(alloc: Global, header: &mut Header, row: &Cut) -> Result<(), Fail> {
-    let (found, first, written, later) = *row;
+fn is_cut(alloc: Global, header: &mut Header, row: Cut) -> Result<(), Fail> {
+    let (found, first, written, later) = row;
     let (first, later) = (name_of(alloc, first)?, name_of(alloc, later)?);
     same(dirty(header), Some(first.as_str()), found)?;
     let text = least_with(alloc, FULL_NAME, written)?;
@@ -141,8 +133,11 @@ fn a_feature_name_that_is_cut_is_the_same_from_the_second_load_on(
     rt: HostRuntime,
 ) -> Result<(), Fail> {
     for row in CUT {
-        let mut header = load_with(rt.alloc(), FULL_NAME, row.0)?;
-        is_cut(rt.alloc(), &mut header, row)?;
+        is_cut(
+            rt.alloc(),
+            &mut load_with(rt.alloc(), FULL_NAME, row.0)?,
+            *row,
+        )?;
     }
     Ok(())
 }
@@ -152,7 +147,7 @@ fn refuses(alloc: Global, header: &mut Header, fault: Fault) -> Result<(), Fail>
     let before = printed(alloc, header)?;
     let mut image = FailingStorage::new(alloc, filled_image(alloc, 2048)?);
     let answer = write(header, &mut image);
-    let found = (answer, image.calls().len(), printed(alloc, header)?);
+    let found = (answer, image.calls.len(), printed(alloc, header)?);
     same(found, (Err(fault), 0, before), fault)
 }
 
@@ -172,20 +167,20 @@ const TOO_LONG: &[Changes] = &[
     "7=02, 15=4f000001b1, 79=61*433",
 ];
 
-#[test]
-fn a_write_refuses_a_name_or_a_header_that_is_too_long(rt: HostRuntime) -> Result<(), Fail> {
-    for (cluster_bits, len, fault) in LONG_NAMES {
-        let mut header = made(rt.alloc(), *cluster_bits, ("a", *len))?;
-        refuses(rt.alloc(), &mut header, *fault)?;
-    }
-    Ok(())
+fn refuses_new(alloc: Global, row: (u32, usize, Fault)) -> Result<(), Fail> {
+    refuses(alloc, &mut made(alloc, row.0, ("a", row.1))?, row.2)
+}
+
+fn refuses_loaded(alloc: Global, changes: Changes) -> Result<(), Fail> {
+    refuses(
+        alloc,
+        &mut load_with(alloc, changes, "")?,
+        Fault::HeaderTooLong,
+    )
 }
 
 #[test]
-fn a_write_refuses_a_loaded_header_that_is_too_long(rt: HostRuntime) -> Result<(), Fail> {
-    for changes in TOO_LONG {
-        let mut header = load_with(rt.alloc(), changes, "")?;
-        refuses(rt.alloc(), &mut header, Fault::HeaderTooLong)?;
-    }
-    Ok(())
+fn a_write_refuses_a_name_or_a_header_that_is_too_long(rt: HostRuntime) -> Result<(), Fail> {
+    each(rt.alloc(), LONG_NAMES, refuses_new)?;
+    each(rt.alloc(), TOO_LONG, refuses_loaded)
 }

@@ -6,7 +6,8 @@ use crate::header_texts::RICH_WRITTEN;
 use crate::rich_header::RICH;
 use qcow2_base::{Fault, FileStorage, MemStorage, Storage};
 use qcow2_testing::{
-    FailingStorage, StorageCall, holds, printed, put_bytes, same, same_bytes, temporary_file,
+    FailingStorage, StorageCall, all_same, each, holds, printed, put_bytes, same, same_bytes,
+    temporary_file,
 };
 use std::alloc::Global;
 use std::fs;
@@ -27,7 +28,9 @@ fn answers<S: Storage>(alloc: Global, image: &mut S, expected: &str) -> Result<(
 
 // Autoclear features and other changes to the least header, the text that is written, and what a load for
 // writing answers.
-const CLEARED: &[(Changes, Changes, &'static str)] = &[
+type Cleared = (Changes, Changes, &'static str);
+
+const CLEARED: &[Cleared] = &[
     ("95=01, 111=00", "111=00", "- - -"),
     // names of features that take more place when they are written, and then don't fit
     (NAMED, "104=0000000700000178, 495=00", "- - -"),
@@ -55,14 +58,10 @@ fn are_reads(calls: &[StorageCall]) -> bool {
 // Fails unless the calls are two that read, and then one that writes so many bytes.
 fn are_two_reads_and_a_write(calls: &[StorageCall], len: usize) -> Result<(), Fail> {
     let write = StorageCall::Write { offset: 0, len };
-    let Some((last, reads)) = calls.split_last() else {
+    let [reads @ .., last] = calls else {
         return holds(false, "calls");
     };
-    same(
-        (reads.len(), are_reads(reads), last),
-        (2, true, &write),
-        len,
-    )
+    all_same! { len, reads.len() => 2, are_reads(reads) => true, *last => write }
 }
 
 // Fails unless a load for writing places the text in the image, and answers this.
@@ -72,21 +71,26 @@ fn clears(
     text: &[u8],
     answer: &str,
 ) -> Result<(), Fail> {
-    let mut expected = MemStorage::new(Vec::from_slice(alloc, image.inner().bytes())?);
+    let mut expected = MemStorage::new(Vec::from_slice(alloc, image.inner.bytes())?);
     put_bytes(&mut expected, 0, text)?;
     answers(alloc, image, answer)?;
-    are_two_reads_and_a_write(image.calls(), text.len())?;
-    same_bytes(image.inner().bytes(), expected.bytes(), text.len())
+    are_two_reads_and_a_write(&image.calls, text.len())?;
+    same_bytes(image.inner.bytes(), expected.bytes(), text.len())
+}
+
+fn is_cleared(alloc: Global, (changes, text, answer): Cleared) -> Result<(), Fail> {
+    let text = least_with(alloc, text, "")?;
+    clears(
+        alloc,
+        &mut image_with(alloc, changes)?,
+        text.bytes(),
+        answer,
+    )
 }
 
 #[test]
 fn a_load_for_writing_clears_autoclear_features_by_one_write(rt: HostRuntime) -> Result<(), Fail> {
-    for (changes, text, answer) in CLEARED {
-        let text = least_with(rt.alloc(), text, "")?;
-        let mut image = image_with(rt.alloc(), changes)?;
-        clears(rt.alloc(), &mut image, text.bytes(), answer)?;
-    }
-    Ok(())
+    each(rt.alloc(), CLEARED, is_cleared)
 }
 
 // Changes to the least header, and what a load for writing answers, which writes nothing.
@@ -103,20 +107,17 @@ const LEFT: &[(Changes, &'static str)] = &[
 ];
 
 // Fails unless a load for writing answers this, and writes nothing.
-fn only_reads(alloc: Global, changes: Changes, answer: &str) -> Result<(), Fail> {
+fn only_reads(alloc: Global, (changes, answer): (Changes, &str)) -> Result<(), Fail> {
     let mut image = image_with(alloc, changes)?;
     answers(alloc, &mut image, answer)?;
-    holds(are_reads(image.calls()), changes)
+    holds(are_reads(&image.calls), changes)
 }
 
 #[test]
 fn a_load_for_writing_without_autoclear_features_or_refused_only_reads(
     rt: HostRuntime,
 ) -> Result<(), Fail> {
-    for (changes, answer) in LEFT {
-        only_reads(rt.alloc(), changes, answer)?;
-    }
-    Ok(())
+    each(rt.alloc(), LEFT, only_reads)
 }
 
 fn open(rt: &HostRuntime, path: &str) -> Result<FileStorage, Fault> {

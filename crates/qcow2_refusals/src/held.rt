@@ -53,27 +53,15 @@ pub(crate) fn hold_over(
     image: &mut MemStorage,
     header: Header,
 ) -> Result<Held, Fault> {
-    let (out, block, l1_table, l2_table, reftable) = load_each(alloc, image, &header)?;
     Ok(Held {
         alloc,
+        l1_table: l1_table(alloc, image, &header)?,
+        l2_table: l2_table(alloc, image, &header)?,
+        reftable: reftable(alloc, image, &header)?,
+        block: block(alloc, image, &header)?,
+        out: Output::new(alloc)?,
         header,
-        l1_table,
-        l2_table,
-        reftable,
-        block,
-        out,
     })
-}
-
-type Loaded = (Output, RefBlock, L1Table, L2Table, RefTable);
-
-fn load_each(alloc: Global, image: &mut MemStorage, header: &Header) -> Result<Loaded, Fault> {
-    let out = Output::new(alloc)?;
-    let block = block(alloc, image, header)?;
-    let l1_table = l1_table(alloc, image, header)?;
-    let l2_table = l2_table(alloc, image, header)?;
-    let reftable = reftable(alloc, image, header)?;
-    Ok((out, block, l1_table, l2_table, reftable))
 }
 
 // A new header of these cluster bits and this refcount order, a new one for the backing file backing.1, or
@@ -85,14 +73,10 @@ fn header_of(alloc: Global, header: &str) -> Result<Header, Fault> {
     match kind {
         Some("new") => new_header(alloc, first, second),
         Some("disk") => disk_header(alloc, first as u64),
-        _ => Header::new(
-            alloc,
-            9,
-            4,
-            Some(String::from_str(alloc, "backing.1")?),
-            None,
-            None,
-        ),
+        _ => {
+            let name = String::from_str(alloc, "backing.1")?;
+            Header::new(alloc, 9, 4, Some(name), None, None)
+        }
     }
 }
 

@@ -5,7 +5,7 @@
 //! for each run with how many there are; then it makes each run where nothing is refused, and prints how many
 //! runs there are. `scripts/refuse-each-allocation` runs it with other words: with `memory` it does the
 //! latter alone, and each of its requests for memory is refused in turn; with `once` and with `often` it
-//! makes the calls that take no memory, once or a thousand times; with `settled` and with `refused` it makes
+//! makes calls that must take no memory, once or a thousand times; with `settled` and with `refused` it makes
 //! edits that the counters follow, or can't: all memory is taken before they are looked at.
 #![tactic(auto)]
 
@@ -18,7 +18,7 @@ mod refusals;
 mod runs;
 mod without_memory;
 
-use crate::memory::Memory;
+use crate::memory::{Memory, again};
 use crate::refusals::Refusals;
 use crate::runs::take_all;
 use std::alloc::Global;
@@ -27,7 +27,9 @@ use std::process::ExitCode;
 use std::{env, fs, io, process};
 
 fn main(rt: HostRuntime) -> ExitCode {
-    let (Ok(word), Ok(table)) = (word_again(&rt), table_again(&rt)) else {
+    let word = again(|| first_word(&rt));
+    let table = again(|| fs::read_to_string(&rt, "runs.txt"));
+    let (Ok(word), Ok(table)) = (word, table) else {
         return ExitCode::FAILURE;
     };
     if does(&rt, &word, &table, &mut rt.stdout()) {
@@ -37,25 +39,10 @@ fn main(rt: HostRuntime) -> ExitCode {
     }
 }
 
-// The word behind the name, or an empty one, made once more where memory was refused the first time.
-fn word_again(rt: &HostRuntime) -> io::Result<String> {
-    match first_word(rt) {
-        Err(_) => first_word(rt),
-        word => word,
-    }
-}
-
+// The word behind the name, or an empty one.
 fn first_word(rt: &HostRuntime) -> io::Result<String> {
     let word = env::args(rt)?.nth(1);
     Ok(word.unwrap_or(String::new(rt.alloc())))
-}
-
-// The table of runs, read once more where memory was refused the first time.
-fn table_again(rt: &HostRuntime) -> io::Result<String> {
-    match fs::read_to_string(rt, "runs.txt") {
-        Err(_) => fs::read_to_string(rt, "runs.txt"),
-        table => table,
-    }
 }
 
 // Does what the word says, and answers whether all was as it must be.
@@ -86,7 +73,7 @@ fn refuse_all<O: Write>(alloc: Global, table: &str, out: &mut O) -> bool {
 
 // Makes each run, or each of one call.
 fn make_each<O: Write>(rt: &HostRuntime, call: &str, table: &str, out: &mut O) -> bool {
-    let Ok(path) = path_again(rt) else {
+    let Ok(path) = again(|| temporary_path(rt)) else {
         return false;
     };
     let mut memory = Memory {
@@ -103,14 +90,7 @@ fn make_each<O: Write>(rt: &HostRuntime, call: &str, table: &str, out: &mut O) -
     writeln!(out, "{runs} runs").is_ok() && all_right && runs > 0
 }
 
-// Where the file of a run lies, made once more where memory was refused the first time.
-fn path_again(rt: &HostRuntime) -> io::Result<String> {
-    match temporary_path(rt) {
-        Err(_) => temporary_path(rt),
-        path => path,
-    }
-}
-
+// Where the file of a run lies.
 fn temporary_path(rt: &HostRuntime) -> io::Result<String> {
     let id = process::id(rt.process());
     let name = format!(in rt.alloc(); "qcow2-refusals-{id}")?;

@@ -8,8 +8,8 @@ use crate::calls::{Answer, make};
 use crate::runs::{Each, Run};
 use qcow2_base::{Fault, FileStorage, MemStorage};
 use std::alloc::Global;
+use std::fs;
 use std::io::Write;
-use std::{fs, io};
 
 /// Makes each run, and tells of those that aren't as they must be.
 #[derive(Drop)]
@@ -41,25 +41,19 @@ impl<O: Write> Each for Memory<'_, O> {
     }
 }
 
-// Begins a run, once more where memory was refused the first time.
-fn begin_again(alloc: Global, run: &Run<'_>) -> Result<Attempt, Fault> {
-    match begin(alloc, run) {
-        Err(_) => begin(alloc, run),
-        begun => begun,
-    }
-}
-
-// The image before the call, made once more where memory was refused the first time.
-fn image_again(alloc: Global, run: &Run<'_>) -> Result<MemStorage, Fault> {
-    match run.before(alloc) {
-        Err(_) => run.before(alloc),
-        image => image,
+/// Makes a call, and once more where memory was refused the first time.
+pub(crate) fn again<T: Drop, E: Drop, F: Fn() -> Result<T, E>>(call: F) -> Result<T, E>
+    requires { F.IsAlwaysCallable call }
+{
+    match call() {
+        Err(_) => call(),
+        answer => answer,
     }
 }
 
 fn over_memory(alloc: Global, run: &Run<'_>) -> Result<(), Wrong> {
-    let mut image = image_again(alloc, run)?;
-    let mut attempt = begin_again(alloc, run)?;
+    let mut image = again(|| run.before(alloc))?;
+    let mut attempt = again(|| begin(alloc, run))?;
     make_in_memory(run, &mut attempt, &mut image)
 }
 
@@ -78,16 +72,12 @@ fn make_in_memory(
 }
 
 fn over_file(rt: &HostRuntime, path: &str, run: &Run<'_>) -> Result<(), Wrong> {
-    let mut attempt = begin_again(rt.alloc(), run)?;
+    let mut attempt = again(|| begin(rt.alloc(), run))?;
     make_in_file(rt, path, run, &mut attempt)
 }
 
-// Opens the file for writing, once more where memory was refused the first time.
-fn open_again(rt: &HostRuntime, path: &str) -> Result<FileStorage, Fault> {
-    match FileStorage::open(rt, path, true) {
-        Err(_) => Ok(FileStorage::open(rt, path, true)?),
-        Ok(file) => Ok(file),
-    }
+fn open(rt: &HostRuntime, path: &str) -> Result<FileStorage, Fault> {
+    FileStorage::open(rt, path, true)
 }
 
 fn make_in_file(
@@ -98,10 +88,10 @@ fn make_in_file(
 ) -> Result<(), Wrong> {
     let is_written = fs::write(rt, path, attempt.before.bytes()).is_ok();
     unless(is_written, Wrong::Beginning)?;
-    let mut file = open_again(rt, path)?;
+    let mut file = again(|| open(rt, path))?;
     for _ in 0..2 {
         let answer = make(run, &mut attempt.held, &mut file);
-        let Ok(bytes) = bytes_again(rt, path) else {
+        let Ok(bytes) = again(|| fs::read(rt, path)) else {
             return Err(Wrong::Beginning);
         };
         if has_done(run, attempt, answer, &bytes)? {
@@ -109,14 +99,6 @@ fn make_in_file(
         }
     }
     Err(Wrong::Answer)
-}
-
-// The bytes of the file, read once more where memory was refused the first time.
-fn bytes_again(rt: &HostRuntime, path: &str) -> io::Result<Vec<u8>> {
-    match fs::read(rt, path) {
-        Err(_) => fs::read(rt, path),
-        bytes => bytes,
-    }
 }
 
 // Answers whether all is done. Fails unless all stands that must after this answer: a refusal of memory,

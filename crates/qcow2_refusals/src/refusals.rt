@@ -66,7 +66,7 @@ fn refuse(alloc: Global, of_writes: bool, run: &Run<'_>, passes: u64) -> Result<
     if of_writes {
         attempt.held.out.plan = Some(passes);
     } else {
-        image.fail_after(passes);
+        image.plan = Some(passes);
     }
     make_twice(run, &mut attempt, &mut image)
 }
@@ -79,8 +79,8 @@ fn make_twice(
 ) -> Result<bool, Wrong> {
     let answer = make(run, &mut attempt.held, image);
     unless(holds_what_passed(attempt, image)?, Wrong::Image)?;
-    attempt.check(run, answer, image.inner().bytes())?;
-    let is_refused = image.failures() > 0 || attempt.held.out.has_failed;
+    attempt.check(run, answer, image.inner.bytes())?;
+    let is_refused = image.failures > 0 || attempt.held.out.has_failed;
     if !is_refused {
         unless(answer == Answer::Done, Wrong::Answer)?;
         return Ok(false);
@@ -88,17 +88,17 @@ fn make_twice(
     unless(answer == Answer::StorageFailed, Wrong::Answer)?;
     let answer = make(run, &mut attempt.held, image);
     unless(answer == Answer::Done, Wrong::Answer)?;
-    attempt.check(run, answer, image.inner().bytes())?;
+    attempt.check(run, answer, image.inner.bytes())?;
     Ok(true)
 }
 
 // Whether the image holds what was written by the calls that passed, all but the last one where one failed,
 // and nothing else is changed in it.
 fn holds_what_passed(attempt: &Attempt, image: &FailingStorage<MemStorage>) -> Result<bool, Fault> {
-    let passed = match image.calls().split_last() {
-        Some((_, passed)) if image.failures() > 0 => passed,
-        _ => image.calls(),
+    let passed = match image.calls.split_last() {
+        Some((_, passed)) if image.failures > 0 => passed,
+        _ => &image.calls,
     };
     let written = attempt.written(passed)?;
-    Ok(image.inner().bytes() == written.as_slice())
+    Ok(image.inner.bytes() == written.as_slice())
 }

@@ -8,9 +8,8 @@ use crate::calls::list_l2_table;
 use crate::failing_output::{FailingOutput, Failure};
 use crate::tables::table_of;
 use qcow2_base::{Fault, MemStorage};
-use qcow2_testing::{FailingStorage, rows, same, same_bytes};
+use qcow2_testing::{FailingStorage, each, rows, same, same_bytes};
 use std::alloc::Global;
-use std::io::Write;
 use std::test::Fail;
 
 // The number of an L2 entry, and its line: none where the entry is left to the backing file.
@@ -35,31 +34,17 @@ const NINE_BITS: &[Case] = rows! {
 };
 
 const SIXTEEN_BITS: &[Case] = rows! {
-    (0x0000_0000_0000_0000, ""),
-    (0x8000_0000_0001_0000, "1 data 0x10000 copied\n"),
-    (0x0000_0000_0003_0000, "2 data 0x30000\n"),
-    (0x80ff_ffff_ffff_0000, "3 data 0xffffffffff0000 copied\n"),
-    (0x0000_0000_0000_0001, "4 zero\n"),
-    (0x8000_0000_0000_0001, "5 zero\n"),
-    (0x0000_0000_0001_0001, "6 zero 0x10000\n"),
-    (0x80ff_ffff_ffff_0001, "7 zero 0xffffffffff0000 copied\n"),
-    (0x4040_0000_0001_0010, "8 compressed 0x10010 1008\n"),
-    (0x4040_0000_0001_fff0, "9 compressed 0x1fff0 528\n"),
-    (0x7fff_ffff_ffff_ffff, "10 compressed 0x3fffffffffffff 130561\n"),
-    (0x8000_0000_0000_0000, ""),
+    (0x80ff_ffff_ffff_0000, "0 data 0xffffffffff0000 copied\n"),
+    (0x4040_0000_0001_0010, "1 compressed 0x10010 1008\n"),
+    (0x4040_0000_0001_fff0, "2 compressed 0x1fff0 528\n"),
+    (0x7fff_ffff_ffff_ffff, "3 compressed 0x3fffffffffffff 130561\n"),
 };
 
 const TWENTY_ONE_BITS: &[Case] = rows! {
-    (0x8000_0000_0020_0000, "0 data 0x200000 copied\n"),
-    (0x0000_0000_0060_0000, "1 data 0x600000\n"),
-    (0x00ff_ffff_ffe0_0000, "2 data 0xffffffffe00000\n"),
-    (0x8000_0000_0000_0000, ""),
-    (0x0000_0000_0000_0001, "4 zero\n"),
-    (0x0000_0000_0040_0001, "5 zero 0x400000\n"),
-    (0x8000_0000_0040_0001, "6 zero 0x400000 copied\n"),
-    (0x4002_0000_0000_0000, "7 compressed 0x0 1024\n"),
-    (0x4000_0000_0000_0001, "8 compressed 0x1 511\n"),
-    (0x7fff_ffff_ffff_ffff, "9 compressed 0x1ffffffffffff 4193793\n"),
+    (0x00ff_ffff_ffe0_0000, "0 data 0xffffffffe00000\n"),
+    (0x8000_0000_0040_0001, "1 zero 0x400000 copied\n"),
+    (0x4002_0000_0000_0000, "2 compressed 0x0 1024\n"),
+    (0x7fff_ffff_ffff_ffff, "3 compressed 0x1ffffffffffff 4193793\n"),
 };
 
 const GOOD: u64 = 0x8000_0000_0020_0000;
@@ -104,17 +89,12 @@ const ROWS: &[Row] = rows! {
 
 const LAST_ENTRY: &[Case] = &[(GOOD, "262143 data 0x200000 copied\n"), (GOOD, "")];
 
-const CUT_OFF: &[Case] = &[
-    (GOOD, "0 data 0x200000 copied\n"),
-    (0x101_0200, "1 data 0x1000000\n"),
-];
+const CUT_OFF: &[Case] =
+    rows! { (GOOD, "0 data 0x200000 copied\n"), (0x101_0200, "1 data 0x1000000\n") };
 
 #[test]
 fn a_table_is_listed_as_far_as_the_image_goes_or_refused(rt: HostRuntime) -> Result<(), Fail> {
-    for row in ROWS {
-        lists(rt.alloc(), *row)?;
-    }
-    Ok(())
+    each(rt.alloc(), ROWS, lists)
 }
 
 // Lists the table of a row. One that would end past the greatest end is refused before any read.
@@ -124,7 +104,7 @@ fn lists(alloc: Global, row: Row) -> Result<(), Fail> {
     let mut image = FailingStorage::new(alloc, image);
     let mut out = FailingOutput::new(alloc, Failure::Never);
     let answer = list_l2_table(alloc, &mut image, place, &mut out);
-    let found = (answer, image.calls().is_empty());
+    let found = (answer, image.calls.is_empty());
     same(found, (expected, expected == PAST), place)?;
     same_bytes(out.bytes(), lines.as_bytes(), place)
 }
@@ -145,33 +125,4 @@ fn table_and_lines(
     let mut image = table_of(alloc, (first, &numbers))?;
     image.truncate(len);
     Ok((MemStorage::new(image), lines))
-}
-
-// How many bytes are taken before a write fails, and what of three writes is kept.
-const KEPT: &[(usize, &'static str)] = &[
-    (0, "cdef"),
-    (1, "acdef"),
-    (2, "abef"),
-    (3, "abcef"),
-    (4, "abcd"),
-    (5, "abcde"),
-    (6, "abcdef"),
-];
-
-#[test]
-fn a_failing_output_keeps_all_bytes_but_those_of_one_write(rt: HostRuntime) -> Result<(), Fail> {
-    for (room, kept) in KEPT {
-        let mut output = FailingOutput::new(rt.alloc(), Failure::WriteAfter(*room));
-        try_to_write(&mut output, "ab");
-        try_to_write(&mut output, "cd");
-        try_to_write(&mut output, "ef");
-        same_bytes(output.flushed(), b"", (*room, "before the flush"))?;
-        output.flush()?;
-        same_bytes(output.flushed(), kept.as_bytes(), *room)?;
-    }
-    Ok(())
-}
-
-fn try_to_write(output: &mut FailingOutput, text: &str) {
-    let _ = output.write_all(text.as_bytes());
 }

@@ -21,27 +21,18 @@ fn the_mapping_is_told_and_taken_away(rt: HostRuntime) -> Result<(), Fail> {
         host_cluster: HostCluster(5),
         copied: true,
     };
-    same(
-        &mapping_of_cluster_3(rt.alloc(), bytes),
-        &Ok(data),
-        "mapping",
-    )?;
-    did(
-        discard_cluster_3(rt.alloc(), &mut image),
-        Ok(outcome!([], [(5, 1)])),
-        "discard",
-    )?;
+    let found = mapping_of_cluster_3(rt.alloc(), bytes);
+    same(&found, &Ok(data), "mapping")?;
+    let answer = discard_cluster_3(rt.alloc(), &mut image);
+    did(answer, Ok(outcome!([], [(5, 1)])), "discard")?;
     same_bytes(image.bytes(), &[0; 2048], "image")
 }
 
 #[test]
 fn a_cluster_that_is_not_counted_keeps_its_mapping(rt: HostRuntime) -> Result<(), Fail> {
     let mut image = sample(rt.alloc(), 0)?;
-    did(
-        discard_cluster_3(rt.alloc(), &mut image),
-        Err(Fault::CounterRange),
-        "discard",
-    )?;
+    let answer = discard_cluster_3(rt.alloc(), &mut image);
+    did(answer, Err(Fault::CounterRange), "discard")?;
     let before = sample(rt.alloc(), 0)?;
     same_bytes(image.bytes(), before.bytes(), "image")
 }

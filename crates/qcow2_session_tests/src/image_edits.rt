@@ -90,13 +90,6 @@ fn stand(alloc: Global, row: Row, around: u8) -> Result<(), Fail> {
     let is_read = expected != Err(Fault::TablePlace);
     let is_written = expected.is_ok() && !edits.is_empty();
     did(answer, expected, name)?;
-    image_holds(
-        &image,
-        alloc,
-        place,
-        around,
-        after,
-        (is_read, is_written),
-        name,
-    )
+    let calls = (is_read, is_written);
+    image_holds(&image, alloc, place, around, after, calls, name)
 }

@@ -72,13 +72,6 @@ fn stand(alloc: Global, row: Row, around: u8) -> Result<(), Fail> {
     let answer = step_image(alloc, &mut image, (bits, order), cluster, steps);
     let is_read = expected != Err(Fault::TablePlace);
     let is_written = answered(answer, expected, name)?;
-    image_holds(
-        &image,
-        alloc,
-        place,
-        around,
-        after,
-        (is_read, is_written),
-        name,
-    )
+    let calls = (is_read, is_written);
+    image_holds(&image, alloc, place, around, after, calls, name)
 }

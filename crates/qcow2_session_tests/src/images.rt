@@ -21,18 +21,11 @@ pub(crate) fn header_with(
     order: u32,
     external: bool,
 ) -> Result<Header, Fault> {
-    if !is_cluster_bits(bits) {
+    if !is_cluster_bits(bits) || order > 6 {
         return Err(Fault::ClusterSize);
     }
-    if order > 6 {
-        return Err(Fault::RefcountWidth);
-    }
-    let name = if external {
-        Some(String::from_str(alloc, "data.raw")?)
-    } else {
-        None
-    };
-    Header::new(alloc, bits, order, None, None, name)
+    let name = String::from_str(alloc, "data.raw")?;
+    Header::new(alloc, bits, order, None, None, external.then_some(name))
 }
 
 // An image with these parts, of cluster bits and a cluster whose other bytes are 0. This byte stands around
@@ -80,7 +73,7 @@ pub(crate) fn image_holds(
     row: &str,
 ) -> Result<(), Fail> {
     let expected = image_of(alloc, place, around, contents)?;
-    same_bytes(image.inner().bytes(), expected.bytes(), row)?;
+    same_bytes(image.inner.bytes(), expected.bytes(), row)?;
     let pieces = 1usize.wrapping_shl(place.0).div_ceil(4096);
     let reads = if is_read { pieces } else { 0 };
     let writes = if is_written { pieces } else { 0 };
@@ -90,10 +83,10 @@ pub(crate) fn image_holds(
 // How many calls of the storage were reads, and how many were writes.
 fn reads_and_writes(image: &FailingStorage<MemStorage>) -> (usize, usize) {
     let mut writes = 0usize;
-    for call in image.calls() {
+    for call in &image.calls {
         if let StorageCall::Write { .. } = call {
             writes = writes.saturating_add(1);
         }
     }
-    (image.calls().len().saturating_sub(writes), writes)
+    (image.calls.len().saturating_sub(writes), writes)
 }

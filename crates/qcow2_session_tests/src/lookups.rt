@@ -5,7 +5,7 @@ use crate::sample_image::{COPIED, Numbers, sample_image};
 use Answer::{Backing, Compressed, Data, Refused, Zeros};
 use qcow2_base::{Fault, GuestOffset, HostCluster, MemStorage};
 use qcow2_metadata::L2Mapping;
-use qcow2_testing::{FailingStorage, StorageCall, rows, same, same_bytes};
+use qcow2_testing::{FailingStorage, StorageCall, each, rows, same, same_bytes};
 use std::alloc::Global;
 use std::fmt::Debug;
 use std::test::Fail;
@@ -30,9 +30,6 @@ const ROWS: &[Row] = rows! {
     ("one cluster of data", 9, &[],
         &[(1535, Backing(1024)), (1536, Data(5, true)), (2047, Data(5, true)), (2048, Backing(2048)),
         (32768, Backing(32768)), (u64::MAX, Backing(0xffff_ffff_ffff_fe00))]),
-    ("one, in clusters of 64 KiB", 16, &[],
-        &[(0x2_ffff, Backing(0x2_0000)), (0x3_ffff, Data(5, true)),
-        (u64::MAX, Backing(0xffff_ffff_ffff_0000))]),
     ("the first entry of an L2 table, the last and one between, in clusters of 2 MiB", 21,
         &[(0x40_0000, 0x60_0000), (0x5f_fff8, 0x80_0000)],
         &[(0x1f_ffff, Data(3, false)), (0x7f_ffff, Data(5, true)), (0x80_0000, Backing(0x80_0000)),
@@ -44,7 +41,6 @@ const ROWS: &[Row] = rows! {
         &[(1543, Backing(1536)), (34311, Data(5, true))]),
     ("an L2 table at the end of 2^56", 9, &[(512, 0x80ff_ffff_ffff_fe00)], ABSENT),
     ("no L1 entry", 9, &[(32, 0)], ABSENT),
-    ("an L1 entry that is copied and names none", 9, &[(512, COPIED)], ABSENT),
     ("no L1 entry, at 2^56", 9, &[(32, 0), (40, 1 << 56)], ABSENT),
     ("a disk of 0 bytes", 9, &[(24, 0)], &[(1543, Data(5, true))]),
     ("data that isn't copied", 9, &[(1048, 0xa00)], &[(1543, Data(5, false))]),
@@ -57,8 +53,8 @@ const ROWS: &[Row] = rows! {
     ("no qcow2 image", 9, &[(0, 0x5146_49fa_0000_0003), (512, 1)], &[(1543, Refused(Fault::NotQcow2))]),
     ("an unknown feature", 9, &[(72, 8)], &[(0, Refused(Fault::Incompatible(8)))]),
     ("an unaligned L1 table", 16, &[(40, 0x1_0200)], &[(0, Refused(Fault::L1Unaligned))]),
-    ("4194305 L1 entries", 9, &[(32, 4_194_305)], TOO_MANY),
-    ("2^32 - 1 L1 entries", 9, &[(32, 0xffff_ffff)], TOO_MANY),
+    ("2^32 - 1 L1 entries", 9, &[(32, 0xffff_ffff)],
+        &[(1543, Refused(Fault::TableTooBig)), (u64::MAX, Refused(Fault::TableTooBig))]),
     ("an L1 table at 2^56", 9, &[(40, 1 << 56)], TOO_FAR),
     ("an L1 table of no entry past 2^56", 9, &[(32, 0), (40, (1 << 56) + 512)], TOO_FAR),
     ("a bad L1 entry", 9, &[(32, 2), (520, 1)], &[(1543, RESERVED), (u64::MAX, RESERVED)]),
@@ -76,15 +72,8 @@ const UNALIGNED: Answer = Refused(Fault::EntryUnaligned);
 
 const ABSENT: Offsets<'static> = &[(0, Backing(0)), (1543, Backing(1536))];
 
-const TOO_MANY: Offsets<'static> = &[
-    (1543, Refused(Fault::TableTooBig)),
-    (u64::MAX, Refused(Fault::TableTooBig)),
-];
-
-const TOO_FAR: Offsets<'static> = &[
-    (1543, Refused(Fault::TablePlace)),
-    (u64::MAX, Refused(Fault::TablePlace)),
-];
+const TOO_FAR: Offsets<'static> =
+    rows! { (1543, Refused(Fault::TablePlace)), (u64::MAX, Refused(Fault::TablePlace)) };
 
 // How many bytes of the sample image there are, from a number to before another, and what an offset reads as:
 // zeros follow where an image is cut off, up to the last byte of the entry that isn't 0.
@@ -99,10 +88,7 @@ const CUTS: &[(usize, usize, Answer)] = &[
 
 #[test]
 fn each_offset_reads_as_the_image_says(rt: HostRuntime) -> Result<(), Fail> {
-    for row in ROWS {
-        row_reads(rt.alloc(), *row)?;
-    }
-    Ok(())
+    each(rt.alloc(), ROWS, row_reads)
 }
 
 fn row_reads(alloc: Global, (name, cluster_bits, changes, offsets): Row) -> Result<(), Fail> {
@@ -200,7 +186,7 @@ fn a_lookup_reads_the_header_and_one_table_of_each_kind(rt: HostRuntime) -> Resu
 fn reads_tables(alloc: Global, offset: u64, tables: usize) -> Result<(), Fail> {
     let mut image = FailingStorage::new(alloc, sample_image(alloc, 9, &[])?);
     let answer = lookup_image(alloc, &mut image, GuestOffset(offset));
-    let header = image.calls().len().saturating_sub(tables);
-    let found = (answer.err(), header, image.calls().get(header..));
+    let header = image.calls.len().saturating_sub(tables);
+    let found = (answer.err(), header, image.calls.get(header..));
     same(found, (None, 2, TABLES.get(..tables)), offset)
 }

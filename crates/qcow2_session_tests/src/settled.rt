@@ -10,7 +10,7 @@ use crate::tables::{
 use qcow2_base::{Fault, HostCluster, MemStorage};
 use qcow2_metadata::{L2Table, RefBlock};
 use qcow2_session::Edit;
-use qcow2_testing::{put_bytes, rows, same, same_bytes};
+use qcow2_testing::{each, put_bytes, rows, same, same_bytes};
 use std::alloc::Global;
 use std::test::Fail;
 
@@ -52,25 +52,21 @@ const ROWS: &[Row<'static>] = rows! {
     // a cluster that gains or loses more than one reference
     ((9, 1, false), 0, FIVE, outcome!([5, 5], [(5, 1)]), (None, true), &[(5, 1, 2)]),
     ((9, 4, false), 0, &[(5, 2, 1)], outcome!([], [(5, 2), (5, 1)]), (RANGE, false), &[(5, 2, 1)]),
-    // ranges that begin before the block, that end behind it, and that hold all of it
+    // ranges that begin before the block, and that end before it and begin behind it
     ((9, 6, false), 1, ONES, outcome!([], [(60, 8)]), (None, true), &[(4, 60, 1)]),
-    ((9, 6, false), 1, ONES, outcome!([], [(0, 1000)]), (None, true), &[]),
     ((9, 6, false), 1, ONES, outcome!([], [(0, 64), (128, 1)]), (None, false), ONES),
     // ranges of 2^64 - 1 clusters
     ((9, 6, false), 0, ONES, outcome!([], [(1, MAX)]), (None, true), &[(0, 1, 1)]),
     ((9, 6, false), 0, ONES, outcome!([], [(MAX, MAX)]), (None, false), ONES),
-    // blocks that begin past every cluster, at 2^64, behind it, and 64 clusters before it
+    // blocks that begin past every cluster, at 2^64, and 64 clusters before it
     ((9, 6, false), usize::MAX, ONES, outcome!([MAX], [(MAX, MAX)]), (None, false), ONES),
     ((9, 6, false), AT_2_TO_THE_64, ONES, outcome!([], [(MAX, 3)]), (None, true), &[(2, 62, 1)]),
-    ((9, 6, false), AT_2_TO_THE_64 + 1, ONES, outcome!([], [(MAX, 100)]), (None, true), &[(35, 29, 1)]),
     ((9, 6, false), AT_2_TO_THE_64 - 1, ONES, outcome!([], [(MAX, 3)]), (None, true), &[(0, 63, 1)]),
     // no clusters
     ((9, 4, false), 0, FIVE, outcome!([], [(5, 0)]), (None, false), FIVE),
     // what was counted up or down before a refusal is put back
     ((9, 4, false), 0, FIRST_200, outcome!([0, 1, 2], [(0, 200), (255, 1)]), (RANGE, false), FIRST_200),
-    ((9, 6, false), 1, &[(0, 63, 1)], outcome!([64], [(60, 1000)]), (RANGE, false), &[(0, 63, 1)]),
     // an external data file, which is refused before anything
-    ((9, 4, true), 0, FIVE, outcome!([], []), (EXTERNAL, false), FIVE),
     ((9, 4, true), 0, FIVE, outcome!([5], [(6, 1)]), (EXTERNAL, false), FIVE),
 };
 
@@ -79,15 +75,10 @@ const FIRST_200: Counters<'static> = &[(0, 200, 1)];
 // A refcount order, how many counters a block of 512 bytes has, and the greatest number of each.
 type Width = (u32, usize, u64);
 
-const WIDTHS: &[Width] = &[
-    (0, 4096, 1),
-    (1, 2048, 3),
-    (2, 1024, 15),
-    (3, 512, 255),
-    (4, 256, 0xffff),
-    (5, 128, 0xffff_ffff),
+const WIDTHS: &[Width] = rows! {
+    (0, 4096, 1), (1, 2048, 3), (2, 1024, 15), (3, 512, 255), (4, 256, 0xffff), (5, 128, 0xffff_ffff),
     (6, 64, MAX),
-];
+};
 
 // Settles a block that begins with these bytes, with each flag, as each row says.
 fn rows_settle(alloc: Global, bytes: &[u8], rows: &[Row<'_>]) -> Result<(), Fail> {
@@ -105,10 +96,7 @@ fn counters_follow_what_clusters_gained_and_lost(rt: HostRuntime) -> Result<(), 
 
 #[test]
 fn no_counter_passes_the_greatest_number_of_its_width(rt: HostRuntime) -> Result<(), Fail> {
-    for row in WIDTHS {
-        settle_at_ends(rt.alloc(), *row)?;
-    }
-    Ok(())
+    each(rt.alloc(), WIDTHS, settle_at_ends)
 }
 
 // A cluster gains what it loses where its counter is 0, but not where it is at the greatest number, as all
@@ -142,10 +130,8 @@ fn settles(
     counts(&block, after, modified || marks, place)
 }
 
-// Entry 3 of a table of compressed data in clusters 0 and 1, and one of data in cluster 6.
+// Entry 3 of a table of compressed data in clusters 0 and 1.
 const COMPRESSED_0_1: u64 = 0x6000_0000_0000_0001;
-
-const DATA_6: u64 = 0x8000_0000_0000_0c00;
 
 // An image's refcount order and whether data is external, and the block's index in the refcount table; its
 // counters and entry 3 of the table; the edits; what they did or the fault; and what is left: the entry, the
@@ -158,8 +144,6 @@ type Settled<'a> = (
     (Counters<'a>, u64, bool),
 );
 
-const REFUSED: Result<References<'static>, Fault> = Err(Fault::ExternalData);
-
 const CANNOT_COUNT: Result<References<'static>, Fault> = Err(Fault::CounterRange);
 
 const SETTLED: &[Settled<'static>] = rows! {
@@ -168,7 +152,6 @@ const SETTLED: &[Settled<'static>] = rows! {
     ((4, false, 0), (FIVE, DATA_5), &[KEEP], Ok(outcome!([], [])), (FIVE, DATA_5 + 1, false)),
     ((4, false, 0), (&[(0, 2, 1)], COMPRESSED_0_1), &[TO_5], Ok(outcome!([5], [(0, 2)])),
         (FIVE, DATA_5, true)),
-    ((4, false, 0), (FIVE, DATA_5), &[TO_6], Ok(outcome!([6], [(5, 1)])), (&[(6, 1, 1)], DATA_6, true)),
     // there and back
     ((4, false, 0), (FIVE, DATA_5), &[TO_6, TO_5], THERE_AND_BACK, (FIVE, DATA_5, true)),
     ((0, false, 0), (FIVE, DATA_5), &[TO_6, TO_5], CANNOT_COUNT, (FIVE, DATA_5, false)),
@@ -178,8 +161,7 @@ const SETTLED: &[Settled<'static>] = rows! {
     ((4, false, 0), (&[], DATA_5), &[GONE, PAST], Err(Fault::BadEdit(1)), (&[], DATA_5, false)),
     ((4, false, 0), (FIVE, DATA_5), &[], Ok(outcome!([], [])), (FIVE, DATA_5, false)),
     // an external data file, which is refused before anything
-    ((4, true, 0), (FIVE, DATA_5), &[], REFUSED, (FIVE, DATA_5, false)),
-    ((4, true, 0), (FIVE, DATA_5), &[PAST], REFUSED, (FIVE, DATA_5, false)),
+    ((4, true, 0), (FIVE, DATA_5), &[PAST], Err(Fault::ExternalData), (FIVE, DATA_5, false)),
 };
 
 const THERE_AND_BACK: Result<References<'static>, Fault> = Ok(outcome!([6, 5], [(5, 1), (6, 1)]));

@@ -5,7 +5,7 @@ use crate::calls::step_block;
 use StepReply::{Done, Refused};
 use qcow2_base::Fault;
 use qcow2_session::{Step, StepReply};
-use qcow2_testing::rows;
+use qcow2_testing::{each, rows};
 use std::alloc::{AllocError, Global};
 use std::test::Fail;
 
@@ -20,17 +20,10 @@ pub(crate) const DEC_1: Step = Step::Dec { index: 1 };
 
 // Steps of three counters, of which the first is at the greatest number, the next one below it, and the last
 // at 0.
-const AT_ENDS: &[Step] = &[
-    INC_1,
-    INC_1,
-    DEC_1,
-    INC_0,
-    DEC_0,
-    Step::Dec { index: 2 },
-    Step::Inc { index: 2 },
-    Step::Dec { index: 2 },
-    Step::Dec { index: 2 },
-];
+const AT_ENDS: &[Step] = rows! {
+    INC_1, INC_1, DEC_1, INC_0, DEC_0, Step::Dec { index: 2 }, Step::Inc { index: 2 },
+    Step::Dec { index: 2 }, Step::Dec { index: 2 },
+};
 
 // A refcount order, and the first bytes of a block. A list of steps, what came of each or the position of the
 // first that is refused with the whole list, and the counters then.
@@ -103,23 +96,14 @@ const ENDS_OF_64_BITS: &[u8] = &[
 
 fn stay_within(alloc: Global, (order, bytes, greatest): Width) -> Result<(), Fail> {
     let (top, below) = (Done(greatest), Done(greatest.wrapping_sub(1)));
-    let replies = [
-        below,
-        Refused,
-        top,
-        Refused,
-        top,
-        Refused,
-        Done(0),
-        Done(1),
-        Refused,
-    ];
+    let replies: &[StepReply] =
+        rows! { below, Refused, top, Refused, top, Refused, Done(0), Done(1), Refused };
     let counters = [(0, 2, greatest.wrapping_sub(1))];
     let row: Row<'_> = (
         "at their ends",
         (order, bytes),
         AT_ENDS,
-        Ok(&replies),
+        Ok(replies),
         &counters,
     );
     leave(alloc, row, false)
@@ -127,10 +111,7 @@ fn stay_within(alloc: Global, (order, bytes, greatest): Width) -> Result<(), Fai
 
 #[test]
 fn no_counter_passes_the_ends_of_its_width(rt: HostRuntime) -> Result<(), Fail> {
-    for row in WIDTHS {
-        stay_within(rt.alloc(), *row)?;
-    }
-    Ok(())
+    each(rt.alloc(), WIDTHS, stay_within)
 }
 
 // So many of ten thousand increments of 256 counters, one after the other, over and over, and then a

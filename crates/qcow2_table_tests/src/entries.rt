@@ -5,7 +5,7 @@ use crate::l2_mapping::Reads::{Backing, Compressed, Data, Zeros};
 use crate::l2_mapping::{Reads, mapping_of};
 use qcow2_base::{Fault, GuestCluster, HostOffset};
 use qcow2_metadata::{AtomicL2Entry, Header, L1Entry, L2Entry, RefTableEntry, TableEntry};
-use qcow2_testing::{each, fits, holds, rows, same};
+use qcow2_testing::{all_same, each, fits, holds, rows, same};
 use std::alloc::Global;
 use std::test::Fail;
 
@@ -24,29 +24,17 @@ const RESERVED: Option<Fault> = Some(Fault::EntryReserved);
 const UNALIGNED: Option<Fault> = Some(Fault::EntryUnaligned);
 
 // A kind of entry, cluster bits, a number, and why it is no entry, if it is none.
-const NUMBERS: &[Number] = &[
-    (L1, 9, 0x8000_0000_0000_0400, None),
-    (L1, 9, 1, RESERVED),
-    (L1, 9, 0x8000_0000_0000_0001, RESERVED),
-    (L1, 9, 0x0100_0000_0000_0000, RESERVED),
-    (L1, 16, 0x200, UNALIGNED),
-    (L1, 16, 0x201, RESERVED),
-    (L1, 21, 0x80ff_ffff_ffe0_0000, None),
-    (Reftable, 9, 0xffff_ffff_ffff_fe00, None),
-    (Reftable, 16, 0xffff_ffff_ffff_fe00, UNALIGNED),
+const NUMBERS: &[Number] = rows! {
+    (L1, 9, 0x8000_0000_0000_0400, None), (L1, 9, 1, RESERVED), (L1, 9, 0x8000_0000_0000_0001, RESERVED),
+    (L1, 9, 0x0100_0000_0000_0000, RESERVED), (L1, 16, 0x200, UNALIGNED), (L1, 16, 0x201, RESERVED),
+    (Reftable, 9, 0xffff_ffff_ffff_fe00, None), (Reftable, 16, 0xffff_ffff_ffff_fe00, UNALIGNED),
     (Reftable, 9, 1, RESERVED),
-    (Reftable, 21, 0xffff_ffff_fff0_0100, RESERVED),
-    (L2, 9, 0x8000_0000_0000_0a01, None),
-    (L2, 9, 2, RESERVED),
-    (L2, 9, 0x4100_0000_0000_0000, RESERVED),
-    (L2, 9, 0xc000_0000_0000_0000, RESERVED),
-    (L2, 13, 0x7eff_ffff_ffff_ffff, None),
-    (L2, 13, 0x7fff_ffff_ffff_ffff, RESERVED),
+    (L2, 9, 0x8000_0000_0000_0a01, None), (L2, 9, 2, RESERVED), (L2, 9, 0x4100_0000_0000_0000, RESERVED),
+    (L2, 9, 0xc000_0000_0000_0000, RESERVED), (L2, 16, 0x200, UNALIGNED), (L2, 16, 0x202, RESERVED),
+    // the longest compressed data, whose offset may end at 2^56 from 14 cluster bits on
+    (L2, 13, 0x7eff_ffff_ffff_ffff, None), (L2, 13, 0x7fff_ffff_ffff_ffff, RESERVED),
     (L2, 14, 0x7fff_ffff_ffff_ffff, None),
-    (L2, 16, 0x200, UNALIGNED),
-    (L2, 16, 0x202, RESERVED),
-    (L2, 21, 0x10_0000, UNALIGNED),
-];
+};
 
 // Fails unless the number is no entry by this fault, or is the number of an entry.
 fn is_entry<E: TableEntry + Drop>(
@@ -82,31 +70,16 @@ fn a_reserved_bit_and_else_an_unaligned_offset_is_refused(rt: HostRuntime) -> Re
     each(rt.alloc(), NUMBERS, is_judged)
 }
 
-// Where an L2 table lies by an L1 entry, whether it is copied, and where a refcount block lies.
-fn offsets(
-    header: &Header,
-    l1_entry: u64,
-    reftable_entry: u64,
-) -> Result<(Option<HostOffset>, bool, Option<HostOffset>), Fault> {
-    let entry = L1Entry::try_from_plain(l1_entry, header)?;
-    let other = RefTableEntry::try_from_plain(reftable_entry, header)?;
-    if entry.reserved_bits() | other.reserved_bits() != 0 {
-        return Err(Fault::EntryReserved);
-    }
-    Ok((
-        entry.l2_offset(),
-        entry.is_copied(),
-        other.refblock_offset(),
-    ))
-}
-
 #[test]
 fn entries_tell_where_l2_tables_and_blocks_lie(rt: HostRuntime) -> Result<(), Fail> {
     let header = header_with(rt.alloc(), 9)?;
-    let found = offsets(&header, COPIED + 0x400, 0xffff_ffff_ffff_fe00);
-    let block = HostOffset(0xffff_ffff_ffff_fe00);
-    let expected = (Some(HostOffset(0x400)), true, Some(block));
-    same(found, Ok(expected), "L1 table and refcount table")
+    let entry = L1Entry::try_from_plain(COPIED + 0x400, &header)?;
+    let other = RefTableEntry::try_from_plain(0xffff_ffff_ffff_fe00, &header)?;
+    all_same! {
+        "L1 table and refcount table",
+        entry.l2_offset() => Some(HostOffset(0x400)), entry.is_copied() => true, entry.reserved_bits() => 0,
+        other.refblock_offset() => Some(HostOffset(0xffff_ffff_ffff_fe00)), other.reserved_bits() => 0,
+    }
 }
 
 /// Cluster bits, whether data is external, the number of an entry, the clusters that it refers to as the
@@ -146,8 +119,11 @@ fn means(alloc: Global, row: Meaning) -> Result<(), Fail> {
     let found = entry.into_mapping(GuestCluster(7), bits, external);
     let allocation = entry.allocation(bits, external);
     let allocation = allocation.map(|(first, count)| (first.0, count.0));
-    let expected = if clusters.1 > 0 { Some(clusters) } else { None };
-    same((found, allocation), (Ok(mapping), expected), row)
+    same(
+        (found, allocation),
+        (Ok(mapping), (clusters.1 > 0).then_some(clusters)),
+        row,
+    )
 }
 
 #[test]
@@ -169,13 +145,14 @@ const COMPRESSED: u64 = 0x60ff_ffff_ffff_ffff;
 fn tells_its_bits(alloc: Global, row: Bits) -> Result<(), Fail> {
     let (number, bits, rest) = row;
     let entry = L2Entry::try_from_plain(number, &header_with(alloc, 9)?)?;
-    let found = (entry.is_compressed(), entry.is_copied(), entry.is_zero());
-    let kept = (entry.reserved_bits(), entry.compressed_descriptor());
     let other = entry.without_copied();
-    let expected = (bits, (0, number & 0x3fff_ffff_ffff_ffff), rest);
-    same((found, kept, other.to_plain()), expected, row)?;
     let mut cell = AtomicL2Entry::new(entry);
-    same((cell.swap(other), cell.get()), (entry, other), row)
+    all_same! {
+        row,
+        (entry.is_compressed(), entry.is_copied(), entry.is_zero()) => bits, entry.reserved_bits() => 0,
+        entry.compressed_descriptor() => number & 0x3fff_ffff_ffff_ffff, other.to_plain() => rest,
+        cell.swap(other) => entry, cell.get() => other,
+    }
 }
 
 #[test]

@@ -3,7 +3,9 @@
 use crate::fixtures::{cleared_l1_table, load, tells, write, write_entry};
 use qcow2_base::{ClusterCount, Fault};
 use qcow2_metadata::{L1Table, L2Table, RefTable, Table, TableEntry};
-use qcow2_testing::{each, filled_image, image_with, put, recorded, same, same_image};
+use qcow2_testing::{
+    all_same, each, filled_image, image_with, put, recorded, rows, same, same_image,
+};
 use std::alloc::Global;
 use std::test::Fail;
 
@@ -21,18 +23,11 @@ const TOO_BIG: Option<Fault> = Some(Fault::TableTooBig);
 /// and why there is no such table, if so.
 type Place = (u32, u64, usize, &'static [(u64, u64)], Option<Fault>);
 
-const PLACES: &[Place] = &[
-    (9, (1 << 47) - 1, 64, &[], None),
-    (9, (1 << 47) - 1, 65, &[], PAST),
-    (9, 1 << 47, 64, &[], PAST),
-    (9, u64::MAX, 64, &[], PAST),
-    (9, 1 << 47, 0, &[], None),
-    (9, (1 << 47) + 1, 0, &[], PAST),
-    (9, (1 << 47) - 65535, 4194304, &[], PAST),
-    (9, u64::MAX, 4194305, &[], TOO_BIG),
-    (9, 0, usize::MAX, &[], TOO_BIG),
-    (16, (1 << 40) - 1, 8192, &[], None),
-    (16, 1 << 40, 8192, &[], PAST),
+const PLACES: &[Place] = rows! {
+    (9, (1 << 47) - 1, 64, &[], None), (9, (1 << 47) - 1, 65, &[], PAST), (9, 1 << 47, 64, &[], PAST),
+    (9, u64::MAX, 64, &[], PAST), (9, 1 << 47, 0, &[], None), (9, (1 << 47) + 1, 0, &[], PAST),
+    (9, (1 << 47) - 65535, 4194304, &[], PAST), (9, u64::MAX, 4194305, &[], TOO_BIG),
+    (9, 0, usize::MAX, &[], TOO_BIG), (16, (1 << 40) - 1, 8192, &[], None), (16, 1 << 40, 8192, &[], PAST),
     (21, 1 << 63, 262144, &[], PAST),
     // numbers that are no entries: the first decides, also in another piece of 512 entries
     (9, 2, 64, &[(1528, 2)], RESERVED),
@@ -40,7 +35,7 @@ const PLACES: &[Place] = &[
     (16, 2, 8192, &[(131112, 2), (131120, 0x200)], RESERVED),
     (16, 2, 8192, &[(135160, 0x200), (135168, 2)], UNALIGNED),
     (16, 2, 8192, &[(135168, 0x202), (135176, 0x200)], RESERVED),
-];
+};
 
 // What a load answers where the storage refuses each call if none may be made.
 fn load_of(alloc: Global, row: Place) -> Result<L1Table, Fault> {
@@ -49,7 +44,7 @@ fn load_of(alloc: Global, row: Place) -> Result<L1Table, Fault> {
     put(&mut image, 0, u64::MAX)?;
     let mut image = recorded(alloc, image);
     if entries == 0 || fault == PAST || fault == TOO_BIG {
-        image.fail_after(0);
+        image.plan = Some(0);
     }
     load(alloc, &mut image, (bits, false), cluster, entries)
 }
@@ -105,38 +100,25 @@ fn a_table_without_a_lawful_place_is_not_written(rt: HostRuntime) -> Result<(), 
     each(rt.alloc(), REFUSALS, is_not_written)
 }
 
-fn has_entry(table: &L1Table, index: usize, number: Option<u64>) -> Result<(), Fail> {
-    let entry = table.get_ref(index).map(|entry| entry.to_plain());
-    let found = (entry, table.get(index).to_plain(), table.in_bounds(index));
-    same(found, (number, 0, number.is_some()), index)
-}
-
 // A table of 65 entries has as many as two clusters hold in part.
-fn has_entries(table: &L1Table) -> Result<(), Fail> {
-    let size = (table.byte_size(), table.cluster_count());
-    same(size, (520, ClusterCount(2)), "size")?;
-    has_entry(table, 0, Some(0))?;
-    has_entry(table, 64, Some(0))?;
-    has_entry(table, 65, None)?;
-    has_entry(table, usize::MAX, None)
-}
-
 #[test]
 fn an_entry_past_the_end_is_the_entry_0(rt: HostRuntime) -> Result<(), Fail> {
-    has_entries(&cleared_l1_table(rt.alloc(), 65, None, true)?)
+    let table = cleared_l1_table(rt.alloc(), 65, None, true)?;
+    all_same! {
+        "64 and 65",
+        table.byte_size() => 520, table.cluster_count() => ClusterCount(2),
+        table.in_bounds(64) => true, table.get_ref(64).map(|entry| entry.to_plain()) => Some(0),
+        table.in_bounds(65) => false, table.get_ref(65).is_none() => true, table.get(65).to_plain() => 0,
+        table.get(usize::MAX).to_plain() => 0,
+    }
 }
 
 #[test]
 fn each_kind_of_table_has_its_name_and_its_most_entries() -> Result<(), Fail> {
-    let found = [
-        (L1Table::NAME, L1Table::MAX_ENTRIES),
-        (L2Table::NAME, L2Table::MAX_ENTRIES),
-        (RefTable::NAME, RefTable::MAX_ENTRIES),
-    ];
-    let expected = [
-        ("L1 table", 4194304),
-        ("L2 table", 262144),
-        ("Refcount table", 4194304),
-    ];
-    same(found, expected, "tables")
+    all_same! {
+        "tables",
+        (L1Table::NAME, L1Table::MAX_ENTRIES) => ("L1 table", 4194304),
+        (L2Table::NAME, L2Table::MAX_ENTRIES) => ("L2 table", 262144),
+        (RefTable::NAME, RefTable::MAX_ENTRIES) => ("Refcount table", 4194304),
+    }
 }

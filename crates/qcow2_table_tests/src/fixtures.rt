@@ -7,7 +7,7 @@ use qcow2_base::{Fault, HostCluster, HostOffset, MemStorage, Storage};
 use qcow2_metadata::{
     EntryTable, Header, L1Table, L2Table, RefTable, Table, TableEntry, TableKind,
 };
-use qcow2_testing::{fits, image_with, is_cluster_bits, same, same_image};
+use qcow2_testing::{all_same, fits, image_with, is_cluster_bits, same, same_image};
 use std::alloc::Global;
 use std::fmt::Debug;
 use std::test::Fail;
@@ -23,11 +23,8 @@ pub(crate) fn header_of(
     if !is_cluster_bits(cluster_bits) || refcount_order > 6 {
         return Err(Fault::ClusterSize);
     }
-    let name = if external_data_file {
-        Some(String::from_str(alloc, "data.raw")?)
-    } else {
-        None
-    };
+    let name = String::from_str(alloc, "data.raw")?;
+    let name = external_data_file.then_some(name);
     Header::new(alloc, cluster_bits, refcount_order, None, None, name)
 }
 
@@ -137,20 +134,13 @@ pub(crate) const LOADED: Told = (64, (3, NUMBER), Some(2), false);
 /// Fails unless the table says this.
 pub(crate) fn tells<T: Table, R: Debug + Drop>(table: &T, told: Told, row: R) -> Result<(), Fail> {
     let (entries, entry, cluster, modified) = told;
-    let found = (
-        (table.entries(), other_entry(table, entries, entry)),
-        (table.get_cluster(), table.get_offset()),
-        table.is_modified(),
-    );
     let size = 1 << table.cluster_bits();
-    let place = match cluster {
-        Some(cluster) => (
-            Some(HostCluster(cluster)),
-            Some(HostOffset(cluster.wrapping_mul(size))),
-        ),
-        None => (None, None),
-    };
-    same(found, ((entries, None), place, modified), row)
+    all_same! {
+        row,
+        table.entries() => entries, other_entry(table, entries, entry) => None,
+        table.get_cluster() => cluster.map(HostCluster), table.is_modified() => modified,
+        table.get_offset() => cluster.map(|cluster| HostOffset(cluster.wrapping_mul(size))),
+    }
 }
 
 // The first entry that isn't as it is told, with its index.
@@ -193,12 +183,8 @@ pub(crate) fn l2_entries(cluster_bits: u32) -> usize {
 // doesn't fit 64 bits.
 fn place<T: Table>(table: &mut T, cluster: Option<u64>, modified: bool) -> Result<(), Fault> {
     match cluster {
-        Some(cluster) => {
-            if !fits(cluster, 0, table.cluster_bits()) {
-                return Err(Fault::TablePlace);
-            }
-            table.set_cluster(HostCluster(cluster));
-        }
+        Some(cluster) if !fits(cluster, 0, table.cluster_bits()) => return Err(Fault::TablePlace),
+        Some(cluster) => table.set_cluster(HostCluster(cluster)),
         None => table.unset_cluster(),
     }
     if modified {

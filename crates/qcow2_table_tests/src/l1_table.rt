@@ -4,7 +4,7 @@ use crate::fixtures::{DISK, LOADED, NUMBER, header_with, is_grown, table_that_te
 use crate::pending_clusters::{Entered, Refusal, is_entered, refusal};
 use qcow2_base::{ClusterCount, Fault, HostCluster};
 use qcow2_metadata::{L1Table, L2Table, PendingClusters, Table};
-use qcow2_testing::{each, holds};
+use qcow2_testing::{each, holds, rows};
 use std::alloc::Global;
 use std::test::Fail;
 
@@ -21,18 +21,11 @@ fn grow(table: &L1Table, index: usize) -> Result<L1Table, Fault> {
 // it can't have it.
 type Growth = (u32, usize, usize, usize);
 
-const GROWTHS: &[Growth] = &[
-    (9, 0, 0, 64),
-    (9, 0, 64, 128),
-    (9, 1, 64, 128),
-    (9, 64, 0, 64),
-    (9, 65, 63, 128),
-    (9, 4096, 4194303, 4194304),
-    (21, 1, 262144, 524288),
-    (21, 0, 4194303, 4194304),
-    (9, 0, 4194304, 0),
+const GROWTHS: &[Growth] = rows! {
+    (9, 0, 0, 64), (9, 0, 64, 128), (9, 1, 64, 128), (9, 64, 0, 64), (9, 65, 63, 128),
+    (9, 4096, 4194303, 4194304), (21, 1, 262144, 524288), (21, 0, 4194303, 4194304), (9, 0, 4194304, 0),
     (9, 1, usize::MAX, 0),
-];
+};
 
 // Grows a table whose first entry alone isn't 0, and that stays.
 fn grows(alloc: Global, row: Growth) -> Result<(), Fail> {
@@ -55,20 +48,14 @@ fn enter(table: &mut L1Table, l2_table: &L2Table, is_pending: bool) -> Result<Re
     holds(l2_table.cluster_bits() == 9, "L2 table")?;
     let cluster = l2_table.get_cluster().unwrap_or(HostCluster(7));
     holds(0 < cluster.0 && cluster.0 < 1 << 47, cluster)?;
-    let pending = if is_pending {
-        Some(PendingClusters::new(cluster, ClusterCount(1)))
-    } else {
-        None
-    };
+    let pending = is_pending.then(|| PendingClusters::new(cluster, ClusterCount(1)));
     Ok(refusal(table.enter_l2_table(3, l2_table, pending)))
 }
 
-const ENTERED: &[Entered] = &[
-    (Some(2), false, 0x8000_0000_0000_0400),
-    (Some((1 << 47) - 1), true, 0x80ff_ffff_ffff_fe00),
-    (None, false, NUMBER),
-    (None, true, NUMBER),
-];
+const ENTERED: &[Entered] = rows! {
+    (Some(2), false, 0x8000_0000_0000_0400), (Some((1 << 47) - 1), true, 0x80ff_ffff_ffff_fe00),
+    (None, false, NUMBER), (None, true, NUMBER),
+};
 
 fn enters(alloc: Global, row: Entered) -> Result<(), Fail> {
     let mut table: L1Table = table_that_tells(alloc, DISK, LOADED)?;

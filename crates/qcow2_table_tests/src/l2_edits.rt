@@ -28,11 +28,7 @@ fn map(table: &mut L2Table, index: usize, cluster: u64, pending: bool) -> Result
     let cluster = HostCluster(cluster);
     holds(cluster.offset(bits) <= MAX_OFFSET, cluster)?;
     holds(cluster.0 > 0 || table.external_data_file(), cluster)?;
-    let pending = if pending {
-        Some(PendingClusters::new(cluster, ClusterCount(1)))
-    } else {
-        None
-    };
+    let pending = pending.then(|| PendingClusters::new(cluster, ClusterCount(1)));
     Ok(freed(table.lock_write().map_cluster(index, cluster, pending)))
 }
 

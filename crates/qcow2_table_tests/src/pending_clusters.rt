@@ -12,10 +12,7 @@ pub(crate) type Refusal = Option<(Fault, Option<ClustersToFreeEntry>)>;
 /// The refusal of an answer, whose clusters are given up.
 pub(crate) fn refusal(answer: Result<(), Refused>) -> Refusal {
     let Refused { fault, pending } = answer.err()?;
-    match pending {
-        Some(pending) => Some((fault, Some(pending.give_up()))),
-        None => Some((fault, None)),
-    }
+    Some((fault, pending.map(|pending| pending.give_up())))
 }
 
 /// The refusal of a table or block without a cluster, and of clusters for it.
@@ -36,7 +33,7 @@ pub(crate) fn is_entered<T: Table>(table: &T, found: Refusal, row: Entered) -> R
     let (cluster, is_pending, number) = row;
     let want = match cluster {
         Some(_) => None,
-        None => not_placed(if is_pending { Some((7, 1)) } else { None }),
+        None => not_placed(is_pending.then_some((7, 1))),
     };
     same(found, want, row)?;
     tells(table, (64, (3, number), Some(2), cluster.is_some()), row)

@@ -48,13 +48,13 @@ fn are_calls(
     is_read: bool,
 ) -> Result<(), Fail> {
     let mut want = Vec::new(alloc);
-    for (offset, len) in pieces {
-        let (offset, len) = (*offset, *len);
-        want.push(if is_read {
-            StorageCall::Read { offset, len }
-        } else {
-            StorageCall::Write { offset, len }
-        })?;
+    for piece in pieces {
+        let (offset, len) = *piece;
+        let (read, write) = (
+            StorageCall::Read { offset, len },
+            StorageCall::Write { offset, len },
+        );
+        want.push(if is_read { read } else { write })?;
     }
     same(calls, want.as_slice(), pieces)
 }
@@ -65,16 +65,16 @@ fn is_written(table: &mut L1Table, expected: &[u8], row: Pieces) -> Result<(), F
     let mut image = recorded(alloc, filled_image(alloc, 20000)?);
     let answer = write(table, &mut image);
     same((answer, table.is_modified()), (Ok(()), false), row)?;
-    are_calls(alloc, image.calls(), row.4, false)?;
-    same_bytes(image.inner().bytes(), expected, row)
+    are_calls(alloc, &image.calls, row.4, false)?;
+    same_bytes(image.inner.bytes(), expected, row)
 }
 
 fn is_in_pieces(alloc: Global, row: Pieces) -> Result<(), Fail> {
     let (bits, cluster, start, entries, pieces) = row;
     let mut image = recorded(alloc, image_with_entries(alloc, start, entries)?);
     let mut table: L1Table = load(alloc, &mut image, (bits, false), cluster, entries)?;
-    are_calls(alloc, image.calls(), pieces, true)?;
-    is_written(&mut table, image.inner().bytes(), row)
+    are_calls(alloc, &image.calls, pieces, true)?;
+    is_written(&mut table, image.inner.bytes(), row)
 }
 
 #[test]
@@ -91,11 +91,11 @@ fn reads_up_to(alloc: Global, row: (u64, usize)) -> Result<(), Fail> {
     let mut image = image_with_entries(alloc, 4096, 1025)?;
     put_bytes(&mut image, at, &[1])?;
     let mut image = recorded(alloc, image);
-    image.fail_after(count as u64);
+    image.plan = Some(count as u64);
     let answer: Result<L1Table, Fault> = load(alloc, &mut image, DISK, 8, 1025);
     same(answer.err(), Some(Fault::EntryReserved), at)?;
     let pieces = THREE_PIECES.get(..count).unwrap_or(&[]);
-    are_calls(alloc, image.calls(), pieces, true)
+    are_calls(alloc, &image.calls, pieces, true)
 }
 
 #[test]
@@ -106,24 +106,22 @@ fn a_load_reads_no_piece_after_that_of_a_bad_entry(rt: HostRuntime) -> Result<()
 // Writes a table whose third piece the storage refuses, and then once more.
 fn is_torn(table: &mut L1Table, image: &mut FailingStorage<MemStorage>) -> Result<(), Fail> {
     let alloc = table.allocator();
-    image.fail_after(2);
+    image.plan = Some(2);
     let answer = write(table, image);
     let refused = (Err(Fault::Storage), true);
     same((answer, table.is_modified()), refused, "refused")?;
     let torn = image_with_entries(alloc, 4096, 1024);
-    same_image(image.inner(), torn, "refused")?;
+    same_image(&image.inner, torn, "refused")?;
     let answer = write(table, image);
     same((answer, table.is_modified()), (Ok(()), false), "again")?;
     let whole = image_with_entries(alloc, 4096, 1025);
-    same_image(image.inner(), whole, "again")
+    same_image(&image.inner, whole, "again")
 }
 
 #[test]
 fn a_write_torn_at_its_third_piece_is_made_whole_by_the_next(rt: HostRuntime) -> Result<(), Fail> {
     let mut image = image_with_entries(rt.alloc(), 4096, 1025)?;
     let mut table: L1Table = load(rt.alloc(), &mut image, DISK, 8, 1025)?;
-    is_torn(
-        &mut table,
-        &mut recorded(rt.alloc(), filled_image(rt.alloc(), 20000)?),
-    )
+    let mut other = recorded(rt.alloc(), filled_image(rt.alloc(), 20000)?);
+    is_torn(&mut table, &mut other)
 }

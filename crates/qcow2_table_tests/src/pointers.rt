@@ -4,7 +4,7 @@ use crate::fixtures::{DISK, cleared_l1_table, header_with, table_that_tells};
 use crate::pending_clusters::{Refusal, not_placed, refusal};
 use qcow2_base::{ClusterCount, Fault, HostCluster, HostOffset, Storage};
 use qcow2_metadata::{Header, L1Table, PendingClusters, RefTable, Table};
-use qcow2_testing::{filled_image, put_bytes, recorded, same, same_image};
+use qcow2_testing::{all_same, filled_image, put_bytes, recorded, same, same_image};
 use std::alloc::Global;
 use std::test::Fail;
 
@@ -53,12 +53,12 @@ fn header_with_tables(alloc: Global) -> Result<Header, Fail> {
 #[test]
 fn a_header_refers_to_the_tables_that_it_was_given(rt: HostRuntime) -> Result<(), Fail> {
     let header = header_with_tables(rt.alloc())?;
-    let l1_table = (header.l1_table_offset(), header.l1_table_entries());
-    let clusters = (header.reftable_clusters(), header.reftable_entries());
-    let found = (header.size(), l1_table, header.reftable_offset(), clusters);
-    let clusters = (ClusterCount(2), 128);
-    let expected = (4096, (HostOffset(0x200), 1), HostOffset(0x800), clusters);
-    same(found, expected, "tables")
+    all_same! {
+        "tables",
+        header.size() => 4096, header.l1_table_offset() => HostOffset(0x200), header.l1_table_entries() => 1,
+        header.reftable_offset() => HostOffset(0x800), header.reftable_clusters() => ClusterCount(2),
+        header.reftable_entries() => 128,
+    }
 }
 
 // Writes one of the three parts.
@@ -86,8 +86,8 @@ fn is_written(alloc: Global, header: &Header, row: Part) -> Result<(), Fail> {
     put_bytes(&mut expected, at, bytes)?;
     let mut image = recorded(alloc, filled_image(alloc, 72)?);
     let answer = write_part(header, &mut image, part);
-    same((answer, image.calls().len()), (Ok(()), 1), row)?;
-    same_image(image.inner(), Ok(expected), row)
+    same((answer, image.calls.len()), (Ok(()), 1), row)?;
+    same_image(&image.inner, Ok(expected), row)
 }
 
 #[test]

@@ -6,7 +6,8 @@ use crate::pending_clusters::{Entered, Refusal, is_entered, refusal};
 use qcow2_base::{ClusterCount, Fault, HostCluster, HostOffset, MemStorage};
 use qcow2_metadata::{PendingClusters, RefBlock, RefTable, Table};
 use qcow2_testing::{
-    FailingStorage, each, filled_image, holds, put_bytes, recorded, same, same_bytes, same_image,
+    FailingStorage, each, filled_image, holds, put_bytes, recorded, rows, same, same_bytes,
+    same_image,
 };
 use std::alloc::Global;
 use std::test::Fail;
@@ -132,22 +133,12 @@ fn pattern(alloc: Global, len: usize) -> Result<MemStorage, Fault> {
 // the pattern: the least block ends with the bytes 2 to 9, the largest with 0x27 to 0x2e.
 type Whole = (u32, u32, usize, u64);
 
-const WHOLE: &[Whole] = &[
-    (9, 0, 4096, 0),
-    (9, 1, 2048, 0),
-    (9, 2, 1024, 0),
-    (9, 3, 512, 9),
-    (9, 4, 256, 0x0809),
-    (9, 5, 128, 0x0607_0809),
-    (9, 6, 64, 0x0203_0405_0607_0809),
-    (21, 0, 16777216, 0),
-    (21, 1, 8388608, 0),
-    (21, 2, 4194304, 2),
-    (21, 3, 2097152, 0x2e),
-    (21, 4, 1048576, 0x2d2e),
-    (21, 5, 524288, 0x2b2c_2d2e),
-    (21, 6, 262144, 0x2728_292a_2b2c_2d2e),
-];
+const WHOLE: &[Whole] = rows! {
+    (9, 0, 4096, 0), (9, 1, 2048, 0), (9, 2, 1024, 0), (9, 3, 512, 9), (9, 4, 256, 0x0809),
+    (9, 5, 128, 0x0607_0809), (9, 6, 64, 0x0203_0405_0607_0809),
+    (21, 0, 16777216, 0), (21, 1, 8388608, 0), (21, 2, 4194304, 2), (21, 3, 2097152, 0x2e),
+    (21, 4, 1048576, 0x2d2e), (21, 5, 524288, 0x2b2c_2d2e), (21, 6, 262144, 0x2728_292a_2b2c_2d2e),
+};
 
 // Fails unless the block is that of these bytes, and writes them.
 fn is_whole(block: &mut RefBlock, bytes: &[u8], row: Whole) -> Result<(), Fail> {
@@ -196,13 +187,13 @@ fn written(
     image: &mut FailingStorage<MemStorage>,
     if_modified: bool,
 ) -> Answer {
-    image.forget_calls();
+    image.calls.clear();
     let answer = if if_modified {
         write_if_modified(block, image)
     } else {
         write(block, image)
     };
-    (answer, image.calls().len())
+    (answer, image.calls.len())
 }
 
 // Writes the block to an image of 0xa5 if it is modified, and then in any case.
@@ -220,7 +211,7 @@ fn writes(block: &mut RefBlock, row: Written) -> Result<(), Fail> {
     } else {
         image_with(alloc, (0, 1, 7))
     };
-    same_image(image.inner(), expected, row)
+    same_image(&image.inner, expected, row)
 }
 
 // Writes a block of an image at the same place or at another.
@@ -270,20 +261,14 @@ fn enter(table: &mut RefTable, block: &RefBlock, is_pending: bool) -> Result<Ref
     holds(block.cluster_bits() == 9, "block")?;
     let cluster = block.get_cluster().unwrap_or(HostCluster(7));
     holds(0 < cluster.0 && cluster.0 < 1 << 47, cluster)?;
-    let pending = if is_pending {
-        Some(PendingClusters::new(cluster, ClusterCount(1)))
-    } else {
-        None
-    };
+    let pending = is_pending.then(|| PendingClusters::new(cluster, ClusterCount(1)));
     Ok(refusal(table.enter_refblock(3, block, pending)))
 }
 
-const ENTERED: &[Entered] = &[
-    (Some(3), false, 0x600),
-    (Some((1 << 47) - 1), true, 0xff_ffff_ffff_fe00),
-    (None, false, NUMBER),
-    (None, true, NUMBER),
-];
+const ENTERED: &[Entered] = rows! {
+    (Some(3), false, 0x600), (Some((1 << 47) - 1), true, 0xff_ffff_ffff_fe00),
+    (None, false, NUMBER), (None, true, NUMBER),
+};
 
 fn enters(table: &mut RefTable, block: &mut RefBlock, row: Entered) -> Result<(), Fail> {
     if let Some(cluster) = row.0 {

@@ -1,9 +1,9 @@
 //! Refcount tables: how they grow, and how many spare entries they take along for that.
 
 use crate::fixtures::{NUMBER, header_of, is_grown, table_that_tells, tells};
-use qcow2_base::Fault;
+use qcow2_base::{ClusterCount, Fault};
 use qcow2_metadata::{RefTable, Table, Turns, least_spare};
-use qcow2_testing::{each, holds, same};
+use qcow2_testing::{each, holds, rows, same};
 use std::alloc::Global;
 use std::test::Fail;
 
@@ -36,38 +36,23 @@ type Growth = (u32, u32, usize, usize, usize, usize);
 // A spare of a thousand.
 const THOUSAND: Growth = (9, 6, 4194304, 0, 1041, 4194304);
 
-const GROWTHS: &[Growth] = &[
-    (9, 6, 0, usize::MAX, 0, 0),
-    (9, 6, 0, 62, 1, 64),
-    (9, 6, 0, 63, 1, 128),
-    (9, 6, 0, 4030, 1, 4032),
-    (9, 6, 0, 4031, 2, 4096),
-    (9, 6, 4032, 0, 1, 4032),
-    (9, 6, 4033, 0, 2, 4096),
-    (9, 6, 4096, 4096, 2, 4160),
-    (9, 6, 0, 4158, 2, 4224),
-    (9, 6, 8065, 0, 3, 8128),
-    (9, 6, 100000, 100000, 25, 100032),
-    THOUSAND,
-    (9, 6, 0, 4193262, 1041, 4194304),
-    (9, 6, 0, 4193263, 0, 0),
-    (9, 5, 0, 8127, 2, 8192),
-    (9, 4, 0, 16319, 2, 16384),
-    (9, 0, 0, 4194287, 0, 0),
-    (10, 6, 0, 16255, 2, 16384),
-    (12, 4, 1048065, 0, 2, 1048576),
-    (16, 4, 8192, 8191, 1, 16384),
-    (21, 6, 0, 262143, 1, 524288),
-    (21, 0, 0, 4194303, 0, 0),
-    (9, 6, 0, 4194304, 0, 0),
-    (9, 4, 1, usize::MAX, 0, 0),
-];
+const GROWTHS: &[Growth] = rows! {
+    (9, 6, 0, 62, 1, 64), (9, 6, 0, 63, 1, 128), (9, 6, 0, 4030, 1, 4032), (9, 6, 0, 4031, 2, 4096),
+    (9, 6, 4032, 0, 1, 4032), (9, 6, 4033, 0, 2, 4096),
+    (9, 6, 4096, 4096, 2, 4160), (9, 6, 0, 4158, 2, 4224), (9, 6, 8065, 0, 3, 8128),
+    (9, 6, 100000, 100000, 25, 100032), THOUSAND, (9, 6, 0, 4193262, 1041, 4194304),
+    (9, 5, 0, 8127, 2, 8192), (9, 4, 0, 16319, 2, 16384), (10, 6, 0, 16255, 2, 16384),
+    (12, 4, 1048065, 0, 2, 1048576), (16, 4, 8192, 8191, 1, 16384), (21, 6, 0, 262143, 1, 524288),
+    // too many for a table
+    (9, 6, 0, 4193263, 0, 0), (9, 6, 0, 4194304, 0, 0), (9, 6, 0, usize::MAX, 0, 0),
+    (9, 4, 1, usize::MAX, 0, 0), (9, 0, 0, 4194287, 0, 0), (21, 0, 0, 4194303, 0, 0),
+};
 
 // The least spare entries are found in no more turns than they are.
 fn has_spare(alloc: Global, row: Growth) -> Result<(), Fail> {
     let (spare, turns) = spare_of(alloc, row)?;
     let least = row.4;
-    same(spare, if least > 0 { Some(least) } else { None }, row)?;
+    same(spare, (least > 0).then_some(least), row)?;
     holds(least == 0 || 1 <= turns && turns <= least, row)
 }
 
@@ -76,18 +61,22 @@ fn grows(alloc: Global, row: Growth) -> Result<(), Fail> {
     let (bits, order, entries, index, _, grown) = row;
     let number = if entries > 0 { NUMBER } else { 0 };
     let entry = (entries.saturating_sub(1), number);
-    let source: RefTable = table_that_tells(
-        alloc,
-        (bits, false),
-        (entries, entry, Some(2), false),
-    )?;
+    let told = (entries, entry, Some(2), false);
+    let source: RefTable = table_that_tells(alloc, (bits, false), told)?;
     is_grown(grow(&source, order, index), grown, entry, row)?;
-    tells(&source, (entries, entry, Some(2), false), row)
+    tells(&source, told, row)
+}
+
+// How many clusters a table of 64 clusters has, once it holds one index more.
+fn clusters_of_grown(alloc: Global) -> Result<ClusterCount, Fail> {
+    let source: RefTable = table_that_tells(alloc, (9, false), (4096, (0, 0), Some(2), false))?;
+    Ok(grow(&source, 6, 4096)?.cluster_count())
 }
 
 #[test]
 fn a_refcount_table_grows_with_the_least_spare_entries(rt: HostRuntime) -> Result<(), Fail> {
     each(rt.alloc(), GROWTHS, has_spare)?;
     each(rt.alloc(), GROWTHS, grows)?;
+    same(clusters_of_grown(rt.alloc())?, ClusterCount(65), "clusters")?;
     same(spare_of(rt.alloc(), THOUSAND)?, (Some(1041), 3), "turns")
 }

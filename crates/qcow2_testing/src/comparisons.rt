@@ -97,13 +97,3 @@ pub fn each<R: Copy, F: Fn(Global, R) -> Result<(), Fail>>(
     }
     Ok(())
 }
-
-/// Makes a test that takes no memory of each row, until one fails.
-pub fn each_row<R: Copy, F: Fn(R) -> Result<(), Fail>>(rows: &[R], test: F) -> Result<(), Fail>
-    requires { F.IsAlwaysCallable test }
-{
-    for row in rows {
-        test(*row)?;
-    }
-    Ok(())
-}

@@ -2,7 +2,7 @@
 
 ghost use Rattle.std.specs.Prelude.{◌≡◌, ◌+◌, ◌^◌, ◌%◌, ◌≤◌, [], ◌∷◌, ◌++◌, false, length, None, Some, IsTrue, IsErr};
 ghost use Rattle.qcow2_base.specs.Storage.{ReadsBytes, WritesBytes};
-ghost use Rattle.qcow2_testing.specs.Failing.{inner_of, seen_as, plan_of, calls_of, failures_made, plan_after, FollowsPlan};
+ghost use Rattle.qcow2_testing.specs.Failing.{seen_as, plan_after, FollowsPlan};
 
 use qcow2_base::{Storage, StorageFault};
 use std::alloc::Global;
@@ -20,19 +20,23 @@ pub enum StorageCall {
 /// It counts each call that fails, by its plan or in the other storage.
 #[derive(Debug, Drop)]
 pub struct FailingStorage<S> {
-    inner: S,
-    plan: Option<u64>,
-    failures: u64,
-    calls: Vec<StorageCall>,
+    /// The storage that calls are passed on to.
+    pub inner: S,
+    /// How many calls pass before the one that fails; without it none fails.
+    pub plan: Option<u64>,
+    /// How many calls have failed, modulo 2^64.
+    pub failures: u64,
+    /// The calls so far in their order, with those that failed.
+    pub calls: Vec<StorageCall>,
 }
 
 impl<S> FailingStorage<S> {
     /// Passes all calls on to this storage.
     pub fn new(alloc: Global, inner: S) -> FailingStorage<S>
-        ensures inner { inner_of result ≡ inner }
-        ensures plan { plan_of result ≡ None }
-        ensures calls { calls_of result ≡ [] }
-        ensures failures { failures_made result ≡ 0 }
+        ensures inner { result.inner ≡ inner }
+        ensures plan { result.plan ≡ None }
+        ensures calls { result.calls.items ≡ [] }
+        ensures failures { result.failures ≡ 0 }
     {
         FailingStorage {
             inner,
@@ -42,55 +46,14 @@ impl<S> FailingStorage<S> {
         }
     }
 
-    /// Plans a failure: so many calls pass from now on, and the next one fails.
-    pub fn fail_after(&mut self, passes: u64)
-        ensures plan { plan_of self.new ≡ Some passes }
-        ensures inner { inner_of self.new ≡ inner_of self.old }
-        ensures calls { calls_of self.new ≡ calls_of self.old }
-        ensures failures { failures_made self.new ≡ failures_made self.old }
-    {
-        self.plan = Some(passes);
-    }
-
-    /// The storage that calls are passed on to.
-    pub fn inner(&self) -> &S
-        ensures { result.now ≡ inner_of self.now }
-    {
-        &self.inner
-    }
-
-    /// The calls so far in their order, with those that failed.
-    pub fn calls(&self) -> &[StorageCall]
-        ensures { result.now ≡ calls_of self.now }
-    {
-        &self.calls
-    }
-
-    /// Begins the record of calls anew.
-    pub fn forget_calls(&mut self)
-        ensures calls { calls_of self.new ≡ [] }
-        ensures inner { inner_of self.new ≡ inner_of self.old }
-        ensures plan { plan_of self.new ≡ plan_of self.old }
-        ensures failures { failures_made self.new ≡ failures_made self.old }
-    {
-        self.calls.clear();
-    }
-
-    /// How many calls have failed, modulo 2^64.
-    pub fn failures(&self) -> u64
-        ensures { result ≡ failures_made self.now }
-    {
-        self.failures
-    }
-
     // Records the call, and tells whether it is to be passed on: not where it is planned to fail, nor
     // where no memory is left for the record.
     fn admits(&mut self, call: StorageCall) -> bool
-        ensures recorded { IsTrue result → calls_of self.new ≡ calls_of self.old ++ call ∷ [] }
-        ensures planned { plan_of self.old ≡ Some 0 → result ≡ false }
-        ensures plan { plan_of self.new ≡ plan_after (plan_of self.old) }
-        ensures inner { inner_of self.new ≡ inner_of self.old }
-        ensures failures { failures_made self.new ≡ failures_made self.old }
+        ensures recorded { IsTrue result → self.new.calls.items ≡ self.old.calls.items ++ call ∷ [] }
+        ensures planned { self.old.plan ≡ Some 0 → result ≡ false }
+        ensures plan { self.new.plan ≡ plan_after self.old.plan }
+        ensures inner { self.new.inner ≡ self.old.inner }
+        ensures failures { self.new.failures ≡ self.old.failures }
     {
         let passes = take_turn(&mut self.plan);
         self.calls.push(call).is_ok() && passes
@@ -99,10 +62,7 @@ impl<S> FailingStorage<S> {
     // Counts one more failed call.
     fn fail(&mut self) -> Result<(), StorageFault>
         ensures err { IsErr result }
-        ensures failures { failures_made self.new ≡ (failures_made self.old + 1) % 2 ^ 64 }
-        ensures inner { inner_of self.new ≡ inner_of self.old }
-        ensures plan { plan_of self.new ≡ plan_of self.old }
-        ensures calls { calls_of self.new ≡ calls_of self.old }
+        ensures counted { self.new ≡ record self.old { failures = (self.old.failures + 1) % 2 ^ 64 } }
     {
         self.failures = self.failures.wrapping_add(1);
         Err(StorageFault)

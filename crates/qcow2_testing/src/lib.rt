@@ -1,18 +1,20 @@
 //! What the tests of all crates run on: comparisons that tell the row, a storage and files that fail
-//! where a test plans it, images in memory, files in the temporary folder, and the conditions of
-//! conversions as tests ask for them.
+//! where a test plans it, images in memory, files in the temporary folder, all faults, and the conditions
+//! of conversions as tests ask for them.
 #![tactic(auto)]
 
 mod comparisons;
 mod conditions;
 mod failing;
+mod faults;
 mod faulty_files;
 mod images;
 mod temporary_files;
 
-pub use comparisons::{each, each_row, holds, printed, same, same_bytes, same_text};
+pub use comparisons::{each, holds, printed, same, same_bytes, same_text};
 pub use conditions::{fits, is_cluster_bits};
 pub use failing::{FailingStorage, StorageCall, take_turn};
+pub use faults::{FAULTS, ToldFault};
 pub use faulty_files::{FaultyFile, FaultyFiles, Opens};
 pub use images::{filled_image, image_with, put, put_bytes, recorded, same_image};
 pub use temporary_files::{TemporaryFile, file_holds, temporary_file, temporary_path};

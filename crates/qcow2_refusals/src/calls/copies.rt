@@ -38,10 +38,8 @@ fn clear_table(held: &mut Held) -> Result<(), Fault> {
 fn clear_block(held: &mut Held) -> Result<(), Fault> {
     let image = MemStorage::new(Vec::new(held.alloc));
     let block = RefBlock::new_cleared(held.alloc, &image, &held.header)?;
-    tell(
-        &mut held.out,
-        &(block.entries(), block.get_cluster(), block.is_modified()),
-    )
+    let told = (block.entries(), block.get_cluster(), block.is_modified());
+    tell(&mut held.out, &told)
 }
 
 fn clone_table(held: &mut Held) -> Result<(), Fault> {

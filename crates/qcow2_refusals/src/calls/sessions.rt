@@ -7,43 +7,25 @@ use qcow2_metadata::Table;
 use qcow2_session::{
     Edit, Step, edit_image, edit_settled, edit_table, lookup, lookup_image, step_block, step_image,
 };
+use qcow2_testing::rows;
 
 // Edits of a table in memory, and of the first and the last entry of one of 65536 bytes.
-const TABLE_EDITS: &[Edit] = &[
-    Edit::Map {
-        index: 0,
-        host_cluster: HostCluster(8),
-    },
-    Edit::Zero {
-        index: 1,
-        keep_allocation: true,
-    },
+const TABLE_EDITS: &[Edit] = rows! {
+    Edit::Map { index: 0, host_cluster: HostCluster(8) }, Edit::Zero { index: 1, keep_allocation: true },
     Edit::Discard { index: 2 },
-];
+};
 
-const IMAGE_EDITS: &[Edit] = &[
-    Edit::Map {
-        index: 0,
-        host_cluster: HostCluster(5),
-    },
-    Edit::Map {
-        index: 8191,
-        host_cluster: HostCluster(6),
-    },
-];
+const IMAGE_EDITS: &[Edit] = rows! {
+    Edit::Map { index: 0, host_cluster: HostCluster(5) },
+    Edit::Map { index: 8191, host_cluster: HostCluster(6) },
+};
 
 // Steps of a block in memory, and of one of 4096 bytes.
-const BLOCK_STEPS: &[Step] = &[
-    Step::Inc { index: 5 },
-    Step::Dec { index: 7 },
-    Step::Dec { index: 6 },
-];
+const BLOCK_STEPS: &[Step] =
+    rows! { Step::Inc { index: 5 }, Step::Dec { index: 7 }, Step::Dec { index: 6 } };
 
-const IMAGE_STEPS: &[Step] = &[
-    Step::Inc { index: 0 },
-    Step::Dec { index: 1 },
-    Step::Inc { index: 2047 },
-];
+const IMAGE_STEPS: &[Step] =
+    rows! { Step::Inc { index: 0 }, Step::Dec { index: 1 }, Step::Inc { index: 2047 } };
 
 // An offset in guest cluster 3 of the disk.
 const GUEST_OFFSET: GuestOffset = GuestOffset(1543);
@@ -103,13 +85,8 @@ fn look_up<S: Storage>(held: &mut Held, image: &mut S) -> Result<(), Fault> {
     if held.header.cluster_bits() != held.l1_table.cluster_bits() {
         return Err(Fault::WrongLength);
     }
-    let mapping = lookup(
-        held.alloc,
-        image,
-        &held.header,
-        &held.l1_table,
-        GUEST_OFFSET,
-    )?;
+    let (header, l1_table) = (&held.header, &held.l1_table);
+    let mapping = lookup(held.alloc, image, header, l1_table, GUEST_OFFSET)?;
     tell(&mut held.out, &mapping)
 }
 

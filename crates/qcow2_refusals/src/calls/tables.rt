@@ -24,31 +24,11 @@ pub(crate) fn make<S: Storage>(
 
 fn load<S: Storage>(of: &str, held: &mut Held, image: &mut S) -> Result<(), Fault> {
     match of {
-        "L1 table" => load_l1_table(held, image),
-        "L2 table" => load_l2_table(held, image),
-        "Refcount table" => load_reftable(held, image),
-        _ => load_block(held, image),
+        "L1 table" => held.l1_table = l1_table(held.alloc, image, &held.header)?,
+        "L2 table" => held.l2_table = l2_table(held.alloc, image, &held.header)?,
+        "Refcount table" => held.reftable = reftable(held.alloc, image, &held.header)?,
+        _ => held.block = block(held.alloc, image, &held.header)?,
     }
-}
-
-fn load_l1_table<S: Storage>(held: &mut Held, image: &mut S) -> Result<(), Fault> {
-    held.l1_table = l1_table(held.alloc, image, &held.header)?;
-    Ok(())
-}
-
-/// Loads the L2 table anew.
-pub(crate) fn load_l2_table<S: Storage>(held: &mut Held, image: &mut S) -> Result<(), Fault> {
-    held.l2_table = l2_table(held.alloc, image, &held.header)?;
-    Ok(())
-}
-
-fn load_reftable<S: Storage>(held: &mut Held, image: &mut S) -> Result<(), Fault> {
-    held.reftable = reftable(held.alloc, image, &held.header)?;
-    Ok(())
-}
-
-fn load_block<S: Storage>(held: &mut Held, image: &mut S) -> Result<(), Fault> {
-    held.block = block(held.alloc, image, &held.header)?;
     Ok(())
 }
 

@@ -1,15 +1,15 @@
-//! Calls of headers: getters, setters, `update` and the pointer writes.
+//! Calls of headers: getters, setters, `update`, the pointer writes, and entries that are made by a header.
 
 use super::Sum;
 use crate::held::{disk_header, new_header};
 use qcow2_base::{Fault, MemStorage};
-use qcow2_metadata::{FeatureType, Header};
+use qcow2_metadata::{FeatureType, Header, L1Entry, L2Entry, RefTableEntry, TableEntry};
 use std::alloc::Global;
 
 /// A new header, that of a disk, another like it, and an image that holds a header's bytes.
 #[derive(Drop)]
 pub(super) struct Headers {
-    pub(super) first: Header,
+    first: Header,
     disk: Header,
     other: Header,
     image: MemStorage,
@@ -31,6 +31,7 @@ pub(super) fn begin(alloc: Global) -> Result<Headers, Fault> {
 pub(super) fn make(turn: u64, headers: &mut Headers, sum: &mut Sum) {
     look_at(&headers.first, sum);
     look_at(&headers.disk, sum);
+    make_entries(turn % 1024 * 512, &headers.first, sum);
     headers.disk.set_size(turn);
     sum.note(headers.other.update(&headers.disk).is_ok());
     sum.add(headers.other.size());
@@ -50,6 +51,12 @@ fn look_at(header: &Header, sum: &mut Sum) {
     sum.note(header.backing_format().is_some());
     sum.note(header.external_data_filename().is_some());
     sum.note(header.feature_name(FeatureType::Incompatible, 0).is_some());
+}
+
+fn make_entries(number: u64, header: &Header, sum: &mut Sum) {
+    sum.note(L1Entry::try_from_plain(number, header).is_ok());
+    sum.note(RefTableEntry::try_from_plain(number, header).is_ok());
+    sum.note(L2Entry::try_from_plain(number, header).is_ok());
 }
 
 fn pointers(header: &Header, image: &mut MemStorage, sum: &mut Sum) {

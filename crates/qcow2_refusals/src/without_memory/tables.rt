@@ -1,7 +1,7 @@
 //! Calls of tables and blocks, of their guards, of growth, and the calls of lists that take no memory.
 
 use super::Sum;
-use crate::calls::tables::{self, load_l2_table};
+use crate::calls::tables;
 use crate::held::{Held, TABLES, hold_over, new_header};
 use qcow2_base::{ClusterCount, Fault, GuestCluster, HostCluster, MemStorage};
 use qcow2_metadata::{
@@ -38,7 +38,7 @@ pub(super) fn begin(alloc: Global) -> Result<Tables, Fault> {
 fn begin_held(alloc: Global, image: &mut MemStorage) -> Result<Held, Fault> {
     let header = new_header(alloc, 9, 4)?;
     let mut held = hold_over(alloc, &mut MemStorage::new(Vec::new(alloc)), header)?;
-    load_l2_table(&mut held, image)?;
+    tables::make("load", "L2 table", &mut held, image)?;
     Ok(held)
 }
 

@@ -6,7 +6,7 @@ use crate::calls::run_command;
 use crate::failing_output::{FailingOutput, Failure};
 use crate::sample_image::{COPIED, Numbers, is_sample, sample_image};
 use qcow2_base::{Fault, MemStorage};
-use qcow2_testing::{rows, same};
+use qcow2_testing::{each, rows, same};
 use std::alloc::Global;
 use std::test::Fail;
 
@@ -53,10 +53,7 @@ const ROWS: &[Row] = rows! {
 
 #[test]
 fn a_command_runs_over_an_image_in_memory(rt: HostRuntime) -> Result<(), Fail> {
-    for row in ROWS {
-        runs(rt.alloc(), *row)?;
-    }
-    Ok(())
+    each(rt.alloc(), ROWS, runs)
 }
 
 fn runs(alloc: Global, row: Row) -> Result<(), Fail> {

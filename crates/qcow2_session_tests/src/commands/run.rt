@@ -2,9 +2,8 @@
 
 use super::whole_images::ends_with;
 use crate::failing_output::{FailingOutput, Failure};
-use qcow2_base::{Fault, Field};
 use qcow2_session::{report_fault, run_words};
-use qcow2_testing::{FaultyFiles, same};
+use qcow2_testing::{FAULTS, FaultyFiles, ToldFault, each, rows, same};
 use std::alloc::Global;
 use std::rt::Files;
 use std::test::Fail;
@@ -60,59 +59,22 @@ pub(crate) fn runs(
 }
 
 // Lines that are no command. A number is 1 to 20 digits that fit 64 bits.
-const NO_COMMANDS: &[&str] = &[
-    "",
-    " ",
-    "l2",
-    "l2 IMAGE",
-    "l2 IMAGE 9",
-    "l2 IMAGE 9 2 ",
-    "l2 IMAGE 8 2",
-    "l2 IMAGE 22 2",
-    "l2 IMAGE 4294967305 2",
-    " IMAGE 9 2",
-    "L2 IMAGE 9 2",
-    "l22 IMAGE 9 2",
-    "IMAGE l2 9 2",
-    "information IMAGE",
-    "--help",
-    "l2 IMAGE 9 ",
-    "l2 IMAGE 9 +2",
-    "l2 IMAGE 9 -1",
-    "l2 IMAGE 9 \t2",
-    "l2 IMAGE 9 9\n",
-    "l2 IMAGE 9 1_0",
-    "l2 IMAGE 9 9.0",
-    "l2 IMAGE 9 1e1",
-    "l2 IMAGE 9 0x9",
-    "l2 IMAGE 9 a",
-    "l2 IMAGE 9 18446744073709551616",
-    "l2 IMAGE 9 000000000000000000002",
-    "l2 IMAGE 9 \u{0669}",
-    "l2 IMAGE +9 2",
-    "l2 IMAGE 000000000000000000009 2",
-    "info",
-    "info IMAGE 9",
-    "list IMAGE ",
-    "at IMAGE",
-    "at IMAGE 0x600",
-    "at IMAGE 0 0",
-    "edit IMAGE",
-    "edit IMAGE map:3:5",
-    "edit IMAGE 0 map:3",
-    "edit IMAGE 0 map:3:5:1",
-    "edit IMAGE 0 map::5",
-    "edit IMAGE 0 zero:3:1",
-    "edit IMAGE 0 keep",
-    "edit IMAGE 0 Discard:3",
-    "edit IMAGE 0 discard:3 inc:3",
-    "count IMAGE 3 inc:",
-    "count IMAGE",
-    "count IMAGE 3 add:0",
-    "count IMAGE 3 inc:+1",
-    "count IMAGE 3 inc:0:1",
-    "count IMAGE 3 inc:0 discard:0",
-];
+const NO_COMMANDS: &[&str] = rows! {
+    // no words, wrong names, and options
+    "", " ", " IMAGE 9 2", "L2 IMAGE 9 2", "l22 IMAGE 9 2", "IMAGE l2 9 2", "information IMAGE", "--help",
+    // a word too few, one too many, and numbers that no cluster has
+    "l2", "l2 IMAGE", "l2 IMAGE 9", "l2 IMAGE 9 2 ", "l2 IMAGE 8 2", "l2 IMAGE 22 2", "l2 IMAGE 4294967305 2",
+    "l2 IMAGE +9 2", "l2 IMAGE 000000000000000000009 2",
+    // words that are no number
+    "l2 IMAGE 9 ", "l2 IMAGE 9 +2", "l2 IMAGE 9 -1", "l2 IMAGE 9 \t2", "l2 IMAGE 9 9\n", "l2 IMAGE 9 1_0",
+    "l2 IMAGE 9 9.0", "l2 IMAGE 9 1e1", "l2 IMAGE 9 0x9", "l2 IMAGE 9 a", "l2 IMAGE 9 \u{0669}",
+    "l2 IMAGE 9 18446744073709551616", "l2 IMAGE 9 000000000000000000002",
+    "info", "info IMAGE 9", "list IMAGE ", "at IMAGE", "at IMAGE 0x600", "at IMAGE 0 0",
+    "edit IMAGE", "edit IMAGE map:3:5", "edit IMAGE 0 map:3", "edit IMAGE 0 map:3:5:1", "edit IMAGE 0 map::5",
+    "edit IMAGE 0 zero:3:1", "edit IMAGE 0 keep", "edit IMAGE 0 Discard:3", "edit IMAGE 0 discard:3 inc:3",
+    "count IMAGE", "count IMAGE 3 inc:", "count IMAGE 3 add:0", "count IMAGE 3 inc:+1",
+    "count IMAGE 3 inc:0:1", "count IMAGE 3 inc:0 discard:0",
+};
 
 const NO_COMMAND: Outcome<'static> = (2, "", "usage: qmeta COMMAND IMAGE ARGUMENTS\n");
 
@@ -124,53 +86,19 @@ fn words_that_are_no_command_are_the_usage_line(rt: HostRuntime) -> Result<(), F
     }
     Ok(())
 }
-// All faults, in the order of their numbers.
-const REPORTED: &[(Fault, &str)] = &[
-    (Fault::NotQcow2, "qmeta: fault 1\n"),
-    (Fault::Version, "qmeta: fault 2\n"),
-    (Fault::ClusterSize, "qmeta: fault 3\n"),
-    (Fault::HeaderShort, "qmeta: fault 4\n"),
-    (Fault::HeaderBig, "qmeta: fault 5\n"),
-    (Fault::L1Unaligned, "qmeta: fault 6\n"),
-    (Fault::ReftableUnaligned, "qmeta: fault 7\n"),
-    (Fault::RefcountWidth, "qmeta: fault 8\n"),
-    (Fault::BackingNameLong, "qmeta: fault 9\n"),
-    (Fault::BackingNamePlace, "qmeta: fault 10\n"),
-    (Fault::BackingNameText, "qmeta: fault 11\n"),
-    (Fault::ExtensionsExceed, "qmeta: fault 12\n"),
-    (Fault::ExtensionText, "qmeta: fault 13\n"),
-    (Fault::FeatureNameCut, "qmeta: fault 14\n"),
-    (Fault::FormatConflict, "qmeta: fault 15\n"),
-    (Fault::DataFileConflict, "qmeta: fault 16\n"),
-    (Fault::Incompatible(2), "qmeta: fault 17\n"),
-    (Fault::EntryReserved, "qmeta: fault 18\n"),
-    (Fault::EntryUnaligned, "qmeta: fault 19\n"),
-    (Fault::TableTooBig, "qmeta: fault 20\n"),
-    (Fault::TablePlace, "qmeta: fault 21\n"),
-    (Fault::NoOffset, "qmeta: fault 22\n"),
-    (Fault::NotPlaced, "qmeta: fault 23\n"),
-    (Fault::HeaderTooLong, "qmeta: fault 24\n"),
-    (Fault::NameTooLong, "qmeta: fault 25\n"),
-    (Fault::FieldChanged(Field::Version), "qmeta: fault 26\n"),
-    (Fault::VersionNeeded, "qmeta: fault 27\n"),
-    (Fault::CannotGrow, "qmeta: fault 28\n"),
-    (Fault::TooMany, "qmeta: fault 29\n"),
-    (Fault::CounterRange, "qmeta: fault 30\n"),
-    (Fault::WrongLength, "qmeta: fault 31\n"),
-    (Fault::BadEdit(7), "qmeta: fault 32\n"),
-    (Fault::BadStep(7), "qmeta: fault 33\n"),
-    (Fault::Storage, "qmeta: fault 34\n"),
-    (Fault::NoMemory, "qmeta: fault 35\n"),
-    (Fault::ExternalData, "qmeta: fault 36\n"),
-];
+
+fn is_reported(alloc: Global, (fault, number, ..): ToldFault) -> Result<(), Fail> {
+    let mut err = FailingOutput::new(alloc, Failure::Never);
+    let status = report_fault(fault, &mut err);
+    let line = format!(in alloc; "qmeta: fault {number}\n")?;
+    same(
+        (status, std::str::from_utf8(err.flushed())?),
+        (1, line.as_str()),
+        fault,
+    )
+}
 
 #[test]
 fn a_fault_is_reported_by_its_number(rt: HostRuntime) -> Result<(), Fail> {
-    for (fault, line) in REPORTED {
-        let mut err = FailingOutput::new(rt.alloc(), Failure::Never);
-        let status = report_fault(*fault, &mut err);
-        let found = std::str::from_utf8(err.flushed())?;
-        same((status, found), (1, *line), *fault)?;
-    }
-    Ok(())
+    each(rt.alloc(), FAULTS, is_reported)
 }

@@ -21,13 +21,9 @@ const BACKING: &str = "backing 0x0\n";
 // What runs end with that print nothing: the first has no fault.
 const SILENT: Outcome<'static> = (0, "", "");
 
-const NO_IMAGE: Outcome<'static> = (1, "", "qmeta: fault 1\n");
-
 const BAD_ENTRY: Outcome<'static> = (1, "", "qmeta: fault 18\n");
 
 const NO_PLACE: Outcome<'static> = (1, "", "qmeta: fault 21\n");
-
-const NO_TABLE: Outcome<'static> = (1, "", "qmeta: fault 23\n");
 
 const BAD_EDIT: Outcome<'static> = (1, "", "qmeta: fault 32\n");
 
@@ -38,16 +34,11 @@ const STORAGE: &str = "qmeta: fault 34\n";
 const HEADER_ALONE: Numbers<'static> = &[(24, 0), (32, 0), (40, 0)];
 
 // An external data file, a format and a name of it, and a backing file: `qcow2`, `data.raw` and `base.img`.
-const NAMES: Numbers<'static> = &[
-    (8, 144),
-    (16, 0x0000_0008_0000_0009),
-    (72, 4),
-    (104, 0xe279_2aca_0000_0005),
-    (112, 0x7163_6f77_3200_0000),
-    (120, 0x4441_5441_0000_0008),
-    (128, 0x6461_7461_2e72_6177),
+const NAMES: Numbers<'static> = rows! {
+    (8, 144), (16, 0x0000_0008_0000_0009), (72, 4), (104, 0xe279_2aca_0000_0005),
+    (112, 0x7163_6f77_3200_0000), (120, 0x4441_5441_0000_0008), (128, 0x6461_7461_2e72_6177),
     (144, 0x6261_7365_2e69_6d67),
-];
+};
 
 const NAMES_INFO: &str = "version 3\ncluster-bits 9\nsize 32768\nrefcount-order 4\nl1 0x200 1\n\
     refcount-table 0x0 0\nbacking 8 base.img\nformat 5 qcow2\nexternal yes\ndata-file 8 data.raw\n";
@@ -68,10 +59,6 @@ const TWO_LINES: &str = "0x600 data 0xa00 copied\n0x8600 data 0xa00 copied\n";
 const SECOND_ALONE: Numbers<'static> = &[(32, 2), (512, 0), (520, 0x400)];
 
 const FAR_L1_TABLE: Numbers<'static> = &[(32, 65), (40, (1 << 56) - 512)];
-
-const FAR_INFO: &str = "version 3\ncluster-bits 9\nsize 32768\nrefcount-order 4\n\
-    l1 0xfffffffffffe00 65\nrefcount-table 0x0 0\nbacking none\nformat none\nexternal no\n\
-    data-file none\n";
 
 // A second L2 table at 1536, whose last entry is none.
 const BAD_SECOND_TABLE: Numbers<'static> = rows! {
@@ -114,9 +101,7 @@ const LOOKS: &[(&str, Outcome<'static>)] = rows! {
     ("count IMAGE 3 dec:0", (0, "refused\n", "")),
     ("edit IMAGE 0 discard:3 map:64:5", BAD_EDIT),
     ("edit IMAGE 0 map:0:0", BAD_EDIT),
-    ("edit IMAGE 0 map:63:281474976710655", BAD_EDIT),
-    ("edit IMAGE 1 discard:0", NO_TABLE),
-    ("edit IMAGE 18446744073709551615", NO_TABLE),
+    ("edit IMAGE 1 discard:0", (1, "", "qmeta: fault 23\n")),
     ("count IMAGE 3 inc:256", (1, "", "qmeta: fault 33\n")),
     ("count IMAGE 140737488355328 inc:0", NO_PLACE),
 };
@@ -138,34 +123,28 @@ const ROWS: &[Row] = rows! {
     (&[], "edit IMAGE 0 map:3:5 map:3:6 discard:3", (0, "freed 5 1\nfreed 6 1\ngained 6\n", ""),
         &[(1048, 0)]),
     (&[], "edit IMAGE 0 keep:3", SILENT, &[(1048, COPIED + 0xa01)]),
-    (&[], "edit IMAGE 0 zero:0 map:0:7 map:63:8", (0, "gained 7\ngained 8\n", ""),
-        &[(1024, COPIED + 0xe00), (1528, COPIED + 0x1000)]),
     (&[], "count IMAGE 2 dec:15 inc:0", (0, "ok 2560\nok 0\n", ""),
         &[(1024, 1 << 48), (1048, COPIED + 0x9ff)]),
     (&[], "count IMAGE 3 inc:0 inc:0 dec:0 dec:1", (0, "ok 0\nok 1\nok 2\nrefused\n", ""), COUNTED),
     (AUTOCLEAR, "info IMAGE", (0, INFO, ""), AUTOCLEAR),
     (AUTOCLEAR, "list IMAGE", (0, LIST, ""), AUTOCLEAR),
-    (AUTOCLEAR, "at IMAGE 0", (0, BACKING, ""), AUTOCLEAR),
     (AUTOCLEAR, "edit IMAGE 0", SILENT, &[]),
     (AUTOCLEAR, "edit IMAGE 0 zero:64", BAD_EDIT, &[]),
     (AUTOCLEAR, "count IMAGE 3", SILENT, &[]),
     // a header alone, and one with names
     (HEADER_ALONE, "list IMAGE", SILENT, HEADER_ALONE),
     (HEADER_ALONE, "at IMAGE 0", (0, BACKING, ""), HEADER_ALONE),
-    (HEADER_ALONE, "edit IMAGE 0", NO_TABLE, HEADER_ALONE),
     (NAMES, "info IMAGE", (0, NAMES_INFO, ""), NAMES),
     (OLDER, "info IMAGE", (0, OLDER_INFO, ""), OLDER),
     // one L2 table named twice, one by the second L1 entry alone, and a copied L1 entry that names none
     (TABLE_TWICE, "list IMAGE", (0, TWO_LINES, ""), TABLE_TWICE),
     (SECOND_ALONE, "list IMAGE", (0, "0x8600 data 0xa00 copied\n", ""), SECOND_ALONE),
     (&[(512, COPIED)], "list IMAGE", SILENT, &[(512, COPIED)]),
-    (&[(512, COPIED)], "edit IMAGE 0 zero:3", NO_TABLE, &[(512, COPIED)]),
+    (&[(512, COPIED)], "edit IMAGE 0 zero:3", (1, "", "qmeta: fault 23\n"), &[(512, COPIED)]),
     // a damaged part is its fault where a command reads it
-    (&[(0, 0)], "list IMAGE", NO_IMAGE, &[(0, 0)]),
-    (&[(0, 0)], "edit IMAGE 0 discard:3", NO_IMAGE, &[(0, 0)]),
+    (&[(0, 0)], "list IMAGE", (1, "", "qmeta: fault 1\n"), &[(0, 0)]),
     (VERSION_4, "list IMAGE", (1, "", "qmeta: fault 2\n"), VERSION_4),
     // an L1 table that ends 8 bytes past 2^56
-    (FAR_L1_TABLE, "info IMAGE", (0, FAR_INFO, ""), FAR_L1_TABLE),
     (FAR_L1_TABLE, "list IMAGE", NO_PLACE, FAR_L1_TABLE),
     // a bad entry of the L1 table, one of the L2 table, and one of the second L2 table
     (&[(512, 1)], "info IMAGE", (0, INFO, ""), &[(512, 1)]),
@@ -188,14 +167,8 @@ fn each_command_says_what_the_image_means(rt: HostRuntime) -> Result<(), Fail> {
 #[test]
 fn edits_and_steps_change_just_their_table_or_block(rt: HostRuntime) -> Result<(), Fail> {
     for (before, line, expected, after) in ROWS {
-        ends_with(
-            &rt,
-            "changes",
-            (before, after),
-            line,
-            NO_FAILURES,
-            *expected,
-        )?;
+        let changes = (*before, *after);
+        ends_with(&rt, "changes", changes, line, NO_FAILURES, *expected)?;
     }
     Ok(())
 }
