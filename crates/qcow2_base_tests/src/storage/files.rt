@@ -1,12 +1,10 @@
 //! Storages over real files, and over ones that fail.
 
 use super::{LIMIT, WRITES, Written, has_failed, is_read, read_fails, reads, write, write_fails};
-use qcow2_base::{Fault, FileStorage, Storage, StorageFault};
+use qcow2_base::{Fault, FileStorage, StorageFault};
 use qcow2_testing::{
     FaultyFile, FaultyFiles, file_holds, holds, same, temporary_file, temporary_path,
 };
-use std::alloc::Global;
-use std::fmt::Debug;
 use std::fs;
 use std::fs::File;
 use std::test::Fail;
@@ -113,15 +111,12 @@ fn faulty(
     FileStorage::open(&files, path, true)
 }
 
-fn goes_on<S: Storage>(rt: &HostRuntime, path: &str, storage: &mut S) -> Result<(), Fail> {
-    reads(rt.alloc(), storage, 2, &[3, 4, 5, 0])?;
-    same(write(storage, &[6, 7, 8, 9], 2), Ok(()), "a write")?;
-    file_holds(rt, path, &[1, 2, 6, 7, 8, 9], "written")
-}
-
 fn is_short(rt: &HostRuntime, path: &str, step: usize) -> Result<(), Fail> {
     fs::write(rt, path, &[1, 2, 3, 4, 5])?;
-    goes_on(rt, path, &mut faulty(rt, path, (None, step, u64::MAX))?)
+    let mut storage = faulty(rt, path, (None, step, u64::MAX))?;
+    reads(rt.alloc(), &mut storage, 2, &[3, 4, 5, 0])?;
+    same(write(&mut storage, &[6, 7, 8, 9], 2), Ok(()), "a write")?;
+    file_holds(rt, path, &[1, 2, 6, 7, 8, 9], "written")
 }
 
 #[test]
@@ -133,16 +128,10 @@ fn short_reads_and_writes_are_gone_on_with(rt: HostRuntime) -> Result<(), Fail> 
     Ok(())
 }
 
-fn fails_once<S: Storage + Debug>(alloc: Global, storage: &mut S) -> Result<(), Fail> {
-    read_fails(alloc, storage, 1)?;
-    reads(alloc, storage, 1, &[2, 3, 4, 5])
-}
-
 fn fails_to_read(rt: &HostRuntime, path: &str, passes: u64) -> Result<(), Fail> {
-    fails_once(
-        rt.alloc(),
-        &mut faulty(rt, path, (Some(passes), 2, u64::MAX))?,
-    )
+    let mut storage = faulty(rt, path, (Some(passes), 2, u64::MAX))?;
+    read_fails(rt.alloc(), &mut storage, 1)?;
+    reads(rt.alloc(), &mut storage, 1, &[2, 3, 4, 5])
 }
 
 // A file is asked for its metadata when it is opened. A read of four bytes, two at a time, asks it four
@@ -158,27 +147,15 @@ fn an_open_or_a_read_fails_where_one_call_of_the_file_does(rt: HostRuntime) -> R
     Ok(())
 }
 
-// Writes once more what a failed write left, in part or not at all.
-fn is_made_good<S: Storage + Debug>(
-    rt: &HostRuntime,
-    path: &str,
-    storage: &mut S,
-) -> Result<(), Fail> {
-    write_fails(rt.alloc(), storage, &[9; 4], 1, 1)?;
-    same(ends_of(rt, path)?, (6, Some(1), Some(6)), "failed")?;
-    same(write(storage, &[9; 4], 1), Ok(()), "again")?;
-    file_holds(rt, path, &[1, 9, 9, 9, 9, 6], "again")
-}
-
 // Fails unless a write fails by this call of the file and leaves the bytes around it, and the next one
-// makes it good.
+// makes good what it left, in part or not at all.
 fn fails_to_write(rt: &HostRuntime, path: &str, passes: u64) -> Result<(), Fail> {
     fs::write(rt, path, &[1, 2, 3, 4, 5, 6])?;
-    is_made_good(
-        rt,
-        path,
-        &mut faulty(rt, path, (Some(passes), 2, u64::MAX))?,
-    )
+    let mut storage = faulty(rt, path, (Some(passes), 2, u64::MAX))?;
+    write_fails(rt.alloc(), &mut storage, &[9; 4], 1, 1)?;
+    same(ends_of(rt, path)?, (6, Some(1), Some(6)), "failed")?;
+    same(write(&mut storage, &[9; 4], 1), Ok(()), "again")?;
+    file_holds(rt, path, &[1, 9, 9, 9, 9, 6], "again")
 }
 
 // How many bytes a file has, and the first and the last.
