@@ -1,7 +1,7 @@
 //! Where an image's bytes lie: the trait that each layer reads and writes through, a storage in
 //! memory, and one over a file.
 
-ghost use Rattle.std.specs.Prelude.{◌≡◌, ℕ, Bool, ◌+◌, ◌^◌, ◌%◌, ◌<◌, ◌≤◌, length, IsTrue, OnOk, MatchResult};
+ghost use Rattle.std.specs.Prelude.{◌≡◌, ℕ, ◌+◌, ◌^◌, ◌<◌, ◌≤◌, length};
 ghost use Rattle.qcow2_base.specs.Format.{max_file_length};
 ghost use Rattle.qcow2_base.specs.Storage.{StorageState, ReadsBytes, WritesBytes, IsPowerOfTwo, Ends};
 ghost use Rattle.qcow2_base.specs.declared.fault.Fault.TheVariants.{Storage as storage_fault};

@@ -1,6 +1,6 @@
 //! Refcount blocks: how many references each cluster of a part of the image has.
 
-ghost use Rattle.std.specs.Prelude.{◌≡◌, ℕ, ◌+◌, ◌-◌, ◌*◌, ◌^◌, ◌<◌, ◌≤◌, ◌⊎◌, ◌==◌, IfErr, IfOk, IsOk, IsOkUnless, IsTrue, None, Some, false, length, option_map, replicate, slice_index, true};
+ghost use Rattle.std.specs.Prelude.{◌≡◌, ◌+◌, ◌-◌, ◌*◌, ◌^◌, ◌<◌, ◌≤◌, ◌⊎◌, ◌==◌, IfErr, IfOk, IsOk, IsOkUnless, None, Some, false, length, option_map, replicate, slice_index, true};
 ghost use Rattle.qcow2_base.specs.Format.{max_file_length};
 ghost use Rattle.qcow2_base.specs.Storage.{OnImage, OnlyReads};
 ghost use Rattle.qcow2_base.specs.Types.{IsClusterBits};

@@ -1,7 +1,7 @@
 //! Tables of entries: L1 tables, L2 tables and refcount tables differ in what their entries are and how many
 //! they may be, so loading and writing stand in one trait and are proved once.
 
-ghost use Rattle.std.specs.Prelude.{◌≡◌, ℕ, Bool, false, true, ◌+◌, ◌*◌, ◌^◌, ◌<◌, ◌≤◌, IsTrue, length, map, slice_index, slice_get, Option, Some, None, option_map, IfSome, IfOk, OnOk, MatchResult};
+ghost use Rattle.std.specs.Prelude.{◌≡◌, ℕ, false, true, ◌+◌, ◌*◌, ◌^◌, ◌<◌, ◌≤◌, IsTrue, length, map, slice_index, slice_get, Option, Some, None, option_map, IfSome, IfOk, OnOk, MatchResult};
 ghost use Rattle.std.specs.Int.{div_ceil};
 ghost use Rattle.qcow2_base.specs.Format.{max_file_length, most_entries_in_memory};
 ghost use Rattle.qcow2_base.specs.Storage.{OnImage, OnlyReads};

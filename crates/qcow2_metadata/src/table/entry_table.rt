@@ -1,7 +1,7 @@
 //! The one struct behind all tables: a list of entries of one kind.
 
-ghost use Rattle.std.specs.Prelude.{◌≡◌, ℕ, Bool, true, false, ◌*◌, ◌^◌, ◌<◌, ◌≤◌, ◌↔◌, IfOk, IsOkUnless, IsTrue, length, map, slice_get, slice_index, slice_set, Some, None};
-ghost use Rattle.std.proofs.Common.{refl, rules};
+ghost use Rattle.std.specs.Prelude.{◌≡◌, ℕ, Bool, true, false, ◌*◌, ◌^◌, ◌<◌, ◌≤◌, ◌↔◌, IfOk, IsOkUnless, IsTrue, length, map, slice_index, Some, None};
+ghost use Rattle.std.proofs.Common.{refl};
 ghost use Rattle.std.specs.List.{All};
 ghost use Rattle.qcow2_base.specs.Format.{most_entries_in_memory};
 ghost use Rattle.qcow2_base.specs.Types.{IsClusterBits};
@@ -53,8 +53,7 @@ pub struct EntryTable<E: TableKind> {
 }
 
 impl<E: TableKind> Model for EntryTable<E> {
-    ghost use Rattle.std.specs.Prelude.{◌≡◌, ◌*◌, ◌^◌, ◌<◌, ◌≤◌, IsTrue, None, IfSome, length, map};
-    ghost use Rattle.qcow2_base.specs.Types.{IsClusterBits};
+    ghost use Rattle.std.specs.Prelude.{◌<◌, map};
     ghost use Rattle.qcow2_metadata.specs.Header.{geometry};
     ghost use Rattle.qcow2_metadata.specs.Table.{IsLawful, TableState, kind_of};
 

@@ -1,7 +1,7 @@
 //! Refcount tables pay for their own growth: a table that moves to more clusters needs counters for
 //! these, so it takes spare entries along for new refcount blocks, which need counters too.
 
-ghost use Rattle.std.specs.Prelude.{◌≡◌, ◌+◌, ◌-◌, ◌*◌, ◌^◌, ◌<◌, ◌≤◌, IfSome, max};
+ghost use Rattle.std.specs.Prelude.{◌≡◌, ◌+◌, ◌-◌, ◌^◌, ◌<◌, ◌≤◌, IfSome, max};
 ghost use Rattle.std.specs.Int.{next_multiple_of};
 ghost use Rattle.qcow2_base.specs.Format.{most_reftable_entries};
 ghost use Rattle.qcow2_metadata.specs.Table.Growth.{IsLeastSpare, growth_of, least_spare as least, possible_spare};

@@ -1,6 +1,6 @@
 //! L1 tables: where the L2 tables lie.
 
-ghost use Rattle.std.specs.Prelude.{◌≡◌, ◌⊎◌, ◌*◌, ◌^◌, ◌<◌, ◌↔◌, length, slice_set, true, None, Ok, Err, IfSome, IfOk, IfErr, MatchOption, IsErrOf, OnErr, OnOk};
+ghost use Rattle.std.specs.Prelude.{◌≡◌, ◌⊎◌, ◌*◌, ◌^◌, ◌<◌, ◌↔◌, length, true, Ok, Err, IfSome, IfOk, IfErr, MatchOption, IsErrOf, OnErr, OnOk};
 ghost use Rattle.std.proofs.Common.{lit≤};
 ghost use Rattle.qcow2_base.specs.Format.{most_l1_entries};
 ghost use Rattle.qcow2_base.specs.declared.fault.Fault.TheVariants.{NoMemory, NotPlaced};

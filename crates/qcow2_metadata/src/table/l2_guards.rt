@@ -1,6 +1,6 @@
 //! Guards of L2 tables: leave to change one, and to read compressed data that one refers to.
 
-ghost use Rattle.std.specs.Prelude.{◌≡◌, ◌↔◌, ◌*◌, ◌^◌, ◌<◌, IfOk, IfSome, IsOkAnd, length, option_map, slice_index, true};
+ghost use Rattle.std.specs.Prelude.{◌≡◌, ◌*◌, ◌^◌, ◌<◌, IfOk, IfSome, IsOkAnd, length, option_map, slice_index, true};
 ghost use Rattle.qcow2_metadata.specs.Table.L2Guards.{GivesUp, MakesEdit, is_mappable, to_data, to_zeros};
 ghost use Rattle.qcow2_metadata.specs.Entries.L2Entry.{IsAllocation};
 ghost use Rattle.qcow2_metadata.specs.Entries.PendingClusters.{IsOneCluster};

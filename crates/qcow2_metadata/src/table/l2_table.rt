@@ -1,6 +1,6 @@
 //! L2 tables: what the clusters of a part of the guest's disk read as.
 
-ghost use Rattle.std.specs.Prelude.{◌≡◌, ℕ, ◌-◌, ◌*◌, ◌%◌, ◌^◌, ◌==◌, ◌<◌, IfOk, IsOk, IsOkAnd, IsOkUnless, length, map, replicate, slice_index, true, false};
+ghost use Rattle.std.specs.Prelude.{◌≡◌, ℕ, ◌-◌, ◌*◌, ◌^◌, ◌==◌, ◌<◌, IfOk, IsOk, IsOkAnd, IsOkUnless, length, map, replicate, true, false};
 ghost use Rattle.std.proofs.Common.{lit≤};
 ghost use Rattle.qcow2_base.specs.Format.{most_l2_entries};
 ghost use Rattle.qcow2_metadata.specs.Entries.L2Mapping.{IsPlaced, meaning};

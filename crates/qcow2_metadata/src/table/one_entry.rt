@@ -1,7 +1,7 @@
 //! One entry of a table is written with those beside it, as many as the storage's alignment asks for, so
 //! that no aligned storage has to read before it writes. None of them lies in another cluster.
 
-ghost use Rattle.std.specs.Prelude.{◌≡◌, ◌+◌, ◌*◌, ◌/◌, ◌^◌, ◌≤◌, length, IsOkUnless, IsTrue, OnOk, Some};
+ghost use Rattle.std.specs.Prelude.{◌≡◌, ◌+◌, ◌*◌, ◌/◌, ◌^◌, ◌≤◌, length, IsOkUnless, OnOk, Some};
 ghost use Rattle.qcow2_base.specs.Format.{max_file_length, most_entries_in_memory};
 ghost use Rattle.qcow2_base.specs.Storage.{OnImages, OnlyWrites};
 ghost use Rattle.qcow2_base.specs.Types.{IsClusterBits};

@@ -1,6 +1,6 @@
 //! The command `count`: steps of a refcount block's counters.
 
-ghost use Rattle.std.specs.Prelude.{◌≡◌, map, string_bytes};
+ghost use Rattle.std.specs.Prelude.{map, string_bytes};
 ghost use Rattle.qcow2_session.specs.Commands.Changing.{PrintsChange};
 ghost use Rattle.qcow2_session.specs.Commands.Counting.{block_format, end_of_steps, reply_line, step_of, steps_of};
 ghost use Rattle.qcow2_session.specs.Commands.Printing.{PrintsLast};

@@ -1,6 +1,6 @@
 //! The command `map`: what the guest's disk reads as, extent after extent.
 
-ghost use Rattle.std.specs.Prelude.{◌≡◌, ◌+◌, ◌≤◌, ◌++◌, IsErrOf, IsTrue, length, map, string_bytes};
+ghost use Rattle.std.specs.Prelude.{◌≡◌, ◌+◌, ◌≤◌, ◌++◌, IsErrOf, length, map, string_bytes};
 ghost use Rattle.qcow2_base.specs.Storage.{OnImage, ReadsFor};
 ghost use Rattle.qcow2_base.specs.declared.fault.Fault.TheVariants.{Storage as StorageFailed};
 ghost use Rattle.qcow2_session.specs.Session.Extents.{IsReaderOf};

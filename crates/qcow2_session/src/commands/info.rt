@@ -1,6 +1,6 @@
 //! The command `info`: what an image's header says.
 
-ghost use Rattle.std.specs.Prelude.{◌≡◌, ◌++◌, Some, option_map, string_bytes};
+ghost use Rattle.std.specs.Prelude.{◌≡◌, Some, option_map, string_bytes};
 ghost use Rattle.qcow2_session.specs.Commands.Info.{backing_lines, answer_text, data_file_lines, info_lines, name_line, place_line, place_lines, size_lines, version_lines};
 ghost use Rattle.qcow2_session.specs.Commands.Printing.{PrintsText};
 

@@ -1,6 +1,6 @@
 //! A line in the making. It is put together in place, from its end to its start, and takes no memory.
 
-ghost use Rattle.std.specs.Prelude.{◌≡◌, ◌+◌, ◌^◌, ◌≤◌, ◌++◌, [], false, drop, length, take};
+ghost use Rattle.std.specs.Prelude.{◌≡◌, ◌+◌, ◌≤◌, ◌++◌, [], false, drop, length};
 ghost use Rattle.std.specs.Fmt.{decimal, digits};
 ghost use Rattle.qcow2_session.specs.Lines.{offset_text};
 

@@ -1,6 +1,6 @@
 //! Lists of changes of an image: the table or block is loaded, changed, and written if it is modified.
 
-ghost use Rattle.std.specs.Prelude.{◌≡◌, ◌-◌, ◌*◌, ◌^◌, [], false, IfOk, IsErrOf, IsOkUnless, IsTrue, None, Ok, OnOk, Some, length};
+ghost use Rattle.std.specs.Prelude.{◌≡◌, ◌-◌, ◌*◌, ◌^◌, [], false, IfOk, IsErrOf, IsOkUnless, None, Ok, OnOk, Some, length};
 ghost use Rattle.qcow2_base.specs.Storage.{OnImage, OnImages, OnlyWrites};
 ghost use Rattle.qcow2_base.specs.Types.{IsClusterBits};
 ghost use Rattle.qcow2_base.specs.declared.fault.Fault.TheVariants.{Storage as StorageFailed};
