@@ -1,11 +1,13 @@
 //! The fields of a header that change while an image is used: the size of the guest's disk, and where its
 //! L1 table and its refcount table lie. Each can be written by itself.
 
-ghost use Rattle.std.specs.Prelude.{◌≡◌, ◌%◌, ◌^◌, ◌≤◌};
-ghost use Rattle.qcow2_metadata.specs.Header.Pointers.{WritesPart, with_l1_table, with_reftable, with_size};
+ghost use Rattle.std.specs.Prelude.{◌≡◌, ◌*◌, ◌^◌, ◌≤◌, length, Ok, Err, IfSome, MatchOption, OnErr, OnOk};
+ghost use Rattle.qcow2_metadata.specs.Header.Pointers.{ArePendingFor, WritesPart, pointer_fault, table_clusters, with_l1_table, with_reftable, with_size};
 
 use super::Header;
-use qcow2_base::{Fault, HostOffset, OnDiskStruct, Storage, V2Header, write_be};
+use crate::entries::refuse;
+use crate::{L1Table, PendingClusters, RefTable, Refused, Table};
+use qcow2_base::{Fault, OnDiskStruct, Storage, V2Header, write_be};
 
 impl Header {
     /// Sets the size of the guest's disk, in bytes. The image isn't changed: `write_size` does that.
@@ -16,22 +18,67 @@ impl Header {
         self.v2.size = size;
     }
 
-    // Sets the place of the L1 table.
-    pub(crate) fn set_l1_table_place(&mut self, offset: HostOffset, entries: u32)
-        requires { offset.0 % 2 ^ self.old.v2.cluster_bits ≡ 0 }
-        ensures { self.new ≡ with_l1_table self.old offset.0 entries }
+    /// Refers to an L1 table from now on: takes over its offset and its number of entries, and spends the
+    /// pending value for its clusters, if there is one. The image isn't changed: `write_l1_table_pointer`
+    /// does that.
+    ///
+    /// A table with no cluster is refused by fault 23, else one of 2^32 entries or more by 29: the pending
+    /// value comes back, and nothing has changed.
+    #[tactic(auto, using(crate::proofs::PointerLemmas::table_offset_aligned))]
+    pub fn set_l1_table(
+        &mut self,
+        l1_table: &L1Table,
+        new_allocation: Option<PendingClusters>,
+    ) -> Result<(), Refused>
+        requires cluster_bits { l1_table.now.geometry.cluster_bits ≡ self.old.v2.cluster_bits }
+        requires pending { IfSome l1_table.now.cluster (λ cluster.
+            IfSome new_allocation (ArePendingFor l1_table.now cluster)) }
+        ensures answer { MatchOption (pointer_fault l1_table.now (length l1_table.now.numbers))
+            (result ≡ Ok tt)
+            (λ fault. result ≡ Err (record { fault = fault; pending = new_allocation })) }
+        ensures set { OnOk result (IfSome l1_table.now.cluster (λ cluster.
+            self.new ≡ with_l1_table self.old (cluster.0 * 2 ^ self.old.v2.cluster_bits)
+            (length l1_table.now.numbers))) }
+        ensures unchanged { OnErr result (self.new ≡ self.old) }
     {
+        let Some(offset) = l1_table.get_offset() else {
+            return refuse(Fault::NotPlaced, new_allocation);
+        };
+        let Ok(entries) = u32::try_from(l1_table.entries()) else {
+            return refuse(Fault::TooMany, new_allocation);
+        };
         self.v2.l1_size = entries;
         self.v2.l1_table_offset = offset.0;
+        if let Some(pending) = new_allocation {
+            pending.make_persistent();
+        }
+        Ok(())
     }
 
-    // Sets the place of the refcount table.
-    pub(crate) fn set_reftable_place(&mut self, offset: HostOffset, clusters: u32)
-        requires { offset.0 % 2 ^ self.old.v2.cluster_bits ≡ 0 }
-        ensures { self.new ≡ with_reftable self.old offset.0 clusters }
+    /// Refers to a refcount table from now on: takes over its offset and its number of clusters. The image
+    /// isn't changed: `write_reftable_pointer` does that.
+    ///
+    /// A table with no cluster is refused by fault 23, else one of 2^32 clusters or more by 29: nothing has
+    /// changed then.
+    #[tactic(auto, using(crate::proofs::PointerLemmas::table_offset_aligned))]
+    pub fn set_reftable(&mut self, reftable: &RefTable) -> Result<(), Fault>
+        requires cluster_bits { reftable.now.geometry.cluster_bits ≡ self.old.v2.cluster_bits }
+        ensures answer { MatchOption (pointer_fault reftable.now (table_clusters reftable.now))
+            (result ≡ Ok tt) (λ fault. result ≡ Err fault) }
+        ensures set { OnOk result (IfSome reftable.now.cluster (λ cluster.
+            self.new ≡ with_reftable self.old (cluster.0 * 2 ^ self.old.v2.cluster_bits)
+            (table_clusters reftable.now))) }
+        ensures unchanged { OnErr result (self.new ≡ self.old) }
     {
+        let Some(offset) = reftable.get_offset() else {
+            return Err(Fault::NotPlaced);
+        };
+        let Ok(clusters) = u32::try_from(reftable.cluster_count().0) else {
+            return Err(Fault::TooMany);
+        };
         self.v2.refcount_table_offset = offset.0;
         self.v2.refcount_table_clusters = clusters;
+        Ok(())
     }
 
     /// Writes the size of the guest's disk to the image: the 8 bytes at 24, in one call of the storage. Takes

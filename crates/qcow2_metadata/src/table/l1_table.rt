@@ -1,12 +1,11 @@
 //! L1 tables: where the L2 tables lie.
 
-ghost use Rattle.std.specs.Prelude.{◌≡◌, ◌⊎◌, ◌*◌, ◌^◌, ◌<◌, ◌↔◌, length, true, Ok, Err, IfSome, IfOk, IfErr, MatchOption, IsErrOf, OnErr, OnOk};
+ghost use Rattle.std.specs.Prelude.{◌≡◌, ◌⊎◌, ◌*◌, ◌^◌, ◌<◌, ◌↔◌, length, true, Ok, Err, IfSome, IfOk, IfErr, MatchOption, IsErrOf};
 ghost use Rattle.std.proofs.Common.{lit≤};
 ghost use Rattle.qcow2_base.specs.Format.{most_l1_entries};
 ghost use Rattle.qcow2_base.specs.declared.fault.Fault.TheVariants.{NoMemory, NotPlaced};
 ghost use Rattle.qcow2_metadata.specs.Entries.PendingClusters.{IsOneCluster};
 ghost use Rattle.qcow2_metadata.specs.Entries.L1Entry.{l1_entry_for};
-ghost use Rattle.qcow2_metadata.specs.Header.Pointers.{ArePendingFor, pointer_fault, with_l1_table};
 ghost use Rattle.qcow2_metadata.specs.Table.{IsReferable, edited, new_table};
 ghost use Rattle.qcow2_metadata.specs.Table.Growth.{grown_count, grown_numbers};
 
@@ -92,44 +91,6 @@ impl EntryTable<L1Entry> {
         };
         let entry = L1Entry::for_l2_table(cluster, self.cluster_bits());
         self.replace_entry(index, entry);
-        if let Some(pending) = new_allocation {
-            pending.make_persistent();
-        }
-        Ok(())
-    }
-}
-
-impl Header {
-    /// Refers to an L1 table from now on: takes over its offset and its number of entries, and spends the
-    /// pending value for its clusters, if there is one. The image isn't changed: `write_l1_table_pointer`
-    /// does that.
-    ///
-    /// A table with no cluster is refused by fault 23, else one of 2^32 entries or more by 29: the pending
-    /// value comes back, and nothing has changed.
-    #[tactic(auto, using(crate::proofs::PointerLemmas::table_offset_aligned))]
-    pub fn set_l1_table(
-        &mut self,
-        l1_table: &L1Table,
-        new_allocation: Option<PendingClusters>,
-    ) -> Result<(), Refused>
-        requires cluster_bits { l1_table.now.geometry.cluster_bits ≡ self.old.v2.cluster_bits }
-        requires pending { IfSome l1_table.now.cluster (λ cluster.
-            IfSome new_allocation (ArePendingFor l1_table.now cluster)) }
-        ensures answer { MatchOption (pointer_fault l1_table.now (length l1_table.now.numbers))
-            (result ≡ Ok tt)
-            (λ fault. result ≡ Err (record { fault = fault; pending = new_allocation })) }
-        ensures set { OnOk result (IfSome l1_table.now.cluster (λ cluster.
-            self.new ≡ with_l1_table self.old (cluster.0 * 2 ^ self.old.v2.cluster_bits)
-            (length l1_table.now.numbers))) }
-        ensures unchanged { OnErr result (self.new ≡ self.old) }
-    {
-        let Some(offset) = l1_table.get_offset() else {
-            return refuse(Fault::NotPlaced, new_allocation);
-        };
-        let Ok(entries) = u32::try_from(l1_table.entries()) else {
-            return refuse(Fault::TooMany, new_allocation);
-        };
-        self.set_l1_table_place(offset, entries);
         if let Some(pending) = new_allocation {
             pending.make_persistent();
         }

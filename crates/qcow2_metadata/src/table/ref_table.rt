@@ -1,9 +1,8 @@
 //! Refcount tables: where the refcount blocks lie.
 
-ghost use Rattle.std.specs.Prelude.{◌≡◌, ◌*◌, ◌^◌, true, IfSome, MatchOption, OnErr, OnOk, Err, Ok};
+ghost use Rattle.std.specs.Prelude.{◌≡◌, true, IfSome, MatchOption, Err, Ok};
 ghost use Rattle.std.proofs.Common.{lit≤};
 ghost use Rattle.qcow2_base.specs.Format.{most_reftable_entries};
-ghost use Rattle.qcow2_metadata.specs.Header.Pointers.{table_clusters, pointer_fault, with_reftable};
 
 use super::growth::entries_with;
 use super::{EntryTable, Table, TableKind, Turns, least_spare};
@@ -99,33 +98,6 @@ impl EntryTable<RefTableEntry> {
         if let Some(pending) = new_allocation {
             pending.make_persistent();
         }
-        Ok(())
-    }
-}
-
-impl Header {
-    /// Refers to a refcount table from now on: takes over its offset and its number of clusters. The image
-    /// isn't changed: `write_reftable_pointer` does that.
-    ///
-    /// A table with no cluster is refused by fault 23, else one of 2^32 clusters or more by 29: nothing has
-    /// changed then.
-    #[tactic(auto, using(crate::proofs::PointerLemmas::table_offset_aligned))]
-    pub fn set_reftable(&mut self, reftable: &RefTable) -> Result<(), Fault>
-        requires cluster_bits { reftable.now.geometry.cluster_bits ≡ self.old.v2.cluster_bits }
-        ensures answer { MatchOption (pointer_fault reftable.now (table_clusters reftable.now))
-            (result ≡ Ok tt) (λ fault. result ≡ Err fault) }
-        ensures set { OnOk result (IfSome reftable.now.cluster (λ cluster.
-            self.new ≡ with_reftable self.old (cluster.0 * 2 ^ self.old.v2.cluster_bits)
-            (table_clusters reftable.now))) }
-        ensures unchanged { OnErr result (self.new ≡ self.old) }
-    {
-        let Some(offset) = reftable.get_offset() else {
-            return Err(Fault::NotPlaced);
-        };
-        let Ok(clusters) = u32::try_from(reftable.cluster_count().0) else {
-            return Err(Fault::TooMany);
-        };
-        self.set_reftable_place(offset, clusters);
         Ok(())
     }
 }
