@@ -6,7 +6,7 @@ use borrow.Rule.Slice.PartMut.{put_mid}
 use Rattle.byteorder.specs.Endian.{big_from, little_from, big_bytes, little_bytes}
 use Rattle.byteorder.specs.Numbers.{big_number-reads_back, little_number-reads_back}
 use Rattle.qcow2_base.specs.Storage.{Image, image_of, be, be_of_same}
-use Rattle.qcow2_base.specs.OnDiskStruct.{le, Order, Big, Little, number_in, LayoutField, HoldsLayout, IsGap, layout_end, moved, Stores}
+use Rattle.qcow2_base.specs.OnDiskStruct.{le, Order, Big, Little, number_in, LayoutField, HoldsLayout, IsGap, layout_end, fields_moved_by, Stores}
 
 -- a list's numbers by byteorder's words
 pub be_of_list : (i n : ℕ) (xs : List ℕ) → be (image_of xs) i n ≡ big_from i n xs
@@ -53,7 +53,7 @@ number_of_same Little = le_of_same
 -- what an image has, another one has further on, where it has the same bytes there
 pub HoldsLayout-moved : (f g : Image) (by size : ℕ) (fields : List LayoutField)
     → ((k : ℕ) → k < size → f k ≡ g (by + k)) → layout_end fields ≤ size
-    → HoldsLayout f fields → HoldsLayout g (moved by fields)
+    → HoldsLayout f fields → HoldsLayout g (fields_moved_by by fields)
 HoldsLayout-moved f g by size [] same within held = tt
 HoldsLayout-moved f g by size (x ∷ fields) same within held =
     let bytes : SameBytes f x.place g (by + x.place) x.size =
@@ -64,13 +64,13 @@ HoldsLayout-moved f g by size (x ∷ fields) same within held =
 -- what a part of a list has
 pub HoldsLayout-between : (xs : List ℕ) (place size : ℕ) (fields : List LayoutField) → layout_end fields ≤ size
     → HoldsLayout (image_of (slice_range xs place (place + size))) fields
-    → HoldsLayout (image_of xs) (moved place fields)
+    → HoldsLayout (image_of xs) (fields_moved_by place fields)
 HoldsLayout-between xs place size fields within held =
     HoldsLayout-moved (image_of (slice_range xs place (place + size))) (image_of xs) place size fields
     (λ k h. get_or-between xs place (place + size) k 0 (omega arith)) within held
 
 -- a gap further on was a gap
-IsGap-moved : (by k : ℕ) (fields : List LayoutField) → IsGap (moved by fields) (by + k) → IsGap fields k
+IsGap-moved : (by k : ℕ) (fields : List LayoutField) → IsGap (fields_moved_by by fields) (by + k) → IsGap fields k
 IsGap-moved by k [] gap = tt
 IsGap-moved by k (x ∷ fields) gap =
     let rest = IsGap-moved by k fields gap.1 in
@@ -83,7 +83,7 @@ IsGap-moved by k (x ∷ fields) gap =
 pub Stores-put_mid : (xs ys : List ℕ) (place size : ℕ) (fields : List LayoutField) → layout_end fields ≤ size
     → place + size ≤ length xs → length ys ≡ size
     → Stores fields (image_of (slice_range xs place (place + size))) (image_of ys)
-    → Stores (moved place fields) (image_of xs) (image_of (put_mid place (place + size - place) xs ys))
+    → Stores (fields_moved_by place fields) (image_of xs) (image_of (put_mid place (place + size - place) xs ys))
 Stores-put_mid xs ys place size fields within fits same stored =
     let k = place + size - place in
     let part = slice_range xs place (place + size) in

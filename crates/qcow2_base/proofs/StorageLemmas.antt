@@ -15,7 +15,7 @@ padded_read [] n o = zeros_read n o
 padded_read (b ∷ bytes) n zero = refl
 padded_read (b ∷ bytes) n (suc o) = padded_read bytes n o
 
--- zeros at the end are what stands there already
+-- zeros at the end are what is there already
 pub image_of-padded : (bytes : List ℕ) (n : ℕ) → image_of (bytes ++ replicate n 0) ≡ image_of bytes
 image_of-padded bytes n = fun_ext (padded_read bytes n)
 

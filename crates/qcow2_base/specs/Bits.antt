@@ -1,3 +1,4 @@
+-- Which number do some of a number's bits make?
 use Rattle.std.specs.Prelude.{ℕ, ◌/◌, ◌%◌, ◌^◌}
 
 -- the n bits of v from bit a on, as a number

@@ -1,3 +1,4 @@
+-- Which number, kind and words has each fault?
 use Rattle.std.specs.Prelude.{ℕ, List, codes}
 use Rattle.qcow2_base.specs.declared.fault.Fault.{Fault}
 use Rattle.qcow2_base.specs.declared.fault.Fault.TheVariants.{NotQcow2, Version, ClusterSize, HeaderShort, HeaderBig, L1Unaligned, ReftableUnaligned, RefcountWidth, BackingNameLong, BackingNamePlace, BackingNameText, ExtensionsExceed, ExtensionText, FeatureNameCut, FormatConflict, DataFileConflict, Incompatible, EntryReserved, EntryUnaligned, TableTooBig, TablePlace, NoOffset, NotPlaced, HeaderTooLong, NameTooLong, FieldChanged, VersionNeeded, CannotGrow, TooMany, CounterRange, WrongLength, BadEdit, BadStep, Storage, NoMemory, ExternalData}

@@ -1,3 +1,4 @@
+-- Which limits does the format set, and how far does a table in memory go?
 use Rattle.std.specs.Prelude.{ℕ, ◌-◌, ◌^◌}
 
 -- where an image ends at most, in bytes: offsets in tables have 56 bits

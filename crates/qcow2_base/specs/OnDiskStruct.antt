@@ -1,3 +1,4 @@
+-- Where does each field of a structure on the disk lie, and in which byte order?
 use Rattle.std.specs.Prelude.{◌≡◌, ℕ, zero, suc, ◌+◌, ◌*◌, ◌<◌, ◌≤◌, ◌⊎◌, Bool, List, [], ◌∷◌, ◌==◌, nat_le, if◌then◌else◌, max}
 use Rattle.qcow2_base.specs.Storage.{Image, be}
 use Rattle.qcow2_base.specs.declared.on_disk_struct.v2_header.V2Header.{V2Header}
@@ -26,7 +27,7 @@ pub record LayoutField : Type 0 where
   pub order : Order
   pub value : ℕ
 
--- a field of so many bytes in that order
+-- a field of that size in that order
 abbrev pub field_in : Order → ℕ → ℕ → ℕ → LayoutField
 field_in order place size value = record { place = place; size = size; order = order; value = value }
 
@@ -54,10 +55,10 @@ pub record Stores (fields : List LayoutField) (old new : Image) : Type 0 where
   pub placed : HoldsLayout new fields
   pub gaps : (offset : ℕ) → IsGap fields offset → new offset ≡ old offset
 
--- the same fields, so many bytes further on
-abbrev pub moved : ℕ → List LayoutField → List LayoutField
-moved by [] = []
-moved by (f ∷ fields) = record f { place = by + f.place } ∷ moved by fields
+-- the same fields, that many bytes further on
+abbrev pub fields_moved_by : ℕ → List LayoutField → List LayoutField
+fields_moved_by by [] = []
+fields_moved_by by (f ∷ fields) = record f { place = by + f.place } ∷ fields_moved_by by fields
 
 -- the end of the field that ends last
 abbrev pub layout_end : List LayoutField → ℕ
@@ -97,7 +98,7 @@ v3_header_base h =
     ∷ big 28 4 h.header_length
     ∷ []
 
--- what stands before the data of a header extension
+-- what comes before the data of a header extension
 abbrev pub header_extension_header : HeaderExtensionHeader → List LayoutField
 header_extension_header h =
     big 0 4 h.extension_type

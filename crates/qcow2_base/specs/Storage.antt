@@ -1,3 +1,4 @@
+-- What is known of a storage's bytes, and what do reads and writes of it change?
 pub mod File
 pub mod Growth
 pub mod Memory
@@ -24,12 +25,12 @@ image_of bytes offset = slice_index bytes offset
 pub record Holds (image : Image) (offset : ℕ) (bytes : List ℕ) : Type 0 where
   pub each : (i : ℕ) → i < length bytes → slice_index bytes i ≡ image (offset + i)
 
--- the two images agree before the range of so many bytes and after it
+-- the two images agree before the range of that many bytes and after it
 pub record SameOutside (offset len : ℕ) (old new : Image) : Type 0 where
   pub before : (o : ℕ) → o < offset → new o ≡ old o
   pub after : (o : ℕ) → offset + len ≤ o → new o ≡ old o
 
--- what a storage says: whether it tells its bytes, these bytes, how many calls have failed modulo 2^64,
+-- what is known of a storage: whether its bytes are known, these bytes, how many calls have failed modulo 2^64,
 -- and its alignments
 pub record StorageState : Type 0 where
   pub tells : Bool
@@ -38,11 +39,11 @@ pub record StorageState : Type 0 where
   pub mem_align : ℕ
   pub req_align : ℕ
 
--- where a storage tells its bytes, so much holds of them
+-- where a storage's bytes are known, this fact holds of them
 abbrev pub OnImage : StorageState → (Image → Type 0) → Type 0
 OnImage state Fact = IsTrue state.tells → Fact state.byte_at
 
--- where a storage tells its bytes, so much holds of those before and those after
+-- where a storage's bytes are known, this fact holds of those before and those after
 abbrev pub OnImages : StorageState → StorageState → (Image → Image → Type 0) → Type 0
 OnImages old new Fact = IsTrue old.tells → Fact old.byte_at new.byte_at
 
@@ -51,7 +52,7 @@ abbrev pub CountsFailure : {T E : Type 0} → Result T E → StorageState → St
 CountsFailure answer old new =
     MatchResult answer (λ _. new.failures ≡ old.failures) (λ _. new.failures ≡ (old.failures + 1) % 2 ^ 64)
 
--- the storage tells its bytes, or doesn't, and is aligned as before
+-- the storage's bytes are known exactly where they were before, and it is aligned as before
 pub record SameDevice (old new : StorageState) : Type 0 where
   pub tells : new.tells ≡ old.tells
   pub mem_align : new.mem_align ≡ old.mem_align
@@ -71,14 +72,14 @@ pub record WritesBytes {T E : Type 0} (answer : Result T E) (offset : ℕ) (byte
   pub failures : CountsFailure answer old new
   pub device : SameDevice old new
 
--- calls that ended in this answer and only read: the storage fault is answered exactly where one of
+-- calls that ended in this answer and only read: the storage fault is returned exactly where one of
 -- them failed, and nothing but the count of failures may differ
 pub record OnlyReads {T : Type 0} (answer : Result T Fault) (old new : StorageState) : Type 0 where
   pub told : IsErrOf answer StorageFailed ↔ (new.failures ≢ old.failures)
   pub bytes : new.byte_at ≡ old.byte_at
   pub device : SameDevice old new
 
--- calls that only read: where one failed, so much holds, and nothing but the count of failures may differ
+-- calls that only read: where one failed, this fact holds, and nothing but the count of failures may differ
 pub record ReadsFor (told : Type 0) (old new : StorageState) : Type 0 where
   pub failed : new.failures ≢ old.failures → told
   pub bytes : new.byte_at ≡ old.byte_at
@@ -100,7 +101,7 @@ Ends image = (end : ℕ) × ((o : ℕ) → end ≤ o → image o ≡ 0)
 pub image_of_ends : (bytes : List ℕ) → Ends (image_of bytes)
 image_of_ends bytes = (length bytes, λ o past. get_or_past bytes o 0 past)
 
--- a file whose type tells its bytes has a known position, and reads give the bytes from there on
+-- a file of a type whose bytes are known has a known position, and reads give the bytes from there on
 abbrev pub TellsReads : {F : Type 0} → (F → Option (List ℕ)) → (F → Option ℕ) → (F → Option (List ℕ)) → Type 0
 TellsReads {F} bytes position remaining =
     (file : F) (xs : List ℕ) → bytes file ≡ Some xs →
@@ -150,7 +151,7 @@ be_fits image o (suc n) small =
     let rest = be_fits image (o + 1) n small in
     rw pow-suc (mul-add-lt (image o) (256 ^ n) (be image (o + 1) n) 256 (small o) rest)
 
--- a number tells its bytes: images that have the same number have the same bytes there
+-- a number determines its bytes: images that have the same number have the same bytes there
 pub be_tells : (f g : Image) (n o p : ℕ) → IsBytes f → IsBytes g → be f o n ≡ be g p n → (k : ℕ) → k < n → f (o + k) ≡ g (p + k)
 unfolding be
 be_tells f g zero o p small small' same k below = absurd (omega arith)

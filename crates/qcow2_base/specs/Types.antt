@@ -1,3 +1,4 @@
+-- Which cluster sizes does the format have, and how many counters can a refcount block have?
 use Rattle.std.specs.Prelude.{ℕ, ◌≤◌}
 
 -- the format's range of cluster_bits

@@ -56,7 +56,7 @@ impl fmt::Display for Field {
     }
 }
 
-/// Why a call refused. Each fault stands for one rule; the message says what the rule expects.
+/// Why a call refused. Each fault belongs to one rule; the message says what the rule expects.
 #[derive(Clone, Copy, Debug, PartialEq, Eq, Error)]
 pub enum Fault {
     #[error("not a qcow2 image: the magic must be 0x514649fb")]

@@ -2,7 +2,7 @@
 
 ghost use Rattle.std.specs.Prelude.{◌≡◌, ℕ, ◌+◌, ◌≤◌, Bool, List, length, is_ok, IfOk, OnOk, OnErr, IsOkUnless};
 ghost use Rattle.qcow2_base.specs.Storage.{Image, image_of};
-ghost use Rattle.qcow2_base.specs.OnDiskStruct.{Order, Big, Little, LayoutField, HoldsLayout, Stores, layout_end, moved, is_right_length};
+ghost use Rattle.qcow2_base.specs.OnDiskStruct.{Order, Big, Little, LayoutField, HoldsLayout, Stores, layout_end, fields_moved_by, is_right_length};
 
 mod header_extension_header;
 mod integers;
@@ -31,7 +31,7 @@ pub trait OnDiskStruct: Sized {
     /// The fields, where this order is asked for.
     ghost layout: { Order → Self → List LayoutField };
 
-    /// The value that stands at the start of the bytes, little-endian where it has no order of its
+    /// The value at the start of the bytes, little-endian where it has no order of its
     /// own.
     fn load_from_le(bytes: &[u8]) -> Result<Self, Fault>
         ensures ok { is_ok result ≡ is_right_length exact ON_DISK_SIZE (length bytes.now) }
@@ -39,7 +39,7 @@ pub trait OnDiskStruct: Sized {
         ensures loaded { IfOk result (λ value.
             HoldsLayout (image_of bytes.now) (layout Little value)) };
 
-    /// The value that stands at the start of the bytes, big-endian where it has no order of its
+    /// The value at the start of the bytes, big-endian where it has no order of its
     /// own.
     fn load_from_be(bytes: &[u8]) -> Result<Self, Fault>
         ensures ok { is_ok result ≡ is_right_length exact ON_DISK_SIZE (length bytes.now) }
@@ -65,7 +65,7 @@ pub trait OnDiskStruct: Sized {
             (Stores (layout Big self.now) (image_of bytes.old) (image_of bytes.new)) }
         ensures unchanged { OnErr result (bytes.new ≡ bytes.old) };
 
-    /// The value that stands at the start of the bytes, in its own order, or else in that of the
+    /// The value at the start of the bytes, in its own order, or else in that of the
     /// machine, little-endian.
     #[inline]
     final fn load_from(bytes: &[u8]) -> Result<Self, Fault>
@@ -94,7 +94,7 @@ pub trait OnDiskStruct: Sized {
     ghost size_is_end: { (order : Order) (value : Self) →
         layout_end (layout order value) ≡ ON_DISK_SIZE };
 
-    /// The bytes tell the value: what is loaded where a value was stored is that value.
+    /// The bytes determine the value: what is loaded where a value was stored is that value.
     ghost loads_back: { (order : Order) (image : Image) (a b : Self) →
         HoldsLayout image (layout order a) → HoldsLayout image (layout order b) → a ≡ b };
 }
@@ -114,20 +114,20 @@ pub trait OnDiskSize: OnDiskStruct {
 
 impl<T: OnDiskStruct> OnDiskSize for T {}
 
-/// The value that stands at the place, big-endian where it has no order of its own.
+/// The value at the place, big-endian where it has no order of its own.
 #[inline]
 pub fn read_be<T: OnDiskStruct>(bytes: &[u8], place: usize) -> T
     requires { place + T.ON_DISK_SIZE ≤ length bytes.now }
-    ensures { HoldsLayout (image_of bytes.now) (moved place (T.layout Big result)) }
+    ensures { HoldsLayout (image_of bytes.now) (fields_moved_by place (T.layout Big result)) }
 {
     T::load_from_be(&bytes[place..place + T::ON_DISK_SIZE]).unwrap()
 }
 
-/// The value that stands at the place, little-endian where it has no order of its own.
+/// The value at the place, little-endian where it has no order of its own.
 #[inline]
 pub fn read_le<T: OnDiskStruct>(bytes: &[u8], place: usize) -> T
     requires { place + T.ON_DISK_SIZE ≤ length bytes.now }
-    ensures { HoldsLayout (image_of bytes.now) (moved place (T.layout Little result)) }
+    ensures { HoldsLayout (image_of bytes.now) (fields_moved_by place (T.layout Little result)) }
 {
     T::load_from_le(&bytes[place..place + T::ON_DISK_SIZE]).unwrap()
 }
@@ -136,7 +136,7 @@ pub fn read_le<T: OnDiskStruct>(bytes: &[u8], place: usize) -> T
 #[inline]
 pub fn write_be<T: OnDiskStruct>(bytes: &mut [u8], place: usize, value: &T)
     requires { place + T.ON_DISK_SIZE ≤ length bytes.old }
-    ensures { Stores (moved place (T.layout Big value.now))
+    ensures { Stores (fields_moved_by place (T.layout Big value.now))
         (image_of bytes.old) (image_of bytes.new) }
 {
     value
@@ -148,7 +148,7 @@ pub fn write_be<T: OnDiskStruct>(bytes: &mut [u8], place: usize, value: &T)
 #[inline]
 pub fn write_le<T: OnDiskStruct>(bytes: &mut [u8], place: usize, value: &T)
     requires { place + T.ON_DISK_SIZE ≤ length bytes.old }
-    ensures { Stores (moved place (T.layout Little value.now))
+    ensures { Stores (fields_moved_by place (T.layout Little value.now))
         (image_of bytes.old) (image_of bytes.new) }
 {
     value

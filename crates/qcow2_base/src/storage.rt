@@ -51,7 +51,7 @@ pub trait Storage {
         requires { offset + length buf.old ≤ max_file_length }
         ensures { ReadsBytes result offset buf.new (state self.old) (state self.new) };
 
-    /// Replaces the bytes from `offset` on by the buffer's. After a failure any bytes may stand in
+    /// Replaces the bytes from `offset` on by the buffer's. After a failure any bytes may be in
     /// that range; no other byte changes.
     fn write(&mut self, buf: &[u8], offset: u64) -> Result<(), StorageFault>
         requires { offset + length buf.now ≤ max_file_length }

@@ -36,7 +36,7 @@ pub struct HostCluster(pub u64);
 pub struct ClusterCount(pub u64);
 
 impl ClusterCount {
-    /// How many clusters so many bytes take, the last of them perhaps in part.
+    /// How many clusters `size` bytes take, the last of them perhaps in part.
     #[inline]
     pub fn from_byte_size(size: u64, cluster_bits: u32) -> ClusterCount
         requires { IsClusterBits cluster_bits }
@@ -45,7 +45,7 @@ impl ClusterCount {
         ClusterCount(size.div_ceil(1 << cluster_bits))
     }
 
-    /// How many clusters so many bytes fill, if they fill each of them.
+    /// How many clusters `size` bytes fill, if they fill each of them.
     #[inline]
     pub fn checked_from_byte_size(size: u64, cluster_bits: u32) -> Option<ClusterCount>
         requires { IsClusterBits cluster_bits }
@@ -55,7 +55,7 @@ impl ClusterCount {
         (size % (1 << cluster_bits) == 0).then_some(ClusterCount(size >> cluster_bits))
     }
 
-    /// How many bytes so many clusters have.
+    /// How many bytes this number of clusters has.
     #[inline]
     pub fn byte_size(self, cluster_bits: u32) -> u64
         requires bits { IsClusterBits cluster_bits }

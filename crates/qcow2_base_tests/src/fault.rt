@@ -5,14 +5,14 @@ use qcow2_testing::{FAULTS, ToldFault, all_same, each, same, same_text};
 use std::alloc::{AllocError, AllocFailed, Global};
 use std::test::Fail;
 
-fn is_told(alloc: Global, (fault, number, kind, text): ToldFault) -> Result<(), Fail> {
+fn check_told(alloc: Global, (fault, number, kind, text): ToldFault) -> Result<(), Fail> {
     same((fault.number(), fault.kind()), (number, kind), fault)?;
     same_text(alloc, fault, text)
 }
 
 #[test]
 fn each_fault_has_its_number_its_kind_and_its_message(rt: HostRuntime) -> Result<(), Fail> {
-    each(rt.alloc(), FAULTS, is_told)
+    each(rt.alloc(), FAULTS, check_told)
 }
 
 const NAMES: &[(Field, &'static str)] = &[

@@ -8,7 +8,7 @@ use qcow2_base::{
     Fault, HeaderExtensionHeader, OnDiskSize, OnDiskStruct, V2Header, V3HeaderBase, read_be,
     read_le, write_be, write_le,
 };
-use qcow2_testing::{same, same_bytes};
+use qcow2_testing::{part_of, row_error, same, same_bytes};
 use std::fmt::Debug;
 use std::test::Fail;
 
@@ -256,7 +256,7 @@ const FILLED: [u8; 80] = [0xff; 80];
 
 /// That the call stores the value as these bytes into a buffer of bytes 0xff that is `len` long, leaves those
 /// that follow, and loads it from there, or that both are refused by this fault.
-fn leaves<T: OnDiskStruct + Copy + Debug + PartialEq>(
+fn check_left<T: OnDiskStruct + Copy + Debug + PartialEq>(
     call: Call,
     value: T,
     expected: &[u8],
@@ -265,7 +265,7 @@ fn leaves<T: OnDiskStruct + Copy + Debug + PartialEq>(
 ) -> Result<(), Fail> {
     let mut buffer = FILLED;
     let Some(bytes) = buffer.get_mut(..len) else {
-        return Err("a longer buffer".into());
+        return Err(row_error(len));
     };
     let wanted = match answer {
         Ok(()) => Ok(value),
@@ -275,23 +275,26 @@ fn leaves<T: OnDiskStruct + Copy + Debug + PartialEq>(
     let found = (stored, load(call, bytes));
     same(found, (answer, wanted), (call, value, len))?;
     let start = expected.len();
-    same_bytes(buffer.get(..start).unwrap_or(&[]), expected, (call, value))?;
-    let past = FILLED.get(start..).unwrap_or(&[]);
-    same_bytes(buffer.get(start..).unwrap_or(&[]), past, (call, value))
+    same_bytes(part_of(&buffer, 0, start)?, expected, (call, value))?;
+    let past = part_of(&FILLED, start, FILLED.len())?;
+    same_bytes(part_of(&buffer, start, FILLED.len())?, past, (call, value))
 }
 
 const REFUSED: Result<(), Fault> = Err(Fault::WrongLength);
 
 /// That each call refuses to store the value into a buffer that is `len` long, leaves it, and
 /// refuses to load from it.
-fn refuse<T: OnDiskStruct + Copy + Debug + PartialEq>(value: T, len: usize) -> Result<(), Fail> {
-    leaves(Call::LittleEndian, value, &[], len, REFUSED)?;
-    leaves(Call::BigEndian, value, &[], len, REFUSED)?;
-    leaves(Call::Native, value, &[], len, REFUSED)
+fn check_refusals<T: OnDiskStruct + Copy + Debug + PartialEq>(
+    value: T,
+    len: usize,
+) -> Result<(), Fail> {
+    check_left(Call::LittleEndian, value, &[], len, REFUSED)?;
+    check_left(Call::BigEndian, value, &[], len, REFUSED)?;
+    check_left(Call::Native, value, &[], len, REFUSED)
 }
 
-/// That the calls store the value as these bytes, need as many bytes, and leave so many that follow.
-fn each_call<T: OnDiskStruct + Copy + Debug + PartialEq>(
+/// That the calls store the value as these bytes, need as many bytes, and leave `spare` that follow.
+fn check_each_call<T: OnDiskStruct + Copy + Debug + PartialEq>(
     value: T,
     little: &[u8],
     big: &[u8],
@@ -300,32 +303,34 @@ fn each_call<T: OnDiskStruct + Copy + Debug + PartialEq>(
     let size = little.len();
     same((T::ON_DISK_SIZE, value.on_disk_size()), (size, size), value)?;
     let len = size.saturating_add(spare);
-    leaves(Call::LittleEndian, value, little, len, Ok(()))?;
-    leaves(Call::BigEndian, value, big, len, Ok(()))?;
-    leaves(Call::Native, value, little, len, Ok(()))?;
-    refuse(value, size.saturating_sub(1))?;
+    check_left(Call::LittleEndian, value, little, len, Ok(()))?;
+    check_left(Call::BigEndian, value, big, len, Ok(()))?;
+    check_left(Call::Native, value, little, len, Ok(()))?;
+    check_refusals(value, size.saturating_sub(1))?;
     let mut buffer = FILLED;
-    let bytes = buffer.get_mut(..size);
-    same(reload(&value, bytes.unwrap_or(&mut [])), Ok(value), value)
+    let Some(bytes) = buffer.get_mut(..size) else {
+        return Err(row_error(value));
+    };
+    same(reload(&value, bytes), Ok(value), value)
 }
 
 #[test]
 fn integers_stand_in_the_order_asked_for_and_need_just_their_bytes() -> Result<(), Fail> {
-    each_call(0x0102u16, &[2, 1], &[1, 2], 0)?;
-    each_call(0x0102_0304u32, &[4, 3, 2, 1], &[1, 2, 3, 4], 0)?;
+    check_each_call(0x0102u16, &[2, 1], &[1, 2], 0)?;
+    check_each_call(0x0102_0304u32, &[4, 3, 2, 1], &[1, 2, 3, 4], 0)?;
     let little = [8, 7, 6, 5, 4, 3, 2, 1];
     let big = [1, 2, 3, 4, 5, 6, 7, 8];
-    each_call(0x0102_0304_0506_0708u64, &little, &big, 0)?;
-    refuse(0x0102u16, 3)?;
-    refuse(42u32, 3)?;
-    refuse(42u32, 5)?;
-    refuse(0x0102_0304_0506_0708u64, 9)
+    check_each_call(0x0102_0304_0506_0708u64, &little, &big, 0)?;
+    check_refusals(0x0102u16, 3)?;
+    check_refusals(42u32, 3)?;
+    check_refusals(42u32, 5)?;
+    check_refusals(0x0102_0304_0506_0708u64, 9)
 }
 
-// That the calls store each structure as the bytes behind its arrow, and leave three that follow.
+// That the calls store each structure as the bytes after its arrow, and leave three that follow.
 macro_rules! structures {
     ($($value:expr => $bytes:expr),* $(,)?) => {{
-        $(each_call($value, &$bytes, &$bytes, 3)?;)*
+        $(check_each_call($value, &$bytes, &$bytes, 3)?;)*
         Ok(())
     }};
 }

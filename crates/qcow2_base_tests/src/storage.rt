@@ -16,15 +16,19 @@ fn memory(alloc: Global, bytes: &[u8]) -> Result<MemStorage, Fail> {
     Ok(MemStorage::new(Vec::from_slice(alloc, bytes)?))
 }
 
-// That so many calls have failed, which no call tells, but `Debug` writes.
-pub(crate) fn has_failed<S: Debug>(alloc: Global, storage: &S, failures: u32) -> Result<(), Fail> {
+// That `failures` calls have failed, which no call reports, but `Debug` writes.
+pub(crate) fn check_failures<S: Debug>(
+    alloc: Global,
+    storage: &S,
+    failures: u32,
+) -> Result<(), Fail> {
     let shown = printed(alloc, storage)?;
     let count = format!(in alloc; "failures: {failures} ")?;
     let found = shown.as_str().contains(count.as_str());
     holds(found, (failures, shown))
 }
 
-// What a read answers.
+// What a read returns.
 fn read<S: Storage>(storage: &mut S, bytes: &mut [u8], offset: u64) -> Result<(), StorageFault> {
     if offset > LIMIT || bytes.len() as u64 > LIMIT - offset {
         return Err(StorageFault);
@@ -32,7 +36,7 @@ fn read<S: Storage>(storage: &mut S, bytes: &mut [u8], offset: u64) -> Result<()
     storage.read(bytes, offset)
 }
 
-// What a write answers.
+// What a write returns.
 pub(crate) fn write<S: Storage>(
     storage: &mut S,
     bytes: &[u8],
@@ -45,7 +49,7 @@ pub(crate) fn write<S: Storage>(
 }
 
 // That a read gives these bytes, and that one into an empty buffer does not fail.
-pub(crate) fn reads<S: Storage>(
+pub(crate) fn check_bytes<S: Storage>(
     alloc: Global,
     storage: &mut S,
     offset: u64,
@@ -57,18 +61,18 @@ pub(crate) fn reads<S: Storage>(
     same_bytes(&found, bytes, offset)
 }
 
-// That a read of four bytes fails, the so manyth call that does.
-pub(crate) fn read_fails<S: Storage + Debug>(
+// That a read of four bytes fails and is call number `failures` that does.
+pub(crate) fn check_failed_read<S: Storage + Debug>(
     alloc: Global,
     storage: &mut S,
     failures: u32,
 ) -> Result<(), Fail> {
     same(read(storage, &mut [0; 4], 1), Err(StorageFault), failures)?;
-    has_failed(alloc, storage, failures)
+    check_failures(alloc, storage, failures)
 }
 
-// That a write of these bytes fails, the so manyth call that does.
-pub(crate) fn write_fails<S: Storage + Debug>(
+// That a write of these bytes fails and is call number `failures` that does.
+pub(crate) fn check_failed_write<S: Storage + Debug>(
     alloc: Global,
     storage: &mut S,
     bytes: &[u8],
@@ -76,7 +80,7 @@ pub(crate) fn write_fails<S: Storage + Debug>(
     failures: u32,
 ) -> Result<(), Fail> {
     same(write(storage, bytes, offset), Err(StorageFault), failures)?;
-    has_failed(alloc, storage, failures)
+    check_failures(alloc, storage, failures)
 }
 
 // An offset, and the four bytes that are read there.
@@ -86,18 +90,18 @@ const READS: &[(u64, [u8; 4])] = rows! {
 };
 
 // That the bytes 1 to 5 are read by offset, with zeros past the end, and that no alignment is asked for.
-pub(crate) fn is_read<S: Storage + Debug>(alloc: Global, storage: &mut S) -> Result<(), Fail> {
+pub(crate) fn check_read<S: Storage + Debug>(alloc: Global, storage: &mut S) -> Result<(), Fail> {
     same((storage.mem_align(), storage.req_align()), (1, 1), "new")?;
     for (offset, bytes) in READS {
-        reads(alloc, storage, *offset, bytes)?;
+        check_bytes(alloc, storage, *offset, bytes)?;
     }
-    has_failed(alloc, storage, 0)
+    check_failures(alloc, storage, 0)
 }
 
 #[test]
 fn a_read_gives_the_bytes_and_zeros_past_the_end(rt: HostRuntime) -> Result<(), Fail> {
     let mut storage = memory(rt.alloc(), &[1, 2, 3, 4, 5])?;
-    is_read(rt.alloc(), &mut storage)?;
+    check_read(rt.alloc(), &mut storage)?;
     same_bytes(storage.bytes(), &[1, 2, 3, 4, 5], "after all reads")
 }
 
@@ -118,7 +122,7 @@ fn is_written(alloc: Global, row: Written) -> Result<(), Fail> {
     let mut storage = memory(alloc, &[1, 2, 3])?;
     write(&mut storage, &[7, 8], offset)?;
     same_bytes(storage.bytes(), bytes, row)?;
-    reads(alloc, &mut storage, offset, &[7, 8])
+    check_bytes(alloc, &mut storage, offset, &[7, 8])
 }
 
 #[test]
@@ -128,7 +132,7 @@ fn a_write_replaces_its_range_and_lengthens_with_zeros(rt: HostRuntime) -> Resul
 
 // No memory has room for an image that ends at 2^56.
 fn is_refused(alloc: Global, storage: &mut MemStorage, failures: u32) -> Result<(), Fail> {
-    write_fails(alloc, storage, &[7, 8], LIMIT - 2, failures)?;
+    check_failed_write(alloc, storage, &[7, 8], LIMIT - 2, failures)?;
     same_bytes(storage.bytes(), &[1, 2, 3], failures)
 }
 
@@ -139,7 +143,7 @@ fn are_refused(alloc: Global, storage: &mut MemStorage) -> Result<(), Fail> {
     let answers = (write(storage, &[], LIMIT), write(storage, &[7, 8], 1));
     same(answers, (Ok(()), Ok(())), "written")?;
     same_bytes(storage.bytes(), &[1, 7, 8], "written")?;
-    has_failed(alloc, storage, 3)
+    check_failures(alloc, storage, 3)
 }
 
 #[test]

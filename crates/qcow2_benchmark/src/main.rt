@@ -68,8 +68,8 @@ fn measure(
     Ok(())
 }
 
-// The least time of 8192 edits of an L2 table of 262144 entries, of a copy of the table, and of the same
-// edits together with their counters, in clusters of 2 MiB.
+// The least time of 8192 edits of an L2 table of 262144 entries, and of a copy of the table. Also that of the
+// same edits together with their counters. Clusters have 2 MiB.
 fn measure_edits(rt: &HostRuntime, rounds: u32) -> Result<()> {
     let header = header_with(rt.alloc(), 21)?;
     let mut image = image_with(rt.alloc(), &header, Entries::Data)?;
@@ -123,7 +123,7 @@ fn image_with(alloc: Global, header: &Header, entries: Entries) -> Result<MemSto
     Ok(MemStorage::new(bytes))
 }
 
-// The number of an entry: lawful under each cluster size.
+// The number of an entry: valid under each cluster size.
 fn number(index: u64, entries: Entries) -> u64 {
     let data = (1 << 63) + (index % (1 << 20) << 21);
     match entries {
@@ -137,7 +137,7 @@ fn number(index: u64, entries: Entries) -> u64 {
     }
 }
 
-// The calls that are measured stand in functions of their own, so that no proof of a measurement has to read
+// The calls that are measured are in functions of their own, so that no proof of a measurement has to read
 // what they ensure.
 
 fn header_with(alloc: Global, cluster_bits: u32) -> Result<Header, Fault> {

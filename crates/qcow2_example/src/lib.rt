@@ -1,33 +1,48 @@
-//! What a program does with the libraries: the example of the repository's front page.
+//! A first program with the libraries: the example of the repository's front page.
 #![tactic(auto)]
 
-use qcow2_base::{Fault, GuestCluster, HostCluster, MemStorage};
-use qcow2_metadata::{Header, L2Mapping, L2Table, RefBlock, Table};
-use qcow2_session::{Edit, Outcome, edit_settled};
-use std::alloc::Global;
+use qcow2_base::{Fault, FileStorage, GuestOffset};
+use qcow2_metadata::{Header, L1Table, L2Mapping, L2Table, RefBlock, RefTable, Table};
+use qcow2_session::{Edit, Outcome, edit_settled, lookup};
+use std::alloc::AllocGlobal;
+use std::rt::Files;
 
-/// What guest cluster 3 reads as, by the L2 table that begins with cluster 2 of the image.
-pub fn mapping_of_cluster_3(alloc: Global, bytes: Vec<u8>) -> Result<L2Mapping, Fault> {
-    let mut image = MemStorage::new(bytes);
-    let header = Header::new(alloc, 9, 4, None, None, None)?;
-    let entries = header.l2_entries();
-    let table = L2Table::load(alloc, &mut image, &header, HostCluster(2), entries)?;
-    table.get_mapping(GuestCluster(3))
-}
-
-/// Takes the mapping of guest cluster 3 away, and counts that in the first refcount block: the L2 table
-/// begins with cluster 2 of the image, the block with cluster 3. Where a counter of one of the mapping's
-/// clusters in that block is 0, nothing changes.
-pub fn discard_cluster_3(alloc: Global, image: &mut MemStorage) -> Result<Outcome, Fault> {
-    let header = Header::new(alloc, 9, 4, None, None, None)?;
-    let entries = header.l2_entries();
-    let mut table = L2Table::load(alloc, image, &header, HostCluster(2), entries)?;
-    let mut block = RefBlock::load(alloc, image, &header, HostCluster(3))?;
-    let edits = [Edit::Discard { index: 3 }];
-    let outcome = edit_settled(alloc, &mut table, &mut block, &header, 0, &edits)?;
-    // A discard takes references away: in this order a crash between leaves a cluster that is counted and
-    // not used, and no worse.
-    table.write(image)?;
-    block.write(image)?;
-    Ok(outcome)
+/// Takes the data of the cluster at a guest offset away, in an image file, and counts that. Returns
+/// nothing, and writes neither table nor block, where the offset isn't mapped to data.
+pub fn discard<R: Files + AllocGlobal>(
+    rt: &R,
+    path: &str,
+    offset: GuestOffset,
+) -> Result<Option<Outcome>, Fault> {
+    let alloc = rt.alloc();
+    let mut image = FileStorage::open(rt, path, true)?;
+    let header = Header::load(alloc, &mut image, true)?;
+    let bits = header.cluster_bits();
+    // What the offset reads as, and the L2 table that says so.
+    let cluster = header.l1_table_offset().cluster(bits);
+    let entries = header.l1_table_entries();
+    let l1_table = L1Table::load(alloc, &mut image, &header, cluster, entries)?;
+    let found = lookup(alloc, &mut image, &header, &l1_table, offset)?;
+    let L2Mapping::DataFile { host_cluster, .. } = found else {
+        return Ok(None);
+    };
+    let l2_offset = l1_table.get(offset.l1_index(bits)).l2_offset();
+    let cluster = l2_offset.ok_or(Fault::NotPlaced)?.cluster(bits);
+    let mut table = L2Table::load(alloc, &mut image, &header, cluster, header.l2_entries())?;
+    // The refcount block that counts the data's host cluster.
+    let cluster = header.reftable_offset().cluster(bits);
+    let entries = header.reftable_entries();
+    let reftable = RefTable::load(alloc, &mut image, &header, cluster, entries)?;
+    let rt_index = host_cluster.rt_index(header.rb_bits());
+    let block_offset = reftable.get(rt_index).refblock_offset();
+    let cluster = block_offset.ok_or(Fault::NotPlaced)?.cluster(bits);
+    let mut block = RefBlock::load(alloc, &mut image, &header, cluster)?;
+    // Both change in memory, or neither does.
+    let index = offset.l2_index(bits);
+    let edits = [Edit::Discard { index }];
+    let outcome = edit_settled(alloc, &mut table, &mut block, &header, rt_index, &edits)?;
+    // The table first: a crash between leaves a cluster that is counted and not used, and no worse.
+    table.write(&mut image)?;
+    block.write(&mut image)?;
+    Ok(Some(outcome))
 }

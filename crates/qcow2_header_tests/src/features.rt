@@ -37,7 +37,7 @@ const EXTENSIONS: Numbers<u32, HeaderExtensionType> = rows! {
 };
 
 // Fails unless each number stands for what it does, which has that number.
-fn are_numbers<N, T>(rows: Numbers<N, T>) -> Result<(), Fail>
+fn check_numbers<N, T>(rows: Numbers<N, T>) -> Result<(), Fail>
 where
     N: Copy + PartialEq + Debug,
     T: TryFrom<N, Error = UnknownValue> + Into<N> + Copy + PartialEq + Debug,
@@ -54,11 +54,11 @@ where
 
 #[test]
 fn a_number_stands_for_what_has_it(rt: HostRuntime) -> Result<(), Fail> {
-    are_numbers(INCOMPATIBLE)?;
-    are_numbers(COMPATIBLE)?;
-    are_numbers(AUTOCLEAR)?;
-    are_numbers(FIELDS)?;
-    are_numbers(EXTENSIONS)?;
+    check_numbers(INCOMPATIBLE)?;
+    check_numbers(COMPATIBLE)?;
+    check_numbers(AUTOCLEAR)?;
+    check_numbers(FIELDS)?;
+    check_numbers(EXTENSIONS)?;
     same_text(
         rt.alloc(),
         UnknownValue,

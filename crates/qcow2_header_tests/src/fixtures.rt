@@ -1,30 +1,45 @@
-//! Images that begin with a header, by the bytes that differ.
+//! Images that begin with a header, by the fields and the bytes that differ.
 
 use qcow2_base::{Fault, MemStorage};
-use qcow2_testing::{filled_image, put_bytes};
+use qcow2_testing::{filled_image, put_bytes, row_error, rows};
 use std::alloc::Global;
+use std::test::Fail;
 
-/// Bytes by their place in an image, as in `23=15, 104=format 03:raw, 200=ff*40`: a place, and then numbers
-/// of one to eight bytes in hexadecimal digits, each maybe so many times. A kind of extension, of less than
-/// 256 bytes, has a name. Behind a colon stands a text. All other bytes are zero, or as they were.
+/// What differs in an image, with a comma after each part but the last. `version=2` sets a field of the
+/// header to a number, whose digits after `0x` are hexadecimal. `104=format 03:raw` puts bytes at a place:
+/// numbers of one to eight bytes in hexadecimal digits, each maybe with how many times it stands, as
+/// `ff*40`; the name of a kind of extension before its length, which is below 256; and a text after a
+/// colon. All other bytes are zero, or as they were.
 pub(crate) type Changes = &'static str;
 
-// The least header: version 3, clusters of 512 bytes, refcounts of 16 bits, 104 bytes long.
-const LEAST: Changes = "0=514649fb00000003, 23=09, 99=04, 103=68";
+// The fields of the header: the name of each, its place, and how many bytes it has.
+const FIELDS: &[(&str, u64, usize)] = rows! {
+    ("magic", 0, 4), ("version", 4, 4), ("backing_file_offset", 8, 8), ("backing_file_size", 16, 4),
+    ("cluster_bits", 20, 4), ("size", 24, 8), ("crypt_method", 32, 4), ("l1_size", 36, 4),
+    ("l1_table_offset", 40, 8), ("refcount_table_offset", 48, 8), ("refcount_table_clusters", 56, 4),
+    ("nb_snapshots", 60, 4), ("snapshots_offset", 64, 8), ("incompatible_features", 72, 8),
+    ("compatible_features", 80, 8), ("autoclear_features", 88, 8), ("refcount_order", 96, 4),
+    ("header_length", 100, 4),
+};
+
+// The least header: refcounts have 16 bits.
+const LEAST: Changes =
+    "magic=0x514649fb, version=3, cluster_bits=9, refcount_order=4, header_length=104";
 
 /// What makes the least header one of version 2, with the backing file a.img.
-pub(crate) const OLDER: Changes = "7=02, 14=0200, 19=05, 23=10, 512=:a.img";
+pub(crate) const OLDER: Changes = "version=2, backing_file_offset=512, backing_file_size=5, \
+    cluster_bits=16, 512=:a.img";
 
 /// The same with other bytes where a header of version 3 goes on.
-pub(crate) const OLDER_FILLED: Changes = "7=02, 14=0200, 19=05, 23=10, 72=ff*32, \
-    104=format 03:raw, 512=:a.img";
+pub(crate) const OLDER_FILLED: Changes = "version=2, backing_file_offset=512, backing_file_size=5, \
+    cluster_bits=16, 72=ff*32, 104=format 03:raw, 512=:a.img";
 
 /// The least header with these changes, and then others.
 pub(crate) fn least_with(
     alloc: Global,
     changes: Changes,
     others: Changes,
-) -> Result<MemStorage, Fault> {
+) -> Result<MemStorage, Fail> {
     let mut image = MemStorage::new(Vec::new(alloc));
     change(alloc, &mut image, LEAST)?;
     change(alloc, &mut image, changes)?;
@@ -32,23 +47,62 @@ pub(crate) fn least_with(
     Ok(image)
 }
 
-// Puts bytes into the image, which grows where it is too short.
-fn change(alloc: Global, image: &mut MemStorage, changes: Changes) -> Result<(), Fault> {
+// Makes the changes of an image, which grows where it is too short.
+fn change(alloc: Global, image: &mut MemStorage, changes: Changes) -> Result<(), Fail> {
     for part in changes.split(", ") {
-        match part.split_once('=') {
-            Some((place, text)) => {
-                let place = place.parse::<u64>().unwrap_or(u64::MAX);
-                put_bytes(image, place, &bytes_of(alloc, text)?)?;
-            }
-            None if part.is_empty() => (),
-            None => return Err(Fault::WrongLength),
+        if !part.is_empty() {
+            change_part(alloc, image, part)?;
         }
     }
     Ok(())
 }
 
+fn change_part(alloc: Global, image: &mut MemStorage, part: &str) -> Result<(), Fail> {
+    let Some((name, text)) = part.split_once('=') else {
+        return Err(row_error(part));
+    };
+    if let Ok(place) = name.parse::<u64>() {
+        let bytes = bytes_of(alloc, text)?;
+        return Ok(put_bytes(image, place, &bytes)?);
+    }
+    let (Some((place, len)), Some(number)) = (field(name), number(text)) else {
+        return Err(row_error(part));
+    };
+    put_number(image, place, len, number)
+}
+
+// The place of a field, and how many bytes it has.
+fn field(name: &str) -> Option<(u64, usize)> {
+    for (known, place, len) in FIELDS {
+        if *known == name {
+            return Some((*place, *len));
+        }
+    }
+    None
+}
+
+fn number(text: &str) -> Option<u64> {
+    let number = match text.strip_prefix("0x") {
+        Some(digits) => u64::from_str_radix(digits, 16),
+        None => text.parse::<u64>(),
+    };
+    number.ok()
+}
+
+// Puts the last bytes of a number into the image, if the others are zero.
+fn put_number(image: &mut MemStorage, place: u64, len: usize, number: u64) -> Result<(), Fail> {
+    let bytes = number.to_be_bytes();
+    let Some((zeros, bytes)) = bytes.split_at_checked(8usize.saturating_sub(len)) else {
+        return Err(row_error(place));
+    };
+    if zeros.iter().any(|byte| *byte != 0) {
+        return Err(row_error(place));
+    }
+    Ok(put_bytes(image, place, bytes)?)
+}
+
 // The bytes that a text stands for.
-fn bytes_of(alloc: Global, text: &str) -> Result<Vec<u8>, Fault> {
+fn bytes_of(alloc: Global, text: &str) -> Result<Vec<u8>, Fail> {
     let (words, name) = text.split_once(':').unwrap_or((text, ""));
     let mut bytes = Vec::new(alloc);
     for word in words.split_whitespace() {
@@ -58,17 +112,18 @@ fn bytes_of(alloc: Global, text: &str) -> Result<Vec<u8>, Fault> {
     Ok(bytes)
 }
 
-fn push_word(bytes: &mut Vec<u8>, word: &str) -> Result<(), Fault> {
+fn push_word(bytes: &mut Vec<u8>, word: &str) -> Result<(), Fail> {
     let (digits, times) = word.split_once('*').unwrap_or((digits_of(word), "1"));
     let (Ok(number), Ok(times)) = (u64::from_str_radix(digits, 16), times.parse::<usize>()) else {
-        return Err(Fault::WrongLength);
+        return Err(row_error(word));
     };
-    if digits.len() % 2 != 0 {
-        return Err(Fault::WrongLength);
-    }
-    let skipped = 8usize.saturating_sub(digits.len() / 2);
+    let number = number.to_be_bytes();
+    let skipped = 8usize.checked_sub(digits.len() / 2);
+    let (Some(skipped), 0) = (skipped, digits.len() % 2) else {
+        return Err(row_error(word));
+    };
     for _ in 0..times {
-        bytes.extend_from_slice(number.to_be_bytes().get(skipped..).unwrap_or(&[]))?;
+        bytes.extend_from_slice(&number[skipped..])?;
     }
     Ok(())
 }
@@ -83,7 +138,7 @@ fn digits_of(word: &str) -> &str {
     }
 }
 
-/// An image of so many bytes of 0xa5 that begins with the text, and is longer where that is.
+/// An image of this many bytes of 0xa5 that begins with the text, and is longer where that is.
 pub(crate) fn filled_with(alloc: Global, len: usize, text: &[u8]) -> Result<MemStorage, Fault> {
     let mut image = filled_image(alloc, len)?;
     put_bytes(&mut image, 0, text)?;

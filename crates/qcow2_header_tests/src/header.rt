@@ -1,7 +1,7 @@
-//! What headers tell of an image.
+//! What headers say of an image.
 
 use crate::fixtures::{Changes, OLDER};
-use crate::header_calls::{Names, called, load_with, names, new};
+use crate::header_calls::{NO_NAMES, Names, called, load_with, names_of, new};
 use crate::rich_header::RICH;
 use qcow2_base::{ClusterCount, Fault, HostOffset};
 use qcow2_metadata::FeatureType::{self, Autoclear, Compatible, Incompatible};
@@ -56,14 +56,14 @@ fn tables(header: &Header) -> Tables {
     )
 }
 
-fn has_sizes(alloc: Global, row: Sizes) -> Result<(), Fail> {
-    let header = new(alloc, row.0, row.1, (None, None, None))?;
+fn check_sizes(alloc: Global, row: Sizes) -> Result<(), Fail> {
+    let header = new(alloc, row.0, row.1, NO_NAMES)?;
     same((sizes(&header), tables(&header)), (row, NO_TABLES), "new")
 }
 
 #[test]
 fn a_new_header_tells_its_sizes_and_has_no_disk_and_no_tables(rt: HostRuntime) -> Result<(), Fail> {
-    each(rt.alloc(), SIZES, has_sizes)
+    each(rt.alloc(), SIZES, check_sizes)
 }
 
 #[test]
@@ -71,32 +71,34 @@ fn a_loaded_header_tells_its_names_and_its_numbers(rt: HostRuntime) -> Result<()
     let header = load_with(rt.alloc(), RICH, "")?;
     let found = (sizes(&header), tables(&header));
     same(found, ((9, 5, 512, 64, 128, 7), RICH_TABLES), "rich")?;
-    tells(rt.alloc(), &header, "ä.img qcow2 dät.raw external")
+    same(names_of(&header), RICH_NAMES, "rich")
 }
 
-// What a new header tells of its names.
-const NAMES: &[(Names<'static>, &'static str)] = &[
-    ((None, None, None), "- - -"),
-    ((Some("base.img"), None, None), "base.img - -"),
-    ((Some("base.img"), Some("qcow2"), None), "base.img qcow2 -"),
-    ((None, Some("raw"), None), "- raw -"),
-    ((None, None, Some("data.raw")), "- - data.raw external"),
-    ((None, None, Some("")), "- -  external"),
-    ((Some("a"), Some("qcow2"), Some("b")), "a qcow2 b external"),
-];
+const RICH_NAMES: Names<'static> = Names {
+    backing: Some("ä.img"),
+    format: Some("qcow2"),
+    data_file: Some("dät.raw"),
+    external: true,
+};
 
-fn tells(alloc: Global, header: &Header, expected: &str) -> Result<(), Fail> {
-    same(names(alloc, header)?.as_str(), expected, "names")
+// Names that a new header is made with, and has then. Data is external where a data file is named.
+const NAMES: &[Names<'static>] = rows! {
+    NO_NAMES,
+    Names { backing: Some("base.img"), ..NO_NAMES },
+    Names { backing: Some("base.img"), format: Some("qcow2"), ..NO_NAMES },
+    Names { format: Some("raw"), ..NO_NAMES },
+    Names { data_file: Some("data.raw"), external: true, ..NO_NAMES },
+    Names { data_file: Some(""), external: true, ..NO_NAMES },
+    Names { backing: Some("a"), format: Some("qcow2"), data_file: Some("b"), external: true },
+};
+
+fn check_names(alloc: Global, expected: Names<'_>) -> Result<(), Fail> {
+    same(names_of(&new(alloc, 9, 4, expected)?), expected, "names")
 }
 
 #[test]
-fn a_new_header_tells_its_names_and_that_data_is_external_where_a_data_file_is_named(
-    rt: HostRuntime,
-) -> Result<(), Fail> {
-    for (names, expected) in NAMES {
-        tells(rt.alloc(), &new(rt.alloc(), 9, 4, *names)?, expected)?;
-    }
-    Ok(())
+fn a_new_header_has_the_names_that_it_is_made_with(rt: HostRuntime) -> Result<(), Fail> {
+    each(rt.alloc(), NAMES, check_names)
 }
 
 // A feature's field and its bit, and what a new header calls it.
@@ -111,7 +113,7 @@ const FEATURES: &[(FeatureType, u32, Option<&'static str>)] = rows! {
 
 #[test]
 fn a_new_header_has_the_names_of_eight_features(rt: HostRuntime) -> Result<(), Fail> {
-    let header = new(rt.alloc(), 9, 4, (None, None, None))?;
+    let header = new(rt.alloc(), 9, 4, NO_NAMES)?;
     for row in FEATURES {
         let (feature_type, bit, expected) = *row;
         same(called(&header, feature_type, bit), expected, *row)?;
@@ -119,7 +121,7 @@ fn a_new_header_has_the_names_of_eight_features(rt: HostRuntime) -> Result<(), F
     Ok(())
 }
 
-// Changes to the least header, its version, one that is needed, and what the header answers then.
+// Changes to the least header, its version, one that is needed, and what the header returns then.
 type Version = (Changes, u32, u32, Result<(), Fault>);
 
 const VERSIONS: &[Version] = rows! {
@@ -127,7 +129,7 @@ const VERSIONS: &[Version] = rows! {
     (OLDER, 2, 2, Ok(())), (OLDER, 2, 3, Err(Fault::VersionNeeded)),
 };
 
-fn is_of_version(alloc: Global, (changes, version, needed, expected): Version) -> Result<(), Fail> {
+fn check_version(alloc: Global, (changes, version, needed, expected): Version) -> Result<(), Fail> {
     let header = load_with(alloc, changes, "")?;
     same(
         (header.version(), header.require_version(needed)),
@@ -138,5 +140,5 @@ fn is_of_version(alloc: Global, (changes, version, needed, expected): Version) -
 
 #[test]
 fn a_header_tells_its_version_and_refuses_a_later_one(rt: HostRuntime) -> Result<(), Fail> {
-    each(rt.alloc(), VERSIONS, is_of_version)
+    each(rt.alloc(), VERSIONS, check_version)
 }

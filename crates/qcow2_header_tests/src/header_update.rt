@@ -1,4 +1,5 @@
-//! Taking over what changed in another header of the same image, and which field is told where they differ.
+//! Taking over what changed in another header of the same image, and which field is reported where they
+//! differ.
 
 use crate::fixtures::Changes;
 use crate::header_calls::{load_with, update};
@@ -13,25 +14,28 @@ use std::alloc::Global;
 use std::test::Fail;
 
 // A disk of 32768 bytes, whose L1 table has one entry at 512. The backing file's name stands at two places.
-const SMALL: Changes = "14=016800000002, 30=8000, 39=01, 46=0200, 360=:ab, 368=:ab";
+const SMALL: Changes = "backing_file_offset=360, backing_file_size=2, size=0x8000, l1_size=1, \
+    l1_table_offset=0x200, 360=:ab, 368=:ab";
 
 // One of 65536 bytes, whose L1 table has two entries there.
-const GROWN: Changes = "14=016800000002, 29=010000, 39=02, 46=0200, 360=:ab, 368=:ab";
+const GROWN: Changes = "backing_file_offset=360, backing_file_size=2, size=0x10000, l1_size=2, \
+    l1_table_offset=0x200, 360=:ab, 368=:ab";
 
 // Another size, and other tables in all their bytes.
-const MOVED: Changes = "24=0102030405060708, 36=21222324, 40=3132333435363a00, \
-    48=4142434445464800, 56=51525354";
+const MOVED: Changes =
+    "size=0x102030405060708, l1_size=0x21222324, l1_table_offset=0x3132333435363a00, \
+    refcount_table_offset=0x4142434445464800, refcount_table_clusters=0x51525354";
 
 // Changes to the least header that leave two that agree in all but what is taken over.
 const AGREEING: &[(Changes, Changes)] = rows! {
     // a disk of 32768 bytes becomes one of 65536, its L1 table one of 2 entries
-    ("30=80, 39=01, 46=02", "29=01, 39=02, 46=02"),
-    (SMALL, SMALL), (SMALL, GROWN), ("", MOVED), (MOVED, ""),
-    ("", "24=01"), ("", "36=01"), ("", "46=02"), ("", "54=02"), ("", "56=01"),
-    // what no header says: bytes behind End, padding, and in version 2 those behind byte 72
-    ("200=01", "200=02, 31=01"),
-    ("104=format 01:a, 113=01", "104=format 01:a, 113=02"),
-    ("7=02", "7=02, 79=04, 99=09"),
+    ("size=0x8000, l1_size=1, l1_table_offset=0x200", "size=0x10000, l1_size=2, l1_table_offset=0x200"),
+    (SMALL, SMALL), (SMALL, GROWN), ("", MOVED), (MOVED, ""), ("", "size=0x100000000000000"),
+    ("", "l1_size=0x1000000"), ("", "l1_table_offset=0x200"), ("", "refcount_table_offset=0x200"),
+    ("", "refcount_table_clusters=0x1000000"),
+    // what no header says: bytes after End, padding, and in version 2 those after byte 72
+    ("200=01", "200=02, size=1"), ("104=format 01:a, 113=01", "104=format 01:a, 113=02"),
+    ("version=2", "version=2, incompatible_features=4, refcount_order=9"),
     // the same name of a data file, and the same extension of a type that isn't known
     ("104=data 01:a, 123=0700000001:b", "104=data 01:a, 123=0700000001:b"),
     // a feature name table in another order, with a name that is replaced, and with one of no feature
@@ -40,13 +44,13 @@ const AGREEING: &[(Changes, Changes)] = rows! {
 };
 
 // Fails unless the first header becomes the second one.
-fn becomes(alloc: Global, (here, there): (Changes, Changes)) -> Result<(), Fail> {
+fn check_becomes(alloc: Global, (here, there): (Changes, Changes)) -> Result<(), Fail> {
     let mut header = load_with(alloc, here, "")?;
     let other = load_with(alloc, there, "")?;
-    is_taken_over(alloc, &mut header, &other)
+    check_taken_over(alloc, &mut header, &other)
 }
 
-fn is_taken_over(alloc: Global, header: &mut Header, other: &Header) -> Result<(), Fail> {
+fn check_taken_over(alloc: Global, header: &mut Header, other: &Header) -> Result<(), Fail> {
     let expected = printed(alloc, other)?;
     same(update(header, other), Ok(()), &expected)?;
     same(&printed(alloc, header)?, &expected, "header")
@@ -54,7 +58,7 @@ fn is_taken_over(alloc: Global, header: &mut Header, other: &Header) -> Result<(
 
 #[test]
 fn a_header_becomes_one_that_agrees_with_it(rt: HostRuntime) -> Result<(), Fail> {
-    each(rt.alloc(), AGREEING, becomes)
+    each(rt.alloc(), AGREEING, check_becomes)
 }
 
 // Changes to headers of these disks that leave two which differ in a field, and in none before it. The tables
@@ -62,18 +66,25 @@ fn a_header_becomes_one_that_agrees_with_it(rt: HostRuntime) -> Result<(), Fail>
 type Differing = (Changes, Changes, Field);
 
 const DIFFERING: &[Differing] = rows! {
-    ("", "7=02, 107=07", Version), ("", "15=70, 107=07", BackingOffset),
-    ("", "15=70, 23=0a, 46=04", BackingOffset), ("", "19=01, 107=07", BackingSize),
-    ("", "23=0a, 46=04, 107=07", ClusterBits), ("", "35=01, 107=07", CryptMethod),
-    ("", "63=01, 107=07", NbSnapshots), ("", "71=01, 107=07", SnapshotsOffset),
-    ("", "79=04, 107=07", Incompatible), ("", "87=01, 107=07", Compatible),
-    ("", "95=01, 107=07", Autoclear), ("", "99=03, 107=07", RefcountOrder),
-    ("", "103=70, 107=07", UnknownFields), ("", "361=:c, 107=07", BackingName), ("", "107=07", Extensions),
+    ("", "version=2, 107=07", Version), ("", "backing_file_offset=368, 107=07", BackingOffset),
+    ("", "backing_file_offset=368, cluster_bits=10, l1_table_offset=0x400", BackingOffset),
+    ("", "backing_file_size=1, 107=07", BackingSize),
+    ("", "cluster_bits=10, l1_table_offset=0x400, 107=07", ClusterBits),
+    ("", "crypt_method=1, 107=07", CryptMethod),
+    ("", "nb_snapshots=1, 107=07", NbSnapshots), ("", "snapshots_offset=1, 107=07", SnapshotsOffset),
+    ("", "incompatible_features=4, 107=07", Incompatible),
+    ("", "compatible_features=1, 107=07", Compatible),
+    ("", "autoclear_features=1, 107=07", Autoclear), ("", "refcount_order=3, 107=07", RefcountOrder),
+    ("", "header_length=112, 107=07", UnknownFields), ("", "361=:c, 107=07", BackingName),
+    ("", "107=07", Extensions),
     // empty names at two places, and a length where no name is
-    ("14=01f000000000", "14=01f800000000", BackingOffset),
-    ("14=000000000001", "14=000001000001", BackingSize),
+    ("backing_file_offset=496, backing_file_size=0", "backing_file_offset=504, backing_file_size=0",
+        BackingOffset),
+    ("backing_file_offset=0, backing_file_size=1", "backing_file_offset=0, backing_file_size=0x1000001",
+        BackingSize),
     // unknown fields of one length
-    ("103=70, 104=01", "103=70, 104=02", UnknownFields), ("103=70", "103=70, 111=01", UnknownFields),
+    ("header_length=112, 104=01", "header_length=112, 104=02", UnknownFields),
+    ("header_length=112", "header_length=112, 111=01", UnknownFields),
     // extensions in another order, one more, and none
     ("104=format 01:a, 120=data 01:b", "104=data 01:b, 120=format 01:a", Extensions),
     ("104=data 01:b", "104=data 01:b, 120=data 01:b", Extensions), ("", "104=data 00", Extensions),
@@ -94,7 +105,7 @@ const DIFFERING: &[Differing] = rows! {
 const FEATURE: Changes = "104=names 06 0100:lazy";
 
 // Fails unless an update is refused for this field, and changes nothing.
-fn is_refused(
+fn check_refused(
     alloc: Global,
     header: &mut Header,
     other: &Header,
@@ -107,23 +118,23 @@ fn is_refused(
 }
 
 // Fails unless that is so whichever of two headers is updated.
-fn differ(alloc: Global, (here, there, field): Differing) -> Result<(), Fail> {
+fn check_differing(alloc: Global, (here, there, field): Differing) -> Result<(), Fail> {
     let mut header = load_with(alloc, SMALL, here)?;
     let mut other = load_with(alloc, GROWN, there)?;
-    refuse_each_other(alloc, &mut header, &mut other, field)
+    check_both_refused(alloc, &mut header, &mut other, field)
 }
 
-fn refuse_each_other(
+fn check_both_refused(
     alloc: Global,
     header: &mut Header,
     other: &mut Header,
     field: Field,
 ) -> Result<(), Fail> {
-    is_refused(alloc, header, other, field)?;
-    is_refused(alloc, other, header, field)
+    check_refused(alloc, header, other, field)?;
+    check_refused(alloc, other, header, field)
 }
 
 #[test]
 fn the_first_field_that_differs_is_told_and_nothing_changes(rt: HostRuntime) -> Result<(), Fail> {
-    each(rt.alloc(), DIFFERING, differ)
+    each(rt.alloc(), DIFFERING, check_differing)
 }

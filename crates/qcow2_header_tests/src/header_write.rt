@@ -1,7 +1,7 @@
 //! What a write of a header places, and what it leaves as it was.
 
-use crate::fixtures::{Changes, OLDER, filled_with, least_with};
-use crate::header_calls::{dirty, load, load_with, names, new, write};
+use crate::fixtures::{Changes, OLDER, OLDER_FILLED, filled_with, least_with};
+use crate::header_calls::{NO_NAMES, Names, dirty, load, load_with, names_of, new, write};
 use crate::header_texts::{
     CUT, Cut, KNOWN, LOADED, Loaded, NEW, Name, OLDER_WRITTEN, Repeated, THREE_NAMES,
 };
@@ -12,15 +12,15 @@ use std::alloc::{AllocError, Global};
 use std::test::Fail;
 
 // Fails unless a write of the header over an image of 300 bytes is one call, which places the text and leaves
-// what stands behind it.
-fn places(alloc: Global, header: &mut Header, text: &[u8]) -> Result<(), Fail> {
+// what is after it.
+fn check_places(alloc: Global, header: &mut Header, text: &[u8]) -> Result<(), Fail> {
     let expected = filled_with(alloc, 300, text)?;
     let mut image = FailingStorage::new(alloc, filled_image(alloc, 300)?);
     let answer = write(header, &mut image);
-    is_placed(answer, &image, text.len(), expected.bytes())
+    check_placed(answer, &image, text.len(), expected.bytes())
 }
 
-fn is_placed(
+fn check_placed(
     answer: Result<(), Fault>,
     image: &FailingStorage<MemStorage>,
     len: usize,
@@ -34,34 +34,43 @@ fn is_placed(
 
 // Fails unless that is so, and the text is loaded as the header, which is written again as it is; and unless
 // the first incompatible feature is called so after each of both writes.
-fn goes_round(
+fn check_round_trip(
     alloc: Global,
     header: &mut Header,
     text: &[u8],
     called: (Option<&str>, Option<&str>),
 ) -> Result<(), Fail> {
-    places(alloc, header, text)?;
+    check_places(alloc, header, text)?;
     let mut loaded = load(alloc, &mut filled_with(alloc, 2048, text)?, false)?;
-    is_the_same(alloc, header, &mut loaded, text)?;
+    check_same(alloc, header, &mut loaded, text)?;
     same((dirty(header), dirty(&loaded)), called, text.len())
 }
 
-fn is_the_same(
+fn check_same(
     alloc: Global,
     header: &Header,
     loaded: &mut Header,
     text: &[u8],
 ) -> Result<(), Fail> {
-    same(names(alloc, loaded)?, names(alloc, header)?, text.len())?;
-    places(alloc, loaded, text)
+    same(names_of(loaded), names_of(header), text.len())?;
+    check_places(alloc, loaded, text)
 }
 
 fn made(alloc: Global, cluster_bits: u32, name: Repeated) -> Result<Header, Fault> {
     let name = name.0.repeat(alloc, name.1)?;
-    new(alloc, cluster_bits, 4, (Some(name.as_str()), None, None))
+    let backing = Some(name.as_str());
+    new(
+        alloc,
+        cluster_bits,
+        4,
+        Names {
+            backing,
+            ..NO_NAMES
+        },
+    )
 }
 
-fn is_new(
+fn check_new(
     alloc: Global,
     header: &mut Header,
     known: Changes,
@@ -69,7 +78,7 @@ fn is_new(
 ) -> Result<(), Fail> {
     let called = (!known.is_empty()).then_some("dirty");
     let text = least_with(alloc, known, changes)?;
-    goes_round(alloc, header, text.bytes(), (called, called))
+    check_round_trip(alloc, header, text.bytes(), (called, called))
 }
 
 #[test]
@@ -78,27 +87,32 @@ fn a_new_header_is_written_with_the_names_of_features_where_they_fit(
 ) -> Result<(), Fail> {
     for (cluster_bits, name, known, changes) in NEW {
         let mut header = made(rt.alloc(), *cluster_bits, *name)?;
-        is_new(rt.alloc(), &mut header, known, changes)?;
+        check_new(rt.alloc(), &mut header, known, changes)?;
     }
     Ok(())
 }
 
 #[test]
 fn a_new_header_is_written_with_its_names(rt: HostRuntime) -> Result<(), Fail> {
-    let names = (Some("base.img"), Some("qcow2"), Some("data.raw"));
+    let names = Names {
+        backing: Some("base.img"),
+        format: Some("qcow2"),
+        data_file: Some("data.raw"),
+        external: true,
+    };
     let mut header = new(rt.alloc(), 16, 4, names)?;
-    is_new(rt.alloc(), &mut header, KNOWN, THREE_NAMES)
+    check_new(rt.alloc(), &mut header, KNOWN, THREE_NAMES)
 }
 
-fn is_written(alloc: Global, (changes, text, called): Loaded) -> Result<(), Fail> {
+fn check_written(alloc: Global, (changes, text, called): Loaded) -> Result<(), Fail> {
     let text = least_with(alloc, text, "")?;
     let mut header = load_with(alloc, changes, "")?;
-    goes_round(alloc, &mut header, text.bytes(), (called, called))
+    check_round_trip(alloc, &mut header, text.bytes(), (called, called))
 }
 
 #[test]
 fn a_write_places_each_part_and_pads_it(rt: HostRuntime) -> Result<(), Fail> {
-    each(rt.alloc(), LOADED, is_written)
+    each(rt.alloc(), LOADED, check_written)
 }
 
 #[test]
@@ -106,8 +120,11 @@ fn a_header_of_version_2_ends_with_its_name(rt: HostRuntime) -> Result<(), Fail>
     let image = least_with(rt.alloc(), OLDER_WRITTEN, "")?;
     let mut text = Vec::from_slice(rt.alloc(), image.bytes())?;
     text.truncate(85);
-    let mut header = load_with(rt.alloc(), OLDER, "")?;
-    goes_round(rt.alloc(), &mut header, &text, (None, None))
+    for changes in [OLDER, OLDER_FILLED] {
+        let mut header = load_with(rt.alloc(), changes, "")?;
+        check_round_trip(rt.alloc(), &mut header, &text, (None, None))?;
+    }
+    Ok(())
 }
 
 // A feature name table that has one name of 46 bytes, whose type and bit are 0.
@@ -119,13 +136,13 @@ fn name_of(alloc: Global, name: Name) -> Result<String, AllocError> {
     Ok(text)
 }
 
-fn is_cut(alloc: Global, header: &mut Header, row: Cut) -> Result<(), Fail> {
+fn check_cut(alloc: Global, header: &mut Header, row: Cut) -> Result<(), Fail> {
     let (found, first, written, later) = row;
     let (first, later) = (name_of(alloc, first)?, name_of(alloc, later)?);
     same(dirty(header), Some(first.as_str()), found)?;
     let text = least_with(alloc, FULL_NAME, written)?;
     let called = (Some(first.as_str()), Some(later.as_str()));
-    goes_round(alloc, header, text.bytes(), called)
+    check_round_trip(alloc, header, text.bytes(), called)
 }
 
 #[test]
@@ -133,7 +150,7 @@ fn a_feature_name_that_is_cut_is_the_same_from_the_second_load_on(
     rt: HostRuntime,
 ) -> Result<(), Fail> {
     for row in CUT {
-        is_cut(
+        check_cut(
             rt.alloc(),
             &mut load_with(rt.alloc(), FULL_NAME, row.0)?,
             *row,
@@ -143,7 +160,7 @@ fn a_feature_name_that_is_cut_is_the_same_from_the_second_load_on(
 }
 
 // Fails unless a write is refused by this fault without any call, and changes nothing.
-fn refuses(alloc: Global, header: &mut Header, fault: Fault) -> Result<(), Fail> {
+fn check_refusal(alloc: Global, header: &mut Header, fault: Fault) -> Result<(), Fail> {
     let before = printed(alloc, header)?;
     let mut image = FailingStorage::new(alloc, filled_image(alloc, 2048)?);
     let answer = write(header, &mut image);
@@ -162,17 +179,17 @@ const LONG_NAMES: &[(u32, usize, Fault)] = &[
 // Loaded headers that are too long: with 400 unknown bytes and the name FI, and with 384 unknown bytes, the
 // name of a feature, and a backing file's name of 48 zero bytes; in version 2 with a name of 433 bytes.
 const TOO_LONG: &[Changes] = &[
-    "102=01f8, 15=01, 19=02",
-    "102=01e8, 488=names 02, 15=1800000030",
-    "7=02, 15=4f000001b1, 79=61*433",
+    "header_length=504, backing_file_offset=1, backing_file_size=2",
+    "header_length=488, 488=names 02, backing_file_offset=24, backing_file_size=48",
+    "version=2, backing_file_offset=79, backing_file_size=433, 79=61*433",
 ];
 
-fn refuses_new(alloc: Global, row: (u32, usize, Fault)) -> Result<(), Fail> {
-    refuses(alloc, &mut made(alloc, row.0, ("a", row.1))?, row.2)
+fn check_new_refusal(alloc: Global, row: (u32, usize, Fault)) -> Result<(), Fail> {
+    check_refusal(alloc, &mut made(alloc, row.0, ("a", row.1))?, row.2)
 }
 
-fn refuses_loaded(alloc: Global, changes: Changes) -> Result<(), Fail> {
-    refuses(
+fn check_loaded_refusal(alloc: Global, changes: Changes) -> Result<(), Fail> {
+    check_refusal(
         alloc,
         &mut load_with(alloc, changes, "")?,
         Fault::HeaderTooLong,
@@ -181,6 +198,6 @@ fn refuses_loaded(alloc: Global, changes: Changes) -> Result<(), Fail> {
 
 #[test]
 fn a_write_refuses_a_name_or_a_header_that_is_too_long(rt: HostRuntime) -> Result<(), Fail> {
-    each(rt.alloc(), LONG_NAMES, refuses_new)?;
-    each(rt.alloc(), TOO_LONG, refuses_loaded)
+    each(rt.alloc(), LONG_NAMES, check_new_refusal)?;
+    each(rt.alloc(), TOO_LONG, check_loaded_refusal)
 }

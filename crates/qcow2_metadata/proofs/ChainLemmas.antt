@@ -4,7 +4,7 @@ use Rattle.qcow2_base.specs.declared.fault.Fault.{Fault}
 use Rattle.qcow2_base.specs.declared.fault.Fault.TheVariants.{ExtensionsExceed}
 use Rattle.std.proofs.lemmas.Bool.Decides.{nat_tests}
 use Rattle.qcow2_metadata.specs.Results.{and_then, result_map}
-use Rattle.qcow2_metadata.specs.Header.Chain.{IsChain, IsEnd, Link, SaysExtensions, data_end, extension_at, extensions_at, few_extensions, link_at, next_place, said}
+use Rattle.qcow2_metadata.specs.Header.Chain.{IsChain, IsEnd, Link, SaysExtensions, data_end, extension_at, extensions_at, few_extensions, link_at, next_place, extension_in_link}
 use Rattle.qcow2_metadata.specs.Header.Extensions.{Extension}
 
 -- where too few bytes are left for an extension
@@ -12,14 +12,14 @@ pub extension_at-past : (image : Image) (len place : ℕ) → len < data_end (li
     → extension_at image len place ≡ Err ExtensionsExceed
 extension_at-past image len place past = grind (arith, nat_tests)
 
--- an extension that isn't the last of its chain, what it says, and where the next one stands
+-- an extension that isn't the last of its chain, what it says, and where the next one is
 pub record IsFirst (image : Image) (len place : ℕ) (extension : Extension) (next : ℕ) : Type 0 where
   pub bounded : data_end (link_at image place) ≤ len
   pub more : (link_at image place).number ≢ 0
-  pub says : said image (link_at image place) ≡ Ok extension
+  pub says : extension_in_link image (link_at image place) ≡ Ok extension
   pub next_is : next ≡ next_place (link_at image place)
 
--- what stands at a place, by what is found there
+-- what is at a place, by what is found there
 extension_at-end : (image : Image) (len place : ℕ) → extension_at image len place ≡ Ok None
     → IsEnd len (link_at image place)
 extension_at-end image len place is = grind (arith, nat_tests)
@@ -28,7 +28,7 @@ extension_at-some : (image : Image) (len place : ℕ) (extension : Extension) (n
     → extension_at image len place ≡ Ok (Some (extension, next)) → IsFirst image len place extension next
 extension_at-some image len place extension next is = grind (arith, nat_tests)
 
--- and what is found there, by what stands at it
+-- and what is found there, by what is at it
 end-extension_at : (image : Image) (len place : ℕ) → IsEnd len (link_at image place)
     → extension_at image len place ≡ Ok None
 end-extension_at image len place is = grind (arith, nat_tests)
@@ -92,7 +92,7 @@ says_more image len place next extension others first rest = record {
   said = rw (first.says, rest.said) refl;
 }
 
--- an answer that is changed to an Ok was one
+-- a result that is changed to an Ok was one
 result_map-ok : {A B : Type 0} (f : A → B) (answer : Result A Fault) (value : B) → result_map f answer ≡ Ok value
     → (x : A) × (answer ≡ Ok x) × (f x ≡ value)
 result_map-ok f (Ok x) value is = (x, refl, cc)
@@ -127,7 +127,7 @@ extensions_at-says image len place extensions is = few_extensions-says (suc len)
 -- what is found where a chain has more than one extension
 chain_first : (image : Image) (len place : ℕ) (link : Link) (links : List Link) (last : Link)
     (extension : Extension)
-    → IsChain image len place (link ∷ links) last → said image link ≡ Ok extension
+    → IsChain image len place (link ∷ links) last → extension_in_link image link ≡ Ok extension
     → extensions_at image len place ≡ result_map (λ others. extension ∷ others)
     (extensions_at image len (next_place link))
 chain_first image len place link links last extension chain says =
@@ -135,7 +135,7 @@ chain_first image len place link links last extension chain says =
 
 -- the extensions of a complete chain are found
 chain-says : (image : Image) (len place : ℕ) (links : List Link) (last : Link) (extensions : List Extension)
-    → IsChain image len place links last → IsEnd len last → map (said image) links ≡ map Ok extensions
+    → IsChain image len place links last → IsEnd len last → map (extension_in_link image) links ≡ map Ok extensions
     → extensions_at image len place ≡ Ok extensions
 chain-says image len place [] last [] chain end says =
     extensions_at-unfold image len place ∙ rw (end-extension_at image len place (rw chain at end)) refl

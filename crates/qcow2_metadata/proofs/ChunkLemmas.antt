@@ -7,7 +7,7 @@ use Rattle.std.proofs.lemmas.Iterator.Consumers.{YieldsList-at}
 use Rattle.std.specs.Iterator.{Drains, Yields}
 use Rattle.qcow2_base.specs.Storage.{Holds, Image, be, be_of_same, image_of}
 use Rattle.qcow2_base.specs.declared.fault.Fault.{Fault}
-use Rattle.qcow2_metadata.specs.Table.{chunk_numbers, decoded, first_fault, table_numbers}
+use Rattle.qcow2_metadata.specs.Table.{chunk_numbers, valid_numbers, first_fault, table_numbers}
 use Rattle.qcow2_metadata.proofs.PackingLemmas.{counters_at-append, counters_at-held, counters_at-same}
 use Rattle.qcow2_metadata.proofs.TableLemmas.{first_fault-append, first_fault-join, no_fault_item, no_fault_at_all}
 use Rattle.std.proofs.lemmas.Bool.Decides.{nat_tests}
@@ -57,7 +57,7 @@ table_numbers-read image offset k m bytes before held within so_far =
     rw (so_far, ← piece) (sym (table_numbers-append image offset k m))
 
 -- a piece with a number that is no entry, after pieces with none, decides
-pub decoded-refused_piece : (fault : ℕ → Option Fault) (image : Image) (offset k m n : ℕ) (bytes : List ℕ) (f : Fault) → k + m ≤ n → Holds image (offset + 8 * k) bytes → 8 * m ≤ length bytes → first_fault fault (table_numbers image offset k) ≡ None → first_fault fault (table_numbers (image_of bytes) 0 m) ≡ Some f → decoded fault (table_numbers image offset n) ≡ Err f
+pub decoded-refused_piece : (fault : ℕ → Option Fault) (image : Image) (offset k m n : ℕ) (bytes : List ℕ) (f : Fault) → k + m ≤ n → Holds image (offset + 8 * k) bytes → 8 * m ≤ length bytes → first_fault fault (table_numbers image offset k) ≡ None → first_fault fault (table_numbers (image_of bytes) 0 m) ≡ Some f → valid_numbers fault (table_numbers image offset n) ≡ Err f
 decoded-refused_piece fault image offset k m n bytes f within held len none bad =
     let rest = n - (k + m) in
     let whole : n ≡ k + (m + rest) = omega arith in

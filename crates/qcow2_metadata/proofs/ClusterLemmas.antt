@@ -12,24 +12,24 @@ use Rattle.qcow2_metadata.specs.Range.{bytes_at}
 use Rattle.qcow2_metadata.proofs.ChainLemmas.{extension_at-past}
 use Rattle.qcow2_metadata.proofs.GrammarLemmas.{after_parts, fixed_parts-are, parts_by}
 
--- the two images agree in so many first bytes
+-- the two images agree in that many first bytes
 record AgreeWithin (end : ℕ) (image other : Image) : Type 0 where
   each : (o : ℕ) → o < end → other o ≡ image o
 
--- the same number stands in both
+-- the same number is in both
 be-same : (end : ℕ) (image other : Image) → AgreeWithin end image other → (offset count : ℕ)
     → offset + count ≤ end → be other offset count ≡ be image offset count
 be-same end image other same offset count within =
     be_of_same other image count offset offset (λ k below. same.each (offset + k) (omega arith))
 
--- functions that agree at so many numbers from one on have the same values there
+-- functions that agree at that many numbers from one on have the same values there
 map-same : (f g : ℕ → ℕ) (count first : ℕ) → ((i : ℕ) → i < first + count → f i ≡ g i)
     → map f (range_with_len first count) ≡ map g (range_with_len first count)
 map-same f g zero first same = refl
 map-same f g (suc count) first same =
     grind (arith, nat_tests, map-same f g count (first + 1) (λ i below. same i (omega arith)))
 
--- the same bytes stand in both
+-- the same bytes are in both
 bytes_at-same : (end : ℕ) (image other : Image) → AgreeWithin end image other → (offset count : ℕ)
     → offset + count ≤ end → bytes_at other offset count ≡ bytes_at image offset count
 bytes_at-same end image other same offset count within = grind (arith, nat_tests, map-same)
@@ -54,7 +54,7 @@ extension_at-same : (len : ℕ) (image other : Image) → AgreeWithin len image 
     → extension_at other len place ≡ extension_at image len place
 extension_at-same len image other same place = grind (arith, nat_tests, extension_at-past, be-same, bytes_at-same)
 
--- so many extensions from a place on are the same
+-- that many extensions from a place on are the same
 few_extensions-same : (len : ℕ) (image other : Image) → AgreeWithin len image other → (most place : ℕ)
     → few_extensions most other len place ≡ few_extensions most image len place
 few_extensions-same len image other same zero place = refl

@@ -19,7 +19,7 @@ pub record IsCut (bytes : List ℕ) : Type 0 where
   pub some : 0 < length bytes
   pub more : 0 < length rest
 
--- two to four bytes, each but the last within its limits in a character of so many
+-- two to four bytes, each but the last within its limits in a character of that many
 record IsWide (bytes : List ℕ) : Type 0 where
   short : length bytes ≤ 4
   first : is_in_range 0xC2 0xF4 (slice_index bytes 0) ≡ true
@@ -101,7 +101,7 @@ cut-valid front last text cut = record {
       (text-rest front (take n last) text (subst IsUtf8 bytes is));
 }
 
--- the first bytes of a character behind text are replaced
+-- the first bytes of a character after text are replaced
 pub utf8_lossy-cut : (front last : List ℕ) → IsUtf8 front → IsCut last
     → utf8_lossy (front ++ last) ≡ front ++ replacement_bytes
 utf8_lossy-cut front last text cut =
@@ -170,7 +170,7 @@ pub IsCutText-take : (text : List ℕ) (n : ℕ) → IsUtf8 text → IsCutText (
 IsCutText-take text n (chars, (all, is)) =
     subst (λ (bytes : List ℕ). IsCutText (take n bytes)) is (IsCutText-chars chars n all)
 
--- the first bytes of U+FFFD behind text are replaced by all of them
+-- the first bytes of U+FFFD after text are replaced by all of them
 pub utf8_lossy-replaced : (front : List ℕ) (n : ℕ) → IsUtf8 front → 0 < n
     → utf8_lossy (front ++ take n replacement_bytes) ≡ front ++ replacement_bytes
 unfolding encode_utf8

@@ -11,7 +11,7 @@ use Rattle.qcow2_metadata.specs.declared.entries.ClustersToFreeEntry.{ClustersTo
 use Rattle.qcow2_metadata.specs.Entries.L2Entry.{ByteRange, IsAllocation, Meets, allocation, byte_range, cluster_count, clusters_met, first_cluster, has_host_cluster, is_compressed, meets, with_zero_flag}
 use Rattle.qcow2_metadata.specs.Entries.{is_among, offset_field}
 use Rattle.qcow2_metadata.proofs.EntriesLemmas.{meets_is_met, offset_in_sectors}
-use Rattle.qcow2_metadata.specs.Table.L2Guards.{EntryEdit, GivesUp, TableEdit, after_edit, can_be_made, changed, data_entry, dropped, fits_table, gained, handed_back, is_just, is_mappable, keeps, one_if, references, run_of, times_gained, to_data, to_nothing, to_zeros}
+use Rattle.qcow2_metadata.specs.Table.L2Guards.{EntryEdit, GivesUp, TableEdit, after_edit, can_be_made, entry_after, data_entry, clusters_freed_by, fits_table, cluster_gained_by, handed_back, is_just, is_mappable, keeps_clusters, one_if, references, run_of, times_gained, to_data, to_nothing, to_zeros}
 
 -- an entry of data in a host cluster at an offset: it is standard and copied, with no reserved bit
 record IsDataAt (v offset : ℕ) : Type 0 where
@@ -90,19 +90,19 @@ some_clusters : (cb : ℕ) (found : Option ByteRange) → IfSome (option_map (cl
 some_clusters cb found = grind arith
 
 -- an entry goes on referring to all that it refers to just where that is the cluster that it is mapped to
-pub keeps-just : (g : Geometry) (cluster v : ℕ) → (keeps g (to_data cluster) v ≡ true) ↔ (Meets g v cluster × ((c : ℕ) → Meets g v c → c ≡ cluster))
+pub keeps-just : (g : Geometry) (cluster v : ℕ) → (keeps_clusters g (to_data cluster) v ≡ true) ↔ (Meets g v cluster × ((c : ℕ) → Meets g v c → c ≡ cluster))
 keeps-just g cluster v =
     let just = just_is_all cluster (allocation g v) (some_clusters g.cluster_bits (byte_range g v)) in (
-      λ keeps. let both = just.0 keeps in ((meets_is_met g v cluster).0 both.0, λ c met. both.1 c ((meets_is_met g v c).1 met)),
+      λ keeps_clusters. let both = just.0 keeps_clusters in ((meets_is_met g v cluster).0 both.0, λ c met. both.1 c ((meets_is_met g v c).1 met)),
       λ both. just.1 ((meets_is_met g v cluster).1 both.0, λ c meets. both.1 c ((meets_is_met g v c).0 meets)),
     )
 
 -- so an entry that is mapped to a cluster gives up what the change drops
-pub gives_up : (g : Geometry) (v cluster : ℕ) (freed : Option ClustersToFreeEntry) → freed ≡ dropped g (to_data cluster) v
-    → (keeps g (to_data cluster) v ≡ false → IsAllocation g v freed) → GivesUp g v cluster freed
+pub gives_up : (g : Geometry) (v cluster : ℕ) (freed : Option ClustersToFreeEntry) → freed ≡ clusters_freed_by g (to_data cluster) v
+    → (keeps_clusters g (to_data cluster) v ≡ false → IsAllocation g v freed) → GivesUp g v cluster freed
 gives_up g v cluster freed is met = record {
   same = λ just. is ∙ ap (λ (kept : Bool). if kept then None else allocation g v) ((keeps-just g cluster v).1 just);
-  others = λ differs. met (not_kept (keeps g (to_data cluster) v) (λ kept. differs ((keeps-just g cluster v).0 kept)));
+  others = λ differs. met (not_kept (keeps_clusters g (to_data cluster) v) (λ kept. differs ((keeps-just g cluster v).0 kept)));
 }
   where
     not_kept : (kept : Bool) → (kept ≡ true → ⊥) → kept ≡ false
@@ -120,7 +120,7 @@ zeros_balance g v c true has = rw (with_zero_flag-allocation g v (has refl)) ref
 zeros_balance g v c false has = rw (allocation-one g, handed_back-option (allocation g v) c) (omega arith)
 
 -- a change hands back as many references to a cluster as the entry loses, and gains as many as it is given
-pub balance-entry : (g : Geometry) (edit : EntryEdit) (v c : ℕ) → IsClusterBits g.cluster_bits → can_be_made g edit ≡ true → one_if (meets g (changed g edit v) c) + handed_back (option_to_list (dropped g edit v)) c ≡ one_if (meets g v c) + times_gained (option_to_list (gained g edit v)) c
+pub balance-entry : (g : Geometry) (edit : EntryEdit) (v c : ℕ) → IsClusterBits g.cluster_bits → can_be_made g edit ≡ true → one_if (meets g (entry_after g edit v) c) + handed_back (option_to_list (clusters_freed_by g edit v)) c ≡ one_if (meets g v c) + times_gained (option_to_list (cluster_gained_by g edit v)) c
 balance-entry g (to_data cluster) v c bits can =
     rw (data_entry-meets g cluster c bits can) (mapped_balances cluster (allocation g v) c (is_just cluster (allocation g v)) refl)
 balance-entry g (to_zeros keep) v c bits can =
@@ -128,7 +128,7 @@ balance-entry g (to_zeros keep) v c bits can =
 balance-entry g to_nothing v c bits can = rw (allocation-zero g, handed_back-option (allocation g v) c) (omega arith)
 
 after_edit-length : (g : Geometry) (e : TableEdit) (numbers : List ℕ) → length (after_edit g e numbers) ≡ length numbers
-after_edit-length g e numbers = length-set numbers e.index (changed g e.edit (slice_index numbers e.index))
+after_edit-length g e numbers = length-set numbers e.index (entry_after g e.edit (slice_index numbers e.index))
 
 -- the first of some edits that all fit a table fits it, and the others fit the table after that
 first_fits : (g : Geometry) (e : TableEdit) (edits : List TableEdit) (numbers : List ℕ) → list_all (fits_table g (length numbers)) (e ∷ edits) ≡ true → (e.index < length numbers) × (can_be_made g e.edit ≡ true) × (list_all (fits_table g (length (after_edit g e numbers))) edits ≡ true)
@@ -142,8 +142,8 @@ balance-run g (e ∷ edits) numbers c bits fit =
     let rest = run_of g edits (after_edit g e numbers) in
     let first = first_fits g e edits numbers fit in
     let entry = balance-entry g e.edit v c bits first.1 in
-    let table = sum_by-set (λ (w : ℕ). one_if (meets g w c)) numbers e.index (changed g e.edit v) 0 first.0 in
+    let table = sum_by-set (λ (w : ℕ). one_if (meets g w c)) numbers e.index (entry_after g e.edit v) 0 first.0 in
     let more = balance-run g edits (after_edit g e numbers) c bits first.2 in
-    let freed = sum_by-append (λ (clusters : ClustersToFreeEntry). one_if (is_among clusters c)) (option_to_list (dropped g e.edit v)) rest.freed in
-    let gains = sum_by-append (λ (d : ℕ). one_if (d == c)) (option_to_list (gained g e.edit v)) rest.gained in
+    let freed = sum_by-append (λ (clusters : ClustersToFreeEntry). one_if (is_among clusters c)) (option_to_list (clusters_freed_by g e.edit v)) rest.freed in
+    let gains = sum_by-append (λ (d : ℕ). one_if (d == c)) (option_to_list (cluster_gained_by g e.edit v)) rest.gained in
     rw (freed, gains) (omega (arith, entry, table, more))

@@ -124,7 +124,7 @@ high_bits_clear cb v low high = elim (cases_lt 56 (70 - cb)) [
 same_test : (cb v : ℕ) → 9 ≤ cb → cb ≤ 21 → nat_eq (v / 2 ^ 56 * 2 ^ 56 % 2 ^ (70 - cb)) 0 ≡ nat_lt (v % 2 ^ (70 - cb)) (2 ^ 56)
 same_test cb v low high = grind (arith, nat_tests, high_bits_clear)
 
--- a number is lawful where its reserved bits are clear and its kind's offset is
+-- a number is valid where its reserved bits are clear and its kind's offset is
 pub lawful_by_kind : (clear compressed low aligned : Bool) → IsTrue (clear && (if compressed then low else aligned)) ↔ (entry_fault (not clear || (compressed && not low)) (not compressed && not aligned) ≡ None)
 lawful_by_kind clear compressed low aligned = grind arith
 

@@ -10,7 +10,7 @@ use Rattle.std.proofs.lemmas.Slice.Eq.{bytes_eq-Decides, slice_eq-Decides}
 use Rattle.std.proofs.lemmas.Str.{IsUtf8-from_is_utf8, IsUtf8-had, IsUtf8-string_bytes, is_utf8-from_IsUtf8}
 use Rattle.qcow2_base.specs.declared.fault.Fault.{Fault}
 use Rattle.qcow2_metadata.proofs.GrammarLemmas.{text_of_utf8}
-use Rattle.qcow2_metadata.specs.Header.Extensions.{Extension, FeatureKey, TextOf, Unknown, data_of, extension_number, extension_of, is_text, normal_extension, parsed, same_extension, same_feature_name, text, type_number}
+use Rattle.qcow2_metadata.specs.Header.Extensions.{Extension, FeatureKey, TextOf, Unknown, data_of, extension_number, extension_of, is_text, normal_extension, extension_from_data, same_extension, same_feature_name, text, type_number}
 use Rattle.qcow2_metadata.specs.Header.Features.{feature_type_number}
 use Rattle.qcow2_metadata.specs.declared.header.extensions.HeaderExtension.{HeaderExtension}
 use Rattle.qcow2_metadata.specs.declared.header.extensions.HeaderExtension.TheVariants as held
@@ -29,7 +29,7 @@ pub ruleset texts = (text_invalid, text_of_utf8, IsUtf8-had)
 
 -- bytes of a type that isn't known are kept as they are
 pub parsed-unknown : (number : ℕ) (bytes : List ℕ) → ((kind : HeaderExtensionType) → extension_number kind ≢ number)
-    → parsed number bytes ≡ Ok (Unknown number bytes)
+    → extension_from_data number bytes ≡ Ok (Unknown number bytes)
 parsed-unknown number bytes unknown =
     let format = unknown kind.BackingFileFormat in
     let names = unknown kind.FeatureNameTable in
@@ -40,7 +40,7 @@ parsed-unknown number bytes unknown =
 abbrev pub ReadsBack : Extension → Type 0
 ReadsBack extension =
     (type_number extension < 2 ^ 32) × (type_number extension ≢ 0)
-    × (parsed (type_number extension) (data_of extension) ≡ Ok (normal_extension extension))
+    × (extension_from_data (type_number extension) (data_of extension) ≡ Ok (normal_extension extension))
 
 -- a string in memory is text
 pub string_is_text : (name : String Global) → IsUtf8 (string_bytes name)
@@ -68,10 +68,10 @@ feature_type_eq-number a b = grind (arith, nat_tests)
 -- the derived test of two extensions in memory is that of what they say
 pub same_extension-of : (a b : HeaderExtension) → (extension_eq.ghosts).eq a b ≡ same_extension (extension_of a) (extension_of b)
 same_extension-of (held.FeatureNameTable a) (held.FeatureNameTable b) =
-    let said : FeatureKey × String Global → FeatureKey × List ℕ = λ entry. (entry.0, string_bytes entry.1) in
+    let extension_in_link : FeatureKey × String Global → FeatureKey × List ℕ = λ entry. (entry.0, string_bytes entry.1) in
     let each = fun_ext (λ (p : FeatureKey × String Global). fun_ext (λ (q : FeatureKey × String Global).
     ap (λ kinds. kinds && p.0.1 == q.0.1 && bytes_eq (string_bytes p.1) (string_bytes q.1)) (feature_type_eq-number p.0.0 q.0.0))) in
-    ap (λ E. pointwise E a.entries b.entries) each ∙ sym (pointwise-map said same_feature_name a.entries b.entries)
+    ap (λ E. pointwise E a.entries b.entries) each ∙ sym (pointwise-map extension_in_link same_feature_name a.entries b.entries)
 same_extension-of (held.BackingFileFormat a) (held.BackingFileFormat b) = refl
 same_extension-of (held.ExternalDataFileName a) (held.ExternalDataFileName b) = refl
 same_extension-of (held.Unknown m a) (held.Unknown n b) = refl

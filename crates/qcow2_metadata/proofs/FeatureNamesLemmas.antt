@@ -62,7 +62,7 @@ names_of_chunks-fault bytes fault few (suc more) bad =
     let count : suc more + few ≡ suc (more + few) = omega arith in
     rw (count, before) refl
 
--- one chunk more, after chunks that are lawful
+-- one chunk more, after chunks that are valid
 pub names_of_chunks-more : (bytes : List ℕ) (chunks : ℕ) (names : FeatureNames) → names_of_chunks bytes chunks ≡ Ok names
     → names_of_chunks bytes (chunks + 1) ≡ with_feature_name names (take 48 (drop (48 * chunks) bytes))
 names_of_chunks-more bytes chunks names before = rw (add-one chunks, before) refl

@@ -5,12 +5,12 @@ use Rattle.std.specs.Str.{IsUtf8}
 use Rattle.std.proofs.lemmas.Bool.Decides.{nat_tests}
 use Rattle.std.proofs.lemmas.List.Sums.{AllPass-from_list_all}
 use Rattle.std.proofs.lemmas.Str.{IsUtf8-from_is_utf8, is_utf8-from_IsUtf8}
-use Rattle.qcow2_base.specs.OnDiskStruct.{HoldsLayout, moved, v2_header, v3_header_base}
+use Rattle.qcow2_base.specs.OnDiskStruct.{HoldsLayout, fields_moved_by, v2_header, v3_header_base}
 use Rattle.qcow2_base.specs.Storage.{Image}
 use Rattle.qcow2_base.specs.declared.fault.Fault.{Fault}
 use Rattle.qcow2_base.specs.declared.on_disk_struct.v2_header.V2Header.{V2Header}
 use Rattle.qcow2_base.specs.declared.on_disk_struct.v3_header_base.V3HeaderBase.{V3HeaderBase}
-use Rattle.qcow2_metadata.specs.Results.{and_then, provided}
+use Rattle.qcow2_metadata.specs.Results.{and_then, after_conditions}
 use Rattle.qcow2_metadata.specs.Header.{HeaderRecord, names_by, all_same, other_features}
 use Rattle.qcow2_metadata.specs.Header.Extensions.{Extension, name_in, text}
 use Rattle.qcow2_metadata.specs.Header.Grammar.{AreSame, HasExtensions, IsBackingName, IsBase, IsHeader, backing_name, base_at, field_conditions, fixed_parts, header_extensions, header_of, last_conditions, v2_at, version_conditions}
@@ -18,7 +18,7 @@ use Rattle.qcow2_metadata.specs.Range.{bytes_at}
 use Rattle.qcow2_metadata.specs.declared.header.extensions.HeaderExtensionType.TheVariants as kind
 use Rattle.qcow2_metadata.proofs.ChainLemmas.{extensions_at-says, says-extensions_at}
 
--- the two answers of which one came
+-- the two results of which one came
 pub and_then-ok : {A B : Type 0} (answer : Result A Fault) (next : A → Result B Fault) (y : B)
     → and_then answer next ≡ Ok y → (x : A) × (answer ≡ Ok x) × (next x ≡ Ok y)
 and_then-ok answer next y is = grind (arith, nat_tests)
@@ -59,7 +59,7 @@ holds-v2_at image v2 (is_magic, (is_version, (is_place, (is_length, (is_bits, (i
     grind (arith, nat_tests)
 
 -- the second part that an image has in version 3 is the one that is read
-pub holds-base_at : (image : Image) (base : V3HeaderBase) → HoldsLayout image (moved 72 (v3_header_base base))
+pub holds-base_at : (image : Image) (base : V3HeaderBase) → HoldsLayout image (fields_moved_by 72 (v3_header_base base))
     → base_at image 3 ≡ base
 holds-base_at image base (is_incompatible, (is_compatible, (is_autoclear, (is_order, (is_length, t))))) =
     grind (arith, nat_tests)
@@ -76,19 +76,19 @@ IsBase-base_at image version base known is = grind (arith, nat_tests, holds-base
 -- the two fixed parts, or the fault of the first condition that they fail
 abbrev pub parts_by : V2Header → V3HeaderBase → Result (V2Header × V3HeaderBase) Fault
 parts_by v2 base =
-    provided (version_conditions v2) (λ _. provided (field_conditions v2 base) (λ _. Ok (v2, base)))
+    after_conditions (version_conditions v2) (λ _. after_conditions (field_conditions v2 base) (λ _. Ok (v2, base)))
 
--- the fixed parts of an image, by what stands there
+-- the fixed parts of an image, by what is there
 pub fixed_parts-by : (image : Image) (v2 : V2Header) (base : V3HeaderBase) → v2_at image ≡ v2
     → base_at image v2.version ≡ base → fixed_parts image ≡ parts_by v2 base
 fixed_parts-by image v2 base is_v2 is_base = grind (arith, nat_tests)
 
--- parts that pass all conditions are answered
+-- parts that pass all conditions are returned
 parts_by-same : (v2 : V2Header) (base : V3HeaderBase) (parts : V2Header × V3HeaderBase)
     → parts_by v2 base ≡ Ok parts → (v2, base) ≡ parts
 parts_by-same v2 base parts is = grind (arith, nat_tests)
 
--- fixed parts that are read stand there, and are lawful
+-- fixed parts that are read are there, and are valid
 pub fixed_parts-are : (image : Image) (parts : V2Header × V3HeaderBase) → fixed_parts image ≡ Ok parts
     → (v2_at image ≡ parts.0) × (base_at image parts.0.version ≡ parts.1)
     × (parts_by parts.0 parts.1 ≡ Ok parts)
@@ -150,7 +150,7 @@ header_from image parts name extensions = record {
 abbrev pub after_extensions : Image → V2Header × V3HeaderBase → Option (List ℕ) → List Extension
     → Result HeaderRecord Fault
 after_extensions image parts name extensions =
-    provided (last_conditions parts.1 extensions) (λ _. Ok (header_from image parts name extensions))
+    after_conditions (last_conditions parts.1 extensions) (λ _. Ok (header_from image parts name extensions))
 
 abbrev pub after_name : Image → V2Header × V3HeaderBase → Option (List ℕ) → Result HeaderRecord Fault
 after_name image parts name =
@@ -166,11 +166,11 @@ pub record HoldLast (base : V3HeaderBase) (extensions : List Extension) : Type 0
   pub features : other_features base ≡ 0
 
 pub last-hold : {T : Type 0} (base : V3HeaderBase) (extensions : List Extension) (x y : T)
-    → provided (last_conditions base extensions) (λ _. Ok x) ≡ Ok y → HoldLast base extensions × (x ≡ y)
+    → after_conditions (last_conditions base extensions) (λ _. Ok x) ≡ Ok y → HoldLast base extensions × (x ≡ y)
 last-hold base extensions x y is = grind (arith, nat_tests)
 
 hold-last : {T : Type 0} (base : V3HeaderBase) (extensions : List Extension) (x : T)
-    → HoldLast base extensions → provided (last_conditions base extensions) (λ _. Ok x) ≡ Ok x
+    → HoldLast base extensions → after_conditions (last_conditions base extensions) (λ _. Ok x) ≡ Ok x
 hold-last base extensions x hold = grind (arith, nat_tests)
 
 -- the header that is read is the image's

@@ -12,7 +12,7 @@ use Rattle.qcow2_metadata.specs.Table.Growth.{Growth, IsEnough, IsLeastSpare, cl
 pub div_ceil-le : (x n k : ℕ) → 0 < n → (div_ceil x n ≤ k) ↔ (x ≤ k * n)
 div_ceil-le x n k some = grind (arith, nat_tests, div_ceil_times, mul-le-mul_right, lt_of_mul-lt-mul_right)
 
--- the next multiple is so many times the number
+-- the next multiple is that many times the number
 next_multiple-times : (x n : ℕ) → 0 < n → next_multiple_of x n ≡ div_ceil x n * n
 next_multiple-times x n some =
     let whole = div-add-mod x n in
@@ -39,7 +39,7 @@ pub record IsRoomy (g : Growth) : Type 0 where
   pub blocks : 1 ≤ g.block_counters
   pub both : 2 ≤ g.cluster_entries * (g.block_counters - 1)
 
--- so many times a number are as often the one below it, and so many
+-- m times a number is m times the one below it, and m more
 times_less : (n m : ℕ) → 1 ≤ n → m * n ≡ m * (n - 1) + m
 times_less n m some =
     let rest = n - 1 in
@@ -47,12 +47,12 @@ times_less n m some =
     let times : m * (rest + 1) ≡ m * rest + m = omega arith in
     rw (← all) at times
 
--- the entries that are wanted fit the clusters that spare blocks count exactly where these are enough: a block counts
+-- the entries that are wanted fit the clusters that spare blocks count exactly where these are enough. A block counts
 -- its own cluster, and as many of the table as it has other counters
 enough-fits : (g : Growth) (spare : ℕ) → IsRoomy g → IsEnough g spare ↔ (max (g.index + 1 + spare) g.len ≤ spare * (g.block_counters - 1) * g.cluster_entries)
 enough-fits g spare roomy = grind (arith, nat_tests, div_ceil-le, times_less, clusters_with-is)
 
--- so many spare blocks are enough exactly from the least number on
+-- that many spare blocks are enough exactly from the least number on
 pub least-enough : (g : Growth) (spare : ℕ) → IsRoomy g → (least_spare g ≤ spare) ↔ IsEnough g spare
 least-enough g spare roomy =
     let entries = g.cluster_entries * (g.block_counters - 1) in
@@ -87,7 +87,7 @@ IsRoomy-of g entries counters = grind (arith, nat_tests, mul-le-mul_right)
 pub needed-least : (g : Growth) (spare least : ℕ) → IsRoomy g → spare ≤ least → IsEnough g least → div_ceil (clusters_with g spare + spare) g.block_counters ≤ least
 needed-least g spare least roomy below enough = grind (arith, nat_tests, clusters_with-more, div_ceil-le)
 
--- the answer, where the number that is tried is the least, and where it takes too many entries already
+-- the result, where the number that is tried is the least, and where it takes too many entries already
 pub possible_spare-found : (g : Growth) (spare : ℕ) → IsLeastSpare g spare → IsRoomy g → entries_with g spare ≤ most_reftable_entries → Some spare ≡ possible_spare g
 possible_spare-found g spare least roomy few = grind (arith, nat_tests, least_spare-is, least-enough)
 

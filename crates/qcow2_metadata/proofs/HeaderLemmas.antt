@@ -30,7 +30,7 @@ abbrev pub all_are : Option (List ℕ) → List (List ℕ) → Bool
 all_are None names = true
 all_are (Some first) names = list_all (pointwise nat_eq first) names
 
--- the names of a list are those before a place, the one at it, and those behind it
+-- the names of a list are those before a place, the one at it, and those after it
 names_by-split : (name_in : Extension → Option (List ℕ)) (held : List HeaderExtension) (i : ℕ)
     (default : HeaderExtension) → i < length held
     → names_by name_in (map extension_of held)
@@ -60,7 +60,7 @@ pub no_name_more : (name_in : Extension → Option (List ℕ)) (held : List Head
     → names_by name_in (map extension_of (take (i + 1) held)) ≡ []
 no_name_more name_in held i extension below is none here = grind (arith, nat_tests, names_by-more)
 
--- a name behind extensions that say none is the first
+-- a name after extensions that say none is the first
 pub first_by_at : (name_in : Extension → Option (List ℕ)) (held : List HeaderExtension) (i : ℕ)
     (extension : HeaderExtension) (name : List ℕ) → i < length held → extension ≡ get_or held i extension
     → names_by name_in (map extension_of (take i held)) ≡ [] → name_in (extension_of extension) ≡ Some name
@@ -96,7 +96,7 @@ same_with_no_name first name_in held i extension below is same none =
     let here : get_or held i extension ≡ extension = sym is in
     rw (more, here, none, append-nil) same
 
--- all names are the first one, with that name behind them too
+-- all names are the first one, with that name after them too
 all_are_push : (first : List ℕ) (names : List (List ℕ)) → all_are (Some first) names ≡ true
     → all_are (Some first) (names ++ first ∷ []) ≡ true
 all_are_push first names same = grind (arith, nat_tests, bytes_eq-Decides, list_all-append)
@@ -108,10 +108,10 @@ pub same_with_first : (first : Option (List ℕ)) (name_in : Extension → Optio
     → all_are first (names_by name_in (map extension_of (take i held))) ≡ true
     → (name : List ℕ) → name_in (extension_of extension) ≡ Some name → first ≡ Some name
     → all_are first (names_by name_in (map extension_of (take (i + 1) held))) ≡ true
-same_with_first first name_in held i extension below is same name said first_is =
+same_with_first first name_in held i extension below is same name extension_in_link first_is =
     let more = names_by-more name_in held i extension below in
     let here : get_or held i extension ≡ extension = sym is in
-    rw (more, here, said, first_is) (all_are_push name _ (rw first_is at same))
+    rw (more, here, extension_in_link, first_is) (all_are_push name _ (rw first_is at same))
 
 -- names with one that isn't the first aren't the same
 differs_among : (names rest : List (List ℕ)) (name : List ℕ)
@@ -129,9 +129,9 @@ pub differs_at : (name_in : Extension → Option (List ℕ)) (held : List Header
     (extension : HeaderExtension) (name : List ℕ) → i < length held → extension ≡ get_or held i extension
     → name_in (extension_of extension) ≡ Some name → first_by name_in (map extension_of held) ≢ Some name
     → all_same (names_by name_in (map extension_of held)) ≡ false
-differs_at name_in held i extension name below is said differs =
+differs_at name_in held i extension name below is extension_in_link differs =
     let before = names_by name_in (map extension_of (take i held)) in
     let behind = names_by name_in (map extension_of (drop (suc i) held)) in
     let here : get_or held i extension ≡ extension = sym is in
-    let split = rw (here, said) at (names_by-split name_in held i extension below) in
+    let split = rw (here, extension_in_link) at (names_by-split name_in held i extension below) in
     rw split (differs_among before behind name (rw split at differs))

@@ -13,7 +13,7 @@ use Rattle.qcow2_metadata.specs.Header.{HeaderRecord, IsLawfulHeader}
 use Rattle.qcow2_metadata.specs.Header.Extensions.{Extension, FeatureKey, FeatureNameTable, FeatureNames, extension_of, name_chunk, names_of}
 use Rattle.qcow2_base.specs.OnDiskStruct.{header_extension_header, v2_header, v3_header_base}
 use Rattle.qcow2_metadata.specs.Header.Features.{feature_type_number}
-use Rattle.qcow2_metadata.specs.Header.Text.{IsChosen, IsLayout, base_with_length, header_end, v2_with_name, kept, chosen, chosen_extensions, header_text, extension_header_of, extension_text, extensions_text, fields_text, fits_first_cluster, name_place, name_text, padded, parts_text, written_text}
+use Rattle.qcow2_metadata.specs.Header.Text.{IsChosen, IsLayout, base_with_length, header_end, v2_with_name, header_after_write, header_to_write, chosen_extensions, header_text, extension_header_of, extension_text, extensions_text, fields_text, fits_first_cluster, name_place, name_text, padded_bytes, parts_text, written_text}
 use Rattle.qcow2_metadata.specs.declared.header.text.Layout.{Layout}
 use Rattle.qcow2_metadata.specs.declared.header.extensions.HeaderExtension.{HeaderExtension}
 use Rattle.qcow2_metadata.proofs.NamesLemmas.{name_chunks_len}
@@ -60,8 +60,8 @@ parts_within_len with_names held i extension below is =
 -- how many bytes extensions take
 pub ruleset lens = (extensions_text_len, parts_within_len, take_all)
 
--- bytes behind others, and the zeros behind them, are the padded bytes behind the others
-pub padded_pieces : (text bytes : List ℕ) → (text ++ bytes) ++ replicate ((8 - length bytes % 8) % 8) 0 ≡ text ++ padded bytes
+-- bytes after others, and the zeros after them, are the padded bytes after the others
+pub padded_pieces : (text bytes : List ℕ) → (text ++ bytes) ++ replicate ((8 - length bytes % 8) % 8) 0 ≡ text ++ padded_bytes bytes
 padded_pieces text bytes = grind (arith, nat_tests, append_assoc)
 
 -- the pieces of a feature's name
@@ -72,7 +72,7 @@ pub name_chunk_pieces : (text : List ℕ) (key : FeatureKey) (name : List ℕ)
 name_chunk_pieces text key name = grind (arith, nat_tests, append_assoc, take_min)
 
 -- names need no padding
-pub names_padded : (names : FeatureNames) → padded (flat_map name_chunk names) ≡ flat_map name_chunk names
+pub names_padded : (names : FeatureNames) → padded_bytes (flat_map name_chunk names) ≡ flat_map name_chunk names
 names_padded names = grind (arith, nat_tests, name_chunks_len, append-nil)
 
 -- the pieces of an extension of names
@@ -91,19 +91,19 @@ extensions_pieces text before after with_names held i all parts zeros =
 -- a header in memory has no layout where its text is longer than the first cluster, which has 2 MiB at most
 pub too_long : (inside header : HeaderRecord) (with_names : Bool) → IsLawfulHeader inside → inside ≡ header
     → (2 ^ header.v2.cluster_bits ≤ 2 ^ 21 → 2 ^ header.v2.cluster_bits
-    < name_place (chosen with_names header) + length (name_text header.backing_filename))
-    → fits_first_cluster (chosen with_names header) ≡ false
+    < name_place (header_to_write with_names header) + length (name_text header.backing_filename))
+    → fits_first_cluster (header_to_write with_names header) ≡ false
 too_long inside header with_names lawful same long = grind (arith, nat_tests, pow_mono, length-header_text)
 
 -- and it has one where the text isn't longer
 pub laid_out : (inside header : HeaderRecord) (layout : Layout) (end place : ℕ) → IsLawfulHeader inside
     → inside ≡ header
-    → end ≡ header_end header → place ≡ name_place (chosen layout.with_names header)
+    → end ≡ header_end header → place ≡ name_place (header_to_write layout.with_names header)
     → layout.v2 ≡ v2_with_name header.v2 place header.backing_filename
     → layout.base ≡ base_with_length header.v2.version header.base end
     → layout.len ≡ place + length (name_text header.backing_filename)
     → layout.len ≤ 2 ^ header.v2.cluster_bits
-    → IsLayout (chosen layout.with_names header) layout
+    → IsLayout (header_to_write layout.with_names header) layout
 laid_out inside header layout end place lawful same ends begins v2 base len short =
     grind (arith, nat_tests, length-header_text)
 
@@ -111,7 +111,7 @@ laid_out inside header layout end place lawful same ends begins v2 base len shor
 pub newer_pieces : (header : HeaderRecord) (layout : Layout) (text first second third : List ℕ) → header.v2.version ≡ 3
     → IsLayout header layout → first ≡ text ++ fields_text (v2_header layout.v2)
     → second ≡ first ++ fields_text (v3_header_base layout.base)
-    → third ≡ second ++ padded header.unknown_header_fields → third ≡ text ++ parts_text header
+    → third ≡ second ++ padded_bytes header.unknown_header_fields → third ≡ text ++ parts_text header
 newer_pieces header layout text first second third newer is v2 base unknown =
     rw (unknown, base, v2, (newer-parts header newer).0, is.v2, is.base) (simp append_assoc)
 
@@ -129,24 +129,24 @@ text_pieces header first second third fourth none parts extensions name = grind 
 
 -- a name that is too long is refused
 pub kept_long : (header : HeaderRecord) → 1023 < length (name_text header.backing_filename)
-    → kept header ≡ Err NameTooLong
-unfolding kept
+    → header_after_write header ≡ Err NameTooLong
+unfolding header_after_write
 kept_long header long = grind (arith, nat_tests)
 
 -- a layout with feature names that was found is the one that is written
 pub whole_chosen : (header : HeaderRecord) (layout : Layout)
     → length (name_text header.backing_filename) ≤ 1023
-    → IsLayout (chosen true header) layout → layout.with_names ≡ true → IsChosen header (Ok layout)
-unfolding kept
+    → IsLayout (header_to_write true header) layout → layout.with_names ≡ true → IsChosen header (Ok layout)
+unfolding header_after_write
 whole_chosen header layout short is names = grind (arith, nat_tests)
 
--- where there is none, the answer is the layout without feature names, or the fault
+-- where there is none, the result is the layout without feature names, or the fault
 pub bare_chosen : (header : HeaderRecord) (found : Option Layout)
     → length (name_text header.backing_filename) ≤ 1023
-    → fits_first_cluster (chosen true header) ≡ false
-    → MatchOption found (fits_first_cluster (chosen false header) ≡ false) (IsLayout (chosen false header))
+    → fits_first_cluster (header_to_write true header) ≡ false
+    → MatchOption found (fits_first_cluster (header_to_write false header) ≡ false) (IsLayout (header_to_write false header))
     → IfSome found (λ layout. layout.with_names ≡ false) → IsChosen header (ok_or found HeaderTooLong)
-unfolding kept
+unfolding header_after_write
 bare_chosen header None short whole few names = grind (arith, nat_tests, short, whole, few)
 bare_chosen header (Some layout) short whole is names = grind (arith, nat_tests)
 

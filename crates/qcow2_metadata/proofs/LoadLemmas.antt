@@ -2,7 +2,7 @@ use Rattle.std.proofs.Common.{◌≡◌, ◌≢◌, ◌⊎◌, ◌==◌, ℕ, �
 use Rattle.std.specs.Prelude.{IsErrAnd}
 use Rattle.std.proofs.lemmas.Bool.Decides.{nat_tests}
 use Rattle.std.proofs.lemmas.Result.{err_from_is_err_and}
-use Rattle.qcow2_base.specs.OnDiskStruct.{HoldsLayout, LayoutField, header_extension_header, layout_end, moved, v2_header, v3_header_base}
+use Rattle.qcow2_base.specs.OnDiskStruct.{HoldsLayout, LayoutField, header_extension_header, layout_end, fields_moved_by, v2_header, v3_header_base}
 use Rattle.qcow2_base.specs.Storage.{Holds, Image, image_of}
 use Rattle.qcow2_base.specs.declared.fault.Fault.{Fault}
 use Rattle.qcow2_base.specs.declared.fault.Fault.TheVariants.{NoMemory, Storage}
@@ -13,19 +13,19 @@ use Rattle.qcow2_base.proofs.OnDiskStructLemmas.{HoldsLayout-moved}
 use Rattle.std.proofs.lemmas.List.{take_at}
 use Rattle.qcow2_metadata.proofs.RangeLemmas.{held-bytes_at}
 use Rattle.qcow2_metadata.proofs.ChainLemmas.{extensions_at-unfold}
-use Rattle.qcow2_metadata.proofs.GrammarLemmas.{fixed_parts-by, header_from, header_of-is, holds-base_at, holds-v2_at, is-header_of, parts_by}
-use Rattle.qcow2_metadata.specs.Results.{Answers, provided, result_map}
-use Rattle.qcow2_metadata.specs.Header.{HeaderRecord, default_base}
+use Rattle.qcow2_metadata.proofs.GrammarLemmas.{fixed_parts-by, header_from, holds-base_at, holds-v2_at, parts_by}
+use Rattle.qcow2_metadata.specs.Results.{Answers, after_conditions, result_map}
+use Rattle.qcow2_metadata.specs.Header.{default_base}
 use Rattle.qcow2_metadata.specs.Header.Chain.{extension_at, extension_header_at, extensions_at}
 use Rattle.qcow2_metadata.specs.Header.Extensions.{Extension}
-use Rattle.qcow2_metadata.specs.Header.Grammar.{FollowsGrammar, backing_name, base_at, field_conditions, fixed_parts, header_extensions, header_of, last_conditions, v2_at, version_conditions}
+use Rattle.qcow2_metadata.specs.Header.Grammar.{backing_name, base_at, field_conditions, fixed_parts, header_extensions, header_of, last_conditions, v2_at, version_conditions}
 
 -- bytes that were read
 pub ruleset bytes_read = (held-bytes_at, take_at)
 
--- a structure that was read stands in the image
+-- a structure that was read is in the image
 read-layout : (image : Image) (offset : ℕ) (bytes : List ℕ) (fields : List LayoutField) → Holds image offset bytes
-    → layout_end fields ≤ length bytes → HoldsLayout (image_of bytes) fields → HoldsLayout image (moved offset fields)
+    → layout_end fields ≤ length bytes → HoldsLayout (image_of bytes) fields → HoldsLayout image (fields_moved_by offset fields)
 read-layout image offset bytes fields held within layout =
     HoldsLayout-moved (image_of bytes) image offset (length bytes) fields held.each within layout
 
@@ -39,12 +39,12 @@ read-v2_at image bytes v2 held within layout =
 pub read-fixed_parts : (image : Image) (bytes : List ℕ) (v2 : V2Header) (base : V3HeaderBase)
     → Holds image 0 bytes
     → 104 ≤ length bytes → HoldsLayout (image_of bytes) (v2_header v2)
-    → ((v2.version ≡ 3) × HoldsLayout (image_of bytes) (moved 72 (v3_header_base base)))
+    → ((v2.version ≡ 3) × HoldsLayout (image_of bytes) (fields_moved_by 72 (v3_header_base base)))
     ⊎ ((v2.version ≢ 3) × (base ≡ default_base))
     → fixed_parts image ≡ parts_by v2 base
 read-fixed_parts image bytes v2 base held within layout (inl newer) =
     let second = holds-base_at image base
-    (read-layout image 0 bytes (moved 72 (v3_header_base base)) held within newer.1) in
+    (read-layout image 0 bytes (fields_moved_by 72 (v3_header_base base)) held within newer.1) in
     fixed_parts-by image v2 base (read-v2_at image bytes v2 held (omega arith) layout)
     (ap (base_at image) newer.0 ∙ second)
 read-fixed_parts image bytes v2 base held within layout (inr older) =
@@ -61,18 +61,18 @@ read-extension_header_at image place bytes header held within layout =
     let kind = simp add-zero at fields.0 in
     λ i. record { extension_type = kind i; length = fields.1.0 i }
 
--- what tests of conditions answer
+-- what tests of conditions return
 abbrev pub tested : List (Bool × Fault) → Result (Unit {0}) Fault
-tested conditions = provided conditions (λ _. Ok tt)
+tested conditions = after_conditions conditions (λ _. Ok tt)
 
 -- conditions of which one failed decide, whatever comes after them
 pub provided-fault : {T : Type 0} (conditions : List (Bool × Fault)) (next : Unit {0} → Result T Fault) (fault : Fault)
-    → Err fault ≡ tested conditions → provided conditions next ≡ Err fault
+    → Err fault ≡ tested conditions → after_conditions conditions next ≡ Err fault
 provided-fault conditions next fault fails = grind arith
 
 -- conditions that hold leave what comes after them
 pub provided-next : {T : Type 0} (conditions : List (Bool × Fault)) (next : Unit {0} → Result T Fault)
-    → Ok tt ≡ tested conditions → provided conditions next ≡ next tt
+    → Ok tt ≡ tested conditions → after_conditions conditions next ≡ next tt
 provided-next conditions next hold = grind arith
 
 -- what the tests of the fixed parts say of both
@@ -82,7 +82,7 @@ pub parts-fault : (v2 : V2Header) (base : V3HeaderBase) (fault : Fault)
 parts-fault v2 base fault fails = grind (arith, nat_tests, provided-fault)
 
 pub parts-next : (v2 : V2Header) (base : V3HeaderBase) → Ok tt ≡ tested (version_conditions v2)
-    → parts_by v2 base ≡ provided (field_conditions v2 base) (λ _. Ok (v2, base))
+    → parts_by v2 base ≡ after_conditions (field_conditions v2 base) (λ _. Ok (v2, base))
 parts-next v2 base hold = grind (arith, nat_tests, provided-next)
 
 -- a fault that is passed on is the expected answer's, where it was that of an earlier step
@@ -117,11 +117,6 @@ pub extensions_at-fault : (image : Image) (len place : ℕ) (fault : Fault) → 
     → extensions_at image len place ≡ Err fault
 extensions_at-fault image len place fault is = extensions_at-unfold image len place ∙ rw is refl
 
--- an answer that is the function's follows the grammar
-pub follows-grammar : (answer : Result HeaderRecord Fault) (image : Image) → Answers (λ header. header) answer (header_of image)
-    → FollowsGrammar answer image
-follows-grammar answer image is = grind (arith, nat_tests, header_of-is, is-header_of)
-
 -- the fault of the fixed parts is the header's
 pub header-parts-fault : (image : Image) (fault : Fault) → fixed_parts image ≡ Err fault → header_of image ≡ Err fault
 unfolding header_of
@@ -140,12 +135,12 @@ pub header-extensions-fault : (image : Image) (v2 : V2Header) (base : V3HeaderBa
 unfolding header_of
 header-extensions-fault image v2 base name fault fixed named bad = rw (fixed, named, bad) refl
 
--- after all parts their last conditions tell what comes
+-- after all parts their last conditions decide what comes
 pub header-last : (image : Image) (v2 : V2Header) (base : V3HeaderBase) (name : Option (List ℕ))
     (extensions : List Extension)
     → fixed_parts image ≡ Ok (v2, base) → backing_name image v2 ≡ Ok name
     → header_extensions image v2 base ≡ Ok extensions
     → header_of image
-    ≡ provided (last_conditions base extensions) (λ _. Ok (header_from image (v2, base) name extensions))
+    ≡ after_conditions (last_conditions base extensions) (λ _. Ok (header_from image (v2, base) name extensions))
 unfolding header_of
 header-last image v2 base name extensions fixed named extended = rw (fixed, named, extended) refl

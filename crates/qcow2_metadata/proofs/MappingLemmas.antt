@@ -92,7 +92,7 @@ compressed_fields cb offset sectors low high fits few =
 compressed_is_lawful : (cb offset sectors : ℕ) → 9 ≤ cb → cb ≤ 21 → offset < 2 ^ (70 - cb) → offset < 2 ^ 56 → sectors < 2 ^ (cb - 8) → l2_fault cb (2 ^ 62 + sectors * 2 ^ (70 - cb) + offset) ≡ None
 compressed_is_lawful cb offset sectors low high fits placed few = grind (arith, nat_tests, compressed_fields, lt-ltb)
 
--- so many sectors beyond the first can be told
+-- that many sectors beyond the first can be stored
 sectors_below : (cb offset length : ℕ) → 9 ≤ cb → length < 2 ^ cb → sectors_beyond offset length < 2 ^ (cb - 8)
 sectors_below cb offset length low short =
     let all = sectors_fill_two_clusters cb (omega arith) in
@@ -109,7 +109,7 @@ compressed_reads cb guest_cluster offset length external low high fits placed so
 pub compressed_parts_fit : (cb offset length : ℕ) → 9 ≤ cb → cb ≤ 21 → offset < 2 ^ (70 - cb) → length < 2 ^ cb → sectors_beyond offset length * 2 ^ (70 - cb) + offset < 2 ^ 62
 compressed_parts_fit cb offset length low high fits short = below_bit_62 cb offset _ low high fits (sectors_below cb offset length low short)
 
--- a mapping's number is lawful
+-- a mapping's number is valid
 pub entry_is_lawful : (cb : ℕ) (m : L2Mapping) → IsPlaced cb m → FitsEntry cb m → l2_fault cb (entry_of cb (meaning m)) ≡ None
 entry_is_lawful cb (DataFile host_cluster copied) placed fits =
     let at : copied_bit copied + host_cluster.0 * 2 ^ cb ≡ standard_number cb host_cluster.0 copied false = omega arith in

@@ -27,7 +27,7 @@ use Rattle.qcow2_metadata.specs.declared.header.features.FeatureType.TheVariants
 abbrev pub normal_named : FeatureKey × List ℕ → FeatureKey × List ℕ
 normal_named named = (named.0, normal_name named.1)
 
--- zeros behind a name are no part of it
+-- zeros after a name are no part of it
 until_zero-zeros : (name : List ℕ) (n : ℕ) → until_zero (name ++ replicate n 0) ≡ until_zero name
 until_zero-zeros [] zero = refl
 until_zero-zeros [] (suc n) = refl
@@ -44,7 +44,7 @@ length-name_chunk named =
       length-replicate {A = ℕ} (46 - length named.1) 0,
     )
 
--- so many names have chunks of 48 bytes each
+-- that many names have chunks of 48 bytes each
 pub name_chunks_len : (names : FeatureNames) → length (flat_map name_chunk names) ≡ 48 * length names
 name_chunks_len [] = refl
 name_chunks_len (named ∷ names) = grind (arith, nat_tests, length-append, length-name_chunk, name_chunks_len names)
@@ -81,7 +81,7 @@ insert_entry-last [] more named sorted = refl
 insert_entry-last (first ∷ done) more named sorted =
     grind (arith, nat_tests, key_cmp-above, above_middle, insert_entry-last done more named sorted.1)
 
--- the chunk behind those of other names
+-- the chunk after those of other names
 chunk_at-name : (done more : FeatureNames) (named : FeatureKey × List ℕ)
     → chunk_at (flat_map name_chunk (done ++ named ∷ more)) (length done) ≡ name_chunk named
 chunk_at-name [] more named =
@@ -133,7 +133,7 @@ storable-reads_back (FeatureNameTable names) storable =
 storable-reads_back (Unknown number content) storable =
     (storable.0, λ zero. storable.1 kind.End (sym zero), parsed-unknown number content storable.1)
 
--- what stands before the first zero byte is the list's front
+-- what comes before the first zero byte is the list's front
 until_zero-take : (bytes : List ℕ) → until_zero bytes ≡ take (length (until_zero bytes)) bytes
 until_zero-take [] = refl
 until_zero-take (byte ∷ bytes) = grind (arith, nat_tests, until_zero-take bytes)
@@ -156,7 +156,7 @@ until_zero-front (byte ∷ front) last none =
     let more = until_zero-cons byte (front ++ last) none in
     rw more.0 (ap (λ (text : List ℕ). byte ∷ text) (until_zero-front front last more.1))
 
--- behind bytes without a zero byte the next ones count
+-- after bytes without a zero byte the next ones count
 until_zero-behind : (front last : List ℕ) → until_zero front ≡ front
     → until_zero (front ++ last) ≡ front ++ until_zero last
 until_zero-behind [] last none = refl

@@ -10,10 +10,11 @@ use Rattle.qcow2_base.specs.declared.types.HostCluster.{HostCluster}
 use Rattle.std.proofs.lemmas.List.FromFn.{get_or-map-range_with_len}
 use Rattle.qcow2_metadata.proofs.PieceLemmas.{numbers_stand}
 use Rattle.qcow2_metadata.proofs.PackingLemmas.{counters_at-held, map_range_at}
-use Rattle.qcow2_metadata.specs.Table.{Kind, TablePlace, TableState, offset_of, table_on_storage, place_of, table_numbers, write_fault}
-use Rattle.qcow2_metadata.specs.Table.OneEntry.{EntryRange, IsEntryWriteFault, IsWrittenEntry, IsPartOfCluster, WritesEntries, WritesEntry, cluster_offset, numbers_in, entries_together, range_offset}
+use Rattle.qcow2_metadata.specs.Placed.{write_fault}
+use Rattle.qcow2_metadata.specs.Table.{Kind, TableState, layout_of_table, table_layout, table_numbers}
+use Rattle.qcow2_metadata.specs.Table.OneEntry.{EntryRange, IsEntryWriteFault, IsWrittenEntry, IsPartOfCluster, WritesEntries, WritesEntry, entry_cluster_offset, numbers_in, entries_together, range_offset}
 
--- entries whose numbers stand in bytes that an image holds
+-- entries whose numbers are in bytes that an image holds
 pub written_entries : (image : Image) (offset : ℕ) (bytes : List ℕ) (range : EntryRange) (numbers : List ℕ) → range.count ≡ length bytes / 8 → Holds image offset bytes
     → ((i : ℕ) → 8 * i + 8 ≤ length bytes → be (image_of bytes) (8 * i) 8 ≡ slice_index numbers (range.first + i))
     → table_numbers image offset range.count ≡ numbers_in range numbers
@@ -121,41 +122,40 @@ table_with_entry offset index range numbers old new from below written outside o
 pub part-few : (cb count : ℕ) → cb ≤ 21 → IsPartOfCluster cb count → (0 < count) × (count ≤ 2 ^ 18)
 part-few cb count low (k, is, few) = search (rules, pow_pos, pow_mono)
 
--- the refusals of a write whose place is lawful
+-- the refusals of a write whose place is valid
 faults_of : {T : Type 0} (range : EntryRange) (of_place : Option Fault) (answer : Result T Fault) → IfErr answer (λ fault. (fault ≡ Storage) ⊎ ((fault ≡ NoMemory) × (piece_size < 8 * range.count))) → IfErr answer (IsEntryWriteFault range of_place)
 faults_of range of_place answer faults = grind arith
 
 -- the entries that were written are those that were to be, and then so is the table
-written_of : {T : Type 0} (index : ℕ) (range : EntryRange) (place : TablePlace) (numbers : List ℕ) (answer : Result T Fault) (old new : Image) → place.entries ≡ length numbers → range.first ≤ index → index < range.first + range.count
-    → SameOutside (range_offset place range) (8 * range.count) old new → OnOk answer (table_numbers new (range_offset place range) range.count ≡ numbers_in range numbers) → OnOk answer (IsWrittenEntry index range place numbers old new)
-written_of index range place numbers (Err fault) old new count from below outside written = tt
-written_of index range place numbers (Ok value) old new count from below outside written = record {
+written_of : {T : Type 0} (index : ℕ) (range : EntryRange) (kind : Kind) (cb : ℕ) (cluster : HostCluster) (numbers : List ℕ) (answer : Result T Fault) (old new : Image) → range.first ≤ index → index < range.first + range.count
+    → SameOutside (range_offset (table_layout kind cb (length numbers)) cluster range) (8 * range.count) old new → OnOk answer (table_numbers new (range_offset (table_layout kind cb (length numbers)) cluster range) range.count ≡ numbers_in range numbers) → OnOk answer (IsWrittenEntry index range (table_layout kind cb (length numbers)) cluster numbers old new)
+written_of index range kind cb cluster numbers (Err fault) old new from below outside written = tt
+written_of index range kind cb cluster numbers (Ok value) old new from below outside written = record {
   entries = written;
-  table = λ others. rw count (table_with_entry (offset_of place) index range numbers old new from below written outside others);
+  table = table_with_entry (cluster.0 * 2 ^ cb) index range numbers old new from below written outside;
 }
 
 -- nothing else in the cluster's neighbours changed
 wider : (offset len cluster size : ℕ) (old new : Image) → cluster ≤ offset → offset + len ≤ cluster + size → SameOutside offset len old new → SameOutside cluster size old new
 wider offset len cluster size old new from within outside = grind (arith)
 
--- a write of a table's entries at a lawful place is one of the entry
-pub WritesEntry-of : {T : Type 0} (kind : Kind) (index : ℕ) (table : TableState) (cluster : HostCluster) (answer : Result T Fault) (old new : StorageState) → table.cluster ≡ Some cluster → write_fault kind table ≡ None
+-- a write of a table's entries at a valid place is one of the entry
+pub WritesEntry-of : {T : Type 0} (kind : Kind) (index : ℕ) (table : TableState) (cluster : HostCluster) (answer : Result T Fault) (old new : StorageState) → table.cluster ≡ Some cluster → write_fault (layout_of_table kind table) table.cluster ≡ None
     → table.geometry.cluster_bits ≤ 21 → IsPartOfCluster table.geometry.cluster_bits (entries_together table.geometry.cluster_bits old index).count
     → WritesEntries answer (cluster.0 * 2 ^ table.geometry.cluster_bits + 8 * (entries_together table.geometry.cluster_bits old index).first) (entries_together table.geometry.cluster_bits old index) table.numbers old new
-    → WritesEntry kind index (entries_together table.geometry.cluster_bits old index) answer (table_on_storage table old) (table_on_storage table new)
+    → WritesEntry (layout_of_table kind table) index (entries_together table.geometry.cluster_bits old index) answer table table old new
 WritesEntry-of kind index table cluster answer old new has none low part wrote =
     let cb = table.geometry.cluster_bits in
+    let layout = layout_of_table kind table in
     let range = entries_together cb old index in
-    let place : TablePlace = record { geometry = table.geometry; cluster = cluster; entries = length table.numbers } in
-    let here : place_of table ≡ Some place = rw has refl in
     let few = part-few cb range.count low part in
     let with_it = multiple_before index range.count few.0 in
     let within = group-within cb range.count cluster.0 index part few.0 in
     record {
       refused = rw none tt;
-      faults = faults_of range (write_fault kind table) answer wrote.faults;
+      faults = faults_of range (write_fault layout table.cluster) answer wrote.faults;
       table = refl;
-      written = λ told. rw here (written_of index range place table.numbers answer old.byte_at new.byte_at refl with_it.0 with_it.1 (wrote.storage.others told) (wrote.written told));
-      cluster = λ told. rw here (wider (range_offset place range) (8 * range.count) (cluster_offset place index) (2 ^ cb) old.byte_at new.byte_at within.0 within.1 (wrote.storage.others told));
-      storage = rw here wrote.storage;
+      written = λ told. rw has (written_of index range kind cb cluster table.numbers answer old.byte_at new.byte_at with_it.0 with_it.1 (wrote.storage.others told) (wrote.written told));
+      cluster = λ told. rw has (wider (range_offset layout cluster range) (8 * range.count) (entry_cluster_offset layout cluster index) (2 ^ cb) old.byte_at new.byte_at within.0 within.1 (wrote.storage.others told));
+      storage = rw has wrote.storage;
     }

@@ -10,7 +10,7 @@ use Rattle.std.proofs.Math.Arith.{mod-mul}
 use Rattle.qcow2_base.specs.Bits.{field}
 use Rattle.qcow2_base.specs.Storage.{Holds, Image, IsBytes, be, be_fits, be_of_same, be_tells, image_of}
 use Rattle.qcow2_metadata.specs.Refblock.Counters.{AreCounters}
-use Rattle.qcow2_metadata.specs.Refblock.Packing.{bytes_each, counter_at, counters_at, from_digits, packed, per_byte, width}
+use Rattle.qcow2_metadata.specs.Refblock.Packing.{bytes_each, counter_at, counters_at, from_digits, counter_bytes, per_byte, width}
 use Rattle.std.proofs.lemmas.Bool.Decides.{nat_tests}
 
 -- lists made from functions that agree at their places
@@ -53,7 +53,7 @@ width-per_byte = narrow_cases (λ order. width order * per_byte order ≡ 8) ref
 pub width-bytes_each : (order : ℕ) → 4 ≤ order → order ≤ 6 → 2 ^ width order ≡ 256 ^ bytes_each order
 width-bytes_each = wide_cases (λ order. 2 ^ width order ≡ 256 ^ bytes_each order) refl refl refl
 
--- how many counters stand in len bytes
+-- how many counters are in len bytes
 pub narrow_count : (order : ℕ) → order ≤ 3 → (n len : ℕ) → width order * n ≡ 8 * len → n ≡ per_byte order * len
 narrow_count = narrow_cases (λ order. (n len : ℕ) → width order * n ≡ 8 * len → n ≡ per_byte order * len)
     (λ n len whole. omega arith) (λ n len whole. omega arith) (λ n len whole. omega arith) (λ n len whole. omega arith)
@@ -76,7 +76,7 @@ digit_is w (x ∷ digits) zero small = grind (arith, nat_tests, All-head, add-mu
 digit_is w (x ∷ digits) (suc k) small =
     grind (arith, nat_tests, All-head, All-tail, shifted_by_digit, digit_is w digits k (All-tail (λ digit. digit < 2 ^ w) x digits small))
 
--- the number with so many digits of v from digit a on
+-- the number with that many digits of v from digit a on
 pub digits_of_number : (w v a m : ℕ) → from_digits (2 ^ w) (map (λ k. field v (w * k) w) (range_with_len a m)) ≡ v / 2 ^ (w * a) % 2 ^ (w * m)
 digits_of_number w v a zero = rw (mul-zero w) (sym (mod-one (v / 2 ^ (w * a))))
 digits_of_number w v a (suc m) =
@@ -171,7 +171,7 @@ pub counters_at-held : (order n len : ℕ) (image : Image) (offset : ℕ) (bytes
 counters_at-held order n len image offset bytes low whole within held =
     counters_at-same order n len image (image_of bytes) offset 0 low whole (λ k below. rw (zero-add k) (sym (held.each k (omega arith))))
 
--- the counters of len bytes, and those that stand behind them
+-- the counters of len bytes, and those that come after them
 pub counters_at-append : (order n m len : ℕ) (image : Image) (offset : ℕ) → order ≤ 6 → width order * n ≡ 8 * len → counters_at order image offset (n + m) ≡ counters_at order image offset n ++ counters_at order image (offset + len) m
 counters_at-append order n m len image offset low whole = grind (arith, nat_tests, map_range-append, counter_at-later)
 
@@ -182,8 +182,8 @@ counters_at-more order image offset n = map-range_with_len_more (counter_at orde
 counter_is_small : (order : ℕ) (counters : List ℕ) (i : ℕ) → AreCounters order counters → slice_index counters i < 2 ^ width order
 counter_is_small order counters i small = grind (arith, get_or_past, pow_pos)
 
--- counters that are packed stand in their bytes
-pub counter_at-packed : (order : ℕ) (counters : List ℕ) (i : ℕ) → order ≤ 6 → AreCounters order counters → counter_at order (packed order counters) 0 i ≡ slice_index counters i
+-- counters that are packed are in their bytes
+pub counter_at-packed : (order : ℕ) (counters : List ℕ) (i : ℕ) → order ≤ 6 → AreCounters order counters → counter_at order (counter_bytes order counters) 0 i ≡ slice_index counters i
 counter_at-packed order counters i low small = elim (cases_lt order 4) [
   | inl less ↦
       let narrow : order ≤ 3 = omega arith in
@@ -200,7 +200,7 @@ counter_at-packed order counters i low small = elim (cases_lt order 4) [
   | inr wide ↦
       let s = bytes_each order in
       let v = slice_index counters i in
-      let number = be_of_parts (packed order counters) (0 + s * i) s v
+      let number = be_of_parts (counter_bytes order counters) (0 + s * i) s v
       (λ k below. let at : 0 + s * i + k ≡ i * s + k = omega arith in
       rw (at, lt-leb order 3 wide, div-mul-add i s k below, mod-mul-add i s k below) refl) in
       let fits : v < 256 ^ s = rw (width-bytes_each order wide low) at (counter_is_small order counters i small) in
@@ -208,7 +208,7 @@ counter_at-packed order counters i low small = elim (cases_lt order 4) [
 ]
 
 -- a byte whose digits are read and packed again
-narrow_byte_again : (order n len : ℕ) (image : Image) (offset j : ℕ) → order ≤ 3 → IsBytes image → width order * n ≡ 8 * len → j < len → packed order (counters_at order image offset n) j ≡ image (offset + j)
+narrow_byte_again : (order n len : ℕ) (image : Image) (offset j : ℕ) → order ≤ 3 → IsBytes image → width order * n ≡ 8 * len → j < len → counter_bytes order (counters_at order image offset n) j ≡ image (offset + j)
 narrow_byte_again order n len image offset j narrow bytes whole below =
     let w = width order in
     let per = per_byte order in
@@ -227,7 +227,7 @@ narrow_byte_again order n len image offset j narrow bytes whole below =
     let all : v / 2 ^ (w * 0) % 2 ^ (w * per) ≡ v = rw (mul-zero w, width-per_byte order narrow) (omega (arith, bytes (offset + j))) in
     rw (le-leb order 3 narrow) (ap (from_digits (2 ^ w)) digits ∙ number ∙ all)
 
-wide_byte_again : (order n len : ℕ) (image : Image) (offset j : ℕ) → 4 ≤ order → order ≤ 6 → IsBytes image → width order * n ≡ 8 * len → j < len → packed order (counters_at order image offset n) j ≡ image (offset + j)
+wide_byte_again : (order n len : ℕ) (image : Image) (offset j : ℕ) → 4 ≤ order → order ≤ 6 → IsBytes image → width order * n ≡ 8 * len → j < len → counter_bytes order (counters_at order image offset n) j ≡ image (offset + j)
 wide_byte_again order n len image offset j wide low bytes whole below =
     let s = bytes_each order in
     let i = j / s in
@@ -239,7 +239,7 @@ wide_byte_again order n len image offset j wide low bytes whole below =
     (byte_of_be image (offset + s * i) s (j % s) bytes (mod_below j s (pow_pos (order - 3))) ∙ ap image place)
 
 -- counters that are read from whole bytes have these bytes when they are packed
-pub packed-counters_at : (order n len : ℕ) (image : Image) (offset j : ℕ) → order ≤ 6 → IsBytes image → width order * n ≡ 8 * len → j < len → packed order (counters_at order image offset n) j ≡ image (offset + j)
+pub packed-counters_at : (order n len : ℕ) (image : Image) (offset j : ℕ) → order ≤ 6 → IsBytes image → width order * n ≡ 8 * len → j < len → counter_bytes order (counters_at order image offset n) j ≡ image (offset + j)
 packed-counters_at order n len image offset j low bytes whole below = elim (cases_lt order 4) [
   | inl less ↦ narrow_byte_again order n len image offset j (omega arith) bytes whole below
   | inr wide ↦ wide_byte_again order n len image offset j wide low bytes whole below
@@ -251,10 +251,10 @@ wide_counters-more number order image items before x size i wide each read so_fa
 
 -- one wide counter more is written
 pub wide_bytes-more : (order size first index : ℕ) (counters old new : List ℕ) → 4 ≤ order → size ≡ bytes_each order → IsBytes (image_of new)
-    → ((i : ℕ) → i < size * index → slice_index old i ≡ packed order counters (size * first + i))
+    → ((i : ℕ) → i < size * index → slice_index old i ≡ counter_bytes order counters (size * first + i))
     → be (image_of new) (size * index) size ≡ slice_index counters (first + index)
     → ((i : ℕ) → (i < size * index) ⊎ (size * index + size ≤ i) → slice_index new i ≡ slice_index old i)
-    → (i : ℕ) → i < size * (index + 1) → slice_index new i ≡ packed order counters (size * first + i)
+    → (i : ℕ) → i < size * (index + 1) → slice_index new i ≡ counter_bytes order counters (size * first + i)
 wide_bytes-more order size first index counters old new wide each bytes so_far number kept i below = elim (cases_lt i (size * index)) [
   | inl before ↦ kept i (inl before) ∙ so_far i before
   | inr from ↦

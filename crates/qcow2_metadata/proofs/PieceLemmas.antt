@@ -1,35 +1,38 @@
-use Rattle.std.proofs.Common.{◌≡◌, ℕ, ◌+◌, ◌*◌, ◌<◌, ◌≤◌, List, [], ◌++◌, length, get_or, replicate, slice_get, slice_index, Option, Some, None, IfSome, IsSome, option_map, take, refl, sym, ◌∙◌, ap, inl, inr, arith, ◌/◌, ◌%◌, ◌^◌, lit≤, All}
+use Rattle.std.proofs.Common.{◌≡◌, ℕ, ◌+◌, ◌*◌, ◌<◌, ◌≤◌, List, [], ◌++◌, length, get_or, replicate, slice_get, slice_index, Option, IsSome, option_map, take, refl, sym, ◌∙◌, ap, inl, inr, arith, ◌/◌, ◌%◌, ◌^◌, lit≤, All}
 use Rattle.std.proofs.lemmas.List.{get_or-take, length-take, get_or_past}
 use Rattle.std.proofs.lemmas.Bool.{cases_lt}
 use Rattle.std.proofs.lemmas.Option.{slice_get-get_or}
 use Rattle.qcow2_base.proofs.StorageLemmas.{image_of-padded}
-use Rattle.qcow2_base.specs.Storage.{Image, IsBytes, SameOutside, be, be_of_same, image_of}
+use Rattle.qcow2_base.specs.Storage.{Image, IsBytes, be, be_of_same, image_of}
 use Rattle.qcow2_metadata.specs.Pieces.{Stand, number_bytes}
-use Rattle.qcow2_metadata.specs.Table.{TablePlace, numbers_at, offset_of, table_numbers}
+use Rattle.qcow2_base.specs.declared.types.HostCluster.{HostCluster}
+use Rattle.qcow2_metadata.specs.Placed.{ReadsBack}
+use Rattle.qcow2_metadata.specs.Table.{IsValidTable, Kind, table_layout, table_numbers}
 use Rattle.qcow2_metadata.proofs.PackingLemmas.{byte_of_be}
 use Rattle.qcow2_metadata.proofs.RefblockLemmas.{stand-decoded, stand-same}
 use Rattle.std.proofs.lemmas.List.FromFn.{fill_by_all}
 
--- the first so many numbers stand in the image
+-- the first k numbers are in the image
 pub numbers_stand : (image : Image) (offset k : ℕ) (numbers : List ℕ) → k ≤ length numbers → ((i : ℕ) → i < k → be image (offset + 8 * i) 8 ≡ get_or numbers i 0) → table_numbers image offset k ≡ take k numbers
 numbers_stand image offset k numbers within each =
     sym (fill_by_all (λ i. be image (offset + 8 * i) 8) (take k numbers) k 0 (omega (arith, length-take k numbers)) (λ i below. get_or-take k numbers i 0 below ∙ sym (each i below)))
 
--- where the bytes of numbers of 64 bits stand, these are the table's
+-- where the bytes of numbers of 64 bits are in an image, these are the numbers of the table there
 pub table-stands : (numbers : List ℕ) (image : Image) (offset : ℕ) → All (λ v. v < 2 ^ 64) numbers
     → Stand (number_bytes numbers) (8 * length numbers) image offset → table_numbers image offset (length numbers) ≡ numbers
 table-stands numbers image offset fits stand =
     stand-decoded 6 (length numbers) (8 * length numbers) numbers image offset (lit≤ tt) fits refl (omega arith) stand
 
--- a table that is written where it stands already changes no byte
-pub table-same : (numbers : List ℕ) (place : Option TablePlace) (offset : ℕ) (old new : Image) → option_map offset_of place ≡ Some offset → IfSome place (λ p. p.entries ≡ length numbers) → IsBytes old
-    → Stand (number_bytes numbers) (8 * length numbers) new offset → SameOutside offset (8 * length numbers) old new → IfSome place (λ p. numbers_at p old ≡ numbers → new ≡ old)
-table-same numbers None offset old new at count small stand outside = tt
-table-same numbers (Some place) offset old new at count small stand outside =
-    let here : offset_of place ≡ offset = cc in
-    rw (here, count) (stand-same 6 (length numbers) (8 * length numbers) numbers old new offset (lit≤ tt) small (omega arith) stand outside)
+-- the bytes of a valid table read back as its numbers
+pub table_reads_back : (kind : Kind) (cb : ℕ) (cluster : Option HostCluster) (numbers : List ℕ) → IsValidTable kind cb cluster numbers → ReadsBack (table_layout kind cb (length numbers)) numbers
+table_reads_back kind cb cluster numbers valid = record {
+  valid = valid.entries.valid;
+  decoded = λ image offset. table-stands numbers image offset valid.entries.fits;
+  same = λ old new offset small stand outside.
+      stand-same 6 (length numbers) (8 * length numbers) numbers old new offset (lit≤ tt) small (omega arith) stand outside;
+}
 
--- the bytes of numbers that stand in eights are theirs
+-- bytes that have numbers, eight bytes each, are the bytes of these numbers
 pub piece_bytes : (bytes numbers : List ℕ) (first : ℕ) → IsBytes (image_of bytes) → length bytes % 8 ≡ 0
     → ((i : ℕ) → 8 * i + 8 ≤ length bytes → be (image_of bytes) (8 * i) 8 ≡ slice_index numbers (first + i))
     → (i : ℕ) → i < length bytes → slice_index bytes i ≡ number_bytes numbers (8 * first + i)

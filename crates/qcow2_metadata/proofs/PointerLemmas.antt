@@ -1,11 +1,12 @@
-use Rattle.std.proofs.Common.{◌≡◌, ℕ, ◌+◌, ◌-◌, ◌*◌, ◌%◌, ◌^◌, Option, None, Some, option_map, ◌<◌, ◌≤◌, List, [], ◌∷◌, drop, length, slice_range, refl, sym, ◌∙◌, arith}
+use Rattle.std.proofs.Common.{◌≡◌, ℕ, ◌+◌, ◌-◌, ◌*◌, ◌%◌, ◌^◌, Option, None, Some, option_map, ◌<◌, ◌≤◌, List, [], ◌∷◌, drop, length, slice_range, sym, ◌∙◌, arith}
 use Rattle.std.proofs.lemmas.List.{length-drop, length-take}
 use Rattle.std.proofs.Math.Nat.{mul-mod_left}
 use Rattle.std.proofs.lemmas.List.Edits.{get_or-between}
 use Rattle.qcow2_base.proofs.OnDiskStructLemmas.{number_of_same}
 use Rattle.qcow2_base.specs.OnDiskStruct.{HoldsLayout, LayoutField}
 use Rattle.qcow2_base.specs.declared.types.HostCluster.{HostCluster}
-use Rattle.qcow2_metadata.specs.Table.{TableState, offset_of, place_of}
+use Rattle.qcow2_metadata.specs.Placed.{Layout, offset_of}
+use Rattle.qcow2_metadata.specs.Table.{TableState}
 use Rattle.qcow2_metadata.specs.Header.Pointers.{HoldsBetween}
 use Rattle.qcow2_base.specs.Storage.{Holds, Image, image_of}
 
@@ -27,14 +28,14 @@ part-between image bytes first end (f ∷ fields) within held layout = (
 )
 
 -- a table's offset is a multiple of the cluster size
-pub table_offset_aligned : (table : TableState) (offset cb : ℕ)
-    → Some offset ≡ option_map offset_of (place_of table)
+pub table_offset_aligned : (layout : Layout) (table : TableState) (offset cb : ℕ)
+    → Some offset ≡ option_map (offset_of layout) table.cluster
+    → layout.cluster_bits ≡ table.geometry.cluster_bits
     → table.geometry.cluster_bits ≡ cb → offset % 2 ^ cb ≡ 0
-table_offset_aligned table offset cb is same = by_cluster table.cluster refl
+table_offset_aligned layout table offset cb is bits same = by_cluster table.cluster is
   where
-    by_cluster : (cluster : Option HostCluster) → table.cluster ≡ cluster → offset % 2 ^ cb ≡ 0
-    by_cluster None none = let nowhere : option_map offset_of (place_of table) ≡ None = rw none refl in cc
-    by_cluster (Some cluster) some =
-        let there : option_map offset_of (place_of table) ≡ Some (cluster.0 * 2 ^ table.geometry.cluster_bits) = rw some refl in
-        let at : offset ≡ cluster.0 * 2 ^ table.geometry.cluster_bits = cc in
-        rw (at, same) (mul-mod_left cluster.0 (2 ^ cb))
+    by_cluster : (cluster : Option HostCluster) → Some offset ≡ option_map (offset_of layout) cluster → offset % 2 ^ cb ≡ 0
+    by_cluster None at = absurd cc
+    by_cluster (Some cluster) at =
+        let there : offset ≡ cluster.0 * 2 ^ layout.cluster_bits = cc in
+        rw (there, bits, same) (mul-mod_left cluster.0 (2 ^ cb))

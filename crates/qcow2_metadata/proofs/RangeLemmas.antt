@@ -8,7 +8,7 @@ use Rattle.qcow2_metadata.specs.Range.{bytes_at}
 pub held-bytes_at : (image : Image) (offset : ℕ) (bytes : List ℕ) → Holds image offset bytes → bytes ≡ bytes_at image offset (length bytes)
 held-bytes_at image offset bytes held = fill_by_all (λ i. image (offset + i)) bytes (length bytes) 0 refl held.each
 
--- so many bytes are as many
+-- the bytes from a place on are as many as are asked for
 pub length-bytes_at : (image : Image) (place len : ℕ) → length (bytes_at image place len) ≡ len
 length-bytes_at image place len = length-map-range_with_len (λ i. image (place + i)) 0 len
 

@@ -1,4 +1,4 @@
-use Rattle.std.proofs.Common.{◌≡◌, ℕ, ◌+◌, ◌-◌, ◌*◌, ◌/◌, ◌%◌, ◌^◌, ◌<◌, ◌≤◌, Bool, List, ◌++◌, length, replicate, slice_set, Option, Some, None, min, inl, inr, refl, ap, sym, ◌∙◌, arith, pow-add, pow_pos}
+use Rattle.std.proofs.Common.{◌≡◌, ℕ, ◌+◌, ◌-◌, ◌*◌, ◌/◌, ◌%◌, ◌^◌, ◌<◌, ◌≤◌, List, ◌++◌, length, replicate, slice_set, Option, None, min, inl, inr, refl, ap, sym, ◌∙◌, arith, pow-add, pow_pos}
 use mathlib.Core.Path.{fun_ext}
 use Rattle.std.proofs.Math.Nat.{mul-add, mul-div_cancel_left, mul_assoc, pow-le-pow_right}
 use Rattle.std.proofs.lemmas.Bool.{cases_lt}
@@ -10,8 +10,9 @@ use Rattle.qcow2_metadata.specs.Pieces.{Stand}
 use Rattle.qcow2_base.specs.Types.{IsClusterBits}
 use Rattle.qcow2_base.specs.declared.types.HostCluster.{HostCluster}
 use Rattle.qcow2_metadata.specs.Refblock.Counters.{AreCounters, CanHold, IsOfOrder, kept_counters}
-use Rattle.qcow2_metadata.specs.Refblock.{IsLawfulBlock, IsWrittenBlock, block_entries, block_offset, greatest_counter}
-use Rattle.qcow2_metadata.specs.Refblock.Packing.{counter_at, counters_at, packed, per_byte, width}
+use Rattle.qcow2_metadata.specs.Placed.{ReadsBack}
+use Rattle.qcow2_metadata.specs.Refblock.{BlockGeometry, IsValidBlock, block_entries, block_geometry, block_layout, greatest_counter}
+use Rattle.qcow2_metadata.specs.Refblock.Packing.{counter_at, counters_at, counter_bytes, per_byte, width}
 use Rattle.qcow2_metadata.specs.declared.refblock.counters.Counters.{Counters}
 use Rattle.qcow2_metadata.specs.declared.refblock.counters.Counters.TheVariants.{U8, U16, U32, U64}
 use Rattle.std.proofs.lemmas.Bool.Decides.{nat_tests}
@@ -24,13 +25,13 @@ counter_holds order (U16 list) number kind fits = let same = rw kind at fits in 
 counter_holds order (U32 list) number kind fits = let same = rw kind at fits in omega (arith, same)
 counter_holds order (U64 list) number kind fits = let same = rw kind at fits in omega (arith, same)
 
--- a block of zeros is lawful
-pub zeros_are_lawful : (cb order : ℕ) (counters : Counters) → IsClusterBits cb → order ≤ 6 → kept_counters counters ≡ replicate (block_entries cb order) 0 → IsLawfulBlock cb order None (kept_counters counters)
-zeros_are_lawful cb order counters bits orders zeros = grind (arith, pow_pos, common_steps)
+-- a block of zeros is valid
+pub zeros_are_valid : (cb order : ℕ) (counters : Counters) → IsClusterBits cb → order ≤ 6 → kept_counters counters ≡ replicate (block_entries cb order) 0 → IsValidBlock (block_geometry cb order) None (kept_counters counters)
+zeros_are_valid cb order counters bits orders zeros = grind (arith, pow_pos, common_steps)
 
 -- and so is one with another counter
-pub set-lawful : (cb order : ℕ) (cluster : Option HostCluster) (old new : Counters) (index number : ℕ) → IsLawfulBlock cb order cluster (kept_counters old) → kept_counters new ≡ slice_set (kept_counters old) index number → number ≤ greatest_counter order → IsLawfulBlock cb order cluster (kept_counters new)
-set-lawful cb order cluster old new index number lawful set fits = grind (arith, pow_pos, common_steps)
+pub set-valid : (cb order : ℕ) (cluster : Option HostCluster) (old new : Counters) (index number : ℕ) → IsValidBlock (block_geometry cb order) cluster (kept_counters old) → kept_counters new ≡ slice_set (kept_counters old) index number → number ≤ greatest_counter order → IsValidBlock (block_geometry cb order) cluster (kept_counters new)
+set-valid cb order cluster old new index number valid set fits = grind (arith, pow_pos, common_steps)
 
 -- the counters of a block fill its cluster
 pub block_bytes : (cb order : ℕ) → IsClusterBits cb → order ≤ 6 → width order * block_entries cb order ≡ 8 * 2 ^ cb
@@ -38,15 +39,15 @@ block_bytes cb order bits orders =
     let whole : order + (cb + 3 - order) ≡ 3 + cb = omega (arith, bits.0, orders) in
     sym (pow-add 2 order (cb + 3 - order)) ∙ ap (λ n. 2 ^ n) whole ∙ pow-add 2 3 cb
 
--- where the bytes of counters stand, these are the block's
-pub stand-decoded : (order n len : ℕ) (counters : List ℕ) (image : Image) (offset : ℕ) → order ≤ 6 → AreCounters order counters → length counters ≡ n → width order * n ≡ 8 * len → Stand (packed order counters) len image offset → counters_at order image offset n ≡ counters
+-- where the bytes of counters are in an image, these are the counters of the block there
+pub stand-decoded : (order n len : ℕ) (counters : List ℕ) (image : Image) (offset : ℕ) → order ≤ 6 → AreCounters order counters → length counters ≡ n → width order * n ≡ 8 * len → Stand (counter_bytes order counters) len image offset → counters_at order image offset n ≡ counters
 stand-decoded order n len counters image offset orders small count whole stand =
-    counters_at-same order n len image (packed order counters) offset 0 orders whole (λ k below. let zero_k : 0 + k ≡ k = omega arith in rw zero_k (stand k below))
-    ∙ ap (counters_at order (packed order counters) 0) (sym count)
-    ∙ sym (fill_by_all (counter_at order (packed order counters) 0) counters (length counters) 0 refl (λ i below. sym (counter_at-packed order counters i orders small)))
+    counters_at-same order n len image (counter_bytes order counters) offset 0 orders whole (λ k below. let zero_k : 0 + k ≡ k = omega arith in rw zero_k (stand k below))
+    ∙ ap (counters_at order (counter_bytes order counters) 0) (sym count)
+    ∙ sym (fill_by_all (counter_at order (counter_bytes order counters) 0) counters (length counters) 0 refl (λ i below. sym (counter_at-packed order counters i orders small)))
 
--- a block that is written where it stands already changes no byte
-pub stand-same : (order n len : ℕ) (counters : List ℕ) (old new : Image) (offset : ℕ) → order ≤ 6 → IsBytes old → width order * n ≡ 8 * len → Stand (packed order counters) len new offset → SameOutside offset len old new → counters_at order old offset n ≡ counters → new ≡ old
+-- a block that is written where it already is changes no byte
+pub stand-same : (order n len : ℕ) (counters : List ℕ) (old new : Image) (offset : ℕ) → order ≤ 6 → IsBytes old → width order * n ≡ 8 * len → Stand (counter_bytes order counters) len new offset → SameOutside offset len old new → counters_at order old offset n ≡ counters → new ≡ old
 stand-same order n len counters old new offset orders small whole stand outside same =
     fun_ext (λ o. elim (cases_lt o offset) [
       | inl before ↦ outside.before o before
@@ -54,22 +55,24 @@ stand-same order n len counters old new offset orders small whole stand outside 
         | inl inside ↦
             let at : offset + (o - offset) ≡ o = omega arith in
             let below : o - offset < len = omega arith in
-            rw at at (stand (o - offset) below ∙ ap (λ (xs : List ℕ). packed order xs (o - offset)) (sym same)
+            rw at at (stand (o - offset) below ∙ ap (λ (xs : List ℕ). counter_bytes order xs (o - offset)) (sym same)
             ∙ packed-counters_at order n len old offset (o - offset) orders small whole below)
         | inr after ↦ outside.after o after
       ]
     ])
 
--- a lawful block whose bytes stand at its cluster is written
-pub block-written : (cb order : ℕ) (cluster : HostCluster) (counters : Counters) (place : Option HostCluster) (modified : Bool) (old new : Image) → IsLawfulBlock cb order place (kept_counters counters) → place ≡ Some cluster → IsBytes old → Stand (packed order (kept_counters counters)) (2 ^ cb) new (block_offset cb cluster) → SameOutside (block_offset cb cluster) (2 ^ cb) old new → IsWrittenBlock (record { counters = kept_counters counters; cluster = place; modified = modified; cluster_bits = cb; refcount_order = order }) old new
-block-written cb order cluster counters place modified old new lawful is small stand outside =
-    let n = block_entries cb order in
-    let offset = block_offset cb cluster in
-    let whole = block_bytes cb order lawful.bits lawful.orders in
-    rw is (record {
-      decoded = stand-decoded order n (2 ^ cb) (kept_counters counters) new offset lawful.orders lawful.small lawful.count whole stand;
-      same = stand-same order n (2 ^ cb) (kept_counters counters) old new offset lawful.orders small whole stand outside;
-    })
+-- the bytes of a valid block read back as its counters
+pub block_reads_back : (g : BlockGeometry) (cluster : Option HostCluster) (counters : List ℕ) → IsValidBlock g cluster counters → ReadsBack (block_layout g) counters
+block_reads_back g cluster counters valid =
+    let n = block_entries g.cluster_bits g.refcount_order in
+    let whole = block_bytes g.cluster_bits g.refcount_order valid.numbers.bits valid.orders in
+    record {
+      valid = refl;
+      decoded = λ image offset stand.
+          stand-decoded g.refcount_order n (2 ^ g.cluster_bits) counters image offset valid.orders valid.numbers.fits valid.numbers.count whole stand;
+      same = λ old new offset small stand outside.
+          stand-same g.refcount_order n (2 ^ g.cluster_bits) counters old new offset valid.orders small whole stand outside;
+    }
 
 -- whole numbers of eight bytes are whole numbers of counters
 pub whole_counters : (order len : ℕ) → order ≤ 6 → len % 8 ≡ 0 → width order * (8 * len / width order) ≡ 8 * len
@@ -93,7 +96,7 @@ counters-more order done image offset list buffer orders eights held whole count
 pub same_count : (order a b len : ℕ) → width order * a ≡ 8 * len → width order * b ≡ 8 * len → a ≡ b
 same_count order a b len left right = grind (arith, nat_tests, mul-div_cancel_left, pow_pos)
 
--- and so many bytes more are so many counters more
+-- and that many bytes more are that many counters more
 pub count-more : (order done len count : ℕ) → order ≤ 6 → len % 8 ≡ 0 → width order * count ≡ 8 * done → width order * (count + 8 * len / width order) ≡ 8 * (done + len)
 count-more order done len count orders eights whole = grind (arith, nat_tests, mul-add, whole_counters)
 
@@ -104,12 +107,12 @@ piece_in_eights cb piece len bits is =
     let whole : 2 ^ cb ≡ 8 * 2 ^ (cb - 3) = ap (λ n. 2 ^ n) (sym three) ∙ pow-add 2 3 (cb - 3) in
     omega (arith, is, whole)
 
--- the counters of so many bytes, by their width
+-- the counters of that many bytes, by their width
 pub narrow_length : (order len : ℕ) → order ≤ 3 → per_byte order * len ≡ 8 * len / width order
 narrow_length order len low =
     narrow_cases (λ order. per_byte order * len ≡ 8 * len / width order) (omega arith) (omega arith) (omega arith) (omega arith) order low
 
--- bytes that lie within counters have so many of them
+-- bytes that lie within counters have that many of them
 pub narrow_within : (order bytes count : ℕ) → order ≤ 3 → 8 * bytes ≤ width order * count → per_byte order * bytes ≤ count
 narrow_within order bytes count low within =
     narrow_cases (λ order. 8 * bytes ≤ width order * count → per_byte order * bytes ≤ count) (λ h. omega arith) (λ h. omega arith) (λ h. omega arith) (λ h. omega arith) order low within

@@ -21,7 +21,7 @@ use Rattle.qcow2_metadata.proofs.TableLemmas.{no_fault_item}
 before_compressed : (z cp : Bool) (h : Option ℕ) (k p o m : ℕ) → reads_on k (standard_mapping z h cp p) (compressed o m) ≡ false
 before_compressed z cp h k p o m = grind arith
 
--- an entry with a cluster, and one after it, have the same flag and the cluster so many further on
+-- an entry with a cluster, and one after it, have the same flag and the cluster that many further on
 same_place : (n q q0 k z z0 : ℕ) → 2 ≤ n → z < 2 → z0 < 2 → nat_eq (q * n + z) (q0 * n + z0 + k * n) ≡ (nat_eq z z0 && nat_eq q (q0 + k))
 same_place n q q0 k z z0 some low low0 =
     let moved : q0 * n + z0 + k * n ≡ (q0 + k) * n + z0 = omega arith in
@@ -33,7 +33,7 @@ after_cluster : (zb zb0 alloc cp cp0 : Bool) (n q q0 k o p : ℕ) → 2 ≤ n �
     ≡ reads_on k (standard_mapping zb0 (Some q0) cp0 o) (standard_mapping zb (if alloc then Some q else None) cp p)
 after_cluster zb zb0 alloc cp cp0 n q q0 k o p some far told = grind (arith, nat_tests, same_place, bit, bit_below)
 
--- the parts of a lawful standard entry
+-- the parts of a valid standard entry
 record Parts (cb v : ℕ) : Type 0 where
   lower : v % 2 ^ 63 ≡ offset_field v / 2 ^ cb * 2 ^ cb + bit (is_zero v)
   offset : offset_field v ≡ offset_field v / 2 ^ cb * 2 ^ cb
@@ -53,7 +53,7 @@ standard_low cb v k high few parts = grind (arith, nat_tests, pow_mono, mul-le, 
 pub has_offset : (external : Bool) (v : ℕ) (found : Option HostOffset) (test : Bool) → found ≡ host_offset external v → test ≡ is_some found → test ≡ is_allocated external v
 has_offset external v found test is same = rw (same, is) (grind arith)
 
--- the patterns tell just the entries that go on
+-- the patterns find just the entries that go on
 pub after_a_compressed_entry : (cb : ℕ) (external : Bool) (k v v0 c other : ℕ) → is_compressed v0 ≡ true
     → nat_eq (bit_and v 4611686018427387904) (4611686018427387904 + k * 0) ≡ reads_on k (mapping (geometry cb external) c v0) (mapping (geometry cb external) other v)
 after_a_compressed_entry cb external k v v0 c other is =

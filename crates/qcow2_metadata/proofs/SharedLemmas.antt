@@ -8,7 +8,7 @@ use Rattle.std.proofs.Math.Pow.{mod-mod-pow}
 use Rattle.qcow2_base.specs.Bits.{field}
 use Rattle.qcow2_base.specs.declared.fault.Fault.{Fault}
 use Rattle.qcow2_metadata.specs.Table.L2Guards.{one_if, references}
-use Rattle.qcow2_metadata.specs.Entries.L2Entry.{ByteRange, byte_range, is_compressed, l2_fault, meets, shared}
+use Rattle.qcow2_metadata.specs.Entries.L2Entry.{ByteRange, byte_range, is_compressed, l2_fault, meets, entry_in_copy}
 use Rattle.qcow2_metadata.specs.Entries.{offset_field}
 use Rattle.qcow2_metadata.specs.Header.{Geometry}
 use Rattle.qcow2_metadata.specs.Table.{first_fault}
@@ -32,7 +32,7 @@ same_range : (packed none external copied : Bool) (a b : ByteRange) → (externa
 same_range packed none external copied a b other = grind arith
 
 -- an entry refers to the same bytes where a second table has it too
-shared-byte_range : (g : Geometry) (v : ℕ) → 9 ≤ g.cluster_bits → g.cluster_bits ≤ 21 → byte_range g (shared g.external_data_file v) ≡ byte_range g v
+shared-byte_range : (g : Geometry) (v : ℕ) → 9 ≤ g.cluster_bits → g.cluster_bits ≤ 21 → byte_range g (entry_in_copy g.external_data_file v) ≡ byte_range g v
 shared-byte_range g v low high = elim (cases_Bool (g.external_data_file && (not (is_compressed v) && (offset_field v == 0)))) [
   | inl stays ↦ rw stays refl
   | inr other ↦
@@ -47,7 +47,7 @@ shared-byte_range g v low high = elim (cases_Bool (g.external_data_file && (not 
       rw (other, kind, offset, sectors, at, copied) (same_range (is_compressed v) (offset_field v == 0) g.external_data_file (field v 63 1 == 1) (record { start = start; end = start + length }) (record { start = offset_field v; end = offset_field v + 2 ^ cb }) other)
 ]
 
-pub shared-meets : (g : Geometry) (v c : ℕ) → 9 ≤ g.cluster_bits → g.cluster_bits ≤ 21 → meets g (shared g.external_data_file v) c ≡ meets g v c
+pub shared-meets : (g : Geometry) (v c : ℕ) → 9 ≤ g.cluster_bits → g.cluster_bits ≤ 21 → meets g (entry_in_copy g.external_data_file v) c ≡ meets g v c
 shared-meets g v c low high = rw (shared-byte_range g v low high) refl
 
 -- the references stay where each entry refers to the same clusters
@@ -57,9 +57,9 @@ references-map g f (v ∷ vs) c same =
     let refer : ℕ → ℕ = λ w. one_if (meets g w c) in
     omega (arith, ap one_if (same v), references-map g f vs c same, sum_by-cons refer (f v) (map f vs), sum_by-cons refer v vs)
 
-pub references-shared : (g : Geometry) (numbers : List ℕ) (c : ℕ) → 9 ≤ g.cluster_bits → g.cluster_bits ≤ 21 → references g (map (shared g.external_data_file) numbers) c ≡ references g numbers c
+pub references-shared : (g : Geometry) (numbers : List ℕ) (c : ℕ) → 9 ≤ g.cluster_bits → g.cluster_bits ≤ 21 → references g (map (entry_in_copy g.external_data_file) numbers) c ≡ references g numbers c
 references-shared g numbers c low high =
-    references-map g (shared g.external_data_file) numbers c (λ v. shared-meets g v c low high)
+    references-map g (entry_in_copy g.external_data_file) numbers c (λ v. shared-meets g v c low high)
 
 -- what is below 2 ^ 56 in the lowest bits is so without bit 63
 low_bits_below : (v k : ℕ) → v % 2 ^ k < 2 ^ 56 → v % 2 ^ 63 % 2 ^ k < 2 ^ 56
@@ -71,22 +71,22 @@ low_bits_below v k low = elim (cases_lt 63 k) [
   | inr narrow ↦ rw (low_bits v k narrow) low
 ]
 
--- a lawful entry is lawful without its copied flag, whatever stands above bit 63
+-- a valid entry is valid without its copied flag, whatever is above bit 63
 pub lawful_without_copied : (cb v : ℕ) → l2_fault cb v ≡ None → l2_fault cb (v % 2 ^ 63) ≡ None
 lawful_without_copied cb v lawful = grind (arith, nat_tests, low_field, low_bits_below)
 
-shared_is_lawful : (external : Bool) (cb v : ℕ) → l2_fault cb v ≡ None → l2_fault cb (shared external v) ≡ None
+shared_is_lawful : (external : Bool) (cb v : ℕ) → l2_fault cb v ≡ None → l2_fault cb (entry_in_copy external v) ≡ None
 shared_is_lawful external cb v lawful = grind (arith, lawful_without_copied)
 
 first_fault-map : (fault : ℕ → Option Fault) (f : ℕ → ℕ) (numbers : List ℕ) → ((v : ℕ) → fault v ≡ None → fault (f v) ≡ None) → first_fault fault numbers ≡ None → first_fault fault (map f numbers) ≡ None
-first_fault-map fault f [] keeps none = refl
-first_fault-map fault f (v ∷ vs) keeps none =
+first_fault-map fault f [] keeps_clusters none = refl
+first_fault-map fault f (v ∷ vs) keeps_clusters none =
     let both = no_fault_at_all (fault v) (first_fault fault vs) none in
-    rw (keeps v both.0) (first_fault-map fault f vs keeps both.1)
+    rw (keeps_clusters v both.0) (first_fault-map fault f vs keeps_clusters both.1)
 
-pub shared-lawful : (external : Bool) (cb : ℕ) (numbers : List ℕ) → first_fault (l2_fault cb) numbers ≡ None → first_fault (l2_fault cb) (map (shared external) numbers) ≡ None
+pub shared-lawful : (external : Bool) (cb : ℕ) (numbers : List ℕ) → first_fault (l2_fault cb) numbers ≡ None → first_fault (l2_fault cb) (map (entry_in_copy external) numbers) ≡ None
 shared-lawful external cb numbers none =
-    first_fault-map (l2_fault cb) (shared external) numbers (λ v lawful. shared_is_lawful external cb v lawful) none
+    first_fault-map (l2_fault cb) (entry_in_copy external) numbers (λ v lawful. shared_is_lawful external cb v lawful) none
 
 -- what a copy of a table is
 pub ruleset clones = (map-id, shared-lawful, references-shared)

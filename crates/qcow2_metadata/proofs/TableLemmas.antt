@@ -47,7 +47,7 @@ pub no_fault_in_copies : {X : Type 0} (number : X → ℕ) (fault : ℕ → Opti
 no_fault_in_copies number fault zero x lawful = refl
 no_fault_in_copies number fault (suc n) x lawful = rw lawful (no_fault_in_copies number fault n x lawful)
 
--- an entry that is found is lawful
+-- an entry that is found is valid
 pub no_fault_item : {X : Type 0} (number : X → ℕ) (fault : ℕ → Option Fault) (xs : List X) (i : ℕ) (d : X) → first_fault fault (map number xs) ≡ None → i < length xs → fault (number (get_or xs i d)) ≡ None
 no_fault_item number fault [] i d h below = absurd (omega arith)
 no_fault_item number fault (x ∷ xs) zero d h below = (no_fault_at_all (fault (number x)) (first_fault fault (map number xs)) h).0

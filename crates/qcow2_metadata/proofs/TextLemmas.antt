@@ -8,7 +8,7 @@ use Rattle.std.specs.Prelude.{OnOk}
 use Rattle.std.proofs.lemmas.Bool.Decides.{nat_tests}
 use Rattle.std.proofs.lemmas.List.{get_or-append_right, get_or-append-add, get_or_append_left, ext_get_or, length-replicate}
 use Rattle.std.proofs.lemmas.List.Elements.{All-cons, All-head, All-nil, All-tail}
-use Rattle.qcow2_base.specs.OnDiskStruct.{HoldsLayout, LayoutField, big, header_extension_header, moved, number_in, v2_header, v3_header_base}
+use Rattle.qcow2_base.specs.OnDiskStruct.{HoldsLayout, LayoutField, big, header_extension_header, fields_moved_by, number_in, v2_header, v3_header_base}
 use Rattle.qcow2_base.specs.Storage.{Holds, Image, IsBytes, be, be_fits, be_of_same, be_tells, image_of}
 use Rattle.qcow2_base.specs.declared.on_disk_struct.header_extension_header.HeaderExtensionHeader.{HeaderExtensionHeader}
 use Rattle.qcow2_base.specs.declared.on_disk_struct.v3_header_base.V3HeaderBase.{V3HeaderBase}
@@ -17,7 +17,7 @@ use Rattle.qcow2_metadata.specs.Header.{HeaderRecord, IsLawfulHeader, names_by}
 use Rattle.qcow2_metadata.specs.Header.Chain.{IsEnd, SaysExtensions, link_at}
 use Rattle.qcow2_metadata.specs.Header.Extensions.{Extension, data_of, name_in, normal_extension}
 use Rattle.qcow2_metadata.specs.Header.Grammar.{AreSame, HasExtensions, IsBackingName, IsBase, IsHeader}
-use Rattle.qcow2_metadata.specs.Header.Text.{AreFitting, extension_header_of, extension_text, extensions_text, fields_text, header_end, header_text, is_short, name_place, name_text, kept, normal, padded, parts_text, placed, placed_base, placed_v2}
+use Rattle.qcow2_metadata.specs.Header.Text.{AreFitting, extension_header_of, extension_text, extensions_text, fields_text, header_end, header_text, is_short, name_place, name_text, header_after_write, header_read_back, padded_bytes, parts_text, header_with_places, placed_base, placed_v2}
 use Rattle.qcow2_metadata.specs.Range.{bytes_at}
 use Rattle.qcow2_metadata.specs.declared.header.extensions.HeaderExtensionType.{HeaderExtensionType}
 use Rattle.qcow2_metadata.specs.declared.header.extensions.HeaderExtensionType.TheVariants as kind
@@ -72,24 +72,24 @@ pub Holds-first : (image : Image) (place : ℕ) (xs ys : List ℕ) → Holds ima
     → Holds image place xs
 Holds-first image place xs ys held = grind (arith, nat_tests, length-append, get_or_append_left)
 
--- the second one stands behind the first
+-- the second one comes after the first
 pub Holds-second : (image : Image) (place : ℕ) (xs ys : List ℕ) → Holds image place (xs ++ ys)
     → Holds image (place + length xs) ys
 Holds-second image place xs ys held = grind (arith, nat_tests, length-append, get_or-append-add)
 
--- two pieces of which one stands behind the other are one
+-- two pieces of which one comes after the other are one
 pub Holds-append : (image : Image) (place : ℕ) (xs ys : List ℕ) → Holds image place xs
     → Holds image (place + length xs) ys → Holds image place (xs ++ ys)
 Holds-append image place xs ys first second =
     grind (arith, nat_tests, get_or_append_left, get_or-append_right, length-append)
 
--- the empty list stands at any place
+-- the empty list is at any place
 Holds-none : (image : Image) (place : ℕ) → Holds image place []
 Holds-none image place = record { each = λ i below. absurd (omega arith) }
 
 -- fields that an image has are their text
 pub fields-text : (image : Image) (by place : ℕ) (fields : List LayoutField) → IsBytes image
-    → AreJoined place fields → HoldsLayout image (moved by fields)
+    → AreJoined place fields → HoldsLayout image (fields_moved_by by fields)
     → Holds image (by + place) (fields_text fields) × AreFitting fields
 fields-text image by place [] small joined held = (Holds-none image (by + place), All-nil IsFitting)
 fields-text image by place (f ∷ fields) small joined held =
@@ -107,7 +107,7 @@ fields-text image by place (f ∷ fields) small joined held =
 
 -- an image has the fields of a text that it has
 pub text-fields : (image : Image) (by place : ℕ) (fields : List LayoutField) → AreJoined place fields
-    → AreFitting fields → Holds image (by + place) (fields_text fields) → HoldsLayout image (moved by fields)
+    → AreFitting fields → Holds image (by + place) (fields_text fields) → HoldsLayout image (fields_moved_by by fields)
 text-fields image by place [] joined fits held = tt
 text-fields image by place (f ∷ fields) joined fits held =
     let bytes = bytes_high_first f.size f.value in
@@ -123,7 +123,7 @@ text-fields image by place (f ∷ fields) joined fits held =
 
 -- bytes that hold fields which follow one another are their text
 layout-text : (bytes : List ℕ) (fields : List LayoutField) → IsBytes (image_of bytes) → AreJoined 0 fields
-    → length bytes ≡ length (fields_text fields) → HoldsLayout (image_of bytes) (moved 0 fields)
+    → length bytes ≡ length (fields_text fields) → HoldsLayout (image_of bytes) (fields_moved_by 0 fields)
     → (bytes ≡ fields_text fields) × AreFitting fields
 layout-text bytes fields small joined count held =
     let text = fields-text (image_of bytes) 0 0 fields small joined held in (
@@ -132,17 +132,17 @@ layout-text bytes fields small joined count held =
       text.1,
     )
 
--- such bytes behind a text are the fields' text there
+-- such bytes after a text are the fields' text there
 pub pushed-fields : {T E : Type 0} (answer : Result T E) (text after bytes : List ℕ)
     (fields : List LayoutField)
     → IsBytes (image_of bytes) → AreJoined 0 fields → length bytes ≡ length (fields_text fields)
-    → HoldsLayout (image_of bytes) (moved 0 fields) → OnOk answer (after ≡ text ++ bytes)
+    → HoldsLayout (image_of bytes) (fields_moved_by 0 fields) → OnOk answer (after ≡ text ++ bytes)
     → OnOk answer (after ≡ text ++ fields_text fields) × AreFitting fields
 pushed-fields answer text after bytes fields small joined count held pushed =
     grind (arith, nat_tests, layout-text)
 
 -- padding makes as many bytes as the next multiple of 8
-pub length-padded : (bytes : List ℕ) → length (padded bytes) ≡ next_multiple_of (length bytes) 8
+pub length-padded : (bytes : List ℕ) → length (padded_bytes bytes) ≡ next_multiple_of (length bytes) 8
 length-padded bytes = grind (arith, nat_tests, length-append, length-replicate)
 
 -- how many bytes an extension takes
@@ -155,7 +155,7 @@ extension-fits : (header : HeaderExtensionHeader) → header.extension_type < 2 
     → AreFitting (header_extension_header header)
 extension-fits header number size = grind (arith, nat_tests)
 
--- what stands before an extension's data, in an image that has its text
+-- what comes before an extension's data, in an image that has its text
 held-header : (image : Image) (place : ℕ) (header : HeaderExtensionHeader) → header.extension_type < 2 ^ 32
     → header.length < 2 ^ 32 → Holds image place (fields_text (header_extension_header header))
     → (be image place 4 ≡ header.extension_type) × (be image (place + 4) 4 ≡ header.length)
@@ -167,7 +167,7 @@ held-header image place header number size held =
     let are = text-fields image place 0 fields (assumption) fits moved_held in
     (rw start are.0, are.1.0)
 
--- an extension that stands in the image is the first of the chain from there on
+-- an extension that is in the image is the first of the chain from there on
 first-extension : (image : Image) (len place : ℕ) (extension : Extension) → ReadsBack extension → len ≤ 2 ^ 21
     → Holds image place (extension_text extension) → place + length (extension_text extension) ≤ len
     → IsFirst image len place (normal_extension extension) (place + length (extension_text extension))
@@ -175,9 +175,9 @@ first-extension image len place extension back small held within =
     let header = fields_text (header_extension_header (extension_header_of extension)) in
     let bytes = data_of extension in
     let count = length-extension_text extension in
-    let first = Holds-first image place header (padded bytes) held in
+    let first = Holds-first image place header (padded_bytes bytes) held in
     let are = held-header image place (extension_header_of extension) back.0 (omega (arith, count)) first in
-    let second = Holds-second image place header (padded bytes) held in
+    let second = Holds-second image place header (padded_bytes bytes) held in
     let padding : List ℕ = replicate (next_multiple_of (length bytes) 8 - length bytes) 0 in
     let content =
     held-bytes_at image (place + 8) bytes (Holds-first image (place + 8) bytes padding second) in
@@ -188,7 +188,7 @@ first-extension image len place extension back small held within =
       next_is = rw are.1 (omega (arith, count));
     }
 
--- the zeros behind the extensions are End
+-- the zeros after the extensions are End
 held-end : (image : Image) (len place : ℕ) → Holds image place (replicate 8 0) → place + 8 ≤ len
     → IsEnd len (link_at image place)
 held-end image len place held within =
@@ -196,7 +196,7 @@ held-end image len place held within =
     let are = held-header image place end (omega arith) (omega arith) held in
     record { bounded = omega (arith, are.1); end = are.0 }
 
--- extensions whose text stands in the image are what the chain from there on says
+-- extensions whose text is in the image are what the chain from there on says
 pub text-says : (image : Image) (len place : ℕ) (extensions : List Extension) → len ≤ 2 ^ 21
     → All ReadsBack extensions → Holds image place (extensions_text extensions)
     → place + length (extensions_text extensions) ≤ len
@@ -227,13 +227,13 @@ same-names_by type (extension ∷ extensions) = grind (arith, nat_tests, same-na
 
 -- the header has the places of its text, which fits the first cluster, and a name that isn't too long
 pub record IsPlaced (header : HeaderRecord) : Type 0 where
-  pub placed : header ≡ placed header
+  pub placed : header ≡ header_with_places header
   pub fits : length (header_text header) ≤ 2 ^ header.v2.cluster_bits
   pub short : is_short header.backing_filename ≡ true
 
 -- what a header that is kept as it is has
-kept-placed : (header : HeaderRecord) → kept header ≡ Ok header → IsPlaced header
-unfolding kept
+kept-placed : (header : HeaderRecord) → header_after_write header ≡ Ok header → IsPlaced header
+unfolding header_after_write
 kept-placed header is = grind (arith, nat_tests)
 
 -- the header's version is 2 or 3
@@ -252,8 +252,8 @@ older-parts header two = grind (arith, nat_tests)
 
 -- and in version 3
 pub newer-parts : (header : HeaderRecord) → header.v2.version ≡ 3
-    → (parts_text header ≡ fixed_text header ++ padded header.unknown_header_fields)
-    × (header_end header ≡ 104 + length (padded header.unknown_header_fields))
+    → (parts_text header ≡ fixed_text header ++ padded_bytes header.unknown_header_fields)
+    × (header_end header ≡ 104 + length (padded_bytes header.unknown_header_fields))
 newer-parts header three = grind (arith, nat_tests)
 
 -- the text before the extensions ends where they begin
@@ -271,15 +271,15 @@ length-header_text header known = grind (arith, nat_tests, length-append, length
 record HasNewerParts (image : Image) (header : HeaderRecord) : Type 0 where
   v2 : Holds image 0 (fields_text (v2_header (placed_v2 header)))
   base : Holds image 72 (fields_text (v3_header_base (placed_base header)))
-  unknown : Holds image 104 (padded header.unknown_header_fields)
+  unknown : Holds image 104 (padded_bytes header.unknown_header_fields)
 
--- they stand in the image
+-- they are in the image
 held-newer : (image : Image) (header : HeaderRecord) → header.v2.version ≡ 3
     → Holds image 0 (parts_text header) → HasNewerParts image header
 held-newer image header three held =
     let v2_text = fields_text (v2_header (placed_v2 header)) in
     let base_text = fields_text (v3_header_base (placed_base header)) in
-    let unknown = padded header.unknown_header_fields in
+    let unknown = padded_bytes header.unknown_header_fields in
     let whole = subst (Holds image 0) ((newer-parts header three).0) held in
     let fixed = Holds-first image 0 (v2_text ++ base_text) unknown whole in
     record {
@@ -288,13 +288,13 @@ held-newer image header three held =
       unknown = Holds-second image 0 (v2_text ++ base_text) unknown whole;
     }
 
--- the first part stands in the image
+-- the first part is in the image
 held-v2 : (image : Image) (header : HeaderRecord) → IsKnown header → Holds image 0 (parts_text header)
     → Holds image 0 (fields_text (v2_header (placed_v2 header)))
 held-v2 image header (inl two) held = subst (Holds image 0) ((older-parts header two).0) held
 held-v2 image header (inr three) held = (held-newer image header three held).v2
 
--- the pieces of a header's text, and where they stand
+-- the pieces of a header's text, and where they are
 record HasPieces (image : Image) (header : HeaderRecord) : Type 0 where
   v2 : Holds image 0 (fields_text (v2_header (placed_v2 header)))
   newer : header.v2.version ≡ 3 → HasNewerParts image header
@@ -302,7 +302,7 @@ record HasPieces (image : Image) (header : HeaderRecord) : Type 0 where
   name : Holds image (name_place header) (name_text header.backing_filename)
   count : length (header_text header) ≡ name_place header + length (name_text header.backing_filename)
 
--- they stand in the image
+-- they are in the image
 held-pieces : (image : Image) (header : HeaderRecord) → IsKnown header → Holds image 0 (header_text header)
     → HasPieces image header
 unfolding header_text
@@ -328,7 +328,7 @@ held-pieces image header known held =
 
 -- the length of a header that has its places
 placed-length : (header : HeaderRecord) → IsLawfulHeader header → IsPlaced header → IsKnown header
-    → header.base.header_length ≡ 104 + length (padded header.unknown_header_fields)
+    → header.base.header_length ≡ 104 + length (padded_bytes header.unknown_header_fields)
 placed-length header lawful is known = grind (arith, nat_tests, newer-parts)
 
 -- it fits the first cluster
@@ -342,13 +342,13 @@ placed-fits image header lawful is pieces (inr three) =
     let count = placed-length header lawful is (inr three) in
     omega (arith, count, (newer-parts header three).1, pieces.count, is.fits)
 
--- the unknown fields stand in the image
+-- the unknown fields are in the image
 held-unknown : (image : Image) (header : HeaderRecord) → IsLawfulHeader header → HasPieces image header
-    → IsKnown header → padded header.unknown_header_fields
-    ≡ bytes_at image 104 (length (padded header.unknown_header_fields))
+    → IsKnown header → padded_bytes header.unknown_header_fields
+    ≡ bytes_at image 104 (length (padded_bytes header.unknown_header_fields))
 held-unknown image header lawful pieces known = grind (arith, nat_tests, held-bytes_at)
 
--- the second part stands in the image
+-- the second part is in the image
 held-base : (image : Image) (header : HeaderRecord) → IsLawfulHeader header → IsPlaced header
     → HasPieces image header → AreFitting (v3_header_base header.base)
     → IsBase image header.v2.version header.base
@@ -360,30 +360,30 @@ held-base image header lawful is pieces fits = record {
   version_2 = λ two. (lawful.older two).0;
 }
 
--- the backing file's name stands in the image
+-- the backing file's name is in the image
 held-name : (image : Image) (header : HeaderRecord) (name : Option (List ℕ)) → header.backing_filename ≡ name
     → IsPlaced header → HasPieces image header → IfSome name IsUtf8
     → IsBackingName image header.v2 name
 held-name image header name none is pieces text = grind (arith, nat_tests, held-bytes_at)
 
--- the extensions stand in the image
+-- the extensions are in the image
 held-extensions : (image : Image) (header : HeaderRecord) → IsLawfulHeader header → IsPlaced header
     → HasPieces image header → All ReadsBack header.extensions
     → HasExtensions image header.v2 header.base (map normal_extension header.extensions)
 held-extensions image header lawful is pieces back =
     grind (arith, nat_tests, newer-parts, placed-length, pow_mono, text-says)
 
--- a header whose text stands at the start of an image is the image's, as it reads back
+-- a header whose text is at the start of an image is the image's, as it reads back
 pub text-header : (image : Image) (header : HeaderRecord) → IsLawfulHeader header
     → All ReadsBack header.extensions → AreFitting (v2_header header.v2)
     → AreFitting (v3_header_base header.base) → IfSome header.backing_filename IsUtf8
-    → kept header ≡ Ok header → Holds image 0 (header_text header) → IsHeader image (normal header)
+    → header_after_write header ≡ Ok header → Holds image 0 (header_text header) → IsHeader image (header_read_back header)
 text-header image header lawful back fits_v2 fits_base text same held =
     let is = kept-placed header same in
     let known = lawful.version in
     let pieces = held-pieces image header known held in
     let count = placed-length header lawful is known in
-    let unknown = padded header.unknown_header_fields in
+    let unknown = padded_bytes header.unknown_header_fields in
     let between : header.base.header_length - 104 ≡ length unknown = omega (arith, count) in
     let Stands = λ (h : HeaderRecord). Holds image 0 (fields_text (v2_header h.v2)) in
     let v2_held = subst Stands (sym is.placed) pieces.v2 in

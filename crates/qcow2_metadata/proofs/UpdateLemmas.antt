@@ -14,7 +14,7 @@ use Rattle.qcow2_base.specs.declared.fault.Fault.TheVariants.{FieldChanged}
 use Rattle.qcow2_base.specs.declared.fault.Field.{Field}
 use Rattle.qcow2_base.specs.declared.fault.Field.TheVariants as field
 use Rattle.qcow2_metadata.proofs.ExtensionsLemmas.{same_extension-Decides}
-use Rattle.qcow2_metadata.specs.Results.{first_failed, provided}
+use Rattle.qcow2_metadata.specs.Results.{first_failed, after_conditions}
 use Rattle.qcow2_metadata.specs.Header.{HeaderRecord, IsLawfulHeader}
 use Rattle.qcow2_metadata.specs.Header.Update.{AgreeIn, FieldValue, Number, IsFirstChange, agreements, kept_fields, same_value, value_in, with_header_length, with_size_and_tables}
 
@@ -53,14 +53,14 @@ first_failed-agreed here there (field ∷ before) after agree =
 
 -- an update of headers that agree is let through
 pub agreements-agreed : (here there : HeaderRecord) → All (AgreeIn here there) kept_fields
-    → provided (agreements here there) pass ≡ Ok tt
+    → after_conditions (agreements here there) pass ≡ Ok tt
 agreements-agreed here there agree =
     let none : first_failed (agreements here there) ≡ None = first_failed-agreed here there kept_fields [] agree in
     rw none refl
 
 -- the first field in which they differ fails the first condition
 pub agreements-changed : (here there : HeaderRecord) (fault : Fault) → IsFirstChange here there fault
-    → provided (agreements here there) pass ≡ Err fault
+    → after_conditions (agreements here there) pass ≡ Err fault
 agreements-changed here there fault first =
     let same = (agreement-Decides here there first.field).0 in
     let apart = first.differ in
@@ -71,7 +71,7 @@ agreements-changed here there fault first =
     fields ∙ first_failed-agreed here there first.before (first.field ∷ first.after) first.agree ∙ here_fails in
     rw failed refl
 
--- a field that fails its condition behind those that hold is the first in which the headers differ
+-- a field that fails its condition after those that hold is the first in which the headers differ
 pub first_change-at : (here there : HeaderRecord) (i : ℕ) → i < 16 → All (AgreeIn here there) (take i kept_fields)
     → same_value (value_in (field_at i) here) (value_in (field_at i) there) ≡ false
     → IsFirstChange here there (FieldChanged (field_at i))

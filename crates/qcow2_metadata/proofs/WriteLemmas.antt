@@ -11,7 +11,7 @@ use Rattle.qcow2_base.specs.declared.on_disk_struct.v2_header.V2Header.{V2Header
 use Rattle.qcow2_base.specs.declared.on_disk_struct.v3_header_base.V3HeaderBase.{V3HeaderBase}
 use Rattle.qcow2_metadata.specs.Header.{HeaderRecord, IsLawfulHeader, names_by, other_features}
 use Rattle.qcow2_metadata.specs.Header.Extensions.{Extension, IsStorable, extension_of, name_in}
-use Rattle.qcow2_metadata.specs.Header.Text.{AreFitting, IsLayout, IsWrittenHeader, base_with_length, chosen, chosen_extensions, chosen_text, header_end, header_text, kept, placed_text, is_other, name_place, placed}
+use Rattle.qcow2_metadata.specs.Header.Text.{AreFitting, IsLayout, IsWrittenHeader, base_with_length, header_to_write, chosen_extensions, chosen_text, header_end, header_text, header_after_write, placed_text, is_other, name_place, header_with_places}
 use Rattle.qcow2_metadata.specs.declared.header.text.Layout.{Layout}
 use Rattle.qcow2_metadata.proofs.ExtensionsLemmas.{ReadsBack}
 use Rattle.qcow2_metadata.proofs.NamesLemmas.{storable-reads_back}
@@ -54,11 +54,11 @@ chosen-nil : (with_names : Bool) (extensions : List Extension) → extensions �
     → chosen_extensions with_names extensions ≡ []
 chosen-nil with_names extensions none = grind (arith, nat_tests)
 
--- the header that is written is lawful
+-- the header that is written is valid
 pub placed-lawful : (with_names : Bool) (header : HeaderRecord) → IsLawfulHeader header
-    → IsLawfulHeader (placed (chosen with_names header))
+    → IsLawfulHeader (header_with_places (header_to_write with_names header))
 placed-lawful with_names header lawful =
-    let written = chosen with_names header in
+    let written = header_to_write with_names header in
     let v2 = v2_with_name-keeps header.v2 (name_place written) header.backing_filename in
     let base = base_with_length-keeps header.v2.version header.base (header_end written) in
     record {
@@ -93,33 +93,33 @@ pub not_true : (test : Bool) → not test ≡ true → test ≡ false
 not_true test is = grind (arith, nat_tests)
 
 -- why a header isn't written
-pub kept-fault : (header : HeaderRecord) (fault : Fault) → kept header ≡ Err fault
+pub kept-fault : (header : HeaderRecord) (fault : Fault) → header_after_write header ≡ Err fault
     → (fault ≡ NameTooLong) ⊎ (fault ≡ HeaderTooLong)
-unfolding kept
+unfolding header_after_write
 kept-fault header fault is = grind arith
 
 -- the text that a write places
-pub chosen_text-placed : (header written : HeaderRecord) → kept header ≡ Ok (placed written)
+pub chosen_text-placed : (header written : HeaderRecord) → header_after_write header ≡ Ok (header_with_places written)
     → chosen_text header ≡ header_text written
 chosen_text-placed header written is = ap placed_text is ∙ header_text-placed written
 
 -- the second part that is written fits
 base-fits : (with_names : Bool) (header : HeaderRecord) (layout : Layout) → IsLawfulHeader header
-    → IsLayout (chosen with_names header) layout
+    → IsLayout (header_to_write with_names header) layout
     → (header.v2.version ≡ 3 → AreFitting (v3_header_base layout.base)) → AreFitting (v3_header_base layout.base)
 base-fits with_names header layout lawful is fits = grind (arith, nat_tests, older-base)
 
--- a header whose text stands in an image is written there
+-- a header whose text is in an image is written there
 pub written-header : (image : Image) (header : HeaderRecord) (layout : Layout) → IsLawfulHeader header
-    → IsLayout (chosen layout.with_names header) layout
-    → kept header ≡ Ok (placed (chosen layout.with_names header)) → AreFitting (v2_header layout.v2)
+    → IsLayout (header_to_write layout.with_names header) layout
+    → header_after_write header ≡ Ok (header_with_places (header_to_write layout.with_names header)) → AreFitting (v2_header layout.v2)
     → (header.v2.version ≡ 3 → AreFitting (v3_header_base layout.base))
-    → Holds image 0 (header_text (chosen layout.with_names header))
-    → IsWrittenHeader image (placed (chosen layout.with_names header))
-written-header image header layout lawful is kept v2 base held =
-    let written = chosen layout.with_names header in
+    → Holds image 0 (header_text (header_to_write layout.with_names header))
+    → IsWrittenHeader image (header_with_places (header_to_write layout.with_names header))
+written-header image header layout lawful is written_is v2 base held =
+    let written = header_to_write layout.with_names header in
     let after = placed-lawful layout.with_names header lawful in
-    let settled = kept-settled header (placed written) lawful.storable kept in
+    let settled = kept-settled header (header_with_places written) lawful.storable written_is in
     let back = All-weaker IsStorable ReadsBack storable-reads_back written.extensions after.storable in
     let fits_v2 = subst (λ (part : V2Header). AreFitting (v2_header part)) is.v2 v2 in
     let fits_base = subst (λ (part : V3HeaderBase). AreFitting (v3_header_base part)) is.base
@@ -127,7 +127,7 @@ written-header image header layout lawful is kept v2 base held =
     let text = subst (Holds image 0) (sym (header_text-placed written)) held in
     record {
       text = text;
-      reads_back = text-header image (placed written) after back fits_v2 fits_base after.backing_filename settled.again text;
+      reads_back = text-header image (header_with_places written) after back fits_v2 fits_base after.backing_filename settled.again text;
     }
 
 -- a write that is refused touches nothing

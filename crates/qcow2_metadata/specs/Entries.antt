@@ -1,3 +1,4 @@
+-- What do the numbers of table entries have in common, and which clusters does one refer to?
 pub mod L1Entry
 pub mod L2Entry
 pub mod L2Mapping

@@ -1,3 +1,4 @@
+-- What does the header of an image say, and which header does a new image have?
 pub mod Chain
 pub mod Extensions
 pub mod Features

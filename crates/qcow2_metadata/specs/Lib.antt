@@ -1,6 +1,7 @@
 pub mod Entries
 pub mod Header
 pub mod Pieces
+pub mod Placed
 pub mod Range
 pub mod ReadAhead
 pub mod Refblock

@@ -1,3 +1,4 @@
+-- What do calls that only read leave of a storage that is read ahead?
 use Rattle.std.specs.Prelude.{◌≡◌, Result}
 use Rattle.qcow2_base.specs.Storage.{OnlyReads, StorageState}
 use Rattle.qcow2_base.specs.declared.fault.Fault.{Fault}

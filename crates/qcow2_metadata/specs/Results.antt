@@ -1,4 +1,6 @@
-use Rattle.std.specs.Prelude.{◌≡◌, ◌⊎◌, Bool, List, [], ◌∷◌, if◌then◌else◌, Option, Some, None, Result, Ok, Err, IsOk, MatchResult}
+-- What comes of results one after another, and when is an answer the expected one?
+use Rattle.std.specs.Prelude.{◌≡◌, ◌⊎◌, Bool, IfErr, List, [], ◌∷◌, if◌then◌else◌, Option, Some, None, Result, Ok, Err, IsOk, MatchResult}
+use Rattle.qcow2_base.specs.Storage.{Image, OnImage, OnlyReads, StorageState}
 use Rattle.qcow2_base.specs.declared.fault.Fault.{Fault}
 use Rattle.qcow2_base.specs.declared.fault.Fault.TheVariants.{NoMemory, Storage}
 
@@ -18,8 +20,8 @@ first_failed [] = None
 first_failed (condition ∷ conditions) = if condition.0 then first_failed conditions else Some condition.1
 
 -- what comes after conditions: the fault of the first that doesn't hold, or else the next step's answer
-abbrev pub provided : {T : Type 0} → List (Bool × Fault) → (Unit {0} → Result T Fault) → Result T Fault
-provided {T} conditions next = unless (first_failed conditions)
+abbrev pub after_conditions : {T : Type 0} → List (Bool × Fault) → (Unit {0} → Result T Fault) → Result T Fault
+after_conditions {T} conditions next = unless (first_failed conditions)
   where
     unless : Option Fault → Result T Fault
     unless None = next tt
@@ -46,3 +48,14 @@ abbrev pub RefusesFirst : {T V : Type 0} → (T → V) → Result T Fault → Re
 RefusesFirst view answer expected =
     MatchResult answer (λ value. expected ≡ Ok (view value)) (λ fault. (expected ≡ Err fault)
     ⊎ (((fault ≡ Storage) ⊎ (fault ≡ NoMemory)) × IsOk expected))
+
+-- the faults from outside: memory ran out, or the storage failed
+abbrev pub IsFromOutside : Fault → Type 0
+IsFromOutside fault = (fault ≡ NoMemory) ⊎ (fault ≡ Storage)
+
+-- a call that only reads ended in this answer: where the storage's bytes are known it is what they mean, unless a fault came
+-- from outside. Each fault came from there, or is one of the refusals. No byte changed
+pub record Reads {T V : Type 0} (view : T → V) (answer : Result T Fault) (meaning : Image → Result V Fault) (IsRefusal : Fault → Type 0) (old new : StorageState) : Type 0 where
+  pub exact : OnImage old (λ bytes. Answers view answer (meaning bytes))
+  pub faults : IfErr answer (λ fault. IsRefusal fault ⊎ IsFromOutside fault)
+  pub storage : OnlyReads answer old new

@@ -1,4 +1,4 @@
-//! The entries of tables: which numbers are lawful, and what they mean.
+//! The entries of tables: which numbers are valid, and what they mean.
 
 ghost use Rattle.std.specs.Prelude.{◌≡◌, ℕ, ◌⊎◌, ◌↔◌, IsTrue, Option, None, IfOk, IfErr, OnOk};
 ghost use Rattle.qcow2_base.specs.declared.fault.Fault.{Fault as AnyFault};
@@ -29,7 +29,7 @@ pub struct ClustersToFreeEntry {
     pub count: ClusterCount,
 }
 
-/// An entry of a table: a number of eight bytes that is lawful under the image's cluster size.
+/// An entry of a table: a number of eight bytes that is valid under the image's cluster size.
 pub trait TableEntry: Sized {
     /// The number.
     ghost plain: { Self → ℕ };

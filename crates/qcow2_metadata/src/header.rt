@@ -72,7 +72,7 @@ impl Header {
     /// external data file where one is named.
     ///
     /// `cluster_bits` is the logarithm of the cluster size in bytes, `refcount_order` that of the
-    /// width of a refcount in bits. Fails only for want of memory.
+    /// width of a refcount in bits. Fails only where memory runs out.
     pub fn new(
         alloc: Global,
         cluster_bits: u32,

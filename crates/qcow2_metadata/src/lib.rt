@@ -3,7 +3,9 @@
 
 mod entries;
 mod header;
+pub mod laws;
 mod pieces;
+mod placed;
 mod range;
 mod read_ahead;
 mod refblock;

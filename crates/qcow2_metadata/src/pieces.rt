@@ -1,34 +1,47 @@
 //! What takes a range of bytes in an image is written there in pieces of 4096 bytes, through one array.
 
-ghost use Rattle.std.specs.Prelude.{◌≡◌, ℕ, ◌+◌, ◌-◌, ◌*◌, ◌<◌, ◌≤◌, length, min, slice_index};
+ghost use Rattle.std.specs.Prelude.{◌≡◌, ℕ, ◌+◌, ◌-◌, ◌*◌, ◌<◌, ◌≤◌, length, List, min, slice_index, ◌≢◌, IfErr, IfOk, MatchResult};
 ghost use Rattle.qcow2_base.specs.Format.{max_file_length};
-ghost use Rattle.qcow2_base.specs.Storage.{Image};
 ghost use Rattle.qcow2_metadata.specs.Pieces.{WritesInPieces, piece_size};
+ghost use Rattle.qcow2_metadata.specs.Placed.{Layout, ReadsBack, offset_of, place_fault};
 
-use qcow2_base::{HostOffset, Storage, StorageFault};
+use qcow2_base::{Fault, HostCluster, HostOffset, Storage, StorageFault};
 
 /// How many bytes of a table or of a block are read or written at once, at most.
 pub(crate) const PIECE_BYTES: usize = 4096;
 
-/// What takes a range of bytes in an image.
+/// Numbers whose bytes are written in pieces.
 pub(crate) trait Packed {
-    /// The byte at each place, from 0 on.
-    ghost bytes: { Self → Image };
+    /// How the numbers lie in an image.
+    ghost layout: { Self → Layout };
 
-    /// How many bytes there are.
-    ghost byte_count: { Self → ℕ };
+    /// The numbers.
+    ghost numbers: { Self → List ℕ };
 
     /// How many bytes there are.
     fn byte_count(&self) -> usize
-        ensures { result ≡ byte_count self.now };
+        ensures { result ≡ (layout self.now).byte_count };
+
+    /// Where the bytes begin that start with a cluster, or why they can't lie there.
+    fn offset_at(&self, cluster: HostCluster) -> Result<HostOffset, Fault>
+        ensures place { MatchResult result
+            (λ offset. place_fault (layout self.now) cluster ≡ None)
+            (λ fault. place_fault (layout self.now) cluster ≡ Some fault) }
+        ensures fault { IfErr result (λ fault. fault ≢ Fault.Storage) }
+        ensures offset { IfOk result (λ offset. offset.0 ≡ offset_of (layout self.now) cluster) }
+        ensures fits { IfOk result (λ offset.
+            offset.0 + (layout self.now).byte_count ≤ max_file_length) }
+        ensures reads_back { ReadsBack (layout self.now) (numbers self.now) };
 
     /// Puts the bytes of a piece into the buffer, which is as long as that piece.
     fn pack(&self, piece: usize, buffer: &mut [u8])
-        requires piece { piece_size * piece < byte_count self.now }
-        requires bound { byte_count self.now ≤ max_file_length }
-        requires len { length buffer.old ≡ min (byte_count self.now - piece_size * piece) piece_size }
+        requires piece { piece_size * piece < (layout self.now).byte_count }
+        requires bound { (layout self.now).byte_count ≤ max_file_length }
+        requires len { length buffer.old
+            ≡ min ((layout self.now).byte_count - piece_size * piece) piece_size }
         ensures packed { (i : ℕ) → i < length buffer.new →
-            slice_index buffer.new i ≡ bytes self.now (piece_size * piece + i) }
+            slice_index buffer.new i
+            ≡ (layout self.now).bytes_of (numbers self.now) (piece_size * piece + i) }
         ensures len { length buffer.new ≡ length buffer.old };
 }
 
@@ -38,9 +51,9 @@ pub(crate) fn write_in_pieces<P: Packed, S: Storage>(
     image: &mut S,
     offset: HostOffset,
 ) -> Result<(), StorageFault>
-    requires { offset.0 + P.byte_count packed.now ≤ max_file_length }
-    ensures { WritesInPieces result offset.0 (P.bytes packed.now) (P.byte_count packed.now)
-        (S.state image.old) (S.state image.new) }
+    requires { offset.0 + (P.layout packed.now).byte_count ≤ max_file_length }
+    ensures { WritesInPieces result offset.0 ((P.layout packed.now).bytes_of (P.numbers packed.now))
+        (P.layout packed.now).byte_count (S.state image.old) (S.state image.new) }
 {
     let mut array = [0u8; PIECE_BYTES];
     let byte_count = packed.byte_count();

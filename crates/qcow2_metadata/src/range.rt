@@ -8,7 +8,7 @@ ghost use Rattle.qcow2_metadata.specs.Range.{range_fault};
 
 use qcow2_base::{Fault, HostCluster, HostOffset, MAX_FILE_LENGTH, Storage};
 
-// Where so many bytes begin that start with a cluster, or why they can't lie there.
+// Where `len` bytes begin that start with a cluster, or why they can't lie there.
 pub(crate) fn range_offset(
     cluster: HostCluster,
     cluster_bits: u32,

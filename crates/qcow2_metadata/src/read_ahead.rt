@@ -41,7 +41,7 @@ impl<'a, S: Storage> ReadAhead<'a, S> {
         }
     }
 
-    // Whether the bytes from an offset on are kept, so many of them.
+    // Whether `len` bytes from an offset on are kept.
     fn keeps(&self, offset: u64, len: usize) -> bool
         ensures { IsTrue result → (self.now.start ≤ offset) × (offset + len ≤ self.now.start + self.now.len) }
     {
@@ -87,7 +87,7 @@ impl<'a, S: Storage> ReadAhead<'a, S> {
     }
 }
 
-// Fills the front of the buffer, so many bytes of it.
+// Fills the first `len` bytes of the buffer.
 fn read_front<S: Storage>(
     image: &mut S,
     offset: u64,

@@ -6,10 +6,11 @@ ghost use Rattle.qcow2_base.specs.Storage.{OnImage, OnlyReads};
 ghost use Rattle.qcow2_base.specs.Types.{IsClusterBits};
 ghost use Rattle.qcow2_base.specs.declared.fault.Fault.TheVariants.{NoMemory, Storage as StorageFailed};
 ghost use Rattle.qcow2_base.specs.declared.types.HostOffset.{HostOffset as Offset};
-ghost use Rattle.qcow2_metadata.specs.Results.{Answers};
+ghost use Rattle.qcow2_metadata.specs.Placed.{FollowsWrite, IsLoaded, RefusesPlace, Writes, offset_of};
+ghost use Rattle.qcow2_metadata.specs.Results.{Reads};
 ghost use Rattle.qcow2_metadata.specs.Refblock.Guard.{IsBlockGuard};
 ghost use Rattle.qcow2_metadata.specs.Refblock.Counters.{AreCounters, IsOfOrder, kept_counters};
-ghost use Rattle.qcow2_metadata.specs.Refblock.{IsLawfulBlock, IsLoadedBlock, RefusesBlock, WritesBlock, block_entries, block_fault, block_of, block_offset, flagged_block, greatest_counter, loaded_block, block_on_storage, stepped_block};
+ghost use Rattle.qcow2_metadata.specs.Refblock.{IsBlockFault, IsValidBlock, block_entries, block_geometry_of, block_layout, block_of, greatest_counter, loaded_block, stepped_block};
 ghost use Rattle.qcow2_metadata.specs.Refblock.Packing.{counters_at};
 
 mod counters;
@@ -17,7 +18,8 @@ mod guard;
 mod packing;
 
 use crate::Header;
-use crate::pieces::{PIECE_BYTES, Packed, write_in_pieces};
+use crate::pieces::{PIECE_BYTES, Packed};
+use crate::placed::Placement;
 use crate::range::{range_offset, read_range};
 use counters::Counters;
 pub use guard::RefBlockWriteGuard;
@@ -35,28 +37,27 @@ const GREATEST_COUNTERS: [u64; 7] = [1, 3, 15, 255, 65535, 4294967295, 184467440
 #[derive(Debug, Drop)]
 pub struct RefBlock {
     counters: Counters,
-    cluster: Option<HostCluster>,
-    modified: bool,
+    placement: Placement,
     cluster_bits: u32,
     refcount_order: u32,
 }
 
 impl Model for RefBlock {
-    ghost use Rattle.qcow2_metadata.specs.Refblock.{BlockState, IsLawfulBlock};
+    ghost use Rattle.qcow2_metadata.specs.Refblock.{BlockState, IsValidBlock, block_geometry};
     ghost use Rattle.qcow2_metadata.specs.Refblock.Counters.{IsOfOrder, kept_counters};
 
     ghost Value = { BlockState };
 
     ghost view = { λ b. record {
-      counters = kept_counters b.counters;
-      cluster = b.cluster;
-      modified = b.modified;
-      cluster_bits = b.cluster_bits;
-      refcount_order = b.refcount_order;
+      numbers = kept_counters b.counters;
+      cluster = b.placement.cluster;
+      modified = b.placement.modified;
+      geometry = block_geometry b.cluster_bits b.refcount_order;
     } };
 
     ghost invariant = { λ b. IsOfOrder b.refcount_order b.counters
-        × IsLawfulBlock b.cluster_bits b.refcount_order b.cluster (kept_counters b.counters) };
+        × IsValidBlock (block_geometry b.cluster_bits b.refcount_order) b.placement.cluster
+        (kept_counters b.counters) };
 }
 
 // The counters of the block that begins at an offset of the image. Reads in pieces of 4096 bytes.
@@ -92,8 +93,8 @@ fn read_counters<S: Storage>(
 
 impl RefBlock {
     /// A block of an image with this header in which no cluster has a reference. It has no cluster, and
-    /// counts as modified. Fails only for want of memory.
-    #[tactic(auto, using(crate::proofs::RefblockLemmas::zeros_are_lawful))]
+    /// counts as modified. Fails only where memory runs out.
+    #[tactic(auto, using(crate::proofs::RefblockLemmas::zeros_are_valid))]
     pub fn new_cleared<S: Storage>(
         alloc: Global,
         image: &S,
@@ -109,8 +110,10 @@ impl RefBlock {
         let counters = Counters::zeros(alloc, refcount_order, header.rb_entries())?;
         Ok(RefBlock {
             counters,
-            cluster: None,
-            modified: true,
+            placement: Placement {
+                cluster: None,
+                modified: true,
+            },
             cluster_bits: header.cluster_bits(),
             refcount_order,
         })
@@ -118,26 +121,28 @@ impl RefBlock {
 
     /// Reads the block that begins with a cluster of the image, in pieces of 4096 bytes. It has that
     /// cluster and doesn't count as modified. Refuses an end past 2^56. Changes no byte, whatever it
-    /// answers.
+    /// returns.
     pub fn load<S: Storage>(
         alloc: Global,
         image: &mut S,
         header: &Header,
         cluster: HostCluster,
     ) -> Result<RefBlock, Fault>
-        ensures refused { RefusesBlock (block_fault header.now.v2.cluster_bits cluster) result }
-        ensures exact { OnImage (S.state image.old) (λ bytes.
-            Answers (λ block. block.counters) result (loaded_block header.now cluster bytes)) }
-        ensures loaded { IfOk result (IsLoadedBlock header.now cluster (S.state image.old)) }
-        ensures storage { OnlyReads result (S.state image.old) (S.state image.new) }
+        ensures refused { RefusesPlace (block_layout (block_geometry_of header.now)) cluster result }
+        ensures reads { Reads (λ block. block.numbers) result (loaded_block header.now cluster)
+            (IsBlockFault header.now cluster) (S.state image.old) (S.state image.new) }
+        ensures loaded { let geometry = block_geometry_of header.now in IfOk result
+            (IsLoaded (block_layout geometry) geometry cluster (S.state image.old)) }
     {
         let size = header.cluster_size() as u64;
         let offset = range_offset(cluster, header.cluster_bits(), size)?;
         let counters = read_counters(alloc, image, header, offset)?;
         Ok(RefBlock {
             counters,
-            cluster: Some(cluster),
-            modified: false,
+            placement: Placement {
+                cluster: Some(cluster),
+                modified: false,
+            },
             cluster_bits: header.cluster_bits(),
             refcount_order: header.refcount_order(),
         })
@@ -146,27 +151,18 @@ impl RefBlock {
     /// Writes the block to the image, from its cluster on, in pieces of 4096 bytes.
     ///
     /// Refuses a block with no cluster, then an end past 2^56. After `Ok` the block doesn't count as
-    /// modified; after a storage fault it does, and some pieces are written, then any bytes may stand in
-    /// one, and those after it are as before; after any other refusal nothing has changed. Counters and
-    /// cluster stay whatever it answers, and no byte outside the block's cluster changes.
+    /// modified. After a storage fault it does, and some pieces are written, then any bytes may be in
+    /// one, and those after it are as before. After any other refusal nothing has changed. Counters and
+    /// cluster stay whatever it returns, and no byte outside the block's cluster changes.
     pub fn write<S: Storage>(&mut self, image: &mut S) -> Result<(), Fault>
-        ensures { WritesBlock result (block_on_storage self.old (S.state image.old))
-            (block_on_storage self.new (S.state image.new)) }
+        ensures written { Writes (block_layout self.old.geometry) self.old.numbers self.old.cluster result
+            (S.state image.old) (S.state image.new) }
+        ensures flag { FollowsWrite result self.old self.new }
     {
-        let Some(cluster) = self.cluster else {
-            return Err(Fault::NoOffset);
-        };
-        let offset = range_offset(cluster, self.cluster_bits, 1 << self.cluster_bits)?;
-        match write_in_pieces(self, image, offset) {
-            Ok(()) => {
-                self.clear_modified();
-                Ok(())
-            }
-            Err(fault) => {
-                self.set_modified();
-                Err(fault.into())
-            }
-        }
+        let mut placement = self.placement;
+        let written = placement.write(&*self, image);
+        self.placement = placement;
+        written
     }
 
     /// Writes the block to the image, as `write` does, if it counts as modified. The block must then
@@ -179,24 +175,26 @@ impl RefBlock {
         requires { self.old.modified ≡ true → self.old.cluster ≡ Some cluster }
         ensures idle { self.old.modified ≡ false →
             IsOk result × (self.new ≡ self.old) × (image.new ≡ image.old) }
-        ensures modified { self.old.modified ≡ true → WritesBlock result
-            (block_on_storage self.old (S.state image.old)) (block_on_storage self.new (S.state image.new)) }
+        ensures written { self.old.modified ≡ true →
+            Writes (block_layout self.old.geometry) self.old.numbers self.old.cluster result
+            (S.state image.old) (S.state image.new) }
+        ensures flag { FollowsWrite result self.old self.new }
     {
         // The caller's word for the cluster is in the contract alone.
         let _ = cluster;
-        if !self.modified {
-            return Ok(());
-        }
-        self.write(image)
+        let mut placement = self.placement;
+        let written = placement.write_if_modified(&*self, image);
+        self.placement = placement;
+        written
     }
 
     /// How many counters the block has.
     #[inline]
     pub fn entries(&self) -> usize
-        ensures count { result ≡ length self.now.counters }
-        ensures value { result ≡ block_entries self.now.cluster_bits self.now.refcount_order }
-        ensures lawful { let block = self.now in
-            IsLawfulBlock block.cluster_bits block.refcount_order block.cluster block.counters }
+        ensures count { result ≡ length self.now.numbers }
+        ensures value { let g = self.now.geometry in
+            result ≡ block_entries g.cluster_bits g.refcount_order }
+        ensures valid { IsValidBlock self.now.geometry self.now.cluster self.now.numbers }
     {
         1 << (self.cluster_bits + 3 - self.refcount_order)
     }
@@ -204,9 +202,9 @@ impl RefBlock {
     /// How many references the cluster has that the counter at an index is for.
     #[inline]
     pub fn get(&self, index: usize) -> u64
-        requires { index < length self.now.counters }
-        ensures counter { result ≡ slice_index self.now.counters index }
-        ensures fits { result ≤ greatest_counter self.now.refcount_order }
+        requires { index < length self.now.numbers }
+        ensures counter { result ≡ slice_index self.now.numbers index }
+        ensures fits { result ≤ greatest_counter self.now.geometry.refcount_order }
     {
         self.counters.get(index)
     }
@@ -214,8 +212,8 @@ impl RefBlock {
     /// Whether the cluster has no reference that the counter at an index is for.
     #[inline]
     pub fn is_zero(&self, index: usize) -> bool
-        requires { index < length self.now.counters }
-        ensures { result ≡ (slice_index self.now.counters index == 0) }
+        requires { index < length self.now.numbers }
+        ensures { result ≡ (slice_index self.now.numbers index == 0) }
     {
         self.get(index) == 0
     }
@@ -225,32 +223,32 @@ impl RefBlock {
     pub fn get_cluster(&self) -> Option<HostCluster>
         ensures { result ≡ self.now.cluster }
     {
-        self.cluster
+        self.placement.cluster
     }
 
     /// The offset in the image that the block begins at.
     #[inline]
     pub fn get_offset(&self) -> Option<HostOffset>
         ensures { option_map (λ (offset : Offset). offset.0) result
-            ≡ option_map (block_offset self.now.cluster_bits) self.now.cluster }
+            ≡ option_map (offset_of (block_layout self.now.geometry)) self.now.cluster }
     {
-        Some(self.cluster?.offset(self.cluster_bits))
+        Some(self.placement.cluster?.offset(self.cluster_bits))
     }
 
     /// Says where in the image the block begins: at a cluster whose offset fits 64 bits. The block then
     /// counts as modified.
     pub fn set_cluster(&mut self, cluster: HostCluster)
-        requires { cluster.0 * 2 ^ self.old.cluster_bits < 2 ^ 64 }
+        requires { cluster.0 * 2 ^ self.old.geometry.cluster_bits < 2 ^ 64 }
         ensures { self.new ≡ record self.old { cluster = Some cluster; modified = true } }
     {
-        self.cluster = Some(cluster);
-        self.modified = true;
+        self.placement.cluster = Some(cluster);
+        self.placement.modified = true;
     }
 
     /// The logarithm of the cluster size in bytes, from 9 to 21.
     #[inline]
     pub fn cluster_bits(&self) -> u32
-        ensures value { result ≡ self.now.cluster_bits }
+        ensures value { result ≡ self.now.geometry.cluster_bits }
         ensures range { IsClusterBits result }
     {
         self.cluster_bits
@@ -259,7 +257,7 @@ impl RefBlock {
     /// The logarithm of the number of bits that a counter has, from 0 to 6.
     #[inline]
     pub fn refcount_order(&self) -> u32
-        ensures value { result ≡ self.now.refcount_order }
+        ensures value { result ≡ self.now.geometry.refcount_order }
         ensures range { result ≤ 6 }
     {
         self.refcount_order
@@ -270,21 +268,21 @@ impl RefBlock {
     pub fn is_modified(&self) -> bool
         ensures { result ≡ self.now.modified }
     {
-        self.modified
+        self.placement.modified
     }
 
-    /// Says that the block is as it stands in the image.
+    /// Says that the block is the same as in the image.
     pub fn clear_modified(&mut self)
-        ensures { self.new ≡ flagged_block false self.old }
+        ensures { self.new ≡ record self.old { modified = false } }
     {
-        self.modified = false;
+        self.placement.modified = false;
     }
 
-    /// Says that the block is not as it stands in the image.
+    /// Says that the block is not the same as in the image.
     pub fn set_modified(&mut self)
-        ensures { self.new ≡ flagged_block true self.old }
+        ensures { self.new ≡ record self.old { modified = true } }
     {
-        self.modified = true;
+        self.placement.modified = true;
     }
 
     /// The allocator that the block keeps its counters with.
@@ -295,10 +293,11 @@ impl RefBlock {
     // The counters as memory has them: one number each, in the smallest integers that hold an order's.
     #[inline]
     fn kept(&self) -> &Counters
-        ensures integers { IsOfOrder self.now.refcount_order result.now }
-        ensures numbers { kept_counters result.now ≡ self.now.counters }
+        ensures integers { IsOfOrder self.now.geometry.refcount_order result.now }
+        ensures numbers { kept_counters result.now ≡ self.now.numbers }
         ensures count { let block = self.now in
-            length (kept_counters result.now) ≡ block_entries block.cluster_bits block.refcount_order }
+            length (kept_counters result.now)
+            ≡ block_entries block.geometry.cluster_bits block.geometry.refcount_order }
     {
         &self.counters
     }
@@ -306,7 +305,7 @@ impl RefBlock {
     // The greatest number that a counter holds.
     #[inline]
     fn greatest(&self) -> u64
-        ensures { result ≡ greatest_counter self.now.refcount_order }
+        ensures { result ≡ greatest_counter self.now.geometry.refcount_order }
     {
         GREATEST_COUNTERS[self.refcount_order as usize]
     }
@@ -314,15 +313,15 @@ impl RefBlock {
     // Puts a number that a counter holds in the place of one. The block then counts as modified.
     #[inline]
     fn set(&mut self, index: usize, counter: u64)
-        requires index { index < length self.old.counters }
-        requires counter { counter ≤ greatest_counter self.old.refcount_order }
+        requires index { index < length self.old.numbers }
+        requires counter { counter ≤ greatest_counter self.old.geometry.refcount_order }
         ensures { self.new ≡ stepped_block self.old index counter }
     {
         self.counters.set(index, counter);
-        self.modified = true;
+        self.placement.modified = true;
     }
 
-    /// Leave to change the block's counters.
+    /// Permission to change the block's counters.
     pub fn lock_write(&mut self) -> RefBlockWriteGuard<'_>
         ensures { IsBlockGuard self.entry result }
     {
@@ -331,14 +330,19 @@ impl RefBlock {
 }
 
 impl Packed for RefBlock {
-    ghost use Rattle.qcow2_metadata.specs.Refblock.Packing.{packed};
+    ghost use Rattle.qcow2_metadata.specs.Refblock.{block_layout};
 
-    ghost bytes = { λ b. packed b.refcount_order b.counters };
+    ghost layout = { λ b. block_layout b.geometry };
 
-    ghost byte_count = { λ b. 2 ^ b.cluster_bits };
+    ghost numbers = { λ b. b.numbers };
 
     fn byte_count(&self) -> usize {
         1 << self.cluster_bits
+    }
+
+    #[tactic(auto, using(crate::proofs::RefblockLemmas::block_reads_back))]
+    fn offset_at(&self, cluster: HostCluster) -> Result<HostOffset, Fault> {
+        range_offset(cluster, self.cluster_bits, 1 << self.cluster_bits)
     }
 
     fn pack(&self, piece: usize, buffer: &mut [u8]) {

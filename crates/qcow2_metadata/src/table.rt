@@ -1,16 +1,18 @@
 //! Tables of entries: L1 tables, L2 tables and refcount tables differ in what their entries are and how many
-//! they may be, so loading and writing stand in one trait and are proved once.
+//! they may be. So loading and writing are in one trait, and are proved once.
 
 ghost use Rattle.std.specs.Prelude.{◌≡◌, ℕ, false, true, ◌+◌, ◌*◌, ◌^◌, ◌<◌, ◌≤◌, IsTrue, length, map, slice_index, slice_get, Option, Some, None, option_map, IfSome, IfOk, OnOk, MatchResult};
 ghost use Rattle.std.specs.Int.{div_ceil};
 ghost use Rattle.qcow2_base.specs.Format.{max_file_length, most_entries_in_memory};
-ghost use Rattle.qcow2_base.specs.Storage.{OnImage, OnlyReads};
 ghost use Rattle.qcow2_base.specs.Types.{IsClusterBits};
 ghost use Rattle.qcow2_base.specs.declared.types.HostOffset.{HostOffset as Offset};
-ghost use Rattle.qcow2_metadata.specs.Results.{Answers};
-ghost use Rattle.qcow2_metadata.specs.Table.{IsLawful, IsLoaded, Kind, LoadRefuses, TableState, WritesTable, entries_fault, first_fault, flagged, loaded_table, new_table, offset_of, table_on_storage, place_fault, place_of, table_at};
+ghost use Rattle.qcow2_metadata.specs.Header.{geometry_of};
+ghost use Rattle.qcow2_metadata.specs.Placed.{FollowsWrite, IsLoaded, RefusesPlace, Writes, loaded_numbers, offset_of};
+ghost use Rattle.qcow2_metadata.specs.Results.{Reads};
+ghost use Rattle.qcow2_metadata.specs.Table.{IsTableFault, IsValidTable, Kind, TableState, entries_fault, first_fault, layout_of_table, new_table, table_layout};
 ghost use Rattle.qcow2_metadata.specs.Table.OneEntry.{WritesEntry, entries_together};
 
+use crate::placed::Placement;
 use crate::range::range_offset;
 use crate::{Header, TableEntry};
 use qcow2_base::{ClusterCount, Fault, HostCluster, HostOffset, Storage};
@@ -31,10 +33,10 @@ pub use l1_table::L1Table;
 pub use l2_guards::{CompressedClusterReadGuard, L2TableWriteGuard};
 pub use l2_table::L2Table;
 use one_entry::{entries_at_once, write_entries};
-use pieces::{read_entries, write_pieces};
+use pieces::{TableBytes, read_entries};
 pub use ref_table::RefTable;
 
-/// A table in memory. Its entries are lawful under the image's cluster size. It may have a cluster in
+/// A table in memory. Its entries are valid under the image's cluster size. It may have a cluster in
 /// the image, where it begins, and it knows whether it was changed since it was last read or written.
 pub trait Table: Sized {
     /// The entry as the table keeps it.
@@ -56,20 +58,20 @@ pub trait Table: Sized {
     /// What sets the kind apart: how many entries there may be, and which numbers are none.
     ghost kind: { Kind };
 
-    /// A table of these entries, with no cluster, that counts as modified. They must be lawful under
+    /// A table of these entries, with no cluster, that counts as modified. They must be valid under
     /// the header's cluster size, and as many as such a table may have, 2^48 at most.
     fn from_data(list: Vec<Self::InternalEntry>, header: &Header) -> Self
         requires valid { first_fault (kind.fault_of header.now.v2.cluster_bits)
             (map Self.InternalEntry.plain list.items) ≡ None }
-        requires count { IsTrue (kind.has_lawful_count header.now.v2.cluster_bits (length list.items)) }
+        requires count { IsTrue (kind.has_valid_count header.now.v2.cluster_bits (length list.items)) }
         requires bound { length list.items ≤ most_entries_in_memory }
         ensures { state result ≡ new_table (map Self.InternalEntry.plain list.items) header.now };
 
     /// The number of entries.
     fn entries(&self) -> usize
         ensures count { result ≡ length (state self.now).numbers }
-        ensures lawful { let table = state self.now in
-            IsLawful kind table.geometry.cluster_bits table.cluster table.numbers };
+        ensures valid { let table = state self.now in
+            IsValidTable kind table.geometry.cluster_bits table.cluster table.numbers };
 
     /// The entry at an index, if there is one.
     fn get_ref(&self, index: usize) -> Option<&Self::InternalEntry>
@@ -92,7 +94,7 @@ pub trait Table: Sized {
     /// The offset in the image that the table begins at.
     fn get_offset(&self) -> Option<HostOffset>
         ensures { option_map (λ (offset : Offset). offset.0) result
-            ≡ option_map offset_of (place_of (state self.now)) };
+            ≡ option_map (offset_of (layout_of_table kind (state self.now))) (state self.now).cluster };
 
     /// Says where in the image the table begins: at a cluster whose offset fits 64 bits. The table then
     /// counts as modified.
@@ -113,13 +115,13 @@ pub trait Table: Sized {
     fn is_modified(&self) -> bool
         ensures { result ≡ (state self.now).modified };
 
-    /// Says that the table is as it stands in the image.
+    /// Says that the table is the same as in the image.
     fn clear_modified(&mut self)
-        ensures { state self.new ≡ flagged false (state self.old) };
+        ensures { state self.new ≡ record (state self.old) { modified = false } };
 
-    /// Says that the table is not as it stands in the image.
+    /// Says that the table is not the same as in the image.
     fn set_modified(&mut self)
-        ensures { state self.new ≡ flagged true (state self.old) };
+        ensures { state self.new ≡ record (state self.old) { modified = true } };
 
     /// The allocator that the table keeps its entries with.
     fn allocator(&self) -> Global;
@@ -139,12 +141,12 @@ pub trait Table: Sized {
         ClusterCount::from_byte_size(self.byte_size() as u64, self.cluster_bits())
     }
 
-    /// Reads the table of so many entries that begins with a cluster of the image, in pieces of 4096
+    /// Reads the table of `entries` entries that begins with a cluster of the image, in pieces of 4096
     /// bytes. It has that cluster and doesn't count as modified. An L2 table has the header's
     /// `l2_entries()`.
     ///
     /// Refuses more entries than the kind allows, then an end past 2^56, then the first entry that
-    /// isn't lawful, and reads no piece after that entry's. Changes no byte, whatever it answers.
+    /// isn't valid, and reads no piece after that entry's. Changes no byte, whatever it returns.
     final fn load<S: Storage>(
         alloc: Global,
         image: &mut S,
@@ -152,14 +154,14 @@ pub trait Table: Sized {
         cluster: HostCluster,
         entries: usize,
     ) -> Result<Self, Fault>
-        requires { IsTrue (kind.has_lawful_count header.now.v2.cluster_bits entries) }
-        ensures refused { LoadRefuses (place_fault kind (table_at header.now cluster entries)) result }
-        ensures exact { OnImage (S.state image.old) (λ bytes.
-            Answers (λ table. (state table).numbers) result
-            (loaded_table kind (table_at header.now cluster entries) bytes)) }
+        requires { IsTrue (kind.has_valid_count header.now.v2.cluster_bits entries) }
+        ensures refused { RefusesPlace (table_layout kind header.now.v2.cluster_bits entries) cluster result }
+        ensures reads { let layout = table_layout kind header.now.v2.cluster_bits entries in
+            Reads (λ table. (state table).numbers) result (loaded_numbers layout cluster)
+            (IsTableFault layout cluster) (S.state image.old) (S.state image.new) }
         ensures loaded { IfOk result (λ table.
-            IsLoaded (table_at header.now cluster entries) (S.state image.old) (state table)) }
-        ensures storage { OnlyReads result (S.state image.old) (S.state image.new) }
+            IsLoaded (table_layout kind header.now.v2.cluster_bits entries) (geometry_of header.now) cluster
+            (S.state image.old) (state table)) }
     {
         let offset = table_offset(cluster, header.cluster_bits(), entries, Self::MAX_ENTRIES)?;
         let list = read_entries(alloc, image, header, offset, entries)?;
@@ -172,50 +174,44 @@ pub trait Table: Sized {
     /// Writes the table to the image, from its cluster on, in pieces of 4096 bytes.
     ///
     /// Refuses a table with no cluster, then more entries than the kind allows, then an end past 2^56.
-    /// After `Ok` the table doesn't count as modified; after a storage fault it does, and some pieces
-    /// are written, then any bytes may stand in one, and those after it are as before; after any other
-    /// refusal nothing has changed. Entries and cluster stay whatever it answers, and no byte outside
+    /// After `Ok` the table doesn't count as modified. After a storage fault it does, and some pieces
+    /// are written, then any bytes may be in one, and those after it are as before. After any other
+    /// refusal nothing has changed. Entries and cluster stay whatever it returns, and no byte outside
     /// the table's place changes.
     final fn write<S: Storage>(&mut self, image: &mut S) -> Result<(), Fault>
-        ensures { WritesTable kind result
-            (table_on_storage (state self.old) (S.state image.old))
-            (table_on_storage (state self.new) (S.state image.new)) }
+        ensures written { let table = state self.old in
+            Writes (layout_of_table kind table) table.numbers table.cluster result
+            (S.state image.old) (S.state image.new) }
+        ensures flag { FollowsWrite result (state self.old) (state self.new) }
     {
-        let Some(cluster) = self.get_cluster() else {
-            return Err(Fault::NoOffset);
+        let mut placement = Placement {
+            cluster: self.get_cluster(),
+            modified: self.is_modified(),
         };
-        let offset = table_offset(
-            cluster,
-            self.cluster_bits(),
-            self.entries(),
-            Self::MAX_ENTRIES,
-        )?;
-        match write_pieces(self, image, offset) {
-            Ok(()) => {
-                self.clear_modified();
-                Ok(())
-            }
-            Err(fault) => {
-                self.set_modified();
-                Err(fault.into())
-            }
+        let written = placement.write(&TableBytes { table: self }, image);
+        if placement.modified {
+            self.set_modified();
+        } else {
+            self.clear_modified();
         }
+        written
     }
 
-    /// Writes one entry of the table to the image, by one call of the storage: the aligned bytes that hold
-    /// it, counted from the table's begin, with the table's entries and with zeros past its end. They are as
-    /// long as the greater of the storage's alignments, eight bytes at least, or eight bytes where that is
-    /// more than a cluster. So whatever the alignments are, which callers may not know, no byte of another
-    /// cluster than the entry's changes. Takes memory for more than 4096 bytes. The index is in bounds.
+    /// Writes one entry of the table to the image, by one call of the storage. Writes the aligned bytes that
+    /// hold it, counted from the table's begin, with the table's entries and with zeros past its end. They
+    /// are as long as the greater of the storage's alignments, and eight bytes at least. Where that is more
+    /// than a cluster they are eight bytes. So whatever the alignments are, which callers may not know, no
+    /// byte of another cluster than the entry's changes. Takes memory for more than 4096 bytes. The index is
+    /// in bounds.
     ///
-    /// Refuses what `write` refuses, then want of memory; nothing has changed then. The table stays as it
-    /// is, and counts as modified as before, whatever it answers.
+    /// Refuses what `write` refuses, then fails where memory runs out; nothing has changed then. The table
+    /// stays as it is, and counts as modified as before, whatever it returns.
     final fn write_entry<S: Storage>(&mut self, image: &mut S, index: usize) -> Result<(), Fault>
         requires { index < length (state self.old).numbers }
-        ensures { WritesEntry kind index
-            (entries_together (state self.old).geometry.cluster_bits (S.state image.old) index) result
-            (table_on_storage (state self.old) (S.state image.old))
-            (table_on_storage (state self.new) (S.state image.new)) }
+        ensures { let table = state self.old in
+            WritesEntry (layout_of_table kind table) index
+            (entries_together table.geometry.cluster_bits (S.state image.old) index) result
+            table (state self.new) (S.state image.old) (S.state image.new) }
     {
         let Some(cluster) = self.get_cluster() else {
             return Err(Fault::NoOffset);
@@ -235,7 +231,7 @@ pub trait Table: Sized {
     ghost faults_are: { kind.fault_of ≡ Self.InternalEntry.fault_of };
 }
 
-// Where a table of so many entries begins, or why it can't be there.
+// Where a table of this number of entries begins, or why it can't be there.
 fn table_offset(
     cluster: HostCluster,
     cluster_bits: u32,

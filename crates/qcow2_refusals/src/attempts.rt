@@ -12,11 +12,11 @@ use std::alloc::Global;
 pub(crate) enum Wrong {
     /// What it begins with could not be made.
     Beginning,
-    /// No refusal explains what the call answered.
+    /// No refusal explains what the call returned.
     Answer,
     /// The image's bytes.
     Image,
-    /// What the call told.
+    /// What the call reported.
     Told,
     /// What the call works on beside the image.
     Held,
@@ -38,7 +38,7 @@ pub(crate) fn unless(holds: bool, wrong: Wrong) -> Result<(), Wrong> {
     Err(wrong)
 }
 
-/// What a run works on, the numbers that it told at first and those that it tells, and its image before the
+/// What a run works on, the numbers that it showed at first and those that it shows, and its image before the
 /// call and after it.
 #[derive(Drop)]
 pub(crate) struct Attempt {
@@ -46,6 +46,7 @@ pub(crate) struct Attempt {
     first: Numbers,
     numbers: Numbers,
     pub(crate) before: MemStorage,
+    opened: MemStorage,
     after: MemStorage,
     /// Whether the call lengthens the image.
     pub(crate) grows: bool,
@@ -58,6 +59,7 @@ pub(crate) fn begin(alloc: Global, run: &Run<'_>) -> Result<Attempt, Fault> {
     let mut first = Numbers(Vec::with_capacity(alloc, MOST_NUMBERS)?);
     let numbers = Numbers(Vec::with_capacity(alloc, MOST_NUMBERS)?);
     let before = run.before(alloc)?;
+    let opened = run.opened(alloc)?;
     let after = image_of(alloc, run.setup.image, run.after)?;
     let held = hold(alloc, run)?;
     held.tell(&mut first);
@@ -67,6 +69,7 @@ pub(crate) fn begin(alloc: Global, run: &Run<'_>) -> Result<Attempt, Fault> {
         first,
         numbers,
         before,
+        opened,
         after,
         grows,
         is_again: false,
@@ -74,9 +77,9 @@ pub(crate) fn begin(alloc: Global, run: &Run<'_>) -> Result<Attempt, Fault> {
 }
 
 impl Attempt {
-    /// Fails unless all stands that must after this answer: what the call told, what it works on, and where
-    /// it succeeds the image, whose bytes are these now. Where a write of the output has failed, the image
-    /// was changed by then, and is changed once more.
+    /// Fails unless all stands that must after this answer: what the call reported, what it works on, and
+    /// where it succeeds the image, whose bytes are these now. Where a write of the output has failed, the
+    /// image was changed by then, and is changed once more.
     pub(crate) fn check(
         &mut self,
         run: &Run<'_>,
@@ -87,13 +90,18 @@ impl Attempt {
         let may_differ = answer != Answer::Done || self.held.out.has_failed;
         unless(may_differ || image == self.after.bytes(), Wrong::Image)?;
         unless(self.told_stands(run, answer), Wrong::Told)?;
-        self.is_again = image != self.before.bytes();
+        self.is_again = !self.is_unchanged(image);
         let changes = match answer {
             Answer::Done => run.done,
             Answer::StorageFailed => run.refused,
             _ => "",
         };
         unless(self.held_stands(changes), Wrong::Held)
+    }
+
+    /// Whether nothing is changed of the image, whose bytes are these, but maybe its header as it is loaded.
+    pub(crate) fn is_unchanged(&self, image: &[u8]) -> bool {
+        image == self.before.bytes() || image == self.opened.bytes()
     }
 
     /// The image's bytes where these calls have passed: those of after the call where they wrote.
@@ -107,21 +115,21 @@ impl Attempt {
         Ok(bytes)
     }
 
-    // All is told, or a beginning of it where the call was refused.
+    // All is reported, or a beginning of it where the call was refused.
     fn told_stands(&self, run: &Run<'_>, answer: Answer) -> bool {
         let (all, told) = (run.told(self.is_again), self.held.out.bytes.as_slice());
         let is_long_enough = answer != Answer::Done || told.len() == all.len();
         is_long_enough && begins_with(all.as_bytes(), told)
     }
 
-    // It tells the numbers that it told at first, but for these.
+    // It shows the numbers that it showed at first, but for these.
     fn held_stands(&mut self, changes: &str) -> bool {
         self.held.tell(&mut self.numbers);
         takes_all_back(&mut self.numbers.0, &self.first.0, changes)
     }
 }
 
-// Puts the old numbers back where those stand which the words say, and answers whether all are old then.
+// Puts the old numbers back where those stand which the words say, and returns whether all are old then.
 fn takes_all_back(numbers: &mut [u64], first: &[u64], changes: &str) -> bool {
     for word in changes.split_whitespace() {
         if !takes_back(numbers, first, word) {
@@ -144,7 +152,7 @@ fn takes_back(numbers: &mut [u64], first: &[u64], word: &str) -> bool {
     stands
 }
 
-// Whether the text, where / stands for a new line, begins with what was told.
+// Whether the text, where / stands for a new line, begins with what was reported.
 fn begins_with(text: &[u8], told: &[u8]) -> bool {
     for (index, byte) in told.iter().enumerate() {
         let shown = if *byte == b'\n' { b'/' } else { *byte };
@@ -155,7 +163,7 @@ fn begins_with(text: &[u8], told: &[u8]) -> bool {
     true
 }
 
-// Writes so many of the new bytes in their place, after zeros where the old ones end before it.
+// Writes `len` of the new bytes in their place, after zeros where the old ones end before it.
 fn write_from(new: &[u8], bytes: &mut Vec<u8>, place: usize, len: usize) -> Result<(), Fault> {
     let end = place.saturating_add(len);
     if bytes.len() < end {

@@ -10,7 +10,7 @@ use crate::held::Held;
 use crate::runs::Run;
 use qcow2_base::{Fault, Storage};
 
-/// What a call answered, as far as refusals go.
+/// What a call returned, as far as refusals go.
 #[derive(Clone, Copy, PartialEq, Eq)]
 pub(crate) enum Answer {
     Done,

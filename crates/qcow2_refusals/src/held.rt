@@ -1,4 +1,4 @@
-//! What a call works on beside an image, and what it tells of itself.
+//! What a call works on beside an image, and what it shows of itself.
 
 use crate::outputs::Output;
 use crate::runs::{Run, image_of, usize_of};
@@ -14,14 +14,14 @@ pub(crate) const TABLES: HostCluster = HostCluster(1);
 /// The cluster that the block begins with.
 pub(crate) const BLOCK: HostCluster = HostCluster(2);
 
-/// More numbers than are told of any of them.
+/// More numbers than are shown of any of them.
 pub(crate) const MOST_NUMBERS: usize = 1 << 17;
 
 /// A disk of 64 clusters of 512 bytes, of which guest cluster 3 is the data in host cluster 5.
 const DISK: &str = "2048 0 2048 0=514649fb00000003 16=9 24=8000 32=1 40=200 96=400000068 \
     512=8000000000000400 1048=8000000000000a00";
 
-/// A header, a table of each kind and a block, and the text that a call has told.
+/// A header, a table of each kind and a block, and the text that a call has reported.
 #[derive(Drop)]
 pub(crate) struct Held {
     pub(crate) alloc: Global,
@@ -141,9 +141,9 @@ pub(crate) fn block<S: Storage>(
     RefBlock::load(alloc, image, header, BLOCK)
 }
 
-// ---- What it tells
+// ---- What it shows
 
-/// A list of numbers that has room for all that are told, so that none asks for memory.
+/// A list of numbers that has room for all that are shown, so that none asks for memory.
 #[derive(Drop)]
 pub(crate) struct Numbers(pub(crate) Vec<u64>);
 
@@ -158,7 +158,7 @@ impl Numbers {
 }
 
 impl Held {
-    /// Tells all that it says: the flags of L1 table, L2 table, refcount table and block, what the header
+    /// Shows all that it says: the flags of L1 table, L2 table, refcount table and block, what the header
     /// says from place 4 on, and then cluster and numbers of L2 table, block, L1 table and refcount table.
     pub(crate) fn tell(&self, numbers: &mut Numbers) {
         numbers.0.clear();
@@ -198,7 +198,7 @@ fn tell_block(block: &RefBlock, numbers: &mut Numbers) {
     }
 }
 
-// Tells the number of a cluster, or a number that none has.
+// Shows the number of a cluster, or a number that none has.
 fn tell_cluster(cluster: Option<HostCluster>, numbers: &mut Numbers) {
     match cluster {
         Some(cluster) => numbers.add(cluster.0),

@@ -1,4 +1,4 @@
-//! Makes each call of the library that can fail with each of its refusals, and tells what isn't as it must
+//! Makes each call of the library that can fail with each of its refusals, and reports what isn't as it must
 //! be.
 //!
 //! With no word, it refuses each call of the storage and each write of the output in turn, and prints a line
@@ -21,6 +21,7 @@ mod without_memory;
 use crate::memory::{Memory, again};
 use crate::refusals::Refusals;
 use crate::runs::take_all;
+use crate::without_memory::OF_A_TURN;
 use std::alloc::Global;
 use std::io::Write;
 use std::process::ExitCode;
@@ -39,13 +40,13 @@ fn main(rt: HostRuntime) -> ExitCode {
     }
 }
 
-// The word behind the name, or an empty one.
+// The word after the name, or an empty one.
 fn first_word(rt: &HostRuntime) -> io::Result<String> {
     let word = env::args(rt)?.nth(1);
     Ok(word.unwrap_or(String::new(rt.alloc())))
 }
 
-// Does what the word says, and answers whether all was as it must be.
+// Does what the word says, and returns whether all was as it must be.
 fn does<O: Write>(rt: &HostRuntime, word: &str, table: &str, out: &mut O) -> bool {
     match word {
         "" => refuse_all(rt.alloc(), table, out) && make_each(rt, "", table, out),
@@ -98,9 +99,15 @@ fn temporary_path(rt: &HostRuntime) -> io::Result<String> {
     Ok(path.into_string())
 }
 
+// Makes the calls that take no memory, and returns whether each did what it is to do.
 fn make_calls<O: Write>(alloc: Global, turns: u64, out: &mut O) -> bool {
-    match without_memory::make_calls(alloc, turns) {
-        Ok(sum) => writeln!(out, "{turns} turns: {}", sum.0).is_ok(),
-        Err(_) => false,
+    let Ok(checks) = without_memory::make_calls(alloc, turns) else {
+        return false;
+    };
+    let expected = turns.saturating_mul(OF_A_TURN);
+    if checks.0 != expected {
+        let _ = writeln!(out, "{} of {expected} are as they must be", checks.0);
+        return false;
     }
+    writeln!(out, "{turns} turns").is_ok()
 }

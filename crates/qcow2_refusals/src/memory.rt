@@ -11,7 +11,7 @@ use std::alloc::Global;
 use std::fs;
 use std::io::Write;
 
-/// Makes each run, and tells of those that aren't as they must be.
+/// Makes each run, and reports those that aren't as they must be.
 #[derive(Drop)]
 pub(crate) struct Memory<'a, O> {
     pub(crate) rt: &'a HostRuntime,
@@ -101,7 +101,7 @@ fn make_in_file(
     Err(Wrong::Answer)
 }
 
-// Answers whether all is done. Fails unless all stands that must after this answer: a refusal of memory,
+// Returns whether all is done. Fails unless all stands that must after this answer: a refusal of memory,
 // which is one of the storage where that had to grow, or none.
 fn has_done(
     run: &Run<'_>,
@@ -112,7 +112,7 @@ fn has_done(
     let may_fail = answer != Answer::StorageFailed || attempt.grows;
     unless(may_fail, Wrong::Answer)?;
     let is_done = answer == Answer::Done;
-    unless(is_done || image == attempt.before.bytes(), Wrong::Image)?;
+    unless(is_done || attempt.is_unchanged(image), Wrong::Image)?;
     attempt.check(run, answer, image)?;
     Ok(is_done)
 }

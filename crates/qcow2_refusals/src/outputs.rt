@@ -9,7 +9,7 @@ use std::fmt::Debug;
 use std::io;
 use std::io::{ErrorKind, Write};
 
-/// More bytes than any call answers, so that no write asks for memory.
+/// More bytes than any call reports, so that no write asks for memory.
 const CAPACITY: usize = 1024;
 
 /// An output. A write that fails keeps nothing, and later ones pass again.

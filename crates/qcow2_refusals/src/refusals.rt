@@ -19,7 +19,7 @@ pub(crate) struct Refusals<'a, O> {
     pub(crate) out: &'a mut O,
     /// Whether writes of the output are refused, and not calls of the storage.
     pub(crate) of_writes: bool,
-    /// Whether each run was as it must be, and could be told.
+    /// Whether each run was as it must be, and could be reported.
     pub(crate) all_right: bool,
 }
 
@@ -46,7 +46,7 @@ fn tell_wrong<O: Write>(out: &mut O, run: &Run<'_>, wrong: Wrong, passes: u64) -
     )
 }
 
-// Makes the run with its first call refused, then with its second, until none is. Answers how many there are,
+// Makes the run with its first call refused, then with its second, until none is. Returns how many there are,
 // or how many passed before the one whose refusal was not as it must be.
 fn refuse_each(alloc: Global, of_writes: bool, run: &Run<'_>) -> (u64, Option<Wrong>) {
     for passes in 0..MOST_CALLS {
@@ -59,7 +59,7 @@ fn refuse_each(alloc: Global, of_writes: bool, run: &Run<'_>) -> (u64, Option<Wr
     (MOST_CALLS, Some(Wrong::Endless))
 }
 
-// Makes the run with so many calls passed and the next one refused. Answers whether there was one to refuse.
+// Makes the run with `passes` calls passed and the next one refused. Returns whether there was one to refuse.
 fn refuse(alloc: Global, of_writes: bool, run: &Run<'_>, passes: u64) -> Result<bool, Wrong> {
     let mut image = FailingStorage::new(alloc, run.before(alloc)?);
     let mut attempt = begin(alloc, run)?;
@@ -71,7 +71,7 @@ fn refuse(alloc: Global, of_writes: bool, run: &Run<'_>, passes: u64) -> Result<
     make_twice(run, &mut attempt, &mut image)
 }
 
-// Makes the call, and once more where it was refused. Answers whether it was.
+// Makes the call, and once more where it was refused. Returns whether it was.
 fn make_twice(
     run: &Run<'_>,
     attempt: &mut Attempt,

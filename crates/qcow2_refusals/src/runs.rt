@@ -34,6 +34,7 @@ pub(crate) struct Run<'a> {
     told: &'a str,
     told_again: &'a str,
     words: &'a str,
+    opened: &'a str,
 }
 
 /// What is done with each run.
@@ -77,6 +78,7 @@ fn run_of<'a>(setup: Setup<'a>, line: &'a str) -> Run<'a> {
         told: text_of(columns.next()),
         told_again: text_of(columns.next()),
         words: text_of(columns.next()),
+        opened: text_of(columns.next()),
     }
 }
 
@@ -96,6 +98,13 @@ impl Run<'_> {
         Ok(image.with_align(1 << alignment_bits))
     }
 
+    /// The image after a command has loaded its header, which it may have rewritten.
+    pub(crate) fn opened(&self, alloc: Global) -> Result<MemStorage, Fault> {
+        let mut image = image_of(alloc, self.setup.image, self.before)?;
+        put_numbers(&mut image, self.opened)?;
+        Ok(image)
+    }
+
     /// Whether the call takes an image that a file can hold, which has no alignment.
     pub(crate) fn is_in_a_file(&self) -> bool {
         !self.setup.image.is_empty() && !self.is_aligned()
@@ -108,7 +117,7 @@ impl Run<'_> {
 
     /// Whether the call is the function of a command.
     pub(crate) fn is_command(&self) -> bool {
-        self.of == "over a disk"
+        self.of.starts_with("over a disk")
     }
 
     /// The words of a command, which are those of the call where no others stand.
@@ -119,7 +128,7 @@ impl Run<'_> {
         self.words
     }
 
-    /// What the call must tell, over an image that it has changed before or not.
+    /// What the call must report, over an image that it has changed before or not.
     pub(crate) fn told(&self, is_again: bool) -> &str {
         if is_again && !self.told_again.is_empty() {
             return self.told_again;

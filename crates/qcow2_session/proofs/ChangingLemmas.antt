@@ -2,21 +2,22 @@ use Rattle.std.proofs.lemmas.Bool.Decides.{nat_tests}
 use Rattle.std.proofs.Common.{◌≡◌, ◌≢◌, ◌⊎◌, ℕ, false, List, [], Option, Result, Ok, Err, IsTrue, arith}
 use Rattle.std.specs.Result.{IfOk, IsOkAnd}
 use Rattle.std.proofs.lemmas.Result.{on_ok_weaker}
-use Rattle.qcow2_base.specs.Storage.{Image, StorageState}
+use Rattle.qcow2_base.specs.Storage.{Image, SameOutside, StorageState}
 use Rattle.qcow2_base.specs.declared.fault.Fault.{Fault}
 use Rattle.qcow2_base.specs.declared.fault.Fault.TheVariants.{NoMemory, Storage}
 use Rattle.qcow2_metadata.specs.Results.{result_map}
 use Rattle.qcow2_session.proofs.PrintingLemmas.{read_fault-of, refused-as}
-use Rattle.qcow2_session.specs.Commands.Changing.{ChangeEnd, ClusterFormat, PrintsChange, SameOutsideCluster}
+use Rattle.qcow2_session.specs.Commands.Changing.{ChangeEnd, PrintsChange}
+use Rattle.qcow2_metadata.specs.Placed.{IsTorn, Layout, loaded_numbers, offset_of}
 use Rattle.qcow2_session.specs.Commands.Printing.{PrintsText}
-use Rattle.qcow2_session.specs.Session.Edits.{are_some}
-use Rattle.qcow2_session.specs.declared.session.edits.Edit.{Edit}
+use Rattle.qcow2_session.specs.Edits.{are_some}
+use Rattle.qcow2_session.specs.declared.edits.Edit.{Edit}
 
 -- there is no edit where not some are there
 none-of : (edits : List Edit) → are_some edits ≡ false → edits ≡ []
 none-of edits none = grind arith
 
--- what holds of any value holds of that of an answer
+-- what holds of any value holds of that of a result
 pub of-any : {V E : Type 0} {P : V → Type 0} (answer : Result V E) → ((value : V) → P value) → IfOk answer P
 of-any answer all = grind (arith, all)
 
@@ -43,47 +44,47 @@ pub loads-part : {E : Type 0} (run : Result E Fault) (part : E → List ℕ) (lo
     → IfOk run (λ left. loaded ≡ Ok (part left))
 loads-part run part loaded is = grind arith
 
--- which bytes stay, and which are written, where a change is told by what its run left
-abbrev Loads : {E : Type 0} → ClusterFormat → (E → ChangeEnd) → Result E Fault → Image → Type 0
-Loads format tell run new = IfOk run (λ left. format.loaded (tell left).cluster new ≡ Ok (tell left).numbers)
+-- which bytes stay, and which are written, where a change is known by what its run left
+abbrev Loads : {E : Type 0} → Layout → (E → ChangeEnd) → Result E Fault → Image → Type 0
+Loads layout tell run new = IfOk run (λ left. loaded_numbers layout (tell left).cluster new ≡ Ok (tell left).numbers)
 
 abbrev StaysIdle : {E : Type 0} → (E → ChangeEnd) → Result E Fault → Image → Image → Type 0
 StaysIdle tell run old new = IfOk run (λ left. (tell left).is_written ≡ false → new ≡ old)
 
-abbrev StaysOutside : {E : Type 0} → ClusterFormat → (E → ChangeEnd) → Result E Fault → Image → Image → Type 0
-StaysOutside format tell run old new = IfOk run (λ left. SameOutsideCluster format.cluster_bits (tell left).cluster old new)
+abbrev StaysOutside : {E : Type 0} → Layout → (E → ChangeEnd) → Result E Fault → Image → Image → Type 0
+StaysOutside layout tell run old new = IfOk run (λ left. SameOutside (offset_of layout (tell left).cluster) layout.byte_count old new)
 
-abbrev LeavesTorn : {E : Type 0} → ClusterFormat → (E → ChangeEnd) → Result E Fault → Image → Image → Type 0
-LeavesTorn format tell run old new = (new ≡ old) ⊎ IsOkAnd run (λ left. format.Torn (tell left).cluster (tell left).numbers old new)
+abbrev LeavesTorn : {E : Type 0} → Layout → (E → ChangeEnd) → Result E Fault → Image → Image → Type 0
+LeavesTorn layout tell run old new = (new ≡ old) ⊎ IsOkAnd run (λ left. IsTorn layout (tell left).numbers (tell left).cluster old new)
 
 -- a change was made, and then printed, if the output didn't fail
-pub change-printed : {T E : Type 0} (answer : Result T Fault) (format : ClusterFormat) (tell : E → ChangeEnd) (end : Image → Result ChangeEnd Fault) (run : Result E Fault) (lines : List ℕ) (old new : StorageState) (a b : Option (List ℕ))
+pub change-printed : {T E : Type 0} (answer : Result T Fault) (layout : Layout) (tell : E → ChangeEnd) (end : Image → Result ChangeEnd Fault) (run : Result E Fault) (lines : List ℕ) (old new : StorageState) (a b : Option (List ℕ))
     → (IsTrue old.tells → end old.byte_at ≡ result_map tell run)
     → (IsTrue old.tells → result_map (λ left. (tell left).lines) run ≡ Ok lines)
-    → (IsTrue old.tells → Loads format tell run new.byte_at)
+    → (IsTrue old.tells → Loads layout tell run new.byte_at)
     → new.failures ≡ old.failures
     → (IsTrue old.tells → StaysIdle tell run old.byte_at new.byte_at)
-    → (IsTrue old.tells → StaysOutside format tell run old.byte_at new.byte_at)
-    → PrintsText answer a b lines → PrintsChange answer format end old new a b
-change-printed answer format tell end run lines old new a b is made loads calm idle outside printed =
+    → (IsTrue old.tells → StaysOutside layout tell run old.byte_at new.byte_at)
+    → PrintsText answer a b lines → PrintsChange answer layout end old new a b
+change-printed answer layout tell end run lines old new a b is made loads calm idle outside printed =
     grind (arith, nat_tests, ok-left, on_ok_weaker)
 
 -- there is no place for a change, so none is made
-pub change-unplaced : {T : Type 0} (fault : Fault) (format : ClusterFormat) (end : Image → Result ChangeEnd Fault) (old new : StorageState) (a b : Option (List ℕ))
+pub change-unplaced : {T : Type 0} (fault : Fault) (layout : Layout) (end : Image → Result ChangeEnd Fault) (old new : StorageState) (a b : Option (List ℕ))
     → (IsTrue old.tells → (fault ≡ Storage) ⊎ (fault ≡ NoMemory) ⊎ (end old.byte_at ≡ Err fault))
     → (fault ≡ Storage → new.failures ≢ old.failures) → new.byte_at ≡ old.byte_at
-    → PrintsChange {T = T} (Err fault) format end old new a b
-change-unplaced fault format end old new a b refused failed same =
+    → PrintsChange {T = T} (Err fault) layout end old new a b
+change-unplaced fault layout end old new a b refused failed same =
     grind (arith, nat_tests, read_fault-of, of-any)
 
 -- there is a place for a change, which is refused
-pub change-refused : {T E : Type 0} (fault : Fault) (format : ClusterFormat) (tell : E → ChangeEnd) (end : Image → Result ChangeEnd Fault) (run : Result E Fault) (old new : StorageState) (a b : Option (List ℕ))
+pub change-refused : {T E : Type 0} (fault : Fault) (layout : Layout) (tell : E → ChangeEnd) (end : Image → Result ChangeEnd Fault) (run : Result E Fault) (old new : StorageState) (a b : Option (List ℕ))
     → (IsTrue old.tells → end old.byte_at ≡ result_map tell run)
     → (IsTrue old.tells → (fault ≡ Storage) ⊎ (fault ≡ NoMemory) ⊎ (run ≡ Err fault))
     → (fault ≡ Storage → new.failures ≢ old.failures) → (fault ≢ Storage → new.byte_at ≡ old.byte_at)
-    → (IsTrue old.tells → new.failures ≢ old.failures → LeavesTorn format tell run old.byte_at new.byte_at)
+    → (IsTrue old.tells → new.failures ≢ old.failures → LeavesTorn layout tell run old.byte_at new.byte_at)
     → (IsTrue old.tells → StaysIdle tell run old.byte_at new.byte_at)
-    → (IsTrue old.tells → StaysOutside format tell run old.byte_at new.byte_at)
-    → PrintsChange {T = T} (Err fault) format end old new a b
-change-refused fault format tell end run old new a b is refused failed unchanged torn idle outside =
+    → (IsTrue old.tells → StaysOutside layout tell run old.byte_at new.byte_at)
+    → PrintsChange {T = T} (Err fault) layout end old new a b
+change-refused fault layout tell end run old new a b is refused failed unchanged torn idle outside =
     grind (arith, nat_tests, read_fault-of, refused-as)

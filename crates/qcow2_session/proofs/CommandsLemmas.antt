@@ -17,11 +17,11 @@ digits = numerals_by_value _ tells_all_ascii_digits
 -- none where it finds none
 pub number_of_parsed : (E : Type 0) (word : List ℕ) (r : Result ℕ E) → get_or word 0 0 ≢ 43 →
     length word ≤ 20 → ParsesUnsigned 64 10 word r → result_ok r ≡ word_number word
-number_of_parsed E word (Ok n) plain short parsed =
-    let found = parse_plain digits {E = E} 64 word (Ok n) parsed plain in
+number_of_parsed E word (Ok n) plain short extension_from_data =
+    let found = parse_plain digits {E = E} 64 word (Ok n) extension_from_data plain in
     grind (arith, nat_tests, found.0.0, found.0.1, found.0.2, found.1)
-number_of_parsed E word (Err e) plain short parsed =
-    grind (arith, nat_tests, parse_plain digits {E = E} 64 word (Err e) parsed plain)
+number_of_parsed E word (Err e) plain short extension_from_data =
+    grind (arith, nat_tests, parse_plain digits {E = E} 64 word (Err e) extension_from_data plain)
 
 -- a command has a name and an image
 pub too_few_words : (words : List (List ℕ)) → length words < 2 → command_of words ≡ None
@@ -31,7 +31,7 @@ too_few_words words few = grind (arith, few)
 pub IfSome-follows : {X : Type 0} {P Q : X → Type 0} (found : Option X) → ((x : X) → P x → Q x) → IfSome found P → IfSome found Q
 IfSome-follows found follows holds = grind (arith, follows, holds)
 
--- a fault of its own is what a run answers
+-- a fault of its own is what a run returns
 pub own-refused : {T : Type 0} (ran answer : Result T Fault) → IsErr ran → IfErr ran (λ fault. answer ≡ Err fault) → IsErr answer
 own-refused ran answer refused own = grind (arith, refused, own)
 

@@ -14,13 +14,13 @@ use Rattle.qcow2_base.specs.declared.types.HostCluster.{HostCluster}
 use Rattle.qcow2_metadata.proofs.EditsLemmas.{balance-run}
 use Rattle.qcow2_metadata.specs.Table.L2Guards.{RunEnd, TableEdit, after_edit, fits_table, is_mappable, run_of}
 use Rattle.qcow2_metadata.specs.Header.{Geometry}
-use Rattle.qcow2_metadata.specs.Table.{TableState, edited}
+use Rattle.qcow2_metadata.specs.Table.{TableState, table_after_edit}
 use Rattle.qcow2_metadata.specs.declared.entries.ClustersToFreeEntry.{ClustersToFreeEntry}
 use Rattle.qcow2_session.proofs.FirstLemmas.{all_pass}
-use Rattle.qcow2_session.specs.Session.Edits.{Balances, HasRoom, Makes, are_some, edits_left, first_unfit_edit, edit_fits, table_left, cluster_numbers, table_edit, table_edits}
-use Rattle.qcow2_session.specs.declared.session.edits.Change.{Change}
-use Rattle.qcow2_session.specs.declared.session.edits.Edit.{Edit}
-use Rattle.qcow2_session.specs.declared.session.edits.Outcome.{Outcome}
+use Rattle.qcow2_session.specs.Edits.{Balances, HasRoom, Makes, are_some, edits_left, first_unfit_edit, edit_fits, table_left, cluster_numbers, table_edit, table_edits}
+use Rattle.qcow2_session.specs.declared.edits.Change.{Change}
+use Rattle.qcow2_session.specs.declared.edits.Edit.{Edit}
+use Rattle.qcow2_session.specs.declared.edits.Outcome.{Outcome}
 
 -- whether a cluster can be mapped to, by the greatest that can
 pub mappable_by_greatest : (g : Geometry) (cluster greatest : ℕ) → greatest ≡ (2 ^ 56 - 512) / 2 ^ g.cluster_bits → is_mappable g cluster ≡ (nat_le cluster greatest && (if g.external_data_file then true else not (nat_eq cluster 0)))
@@ -28,14 +28,14 @@ mappable_by_greatest g cluster greatest is =
     grind (arith, nat_tests, le-div_iff_mul-le {k = 2 ^ g.cluster_bits} {x = cluster} {y = 2 ^ 56 - 512} (pow_pos g.cluster_bits))
 
 -- an entry that is changed twice is as after the second change
-pub edited_twice : (table : TableState) (index v w : ℕ) → edited (edited table index v) index w ≡ edited table index w
+pub edited_twice : (table : TableState) (index v w : ℕ) → table_after_edit (table_after_edit table index v) index w ≡ table_after_edit table index w
 edited_twice table index v w = rw (set-set table.numbers index v w) refl
 
 -- what was done before, and then what a run did
 abbrev pub joined : List ClustersToFreeEntry → List ℕ → RunEnd → RunEnd
 joined freed gained rest = record { numbers = rest.numbers; freed = freed ++ rest.freed; gained = gained ++ rest.gained }
 
--- so many of the edits are made, and those that are left lead from the table as it is to the end of all
+-- that many of the edits are made, and those that are left lead from the table as it is to the end of all
 pub record IsPartWay (edits : List Edit) (done : ℕ) (before now : TableState) (outcome : Outcome) : Type 0 where
   pub run : joined outcome.freed.items (cluster_numbers outcome.gained.items) (run_of before.geometry (table_edits (drop done edits)) now.numbers)
       ≡ run_of before.geometry (table_edits edits) before.numbers
@@ -89,5 +89,5 @@ pub run_balances : (edits : List Edit) (outcome : Outcome) (old new : TableState
 run_balances edits outcome old new bits none run left = λ cluster.
     grind (arith, run, left, balance-run old.geometry (table_edits edits) old.numbers cluster bits (all_fit old edits none))
 
--- the position that a search for an edit answers
+-- the position that a search for an edit returns
 pub ruleset unfit_position = (YieldsList-from_slice, position_from_yields_List)

@@ -15,10 +15,10 @@ use Rattle.qcow2_metadata.specs.Entries.Runs.{reads_on}
 use Rattle.qcow2_metadata.specs.Header.{Geometry}
 use Rattle.qcow2_metadata.specs.Table.{TableState, loaded_l2_table, mapping_at}
 use Rattle.qcow2_metadata.specs.Table.L2Table.{IsMappedRun}
-use Rattle.qcow2_session.specs.Session.Lookups.{l2_cluster, named_cluster}
-use Rattle.qcow2_session.specs.Session.Extents.{AreExtents, AreInOneTable, Contents, ExtentsState, HasNoTable, IsExtent, IsPiece, IsRefusedFrom, ReadAsOne, StaysReader, content_in, contents_for, contents_in, contents_of, extent_of, moved_on}
-use Rattle.qcow2_session.specs.declared.session.extents.Extent.{Extent}
-use Rattle.qcow2_session.specs.declared.session.extents.Content.{Content}
+use Rattle.qcow2_session.specs.Lookups.{l2_cluster, named_cluster}
+use Rattle.qcow2_session.specs.Extents.{AreExtents, AreInOneTable, Contents, ExtentsState, HasNoTable, IsExtent, IsPiece, IsRefusedFrom, ReadAsOne, StaysReader, content_in, contents_for, contents_in, contents_of, extent_of, moved_on}
+use Rattle.qcow2_session.specs.declared.extents.Extent.{Extent}
+use Rattle.qcow2_session.specs.declared.extents.Content.{Content}
 
 -- an offset's distance from its cluster's begin is less than the largest cluster
 pub distance_below : (cb offset distance : ℕ) → cb ≤ 21 → distance ≡ offset % 2 ^ cb → distance < 2 ^ 21
@@ -34,7 +34,7 @@ pub unnamed_from : (cb : ℕ) (l1 : List ℕ) (first index : ℕ) → length l1 
     → (k : ℕ) → first ≤ k → named_cluster cb (get_or l1 k 0) ≡ None
 unnamed_from cb l1 first index past before k from = grind (arith, before, get_or_past l1 k 0)
 
--- the parts of the disk that so many L2 tables are for
+-- the parts of the disk that this number of L2 tables is for
 tables_size : (cb n : ℕ) → 9 ≤ cb → n * 2 ^ (2 * cb - 3) ≡ n * 2 ^ (cb - 3) * 2 ^ cb
 tables_size cb n low =
     let whole : cb - 3 + cb ≡ 2 * cb - 3 = omega arith in
@@ -145,7 +145,7 @@ pub piece_in_image : (g : Geometry) (l1 : List ℕ) (image : Image) (size from :
 piece_in_image g l1 image size from table cluster piece same named loaded told inside =
     grind (arith, nat_tests, in_its_table)
 
--- what an answer that is `Ok` leads to
+-- what a result that is `Ok` leads to
 pub ok_and_then : {T E : Type 0} (P Q : T → Type 0) (R : E → Type 0) (result : Result T E) → IsOkAnd result P → ((value : T) → P value → Q value) → MatchResult result Q R
 ok_and_then P Q R result holds leads = grind (arith, holds, leads)
 
@@ -209,7 +209,7 @@ size_stays reader later same = ap (λ (r : ExtentsState). r.header.v2.size) same
 pub stays_twice : (old new : StorageState) (first second third : ExtentsState) → OnlyReads {T = ℕ} (Ok 0) old new → StaysReader old first second → StaysReader new second third → StaysReader old first third
 stays_twice old new first second third reads one other = grind (arith, nat_tests)
 
--- reads that were answered, whatever the answer
+-- reads that returned a value, whatever that is
 pub reads_any : {A B : Type 0} (value : A) (other : B) (old new : StorageState) → OnlyReads (Ok value) old new → OnlyReads (Ok other) old new
 reads_any value other old new reads = record { told = (λ failed. cc, λ moved. let failed = reads.told.1 moved in cc); bytes = reads.bytes; device = reads.device }
 

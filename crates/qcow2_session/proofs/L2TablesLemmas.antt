@@ -7,8 +7,8 @@ use Rattle.qcow2_base.specs.Storage.{Image}
 use Rattle.qcow2_base.specs.declared.types.HostCluster.{HostCluster}
 use Rattle.qcow2_metadata.specs.Header.{Geometry}
 use Rattle.qcow2_metadata.specs.Table.{loaded_l2_table}
-use Rattle.qcow2_session.specs.Session.L2Tables.{named_tables, tables_by}
-use Rattle.qcow2_session.specs.Session.Lookups.{named_cluster}
+use Rattle.qcow2_session.specs.L2Tables.{named_tables, tables_by}
+use Rattle.qcow2_session.specs.Lookups.{named_cluster}
 
 -- tables from an index on: that of the entry there, and those from the next one on
 from_index : (g : Geometry) (l1 : List ℕ) (image : Image) (i : ℕ) → i < length l1
@@ -28,7 +28,7 @@ none_left g l1 image (suc n) i past none = elim (cases_lt i (length l1)) [
 named_below : (cb : ℕ) (l1 : List ℕ) (k : ℕ) (cluster : HostCluster) → named_cluster cb (get_or l1 k 0) ≡ Some cluster → k < length l1
 named_below cb l1 k cluster named = grind (arith, nat_tests, get_or_past)
 
--- where the next entry that names a table is so many further on, its table is the first
+-- where the next entry that names a table is that many further on, its table is the first
 pub first_left : (g : Geometry) (l1 : List ℕ) (image : Image) (n i next : ℕ) (cluster : HostCluster) → next ≡ i + n
     → ((k : ℕ) → i ≤ k → k < next → named_cluster g.cluster_bits (get_or l1 k 0) ≡ None)
     → named_cluster g.cluster_bits (get_or l1 next 0) ≡ Some cluster

@@ -14,8 +14,8 @@ use Rattle.qcow2_metadata.specs.Header.{Geometry, geometry_of}
 use Rattle.qcow2_metadata.specs.Entries.L2Mapping.{Mapping, mapping}
 use Rattle.qcow2_session.proofs.PrintingLemmas.{read_fault-of}
 use Rattle.qcow2_session.specs.Commands.Entries.{entry_line, entry_lines, table_lines}
-use Rattle.qcow2_session.specs.Commands.Listing.{PrintsList, PrintsTables, PrintsTablesBefore, TableTexts, texts_left, texts_of}
-use Rattle.qcow2_session.specs.Session.L2Tables.{NamedTables, RefusesTable, WalkState, tables_left}
+use Rattle.qcow2_session.specs.Commands.List.{PrintsList, PrintsTables, PrintsTablesBefore, TableTexts, texts_left, texts_of}
+use Rattle.qcow2_session.specs.L2Tables.{NamedTables, RefusesTable, WalkState, tables_left}
 use Rattle.qcow2_session.specs.declared.commands.entries.Label.TheVariants.{Offset}
 
 -- the offset of each guest cluster that an L1 table of the most entries leads to fits 64 bits
@@ -88,12 +88,12 @@ ended-at fault g known [] all old new a b are before refused failed = absurd ref
 ended-at fault g known (table ∷ rest) all old new a b are before refused failed =
     grind (arith, nat_tests, are, before, refused, failed)
 
--- and so after reads that were answered
+-- and so after reads that returned a value
 ended-after : {T : Type 0} (value : T) (fault : Fault) (tables : TableTexts) (old between new : StorageState) (a b : Option (List ℕ))
     → OnlyReads (Ok value) old between → PrintsTablesBefore fault between new a b tables → PrintsTablesBefore fault old new a b tables
 ended-after value fault tables old between new a b reads ended = grind (arith, nat_tests, reads, ended)
 
--- tables that can't be told: nothing is printed
+-- tables that can't be loaded: nothing is printed
 pub PrintsList-none : {T : Type 0} (fault : Fault) (tables : Image → Result TableTexts Fault) (old new : StorageState) (a : Option (List ℕ))
     → (IsTrue old.tells → (fault ≡ Storage) ⊎ (fault ≡ NoMemory) ⊎ (tables old.byte_at ≡ Err fault)) → (fault ≡ Storage → new.failures ≢ old.failures)
     → PrintsList {T = T} (Err fault) tables old new a a

@@ -1,5 +1,5 @@
 use Rattle.std.proofs.lemmas.Bool.Decides.{nat_tests}
-use Rattle.std.proofs.Common.{◌≡◌, ℕ, ◌+◌, ◌-◌, ◌*◌, ◌/◌, ◌^◌, ◌<◌, ◌≤◌, Some, None, Result, Ok, ap, refl, sym, ◌∙◌, arith}
+use Rattle.std.proofs.Common.{◌≡◌, ◌⊎◌, ℕ, ◌+◌, ◌-◌, ◌*◌, ◌/◌, ◌^◌, ◌<◌, ◌≤◌, Some, None, Result, Ok, ap, sym, ◌∙◌, arith}
 use Rattle.std.proofs.Math.Nat.{div-mul-le_self, pow-le-pow_right}
 use Rattle.std.proofs.lemmas.Nat.{mul-le, pow-add, shr_below}
 use Rattle.qcow2_base.specs.Storage.{OnlyReads, ReadsFor, StorageState}
@@ -8,9 +8,11 @@ use Rattle.std.specs.Result.{IfErr}
 use Rattle.qcow2_base.specs.declared.types.HostCluster.{HostCluster}
 use Rattle.qcow2_base.specs.declared.types.HostOffset.{HostOffset}
 use Rattle.qcow2_metadata.specs.Entries.{offset_field, offset_unless_zero}
-use Rattle.qcow2_metadata.specs.Header.{HeaderRecord, geometry_of}
-use Rattle.qcow2_metadata.specs.Table.{IsContentFault, LoadRefuses, TablePlace, l2_kind, l2_table_at, place_fault}
-use Rattle.qcow2_session.specs.Session.Lookups.{IsInImage, table_fault}
+use Rattle.qcow2_metadata.specs.Header.{Geometry}
+use Rattle.qcow2_metadata.specs.Results.{IsFromOutside}
+use Rattle.qcow2_metadata.specs.Table.{IsContentFault, IsTableFault, l2_layout}
+use Rattle.qcow2_metadata.specs.Placed.{place_fault}
+use Rattle.qcow2_session.specs.Lookups.{IsInImage}
 
 -- the cluster of an offset that fits 64 bits begins at one that does
 pub cluster_fits : (offset cluster cb other : ℕ) → offset < 2 ^ 64 → cluster ≡ offset / 2 ^ cb → other ≡ cb → cluster * 2 ^ other < 2 ^ 64
@@ -32,22 +34,20 @@ pub l2_cluster_ends : (v cb cluster : ℕ) (offset : HostOffset) → cb ≤ 21 �
 l2_cluster_ends v cb cluster offset high says is = grind (arith, nat_tests, cluster_ends)
 
 -- an L2 table that begins with a cluster of the image can lie there
-pub l2_table-lawful : (place : TablePlace) → place.entries ≡ 2 ^ (place.geometry.cluster_bits - 3) →
-    IsInImage place.geometry.cluster_bits place.cluster → place_fault l2_kind place ≡ None
-l2_table-lawful place full within = grind (arith, nat_tests, pow-le-pow_right, pow-add)
+pub l2_table_fits : (g : Geometry) (cluster : HostCluster) → IsInImage g.cluster_bits cluster → place_fault (l2_layout g) cluster ≡ None
+l2_table_fits g cluster within = grind (arith, nat_tests, pow-le-pow_right, pow-add)
 
 -- and is refused for what is read there alone
-pub content_fault : {T : Type 0} (header : HeaderRecord) (cluster : HostCluster) (answer : Result T Fault) →
-    IsInImage header.v2.cluster_bits cluster → LoadRefuses (table_fault header cluster) answer → IfErr answer IsContentFault
-content_fault header cluster answer within refuses =
-    grind (arith, l2_table-lawful (l2_table_at (geometry_of header) cluster) refl within, refuses.faults)
+pub content_fault : {T : Type 0} (g : Geometry) (cluster : HostCluster) (answer : Result T Fault) →
+    IsInImage g.cluster_bits cluster → IfErr answer (λ fault. IsTableFault (l2_layout g) cluster fault ⊎ IsFromOutside fault) → IfErr answer IsContentFault
+content_fault g cluster answer within faults = grind (arith, l2_table_fits g cluster within, faults)
 
 -- reads one after the other, of which the first succeeded, are reads
 pub reads-then : {A B : Type 0} (value : A) (answer : Result B Fault) (first second third : StorageState) →
     OnlyReads (Ok value) first second → OnlyReads answer second third → OnlyReads answer first third
 reads-then value answer first second third one other = grind (arith, nat_tests)
 
--- reads that were answered, and then calls that only read
+-- reads that returned a value, and then calls that only read
 pub reads-then_for : {A told : Type 0} (value : A) (first second third : StorageState) →
     OnlyReads (Ok value) first second → ReadsFor told second third → ReadsFor told first third
 reads-then_for value first second third one other = grind (arith, nat_tests)

@@ -21,7 +21,7 @@ then_prints answer a b c lines more before after = record { fault = after.fault;
 pub refused-as : {P Q : Type 0} (fault : Fault) → (P → Q) → (fault ≡ Storage) ⊎ (fault ≡ NoMemory) ⊎ P → (fault ≡ Storage) ⊎ (fault ≡ NoMemory) ⊎ Q
 refused-as fault leads why = grind (arith, leads)
 
--- the fault that is meant, want of memory, or a failed call of the image
+-- the fault that is meant, memory that ran out, or a failed call of the image
 pub read_fault-of : {V : Type 0} (fault : Fault) (meant : Result V Fault) (old new : StorageState)
     → (fault ≡ Storage) ⊎ (fault ≡ NoMemory) ⊎ (meant ≡ Err fault) → (fault ≡ Storage → new.failures ≢ old.failures) → IsReadFault meant old new fault
 read_fault-of fault meant old new refused failed = grind arith
@@ -45,11 +45,11 @@ pub ruleset lines_printed = (printed-more, take_all)
 -- and two lists after each other
 pub ruleset outcome_printed = (then_prints, flat_map-map)
 
--- reads that were answered leave no failure
+-- reads that returned a value leave no failure
 pub reads-calm : {T : Type 0} (value : T) (old new : StorageState) → OnlyReads (Ok value) old new → new.failures ≡ old.failures
 reads-calm value old new reads = grind (arith, reads.told)
 
--- calls that printed nothing, whose fault tells whether one of the image failed
+-- calls that printed nothing, whose fault shows whether one of the image failed
 pub last-unprinted : {T O : Type 0} (fault : Fault) (old new : StorageState) (a : O) → (new.failures ≢ old.failures → fault ≡ Storage)
     → SameDevice old new → PrintsLast {T = T} (Err fault) old new a a
 last-unprinted fault old new a failed device = record { refused = λ other. refl; failed = λ moved. (rw (failed moved) refl, refl); device = device }

@@ -1,30 +1,44 @@
 use Rattle.std.proofs.lemmas.Bool.Decides.{nat_tests}
-use Rattle.std.proofs.Common.{◌≡◌, ℕ, Bool, List, None, Option, Result, Ok, arith}
+use Rattle.std.proofs.Common.{◌≡◌, ℕ, Result, Ok, Err, refl, arith}
+use Rattle.std.specs.Result.{MatchResult}
 use Rattle.qcow2_base.specs.Storage.{StorageState}
 use Rattle.qcow2_base.specs.declared.fault.Fault.{Fault}
-use Rattle.qcow2_base.specs.declared.types.HostCluster.{HostCluster}
 use Rattle.qcow2_metadata.specs.Header.{HeaderRecord}
-use Rattle.qcow2_metadata.specs.Header.Open.{Opens}
-use Rattle.qcow2_session.specs.Commands.{place_fault_of}
-use Rattle.qcow2_session.specs.Commands.Printing.{PrintsLast}
-use Rattle.qcow2_session.specs.Commands.Running.{LoadsAndRuns, Runs}
-use Rattle.qcow2_session.specs.declared.commands.Command.{Command}
-use Rattle.qcow2_session.specs.declared.commands.Command.TheVariants.{ListTable}
-use Rattle.qcow2_session.specs.declared.commands.l2.ClusterBits.{ClusterBits}
+use Rattle.qcow2_session.specs.Commands.Facts.{CommandFacts}
+use Rattle.qcow2_session.specs.Commands.Printing.{OutputBytes, PrintsLast}
+use Rattle.qcow2_session.specs.Commands.Report.{AppendsPart, Reports, fault_line}
+use Rattle.qcow2_session.specs.Commands.Running.{FindsHeader, Runs}
 
--- a command that is not `l2`
-abbrev IsOther : Command → Type 0
-IsOther command = (cluster_bits : ClusterBits) (cluster : HostCluster) → command ≡ ListTable cluster_bits cluster → ⊥
+-- a command ran with the header that it found
+pub runs-with : {T : Type 0} (facts : CommandFacts) (header : HeaderRecord) (answer : Result T Fault) (old left new : StorageState) (a b : OutputBytes)
+    → FindsHeader facts (Ok header) old left → facts.Ends header answer left new a b → Runs facts answer old new a b
+runs-with facts header answer old left new a b found ends = (Ok header, left, found, ends)
 
--- it loads the header, and the words alone tell no fault
-pub other-runs : {T : Type 0} (command : Command) (answer : Result T Fault) (old new : StorageState) (a b : Option (List ℕ)) → IsOther command
-    → LoadsAndRuns command answer old new a b → Runs command answer old new a b
-other-runs command answer old new a b other runs = grind (arith, other)
+-- or it found none
+pub runs-without : {T : Type 0} (facts : CommandFacts) (fault : Fault) (old new : StorageState) (a : OutputBytes)
+    → FindsHeader facts (Err fault) old new → Runs {T = T} facts (Err fault) old new a a
+runs-without facts fault old new a found = (Err fault, new, found, (refl, refl, refl))
 
-pub other-placed : (command : Command) → IsOther command → place_fault_of command ≡ None
-other-placed command other = grind (arith, other)
+-- what a run with a header comes to, or one without
+pub ruleset runs = (runs-with, runs-without)
 
--- what a command prints last, after the header was loaded
-pub last-after_load : {T O : Type 0} (writable : Bool) (header : HeaderRecord) (answer : Result T Fault) (old left new : StorageState) (a b : O)
-    → Opens writable (Ok header) old left → PrintsLast answer left new a b → PrintsLast answer old new a b
-last-after_load writable header answer old left new a b load last = grind (arith, nat_tests)
+-- what a command prints last, after its header was found
+pub last-with : {T O : Type 0} (facts : CommandFacts) (header : HeaderRecord) (answer : Result T Fault) (old left new : StorageState) (a b : O)
+    → FindsHeader facts (Ok header) old left → PrintsLast answer left new a b → PrintsLast answer old new a b
+last-with facts header answer old left new a b found last = grind (arith, nat_tests)
+
+-- what is on standard error, by the status of a run
+pub reports-run : {T E : Type 0} (ran : Result T Fault) (status : ℕ) (contents : E → OutputBytes) (old new : E)
+    → MatchResult ran (λ _. status ≡ 0) (λ _. status ≡ 1)
+    → MatchResult ran (λ _. new ≡ old) (λ fault. AppendsPart (contents old) (contents new) (fault_line fault))
+    → Reports status contents old new
+reports-run (Ok done) status contents old new is line = record {
+  success = λ _. line;
+  fault = λ one. absurd (omega (arith, is, one));
+  wrong_words = λ two. absurd (omega (arith, is, two));
+}
+reports-run (Err fault) status contents old new is line = record {
+  success = λ none. absurd (omega (arith, is, none));
+  fault = λ _. (fault, line);
+  wrong_words = λ two. absurd (omega (arith, is, two));
+}

@@ -6,23 +6,23 @@ use Rattle.std.proofs.lemmas.List.{drop_all, length-set, set-get_or, set-set}
 use Rattle.std.proofs.lemmas.List.Sums.{AllPass-from_list_all}
 use Rattle.std.specs.List.{list_all}
 use Rattle.qcow2_metadata.specs.Refblock.{BlockState, greatest_counter}
-use Rattle.qcow2_metadata.specs.Refblock.Guard.{after_change, stepped}
+use Rattle.qcow2_metadata.specs.Refblock.Guard.{after_change, counter_after}
 use Rattle.qcow2_session.proofs.FirstLemmas.{all_pass}
-use Rattle.qcow2_session.specs.Session.Steps.{Counts, MakesStep, StepsEnd, Undoes, are_some_done, change_of, decrements, steps_left, first_unfit_step, increments, index_of, is_done, block_left, reply_of, run_of_steps, times_made}
-use Rattle.qcow2_session.specs.declared.session.steps.Step.{Step}
-use Rattle.qcow2_session.specs.declared.session.steps.StepReply.{StepReply}
-use Rattle.qcow2_session.specs.declared.session.steps.StepReply.TheVariants.{Done}
+use Rattle.qcow2_session.specs.Steps.{Counts, MakesStep, StepsEnd, Undoes, are_some_done, change_of, decrements, steps_left, first_unfit_step, increments, index_of, is_done, block_left, reply_of, run_of_steps, times_made}
+use Rattle.qcow2_session.specs.declared.steps.Step.{Step}
+use Rattle.qcow2_session.specs.declared.steps.StepReply.{StepReply}
+use Rattle.qcow2_session.specs.declared.steps.StepReply.TheVariants.{Done}
 
 -- what came of steps before, and then what a run left
 abbrev pub joined : List StepReply → StepsEnd → StepsEnd
 joined replies rest = record { counters = rest.counters; replies = replies ++ rest.replies }
 
--- so many of the steps are made, and those that are left lead from the block as it is to the end of all
+-- that many of the steps are made, and those that are left lead from the block as it is to the end of all
 pub record IsPartWay (steps : List Step) (made : ℕ) (before now : BlockState) (replies : List StepReply) : Type 0 where
-  pub run : joined replies (run_of_steps before.refcount_order (drop made steps) now.counters)
-      ≡ run_of_steps before.refcount_order steps before.counters
-  pub block : now ≡ block_left replies before now.counters
-  pub entries : length now.counters ≡ length before.counters
+  pub run : joined replies (run_of_steps before.geometry.refcount_order (drop made steps) now.numbers)
+      ≡ run_of_steps before.geometry.refcount_order steps before.numbers
+  pub block : now ≡ block_left replies before now.numbers
+  pub entries : length now.numbers ≡ length before.numbers
 
 length-after_change : (counters : List ℕ) (index : ℕ) (after : Option ℕ) → length (after_change counters index after) ≡ length counters
 length-after_change counters index after = grind (arith, length-set {A = ℕ})
@@ -36,19 +36,19 @@ pub part_way-next : (steps : List Step) (made : ℕ) (default : Step) (before no
 part_way-next steps made default before now next reply replies below way makes =
     let step : Step = get_or steps made default in
     let one_more : made + 1 ≡ suc made = omega arith in
-    let order : now.refcount_order ≡ before.refcount_order = ap (λ (block : BlockState). block.refcount_order) way.block in
+    let order : now.geometry.refcount_order ≡ before.geometry.refcount_order = ap (λ (block : BlockState). block.geometry.refcount_order) way.block in
     let left : drop made steps ≡ get_or steps made default ∷ drop (suc made) steps = drop-cons steps made default below in
-    let after = stepped now.refcount_order (change_of step) (slice_index now.counters (index_of step)) in
-    let changed : next.counters ≡ after_change now.counters (index_of step) after = ap (λ (block : BlockState). block.counters) makes.block in
-    let run : joined replies (run_of_steps before.refcount_order (step ∷ drop (suc made) steps) now.counters) ≡ run_of_steps before.refcount_order steps before.counters = rw left at way.run in
+    let after = counter_after now.geometry.refcount_order (change_of step) (slice_index now.numbers (index_of step)) in
+    let changed : next.numbers ≡ after_change now.numbers (index_of step) after = ap (λ (block : BlockState). block.numbers) makes.block in
+    let run : joined replies (run_of_steps before.geometry.refcount_order (step ∷ drop (suc made) steps) now.numbers) ≡ run_of_steps before.geometry.refcount_order steps before.numbers = rw left at way.run in
     record {
       run = rw (append_assoc replies (reply ∷ []), changed, makes.replies, order, one_more) run;
       block = grind (arith, makes.block, way.block, done-more, or_assoc);
-      entries = ap length changed ∙ length-after_change now.counters (index_of step) _ ∙ way.entries;
+      entries = ap length changed ∙ length-after_change now.numbers (index_of step) _ ∙ way.entries;
     }
 
 -- all steps are made
-pub part_way-end : (steps : List Step) (made : ℕ) (before now : BlockState) (replies : List StepReply) → length steps ≤ made → IsPartWay steps made before now replies → steps_left now replies ≡ run_of_steps before.refcount_order steps before.counters
+pub part_way-end : (steps : List Step) (made : ℕ) (before now : BlockState) (replies : List StepReply) → length steps ≤ made → IsPartWay steps made before now replies → steps_left now replies ≡ run_of_steps before.geometry.refcount_order steps before.numbers
 part_way-end steps made before now replies all way = grind (arith, drop_all, append-nil, way.run)
 
 -- where no index is the first out of bounds, all are in bounds
@@ -64,7 +64,7 @@ each_in_bounds entries steps i default all below =
     grind (arith, nat_tests, AllPass-from_list_all (in_bounds entries) steps all i default below)
 
 -- what a step does to each counter
-counted : (order : ℕ) (step : Step) (counters : List ℕ) (index : ℕ) → index_of step < length counters → let before = slice_index counters (index_of step) in let after = stepped order (change_of step) before in slice_index (after_change counters (index_of step) after) index + (if decrements index step && is_done (reply_of after before) then 1 else 0) ≡ slice_index counters index + (if increments index step && is_done (reply_of after before) then 1 else 0)
+counted : (order : ℕ) (step : Step) (counters : List ℕ) (index : ℕ) → index_of step < length counters → let before = slice_index counters (index_of step) in let after = counter_after order (change_of step) before in slice_index (after_change counters (index_of step) after) index + (if decrements index step && is_done (reply_of after before) then 1 else 0) ≡ slice_index counters index + (if increments index step && is_done (reply_of after before) then 1 else 0)
 counted order step counters index below = grind (arith, nat_tests, get_or-set_same {A = ℕ}, get_or-set_other {A = ℕ})
 
 -- each counter after a run is as before it, plus the increments that were made, minus the decrements
@@ -72,7 +72,7 @@ pub run_counts : (order : ℕ) (steps : List Step) (counters : List ℕ) (index 
 run_counts order [] counters index all = refl
 run_counts order (step ∷ steps) counters index all =
     let before = slice_index counters (index_of step) in
-    let after = stepped order (change_of step) before in
+    let after = counter_after order (change_of step) before in
     let rest = run_counts order steps (after_change counters (index_of step) after) index in
     grind (arith, nat_tests, all, counted order step counters index, length-after_change counters (index_of step) after, rest)
 
@@ -87,22 +87,22 @@ undone_first counters i before true below made = cc
 undone_first counters i before false below made =
     grind (arith, nat_tests, get_or-set_same {A = ℕ}, set-set {A = ℕ}, set-get_or {A = ℕ})
 
-run-undoes : (steps : List Step) (replies : List StepReply) (old new : BlockState) → list_all (in_bounds (length old.counters)) steps ≡ true → new.refcount_order ≡ old.refcount_order → steps_left new replies ≡ run_of_steps old.refcount_order steps old.counters → Undoes steps replies old new
+run-undoes : (steps : List Step) (replies : List StepReply) (old new : BlockState) → list_all (in_bounds (length old.numbers)) steps ≡ true → new.geometry.refcount_order ≡ old.geometry.refcount_order → steps_left new replies ≡ run_of_steps old.geometry.refcount_order steps old.numbers → Undoes steps replies old new
 run-undoes steps replies old new all order run = λ index before is made.
-    let is_full = slice_index old.counters index == greatest_counter old.refcount_order in
-    grind (arith, nat_tests, is, made, undone_first old.counters index before is_full)
+    let is_full = slice_index old.numbers index == greatest_counter old.geometry.refcount_order in
+    grind (arith, nat_tests, is, made, undone_first old.numbers index before is_full)
 
 -- a block that a run led to
-pub run-counts : (steps : List Step) (replies : List StepReply) (old new : BlockState) → first_unfit_step (length old.counters) steps ≡ None → new.refcount_order ≡ old.refcount_order → steps_left new replies ≡ run_of_steps old.refcount_order steps old.counters → Counts steps replies old new
+pub run-counts : (steps : List Step) (replies : List StepReply) (old new : BlockState) → first_unfit_step (length old.numbers) steps ≡ None → new.geometry.refcount_order ≡ old.geometry.refcount_order → steps_left new replies ≡ run_of_steps old.geometry.refcount_order steps old.numbers → Counts steps replies old new
 run-counts steps replies old new none order run =
-    let all = all_in_bounds (length old.counters) steps none in
+    let all = all_in_bounds (length old.numbers) steps none in
     record {
-      balance = λ index. grind (arith, run, run_counts old.refcount_order steps old.counters index all);
+      balance = λ index. grind (arith, run, run_counts old.geometry.refcount_order steps old.numbers index all);
       undone = run-undoes steps replies old new all order run;
     }
 
 -- blocks of the same counters
-pub counts-same : (steps : List Step) (replies : List StepReply) (old new before after : BlockState) → Counts steps replies old new → before.counters ≡ old.counters → after.counters ≡ new.counters → before.refcount_order ≡ old.refcount_order → after.refcount_order ≡ new.refcount_order → Counts steps replies before after
+pub counts-same : (steps : List Step) (replies : List StepReply) (old new before after : BlockState) → Counts steps replies old new → before.numbers ≡ old.numbers → after.numbers ≡ new.numbers → before.geometry.refcount_order ≡ old.geometry.refcount_order → after.geometry.refcount_order ≡ new.geometry.refcount_order → Counts steps replies before after
 counts-same steps replies old new before after counts same_old same_new order_old order_new =
     grind (arith, nat_tests)
 
@@ -112,5 +112,5 @@ run-idle order [] counters idle = refl
 run-idle order (step ∷ steps) counters idle = grind (arith, nat_tests, idle, run-idle order steps counters)
 
 -- and so do those of a block that isn't modified
-pub block-idle : (steps : List Step) (replies : List StepReply) (old new : BlockState) → steps_left new replies ≡ run_of_steps old.refcount_order steps old.counters → new ≡ block_left replies old new.counters → new.modified ≡ false → new.counters ≡ old.counters
+pub block-idle : (steps : List Step) (replies : List StepReply) (old new : BlockState) → steps_left new replies ≡ run_of_steps old.geometry.refcount_order steps old.numbers → new ≡ block_left replies old new.numbers → new.modified ≡ false → new.numbers ≡ old.numbers
 block-idle steps replies old new run left unmodified = grind (arith, nat_tests, run-idle)

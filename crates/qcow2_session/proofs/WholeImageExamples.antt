@@ -6,8 +6,8 @@ use Rattle.qcow2_metadata.specs.Entries.L2Mapping.{Mapping, backing, data_file}
 use Rattle.qcow2_metadata.specs.Header.{geometry}
 use Rattle.qcow2_metadata.specs.Header.Chain.{extensions_at}
 use Rattle.qcow2_metadata.specs.Header.Grammar.{header_of}
-use Rattle.qcow2_session.specs.Session.Lookups.{image_mapping}
-use Rattle.qcow2_session.specs.Session.WholeImage.{image_references}
+use Rattle.qcow2_session.specs.Lookups.{image_mapping}
+use Rattle.qcow2_session.specs.WholeImage.{image_references}
 
 -- `unfolding computing` opens what is needed to compute what an image that is written out means
 unfoldable computing : ⊤
@@ -33,14 +33,14 @@ byte place value = (place, value ∷ []) ∷ []
 abbrev entry : ℕ → ℕ → ℕ → ℕ → List Part
 entry place first seventh eighth = (place, first ∷ 0 ∷ 0 ∷ 0 ∷ 0 ∷ 0 ∷ seventh ∷ eighth ∷ []) ∷ []
 
--- a disk of 32768 bytes in clusters of 512, an L1 table of one entry at 512, its L2 table at 1024, and in that the data
+-- a disk of 32768 bytes in clusters of 512, an L1 table of one entry at 512, and its L2 table at 1024. That has the data
 -- of guest cluster 3, at 2560
 abbrev sample : List Part
 sample = byte 30 0x80 ++ byte 39 1 ++ byte 46 2 ++ entry 512 0x80 4 0 ++ entry 1048 0x80 0x0a 0
     ++ (0, 0x51 ∷ 0x46 ∷ 0x49 ∷ 0xfb ∷ 0 ∷ 0 ∷ 0 ∷ 3 ∷ []) ∷ byte 23 9 ++ byte 99 4 ++ byte 103 104
 
--- references to clusters 5, 6 and 7 in the whole image, where a second L2 table at 2048 maps its first cluster to cluster
--- 7, and the first one's entry 3 is mapped to cluster 6, where it was mapped to cluster 5
+-- references to clusters 5, 6 and 7 in the whole image. A second L2 table at 2048 maps its first cluster to cluster 7.
+-- The first one's entry 3 is mapped to cluster 6, where it was mapped to cluster 5
 abbrev referred : List Part → List ℕ
 referred parts = map (image_references (geometry 9 false) (0x8000000000000400 ∷ 0x8000000000000800 ∷ [])
     (laid (parts ++ entry 2048 0x80 0x0e 0 ++ sample))) (5 ∷ 6 ∷ 7 ∷ [])
@@ -53,12 +53,12 @@ references = refl
 abbrev with_changes : ℕ → List (List Part) → List (Result Mapping Fault)
 with_changes offset changes = map (λ parts. image_mapping offset (laid (parts ++ sample))) changes
 
--- why an offset's own L2 table has to share no byte with the edited one: the second L1 entry names that table too, and
+-- why an offset's own L2 table has to share no byte with the edited one: the second L1 entry names that table too. So
 -- its offset, in which nothing was edited, reads as the edit says
-abbrev shared : List Part
-shared = byte 39 2 ++ entry 520 0x80 0x04 0
+abbrev entry_in_copy : List Part
+entry_in_copy = byte 39 2 ++ entry 520 0x80 0x04 0
 
-pub shared_table : with_changes 34311 (shared ∷ (entry 1048 0x80 0x0c 0 ++ shared) ∷ []) ≡ Ok (data_file 5 true) ∷ Ok (data_file 6 true) ∷ []
+pub shared_table : with_changes 34311 (entry_in_copy ∷ (entry 1048 0x80 0x0c 0 ++ entry_in_copy) ∷ []) ≡ Ok (data_file 5 true) ∷ Ok (data_file 6 true) ∷ []
 unfolding computing
 shared_table = refl
 

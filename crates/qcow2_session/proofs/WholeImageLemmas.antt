@@ -10,34 +10,39 @@ use Rattle.qcow2_base.specs.Storage.{Image, SameOutside, be}
 use Rattle.qcow2_base.specs.declared.fault.Fault.{Fault}
 use Rattle.qcow2_base.specs.declared.on_disk_struct.v2_header.V2Header.{V2Header}
 use Rattle.qcow2_base.specs.declared.types.HostCluster.{HostCluster}
-use Rattle.qcow2_session.specs.Session.WholeImage.{AreApart, AvoidsHeaderAndL1Table, BalancesImage, ChangesOwnLookups, HasTableApart, IsL2Table, IsSoundImage, IsWithin, KeepsImageSound, KeepsOtherLookups, ShareNoByte, first_cluster_bytes, l2_bytes, l2_cluster_in, l2_clusters, table_bytes, bytes_of_tables}
+use Rattle.qcow2_session.specs.WholeImage.{AreApart, AvoidsHeaderAndL1Table, BalancesImage, ChangesOwnLookups, HasTableApart, IsL2Table, IsSoundImage, IsWithin, KeepsImageSound, KeepsOtherLookups, ShareNoByte, first_cluster_bytes, l2_bytes, l2_cluster_in, l2_clusters, table_bytes, bytes_of_tables}
 use Rattle.qcow2_metadata.specs.Table.L2Guards.{handed_back, references, times_gained}
 use Rattle.qcow2_metadata.specs.Entries.L2Entry.{ByteRange}
 use Rattle.qcow2_metadata.specs.Entries.L2Mapping.{Mapping}
 use Rattle.qcow2_metadata.specs.Header.{Geometry, HeaderRecord, geometry_of}
 use Rattle.qcow2_metadata.specs.Header.Grammar.{header_of}
-use Rattle.qcow2_session.specs.Session.Lookups.{image_mapping, l1_place, l2_cluster, mapping_by}
-use Rattle.qcow2_metadata.specs.Table.{TablePlace, l2_table_at, loaded_l1_table, loaded_l2_table, numbers_at, offset_of}
-use Rattle.qcow2_session.specs.Session.Edits.{cluster_numbers}
-use Rattle.qcow2_session.specs.declared.session.edits.Outcome.{Outcome}
+use Rattle.qcow2_session.specs.Lookups.{image_mapping, l1_cluster, loaded_l1_table, l2_cluster, mapping_by}
+use Rattle.qcow2_metadata.specs.Table.{Kind, l1_kind, l2_entries, l2_kind, l2_layout, loaded_l2_table, table_layout, table_numbers}
+use Rattle.qcow2_metadata.specs.Placed.{numbers_at, offset_of}
+use Rattle.qcow2_session.specs.Edits.{cluster_numbers}
+use Rattle.qcow2_session.specs.declared.edits.Outcome.{Outcome}
 use Rattle.qcow2_metadata.proofs.ClusterLemmas.{header_of-same}
 use Rattle.qcow2_metadata.proofs.GrammarLemmas.{header_of-is, holds-v2_at}
 use Rattle.qcow2_metadata.proofs.TableLemmas.{table_numbers_same}
 
+-- two images agree but in the L2 table at a cluster
+abbrev pub SameOutsideTable : Geometry → HostCluster → Image → Image → Type 0
+SameOutsideTable g cluster old new = SameOutside (offset_of (l2_layout g) cluster) (l2_layout g).byte_count old new
+
 -- only the L2 table at a cluster was changed, which shares no byte with the first cluster and the L1 table
 pub record ChangesL2Table (header : HeaderRecord) (cluster : HostCluster) (old new : Image) : Type 0 where
   pub apart : HasTableApart (geometry_of header) cluster header old
-  pub same : SameOutside (cluster.0 * 2 ^ header.v2.cluster_bits) (2 ^ header.v2.cluster_bits) old new
+  pub same : SameOutsideTable (geometry_of header) cluster old new
 
 -- the new image has the old one's bytes in a range
 abbrev Keeps : ByteRange → Image → Image → Type 0
 Keeps range old new = (o : ℕ) → IsWithin range o → new o ≡ old o
 
--- the same numbers stand at a place whose bytes are kept
-numbers-kept : (place : TablePlace) (old new : Image) → Keeps (table_bytes place) old new
-    → numbers_at place new ≡ numbers_at place old
-numbers-kept place old new kept = table_numbers_same new old (offset_of place) (offset_of place) place.entries
-    (λ k below. kept (offset_of place + k) (omega arith, omega (arith, below)))
+-- the same numbers are at a cluster where a table's bytes are kept
+numbers-kept : (kind : Kind) (cb n : ℕ) (cluster : HostCluster) (old new : Image) → Keeps (table_bytes (table_layout kind cb n) cluster) old new
+    → table_numbers new (cluster.0 * 2 ^ cb) n ≡ table_numbers old (cluster.0 * 2 ^ cb) n
+numbers-kept kind cb n cluster old new kept = table_numbers_same new old (cluster.0 * 2 ^ cb) (cluster.0 * 2 ^ cb) n
+    (λ k below. kept (cluster.0 * 2 ^ cb + k) (omega arith, omega (arith, below)))
 
 -- and the same header
 header-kept : (header : HeaderRecord) (old new : Image) → header_of old ≡ Ok header
@@ -49,7 +54,7 @@ header-kept header old new is kept =
     let least : 2 ^ 9 ≤ 2 ^ header.v2.cluster_bits = pow-le-pow_right (lit< tt) lawful.cluster_bits.0 in
     header_of-same old new (λ o below. kept o (omega arith, omega (arith, below, size, least)))
 
--- so many entries are the bytes of a cluster
+-- that many entries are the bytes of a cluster
 pub full_cluster : (cb : ℕ) → 9 ≤ cb → 8 * 2 ^ (cb - 3) ≡ 2 ^ cb
 full_cluster cb least =
     let three : 3 + (cb - 3) ≡ cb = omega (arith, least) in
@@ -63,15 +68,15 @@ least_bits header image is = (header_of-is image header is).cluster_bits.0
 kept : (header : HeaderRecord) (cluster : HostCluster) (old new : Image) → ChangesL2Table header cluster old new
     → (range : ByteRange) → ShareNoByte range (l2_bytes (geometry_of header) cluster) → Keeps range old new
 kept header cluster old new change range apart = λ o within.
-    grind (arith, change.same.before o, change.same.after o, apart o within, full_cluster header.v2.cluster_bits (least_bits header old change.apart.begins))
+    grind (arith, change.same.before o, change.same.after o, apart o within)
 
 -- the header and the L1 table are
 tables-kept : (header : HeaderRecord) (cluster : HostCluster) (old new : Image) → ChangesL2Table header cluster old new
-    → (header_of new ≡ Ok header) × (loaded_l1_table (l1_place header) new ≡ loaded_l1_table (l1_place header) old)
+    → (header_of new ≡ Ok header) × (loaded_l1_table header new ≡ loaded_l1_table header old)
 tables-kept header cluster old new change =
     let is = change.apart.begins in (
       header-kept header old new is (kept header cluster old new change _ change.apart.avoids.first_cluster) ∙ is,
-      rw (numbers-kept (l1_place header) old new (kept header cluster old new change _ change.apart.avoids.l1_table)) refl,
+      rw (numbers-kept l1_kind header.v2.cluster_bits header.v2.l1_size (l1_cluster header) old new (kept header cluster old new change _ change.apart.avoids.l1_table)) refl,
     )
 
 -- what a guest cluster reads as is kept with its L2 table
@@ -79,16 +84,16 @@ mapping-kept : (g : Geometry) (found : Option HostCluster) (guest_cluster : ℕ)
     → ((cluster : HostCluster) → found ≡ Some cluster → Keeps (l2_bytes g cluster) old new)
     → mapping_by g found guest_cluster new ≡ mapping_by g found guest_cluster old
 mapping-kept g None guest_cluster old new kept = refl
-mapping-kept g (Some cluster) guest_cluster old new kept = rw (numbers-kept (l2_table_at g cluster) old new (kept cluster refl)) refl
+mapping-kept g (Some cluster) guest_cluster old new kept = rw (numbers-kept l2_kind g.cluster_bits (l2_entries g.cluster_bits) cluster old new (kept cluster refl)) refl
 
 -- the offsets of other L2 tables read as before
 lookup-kept : (header : HeaderRecord) (cluster : HostCluster) (old new : Image) → ChangesL2Table header cluster old new → (offset : ℕ)
     → ((other : HostCluster) → l2_cluster_in offset old ≡ Ok (Some other)
     → ShareNoByte (l2_bytes (geometry_of header) other) (l2_bytes (geometry_of header) cluster))
     → image_mapping offset new ≡ image_mapping offset old
-lookup-kept header cluster old new change offset apart = by_answer (loaded_l1_table (l1_place header) old) refl
+lookup-kept header cluster old new change offset apart = by_answer (loaded_l1_table header old) refl
   where
-    by_answer : (answer : Result (List ℕ) Fault) → loaded_l1_table (l1_place header) old ≡ answer
+    by_answer : (answer : Result (List ℕ) Fault) → loaded_l1_table header old ≡ answer
         → image_mapping offset new ≡ image_mapping offset old
     by_answer (Err fault) refusal = let tables = tables-kept header cluster old new change in rw (tables.0, change.apart.begins, tables.1, refusal) refl
     by_answer (Ok l1) there =
@@ -108,11 +113,11 @@ changes-own-lookups header cluster old new change = grind (arith, nat_tests, loo
 
 -- a write of the table of an image that has it apart
 changed-by : (g : Geometry) (header : HeaderRecord) (cluster : HostCluster) (old new : Image) → HasTableApart g cluster header old
-    → SameOutside (cluster.0 * 2 ^ g.cluster_bits) (2 ^ g.cluster_bits) old new → ChangesL2Table header cluster old new
+    → SameOutsideTable g cluster old new → ChangesL2Table header cluster old new
 changed-by g header cluster old new has outside = grind (arith, nat_tests)
 
 pub keeps-other-lookups : (g : Geometry) (cluster : HostCluster) (old new : Image)
-    → SameOutside (cluster.0 * 2 ^ g.cluster_bits) (2 ^ g.cluster_bits) old new → KeepsOtherLookups g cluster old new
+    → SameOutsideTable g cluster old new → KeepsOtherLookups g cluster old new
 keeps-other-lookups g cluster old new outside = λ header has. changes-own-lookups header cluster old new (changed-by g header cluster old new has outside)
 
 -- L2 tables of two clusters share no byte
@@ -163,8 +168,8 @@ avoids-others header l1 cluster k apart found =
 -- references in the L2 table at a cluster
 abbrev BalancesTable : Geometry → HostCluster → Outcome → Image → Image → Type 0
 BalancesTable g cluster outcome old new = (c : ℕ) →
-    references g (numbers_at (l2_table_at g cluster) new) c + handed_back outcome.freed.items c
-    ≡ references g (numbers_at (l2_table_at g cluster) old) c + times_gained (cluster_numbers outcome.gained.items) c
+    references g (numbers_at (l2_layout g) cluster new) c + handed_back outcome.freed.items c
+    ≡ references g (numbers_at (l2_layout g) cluster old) c + times_gained (cluster_numbers outcome.gained.items) c
 
 -- what one L2 table loses and gains, the image does
 balances-image : (header : HeaderRecord) (l1 : List ℕ) (cluster : HostCluster) (k : ℕ) (outcome : Outcome) (old new : Image)
@@ -173,9 +178,9 @@ balances-image : (header : HeaderRecord) (l1 : List ℕ) (cluster : HostCluster)
     → BalancesTable (geometry_of header) cluster outcome old new → BalancesImage (geometry_of header) l1 outcome old new
 balances-image header l1 cluster k outcome old new apart found change balance = λ c.
     let g = geometry_of header in
-    sum-one (λ table. references g (numbers_at (l2_table_at g table) old) c) (λ table. references g (numbers_at (l2_table_at g table) new) c)
+    sum-one (λ table. references g (numbers_at (l2_layout g) table old) c) (λ table. references g (numbers_at (l2_layout g) table new) c)
     (l2_clusters g.cluster_bits l1) k cluster (handed_back outcome.freed.items c) (times_gained (cluster_numbers outcome.gained.items) c) found (balance c)
-    (λ j table differs there. ap (λ numbers. references g numbers c) (numbers-kept (l2_table_at g table) old new
+    (λ j table differs there. ap (λ numbers. references g numbers c) (numbers-kept l2_kind g.cluster_bits (l2_entries g.cluster_bits) table old new
     (kept header cluster old new change _ (apart (suc (suc j)) (suc (suc k)) _ _ (λ is. differs (omega (arith, is)))
     (table-bytes header l1 table j there) (table-bytes header l1 cluster k found)))))
 
@@ -190,7 +195,7 @@ stays-sound header l1 cluster numbers old new sound change loads = record {
   apart = sound.apart;
 }
   where
-    tables : (header_of new ≡ Ok header) × (loaded_l1_table (l1_place header) new ≡ loaded_l1_table (l1_place header) old)
+    tables : (header_of new ≡ Ok header) × (loaded_l1_table header new ≡ loaded_l1_table header old)
     tables = tables-kept header cluster old new change
 
     reads : (offset : ℕ) → image_mapping offset new
@@ -213,7 +218,7 @@ stays-sound header l1 cluster numbers old new sound change loads = record {
 
 -- a write of one of its L2 tables keeps an image sound
 sound-after : (header : HeaderRecord) (l1 : List ℕ) (cluster : HostCluster) (outcome : Outcome) (numbers : List ℕ) (old new : Image)
-    → IsSoundImage old header l1 → IsL2Table header l1 cluster → SameOutside (cluster.0 * 2 ^ header.v2.cluster_bits) (2 ^ header.v2.cluster_bits) old new
+    → IsSoundImage old header l1 → IsL2Table header l1 cluster → SameOutsideTable (geometry_of header) cluster old new
     → loaded_l2_table (geometry_of header) cluster new ≡ Ok numbers → BalancesTable (geometry_of header) cluster outcome old new
     → IsSoundImage new header l1 × BalancesImage (geometry_of header) l1 outcome old new
 sound-after header l1 cluster outcome numbers old new sound found outside loads balance =
@@ -227,7 +232,7 @@ sound-after header l1 cluster outcome numbers old new sound found outside loads 
     )
 
 pub keeps-image-sound : (g : Geometry) (cluster : HostCluster) (outcome : Outcome) (numbers : List ℕ) (old new : Image)
-    → SameOutside (cluster.0 * 2 ^ g.cluster_bits) (2 ^ g.cluster_bits) old new → loaded_l2_table g cluster new ≡ Ok numbers
+    → SameOutsideTable g cluster old new → loaded_l2_table g cluster new ≡ Ok numbers
     → BalancesTable g cluster outcome old new → KeepsImageSound g cluster outcome old new
 keeps-image-sound g cluster outcome numbers old new outside loads balance = λ header l1 has.
     rw (← has.geometry) (sound-after header l1 cluster outcome numbers old new has.sound has.table

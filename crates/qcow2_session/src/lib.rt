@@ -1,13 +1,24 @@
-//! Whole lists of changes to the tables and blocks of a qcow2 image, counters that follow them, what a
-//! guest offset and the whole disk read as, and the commands of `qmeta`.
+//! Whole lists of changes to the tables and blocks of a qcow2 image, and counters that follow them. Also what
+//! a guest offset and the whole disk read as, and the commands of `qmeta`.
 #![tactic(auto)]
 
 pub mod commands;
+mod edits;
+mod extents;
+mod images;
+mod l2_tables;
+pub mod laws;
 mod lines;
-mod session;
+mod lookups;
+mod settled;
+mod steps;
 
 pub use commands::{Changes, ClusterBits, Command, report_fault, run, run_words};
-pub use session::{
-    Content, Edit, Extent, Extents, Outcome, Step, StepReply, edit_image, edit_settled, edit_table,
-    edits_fit, lookup, lookup_image, settle, step_block, step_image,
-};
+pub use edits::{Edit, Outcome, edit_table, edits_fit};
+pub use extents::{Content, Extent, Extents};
+pub use images::{edit_image, step_image};
+use l2_tables::L2Tables;
+pub use lookups::{lookup, lookup_image};
+use lookups::{load_l1_table, load_l2_table, lookup_with_header, named_cluster};
+pub use settled::{edit_settled, settle};
+pub use steps::{Step, StepReply, step_block};

@@ -38,7 +38,7 @@ fn count_up(block: &mut RefBlock, counters: Counters<'_>) -> Result<(), Fault> {
     Ok(())
 }
 
-// Steps of so many counters up to a number.
+// Steps of that many counters up to a number.
 fn steps_up(
     alloc: Global,
     (first, count, number): (usize, usize, u64),
@@ -52,7 +52,7 @@ fn steps_up(
 }
 
 /// Fails unless the block has these counters, its cluster and this flag.
-pub(crate) fn counts<R: Debug + Copy + Drop>(
+pub(crate) fn check_counters<R: Debug + Copy + Drop>(
     block: &RefBlock,
     counters: Counters<'_>,
     modified: bool,
@@ -75,8 +75,8 @@ fn number_at(counters: Counters<'_>, index: usize) -> u64 {
     0
 }
 
-/// Fails unless steps answered this: what came of each, or a fault. Tells whether one was done.
-pub(crate) fn answered<R: Debug + Drop>(
+/// Fails unless steps returned this: what came of each, or a fault. Returns whether one was done.
+pub(crate) fn check_replies<R: Debug + Drop>(
     answer: Result<Vec<StepReply>, Fault>,
     expected: Result<&[StepReply], Fault>,
     row: R,
@@ -86,10 +86,6 @@ pub(crate) fn answered<R: Debug + Drop>(
         Err(fault) => Err(*fault),
     };
     same(found, expected, row)?;
-    for reply in expected.unwrap_or(&[]) {
-        if *reply != StepReply::Refused {
-            return Ok(true);
-        }
-    }
-    Ok(false)
+    let is_done = |reply: &StepReply| *reply != StepReply::Refused;
+    Ok(expected.is_ok_and(|replies| replies.iter().any(is_done)))
 }

@@ -72,7 +72,7 @@ pub(crate) fn load_header<S: Storage>(alloc: Global, image: &mut S) -> Result<He
     Header::load(alloc, image, false)
 }
 
-/// Loads the L1 table that a header tells.
+/// Loads the L1 table that a header names.
 pub(crate) fn load_l1_table(
     alloc: Global,
     image: &mut MemStorage,
@@ -176,7 +176,7 @@ pub(crate) fn settle_outcome(
     qcow2_session::settle(block, header, rt_index, outcome)
 }
 
-// What edits did, as they would tell it.
+// What edits did, as they would report it.
 fn outcome_of(alloc: Global, (gained, freed): References<'_>) -> Result<Outcome, AllocError> {
     Ok(Outcome {
         gained: Vec::from_slice(alloc, gained)?,

@@ -94,11 +94,11 @@ const CUT_OFF: &[Case] =
 
 #[test]
 fn a_table_is_listed_as_far_as_the_image_goes_or_refused(rt: HostRuntime) -> Result<(), Fail> {
-    each(rt.alloc(), ROWS, lists)
+    each(rt.alloc(), ROWS, check_list)
 }
 
 // Lists the table of a row. One that would end past the greatest end is refused before any read.
-fn lists(alloc: Global, row: Row) -> Result<(), Fail> {
+fn check_list(alloc: Global, row: Row) -> Result<(), Fail> {
     let (place, (first, cases, len), expected) = row;
     let (image, lines) = table_and_lines(alloc, first, cases, len)?;
     let mut image = FailingStorage::new(alloc, image);
@@ -109,7 +109,7 @@ fn lists(alloc: Global, row: Row) -> Result<(), Fail> {
     same_bytes(out.bytes(), lines.as_bytes(), place)
 }
 
-// So many bytes of an image that begins with a table, and all its lines.
+// The first `len` bytes of an image that begins with a table, and all its lines.
 fn table_and_lines(
     alloc: Global,
     first: usize,

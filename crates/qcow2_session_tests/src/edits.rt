@@ -3,8 +3,8 @@
 use crate::calls::{edit_table, edits_fit};
 use crate::sample_image::COPIED;
 use crate::tables::{
-    DATA_5, Entries, GONE, KEEP, PAST, References, TO_0, TO_1, TO_2, TO_5, TO_6, ZERO, did, map,
-    outcome, says, table_with,
+    DATA_5, Entries, GONE, KEEP, PAST, References, TO_0, TO_1, TO_2, TO_5, TO_6, ZERO,
+    check_outcome, check_table, map, outcome, table_with,
 };
 use qcow2_base::{ClusterCount, Fault, HostCluster};
 use qcow2_metadata::ClustersToFreeEntry;
@@ -37,7 +37,7 @@ const ROWS: &[Row<'static>] = rows! {
     ("gone again", PLAIN, DATA, &[TO_5, TO_6, GONE], Ok(outcome!([6], [(5, 1), (6, 1)])), CLEARED),
     ("zeros that are data again", PLAIN, (3, &[0xa00]), &[KEEP, KEEP, TO_5], NOTHING, DATA),
     ("zeros, gone", PLAIN, DATA, &[KEEP, ZERO, KEEP, GONE], Ok(outcome!([], [(5, 1)])), CLEARED),
-    // cluster 0 of an external data file, which only the copied flag tells
+    // cluster 0 of an external data file, which only the copied flag shows
     ("data in cluster 0 again", (9, true), CLEARED, &[TO_0, KEEP, TO_0], Ok(outcome!([0], [])),
         (3, &[COPIED])),
     ("zeros in cluster 0", (9, true), CLEARED, &[TO_0, KEEP], Ok(outcome!([0], [])), (3, &[COPIED + 1])),
@@ -81,26 +81,26 @@ const MIXED: &[Edit] = rows! {
 };
 
 // Makes the edits of a row, of a table with each flag.
-fn leave_both(alloc: Global, row: Row<'_>) -> Result<(), Fail> {
-    leave(alloc, row, false)?;
-    leave(alloc, row, true)
+fn check_both(alloc: Global, row: Row<'_>) -> Result<(), Fail> {
+    check_edits(alloc, row, false)?;
+    check_edits(alloc, row, true)
 }
 
 #[test]
 fn edits_are_made_one_after_the_other_or_change_nothing(rt: HostRuntime) -> Result<(), Fail> {
-    each(rt.alloc(), ROWS, leave_both)
+    each(rt.alloc(), ROWS, check_both)
 }
 
 // Makes the edits of a row, of a table with this flag.
-fn leave(alloc: Global, row: Row<'_>, modified: bool) -> Result<(), Fail> {
+fn check_edits(alloc: Global, row: Row<'_>, modified: bool) -> Result<(), Fail> {
     let (name, image, before, edits, expected, after) = row;
     let mut table = table_with(alloc, image, before, modified)?;
     let fit = expected.map(|_| ());
     same(edits_fit(&table, edits), fit, name)?;
     let answer = edit_table(&mut table, edits);
-    did(answer, expected.map_err(Fault::BadEdit), name)?;
+    check_outcome(answer, expected.map_err(Fault::BadEdit), name)?;
     let is_edited = expected.is_ok() && !edits.is_empty();
-    says(&table, after, modified || is_edited, name)
+    check_table(&table, after, modified || is_edited, name)
 }
 
 // Ten thousand edits of a table of 8192 entries: a map of each entry and a discard of it after that. Which
@@ -127,5 +127,5 @@ fn ten_thousand_edits_are_made_in_their_order(rt: HostRuntime) -> Result<(), Fai
     let (edits, outcome) = many_edits(rt.alloc())?;
     let expected: Result<References<'_>, usize> = Ok((&outcome.gained, &outcome.freed));
     let row: Row<'_> = ("many", (16, false), CLEARED, &edits, expected, CLEARED);
-    leave(rt.alloc(), row, false)
+    check_edits(rt.alloc(), row, false)
 }

@@ -1,38 +1,132 @@
-//! The example of the front page, over an image of 512-byte clusters whose entry 3 maps cluster 5.
+//! The example of the front page, over small image files.
 
-use crate::tables::{DATA_5, did, outcome};
-use qcow2_base::{Fault, HostCluster, MemStorage};
-use qcow2_example::{discard_cluster_3, mapping_of_cluster_3};
-use qcow2_metadata::L2Mapping;
-use qcow2_testing::{image_with, same, same_bytes};
+use qcow2_base::{ClusterCount, Fault, GuestOffset, HostCluster, MemStorage};
+use qcow2_example::discard;
+use qcow2_metadata::ClustersToFreeEntry;
+use qcow2_session::Outcome;
+use qcow2_testing::{file_holds, image_with, same, temporary_file};
 use std::alloc::Global;
 use std::test::Fail;
 
-// Cluster 5 has so many references by its counter.
-fn sample(alloc: Global, counter: u64) -> Result<MemStorage, Fault> {
-    image_with(alloc, 2048, &[(1048, DATA_5), (1540, counter)])
+// Offsets inside guest clusters 3 and 4, of 512 bytes.
+const IN_CLUSTER_3: GuestOffset = GuestOffset(0x6ff);
+
+const IN_CLUSTER_4: GuestOffset = GuestOffset(0x800);
+
+// What differs between the images: the entry of guest cluster 3, where the first refcount block lies, and
+// how many references its counter for host cluster 5 has.
+struct Image {
+    l2_entry: u64,
+    block_offset: u64,
+    counter_5: u64,
+}
+
+// Data in host cluster 5, which has no other reference.
+const DATA_IN_5: u64 = 1 << 63 | 5 << 9;
+
+const MAPPED: Image = Image {
+    l2_entry: DATA_IN_5,
+    block_offset: 4 << 9,
+    counter_5: 1,
+};
+
+const DISCARDED: Image = Image {
+    l2_entry: 0,
+    block_offset: 4 << 9,
+    counter_5: 0,
+};
+
+const NOT_COUNTED: Image = Image {
+    l2_entry: DATA_IN_5,
+    block_offset: 4 << 9,
+    counter_5: 0,
+};
+
+const WITHOUT_A_BLOCK: Image = Image {
+    l2_entry: DATA_IN_5,
+    block_offset: 0,
+    counter_5: 1,
+};
+
+// An image of six clusters of 512 bytes, and a disk of 64. Cluster 0 has the header, 1 the L1 table, 2 the L2
+// table, 3 the refcount table, 4 the refcount block, with 16-bit counters, and 5 the data.
+fn image_of(alloc: Global, image: &Image) -> Result<MemStorage, Fault> {
+    let numbers = [
+        (0, 0x5146_49fb_0000_0003), // magic, version 3
+        (16, 9), // cluster_bits
+        (24, 64 << 9), // size
+        (32, 1), // l1_size
+        (40, 1 << 9), // l1_table_offset
+        (48, 3 << 9), // refcount_table_offset
+        (56, 1 << 32), // refcount_table_clusters
+        (96, 0x0000_0004_0000_0068), // refcount_order, header_length
+        (1 << 9, 1 << 63 | 2 << 9),
+        ((2 << 9) + 3 * 8, image.l2_entry),
+        (3 << 9, image.block_offset),
+        (4 << 9, 0x0001_0001_0001_0001),
+        ((4 << 9) + 8, 1 << 48 | image.counter_5 << 32),
+    ];
+    image_with(alloc, 6 << 9, &numbers)
+}
+
+// What a discard returns in a file with an image. Fails unless the file is the other image afterwards.
+fn check_discard(
+    rt: &HostRuntime,
+    name: &str,
+    offset: GuestOffset,
+    (before, after): (&Image, &Image),
+) -> Result<Result<Option<Outcome>, Fault>, Fail> {
+    let file = temporary_file(rt, name, image_of(rt.alloc(), before)?.bytes())?;
+    let found = discard(rt, file.path.as_str(), offset);
+    file_holds(
+        rt,
+        file.path.as_str(),
+        image_of(rt.alloc(), after)?.bytes(),
+        name,
+    )?;
+    Ok(found)
 }
 
 #[test]
-fn the_mapping_is_told_and_taken_away(rt: HostRuntime) -> Result<(), Fail> {
-    let mut image = sample(rt.alloc(), 1)?;
-    let bytes = Vec::from_slice(rt.alloc(), image.bytes())?;
-    let data = L2Mapping::DataFile {
-        host_cluster: HostCluster(5),
-        copied: true,
+fn discarded_data_loses_its_entry_and_its_count(rt: HostRuntime) -> Result<(), Fail> {
+    let images = (&MAPPED, &DISCARDED);
+    let Some(outcome) = check_discard(&rt, "example-data", IN_CLUSTER_3, images)?? else {
+        return Err(Fail::new("nothing was discarded"));
     };
-    let found = mapping_of_cluster_3(rt.alloc(), bytes);
-    same(&found, &Ok(data), "mapping")?;
-    let answer = discard_cluster_3(rt.alloc(), &mut image);
-    did(answer, Ok(outcome!([], [(5, 1)])), "discard")?;
-    same_bytes(image.bytes(), &[0; 2048], "image")
+    let cluster_5 = ClustersToFreeEntry {
+        first: HostCluster(5),
+        count: ClusterCount(1),
+    };
+    same(&outcome.freed.as_slice(), &[cluster_5].as_slice(), "freed")?;
+    same(&outcome.gained.len(), &0, "gained")
 }
 
 #[test]
-fn a_cluster_that_is_not_counted_keeps_its_mapping(rt: HostRuntime) -> Result<(), Fail> {
-    let mut image = sample(rt.alloc(), 0)?;
-    let answer = discard_cluster_3(rt.alloc(), &mut image);
-    did(answer, Err(Fault::CounterRange), "discard")?;
-    let before = sample(rt.alloc(), 0)?;
-    same_bytes(image.bytes(), before.bytes(), "image")
+fn an_offset_without_data_changes_nothing(rt: HostRuntime) -> Result<(), Fail> {
+    let found = check_discard(&rt, "example-backing", IN_CLUSTER_4, (&MAPPED, &MAPPED))??;
+    same(&found.is_none(), &true, "nothing is discarded")
+}
+
+// Fails unless a discard in cluster 3 is refused by a fault and the file stays.
+fn check_refusal(rt: &HostRuntime, name: &str, image: &Image, expected: Fault) -> Result<(), Fail> {
+    match check_discard(rt, name, IN_CLUSTER_3, (image, image))? {
+        Ok(_) => Err(Fail::new("it was discarded")),
+        Err(fault) => same(&fault, &expected, name),
+    }
+}
+
+#[test]
+fn data_that_is_not_counted_stays(rt: HostRuntime) -> Result<(), Fail> {
+    check_refusal(
+        &rt,
+        "example-not-counted",
+        &NOT_COUNTED,
+        Fault::CounterRange,
+    )?;
+    check_refusal(
+        &rt,
+        "example-without-a-block",
+        &WITHOUT_A_BLOCK,
+        Fault::NotPlaced,
+    )
 }

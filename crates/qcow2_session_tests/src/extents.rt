@@ -2,7 +2,7 @@
 //! and of the disk, and by which fault a damaged table ends them.
 
 use crate::calls::extents_of;
-use crate::sample_image::{COPIED, Numbers, is_sample, sample_image};
+use crate::sample_image::{COPIED, Numbers, check_sample, sample_image};
 use Content::{Absent, Compressed, Zeros};
 use qcow2_base::{Fault, GuestOffset, HostOffset, Storage};
 use qcow2_session::{Content, Extent};
@@ -27,7 +27,7 @@ macro_rules! allocated {
     };
 }
 
-// Cluster bits, changes of the sample image, the extents that are told, and the fault that ends them.
+// Cluster bits, changes of the sample image, the extents that are reported, and the fault that ends them.
 type Row = (
     &'static str,
     u32,
@@ -74,12 +74,15 @@ const ROWS: &[Row] = rows! {
         &[(34304, Absent), DATA, (1184, Absent)], None),
     ("one L2 table twice", 9, &[(24, 65536), (32, 2), (520, 0x400)],
         &[(1536, Absent), DATA, (32256, Absent), DATA, (30720, Absent)], None),
-    // bad entries: behind the disk's end in its last table, in a table behind it, and in the second table
+    // bad entries: after the disk's end in its last table, in a table after it, and in the second table
     ("in the last table", 9, &[(24, 1536), (1528, 2)], &[], RESERVED),
     ("in a table behind the disk's end", 9, &[(24, 32768), (32, 2), (520, 0x600), (1536, 2)],
         &[(1536, Absent), DATA, (30720, Absent)], None),
     ("in the second table", 9, &[(24, 65536), (32, 2), (520, 0x600), (1536, 0x201), (1544, 2)],
         &[(1536, Absent), DATA], RESERVED),
+    ("data past 2^40, in clusters of 2 MiB", 21,
+        &[(24, 0x100_0100_0000), (32, 3), (0x20_0000, 0), (0x20_0010, 0x40_0000)],
+        &[(0x100_0060_0000, Absent), data!(0x20_0000, 0xa0_0000), (0x80_0000, Absent)], None),
     ("whole tables, in clusters of 64 KiB", 16, &[(24, 0x4000_0001), (32, 2), (0x1_0008, 0x2_0000)],
         &[(0x3_0000, Absent), data!(0x1_0000, 0x5_0000), (0x1fff_0000, Absent),
         data!(0x1_0000, 0x5_0000), (0x1ffc_0001, Absent)],
@@ -94,19 +97,19 @@ const RESERVED: Option<Fault> = Some(Fault::EntryReserved);
 
 #[test]
 fn each_disk_is_told_as_extents(rt: HostRuntime) -> Result<(), Fail> {
-    each(rt.alloc(), ROWS, told_as)
+    each(rt.alloc(), ROWS, check_row)
 }
 
-// Tells the extents of the image of a row, of which no byte changes.
-fn told_as(alloc: Global, row: Row) -> Result<(), Fail> {
+// Reports the extents of the image of a row, of which no byte changes.
+fn check_row(alloc: Global, row: Row) -> Result<(), Fail> {
     let (name, bits, changes, parts, fault) = row;
     let mut image = sample_image(alloc, bits, changes)?;
-    are_told(alloc, &mut image, parts, (fault, fault), name)?;
-    is_sample(alloc, image.bytes(), (bits, changes), name)
+    check_extents(alloc, &mut image, parts, (fault, fault), name)?;
+    check_sample(alloc, image.bytes(), (bits, changes), name)
 }
 
-// Fails unless these extents are told of an image, and then these faults.
-fn are_told<S: Storage, R: Debug + Copy + Drop>(
+// Fails unless these extents are reported of an image, and then these faults.
+fn check_extents<S: Storage, R: Debug + Copy + Drop>(
     alloc: Global,
     image: &mut S,
     parts: &[Part],
@@ -115,11 +118,11 @@ fn are_told<S: Storage, R: Debug + Copy + Drop>(
 ) -> Result<(), Fail> {
     let (extents, found) = extents_of(alloc, image)?;
     same((found.first().copied(), found.get(1).copied()), faults, row)?;
-    are_parts(&extents, parts, row)
+    check_parts(&extents, parts, row)
 }
 
 // Compares extents, which follow one another from offset 0 on.
-fn are_parts<R: Debug + Copy + Drop>(
+fn check_parts<R: Debug + Copy + Drop>(
     extents: &[Extent],
     parts: &[Part],
     row: R,
@@ -138,8 +141,8 @@ fn are_parts<R: Debug + Copy + Drop>(
     Ok(())
 }
 
-// The extents of two tables of the sample image, and how many reads tell them: two of the header, that of the
-// L1 table, and one of each L2 table.
+// The extents of two tables of the sample image, and how many reads report them: two of the header, that of
+// the L1 table, and one of each L2 table.
 const TWO_TABLES: Numbers<'static> = &[(24, 65536), (32, 2), (520, 0x600)];
 
 const PARTS: &[Part] = &[(1536, Absent), DATA, (63488, Absent)];
@@ -149,13 +152,13 @@ const READS: u64 = 5;
 #[test]
 fn a_failed_read_is_made_again(rt: HostRuntime) -> Result<(), Fail> {
     for failing in 0..=READS {
-        read_again(rt.alloc(), failing)?;
+        check_read_again(rt.alloc(), failing)?;
     }
     Ok(())
 }
 
 // Only the reads of the L2 tables are made again.
-fn read_again(alloc: Global, failing: u64) -> Result<(), Fail> {
+fn check_read_again(alloc: Global, failing: u64) -> Result<(), Fail> {
     let mut image = FailingStorage::new(alloc, sample_image(alloc, 9, TWO_TABLES)?);
     image.plan = Some(failing);
     if failing < 3 {
@@ -163,10 +166,10 @@ fn read_again(alloc: Global, failing: u64) -> Result<(), Fail> {
         return same(answer.err(), Some(Fault::Storage), failing);
     }
     let fault = (failing < READS).then_some(Fault::Storage);
-    are_told(alloc, &mut image, PARTS, (fault, None), failing)
+    check_extents(alloc, &mut image, PARTS, (fault, None), failing)
 }
 
-// Changes of the sample image, and how many calls of the storage tell its extents, after two of its header.
+// Changes of the sample image, and how many calls of the storage report its extents, after two of its header.
 type Calls = (&'static str, Numbers<'static>, usize);
 
 const CALLS: &[Calls] = rows! {
@@ -178,10 +181,10 @@ const CALLS: &[Calls] = rows! {
 
 #[test]
 fn a_table_is_read_once_and_not_behind_the_disk(rt: HostRuntime) -> Result<(), Fail> {
-    each(rt.alloc(), CALLS, is_told_by)
+    each(rt.alloc(), CALLS, check_calls)
 }
 
-fn is_told_by(alloc: Global, (name, changes, calls): Calls) -> Result<(), Fail> {
+fn check_calls(alloc: Global, (name, changes, calls): Calls) -> Result<(), Fail> {
     let mut image = FailingStorage::new(alloc, sample_image(alloc, 9, changes)?);
     extents_of(alloc, &mut image)?;
     same(image.calls.len(), calls, name)

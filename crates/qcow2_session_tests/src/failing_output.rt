@@ -1,11 +1,11 @@
-//! An output that tells what was flushed, and fails where a test plans it, to show what a caller does
+//! An output that reports what was flushed, and fails where a test plans it, to show what a caller does
 //! then.
 
 ghost use Rattle.std.specs.Prelude.{None};
 
 use std::alloc::Global;
 use std::io;
-use std::io::Write;
+use std::io::{ErrorKind, Write};
 
 /// Where an output fails.
 #[derive(Clone, Copy)]
@@ -16,9 +16,13 @@ pub(crate) enum Failure {
     WriteAfter(usize),
     /// At each flush.
     Flush,
+    /// Nowhere, but a write takes three bytes at most.
+    Short,
+    /// Once: the first write is interrupted, and is to be made again.
+    Interrupted,
 }
 
-/// An output that keeps what is written to it, and tells how much of it was flushed. A call that
+/// An output that keeps what is written to it, and reports how much of it was flushed. A call that
 /// fails keeps nothing.
 #[derive(Drop)]
 pub(crate) struct FailingOutput {
@@ -46,21 +50,33 @@ impl FailingOutput {
     pub(crate) fn flushed(&self) -> &[u8] {
         self.bytes.get(..self.flushed).unwrap_or(&[])
     }
+
+    // How many bytes a write that has this many may take.
+    fn room(&mut self, len: usize) -> io::Result<usize> {
+        match self.failure {
+            Failure::WriteAfter(0) if len > 0 => {
+                self.failure = Failure::Never;
+                Err(io::Error::other("the write was planned to fail"))
+            }
+            Failure::WriteAfter(room) => {
+                self.failure = Failure::WriteAfter(room.saturating_sub(len));
+                Ok(room)
+            }
+            Failure::Short => Ok(3),
+            Failure::Interrupted => {
+                self.failure = Failure::Never;
+                Err(ErrorKind::Interrupted.into())
+            }
+            Failure::Never | Failure::Flush => Ok(len),
+        }
+    }
 }
 
 impl Write for FailingOutput {
     ghost contents = { λ _. None };
 
     fn write(&mut self, buf: &[u8]) -> io::Result<usize> {
-        let Failure::WriteAfter(room) = self.failure else {
-            return self.bytes.write(buf);
-        };
-        if room == 0 && !buf.is_empty() {
-            self.failure = Failure::Never;
-            return Err(io::Error::other("the write was planned to fail"));
-        }
-        let taken = room.min(buf.len());
-        self.failure = Failure::WriteAfter(room - taken);
+        let taken = self.room(buf.len())?.min(buf.len());
         self.bytes.write(&buf[..taken])
     }
 

@@ -1,8 +1,8 @@
 //! Lists of edits of an image: what stands in it then, what is handed back, and what refuses them.
 
 use crate::calls::edit_image;
-use crate::images::{Contents, image_holds, recording_image};
-use crate::tables::{GONE, PAST, References, TO_0, TO_5, TO_6, did, map, outcome};
+use crate::images::{Contents, check_image, recording_image};
+use crate::tables::{GONE, PAST, References, TO_0, TO_5, TO_6, check_outcome, map, outcome};
 use qcow2_base::Fault;
 use qcow2_session::Edit;
 use qcow2_testing::rows;
@@ -37,6 +37,7 @@ const ROWS: &[Row] = rows! {
     ("no edit", PLAIN, ONE, &[], NOTHING, ONE),
     ("no edit at the last place", (9, LAST, false), SHORT, &[], NOTHING, SHORT),
     ("an edit that leaves the entry", PLAIN, ONE, &[TO_5], NOTHING, ONE),
+    ("a hundred edits", PLAIN, ONE, &[GONE; 100], Ok(outcome!([], [(5, 1)])), (1536, &[])),
     ("a table past the end", PLAIN, (1024, &[]), &[TO_5], Ok(outcome!([5], [])), ONE),
     ("cluster 0 of an external data file", (9, 2, true), (2000, &[DATA]), &[TO_0],
         Ok(outcome!([0], [(5, 1)])), (2000, &[(1048, &[0x80])])),
@@ -75,21 +76,21 @@ const DAMAGED_LAST: Contents<'static> = (4_194_304, &[(4_194_303, RESERVED)]);
 #[test]
 fn edits_stand_in_the_image_or_leave_it(rt: HostRuntime) -> Result<(), Fail> {
     for row in ROWS {
-        stand(rt.alloc(), *row, 0)?;
-        stand(rt.alloc(), *row, 0xa5)?;
+        check_edits(rt.alloc(), *row, 0)?;
+        check_edits(rt.alloc(), *row, 0xa5)?;
     }
     Ok(())
 }
 
 // Makes the edits of a row, where this byte stands around the table.
-fn stand(alloc: Global, row: Row, around: u8) -> Result<(), Fail> {
+fn check_edits(alloc: Global, row: Row, around: u8) -> Result<(), Fail> {
     let (name, (bits, cluster, external), before, edits, expected, after) = row;
     let place = (bits, cluster);
     let mut image = recording_image(alloc, place, around, before)?;
     let answer = edit_image(alloc, &mut image, (bits, external), cluster, edits);
     let is_read = expected != Err(Fault::TablePlace);
     let is_written = expected.is_ok() && !edits.is_empty();
-    did(answer, expected, name)?;
+    check_outcome(answer, expected, name)?;
     let calls = (is_read, is_written);
-    image_holds(&image, alloc, place, around, after, calls, name)
+    check_image(&image, alloc, place, around, after, calls, name)
 }

@@ -1,8 +1,8 @@
 //! Lists of steps of an image: what came of each, what stands in the image then, and what refuses them.
 
-use crate::blocks::answered;
+use crate::blocks::check_replies;
 use crate::calls::step_image;
-use crate::images::{Contents, image_holds, recording_image};
+use crate::images::{Contents, check_image, recording_image};
 use crate::steps::{DEC_0, DEC_1, INC_0, UP_UP_DOWN};
 use StepReply::{Done, Refused};
 use qcow2_base::Fault;
@@ -31,6 +31,7 @@ const ROWS: &[Row] = rows! {
     ("none is done", (9, 3, 4), TABLE, &[DEC_0, DEC_1], Ok(&[Refused, Refused]), TABLE),
     ("no step at the last place", (9, LAST, 4), (700, &[]), &[], Ok(&[]), (700, &[])),
     ("up and down", (9, 1, 4), SEVEN, &[INC_0, DEC_0], Ok(&[Done(7), Done(8)]), SEVEN),
+    ("a hundred", (9, 1, 4), SEVEN, &[Step::Dec { index: 1 }; 100], Ok(&[Refused; 100]), SEVEN),
     ("both ends of a block of 64 KiB", (16, 1, 4), (196_608, &[]),
         &[Step::Inc { index: 32_767 }, INC_0], Ok(&[Done(0), Done(0)]),
         (196_608, &[(65_536, &[0, 1]), (131_070, &[0, 1])])),
@@ -58,20 +59,20 @@ const MAX: Step = Step::Dec { index: usize::MAX };
 #[test]
 fn steps_stand_in_the_image_or_leave_it(rt: HostRuntime) -> Result<(), Fail> {
     for row in ROWS {
-        stand(rt.alloc(), *row, 0)?;
-        stand(rt.alloc(), *row, 0xa5)?;
+        check_steps(rt.alloc(), *row, 0)?;
+        check_steps(rt.alloc(), *row, 0xa5)?;
     }
     Ok(())
 }
 
 // Makes the steps of a row, where this byte stands around the block.
-fn stand(alloc: Global, row: Row, around: u8) -> Result<(), Fail> {
+fn check_steps(alloc: Global, row: Row, around: u8) -> Result<(), Fail> {
     let (name, (bits, cluster, order), before, steps, expected, after) = row;
     let place = (bits, cluster);
     let mut image = recording_image(alloc, place, around, before)?;
     let answer = step_image(alloc, &mut image, (bits, order), cluster, steps);
     let is_read = expected != Err(Fault::TablePlace);
-    let is_written = answered(answer, expected, name)?;
+    let is_written = check_replies(answer, expected, name)?;
     let calls = (is_read, is_written);
-    image_holds(&image, alloc, place, around, after, calls, name)
+    check_image(&image, alloc, place, around, after, calls, name)
 }

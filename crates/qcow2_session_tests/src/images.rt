@@ -63,7 +63,7 @@ pub(crate) fn recording_image(
 
 /// Fails unless the image is such a one, and its cluster was read or was not, and then written or not: each
 /// by one call for each piece of 4096 bytes.
-pub(crate) fn image_holds(
+pub(crate) fn check_image(
     image: &FailingStorage<MemStorage>,
     alloc: Global,
     place: (u32, u64),

@@ -32,3 +32,5 @@ mod settled;
 mod steps;
 #[cfg(test)]
 mod tables;
+#[cfg(test)]
+mod whole_image;

@@ -5,12 +5,12 @@ use crate::sample_image::{COPIED, Numbers, sample_image};
 use Answer::{Backing, Compressed, Data, Refused, Zeros};
 use qcow2_base::{Fault, GuestOffset, HostCluster, MemStorage};
 use qcow2_metadata::L2Mapping;
-use qcow2_testing::{FailingStorage, StorageCall, each, rows, same, same_bytes};
+use qcow2_testing::{FailingStorage, StorageCall, each, part_of, rows, same, same_bytes};
 use std::alloc::Global;
 use std::fmt::Debug;
 use std::test::Fail;
 
-// What a lookup answers: a mapping by its numbers, or a fault.
+// What a lookup returns: a mapping by its numbers, or a fault.
 #[derive(Clone, Copy, Debug, PartialEq, Eq)]
 enum Answer {
     Data(u64, bool),
@@ -35,6 +35,8 @@ const ROWS: &[Row] = rows! {
         &[(0x1f_ffff, Data(3, false)), (0x7f_ffff, Data(5, true)), (0x80_0000, Backing(0x80_0000)),
         (0x7f_ffff_ffff, Data(4, false)), (0x80_0000_0000, Backing(0x80_0000_0000)),
         (u64::MAX, Backing(0xffff_ffff_ffe0_0000))]),
+    ("data past 2^40, in clusters of 2 MiB", 21, &[(32, 3), (0x20_0010, 0x40_0000)],
+        &[(0x100_0060_0000, Data(5, true)), (0x100_0080_0000, Backing(0x100_0080_0000))]),
     ("a second L2 table, behind the image's end", 9, &[(32, 2), (520, COPIED + 0x600)],
         &[(1543, Data(5, true)), (34311, Backing(34304))]),
     ("the second L1 entry alone", 9, &[(32, 2), (512, 0), (520, 0x400)],
@@ -88,37 +90,36 @@ const CUTS: &[(usize, usize, Answer)] = &[
 
 #[test]
 fn each_offset_reads_as_the_image_says(rt: HostRuntime) -> Result<(), Fail> {
-    each(rt.alloc(), ROWS, row_reads)
+    each(rt.alloc(), ROWS, check_row)
 }
 
-fn row_reads(alloc: Global, (name, cluster_bits, changes, offsets): Row) -> Result<(), Fail> {
+fn check_row(alloc: Global, (name, cluster_bits, changes, offsets): Row) -> Result<(), Fail> {
     let image = sample_image(alloc, cluster_bits, changes)?;
-    reads_as(alloc, image.bytes(), offsets, name)
+    check_offsets(alloc, image.bytes(), offsets, name)
 }
 
 #[test]
 fn an_image_that_is_cut_off_reads_as_if_zeros_followed(rt: HostRuntime) -> Result<(), Fail> {
     let image = sample_image(rt.alloc(), 9, &[])?;
     for cut in CUTS {
-        cuts_read_as(rt.alloc(), image.bytes(), *cut)?;
+        check_cuts(rt.alloc(), image.bytes(), *cut)?;
     }
     Ok(())
 }
 
-fn cuts_read_as(
+fn check_cuts(
     alloc: Global,
     image: &[u8],
     (first, end, expected): (usize, usize, Answer),
 ) -> Result<(), Fail> {
     for len in first..end {
-        let bytes = image.get(..len).unwrap_or(&[]);
-        reads_as(alloc, bytes, &[(1543, expected)], len)?;
+        check_offsets(alloc, part_of(image, 0, len)?, &[(1543, expected)], len)?;
     }
     Ok(())
 }
 
 // Looks offsets up by the image alone, and by its header and its L1 table. No byte changes.
-fn reads_as<R: Debug + Copy + Drop>(
+fn check_offsets<R: Debug + Copy + Drop>(
     alloc: Global,
     bytes: &[u8],
     offsets: Offsets<'_>,
@@ -178,12 +179,12 @@ const TABLES: &[StorageCall] = rows! {
 
 #[test]
 fn a_lookup_reads_the_header_and_one_table_of_each_kind(rt: HostRuntime) -> Result<(), Fail> {
-    reads_tables(rt.alloc(), 1543, 2)?;
-    reads_tables(rt.alloc(), 32768, 1)
+    check_reads(rt.alloc(), 1543, 2)?;
+    check_reads(rt.alloc(), 32768, 1)
 }
 
-// Fails unless a lookup reads the header by two calls, and then so many tables.
-fn reads_tables(alloc: Global, offset: u64, tables: usize) -> Result<(), Fail> {
+// Fails unless a lookup reads the header by two calls, and then that many tables.
+fn check_reads(alloc: Global, offset: u64, tables: usize) -> Result<(), Fail> {
     let mut image = FailingStorage::new(alloc, sample_image(alloc, 9, &[])?);
     let answer = lookup_image(alloc, &mut image, GuestOffset(offset));
     let header = image.calls.len().saturating_sub(tables);

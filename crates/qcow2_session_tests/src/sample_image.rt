@@ -38,7 +38,7 @@ pub(crate) fn sample_image(
 }
 
 /// Fails unless these bytes are the sample image with these changes.
-pub(crate) fn is_sample(
+pub(crate) fn check_sample(
     alloc: Global,
     found: &[u8],
     (cluster_bits, changes): (u32, Numbers<'_>),

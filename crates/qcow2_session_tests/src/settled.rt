@@ -1,11 +1,12 @@
 //! Counters of a block that follow what edits of a table did to references.
 
-use crate::blocks::{Counters, block_of, counts};
+use crate::blocks::{Counters, block_of, check_counters};
 use crate::calls::{edit_image, edit_settled, settle, settle_outcome};
 use crate::images::header_with;
 use crate::sample_image::sample_image;
 use crate::tables::{
-    DATA_5, GONE, KEEP, PAST, References, TO_5, TO_6, did, outcome, says, table_with,
+    DATA_5, GONE, KEEP, PAST, References, TO_5, TO_6, check_outcome, check_table, outcome,
+    table_with,
 };
 use qcow2_base::{Fault, HostCluster, MemStorage};
 use qcow2_metadata::{L2Table, RefBlock};
@@ -52,7 +53,7 @@ const ROWS: &[Row<'static>] = rows! {
     // a cluster that gains or loses more than one reference
     ((9, 1, false), 0, FIVE, outcome!([5, 5], [(5, 1)]), (None, true), &[(5, 1, 2)]),
     ((9, 4, false), 0, &[(5, 2, 1)], outcome!([], [(5, 2), (5, 1)]), (RANGE, false), &[(5, 2, 1)]),
-    // ranges that begin before the block, and that end before it and begin behind it
+    // ranges that begin before the block, and that end before it and begin after it
     ((9, 6, false), 1, ONES, outcome!([], [(60, 8)]), (None, true), &[(4, 60, 1)]),
     ((9, 6, false), 1, ONES, outcome!([], [(0, 64), (128, 1)]), (None, false), ONES),
     // ranges of 2^64 - 1 clusters
@@ -81,42 +82,42 @@ const WIDTHS: &[Width] = rows! {
 };
 
 // Settles a block that begins with these bytes, with each flag, as each row says.
-fn rows_settle(alloc: Global, bytes: &[u8], rows: &[Row<'_>]) -> Result<(), Fail> {
+fn check_rows(alloc: Global, bytes: &[u8], rows: &[Row<'_>]) -> Result<(), Fail> {
     for (place, row) in rows.iter().enumerate() {
-        settles(alloc, bytes, *row, false, place)?;
-        settles(alloc, bytes, *row, true, place)?;
+        check_settled(alloc, bytes, *row, false, place)?;
+        check_settled(alloc, bytes, *row, true, place)?;
     }
     Ok(())
 }
 
 #[test]
 fn counters_follow_what_clusters_gained_and_lost(rt: HostRuntime) -> Result<(), Fail> {
-    rows_settle(rt.alloc(), &[], ROWS)
+    check_rows(rt.alloc(), &[], ROWS)
 }
 
 #[test]
 fn no_counter_passes_the_greatest_number_of_its_width(rt: HostRuntime) -> Result<(), Fail> {
-    each(rt.alloc(), WIDTHS, settle_at_ends)
+    each(rt.alloc(), WIDTHS, check_ends)
 }
 
 // A cluster gains what it loses where its counter is 0, but not where it is at the greatest number, as all
 // are of bytes 0xff.
-fn settle_at_ends(alloc: Global, (order, count, greatest): Width) -> Result<(), Fail> {
+fn check_ends(alloc: Global, (order, count, greatest): Width) -> Result<(), Fail> {
     let image: Image = (9, order, false);
     let full = [(0, count, greatest)];
     let below = [(5, 1, greatest.wrapping_sub(1)), (0, count, greatest)];
     let gained_and_lost: References<'_> = outcome!([5], [(5, 1)]);
     let row: Row<'_> = (image, 0, &[], gained_and_lost, (None, true), &[]);
-    rows_settle(alloc, &[], &[row])?;
+    check_rows(alloc, &[], &[row])?;
     let rows: [Row<'_>; 2] = [
         (image, 0, &[], gained_and_lost, (RANGE, false), &full),
         (image, 0, &[], outcome!([], [(5, 1)]), (None, true), &below),
     ];
-    rows_settle(alloc, &[0xff; 512], &rows)
+    check_rows(alloc, &[0xff; 512], &rows)
 }
 
 // Settles a block that begins with these bytes, and has the row's counters, with this flag.
-fn settles(
+fn check_settled(
     alloc: Global,
     bytes: &[u8],
     row: Row<'_>,
@@ -127,7 +128,7 @@ fn settles(
     let mut block = block_of(alloc, image, (bytes, before), modified)?;
     let answer = settle(&mut block, image, rt_index, references);
     same(answer.err(), fault, place)?;
-    counts(&block, after, modified || marks, place)
+    check_counters(&block, after, modified || marks, place)
 }
 
 // Entry 3 of a table of compressed data in clusters 0 and 1.
@@ -155,6 +156,8 @@ const SETTLED: &[Settled<'static>] = rows! {
     // there and back
     ((4, false, 0), (FIVE, DATA_5), &[TO_6, TO_5], THERE_AND_BACK, (FIVE, DATA_5, true)),
     ((0, false, 0), (FIVE, DATA_5), &[TO_6, TO_5], CANNOT_COUNT, (FIVE, DATA_5, false)),
+    // a hundred edits
+    ((4, false, 0), (FIVE, DATA_5), &[GONE; 100], Ok(outcome!([], [(5, 1)])), (&[], 0, true)),
     // a block that counts none of the clusters
     ((4, false, 1), (FIVE, DATA_5), &[GONE], Ok(outcome!([], [(5, 1)])), (FIVE, 0, false)),
     // the edits fit first
@@ -169,14 +172,14 @@ const THERE_AND_BACK: Result<References<'static>, Fault> = Ok(outcome!([6, 5], [
 #[test]
 fn edits_are_counted_or_not_made(rt: HostRuntime) -> Result<(), Fail> {
     for (place, row) in SETTLED.iter().enumerate() {
-        edits_settle(rt.alloc(), *row, (false, true), place)?;
-        edits_settle(rt.alloc(), *row, (true, false), place)?;
+        check_settled_edits(rt.alloc(), *row, (false, true), place)?;
+        check_settled_edits(rt.alloc(), *row, (true, false), place)?;
     }
     Ok(())
 }
 
 // Makes the edits of a table and a block with these flags.
-fn edits_settle(
+fn check_settled_edits(
     alloc: Global,
     row: Settled<'_>,
     (table_modified, block_modified): (bool, bool),
@@ -187,22 +190,22 @@ fn edits_settle(
     let mut table = table_with(alloc, (9, external), (3, &[entry]), table_modified)?;
     let mut block = block_of(alloc, image, (&[], before), block_modified)?;
     let answer = edit_settled(&mut table, &mut block, image, rt_index, edits);
-    did(answer, expected, place)?;
+    check_outcome(answer, expected, place)?;
     let table_modified = table_modified || expected.is_ok() && !edits.is_empty();
     let modified = (table_modified, block_modified);
-    are_left(&table, &block, left, modified, place)
+    check_left(&table, &block, left, modified, place)
 }
 
 // Fails unless this is left of a table and of a block that had this flag.
-fn are_left(
+fn check_left(
     table: &L2Table,
     block: &RefBlock,
     (counters, entry, counts_some): (Counters<'_>, u64, bool),
     (table_modified, block_modified): (bool, bool),
     place: usize,
 ) -> Result<(), Fail> {
-    says(table, (3, &[entry]), table_modified, place)?;
-    counts(block, counters, block_modified || counts_some, place)
+    check_table(table, (3, &[entry]), table_modified, place)?;
+    check_counters(block, counters, block_modified || counts_some, place)
 }
 
 // The sample image with a refcount block at cluster 3, in which cluster 5 has a reference.

@@ -1,6 +1,6 @@
 //! Lists of steps of a refcount block: what came of each, what all leave, and which lists are refused.
 
-use crate::blocks::{Counters, answered, block_of, counts};
+use crate::blocks::{Counters, block_of, check_counters, check_replies};
 use crate::calls::step_block;
 use StepReply::{Done, Refused};
 use qcow2_base::Fault;
@@ -61,19 +61,19 @@ pub(crate) const UP_UP_DOWN: &[StepReply] = &[Done(0), Done(1), Done(2), Refused
 #[test]
 fn steps_are_made_in_their_order_or_refused_together(rt: HostRuntime) -> Result<(), Fail> {
     for row in ROWS {
-        leave(rt.alloc(), *row, false)?;
-        leave(rt.alloc(), *row, true)?;
+        check_steps(rt.alloc(), *row, false)?;
+        check_steps(rt.alloc(), *row, true)?;
     }
     Ok(())
 }
 
 // Makes the steps of a row, of a block with this flag.
-fn leave(alloc: Global, row: Row<'_>, modified: bool) -> Result<(), Fail> {
+fn check_steps(alloc: Global, row: Row<'_>, modified: bool) -> Result<(), Fail> {
     let (name, (order, bytes), steps, expected, counters) = row;
     let mut block = block_of(alloc, (9, order, false), (bytes, &[]), modified)?;
     let answer = step_block(&mut block, steps);
-    let some_done = answered(answer, expected.map_err(Fault::BadStep), name)?;
-    counts(&block, counters, modified || some_done, name)
+    let some_done = check_replies(answer, expected.map_err(Fault::BadStep), name)?;
+    check_counters(&block, counters, modified || some_done, name)
 }
 
 // A refcount order, and the first bytes of a block: a counter at the greatest number of its width, which
@@ -94,7 +94,7 @@ const ENDS_OF_64_BITS: &[u8] = &[
     0xff, 0xff, 0xff, 0xff, 0xff, 0xff, 0xff, 0xff, 0xff, 0xff, 0xff, 0xff, 0xff, 0xff, 0xff, 0xfe,
 ];
 
-fn stay_within(alloc: Global, (order, bytes, greatest): Width) -> Result<(), Fail> {
+fn check_width(alloc: Global, (order, bytes, greatest): Width) -> Result<(), Fail> {
     let (top, below) = (Done(greatest), Done(greatest.wrapping_sub(1)));
     let replies: &[StepReply] =
         rows! { below, Refused, top, Refused, top, Refused, Done(0), Done(1), Refused };
@@ -106,16 +106,16 @@ fn stay_within(alloc: Global, (order, bytes, greatest): Width) -> Result<(), Fai
         Ok(replies),
         &counters,
     );
-    leave(alloc, row, false)
+    check_steps(alloc, row, false)
 }
 
 #[test]
 fn no_counter_passes_the_ends_of_its_width(rt: HostRuntime) -> Result<(), Fail> {
-    each(rt.alloc(), WIDTHS, stay_within)
+    each(rt.alloc(), WIDTHS, check_width)
 }
 
-// So many of ten thousand increments of 256 counters, one after the other, over and over, and then a
-// decrement for each of them, the last one first, with what comes of them.
+// The first `count` steps of ten thousand increments of 256 counters, one after the other, over and over, and
+// then a decrement for each of them, the last one first, with what comes of them.
 fn many_steps(alloc: Global, count: usize) -> Result<(Vec<Step>, Vec<StepReply>), AllocError> {
     let mut steps = Vec::new(alloc);
     let mut replies = Vec::new(alloc);
@@ -132,15 +132,15 @@ fn many_steps(alloc: Global, count: usize) -> Result<(Vec<Step>, Vec<StepReply>)
     Ok((steps, replies))
 }
 
-fn many_are_made(alloc: Global, count: usize, counters: Counters<'_>) -> Result<(), Fail> {
+fn check_many(alloc: Global, count: usize, counters: Counters<'_>) -> Result<(), Fail> {
     let (steps, replies) = many_steps(alloc, count)?;
     let row: Row<'_> = ("many steps", (4, &[]), &steps, Ok(&replies), counters);
-    leave(alloc, row, false)
+    check_steps(alloc, row, false)
 }
 
 // 10,000 is 39 times 256, and 16.
 #[test]
 fn ten_thousand_steps_up_and_down_are_made_in_their_order(rt: HostRuntime) -> Result<(), Fail> {
-    many_are_made(rt.alloc(), 10_000, &[(0, 16, 40), (16, 240, 39)])?;
-    many_are_made(rt.alloc(), 20_000, &[])
+    check_many(rt.alloc(), 10_000, &[(0, 16, 40), (16, 240, 39)])?;
+    check_many(rt.alloc(), 20_000, &[])
 }

@@ -98,7 +98,7 @@ pub(crate) fn table_with(
 }
 
 /// Fails unless the table has these entries, its cluster and this flag.
-pub(crate) fn says<R: Debug + Copy + Drop>(
+pub(crate) fn check_table<R: Debug + Copy + Drop>(
     table: &L2Table,
     entries: Entries<'_>,
     modified: bool,
@@ -122,8 +122,8 @@ fn number_at(entries: Entries<'_>, index: usize) -> u64 {
     0
 }
 
-/// Fails unless edits answered this: what they did to references, or a fault.
-pub(crate) fn did<R: Debug + Drop>(
+/// Fails unless edits returned this: what they did to references, or a fault.
+pub(crate) fn check_outcome<R: Debug + Drop>(
     answer: Result<Outcome, Fault>,
     expected: Result<References<'_>, Fault>,
     row: R,

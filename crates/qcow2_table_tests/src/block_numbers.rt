@@ -27,7 +27,7 @@ const KEPT: &[Kept] = &[
     (6, 64, "U64", &[0xff; 8], ("18446744073709551615", 1)),
 ];
 
-// How a block prints that keeps these numbers first, 0 behind them, and nothing else: where it stands, and
+// How a block prints that keeps these numbers first, 0 after them, and nothing else: where it stands, and
 // whether it was changed.
 fn shown(
     alloc: Global,
@@ -41,33 +41,33 @@ fn shown(
         text.push_str(", 0")?;
     }
     let rest = format!(in alloc;
-        "]), cluster: {cluster:?}, modified: {modified}, cluster_bits: 9, \
-        refcount_order: {order} }}"
+        "]), placement: Placement {{ cluster: {cluster:?}, modified: {modified} }}, \
+        cluster_bits: 9, refcount_order: {order} }}"
     )?;
     text.push_str(rest.as_str())?;
     Ok(text)
 }
 
 // Fails unless the block prints so.
-fn keeps(block: &RefBlock, row: Kept, first: First, place: Place) -> Result<(), Fail> {
+fn check_kept(block: &RefBlock, row: Kept, first: First, place: Place) -> Result<(), Fail> {
     let expected = shown(block.allocator(), row, first, place)?;
     let found = printed(block.allocator(), block)?;
     same(found.as_str(), expected.as_str(), row.0)
 }
 
-// The block of an image of these bytes, and zeros behind them.
+// The block of an image of these bytes, and zeros after them.
 fn loaded(alloc: Global, order: u32, bytes: &[u8]) -> Result<RefBlock, Fault> {
     let mut image = MemStorage::new(Vec::from_slice(alloc, bytes)?);
     load(alloc, &mut image, (9, order), 0)
 }
 
-fn both_keep(alloc: Global, row: Kept) -> Result<(), Fail> {
+fn check_both(alloc: Global, row: Kept) -> Result<(), Fail> {
     let cluster = Some(HostCluster(0));
-    keeps(&loaded(alloc, row.0, row.3)?, row, row.4, (cluster, false))?;
-    keeps(&new_cleared(alloc, row.0)?, row, ("0", 1), (None, true))
+    check_kept(&loaded(alloc, row.0, row.3)?, row, row.4, (cluster, false))?;
+    check_kept(&new_cleared(alloc, row.0)?, row, ("0", 1), (None, true))
 }
 
 #[test]
 fn a_block_keeps_one_number_for_each_counter(rt: HostRuntime) -> Result<(), Fail> {
-    each(rt.alloc(), KEPT, both_keep)
+    each(rt.alloc(), KEPT, check_both)
 }

@@ -6,7 +6,7 @@ use qcow2_metadata::RefBlock;
 use qcow2_testing::fits;
 use std::alloc::Global;
 
-/// What a load of a block answers, by cluster bits and refcount order of the image.
+/// What a load of a block returns, by cluster bits and refcount order of the image.
 pub(crate) fn load<S: Storage>(
     alloc: Global,
     image: &mut S,
@@ -23,12 +23,12 @@ pub(crate) fn new_cleared(alloc: Global, order: u32) -> Result<RefBlock, Fault> 
     RefBlock::new_cleared(alloc, &MemStorage::new(Vec::new(alloc)), &header)
 }
 
-/// What a write of a block answers.
+/// What a write of a block returns.
 pub(crate) fn write<S: Storage>(block: &mut RefBlock, image: &mut S) -> Result<(), Fault> {
     block.write(image)
 }
 
-/// What `write_if_modified` answers, which is told the block's own cluster.
+/// What `write_if_modified` returns, which is given the block's own cluster.
 pub(crate) fn write_if_modified<S: Storage>(
     block: &mut RefBlock,
     image: &mut S,

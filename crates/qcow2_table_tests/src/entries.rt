@@ -37,7 +37,7 @@ const NUMBERS: &[Number] = rows! {
 };
 
 // Fails unless the number is no entry by this fault, or is the number of an entry.
-fn is_entry<E: TableEntry + Drop>(
+fn check_entry<E: TableEntry + Drop>(
     header: &Header,
     number: u64,
     fault: Option<Fault>,
@@ -52,22 +52,22 @@ fn is_entry<E: TableEntry + Drop>(
 
 type Number = (Kind, u32, u64, Option<Fault>);
 
-fn is_judged(alloc: Global, row: Number) -> Result<(), Fail> {
+fn check_number(alloc: Global, row: Number) -> Result<(), Fail> {
     let (kind, bits, number, fault) = row;
     let header = header_with(alloc, bits)?;
     match kind {
-        L1 => is_entry::<L1Entry>(&header, number, fault),
-        Reftable => is_entry::<RefTableEntry>(&header, number, fault),
+        L1 => check_entry::<L1Entry>(&header, number, fault),
+        Reftable => check_entry::<RefTableEntry>(&header, number, fault),
         L2 => {
-            is_entry::<L2Entry>(&header, number, fault)?;
-            is_entry::<AtomicL2Entry>(&header, number, fault)
+            check_entry::<L2Entry>(&header, number, fault)?;
+            check_entry::<AtomicL2Entry>(&header, number, fault)
         }
     }
 }
 
 #[test]
 fn a_reserved_bit_and_else_an_unaligned_offset_is_refused(rt: HostRuntime) -> Result<(), Fail> {
-    each(rt.alloc(), NUMBERS, is_judged)
+    each(rt.alloc(), NUMBERS, check_number)
 }
 
 #[test]
@@ -109,7 +109,7 @@ pub(crate) const MEANINGS: &[Meaning] = rows! {
 const LAST: u64 = (1 << 47) - 1;
 
 // Fails unless the entry has this meaning.
-fn means(alloc: Global, row: Meaning) -> Result<(), Fail> {
+fn check_meaning(alloc: Global, row: Meaning) -> Result<(), Fail> {
     let (bits, external, number, clusters, reads) = row;
     let mapping = mapping_of(reads)?;
     let header = header_of(alloc, bits, 4, external)?;
@@ -128,7 +128,7 @@ fn means(alloc: Global, row: Meaning) -> Result<(), Fail> {
 
 #[test]
 fn an_entry_reads_as_its_bits_and_refers_to_its_clusters(rt: HostRuntime) -> Result<(), Fail> {
-    each(rt.alloc(), MEANINGS, means)
+    each(rt.alloc(), MEANINGS, check_meaning)
 }
 
 // A number, whether it is compressed, copied and a zero entry, and the number without bit 63.
@@ -142,7 +142,7 @@ const BITS: &[Bits] = &[
 
 const COMPRESSED: u64 = 0x60ff_ffff_ffff_ffff;
 
-fn tells_its_bits(alloc: Global, row: Bits) -> Result<(), Fail> {
+fn check_reserved_bits(alloc: Global, row: Bits) -> Result<(), Fail> {
     let (number, bits, rest) = row;
     let entry = L2Entry::try_from_plain(number, &header_with(alloc, 9)?)?;
     let other = entry.without_copied();
@@ -157,5 +157,5 @@ fn tells_its_bits(alloc: Global, row: Bits) -> Result<(), Fail> {
 
 #[test]
 fn an_entry_tells_its_bits_and_keeps_all_but_copied(rt: HostRuntime) -> Result<(), Fail> {
-    each(rt.alloc(), BITS, tells_its_bits)
+    each(rt.alloc(), BITS, check_reserved_bits)
 }

@@ -1,6 +1,6 @@
 //! What holds of L1 tables, L2 tables and refcount tables alike.
 
-use crate::fixtures::{cleared_l1_table, load, tells, write, write_entry};
+use crate::fixtures::{check_table, cleared_l1_table, load, write, write_entry};
 use qcow2_base::{ClusterCount, Fault};
 use qcow2_metadata::{L1Table, L2Table, RefTable, Table, TableEntry};
 use qcow2_testing::{
@@ -37,7 +37,7 @@ const PLACES: &[Place] = rows! {
     (16, 2, 8192, &[(135168, 0x202), (135176, 0x200)], RESERVED),
 };
 
-// What a load answers where the storage refuses each call if none may be made.
+// What a load returns where the storage refuses each call if none may be made.
 fn load_of(alloc: Global, row: Place) -> Result<L1Table, Fault> {
     let (bits, cluster, entries, numbers, fault) = row;
     let mut image = image_with(alloc, 64, numbers)?;
@@ -51,12 +51,12 @@ fn load_of(alloc: Global, row: Place) -> Result<L1Table, Fault> {
 
 // A table is loaded from where it may be, and else no byte is read. Past the image's end all bytes are
 // zero. One without entries takes no call of the storage.
-fn loads_by_its_place(alloc: Global, row: Place) -> Result<(), Fail> {
+fn check_load(alloc: Global, row: Place) -> Result<(), Fail> {
     let (_, cluster, entries, _, fault) = row;
     match load_of(alloc, row) {
         Ok(table) => {
             same(None, fault, row)?;
-            tells(&table, (entries, (0, 0), Some(cluster), false), row)
+            check_table(&table, (entries, (0, 0), Some(cluster), false), row)
         }
         Err(found) => same(Some(found), fault, row),
     }
@@ -64,7 +64,7 @@ fn loads_by_its_place(alloc: Global, row: Place) -> Result<(), Fail> {
 
 #[test]
 fn a_table_is_loaded_from_where_it_may_be(rt: HostRuntime) -> Result<(), Fail> {
-    each(rt.alloc(), PLACES, loads_by_its_place)
+    each(rt.alloc(), PLACES, check_load)
 }
 
 // How many entries a table has, its cluster, whether it is modified, and why neither it nor an entry can be
@@ -81,23 +81,23 @@ const REFUSALS: &[Refusal] = &[
     (4194305, Some(1 << 47), true, Fault::TableTooBig),
 ];
 
-fn refuses(table: &mut L1Table, row: Refusal) -> Result<(), Fail> {
+fn check_refusal(table: &mut L1Table, row: Refusal) -> Result<(), Fail> {
     let (entries, cluster, modified, fault) = row;
     let mut image = filled_image(table.allocator(), 512)?;
     let answer = write(table, &mut image);
     let found = (answer, write_entry(table, &mut image, 0));
     same(found, (Err(fault), Err(fault)), row)?;
     same_image(&image, filled_image(table.allocator(), 512), row)?;
-    tells(table, (entries, (0, 0), cluster, modified), row)
+    check_table(table, (entries, (0, 0), cluster, modified), row)
 }
 
-fn is_not_written(alloc: Global, row: Refusal) -> Result<(), Fail> {
-    refuses(&mut cleared_l1_table(alloc, row.0, row.1, row.2)?, row)
+fn check_not_written(alloc: Global, row: Refusal) -> Result<(), Fail> {
+    check_refusal(&mut cleared_l1_table(alloc, row.0, row.1, row.2)?, row)
 }
 
 #[test]
 fn a_table_without_a_lawful_place_is_not_written(rt: HostRuntime) -> Result<(), Fail> {
-    each(rt.alloc(), REFUSALS, is_not_written)
+    each(rt.alloc(), REFUSALS, check_not_written)
 }
 
 // A table of 65 entries has as many as two clusters hold in part.

@@ -1,4 +1,4 @@
-//! Tables to test with, and calls of tables without any clauses: tests compare what is answered, and no
+//! Tables to test with, and calls of tables without any clauses: tests compare what is returned, and no
 //! proof about a test has to read what the call ensures.
 
 ghost use Rattle.std.specs.Prelude.{◌^◌, ◌≤◌, IsTrue};
@@ -41,9 +41,9 @@ pub(crate) const DISK: Disk = (9, false);
 
 /// A kind of table that tests load.
 pub(crate) trait Loads: Table + Drop {
-    /// Whether a table of an image with this header may have so many entries.
+    /// Whether a table of an image with this header may have that many entries.
     fn may_have(header: &Header, entries: usize) -> bool
-        ensures { IsTrue result → IsTrue (Self.kind.has_lawful_count header.now.v2.cluster_bits entries) };
+        ensures { IsTrue result → IsTrue (Self.kind.has_valid_count header.now.v2.cluster_bits entries) };
 }
 
 impl Loads for L1Table {
@@ -64,7 +64,7 @@ impl Loads for L2Table {
     }
 }
 
-/// What a load of so many entries from a cluster on answers, of an image with such a disk.
+/// What a load of that many entries from a cluster on returns, of an image with such a disk.
 pub(crate) fn load<T: Loads, S: Storage>(
     alloc: Global,
     image: &mut S,
@@ -79,12 +79,12 @@ pub(crate) fn load<T: Loads, S: Storage>(
     T::load(alloc, image, &header, HostCluster(cluster), entries)
 }
 
-/// What a write of the table answers.
+/// What a write of the table returns.
 pub(crate) fn write<T: Table, S: Storage>(table: &mut T, image: &mut S) -> Result<(), Fault> {
     table.write(image)
 }
 
-/// What a write of one entry answers.
+/// What a write of one entry returns.
 pub(crate) fn write_entry<T: Table, S: Storage>(
     table: &mut T,
     image: &mut S,
@@ -96,7 +96,7 @@ pub(crate) fn write_entry<T: Table, S: Storage>(
     table.write_entry(image, index)
 }
 
-/// What `write_if_modified` answers, which is told the table's own cluster.
+/// What `write_if_modified` returns, which is given the table's own cluster.
 pub(crate) fn write_if_modified<S: Storage>(
     table: &mut L2Table,
     image: &mut S,
@@ -109,7 +109,7 @@ pub(crate) fn write_if_modified<S: Storage>(
 }
 
 /// Writes the table, and fails unless the image is then the other.
-pub(crate) fn is_written_as<T: Table>(
+pub(crate) fn check_written_as<T: Table>(
     table: &mut T,
     image: &mut MemStorage,
     expected: Result<MemStorage, Fault>,
@@ -132,7 +132,11 @@ pub(crate) type Told = (usize, (usize, u64), Option<u64>, bool);
 pub(crate) const LOADED: Told = (64, (3, NUMBER), Some(2), false);
 
 /// Fails unless the table says this.
-pub(crate) fn tells<T: Table, R: Debug + Drop>(table: &T, told: Told, row: R) -> Result<(), Fail> {
+pub(crate) fn check_table<T: Table, R: Debug + Drop>(
+    table: &T,
+    told: Told,
+    row: R,
+) -> Result<(), Fail> {
     let (entries, entry, cluster, modified) = told;
     let size = 1 << table.cluster_bits();
     all_same! {
@@ -143,7 +147,7 @@ pub(crate) fn tells<T: Table, R: Debug + Drop>(table: &T, told: Told, row: R) ->
     }
 }
 
-// The first entry that isn't as it is told, with its index.
+// The first entry that isn't as `entry` says, with its index.
 fn other_entry<T: Table>(table: &T, entries: usize, entry: (usize, u64)) -> Option<(usize, u64)> {
     let (place, number) = entry;
     for index in 0..entries {
@@ -195,13 +199,13 @@ fn place<T: Table>(table: &mut T, cluster: Option<u64>, modified: bool) -> Resul
     Ok(())
 }
 
-// A table of so many entries 0.
+// A table of that many entries 0.
 fn cleared_table<E: TableKind>(
     alloc: Global,
     header: &Header,
     entries: usize,
 ) -> Result<EntryTable<E>, Fault>
-    requires count { IsTrue (E.has_lawful_count header.now.v2.cluster_bits entries) }
+    requires count { IsTrue (E.has_valid_count header.now.v2.cluster_bits entries) }
     requires bound { entries ≤ 2 ^ 48 }
 {
     let mut list = Vec::new(alloc);
@@ -209,7 +213,7 @@ fn cleared_table<E: TableKind>(
     Ok(EntryTable::from_data(list, header))
 }
 
-/// An L1 table of so many entries 0, 4194305 at most, of an image of 512-byte clusters.
+/// An L1 table of that many entries 0, 4194305 at most, of an image of 512-byte clusters.
 pub(crate) fn cleared_l1_table(
     alloc: Global,
     entries: usize,
@@ -229,15 +233,15 @@ pub(crate) fn cleared_l2_table(alloc: Global, cluster_bits: u32) -> Result<L2Tab
     L2Table::new_cleared(alloc, &header_with(alloc, cluster_bits)?)
 }
 
-/// Fails unless a table grew to so many entries, of which one may not be 0, or could not if they are 0.
-pub(crate) fn is_grown<T: Table + Drop, R: Debug + Drop>(
+/// Fails unless a table grew to that many entries, of which one may not be 0, or could not if they are 0.
+pub(crate) fn check_grown<T: Table + Drop, R: Debug + Drop>(
     answer: Result<T, Fault>,
     entries: usize,
     entry: (usize, u64),
     row: R,
 ) -> Result<(), Fail> {
     match answer {
-        Ok(table) => tells(&table, (entries, entry, None, true), row),
+        Ok(table) => check_table(&table, (entries, entry, None, true), row),
         Err(fault) => same((fault, entries), (Fault::CannotGrow, 0), row),
     }
 }

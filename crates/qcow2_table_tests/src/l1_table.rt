@@ -1,14 +1,16 @@
 //! L1 tables: how they grow, and how L2 tables are entered in them.
 
-use crate::fixtures::{DISK, LOADED, NUMBER, header_with, is_grown, table_that_tells, tells};
-use crate::pending_clusters::{Entered, Refusal, is_entered, refusal};
+use crate::fixtures::{
+    DISK, LOADED, NUMBER, check_grown, check_table, header_with, table_that_tells,
+};
+use crate::pending_clusters::{Entered, Refusal, check_entered, refusal};
 use qcow2_base::{ClusterCount, Fault, HostCluster};
 use qcow2_metadata::{L1Table, L2Table, PendingClusters, Table};
 use qcow2_testing::{each, holds, rows};
 use std::alloc::Global;
 use std::test::Fail;
 
-// What the growth of a table answers.
+// What the growth of a table returns.
 fn grow(table: &L1Table, index: usize) -> Result<L1Table, Fault> {
     let header = header_with(table.allocator(), table.cluster_bits())?;
     if header.cluster_bits() != table.cluster_bits() {
@@ -28,18 +30,18 @@ const GROWTHS: &[Growth] = rows! {
 };
 
 // Grows a table whose first entry alone isn't 0, and that stays.
-fn grows(alloc: Global, row: Growth) -> Result<(), Fail> {
+fn check_growth(alloc: Global, row: Growth) -> Result<(), Fail> {
     let (bits, entries, index, grown) = row;
     let entry = (0, if entries > 0 { NUMBER } else { 0 });
     let told = (entries, entry, Some(2), false);
     let source: L1Table = table_that_tells(alloc, (bits, false), told)?;
-    is_grown(grow(&source, index), grown, entry, row)?;
-    tells(&source, told, row)
+    check_grown(grow(&source, index), grown, entry, row)?;
+    check_table(&source, told, row)
 }
 
 #[test]
 fn an_l1_table_grows_by_whole_clusters(rt: HostRuntime) -> Result<(), Fail> {
-    each(rt.alloc(), GROWTHS, grows)
+    each(rt.alloc(), GROWTHS, check_growth)
 }
 
 // Enters an L2 table as entry 3, with a pending cluster or without.
@@ -57,14 +59,14 @@ const ENTERED: &[Entered] = rows! {
     (None, false, NUMBER), (None, true, NUMBER),
 };
 
-fn enters(alloc: Global, row: Entered) -> Result<(), Fail> {
+fn check_entering(alloc: Global, row: Entered) -> Result<(), Fail> {
     let mut table: L1Table = table_that_tells(alloc, DISK, LOADED)?;
     let entered = (64, (0, 0), row.0, true);
     let found = enter(&mut table, &table_that_tells(alloc, DISK, entered)?, row.1)?;
-    is_entered(&table, found, row)
+    check_entered(&table, found, row)
 }
 
 #[test]
 fn an_entered_l2_table_is_copied_and_at_its_offset(rt: HostRuntime) -> Result<(), Fail> {
-    each(rt.alloc(), ENTERED, enters)
+    each(rt.alloc(), ENTERED, check_entering)
 }

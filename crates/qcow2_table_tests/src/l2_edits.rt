@@ -2,7 +2,7 @@
 //! that is read lies.
 
 use crate::entries::{MEANINGS, Meaning};
-use crate::fixtures::{COPIED, l2_entries, table_that_tells, tells};
+use crate::fixtures::{COPIED, check_table, l2_entries, table_that_tells};
 use crate::l2_mapping::Reads::Compressed;
 use crate::l2_mapping::{Reads, mapping_of};
 use qcow2_base::{ClusterCount, GuestCluster, HostCluster};
@@ -42,7 +42,7 @@ pub(crate) fn discard(table: &mut L2Table, index: usize) -> Result<Freed, Fail> 
     Ok(freed(table.lock_write().discard_cluster(index)))
 }
 
-/// What a guest cluster reads as, which the table and the leave to change it say alike.
+/// What a guest cluster reads as, which the table and the permission to change it say alike.
 pub(crate) fn mapping(table: &mut L2Table, guest_cluster: u64) -> Result<L2Mapping, Fail> {
     holds(fits(guest_cluster, 0, table.cluster_bits()), guest_cluster)?;
     let found = table.get_mapping(GuestCluster(guest_cluster))?;
@@ -56,7 +56,7 @@ fn range(guard: Option<CompressedClusterReadGuard<'_>>) -> Option<(u64, u64)> {
 }
 
 // Where the compressed data of a guest cluster begins and how many bytes it takes, which the table and
-// the leave to change it say alike.
+// the permission to change it say alike.
 fn compressed(table: &mut L2Table, guest_cluster: u64) -> Result<Option<(u64, u64)>, Fail> {
     holds(fits(guest_cluster, 0, table.cluster_bits()), guest_cluster)?;
     let found = range(table.lock_compressed_read(GuestCluster(guest_cluster))?);
@@ -67,7 +67,7 @@ fn compressed(table: &mut L2Table, guest_cluster: u64) -> Result<Option<(u64, u6
 }
 
 // That guest cluster 7 reads as this, and no other as compressed data.
-fn reads_as(table: &mut L2Table, reads: Reads) -> Result<(), Fail> {
+fn check_reads(table: &mut L2Table, reads: Reads) -> Result<(), Fail> {
     same(mapping(table, 7)?, mapping_of(reads)?, reads)?;
     let range = match reads {
         Compressed(offset, length) => Some((offset, length)),
@@ -78,17 +78,17 @@ fn reads_as(table: &mut L2Table, reads: Reads) -> Result<(), Fail> {
 }
 
 // Reads by an entry of a table.
-fn is_read(alloc: Global, row: Meaning) -> Result<(), Fail> {
+fn check_read(alloc: Global, row: Meaning) -> Result<(), Fail> {
     let (bits, external, number, _, reads) = row;
     let told = (l2_entries(bits), (7, number), Some(2), false);
-    reads_as(&mut table_that_tells(alloc, (bits, external), told)?, reads)
+    check_reads(&mut table_that_tells(alloc, (bits, external), told)?, reads)
 }
 
 #[test]
 fn a_guest_cluster_reads_as_its_entry_and_has_a_range_if_compressed(
     rt: HostRuntime,
 ) -> Result<(), Fail> {
-    each(rt.alloc(), MEANINGS, is_read)
+    each(rt.alloc(), MEANINGS, check_read)
 }
 
 // An edit of an entry.
@@ -151,16 +151,16 @@ fn make(table: &mut L2Table, edit: Edit) -> Result<Freed, Fail> {
 }
 
 // Edits the entry, and fails unless all other entries stay.
-fn is_edited(alloc: Global, row: Edited) -> Result<(), Fail> {
+fn check_edited(alloc: Global, row: Edited) -> Result<(), Fail> {
     let (bits, external, number, edit, freed, after) = row;
     let entries = l2_entries(bits);
     let told = (entries, (63, number), Some(2), false);
     let mut table = table_that_tells(alloc, (bits, external), told)?;
     same(make(&mut table, edit)?, freed, row)?;
-    tells(&table, (entries, (63, after), Some(2), true), row)
+    check_table(&table, (entries, (63, after), Some(2), true), row)
 }
 
 #[test]
 fn an_edit_leaves_its_entry_and_hands_back_what_it_drops(rt: HostRuntime) -> Result<(), Fail> {
-    each(rt.alloc(), EDITED, is_edited)
+    each(rt.alloc(), EDITED, check_edited)
 }

@@ -104,7 +104,7 @@ const SECTORS: Option<Reads> = Some(Compressed(0x1_0010, 1008));
 const LONG_SECTORS: Option<Reads> = Some(Compressed(0x600, 2097152));
 
 // A mapping's entry has this number, and reads as the other mappings.
-fn enters(row: Entered) -> Result<(), Fail> {
+fn check_entry(row: Entered) -> Result<(), Fail> {
     let (bits, reads, number, plain, external) = row;
     let mapping = mapping_of(reads)?;
     holds(is_cluster_bits(bits), row)?;
@@ -121,7 +121,7 @@ fn enters(row: Entered) -> Result<(), Fail> {
 #[test]
 fn a_mapping_has_an_entry_that_reads_as_it() -> Result<(), Fail> {
     for row in ENTERED {
-        enters(*row)?;
+        check_entry(*row)?;
     }
     Ok(())
 }
@@ -138,7 +138,7 @@ const GOES_ON: &[Pair] = rows! {
     (Compressed(0x1_0000, 7), Compressed(0, 9), true), (Compressed(0x1_0000, 7), Data(1, true), false),
 };
 
-fn goes_on(row: Pair) -> Result<(), Fail> {
+fn check_run(row: Pair) -> Result<(), Fail> {
     let (first, second) = (mapping_of(row.0)?, mapping_of(row.1)?);
     same(second.is_consecutive(&first, 9), row.2, row)
 }
@@ -146,7 +146,7 @@ fn goes_on(row: Pair) -> Result<(), Fail> {
 #[test]
 fn a_mapping_goes_on_in_the_next_cluster_and_zeros_in_any() -> Result<(), Fail> {
     for row in GOES_ON {
-        goes_on(*row)?;
+        check_run(*row)?;
     }
     Ok(())
 }

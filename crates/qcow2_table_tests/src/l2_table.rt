@@ -1,8 +1,8 @@
 //! L2 tables: new ones, copies for another place, and when they are written.
 
 use crate::fixtures::{
-    COPIED, DISK, NUMBER, cleared_l2_table, is_written_as, l2_entries, load, table_that_tells,
-    tells, write_if_modified,
+    COPIED, DISK, NUMBER, check_table, check_written_as, cleared_l2_table, l2_entries, load,
+    table_that_tells, write_if_modified,
 };
 use crate::l2_edits::{discard, mapping};
 use crate::l2_mapping::Reads::{Backing, Data};
@@ -17,7 +17,7 @@ use std::test::Fail;
 fn a_new_table_fills_a_cluster_with_entries_0(rt: HostRuntime) -> Result<(), Fail> {
     for (bits, entries) in [(9, 64), (16, 8192), (21, 262144)] {
         let table = cleared_l2_table(rt.alloc(), bits)?;
-        tells(&table, (entries, (0, 0), None, true), bits)?;
+        check_table(&table, (entries, (0, 0), None, true), bits)?;
     }
     Ok(())
 }
@@ -33,26 +33,26 @@ const COPIES: &[Copied] = rows! {
     (21, false, 0x80ff_ffff_ffe0_0001, 0x00ff_ffff_ffe0_0001),
 };
 
-fn is_copy(copy: Result<L2Table, Fault>, row: Copied) -> Result<(), Fail> {
+fn check_copy(copy: Result<L2Table, Fault>, row: Copied) -> Result<(), Fail> {
     let (bits, external, _, number) = row;
     let copy = copy?;
     let found = (copy.external_data_file(), copy.cluster_bits());
     same(found, (external, bits), row)?;
-    tells(&copy, (l2_entries(bits), (63, number), None, external), row)
+    check_table(&copy, (l2_entries(bits), (63, number), None, external), row)
 }
 
 // Copies a table, which stays.
-fn is_copied(alloc: Global, row: Copied) -> Result<(), Fail> {
+fn check_copied(alloc: Global, row: Copied) -> Result<(), Fail> {
     let (bits, external, number, _) = row;
     let told = (l2_entries(bits), (63, number), Some(2), external);
     let table: L2Table = table_that_tells(alloc, (bits, external), told)?;
-    is_copy(table.try_clone(), row)?;
-    tells(&table, told, row)
+    check_copy(table.try_clone(), row)?;
+    check_table(&table, told, row)
 }
 
 #[test]
 fn a_copy_has_the_same_mappings_and_no_copied_entry(rt: HostRuntime) -> Result<(), Fail> {
-    each(rt.alloc(), COPIES, is_copied)
+    each(rt.alloc(), COPIES, check_copied)
 }
 
 // A table's cluster and whether it is modified, and then the answer and how many calls the storage gets.
@@ -64,7 +64,7 @@ const WRITES: &[Written] = rows! {
 };
 
 // Writes the table to a storage that fails at each call if none is to be made.
-fn writes(table: &mut L2Table, row: Written) -> Result<(), Fail> {
+fn check_write(table: &mut L2Table, row: Written) -> Result<(), Fail> {
     let (_, _, answer, calls) = row;
     let alloc = table.allocator();
     let mut image = recorded(alloc, image_with(alloc, 1536, &[(1024, 0x200)])?);
@@ -82,14 +82,14 @@ fn writes(table: &mut L2Table, row: Written) -> Result<(), Fail> {
     same_image(&image.inner, image_with(alloc, 1536, &[number]), row)
 }
 
-fn is_written(alloc: Global, row: Written) -> Result<(), Fail> {
+fn check_written(alloc: Global, row: Written) -> Result<(), Fail> {
     let told = (64, (3, NUMBER), row.0, row.1);
-    writes(&mut table_that_tells(alloc, DISK, told)?, row)
+    check_write(&mut table_that_tells(alloc, DISK, told)?, row)
 }
 
 #[test]
 fn write_if_modified_writes_a_modified_table_alone(rt: HostRuntime) -> Result<(), Fail> {
-    each(rt.alloc(), WRITES, is_written)
+    each(rt.alloc(), WRITES, check_written)
 }
 
 // An image whose cluster 2 is a table of one entry that isn't 0, which maps guest cluster 3 to cluster 5.
@@ -101,7 +101,7 @@ fn one_mapping(alloc: Global) -> Result<L2Table, Fault> {
     load(alloc, &mut image_of_one_mapping(alloc)?, DISK, 2, 64)
 }
 
-fn reads_as_mapped(table: &mut L2Table, number: u64) -> Result<(), Fail> {
+fn check_mapped(table: &mut L2Table, number: u64) -> Result<(), Fail> {
     let backing = Backing(number.wrapping_mul(512));
     let expected = mapping_of(if number == 3 { Data(5, true) } else { backing })?;
     same(mapping(table, number)?, expected, number)
@@ -113,7 +113,7 @@ fn each_cluster_but_the_mapped_one_is_left_to_the_backing_file(
 ) -> Result<(), Fail> {
     let mut table = one_mapping(rt.alloc())?;
     for number in 0..64u64 {
-        reads_as_mapped(&mut table, number)?;
+        check_mapped(&mut table, number)?;
     }
     Ok(())
 }
@@ -122,7 +122,7 @@ fn each_cluster_but_the_mapped_one_is_left_to_the_backing_file(
 fn a_mapping_is_written_as_read_and_gone_once_discarded(rt: HostRuntime) -> Result<(), Fail> {
     let mut table = one_mapping(rt.alloc())?;
     let mut image = image_with(rt.alloc(), 1536, &[])?;
-    is_written_as(&mut table, &mut image, image_of_one_mapping(rt.alloc()))?;
+    check_written_as(&mut table, &mut image, image_of_one_mapping(rt.alloc()))?;
     same(discard(&mut table, 3)?, Some((5, 1)), "discarded")?;
-    is_written_as(&mut table, &mut image, image_with(rt.alloc(), 1536, &[]))
+    check_written_as(&mut table, &mut image, image_with(rt.alloc(), 1536, &[]))
 }

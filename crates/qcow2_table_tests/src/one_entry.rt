@@ -1,6 +1,6 @@
 //! Writes of one entry: which bytes of the image change, by how many calls, and what they are then.
 
-use crate::fixtures::{Told, table_that_tells, tells, write_entry};
+use crate::fixtures::{Told, check_table, table_that_tells, write_entry};
 use qcow2_base::{Fault, MemStorage};
 use qcow2_metadata::{L1Table, Table};
 use qcow2_testing::{
@@ -46,7 +46,7 @@ fn image_after(alloc: Global, offset: u64, len: usize, place: u64) -> Result<Mem
 }
 
 // Writes the entry by one call.
-fn writes(table: &mut L1Table, row: Written) -> Result<(), Fail> {
+fn check_write(table: &mut L1Table, row: Written) -> Result<(), Fail> {
     let (_, _, _, index, place, bits, offset, len) = row;
     let mut image = aligned_image(table.allocator(), bits)?;
     let answer = write_entry(table, &mut image, index);
@@ -60,15 +60,15 @@ fn writes(table: &mut L1Table, row: Written) -> Result<(), Fail> {
     same_image(&image.inner, expected, row)
 }
 
-fn is_written(alloc: Global, row: Written) -> Result<(), Fail> {
+fn check_written(alloc: Global, row: Written) -> Result<(), Fail> {
     let (cluster_bits, cluster, entries, index, _, bits, ..) = row;
     let told: Told = (entries, (index, NUMBER), Some(cluster), bits % 2 == 1);
     let mut table: L1Table = table_that_tells(alloc, (cluster_bits, false), told)?;
-    writes(&mut table, row)?;
-    tells(&table, told, row)
+    check_write(&mut table, row)?;
+    check_table(&table, told, row)
 }
 
 #[test]
 fn one_entry_is_written_with_its_aligned_bytes(rt: HostRuntime) -> Result<(), Fail> {
-    each(rt.alloc(), WRITTEN, is_written)
+    each(rt.alloc(), WRITTEN, check_written)
 }

@@ -1,6 +1,6 @@
 //! Clusters that wait for a reference, and are handed back where nothing refers to them.
 
-use crate::fixtures::tells;
+use crate::fixtures::check_table;
 use qcow2_base::{ClusterCount, Fault, HostCluster};
 use qcow2_metadata::{ClustersToFreeEntry, PendingClusters, Refused, Table};
 use qcow2_testing::same;
@@ -29,14 +29,14 @@ pub(crate) fn not_placed(clusters: Option<(u64, u64)>) -> Refusal {
 pub(crate) type Entered = (Option<u64>, bool, u64);
 
 /// Fails unless the table has the entry, or else the refusal handed pending cluster 7 back.
-pub(crate) fn is_entered<T: Table>(table: &T, found: Refusal, row: Entered) -> Result<(), Fail> {
+pub(crate) fn check_entered<T: Table>(table: &T, found: Refusal, row: Entered) -> Result<(), Fail> {
     let (cluster, is_pending, number) = row;
     let want = match cluster {
         Some(_) => None,
         None => not_placed(is_pending.then_some((7, 1))),
     };
     same(found, want, row)?;
-    tells(table, (64, (3, number), Some(2), cluster.is_some()), row)
+    check_table(table, (64, (3, number), Some(2), cluster.is_some()), row)
 }
 
 #[test]

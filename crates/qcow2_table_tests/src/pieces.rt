@@ -4,8 +4,8 @@ use crate::fixtures::{COPIED, DISK, load, write};
 use qcow2_base::{Fault, MemStorage};
 use qcow2_metadata::{L1Table, Table};
 use qcow2_testing::{
-    FailingStorage, StorageCall, each, filled_image, put, put_bytes, recorded, same, same_bytes,
-    same_image,
+    FailingStorage, StorageCall, each, filled_image, part_of, put, put_bytes, recorded, same,
+    same_bytes, same_image,
 };
 use std::alloc::Global;
 use std::test::Fail;
@@ -29,7 +29,7 @@ const TABLES: &[Pieces] = &[
 
 const THREE_PIECES: &[(u64, usize)] = &[(4096, 4096), (8192, 4096), (12288, 8)];
 
-// An image of 0xa5 that has so many entries from an offset on: no two of 4096 are the same.
+// An image of 0xa5 that has that many entries from an offset on: no two of 4096 are the same.
 fn image_with_entries(alloc: Global, start: u64, entries: usize) -> Result<MemStorage, Fault> {
     let mut image = filled_image(alloc, 20000)?;
     for index in 0..entries {
@@ -41,7 +41,7 @@ fn image_with_entries(alloc: Global, start: u64, entries: usize) -> Result<MemSt
 }
 
 // Fails unless these pieces were read, or written.
-fn are_calls(
+fn check_calls(
     alloc: Global,
     calls: &[StorageCall],
     pieces: &'static [(u64, usize)],
@@ -60,33 +60,33 @@ fn are_calls(
 }
 
 // Writes the table to an image of other bytes, which are then these.
-fn is_written(table: &mut L1Table, expected: &[u8], row: Pieces) -> Result<(), Fail> {
+fn check_written(table: &mut L1Table, expected: &[u8], row: Pieces) -> Result<(), Fail> {
     let alloc = table.allocator();
     let mut image = recorded(alloc, filled_image(alloc, 20000)?);
     let answer = write(table, &mut image);
     same((answer, table.is_modified()), (Ok(()), false), row)?;
-    are_calls(alloc, &image.calls, row.4, false)?;
+    check_calls(alloc, &image.calls, row.4, false)?;
     same_bytes(image.inner.bytes(), expected, row)
 }
 
-fn is_in_pieces(alloc: Global, row: Pieces) -> Result<(), Fail> {
+fn check_pieces(alloc: Global, row: Pieces) -> Result<(), Fail> {
     let (bits, cluster, start, entries, pieces) = row;
     let mut image = recorded(alloc, image_with_entries(alloc, start, entries)?);
     let mut table: L1Table = load(alloc, &mut image, (bits, false), cluster, entries)?;
-    are_calls(alloc, &image.calls, pieces, true)?;
-    is_written(&mut table, image.inner.bytes(), row)
+    check_calls(alloc, &image.calls, pieces, true)?;
+    check_written(&mut table, image.inner.bytes(), row)
 }
 
 #[test]
 fn a_table_is_read_and_written_in_its_pieces(rt: HostRuntime) -> Result<(), Fail> {
-    each(rt.alloc(), TABLES, is_in_pieces)
+    each(rt.alloc(), TABLES, check_pieces)
 }
 
 // A byte of the image that is 1 and makes its entry a bad one, and how many pieces are read.
 const BAD: &[(u64, usize)] = &[(4103, 1), (8191, 1), (8199, 2), (12287, 2), (12295, 3)];
 
 // Loads a table of 1025 entries from byte 4096 on.
-fn reads_up_to(alloc: Global, row: (u64, usize)) -> Result<(), Fail> {
+fn check_reads(alloc: Global, row: (u64, usize)) -> Result<(), Fail> {
     let (at, count) = row;
     let mut image = image_with_entries(alloc, 4096, 1025)?;
     put_bytes(&mut image, at, &[1])?;
@@ -94,17 +94,16 @@ fn reads_up_to(alloc: Global, row: (u64, usize)) -> Result<(), Fail> {
     image.plan = Some(count as u64);
     let answer: Result<L1Table, Fault> = load(alloc, &mut image, DISK, 8, 1025);
     same(answer.err(), Some(Fault::EntryReserved), at)?;
-    let pieces = THREE_PIECES.get(..count).unwrap_or(&[]);
-    are_calls(alloc, &image.calls, pieces, true)
+    check_calls(alloc, &image.calls, part_of(THREE_PIECES, 0, count)?, true)
 }
 
 #[test]
 fn a_load_reads_no_piece_after_that_of_a_bad_entry(rt: HostRuntime) -> Result<(), Fail> {
-    each(rt.alloc(), BAD, reads_up_to)
+    each(rt.alloc(), BAD, check_reads)
 }
 
 // Writes a table whose third piece the storage refuses, and then once more.
-fn is_torn(table: &mut L1Table, image: &mut FailingStorage<MemStorage>) -> Result<(), Fail> {
+fn check_torn(table: &mut L1Table, image: &mut FailingStorage<MemStorage>) -> Result<(), Fail> {
     let alloc = table.allocator();
     image.plan = Some(2);
     let answer = write(table, image);
@@ -123,5 +122,5 @@ fn a_write_torn_at_its_third_piece_is_made_whole_by_the_next(rt: HostRuntime) ->
     let mut image = image_with_entries(rt.alloc(), 4096, 1025)?;
     let mut table: L1Table = load(rt.alloc(), &mut image, DISK, 8, 1025)?;
     let mut other = recorded(rt.alloc(), filled_image(rt.alloc(), 20000)?);
-    is_torn(&mut table, &mut other)
+    check_torn(&mut table, &mut other)
 }

@@ -80,7 +80,7 @@ const PARTS: &[Part] = &[
 ];
 
 // Writes the part over 72 bytes of 0xa5 by one call.
-fn is_written(alloc: Global, header: &Header, row: Part) -> Result<(), Fail> {
+fn check_written(alloc: Global, header: &Header, row: Part) -> Result<(), Fail> {
     let (part, at, bytes) = row;
     let mut expected = filled_image(alloc, 72)?;
     put_bytes(&mut expected, at, bytes)?;
@@ -94,7 +94,7 @@ fn is_written(alloc: Global, header: &Header, row: Part) -> Result<(), Fail> {
 fn a_part_is_written_by_one_call_and_no_other_byte_changes(rt: HostRuntime) -> Result<(), Fail> {
     let header = header_with_tables(rt.alloc())?;
     for row in PARTS {
-        is_written(rt.alloc(), &header, *row)?;
+        check_written(rt.alloc(), &header, *row)?;
     }
     Ok(())
 }

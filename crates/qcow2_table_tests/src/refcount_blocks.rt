@@ -2,12 +2,12 @@
 
 use crate::blocks::{counter, load, new_cleared, place, told, write, write_if_modified};
 use crate::fixtures::{DISK, LOADED, NUMBER, table_that_tells};
-use crate::pending_clusters::{Entered, Refusal, is_entered, refusal};
+use crate::pending_clusters::{Entered, Refusal, check_entered, refusal};
 use qcow2_base::{ClusterCount, Fault, HostCluster, HostOffset, MemStorage};
 use qcow2_metadata::{PendingClusters, RefBlock, RefTable, Table};
 use qcow2_testing::{
-    FailingStorage, each, filled_image, holds, put_bytes, recorded, rows, same, same_bytes,
-    same_image,
+    FailingStorage, each, filled_image, holds, part_of, put_bytes, recorded, rows, same,
+    same_bytes, same_image,
 };
 use std::alloc::Global;
 use std::test::Fail;
@@ -19,14 +19,16 @@ type Bytes = (u64, usize, u64);
 fn image_with(alloc: Global, bytes: Bytes) -> Result<MemStorage, Fault> {
     let (place, len, number) = bytes;
     let number = number.to_be_bytes();
-    let bytes = number.get(8usize.saturating_sub(len)..).unwrap_or(&[]);
+    let Some(bytes) = number.get(8usize.saturating_sub(len)..) else {
+        return Err(Fault::WrongLength);
+    };
     let mut image = filled_image(alloc, 1536)?;
     put_bytes(&mut image, 512, &[0; 512])?;
     put_bytes(&mut image, place.saturating_add(512), bytes)?;
     Ok(image)
 }
 
-// A step of a counter with the number that it answers, or one that is refused.
+// A step of a counter with the number that it returns, or one that is refused.
 #[derive(Clone, Copy, Debug)]
 enum Tally {
     Up(u64),
@@ -70,7 +72,7 @@ const STEPPED: &[Stepped] = &[
 // One less than the most references.
 const LESS: u64 = u64::MAX - 1;
 
-// What one step of the counter answers: the number before it.
+// What one step of the counter returns: the number before it.
 fn step(block: &mut RefBlock, index: usize, is_up: bool) -> Result<u64, Fault> {
     if index >= block.entries() {
         return Err(Fault::WrongLength);
@@ -84,7 +86,7 @@ fn step(block: &mut RefBlock, index: usize, is_up: bool) -> Result<u64, Fault> {
 }
 
 // Makes the step, which sets the flag if it isn't refused.
-fn is_answered(block: &mut RefBlock, index: usize, tally: Tally) -> Result<(), Fail> {
+fn check_answer(block: &mut RefBlock, index: usize, tally: Tally) -> Result<(), Fail> {
     let (is_up, answer) = match tally {
         Up(before) => (true, Ok(before)),
         Full => (true, Err(Fault::CounterRange)),
@@ -97,10 +99,10 @@ fn is_answered(block: &mut RefBlock, index: usize, tally: Tally) -> Result<(), F
 }
 
 // Steps a block, and writes it.
-fn steps(block: &mut RefBlock, image: &mut MemStorage, row: Stepped) -> Result<(), Fail> {
+fn check_steps(block: &mut RefBlock, image: &mut MemStorage, row: Stepped) -> Result<(), Fail> {
     let (_, index, place, len, _, tallies, after) = row;
     for tally in tallies {
-        is_answered(block, index, *tally)?;
+        check_answer(block, index, *tally)?;
     }
     let found = (block.get_cluster(), write(block, image));
     same(found, (Some(HostCluster(1)), Ok(())), row)?;
@@ -108,19 +110,19 @@ fn steps(block: &mut RefBlock, image: &mut MemStorage, row: Stepped) -> Result<(
     same_image(image, expected, row)
 }
 
-fn is_stepped(alloc: Global, row: Stepped) -> Result<(), Fail> {
+fn check_stepped(alloc: Global, row: Stepped) -> Result<(), Fail> {
     let (order, _, place, len, number, ..) = row;
     let mut image = image_with(alloc, (place, len, number))?;
     let mut block = load(alloc, &mut image, (9, order), 1)?;
-    steps(&mut block, &mut image, row)
+    check_steps(&mut block, &mut image, row)
 }
 
 #[test]
 fn steps_change_one_counter_and_say_what_it_was(rt: HostRuntime) -> Result<(), Fail> {
-    each(rt.alloc(), STEPPED, is_stepped)
+    each(rt.alloc(), STEPPED, check_stepped)
 }
 
-// An image of so many bytes, of which byte i is `i mod 251`.
+// An image of `len` bytes, of which byte i is `i mod 251`.
 fn pattern(alloc: Global, len: usize) -> Result<MemStorage, Fault> {
     let mut bytes = Vec::new(alloc);
     for at in 0..len {
@@ -141,7 +143,7 @@ const WHOLE: &[Whole] = rows! {
 };
 
 // Fails unless the block is that of these bytes, and writes them.
-fn is_whole(block: &mut RefBlock, bytes: &[u8], row: Whole) -> Result<(), Fail> {
+fn check_whole(block: &mut RefBlock, bytes: &[u8], row: Whole) -> Result<(), Fail> {
     let (_, _, entries, last) = row;
     let found = (told(block), counter(block, entries.saturating_sub(1)));
     let expected = (entries, Some(HostCluster(0)), false);
@@ -152,22 +154,22 @@ fn is_whole(block: &mut RefBlock, bytes: &[u8], row: Whole) -> Result<(), Fail> 
 }
 
 // Reads the block of the image, and writes it to another.
-fn is_read_and_written(alloc: Global, image: &mut MemStorage, row: Whole) -> Result<(), Fail> {
+fn check_read_and_written(alloc: Global, image: &mut MemStorage, row: Whole) -> Result<(), Fail> {
     let mut block = load(alloc, image, (row.0, row.1), 0)?;
     let len = if row.0 == 9 { 512 } else { 2097152 };
-    is_whole(&mut block, image.bytes().get(..len).unwrap_or(&[]), row)
+    check_whole(&mut block, part_of(image.bytes(), 0, len)?, row)
 }
 
 #[test]
 fn the_least_and_the_largest_blocks_are_written_as_read(rt: HostRuntime) -> Result<(), Fail> {
     let mut image = pattern(rt.alloc(), 2097152)?;
     for row in WHOLE {
-        is_read_and_written(rt.alloc(), &mut image, *row)?;
+        check_read_and_written(rt.alloc(), &mut image, *row)?;
     }
     Ok(())
 }
 
-// What a write answers, and how many calls the storage gets.
+// What a write returns, and how many calls the storage gets.
 type Answer = (Result<(), Fault>, usize);
 
 // A block's cluster, whether it is modified, and what comes of `write_if_modified` and then of a write.
@@ -197,7 +199,7 @@ fn written(
 }
 
 // Writes the block to an image of 0xa5 if it is modified, and then in any case.
-fn writes(block: &mut RefBlock, row: Written) -> Result<(), Fail> {
+fn check_write(block: &mut RefBlock, row: Written) -> Result<(), Fail> {
     let (cluster, modified, first, second) = row;
     let alloc = block.allocator();
     let mut image = recorded(alloc, filled_image(alloc, 1536)?);
@@ -215,18 +217,18 @@ fn writes(block: &mut RefBlock, row: Written) -> Result<(), Fail> {
 }
 
 // Writes a block of an image at the same place or at another.
-fn is_written(alloc: Global, row: Written) -> Result<(), Fail> {
+fn check_written(alloc: Global, row: Written) -> Result<(), Fail> {
     let mut block = load(alloc, &mut image_with(alloc, (0, 1, 7))?, (9, 4), 1)?;
     place(&mut block, row.0, row.1)?;
-    writes(&mut block, row)
+    check_write(&mut block, row)
 }
 
 #[test]
 fn a_block_is_written_where_it_may_be(rt: HostRuntime) -> Result<(), Fail> {
-    each(rt.alloc(), WRITES, is_written)
+    each(rt.alloc(), WRITES, check_written)
 }
 
-// What a load from a cluster tells.
+// What a load from a cluster reports.
 fn loaded(alloc: Global, cluster: u64) -> Result<(usize, Option<HostOffset>, bool), Fault> {
     let block = load(alloc, &mut filled_image(alloc, 16)?, (9, 4), cluster)?;
     Ok((block.entries(), block.get_offset(), block.is_modified()))
@@ -240,7 +242,7 @@ fn a_block_is_loaded_from_where_it_may_be(rt: HostRuntime) -> Result<(), Fail> {
     same(answer, Err(Fault::TablePlace), "past the last")
 }
 
-fn is_cleared(block: &mut RefBlock) -> Result<(), Fail> {
+fn check_cleared(block: &mut RefBlock) -> Result<(), Fail> {
     block.clear_modified();
     block.set_modified();
     let found = (told(block), counter(block, 255));
@@ -252,7 +254,7 @@ fn is_cleared(block: &mut RefBlock) -> Result<(), Fail> {
 
 #[test]
 fn a_cleared_block_has_no_reference_and_no_place(rt: HostRuntime) -> Result<(), Fail> {
-    is_cleared(&mut new_cleared(rt.alloc(), 4)?)
+    check_cleared(&mut new_cleared(rt.alloc(), 4)?)
 }
 
 // Enters the block as entry 3, with a pending cluster or without.
@@ -270,19 +272,19 @@ const ENTERED: &[Entered] = rows! {
     (None, false, NUMBER), (None, true, NUMBER),
 };
 
-fn enters(table: &mut RefTable, block: &mut RefBlock, row: Entered) -> Result<(), Fail> {
+fn check_entering(table: &mut RefTable, block: &mut RefBlock, row: Entered) -> Result<(), Fail> {
     if let Some(cluster) = row.0 {
         place(block, cluster, true)?;
     }
     let found = enter(table, block, row.1)?;
-    is_entered(table, found, row)
+    check_entered(table, found, row)
 }
 
 #[test]
 fn a_block_is_entered_by_its_offset_alone(rt: HostRuntime) -> Result<(), Fail> {
     for row in ENTERED {
         let mut table = table_that_tells(rt.alloc(), DISK, LOADED)?;
-        enters(&mut table, &mut new_cleared(rt.alloc(), 4)?, *row)?;
+        check_entering(&mut table, &mut new_cleared(rt.alloc(), 4)?, *row)?;
     }
     Ok(())
 }

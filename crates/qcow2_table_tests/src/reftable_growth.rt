@@ -1,13 +1,13 @@
 //! Refcount tables: how they grow, and how many spare entries they take along for that.
 
-use crate::fixtures::{NUMBER, header_of, is_grown, table_that_tells, tells};
+use crate::fixtures::{NUMBER, check_grown, check_table, header_of, table_that_tells};
 use qcow2_base::{ClusterCount, Fault};
 use qcow2_metadata::{RefTable, Table, Turns, least_spare};
 use qcow2_testing::{each, holds, rows, same};
 use std::alloc::Global;
 use std::test::Fail;
 
-// What the growth of a table answers.
+// What the growth of a table returns.
 fn grow(table: &RefTable, order: u32, index: usize) -> Result<RefTable, Fault> {
     let header = header_of(table.allocator(), table.cluster_bits(), order, false)?;
     if header.cluster_bits() != table.cluster_bits() {
@@ -16,7 +16,7 @@ fn grow(table: &RefTable, order: u32, index: usize) -> Result<RefTable, Fault> {
     table.clone_and_grow(&header, index)
 }
 
-// The least spare entries, if there may be so many, and the turns that it took to find them.
+// The least spare entries, if there may be that many, and the turns that it took to find them.
 fn spare_of(alloc: Global, row: Growth) -> Result<(Option<usize>, usize), Fault> {
     let (bits, order, entries, index, ..) = row;
     if index >= 4194304 {
@@ -30,7 +30,7 @@ fn spare_of(alloc: Global, row: Growth) -> Result<(Option<usize>, usize), Fault>
 
 // A growth of a refcount table: cluster bits and refcount order, how many entries there are and the
 // index that the table is to hold; how many spare entries are the least, and how many entries there are
-// then, or 0 and 0 if there may not be so many.
+// then, or 0 and 0 if there may not be that many.
 type Growth = (u32, u32, usize, usize, usize, usize);
 
 // A spare of a thousand.
@@ -49,7 +49,7 @@ const GROWTHS: &[Growth] = rows! {
 };
 
 // The least spare entries are found in no more turns than they are.
-fn has_spare(alloc: Global, row: Growth) -> Result<(), Fail> {
+fn check_spare(alloc: Global, row: Growth) -> Result<(), Fail> {
     let (spare, turns) = spare_of(alloc, row)?;
     let least = row.4;
     same(spare, (least > 0).then_some(least), row)?;
@@ -57,14 +57,14 @@ fn has_spare(alloc: Global, row: Growth) -> Result<(), Fail> {
 }
 
 // Grows a table whose last entry alone isn't 0, and that stays.
-fn grows(alloc: Global, row: Growth) -> Result<(), Fail> {
+fn check_growth(alloc: Global, row: Growth) -> Result<(), Fail> {
     let (bits, order, entries, index, _, grown) = row;
     let number = if entries > 0 { NUMBER } else { 0 };
     let entry = (entries.saturating_sub(1), number);
     let told = (entries, entry, Some(2), false);
     let source: RefTable = table_that_tells(alloc, (bits, false), told)?;
-    is_grown(grow(&source, order, index), grown, entry, row)?;
-    tells(&source, told, row)
+    check_grown(grow(&source, order, index), grown, entry, row)?;
+    check_table(&source, told, row)
 }
 
 // How many clusters a table of 64 clusters has, once it holds one index more.
@@ -75,8 +75,8 @@ fn clusters_of_grown(alloc: Global) -> Result<ClusterCount, Fail> {
 
 #[test]
 fn a_refcount_table_grows_with_the_least_spare_entries(rt: HostRuntime) -> Result<(), Fail> {
-    each(rt.alloc(), GROWTHS, has_spare)?;
-    each(rt.alloc(), GROWTHS, grows)?;
+    each(rt.alloc(), GROWTHS, check_spare)?;
+    each(rt.alloc(), GROWTHS, check_growth)?;
     same(clusters_of_grown(rt.alloc())?, ClusterCount(65), "clusters")?;
     same(spare_of(rt.alloc(), THOUSAND)?, (Some(1041), 3), "turns")
 }

@@ -1,6 +1,8 @@
 //! Tables of the most entries that their kind may have, and tables of images in real files.
 
-use crate::fixtures::{DISK, NUMBER, Told, is_written_as, load, table_that_tells, tells, write};
+use crate::fixtures::{
+    DISK, NUMBER, Told, check_table, check_written_as, load, table_that_tells, write,
+};
 use qcow2_base::{Fault, FileStorage, MemStorage};
 use qcow2_metadata::{L1Table, L2Table, Table};
 use qcow2_testing::{file_holds, filled_image, put, put_bytes, same, temporary_file};
@@ -24,14 +26,14 @@ fn largest_table(rt: &HostRuntime, path: &str) -> Result<L1Table, Fault> {
 }
 
 // Loads the table from one file and writes it to another.
-fn goes(rt: &HostRuntime, path: &str, other: &str) -> Result<(), Fail> {
+fn check_written(rt: &HostRuntime, path: &str, other: &str) -> Result<(), Fail> {
     let mut table = largest_table(rt, path)?;
-    tells(&table, LARGEST, "loaded")?;
+    check_table(&table, LARGEST, "loaded")?;
     same(write(&mut table, &mut open(rt, other)?), Ok(()), "write")?;
-    tells(&table, LARGEST, "written")
+    check_table(&table, LARGEST, "written")
 }
 
-fn are_the_same(rt: &HostRuntime, path: &str, other: &str) -> Result<(), Fail> {
+fn check_same(rt: &HostRuntime, path: &str, other: &str) -> Result<(), Fail> {
     let bytes = fs::read(rt, path)?;
     same(bytes.len(), 33558528, "length")?;
     file_holds(rt, other, &bytes, "written")
@@ -41,14 +43,14 @@ fn are_the_same(rt: &HostRuntime, path: &str, other: &str) -> Result<(), Fail> {
 fn an_l1_table_of_the_most_entries_goes_from_file_to_file(rt: HostRuntime) -> Result<(), Fail> {
     let file = temporary_file(&rt, "largest-l1-table", &[0xa5; 4096])?;
     let other = temporary_file(&rt, "written-l1-table", &[0xa5; 4096])?;
-    goes(&rt, file.path.as_str(), other.path.as_str())?;
-    are_the_same(&rt, file.path.as_str(), other.path.as_str())
+    check_written(&rt, file.path.as_str(), other.path.as_str())?;
+    check_same(&rt, file.path.as_str(), other.path.as_str())
 }
 
 // Loads the table at a cluster of a file, of which entry 3 alone may not be 0.
-fn is_loaded(rt: &HostRuntime, path: &str, cluster: u64, number: u64) -> Result<(), Fail> {
+fn check_loaded(rt: &HostRuntime, path: &str, cluster: u64, number: u64) -> Result<(), Fail> {
     let table: L2Table = load(rt.alloc(), &mut open(rt, path)?, DISK, cluster, 64)?;
-    tells(&table, (64, (3, number), Some(cluster), false), cluster)
+    check_table(&table, (64, (3, number), Some(cluster), false), cluster)
 }
 
 // Two clusters of 0xa5, and a table that ends with its entry 3.
@@ -60,10 +62,10 @@ fn cut_table(alloc: Global) -> Result<MemStorage, Fault> {
 }
 
 // The file ends within the table at cluster 2 or before the others.
-fn are_loaded(rt: &HostRuntime, path: &str, bytes: &[u8]) -> Result<(), Fail> {
-    is_loaded(rt, path, 2, NUMBER)?;
-    is_loaded(rt, path, 3, 0)?;
-    is_loaded(rt, path, (1 << 47) - 1, 0)?;
+fn check_both_loaded(rt: &HostRuntime, path: &str, bytes: &[u8]) -> Result<(), Fail> {
+    check_loaded(rt, path, 2, NUMBER)?;
+    check_loaded(rt, path, 3, 0)?;
+    check_loaded(rt, path, (1 << 47) - 1, 0)?;
     file_holds(rt, path, bytes, "the file")
 }
 
@@ -71,7 +73,7 @@ fn are_loaded(rt: &HostRuntime, path: &str, bytes: &[u8]) -> Result<(), Fail> {
 fn a_load_near_the_end_of_a_writable_file_leaves_the_file(rt: HostRuntime) -> Result<(), Fail> {
     let image = cut_table(rt.alloc())?;
     let file = temporary_file(&rt, "end-of-file", image.bytes())?;
-    are_loaded(&rt, file.path.as_str(), image.bytes())
+    check_both_loaded(&rt, file.path.as_str(), image.bytes())
 }
 
 // 0xa5 but for the table that begins at byte 2097152 with zeros.
@@ -85,15 +87,15 @@ fn largest_l2_table(alloc: Global) -> Result<MemStorage, Fault> {
 const LARGEST_L2: Told = (262144, (262143, NUMBER), Some(1), false);
 
 // Writes the table, and reads it back.
-fn goes_and_comes(table: &mut L2Table) -> Result<(), Fail> {
+fn check_round_trip(table: &mut L2Table) -> Result<(), Fail> {
     let alloc = table.allocator();
     let mut image = filled_image(alloc, 4194312)?;
-    is_written_as(table, &mut image, largest_l2_table(alloc))?;
+    check_written_as(table, &mut image, largest_l2_table(alloc))?;
     let found: L2Table = load(alloc, &mut image, (21, false), 1, 262144)?;
-    tells(&found, LARGEST_L2, "read back")
+    check_table(&found, LARGEST_L2, "read back")
 }
 
 #[test]
 fn an_l2_table_of_the_most_entries_is_written_and_read_back(rt: HostRuntime) -> Result<(), Fail> {
-    goes_and_comes(&mut table_that_tells(rt.alloc(), (21, false), LARGEST_L2)?)
+    check_round_trip(&mut table_that_tells(rt.alloc(), (21, false), LARGEST_L2)?)
 }

@@ -1,3 +1,4 @@
+-- What does a storage do that fails at a planned call?
 use Rattle.std.specs.Prelude.{◌≡◌, ℕ, zero, suc, [], ◌∷◌, ◌++◌, Option, None, Some, Result, IsErr, OnOk}
 use Rattle.qcow2_testing.specs.declared.failing.FailingStorage.{FailingStorage}
 use Rattle.qcow2_base.specs.Storage.{StorageState}

@@ -1,4 +1,4 @@
-//! Comparisons of tests. One that fails tells the row of the table, what was found and what was
+//! Comparisons of tests. One that fails reports the row of the table, what was found and what was
 //! expected, as far as the text of a failure reaches.
 
 ghost use Rattle.std.specs.Prelude.{IsTrue, OnOk};
@@ -15,7 +15,7 @@ macro_rules! rows {
     };
 }
 
-/// Fails unless each value is the one behind its arrow: `all_same! { "sums", 1 + 2 => 3, 2 + 2 => 4 }`.
+/// Fails unless each value is the one after its arrow: `all_same! { "sums", 1 + 2 => 3, 2 + 2 => 4 }`.
 #[macro_export]
 macro_rules! all_same {
     ($row:expr, $($found:expr => $expected:expr),* $(,)?) => {
@@ -35,12 +35,12 @@ pub fn same<T: PartialEq + Debug + Drop, R: Debug + Drop>(
     Err(Fail::new(format_args!("{row:?}: found {found:?}, expected {expected:?}")))
 }
 
-/// What a value prints as by `Debug`, which tells what no call does.
+/// What a value prints as by `Debug`, which shows what no call does.
 pub fn printed<T: Debug>(alloc: Global, value: &T) -> Result<String, AllocError> {
     format!(in alloc; "{value:?}")
 }
 
-/// Fails unless both are the same bytes, and tells the first that differs and not all of them.
+/// Fails unless both are the same bytes, and reports the first that differs and not all of them.
 pub fn same_bytes<R: Debug + Drop>(found: &[u8], expected: &[u8], row: R) -> Result<(), Fail> {
     if found == expected {
         return Ok(());
@@ -73,6 +73,19 @@ pub fn holds<R: Debug + Drop>(condition: bool, row: R) -> Result<(), Fail>
         return Ok(());
     }
     Err(Fail::new(format_args!("{row:?}: does not hold")))
+}
+
+/// The values of a list from a place to before another one, which both are in it.
+pub fn part_of<T>(list: &[T], start: usize, end: usize) -> Result<&[T], Fail> {
+    match list.get(start..end) {
+        Some(part) => Ok(part),
+        None => Err(row_error((start, end))),
+    }
+}
+
+/// What a test fails by where a row can't be read: a typing error in it.
+pub fn row_error<R: Debug + Drop>(part: R) -> Fail {
+    Fail::new(format_args!("{part:?}: no row can have this"))
 }
 
 fn first_difference(found: &[u8], expected: &[u8]) -> usize {

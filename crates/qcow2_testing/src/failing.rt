@@ -46,7 +46,7 @@ impl<S> FailingStorage<S> {
         }
     }
 
-    // Records the call, and tells whether it is to be passed on: not where it is planned to fail, nor
+    // Records the call, and reports whether it is to be passed on: not where it is planned to fail, nor
     // where no memory is left for the record.
     fn admits(&mut self, call: StorageCall) -> bool
         ensures recorded { IsTrue result → self.new.calls.items ≡ self.old.calls.items ++ call ∷ [] }
@@ -69,7 +69,7 @@ impl<S> FailingStorage<S> {
     }
 }
 
-/// Counts a planned failure down, and tells whether this turn passes.
+/// Counts a planned failure down, and reports whether this turn passes.
 pub fn take_turn(plan: &mut Option<u64>) -> bool
     ensures planned { plan.old ≡ Some 0 → result ≡ false }
     ensures passes { result ≡ false → plan.old ≡ Some 0 }

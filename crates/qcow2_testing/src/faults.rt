@@ -1,4 +1,4 @@
-//! The faults of the library, as they are told.
+//! The faults of the library, as they are reported.
 
 use crate::rows;
 use FaultKind::{InvalidData, InvalidInput, NoMemory, Other, Storage, Unsupported};

@@ -28,6 +28,8 @@ pub struct FaultyFiles<'a, R> {
     pub end: u64,
     /// Whether a file that is to be opened in another way than for reading is refused.
     pub read_only: bool,
+    /// A name, and the path that is opened for it and for no other name. Without it a path is a name.
+    pub alias: Option<(&'a str, &'a str)>,
     opens: Cell<Opens>,
     has_refused: Cell<bool>,
 }
@@ -45,6 +47,7 @@ impl<'a, R> FaultyFiles<'a, R> {
             step: usize::MAX,
             end: u64::MAX,
             read_only: false,
+            alias: None,
             opens: Cell::new(opens),
             has_refused: Cell::new(false),
         }
@@ -60,7 +63,15 @@ impl<'a, R> FaultyFiles<'a, R> {
         self.opens.get()
     }
 
-    // Records one more opening, and tells whether it is to be passed on.
+    // The path that is opened for a name, if there is one.
+    fn path_of<'p>(&'p self, name: &'p str) -> Option<&'p str> {
+        match self.alias {
+            None => Some(name),
+            Some((known, path)) => (known == name).then_some(path),
+        }
+    }
+
+    // Records one more opening, and reports whether it is to be passed on.
     fn admits(&self, how: &OpenOptions) -> bool {
         let changes = how.asks_write() || how.asks_append() || how.asks_truncate();
         let creates = how.asks_create() || how.asks_create_new();
@@ -162,6 +173,9 @@ impl<R: Files> Files for FaultyFiles<'_, R> {
         if !self.admits(how) {
             return Err(ErrorKind::PermissionDenied.into());
         }
+        let Some(path) = self.path_of(path) else {
+            return Err(ErrorKind::NotFound.into());
+        };
         let file = self.files.open_file(how, path)?;
         self.has_refused.set(false);
         Ok(FaultyFile {

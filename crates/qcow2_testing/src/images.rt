@@ -6,12 +6,12 @@ use std::alloc::Global;
 use std::fmt::Debug;
 use std::test::Fail;
 
-/// An image of so many bytes of 0xa5.
+/// An image of `len` bytes of 0xa5.
 pub fn filled_image(alloc: Global, len: usize) -> Result<MemStorage, Fault> {
     Ok(MemStorage::new(vec![in alloc; 0xa5; len]?))
 }
 
-/// An image of so many bytes that are zero but for these numbers at these places.
+/// An image of `len` bytes that are zero but for these numbers at these places.
 pub fn image_with(alloc: Global, len: usize, numbers: &[(u64, u64)]) -> Result<MemStorage, Fault> {
     let mut image = MemStorage::new(vec![in alloc; 0; len]?);
     for (place, number) in numbers {

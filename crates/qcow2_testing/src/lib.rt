@@ -1,4 +1,4 @@
-//! What the tests of all crates run on: comparisons that tell the row, a storage and files that fail
+//! What the tests of all crates run on: comparisons that report the row, a storage and files that fail
 //! where a test plans it, images in memory, files in the temporary folder, all faults, and the conditions
 //! of conversions as tests ask for them.
 #![tactic(auto)]
@@ -11,7 +11,7 @@ mod faulty_files;
 mod images;
 mod temporary_files;
 
-pub use comparisons::{each, holds, printed, same, same_bytes, same_text};
+pub use comparisons::{each, holds, part_of, printed, row_error, same, same_bytes, same_text};
 pub use conditions::{fits, is_cluster_bits};
 pub use failing::{FailingStorage, StorageCall, take_turn};
 pub use faults::{FAULTS, ToldFault};

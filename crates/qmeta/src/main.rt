@@ -16,7 +16,7 @@ fn main(rt: HostRuntime) -> ExitCode {
     })
 }
 
-// Runs the words of the command line, and answers the status. The storage fault, with no image opened,
+// Runs the words of the command line, and returns the status. The storage fault, with no image opened,
 // where the standard descriptors can't be taken.
 fn run<E: Write>(rt: &HostRuntime, err: &mut E) -> Result<u8, Fault> {
     let Ok(_taken) = take_standard_descriptors(rt) else {
@@ -30,7 +30,7 @@ fn run<E: Write>(rt: &HostRuntime, err: &mut E) -> Result<u8, Fault> {
 }
 
 // Files that nothing can be written to. While they are held, no file that is opened later gets descriptor 0,
-// 1 or 2: where one of these was closed, the image would, and what is printed would be written into it.
+// 1 or 2. Without them the image would get one that was closed, and what is printed would be written into it.
 fn take_standard_descriptors<R: Files>(rt: &R) -> io::Result<[R::File; 3]> {
     Ok([null_file(rt)?, null_file(rt)?, null_file(rt)?])
 }

@@ -1,3 +1,4 @@
+-- What is a storage in a file, and what is known of it?
 use Rattle.std.specs.Prelude.{ℕ, false}
 use Rattle.qcow2_base.specs.Storage.{StorageState}
 use Rattle.qcow2_base.specs.declared.storage.file.FileStorage.{FileStorage}
@@ -10,7 +11,7 @@ file_of storage = storage.file
 abbrev pub file_failures : {F : Type 0} → FileStorage F → ℕ
 file_failures storage = storage.failures
 
--- what it says as a storage: nothing of its bytes
+-- what is known of it as a storage: nothing of its bytes
 abbrev pub file_state : {F : Type 0} → FileStorage F → StorageState
 file_state storage = record {
   tells = false;

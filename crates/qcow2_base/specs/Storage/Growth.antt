@@ -1,6 +1,7 @@
+-- How does a write to an image in memory make it longer, and when can it fail?
 use Rattle.std.specs.Prelude.{◌≡◌, ℕ, ◌+◌, ◌<◌, ◌≤◌, max, List, length, Result, IsOk, OnOk, OnErr}
 
--- a write of so many bytes from an offset on that ended in this answer: it can fail only where the
+-- a write of that many bytes from an offset on that ended in this answer: it can fail only where the
 -- bytes must grow, and then they stay
 pub record GrowsToFit {T E : Type 0} (answer : Result T E) (offset len : ℕ) (old new : List ℕ) : Type 0 where
   pub in_place : offset + len ≤ length old → IsOk answer

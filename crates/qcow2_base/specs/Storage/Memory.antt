@@ -1,3 +1,4 @@
+-- What is a storage in memory, and what is known of it?
 use Rattle.std.specs.Prelude.{ℕ, true, List}
 use Rattle.qcow2_base.specs.Storage.{StorageState, image_of}
 use Rattle.qcow2_base.specs.declared.storage.memory.MemStorage.{MemStorage}
@@ -14,7 +15,7 @@ alignment m = m.align
 abbrev pub memory_failures : MemStorage → ℕ
 memory_failures m = m.failures
 
--- what it says as a storage
+-- what is known of it as a storage
 abbrev pub memory_state : MemStorage → StorageState
 memory_state m = record {
   tells = true;

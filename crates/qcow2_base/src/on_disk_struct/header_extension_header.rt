@@ -1,4 +1,4 @@
-//! What stands before the data of a header extension.
+//! What comes before the data of a header extension.
 
 ghost use Rattle.std.specs.Prelude.{false, refl};
 ghost use Rattle.std.proofs.Common.{rules};

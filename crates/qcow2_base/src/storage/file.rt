@@ -16,7 +16,7 @@ use std::io;
 use std::io::{Read, Seek, SeekFrom, Write};
 use std::rt::Files;
 
-/// An image in a file. It tells nothing of its bytes, since what a file holds is outside any proof.
+/// An image in a file. Nothing is known of its bytes, since what a file holds is outside any proof.
 /// Both alignments are 1.
 #[derive(Debug, Drop)]
 pub struct FileStorage<F = File> {
@@ -25,7 +25,7 @@ pub struct FileStorage<F = File> {
 }
 
 impl<F: Read + Write + Seek + OpenFile + Drop> FileStorage<F> {
-    /// Opens a file that is there, for reading or for both; it creates none. Answers the storage
+    /// Opens a file that is there, for reading or for both; it creates none. Returns the storage
     /// fault whatever the cause, for a directory too.
     pub fn open<R: Files<File = F>>(
         rt: &R,
@@ -77,7 +77,7 @@ impl<F: Read + Write + Seek> Storage for FileStorage<F> {
         1
     }
 
-    /// Where the type of the file tells its bytes, as one in memory may, an `Ok` gives those.
+    /// Where the type of the file makes its bytes known, as one in memory may, an `Ok` gives those.
     fn read(&mut self, buf: &mut [u8], offset: u64) -> Result<(), StorageFault>
         requires { offset + length buf.old ≤ max_file_length }
         ensures bytes { ReadsBytes result offset buf.new (file_state self.old) (file_state self.new) }

@@ -8,7 +8,7 @@ ghost use Rattle.qcow2_base.specs.Storage.{IsPowerOfTwo, power_of_two_once, Hold
 use super::{Storage, StorageFault};
 use std::alloc::AllocError;
 
-/// An image in memory. It tells its bytes, and fails only where it can't grow.
+/// An image in memory. Its bytes are known, and it fails only where it can't grow.
 #[derive(Debug, Drop)]
 pub struct MemStorage {
     bytes: Vec<u8>,

@@ -60,7 +60,7 @@ impl GuestOffset {
         self.cluster(cluster_bits).l1_index(cluster_bits)
     }
 
-    /// How many bytes of the offset's cluster stand from the offset on.
+    /// The number of bytes of the offset's cluster from the offset on.
     #[inline]
     pub fn remaining_in_cluster(self, cluster_bits: u32) -> u64
         requires { IsClusterBits cluster_bits }
@@ -69,7 +69,7 @@ impl GuestOffset {
         (1 << cluster_bits) - self.in_cluster_offset(cluster_bits)
     }
 
-    /// How many bytes stand from the offset on in the clusters of its L2 table.
+    /// The number of bytes from the offset on in the clusters of its L2 table.
     #[inline]
     pub fn remaining_in_l2_table(self, cluster_bits: u32) -> u64
         requires { IsClusterBits cluster_bits }
@@ -83,7 +83,7 @@ impl GuestOffset {
     }
 }
 
-/// The offset so many bytes further on.
+/// The offset that many bytes further on.
 impl Add<u64> for GuestOffset {
     type Output = GuestOffset;
 
@@ -97,7 +97,7 @@ impl Add<u64> for GuestOffset {
     }
 }
 
-/// The offset so many bytes before.
+/// The offset that many bytes before.
 impl Sub<u64> for GuestOffset {
     type Output = GuestOffset;
 
@@ -203,7 +203,7 @@ impl GuestCluster {
     }
 }
 
-/// The cluster so many clusters further on.
+/// The cluster that many clusters further on.
 impl Add<ClusterCount> for GuestCluster {
     type Output = GuestCluster;
 
@@ -217,7 +217,7 @@ impl Add<ClusterCount> for GuestCluster {
     }
 }
 
-/// Moves on by so many clusters.
+/// Moves on by that many clusters.
 impl AddAssign<ClusterCount> for GuestCluster {
     ghost can_add_assign = { λ cluster count. cluster.0 + count.0 < 2 ^ 64 };
 
@@ -229,7 +229,7 @@ impl AddAssign<ClusterCount> for GuestCluster {
     }
 }
 
-/// The cluster so many clusters before.
+/// The cluster that many clusters before.
 impl Sub<ClusterCount> for GuestCluster {
     type Output = GuestCluster;
 
@@ -243,7 +243,7 @@ impl Sub<ClusterCount> for GuestCluster {
     }
 }
 
-/// Moves back by so many clusters.
+/// Moves back by that many clusters.
 impl SubAssign<ClusterCount> for GuestCluster {
     ghost can_sub_assign = { λ cluster count. count.0 ≤ cluster.0 };
 

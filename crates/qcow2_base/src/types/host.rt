@@ -43,7 +43,7 @@ impl HostOffset {
     }
 }
 
-/// The offset so many bytes further on.
+/// The offset that many bytes further on.
 impl Add<u64> for HostOffset {
     type Output = HostOffset;
 
@@ -57,7 +57,7 @@ impl Add<u64> for HostOffset {
     }
 }
 
-/// The offset so many bytes before.
+/// The offset that many bytes before.
 impl Sub<u64> for HostOffset {
     type Output = HostOffset;
 
@@ -133,7 +133,7 @@ impl HostCluster {
         (self.rt_index(rb_bits), self.rb_index(rb_bits))
     }
 
-    /// The cluster whose counter stands at these places. A cluster's own places give that cluster.
+    /// The cluster whose counter is at these places. A cluster's own places give that cluster.
     #[inline]
     #[tactic(auto, using(crate::proofs::TypesLemmas::from_parts))]
     pub fn from_ref_indices(rt_index: usize, rb_index: usize, rb_bits: u32) -> HostCluster
@@ -157,7 +157,7 @@ impl HostCluster {
     }
 }
 
-/// The cluster so many clusters further on.
+/// The cluster that many clusters further on.
 impl Add<ClusterCount> for HostCluster {
     type Output = HostCluster;
 
@@ -171,7 +171,7 @@ impl Add<ClusterCount> for HostCluster {
     }
 }
 
-/// Moves on by so many clusters.
+/// Moves on by that many clusters.
 impl AddAssign<ClusterCount> for HostCluster {
     ghost can_add_assign = { λ cluster count. cluster.0 + count.0 < 2 ^ 64 };
 
@@ -183,7 +183,7 @@ impl AddAssign<ClusterCount> for HostCluster {
     }
 }
 
-/// The cluster so many clusters before.
+/// The cluster that many clusters before.
 impl Sub<ClusterCount> for HostCluster {
     type Output = HostCluster;
 
@@ -197,7 +197,7 @@ impl Sub<ClusterCount> for HostCluster {
     }
 }
 
-/// Moves back by so many clusters.
+/// Moves back by that many clusters.
 impl SubAssign<ClusterCount> for HostCluster {
     ghost can_sub_assign = { λ cluster count. count.0 ≤ cluster.0 };
 

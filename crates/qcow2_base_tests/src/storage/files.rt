@@ -1,6 +1,9 @@
 //! Storages over real files, and over ones that fail.
 
-use super::{LIMIT, WRITES, Written, has_failed, is_read, read_fails, reads, write, write_fails};
+use super::{
+    LIMIT, WRITES, Written, check_bytes, check_failed_read, check_failed_write, check_failures,
+    check_read, write,
+};
 use qcow2_base::{Fault, FileStorage, StorageFault};
 use qcow2_testing::{
     FaultyFile, FaultyFiles, file_holds, holds, same, temporary_file, temporary_path,
@@ -17,74 +20,74 @@ pub(crate) fn open(
     FileStorage::open(rt, path, writable)
 }
 
-fn is_refused(rt: &HostRuntime, path: &str) -> Result<(), Fail> {
+fn check_refused(rt: &HostRuntime, path: &str) -> Result<(), Fail> {
     let found = (open(rt, path, false).err(), open(rt, path, true).err());
     same(found, (Some(Fault::Storage), Some(Fault::Storage)), path)
 }
 
-fn is_not_there(rt: &HostRuntime, name: &str) -> Result<(), Fail> {
+fn check_missing(rt: &HostRuntime, name: &str) -> Result<(), Fail> {
     let path = temporary_path(rt, name)?;
-    is_refused(rt, path.as_str())?;
+    check_refused(rt, path.as_str())?;
     holds(fs::metadata(rt, path.as_str()).is_err(), path)
 }
 
 #[test]
 fn only_a_file_that_is_there_is_opened(rt: HostRuntime) -> Result<(), Fail> {
-    is_not_there(&rt, "missing")?;
-    is_not_there(&rt, "missing/file")?;
-    is_refused(&rt, ".")?;
-    is_refused(&rt, "")
+    check_missing(&rt, "missing")?;
+    check_missing(&rt, "missing/file")?;
+    check_refused(&rt, ".")?;
+    check_refused(&rt, "")
 }
 
 #[test]
 fn a_file_is_read_by_offset_with_zeros_past_its_end(rt: HostRuntime) -> Result<(), Fail> {
     let file = temporary_file(&rt, "read", &[1, 2, 3, 4, 5])?;
-    is_read(rt.alloc(), &mut open(&rt, file.path.as_str(), false)?)
+    check_read(rt.alloc(), &mut open(&rt, file.path.as_str(), false)?)
 }
 
-fn is_written(rt: &HostRuntime, path: &str, row: Written) -> Result<(), Fail> {
+fn check_written(rt: &HostRuntime, path: &str, row: Written) -> Result<(), Fail> {
     let (offset, bytes) = row;
     fs::write(rt, path, &[1, 2, 3])?;
     let mut storage = open(rt, path, true)?;
-    reads(rt.alloc(), &mut storage, 1, &[2, 3])?;
+    check_bytes(rt.alloc(), &mut storage, 1, &[2, 3])?;
     write(&mut storage, &[7, 8], offset)?;
     file_holds(rt, path, bytes, row)?;
-    reads(rt.alloc(), &mut storage, offset, &[7, 8])
+    check_bytes(rt.alloc(), &mut storage, offset, &[7, 8])
 }
 
 #[test]
 fn a_write_to_a_file_stands_at_its_offset(rt: HostRuntime) -> Result<(), Fail> {
     let file = temporary_file(&rt, "write", &[])?;
     for row in WRITES {
-        is_written(&rt, file.path.as_str(), *row)?;
+        check_written(&rt, file.path.as_str(), *row)?;
     }
     Ok(())
 }
 
-fn refuses_writes(rt: &HostRuntime, path: &str) -> Result<(), Fail> {
+fn check_refused_writes(rt: &HostRuntime, path: &str) -> Result<(), Fail> {
     let mut storage = open(rt, path, false)?;
-    write_fails(rt.alloc(), &mut storage, &[9; 4], 1, 1)?;
-    write_fails(rt.alloc(), &mut storage, &[9; 4], 1, 2)?;
+    check_failed_write(rt.alloc(), &mut storage, &[9; 4], 1, 1)?;
+    check_failed_write(rt.alloc(), &mut storage, &[9; 4], 1, 2)?;
     same(write(&mut storage, &[], 900), Ok(()), "no bytes")?;
-    reads(rt.alloc(), &mut storage, 0, &[1, 2, 3, 0])?;
-    has_failed(rt.alloc(), &storage, 2)
+    check_bytes(rt.alloc(), &mut storage, 0, &[1, 2, 3, 0])?;
+    check_failures(rt.alloc(), &storage, 2)
 }
 
 #[test]
 fn a_file_opened_for_reading_refuses_a_write_that_has_bytes(rt: HostRuntime) -> Result<(), Fail> {
     let file = temporary_file(&rt, "read-only", &[1, 2, 3])?;
-    refuses_writes(&rt, file.path.as_str())
+    check_refused_writes(&rt, file.path.as_str())
 }
 
-// Writes at the last offset, and answers whether that failed.
+// Writes at the last offset, and returns whether that failed.
 fn fails_at_the_end(rt: &HostRuntime, path: &str) -> Result<bool, Fail> {
     let mut storage = open(rt, path, true)?;
     let (failures, last) = match write(&mut storage, &[9], LIMIT - 1) {
         Ok(()) => (0, 9),
         Err(StorageFault) => (1, 0),
     };
-    has_failed(rt.alloc(), &storage, failures)?;
-    reads(rt.alloc(), &mut storage, LIMIT - 4, &[0, 0, 0, last])?;
+    check_failures(rt.alloc(), &storage, failures)?;
+    check_bytes(rt.alloc(), &mut storage, LIMIT - 4, &[0, 0, 0, last])?;
     Ok(failures > 0)
 }
 
@@ -111,10 +114,10 @@ fn faulty(
     FileStorage::open(&files, path, true)
 }
 
-fn is_short(rt: &HostRuntime, path: &str, step: usize) -> Result<(), Fail> {
+fn check_short(rt: &HostRuntime, path: &str, step: usize) -> Result<(), Fail> {
     fs::write(rt, path, &[1, 2, 3, 4, 5])?;
     let mut storage = faulty(rt, path, (None, step, u64::MAX))?;
-    reads(rt.alloc(), &mut storage, 2, &[3, 4, 5, 0])?;
+    check_bytes(rt.alloc(), &mut storage, 2, &[3, 4, 5, 0])?;
     same(write(&mut storage, &[6, 7, 8, 9], 2), Ok(()), "a write")?;
     file_holds(rt, path, &[1, 2, 6, 7, 8, 9], "written")
 }
@@ -123,15 +126,15 @@ fn is_short(rt: &HostRuntime, path: &str, step: usize) -> Result<(), Fail> {
 fn short_reads_and_writes_are_gone_on_with(rt: HostRuntime) -> Result<(), Fail> {
     let file = temporary_file(&rt, "short", &[])?;
     for step in 1..6 {
-        is_short(&rt, file.path.as_str(), step)?;
+        check_short(&rt, file.path.as_str(), step)?;
     }
     Ok(())
 }
 
-fn fails_to_read(rt: &HostRuntime, path: &str, passes: u64) -> Result<(), Fail> {
+fn check_failing_read(rt: &HostRuntime, path: &str, passes: u64) -> Result<(), Fail> {
     let mut storage = faulty(rt, path, (Some(passes), 2, u64::MAX))?;
-    read_fails(rt.alloc(), &mut storage, 1)?;
-    reads(rt.alloc(), &mut storage, 1, &[2, 3, 4, 5])
+    check_failed_read(rt.alloc(), &mut storage, 1)?;
+    check_bytes(rt.alloc(), &mut storage, 1, &[2, 3, 4, 5])
 }
 
 // A file is asked for its metadata when it is opened. A read of four bytes, two at a time, asks it four
@@ -142,17 +145,17 @@ fn an_open_or_a_read_fails_where_one_call_of_the_file_does(rt: HostRuntime) -> R
     let answer = faulty(&rt, file.path.as_str(), (Some(0), 2, u64::MAX));
     same(answer.err(), Some(Fault::Storage), "at its metadata")?;
     for passes in 1..5 {
-        fails_to_read(&rt, file.path.as_str(), passes)?;
+        check_failing_read(&rt, file.path.as_str(), passes)?;
     }
     Ok(())
 }
 
 // Fails unless a write fails by this call of the file and leaves the bytes around it, and the next one
 // makes good what it left, in part or not at all.
-fn fails_to_write(rt: &HostRuntime, path: &str, passes: u64) -> Result<(), Fail> {
+fn check_failing_write(rt: &HostRuntime, path: &str, passes: u64) -> Result<(), Fail> {
     fs::write(rt, path, &[1, 2, 3, 4, 5, 6])?;
     let mut storage = faulty(rt, path, (Some(passes), 2, u64::MAX))?;
-    write_fails(rt.alloc(), &mut storage, &[9; 4], 1, 1)?;
+    check_failed_write(rt.alloc(), &mut storage, &[9; 4], 1, 1)?;
     same(ends_of(rt, path)?, (6, Some(1), Some(6)), "failed")?;
     same(write(&mut storage, &[9; 4], 1), Ok(()), "again")?;
     file_holds(rt, path, &[1, 9, 9, 9, 9, 6], "again")
@@ -170,20 +173,20 @@ fn ends_of(rt: &HostRuntime, path: &str) -> Result<(usize, Option<u8>, Option<u8
 fn a_write_fails_where_one_call_of_the_file_does(rt: HostRuntime) -> Result<(), Fail> {
     let file = temporary_file(&rt, "failed-write", &[])?;
     for passes in 1..5 {
-        fails_to_write(&rt, file.path.as_str(), passes)?;
+        check_failing_write(&rt, file.path.as_str(), passes)?;
     }
     Ok(())
 }
 
-fn fails_early(rt: &HostRuntime, path: &str, end: u64) -> Result<(), Fail> {
-    read_fails(rt.alloc(), &mut faulty(rt, path, (None, 2, end))?, 1)
+fn check_early_end(rt: &HostRuntime, path: &str, end: u64) -> Result<(), Fail> {
+    check_failed_read(rt.alloc(), &mut faulty(rt, path, (None, 2, end))?, 1)
 }
 
 #[test]
 fn a_file_that_ends_before_its_length_is_no_zeros(rt: HostRuntime) -> Result<(), Fail> {
     let file = temporary_file(&rt, "early-end", &[1, 2, 3, 4, 5])?;
     for end in 0..5 {
-        fails_early(&rt, file.path.as_str(), end)?;
+        check_early_end(&rt, file.path.as_str(), end)?;
     }
     Ok(())
 }

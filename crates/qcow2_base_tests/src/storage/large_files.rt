@@ -1,8 +1,8 @@
 //! Reads and writes of more bytes than any buffer on their way may have.
 
 use super::files::open;
-use super::{reads, write};
-use qcow2_testing::{file_holds, temporary_file};
+use super::{check_bytes, write};
+use qcow2_testing::{file_holds, part_of, temporary_file};
 use std::alloc::{AllocError, Global};
 use std::test::Fail;
 
@@ -32,10 +32,10 @@ const WRITES: &[Range] = &[
 ];
 
 // Writes a range of the file, and fails unless it has the other bytes then and all else stays.
-fn is_written(rt: &HostRuntime, path: &str, row: Range) -> Result<(), Fail> {
+fn check_written(rt: &HostRuntime, path: &str, row: Range) -> Result<(), Fail> {
     let (start, end) = row;
     let new = image(rt.alloc(), 3 * MIB, start, end)?;
-    let bytes = new.get(start..end).unwrap_or(&[]);
+    let bytes = part_of(&new, start, end)?;
     write(&mut open(rt, path, true)?, bytes, start as u64)?;
     file_holds(rt, path, &new, row)
 }
@@ -45,7 +45,7 @@ fn a_large_write_replaces_its_range_and_no_other_byte(rt: HostRuntime) -> Result
     let old = image(rt.alloc(), 3 * MIB, 0, 0)?;
     for row in WRITES {
         let file = temporary_file(&rt, "large-write", &old)?;
-        is_written(&rt, file.path.as_str(), *row)?;
+        check_written(&rt, file.path.as_str(), *row)?;
     }
     Ok(())
 }
@@ -57,17 +57,17 @@ const READS: &[Range] = &[
     (500, 5 * MIB + 500),
 ];
 
-fn is_read(rt: &HostRuntime, path: &str, bytes: &[u8], row: Range) -> Result<(), Fail> {
-    let bytes = bytes.get(row.0..row.1).unwrap_or(&[]);
-    reads(rt.alloc(), &mut open(rt, path, true)?, row.0 as u64, bytes)
+fn check_range(rt: &HostRuntime, path: &str, bytes: &[u8], row: Range) -> Result<(), Fail> {
+    let bytes = part_of(bytes, row.0, row.1)?;
+    check_bytes(rt.alloc(), &mut open(rt, path, true)?, row.0 as u64, bytes)
 }
 
-// A file of 5 MiB reads as with zeros behind it.
-fn are_read(rt: &HostRuntime, path: &str) -> Result<(), Fail> {
+// A file of 5 MiB reads as with zeros after it.
+fn check_ranges(rt: &HostRuntime, path: &str) -> Result<(), Fail> {
     let mut padded = image(rt.alloc(), 5 * MIB, 0, 0)?;
     padded.resize(6 * MIB, 0)?;
     for row in READS {
-        is_read(rt, path, &padded, *row)?;
+        check_range(rt, path, &padded, *row)?;
     }
     Ok(())
 }
@@ -76,6 +76,6 @@ fn are_read(rt: &HostRuntime, path: &str) -> Result<(), Fail> {
 fn a_large_read_gives_its_range_and_changes_no_byte(rt: HostRuntime) -> Result<(), Fail> {
     let bytes = image(rt.alloc(), 5 * MIB, 0, 0)?;
     let file = temporary_file(&rt, "large-read", &bytes)?;
-    are_read(&rt, file.path.as_str())?;
+    check_ranges(&rt, file.path.as_str())?;
     file_holds(&rt, file.path.as_str(), &bytes, "after all reads")
 }

@@ -1,3 +1,4 @@
+-- Which numbers are entries of an L1 table, and which one refers to an L2 table?
 use Rattle.std.specs.Prelude.{ℕ, not, ◌==◌, ◌+◌, ◌*◌, ◌%◌, ◌^◌, Option}
 use Rattle.qcow2_base.specs.Bits.{field}
 use Rattle.qcow2_base.specs.declared.fault.Fault.{Fault}

@@ -1,3 +1,4 @@
+-- Which numbers are entries of an L2 table, and which bytes and clusters does one refer to?
 use Rattle.std.specs.Prelude.{◌≡◌, ℕ, Bool, false, not, ◌&&◌, ◌||◌, ◌==◌, ◌+◌, ◌-◌, ◌*◌, ◌/◌, ◌%◌, ◌^◌, ◌<◌, ◌≤◌, ◌↔◌, nat_lt, if◌then◌else◌, Option, Some, None, option_map, IfSome, IfNone, unwrap_or}
 use Rattle.qcow2_base.specs.Format.{max_file_length}
 use Rattle.qcow2_base.specs.Bits.{field}
@@ -57,10 +58,10 @@ has_host_cluster g v = not (is_compressed v) && is_allocated g.external_data_fil
 abbrev pub with_zero_flag : ℕ → ℕ
 with_zero_flag v = v - v % 2 + 1
 
--- an entry where a second table has it too: the copied flag is clear, but where it says that offset 0 is that of a
--- cluster, in an external data file
-abbrev pub shared : Bool → ℕ → ℕ
-shared external v =
+-- an entry where a second table has it too: the copied flag is clear. It stays where it says that offset 0 is that of
+-- a cluster, in an external data file
+abbrev pub entry_in_copy : Bool → ℕ → ℕ
+entry_in_copy external v =
     if external && (not (is_compressed v) && (offset_field v == 0)) then v else v % 2 ^ 63
 
 -- where a compressed entry's data begins

@@ -1,3 +1,4 @@
+-- What does a guest cluster read as by its L2 entry, and which entry has a mapping?
 use Rattle.std.specs.Prelude.{◌≡◌, ℕ, Bool, true, false, not, ◌&&◌, ◌||◌, ◌==◌, ◌+◌, ◌-◌, ◌*◌, ◌/◌, ◌%◌, ◌^◌, ◌<◌, if◌then◌else◌, Option, Some, None, option_map, IfSome, ⊤}
 use Rattle.std.specs.Bool.{beq}
 use Rattle.std.specs.Int.{div_ceil}
@@ -68,7 +69,7 @@ abbrev pub copied_bit : Bool → ℕ
 copied_bit true = 2 ^ 63
 copied_bit false = 0
 
--- how many sectors of 512 bytes so many bytes from an offset on have beyond the first
+-- how many sectors of 512 bytes that many bytes from an offset on have beyond the first
 abbrev pub sectors_beyond : ℕ → ℕ → ℕ
 sectors_beyond offset length = (length - 1 + offset % 512) / 512
 
@@ -80,7 +81,7 @@ entry_of cb (zeros (Some cluster) copied) = copied_bit copied + cluster * 2 ^ cb
 entry_of cb (zeros None copied) = 1
 entry_of cb (compressed offset length) = 2 ^ 62 + sectors_beyond offset length * 2 ^ (70 - cb) + offset
 
--- an entry can tell this cluster from none: it isn't 0, or it is the copied cluster 0 of an external data file
+-- an entry can distinguish this cluster from none: it isn't 0, or it is the copied cluster 0 of an external data file
 abbrev pub is_told : Bool → ℕ → Bool → Bool
 is_told external cluster copied = not (cluster == 0) || (external && copied)
 
@@ -88,8 +89,8 @@ is_told external cluster copied = not (cluster == 0) || (external && copied)
 abbrev pub sector_end : ℕ → ℕ
 sector_end end = div_ceil end 512 * 512
 
--- what the entry of a mapping reads as: that mapping, but that backing begins where the guest cluster does,
--- cluster 0 may be none, and compressed data reaches to the end of its last sector
+-- what the entry of a mapping reads as: that mapping, with three exceptions. Backing begins where the guest cluster
+-- does, cluster 0 may be none, and compressed data reaches to the end of its last sector
 abbrev pub stored_mapping : Geometry → ℕ → Mapping → Mapping
 stored_mapping g guest_cluster (data_file cluster copied) =
     if is_told g.external_data_file cluster copied then data_file cluster copied else backing (guest_cluster * 2 ^ g.cluster_bits)

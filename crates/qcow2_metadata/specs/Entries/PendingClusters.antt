@@ -1,3 +1,4 @@
+-- When are pending clusters a cluster alone?
 use Rattle.std.specs.Prelude.{◌≡◌}
 use Rattle.qcow2_base.specs.declared.types.HostCluster.{HostCluster}
 use Rattle.qcow2_metadata.specs.declared.entries.ClustersToFreeEntry.{ClustersToFreeEntry}

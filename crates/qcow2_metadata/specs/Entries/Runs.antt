@@ -1,3 +1,4 @@
+-- Which guest clusters read on from one another, and which entries follow a pattern?
 use Rattle.std.specs.Prelude.{◌≡◌, ℕ, Bool, true, false, ◌==◌, ◌+◌, ◌*◌, ◌^◌, ◌<◌, ◌≤◌, List, length, slice_index, Some, None, bit_and}
 use Rattle.qcow2_base.specs.Format.{most_l2_entries}
 use Rattle.qcow2_metadata.specs.Entries.L2Entry.{l2_fault}
@@ -5,9 +6,9 @@ use Rattle.qcow2_metadata.specs.Entries.L2Mapping.{Mapping, backing, compressed,
 use Rattle.qcow2_metadata.specs.Header.{Geometry}
 use Rattle.qcow2_metadata.specs.declared.entries.runs.RunPattern.{RunPattern}
 
--- a guest cluster reads on from the one so many clusters before it: data or zeros in the host cluster so many further
--- on, zeros without a cluster, compressed data, or what the backing file has. Unlike for mappings that are consecutive,
--- the copied flag makes no difference
+-- a guest cluster reads on from the one a distance before it. It is data or zeros in the host cluster that distance
+-- further on, zeros without a cluster, compressed data, or what the backing file has. Unlike for mappings that are
+-- consecutive, the copied flag makes no difference
 abbrev pub reads_on : ℕ → Mapping → Mapping → Bool
 reads_on distance (data_file before was_copied) (data_file cluster copied) = cluster == before + distance
 reads_on distance (backing before) (backing offset) = true
@@ -16,11 +17,11 @@ reads_on distance (zeros None was_copied) (zeros None copied) = true
 reads_on distance (compressed before before_length) (compressed offset length) = true
 reads_on distance before after = false
 
--- the bits of an entry that a pattern looks at are those that it has so many entries on
+-- the bits of an entry that a pattern looks at are those that the pattern has that many entries further on
 abbrev pub follows : RunPattern → ℕ → ℕ → Bool
 follows pattern distance v = bit_and v pattern.mask == pattern.value + distance * pattern.step
 
--- the pattern of the entries that go on from one: a lawful entry so many further on follows it just where it reads on
+-- the pattern of the entries that go on from one: a valid entry a distance further on follows it just where it reads on
 -- from that one
 abbrev pub IsPatternOf : Geometry → ℕ → RunPattern → Type 0
 IsPatternOf g entry pattern = (k v c other : ℕ) → 1 ≤ k → k ≤ most_l2_entries → v < 2 ^ 64 → l2_fault g.cluster_bits v ≡ None
@@ -31,7 +32,7 @@ abbrev pub Follow : RunPattern → List ℕ → ℕ → ℕ → Type 0
 Follow pattern entries first end =
     (k : ℕ) → first ≤ k → k < end → follows pattern (k + 1) (slice_index entries k) ≡ true
 
--- so many of them follow it, and not the next one
+-- that many of them follow it, and not the next one
 pub record FollowJust (pattern : RunPattern) (entries : List ℕ) (count : ℕ) : Type 0 where
   pub within : count ≤ length entries
   pub each : (k : ℕ) → k < count → follows pattern (k + 1) (slice_index entries k) ≡ true

@@ -1,3 +1,4 @@
+-- What does an extension of a header say, by its type and its data?
 use Rattle.std.specs.Prelude.{◌≡◌, ◌≢◌, ℕ, zero, suc, ◌-◌, ◌*◌, ◌^◌, ◌<◌, ◌==◌, ◌&&◌, Bool, true, false, if◌then◌else◌, All, List, [], ◌∷◌, ◌++◌, length, map, take, drop, replicate, Option, Some, None, Result, Ok, Err, String, string_bytes}
 use Rattle.std.specs.Global.{Global}
 use Rattle.std.specs.BTreeMap.{BTreeMap, insert_entry}
@@ -68,7 +69,7 @@ extension_of (held.Unknown number content) = Unknown number content.items
 abbrev pub text : Fault → List ℕ → Result (List ℕ) Fault
 text fault bytes = if is_utf8 bytes then Ok bytes else Err fault
 
--- what stands before the first zero byte
+-- what comes before the first zero byte
 abbrev pub until_zero : List ℕ → List ℕ
 until_zero [] = []
 until_zero (byte ∷ bytes) = if byte == 0 then [] else byte ∷ until_zero bytes
@@ -98,8 +99,8 @@ names_of_chunks bytes (suc chunks) =
 abbrev pub feature_names : List ℕ → Result FeatureNames Fault
 feature_names bytes = names_of_chunks bytes (div_ceil (length bytes) 48)
 
--- an extension that an image can say: texts are UTF-8, names of features are in the order of their keys, and only
--- data of a type that isn't known is kept as it stands
+-- an extension that an image can say: texts are UTF-8, and names of features are in the order of their keys. Only
+-- data of a type that isn't known is kept as it is
 abbrev pub IsStorable : Extension → Type 0
 IsStorable (TextOf type name) = (is_text type ≡ true) × IsUtf8 name
 IsStorable (FeatureNameTable names) =
@@ -117,7 +118,7 @@ abbrev pub feature_name_in : FeatureKey → Extension → Option (List ℕ)
 feature_name_in key (FeatureNameTable names) = lookup (λ other. is_eq (key_cmp key other)) names
 feature_name_in key _ = None
 
--- whether two names of features are the same, and the keys that they stand under
+-- whether two names of features are the same, and the keys that they have
 abbrev pub same_feature_name : FeatureKey × List ℕ → FeatureKey × List ℕ → Bool
 same_feature_name a b =
     feature_type_number a.0.0 == feature_type_number b.0.0 && a.0.1 == b.0.1 && bytes_eq a.1 b.1
@@ -131,8 +132,8 @@ same_extension (Unknown number content) (Unknown other_number other) = number ==
 same_extension _ _ = false
 
 -- the extension of a type that isn't End with these bytes of data
-abbrev pub parsed : ℕ → List ℕ → Result Extension Fault
-parsed number bytes =
+abbrev pub extension_from_data : ℕ → List ℕ → Result Extension Fault
+extension_from_data number bytes =
     if number == extension_number kind.BackingFileFormat then result_map (TextOf kind.BackingFileFormat) (text ExtensionText bytes)
     else (if number == extension_number kind.FeatureNameTable then result_map FeatureNameTable (feature_names bytes)
     else (if number == extension_number kind.ExternalDataFileName then result_map (TextOf kind.ExternalDataFileName) (text ExtensionText bytes)

@@ -1,3 +1,4 @@
+-- Which number has each type of feature, and which bit has each feature?
 use Rattle.std.specs.Prelude.{◌≡◌, ◌≢◌, ℕ, ◌==◌, if◌then◌else◌, Option, Some, None, Result, MatchResult}
 use Rattle.qcow2_base.specs.Format.{external_data_file_bit}
 use Rattle.qcow2_metadata.specs.declared.header.features.AutoclearFeatures.{AutoclearFeatures}

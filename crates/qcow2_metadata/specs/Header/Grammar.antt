@@ -1,8 +1,9 @@
-use Rattle.std.specs.Prelude.{◌≡◌, ◌≢◌, ◌⊎◌, ℕ, ◌+◌, ◌-◌, ◌^◌, ◌%◌, ◌<◌, ◌≤◌, ◌==◌, max, nat_le, ◌||◌, ◌&&◌, Bool, List, [], ◌∷◌, Option, Some, None, Result, Ok, MatchResult, true, false}
+-- Which header do the bytes of an image have, or which fault?
+use Rattle.std.specs.Prelude.{◌≡◌, ◌≢◌, ◌⊎◌, ℕ, ◌+◌, ◌-◌, ◌^◌, ◌%◌, ◌<◌, ◌≤◌, ◌==◌, max, nat_le, ◌||◌, ◌&&◌, Bool, List, [], ◌∷◌, Option, Some, None, Result, Ok, true, false}
 use Rattle.std.specs.List.{IsAmong}
 use Rattle.std.specs.Str.{IsUtf8}
 use Rattle.qcow2_base.specs.Format.{max_backing_filename}
-use Rattle.qcow2_base.specs.OnDiskStruct.{HoldsLayout, moved, v2_header, v3_header_base}
+use Rattle.qcow2_base.specs.OnDiskStruct.{HoldsLayout, fields_moved_by, v2_header, v3_header_base}
 use Rattle.qcow2_base.specs.Fault.{fault_number}
 use Rattle.qcow2_base.specs.Storage.{Image, be}
 use Rattle.qcow2_base.specs.Types.{IsClusterBits}
@@ -10,7 +11,7 @@ use Rattle.qcow2_base.specs.declared.fault.Fault.{Fault}
 use Rattle.qcow2_base.specs.declared.fault.Fault.TheVariants.{NotQcow2, Version, ClusterSize, HeaderShort, HeaderBig, L1Unaligned, ReftableUnaligned, RefcountWidth, BackingNameLong, BackingNamePlace, BackingNameText, FormatConflict, DataFileConflict, Incompatible, NoMemory, Storage}
 use Rattle.qcow2_base.specs.declared.on_disk_struct.v2_header.V2Header.{V2Header}
 use Rattle.qcow2_base.specs.declared.on_disk_struct.v3_header_base.V3HeaderBase.{V3HeaderBase}
-use Rattle.qcow2_metadata.specs.Results.{and_then, provided, result_map}
+use Rattle.qcow2_metadata.specs.Results.{and_then, after_conditions, result_map}
 use Rattle.qcow2_metadata.specs.Header.{HeaderRecord, all_same, default_base, magic, names_by, other_features}
 use Rattle.qcow2_metadata.specs.Header.Chain.{SaysExtensions, extensions_at}
 use Rattle.qcow2_metadata.specs.Header.Extensions.{Extension, name_in, text}
@@ -56,7 +57,7 @@ version_conditions v2 =
     ∷ (nat_le 9 v2.cluster_bits && nat_le v2.cluster_bits 21, ClusterSize)
     ∷ []
 
--- the conditions on fields of a cluster size that is lawful
+-- the conditions on fields of a cluster size that is valid
 abbrev pub field_conditions : V2Header → V3HeaderBase → List (Bool × Fault)
 field_conditions v2 base =
     (nat_le 104 base.header_length, HeaderShort)
@@ -70,9 +71,9 @@ field_conditions v2 base =
 abbrev pub fixed_parts : Image → Result (V2Header × V3HeaderBase) Fault
 fixed_parts image =
     let v2 = v2_at image in
-    provided (version_conditions v2) (λ _.
+    after_conditions (version_conditions v2) (λ _.
     let base = base_at image v2.version in
-    provided (field_conditions v2 base) (λ _. Ok (v2, base)))
+    after_conditions (field_conditions v2 base) (λ _. Ok (v2, base)))
 
 -- the conditions on the place of the backing file's name
 abbrev pub name_conditions : V2Header → List (Bool × Fault)
@@ -81,11 +82,11 @@ name_conditions v2 =
     ∷ (nat_le (v2.backing_file_offset + v2.backing_file_size) (2 ^ v2.cluster_bits), BackingNamePlace)
     ∷ []
 
--- the backing file's name, where the header says where it stands
+-- the backing file's name, where the header says where it is
 abbrev pub backing_name : Image → V2Header → Result (Option (List ℕ)) Fault
 backing_name image v2 = elim (v2.backing_file_offset == 0) [
   | true ↦ Ok None
-  | false ↦ provided (name_conditions v2) (λ _.
+  | false ↦ after_conditions (name_conditions v2) (λ _.
       result_map Some (text BackingNameText (bytes_at image v2.backing_file_offset v2.backing_file_size)))
 ]
 
@@ -104,9 +105,9 @@ last_conditions base extensions =
     ∷ (other_features base == 0, Incompatible (other_features base))
     ∷ []
 
--- the part that version 3 adds stands behind the first, and version 2 has none
+-- the part that version 3 adds comes after the first, and version 2 has none
 pub record IsBase (image : Image) (version : ℕ) (base : V3HeaderBase) : Type 0 where
-  pub version_3 : version ≡ 3 → HoldsLayout image (moved 72 (v3_header_base base))
+  pub version_3 : version ≡ 3 → HoldsLayout image (fields_moved_by 72 (v3_header_base base))
   pub version_2 : version ≡ 2 → base ≡ default_base
 
 -- the backing file's name: at most 1023 bytes of text, within the first cluster
@@ -150,16 +151,9 @@ pub record IsHeader (image : Image) (header : HeaderRecord) : Type 0 where
   pub one_data_file : AreSame (names_by (name_in kind.ExternalDataFileName) header.extensions)
   pub features : other_features header.base ≡ 0
 
--- the faults of a load, whatever the storage tells: those of the grammar, want of memory, a failed storage
+-- the faults of a load, whatever is known of the storage: those of the grammar, memory that ran out, a failed storage
 abbrev pub IsHeaderFault : Fault → Type 0
 IsHeaderFault fault = (fault_number fault ≤ 17) ⊎ (fault ≡ NoMemory) ⊎ (fault ≡ Storage)
-
--- a load that ended in this answer follows the grammar: an Ok is the image's header, and after a fault but a
--- failed storage and want of memory the image has none
-abbrev pub FollowsGrammar : Result HeaderRecord Fault → Image → Type 0
-FollowsGrammar answer image = MatchResult answer
-    (λ header. IsHeader image header)
-    (λ fault. (fault ≡ Storage) ⊎ (fault ≡ NoMemory) ⊎ ((header : HeaderRecord) → ¬ (IsHeader image header)))
 
 -- the other image has the same first cluster: 2 ^ cluster_bits bytes, as the image says, and 512 in any case
 abbrev pub SameFirstCluster : Image → Image → Type 0
@@ -182,7 +176,7 @@ header_of image =
     and_then (fixed_parts image) (λ parts.
     and_then (backing_name image parts.0) (λ name.
     and_then (header_extensions image parts.0 parts.1) (λ extensions.
-    provided (last_conditions parts.1 extensions) (λ _.
+    after_conditions (last_conditions parts.1 extensions) (λ _.
     Ok (record {
       v2 = parts.0;
       base = parts.1;

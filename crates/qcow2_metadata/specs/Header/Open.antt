@@ -1,11 +1,12 @@
+-- What does a load of a header return, and what does it write where the image is to be written?
 use Rattle.std.specs.Prelude.{◌≡◌, ◌⊎◌, ℕ, ◌==◌, ◌&&◌, Bool, true, false, not, IsTrue, List, [], length, Some, IfErr, IfOk, IsOkAnd, OnOk, Result, Ok, Err}
-use Rattle.qcow2_base.specs.Storage.{Holds, Image, OnImage, OnImages, OnlyReads, OnlyWrites, StorageState}
+use Rattle.qcow2_base.specs.Storage.{Holds, OnImage, OnImages, OnlyReads, OnlyWrites, StorageState}
 use Rattle.qcow2_base.specs.declared.fault.Fault.{Fault}
 use Rattle.qcow2_base.specs.declared.fault.Fault.TheVariants.{HeaderTooLong}
 use Rattle.qcow2_metadata.specs.Results.{Answers, and_then}
 use Rattle.qcow2_metadata.specs.Header.{HeaderRecord}
-use Rattle.qcow2_metadata.specs.Header.Grammar.{FollowsGrammar, IsHeaderFault, SameFirstCluster, header_of}
-use Rattle.qcow2_metadata.specs.Header.Text.{IsSettled, IsWrittenHeader, chosen_text, kept}
+use Rattle.qcow2_metadata.specs.Header.Grammar.{IsHeaderFault, header_of}
+use Rattle.qcow2_metadata.specs.Header.Text.{IsSettled, IsWrittenHeader, chosen_text, header_after_write}
 
 -- the header with no autoclear feature
 abbrev pub without_autoclear : HeaderRecord → HeaderRecord
@@ -15,10 +16,10 @@ without_autoclear header = record header { base = record header.base { autoclear
 abbrev pub is_rewritten : Bool → HeaderRecord → Bool
 is_rewritten writable header = writable && not (header.base.autoclear_features == 0)
 
--- what a load answers, by what it read: who writes to an image leaves no autoclear feature in its header
-abbrev pub opened : Bool → Result HeaderRecord Fault → Result HeaderRecord Fault
-opened writable read = and_then read (λ header. elim (is_rewritten writable header) [
-  | true ↦ kept (without_autoclear header)
+-- what a load returns, by what it read: who writes to an image leaves no autoclear feature in its header
+abbrev pub header_after_load : Bool → Result HeaderRecord Fault → Result HeaderRecord Fault
+header_after_load writable read = and_then read (λ header. elim (is_rewritten writable header) [
+  | true ↦ header_after_write (without_autoclear header)
   | false ↦ Ok header
 ])
 
@@ -31,11 +32,11 @@ opened_text writable (Ok header) = elim (is_rewritten writable header) [
 ]
 
 -- how many bytes a load may change: as many as it places of what it reads. What a write says of its range is said only
--- where the storage tells its bytes, so elsewhere the number says nothing
+-- where the storage's bytes are known, so elsewhere the number says nothing
 abbrev pub opened_length : Bool → StorageState → ℕ
 opened_length writable old = length (opened_text writable (header_of old.byte_at))
 
--- the faults of a load, whatever the storage tells: a header that is written may be too long
+-- the faults of a load, whatever is known of the storage: a header that is written may be too long
 abbrev pub IsOpenFault : Bool → Fault → Type 0
 IsOpenFault writable fault = IsHeaderFault fault ⊎ ((writable ≡ true) × (fault ≡ HeaderTooLong))
 
@@ -44,8 +45,8 @@ abbrev pub HadToWrite : Bool → StorageState → Type 0
 HadToWrite writable old =
     IsTrue old.tells × IsOkAnd (header_of old.byte_at) (λ header. IsTrue (is_rewritten writable header))
 
--- a load that ended in this answer: it only reads where nobody is to write, and else it places the header without
--- autoclear features, where it had any, and changes no byte past it. The header that it answers then is written and
+-- a load that ended in this answer: it only reads where nobody is to write. Else it places the header without
+-- autoclear features, where it had any, and changes no byte past it. The header that it returns then is written and
 -- settled, as after any write
 pub record Opens (writable : Bool) (answer : Result HeaderRecord Fault) (old new : StorageState) : Type 0 where
   pub reads : writable ≡ false → OnlyReads answer old new
@@ -55,11 +56,8 @@ pub record Opens (writable : Bool) (answer : Result HeaderRecord Fault) (old new
   pub settled : HadToWrite writable old → IfOk answer IsSettled
 
 -- a load of an image's header ended in this answer: the header that the bytes have by the grammar, opened, or the fault
--- of the first condition that they fail; and the same where other bytes have the same first cluster
+-- of the first condition that they fail
 pub record Loads (writable : Bool) (answer : Result HeaderRecord Fault) (old new : StorageState) : Type 0 where
-  pub exact : OnImage old (λ bytes. Answers (λ header. header) answer (opened writable (header_of bytes)))
-  pub grammar : writable ≡ false → OnImage old (λ bytes. FollowsGrammar answer bytes)
-  pub first_cluster : OnImage old (λ bytes. (other : Image) → SameFirstCluster bytes other
-      → Answers (λ header. header) answer (opened writable (header_of other)))
+  pub exact : OnImage old (λ bytes. Answers (λ header. header) answer (header_after_load writable (header_of bytes)))
   pub faults : IfErr answer (IsOpenFault writable)
   pub storage : Opens writable answer old new

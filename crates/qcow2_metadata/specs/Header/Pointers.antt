@@ -1,3 +1,4 @@
+-- What does a header say once the disk's size or a table is another, and which of its bytes are written then?
 use Rattle.std.specs.Prelude.{◌≡◌, ℕ, ◌+◌, ◌-◌, ◌*◌, ◌^◌, ◌≤◌, List, [], ◌∷◌, length, nat_lt, if◌then◌else◌, OnOk, IsOkUnless, Option, Some, None, Result}
 use Rattle.std.specs.Int.{div_ceil}
 use Rattle.qcow2_base.specs.OnDiskStruct.{LayoutField, number_in, v2_header}
@@ -14,7 +15,7 @@ use Rattle.qcow2_metadata.specs.declared.entries.ClustersToFreeEntry.{ClustersTo
 abbrev pub with_size : HeaderRecord → ℕ → HeaderRecord
 with_size header size = record header { v2 = record header.v2 { size = size } }
 
--- the header with another L1 table: so many entries from an offset on
+-- the header with another L1 table: a number of entries from an offset on
 abbrev pub with_l1_table : HeaderRecord → ℕ → ℕ → HeaderRecord
 with_l1_table header offset entries = record header {
   v2 = record header.v2 {
@@ -23,7 +24,7 @@ with_l1_table header offset entries = record header {
   };
 }
 
--- the header with another refcount table: so many clusters from an offset on
+-- the header with another refcount table: a number of clusters from an offset on
 abbrev pub with_reftable : HeaderRecord → ℕ → ℕ → HeaderRecord
 with_reftable header offset clusters = record header {
   v2 = record header.v2 {
@@ -32,7 +33,7 @@ with_reftable header offset clusters = record header {
   };
 }
 
--- why a header can't refer to a table of so many units: it has no cluster, or the field can't count them
+-- why a header can't refer to a table of that many units: it has no cluster, or the field can't count them
 abbrev pub pointer_fault : TableState → ℕ → Option Fault
 pointer_fault table count = elim table.cluster [
   | None ↦ Some NotPlaced
@@ -54,8 +55,8 @@ HoldsBetween image first end (f ∷ fields) =
     (first ≤ f.place → f.place + f.size ≤ end → number_in f.order image f.place f.size ≡ f.value)
     × HoldsBetween image first end fields
 
--- a write of the header's first part between two places, which ended in this answer: after an Ok the fields
--- between them stand there, and no byte outside the range changes
+-- a write of the header's first part between two places, which ended in this answer. After an Ok the fields
+-- between them are there, and no byte outside the range changes
 pub record WritesPart {T : Type 0} (answer : Result T Fault) (v2 : V2Header) (first end : ℕ) (old new : StorageState) : Type 0 where
   pub written : OnOk answer (OnImages old new (λ _ after. HoldsBetween after first end (v2_header v2)))
   pub faults : IsOkUnless answer Storage

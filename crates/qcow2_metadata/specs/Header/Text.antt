@@ -1,3 +1,4 @@
+-- Which bytes are written for a header, and what does it read back as?
 use Rattle.std.specs.Prelude.{◌≡◌, All, ℕ, ◌<◌, ◌+◌, ◌-◌, ◌^◌, ◌==◌, nat_le, ◌||◌, Bool, true, false, if◌then◌else◌, List, [], ◌∷◌, ◌++◌, length, map, replicate, Option, Some, None, Result, Ok, Err, MatchResult}
 use Rattle.std.specs.Int.{bytes_high_first, next_multiple_of}
 use Rattle.std.specs.List.{filter, flat_map}
@@ -9,7 +10,7 @@ use Rattle.qcow2_base.specs.declared.fault.Fault.TheVariants.{HeaderTooLong, Nam
 use Rattle.qcow2_base.specs.declared.on_disk_struct.header_extension_header.HeaderExtensionHeader.{HeaderExtensionHeader}
 use Rattle.qcow2_base.specs.declared.on_disk_struct.v2_header.V2Header.{V2Header}
 use Rattle.qcow2_base.specs.declared.on_disk_struct.v3_header_base.V3HeaderBase.{V3HeaderBase}
-use Rattle.qcow2_metadata.specs.Results.{provided}
+use Rattle.qcow2_metadata.specs.Results.{after_conditions}
 use Rattle.qcow2_metadata.specs.Header.{HeaderRecord}
 use Rattle.qcow2_metadata.specs.Header.Extensions.{Extension, FeatureNameTable, data_of, normal_extension, type_number}
 use Rattle.qcow2_metadata.specs.Header.Grammar.{IsHeader}
@@ -24,30 +25,30 @@ abbrev pub AreFitting : List LayoutField → Type 0
 AreFitting fields = All (λ f. f.value < 256 ^ f.size) fields
 
 -- the bytes, and zeros up to a multiple of 8 of them
-abbrev pub padded : List ℕ → List ℕ
-padded bytes = bytes ++ replicate (next_multiple_of (length bytes) 8 - length bytes) 0
+abbrev pub padded_bytes : List ℕ → List ℕ
+padded_bytes bytes = bytes ++ replicate (next_multiple_of (length bytes) 8 - length bytes) 0
 
--- what stands before its data
+-- what comes before its data
 abbrev pub extension_header_of : Extension → HeaderExtensionHeader
 extension_header_of extension = record { extension_type = type_number extension; length = length (data_of extension) }
 
 -- an extension in the image: its type, its length, and its data with the padding
 abbrev pub extension_text : Extension → List ℕ
-extension_text extension = fields_text (header_extension_header (extension_header_of extension)) ++ padded (data_of extension)
+extension_text extension = fields_text (header_extension_header (extension_header_of extension)) ++ padded_bytes (data_of extension)
 
 -- the extensions one after another, and End, which is eight zero bytes
 abbrev pub extensions_text : List Extension → List ℕ
 extensions_text extensions = flat_map extension_text extensions ++ replicate 8 0
 
--- where the extensions begin: behind the first part, and in version 3 behind the second one and the padded
+-- where the extensions begin: after the first part, and in version 3 after the second one and the padded
 -- unknown fields
 abbrev pub header_end : HeaderRecord → ℕ
 header_end header = elim (header.v2.version == 3) [
-  | true ↦ 104 + length (padded header.unknown_header_fields)
+  | true ↦ 104 + length (padded_bytes header.unknown_header_fields)
   | false ↦ 72
 ]
 
--- where the backing file's name begins: right behind the extensions
+-- where the backing file's name begins: right after the extensions
 abbrev pub name_place : HeaderRecord → ℕ
 name_place header = header_end header + length (extensions_text header.extensions)
 
@@ -77,18 +78,18 @@ abbrev pub placed_base : HeaderRecord → V3HeaderBase
 placed_base header = base_with_length header.v2.version header.base (header_end header)
 
 -- the header with the places that its text has
-abbrev pub placed : HeaderRecord → HeaderRecord
-placed header = record header { v2 = placed_v2 header; base = placed_base header }
+abbrev pub header_with_places : HeaderRecord → HeaderRecord
+header_with_places header = record header { v2 = placed_v2 header; base = placed_base header }
 
--- what stands before the extensions
+-- what comes before the extensions
 abbrev pub parts_text : HeaderRecord → List ℕ
 parts_text header = elim (header.v2.version == 3) [
   | true ↦ fields_text (v2_header (placed_v2 header)) ++ fields_text (v3_header_base (placed_base header))
-      ++ padded header.unknown_header_fields
+      ++ padded_bytes header.unknown_header_fields
   | false ↦ fields_text (v2_header (placed_v2 header))
 ]
 
--- the bytes of a header: its parts, the extensions, and the backing file's name, with nothing behind it
+-- the bytes of a header: its parts, the extensions, and the backing file's name, with nothing after it
 unfoldable pub header_text : HeaderRecord → List ℕ
 header_text header = parts_text header ++ extensions_text header.extensions ++ name_text header.backing_filename
 
@@ -98,8 +99,8 @@ is_other (FeatureNameTable names) = false
 is_other _ = true
 
 -- the header with no table of feature names
-abbrev pub bare : HeaderRecord → HeaderRecord
-bare header = record header { extensions = filter is_other header.extensions }
+abbrev pub header_without_names : HeaderRecord → HeaderRecord
+header_without_names header = record header { extensions = filter is_other header.extensions }
 
 -- the extensions that are written: all, or those other than tables of feature names
 abbrev pub chosen_extensions : Bool → List Extension → List Extension
@@ -111,8 +112,8 @@ abbrev pub written_text : Bool → Extension → List ℕ
 written_text with_names extension = if with_names || is_other extension then extension_text extension else []
 
 -- the header that is written: the whole one, or that without feature names
-abbrev pub chosen : Bool → HeaderRecord → HeaderRecord
-chosen with_names header =
+abbrev pub header_to_write : Bool → HeaderRecord → HeaderRecord
+header_to_write with_names header =
     record header { extensions = chosen_extensions with_names header.extensions }
 
 -- whether its text fits the first cluster
@@ -126,12 +127,12 @@ is_short (Some name) = nat_le (length name) max_backing_filename
 
 -- the header as a write leaves it: with the places of its text, and where that doesn't fit, without feature
 -- names; or why it can't be written
-unfoldable pub kept : HeaderRecord → Result HeaderRecord Fault
-kept header =
-    provided ((is_short header.backing_filename, NameTooLong) ∷ []) (λ _.
+unfoldable pub header_after_write : HeaderRecord → Result HeaderRecord Fault
+header_after_write header =
+    after_conditions ((is_short header.backing_filename, NameTooLong) ∷ []) (λ _.
     elim (fits_first_cluster header) [
-      | true ↦ Ok (placed header)
-      | false ↦ provided ((fits_first_cluster (bare header), HeaderTooLong) ∷ []) (λ _. Ok (placed (bare header)))
+      | true ↦ Ok (header_with_places header)
+      | false ↦ after_conditions ((fits_first_cluster (header_without_names header), HeaderTooLong) ∷ []) (λ _. Ok (header_with_places (header_without_names header)))
     ])
 
 -- the bytes of a header that is written
@@ -141,13 +142,13 @@ placed_text (Err fault) = []
 
 -- the bytes that a write places; none where it is refused
 abbrev pub chosen_text : HeaderRecord → List ℕ
-chosen_text header = placed_text (kept header)
+chosen_text header = placed_text (header_after_write header)
 
--- what a header that was written reads back as: the unknown fields have their padding, which version 2 has
+-- what a header that was written reads back as. The unknown fields have their padding, which version 2 has
 -- not, and the names of features are those that the image has
-abbrev pub normal : HeaderRecord → HeaderRecord
-normal header = record header {
-  unknown_header_fields = padded header.unknown_header_fields;
+abbrev pub header_read_back : HeaderRecord → HeaderRecord
+header_read_back header = record header {
+  unknown_header_fields = padded_bytes header.unknown_header_fields;
   extensions = map normal_extension header.extensions;
 }
 
@@ -162,17 +163,17 @@ pub record IsLayout (header : HeaderRecord) (layout : Layout) : Type 0 where
 -- the layout that is written, or why there is none
 abbrev pub IsChosen : HeaderRecord → Result Layout Fault → Type 0
 IsChosen header answer = MatchResult answer
-    (λ layout. IsLayout (chosen layout.with_names header) layout × (kept header ≡ Ok (placed (chosen layout.with_names header))))
-    (λ fault. kept header ≡ Err fault)
+    (λ layout. IsLayout (header_to_write layout.with_names header) layout × (header_after_write header ≡ Ok (header_with_places (header_to_write layout.with_names header))))
+    (λ fault. header_after_write header ≡ Err fault)
 
--- a header that was written: its text stands at the image's start, and is read back as the normal form
+-- a header that was written: its text is at the image's start, and is read back as the normal form
 pub record IsWrittenHeader (image : Image) (header : HeaderRecord) : Type 0 where
   pub text : Holds image 0 (header_text header)
-  pub reads_back : IsHeader image (normal header)
+  pub reads_back : IsHeader image (header_read_back header)
 
 -- a header that was written stays as it is: to write it again places the same bytes, and so does what it reads
 -- back as, which reads back as itself
 pub record IsSettled (header : HeaderRecord) : Type 0 where
-  pub again : kept header ≡ Ok header
-  pub normal_again : kept (normal header) ≡ Ok (normal header)
-  pub normal_once : normal (normal header) ≡ normal header
+  pub again : header_after_write header ≡ Ok header
+  pub normal_again : header_after_write (header_read_back header) ≡ Ok (header_read_back header)
+  pub normal_once : header_read_back (header_read_back header) ≡ header_read_back header

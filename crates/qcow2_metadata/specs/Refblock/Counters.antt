@@ -1,3 +1,4 @@
+-- Which list in memory holds the counters of a refcount block?
 use Rattle.std.specs.Prelude.{◌≡◌, ℕ, ◌^◌, ◌<◌, ◌≤◌, List}
 use Rattle.std.specs.List.{All}
 use Rattle.qcow2_metadata.specs.declared.refblock.counters.Counters.{Counters}

@@ -1,3 +1,4 @@
+-- What may be changed of a refcount block, and what does a step of a counter do?
 use Rattle.std.specs.Prelude.{◌≡◌, ◌==◌, MatchOption, Result, Ok, Err, ℕ, ◌+◌, ◌-◌, if◌then◌else◌, List, slice_index, slice_set, Option, Some, None}
 use Rattle.std.specs.Borrow.{MutBor}
 use Rattle.qcow2_metadata.specs.Refblock.{BlockState, greatest_counter, stepped_block}
@@ -5,7 +6,7 @@ use Rattle.qcow2_metadata.specs.declared.refblock.guard.RefBlockWriteGuard.{RefB
 use Rattle.qcow2_base.specs.declared.fault.Fault.{Fault}
 use Rattle.qcow2_base.specs.declared.fault.Fault.TheVariants.{CounterRange}
 
--- the block that a guard has leave to change
+-- the block that a guard has permission to change
 abbrev pub guarded_block : RefBlockWriteGuard → BlockState
 guarded_block guard = guard.block.now
 
@@ -24,18 +25,18 @@ pub data CounterChange : Type 0 where
   Decrement : CounterChange
 
 -- the counter after a change, where that can be made
-abbrev pub stepped : ℕ → CounterChange → ℕ → Option ℕ
-stepped order Increment counter = if counter == greatest_counter order then None else Some (counter + 1)
-stepped order Decrement counter = if counter == 0 then None else Some (counter - 1)
+abbrev pub counter_after : ℕ → CounterChange → ℕ → Option ℕ
+counter_after order Increment counter = if counter == greatest_counter order then None else Some (counter + 1)
+counter_after order Decrement counter = if counter == 0 then None else Some (counter - 1)
 
 -- the counters after a change of the one at an index, which became this if the change was made
 abbrev pub after_change : List ℕ → ℕ → Option ℕ → List ℕ
 after_change counters index None = counters
 after_change counters index (Some counter) = slice_set counters index counter
 
--- a change of the counter at an index, which answered the number before it, or was refused and changed nothing
+-- a change of the counter at an index, which returned the number before it, or was refused and changed nothing
 pub record Steps (change : CounterChange) (index : ℕ) (answer : Result ℕ Fault) (old new : BlockState) : Type 0 where
-  pub answers : MatchOption (stepped old.refcount_order change (slice_index old.counters index))
-      (answer ≡ Err CounterRange) (λ counter. answer ≡ Ok (slice_index old.counters index))
-  pub steps : MatchOption (stepped old.refcount_order change (slice_index old.counters index))
+  pub answers : MatchOption (counter_after old.geometry.refcount_order change (slice_index old.numbers index))
+      (answer ≡ Err CounterRange) (λ counter. answer ≡ Ok (slice_index old.numbers index))
+  pub steps : MatchOption (counter_after old.geometry.refcount_order change (slice_index old.numbers index))
       (new ≡ old) (λ counter. new ≡ stepped_block old index counter)

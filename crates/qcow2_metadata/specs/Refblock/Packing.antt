@@ -1,3 +1,4 @@
+-- How do the counters of a refcount block lie in its bytes?
 use Rattle.std.specs.Prelude.{ℕ, Bool, ◌+◌, ◌-◌, ◌*◌, ◌/◌, ◌%◌, ◌^◌, nat_le, if◌then◌else◌, List, [], ◌∷◌, map, take, drop}
 use Rattle.std.specs.List.{range_with_len}
 use Rattle.qcow2_base.specs.Bits.{field}
@@ -39,8 +40,8 @@ from_digits base (digit ∷ digits) = digit + base * from_digits base digits
 
 -- the bytes that counters take in an image: each is the sum of its counters, shifted to their places, or a part
 -- of one big-endian counter
-abbrev pub packed : ℕ → List ℕ → Image
-packed order counters j =
+abbrev pub counter_bytes : ℕ → List ℕ → Image
+counter_bytes order counters j =
     if is_narrow order
     then from_digits (2 ^ width order) (take (per_byte order) (drop (per_byte order * j) counters))
     else big_endian_bytes (bytes_each order) counters j

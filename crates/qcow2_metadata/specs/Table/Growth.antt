@@ -1,12 +1,13 @@
+-- How many entries does a table have after it has grown, and how many spare ones does a refcount table take along?
 use Rattle.std.specs.Prelude.{ℕ, ◌+◌, ◌-◌, ◌*◌, ◌/◌, ◌^◌, ◌≤◌, max, nat_le, if◌then◌else◌, List, ◌++◌, length, replicate, Option, Some, None}
 use Rattle.std.specs.Int.{div_ceil, next_multiple_of}
 use Rattle.qcow2_base.specs.Format.{most_reftable_entries}
 use Rattle.qcow2_metadata.specs.Header.{HeaderRecord}
-use Rattle.qcow2_metadata.specs.Table.{TableState}
+use Rattle.qcow2_metadata.specs.Table.{TableState, l2_entries}
 
 -- the number of entries that a table has after it has grown to hold an index: whole clusters of them
 abbrev pub grown_count : TableState → ℕ → ℕ
-grown_count table index = next_multiple_of (max (index + 1) (length table.numbers)) (2 ^ (table.geometry.cluster_bits - 3))
+grown_count table index = next_multiple_of (max (index + 1) (length table.numbers)) (l2_entries table.geometry.cluster_bits)
 
 -- the entries, and then zeros up to a count
 abbrev pub grown_numbers : List ℕ → ℕ → List ℕ
@@ -20,16 +21,16 @@ pub record Growth : Type 0 where
   pub cluster_entries : ℕ
   pub block_counters : ℕ
 
--- the growth of a table of so many entries in an image with this header
+-- the growth of a table of that many entries in an image with this header
 abbrev pub growth_of : HeaderRecord → ℕ → ℕ → Growth
 growth_of header len index = record {
   len = len;
   index = index;
-  cluster_entries = 2 ^ (header.v2.cluster_bits - 3);
+  cluster_entries = l2_entries header.v2.cluster_bits;
   block_counters = 2 ^ (header.v2.cluster_bits + 3 - header.base.refcount_order);
 }
 
--- how many entries the table has with so many spare ones after the index: whole clusters of them
+-- how many entries the table has with that many spare ones after the index: whole clusters of them
 abbrev pub entries_with : Growth → ℕ → ℕ
 entries_with growth spare = next_multiple_of (max (growth.index + 1 + spare) growth.len) growth.cluster_entries
 
@@ -37,7 +38,7 @@ entries_with growth spare = next_multiple_of (max (growth.index + 1 + spare) gro
 abbrev pub clusters_with : Growth → ℕ → ℕ
 clusters_with growth spare = entries_with growth spare / growth.cluster_entries
 
--- so many spare blocks have counters enough for the table's clusters and for their own
+-- that many spare blocks have counters enough for the table's clusters and for their own
 abbrev pub IsEnough : Growth → ℕ → Type 0
 IsEnough growth spare = clusters_with growth spare + spare ≤ spare * growth.block_counters
 
@@ -48,7 +49,7 @@ pub record IsLeastSpare (growth : Growth) (spare : ℕ) : Type 0 where
   pub least : (fewer : ℕ) → 1 ≤ fewer → IsEnough growth fewer → spare ≤ fewer
 
 -- the same by division: a block counts its own cluster, and with its other counters clusters of the table that
--- hold so many entries; one of these is the block's own where it stands after the index
+-- hold that many entries. One of these entries is the block's own where it comes after the index
 abbrev pub least_spare : Growth → ℕ
 least_spare growth =
     let entries = growth.cluster_entries * (growth.block_counters - 1) in
@@ -58,7 +59,7 @@ least_spare growth =
 abbrev pub grown_reftable_count : Growth → ℕ
 grown_reftable_count growth = entries_with growth (least_spare growth)
 
--- the least spare, where a refcount table may have so many entries
+-- the least spare, where a refcount table may have that many entries
 abbrev pub possible_spare : Growth → Option ℕ
 possible_spare growth =
     if nat_le (grown_reftable_count growth) most_reftable_entries then Some (least_spare growth) else None

@@ -1,4 +1,5 @@
-use Rattle.std.specs.Prelude.{◌≡◌, ℕ, Bool, true, false, not, ◌&&◌, ◌==◌, ◌+◌, ◌*◌, ◌^◌, List, [], ◌∷◌, ◌++◌, length, slice_index, slice_set, if◌then◌else◌, Option, Some, None, option_to_list, nat_le}
+-- What does a change of an L2 table's entries do to the entries, and to references to clusters?
+use Rattle.std.specs.Prelude.{◌≡◌, ℕ, Bool, true, false, not, ◌&&◌, ◌==◌, ◌+◌, ◌*◌, ◌^◌, List, [], ◌∷◌, ◌++◌, slice_index, slice_set, if◌then◌else◌, Option, Some, None, option_to_list, nat_le}
 use Rattle.std.specs.Borrow.{MutBor}
 use Rattle.std.specs.Int.NonZero.{non_zero_u64_get}
 use Rattle.std.specs.List.{sum_by}
@@ -6,12 +7,12 @@ use Rattle.qcow2_base.specs.Format.{max_offset}
 use Rattle.qcow2_metadata.specs.Entries.L2Entry.{IsAllocation, Meets, allocation, has_host_cluster, meets, with_zero_flag}
 use Rattle.qcow2_metadata.specs.Entries.{is_among}
 use Rattle.qcow2_metadata.specs.Header.{Geometry}
-use Rattle.qcow2_metadata.specs.Table.{TableState, edited}
+use Rattle.qcow2_metadata.specs.Table.{TableState, table_after_edit}
 use Rattle.qcow2_metadata.specs.declared.entries.ClustersToFreeEntry.{ClustersToFreeEntry}
 use Rattle.qcow2_metadata.specs.declared.table.l2_guards.L2TableWriteGuard.{L2TableWriteGuard}
 use Rattle.qcow2_metadata.specs.declared.table.l2_guards.CompressedClusterReadGuard.{CompressedClusterReadGuard}
 
--- the table that a guard has leave to change
+-- the table that a guard has permission to change
 abbrev pub guarded_table : L2TableWriteGuard → TableState
 guarded_table guard = guard.table.now
 
@@ -39,10 +40,10 @@ abbrev pub data_entry : ℕ → ℕ → ℕ
 data_entry cb cluster = 2 ^ 63 + cluster * 2 ^ cb
 
 -- the entry after the change
-abbrev pub changed : Geometry → EntryEdit → ℕ → ℕ
-changed g (to_data cluster) v = data_entry g.cluster_bits cluster
-changed g (to_zeros keep) v = if keep && has_host_cluster g v then with_zero_flag v else 1
-changed g to_nothing v = 0
+abbrev pub entry_after : Geometry → EntryEdit → ℕ → ℕ
+entry_after g (to_data cluster) v = data_entry g.cluster_bits cluster
+entry_after g (to_zeros keep) v = if keep && has_host_cluster g v then with_zero_flag v else 1
+entry_after g to_nothing v = 0
 
 -- whether these clusters are just the one
 abbrev pub is_just : ℕ → Option ClustersToFreeEntry → Bool
@@ -50,20 +51,20 @@ is_just cluster None = false
 is_just cluster (Some clusters) = clusters.first.0 == cluster && clusters.count.0 == 1
 
 -- whether the entry goes on referring to all that it refers to
-abbrev pub keeps : Geometry → EntryEdit → ℕ → Bool
-keeps g (to_data cluster) v = is_just cluster (allocation g v)
-keeps g (to_zeros keep) v = keep && has_host_cluster g v
-keeps g to_nothing v = false
+abbrev pub keeps_clusters : Geometry → EntryEdit → ℕ → Bool
+keeps_clusters g (to_data cluster) v = is_just cluster (allocation g v)
+keeps_clusters g (to_zeros keep) v = keep && has_host_cluster g v
+keeps_clusters g to_nothing v = false
 
 -- the host clusters that the change hands back: all that the entry referred to, unless it goes on doing so
-abbrev pub dropped : Geometry → EntryEdit → ℕ → Option ClustersToFreeEntry
-dropped g edit v = if keeps g edit v then None else allocation g v
+abbrev pub clusters_freed_by : Geometry → EntryEdit → ℕ → Option ClustersToFreeEntry
+clusters_freed_by g edit v = if keeps_clusters g edit v then None else allocation g v
 
 -- the host cluster that gains a reference, if one does
-abbrev pub gained : Geometry → EntryEdit → ℕ → Option ℕ
-gained g (to_data cluster) v = if keeps g (to_data cluster) v then None else Some cluster
-gained g (to_zeros keep) v = None
-gained g to_nothing v = None
+abbrev pub cluster_gained_by : Geometry → EntryEdit → ℕ → Option ℕ
+cluster_gained_by g (to_data cluster) v = if keeps_clusters g (to_data cluster) v then None else Some cluster
+cluster_gained_by g (to_zeros keep) v = None
+cluster_gained_by g to_nothing v = None
 
 -- one, where the test holds
 abbrev pub one_if : Bool → ℕ
@@ -94,7 +95,7 @@ pub record RunEnd : Type 0 where
 
 -- the numbers after one edit
 abbrev pub after_edit : Geometry → TableEdit → List ℕ → List ℕ
-after_edit g e numbers = slice_set numbers e.index (changed g e.edit (slice_index numbers e.index))
+after_edit g e numbers = slice_set numbers e.index (entry_after g e.edit (slice_index numbers e.index))
 
 -- what edits leave of a table, one after the other
 abbrev pub run_of : Geometry → List TableEdit → List ℕ → RunEnd
@@ -104,8 +105,8 @@ run_of g (e ∷ edits) numbers =
     let rest = run_of g edits (after_edit g e numbers) in
     record {
       numbers = rest.numbers;
-      freed = option_to_list (dropped g e.edit v) ++ rest.freed;
-      gained = option_to_list (gained g e.edit v) ++ rest.gained;
+      freed = option_to_list (clusters_freed_by g e.edit v) ++ rest.freed;
+      gained = option_to_list (cluster_gained_by g e.edit v) ++ rest.gained;
     }
 
 -- whether an entry can hold a host cluster's offset, and it isn't the header's, but in an external data file
@@ -120,16 +121,16 @@ can_be_made g (to_data cluster) = is_mappable g cluster
 can_be_made g (to_zeros keep) = true
 can_be_made g to_nothing = true
 
--- whether an edit can be made of a table with so many entries
+-- whether an edit can be made of a table with that many entries
 abbrev pub fits_table : Geometry → ℕ → TableEdit → Bool
 fits_table g entries e = nat_le (e.index + 1) entries && can_be_made g e.edit
 
 -- a change of the entry at an index of a table, which handed these clusters back: all that the entry referred to,
 -- unless it goes on doing so
 pub record MakesEdit (edit : EntryEdit) (index : ℕ) (freed : Option ClustersToFreeEntry) (old new : TableState) : Type 0 where
-  pub table : new ≡ edited old index (changed old.geometry edit (slice_index old.numbers index))
-  pub freed_is : freed ≡ dropped old.geometry edit (slice_index old.numbers index)
-  pub met : keeps old.geometry edit (slice_index old.numbers index) ≡ false
+  pub table : new ≡ table_after_edit old index (entry_after old.geometry edit (slice_index old.numbers index))
+  pub freed_is : freed ≡ clusters_freed_by old.geometry edit (slice_index old.numbers index)
+  pub met : keeps_clusters old.geometry edit (slice_index old.numbers index) ≡ false
       → IsAllocation old.geometry (slice_index old.numbers index) freed
 
 -- the entry refers to this cluster and to no other

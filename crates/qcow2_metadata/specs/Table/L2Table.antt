@@ -1,3 +1,4 @@
+-- Where does an L2 table have compressed data, and how many guest clusters read on as one?
 use Rattle.std.specs.Prelude.{◌≡◌, ℕ, ◌+◌, ◌<◌, ◌≤◌, Option, Some, None, true, false}
 use Rattle.qcow2_metadata.specs.Entries.L2Mapping.{Mapping, compressed}
 use Rattle.qcow2_metadata.specs.Entries.Runs.{reads_on}
@@ -12,7 +13,7 @@ compressed_range _ = None
 abbrev pub compressed_at : TableState → ℕ → Option (ℕ × ℕ)
 compressed_at table guest_cluster = compressed_range (mapping_at table guest_cluster)
 
--- so many guest clusters from one on, one at least, read on from that one by a table. All are in the part of
+-- that many guest clusters from one on, one at least, read on from that one by a table. All are in the part of
 -- the disk that the table is for, and the next one of that part, if there is one, doesn't read on
 pub record IsMappedRun (table : TableState) (first count : ℕ) : Type 0 where
   pub some : 1 ≤ count

@@ -1,11 +1,13 @@
+-- What is written for one entry of a table, with those beside it?
 use Rattle.std.specs.Prelude.{◌≡◌, ◌≢◌, ◌⊎◌, ℕ, ◌+◌, ◌*◌, ◌/◌, ◌^◌, ◌<◌, ◌≤◌, max, nat_le, if◌then◌else◌, List, map, length, slice_index, Option, Some, option_map, Result, Err, OnOk, IfErr, IfSome}
 use Rattle.std.specs.List.{range_with_len}
 use Rattle.qcow2_metadata.specs.Pieces.{piece_size}
 use Rattle.qcow2_base.specs.Storage.{Image, OnImages, OnlyWrites, SameOutside, StorageState, be}
 use Rattle.qcow2_base.specs.declared.fault.Fault.{Fault}
 use Rattle.qcow2_base.specs.declared.fault.Fault.TheVariants.{NoMemory, Storage}
-use Rattle.qcow2_metadata.specs.Range.{IsWriteFault}
-use Rattle.qcow2_metadata.specs.Table.{Kind, TableOnStorage, TablePlace, numbers_at, offset_of, place_of, table_numbers, write_fault}
+use Rattle.qcow2_base.specs.declared.types.HostCluster.{HostCluster}
+use Rattle.qcow2_metadata.specs.Placed.{IsWriteFault, Layout, numbers_at, offset_of, write_fault}
+use Rattle.qcow2_metadata.specs.Table.{TableState, table_numbers}
 
 -- how many bytes are written for one entry, under cluster_bits: the greatest alignment that the storage asks
 -- for, eight at least, or eight where that is more than a cluster
@@ -25,38 +27,38 @@ entries_together cb storage index =
     let count = entry_alignment cb storage / 8 in
     record { first = index / count * count; count = count }
 
--- so many entries are a power of two, and no more than fill a cluster
+-- this number of entries is a power of two, and no more than fill a cluster
 abbrev pub IsPartOfCluster : ℕ → ℕ → Type 0
 IsPartOfCluster cb count = (k : ℕ) × (count ≡ 2 ^ k) × (k + 3 ≤ cb)
 
--- where entries begin in the image
-abbrev pub range_offset : TablePlace → EntryRange → ℕ
-range_offset place range = offset_of place + 8 * range.first
+-- where entries of the table at a cluster begin in the image
+abbrev pub range_offset : Layout → HostCluster → EntryRange → ℕ
+range_offset layout cluster range = offset_of layout cluster + 8 * range.first
 
 -- the numbers of these entries: those of the table, and zeros past its end
 abbrev pub numbers_in : EntryRange → List ℕ → List ℕ
 numbers_in range numbers = map (λ i. slice_index numbers i) (range_with_len range.first range.count)
 
--- the image has a table's numbers at its place, but perhaps for that at an index
-abbrev pub HasOthers : ℕ → TablePlace → List ℕ → Image → Type 0
-HasOthers index place numbers image = (i : ℕ) → i < length numbers → i ≢ index →
-    be image (offset_of place + 8 * i) 8 ≡ slice_index numbers i
+-- the image has a table's numbers at its cluster, but perhaps for that at an index
+abbrev pub HasOthers : ℕ → Layout → HostCluster → List ℕ → Image → Type 0
+HasOthers index layout cluster numbers image = (i : ℕ) → i < length numbers → i ≢ index →
+    be image (offset_of layout cluster + 8 * i) 8 ≡ slice_index numbers i
 
--- the entry at an index was written, with those beside it: their numbers stand in the new image, and the whole
--- table does where the old image had the others
-pub record IsWrittenEntry (index : ℕ) (range : EntryRange) (place : TablePlace) (numbers : List ℕ) (old new : Image) : Type 0 where
-  pub entries : table_numbers new (range_offset place range) range.count ≡ numbers_in range numbers
-  pub table : HasOthers index place numbers old → numbers_at place new ≡ numbers
+-- the entry at an index was written, with those beside it: their numbers are in the new image, and the whole table is
+-- where the old image had the others
+pub record IsWrittenEntry (index : ℕ) (range : EntryRange) (layout : Layout) (cluster : HostCluster) (numbers : List ℕ) (old new : Image) : Type 0 where
+  pub entries : table_numbers new (range_offset layout cluster range) range.count ≡ numbers_in range numbers
+  pub table : HasOthers index layout cluster numbers old → numbers_at layout cluster new ≡ numbers
 
--- the refusals of a write of one entry: those of a write, and want of memory, which is taken for more
+-- the refusals of a write of one entry: those of a write, and that memory ran out. It is taken for more
 -- bytes than a piece alone
 abbrev pub IsEntryWriteFault : EntryRange → Option Fault → Fault → Type 0
 IsEntryWriteFault range of_place fault = IsWriteFault of_place fault ⊎ ((fault ≡ NoMemory) × (piece_size < 8 * range.count))
 
 -- where the cluster that holds a table's entry begins
-abbrev pub cluster_offset : TablePlace → ℕ → ℕ
-cluster_offset place index =
-    let size = 2 ^ place.geometry.cluster_bits in (offset_of place + 8 * index) / size * size
+abbrev pub entry_cluster_offset : Layout → HostCluster → ℕ → ℕ
+entry_cluster_offset layout cluster index =
+    let size = 2 ^ layout.cluster_bits in (offset_of layout cluster + 8 * index) / size * size
 
 -- a write of these entries from an offset on that ended in this answer
 pub record WritesEntries {T : Type 0} (answer : Result T Fault) (offset : ℕ) (range : EntryRange) (numbers : List ℕ) (old new : StorageState) : Type 0 where
@@ -65,17 +67,15 @@ pub record WritesEntries {T : Type 0} (answer : Result T Fault) (offset : ℕ) (
       OnOk answer (table_numbers after offset range.count ≡ numbers_in range numbers))
   pub storage : OnlyWrites answer (Some offset) (8 * range.count) old new
 
--- a write of one entry of a table that ended in this answer. `storage` tells which bytes may change by the alignment, and
--- `cluster` tells callers who don't know that: none of any cluster but the entry's
-pub record WritesEntry (kind : Kind) (index : ℕ) (range : EntryRange) {T : Type 0} (answer : Result T Fault) (old new : TableOnStorage) : Type 0 where
-  pub refused : IfSome (write_fault kind old.table) (λ fault. answer ≡ Err fault)
-  pub faults : IfErr answer (IsEntryWriteFault range (write_fault kind old.table))
-  pub table : new.table ≡ old.table
-  pub written : OnImages old.storage new.storage (λ before after.
-      OnOk answer (IfSome (place_of old.table)
-      (λ place. IsWrittenEntry index range place old.table.numbers before after)))
-  pub cluster : OnImages old.storage new.storage (λ before after.
-      IfSome (place_of old.table) (λ place. SameOutside (cluster_offset place index)
-      (2 ^ place.geometry.cluster_bits) before after))
-  pub storage : OnlyWrites answer (option_map (λ place. range_offset place range) (place_of old.table)) (8 * range.count)
-      old.storage new.storage
+-- a write of one entry of a table that ended in this answer. `storage` says which bytes may change by the alignment, and
+-- `cluster` serves callers who don't know that: none of any cluster but the entry's
+pub record WritesEntry {T : Type 0} (layout : Layout) (index : ℕ) (range : EntryRange) (answer : Result T Fault) (old new : TableState) (before after : StorageState) : Type 0 where
+  pub refused : IfSome (write_fault layout old.cluster) (λ fault. answer ≡ Err fault)
+  pub faults : IfErr answer (IsEntryWriteFault range (write_fault layout old.cluster))
+  pub table : new ≡ old
+  pub written : OnImages before after (λ was is. OnOk answer (IfSome old.cluster
+      (λ cluster. IsWrittenEntry index range layout cluster old.numbers was is)))
+  pub cluster : OnImages before after (λ was is. IfSome old.cluster
+      (λ cluster. SameOutside (entry_cluster_offset layout cluster index) (2 ^ layout.cluster_bits) was is))
+  pub storage : OnlyWrites answer (option_map (λ cluster. range_offset layout cluster range) old.cluster) (8 * range.count)
+      before after

@@ -18,11 +18,11 @@ use std::num::NonZero;
 /// An entry of an L2 table.
 ///
 /// Standard (bit 62 is 0): bit 0 is the zero flag, bits 9 to 55 are the offset of a host cluster, bit
-/// 63 is the copied flag; bits 1 to 8 and 56 to 61 are reserved. Offset 0 is that of a cluster only
+/// 63 is the copied flag. Bits 1 to 8 and 56 to 61 are reserved. Offset 0 is that of a cluster only
 /// where it is copied and lies in an external data file; else it is none.
 ///
 /// Compressed (bit 62 is 1), with `x = 70 - cluster_bits`: bits 0 to x - 1 are the offset of the data,
-/// below 2^56, and bits x to 61 are the number of sectors of 512 bytes beyond the first; bit 63 is
+/// below 2^56. Bits x to 61 are the number of sectors of 512 bytes beyond the first. Bit 63 is
 /// reserved.
 #[derive(Clone, Copy, Debug, PartialEq, Eq)]
 pub struct L2Entry {
@@ -40,7 +40,7 @@ impl Model for L2Entry {
 }
 
 impl L2Entry {
-    ghost use Rattle.qcow2_metadata.specs.Entries.L2Entry.{IsAllocation, byte_range, compressed_length, compressed_offset, from_pair, has_host_cluster, host_offset, is_compressed, is_zero, l2_fault, l2_reserved_bits, shared, with_zero_flag};
+    ghost use Rattle.qcow2_metadata.specs.Entries.L2Entry.{IsAllocation, byte_range, compressed_length, compressed_offset, from_pair, has_host_cluster, host_offset, is_compressed, is_zero, l2_fault, l2_reserved_bits, entry_in_copy, with_zero_flag};
     ghost use Rattle.qcow2_metadata.specs.Entries.L2Mapping.{IsPlaced, host_cluster, mapping, meaning};
     ghost use Rattle.qcow2_metadata.specs.Entries.{is_copied};
 
@@ -95,7 +95,7 @@ impl L2Entry {
     // stays where it says that offset 0 is that of a cluster, in an external data file.
     #[inline]
     pub(crate) fn shared(self, external_data_file: bool) -> L2Entry
-        ensures number { result ≡ shared external_data_file self }
+        ensures number { result ≡ entry_in_copy external_data_file self }
         ensures lawful { (cluster_bits : ℕ) →
             l2_fault cluster_bits self ≡ None → l2_fault cluster_bits result ≡ None }
     {
@@ -220,7 +220,7 @@ impl L2Entry {
         Some(offset.cluster(cluster_bits))
     }
 
-    /// What a guest cluster with this entry reads as. Always answers a mapping.
+    /// What a guest cluster with this entry reads as. Always returns a mapping.
     pub fn into_mapping(
         self,
         guest_cluster: GuestCluster,

@@ -81,13 +81,13 @@ impl L2Entry {
     /// bytes.
     ///
     /// Data has its cluster's offset, and bit 63 where it is copied. Backing is 0. Zeros have bit 0, and
-    /// with a cluster its offset, and bit 63 where it is copied. Compressed data has bit 62, its offset
-    /// in bits 0 to x - 1, where `x = 70 - cluster_bits`, and in bits x to 61 the number of sectors of
-    /// 512 bytes that it has beyond the first. So an entry does not keep its length: it reads as
+    /// with a cluster its offset, and bit 63 where it is copied. Compressed data has bit 62, and its
+    /// offset in bits 0 to x - 1, where `x = 70 - cluster_bits`. In bits x to 61 it has the number of
+    /// sectors of 512 bytes beyond the first. So an entry does not keep its length: it reads as
     /// reaching to the end of the last sector.
     ///
-    /// Asks for offsets of clusters up to `MAX_OFFSET`, for `copied` on zeros only with a cluster, and
-    /// for compressed data that is shorter than a cluster, at an offset below 2^56 that fits x bits.
+    /// Asks for offsets of clusters up to `MAX_OFFSET`, and for `copied` on zeros only with a cluster.
+    /// Asks for compressed data that is shorter than a cluster, at an offset below 2^56 that fits x bits.
     ///
     /// An offset of 0 says that there is no cluster, but for a copied one of an external data file.
     /// Elsewhere data in cluster 0 reads back as backing, and zeros with cluster 0 as zeros without.
@@ -132,7 +132,7 @@ fn copied_bit(copied: bool) -> u64
     if copied { 1 << 63 } else { 0 }
 }
 
-// The number of the entry of so many bytes of compressed data at an offset.
+// The number of the entry of `length` bytes of compressed data at an offset.
 #[inline]
 #[tactic(auto, using(crate::proofs::MappingLemmas::compressed_parts_fit))]
 fn compressed_number(offset: u64, length: u64, cluster_bits: u32) -> u64

@@ -28,7 +28,7 @@ impl Model for PendingClusters {
 }
 
 impl PendingClusters {
-    /// So many clusters from the first on, which the caller has allocated.
+    /// `count` clusters from the first on, which the caller has allocated.
     pub fn new(first: HostCluster, count: ClusterCount) -> PendingClusters
         ensures { result ≡ record { first = first; count = count } }
     {

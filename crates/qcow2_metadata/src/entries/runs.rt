@@ -22,11 +22,11 @@ pub(crate) struct RunPattern {
 }
 
 impl RunPattern {
-    /// The pattern of the entries that go on from this one, which is lawful.
+    /// The pattern of the entries that go on from this one, which is valid.
     ///
     /// Compressed entries have bit 62. Entries with a host cluster have the offset of the next one each time,
-    /// and the same zero flag; those without one have no offset. The copied flag tells nothing, but where it
-    /// tells cluster 0 of an external data file from none.
+    /// and the same zero flag; those without one have no offset. The copied flag makes no difference, but
+    /// where it distinguishes cluster 0 of an external data file from none.
     #[inline]
     #[tactic(auto, using(crate::proofs::RunsLemmas::patterns))]
     pub(crate) fn of(entry: L2Entry, cluster_bits: u32, external_data_file: bool) -> RunPattern

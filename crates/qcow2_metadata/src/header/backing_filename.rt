@@ -15,7 +15,7 @@ use crate::read_ahead::ReadAhead;
 use qcow2_base::{Fault, MAX_BACKING_FILENAME, Storage, V2Header};
 use std::alloc::{AllocError, Global};
 
-// The backing file's name, where the header says where it stands.
+// The backing file's name, where the header says where it is.
 pub(super) fn read_backing_filename<S: Storage>(
     alloc: Global,
     image: &mut ReadAhead<S>,
@@ -54,7 +54,7 @@ impl Header {
         }
     }
 
-    // Puts the backing file's name behind the text.
+    // Appends the backing file's name to the text.
     pub(super) fn push_backing_filename(&self, text: &mut Vec<u8>) -> Result<(), AllocError>
         ensures { OnOk result
             (text.new.items ≡ text.old.items ++ name_text self.now.backing_filename) }

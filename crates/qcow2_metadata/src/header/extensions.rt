@@ -1,12 +1,12 @@
-//! Header extensions, which stand behind the fields of a version 3 header: how they are read and written.
+//! Header extensions, which come after the fields of a version 3 header: how they are read and written.
 
 ghost use Rattle.std.specs.Prelude.{◌≡◌, ◌≢◌, ◌⊎◌, ◌+◌, ◌^◌, ◌<◌, ◌≤◌, ◌++◌, nat_le, [], ◌∷◌, All, IfErr, IfOk, IfSome, IsOkUnless, Ok, OnOk, SomeIff, length, map, option_map, string_bytes};
 ghost use Rattle.qcow2_base.specs.OnDiskStruct.{header_extension_header};
 ghost use Rattle.qcow2_base.specs.Storage.{OnImage};
 ghost use Rattle.qcow2_base.specs.declared.fault.Fault.TheVariants.{ExtensionText};
-ghost use Rattle.qcow2_metadata.specs.Results.{Answers, provided, result_map};
+ghost use Rattle.qcow2_metadata.specs.Results.{Answers, after_conditions, result_map};
 ghost use Rattle.qcow2_metadata.specs.Header.Chain.{data_end, extension_at, extension_header_at, extensions_at, link_at};
-ghost use Rattle.qcow2_metadata.specs.Header.Extensions.{IsStorable, data_of, extension_number, extension_of, feature_name_in, name_in, parsed, type_number};
+ghost use Rattle.qcow2_metadata.specs.Header.Extensions.{IsStorable, data_of, extension_number, extension_of, feature_name_in, name_in, extension_from_data, type_number};
 ghost use Rattle.qcow2_metadata.specs.Header.Features.{HasNumber};
 ghost use Rattle.qcow2_metadata.specs.Header.Grammar.{AreLawfulParts, IsHeaderFault, header_extensions, last_conditions};
 ghost use Rattle.qcow2_metadata.specs.Header.Text.{chosen_extensions, extension_text, extensions_text, fields_text, is_other, written_text};
@@ -27,7 +27,7 @@ use qcow2_base::{
 use std::alloc::{AllocError, Global};
 use std::collections::BTreeMap;
 
-/// What the data of a header extension is, by the number that stands before it.
+/// What the data of a header extension is, by the number before it.
 #[derive(Clone, Copy, Debug, PartialEq, Eq)]
 pub enum HeaderExtensionType {
     /// The end of the extensions.
@@ -56,7 +56,7 @@ impl TryFrom<u32> for HeaderExtensionType {
     }
 }
 
-/// The number that stands before the extension's data.
+/// The number before the extension's data.
 impl From<HeaderExtensionType> for u32 {
     ghost from_gives = { λ value number. number ≡ extension_number value };
 
@@ -74,7 +74,7 @@ pub enum HeaderExtension {
     FeatureNameTable(BTreeMap<(FeatureType, u8), String>),
     /// The name of the external data file.
     ExternalDataFileName(String),
-    /// An extension of a type that isn't known here, as it stands in the image.
+    /// An extension of a type that isn't known here, as it is in the image.
     Unknown {
         /// Its type.
         extension_type: u32,
@@ -133,7 +133,7 @@ pub(super) fn read_header_extensions<S: Storage>(
     read_extensions(alloc, image, cluster_size(v2), base.header_length as u64)
 }
 
-// The extensions from a place on, up to End, which all end within so many bytes.
+// The extensions from a place on, up to End, which all end within `len` bytes.
 fn read_extensions<S: Storage>(
     alloc: Global,
     image: &mut ReadAhead<S>,
@@ -156,7 +156,7 @@ fn read_extensions<S: Storage>(
     Ok(extensions)
 }
 
-// The extension at a place, which ends within so many bytes, and where the next one stands; nothing where
+// The extension at a place, which ends within `len` bytes, and where the next one is; nothing where
 // it is End.
 fn read_extension<S: Storage>(
     alloc: Global,
@@ -183,7 +183,7 @@ fn read_extension<S: Storage>(
     Ok(Some((extension, next)))
 }
 
-// The type and the length of the extension at a place. It ends within so many bytes.
+// The type and the length of the extension at a place. It ends within `len` bytes.
 fn read_extension_header<S: Storage>(
     image: &mut ReadAhead<S>,
     len: u64,
@@ -191,7 +191,7 @@ fn read_extension_header<S: Storage>(
 ) -> Result<HeaderExtensionHeader, Fault>
     requires { len ≤ 2 ^ 21 }
     ensures exact { OnImage (S.state image.old.image.now) (λ bytes.
-        Answers (λ header. header) result (provided
+        Answers (λ header. header) result (after_conditions
         ((nat_le (data_end (link_at bytes place)) len, Fault.ExtensionsExceed) ∷ [])
         (λ _. Ok (extension_header_at bytes place)))) }
     ensures bounded { IfOk result (λ header. place + 8 + header.length ≤ len) }
@@ -220,7 +220,7 @@ fn read_data<S: Storage>(
     requires end { header.now.extension_type ≢ 0 }
     requires within { place + header.now.length ≤ 2 ^ 21 }
     ensures exact { OnImage (S.state image.old.image.now) (λ bytes.
-        Answers extension_of result (parsed header.now.extension_type
+        Answers extension_of result (extension_from_data header.now.extension_type
         (bytes_at bytes place header.now.length))) }
     ensures storable { IfOk result (λ extension. IsStorable (extension_of extension)) }
     ensures faults { IfErr result IsHeaderFault }
@@ -240,7 +240,7 @@ fn read_data<S: Storage>(
 fn parse(extension_type: u32, bytes: Vec<u8>) -> Result<HeaderExtension, Fault>
     requires end { extension_type ≢ extension_number kind.End }
     requires names { extension_type ≢ extension_number kind.FeatureNameTable }
-    ensures exact { result_map extension_of result ≡ parsed extension_type bytes.items }
+    ensures exact { result_map extension_of result ≡ extension_from_data extension_type bytes.items }
     ensures storable { IfOk result (λ extension. IsStorable (extension_of extension)) }
     ensures faults { IsOkUnless result ExtensionText }
 {
@@ -264,7 +264,7 @@ pub(super) fn check_extensions(
     extensions: &[HeaderExtension],
 ) -> Result<(), Fault>
     ensures exact { result
-        ≡ provided (last_conditions base.now (map extension_of extensions.now)) (λ _. Ok tt) }
+        ≡ after_conditions (last_conditions base.now (map extension_of extensions.now)) (λ _. Ok tt) }
     ensures faults { IfErr result IsHeaderFault }
 {
     if !same_names(extensions, HeaderExtensionType::BackingFileFormat) {
@@ -351,7 +351,7 @@ pub(super) fn extensions_len(extensions: &[HeaderExtension], with_names: bool) -
     Some(len)
 }
 
-// Puts the extensions behind the text, those with feature names or without, and End.
+// Appends the extensions to the text, those with feature names or without, and End.
 pub(super) fn push_extensions(
     text: &mut Vec<u8>,
     extensions: &[HeaderExtension],
@@ -368,7 +368,7 @@ pub(super) fn push_extensions(
     push_zeros(text, 8)
 }
 
-// Puts an extension behind the text of a header with feature names or without.
+// Appends an extension to the text of a header with feature names or without.
 fn push_written(
     text: &mut Vec<u8>,
     extension: &HeaderExtension,
@@ -385,7 +385,6 @@ fn push_written(
     }
 }
 
-// Puts an extension behind the text.
 #[tactic(auto, using(crate::proofs::LayoutLemmas::names_padded))]
 fn push_extension(text: &mut Vec<u8>, extension: &HeaderExtension) -> Result<(), AllocError>
     requires { length (data_of (extension_of extension.now)) < 2 ^ 32 }
@@ -405,7 +404,7 @@ fn push_extension(text: &mut Vec<u8>, extension: &HeaderExtension) -> Result<(),
     }
 }
 
-// Puts what stands before an extension's data behind the text.
+// Appends what comes before an extension's data to the text.
 fn push_extension_header(
     text: &mut Vec<u8>,
     header: &HeaderExtensionHeader,

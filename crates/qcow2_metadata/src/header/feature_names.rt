@@ -53,7 +53,6 @@ pub(super) fn known_names(alloc: Global) -> Result<BTreeMap<(FeatureType, u8), S
     Ok(names)
 }
 
-// Sets the name of a feature.
 fn set_name(
     alloc: Global,
     names: &mut BTreeMap<(FeatureType, u8), String>,
@@ -68,7 +67,7 @@ fn set_name(
     Ok(())
 }
 
-// The names of a feature name table that begins at a place and has so many bytes.
+// The names of a feature name table that begins at a place and has `len` bytes.
 pub(super) fn read_feature_names<S: Storage>(
     alloc: Global,
     image: &mut ReadAhead<S>,
@@ -119,7 +118,7 @@ fn add_feature_name(
     Ok(())
 }
 
-// The name that stands before the first zero byte, with U+FFFD for what is no text.
+// The name before the first zero byte, with U+FFFD for what is no text.
 #[tactic(auto, using(crate::proofs::FeatureNamesLemmas::names_read))]
 fn name_of(alloc: Global, bytes: &[u8]) -> Result<String, AllocError>
     requires { length bytes.now ≤ 46 }
@@ -132,7 +131,7 @@ fn name_of(alloc: Global, bytes: &[u8]) -> Result<String, AllocError>
     Ok(name)
 }
 
-// Puts the data of a table of feature names behind the text.
+// Appends the data of a table of feature names to the text.
 pub(super) fn push_names(
     text: &mut Vec<u8>,
     names: &BTreeMap<(FeatureType, u8), String>,
@@ -146,7 +145,6 @@ pub(super) fn push_names(
     Ok(())
 }
 
-// Puts a feature's name behind the text.
 #[tactic(auto, using(crate::proofs::LayoutLemmas::name_chunk_pieces))]
 fn push_name(text: &mut Vec<u8>, key: (FeatureType, u8), name: &str) -> Result<(), AllocError>
     ensures { OnOk result (text.new.items ≡ text.old.items ++ name_chunk (key, name.now)) }

@@ -6,7 +6,7 @@ ghost use Rattle.qcow2_metadata.specs.Header.Features.{HasNumber, autoclear_bit,
 
 use thiserror::Error;
 
-/// A number that stands for no value of the type.
+/// A number that no value of the type has.
 #[derive(Clone, Copy, Debug, PartialEq, Eq, Error)]
 #[error("the number stands for no value of this type")]
 pub struct UnknownValue;

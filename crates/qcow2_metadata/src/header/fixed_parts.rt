@@ -4,7 +4,7 @@ ghost use Rattle.std.specs.Prelude.{◌≡◌, ◌⊎◌, ◌%◌, ◌^◌, ◌<
 ghost use Rattle.qcow2_base.specs.OnDiskStruct.{v2_header, v3_header_base};
 ghost use Rattle.qcow2_base.specs.Storage.{OnImage, OnlyReads};
 ghost use Rattle.qcow2_base.specs.Types.{IsClusterBits};
-ghost use Rattle.qcow2_metadata.specs.Results.{Answers, provided};
+ghost use Rattle.qcow2_metadata.specs.Results.{Answers, after_conditions};
 ghost use Rattle.qcow2_metadata.specs.Header.{magic};
 ghost use Rattle.qcow2_metadata.specs.Header.Grammar.{AreLawfulParts, IsHeaderFault, field_conditions, fixed_parts, version_conditions};
 ghost use Rattle.qcow2_metadata.specs.Header.Text.{AreFitting, base_with_length, fields_text, name_text, v2_with_name};
@@ -20,7 +20,7 @@ use std::alloc::AllocError;
 /// How many bytes the two fixed parts have.
 pub(super) const FIXED_BYTES: usize = V2Header::ON_DISK_SIZE + V3HeaderBase::ON_DISK_SIZE;
 
-// The two fixed parts, which are lawful. What stands behind the first is not looked at in version 2.
+// The two fixed parts, which are valid. What comes after the first is not looked at in version 2.
 pub(super) fn read_fixed_parts<S: Storage>(image: &mut S) -> Result<(V2Header, V3HeaderBase), Fault>
     ensures exact { OnImage (S.state image.old) (λ bytes.
         Answers (λ parts. (parts.0, parts.1)) result (fixed_parts bytes)) }
@@ -43,7 +43,7 @@ pub(super) fn read_fixed_parts<S: Storage>(image: &mut S) -> Result<(V2Header, V
 
 // Refuses an image that isn't qcow2, and cluster sizes that no image has.
 fn check_version(v2: &V2Header) -> Result<(), Fault>
-    ensures exact { result ≡ provided (version_conditions v2.now) (λ _. Ok tt) }
+    ensures exact { result ≡ after_conditions (version_conditions v2.now) (λ _. Ok tt) }
     ensures faults { IfErr result IsHeaderFault }
     ensures magic { OnOk result (v2.now.magic ≡ magic) }
     ensures version { OnOk result ((v2.now.version ≡ 2) ⊎ (v2.now.version ≡ 3)) }
@@ -65,7 +65,7 @@ fn check_version(v2: &V2Header) -> Result<(), Fault>
 // and refcounts of more than 64 bits.
 fn check_fields(v2: &V2Header, base: &V3HeaderBase) -> Result<(), Fault>
     requires { IsClusterBits v2.now.cluster_bits }
-    ensures exact { result ≡ provided (field_conditions v2.now base.now) (λ _. Ok tt) }
+    ensures exact { result ≡ after_conditions (field_conditions v2.now base.now) (λ _. Ok tt) }
     ensures faults { IfErr result IsHeaderFault }
     ensures header_length { OnOk result
         ((104 ≤ base.now.header_length) × (base.now.header_length ≤ 2 ^ v2.now.cluster_bits)) }
@@ -137,7 +137,7 @@ impl Header {
     }
 }
 
-// Puts the first part of a header behind the text.
+// Appends the first part of a header to the text.
 pub(super) fn push_v2(text: &mut Vec<u8>, v2: &V2Header) -> Result<(), AllocError>
     ensures pushed { OnOk result
         (text.new.items ≡ text.old.items ++ fields_text (v2_header v2.now)) }
@@ -148,7 +148,7 @@ pub(super) fn push_v2(text: &mut Vec<u8>, v2: &V2Header) -> Result<(), AllocErro
     push_bytes(text, &bytes)
 }
 
-// Puts the second part of a header behind the text.
+// Appends the second part of a header to the text.
 pub(super) fn push_base(text: &mut Vec<u8>, base: &V3HeaderBase) -> Result<(), AllocError>
     ensures pushed { OnOk result
         (text.new.items ≡ text.old.items ++ fields_text (v3_header_base base.now)) }

@@ -19,16 +19,16 @@ use qcow2_base::{Fault, HostOffset, Storage, V2Header, V3HeaderBase};
 use std::alloc::Global;
 
 impl Header {
-    /// Loads the header of an image. The answer depends on the first cluster alone, and of an image of
+    /// Loads the header of an image. The result depends on the first cluster alone, and of an image of
     /// version 2 on its first 72 bytes and the backing file's name.
     ///
-    /// Answers the fault of the first condition of the format that the image fails: 1 to 17 in the order of
-    /// their numbers, where the extensions are tested one after another (12 to 14). Changes no byte then.
+    /// Returns the fault of the first condition of the format that the image fails: 1 to 17 in the order of
+    /// their numbers. The extensions are tested one after another (12 to 14). Changes no byte then.
     /// Takes memory for bytes of the image only once it knows that they end within the largest cluster.
     ///
     /// Who means to write to the image says so by `writable`, and must know each autoclear feature that the
-    /// header names. None is known here: where there is one, the header is written without any, and a header
-    /// that has no room in the first cluster is refused by fault 24.
+    /// header names. None is known here: where there is one, the header is written without any. A header that
+    /// has no room in the first cluster then is refused by fault 24.
     pub fn load<S: Storage>(alloc: Global, image: &mut S, writable: bool) -> Result<Header, Fault>
         ensures { Loads writable result (S.state image.old) (S.state image.new) }
     {
@@ -40,7 +40,6 @@ impl Header {
     }
 }
 
-// The header of an image.
 fn read_header<S: Storage>(alloc: Global, image: &mut S) -> Result<Header, Fault>
     ensures exact { OnImage (S.state image.old) (λ bytes.
         Answers (λ header. header) result (header_of bytes)) }
@@ -82,7 +81,7 @@ fn read_other_parts<S: Storage>(
     })
 }
 
-// So many bytes of the image, from an offset on. Takes memory for them, so it asks that they end within the
+// `len` bytes of the image, from an offset on. Takes memory for them, so it asks that they end within the
 // largest cluster.
 #[tactic(auto, using(crate::proofs::LoadLemmas::bytes_read))]
 pub(super) fn read_bytes<S: Storage>(

@@ -82,7 +82,7 @@ impl Header {
     }
 
     /// Writes the size of the guest's disk to the image: the 8 bytes at 24, in one call of the storage. Takes
-    /// no memory. Answers fault 34 alone, and then any bytes may stand in that range; no other byte changes.
+    /// no memory. Returns fault 34 alone, and then any bytes may be in that range; no other byte changes.
     pub fn write_size<S: Storage>(&self, image: &mut S) -> Result<(), Fault>
         ensures { WritesPart result self.now.v2 24 32 (S.state image.old) (S.state image.new) }
     {
@@ -90,7 +90,7 @@ impl Header {
     }
 
     /// Writes the L1 table's number of entries and its offset to the image: the 12 bytes at 36, in one call
-    /// of the storage. Takes no memory. Answers fault 34 alone, and then any bytes may stand in that range;
+    /// of the storage. Takes no memory. Returns fault 34 alone, and then any bytes may be in that range;
     /// no other byte changes.
     pub fn write_l1_table_pointer<S: Storage>(&self, image: &mut S) -> Result<(), Fault>
         ensures { WritesPart result self.now.v2 36 48 (S.state image.old) (S.state image.new) }
@@ -99,7 +99,7 @@ impl Header {
     }
 
     /// Writes the refcount table's offset and its number of clusters to the image: the 12 bytes at 48, in one
-    /// call of the storage. Takes no memory. Answers fault 34 alone, and then any bytes may stand in that
+    /// call of the storage. Takes no memory. Returns fault 34 alone, and then any bytes may be in that
     /// range; no other byte changes.
     pub fn write_reftable_pointer<S: Storage>(&self, image: &mut S) -> Result<(), Fault>
         ensures { WritesPart result self.now.v2 48 60 (S.state image.old) (S.state image.new) }

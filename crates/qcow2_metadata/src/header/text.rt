@@ -4,7 +4,7 @@ ghost use Rattle.std.specs.Prelude.{◌≡◌, ◌^◌, ◌<◌, ◌≤◌, ◌+
 ghost use Rattle.qcow2_base.specs.OnDiskStruct.{v2_header, v3_header_base};
 ghost use Rattle.qcow2_base.specs.Storage.{IsBytes, image_of};
 ghost use Rattle.qcow2_metadata.specs.Header.{IsLawfulHeader};
-ghost use Rattle.qcow2_metadata.specs.Header.Text.{AreFitting, IsLayout, chosen, fits_first_cluster, header_end, header_text, padded, parts_text};
+ghost use Rattle.qcow2_metadata.specs.Header.Text.{AreFitting, IsLayout, header_to_write, fits_first_cluster, header_end, header_text, padded_bytes, parts_text};
 
 use super::Header;
 use super::extensions::{extensions_len, push_extensions};
@@ -30,8 +30,8 @@ impl Header {
     // cluster.
     #[tactic(auto, using(crate::proofs::HeaderLemmas::held_are, crate::proofs::LayoutLemmas::too_long))]
     pub(super) fn layout(&self, with_names: bool) -> Option<Layout>
-        ensures layout { MatchOption result (fits_first_cluster (chosen with_names self.now) ≡ false)
-            (IsLayout (chosen with_names self.now)) }
+        ensures layout { MatchOption result (fits_first_cluster (header_to_write with_names self.now) ≡ false)
+            (IsLayout (header_to_write with_names self.now)) }
         ensures names { IfSome result (λ layout. layout.with_names ≡ with_names) }
     {
         let extensions_len = extensions_len(&self.extensions, with_names)?;
@@ -64,9 +64,9 @@ impl Header {
 
     // The text of that layout, in one buffer of its length.
     pub(super) fn text(&self, layout: &Layout) -> Result<Vec<u8>, AllocError>
-        requires { IsLayout (chosen layout.now.with_names self.now) layout.now }
+        requires { IsLayout (header_to_write layout.now.with_names self.now) layout.now }
         ensures text { IfOk result (λ text.
-            text.items ≡ header_text (chosen layout.now.with_names self.now)) }
+            text.items ≡ header_text (header_to_write layout.now.with_names self.now)) }
         ensures v2_fits { OnOk result (AreFitting (v2_header layout.now.v2)) }
         ensures base_fits { OnOk result
             (self.now.v2.version ≡ 3 → AreFitting (v3_header_base layout.now.base)) }
@@ -79,11 +79,11 @@ impl Header {
         Ok(text)
     }
 
-    // Puts what stands before the extensions behind the text.
+    // Appends what comes before the extensions to the text.
     fn push_parts(&self, text: &mut Vec<u8>, layout: &Layout) -> Result<(), AllocError>
-        requires { IsLayout (chosen layout.now.with_names self.now) layout.now }
+        requires { IsLayout (header_to_write layout.now.with_names self.now) layout.now }
         ensures pushed { OnOk result (text.new.items
-            ≡ text.old.items ++ parts_text (chosen layout.now.with_names self.now)) }
+            ≡ text.old.items ++ parts_text (header_to_write layout.now.with_names self.now)) }
         ensures v2_fits { OnOk result (AreFitting (v2_header layout.now.v2)) }
         ensures base_fits { OnOk result
             (self.now.v2.version ≡ 3 → AreFitting (v3_header_base layout.now.base)) }
@@ -97,7 +97,7 @@ impl Header {
     }
 }
 
-// Puts bytes behind the text.
+// Appends bytes to the text.
 pub(super) fn push_bytes(text: &mut Vec<u8>, bytes: &[u8]) -> Result<(), AllocError>
     ensures pushed { OnOk result (text.new.items ≡ text.old.items ++ bytes.now) }
     ensures bytes { IsBytes (image_of bytes.now) }
@@ -105,7 +105,7 @@ pub(super) fn push_bytes(text: &mut Vec<u8>, bytes: &[u8]) -> Result<(), AllocEr
     text.extend_from_slice(bytes)
 }
 
-// Puts zeros behind the text.
+// Appends zeros to the text.
 pub(super) fn push_zeros(text: &mut Vec<u8>, count: usize) -> Result<(), AllocError>
     requires { count ≤ 46 }
     ensures { OnOk result (text.new.items ≡ text.old.items ++ replicate count 0) }
@@ -113,10 +113,10 @@ pub(super) fn push_zeros(text: &mut Vec<u8>, count: usize) -> Result<(), AllocEr
     text.resize(text.len() + count, 0)
 }
 
-// Puts bytes behind the text, and zeros up to a multiple of 8 of them.
+// Appends bytes to the text, and zeros up to a multiple of 8 of them.
 #[tactic(auto, using(crate::proofs::LayoutLemmas::padded_pieces))]
 pub(super) fn push_padded(text: &mut Vec<u8>, bytes: &[u8]) -> Result<(), AllocError>
-    ensures { OnOk result (text.new.items ≡ text.old.items ++ padded bytes.now) }
+    ensures { OnOk result (text.new.items ≡ text.old.items ++ padded_bytes bytes.now) }
 {
     text.extend_from_slice(bytes)?;
     push_zeros(text, (8 - bytes.len() % 8) % 8)

@@ -1,7 +1,7 @@
 //! Taking over what changed in another header of the same image.
 
 ghost use Rattle.std.specs.Prelude.{◌≡◌, IfErr, OnErr, OnOk, Ok};
-ghost use Rattle.qcow2_metadata.specs.Results.{provided};
+ghost use Rattle.qcow2_metadata.specs.Results.{after_conditions};
 ghost use Rattle.qcow2_metadata.specs.Header.Update.{IsFirstChange, agreements, same_value, value_in, with_header_length, with_size_and_tables};
 
 use super::Header;
@@ -28,15 +28,15 @@ const KEPT_FIELDS: [Field; 16] = [
 ];
 
 impl Header {
-    /// Takes over from another header of the same image what may change while the image is used: the size of
-    /// the guest's disk, the number of entries and the offset of the L1 table, and the offset and the number
-    /// of clusters of the refcount table. All else stays as it is, the header's length too.
+    /// Takes over from another header of the same image what may change while the image is used. That is the
+    /// size of the guest's disk, the L1 table's number of entries and offset, and the refcount table's offset
+    /// and number of clusters. All else stays as it is, the header's length too.
     ///
-    /// But for these and the length both must say the same. Where they don't, answers fault 26 with the first
+    /// But for these and the length both must say the same. Where they don't, returns fault 26 with the first
     /// field that differs, in the order of `Field`, and changes nothing. The other header may be of another
     /// cluster size, which is such a field. Takes no memory.
     pub fn update(&mut self, other: &Header) -> Result<(), Fault>
-        ensures exact { result ≡ provided (agreements self.old other.now) (λ _. Ok tt) }
+        ensures exact { result ≡ after_conditions (agreements self.old other.now) (λ _. Ok tt) }
         ensures first { IfErr result (IsFirstChange self.old other.now) }
         ensures follows { OnOk result
             (self.new ≡ with_header_length other.now self.old.base.header_length) }

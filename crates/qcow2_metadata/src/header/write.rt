@@ -3,8 +3,8 @@
 ghost use Rattle.std.specs.Prelude.{◌≡◌, IfOk, IsTrue, OnErr, OnOk, Ok, Some, true, length};
 ghost use Rattle.qcow2_base.specs.Storage.{Holds, OnImages, OnlyWrites};
 ghost use Rattle.qcow2_metadata.specs.Results.{RefusesFirst};
-ghost use Rattle.qcow2_metadata.specs.Header.Open.{is_rewritten, opened, opened_text, without_autoclear};
-ghost use Rattle.qcow2_metadata.specs.Header.Text.{IsChosen, IsLayout, IsSettled, IsWrittenHeader, chosen, chosen_text, kept, placed};
+ghost use Rattle.qcow2_metadata.specs.Header.Open.{is_rewritten, header_after_load, opened_text, without_autoclear};
+ghost use Rattle.qcow2_metadata.specs.Header.Text.{IsChosen, IsLayout, IsSettled, IsWrittenHeader, header_to_write, chosen_text, header_after_write, header_with_places};
 
 use super::Header;
 use super::text::Layout;
@@ -12,17 +12,17 @@ use qcow2_base::{Fault, MAX_BACKING_FILENAME, Storage};
 
 impl Header {
     /// Writes the header to the start of the image, in one call of the storage: its fields, the
-    /// extensions, and the backing file's name, with nothing behind it. Bytes past these stay.
+    /// extensions, and the backing file's name, with nothing after it. Bytes past these stay.
     ///
     /// Sets the header's length, and the place and the length of the backing file's name. Where the text
     /// doesn't fit the first cluster, tables of feature names are left out, and the header loses them. The
     /// header changes only after the storage accepted the write.
     ///
     /// Refuses a backing file's name of more than 1023 bytes by fault 25, and a text that doesn't fit the
-    /// first cluster by 24, before it takes memory for the text and calls the storage. After any fault the
+    /// first cluster by 24. Only then it takes memory for the text and calls the storage. After any fault the
     /// header is as before, and after any but the storage's no byte of the image changed.
     pub fn write<S: Storage>(&mut self, image: &mut S) -> Result<(), Fault>
-        ensures exact { RefusesFirst (λ _. self.new) result (kept self.old) }
+        ensures exact { RefusesFirst (λ _. self.new) result (header_after_write self.old) }
         ensures unchanged { OnErr result (self.new ≡ self.old) }
         ensures written { OnOk result (OnImages (S.state image.old) (S.state image.new) (λ _ after.
             IsWrittenHeader after self.new)) }
@@ -53,8 +53,8 @@ impl Header {
 
     // The header is as it was written.
     fn take_over(&mut self, layout: Layout)
-        requires { IsLayout (chosen layout.with_names self.old) layout }
-        ensures { self.new ≡ placed (chosen layout.with_names self.old) }
+        requires { IsLayout (header_to_write layout.with_names self.old) layout }
+        ensures { self.new ≡ header_with_places (header_to_write layout.with_names self.old) }
     {
         self.v2 = layout.v2;
         self.base = layout.base;
@@ -65,7 +65,7 @@ impl Header {
 
     // The header for who means to write to the image, in which no autoclear feature is left.
     pub(super) fn prepared<S: Storage>(mut self, image: &mut S) -> Result<Header, Fault>
-        ensures exact { RefusesFirst (λ header. header) result (opened true (Ok self)) }
+        ensures exact { RefusesFirst (λ header. header) result (header_after_load true (Ok self)) }
         ensures placed { OnOk result (OnImages (S.state image.old) (S.state image.new) (λ _ after.
             Holds after 0 (opened_text true (Ok self)))) }
         ensures written { IsTrue (is_rewritten true self) → OnImages (S.state image.old)
@@ -82,7 +82,6 @@ impl Header {
         Ok(self)
     }
 
-    // No autoclear feature is there any more.
     fn clear_autoclear_features(&mut self)
         ensures { self.new ≡ without_autoclear self.old }
     {

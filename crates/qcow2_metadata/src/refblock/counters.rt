@@ -4,7 +4,7 @@ ghost use Rattle.std.specs.Prelude.{◌≡◌, ℕ, ◌++◌, ◌*◌, ◌/◌, 
 ghost use Rattle.qcow2_metadata.specs.Pieces.{piece_size};
 ghost use Rattle.qcow2_base.specs.Storage.{image_of};
 ghost use Rattle.qcow2_metadata.specs.Refblock.Counters.{AreCounters, CanHold, IsOfOrder, kept_counters};
-ghost use Rattle.qcow2_metadata.specs.Refblock.Packing.{counters_at, packed, width};
+ghost use Rattle.qcow2_metadata.specs.Refblock.Packing.{counters_at, counter_bytes, width};
 
 use super::packing::{pack_narrow, pack_wide, unpack_narrow, unpack_wide};
 use crate::pieces::PIECE_BYTES;
@@ -20,7 +20,7 @@ pub(super) enum Counters {
 }
 
 impl Counters {
-    // So many counters that are 0.
+    // `count` counters that are 0.
     pub(super) fn zeros(alloc: Global, order: u32, count: usize) -> Result<Counters, AllocError>
         requires { order ≤ 6 }
         ensures numbers { IfOk result (λ counters. kept_counters counters ≡ replicate count 0) }
@@ -34,7 +34,7 @@ impl Counters {
         }
     }
 
-    // No counters, with room for so many.
+    // No counters, with room for `count` of them.
     pub(super) fn with_capacity(
         alloc: Global,
         order: u32,
@@ -92,7 +92,7 @@ impl Counters {
         }
     }
 
-    // Puts the counters of some bytes of a block behind those before them.
+    // Appends the counters of some bytes of a block to those before them.
     #[tactic(auto, using(crate::proofs::RefblockLemmas::narrow_length))]
     pub(super) fn unpack(&mut self, order: u32, bytes: &[u8]) -> Result<(), AllocError>
         requires order { order ≤ 6 }
@@ -119,7 +119,7 @@ impl Counters {
             ≤ width order * length (kept_counters self.now) }
         requires whole { length buffer.old % 8 ≡ 0 }
         ensures packed { (i : ℕ) → i < length buffer.new → slice_index buffer.new i
-            ≡ packed order (kept_counters self.now) (piece_size * piece + i) }
+            ≡ counter_bytes order (kept_counters self.now) (piece_size * piece + i) }
         ensures len { length buffer.new ≡ length buffer.old }
     {
         let first = PIECE_BYTES * piece;

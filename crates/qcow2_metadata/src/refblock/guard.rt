@@ -1,4 +1,4 @@
-//! The guard of refcount blocks: leave to change counters.
+//! The guard of refcount blocks: permission to change counters.
 
 ghost use Rattle.std.specs.Prelude.{◌≡◌, ◌<◌, ◌==◌, length, slice_index};
 ghost use Rattle.qcow2_metadata.specs.Refblock.Guard.{IsSameBlock, guarded_block, Steps, Increment, Decrement};
@@ -6,7 +6,7 @@ ghost use Rattle.qcow2_metadata.specs.Refblock.Guard.{IsSameBlock, guarded_block
 use super::RefBlock;
 use qcow2_base::Fault;
 
-/// Leave to change a block's counters. While it is held nobody else sees the block.
+/// Permission to change a block's counters. While it is held nobody else sees the block.
 #[derive(Debug, Drop)]
 pub struct RefBlockWriteGuard<'a> {
     pub(super) block: &'a mut RefBlock,
@@ -16,16 +16,16 @@ impl RefBlockWriteGuard<'_> {
     /// Whether the cluster has no reference that the counter at an index is for.
     #[inline]
     pub fn is_zero(&self, index: usize) -> bool
-        requires { index < length (guarded_block self.now).counters }
-        ensures { result ≡ (slice_index (guarded_block self.now).counters index == 0) }
+        requires { index < length (guarded_block self.now).numbers }
+        ensures { result ≡ (slice_index (guarded_block self.now).numbers index == 0) }
     {
         self.block.is_zero(index)
     }
 
-    /// Counts one reference more, and answers how many there were. The block then counts as modified. A
+    /// Counts one reference more, and returns how many there were. The block then counts as modified. A
     /// counter at the greatest number that it holds is refused, and nothing has changed.
     pub fn increment(&mut self, index: usize) -> Result<u64, Fault>
-        requires { index < length (guarded_block self.old).counters }
+        requires { index < length (guarded_block self.old).numbers }
         ensures same_block { IsSameBlock self.old self.new }
         ensures step { Steps Increment index result (guarded_block self.old) (guarded_block self.new) }
     {
@@ -37,10 +37,10 @@ impl RefBlockWriteGuard<'_> {
         Ok(before)
     }
 
-    /// Counts one reference less, and answers how many there were. The block then counts as modified. A
+    /// Counts one reference less, and returns how many there were. The block then counts as modified. A
     /// counter at 0 is refused, and nothing has changed.
     pub fn decrement(&mut self, index: usize) -> Result<u64, Fault>
-        requires { index < length (guarded_block self.old).counters }
+        requires { index < length (guarded_block self.old).numbers }
         ensures same_block { IsSameBlock self.old self.new }
         ensures step { Steps Decrement index result (guarded_block self.old) (guarded_block self.new) }
     {

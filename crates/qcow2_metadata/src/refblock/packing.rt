@@ -1,11 +1,11 @@
-//! Counters as they stand in an image: several in a byte, or several bytes each.
+//! Counters as they are in an image: several in a byte, or several bytes each.
 
 ghost use Rattle.std.specs.Prelude.{◌≡◌, ℕ, ◌+◌, ◌-◌, ◌*◌, ◌/◌, ◌%◌, ◌^◌, ◌<◌, ◌≤◌, ◌++◌, OnOk, [], ◌∷◌, length, map, refl, slice_index};
 ghost use Rattle.std.proofs.Common.{lit≤};
 ghost use Rattle.qcow2_base.specs.Storage.{image_of};
 ghost use Rattle.qcow2_base.specs.OnDiskStruct.{Big, big};
 ghost use Rattle.qcow2_metadata.specs.Refblock.Counters.{AreCounters};
-ghost use Rattle.qcow2_metadata.specs.Refblock.Packing.{counters_at, from_digits, packed, per_byte, width};
+ghost use Rattle.qcow2_metadata.specs.Refblock.Packing.{counters_at, from_digits, counter_bytes, per_byte, width};
 
 use qcow2_base::{OnDiskStruct, read_be, write_be};
 use std::alloc::AllocError;
@@ -60,7 +60,7 @@ impl WideCounter for u64 {
     ghost layout_is = { λ value. refl };
 }
 
-// Puts the counters that stand in the bytes behind those of the list.
+// Appends the counters that are in the bytes to the list.
 pub(super) fn unpack_wide<T: WideCounter>(list: &mut Vec<T>, bytes: &[u8]) -> Result<(), AllocError>
     ensures { OnOk result (map T.number list.new.items ≡ map T.number list.old.items
         ++ counters_at T.order (image_of bytes.now) 0 (length bytes.now / T.ON_DISK_SIZE)) }
@@ -76,7 +76,7 @@ pub(super) fn pack_wide<T: WideCounter>(list: &[T], first: usize, buffer: &mut [
     requires whole { length buffer.old % T.ON_DISK_SIZE ≡ 0 }
     requires within { T.ON_DISK_SIZE * first + length buffer.old ≤ T.ON_DISK_SIZE * length list.now }
     ensures packed { (i : ℕ) → i < length buffer.new → slice_index buffer.new i
-        ≡ packed T.order (map T.number list.now) (T.ON_DISK_SIZE * first + i) }
+        ≡ counter_bytes T.order (map T.number list.now) (T.ON_DISK_SIZE * first + i) }
     ensures len { length buffer.new ≡ length buffer.old }
 {
     for index in 0..buffer.len() / T::ON_DISK_SIZE {
@@ -84,7 +84,7 @@ pub(super) fn pack_wide<T: WideCounter>(list: &[T], first: usize, buffer: &mut [
     }
 }
 
-// Puts the counters of so many bits that stand in the bytes behind those of the list.
+// Appends the counters of `2^order` bits that are in the bytes to the list.
 #[tactic(auto, using(crate::proofs::NarrowLemmas::counters_are_bytes))]
 pub(super) fn unpack_narrow(list: &mut Vec<u8>, order: u32, bytes: &[u8]) -> Result<(), AllocError>
     requires order { order ≤ 3 }
@@ -116,7 +116,7 @@ fn unpack_bytes<const ORDER: u32, const PER: usize>(
     Ok(())
 }
 
-// The counters that stand in a byte, the first one in the lowest bits.
+// The counters that are in a byte, the first one in the lowest bits.
 #[inline]
 fn unpack_byte<const ORDER: u32, const PER: usize>(byte: u8) -> [u8; PER]
     requires order { ORDER ≤ 2 }
@@ -137,7 +137,7 @@ pub(super) fn pack_narrow(list: &[u8], order: u32, first: usize, buffer: &mut [u
     requires within { per_byte order * (first + length buffer.old) ≤ length list.now }
     requires small { AreCounters order list.now }
     ensures packed { (i : ℕ) → i < length buffer.new →
-        slice_index buffer.new i ≡ packed order list.now (first + i) }
+        slice_index buffer.new i ≡ counter_bytes order list.now (first + i) }
     ensures len { length buffer.new ≡ length buffer.old }
 {
     match order {
@@ -155,7 +155,7 @@ fn pack_bytes<const ORDER: u32, const PER: usize>(list: &[u8], first: usize, buf
     requires within { PER * (first + length buffer.old) ≤ length list.now }
     requires small { AreCounters ORDER list.now }
     ensures packed { (i : ℕ) → i < length buffer.new →
-        slice_index buffer.new i ≡ packed ORDER list.now (first + i) }
+        slice_index buffer.new i ≡ counter_bytes ORDER list.now (first + i) }
     ensures len { length buffer.new ≡ length buffer.old }
 {
     for index in 0..buffer.len() {

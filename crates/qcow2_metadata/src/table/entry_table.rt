@@ -1,14 +1,15 @@
-//! The one struct behind all tables: a list of entries of one kind.
+//! The one struct that all tables are: a list of entries of one kind.
 
 ghost use Rattle.std.specs.Prelude.{◌≡◌, ℕ, Bool, true, false, ◌*◌, ◌^◌, ◌<◌, ◌≤◌, ◌↔◌, IfOk, IsOkUnless, IsTrue, length, map, slice_index, Some, None};
 ghost use Rattle.std.proofs.Common.{refl};
 ghost use Rattle.std.specs.List.{All};
 ghost use Rattle.qcow2_base.specs.Format.{most_entries_in_memory};
 ghost use Rattle.qcow2_base.specs.Types.{IsClusterBits};
-ghost use Rattle.qcow2_metadata.specs.Table.{edited, elsewhere, first_fault, kind_of, new_table};
+ghost use Rattle.qcow2_metadata.specs.Table.{table_after_edit, table_without_place, first_fault, kind_of, new_table};
 ghost use Rattle.qcow2_metadata.specs.Table.Growth.{grown_numbers};
 
 use super::Table;
+use crate::placed::Placement;
 use crate::{Header, TableEntry};
 use qcow2_base::{Fault, HostCluster, HostOffset};
 use std::alloc::{AllocError, Global};
@@ -27,10 +28,10 @@ pub trait TableKind: TableEntry + Copy {
 
     ghost MAX_ENTRIES: { ℕ };
 
-    /// By cluster_bits: whether a table may have so many entries in memory.
-    ghost has_lawful_count: { ℕ → ℕ → Bool };
+    /// By cluster_bits: whether a table may have that many entries in memory.
+    ghost has_valid_count: { ℕ → ℕ → Bool };
 
-    /// The entry 0, which is lawful under each cluster size.
+    /// The entry 0, which is valid under each cluster size.
     fn cleared() -> Self
         ensures number { Self.plain result ≡ 0 }
         ensures lawful { (cb : ℕ) → Self.fault_of cb 0 ≡ None };
@@ -46,8 +47,7 @@ pub trait TableKind: TableEntry + Copy {
 #[derive(Debug, Drop)]
 pub struct EntryTable<E: TableKind> {
     entries: Vec<E>,
-    cluster: Option<HostCluster>,
-    modified: bool,
+    pub(super) placement: Placement,
     cluster_bits: u32,
     external_data_file: bool,
 }
@@ -55,19 +55,19 @@ pub struct EntryTable<E: TableKind> {
 impl<E: TableKind> Model for EntryTable<E> {
     ghost use Rattle.std.specs.Prelude.{◌<◌, map};
     ghost use Rattle.qcow2_metadata.specs.Header.{geometry};
-    ghost use Rattle.qcow2_metadata.specs.Table.{IsLawful, TableState, kind_of};
+    ghost use Rattle.qcow2_metadata.specs.Table.{IsValidTable, TableState, kind_of};
 
     ghost Value = { TableState };
 
     ghost view = { λ t. record {
       numbers = map E.plain t.entries.items;
-      cluster = t.cluster;
-      modified = t.modified;
+      cluster = t.placement.cluster;
+      modified = t.placement.modified;
       geometry = geometry t.cluster_bits t.external_data_file;
     } };
 
-    ghost invariant = { λ t. IsLawful (kind_of E.MAX_ENTRIES E.has_lawful_count E.fault_of)
-        t.cluster_bits t.cluster (map E.plain t.entries.items) };
+    ghost invariant = { λ t. IsValidTable (kind_of E.MAX_ENTRIES E.has_valid_count E.fault_of)
+        t.cluster_bits t.placement.cluster (map E.plain t.entries.items) };
 }
 
 // The entries, and then entries 0 up to a count.
@@ -112,7 +112,7 @@ impl<E: TableKind> EntryTable<E> {
         requires cluster_bits { header.now.v2.cluster_bits ≡ self.now.geometry.cluster_bits }
         requires longer { length self.now.numbers ≤ entries }
         requires bound { entries ≤ most_entries_in_memory }
-        requires count { IsTrue (E.has_lawful_count header.now.v2.cluster_bits entries) }
+        requires count { IsTrue (E.has_valid_count header.now.v2.cluster_bits entries) }
         ensures fault { IsOkUnless result Fault.NoMemory }
         ensures table { IfOk result (λ table.
             table ≡ new_table (grown_numbers self.now.numbers entries) header.now) }
@@ -130,7 +130,7 @@ impl<E: TableKind> EntryTable<E> {
         self.external_data_file
     }
 
-    // The entries in order, which are lawful.
+    // The entries in order, which are valid.
     #[inline]
     pub(super) fn as_slice(&self) -> &[E]
         ensures numbers { map E.plain result.now ≡ self.now.numbers }
@@ -145,14 +145,16 @@ impl<E: TableKind> EntryTable<E> {
         requires count { length entries.items ≡ length self.now.numbers }
         requires valid { first_fault (E.fault_of self.now.geometry.cluster_bits)
             (map E.plain entries.items) ≡ None }
-        ensures { result ≡ elsewhere self.now (map E.plain entries.items) }
+        ensures { result ≡ table_without_place self.now (map E.plain entries.items) }
     {
         numbers_fit(&entries);
-        let (cluster, modified) = (None, self.modified);
+        let placement = Placement {
+            cluster: None,
+            modified: self.placement.modified,
+        };
         EntryTable {
             entries,
-            cluster,
-            modified,
+            placement,
             cluster_bits: self.cluster_bits,
             external_data_file: self.external_data_file,
         }
@@ -169,16 +171,16 @@ impl<E: TableKind> EntryTable<E> {
         self.entries[index].entry()
     }
 
-    // Puts a lawful entry in the place of another, and returns that one.
+    // Puts a valid entry in the place of another, and returns that one.
     pub(super) fn replace_entry(&mut self, index: usize, entry: E) -> E
         requires index { index < length self.old.numbers }
         requires valid { E.fault_of self.old.geometry.cluster_bits (E.plain entry) ≡ None }
         ensures before { E.plain result ≡ slice_index self.old.numbers index }
-        ensures edit { self.new ≡ edited self.old index (E.plain entry) }
+        ensures edit { self.new ≡ table_after_edit self.old index (E.plain entry) }
     {
         // It fits 64 bits, since it is read as a number of these.
         let _ = entry.to_plain();
-        self.modified = true;
+        self.placement.modified = true;
         std::mem::replace(&mut self.entries[index], entry)
     }
 }
@@ -196,19 +198,21 @@ impl<E: TableKind> Table for EntryTable<E> {
 
     ghost state = { λ t. t };
 
-    ghost kind = { kind_of E.MAX_ENTRIES E.has_lawful_count E.fault_of };
+    ghost kind = { kind_of E.MAX_ENTRIES E.has_valid_count E.fault_of };
 
     fn from_data(list: Vec<E>, header: &Header) -> Self
         requires valid { first_fault (E.fault_of header.now.v2.cluster_bits) (map E.plain list.items) ≡ None }
-        requires count { IsTrue (E.has_lawful_count header.now.v2.cluster_bits (length list.items)) }
+        requires count { IsTrue (E.has_valid_count header.now.v2.cluster_bits (length list.items)) }
         requires bound { length list.items ≤ most_entries_in_memory }
         ensures { result ≡ new_table (map E.plain list.items) header.now }
     {
         numbers_fit(&list);
         EntryTable {
             entries: list,
-            cluster: None,
-            modified: true,
+            placement: Placement {
+                cluster: None,
+                modified: true,
+            },
             cluster_bits: header.cluster_bits(),
             external_data_file: header.external_data_file(),
         }
@@ -230,20 +234,20 @@ impl<E: TableKind> Table for EntryTable<E> {
     }
 
     fn get_cluster(&self) -> Option<HostCluster> {
-        self.cluster
+        self.placement.cluster
     }
 
     fn get_offset(&self) -> Option<HostOffset> {
-        Some(self.cluster?.offset(self.cluster_bits))
+        Some(self.placement.cluster?.offset(self.cluster_bits))
     }
 
     fn set_cluster(&mut self, cluster: HostCluster) {
-        self.cluster = Some(cluster);
-        self.modified = true;
+        self.placement.cluster = Some(cluster);
+        self.placement.modified = true;
     }
 
     fn unset_cluster(&mut self) {
-        self.cluster = None;
+        self.placement.cluster = None;
     }
 
     fn cluster_bits(&self) -> u32 {
@@ -251,15 +255,15 @@ impl<E: TableKind> Table for EntryTable<E> {
     }
 
     fn is_modified(&self) -> bool {
-        self.modified
+        self.placement.modified
     }
 
     fn clear_modified(&mut self) {
-        self.modified = false;
+        self.placement.modified = false;
     }
 
     fn set_modified(&mut self) {
-        self.modified = true;
+        self.placement.modified = true;
     }
 
     fn allocator(&self) -> Global {

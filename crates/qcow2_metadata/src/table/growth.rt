@@ -1,5 +1,5 @@
 //! Refcount tables pay for their own growth: a table that moves to more clusters needs counters for
-//! these, so it takes spare entries along for new refcount blocks, which need counters too.
+//! these. So it takes spare entries along for new refcount blocks, which need counters too.
 
 ghost use Rattle.std.specs.Prelude.{◌≡◌, ◌+◌, ◌-◌, ◌^◌, ◌<◌, ◌≤◌, IfSome, max};
 ghost use Rattle.std.specs.Int.{next_multiple_of};
@@ -39,8 +39,8 @@ impl Turns {
     }
 }
 
-// How many entries a table of so many has that is to hold an index and spare entries after it: whole
-// clusters of them.
+// How many entries a table of `len` entries has once it is to hold an index and spare entries after it:
+// whole clusters of them.
 pub(super) fn entries_with(len: usize, index: usize, spare: usize, cluster_entries: usize) -> usize
     requires len { len < 2 ^ 60 }
     requires index { index < 2 ^ 60 }
@@ -54,8 +54,8 @@ pub(super) fn entries_with(len: usize, index: usize, spare: usize, cluster_entri
         .next_multiple_of(cluster_entries)
 }
 
-/// The least number of spare entries that a refcount table of so many takes along when it grows to hold an
-/// index: as many refcount blocks count all clusters of the grown table, and their own. There is none
+/// The least number of spare entries that a refcount table of `len` entries takes along when it grows to
+/// hold an index. As many refcount blocks count all clusters of the grown table, and their own. There is none
 /// where the table would have too many entries. The index is one that a table can have, and no number was
 /// tried before.
 ///
@@ -67,6 +67,7 @@ pub fn least_spare(len: usize, index: usize, header: &Header, turns: &mut Turns)
     ensures spare { result ≡ possible_spare (growth_of header.now len index) }
     ensures least { IfSome result (IsLeastSpare (growth_of header.now len index)) }
     ensures turns { turns.new.count ≤ least (growth_of header.now len index) }
+    ensures tried { IfSome result (λ spare. 1 ≤ turns.new.count) }
 {
     if len > RefTableEntry::MAX_ENTRIES {
         return None;

@@ -6,7 +6,7 @@ ghost use Rattle.qcow2_base.specs.Format.{most_l1_entries};
 ghost use Rattle.qcow2_base.specs.declared.fault.Fault.TheVariants.{NoMemory, NotPlaced};
 ghost use Rattle.qcow2_metadata.specs.Entries.PendingClusters.{IsOneCluster};
 ghost use Rattle.qcow2_metadata.specs.Entries.L1Entry.{l1_entry_for};
-ghost use Rattle.qcow2_metadata.specs.Table.{IsReferable, edited, new_table};
+ghost use Rattle.qcow2_metadata.specs.Table.{IsReferable, table_after_edit, new_table};
 ghost use Rattle.qcow2_metadata.specs.Table.Growth.{grown_count, grown_numbers};
 
 use super::{EntryTable, L2Table, Table, TableKind};
@@ -26,7 +26,7 @@ impl TableKind for L1Entry {
 
     ghost MAX_ENTRIES = { most_l1_entries };
 
-    ghost has_lawful_count = { λ _ _. true };
+    ghost has_valid_count = { λ _ _. true };
 
     fn cleared() -> Self {
         L1Entry::NONE
@@ -84,7 +84,8 @@ impl EntryTable<L1Entry> {
         ensures edit { MatchOption l2_table.now.cluster
             (self.new ≡ self.old)
             (λ cluster. self.new
-            ≡ edited self.old index (l1_entry_for (cluster.0 * 2 ^ self.old.geometry.cluster_bits))) }
+            ≡ table_after_edit self.old index
+            (l1_entry_for (cluster.0 * 2 ^ self.old.geometry.cluster_bits))) }
     {
         let Some(cluster) = l2_table.get_cluster() else {
             return refuse(Fault::NotPlaced, new_allocation);

@@ -1,18 +1,18 @@
-//! Guards of L2 tables: leave to change one, and to read compressed data that one refers to.
+//! Guards of L2 tables: permission to change one, and to read compressed data that one refers to.
 
 ghost use Rattle.std.specs.Prelude.{◌≡◌, ◌*◌, ◌^◌, ◌<◌, IfOk, IfSome, IsOkAnd, length, option_map, slice_index, true};
 ghost use Rattle.qcow2_metadata.specs.Table.L2Guards.{GivesUp, MakesEdit, is_mappable, to_data, to_zeros};
 ghost use Rattle.qcow2_metadata.specs.Entries.L2Entry.{IsAllocation};
 ghost use Rattle.qcow2_metadata.specs.Entries.PendingClusters.{IsOneCluster};
 ghost use Rattle.qcow2_metadata.specs.Entries.L2Mapping.{IsPlaced, meaning};
-ghost use Rattle.qcow2_metadata.specs.Table.{edited, mapping_at};
+ghost use Rattle.qcow2_metadata.specs.Table.{table_after_edit, mapping_at};
 
 use super::{L2Table, Table, TableKind};
 use crate::{AtomicL2Entry, ClustersToFreeEntry, L2Entry, L2Mapping, PendingClusters};
 use qcow2_base::{ClusterCount, Fault, GuestCluster, HostCluster, HostOffset};
 use std::num::NonZero;
 
-/// Leave to change an L2 table's mappings. While it is held nobody else sees the table.
+/// Permission to change an L2 table's mappings. While it is held nobody else sees the table.
 #[derive(Debug, Drop)]
 pub struct L2TableWriteGuard<'a> {
     pub(super) table: &'a mut L2Table,
@@ -33,7 +33,7 @@ impl L2TableWriteGuard<'_> {
     }
 
     /// Where the compressed data of a guest cluster lies, as `L2Table::lock_compressed_read` says it. The
-    /// mappings can't be changed while the answer is held.
+    /// mappings can't be changed while the result is held.
     pub fn compressed_read_guard(
         &self,
         guest_cluster: GuestCluster,
@@ -87,7 +87,7 @@ impl L2TableWriteGuard<'_> {
     /// Makes the guest cluster at an index read as zeros. With `keep_allocation` an entry that refers to a
     /// host cluster, and isn't compressed, goes on referring to it, and its copied flag stays. Hands back all
     /// host clusters that the entry doesn't refer to any more. The table then counts as modified. Always
-    /// answers `Ok`.
+    /// returns `Ok`.
     #[must_use]
     pub fn zero_cluster(
         &mut self,
@@ -118,7 +118,7 @@ impl L2TableWriteGuard<'_> {
     pub fn discard_cluster(&mut self, index: usize) -> Option<ClustersToFreeEntry>
         requires { index < length (guarded_table self.old).numbers }
         ensures same_table { IsSameTable self.old self.new }
-        ensures edit { guarded_table self.new ≡ edited (guarded_table self.old) index 0 }
+        ensures edit { guarded_table self.new ≡ table_after_edit (guarded_table self.old) index 0 }
         ensures freed { let table = guarded_table self.old in
             IsAllocation table.geometry (slice_index table.numbers index) result }
     {

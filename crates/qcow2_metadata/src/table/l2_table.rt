@@ -4,9 +4,11 @@ ghost use Rattle.std.specs.Prelude.{◌≡◌, ℕ, ◌-◌, ◌*◌, ◌^◌, �
 ghost use Rattle.std.proofs.Common.{lit≤};
 ghost use Rattle.qcow2_base.specs.Format.{most_l2_entries};
 ghost use Rattle.qcow2_metadata.specs.Entries.L2Mapping.{IsPlaced, meaning};
-ghost use Rattle.qcow2_metadata.specs.Entries.L2Entry.{shared};
-ghost use Rattle.qcow2_metadata.specs.Table.{WritesTable, elsewhere, l2_kind, mapping_at, new_table, table_on_storage};
+ghost use Rattle.qcow2_metadata.specs.Entries.L2Entry.{entry_in_copy};
+ghost use Rattle.qcow2_metadata.specs.Placed.{FollowsWrite, Writes};
+ghost use Rattle.qcow2_metadata.specs.Table.{l2_entries, l2_kind, layout_of_table, mapping_at, new_table, table_without_place};
 
+use super::pieces::TableBytes;
 use super::{CompressedClusterReadGuard, EntryTable, L2TableWriteGuard, Table, TableKind};
 use crate::entries::RunPattern;
 use crate::{AtomicL2Entry, Header, L2Entry, L2Mapping};
@@ -25,7 +27,7 @@ impl TableKind for AtomicL2Entry {
 
     ghost MAX_ENTRIES = { most_l2_entries };
 
-    ghost has_lawful_count = { λ cb n. n == 2 ^ (cb - 3) };
+    ghost has_valid_count = { λ cb n. n == l2_entries cb };
 
     fn cleared() -> Self {
         AtomicL2Entry::new(L2Entry::UNALLOCATED)
@@ -44,13 +46,13 @@ fn shared_entries(
     entries: &[AtomicL2Entry],
     external_data_file: bool,
 ) -> Result<Vec<AtomicL2Entry>, AllocError>
-    ensures { IfOk result (λ list. list.items ≡ map (shared external_data_file) entries.now) }
+    ensures { IfOk result (λ list. list.items ≡ map (entry_in_copy external_data_file) entries.now) }
 {
     let mut list = Vec::with_capacity(alloc, entries.len())?;
     list.extend(
         entries.iter().map(
             |entry: &AtomicL2Entry| -> AtomicL2Entry
-                ensures { result ≡ shared external_data_file entry.now }
+                ensures { result ≡ entry_in_copy external_data_file entry.now }
             { AtomicL2Entry::new(entry.get().shared(external_data_file)) },
         ),
     )?;
@@ -63,12 +65,12 @@ impl EntryTable<AtomicL2Entry> {
     ghost use Rattle.qcow2_metadata.specs.Table.L2Table.{IsMappedRun, compressed_at};
 
     /// A table of an image with this header in which no cluster has data. It has no cluster, and
-    /// counts as modified. Fails only for want of memory.
+    /// counts as modified. Fails only where memory runs out.
     #[tactic(auto, using(crate::proofs::TableLemmas::no_fault_in_copies))]
     pub fn new_cleared(alloc: Global, header: &Header) -> Result<L2Table, Fault>
         ensures fault { IsOkUnless result Fault.NoMemory }
         ensures table { IfOk result (λ table.
-            table ≡ new_table (replicate (2 ^ (header.now.v2.cluster_bits - 3)) 0) header.now) }
+            table ≡ new_table (replicate (l2_entries header.now.v2.cluster_bits) 0) header.now) }
     {
         let entries = vec![in alloc; AtomicL2Entry::cleared(); header.l2_entries()]?;
         Ok(L2Table::from_data(entries, header))
@@ -84,7 +86,7 @@ impl EntryTable<AtomicL2Entry> {
     }
 
     /// What a guest cluster reads as by its entry in this table. The cluster's offset must fit 64 bits.
-    /// Always answers a mapping.
+    /// Always returns a mapping.
     #[inline]
     pub fn get_mapping(&self, guest_cluster: GuestCluster) -> Result<L2Mapping, Fault>
         requires { guest_cluster.0 * 2 ^ self.now.geometry.cluster_bits < 2 ^ 64 }
@@ -97,9 +99,9 @@ impl EntryTable<AtomicL2Entry> {
     }
 
     /// How many guest clusters, from one on, read on as one by their entries in this table, to its end
-    /// at most: data in one host cluster after another, zeros in one after another, zeros without any,
-    /// compressed data, or what the backing file has. Whether host clusters are copied makes no
-    /// difference.
+    /// at most. They are data in one host cluster after another, zeros in one after another, zeros
+    /// without any, compressed data, or what the backing file has. Whether host clusters are copied makes
+    /// no difference.
     pub fn run_length(&self, guest_cluster: GuestCluster) -> ClusterCount
         ensures { IsMappedRun self.now guest_cluster.0 result.0 }
     {
@@ -120,20 +122,21 @@ impl EntryTable<AtomicL2Entry> {
         requires { self.old.modified ≡ true → self.old.cluster ≡ Some cluster }
         ensures idle { self.old.modified ≡ false →
             IsOk result × (self.new ≡ self.old) × (image.new ≡ image.old) }
-        ensures modified { self.old.modified ≡ true →
-            WritesTable l2_kind result
-            (table_on_storage self.old (S.state image.old)) (table_on_storage self.new (S.state image.new)) }
+        ensures written { self.old.modified ≡ true →
+            Writes (layout_of_table l2_kind self.old) self.old.numbers self.old.cluster result
+            (S.state image.old) (S.state image.new) }
+        ensures flag { FollowsWrite result self.old self.new }
     {
         // The caller's word for the cluster is in the contract alone.
         let _ = cluster;
-        if !self.is_modified() {
-            return Ok(());
-        }
-        self.write(image)
+        let mut placement = self.placement;
+        let written = placement.write_if_modified(&TableBytes { table: &*self }, image);
+        self.placement = placement;
+        written
     }
 
     /// Where the compressed data of a guest cluster lies, and nothing where its data isn't compressed. The
-    /// cluster's offset must fit 64 bits. The table can't change while the answer is held. Always `Ok`.
+    /// cluster's offset must fit 64 bits. The table can't change while the result is held. Always `Ok`.
     pub fn lock_compressed_read(
         &self,
         guest_cluster: GuestCluster,
@@ -157,13 +160,13 @@ impl EntryTable<AtomicL2Entry> {
 
     /// A table with the same mappings for another place, which has no cluster yet, and the same flag. The
     /// host clusters that entries refer to then have a reference more, so no entry of the new table is a
-    /// copied one; but one of cluster 0 of an external data file stays, since just its flag tells of that
-    /// cluster. This table stays as it is. Fails only for want of memory.
+    /// copied one. But one of cluster 0 of an external data file stays, since only its flag shows that
+    /// there is a cluster. This table stays as it is. Fails only where memory runs out.
     #[tactic(auto, using(crate::proofs::SharedLemmas::clones))]
     pub fn try_clone(&self) -> Result<L2Table, Fault>
         ensures fault { IsOkUnless result Fault.NoMemory }
-        ensures table { IfOk result (λ table. table ≡ elsewhere self.now
-            (map (shared self.now.geometry.external_data_file) self.now.numbers)) }
+        ensures table { IfOk result (λ table. table ≡ table_without_place self.now
+            (map (entry_in_copy self.now.geometry.external_data_file) self.now.numbers)) }
         ensures references { IfOk result (λ table. (cluster : ℕ) →
             references table.geometry table.numbers cluster
             ≡ references self.now.geometry self.now.numbers cluster) }
@@ -173,7 +176,7 @@ impl EntryTable<AtomicL2Entry> {
         Ok(self.with_entries(entries))
     }
 
-    /// Leave to change the table's mappings.
+    /// Permission to change the table's mappings.
     pub fn lock_write(&mut self) -> L2TableWriteGuard<'_>
         ensures table { IsTableGuard self.entry result }
     {

@@ -29,7 +29,7 @@ pub(super) fn entries_at_once<S: Storage>(image: &S, cluster_bits: u32) -> usize
     alignment / ENTRY_BYTES
 }
 
-// Writes so many entries from an index on to the image from an offset on, and zeros past the table's end,
+// Writes `count` entries from an index on to the image from an offset on, and zeros past the table's end,
 // by one call of the storage. Takes memory for more than 4096 bytes.
 pub(super) fn write_entries<T: Table, S: Storage>(
     table: &T,

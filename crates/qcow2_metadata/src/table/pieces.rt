@@ -2,23 +2,22 @@
 
 ghost use Rattle.std.specs.Prelude.{◌≡◌, ℕ, ◌⊎◌, ◌+◌, ◌++◌, ◌*◌, ◌/◌, ◌<◌, ◌≤◌, ◌↔◌, IsTrue, length, map, slice_index, None, Some, IfOk, IfErr, OnOk};
 ghost use Rattle.qcow2_base.specs.Format.{max_file_length};
-ghost use Rattle.qcow2_base.specs.Storage.{OnImage, OnlyReads, be, image_of};
-ghost use Rattle.qcow2_base.specs.declared.fault.Fault.TheVariants.{EntryReserved, EntryUnaligned, NoMemory};
-ghost use Rattle.qcow2_metadata.specs.Results.{Answers};
-ghost use Rattle.qcow2_metadata.specs.Pieces.{WritesInPieces, number_bytes};
-ghost use Rattle.qcow2_metadata.specs.Table.{IsContentFault, chunk_numbers, decoded, first_fault, table_numbers};
+ghost use Rattle.qcow2_base.specs.Storage.{OnImage, be, image_of};
+ghost use Rattle.qcow2_base.specs.declared.fault.Fault.TheVariants.{NoMemory};
+ghost use Rattle.qcow2_metadata.specs.Results.{Reads};
+ghost use Rattle.qcow2_metadata.specs.Table.{IsEntryFault, chunk_numbers, valid_numbers, first_fault, table_numbers};
 
-use super::Table;
-use crate::pieces::{PIECE_BYTES, Packed, write_in_pieces};
+use super::{Table, table_offset};
+use crate::pieces::{PIECE_BYTES, Packed};
 use crate::range::read_range;
 use crate::{Header, TableEntry};
-use qcow2_base::{Fault, HostOffset, Storage, StorageFault, write_be};
+use qcow2_base::{Fault, HostCluster, HostOffset, Storage, write_be};
 use std::alloc::{AllocError, Global};
 
 /// How many entries of a table are read or written at once, at most.
 pub(super) const PIECE_ENTRIES: usize = PIECE_BYTES / 8;
 
-// The entries that stand in the image from an offset on, or the fault of the first that is none. Reads
+// The entries that are in the image from an offset on, or the fault of the first that is none. Reads
 // in pieces of 4096 bytes, and none after that of such an entry.
 pub(super) fn read_entries<E: TableEntry + Drop, S: Storage>(
     alloc: Global,
@@ -28,15 +27,14 @@ pub(super) fn read_entries<E: TableEntry + Drop, S: Storage>(
     entries: usize,
 ) -> Result<Vec<E>, Fault>
     requires { offset.0 + 8 * entries ≤ max_file_length }
-    ensures exact { OnImage (S.state image.old) (λ bytes.
-        Answers (λ list. map E.plain list.items) result
-        (decoded (E.fault_of header.now.v2.cluster_bits) (table_numbers bytes offset.0 entries))) }
+    ensures reads { Reads (λ list. map E.plain list.items) result
+        (λ bytes. valid_numbers (E.fault_of header.now.v2.cluster_bits)
+        (table_numbers bytes offset.0 entries))
+        IsEntryFault (S.state image.old) (S.state image.new) }
     ensures numbers { OnImage (S.state image.old) (λ bytes.
         IfOk result (λ list. map E.plain list.items ≡ table_numbers bytes offset.0 entries)) }
     ensures lawful { IfOk result (λ list. (length list.items ≡ entries)
         × (first_fault (E.fault_of header.now.v2.cluster_bits) (map E.plain list.items) ≡ None)) }
-    ensures faults { IfErr result IsContentFault }
-    ensures storage { OnlyReads result (S.state image.old) (S.state image.new) }
 {
     let mut list = Vec::with_capacity(alloc, entries)?;
     let mut buffer = [0u8; PIECE_BYTES];
@@ -50,8 +48,8 @@ pub(super) fn read_entries<E: TableEntry + Drop, S: Storage>(
     Ok(list)
 }
 
-// Puts the entries whose numbers stand in the bytes at the end of the list, or answers the fault of the
-// first that is none.
+// Appends the entries whose numbers are in the bytes to the list, or returns the fault of the first that
+// is none.
 fn decode<E: TableEntry + Drop>(
     list: &mut Vec<E>,
     bytes: &[u8],
@@ -64,8 +62,7 @@ fn decode<E: TableEntry + Drop>(
     ensures refused { IfErr result (λ fault. (fault ≡ NoMemory)
         ⊎ (first_fault (E.fault_of header.now.v2.cluster_bits)
         (table_numbers (image_of bytes.now) 0 (length bytes.now / 8)) ≡ Some fault)) }
-    ensures faults { IfErr result (λ fault.
-        (fault ≡ EntryReserved) ⊎ (fault ≡ EntryUnaligned) ⊎ (fault ≡ NoMemory)) }
+    ensures faults { IfErr result (λ fault. IsEntryFault fault ⊎ (fault ≡ NoMemory)) }
 {
     let (chunks, _) = bytes.as_chunks::<8>();
     check::<E>(chunks, header)?;
@@ -73,7 +70,7 @@ fn decode<E: TableEntry + Drop>(
     Ok(())
 }
 
-// The number that stands in eight bytes.
+// The number that eight bytes make.
 #[inline]
 #[tactic(auto, unfolding(qcow2_base::specs::Storage::be))]
 fn number_of(chunk: &[u8; 8]) -> u64
@@ -88,7 +85,7 @@ fn check<E: TableEntry + Drop>(chunks: &[[u8; 8]], header: &Header) -> Result<()
         (first_fault (E.fault_of header.now.v2.cluster_bits) (chunk_numbers chunks.now) ≡ None) }
     ensures refused { IfErr result (λ fault.
         first_fault (E.fault_of header.now.v2.cluster_bits) (chunk_numbers chunks.now) ≡ Some fault) }
-    ensures faults { IfErr result (λ fault. (fault ≡ EntryReserved) ⊎ (fault ≡ EntryUnaligned)) }
+    ensures faults { IfErr result IsEntryFault }
 {
     if are_lawful::<E>(chunks, header) {
         return Ok(());
@@ -111,7 +108,7 @@ fn are_lawful<E: TableEntry>(chunks: &[[u8; 8]], header: &Header) -> bool
     lawful
 }
 
-// Puts entries with these numbers, which are all lawful, at the end of the list.
+// Appends entries with these numbers, which are all valid, to the list.
 fn append<E: TableEntry + Drop>(
     list: &mut Vec<E>,
     chunks: &[[u8; 8]],
@@ -131,41 +128,31 @@ fn append<E: TableEntry + Drop>(
     )
 }
 
-// A table as the bytes that it takes in an image.
+/// A table as the bytes that it takes in an image.
 #[derive(Drop)]
-struct TableBytes<'a, T: Table> {
-    table: &'a T,
+pub(super) struct TableBytes<'a, T: Table> {
+    pub(super) table: &'a T,
 }
 
 impl<'a, T: Table> Packed for TableBytes<'a, T> {
-    ghost use Rattle.std.specs.Prelude.{◌*◌, length};
-    ghost use Rattle.qcow2_metadata.specs.Pieces.{number_bytes};
+    ghost use Rattle.qcow2_metadata.specs.Table.{layout_of_table};
 
-    ghost bytes = { λ t. number_bytes (T.state t.table.now).numbers };
+    ghost layout = { λ t. layout_of_table T.kind (T.state t.table.now) };
 
-    ghost byte_count = { λ t. 8 * length (T.state t.table.now).numbers };
+    ghost numbers = { λ t. (T.state t.table.now).numbers };
 
     fn byte_count(&self) -> usize {
         self.table.byte_size()
     }
 
+    fn offset_at(&self, cluster: HostCluster) -> Result<HostOffset, Fault> {
+        let entries = self.table.entries();
+        table_offset(cluster, self.table.cluster_bits(), entries, T::MAX_ENTRIES)
+    }
+
     fn pack(&self, piece: usize, buffer: &mut [u8]) {
         encode(self.table, PIECE_ENTRIES * piece, buffer);
     }
-}
-
-// Writes the table to the image from an offset on, in pieces of 4096 bytes.
-pub(super) fn write_pieces<T: Table, S: Storage>(
-    table: &T,
-    image: &mut S,
-    offset: HostOffset,
-) -> Result<(), StorageFault>
-    requires { offset.0 + 8 * length (T.state table.now).numbers ≤ max_file_length }
-    ensures { let numbers = (T.state table.now).numbers in
-        WritesInPieces result offset.0 (number_bytes numbers) (8 * length numbers)
-        (S.state image.old) (S.state image.new) }
-{
-    write_in_pieces(&TableBytes { table }, image, offset)
 }
 
 // Puts the numbers of the table's entries from an index on into the bytes, as many as these hold, and

@@ -22,7 +22,7 @@ impl TableKind for RefTableEntry {
 
     ghost MAX_ENTRIES = { most_reftable_entries };
 
-    ghost has_lawful_count = { λ _ _. true };
+    ghost has_valid_count = { λ _ _. true };
 
     fn cleared() -> Self {
         RefTableEntry::NONE
@@ -39,12 +39,12 @@ impl EntryTable<RefTableEntry> {
     ghost use Rattle.std.specs.Prelude.{◌≡◌, ◌⊎◌, ◌*◌, ◌^◌, ◌<◌, ◌↔◌, length, IfErr, IfOk, IsErrOf};
     ghost use Rattle.qcow2_base.specs.declared.fault.Fault.TheVariants.{NoMemory, NotPlaced};
     ghost use Rattle.qcow2_metadata.specs.Entries.PendingClusters.{IsOneCluster};
-    ghost use Rattle.qcow2_metadata.specs.Table.{IsReferable, edited, new_table};
+    ghost use Rattle.qcow2_metadata.specs.Table.{IsReferable, table_after_edit, new_table};
     ghost use Rattle.qcow2_metadata.specs.Table.Growth.{grown_numbers, grown_reftable_count, growth_of};
 
     /// A copy of the table that holds an index, and pays for its own growth: the same entries, and then
-    /// zeros, in as few whole clusters as that and the `least_spare` entries after the index take. It has
-    /// no cluster, and counts as modified.
+    /// zeros. They take as few whole clusters as hold the same entries, the index, and the `least_spare`
+    /// entries after it. The copy has no cluster, and counts as modified.
     ///
     /// Refuses to grow past the most entries that a refcount table may have. The table itself stays.
     pub fn clone_and_grow(&self, header: &Header, at_least_index: usize) -> Result<RefTable, Fault>
@@ -78,7 +78,7 @@ impl EntryTable<RefTableEntry> {
         new_allocation: Option<PendingClusters>,
     ) -> Result<(), Refused>
         requires index { index < length self.old.numbers }
-        requires cluster_bits { refblock.now.cluster_bits ≡ self.old.geometry.cluster_bits }
+        requires cluster_bits { refblock.now.geometry.cluster_bits ≡ self.old.geometry.cluster_bits }
         requires cluster { IfSome refblock.now.cluster (IsReferable self.old.geometry.cluster_bits) }
         requires pending { IfSome refblock.now.cluster (λ cluster.
             IfSome new_allocation (λ pending. IsOneCluster pending cluster)) }
@@ -88,7 +88,7 @@ impl EntryTable<RefTableEntry> {
         ensures edit { MatchOption refblock.now.cluster
             (self.new ≡ self.old)
             (λ cluster. self.new
-            ≡ edited self.old index (cluster.0 * 2 ^ self.old.geometry.cluster_bits)) }
+            ≡ table_after_edit self.old index (cluster.0 * 2 ^ self.old.geometry.cluster_bits)) }
     {
         let Some(cluster) = refblock.get_cluster() else {
             return refuse(Fault::NotPlaced, new_allocation);

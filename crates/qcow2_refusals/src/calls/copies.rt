@@ -18,7 +18,7 @@ pub(super) fn make(call: &str, of: &str, held: &mut Held) -> Result<(), Fault> {
     }
 }
 
-// Tells the extension that is copied too, whatever comes of its copy.
+// Reports the extension that is copied too, whatever comes of its copy.
 fn clone_extension(held: &mut Held) -> Result<(), Fault> {
     let name = String::from_str(held.alloc, "qcow2")?;
     let extension = HeaderExtension::BackingFileFormat(name);
@@ -63,7 +63,7 @@ fn grow_reftable(held: &mut Held) -> Result<(), Fault> {
     tell_table(&mut held.out, &table)
 }
 
-// Tells how many entries a table has, that at index 3, its cluster and its flag.
+// Reports how many entries a table has, that at index 3, its cluster and its flag.
 fn tell_table<T: Table>(out: &mut Output, table: &T) -> Result<(), Fault> {
     let (entries, entry) = (table.entries(), table.get(3).to_plain());
     tell(

@@ -1,6 +1,6 @@
 //! Calls of headers: getters, setters, `update`, the pointer writes, and entries that are made by a header.
 
-use super::Sum;
+use super::Checks;
 use crate::held::{disk_header, new_header};
 use qcow2_base::{Fault, MemStorage};
 use qcow2_metadata::{FeatureType, Header, L1Entry, L2Entry, RefTableEntry, TableEntry};
@@ -28,39 +28,60 @@ pub(super) fn begin(alloc: Global) -> Result<Headers, Fault> {
     })
 }
 
-pub(super) fn make(turn: u64, headers: &mut Headers, sum: &mut Sum) {
-    look_at(&headers.first, sum);
-    look_at(&headers.disk, sum);
-    make_entries(turn % 1024 * 512, &headers.first, sum);
+pub(super) fn make(turn: u64, headers: &mut Headers, checks: &mut Checks) {
     headers.disk.set_size(turn);
-    sum.note(headers.other.update(&headers.disk).is_ok());
-    sum.add(headers.other.size());
-    pointers(&headers.disk, &mut headers.image, sum);
+    checks.expect(is_of_9_bits(&headers.first) && is_of_9_bits(&headers.disk));
+    checks.expect(points(&headers.first, 0, 0, 0));
+    checks.expect(points(&headers.disk, turn, 512, 1));
+    checks.expect(has_no_names(&headers.first) && has_no_names(&headers.disk));
+    checks.expect(names_dirty(&headers.first) && !names_dirty(&headers.disk));
+    checks.expect(headers.other.update(&headers.disk).is_ok());
+    checks.expect(headers.other.size() == turn);
+    make_entries(turn % 1024 * 512, &headers.first, checks);
+    write_pointers(&headers.disk, &mut headers.image, checks);
 }
 
-fn look_at(header: &Header, sum: &mut Sum) {
-    sum.add(header.size() ^ header.cluster_bits() as u64 ^ header.cluster_size() as u64);
-    sum.add(header.version() as u64 ^ header.l2_entries() as u64 ^ header.refcount_order() as u64);
-    sum.add(header.rb_bits() as u64 ^ header.rb_entries() as u64);
-    sum.add(header.l1_table_offset().0 ^ header.l1_table_entries() as u64);
-    sum.add(header.reftable_offset().0 ^ header.reftable_clusters().0);
-    sum.add(header.reftable_entries() as u64);
-    sum.note(header.external_data_file());
-    sum.note(header.require_version(3).is_ok());
-    sum.note(header.backing_filename().is_some());
-    sum.note(header.backing_format().is_some());
-    sum.note(header.external_data_filename().is_some());
-    sum.note(header.feature_name(FeatureType::Incompatible, 0).is_some());
+// Whether it says version 3, clusters of 512 bytes and counters of 16 bits.
+fn is_of_9_bits(header: &Header) -> bool {
+    header.version() == 3
+        && header.cluster_bits() == 9
+        && header.cluster_size() == 512
+        && header.l2_entries() == 64
+        && header.refcount_order() == 4
+        && header.rb_bits() == 8
+        && header.rb_entries() == 256
+        && header.require_version(3).is_ok()
 }
 
-fn make_entries(number: u64, header: &Header, sum: &mut Sum) {
-    sum.note(L1Entry::try_from_plain(number, header).is_ok());
-    sum.note(RefTableEntry::try_from_plain(number, header).is_ok());
-    sum.note(L2Entry::try_from_plain(number, header).is_ok());
+// Whether it says this size, an L1 table of these entries at this offset, and no refcount table.
+fn points(header: &Header, size: u64, l1_table_offset: u64, l1_table_entries: usize) -> bool {
+    header.size() == size
+        && header.l1_table_offset().0 == l1_table_offset
+        && header.l1_table_entries() == l1_table_entries
+        && header.reftable_offset().0 == 0
+        && header.reftable_clusters().0 == 0
+        && header.reftable_entries() == 0
 }
 
-fn pointers(header: &Header, image: &mut MemStorage, sum: &mut Sum) {
-    sum.note(header.write_size(image).is_ok());
-    sum.note(header.write_l1_table_pointer(image).is_ok());
-    sum.note(header.write_reftable_pointer(image).is_ok());
+fn has_no_names(header: &Header) -> bool {
+    header.backing_filename().is_none()
+        && header.backing_format().is_none()
+        && header.external_data_filename().is_none()
+        && !header.external_data_file()
+}
+
+fn names_dirty(header: &Header) -> bool {
+    header.feature_name(FeatureType::Incompatible, 0).is_some()
+}
+
+fn make_entries(number: u64, header: &Header, checks: &mut Checks) {
+    checks.expect(L1Entry::try_from_plain(number, header).is_ok());
+    checks.expect(RefTableEntry::try_from_plain(number, header).is_ok());
+    checks.expect(L2Entry::try_from_plain(number, header).is_ok());
+}
+
+fn write_pointers(header: &Header, image: &mut MemStorage, checks: &mut Checks) {
+    checks.expect(header.write_size(image).is_ok());
+    checks.expect(header.write_l1_table_pointer(image).is_ok());
+    checks.expect(header.write_reftable_pointer(image).is_ok());
 }

@@ -1,15 +1,15 @@
 //! Calls of tables and blocks, of their guards, of growth, and the calls of lists that take no memory.
 
-use super::Sum;
+use super::Checks;
 use crate::calls::tables;
 use crate::held::{Held, TABLES, hold_over, new_header};
-use qcow2_base::{ClusterCount, Fault, GuestCluster, HostCluster, MemStorage};
+use qcow2_base::{ClusterCount, Fault, GuestCluster, HostCluster, HostOffset, MemStorage};
 use qcow2_metadata::{
     ClustersToFreeEntry, Header, L1Table, L2Table, MAX_OFFSET, PendingClusters, RefBlock, RefTable,
     Refused, Table, TableEntry, Turns, least_spare,
 };
 use qcow2_session::{Edit, Outcome, edits_fit, settle};
-use qcow2_testing::{fits, image_with};
+use qcow2_testing::{fits, image_with, rows};
 use std::alloc::Global;
 
 /// Tables and a block, an image that they are written to, and what edits did to references.
@@ -43,79 +43,85 @@ fn begin_held(alloc: Global, image: &mut MemStorage) -> Result<Held, Fault> {
 }
 
 fn begin_outcome(alloc: Global) -> Result<Outcome, Fault> {
-    let freed = ClustersToFreeEntry {
-        first: HostCluster(5),
-        count: ClusterCount(1),
-    };
     let gained = Vec::from_slice(alloc, &[HostCluster(5)])?;
-    let freed = Vec::from_slice(alloc, &[freed])?;
+    let freed = Vec::from_slice(alloc, &[only(HostCluster(5))])?;
     Ok(Outcome { gained, freed })
 }
 
-pub(super) fn make(turn: u64, tables: &mut Tables, sum: &mut Sum) {
-    make_in_memory(&mut tables.held, (turn % 32 + 4) as usize, sum);
-    settle_outcome(&mut tables.held, &tables.outcome, sum);
-    write(&mut tables.held, &mut tables.image, sum);
+pub(super) fn make(turn: u64, tables: &mut Tables, checks: &mut Checks) {
+    make_in_memory(&mut tables.held, (turn % 32 + 4) as usize, checks);
+    checks.expect(settles(&mut tables.held, &tables.outcome));
+    write(&mut tables.held, &mut tables.image, checks);
 }
 
-fn make_in_memory(held: &mut Held, index: usize, sum: &mut Sum) {
-    look_at(&mut held.l1_table, index, sum);
-    look_at(&mut held.l2_table, index, sum);
-    look_at(&mut held.reftable, index, sum);
-    enter_l2_table(&mut held.l1_table, &mut held.l2_table, index, sum);
-    enter_refblock(&mut held.reftable, &mut held.block, index, sum);
-    point(&mut held.header, &held.l1_table, &held.reftable, sum);
-    look_up(&mut held.l2_table, sum);
-    change(&mut held.l2_table, index, sum);
-    count(&mut held.block, index, sum);
-    make_new(held.l1_table.allocator(), &held.header, index, sum);
+// The entry at the index is one that each turn sets anew, before it is looked at.
+fn make_in_memory(held: &mut Held, index: usize, checks: &mut Checks) {
+    enter_l2_table(&mut held.l1_table, &mut held.l2_table, index, checks);
+    enter_refblock(&mut held.reftable, &mut held.block, index, checks);
+    point(&mut held.header, &held.l1_table, &held.reftable, checks);
+    look_up(&mut held.l2_table, checks);
+    change(&mut held.l2_table, index, checks);
+    look_at(&mut held.l1_table, index, 0x8000_0000_0000_0200, checks);
+    look_at(&mut held.l2_table, index, 0, checks);
+    look_at(&mut held.reftable, index, 0x200, checks);
+    count(&mut held.block, index, checks);
+    make_new(held.l1_table.allocator(), &held.header, index, checks);
 }
 
-fn look_at<T: Table>(table: &mut T, index: usize, sum: &mut Sum) {
-    sum.add(table.entries() as u64 ^ table.byte_size() as u64 ^ table.cluster_count().0);
-    sum.note(table.get_ref(index).is_some());
-    sum.add(table.get(index).to_plain());
-    mark(table, sum);
-}
-
-fn mark<T: Table>(table: &mut T, sum: &mut Sum) {
-    sum.note(table.get_cluster().is_some());
-    sum.note(table.get_offset().is_some());
-    sum.add(table.cluster_bits() as u64);
+// A table of one cluster of 512 bytes, with this entry at the index.
+fn look_at<T: Table>(table: &mut T, index: usize, entry: u64, checks: &mut Checks) {
+    let (entries, bytes, clusters) = (table.entries(), table.byte_size(), table.cluster_count());
+    checks.expect(entries == 64 && bytes == 512 && clusters == ClusterCount(1));
+    checks.expect(table.get_ref(index).is_some() && table.get(index).to_plain() == entry);
+    let (cluster, offset) = (table.get_cluster(), table.get_offset());
+    checks.expect(cluster == Some(TABLES) && offset == Some(HostOffset(512)));
     table.unset_cluster();
+    checks.expect(table.get_cluster().is_none() && table.cluster_bits() == 9);
     table.set_cluster(TABLES);
     table.clear_modified();
-    sum.note(table.is_modified());
+    checks.expect(!table.is_modified());
     table.set_modified();
+    checks.expect(table.is_modified());
 }
 
-// Adds what a call has answered that may hand a pending value back, which is given up then.
-fn note_answer(answer: Result<(), Refused>, sum: &mut Sum) {
+// The fault that a call has returned which hands a pending value back, if it did. That is given up.
+fn fault_of(answer: Result<(), Refused>) -> Option<Fault> {
     let Err(Refused { fault, pending }) = answer else {
-        return;
+        return None;
     };
-    sum.add(fault.number() as u64);
     if let Some(pending) = pending {
-        sum.add(pending.give_up().first.0);
+        let _ = pending.give_up();
     }
+    Some(fault)
 }
 
-fn enter_l2_table(l1_table: &mut L1Table, l2_table: &mut L2Table, index: usize, sum: &mut Sum) {
+fn enter_l2_table(
+    l1_table: &mut L1Table,
+    l2_table: &mut L2Table,
+    index: usize,
+    checks: &mut Checks,
+) {
     if !l1_table.in_bounds(index) || l2_table.cluster_bits() != l1_table.cluster_bits() {
         return;
     }
     l2_table.unset_cluster();
-    note_answer(l1_table.enter_l2_table(index, l2_table, None), sum);
+    let answer = l1_table.enter_l2_table(index, l2_table, None);
+    checks.expect(fault_of(answer) == Some(Fault::NotPlaced));
     if TABLES.offset(l2_table.cluster_bits()) > MAX_OFFSET {
         return;
     }
     l2_table.set_cluster(TABLES);
     let pending = PendingClusters::new(TABLES, ClusterCount(1));
     let answer = l1_table.enter_l2_table(index, l2_table, Some(pending));
-    note_answer(answer, sum);
+    checks.expect(fault_of(answer).is_none());
 }
 
-fn enter_refblock(reftable: &mut RefTable, block: &mut RefBlock, index: usize, sum: &mut Sum) {
+fn enter_refblock(
+    reftable: &mut RefTable,
+    block: &mut RefBlock,
+    index: usize,
+    checks: &mut Checks,
+) {
     if !reftable.in_bounds(index) || block.cluster_bits() != reftable.cluster_bits() {
         return;
     }
@@ -124,91 +130,98 @@ fn enter_refblock(reftable: &mut RefTable, block: &mut RefBlock, index: usize, s
     }
     block.set_cluster(TABLES);
     let pending = PendingClusters::new(TABLES, ClusterCount(1));
-    note_answer(reftable.enter_refblock(index, block, Some(pending)), sum);
+    let answer = reftable.enter_refblock(index, block, Some(pending));
+    checks.expect(fault_of(answer).is_none());
 }
 
-fn point(header: &mut Header, l1_table: &L1Table, reftable: &RefTable, sum: &mut Sum) {
+fn point(header: &mut Header, l1_table: &L1Table, reftable: &RefTable, checks: &mut Checks) {
     if header.cluster_bits() == l1_table.cluster_bits() {
-        note_answer(header.set_l1_table(l1_table, None), sum);
+        checks.expect(fault_of(header.set_l1_table(l1_table, None)).is_none());
     }
     if header.cluster_bits() == reftable.cluster_bits() {
-        sum.note(header.set_reftable(reftable).is_ok());
+        checks.expect(header.set_reftable(reftable).is_ok());
     }
 }
 
-fn look_up(table: &mut L2Table, sum: &mut Sum) {
-    sum.note(table.external_data_file());
+// Guest cluster 3, which is the compressed data.
+fn look_up(table: &mut L2Table, checks: &mut Checks) {
+    checks.expect(!table.external_data_file());
     let guest_cluster = GuestCluster(3);
     if !fits(3, 0, table.cluster_bits()) {
         return;
     }
-    sum.note(table.get_mapping(guest_cluster).is_ok());
+    checks.expect(table.get_mapping(guest_cluster).is_ok());
     if let Ok(Some(guard)) = table.lock_compressed_read(guest_cluster) {
-        sum.add(guard.offset().0);
-        sum.add(guard.length().get());
+        checks.expect(guard.offset() == HostOffset(0x600) && guard.length().get() == 512);
     }
     let guard = table.lock_write();
-    sum.note(guard.get_mapping(guest_cluster).is_ok());
-    sum.note(guard.compressed_read_guard(guest_cluster).is_ok());
+    checks.expect(guard.get_mapping(guest_cluster).is_ok());
+    checks.expect(matches!(guard.compressed_read_guard(guest_cluster), Ok(Some(_))));
 }
 
-fn change(table: &mut L2Table, index: usize, sum: &mut Sum) {
+// An entry of 0 is mapped, kept as zeros, and discarded.
+fn change(table: &mut L2Table, index: usize, checks: &mut Checks) {
     let cluster = HostCluster(8);
     if index >= table.entries() || cluster.offset(table.cluster_bits()) > MAX_OFFSET {
         return;
     }
-    sum.note(edits_fit(table, &[Edit::Discard { index }]).is_ok());
+    checks.expect(edits_fit(table, &[Edit::Discard { index }]).is_ok());
     let mut guard = table.lock_write();
-    sum.note(guard.map_cluster(index, cluster, None).is_some());
-    sum.note(guard.zero_cluster(index, true).is_ok());
-    sum.note(guard.discard_cluster(index).is_some());
+    checks.expect(guard.map_cluster(index, cluster, None).is_none());
+    checks.expect(guard.zero_cluster(index, true) == Ok(None));
+    checks.expect(guard.discard_cluster(index) == Some(only(cluster)));
 }
 
-fn count(block: &mut RefBlock, index: usize, sum: &mut Sum) {
-    sum.note(block.get_cluster().is_some() && block.get_offset().is_some());
+// This cluster alone.
+fn only(first: HostCluster) -> ClustersToFreeEntry {
+    ClustersToFreeEntry {
+        first,
+        count: ClusterCount(1),
+    }
+}
+
+// A counter of 0 is counted up and down.
+fn count(block: &mut RefBlock, index: usize, checks: &mut Checks) {
+    checks.expect(block.get_cluster() == Some(TABLES) && block.get_offset().is_some());
     block.clear_modified();
-    sum.note(block.is_modified());
+    checks.expect(!block.is_modified());
     block.set_modified();
+    checks.expect(block.is_modified() && block.cluster_bits() == 9);
     if index >= block.entries() {
         return;
     }
-    sum.add(block.get(index) ^ block.cluster_bits() as u64);
-    sum.note(block.is_zero(index));
+    checks.expect(block.get(index) == 0 && block.is_zero(index));
     let mut guard = block.lock_write();
-    sum.note(guard.increment(index).is_ok());
-    sum.note(guard.is_zero(index));
-    sum.note(guard.decrement(index).is_ok());
+    checks.expect(guard.increment(index).is_ok() && !guard.is_zero(index));
+    checks.expect(guard.decrement(index).is_ok() && guard.is_zero(index));
 }
 
-fn settle_outcome(held: &mut Held, outcome: &Outcome, sum: &mut Sum) {
+fn settles(held: &mut Held, outcome: &Outcome) -> bool {
     let (header, block) = (&held.header, &mut held.block);
-    if header.cluster_bits() == block.cluster_bits()
+    header.cluster_bits() == block.cluster_bits()
         && header.refcount_order() == block.refcount_order()
-    {
-        sum.note(settle(block, header, 0, outcome).is_ok());
+        && settle(block, header, 0, outcome).is_ok()
+}
+
+// Which calls write what: each of these is made.
+const WRITES: &[(&str, &str)] = rows! {
+    ("L1 table", "write"), ("L1 table", "write_entry"), ("Refcount table", "write"),
+    ("Refcount table", "write_entry"), ("L2 table", "write_if_modified"), ("L2 table", "write"),
+    ("L2 table", "write_entry"), ("refcount block", "write_if_modified"), ("refcount block", "write"),
+};
+
+fn write(held: &mut Held, image: &mut MemStorage, checks: &mut Checks) {
+    for (kind, call) in WRITES {
+        checks.expect(tables::make(call, kind, held, image).is_ok());
     }
 }
 
-fn write(held: &mut Held, image: &mut MemStorage, sum: &mut Sum) {
-    for kind in ["L1 table", "L2 table", "Refcount table", "refcount block"] {
-        write_kind(kind, held, image, sum);
-    }
-}
-
-fn write_kind(kind: &str, held: &mut Held, image: &mut MemStorage, sum: &mut Sum) {
-    held.l2_table.set_modified();
-    for call in ["write_if_modified", "write", "write_entry"] {
-        sum.note(tables::make(call, kind, held, image).is_ok());
-    }
-}
-
-fn make_new(alloc: Global, header: &Header, index: usize, sum: &mut Sum) {
+fn make_new(alloc: Global, header: &Header, index: usize, checks: &mut Checks) {
     let l1_table = L1Table::from_data(Vec::new(alloc), header);
     let reftable = RefTable::from_data(Vec::new(alloc), header);
-    sum.add(l1_table.entries() as u64 ^ reftable.entries() as u64);
+    checks.expect(l1_table.entries() == 0 && reftable.entries() == 0);
     if index < 4194304 {
         let mut turns = Turns::new();
-        sum.note(least_spare(64, index, header, &mut turns).is_some());
-        sum.add(turns.count() as u64);
+        checks.expect(least_spare(64, index, header, &mut turns).is_some() && turns.count() > 0);
     }
 }

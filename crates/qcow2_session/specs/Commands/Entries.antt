@@ -1,7 +1,9 @@
-use Rattle.std.specs.Prelude.{ℕ, ◌+◌, ◌-◌, ◌*◌, ◌^◌, List, [], ◌∷◌, ◌++◌, codes}
+-- What are the lines of an L2 table's entries?
+use Rattle.std.specs.Prelude.{ℕ, ◌+◌, ◌*◌, ◌^◌, List, [], ◌∷◌, ◌++◌, codes}
 use Rattle.std.specs.Fmt.{decimal}
 use Rattle.qcow2_metadata.specs.Header.{Geometry}
 use Rattle.qcow2_metadata.specs.Entries.L2Mapping.{Mapping, backing, mapping}
+use Rattle.qcow2_metadata.specs.Table.{l2_entries}
 use Rattle.qcow2_session.specs.Lines.{mapping_text, offset_text}
 use Rattle.qcow2_session.specs.declared.commands.entries.Label.{Label}
 use Rattle.qcow2_session.specs.declared.commands.entries.Label.TheVariants.{Index, Offset}
@@ -25,4 +27,4 @@ entry_lines label g cluster (v ∷ vs) =
 -- the lines of the L2 table of the L1 entry at an index
 abbrev pub table_lines : Label → Geometry → ℕ → List ℕ → List ℕ
 table_lines label g l1_index numbers =
-    entry_lines (label_text label g.cluster_bits) g (l1_index * 2 ^ (g.cluster_bits - 3)) numbers
+    entry_lines (label_text label g.cluster_bits) g (l1_index * l2_entries g.cluster_bits) numbers

@@ -1,8 +1,11 @@
-use Rattle.std.specs.Prelude.{ℕ, Bool, true, false, List, ◌++◌, length, Option, Some, None, codes}
+-- What does the command `info` print?
+use Rattle.std.specs.Prelude.{◌≡◌, ℕ, Bool, true, false, List, ◌++◌, length, Option, Some, None, codes}
 use Rattle.std.specs.Fmt.{decimal}
 use Rattle.qcow2_metadata.specs.Header.{HeaderRecord, first_by, uses_external_data}
 use Rattle.qcow2_metadata.specs.Header.Extensions.{name_in}
 use Rattle.qcow2_metadata.specs.declared.header.extensions.HeaderExtensionType.TheVariants as kind
+use Rattle.qcow2_session.specs.Commands.Facts.{CommandFacts}
+use Rattle.qcow2_session.specs.Commands.Printing.{PrintsText}
 use Rattle.qcow2_session.specs.Lines.{offset_text}
 
 -- the lines of the version and the cluster size
@@ -51,3 +54,13 @@ data_file_lines header =
 abbrev pub info_lines : HeaderRecord → List ℕ
 info_lines header =
     version_lines header ++ size_lines header ++ place_lines header ++ backing_lines header ++ data_file_lines header
+
+-- the facts of the command `info`
+abbrev pub info_facts : CommandFacts
+info_facts = record {
+  changes_image = false;
+  prints_before_faults = false;
+  cluster_bits = None;
+  place_fault = None;
+  Ends = λ header answer old new before after. (new ≡ old) × PrintsText answer before after (info_lines header);
+}

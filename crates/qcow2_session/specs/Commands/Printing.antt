@@ -1,11 +1,16 @@
+-- How does a command that prints end?
 use Rattle.std.specs.Prelude.{◌≡◌, ◌≢◌, ◌⊎◌, ℕ, List, Option, Result, Err, IfErr, IsErrOf, IsOk, IsOkAnd, IsOkUnless, OnOk}
 use Rattle.std.specs.Io.KnownBytes.{Appends}
 use Rattle.qcow2_base.specs.Storage.{Image, OnImage, SameDevice, StorageState}
 use Rattle.qcow2_base.specs.declared.fault.Fault.{Fault}
 use Rattle.qcow2_base.specs.declared.fault.Fault.TheVariants.{NoMemory, Storage}
 
--- calls that read an image that was so before and is so now ended in this fault: it is the one that is meant, want of
--- memory, or a failed call of the image
+-- the bytes that an output has got, where they are known
+abbrev pub OutputBytes : Type 0
+OutputBytes = Option (List ℕ)
+
+-- calls that read an image ended in this fault: it is the one that the bytes mean, or memory ran out, or a call of the
+-- image failed
 abbrev pub IsReadFault : {V : Type 0} → Result V Fault → StorageState → StorageState → Fault → Type 0
 IsReadFault meant old new fault =
     (meant ≡ Err fault) ⊎ (fault ≡ NoMemory) ⊎ ((fault ≡ Storage) × (new.failures ≢ old.failures))
@@ -14,13 +19,13 @@ IsReadFault meant old new fault =
 abbrev pub IsOutputFault : Fault → StorageState → StorageState → Type 0
 IsOutputFault fault old new = (fault ≡ Storage) × (new.failures ≡ old.failures)
 
--- a command over an image that was so before and is so now ended in this fault: that of what it read, or that of its
--- output, where what it read is no fault
+-- a command over an image ended in this fault: that of what it read, or that of its output, where what it read is no
+-- fault
 abbrev pub IsRefusal : {V : Type 0} → Result V Fault → StorageState → StorageState → Fault → Type 0
 IsRefusal meant old new fault = IsReadFault meant old new fault ⊎ (IsOutputFault fault old new × IsOk meant)
 
 -- a print of these bytes to an output ended in this answer: the output got them, or it failed
-pub record PrintsText {T : Type 0} (answer : Result T Fault) (before after : Option (List ℕ)) (bytes : List ℕ) : Type 0 where
+pub record PrintsText {T : Type 0} (answer : Result T Fault) (before after : OutputBytes) (bytes : List ℕ) : Type 0 where
   pub fault : IsOkUnless answer Storage
   pub text : OnOk answer (Appends before after bytes)
 
@@ -32,6 +37,6 @@ pub record PrintsLast {T O : Type 0} (answer : Result T Fault) (old new : Storag
   pub device : SameDevice old new
 
 -- a command that prints what an image's bytes mean ended in this answer: it printed these lines, or it was refused
-pub record Prints {T : Type 0} (answer : Result T Fault) (meant : Image → Result (List ℕ) Fault) (old new : StorageState) (before after : Option (List ℕ)) : Type 0 where
+pub record Prints {T : Type 0} (answer : Result T Fault) (meant : Image → Result (List ℕ) Fault) (old new : StorageState) (before after : OutputBytes) : Type 0 where
   pub lines : OnOk answer (OnImage old (λ bytes. IsOkAnd (meant bytes) (Appends before after)))
   pub refused : IfErr answer (λ fault. OnImage old (λ bytes. IsRefusal (meant bytes) old new fault))

@@ -1,8 +1,10 @@
-use Rattle.std.specs.Prelude.{◌≡◌, ℕ, List, ◌++◌, Option, take, codes}
+-- What stands on standard error after a run?
+use Rattle.std.specs.Prelude.{◌≡◌, ℕ, List, ◌++◌, take, codes}
 use Rattle.std.specs.Fmt.{decimal}
 use Rattle.std.specs.Io.KnownBytes.{Appends}
 use Rattle.qcow2_base.specs.Fault.{fault_number}
 use Rattle.qcow2_base.specs.declared.fault.Fault.{Fault}
+use Rattle.qcow2_session.specs.Commands.Printing.{OutputBytes}
 
 -- the line of a fault
 abbrev pub fault_line : Fault → List ℕ
@@ -13,12 +15,12 @@ abbrev pub usage_line : List ℕ
 usage_line = codes "usage: qmeta COMMAND IMAGE ARGUMENTS\n"
 
 -- known bytes grow by a beginning of a line: all of it, or what was written before a write failed
-abbrev pub AppendsPart : Option (List ℕ) → Option (List ℕ) → List ℕ → Type 0
+abbrev pub AppendsPart : OutputBytes → OutputBytes → List ℕ → Type 0
 AppendsPart old new line = (written : ℕ) × Appends old new (take written line)
 
--- what a run of the program with this status tells on standard error: nothing of a success, the line of a fault, or how
--- the program is called
-pub record Reports {E : Type 0} (status : ℕ) (contents : E → Option (List ℕ)) (old new : E) : Type 0 where
+-- what a run of the program with this status wrote to standard error: nothing after a success, the line of a fault, or
+-- how the program is called
+pub record Reports {E : Type 0} (status : ℕ) (contents : E → OutputBytes) (old new : E) : Type 0 where
   pub success : status ≡ 0 → new ≡ old
   pub fault : status ≡ 1 → (fault : Fault) × AppendsPart (contents old) (contents new) (fault_line fault)
   pub wrong_words : status ≡ 2 → AppendsPart (contents old) (contents new) usage_line

@@ -1,29 +1,43 @@
-use Rattle.std.specs.Prelude.{◌≡◌, ℕ, List, Option, Result, Err, IsTrue, MatchResult}
+-- What does a run of a command come to, from the load of the header to the flush of the output?
+use Rattle.std.specs.Prelude.{◌≡◌, false, ℕ, Option, Some, None, Result, Err, IfErr, IsOkUnless, MatchResult, OnOk}
+use Rattle.std.specs.Io.KnownBytes.{Keeps}
 use Rattle.qcow2_base.specs.Storage.{StorageState}
 use Rattle.qcow2_base.specs.declared.fault.Fault.{Fault}
-use Rattle.qcow2_metadata.specs.Header.{HeaderRecord}
+use Rattle.qcow2_base.specs.declared.fault.Fault.TheVariants.{NoMemory, Storage}
+use Rattle.qcow2_metadata.specs.Header.{HeaderRecord, geometry, geometry_of}
 use Rattle.qcow2_metadata.specs.Header.Open.{Loads}
-use Rattle.qcow2_session.specs.Commands.{RunsWith, changes_image, is_silent_on_faults}
-use Rattle.qcow2_session.specs.Commands.Printing.{PrintsLast}
-use Rattle.qcow2_session.specs.declared.commands.Command.{Command}
-use Rattle.qcow2_session.specs.declared.commands.Command.TheVariants.{ListTable}
+use Rattle.qcow2_session.specs.Commands.Facts.{CommandFacts}
+use Rattle.qcow2_session.specs.Commands.Printing.{OutputBytes, PrintsLast}
 
 -- a command that prints at once, when it knows all of its lines: a fault other than the storage fault comes before any line
-abbrev pub PrintsAtOnce : {T O : Type 0} → Command → Result T Fault → StorageState → StorageState → O → O → Type 0
-PrintsAtOnce command answer old new before after =
-    IsTrue (is_silent_on_faults command) → PrintsLast answer old new before after
+abbrev pub PrintsAtOnce : {T O : Type 0} → CommandFacts → Result T Fault → StorageState → StorageState → O → O → Type 0
+PrintsAtOnce facts answer old new before after =
+    facts.prints_before_faults ≡ false → PrintsLast answer old new before after
 
--- a command that works with the image's header ended in this answer: the header is loaded first, whose fault is answered
--- before anything is printed, and then the command runs over the image that the load left
-abbrev pub LoadsAndRuns : {T : Type 0} → Command → Result T Fault → StorageState → StorageState → Option (List ℕ) → Option (List ℕ) → Type 0
-LoadsAndRuns command answer old new before after = (load : Result HeaderRecord Fault) × (left : StorageState)
-    × Loads (changes_image command) load old left × MatchResult load
-    (λ header. RunsWith command header answer left new before after)
+-- a header without an external data file was made for these cluster bits, unless memory ran out
+abbrev pub IsNewHeader : ℕ → Result HeaderRecord Fault → Type 0
+IsNewHeader cb found = MatchResult found
+    (λ header. geometry_of header ≡ geometry cb false) (λ fault. fault ≡ NoMemory)
+
+-- a command found its header: a new one of the cluster bits that its words say, or else that of the image, which was loaded
+abbrev pub FindsHeader : CommandFacts → Result HeaderRecord Fault → StorageState → StorageState → Type 0
+FindsHeader facts found old new = by_words facts.cluster_bits
+  where
+    by_words : Option ℕ → Type 0
+    by_words None = Loads facts.changes_image found old new
+    by_words (Some cb) = IsNewHeader cb found × (new ≡ old)
+
+-- a command over an image ended in this answer: its header is found first, whose fault is the answer before anything is
+-- printed, and then the command runs over the image that this left
+abbrev pub Runs : {T : Type 0} → CommandFacts → Result T Fault → StorageState → StorageState → OutputBytes → OutputBytes → Type 0
+Runs facts answer old new before after = (found : Result HeaderRecord Fault) × (left : StorageState)
+    × FindsHeader facts found old left × MatchResult found
+    (λ header. facts.Ends header answer left new before after)
     (λ fault. (answer ≡ Err fault) × (new ≡ left) × (after ≡ before))
 
--- a command over an image ended in this answer: what it printed, why it was refused, and what it changed. `l2` looks at no
--- header, and runs as with any
-abbrev pub Runs : {T : Type 0} → Command → Result T Fault → StorageState → StorageState → Option (List ℕ) → Option (List ℕ) → Type 0
-Runs (ListTable cluster_bits cluster) answer old new before after =
-    (header : HeaderRecord) → RunsWith (ListTable cluster_bits cluster) header answer old new before after
-Runs command answer old new before after = LoadsAndRuns command answer old new before after
+-- a run over an image, and then the flush of its output, ended in this answer: the fault of the run, if it has one. After a
+-- run without a fault only a failed flush is one, the storage fault. The flush changes nothing of what was printed
+abbrev pub RunsAndFlushes : {T : Type 0} → CommandFacts → Result T Fault → StorageState → StorageState → OutputBytes → OutputBytes → Type 0
+RunsAndFlushes facts answer old new before after = (ran : Result (Unit {0}) Fault) × (printed : OutputBytes)
+    × Runs facts ran old new before printed × Keeps printed after
+    × IfErr ran (λ fault. answer ≡ Err fault) × OnOk ran (IsOkUnless answer Storage)

@@ -1,14 +1,14 @@
 //! The command `at`: what a guest offset reads as.
 
 ghost use Rattle.std.specs.Prelude.{◌≡◌, map, string_bytes};
-ghost use Rattle.qcow2_session.specs.Commands.At.{line_at, mapping_of};
+ghost use Rattle.qcow2_session.specs.Commands.At.{line_at, at_command};
 ghost use Rattle.qcow2_session.specs.Commands.Printing.{Prints, PrintsLast};
 ghost use Rattle.qcow2_session.specs.Commands.Words.{Parses};
 
 use super::Command;
 use super::words::number;
 use crate::lines::print_mapping;
-use crate::session::lookup_with_header;
+use crate::lookup_with_header;
 use qcow2_base::{Fault, GuestOffset, Storage};
 use qcow2_metadata::Header;
 use std::alloc::{AllocError, Global};
@@ -17,7 +17,7 @@ use std::io::Write;
 /// Prints what the cluster of a guest offset reads as, in an image with this header. The size of the guest's
 /// disk isn't looked at.
 ///
-/// Answers the fault of the L1 table or the L2 table, whichever is refused first, before the line; a failed
+/// Returns the fault of the L1 table or the L2 table, whichever is refused first, before the line; a failed
 /// write to `out` is the storage fault. Changes no byte of the image.
 pub fn print_mapping_at<S: Storage, O: Write>(
     alloc: Global,
@@ -38,11 +38,11 @@ pub fn print_mapping_at<S: Storage, O: Write>(
 
 /// What the words of the command `at` ask for.
 pub(super) fn parse(arguments: &[String]) -> Option<Result<Command, AllocError>>
-    ensures { Parses result (mapping_of (map string_bytes arguments.now)) }
+    ensures { Parses result (at_command (map string_bytes arguments.now)) }
 {
     let [guest_offset] = arguments else {
         return None;
     };
     let guest_offset = GuestOffset(number(guest_offset.as_str())?);
-    Some(Ok(Command::PrintMapping { guest_offset }))
+    Some(Ok(Command::At { guest_offset }))
 }

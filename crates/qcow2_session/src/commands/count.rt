@@ -1,15 +1,16 @@
 //! The command `count`: steps of a refcount block's counters.
 
 ghost use Rattle.std.specs.Prelude.{map, string_bytes};
+ghost use Rattle.qcow2_metadata.specs.Refblock.{block_geometry_of, block_layout};
 ghost use Rattle.qcow2_session.specs.Commands.Changing.{PrintsChange};
-ghost use Rattle.qcow2_session.specs.Commands.Counting.{block_format, end_of_steps, reply_line, step_of, steps_of};
+ghost use Rattle.qcow2_session.specs.Commands.Count.{end_of_steps, reply_line, step_of, count_command};
 ghost use Rattle.qcow2_session.specs.Commands.Printing.{PrintsLast};
 ghost use Rattle.qcow2_session.specs.Commands.Words.{Parses};
 
 use super::Command;
-use super::words::{Changes, Said, number, parts};
+use super::words::{Changes, FromWord, number, parts};
 use crate::lines::{PrintLine, print_lines};
-use crate::session::{Step, StepReply, step_image};
+use crate::{Step, StepReply, step_image};
 use qcow2_base::{Fault, HostCluster, Storage};
 use qcow2_metadata::Header;
 use std::alloc::{AllocError, Global};
@@ -18,7 +19,7 @@ use std::io::Write;
 /// Makes steps of the counters of the refcount block that begins with a cluster of an image with this header,
 /// and prints for each `ok` and the number before it, or `refused`.
 ///
-/// Answers the fault of the block's place or of the first step whose index is past the block's end before any
+/// Returns the fault of the block's place or of the first step whose index is past the block's end before any
 /// line, and has changed no byte then. A failed write to `out` is the storage fault: the block is written by
 /// then. After a storage fault of the image some pieces of the block may be written.
 pub fn count_references<S: Storage, O: Write>(
@@ -29,7 +30,7 @@ pub fn count_references<S: Storage, O: Write>(
     steps: &[Step],
     out: &mut O,
 ) -> Result<(), Fault>
-    ensures counts { PrintsChange result (block_format header.now)
+    ensures counts { PrintsChange result (block_layout (block_geometry_of header.now))
         (end_of_steps cluster steps.now header.now)
         (S.state image.old) (S.state image.new) (O.contents out.old) (O.contents out.new) }
     ensures last { PrintsLast result (S.state image.old) (S.state image.new) out.old out.new }
@@ -53,22 +54,22 @@ impl PrintLine for StepReply {
 
 /// What the words of the command `count` ask for.
 pub(super) fn parse(alloc: Global, arguments: &[String]) -> Option<Result<Command, AllocError>>
-    ensures { Parses result (steps_of (map string_bytes arguments.now)) }
+    ensures { Parses result (count_command (map string_bytes arguments.now)) }
 {
     let [cluster, words @ ..] = arguments else {
         return None;
     };
     let cluster = HostCluster(number(cluster.as_str())?);
     match Changes::parse(alloc, words)? {
-        Ok(steps) => Some(Ok(Command::CountReferences { cluster, steps })),
+        Ok(steps) => Some(Ok(Command::Count { cluster, steps })),
         Err(error) => Some(Err(error)),
     }
 }
 
-impl Said for Step {
-    ghost said = { step_of };
+impl FromWord for Step {
+    ghost from_word = { step_of };
 
-    fn said(word: &str) -> Option<Step> {
+    fn from_word(word: &str) -> Option<Step> {
         let (name, index) = parts(word)?;
         match name {
             "inc" => Some(Step::Inc {

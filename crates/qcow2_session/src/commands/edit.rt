@@ -2,17 +2,19 @@
 
 ghost use Rattle.std.specs.Prelude.{◌≡◌, ◌++◌, flat_map, map, string_bytes};
 ghost use Rattle.qcow2_base.specs.Storage.{OnImage, OnlyReads};
+ghost use Rattle.qcow2_metadata.specs.Header.{geometry_of};
 ghost use Rattle.qcow2_metadata.specs.Results.{Answers};
+ghost use Rattle.qcow2_metadata.specs.Table.{l2_layout};
 ghost use Rattle.qcow2_session.specs.Commands.Changing.{PrintsChange};
-ghost use Rattle.qcow2_session.specs.Commands.Editing.{edit_of, edits_of, end_of_edits, freed_line, gained_line, map_edit_of, named_table, table_format};
+ghost use Rattle.qcow2_session.specs.Commands.Edit.{edit_of, edit_command, end_of_edits, freed_line, gained_line, map_edit_of, table_cluster};
 ghost use Rattle.qcow2_session.specs.Commands.Printing.{PrintsLast, PrintsText};
 ghost use Rattle.qcow2_session.specs.Commands.Words.{Parses, parts_of};
-ghost use Rattle.qcow2_session.specs.Session.Edits.{cluster_numbers};
+ghost use Rattle.qcow2_session.specs.Edits.{cluster_numbers};
 
 use super::Command;
-use super::words::{Changes, Said, number, parts};
+use super::words::{Changes, FromWord, number, parts};
 use crate::lines::{PrintLine, print_lines};
-use crate::session::{Edit, Outcome, edit_image, load_l1_table, named_cluster};
+use crate::{Edit, Outcome, edit_image, load_l1_table, named_cluster};
 use qcow2_base::{Fault, HostCluster, Storage};
 use qcow2_metadata::{ClustersToFreeEntry, Header};
 use std::alloc::{AllocError, Global};
@@ -21,7 +23,7 @@ use std::io::Write;
 /// Makes edits of the L2 table that an L1 entry names, in an image with this header, and prints the clusters
 /// that lost a reference, and then those that gained one.
 ///
-/// Answers the fault of the L1 table, 23 where the L1 entry names no table, the fault of the L2 table or of
+/// Returns the fault of the L1 table, 23 where the L1 entry names no table, the fault of the L2 table or of
 /// the first edit that doesn't fit before any line, and has changed no byte then. A failed write to `out` is
 /// the storage fault: the table is written by then. After a storage fault of the image some pieces of the
 /// table may be written.
@@ -33,7 +35,7 @@ pub fn edit_entries<S: Storage, O: Write>(
     edits: &[Edit],
     out: &mut O,
 ) -> Result<(), Fault>
-    ensures edits { PrintsChange result (table_format header.now)
+    ensures edits { PrintsChange result (l2_layout (geometry_of header.now))
         (end_of_edits l1_index edits.now header.now)
         (S.state image.old) (S.state image.new) (O.contents out.old) (O.contents out.new) }
     ensures last { PrintsLast result (S.state image.old) (S.state image.new) out.old out.new }
@@ -51,14 +53,13 @@ fn table_of_entry<S: Storage>(
     l1_index: usize,
 ) -> Result<HostCluster, Fault>
     ensures exact { OnImage (S.state image.old) (λ bytes.
-        Answers (λ cluster. cluster) result (named_table header.now l1_index bytes)) }
+        Answers (λ cluster. cluster) result (table_cluster header.now l1_index bytes)) }
     ensures storage { OnlyReads result (S.state image.old) (S.state image.new) }
 {
     let l1_table = load_l1_table(alloc, image, header)?;
     named_cluster(&l1_table, l1_index).ok_or(Fault::NotPlaced)
 }
 
-// Prints what edits did to references.
 #[tactic(auto, using(crate::proofs::PrintingLemmas::outcome_printed))]
 fn print_outcome<O: Write>(outcome: &Outcome, out: &mut O) -> Result<(), Fault>
     ensures { PrintsText result (O.contents out.old) (O.contents out.new)
@@ -90,22 +91,22 @@ impl PrintLine for HostCluster {
 
 /// What the words of the command `edit` ask for.
 pub(super) fn parse(alloc: Global, arguments: &[String]) -> Option<Result<Command, AllocError>>
-    ensures { Parses result (edits_of (map string_bytes arguments.now)) }
+    ensures { Parses result (edit_command (map string_bytes arguments.now)) }
 {
     let [l1_index, words @ ..] = arguments else {
         return None;
     };
     let l1_index = number(l1_index.as_str())? as usize;
     match Changes::parse(alloc, words)? {
-        Ok(edits) => Some(Ok(Command::EditEntries { l1_index, edits })),
+        Ok(edits) => Some(Ok(Command::Edit { l1_index, edits })),
         Err(error) => Some(Err(error)),
     }
 }
 
-impl Said for Edit {
-    ghost said = { edit_of };
+impl FromWord for Edit {
+    ghost from_word = { edit_of };
 
-    fn said(word: &str) -> Option<Edit> {
+    fn from_word(word: &str) -> Option<Edit> {
         let (name, numbers) = parts(word)?;
         match name {
             "map" => map_edit_of(numbers),

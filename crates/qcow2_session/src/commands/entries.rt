@@ -4,6 +4,7 @@ ghost use Rattle.std.specs.Prelude.{◌≡◌, ◌-◌, ◌*◌, ◌^◌, ◌<�
 ghost use Rattle.qcow2_base.specs.Format.{most_l1_entries};
 ghost use Rattle.qcow2_base.specs.Types.{IsClusterBits};
 ghost use Rattle.qcow2_metadata.specs.Entries.L2Mapping.{IsPlaced, meaning};
+ghost use Rattle.qcow2_metadata.specs.Table.{l2_entries};
 ghost use Rattle.qcow2_session.specs.Commands.Entries.{entry_line, label_text, table_lines};
 ghost use Rattle.qcow2_session.specs.Commands.Printing.{PrintsText};
 
@@ -29,7 +30,7 @@ pub(super) fn print_entries<O: Write>(
     label: Label,
     out: &mut O,
 ) -> Result<(), Fault>
-    requires entries { length table.now.numbers ≡ 2 ^ (table.now.geometry.cluster_bits - 3) }
+    requires entries { length table.now.numbers ≡ l2_entries table.now.geometry.cluster_bits }
     requires index { l1_index < most_l1_entries }
     ensures { PrintsText result (O.contents out.old) (O.contents out.new)
         (table_lines label table.now.geometry l1_index table.now.numbers) }

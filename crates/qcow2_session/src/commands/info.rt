@@ -48,7 +48,6 @@ fn print_places<O: Write>(header: &Header, out: &mut O) -> Result<(), Fault>
     print_place("refcount-table", header.reftable_offset(), clusters, out)
 }
 
-// Prints the line of a table's place.
 fn print_place<O: Write>(
     label: &str,
     offset: HostOffset,
@@ -78,7 +77,6 @@ fn print_data_file<O: Write>(header: &Header, out: &mut O) -> Result<(), Fault>
     print_name("data-file", header.external_data_filename(), out)
 }
 
-// Whether it is so, in a word.
 fn yes_or_no(answer: bool) -> &'static str
     ensures { result.now ≡ answer_text answer }
 {
@@ -96,7 +94,6 @@ fn print_name<O: Write>(label: &str, name: Option<&String>, out: &mut O) -> Resu
     }
 }
 
-// Prints the line of a name.
 fn print_known_name<O: Write>(label: &str, name: &str, out: &mut O) -> Result<(), Fault>
     ensures { PrintsText result (O.contents out.old) (O.contents out.new)
         (name_line label.now (Some name.now)) }

@@ -3,16 +3,18 @@
 ghost use Rattle.std.specs.Prelude.{◌≡◌, ◌⊎◌, false, map, string_bytes, Err, IfSome};
 ghost use Rattle.qcow2_base.specs.declared.fault.Fault.TheVariants.{NoMemory};
 ghost use Rattle.qcow2_base.specs.Types.{IsClusterBits};
-ghost use Rattle.qcow2_metadata.specs.Header.{geometry};
-ghost use Rattle.qcow2_metadata.specs.Table.{l2_kind, l2_table_at, place_fault};
-ghost use Rattle.qcow2_session.specs.Commands.L2.{cluster_bits_of, lines_of_l2_table, table_of};
+ghost use Rattle.qcow2_metadata.specs.Header.{geometry, geometry_of};
+ghost use Rattle.qcow2_metadata.specs.Placed.{place_fault};
+ghost use Rattle.qcow2_metadata.specs.Table.{l2_layout};
+ghost use Rattle.qcow2_session.specs.Commands.L2.{cluster_bits_of, lines_of_l2_table, l2_command};
 ghost use Rattle.qcow2_session.specs.Commands.Printing.{Prints, PrintsLast};
+ghost use Rattle.qcow2_session.specs.Commands.Running.{IsNewHeader};
 ghost use Rattle.qcow2_session.specs.Commands.Words.{Parses};
 
 use super::Command;
 use super::entries::{Label, print_entries};
 use super::words::number;
-use crate::session::load_l2_table;
+use crate::load_l2_table;
 use qcow2_base::{Fault, HostCluster, Storage};
 use qcow2_metadata::Header;
 use std::alloc::{AllocError, Global};
@@ -66,7 +68,7 @@ impl ClusterBits {
 /// Prints what the L2 table that begins with a cluster maps: for each entry that isn't left to the
 /// backing file its index, a space, and its mapping. The image's own header isn't looked at.
 ///
-/// Answers the fault of the table's place or of its first bad entry before any line; a failed write
+/// Returns the fault of the table's place or of its first bad entry before any line; a failed write
 /// to `out` is the storage fault. Changes no byte of the image.
 pub fn list_l2_table<S: Storage, O: Write>(
     alloc: Global,
@@ -76,30 +78,53 @@ pub fn list_l2_table<S: Storage, O: Write>(
     out: &mut O,
 ) -> Result<(), Fault>
     requires { IsClusterBits cluster_bits }
-    ensures place { IfSome (place_fault l2_kind (l2_table_at (geometry cluster_bits false) cluster))
+    ensures place { IfSome (place_fault (l2_layout (geometry cluster_bits false)) cluster)
         (λ fault. (result ≡ Err fault) ⊎ (result ≡ Err NoMemory)) }
 
-    // The lines are what the bytes mean.
-    ensures prints { Prints result (lines_of_l2_table cluster_bits cluster)
+    ensures prints { Prints result (lines_of_l2_table (geometry cluster_bits false) cluster)
         (S.state image.old) (S.state image.new) (O.contents out.old) (O.contents out.new) }
-
-    // A fault comes before the first line, but the storage fault of the output.
     ensures last { PrintsLast result (S.state image.old) (S.state image.new) out.old out.new }
     ensures unchanged { (S.state image.new).byte_at ≡ (S.state image.old).byte_at }
 {
-    let header = Header::new(alloc, cluster_bits, REFCOUNT_ORDER, None, None, None)?;
-    let table = load_l2_table(alloc, image, &header, cluster)?;
+    let header = new_header(alloc, cluster_bits)?;
+    print_l2_table(alloc, image, &header, cluster, out)
+}
+
+// The header that the command reads a table with.
+pub(super) fn new_header(alloc: Global, cluster_bits: u32) -> Result<Header, Fault>
+    requires { IsClusterBits cluster_bits }
+    ensures { IsNewHeader cluster_bits result }
+{
+    Header::new(alloc, cluster_bits, REFCOUNT_ORDER, None, None, None)
+}
+
+// Prints what the L2 table that begins with a cluster maps, by the cluster bits of a header.
+pub(super) fn print_l2_table<S: Storage, O: Write>(
+    alloc: Global,
+    image: &mut S,
+    header: &Header,
+    cluster: HostCluster,
+    out: &mut O,
+) -> Result<(), Fault>
+    ensures place { IfSome (place_fault (l2_layout (geometry_of header.now)) cluster)
+        (λ fault. (result ≡ Err fault) ⊎ (result ≡ Err NoMemory)) }
+    ensures prints { Prints result (lines_of_l2_table (geometry_of header.now) cluster)
+        (S.state image.old) (S.state image.new) (O.contents out.old) (O.contents out.new) }
+    ensures last { PrintsLast result (S.state image.old) (S.state image.new) out.old out.new }
+    ensures unchanged { (S.state image.new).byte_at ≡ (S.state image.old).byte_at }
+{
+    let table = load_l2_table(alloc, image, header, cluster)?;
     print_entries(&table, 0, Label::Index, out)
 }
 
 /// What the words of the command `l2` ask for.
 pub(super) fn parse(arguments: &[String]) -> Option<Result<Command, AllocError>>
-    ensures { Parses result (table_of (map string_bytes arguments.now)) }
+    ensures { Parses result (l2_command (map string_bytes arguments.now)) }
 {
     let [cluster_bits, cluster] = arguments else {
         return None;
     };
-    Some(Ok(Command::ListTable {
+    Some(Ok(Command::L2 {
         cluster_bits: ClusterBits::parse(cluster_bits.as_str())?,
         cluster: HostCluster(number(cluster.as_str())?),
     }))

@@ -3,10 +3,10 @@
 ghost use Rattle.std.specs.Prelude.{IsErrOf};
 ghost use Rattle.qcow2_base.specs.Storage.{ReadsFor};
 ghost use Rattle.qcow2_base.specs.declared.fault.Fault.TheVariants.{Storage as StorageFailed};
-ghost use Rattle.qcow2_session.specs.Commands.Listing.{PrintsList, PrintsTables, tables_of, texts_left};
+ghost use Rattle.qcow2_session.specs.Commands.List.{PrintsList, PrintsTables, texts_of_tables, texts_left};
 
 use super::entries::{Label, print_entries};
-use crate::session::L2Tables;
+use crate::L2Tables;
 use qcow2_base::{Fault, Storage};
 use qcow2_metadata::Header;
 use std::alloc::Global;
@@ -16,7 +16,7 @@ use std::io::Write;
 /// that isn't left to the backing file its guest offset, a space, and its mapping. One L2 table is in memory
 /// at a time.
 ///
-/// Answers the fault of the L1 table before any line. An L2 table that is refused ends the list: the lines of
+/// Returns the fault of the L1 table before any line. An L2 table that is refused ends the list: the lines of
 /// the tables before it stay, and it has none. A failed write to `out` is the storage fault. Changes no byte
 /// of the image.
 pub fn list_tables<S: Storage, O: Write>(
@@ -25,7 +25,7 @@ pub fn list_tables<S: Storage, O: Write>(
     header: &Header,
     out: &mut O,
 ) -> Result<(), Fault>
-    ensures prints { PrintsList result (tables_of header.now)
+    ensures prints { PrintsList result (texts_of_tables header.now)
         (S.state image.old) (S.state image.new) (O.contents out.old) (O.contents out.new) }
     ensures storage { ReadsFor (IsErrOf result StorageFailed) (S.state image.old) (S.state image.new) }
 {

@@ -1,14 +1,21 @@
 //! Running a command over its image, and the whole program.
 
-ghost use Rattle.std.specs.Prelude.{◌≡◌, ◌≢◌, ◌≤◌, ◌↔◌, None, Ok, Err, false, map, string_bytes, IsErr, IsOk, IsTrue, IfErr, IfSome, OnOk, MatchResult};
+ghost use Rattle.std.specs.Prelude.{◌≡◌, ◌≢◌, ◌≤◌, ◌↔◌, None, Ok, Err, false, map, string_bytes, IsErr, IsOk, IfErr, IfSome, OnOk, MatchResult};
 ghost use Rattle.std.specs.Io.KnownBytes.{Keeps};
 ghost use Rattle.qcow2_base.specs.declared.fault.Fault.TheVariants.{Storage as StorageFailed};
-ghost use Rattle.qcow2_session.specs.Commands.{changes_image, command_of, is_silent_on_faults, place_fault_of};
-ghost use Rattle.qcow2_session.specs.Commands.Report.{Reports};
-ghost use Rattle.qcow2_session.specs.Commands.Running.{PrintsAtOnce, Runs};
+ghost use Rattle.qcow2_session.specs.Commands.{command_of, facts_of};
+ghost use Rattle.qcow2_session.specs.Commands.Report.{AppendsPart, Reports, fault_line};
+ghost use Rattle.qcow2_session.specs.Commands.Running.{FindsHeader, PrintsAtOnce, Runs, RunsAndFlushes};
 
+use super::Command;
+use super::at::print_mapping_at;
+use super::count::count_references;
+use super::edit::edit_entries;
+use super::info::print_info;
+use super::l2::{new_header, print_l2_table};
+use super::list::list_tables;
+use super::map::print_extents;
 use super::report::{refuse_words, report_fault};
-use super::{Command, list_l2_table, run_with_header};
 use qcow2_base::{Fault, FileStorage, Storage};
 use qcow2_metadata::Header;
 use std::alloc::Global;
@@ -16,7 +23,7 @@ use std::io;
 use std::io::Write;
 use std::rt::Files;
 
-/// Runs a command line, the words after the program's name, and answers the program's status: 0 for
+/// Runs a command line, the words after the program's name, and returns the program's status: 0 for
 /// success, 1 for a fault and 2 for words that are no command.
 ///
 /// What the command finds goes to `out`, where lines before a fault stay. A fault is the line
@@ -33,16 +40,16 @@ pub fn run_words<R: Files + AllocGlobal, O: Write, E: Write>(
     ensures no_lines { result ≡ 2 → out.new ≡ out.old }
     ensures reports { Reports result E.contents err.old err.new }
 
-    // A table at a place that isn't lawful is a fault whatever the image, and no line is printed.
+    // A table at a place that no image has is a fault whatever the image, and no line is printed.
     ensures place { IfSome (command_of (map string_bytes words.now)) (λ command.
-        IfSome (place_fault_of command) (λ fault.
+        IfSome (facts_of command).place_fault (λ fault.
         (result ≡ 1) × Keeps (O.contents out.old) (O.contents out.new))) }
 {
     let [name, image, arguments @ ..] = words else {
         return refuse_words(err);
     };
     match Command::parse(rt.alloc(), name.as_str(), arguments) {
-        Some(Ok(command)) => status_of(run_and_flush(rt, image.as_str(), &command, out), err),
+        Some(Ok(command)) => status_of(run_on_file(rt, image.as_str(), &command, out), err),
         Some(Err(error)) => report_fault(Fault::from(error), err),
         None => refuse_words(err),
     }
@@ -51,7 +58,8 @@ pub fn run_words<R: Files + AllocGlobal, O: Write, E: Write>(
 // The status of a run, after its fault is reported.
 fn status_of<E: Write>(ran: Result<(), Fault>, err: &mut E) -> u8
     ensures status { MatchResult ran (λ _. result ≡ 0) (λ _. result ≡ 1) }
-    ensures reports { Reports result E.contents err.old err.new }
+    ensures line { MatchResult ran (λ _. err.new ≡ err.old) (λ fault.
+        AppendsPart (E.contents err.old) (E.contents err.new) (fault_line fault)) }
 {
     match ran {
         Ok(()) => 0,
@@ -59,23 +67,41 @@ fn status_of<E: Write>(ran: Result<(), Fault>, err: &mut E) -> u8
     }
 }
 
-// Runs a command over the image of a file, and flushes what it printed, also before a fault.
-fn run_and_flush<R: Files + AllocGlobal, O: Write>(
+// Opens the image of a file, for writing where the command may change it, and runs the command over it.
+fn run_on_file<R: Files + AllocGlobal, O: Write>(
     rt: &R,
     path: &str,
     command: &Command,
     out: &mut O,
 ) -> Result<(), Fault>
-    ensures place { IfSome (place_fault_of command.now) (λ fault.
+    ensures place { IfSome (facts_of command.now).place_fault (λ fault.
         IsErr result × Keeps (O.contents out.old) (O.contents out.new)) }
-    ensures before_any_line { IsTrue (is_silent_on_faults command.now) → IfErr result (λ fault.
+    ensures before_any_line { (facts_of command.now).prints_before_faults ≡ false → IfErr result (λ fault.
         fault ≢ StorageFailed → Keeps (O.contents out.old) (O.contents out.new)) }
 {
-    let ran = run_over(rt, path, command, out);
+    let mut image = FileStorage::open(rt, path, command.changes_image())?;
+    run_and_flush(rt.alloc(), &mut image, command, out)
+}
+
+// Runs a command over an image, and flushes what it printed, also before a fault.
+fn run_and_flush<S: Storage, O: Write>(
+    alloc: Global,
+    image: &mut S,
+    command: &Command,
+    out: &mut O,
+) -> Result<(), Fault>
+    ensures runs { RunsAndFlushes (facts_of command.now) result
+        (S.state image.old) (S.state image.new) (O.contents out.old) (O.contents out.new) }
+    ensures place { IfSome (facts_of command.now).place_fault (λ fault.
+        IsErr result × Keeps (O.contents out.old) (O.contents out.new)) }
+    ensures before_any_line { (facts_of command.now).prints_before_faults ≡ false → IfErr result (λ fault.
+        fault ≢ StorageFailed → Keeps (O.contents out.old) (O.contents out.new)) }
+{
+    let ran = run(alloc, image, command, out);
     after_flush(ran, out.flush())
 }
 
-// What a run answers whose output was flushed after it: its own fault comes before a failed flush.
+// What a run comes to whose output was flushed after it: its own fault comes before a failed flush.
 fn after_flush(ran: Result<(), Fault>, flushed: io::Result<()>) -> Result<(), Fault>
     ensures own { IfErr ran (λ fault. result ≡ Err fault) }
     ensures flush { OnOk ran (MatchResult flushed (λ _. IsOk result) (λ _. result ≡ Err StorageFailed)) }
@@ -84,48 +110,51 @@ fn after_flush(ran: Result<(), Fault>, flushed: io::Result<()>) -> Result<(), Fa
     flushed.map_err(|_| Fault::Storage)
 }
 
-// Opens the image of a file, for writing where the command may change it, and runs the command over it.
-fn run_over<R: Files + AllocGlobal, O: Write>(
-    rt: &R,
-    path: &str,
-    command: &Command,
-    out: &mut O,
-) -> Result<(), Fault>
-    ensures place { IfSome (place_fault_of command.now) (λ fault.
-        IsErr result × (out.new ≡ out.old)) }
-    ensures before_any_line { IsTrue (is_silent_on_faults command.now) → IfErr result (λ fault.
-        fault ≢ StorageFailed → out.new ≡ out.old) }
-{
-    let mut image = FileStorage::open(rt, path, command.changes_image())?;
-    run(rt.alloc(), &mut image, command, out)
-}
-
 /// Runs a command over an image, and prints to `out` what it finds. The image's header is loaded first,
 /// by who writes to the image for `edit` and `count`; `l2` doesn't look at it.
 ///
-/// Answers the fault of the header, or what the command's own function answers.
+/// Returns the fault of the header, or what the command's own function returns.
+#[tactic(auto, using(crate::proofs::RunningLemmas::runs))]
 pub fn run<S: Storage, O: Write>(
     alloc: Global,
     image: &mut S,
     command: &Command,
     out: &mut O,
 ) -> Result<(), Fault>
-    ensures runs { Runs command.now result (S.state image.old) (S.state image.new)
+    ensures runs { Runs (facts_of command.now) result (S.state image.old) (S.state image.new)
         (O.contents out.old) (O.contents out.new) }
-    ensures at_once { PrintsAtOnce command.now result (S.state image.old) (S.state image.new)
+    ensures at_once { PrintsAtOnce (facts_of command.now) result (S.state image.old) (S.state image.new)
         out.old out.new }
-    ensures unchanged { changes_image command.now ≡ false →
+    ensures unchanged { (facts_of command.now).changes_image ≡ false →
         (S.state image.new).byte_at ≡ (S.state image.old).byte_at }
-    ensures place { IfSome (place_fault_of command.now) (λ fault.
+    ensures place { IfSome (facts_of command.now).place_fault (λ fault.
         IsErr result × (out.new ≡ out.old)) }
 {
-    if let Command::ListTable {
-        cluster_bits,
-        cluster,
-    } = command
-    {
-        return list_l2_table(alloc, image, cluster_bits.get(), *cluster, out);
+    let header = find_header(alloc, image, command)?;
+    match command {
+        Command::Info => print_info(&header, out),
+        Command::List => list_tables(alloc, image, &header, out),
+        Command::Map { format } => print_extents(alloc, image, &header, *format, out),
+        Command::At { guest_offset } => {
+            print_mapping_at(alloc, image, &header, *guest_offset, out)
+        }
+        Command::Edit { l1_index, edits } => {
+            edit_entries(alloc, image, &header, *l1_index, edits.as_slice(), out)
+        }
+        Command::Count { cluster, steps } => {
+            count_references(alloc, image, &header, *cluster, steps.as_slice(), out)
+        }
+        Command::L2 { cluster, .. } => print_l2_table(alloc, image, &header, *cluster, out),
     }
-    let header = Header::load(alloc, image, command.changes_image())?;
-    run_with_header(alloc, image, &header, command, out)
+}
+
+// The header that a command works with: a new one of the cluster bits that its words say, or else that of the
+// image, loaded for writing where the command may change the image.
+fn find_header<S: Storage>(alloc: Global, image: &mut S, command: &Command) -> Result<Header, Fault>
+    ensures { FindsHeader (facts_of command.now) result (S.state image.old) (S.state image.new) }
+{
+    match command {
+        Command::L2 { cluster_bits, .. } => new_header(alloc, cluster_bits.get()),
+        _ => Header::load(alloc, image, command.changes_image()),
+    }
 }

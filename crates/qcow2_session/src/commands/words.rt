@@ -23,12 +23,12 @@ impl<T> Model for Changes<T> {
 }
 
 // A change that a word can say.
-pub(super) trait Said: Copy {
-    ghost said: { List ℕ → Option Self };
+pub(super) trait FromWord: Copy {
+    ghost from_word: { List ℕ → Option Self };
 
     // The change that a word says, if it says one.
-    fn said(word: &str) -> Option<Self>
-        ensures { result ≡ said word.now };
+    fn from_word(word: &str) -> Option<Self>
+        ensures { result ≡ from_word word.now };
 }
 
 impl<T> Changes<T> {
@@ -40,15 +40,15 @@ impl<T> Changes<T> {
     }
 }
 
-impl<T: Said> Changes<T> {
+impl<T: FromWord> Changes<T> {
     // The changes that words say, if each says one.
-    #[tactic(auto, using(crate::proofs::WordsLemmas::said))]
+    #[tactic(auto, using(crate::proofs::WordsLemmas::values_of_words))]
     pub(super) fn parse(alloc: Global, words: &[String]) -> Option<Result<Changes<T>, AllocError>>
-        ensures { Parses result (spec.all_of T.said (map string_bytes words.now)) }
+        ensures { Parses result (spec.all_values T.from_word (map string_bytes words.now)) }
     {
         let mut list = Vec::with_capacity(alloc, words.len());
         for word in words {
-            let change = T::said(word.as_str())?;
+            let change = T::from_word(word.as_str())?;
             if let Ok(list) = &mut list {
                 list.push(change).unwrap();
             }
@@ -81,7 +81,7 @@ pub(super) fn parts(word: &str) -> Option<(&str, &str)>
 
 /// The command, if there are no words after its image.
 pub(super) fn alone(command: Command, arguments: &[String]) -> Option<Result<Command, AllocError>>
-    ensures { Parses result (spec.without_arguments command (map string_bytes arguments.now)) }
+    ensures { Parses result (spec.command_alone command (map string_bytes arguments.now)) }
 {
     if arguments.is_empty() {
         Some(Ok(command))

@@ -91,7 +91,7 @@ impl LineBuffer {
     }
 }
 
-// Writes the digits of a number so that they end before an index, and answers where they start.
+// Writes the digits of a number so that they end before an index, and returns where they start.
 #[tactic(auto, using(crate::proofs::HexLemmas::hex_written))]
 fn write_hex(number: u64, bytes: &mut [u8], end: usize) -> usize
     requires { (16 ≤ end) × (end ≤ length bytes.old) }

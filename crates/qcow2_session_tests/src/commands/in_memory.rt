@@ -4,13 +4,13 @@ use super::run::words_of;
 use super::whole_images::INFO;
 use crate::calls::run_command;
 use crate::failing_output::{FailingOutput, Failure};
-use crate::sample_image::{COPIED, Numbers, is_sample, sample_image};
+use crate::sample_image::{COPIED, Numbers, check_sample, sample_image};
 use qcow2_base::{Fault, MemStorage};
 use qcow2_testing::{each, rows, same};
 use std::alloc::Global;
 use std::test::Fail;
 
-// A line, changes of the sample image, what the command answers and prints, and how the image differs from
+// A line, changes of the sample image, what the command returns and prints, and how the image differs from
 // the sample image then.
 type Row = (
     &'static str,
@@ -19,19 +19,20 @@ type Row = (
     Numbers<'static>,
 );
 
-// What a command answers, or nothing where the words are none.
+// What a command returns, or nothing where the words are none.
 type Answer = Option<Result<(), Fault>>;
 
 const DONE: Answer = Some(Ok(()));
 
-const JSON: &str = "[{ \"start\": 0, \"length\": 1536, \"depth\": 0, \
+pub(super) const JSON: &str = "[{ \"start\": 0, \"length\": 1536, \"depth\": 0, \
     \"present\": false, \"zero\": true, \"data\": false},\n\
     { \"start\": 1536, \"length\": 512, \"depth\": 0, \
     \"present\": true, \"zero\": false, \"data\": true, \"offset\": 2560},\n\
     { \"start\": 2048, \"length\": 30720, \"depth\": 0, \
     \"present\": false, \"zero\": true, \"data\": false}]\n";
 
-const EXTENTS: &str = "0x0 0x600 backing\n0x600 0x200 data 0xa00\n0x800 0x7800 backing\n";
+pub(super) const EXTENTS: &str =
+    "0x0 0x600 backing\n0x600 0x200 data 0xa00\n0x800 0x7800 backing\n";
 
 const ROWS: &[Row] = rows! {
     ("l2 IMAGE 9 2", &[(0, 0)], (DONE, "3 data 0xa00 copied\n"), &[(0, 0)]),
@@ -53,18 +54,18 @@ const ROWS: &[Row] = rows! {
 
 #[test]
 fn a_command_runs_over_an_image_in_memory(rt: HostRuntime) -> Result<(), Fail> {
-    each(rt.alloc(), ROWS, runs)
+    each(rt.alloc(), ROWS, check_row)
 }
 
-fn runs(alloc: Global, row: Row) -> Result<(), Fail> {
+fn check_row(alloc: Global, row: Row) -> Result<(), Fail> {
     let (line, before, expected, after) = row;
     let mut image = sample_image(alloc, 9, before)?;
-    prints(alloc, &mut image, line, expected)?;
-    is_sample(alloc, image.bytes(), (9, after), line)
+    check_printed(alloc, &mut image, line, expected)?;
+    check_sample(alloc, image.bytes(), (9, after), line)
 }
 
-// Runs a line, and fails unless the command answers and prints this.
-fn prints(
+// Runs a line, and fails unless the command returns and prints this.
+fn check_printed(
     alloc: Global,
     image: &mut MemStorage,
     line: &str,

@@ -1,6 +1,6 @@
 //! Lines of words: how a run of them ends over files and outputs that fail, and which are no command.
 
-use super::whole_images::ends_with;
+use super::whole_images::check_run;
 use crate::failing_output::{FailingOutput, Failure};
 use qcow2_session::{report_fault, run_words};
 use qcow2_testing::{FAULTS, FaultyFiles, ToldFault, each, rows, same};
@@ -45,7 +45,7 @@ pub(crate) fn words_of(alloc: Global, line: &str, image: &str) -> Result<Vec<Str
 }
 
 // Runs a line, and fails unless it ends so.
-pub(crate) fn runs(
+pub(crate) fn check_line(
     files: &FaultyFiles<'_, HostRuntime>,
     image: &str,
     line: &str,
@@ -76,19 +76,30 @@ const NO_COMMANDS: &[&str] = rows! {
     "count IMAGE 3 inc:0:1", "count IMAGE 3 inc:0 discard:0",
 };
 
-const NO_COMMAND: Outcome<'static> = (2, "", "usage: qmeta COMMAND IMAGE ARGUMENTS\n");
+pub(super) const NO_COMMAND: Outcome<'static> = (2, "", "usage: qmeta COMMAND IMAGE ARGUMENTS\n");
 
 // No file is opened.
 #[test]
 fn words_that_are_no_command_are_the_usage_line(rt: HostRuntime) -> Result<(), Fail> {
     for line in NO_COMMANDS {
-        ends_with(&rt, "no-command", (&[], &[]), line, NO_FAILURES, NO_COMMAND)?;
+        check_run(&rt, "no-command", (&[], &[]), line, NO_FAILURES, NO_COMMAND)?;
     }
     Ok(())
 }
 
-fn is_reported(alloc: Global, (fault, number, ..): ToldFault) -> Result<(), Fail> {
-    let mut err = FailingOutput::new(alloc, Failure::Never);
+// On an output that takes all, one that takes three bytes a call, and one that is interrupted once.
+fn check_reported(alloc: Global, fault: ToldFault) -> Result<(), Fail> {
+    check_reported_on(alloc, Failure::Never, fault)?;
+    check_reported_on(alloc, Failure::Short, fault)?;
+    check_reported_on(alloc, Failure::Interrupted, fault)
+}
+
+fn check_reported_on(
+    alloc: Global,
+    failure: Failure,
+    (fault, number, ..): ToldFault,
+) -> Result<(), Fail> {
+    let mut err = FailingOutput::new(alloc, failure);
     let status = report_fault(fault, &mut err);
     let line = format!(in alloc; "qmeta: fault {number}\n")?;
     same(
@@ -100,5 +111,5 @@ fn is_reported(alloc: Global, (fault, number, ..): ToldFault) -> Result<(), Fail
 
 #[test]
 fn a_fault_is_reported_by_its_number(rt: HostRuntime) -> Result<(), Fail> {
-    each(rt.alloc(), FAULTS, is_reported)
+    each(rt.alloc(), FAULTS, check_reported)
 }

@@ -1,9 +1,11 @@
 //! The commands over whole images: what they print, and what the file is then.
 
-use super::run::{Failures, NO_FAILURES, Outcome, runs};
-use crate::failing_output::Failure::{Flush, Never, WriteAfter};
-use crate::sample_image::{COPIED, Numbers, is_sample, sample_image};
+use super::in_memory::{EXTENTS, JSON};
+use super::run::{Failures, NO_COMMAND, NO_FAILURES, Outcome, check_line};
+use crate::failing_output::Failure::{Flush, Interrupted, Never, Short, WriteAfter};
+use crate::sample_image::{COPIED, Numbers, check_sample, sample_image};
 use qcow2_testing::{FaultyFiles, Opens, TemporaryFile, rows, same, temporary_file};
+use std::alloc::{AllocError, Global};
 use std::fs;
 use std::test::Fail;
 
@@ -70,6 +72,12 @@ const TABLE_ALONE: Numbers<'static> = rows! {
     (0, 0), (16, 0), (24, 0), (32, 0), (40, 0), (96, 0), (512, 0)
 };
 
+// An autoclear feature, 400 unknown bytes, and the backing file FI, whose name is bytes 1 and 2 of the image.
+// A write puts it after End, which the first cluster ends with.
+const NO_ROOM: Numbers<'static> = rows! {
+    (8, 1), (16, 0x0000_0002_0000_0009), (88, 1), (96, 0x0000_0004_0000_01f8),
+};
+
 // An autoclear feature, which no command leaves that edits or counts.
 const AUTOCLEAR: Numbers<'static> = &[(88, 1)];
 
@@ -89,10 +97,14 @@ const LOOKS: &[(&str, Outcome<'static>)] = rows! {
     ("l2 no-such-folder/image 9 2", NO_FILE),
     ("l2 / 9 2", NO_FILE),
     ("l2  9 140737488355328", NO_FILE),
+    ("map no-such-folder/image", NO_FILE),
+    ("map / json", NO_FILE),
     ("edit no-such-folder/image 0 zero:3", NO_FILE),
     // whole images
     ("info IMAGE", (0, INFO, "")),
     ("list IMAGE", (0, LIST, "")),
+    ("map IMAGE", (0, EXTENTS, "")),
+    ("map IMAGE json", (0, JSON, "")),
     ("at IMAGE 0", (0, BACKING, "")),
     ("at IMAGE 1543", (0, DATA_LINE, "")),
     ("at IMAGE 32768", (0, "backing 0x8000\n", "")),
@@ -152,6 +164,13 @@ const ROWS: &[Row] = rows! {
     (&[(1528, 2)], "at IMAGE 0", BAD_ENTRY, &[(1528, 2)]),
     (&[(1528, 2)], "edit IMAGE 0 discard:3", BAD_ENTRY, &[(1528, 2)]),
     (BAD_SECOND_TABLE, "list IMAGE", (1, LIST, "qmeta: fault 18\n"), BAD_SECOND_TABLE),
+    (&[(1528, 2)], "map IMAGE", BAD_ENTRY, &[(1528, 2)]),
+    (&[(1528, 2)], "map IMAGE json", (1, "[", "qmeta: fault 18\n"), &[(1528, 2)]),
+    (&[(32, 0xffff_ffff)], "map IMAGE", (1, "", "qmeta: fault 20\n"), &[(32, 0xffff_ffff)]),
+    // a header that loads, but has no room once it is to be written
+    (NO_ROOM, "at IMAGE 1543", (0, DATA_LINE, ""), NO_ROOM),
+    (NO_ROOM, "edit IMAGE 0", (1, "", "qmeta: fault 24\n"), NO_ROOM),
+    (NO_ROOM, "count IMAGE 3 inc:0", (1, "", "qmeta: fault 24\n"), NO_ROOM),
 };
 
 const VERSION_4: Numbers<'static> = &[(0, 0x5146_49fb_0000_0004)];
@@ -159,7 +178,7 @@ const VERSION_4: Numbers<'static> = &[(0, 0x5146_49fb_0000_0004)];
 #[test]
 fn each_command_says_what_the_image_means(rt: HostRuntime) -> Result<(), Fail> {
     for (line, expected) in LOOKS {
-        ends_with(&rt, "looks", (&[], &[]), line, NO_FAILURES, *expected)?;
+        check_run(&rt, "looks", (&[], &[]), line, NO_FAILURES, *expected)?;
     }
     Ok(())
 }
@@ -168,14 +187,14 @@ fn each_command_says_what_the_image_means(rt: HostRuntime) -> Result<(), Fail> {
 fn edits_and_steps_change_just_their_table_or_block(rt: HostRuntime) -> Result<(), Fail> {
     for (before, line, expected, after) in ROWS {
         let changes = (*before, *after);
-        ends_with(&rt, "changes", changes, line, NO_FAILURES, *expected)?;
+        check_run(&rt, "changes", changes, line, NO_FAILURES, *expected)?;
     }
     Ok(())
 }
 
 // Runs a line over a file of the sample image with changes, and fails unless the run ends so, opens the file
 // as its command does, and leaves it with these changes.
-pub(crate) fn ends_with(
+pub(crate) fn check_run(
     rt: &HostRuntime,
     name: &str,
     (before, after): (Numbers<'_>, Numbers<'_>),
@@ -185,10 +204,10 @@ pub(crate) fn ends_with(
 ) -> Result<(), Fail> {
     let file = sample_file(rt, name, before)?;
     let files = FaultyFiles::new(rt);
-    runs(&files, file.path.as_str(), line, failures, expected)?;
+    check_line(&files, file.path.as_str(), line, failures, expected)?;
     same(files.opens(), opens_of(line, expected.0), line)?;
     let found = fs::read(rt, file.path.as_str())?;
-    is_sample(rt.alloc(), &found, (9, after), line)
+    check_sample(rt.alloc(), &found, (9, after), line)
 }
 
 // The sample image, whose clusters have 512 bytes, with these changes, in a file.
@@ -233,8 +252,14 @@ const FAILING: &[FailingRow] = rows! {
     (&[], "list IMAGE", (WriteAfter(6), Never), (1, "0x600 ", STORAGE), &[]),
     (&[], "edit IMAGE 0 map:3:6", (WriteAfter(10), Never), (1, "freed 5 1\n", STORAGE), MAPPED_TO_6),
     (&[], "count IMAGE 3 inc:0 dec:1", (WriteAfter(4), Never), (1, "ok 0", STORAGE), COUNTED),
-    // a failed flush is told where the run has no fault of its own
+    (&[], "map IMAGE", (WriteAfter(20), Never), (1, "0x0 0x600 backing\n0x", STORAGE), &[]),
+    (&[], "map IMAGE json", (WriteAfter(0), Never), NO_FILE, &[]),
+    (&[], "map IMAGE", (Short, Never), (0, EXTENTS, ""), &[]),
+    (&[], "map IMAGE", (Interrupted, Never), (0, EXTENTS, ""), &[]),
+    // a failed flush is reported where the run has no fault of its own
     (&[], "l2 IMAGE 9 2", (Flush, Never), NO_FILE, &[]),
+    (&[], "map IMAGE", (Flush, Never), NO_FILE, &[]),
+    (&[(1528, 2)], "map IMAGE", (Flush, Never), BAD_ENTRY, &[(1528, 2)]),
     (&[], "edit IMAGE 0 zero:3", (Flush, Never), NO_FILE, &[(1048, 1)]),
     (&[], "l2 IMAGE 9 140737488355328", (Flush, Never), NO_PLACE, &[]),
     // a failed error output keeps the status
@@ -242,6 +267,11 @@ const FAILING: &[FailingRow] = rows! {
     (&[], "l2 IMAGE 9 140737488355328", (Never, WriteAfter(5)), (1, "", "qmeta"), &[]),
     (&[], "l2 IMAGE 9 140737488355328", (Never, Flush), (1, "", ""), &[]),
     (&[], "l2 IMAGE 8 2", (Never, WriteAfter(9)), (2, "", "usage: qm"), &[]),
+    // an error output that takes a part at a time, or is interrupted, has the whole line in the end
+    (&[], "l2 IMAGE 9 140737488355328", (Never, Short), NO_PLACE, &[]),
+    (&[], "l2 IMAGE 9 140737488355328", (Never, Interrupted), NO_PLACE, &[]),
+    (&[], "l2 IMAGE 8 2", (Never, Short), NO_COMMAND, &[]),
+    (&[], "l2 IMAGE 8 2", (Never, Interrupted), NO_COMMAND, &[]),
 };
 
 const CUT_LINES: &str = "0 data 0xa00 copied\n2 zero\n3 z";
@@ -253,7 +283,7 @@ const COUNTED: Numbers<'static> = &[(1536, 1 << 48), (2040, 0)];
 #[test]
 fn failing_outputs_are_told_and_keep_what_they_took(rt: HostRuntime) -> Result<(), Fail> {
     for (before, line, failures, expected, after) in FAILING {
-        ends_with(&rt, "failing", (before, after), line, *failures, *expected)?;
+        check_run(&rt, "failing", (before, after), line, *failures, *expected)?;
     }
     Ok(())
 }
@@ -277,7 +307,7 @@ fn what_an_edit_maps_is_what_the_offset_reads_as(rt: HostRuntime) -> Result<(), 
     let file = sample_file(&rt, "maps", &[(32, 2), (520, COPIED + 0x600)])?;
     let files = FaultyFiles::new(&rt);
     for (line, expected) in MAPS {
-        runs(&files, file.path.as_str(), line, NO_FAILURES, *expected)?;
+        check_line(&files, file.path.as_str(), line, NO_FAILURES, *expected)?;
     }
     Ok(())
 }
@@ -292,6 +322,7 @@ const CALLS: &[(&str, &str, u64)] = rows! {
     ("l2 IMAGE 9 2", ONE_LINE, 1 + 8),
     ("info IMAGE", INFO, 1 + 11),
     ("list IMAGE", LIST, 1 + 11 + 3 + 8),
+    ("map IMAGE", EXTENTS, 1 + 11 + 3 + 8),
     ("at IMAGE 1543", DATA_LINE, 1 + 11 + 3 + 8),
     ("edit IMAGE 0 map:3:6", MAPPED, 1 + 11 + 3 + 8 + 8),
     ("count IMAGE 3 inc:0 dec:1", "ok 0\nrefused\n", 1 + 11 + 1 + 8),
@@ -300,14 +331,14 @@ const CALLS: &[(&str, &str, u64)] = rows! {
 #[test]
 fn each_failed_call_of_the_file_is_the_storage_fault(rt: HostRuntime) -> Result<(), Fail> {
     for (line, printed, calls) in CALLS {
-        fails_at_each_call(&rt, line, printed, *calls)?;
+        check_failed_calls(&rt, line, printed, *calls)?;
     }
     Ok(())
 }
 
 // Runs a line over a file of which each call takes 100 bytes at most, with each call of the file failed in
 // turn. A run that has all of its calls prints this.
-fn fails_at_each_call(rt: &HostRuntime, line: &str, printed: &str, calls: u64) -> Result<(), Fail> {
+fn check_failed_calls(rt: &HostRuntime, line: &str, printed: &str, calls: u64) -> Result<(), Fail> {
     for passes in 0..=calls {
         let file = sample_file(rt, "failed-calls", &[])?;
         let mut files = FaultyFiles::new(rt);
@@ -318,7 +349,7 @@ fn fails_at_each_call(rt: &HostRuntime, line: &str, printed: &str, calls: u64) -
         } else {
             (0, printed, "")
         };
-        runs(&files, file.path.as_str(), line, NO_FAILURES, expected)?;
+        check_line(&files, file.path.as_str(), line, NO_FAILURES, expected)?;
     }
     Ok(())
 }
@@ -330,6 +361,68 @@ fn a_file_that_may_not_be_written_is_not_edited(rt: HostRuntime) -> Result<(), F
     let mut files = FaultyFiles::new(&rt);
     files.read_only = true;
     let line = "edit IMAGE 0 zero:3";
-    runs(&files, file.path.as_str(), line, NO_FAILURES, NO_FILE)?;
+    check_line(&files, file.path.as_str(), line, NO_FAILURES, NO_FILE)?;
     same(files.opens(), opens_of(line, 1), "opens")
+}
+
+// Names of images. Each is that of a file as it is: nothing in it has a meaning.
+const PATHS: &[&str] = rows! {
+    " image", "image ", "an  image", "\timage\n", "file:image", "nbd:image", "json:{}", "a:b", "-", "--help",
+    "l2", "\u{e4}\u{20ac}\u{fffd}", "image%20", "\"image\"",
+};
+
+// Looks at the file at a path by this name, and edits it.
+fn check_name<'a>(rt: &'a HostRuntime, name: &'a str, path: &'a str) -> Result<(), Fail> {
+    let mut files = FaultyFiles::new(rt);
+    files.alias = Some((name, path));
+    let (data, freed) = ((0, DATA_LINE, ""), (0, "freed 5 1\n", ""));
+    check_line(&files, name, "at IMAGE 1543", NO_FAILURES, data)?;
+    check_line(&files, name, "edit IMAGE 0 discard:3", NO_FAILURES, freed)
+}
+
+#[test]
+fn the_image_that_is_named_is_opened(rt: HostRuntime) -> Result<(), Fail> {
+    for name in PATHS {
+        let file = sample_file(&rt, "names", &[])?;
+        check_name(&rt, *name, file.path.as_str())?;
+    }
+    Ok(())
+}
+
+// A text, and another one after it fifty times.
+fn with_fifty(alloc: Global, text: &str, other: &str) -> Result<String, AllocError> {
+    let mut whole = String::from_str(alloc, text)?;
+    whole.push_str(&other.repeat(alloc, 50)?)?;
+    Ok(whole)
+}
+
+#[test]
+fn a_hundred_edits_are_made_by_one_command(rt: HostRuntime) -> Result<(), Fail> {
+    let line = with_fifty(rt.alloc(), "edit IMAGE 0", " map:3:6 map:3:5")?;
+    let freed = with_fifty(rt.alloc(), "", "freed 5 1\nfreed 6 1\n")?;
+    let printed = with_fifty(rt.alloc(), freed.as_str(), "gained 6\ngained 5\n")?;
+    let expected = (0, printed.as_str(), "");
+    check_run(
+        &rt,
+        "edits",
+        (&[], &[]),
+        line.as_str(),
+        NO_FAILURES,
+        expected,
+    )
+}
+
+#[test]
+fn a_hundred_steps_are_made_by_one_command(rt: HostRuntime) -> Result<(), Fail> {
+    let line = with_fifty(rt.alloc(), "count IMAGE 3", " inc:0 dec:0")?;
+    let printed = with_fifty(rt.alloc(), "", "ok 0\nok 1\n")?;
+    let expected = (0, printed.as_str(), "");
+    check_run(
+        &rt,
+        "steps",
+        (&[], &[(2040, 0)]),
+        line.as_str(),
+        NO_FAILURES,
+        expected,
+    )
 }

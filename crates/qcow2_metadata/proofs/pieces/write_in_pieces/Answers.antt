@@ -5,8 +5,8 @@ use Rattle.qcow2_metadata.proofs.pieces.write_in_pieces.Goals as goal
 
 pub returns-in_err-write : goal.returns-in_err-write
 returns-in_err-write g c =
-    let bytes = g.P.Packed.bytes c.args.packed.now in
-    let len = g.P.Packed.byte_count c.args.packed.now in
+    let bytes = (g.P.Packed.layout c.args.packed.now).bytes_of (g.P.Packed.numbers c.args.packed.now) in
+    let len = (g.P.Packed.layout c.args.packed.now).byte_count in
     let piece = c.loop-piece.piece in
     let before = c.loop-piece.invariant in
     let count : length c.pack.new.buffer ≡ min (len - 4096 * piece) 4096 = search rules in

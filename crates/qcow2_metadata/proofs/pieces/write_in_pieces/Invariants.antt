@@ -9,7 +9,7 @@ invariant-loop-piece g l =
     let old = g.S.Storage.state l.initial.image in
     let new = g.S.Storage.state l.image in
     record {
-      told : IsTrue old.tells → IsWrittenUpTo l.piece (g.P.Packed.bytes l.packed) (g.P.Packed.byte_count l.packed)
+      told : IsTrue old.tells → IsWrittenUpTo l.piece ((g.P.Packed.layout l.packed).bytes_of (g.P.Packed.numbers l.packed)) (g.P.Packed.layout l.packed).byte_count
           l.offset.0 old.byte_at new.byte_at;
       failures : new.failures ≡ old.failures;
       device : SameDevice old new;

@@ -1,8 +1,6 @@
-use Rattle.std.proofs.Common.{◌≡◌, Err, refl, rules, false, arith}
+use Rattle.std.proofs.Common.{◌≡◌, rules, false, arith}
 use Rattle.std.proofs.lemmas.Result.{err_from_is_err_and}
-use Rattle.qcow2_metadata.proofs.GrammarLemmas.{header_of-is}
-use Rattle.qcow2_metadata.proofs.LoadLemmas.{follows-grammar}
-use Rattle.qcow2_metadata.proofs.OpenLemmas.{answers-first, opened-faults, opened-same, opened-same_fault}
+use Rattle.qcow2_metadata.proofs.OpenLemmas.{answers-first, opened-faults, opened_fault}
 use Rattle.qcow2_metadata.proofs.header.Header.load.Goals as goal
 use Rattle.std.proofs.lemmas.Bool.Decides.{nat_tests}
 
@@ -13,9 +11,7 @@ returns-in_err-header g c =
     let read = c.in_err-header.ensures in
     let fault = c.in_err-header.field-0.0 in
     rw (exit.1, exit.2) (record {
-      exact = λ told. opened-same_fault c.args.writable image image fault (λ o below. refl) (read.exact told);
-      grammar = λ read_only told. follows-grammar (Err fault) image (read.exact told);
-      first_cluster = λ told other same. opened-same_fault c.args.writable image other fault same (read.exact told);
+      exact = λ told. opened_fault c.args.writable image fault (read.exact told);
       faults = search rules;
       storage = search rules;
     })
@@ -27,11 +23,9 @@ returns-then-not-writable g c =
     let read_only : c.args.writable ≡ false = search rules in
     rw read_only (record {
       exact = λ told. search rules;
-      grammar = λ _ told. header_of-is image header (c.in_ok-header.ensures.exact told);
-      first_cluster = λ told other same. opened-same false image other header same (c.in_ok-header.ensures.exact told);
       faults = tt;
       storage = search rules;
     })
 
 pub returns : goal.returns
-returns g c = grind (arith, nat_tests, answers-first, opened-same, opened-faults)
+returns g c = grind (arith, nat_tests, answers-first, opened-faults)

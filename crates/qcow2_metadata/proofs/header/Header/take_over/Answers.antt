@@ -11,14 +11,14 @@ use Rattle.qcow2_metadata.proofs.header.Header.take_over.Goals as goal
 pub returns-then-not-layout : goal.returns-then-not-layout
 returns-then-not-layout c =
     let header = c.args.self.now in
-    let bare = not_true c.args.layout.with_names c.if-not-layout.true in
+    let header_without_names = not_true c.args.layout.with_names c.if-not-layout.true in
     let left = filter_same _ (λ extension. is_other (extension_of extension)) _ (λ x b f' k. search rules) _ _
     c.retain.ensures.filtered in
     let all = held_are _ _ _ _ c.self.view_is refl (refl {a = c.self.inside.extensions.items}) in
     let extensions : map extension_of c.retain.new.self.items
     ≡ chosen_extensions c.args.layout.with_names header.extensions =
     ap (map extension_of) left ∙ kept-extensions c.self.inside.extensions.items ∙ ap (filter is_other) all
-    ∙ sym (ap (λ (b : Bool). chosen_extensions b header.extensions) bare) in
+    ∙ sym (ap (λ (b : Bool). chosen_extensions b header.extensions) header_without_names) in
     λ i. record {
       v2 = c.requires.v2 i;
       base = c.requires.base i;

@@ -1,6 +1,6 @@
 use Rattle.std.proofs.Common.{◌∙◌, rules, subst, sym}
 use Rattle.qcow2_base.specs.Storage.{Holds}
-use Rattle.qcow2_metadata.specs.Header.Text.{IsSettled, IsWrittenHeader, chosen, placed}
+use Rattle.qcow2_metadata.specs.Header.Text.{IsSettled, IsWrittenHeader, header_to_write, header_with_places}
 use Rattle.qcow2_metadata.proofs.SettledLemmas.{kept-settled}
 use Rattle.qcow2_metadata.proofs.WriteLemmas.{chosen_text-placed, kept-fault, refused-writes, written-header}
 use Rattle.qcow2_metadata.proofs.header.Header.write.Goals as goal
@@ -22,7 +22,7 @@ returns-clause-written g c told =
 
 pub returns-clause-settled : goal.returns-clause-settled
 returns-clause-settled g c =
-    let written = placed (chosen c.in_ok-layout.layout.with_names c.args.self.now) in
+    let written = header_with_places (header_to_write c.in_ok-layout.layout.with_names c.args.self.now) in
     subst IsSettled (sym c.take_over.ensures)
     (kept-settled c.args.self.now written c.in_ok-text.ensures.lawful.storable c.in_ok-layout.ensures.1)
 

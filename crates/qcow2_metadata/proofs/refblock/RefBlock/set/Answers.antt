@@ -1,4 +1,4 @@
-use Rattle.qcow2_metadata.proofs.RefblockLemmas.{counter_holds, set-lawful}
+use Rattle.qcow2_metadata.proofs.RefblockLemmas.{counter_holds, set-valid}
 use Rattle.qcow2_metadata.proofs.refblock.RefBlock.set.Goals as goal
 
 pub set-requires-clause-fits : goal.set-requires-clause-fits
@@ -9,6 +9,6 @@ pub invariant_of-self : goal.invariant_of-self
 invariant_of-self c =
     let block = c.self.inside in (
       c.set.ensures.order _ c.self.invariant.0,
-      set-lawful block.cluster_bits block.refcount_order block.cluster block.counters c.set.new.self c.args.index
+      set-valid block.cluster_bits block.refcount_order block.placement.cluster block.counters c.set.new.self c.args.index
           c.args.counter c.self.invariant.1 c.set.ensures.numbers (rw (← c.self.view_is) at c.requires.counter),
     )

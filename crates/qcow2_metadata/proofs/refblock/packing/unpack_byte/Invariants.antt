@@ -3,7 +3,7 @@ use Rattle.qcow2_base.specs.Bits.{field}
 use Rattle.qcow2_metadata.specs.Refblock.Packing.{width}
 use Rattle.qcow2_metadata.proofs.refblock.packing.unpack_byte.Given as goal
 
--- the counters so far stand in the array
+-- the counters so far are in the array
 abbrev pub invariant-loop-index : goal.invariant-loop-index
 invariant-loop-index g l = record {
   len : length l.counters ≡ g.row.PER;

@@ -2,7 +2,7 @@ use Rattle.std.proofs.Common.{◌≡◌, ℕ, ◌+◌, ◌*◌, ◌<◌, length,
 use Rattle.qcow2_base.specs.Storage.{be, image_of}
 use Rattle.qcow2_metadata.proofs.table.pieces.encode_held.Given as goal
 
--- the numbers of the entries so far stand in the bytes
+-- the numbers of the entries so far are in the bytes
 abbrev pub invariant-loop-index : goal.invariant-loop-index
 invariant-loop-index g l = record {
   len : length l.bytes ≡ length l.initial.bytes;

@@ -8,8 +8,8 @@ use Rattle.qcow2_metadata.proofs.TableLemmas.{first_fault-append}
 use Rattle.qcow2_metadata.specs.Table.{table_numbers}
 use Rattle.qcow2_metadata.proofs.table.pieces.read_entries.Goals as goal
 
-pub returns-in_err-decode-clause-exact : goal.returns-in_err-decode-clause-exact
-returns-in_err-decode-clause-exact g c told =
+pub returns-in_err-decode-clause-reads : goal.returns-in_err-decode-clause-reads
+returns-in_err-decode-clause-reads g c =
     let exit = c.from_residual-in_err-decode in
     let left = err_from_is_err_and exit.result exit.ensures.1 in
     let image = (g.S.Storage.state c.args.image.now).byte_at in
@@ -18,11 +18,19 @@ returns-in_err-decode-clause-exact g c told =
     let k = length c.loop-piece.list.items in
     let len : length bytes ≡ 8 * min (c.args.entries - 512 * c.loop-piece.piece) 512 = search rules in
     let place : c.args.offset.0 + 8 * (512 * c.loop-piece.piece) ≡ c.args.offset.0 + 8 * k = omega (arith, before.len) in
-    let held : Holds image (c.args.offset.0 + 8 * k) bytes = rw (place, before.bytes) at (c.in_ok-read_range.ensures.held (before.device.tells ∙ told)) in
-    rw (left.1, left.2) (elim c.in_err-decode.ensures.refused [
-      | inl memory ↦ inr (inl memory)
-      | inr bad ↦ inr (inr (decoded-refused_piece _ image c.args.offset.0 k (length bytes / 8) c.args.entries bytes _ (omega (arith, before.len)) held (omega arith) (rw (before.told told) at before.valid) bad))
-    ])
+    record {
+      exact = λ told.
+          let held : Holds image (c.args.offset.0 + 8 * k) bytes = rw (place, before.bytes) at (c.in_ok-read_range.ensures.held (before.device.tells ∙ told)) in
+          rw (left.1, left.2) (elim c.in_err-decode.ensures.refused [
+            | inl memory ↦ inr (inl memory)
+            | inr bad ↦ inr (inr (decoded-refused_piece _ image c.args.offset.0 k (length bytes / 8) c.args.entries bytes _ (omega (arith, before.len)) held (omega arith) (rw (before.told told) at before.valid) bad))
+          ]);
+      faults = rw (left.1, left.2) (elim c.in_err-decode.ensures.faults [
+        | inl entry ↦ inl entry
+        | inr memory ↦ inr (inl memory)
+      ]);
+      storage = rw left.1 (search rules);
+    }
 
 pub loop-piece-preserved : goal.loop-piece-preserved
 loop-piece-preserved g c =

@@ -2,9 +2,11 @@ use Rattle.std.proofs.Common.{arith, refl, ◌∙◌}
 use Rattle.std.proofs.lemmas.Result.{err_from_is_err_and}
 use Rattle.qcow2_session.proofs.ChangingLemmas.{change-printed, change-refused, change-unplaced, idle-edits, loads-part, of-any, part-follows, part-refused}
 use Rattle.qcow2_session.proofs.PrintingLemmas.{last-printed, last-unprinted, refused-as}
-use Rattle.qcow2_session.specs.Commands.Editing.{end_of_edits, table_format, told_edits}
+use Rattle.qcow2_session.specs.Commands.Edit.{end_of_edits, change_by_edits}
+use Rattle.qcow2_metadata.specs.Header.{geometry_of}
+use Rattle.qcow2_metadata.specs.Table.{l2_layout}
 use Rattle.qcow2_metadata.specs.Table.L2Guards.{RunEnd}
-use Rattle.qcow2_session.specs.Session.Images.{edits_end}
+use Rattle.qcow2_session.specs.Images.{edits_end}
 use Rattle.qcow2_session.proofs.commands.edit.edit_entries.Goals as goal
 
 pub returns-in_err-cluster-clause-edits : goal.returns-in_err-cluster-clause-edits
@@ -19,14 +21,14 @@ returns-in_err-outcome-clause-edits g c =
     let cluster = c.in_ok-cluster.cluster in
     let edits = c.args.edits.now in
     let image = (g.S.Storage.state c.args.image.now).byte_at in
-    rw (exit.1, exit.2) (change-refused _ (table_format header) (told_edits cluster edits) (end_of_edits c.args.l1_index edits header) (edits_end header cluster edits image) _ _ _ _
+    rw (exit.1, exit.2) (change-refused _ (l2_layout (geometry_of header)) (change_by_edits cluster edits) (end_of_edits c.args.l1_index edits header) (edits_end header cluster edits image) _ _ _ _
     (λ told. rw (named.exact told) refl)
     (λ told. refused-as _ (λ bad. part-refused _ (λ (left : RunEnd). (left.freed, left.gained)) _ (rw named.storage.bytes at bad)) (ran.exact (named.storage.device.tells ∙ told)))
-    (λ storage. grind (arith, storage, named.storage.told, ran.storage.told))
-    (λ other. ran.storage.refused other ∙ named.storage.bytes)
-    (λ told failed. rw named.storage.bytes at (ran.faults.torn (named.storage.device.tells ∙ told) (grind (arith, failed, named.storage.told, ran.storage.told))))
+    (λ storage. grind (arith, storage, named.storage.told, ran.changes.storage.told))
+    (λ other. ran.changes.storage.refused other ∙ named.storage.bytes)
+    (λ told failed. rw named.storage.bytes at (ran.changes.torn (named.storage.device.tells ∙ told) (grind (arith, failed, named.storage.told, ran.changes.storage.told))))
     (λ told. idle-edits edits _ _ _ (λ none. ran.idle none ∙ named.storage.bytes))
-    (λ told. of-any (edits_end header cluster edits image) (λ left. rw named.storage.bytes at (ran.storage.others (named.storage.device.tells ∙ told)))))
+    (λ told. of-any (edits_end header cluster edits image) (λ left. rw named.storage.bytes at (ran.changes.storage.others (named.storage.device.tells ∙ told)))))
 
 pub returns-clause-edits : goal.returns-clause-edits
 returns-clause-edits g c = grind (arith, change-printed, part-follows, loads-part, idle-edits, of-any)

@@ -2,7 +2,7 @@ use Rattle.std.proofs.Common.{◌≡◌, ◌++◌, ◌-◌, ℕ, IsTrue, List, O
 use Rattle.std.specs.List.{concat}
 use Rattle.std.specs.Io.KnownBytes.{Appends}
 use Rattle.qcow2_base.specs.Storage.{ReadsFor}
-use Rattle.qcow2_session.specs.Commands.Listing.{texts_left}
+use Rattle.qcow2_session.specs.Commands.List.{texts_left}
 use Rattle.qcow2_session.proofs.commands.list.print_tables.Given as goal
 
 -- the tables before those that are left can be loaded and are printed, and no call of the image has failed

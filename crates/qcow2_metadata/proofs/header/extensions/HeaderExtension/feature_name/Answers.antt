@@ -6,7 +6,7 @@ use Rattle.qcow2_metadata.specs.Header.Extensions.{FeatureKey, key_cmp}
 use Rattle.std.proofs.lemmas.Map.Made.{lookup-map_values}
 use Rattle.qcow2_metadata.proofs.header.extensions.HeaderExtension.feature_name.Goals as goal
 
--- the bytes of a text behind a reference are those of a copy of the text
+-- the bytes of a text after a reference are those of a copy of the text
 bytes_of_copied : (found : Option (Bor (String Global)))
     → option_map (λ name. string_bytes name.now) found ≡ option_map string_bytes (option_copied found)
 bytes_of_copied None = refl

@@ -1,4 +1,4 @@
-use Rattle.std.proofs.Common.{◌^◌, ◌<◌, map, arith, rules}
+use Rattle.std.proofs.Common.{◌^◌, ◌<◌, map, refl, arith, rules}
 use Rattle.std.proofs.lemmas.List.Elements.{All-set}
 use Rattle.std.proofs.lemmas.List.{length-set, map-set}
 use Rattle.qcow2_metadata.proofs.TableLemmas.{first_fault-set}
@@ -13,10 +13,13 @@ invariant_of-self g c =
     let edit = map-set plain c.self.inside.entries.items c.args.index c.replace.new.dest in
     let len = length-set numbers c.args.index (plain c.args.entry) in
     rw (edit, c.replace.ensures.after) (record {
-      bits = before.bits;
-      place = before.place;
-      valid = first_fault-set _ numbers c.args.index (plain c.args.entry) before.valid (search rules);
-      fits = All-set (λ v. v < 2 ^ 64) numbers c.args.index (plain c.args.entry) (omega arith) before.fits;
+      entries = record {
+        bits = before.entries.bits;
+        place = before.entries.place;
+        valid = first_fault-set _ numbers c.args.index (plain c.args.entry) before.entries.valid (search rules);
+        fits = All-set (λ v. v < 2 ^ 64) numbers c.args.index (plain c.args.entry) (omega arith) before.entries.fits;
+        count = refl;
+      };
       count = rw len before.count;
       bound = rw len before.bound;
     })

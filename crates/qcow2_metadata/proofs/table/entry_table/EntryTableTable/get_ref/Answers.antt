@@ -5,4 +5,4 @@ pub returns-clause-lawful : goal.returns-clause-lawful
 returns-clause-lawful g c =
     let table = c.self.inside in
     rw (← c.self.view_is)
-    (lawful_if_found g.E.TableEntry.plain (g.E.TableEntry.fault_of table.cluster_bits) table.entries.items c.args.index c.get.result c.self.invariant.valid (rw c.deref.ensures.value at c.get.ensures.lookup))
+    (lawful_if_found g.E.TableEntry.plain (g.E.TableEntry.fault_of table.cluster_bits) table.entries.items c.args.index c.get.result c.self.invariant.entries.valid (rw c.deref.ensures.value at c.get.ensures.lookup))

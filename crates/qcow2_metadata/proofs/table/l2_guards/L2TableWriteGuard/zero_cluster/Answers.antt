@@ -3,7 +3,7 @@ use Rattle.std.specs.Prelude.{slice_index}
 use Rattle.qcow2_metadata.specs.Entries.L2Entry.{IsAllocation, has_host_cluster, with_zero_flag}
 use Rattle.qcow2_metadata.specs.Header.{Geometry, geometry}
 use Rattle.qcow2_metadata.specs.Table.L2Guards.{guarded_table}
-use Rattle.qcow2_metadata.specs.Table.{TableState, edited}
+use Rattle.qcow2_metadata.specs.Table.{TableState, table_after_edit}
 use Rattle.qcow2_metadata.proofs.GuardLemmas.{zeros-dropped, zeros-kept, zeros-lawful}
 use Rattle.qcow2_metadata.proofs.table.l2_guards.L2TableWriteGuard.zero_cluster.Goals as goal
 use Rattle.qcow2_metadata.proofs.table.l2_guards.L2TableWriteGuard.zero_cluster.Goals.{else-keep_allocation-via-then-keep_allocation+else-has_host_cluster, else-keep_allocation-via-else-keep_allocation}
@@ -32,7 +32,7 @@ returns-then-has_host_cluster-clause-edit c =
     rw (c.if-keep_allocation.true, ← number) has in
     let set = c.with_zero_flag.ensures ∙ ap with_zero_flag number in
     zeros-kept table c.replace_entry.new.self c.args.index c.args.keep_allocation kept
-    (c.replace_entry.ensures.edit ∙ ap (λ (n : ℕ). edited table c.args.index n) (c.new-zeros.ensures ∙ set))
+    (c.replace_entry.ensures.edit ∙ ap (λ (n : ℕ). table_after_edit table c.args.index n) (c.new-zeros.ensures ∙ set))
 
 pub returns-clause-edit : goal.returns-clause-edit
 returns-clause-edit c =
@@ -40,7 +40,7 @@ returns-clause-edit c =
     let v = c.entry_within-before.result in
     let cb = table.geometry.cluster_bits in
     let number : v ≡ slice_index table.numbers c.args.index = search rules in
-    let dropped : (c.args.keep_allocation && has_host_cluster table.geometry (slice_index table.numbers c.args.index)) ≡ false =
+    let clusters_freed_by : (c.args.keep_allocation && has_host_cluster table.geometry (slice_index table.numbers c.args.index)) ≡ false =
     elim c.else-keep_allocation.branch [
       | else-keep_allocation-via-then-keep_allocation+else-has_host_cluster w ↦
           let none : has_host_cluster table.geometry v ≡ false =
@@ -53,5 +53,5 @@ returns-clause-edit c =
     ap (λ (t : TableState). t.geometry) c.replace_entry-2.ensures.edit in
     let freed : IsAllocation table.geometry v c.allocation_of.result =
     subst (λ (g : Geometry). IsAllocation g v c.allocation_of.result) same c.allocation_of.ensures in
-    zeros-dropped table c.replace_entry-2.new.self c.args.index c.args.keep_allocation c.allocation_of.result dropped
+    zeros-dropped table c.replace_entry-2.new.self c.args.index c.args.keep_allocation c.allocation_of.result clusters_freed_by
     (search rules) (subst (λ (n : ℕ). IsAllocation table.geometry n c.allocation_of.result) number freed)

@@ -1,0 +1,26 @@
+//! Laws: facts about the definitions that contracts name. Each is a function that does nothing. Its
+//! contract is the law, and its name says it.
+
+ghost use Rattle.std.specs.Prelude.{◌≡◌, ◌↔◌, Ok};
+ghost use Rattle.qcow2_base.specs.Storage.{Image};
+ghost use Rattle.qcow2_metadata.specs.Header.{HeaderRecord, IsLawfulHeader};
+ghost use Rattle.qcow2_metadata.specs.Header.Grammar.{IsHeader, SameFirstCluster, header_of};
+ghost use Rattle.qcow2_metadata.specs.Header.Text.{IsSettled, header_after_write};
+
+/// A header is read from an image exactly where the grammar says that the image begins with it.
+pub fn the_grammar_and_the_reader_agree()
+    ensures { (image : Image) (header : HeaderRecord) →
+        (header_of image ≡ Ok header) ↔ IsHeader image header }
+{}
+
+/// Images with the same first cluster have the same header, or are refused by the same fault.
+pub fn only_the_first_cluster_matters()
+    ensures { (image other : Image) → SameFirstCluster image other → header_of other ≡ header_of image }
+{}
+
+/// What a write leaves of a valid header can be written again, and places the same bytes. So does what it
+/// reads back as, which reads back as itself.
+pub fn a_written_header_reads_back()
+    ensures { (header written : HeaderRecord) → IsLawfulHeader header →
+        header_after_write header ≡ Ok written → IsSettled written }
+{}

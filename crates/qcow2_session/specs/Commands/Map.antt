@@ -1,0 +1,139 @@
+-- What does the command `map` print?
+use Rattle.std.specs.Prelude.{◌⊎◌, ℕ, false, true, ◌==◌, if◌then◌else◌, List, [], ◌∷◌, ◌++◌, flat_map, Option, Some, None, Result, IfErr, IsErrOf, IsOkAnd, OnOk, bytes_eq, codes}
+use Rattle.std.specs.Fmt.{decimal}
+use Rattle.std.specs.Io.KnownBytes.{Appends}
+use Rattle.qcow2_base.specs.Storage.{Image, OnImage, ReadsFor, StorageState}
+use Rattle.qcow2_base.specs.declared.fault.Fault.{Fault}
+use Rattle.qcow2_base.specs.declared.fault.Fault.TheVariants.{Storage}
+use Rattle.qcow2_metadata.specs.Header.{HeaderRecord, geometry_of}
+use Rattle.qcow2_metadata.specs.Results.{result_map}
+use Rattle.qcow2_session.specs.Extents.{AreExtents, AreExtentsBefore, Contents, ExtentsState, contents_for, contents_of}
+use Rattle.qcow2_session.specs.Lookups.{loaded_l1_table}
+use Rattle.qcow2_session.specs.Commands.Facts.{CommandFacts}
+use Rattle.qcow2_session.specs.Commands.Printing.{IsOutputFault, IsReadFault, OutputBytes}
+use Rattle.qcow2_session.specs.Commands.Words.{WordList}
+use Rattle.qcow2_session.specs.Lines.{offset_text}
+use Rattle.qcow2_session.specs.declared.commands.map.ExtentFormat.{ExtentFormat}
+use Rattle.qcow2_session.specs.declared.commands.map.ExtentFormat.TheVariants.{Json, Lines}
+use Rattle.qcow2_session.specs.declared.extents.Content.{Content}
+use Rattle.qcow2_session.specs.declared.extents.Content.TheVariants.{Absent, AllocatedZeros, Compressed, Data, Zeros}
+use Rattle.qcow2_session.specs.declared.extents.Extent.{Extent}
+use Rattle.qcow2_session.specs.declared.commands.Command.{Command}
+use Rattle.qcow2_session.specs.declared.commands.Command.TheVariants as command
+
+-- the command `map` that the words after its image ask for
+abbrev pub map_command : WordList → Option Command
+map_command [] = Some (command.Map Lines)
+map_command (format ∷ []) = if bytes_eq format (codes "json") then Some (command.Map Json) else None
+map_command _ = None
+
+-- what a line says of an extent's content
+abbrev pub content_text : Content → List ℕ
+content_text (Data offset) = codes "data " ++ offset_text offset.0
+content_text Zeros = codes "zero"
+content_text (AllocatedZeros offset) = codes "zero " ++ offset_text offset.0
+content_text Compressed = codes "compressed"
+content_text Absent = codes "backing"
+
+-- the line of an extent: its guest offset, its length, and its content
+abbrev pub extent_line : Extent → List ℕ
+extent_line extent = offset_text extent.start.0 ++ codes " " ++ offset_text extent.length ++ codes " "
+    ++ content_text extent.content ++ codes "\n"
+
+-- what JSON says of a content: whether it is in the image, whether it reads as zeros, and whether it is data
+abbrev pub json_flags : Content → List ℕ
+json_flags (Data offset) = codes "\"present\": true, \"zero\": false, \"data\": true"
+json_flags Zeros = codes "\"present\": true, \"zero\": true, \"data\": false"
+json_flags (AllocatedZeros offset) = codes "\"present\": true, \"zero\": true, \"data\": false"
+json_flags Compressed = codes "\"present\": true, \"zero\": false, \"data\": true"
+json_flags Absent = codes "\"present\": false, \"zero\": true, \"data\": false"
+
+-- what JSON says of where a content lies, which is nothing where it has no clusters of its own
+abbrev pub json_offset : Content → List ℕ
+json_offset (Data offset) = codes ", \"offset\": " ++ decimal offset.0
+json_offset (AllocatedZeros offset) = codes ", \"offset\": " ++ decimal offset.0
+json_offset _ = []
+
+-- all that JSON says of a content
+abbrev pub json_content : Content → List ℕ
+json_content content = codes ", \"depth\": 0, " ++ json_flags content ++ json_offset content ++ codes "}"
+
+-- an extent in JSON
+abbrev pub json_object : Extent → List ℕ
+json_object extent = codes "{ \"start\": " ++ decimal extent.start.0 ++ codes ", \"length\": " ++ decimal extent.length
+    ++ json_content extent.content
+
+-- an extent in a list of JSON, with what stands between it and the one before it; the first begins at 0
+abbrev pub json_row : Extent → List ℕ
+json_row extent = (if extent.start.0 == 0 then [] else codes ",\n") ++ json_object extent
+
+-- the text of an extent
+abbrev pub extent_text : ExtentFormat → Extent → List ℕ
+extent_text Lines extent = extent_line extent
+extent_text Json extent = json_row extent
+
+-- the text before the first extent
+abbrev pub opening : ExtentFormat → List ℕ
+opening Lines = []
+opening Json = codes "["
+
+-- the text after the last
+abbrev pub closing : ExtentFormat → List ℕ
+closing Lines = []
+closing Json = codes "]\n"
+
+-- the text of extents
+abbrev pub extents_text : ExtentFormat → List Extent → List ℕ
+extents_text format extents = flat_map (extent_text format) extents
+
+-- a guest's disk: what each byte reads as, and how many they are
+pub record Disk : Type 0 where
+  pub contents : Contents
+  pub size : ℕ
+
+-- the disk of an image with this header, or why its L1 table can't be loaded
+abbrev pub disk_of : HeaderRecord → Image → Result Disk Fault
+disk_of header image = result_map (λ l1. record { contents = contents_of (geometry_of header) l1 image; size = header.v2.size })
+    (loaded_l1_table header image)
+
+-- the output got the text of all extents of a disk
+abbrev pub PrintsMap : ExtentFormat → OutputBytes → OutputBytes → Disk → Type 0
+PrintsMap format before after disk = (extents : List Extent)
+    × AreExtents disk.contents disk.size 0 extents disk.size
+    × Appends before after (opening format ++ extents_text format extents ++ closing format)
+
+-- the output got the text of the extents before one that can't be read for this fault
+abbrev pub PrintsMapBefore : ExtentFormat → Fault → OutputBytes → OutputBytes → Disk → Type 0
+PrintsMapBefore format fault before after disk = (extents : List Extent)
+    × AreExtentsBefore disk.contents disk.size 0 extents fault
+    × Appends before after (opening format ++ extents_text format extents)
+
+-- the extents from a reader's offset on were printed: up to the disk's size after `Ok`, and after a fault up to the extent
+-- that can't be read. Nothing is said of what an output got that failed
+pub record PrintsRest {T : Type 0} (answer : Result T Fault) (format : ExtentFormat) (reader : ExtentsState) (old new : StorageState) (before after : OutputBytes) : Type 0 where
+  pub extents : OnOk answer (OnImage old (λ bytes. (extents : List Extent)
+      × AreExtents (contents_for reader bytes) reader.header.v2.size reader.position extents reader.header.v2.size
+      × Appends before after (extents_text format extents)))
+  pub refused : IfErr answer (λ fault. OnImage old (λ bytes. IsOutputFault fault old new ⊎ ((extents : List Extent)
+      × AreExtentsBefore (contents_for reader bytes) reader.header.v2.size reader.position extents fault
+      × Appends before after (extents_text format extents))))
+
+-- the command `map` of a disk ended in this answer: it printed all extents, or it was refused. Where the L1 table can't be
+-- loaded nothing is printed, else the extents before the one that can't be read. Nothing is said of what an output got that
+-- failed
+pub record PrintsExtents {T : Type 0} (answer : Result T Fault) (format : ExtentFormat) (disk : Image → Result Disk Fault) (old new : StorageState) (before after : OutputBytes) : Type 0 where
+  pub extents : OnOk answer (OnImage old (λ bytes. IsOkAnd (disk bytes) (PrintsMap format before after)))
+  pub refused : IfErr answer (λ fault. OnImage old (λ bytes.
+      (IsReadFault (disk bytes) old new fault × Appends before after [])
+      ⊎ IsOkAnd (disk bytes) (λ read. IsOutputFault fault old new ⊎ PrintsMapBefore format fault before after read)))
+
+-- the facts of the command `map`, which prints extent by extent
+abbrev pub map_facts : ExtentFormat → CommandFacts
+map_facts format = record {
+  changes_image = false;
+  prints_before_faults = true;
+  cluster_bits = None;
+  place_fault = None;
+  Ends = λ header answer old new before after.
+      PrintsExtents answer format (disk_of header) old new before after × ReadsFor (IsErrOf answer Storage) old new;
+}

@@ -1,0 +1,58 @@
+-- Which L2 tables do an image's L1 entries name, one after another?
+use Rattle.std.specs.Prelude.{◌≡◌, ◌⊎◌, ℕ, ◌+◌, ◌<◌, ◌≤◌, List, [], ◌∷◌, ◌++◌, drop, length, Option, Some, None, Result, Ok, Err, IfErr, IfOk, MatchOption}
+use Rattle.qcow2_base.specs.Format.{most_l1_entries}
+use Rattle.qcow2_base.specs.Storage.{Image}
+use Rattle.qcow2_base.specs.declared.fault.Fault.{Fault}
+use Rattle.qcow2_base.specs.declared.fault.Fault.TheVariants.{NoMemory, Storage}
+use Rattle.qcow2_base.specs.declared.types.HostCluster.{HostCluster}
+use Rattle.qcow2_metadata.specs.Header.{Geometry, HeaderRecord, geometry_of}
+use Rattle.qcow2_metadata.specs.Table.{TableState, l2_entries, loaded_l2_table}
+use Rattle.qcow2_session.specs.Lookups.{named_cluster}
+
+-- L2 tables one after another: the index of the L1 entry that names each, and its numbers or why it can't be loaded
+abbrev pub NamedTables : Type 0
+NamedTables = List (ℕ × Result (List ℕ) Fault)
+
+-- the L2 table that the L1 entry at an index names, if it names one
+abbrev pub tables_by : Geometry → ℕ → Option HostCluster → Image → NamedTables
+tables_by g index None image = []
+tables_by g index (Some cluster) image = (index, loaded_l2_table g cluster image) ∷ []
+
+-- the L2 tables that L1 entries name, from an index on
+abbrev pub named_tables : Geometry → ℕ → List ℕ → Image → NamedTables
+named_tables g index [] image = []
+named_tables g index (v ∷ vs) image = tables_by g index (named_cluster g.cluster_bits v) image ++ named_tables g (index + 1) vs image
+
+-- what a walk over L2 tables has: the image's header and L1 table, and the index of the L1 entry that it has come to
+pub record WalkState : Type 0 where
+  pub header : HeaderRecord
+  pub l1 : List ℕ
+  pub index : ℕ
+
+-- the L2 tables that a walk comes to yet
+abbrev pub tables_left : WalkState → Image → NamedTables
+tables_left walk image = named_tables (geometry_of walk.header) walk.index (drop walk.index walk.l1) image
+
+-- a table is one of a walk, with the index of its L1 entry
+pub record IsTableOf (header : HeaderRecord) (found : ℕ × TableState) : Type 0 where
+  pub index : found.0 < most_l1_entries
+  pub geometry : found.1.geometry ≡ geometry_of header
+  pub entries : length found.1.numbers ≡ l2_entries header.v2.cluster_bits
+
+-- there is a table, and the first one can't be loaded, for this fault
+abbrev pub RefusesTable : NamedTables → Fault → Type 0
+RefusesTable [] fault = ⊥
+RefusesTable (table ∷ tables) fault = (fault ≡ Storage) ⊎ (fault ≡ NoMemory) ⊎ (table.1 ≡ Err fault)
+
+-- what a walk returns, by the tables that are left before and after: the first of them, or why it can't be loaded
+abbrev pub TellsTable : NamedTables → NamedTables → Result (Option (ℕ × TableState)) Fault → Type 0
+TellsTable before after (Ok None) = before ≡ []
+TellsTable before after (Ok (Some found)) = before ≡ (found.0, Ok found.1.numbers) ∷ after
+TellsTable before after (Err fault) = RefusesTable before fault
+
+-- how far a walk goes by an answer: past the table that it finds. At the end and after a fault it is where it was
+pub record GoesOn (answer : Result (Option (ℕ × TableState)) Fault) (old new : WalkState) : Type 0 where
+  pub same : new ≡ record old { index = new.index }
+  pub within : new.index ≤ length old.l1
+  pub further : IfOk answer (λ next. MatchOption next (new ≡ old) (λ found. old.index < new.index))
+  pub stays : IfErr answer (λ fault. new ≡ old)

@@ -1,0 +1,224 @@
+//! The command `map`: what the guest's disk reads as, extent after extent.
+
+ghost use Rattle.std.specs.Prelude.{◌≡◌, ◌+◌, ◌≤◌, ◌++◌, IsErrOf, length, map, string_bytes};
+ghost use Rattle.qcow2_base.specs.Storage.{OnImage, ReadsFor};
+ghost use Rattle.qcow2_base.specs.declared.fault.Fault.TheVariants.{Storage as StorageFailed};
+ghost use Rattle.qcow2_session.specs.Extents.{IsReaderOf};
+ghost use Rattle.qcow2_session.specs.Commands.Map.{PrintsExtents, PrintsRest, closing, content_text, disk_of, extent_line, extent_text, map_command, json_content, json_flags, json_object, json_offset, json_row, opening};
+ghost use Rattle.qcow2_session.specs.Commands.Printing.{PrintsText};
+ghost use Rattle.qcow2_session.specs.Commands.Words.{Parses};
+
+use super::Command;
+use crate::lines::LineBuffer;
+use crate::{Content, Extent, Extents};
+use qcow2_base::{Fault, Storage};
+use qcow2_metadata::Header;
+use std::alloc::{AllocError, Global};
+use std::io::Write;
+
+/// How extents are printed.
+#[derive(Clone, Copy, Debug, PartialEq, Eq)]
+pub enum ExtentFormat {
+    /// A line for each, for people.
+    Lines,
+    /// A list in JSON, as `qemu-img map --output=json` prints it.
+    Json,
+}
+
+impl ExtentFormat {
+    // What stands before the first extent.
+    fn opening(self) -> &'static str
+        ensures { result.now ≡ opening self }
+    {
+        match self {
+            ExtentFormat::Lines => "",
+            ExtentFormat::Json => "[",
+        }
+    }
+
+    // What stands after the last extent.
+    fn closing(self) -> &'static str
+        ensures { result.now ≡ closing self }
+    {
+        match self {
+            ExtentFormat::Lines => "",
+            ExtentFormat::Json => "]\n",
+        }
+    }
+}
+
+/// Prints the extents of an image with this header, from offset 0 to the disk's size.
+///
+/// Returns the fault of the L1 table before it prints anything. An L2 table that is refused ends the text:
+/// the extents that are known to end before its range stay. L2 tables past the disk's size aren't read. A
+/// failed write to `out` is the storage fault. Changes no byte of the image.
+pub fn print_extents<S: Storage, O: Write>(
+    alloc: Global,
+    image: &mut S,
+    header: &Header,
+    format: ExtentFormat,
+    out: &mut O,
+) -> Result<(), Fault>
+    ensures prints { PrintsExtents result format (disk_of header.now)
+        (S.state image.old) (S.state image.new) (O.contents out.old) (O.contents out.new) }
+    ensures storage { ReadsFor (IsErrOf result StorageFailed) (S.state image.old) (S.state image.new) }
+{
+    let mut extents = Extents::new(alloc, image, header)?;
+    print_text(format.opening(), out)?;
+    print_all(&mut extents, image, format, out)?;
+    print_text(format.closing(), out)
+}
+
+// Prints the extents from a reader's offset on, up to the disk's size.
+fn print_all<S: Storage, O: Write>(
+    extents: &mut Extents<'_>,
+    image: &mut S,
+    format: ExtentFormat,
+    out: &mut O,
+) -> Result<(), Fault>
+    requires kept { OnImage (S.state image.old) (λ bytes. IsReaderOf bytes extents.old) }
+    ensures prints { PrintsRest result format extents.old (S.state image.old) (S.state image.new)
+        (O.contents out.old) (O.contents out.new) }
+    ensures storage { ReadsFor (IsErrOf result StorageFailed) (S.state image.old) (S.state image.new) }
+{
+    let mut line = LineBuffer::new();
+    while let Some(extent) = extents.next(image)? {
+        print_extent(&extent, format, &mut line, out)?;
+    }
+    Ok(())
+}
+
+fn print_text<O: Write>(text: &str, out: &mut O) -> Result<(), Fault>
+    ensures { PrintsText result (O.contents out.old) (O.contents out.new) text.now }
+{
+    out.write_all(text.as_bytes()).map_err(|_| Fault::Storage)
+}
+
+// Prints an extent, put together in a line whose bytes no longer matter.
+fn print_extent<O: Write>(
+    extent: &Extent,
+    format: ExtentFormat,
+    line: &mut LineBuffer,
+    out: &mut O,
+) -> Result<(), Fault>
+    ensures { PrintsText result (O.contents out.old) (O.contents out.new)
+        (extent_text format extent.now) }
+{
+    line.clear();
+    match format {
+        ExtentFormat::Lines => prepend_line(line, extent),
+        ExtentFormat::Json => prepend_row(line, extent),
+    }
+    out.write_all(line.as_bytes()).map_err(|_| Fault::Storage)
+}
+
+// Puts the line of an extent in front of a line.
+fn prepend_line(line: &mut LineBuffer, extent: &Extent)
+    requires { length line.old ≤ 100 }
+    ensures { line.new ≡ extent_line extent.now ++ line.old }
+{
+    line.prepend("\n");
+    prepend_content(line, extent.content);
+    line.prepend(" ");
+    line.prepend_offset(extent.length);
+    line.prepend(" ");
+    line.prepend_offset(extent.start.0);
+}
+
+// Puts what a line says of a content in front of it.
+fn prepend_content(line: &mut LineBuffer, content: Content)
+    requires { length line.old ≤ 110 }
+    ensures text { line.new ≡ content_text content ++ line.old }
+    ensures bound { length line.new ≤ length line.old + 23 }
+{
+    match content {
+        Content::Data(offset) => {
+            line.prepend_offset(offset.0);
+            line.prepend("data ");
+        }
+        Content::Zeros => line.prepend("zero"),
+        Content::AllocatedZeros(offset) => {
+            line.prepend_offset(offset.0);
+            line.prepend("zero ");
+        }
+        Content::Compressed => line.prepend("compressed"),
+        Content::Absent => line.prepend("backing"),
+    }
+}
+
+// Puts an extent of a list in JSON in front of a line.
+fn prepend_row(line: &mut LineBuffer, extent: &Extent)
+    requires { length line.old ≤ 10 }
+    ensures { line.new ≡ json_row extent.now ++ line.old }
+{
+    prepend_object(line, extent);
+    if extent.start.0 != 0 {
+        line.prepend(",\n");
+    }
+}
+
+// Puts an extent in JSON in front of a line.
+fn prepend_object(line: &mut LineBuffer, extent: &Extent)
+    requires { length line.old ≤ 10 }
+    ensures text { line.new ≡ json_object extent.now ++ line.old }
+    ensures bound { length line.new ≤ length line.old + 160 }
+{
+    prepend_json_content(line, extent.content);
+    line.prepend_decimal(extent.length);
+    line.prepend(", \"length\": ");
+    line.prepend_decimal(extent.start.0);
+    line.prepend("{ \"start\": ");
+}
+
+// Puts all that JSON says of a content in front of a line.
+fn prepend_json_content(line: &mut LineBuffer, content: Content)
+    requires { length line.old ≤ 10 }
+    ensures text { line.new ≡ json_content content ++ line.old }
+    ensures bound { length line.new ≤ length line.old + 95 }
+{
+    line.prepend("}");
+    prepend_json_offset(line, content);
+    prepend_json_flags(line, content);
+    line.prepend(", \"depth\": 0, ");
+}
+
+// Puts in front of a line where the clusters of a content lie, if they are whole ones.
+fn prepend_json_offset(line: &mut LineBuffer, content: Content)
+    requires { length line.old ≤ 100 }
+    ensures text { line.new ≡ json_offset content ++ line.old }
+    ensures bound { length line.new ≤ length line.old + 32 }
+{
+    if let Content::Data(offset) | Content::AllocatedZeros(offset) = content {
+        line.prepend_decimal(offset.0);
+        line.prepend(", \"offset\": ");
+    }
+}
+
+// Puts in front of a line whether a content is in the image, reads as zeros, and is data.
+fn prepend_json_flags(line: &mut LineBuffer, content: Content)
+    requires { length line.old ≤ 100 }
+    ensures text { line.new ≡ json_flags content ++ line.old }
+    ensures bound { length line.new ≤ length line.old + 46 }
+{
+    line.prepend(match content {
+        Content::Data(_) | Content::Compressed => {
+            "\"present\": true, \"zero\": false, \"data\": true"
+        }
+        Content::Zeros | Content::AllocatedZeros(_) => {
+            "\"present\": true, \"zero\": true, \"data\": false"
+        }
+        Content::Absent => "\"present\": false, \"zero\": true, \"data\": false",
+    });
+}
+
+/// What the words of the command `map` ask for.
+pub(super) fn parse(arguments: &[String]) -> Option<Result<Command, AllocError>>
+    ensures { Parses result (map_command (map string_bytes arguments.now)) }
+{
+    let format = match arguments {
+        [] => ExtentFormat::Lines,
+        [word] if word.as_str() == "json" => ExtentFormat::Json,
+        _ => return None,
+    };
+    Some(Ok(Command::Map { format }))
+}

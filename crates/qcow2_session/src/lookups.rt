@@ -1,0 +1,155 @@
+//! What a guest offset reads as, by an image's header, L1 table and L2 table.
+
+ghost use Rattle.std.specs.Prelude.{◌≡◌, ℕ, ◌*◌, ◌/◌, ◌^◌, ◌<◌, ◌≤◌, None, IfErr, IfOk, IfSome, IsOkAnd, IsSome, MatchOption, slice_index};
+ghost use Rattle.qcow2_metadata.specs.Entries.L2Mapping.{IsPlaced, meaning, backing};
+ghost use Rattle.qcow2_metadata.specs.Header.{geometry_of};
+ghost use Rattle.qcow2_metadata.specs.Placed.{IsLoaded, RefusesPlace};
+ghost use Rattle.qcow2_metadata.specs.Results.{Reads};
+ghost use Rattle.qcow2_metadata.specs.Table.{IsContentFault, IsEntryFault, IsTableFault, l2_layout, loaded_l2_table};
+ghost use Rattle.qcow2_session.specs.Lookups.{IsImageFault, IsInImage, guest_mapping, image_mapping, l1_cluster, l1_layout, l2_cluster, loaded_l1_table, mapping_in, named_cluster};
+
+use qcow2_base::{Fault, GuestCluster, GuestOffset, HostCluster, Storage};
+use qcow2_metadata::{Header, L1Table, L2Mapping, L2Table, Table};
+use std::alloc::Global;
+
+/// What the cluster of a guest offset reads as, in an image with this header and this L1 table, which share
+/// their cluster bits. Where the L1 table names no L2 table for it, or ends before it, that is the backing
+/// file from the cluster's own offset on. The size of the guest's disk isn't looked at.
+///
+/// Reads at most that one L2 table, and returns the fault of its first bad entry, wherever in the table that
+/// is. Changes no byte.
+#[tactic(auto, using(crate::proofs::LookupsLemmas::cluster_fits))]
+pub fn lookup<S: Storage>(
+    alloc: Global,
+    image: &mut S,
+    header: &Header,
+    l1_table: &L1Table,
+    guest_offset: GuestOffset,
+) -> Result<L2Mapping, Fault>
+    requires cluster_bits { header.now.v2.cluster_bits ≡ l1_table.now.geometry.cluster_bits }
+    ensures reads { Reads meaning result
+        (guest_mapping (geometry_of header.now) l1_table.now.numbers guest_offset.0)
+        IsEntryFault (S.state image.old) (S.state image.new) }
+
+    // Where there is no L2 table, the image isn't read.
+    ensures unmapped { let cb = header.now.v2.cluster_bits in
+        l2_cluster cb l1_table.now.numbers (guest_offset.0 / 2 ^ cb) ≡ None →
+        IsOkAnd result (λ found. meaning found ≡ backing (guest_offset.0 / 2 ^ cb * 2 ^ cb))
+        × (image.new ≡ image.old) }
+    ensures placed { IfOk result (IsPlaced header.now.v2.cluster_bits) }
+{
+    let cluster_bits = header.cluster_bits();
+    let guest_cluster = guest_offset.cluster(cluster_bits);
+    let Some(cluster) = l2_cluster(l1_table, guest_cluster) else {
+        let backing_offset = guest_cluster.offset(cluster_bits).0;
+        return Ok(L2Mapping::Backing { backing_offset });
+    };
+    let l2_table = load_l2_table(alloc, image, header, cluster)?;
+    l2_table.get_mapping(guest_cluster)
+}
+
+/// What the cluster of a guest offset reads as, by the image alone. The size of the guest's disk isn't
+/// looked at.
+///
+/// Reads the header, the L1 table and at most one L2 table, and returns the fault of the first of them that
+/// is refused. It is one of those numbered 1 to 21. Changes no byte.
+pub fn lookup_image<S: Storage>(
+    alloc: Global,
+    image: &mut S,
+    guest_offset: GuestOffset,
+) -> Result<L2Mapping, Fault>
+    ensures { Reads meaning result (image_mapping guest_offset.0) IsImageFault
+        (S.state image.old) (S.state image.new) }
+{
+    let header = Header::load(alloc, image, false)?;
+    lookup_with_header(alloc, image, &header, guest_offset)
+}
+
+/// What the cluster of a guest offset reads as, in an image with this header.
+pub(crate) fn lookup_with_header<S: Storage>(
+    alloc: Global,
+    image: &mut S,
+    header: &Header,
+    guest_offset: GuestOffset,
+) -> Result<L2Mapping, Fault>
+    ensures reads { Reads meaning result (mapping_in header.now guest_offset.0) IsImageFault
+        (S.state image.old) (S.state image.new) }
+    ensures placed { IfOk result (IsPlaced header.now.v2.cluster_bits) }
+{
+    let l1_table = load_l1_table(alloc, image, header)?;
+    lookup(alloc, image, header, &l1_table, guest_offset)
+}
+
+/// The L1 table of an image with this header, as `L1Table::load` loads it.
+pub(crate) fn load_l1_table<S: Storage>(
+    alloc: Global,
+    image: &mut S,
+    header: &Header,
+) -> Result<L1Table, Fault>
+    ensures refused { RefusesPlace (l1_layout header.now) (l1_cluster header.now) result }
+    ensures reads { Reads (λ table. table.numbers) result (loaded_l1_table header.now)
+        (IsTableFault (l1_layout header.now) (l1_cluster header.now))
+        (S.state image.old) (S.state image.new) }
+    ensures loaded { IfOk result (IsLoaded (l1_layout header.now) (geometry_of header.now)
+        (l1_cluster header.now) (S.state image.old)) }
+{
+    let cluster = header.l1_table_offset().cluster(header.cluster_bits());
+    L1Table::load(alloc, image, header, cluster, header.l1_table_entries())
+}
+
+/// The L2 table that begins with a cluster of an image with this header, as `L2Table::load` loads it.
+pub(crate) fn load_l2_table<S: Storage>(
+    alloc: Global,
+    image: &mut S,
+    header: &Header,
+    cluster: HostCluster,
+) -> Result<L2Table, Fault>
+    ensures refused { RefusesPlace (l2_layout (geometry_of header.now)) cluster result }
+    ensures reads { Reads (λ table. table.numbers) result (loaded_l2_table (geometry_of header.now) cluster)
+        (IsTableFault (l2_layout (geometry_of header.now)) cluster)
+        (S.state image.old) (S.state image.new) }
+    ensures loaded { let g = geometry_of header.now in
+        IfOk result (IsLoaded (l2_layout g) g cluster (S.state image.old)) }
+    ensures in_image { IsInImage header.now.v2.cluster_bits cluster →
+        IfErr result IsContentFault }
+{
+    L2Table::load(alloc, image, header, cluster, header.l2_entries())
+}
+
+/// The cluster that the L2 table of the L1 entry at an index begins with, if the entry names one. It ends by
+/// 2^56. Past the L1 table's end there is none.
+pub(crate) fn named_cluster(l1_table: &L1Table, index: usize) -> Option<HostCluster>
+    ensures value { let cb = l1_table.now.geometry.cluster_bits in
+        result ≡ named_cluster cb (slice_index l1_table.now.numbers index) }
+    ensures end { IfSome result (IsInImage l1_table.now.geometry.cluster_bits) }
+{
+    let offset = l1_table.get(index).l2_offset()?;
+    Some(offset.cluster(l1_table.cluster_bits()))
+}
+
+/// The first L1 entry from an index on that names an L2 table, if there is one.
+#[tactic(auto, using(crate::proofs::ExtentsLemmas::unnamed_from, crate::proofs::ExtentsLemmas::unnamed_more))]
+pub(crate) fn next_named(l1_table: &L1Table, first: usize) -> Option<usize>
+    ensures { let cb = l1_table.now.geometry.cluster_bits in
+        MatchOption result
+        ((k : ℕ) → first ≤ k → named_cluster cb (slice_index l1_table.now.numbers k) ≡ None)
+        (λ next. (first ≤ next) × IsSome (named_cluster cb (slice_index l1_table.now.numbers next))
+        × ((k : ℕ) → first ≤ k → k < next →
+        named_cluster cb (slice_index l1_table.now.numbers k) ≡ None)) }
+{
+    for index in first..l1_table.entries() {
+        if named_cluster(l1_table, index).is_some() {
+            return Some(index);
+        }
+    }
+    None
+}
+
+/// The cluster that the L2 table of a guest cluster begins with, if there is one. It ends by 2^56.
+pub(crate) fn l2_cluster(l1_table: &L1Table, guest_cluster: GuestCluster) -> Option<HostCluster>
+    ensures value { let cb = l1_table.now.geometry.cluster_bits in
+        result ≡ l2_cluster cb l1_table.now.numbers guest_cluster.0 }
+    ensures end { IfSome result (IsInImage l1_table.now.geometry.cluster_bits) }
+{
+    named_cluster(l1_table, guest_cluster.l1_index(l1_table.cluster_bits()))
+}

@@ -1,0 +1,131 @@
+//! A whole image, of two L2 tables that share no byte: what edits of one of them leave of all references, and
+//! of the other's mappings.
+
+use crate::calls::{edit_image, lookup_image};
+use crate::sample_image::{COPIED, Numbers, sample_image};
+use crate::tables::map;
+use qcow2_base::{Fault, GuestOffset, MemStorage};
+use qcow2_metadata::L2Mapping;
+use qcow2_session::{Edit, Outcome};
+use qcow2_testing::{each, part_of, row_error, rows, same};
+use std::alloc::Global;
+use std::test::Fail;
+
+// How many host clusters are looked at. Clusters have 512 bytes.
+const CLUSTERS: usize = 32;
+
+// How many entries of both tables refer to each host cluster.
+type References = [u64; CLUSTERS];
+
+// Clusters and how often each is referred to: all others aren't.
+type Counts = &'static [(usize, u64)];
+
+// The header, an L1 table of two entries in cluster 1, and L2 tables in clusters 2 and 3. The first has data
+// in cluster 5, and compressed data in clusters 11 and 12; the second has data in cluster 5 too, zeros that
+// keep cluster 6, and compressed data in cluster 12.
+const TWO_TABLES: Numbers<'static> = rows! {
+    (24, 65536), (32, 2), (520, COPIED + 0x600), (1056, 0x6000_0000_0000_1601),
+    (1536, 0xa00), (1544, 0xc01), (1552, 0x4000_0000_0000_1801),
+};
+
+const BEFORE: Counts = &[(5, 2), (6, 1), (11, 1), (12, 2)];
+
+// The table that is edited, 0 or 1, the edits, and the references then.
+type Row = (&'static str, u64, &'static [Edit], Counts);
+
+const ROWS: &[Row] = rows! {
+    ("no edit", 0, &[], BEFORE),
+    ("discards", 0, &[Edit::Discard { index: 3 }, Edit::Discard { index: 4 }],
+        &[(5, 1), (6, 1), (12, 1)]),
+    ("to shared clusters, and one of two", 0, &[map!(3, 6), map!(0, 5), map!(4, 12)],
+        &[(5, 2), (6, 2), (12, 2)]),
+    ("zeros", 1, ZEROS, &[(5, 2), (11, 1), (12, 1)]),
+    ("to its own cluster, there and back", 1,
+        &[map!(2, 12), map!(63, 31), Edit::Discard { index: 63 }, map!(63, 30)],
+        &[(5, 2), (6, 1), (11, 1), (12, 2), (30, 1)]),
+};
+
+// Zeros that keep a cluster, that keep none, and that keep none of compressed data.
+const ZEROS: &[Edit] = rows! {
+    Edit::Zero { index: 0, keep_allocation: true }, Edit::Zero { index: 1, keep_allocation: false },
+    Edit::Zero { index: 2, keep_allocation: true },
+};
+
+#[test]
+fn no_reference_of_a_whole_image_is_lost(rt: HostRuntime) -> Result<(), Fail> {
+    each(rt.alloc(), ROWS, check_balance)
+}
+
+// Those after and those handed back are as many as those before and those gained.
+fn check_balance(alloc: Global, (name, table, edits, expected): Row) -> Result<(), Fail> {
+    let mut image = sample_image(alloc, 9, TWO_TABLES)?;
+    let mut gained = references(image.bytes())?;
+    same(gained, references_of(BEFORE)?, name)?;
+    let other = mappings(alloc, &mut image, 1 - table % 2)?;
+    let outcome = edit_image(alloc, &mut image, (9, false), 2 + table % 2, edits)?;
+    let mut freed = references(image.bytes())?;
+    same(freed, references_of(expected)?, name)?;
+    add_outcome(&outcome, &mut gained, &mut freed);
+    same(freed, gained, name)?;
+    mappings(alloc, &mut image, table)?;
+    same(mappings(alloc, &mut image, 1 - table % 2)?, other, name)
+}
+
+// What the guest clusters of the first table or of the second one read as, none of which is refused.
+fn mappings(alloc: Global, image: &mut MemStorage, table: u64) -> Result<Vec<L2Mapping>, Fault> {
+    let mut mappings = Vec::new(alloc);
+    for index in 0..64u64 {
+        let offset = GuestOffset((table % 2 * 64 + index) * 512);
+        mappings.push(lookup_image(alloc, image, offset)?)?;
+    }
+    Ok(mappings)
+}
+
+fn references_of(counts: Counts) -> Result<References, Fail> {
+    let mut references = [0; CLUSTERS];
+    for (cluster, count) in counts {
+        let Some(number) = references.get_mut(*cluster) else {
+            return Err(row_error(*cluster));
+        };
+        *number = *count;
+    }
+    Ok(references)
+}
+
+// The references of all entries from cluster 2 on.
+fn references(image: &[u8]) -> Result<References, Fail> {
+    let mut references = [0; CLUSTERS];
+    let (entries, _) = part_of(image, 1024, image.len())?.as_chunks::<8>();
+    for entry in entries {
+        let (first, count) = clusters_of(u64::from_be_bytes(*entry));
+        add(&mut references, first, count);
+    }
+    Ok(references)
+}
+
+// The first cluster that an entry refers to, and how many it does. With clusters of one sector, compressed
+// data begins at the byte of the bits 0 to 55, and goes on for one sector more where bit 61 is set.
+fn clusters_of(entry: u64) -> (u64, u64) {
+    let first = entry % (1 << 56) / 512;
+    if entry >> 62 & 1 == 1 {
+        return (first, 1 + (entry >> 61 & 1));
+    }
+    (first, u64::from(first != 0))
+}
+
+fn add_outcome(outcome: &Outcome, gained: &mut References, freed: &mut References) {
+    for cluster in &outcome.gained {
+        add(gained, cluster.0, 1);
+    }
+    for range in &outcome.freed {
+        add(freed, range.first.0, range.count.0);
+    }
+}
+
+fn add(references: &mut References, first: u64, count: u64) {
+    for cluster in first..first.saturating_add(count) {
+        if let Some(number) = references.get_mut(cluster as usize) {
+            *number = number.saturating_add(1);
+        }
+    }
+}
