@@ -5,7 +5,8 @@ use Rattle.std.proofs.lemmas.Bool.{cases_lt}
 use borrow.Rule.Slice.PartMut.{put_mid}
 use Rattle.byteorder.specs.Endian.{big_from, little_from, big_bytes, little_bytes}
 use Rattle.byteorder.specs.Numbers.{big_number-reads_back, little_number-reads_back}
-use Rattle.qcow2_base.specs.Storage.{Image, image_of, be, be_of_same}
+use Rattle.qcow2_base.specs.Storage.{Image, image_of, be}
+use Rattle.qcow2_base.proofs.StorageLemmas.{be_of_same}
 use Rattle.qcow2_base.specs.OnDiskStruct.{le, Order, Big, Little, number_in, LayoutField, HoldsLayout, IsGap, layout_end, fields_moved_by, Stores}
 
 -- a list's numbers by byteorder's words

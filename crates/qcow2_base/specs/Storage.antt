@@ -1,17 +1,11 @@
 -- What is known of a storage's bytes, and what do reads and writes of it change?
+pub mod Alignment
 pub mod File
 pub mod Growth
 pub mod Memory
 use Rattle.std.specs.Prelude.{◌≡◌, ◌≢◌, ℕ, zero, suc, ◌+◌, ◌*◌, ◌^◌, ◌%◌, ◌<◌, ◌≤◌, ◌↔◌, Bool, IsTrue, List, Option, Some, IfSome, Result, MatchResult, OnOk, IfErr, IsErrOf, length, drop, slice_index, refl}
 use Rattle.qcow2_base.specs.declared.fault.Fault.{Fault}
 use Rattle.qcow2_base.specs.declared.fault.Fault.TheVariants.{Storage as StorageFailed}
-use Rattle.std.proofs.Common.{add-zero, add_assoc, arith, inl, inr, lit<}
-use Rattle.std.proofs.lemmas.List.{get_or_past}
-use Rattle.std.proofs.Props.{props}
-use Rattle.std.proofs.lemmas.Bool.{cases_lt}
-use Rattle.std.proofs.lemmas.Nat.{mul-add-lt, pow_below, same_from_place}
-use Rattle.std.proofs.Math.Nat.{pow-suc}
-use mathlib.Core.HLevel.{Σ_prop_path}
 
 -- an image: the byte at each offset, 0 past the end
 abbrev pub Image : Type 0
@@ -97,10 +91,6 @@ pub record OnlyWrites {T : Type 0} (answer : Result T Fault) (place : Option ℕ
 abbrev pub Ends : Image → Type 0
 Ends image = (end : ℕ) × ((o : ℕ) → end ≤ o → image o ≡ 0)
 
--- a list of bytes is zero from its length on
-pub image_of_ends : (bytes : List ℕ) → Ends (image_of bytes)
-image_of_ends bytes = (length bytes, λ o past. get_or_past bytes o 0 past)
-
 -- a file of a type whose bytes are known has a known position, and reads give the bytes from there on
 abbrev pub TellsReads : {F : Type 0} → (F → Option (List ℕ)) → (F → Option ℕ) → (F → Option (List ℕ)) → Type 0
 TellsReads {F} bytes position remaining =
@@ -116,50 +106,6 @@ be image offset (suc n) = image offset * 256 ^ n + be image (offset + 1) n
 abbrev pub IsPowerOfTwo : ℕ → Type 0
 IsPowerOfTwo n = (k : ℕ) × (n ≡ 2 ^ k)
 
--- the exponent is determined
-pub pow_once : (i j : ℕ) → 2 ^ i ≡ 2 ^ j → i ≡ j
-pow_once i j e = elim (cases_lt i j) [
-  | inl below ↦ absurd (omega (arith, pow_below i j below))
-  | inr above ↦ elim (cases_lt j i) [
-    | inl less ↦ absurd (omega (arith, pow_below j i less))
-    | inr least ↦ omega arith
-  ]
-]
-
--- a number is a power of two in one way
-pub power_of_two_once : (n : ℕ) → IsProp (IsPowerOfTwo n)
-power_of_two_once n a b = Σ_prop_path (λ k. Prim.hlevel props) (pow_once a.0 b.0 (omega (arith, a.1, b.1)))
-
--- two images that agree over n bytes have the same number there
-pub be_of_same : (f g : Image) (n o p : ℕ) → ((k : ℕ) → k < n → f (o + k) ≡ g (p + k)) → be f o n ≡ be g p n
-unfolding be
-be_of_same f g zero o p same = refl
-be_of_same f g (suc n) o p same =
-    let first : f o ≡ g p = simp add-zero at (same 0 (omega arith)) in
-    let rest = be_of_same f g n (o + 1) (p + 1) (λ k h. rw (add_assoc o 1 k, add_assoc p 1 k) (same (1 + k) (omega arith))) in
-    rw (first, rest) refl
-
 -- bytes are below 256
 abbrev pub IsBytes : Image → Type 0
 IsBytes image = (offset : ℕ) → image offset < 256
-
--- a number of n bytes is below 256 ^ n
-pub be_fits : (image : Image) (o n : ℕ) → IsBytes image → be image o n < 256 ^ n
-unfolding be
-be_fits image o zero small = lit< tt
-be_fits image o (suc n) small =
-    let rest = be_fits image (o + 1) n small in
-    rw pow-suc (mul-add-lt (image o) (256 ^ n) (be image (o + 1) n) 256 (small o) rest)
-
--- a number determines its bytes: images that have the same number have the same bytes there
-pub be_tells : (f g : Image) (n o p : ℕ) → IsBytes f → IsBytes g → be f o n ≡ be g p n → (k : ℕ) → k < n → f (o + k) ≡ g (p + k)
-unfolding be
-be_tells f g zero o p small small' same k below = absurd (omega arith)
-be_tells f g (suc n) o p small small' same zero below =
-    let parts = same_from_place (f o) (be f (o + 1) n) (g p) (be g (p + 1) n) (256 ^ n) (be_fits f (o + 1) n small) (be_fits g (p + 1) n small') same in
-    simp add-zero parts.0
-be_tells f g (suc n) o p small small' same (suc k) below =
-    let parts = same_from_place (f o) (be f (o + 1) n) (g p) (be g (p + 1) n) (256 ^ n) (be_fits f (o + 1) n small) (be_fits g (p + 1) n small') same in
-    let left : o + suc k ≡ o + 1 + k = omega arith in
-    let right : p + suc k ≡ p + 1 + k = omega arith in
-    rw (left, right) (be_tells f g n (o + 1) (p + 1) small small' parts.1 k (omega arith))

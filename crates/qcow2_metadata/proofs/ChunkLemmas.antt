@@ -5,7 +5,8 @@ use Rattle.std.proofs.lemmas.Iterator.{YieldsList}
 use Rattle.std.proofs.lemmas.Iterator.Adapters.{fact_from_extend}
 use Rattle.std.proofs.lemmas.Iterator.Consumers.{YieldsList-at}
 use Rattle.std.specs.Iterator.{Drains, Yields}
-use Rattle.qcow2_base.specs.Storage.{Holds, Image, be, be_of_same, image_of}
+use Rattle.qcow2_base.specs.Storage.{Holds, Image, be, image_of}
+use Rattle.qcow2_base.proofs.StorageLemmas.{be_of_same}
 use Rattle.qcow2_base.specs.declared.fault.Fault.{Fault}
 use Rattle.qcow2_metadata.specs.Table.{chunk_numbers, valid_numbers, first_fault, table_numbers}
 use Rattle.qcow2_metadata.proofs.PackingLemmas.{counters_at-append, counters_at-held, counters_at-same}

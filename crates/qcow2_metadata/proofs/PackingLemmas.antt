@@ -8,7 +8,8 @@ use Rattle.std.proofs.lemmas.Nat.{div-mul-add, div_below, mul-add-lt, mod-mul-ad
 use Rattle.std.proofs.Math.Nat.{lt_of_mul-lt-mul_right, mul-add-div, mul-add-mod_self_left, add-mul-div_left, add-mul-mod_self_left, div-eq_of_lt, le-div_iff_mul-le, mod-one, zero-div, zero-mod, one-le-pow}
 use Rattle.std.proofs.Math.Arith.{mod-mul}
 use Rattle.qcow2_base.specs.Bits.{field}
-use Rattle.qcow2_base.specs.Storage.{Holds, Image, IsBytes, be, be_fits, be_of_same, be_tells, image_of}
+use Rattle.qcow2_base.specs.Storage.{Holds, Image, IsBytes, be, image_of}
+use Rattle.qcow2_base.proofs.StorageLemmas.{be_fits, be_of_same, be_determines}
 use Rattle.qcow2_metadata.specs.Refblock.Counters.{AreCounters}
 use Rattle.qcow2_metadata.specs.Refblock.Packing.{bytes_each, counter_at, counters_at, from_digits, counter_bytes, per_byte, width}
 use Rattle.std.proofs.lemmas.Bool.Decides.{nat_tests}
@@ -109,7 +110,7 @@ byte_of_be image o s k small below =
     let parts : Image = λ j. v / 256 ^ (s - 1 - j) % 256 in
     let number : be parts 0 s ≡ v = be_of_parts parts 0 s v (λ j _. rw (zero-add j) refl) ∙ mod-eq_of_lt (be_fits image o s small) in
     let bytes : IsBytes parts = λ j. mod_below (v / 256 ^ (s - 1 - j)) 256 (omega arith) in
-    rw (zero-add k) at (be_tells parts image s 0 o bytes small number k below)
+    rw (zero-add k) at (be_determines parts image s 0 o bytes small number k below)
 
 pub counters_at-length : (order : ℕ) (image : Image) (offset n : ℕ) → length (counters_at order image offset n) ≡ n
 counters_at-length order image offset n = length-map-range_with_len (counter_at order image offset) 0 n

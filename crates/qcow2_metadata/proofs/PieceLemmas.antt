@@ -2,8 +2,8 @@ use Rattle.std.proofs.Common.{◌≡◌, ℕ, ◌+◌, ◌*◌, ◌<◌, ◌≤�
 use Rattle.std.proofs.lemmas.List.{get_or-take, length-take, get_or_past}
 use Rattle.std.proofs.lemmas.Bool.{cases_lt}
 use Rattle.std.proofs.lemmas.Option.{slice_get-get_or}
-use Rattle.qcow2_base.proofs.StorageLemmas.{image_of-padded}
-use Rattle.qcow2_base.specs.Storage.{Image, IsBytes, be, be_of_same, image_of}
+use Rattle.qcow2_base.proofs.StorageLemmas.{be_of_same, image_of-padded}
+use Rattle.qcow2_base.specs.Storage.{Image, IsBytes, be, image_of}
 use Rattle.qcow2_metadata.specs.Pieces.{Stand, number_bytes}
 use Rattle.qcow2_base.specs.declared.types.HostCluster.{HostCluster}
 use Rattle.qcow2_metadata.specs.Placed.{ReadsBack}

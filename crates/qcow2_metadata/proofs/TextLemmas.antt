@@ -9,7 +9,8 @@ use Rattle.std.proofs.lemmas.Bool.Decides.{nat_tests}
 use Rattle.std.proofs.lemmas.List.{get_or-append_right, get_or-append-add, get_or_append_left, ext_get_or, length-replicate}
 use Rattle.std.proofs.lemmas.List.Elements.{All-cons, All-head, All-nil, All-tail}
 use Rattle.qcow2_base.specs.OnDiskStruct.{HoldsLayout, LayoutField, big, header_extension_header, fields_moved_by, number_in, v2_header, v3_header_base}
-use Rattle.qcow2_base.specs.Storage.{Holds, Image, IsBytes, be, be_fits, be_of_same, be_tells, image_of}
+use Rattle.qcow2_base.specs.Storage.{Holds, Image, IsBytes, be, image_of}
+use Rattle.qcow2_base.proofs.StorageLemmas.{be_fits, be_of_same, be_determines}
 use Rattle.qcow2_base.specs.declared.on_disk_struct.header_extension_header.HeaderExtensionHeader.{HeaderExtensionHeader}
 use Rattle.qcow2_base.specs.declared.on_disk_struct.v3_header_base.V3HeaderBase.{V3HeaderBase}
 use Rattle.qcow2_base.proofs.OnDiskStructLemmas.{be_of_bytes}
@@ -54,7 +55,7 @@ number-held image place n value small is =
     let fits : value < 256 ^ n = subst (λ (v : ℕ). v < 256 ^ n) is (be_fits image place n small) in
     let bytes = bytes_high_first n value in
     let own = be_of_bytes n value bytes [] (sym (append-nil bytes)) fits in
-    let tells = be_tells (image_of bytes) image n 0 place (are_bytes n value) small (own ∙ sym is) in
+    let tells = be_determines (image_of bytes) image n 0 place (are_bytes n value) small (own ∙ sym is) in
     let count = length-bytes_high_first n value in
     (record { each = λ i below. rw zero-add at (tells i (omega (arith, count))) }, fits)
 

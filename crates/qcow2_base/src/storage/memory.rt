@@ -3,7 +3,9 @@
 ghost use Rattle.std.specs.Prelude.{◌≡◌, ℕ, ◌+◌, ◌^◌, ◌<◌, ◌≤◌, max, length, slice_index, IsOk, OnOk, OnErr};
 ghost use Rattle.qcow2_base.specs.Format.{max_file_length};
 ghost use Rattle.qcow2_base.specs.Storage.Growth.{GrowsToFit};
-ghost use Rattle.qcow2_base.specs.Storage.{IsPowerOfTwo, power_of_two_once, Holds, SameOutside, WritesBytes, image_of, image_of_ends};
+ghost use Rattle.qcow2_base.specs.Storage.{IsPowerOfTwo, Holds, SameOutside, WritesBytes, image_of};
+ghost use Rattle.qcow2_base.specs.Storage.Alignment.{power_of_two_once};
+ghost use Rattle.std.proofs.lemmas.List.{get_or_past};
 
 use super::{Storage, StorageFault};
 use std::alloc::AllocError;
@@ -102,7 +104,7 @@ impl Storage for MemStorage {
 
     ghost byte_fits = { λ m offset. m.bytes_fit offset };
 
-    ghost ends = { λ m. image_of_ends m.bytes.items };
+    ghost ends = { λ m. (length m.bytes.items, λ o past. get_or_past m.bytes.items o 0 past) };
 }
 
 // Fills the buffer with the bytes from `offset` on, and with zeros past the last one.
