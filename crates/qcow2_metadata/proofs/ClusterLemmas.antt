@@ -8,10 +8,10 @@ use Rattle.qcow2_base.specs.declared.fault.Fault.{Fault}
 use Rattle.qcow2_base.specs.declared.on_disk_struct.v2_header.V2Header.{V2Header}
 use Rattle.qcow2_base.specs.declared.on_disk_struct.v3_header_base.V3HeaderBase.{V3HeaderBase}
 use Rattle.qcow2_metadata.specs.Header.Chain.{extension_at, extensions_at, few_extensions}
-use Rattle.qcow2_metadata.specs.Header.Grammar.{SameFirstCluster, backing_name, base_at, fixed_parts, header_extensions, header_of, v2_at}
+use Rattle.qcow2_metadata.specs.Header.Grammar.{SameFirstCluster, backing_name, base_at, fixed_parts, header_extensions, header_of, header_with_parts, v2_at}
 use Rattle.qcow2_metadata.specs.Range.{bytes_at}
 use Rattle.qcow2_metadata.proofs.ChainLemmas.{extension_at-past}
-use Rattle.qcow2_metadata.proofs.GrammarLemmas.{after_parts, fixed_parts-are, parts_by}
+use Rattle.qcow2_metadata.proofs.GrammarLemmas.{fixed_parts-are, parts_by}
 
 -- the two images agree in that many first bytes
 record AgreeWithin (end : ℕ) (image other : Image) : Type 0 where
@@ -76,10 +76,10 @@ header_extensions-same image other v2 base same =
     ]
 
 -- the header of these two parts is the same
-after_parts-same : (image other : Image) (parts : V2Header × V3HeaderBase)
+header_with_parts-same : (image other : Image) (parts : V2Header × V3HeaderBase)
     → AgreeWithin (2 ^ parts.0.cluster_bits) image other → parts_by parts.0 parts.1 ≡ Ok parts
-    → after_parts other parts ≡ after_parts image parts
-after_parts-same image other parts same lawful =
+    → header_with_parts other parts ≡ header_with_parts image parts
+header_with_parts-same image other parts same lawful =
     grind (arith, nat_tests, backing_name-same, header_extensions-same, bytes_at-same)
 
 -- images with the same first cluster have the same header, or the same fault
@@ -102,4 +102,4 @@ header_of-same image other same = by_parts (fixed_parts image) refl
         let are = fixed_parts-are image parts is in
         let size = ap (λ (v2 : V2Header). 2 ^ v2.cluster_bits) are.0 in
         rw (fixed ∙ is, is)
-        (after_parts-same image other parts (record { each = λ o below. same o (omega (arith, size)) }) are.2)
+        (header_with_parts-same image other parts (record { each = λ o below. same o (omega (arith, size)) }) are.2)

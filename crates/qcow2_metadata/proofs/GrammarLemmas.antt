@@ -13,7 +13,7 @@ use Rattle.qcow2_base.specs.declared.on_disk_struct.v3_header_base.V3HeaderBase.
 use Rattle.qcow2_metadata.specs.Results.{and_then, after_conditions}
 use Rattle.qcow2_metadata.specs.Header.{HeaderRecord, names_by, all_same, other_features}
 use Rattle.qcow2_metadata.specs.Header.Extensions.{Extension, name_in, text}
-use Rattle.qcow2_metadata.specs.Header.Grammar.{AreSame, HasExtensions, IsBackingName, IsBase, IsHeader, backing_name, base_at, field_conditions, fixed_parts, header_extensions, header_of, last_conditions, v2_at, version_conditions}
+use Rattle.qcow2_metadata.specs.Header.Grammar.{AreSame, HasExtensions, IsBackingName, IsBase, IsHeader, backing_name, base_at, field_conditions, fixed_parts, header_extensions, header_of, header_with_parts, last_conditions, v2_at, version_conditions}
 use Rattle.qcow2_metadata.specs.Range.{bytes_at}
 use Rattle.qcow2_metadata.specs.declared.header.extensions.HeaderExtensionType.TheVariants as kind
 use Rattle.qcow2_metadata.proofs.ChainLemmas.{extensions_at-says, says-extensions_at}
@@ -69,7 +69,7 @@ base_at-IsBase : (image : Image) (version : ℕ) → IsBase image version (base_
 base_at-IsBase image version = grind (arith, nat_tests)
 
 -- an image's second part is the one that is read
-IsBase-base_at : (image : Image) (version : ℕ) (base : V3HeaderBase) → (version ≡ 2) ⊎ (version ≡ 3)
+pub IsBase-base_at : (image : Image) (version : ℕ) (base : V3HeaderBase) → (version ≡ 2) ⊎ (version ≡ 3)
     → IsBase image version base → base_at image version ≡ base
 IsBase-base_at image version base known is = grind (arith, nat_tests, holds-base_at)
 
@@ -146,7 +146,7 @@ header_from image parts name extensions = record {
   extensions = extensions;
 }
 
--- the header after its extensions were read, after the backing file's name, and after its fixed parts
+-- the header after its extensions were read, and after the backing file's name
 abbrev pub after_extensions : Image → V2Header × V3HeaderBase → Option (List ℕ) → List Extension
     → Result HeaderRecord Fault
 after_extensions image parts name extensions =
@@ -155,9 +155,6 @@ after_extensions image parts name extensions =
 abbrev pub after_name : Image → V2Header × V3HeaderBase → Option (List ℕ) → Result HeaderRecord Fault
 after_name image parts name =
     and_then (header_extensions image parts.0 parts.1) (after_extensions image parts name)
-
-abbrev pub after_parts : Image → V2Header × V3HeaderBase → Result HeaderRecord Fault
-after_parts image parts = and_then (backing_name image parts.0) (after_name image parts)
 
 -- the conditions on all extensions hold where something came of them
 pub record HoldLast (base : V3HeaderBase) (extensions : List Extension) : Type 0 where
@@ -178,7 +175,7 @@ pub header_of-is : (image : Image) (header : HeaderRecord) → header_of image �
     → IsHeader image header
 unfolding header_of
 header_of-is image header is =
-    let fixed = and_then-ok (fixed_parts image) (after_parts image) header is in
+    let fixed = and_then-ok (fixed_parts image) (header_with_parts image) header is in
     let parts = fixed.0 in
     let named = and_then-ok (backing_name image parts.0) (after_name image parts) header fixed.2 in
     let found = and_then-ok (header_extensions image parts.0 parts.1)

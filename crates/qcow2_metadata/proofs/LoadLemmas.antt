@@ -1,11 +1,8 @@
 use Rattle.std.proofs.Common.{◌≡◌, ◌≢◌, ◌⊎◌, ◌==◌, ℕ, ◌≤◌, Bool, false, List, [], ◌∷◌, ◌++◌, length, Option, Some, None, Result, Ok, Err, inl, inr, refl, sym, ap, ◌∙◌, add-zero, append_assoc, arith}
-use Rattle.std.specs.Prelude.{IsErrAnd}
 use Rattle.std.proofs.lemmas.Bool.Decides.{nat_tests}
-use Rattle.std.proofs.lemmas.Result.{err_from_is_err_and}
 use Rattle.qcow2_base.specs.OnDiskStruct.{HoldsLayout, LayoutField, header_extension_header, layout_end, fields_moved_by, v2_header, v3_header_base}
 use Rattle.qcow2_base.specs.Storage.{Holds, Image, image_of}
 use Rattle.qcow2_base.specs.declared.fault.Fault.{Fault}
-use Rattle.qcow2_base.specs.declared.fault.Fault.TheVariants.{NoMemory, Storage}
 use Rattle.qcow2_base.specs.declared.on_disk_struct.header_extension_header.HeaderExtensionHeader.{HeaderExtensionHeader}
 use Rattle.qcow2_base.specs.declared.on_disk_struct.v2_header.V2Header.{V2Header}
 use Rattle.qcow2_base.specs.declared.on_disk_struct.v3_header_base.V3HeaderBase.{V3HeaderBase}
@@ -13,12 +10,11 @@ use Rattle.qcow2_base.proofs.OnDiskStructLemmas.{HoldsLayout-moved}
 use Rattle.std.proofs.lemmas.List.{take_at}
 use Rattle.qcow2_metadata.proofs.RangeLemmas.{held-bytes_at}
 use Rattle.qcow2_metadata.proofs.ChainLemmas.{extensions_at-unfold}
-use Rattle.qcow2_metadata.proofs.GrammarLemmas.{fixed_parts-by, header_from, holds-base_at, holds-v2_at, parts_by}
-use Rattle.qcow2_metadata.specs.Results.{Answers, after_conditions, result_map}
-use Rattle.qcow2_metadata.specs.Header.{default_base}
+use Rattle.qcow2_metadata.proofs.GrammarLemmas.{IsBase-base_at, fixed_parts-by, header_from, holds-v2_at, parts_by}
+use Rattle.qcow2_metadata.specs.Results.{after_conditions, result_map}
 use Rattle.qcow2_metadata.specs.Header.Chain.{extension_at, extension_header_at, extensions_at}
 use Rattle.qcow2_metadata.specs.Header.Extensions.{Extension}
-use Rattle.qcow2_metadata.specs.Header.Grammar.{backing_name, base_at, field_conditions, fixed_parts, header_extensions, header_of, last_conditions, v2_at, version_conditions}
+use Rattle.qcow2_metadata.specs.Header.Grammar.{IsBase, backing_name, base_at, field_conditions, fixed_parts, header_extensions, header_with_parts, last_conditions, v2_at, version_conditions}
 
 -- bytes that were read
 pub ruleset bytes_read = (held-bytes_at, take_at)
@@ -35,22 +31,16 @@ pub read-v2_at : (image : Image) (bytes : List ℕ) (v2 : V2Header) → Holds im
 read-v2_at image bytes v2 held within layout =
     holds-v2_at image v2 (read-layout image 0 bytes (v2_header v2) held within layout)
 
--- the fixed parts that were read are the image's; version 2 has no second part
-pub read-fixed_parts : (image : Image) (bytes : List ℕ) (v2 : V2Header) (base : V3HeaderBase)
-    → Holds image 0 bytes
-    → 104 ≤ length bytes → HoldsLayout (image_of bytes) (v2_header v2)
-    → ((v2.version ≡ 3) × HoldsLayout (image_of bytes) (fields_moved_by 72 (v3_header_base base)))
-    ⊎ ((v2.version ≢ 3) × (base ≡ default_base))
-    → fixed_parts image ≡ parts_by v2 base
-read-fixed_parts image bytes v2 base held within layout (inl newer) =
-    let second = holds-base_at image base
-    (read-layout image 0 bytes (fields_moved_by 72 (v3_header_base base)) held within newer.1) in
-    fixed_parts-by image v2 base (read-v2_at image bytes v2 held (omega arith) layout)
-    (ap (base_at image) newer.0 ∙ second)
-read-fixed_parts image bytes v2 base held within layout (inr older) =
-    let test : (v2.version == 3) ≡ false = grind (arith, nat_tests, older.0) in
-    fixed_parts-by image v2 base (read-v2_at image bytes v2 held (omega arith) layout)
-    (rw (test, base_at) (sym older.1))
+-- the fixed parts that were read are the image's
+fixed_parts-read : (image : Image) (bytes : List ℕ) (v2 : V2Header) (base : V3HeaderBase) → Holds image 0 bytes
+    → 104 ≤ length bytes → HoldsLayout (image_of bytes) (v2_header v2) → IsBase (image_of bytes) v2.version base
+    → (v2.version ≡ 2) ⊎ (v2.version ≡ 3) → fixed_parts image ≡ parts_by v2 base
+fixed_parts-read image bytes v2 base held within layout is known =
+    let second = IsBase-base_at image v2.version base known (record {
+      version_3 = λ three. read-layout image 0 bytes (fields_moved_by 72 (v3_header_base base)) held within (is.version_3 three);
+      version_2 = is.version_2;
+    }) in
+    fixed_parts-by image v2 base (read-v2_at image bytes v2 held (omega arith) layout) second
 
 -- what was read before an extension's data is the image's
 pub read-extension_header_at : (image : Image) (place : ℕ) (bytes : List ℕ) (header : HeaderExtensionHeader)
@@ -76,22 +66,38 @@ pub provided-next : {T : Type 0} (conditions : List (Bool × Fault)) (next : Uni
 provided-next conditions next hold = grind arith
 
 -- what the tests of the fixed parts say of both
-pub parts-fault : (v2 : V2Header) (base : V3HeaderBase) (fault : Fault)
-    → Err fault ≡ tested (version_conditions v2)
+parts-fault : (v2 : V2Header) (base : V3HeaderBase) (fault : Fault) → Err fault ≡ tested (version_conditions v2)
     → parts_by v2 base ≡ Err fault
 parts-fault v2 base fault fails = grind (arith, nat_tests, provided-fault)
 
-pub parts-next : (v2 : V2Header) (base : V3HeaderBase) → Ok tt ≡ tested (version_conditions v2)
+parts-next : (v2 : V2Header) (base : V3HeaderBase) → Ok tt ≡ tested (version_conditions v2)
     → parts_by v2 base ≡ after_conditions (field_conditions v2 base) (λ _. Ok (v2, base))
 parts-next v2 base hold = grind (arith, nat_tests, provided-next)
 
--- a fault that is passed on is the expected answer's, where it was that of an earlier step
-pub passed_on : {T U V : Type 0} (view : T → V) (answer : Result T Fault) (expected : Result V Fault)
-    (before : Result U Fault) (fault : Fault) → IsErrAnd answer (λ f. f ≡ fault)
-    → (fault ≡ Storage) ⊎ (fault ≡ NoMemory) ⊎ (before ≡ Err fault)
-    → (before ≡ Err fault → expected ≡ Err fault)
-    → Answers view answer expected
-passed_on view answer expected before fault exit why later = grind (arith, nat_tests, err_from_is_err_and)
+-- what comes of the fixed parts that were read
+pub version_refused : (image : Image) (bytes : List ℕ) (v2 : V2Header) (fault : Fault) → Holds image 0 bytes
+    → 72 ≤ length bytes → HoldsLayout (image_of bytes) (v2_header v2) → Err fault ≡ tested (version_conditions v2)
+    → fixed_parts image ≡ Err fault
+version_refused image bytes v2 fault held within layout fails =
+    let base = base_at image v2.version in
+    fixed_parts-by image v2 base (read-v2_at image bytes v2 held within layout) refl ∙ parts-fault v2 base fault fails
+
+pub fields_refused : (image : Image) (bytes : List ℕ) (v2 : V2Header) (base : V3HeaderBase) (fault : Fault)
+    → Holds image 0 bytes → 104 ≤ length bytes → HoldsLayout (image_of bytes) (v2_header v2)
+    → IsBase (image_of bytes) v2.version base → (v2.version ≡ 2) ⊎ (v2.version ≡ 3)
+    → Ok tt ≡ tested (version_conditions v2) → Err fault ≡ tested (field_conditions v2 base)
+    → fixed_parts image ≡ Err fault
+fields_refused image bytes v2 base fault held within layout is known holds fails =
+    fixed_parts-read image bytes v2 base held within layout is known ∙ parts-next v2 base holds
+    ∙ provided-fault (field_conditions v2 base) (λ _. Ok (v2, base)) fault fails
+
+pub parts_taken : (image : Image) (bytes : List ℕ) (v2 : V2Header) (base : V3HeaderBase) → Holds image 0 bytes
+    → 104 ≤ length bytes → HoldsLayout (image_of bytes) (v2_header v2) → IsBase (image_of bytes) v2.version base
+    → (v2.version ≡ 2) ⊎ (v2.version ≡ 3) → Ok tt ≡ tested (version_conditions v2)
+    → Ok tt ≡ tested (field_conditions v2 base) → fixed_parts image ≡ Ok (v2, base)
+parts_taken image bytes v2 base held within layout is known holds hold =
+    fixed_parts-read image bytes v2 base held within layout is known ∙ parts-next v2 base holds
+    ∙ provided-next (field_conditions v2 base) (λ _. Ok (v2, base)) hold
 
 -- the extensions from a place on are the first and those from the next place on
 pub extensions_at-more : (image : Image) (len place : ℕ) (first : Extension × ℕ) (before : List Extension)
@@ -117,30 +123,10 @@ pub extensions_at-fault : (image : Image) (len place : ℕ) (fault : Fault) → 
     → extensions_at image len place ≡ Err fault
 extensions_at-fault image len place fault is = extensions_at-unfold image len place ∙ rw is refl
 
--- the fault of the fixed parts is the header's
-pub header-parts-fault : (image : Image) (fault : Fault) → fixed_parts image ≡ Err fault → header_of image ≡ Err fault
-unfolding header_of
-header-parts-fault image fault bad = rw bad refl
-
--- the fault of the backing file's name is the header's
-pub header-name-fault : (image : Image) (v2 : V2Header) (base : V3HeaderBase) (fault : Fault) → fixed_parts image ≡ Ok (v2, base)
-    → backing_name image v2 ≡ Err fault → header_of image ≡ Err fault
-unfolding header_of
-header-name-fault image v2 base fault fixed bad = rw (fixed, bad) refl
-
--- the fault of the extensions is the header's
-pub header-extensions-fault : (image : Image) (v2 : V2Header) (base : V3HeaderBase) (name : Option (List ℕ)) (fault : Fault)
-    → fixed_parts image ≡ Ok (v2, base) → backing_name image v2 ≡ Ok name → header_extensions image v2 base ≡ Err fault
-    → header_of image ≡ Err fault
-unfolding header_of
-header-extensions-fault image v2 base name fault fixed named bad = rw (fixed, named, bad) refl
-
 -- after all parts their last conditions decide what comes
 pub header-last : (image : Image) (v2 : V2Header) (base : V3HeaderBase) (name : Option (List ℕ))
     (extensions : List Extension)
-    → fixed_parts image ≡ Ok (v2, base) → backing_name image v2 ≡ Ok name
-    → header_extensions image v2 base ≡ Ok extensions
-    → header_of image
+    → backing_name image v2 ≡ Ok name → header_extensions image v2 base ≡ Ok extensions
+    → header_with_parts image (v2, base)
     ≡ after_conditions (last_conditions base extensions) (λ _. Ok (header_from image (v2, base) name extensions))
-unfolding header_of
-header-last image v2 base name extensions fixed named extended = rw (fixed, named, extended) refl
+header-last image v2 base name extensions named extended = rw (named, extended) refl

@@ -4,7 +4,7 @@ use Rattle.std.specs.Prelude.{Err, IfErr, Ok, Result}
 use Rattle.qcow2_base.specs.Storage.{Image}
 use Rattle.qcow2_base.specs.declared.fault.Fault.{Fault}
 use Rattle.qcow2_base.specs.declared.fault.Fault.TheVariants.{HeaderTooLong, NoMemory, Storage}
-use Rattle.qcow2_metadata.specs.Results.{Answers, RefusesFirst}
+use Rattle.qcow2_metadata.specs.Results.{Answers, IsFromOutside, RefusesFirst}
 use Rattle.qcow2_metadata.specs.Header.{HeaderRecord}
 use Rattle.qcow2_metadata.specs.Header.Grammar.{header_of}
 use Rattle.qcow2_metadata.specs.Header.Open.{IsOpenFault, header_after_load}
@@ -29,7 +29,7 @@ answers-first answer expected is = grind (arith, nat_tests)
 -- the faults of a load for who means to write
 pub opened-faults : (answer : Result HeaderRecord Fault) (header : HeaderRecord) (writable : Bool) → writable ≡ true
     → is_short header.backing_filename ≡ true → Answers (λ h. h) answer (header_after_load true (Ok header))
-    → IfErr answer (IsOpenFault writable)
+    → IfErr answer (λ fault. IsOpenFault writable fault ⊎ IsFromOutside fault)
 opened-faults answer header writable is short answers = grind (arith, nat_tests, opened-too_long)
 
 -- the fault of an image's header is that of its load

@@ -8,7 +8,7 @@ use Rattle.qcow2_base.specs.Fault.{fault_number}
 use Rattle.qcow2_base.specs.Storage.{Image, be}
 use Rattle.qcow2_base.specs.Types.{IsClusterBits}
 use Rattle.qcow2_base.specs.declared.fault.Fault.{Fault}
-use Rattle.qcow2_base.specs.declared.fault.Fault.TheVariants.{NotQcow2, Version, ClusterSize, HeaderShort, HeaderBig, L1Unaligned, ReftableUnaligned, RefcountWidth, BackingNameLong, BackingNamePlace, BackingNameText, FormatConflict, DataFileConflict, Incompatible, NoMemory, Storage}
+use Rattle.qcow2_base.specs.declared.fault.Fault.TheVariants.{NotQcow2, Version, ClusterSize, HeaderShort, HeaderBig, L1Unaligned, ReftableUnaligned, RefcountWidth, BackingNameLong, BackingNamePlace, BackingNameText, FormatConflict, DataFileConflict, Incompatible}
 use Rattle.qcow2_base.specs.declared.on_disk_struct.v2_header.V2Header.{V2Header}
 use Rattle.qcow2_base.specs.declared.on_disk_struct.v3_header_base.V3HeaderBase.{V3HeaderBase}
 use Rattle.qcow2_metadata.specs.Results.{and_then, after_conditions, result_map}
@@ -151,16 +151,16 @@ pub record IsHeader (image : Image) (header : HeaderRecord) : Type 0 where
   pub one_data_file : AreSame (names_by (name_in kind.ExternalDataFileName) header.extensions)
   pub features : other_features header.base ≡ 0
 
--- the faults of a load, whatever is known of the storage: those of the grammar, memory that ran out, a failed storage
+-- the refusals of the grammar
 abbrev pub IsHeaderFault : Fault → Type 0
-IsHeaderFault fault = (fault_number fault ≤ 17) ⊎ (fault ≡ NoMemory) ⊎ (fault ≡ Storage)
+IsHeaderFault fault = fault_number fault ≤ 17
 
 -- the other image has the same first cluster: 2 ^ cluster_bits bytes, as the image says, and 512 in any case
 abbrev pub SameFirstCluster : Image → Image → Type 0
 SameFirstCluster image other = (o : ℕ) → o < max 512 (2 ^ be image 20 4) → other o ≡ image o
 
 -- what holds of the fixed parts of every header
-pub record AreLawfulParts (v2 : V2Header) (base : V3HeaderBase) : Type 0 where
+pub record AreValidParts (v2 : V2Header) (base : V3HeaderBase) : Type 0 where
   pub magic : v2.magic ≡ magic
   pub version : (v2.version ≡ 2) ⊎ (v2.version ≡ 3)
   pub cluster_bits : IsClusterBits v2.cluster_bits
@@ -170,10 +170,9 @@ pub record AreLawfulParts (v2 : V2Header) (base : V3HeaderBase) : Type 0 where
   pub reftable_aligned : v2.refcount_table_offset % 2 ^ v2.cluster_bits ≡ 0
   pub older : v2.version ≡ 2 → base ≡ default_base
 
--- the header of an image, or the fault of the first condition that it fails
-unfoldable pub header_of : Image → Result HeaderRecord Fault
-header_of image =
-    and_then (fixed_parts image) (λ parts.
+-- the header of an image with these fixed parts, or the fault of the first condition that the rest of it fails
+abbrev pub header_with_parts : Image → V2Header × V3HeaderBase → Result HeaderRecord Fault
+header_with_parts image parts =
     and_then (backing_name image parts.0) (λ name.
     and_then (header_extensions image parts.0 parts.1) (λ extensions.
     after_conditions (last_conditions parts.1 extensions) (λ _.
@@ -183,4 +182,8 @@ header_of image =
       unknown_header_fields = bytes_at image 104 (parts.1.header_length - 104);
       backing_filename = name;
       extensions = extensions;
-    })))))
+    }))))
+
+-- the header of an image, or the fault of the first condition that it fails
+unfoldable pub header_of : Image → Result HeaderRecord Fault
+header_of image = and_then (fixed_parts image) (header_with_parts image)

@@ -3,7 +3,7 @@ use Rattle.std.specs.Prelude.{◌≡◌, ◌⊎◌, ℕ, ◌==◌, ◌&&◌, Boo
 use Rattle.qcow2_base.specs.Storage.{Holds, OnImage, OnImages, OnlyReads, OnlyWrites, StorageState}
 use Rattle.qcow2_base.specs.declared.fault.Fault.{Fault}
 use Rattle.qcow2_base.specs.declared.fault.Fault.TheVariants.{HeaderTooLong}
-use Rattle.qcow2_metadata.specs.Results.{Answers, and_then}
+use Rattle.qcow2_metadata.specs.Results.{Answers, IsFromOutside, and_then}
 use Rattle.qcow2_metadata.specs.Header.{HeaderRecord}
 use Rattle.qcow2_metadata.specs.Header.Grammar.{IsHeaderFault, header_of}
 use Rattle.qcow2_metadata.specs.Header.Text.{IsSettled, IsWrittenHeader, chosen_text, header_after_write}
@@ -36,7 +36,7 @@ opened_text writable (Ok header) = elim (is_rewritten writable header) [
 abbrev pub opened_length : Bool → StorageState → ℕ
 opened_length writable old = length (opened_text writable (header_of old.byte_at))
 
--- the faults of a load, whatever is known of the storage: a header that is written may be too long
+-- the refusals of a load: those of the grammar, and where the header is written, that it is too long
 abbrev pub IsOpenFault : Bool → Fault → Type 0
 IsOpenFault writable fault = IsHeaderFault fault ⊎ ((writable ≡ true) × (fault ≡ HeaderTooLong))
 
@@ -59,5 +59,5 @@ pub record Opens (writable : Bool) (answer : Result HeaderRecord Fault) (old new
 -- of the first condition that they fail
 pub record Loads (writable : Bool) (answer : Result HeaderRecord Fault) (old new : StorageState) : Type 0 where
   pub exact : OnImage old (λ bytes. Answers (λ header. header) answer (header_after_load writable (header_of bytes)))
-  pub faults : IfErr answer (IsOpenFault writable)
+  pub faults : IfErr answer (λ fault. IsOpenFault writable fault ⊎ IsFromOutside fault)
   pub storage : Opens writable answer old new

@@ -1,9 +1,7 @@
 //! The backing file's name: how it is read where a header says, and how it is written.
 
-ghost use Rattle.std.specs.Prelude.{◌≡◌, ◌++◌, IfErr, IfOk, OnOk, length, option_map, string_bytes, true};
-ghost use Rattle.qcow2_base.specs.Storage.{OnImage};
+ghost use Rattle.std.specs.Prelude.{◌≡◌, ◌++◌, IfOk, OnOk, length, option_map, string_bytes, true};
 ghost use Rattle.qcow2_base.specs.Types.{IsClusterBits};
-ghost use Rattle.qcow2_metadata.specs.Results.{Answers};
 ghost use Rattle.qcow2_metadata.specs.Header.Grammar.{IsHeaderFault, backing_name};
 ghost use Rattle.qcow2_metadata.specs.Header.Text.{is_short, name_text};
 ghost use Rattle.qcow2_metadata.specs.ReadAhead.{ReadsThrough};
@@ -22,11 +20,9 @@ pub(super) fn read_backing_filename<S: Storage>(
     v2: &V2Header,
 ) -> Result<Option<String>, Fault>
     requires { IsClusterBits v2.now.cluster_bits }
-    ensures exact { OnImage (S.state image.old.image.now) (λ bytes.
-        Answers (option_map string_bytes) result (backing_name bytes v2.now)) }
+    ensures reads { ReadsThrough S.state (option_map string_bytes) result
+        (λ bytes. backing_name bytes v2.now) IsHeaderFault image.old image.new }
     ensures short { IfOk result (λ name. is_short (option_map string_bytes name) ≡ true) }
-    ensures faults { IfErr result IsHeaderFault }
-    ensures storage { ReadsThrough S.state result image.old image.new }
 {
     if v2.backing_file_offset == 0 {
         return Ok(None);

@@ -2,13 +2,12 @@
 
 ghost use Rattle.std.specs.Prelude.{◌≡◌, ◌≢◌, ◌⊎◌, ◌+◌, ◌^◌, ◌<◌, ◌≤◌, ◌++◌, nat_le, [], ◌∷◌, All, IfErr, IfOk, IfSome, IsOkUnless, Ok, OnOk, SomeIff, length, map, option_map, string_bytes};
 ghost use Rattle.qcow2_base.specs.OnDiskStruct.{header_extension_header};
-ghost use Rattle.qcow2_base.specs.Storage.{OnImage};
 ghost use Rattle.qcow2_base.specs.declared.fault.Fault.TheVariants.{ExtensionText};
-ghost use Rattle.qcow2_metadata.specs.Results.{Answers, after_conditions, result_map};
+ghost use Rattle.qcow2_metadata.specs.Results.{after_conditions, result_map};
 ghost use Rattle.qcow2_metadata.specs.Header.Chain.{data_end, extension_at, extension_header_at, extensions_at, link_at};
 ghost use Rattle.qcow2_metadata.specs.Header.Extensions.{IsStorable, data_of, extension_number, extension_of, feature_name_in, name_in, extension_from_data, type_number};
 ghost use Rattle.qcow2_metadata.specs.Header.Features.{HasNumber};
-ghost use Rattle.qcow2_metadata.specs.Header.Grammar.{AreLawfulParts, IsHeaderFault, header_extensions, last_conditions};
+ghost use Rattle.qcow2_metadata.specs.Header.Grammar.{AreValidParts, IsHeaderFault, header_extensions, last_conditions};
 ghost use Rattle.qcow2_metadata.specs.Header.Text.{chosen_extensions, extension_text, extensions_text, fields_text, is_other, written_text};
 ghost use Rattle.qcow2_metadata.specs.Range.{bytes_at};
 ghost use Rattle.qcow2_metadata.specs.ReadAhead.{ReadsThrough};
@@ -119,13 +118,11 @@ pub(super) fn read_header_extensions<S: Storage>(
     v2: &V2Header,
     base: &V3HeaderBase,
 ) -> Result<Vec<HeaderExtension>, Fault>
-    requires { AreLawfulParts v2.now base.now }
-    ensures exact { OnImage (S.state image.old.image.now) (λ bytes.
-        Answers (λ list. map extension_of list.items) result (header_extensions bytes v2.now base.now)) }
+    requires { AreValidParts v2.now base.now }
+    ensures reads { ReadsThrough S.state (λ list. map extension_of list.items) result
+        (λ bytes. header_extensions bytes v2.now base.now) IsHeaderFault image.old image.new }
     ensures storable { IfOk result (λ list. All IsStorable (map extension_of list.items)) }
     ensures older { IfOk result (λ list. v2.now.version ≡ 2 → list.items ≡ []) }
-    ensures faults { IfErr result IsHeaderFault }
-    ensures storage { ReadsThrough S.state result image.old image.new }
 {
     if v2.version != 3 {
         return Ok(Vec::new(alloc));
@@ -141,11 +138,9 @@ fn read_extensions<S: Storage>(
     first: u64,
 ) -> Result<Vec<HeaderExtension>, Fault>
     requires { len ≤ 2 ^ 21 }
-    ensures exact { OnImage (S.state image.old.image.now) (λ bytes.
-        Answers (λ list. map extension_of list.items) result (extensions_at bytes len first)) }
+    ensures reads { ReadsThrough S.state (λ list. map extension_of list.items) result
+        (λ bytes. extensions_at bytes len first) IsHeaderFault image.old image.new }
     ensures storable { IfOk result (λ list. All IsStorable (map extension_of list.items)) }
-    ensures faults { IfErr result IsHeaderFault }
-    ensures storage { ReadsThrough S.state result image.old image.new }
 {
     let mut extensions = Vec::new(alloc);
     let mut place = first;
@@ -165,14 +160,11 @@ fn read_extension<S: Storage>(
     place: u64,
 ) -> Result<Option<(HeaderExtension, u64)>, Fault>
     requires { len ≤ 2 ^ 21 }
-    ensures exact { OnImage (S.state image.old.image.now) (λ bytes.
-        Answers (option_map (λ found. (extension_of found.0, found.1))) result
-        (extension_at bytes len place)) }
+    ensures reads { ReadsThrough S.state (option_map (λ found. (extension_of found.0, found.1))) result
+        (λ bytes. extension_at bytes len place) IsHeaderFault image.old image.new }
     ensures next { IfOk result (λ found. IfSome found (λ found.
         (place + 8 ≤ found.1) × (found.1 ≤ len + 8))) }
     ensures storable { IfOk result (λ found. IfSome found (λ found. IsStorable (extension_of found.0))) }
-    ensures faults { IfErr result IsHeaderFault }
-    ensures storage { ReadsThrough S.state result image.old image.new }
 {
     let header = read_extension_header(image, len, place)?;
     if header.extension_type == HeaderExtensionType::End as u32 {
@@ -190,13 +182,10 @@ fn read_extension_header<S: Storage>(
     place: u64,
 ) -> Result<HeaderExtensionHeader, Fault>
     requires { len ≤ 2 ^ 21 }
-    ensures exact { OnImage (S.state image.old.image.now) (λ bytes.
-        Answers (λ header. header) result (after_conditions
+    ensures reads { ReadsThrough S.state (λ header. header) result (λ bytes. after_conditions
         ((nat_le (data_end (link_at bytes place)) len, Fault.ExtensionsExceed) ∷ [])
-        (λ _. Ok (extension_header_at bytes place)))) }
+        (λ _. Ok (extension_header_at bytes place))) IsHeaderFault image.old image.new }
     ensures bounded { IfOk result (λ header. place + 8 + header.length ≤ len) }
-    ensures faults { IfErr result (λ fault. (fault ≡ Fault.ExtensionsExceed) ⊎ (fault ≡ Fault.Storage)) }
-    ensures storage { ReadsThrough S.state result image.old image.new }
 {
     if place > len || len - place < 8 {
         return Err(Fault::ExtensionsExceed);
@@ -219,12 +208,10 @@ fn read_data<S: Storage>(
 ) -> Result<HeaderExtension, Fault>
     requires end { header.now.extension_type ≢ 0 }
     requires within { place + header.now.length ≤ 2 ^ 21 }
-    ensures exact { OnImage (S.state image.old.image.now) (λ bytes.
-        Answers extension_of result (extension_from_data header.now.extension_type
-        (bytes_at bytes place header.now.length))) }
+    ensures reads { ReadsThrough S.state extension_of result (λ bytes.
+        extension_from_data header.now.extension_type (bytes_at bytes place header.now.length))
+        IsHeaderFault image.old image.new }
     ensures storable { IfOk result (λ extension. IsStorable (extension_of extension)) }
-    ensures faults { IfErr result IsHeaderFault }
-    ensures storage { ReadsThrough S.state result image.old image.new }
 {
     let len = header.length as usize;
     if header.extension_type == HeaderExtensionType::FeatureNameTable as u32 {

@@ -4,9 +4,8 @@ ghost use Rattle.std.specs.Prelude.{◌≡◌, ◌⊎◌, ◌+◌, ◌^◌, ◌�
 ghost use Rattle.std.specs.BTreeMap.{IsOrdered, insert_entry};
 ghost use Rattle.std.specs.List.{flat_map};
 ghost use Rattle.std.specs.Str.Lossy.{utf8_lossy};
-ghost use Rattle.qcow2_base.specs.Storage.{OnImage};
 ghost use Rattle.qcow2_base.specs.declared.fault.Fault.TheVariants.{FeatureNameCut, NoMemory};
-ghost use Rattle.qcow2_metadata.specs.Results.{Answers, Computes};
+ghost use Rattle.qcow2_metadata.specs.Results.{Computes};
 ghost use Rattle.qcow2_metadata.specs.Header.{known_names};
 ghost use Rattle.qcow2_metadata.specs.Header.Extensions.{FeatureNameTable, IsStorable, feature_names, key_cmp, name_chunk, names_of, until_zero, with_feature_name};
 ghost use Rattle.qcow2_metadata.specs.Header.Grammar.{IsHeaderFault};
@@ -75,11 +74,9 @@ pub(super) fn read_feature_names<S: Storage>(
     len: usize,
 ) -> Result<BTreeMap<(FeatureType, u8), String>, Fault>
     requires { place + len ≤ 2 ^ 21 }
-    ensures exact { OnImage (S.state image.old.image.now) (λ bytes.
-        Answers names_of result (feature_names (bytes_at bytes place len))) }
+    ensures reads { ReadsThrough S.state names_of result
+        (λ bytes. feature_names (bytes_at bytes place len)) IsHeaderFault image.old image.new }
     ensures storable { IfOk result (λ names. IsStorable (FeatureNameTable (names_of names))) }
-    ensures faults { IfErr result IsHeaderFault }
-    ensures storage { ReadsThrough S.state result image.old image.new }
 {
     let mut names = BTreeMap::new(alloc);
     let mut buffer = [0u8; FEATURE_NAME_BYTES];

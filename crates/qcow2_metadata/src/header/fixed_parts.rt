@@ -2,11 +2,11 @@
 
 ghost use Rattle.std.specs.Prelude.{◌≡◌, ◌⊎◌, ◌%◌, ◌^◌, ◌<◌, ◌≤◌, ◌++◌, IfErr, IfOk, Ok, OnOk, length};
 ghost use Rattle.qcow2_base.specs.OnDiskStruct.{v2_header, v3_header_base};
-ghost use Rattle.qcow2_base.specs.Storage.{OnImage, OnlyReads};
+ghost use Rattle.qcow2_base.specs.Storage.{image_of};
 ghost use Rattle.qcow2_base.specs.Types.{IsClusterBits};
-ghost use Rattle.qcow2_metadata.specs.Results.{Answers, after_conditions};
+ghost use Rattle.qcow2_metadata.specs.Results.{Reads, after_conditions};
 ghost use Rattle.qcow2_metadata.specs.Header.{magic};
-ghost use Rattle.qcow2_metadata.specs.Header.Grammar.{AreLawfulParts, IsHeaderFault, field_conditions, fixed_parts, version_conditions};
+ghost use Rattle.qcow2_metadata.specs.Header.Grammar.{AreValidParts, IsBase, IsHeaderFault, field_conditions, fixed_parts, version_conditions};
 ghost use Rattle.qcow2_metadata.specs.Header.Text.{AreFitting, base_with_length, fields_text, name_text, v2_with_name};
 
 use super::Header;
@@ -22,23 +22,29 @@ pub(super) const FIXED_BYTES: usize = V2Header::ON_DISK_SIZE + V3HeaderBase::ON_
 
 // The two fixed parts, which are valid. What comes after the first is not looked at in version 2.
 pub(super) fn read_fixed_parts<S: Storage>(image: &mut S) -> Result<(V2Header, V3HeaderBase), Fault>
-    ensures exact { OnImage (S.state image.old) (λ bytes.
-        Answers (λ parts. (parts.0, parts.1)) result (fixed_parts bytes)) }
-    ensures lawful { IfOk result (λ parts. AreLawfulParts parts.0 parts.1) }
-    ensures faults { IfErr result IsHeaderFault }
-    ensures storage { OnlyReads result (S.state image.old) (S.state image.new) }
+    ensures reads { Reads (λ parts. (parts.0, parts.1)) result fixed_parts IsHeaderFault
+        (S.state image.old) (S.state image.new) }
+    ensures valid { IfOk result (λ parts. AreValidParts parts.0 parts.1) }
 {
     let mut bytes = [0u8; FIXED_BYTES];
     read_range(image, HostOffset(0), &mut bytes)?;
     let v2: V2Header = read_be(&bytes, 0);
     check_version(&v2)?;
-    let base = if v2.version == 3 {
-        read_be(&bytes, V2Header::ON_DISK_SIZE)
-    } else {
-        V3HeaderBase::default()
-    };
+    let base = read_base(&bytes, v2.version);
     check_fields(&v2, &base)?;
     Ok((v2, base))
+}
+
+// The second part of a header of this version, of which these are the first bytes.
+fn read_base(bytes: &[u8], version: u32) -> V3HeaderBase
+    requires { length bytes.now ≡ 104 }
+    ensures { IsBase (image_of bytes.now) version result }
+{
+    if version == 3 {
+        read_be(bytes, V2Header::ON_DISK_SIZE)
+    } else {
+        V3HeaderBase::default()
+    }
 }
 
 // Refuses an image that isn't qcow2, and cluster sizes that no image has.

@@ -1,11 +1,10 @@
 //! Loading a header: the first cluster of an image, looked at where the header says, in its order.
 
-ghost use Rattle.std.specs.Prelude.{◌≡◌, ◌⊎◌, ◌+◌, ◌^◌, ◌≤◌, IfErr, IfOk, Ok, length, string_bytes, true};
-ghost use Rattle.qcow2_base.specs.Storage.{OnImage, OnlyReads};
-ghost use Rattle.qcow2_metadata.specs.Results.{Answers, result_map};
+ghost use Rattle.std.specs.Prelude.{◌≡◌, ◌+◌, ◌^◌, ◌≤◌, IfOk, Ok, length, string_bytes, true};
+ghost use Rattle.qcow2_metadata.specs.Results.{Reads, result_map};
 ghost use Rattle.qcow2_metadata.specs.Header.Open.{Loads};
 ghost use Rattle.qcow2_metadata.specs.Header.Extensions.{text};
-ghost use Rattle.qcow2_metadata.specs.Header.Grammar.{AreLawfulParts, IsHeaderFault, fixed_parts, header_of};
+ghost use Rattle.qcow2_metadata.specs.Header.Grammar.{AreValidParts, IsHeaderFault, header_of, header_with_parts};
 ghost use Rattle.qcow2_metadata.specs.Header.Text.{is_short};
 ghost use Rattle.qcow2_metadata.specs.Range.{bytes_at};
 ghost use Rattle.qcow2_metadata.specs.ReadAhead.{ReadsThrough};
@@ -40,12 +39,11 @@ impl Header {
     }
 }
 
+#[tactic(auto, unfolding(crate::specs::Header::Grammar::header_of))]
 fn read_header<S: Storage>(alloc: Global, image: &mut S) -> Result<Header, Fault>
-    ensures exact { OnImage (S.state image.old) (λ bytes.
-        Answers (λ header. header) result (header_of bytes)) }
+    ensures reads { Reads (λ header. header) result header_of IsHeaderFault
+        (S.state image.old) (S.state image.new) }
     ensures short { IfOk result (λ header. is_short header.backing_filename ≡ true) }
-    ensures faults { IfErr result IsHeaderFault }
-    ensures storage { OnlyReads result (S.state image.old) (S.state image.new) }
 {
     let (v2, base) = read_fixed_parts(image)?;
     let mut ahead = ReadAhead::new(image, cluster_size(&v2));
@@ -59,12 +57,10 @@ fn read_other_parts<S: Storage>(
     v2: V2Header,
     base: V3HeaderBase,
 ) -> Result<Header, Fault>
-    requires { AreLawfulParts v2 base }
-    ensures exact { OnImage (S.state image.old.image.now) (λ bytes.
-        fixed_parts bytes ≡ Ok (v2, base) → Answers (λ header. header) result (header_of bytes)) }
+    requires { AreValidParts v2 base }
+    ensures reads { ReadsThrough S.state (λ header. header) result
+        (λ bytes. header_with_parts bytes (v2, base)) IsHeaderFault image.old image.new }
     ensures short { IfOk result (λ header. is_short header.backing_filename ≡ true) }
-    ensures faults { IfErr result IsHeaderFault }
-    ensures storage { ReadsThrough S.state result image.old image.new }
 {
     let unknown_len = base.header_length as usize - FIXED_BYTES;
     let unknown_header_fields = read_bytes(alloc, image, FIXED_BYTES as u64, unknown_len)?;
@@ -91,11 +87,9 @@ pub(super) fn read_bytes<S: Storage>(
     len: usize,
 ) -> Result<Vec<u8>, Fault>
     requires { offset + len ≤ 2 ^ 21 }
-    ensures read { IfOk result (λ bytes. OnImage (S.state image.old.image.now) (λ stored.
-        bytes.items ≡ bytes_at stored offset len)) }
+    ensures reads { ReadsThrough S.state (λ bytes. bytes.items) result
+        (λ stored. Ok (bytes_at stored offset len)) (λ _. ⊥) image.old image.new }
     ensures len { IfOk result (λ bytes. length bytes.items ≡ len) }
-    ensures faults { IfErr result (λ fault. (fault ≡ Fault.NoMemory) ⊎ (fault ≡ Fault.Storage)) }
-    ensures storage { ReadsThrough S.state result image.old image.new }
 {
     if len == 0 {
         return Ok(Vec::new(alloc));

@@ -6,26 +6,42 @@ use Rattle.qcow2_metadata.proofs.LoadLemmas.{read-extension_header_at}
 use Rattle.qcow2_metadata.specs.Header.Chain.{data_end, link_at}
 use Rattle.qcow2_metadata.proofs.header.extensions.read_extension_header.Goals as goal
 
-pub returns-then-place-header-clause-exact : goal.returns-then-place-header-clause-exact
-returns-then-place-header-clause-exact g c told =
+pub returns-then-place-header-clause-reads : goal.returns-then-place-header-clause-reads
+returns-then-place-header-clause-reads g c =
     let image = (g.S.Storage.state c.args.image.now.image.now).byte_at in
     let place = c.args.place in
     let header = c.read_be-header.result in
-    let held = c.in_ok-read_range.ensures.held told in
     let within : 8 ≤ length c.read_range.new.buffer = search rules in
-    let is = read-extension_header_at image place c.read_range.new.buffer header held within c.read_be-header.ensures in
-    let size : be image (place + 4) 4 ≡ header.length = ap (λ (h : HeaderExtensionHeader). h.length) is in
-    let exceeds : nat_le (data_end (link_at image place)) c.args.len ≡ false = grind (arith, nat_tests, size, c.if-place-header.true) in
-    inr (inr (rw exceeds refl))
+    record {
+      reads = record {
+        exact = λ told.
+            let held = c.in_ok-read_range.ensures.held told in
+            let is = read-extension_header_at image place c.read_range.new.buffer header held within c.read_be-header.ensures in
+            let size : be image (place + 4) 4 ≡ header.length = ap (λ (h : HeaderExtensionHeader). h.length) is in
+            let exceeds : nat_le (data_end (link_at image place)) c.args.len ≡ false = grind (arith, nat_tests, size, c.if-place-header.true) in
+            inr (inr (rw exceeds refl));
+        faults = search rules;
+        storage = search rules;
+      };
+      same = search rules;
+    }
 
-pub returns-clause-exact : goal.returns-clause-exact
-returns-clause-exact g c told =
+pub returns-clause-reads : goal.returns-clause-reads
+returns-clause-reads g c =
     let image = (g.S.Storage.state c.args.image.now.image.now).byte_at in
     let place = c.args.place in
     let header = c.read_be-header.result in
-    let held = c.in_ok-read_range.ensures.held told in
     let within : 8 ≤ length c.read_range.new.buffer = search rules in
-    let is = read-extension_header_at image place c.read_range.new.buffer header held within c.read_be-header.ensures in
-    let size : be image (place + 4) 4 ≡ header.length = ap (λ (h : HeaderExtensionHeader). h.length) is in
-    let fits : nat_le (data_end (link_at image place)) c.args.len ≡ true = grind (arith, nat_tests, size, c.if-place-header.false) in
-    rw (fits, is) refl
+    record {
+      reads = record {
+        exact = λ told.
+            let held = c.in_ok-read_range.ensures.held told in
+            let is = read-extension_header_at image place c.read_range.new.buffer header held within c.read_be-header.ensures in
+            let size : be image (place + 4) 4 ≡ header.length = ap (λ (h : HeaderExtensionHeader). h.length) is in
+            let fits : nat_le (data_end (link_at image place)) c.args.len ≡ true = grind (arith, nat_tests, size, c.if-place-header.false) in
+            rw (fits, is) refl;
+        faults = tt;
+        storage = search rules;
+      };
+      same = search rules;
+    }

@@ -7,8 +7,8 @@ use Rattle.qcow2_metadata.specs.Results.{result_map}
 use Rattle.qcow2_metadata.specs.Header.Extensions.{Extension, IsStorable, extension_of}
 use Rattle.qcow2_metadata.proofs.header.extensions.read_extensions.Goals as goal
 
-pub returns-in_err-extension-clause-exact : goal.returns-in_err-extension-clause-exact
-returns-in_err-extension-clause-exact g c told =
+pub returns-in_err-extension-clause-reads : goal.returns-in_err-extension-clause-reads
+returns-in_err-extension-clause-reads g c =
     let image = (g.S.Storage.state c.loop-extensions.image.image.now).byte_at in
     let before = c.loop-extensions.invariant in
     let len = c.args.len in
@@ -16,13 +16,21 @@ returns-in_err-extension-clause-exact g c told =
     let fault = c.in_err-extension.field-0.0 in
     let known = map extension_of c.loop-extensions.extensions.items in
     let exit = err_from_is_err_and c.from_residual.result c.from_residual.ensures.1 in
-    rw (exit.1, exit.2) (elim (c.in_err-extension.ensures.exact (before.device.tells ∙ told)) [
-      | inl failed ↦ inl failed
-      | inr (inl memory) ↦ inr (inl memory)
-      | inr (inr bad) ↦
-          let rest = rw before.bytes at (extensions_at-fault image len place fault bad) in
-          inr (inr (before.told told ∙ ap (result_map (λ (xs : List Extension). known ++ xs)) rest))
-    ])
+    let found = c.in_err-extension.ensures.reads.reads in
+    rw (exit.1, exit.2) (record {
+      reads = record {
+        exact = λ told. elim (found.exact (before.device.tells ∙ told)) [
+          | inl failed ↦ inl failed
+          | inr (inl memory) ↦ inr (inl memory)
+          | inr (inr bad) ↦
+              let rest = rw before.bytes at (extensions_at-fault image len place fault bad) in
+              inr (inr (before.told told ∙ ap (result_map (λ (xs : List Extension). known ++ xs)) rest))
+        ];
+        faults = found.faults;
+        storage = search rules;
+      };
+      same = search rules;
+    })
 
 pub loop-extensions-preserved : goal.loop-extensions-preserved
 loop-extensions-preserved g c =
@@ -38,7 +46,7 @@ loop-extensions-preserved g c =
     record {
       storable = rw list (All-push IsStorable known first before.storable storable);
       told = λ told.
-          let exact = rw c.in-Some.is at (c.in_ok-extension.ensures.exact (before.device.tells ∙ told)) in
+          let exact = rw c.in-Some.is at (c.in_ok-extension.ensures.reads.reads.exact (before.device.tells ∙ told)) in
           let more = rw before.bytes at (extensions_at-more image len place (first, c.in-Some.next) known exact) in
           before.told told ∙ rw list more;
       bytes = search rules;
@@ -47,5 +55,12 @@ loop-extensions-preserved g c =
       same = search rules;
     }
 
-pub returns-clause-exact : goal.returns-clause-exact
-returns-clause-exact g c told = search (rules, extensions_at-end)
+pub returns-clause-reads : goal.returns-clause-reads
+returns-clause-reads g c = record {
+  reads = record {
+    exact = λ told. search (rules, extensions_at-end);
+    faults = tt;
+    storage = search rules;
+  };
+  same = search rules;
+}
