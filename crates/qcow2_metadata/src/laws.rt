@@ -38,7 +38,8 @@ pub fn the_spare_by_division_is_the_least()
 
 /// The clusters that an L2 entry refers to are those of which it refers to a byte.
 pub fn an_entry_refers_to_the_clusters_it_meets()
-    ensures { (g : Geometry) (entry : ℕ) → IsClusterBits g.cluster_bits → IsAllocation g entry (allocation g entry) }
+    ensures { (g : Geometry) (entry : ℕ) → IsClusterBits g.cluster_bits →
+        IsAllocation g entry (allocation g entry) }
 {}
 
 /// An entry that is mapped to a cluster gives up nothing where it refers to that one alone, and else all
