@@ -16,8 +16,8 @@ grown_count table index = next_multiple_of (max (index + 1) (length table.number
 abbrev pub grown_numbers : List ℕ → ℕ → List ℕ
 grown_numbers numbers count = numbers ++ replicate (count - length numbers) 0
 
--- a copy of a table's entries that is to have a count of them, then zeros: it is refused just where that is more than the
--- most of its kind, else it can only fail for want of memory
+-- a copy of a table that is to have this count of entries, the old ones and then zeros. It is refused just where they are
+-- more than the most of its kind, and else fails only where memory runs out
 pub record GrowsTo (count most : ℕ) (numbers : List ℕ) (header : HeaderRecord) (answer : Result TableState Fault) : Type 0 where
   pub refused : IsErrOf answer CannotGrow ↔ (most < count)
   pub faults : IfErr answer (λ fault. (fault ≡ CannotGrow) ⊎ (fault ≡ NoMemory))
