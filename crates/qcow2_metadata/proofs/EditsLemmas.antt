@@ -1,4 +1,4 @@
-use Rattle.std.proofs.Common.{ap, ◌≡◌, ℕ, Bool, true, false, ◌&&◌, ◌==◌, if◌then◌else◌, ◌+◌, ◌-◌, ◌*◌, ◌/◌, ◌^◌, ◌<◌, ◌≤◌, ◌↔◌, Option, Some, None, option_map, unwrap_or, option_to_list, IfSome, List, [], ◌∷◌, length, slice_index, refl, ◌∙◌, arith, length-set}
+use Rattle.std.proofs.Common.{ap, ◌≡◌, ℕ, Bool, true, false, ◌&&◌, ◌==◌, if◌then◌else◌, ◌+◌, ◌-◌, ◌*◌, ◌/◌, ◌^◌, ◌<◌, ◌≤◌, ◌↔◌, Option, Some, None, option_map, unwrap_or, option_to_list, IfSome, List, [], ◌∷◌, length, slice_index, refl, arith, length-set}
 use Rattle.std.proofs.lemmas.Nat.{div-mul-add, mul-le, pow_pos}
 use Rattle.std.proofs.Math.Nat.{mul-div_cancel}
 use Rattle.std.proofs.lemmas.Bool.Decides.{nat_tests}
@@ -8,9 +8,9 @@ use Rattle.qcow2_base.specs.Bits.{field}
 use Rattle.qcow2_base.specs.Types.{IsClusterBits}
 use Rattle.qcow2_metadata.specs.Header.{Geometry}
 use Rattle.qcow2_metadata.specs.declared.entries.ClustersToFreeEntry.{ClustersToFreeEntry}
-use Rattle.qcow2_metadata.specs.Entries.L2Entry.{ByteRange, IsAllocation, Meets, allocation, byte_range, cluster_count, clusters_met, first_cluster, has_host_cluster, is_compressed, meets, with_zero_flag}
+use Rattle.qcow2_metadata.specs.Entries.L2Entry.{ByteRange, Meets, allocation, byte_range, cluster_count, clusters_met, first_cluster, has_host_cluster, is_compressed, meets, with_zero_flag}
 use Rattle.qcow2_metadata.specs.Entries.{is_among, offset_field}
-use Rattle.qcow2_metadata.proofs.EntriesLemmas.{meets_is_met, offset_in_sectors}
+use Rattle.qcow2_metadata.proofs.EntriesLemmas.{allocation_is, meets_is_met, offset_in_sectors}
 use Rattle.qcow2_metadata.specs.Table.L2Guards.{EntryEdit, GivesUp, TableEdit, after_edit, can_be_made, entry_after, data_entry, clusters_freed_by, fits_table, cluster_gained_by, handed_back, is_just, is_mappable, keeps_clusters, one_if, references, run_of, times_gained, to_data, to_nothing, to_zeros}
 
 -- an entry of data in a host cluster at an offset: it is standard and copied, with no reserved bit
@@ -98,11 +98,10 @@ keeps-just g cluster v =
     )
 
 -- so an entry that is mapped to a cluster gives up what the change drops
-pub gives_up : (g : Geometry) (v cluster : ℕ) (freed : Option ClustersToFreeEntry) → freed ≡ clusters_freed_by g (to_data cluster) v
-    → (keeps_clusters g (to_data cluster) v ≡ false → IsAllocation g v freed) → GivesUp g v cluster freed
-gives_up g v cluster freed is met = record {
-  same = λ just. is ∙ ap (λ (kept : Bool). if kept then None else allocation g v) ((keeps-just g cluster v).1 just);
-  others = λ differs. met (not_kept (keeps_clusters g (to_data cluster) v) (λ kept. differs ((keeps-just g cluster v).0 kept)));
+pub gives_up : (g : Geometry) (v cluster : ℕ) → IsClusterBits g.cluster_bits → GivesUp g v cluster (clusters_freed_by g (to_data cluster) v)
+gives_up g v cluster bits = record {
+  same = λ just. ap (λ (kept : Bool). if kept then None else allocation g v) ((keeps-just g cluster v).1 just);
+  others = λ differs. rw (not_kept (keeps_clusters g (to_data cluster) v) (λ kept. differs ((keeps-just g cluster v).0 kept))) (allocation_is g v (omega (arith, bits.0)));
 }
   where
     not_kept : (kept : Bool) → (kept ≡ true → ⊥) → kept ≡ false

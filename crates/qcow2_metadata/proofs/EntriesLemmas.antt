@@ -1,11 +1,11 @@
 use Rattle.std.proofs.Common.{◌≡◌, ℕ, Bool, true, false, not, IsTrue, ◌&&◌, ◌||◌, nat_eq, nat_lt, if◌then◌else◌, ◌+◌, ◌-◌, ◌*◌, ◌/◌, ◌%◌, ◌^◌, ◌<◌, ◌≤◌, ◌↔◌, Option, Some, None, option_map, unwrap_or, refl, sym, ◌∙◌, inl, inr, subst, add-zero, arith}
 use Rattle.std.proofs.lemmas.Bool.{cases_lt}
-use Rattle.std.proofs.lemmas.Nat.{pow_pos, pow-add, mod-pow-add}
+use Rattle.std.proofs.lemmas.Nat.{mod_below, pow_pos, pow-add, mod-pow-add}
 use Rattle.std.proofs.Math.Nat.{mul_assoc, mul-mod_left, le-div_iff_mul-le, div-mul-le_self, mul-div_cancel, zero-mod, add-mul-div_right}
 use Rattle.std.proofs.Math.Pow.{mod-mod-pow, pow_mono}
 use Rattle.std.proofs.lemmas.Bool.Decides.{nat_tests}
 use Rattle.qcow2_metadata.specs.Header.{Geometry}
-use Rattle.qcow2_metadata.specs.Entries.L2Entry.{ByteRange, IsAllocation, Meets, RangeMeets, byte_range, cluster_count, clusters_met, first_cluster, is_compressed, l2_fault, l2_reserved_bits, meets}
+use Rattle.qcow2_metadata.specs.Entries.L2Entry.{ByteRange, IsAllocation, Meets, RangeMeets, allocation, byte_range, cluster_count, clusters_met, first_cluster, is_compressed, l2_fault, l2_reserved_bits, meets}
 use Rattle.qcow2_metadata.specs.Entries.{IsAmong, entry_fault, is_among, offset_field}
 use Rattle.qcow2_metadata.specs.Entries.L1Entry.{l1_entry_for, l1_fault, l1_reserved_bits}
 use Rattle.qcow2_metadata.specs.Entries.RefTableEntry.{ref_fault}
@@ -51,20 +51,28 @@ met_by_entry g v c range is some =
       λ among. (range, is, around.1 among),
     )
 
--- the allocation of an entry, by where its bytes begin and how many there are
-pub allocation_of_range : (g : Geometry) (v start length : ℕ) → byte_range g v ≡ Some (record { start = start; end = start + length }) → 1 ≤ length → length ≤ 2 * 2 ^ g.cluster_bits → IsAllocation g v (Some (record { first = record { 0 = start / 2 ^ g.cluster_bits }; count = record { 0 = (start + (length - 1)) / 2 ^ g.cluster_bits - start / 2 ^ g.cluster_bits + 1 } }))
-allocation_of_range g v start length is some short =
-    let range : ByteRange = record { start = start; end = start + length } in
-    let last : start + length - 1 ≡ start + (length - 1) = omega arith in
-    rw (← last) (record {
-      value = rw is refl;
-      met = λ c. met_by_entry g v c range is (omega arith);
-      none = tt;
-      count = met_count g.cluster_bits range (omega arith) (omega arith);
-    })
-
 byte_range_has_bytes : (g : Geometry) (v : ℕ) (range : ByteRange) → byte_range g v ≡ Some range → range.start < range.end
 byte_range_has_bytes g v range is = grind (arith, pow_pos)
+
+byte_range_is_short : (g : Geometry) (v : ℕ) (range : ByteRange) → 8 ≤ g.cluster_bits → byte_range g v ≡ Some range → range.end ≤ range.start + 2 * 2 ^ g.cluster_bits
+byte_range_is_short g v range low is =
+    let sectors = mod_below (v / 2 ^ (70 - g.cluster_bits)) (2 ^ (g.cluster_bits - 8)) (pow_pos (g.cluster_bits - 8)) in
+    grind (arith, nat_tests, sectors, sectors_fill_two_clusters g.cluster_bits low)
+
+allocation_by_range : (g : Geometry) (v : ℕ) (found : Option ByteRange) → 8 ≤ g.cluster_bits → byte_range g v ≡ found → IsAllocation g v (option_map (clusters_met g.cluster_bits) found)
+allocation_by_range g v None low is = record { value = rw is refl; met = tt; none = λ c met. let no : None ≡ Some met.0 = cc in cc; count = tt }
+allocation_by_range g v (Some range) low is =
+    let some = byte_range_has_bytes g v range is in
+    record {
+      value = rw is refl;
+      met = λ c. met_by_entry g v c range is some;
+      none = tt;
+      count = met_count g.cluster_bits range some (byte_range_is_short g v range low is);
+    }
+
+-- the clusters of an entry are those that it meets
+pub allocation_is : (g : Geometry) (v : ℕ) → 8 ≤ g.cluster_bits → IsAllocation g v (allocation g v)
+allocation_is g v low = allocation_by_range g v (byte_range g v) low refl
 
 meets_by_range : (g : Geometry) (v c : ℕ) (found : Option ByteRange) → byte_range g v ≡ found → IsTrue (unwrap_or (option_map (λ clusters. is_among clusters c) (option_map (clusters_met g.cluster_bits) found)) false) ↔ Meets g v c
 meets_by_range g v c None is = (λ t. cc, λ met. let no : None ≡ Some met.0 = cc in cc)

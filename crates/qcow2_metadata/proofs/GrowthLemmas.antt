@@ -1,4 +1,4 @@
-use Rattle.std.proofs.Common.{◌≡◌, ℕ, ◌+◌, ◌-◌, ◌*◌, ◌%◌, ◌<◌, ◌≤◌, ◌↔◌, false, nat_le, max, min, None, Some, refl, inl, inr, arith}
+use Rattle.std.proofs.Common.{◌≡◌, ℕ, ◌+◌, ◌-◌, ◌*◌, ◌%◌, ◌<◌, ◌≤◌, ◌↔◌, ◌^◌, false, true, nat_le, max, min, None, Some, ap, refl, inl, inr, arith, pow_mono}
 use Rattle.std.specs.Int.{div_ceil, next_multiple_of}
 use Rattle.std.proofs.Math.Nat.{div-add-mod, lt_of_mul-lt-mul_right, mod-eq_of_lt, mod_self, mul-div_cancel, mul-le-mul_right}
 use Rattle.std.proofs.lemmas.Bool.{cases_lt}
@@ -6,7 +6,9 @@ use Rattle.std.proofs.lemmas.Bool.Decides.{nat_tests}
 use Rattle.std.proofs.lemmas.Grind.{div_ceil_times}
 use Rattle.std.proofs.lemmas.Nat.{mod_below}
 use Rattle.qcow2_base.specs.Format.{most_reftable_entries}
-use Rattle.qcow2_metadata.specs.Table.Growth.{Growth, IsEnough, IsLeastSpare, clusters_with, entries_with, grown_reftable_count, least_spare, possible_spare}
+use Rattle.qcow2_base.specs.Types.{IsClusterBits}
+use Rattle.qcow2_metadata.specs.Header.{HeaderRecord}
+use Rattle.qcow2_metadata.specs.Table.Growth.{Growth, IsEnough, IsLeastSpare, clusters_with, entries_with, grown_reftable_count, growth_of, least_spare, possible_spare}
 
 -- a quotient that is rounded up is at most a number exactly where the dividend is at most that many times the divisor
 pub div_ceil-le : (x n k : ℕ) → 0 < n → (div_ceil x n ≤ k) ↔ (x ≤ k * n)
@@ -83,13 +85,25 @@ entries_with-more g a b some more =
 pub IsRoomy-of : (g : Growth) → 64 ≤ g.cluster_entries → 64 ≤ g.block_counters → IsRoomy g
 IsRoomy-of g entries counters = grind (arith, nat_tests, mul-le-mul_right)
 
+-- so it is in every image
+pub IsRoomy-image : (header : HeaderRecord) (len index : ℕ) → IsClusterBits header.v2.cluster_bits → header.base.refcount_order ≤ 6 → IsRoomy (growth_of header len index)
+IsRoomy-image header len index bits order =
+    let entry_bits : 6 ≤ header.v2.cluster_bits - 3 = omega (arith, bits.0) in
+    let counter_bits : 6 ≤ header.v2.cluster_bits + 3 - header.base.refcount_order = omega (arith, bits.0, order) in
+    let entries : 2 ^ 6 ≤ 2 ^ (header.v2.cluster_bits - 3) = pow_mono entry_bits in
+    let counters : 2 ^ 6 ≤ 2 ^ (header.v2.cluster_bits + 3 - header.base.refcount_order) = pow_mono counter_bits in
+    IsRoomy-of (growth_of header len index) entries counters
+
 -- where a number isn't enough, the least is no less than what its blocks would need
 pub needed-least : (g : Growth) (spare least : ℕ) → IsRoomy g → spare ≤ least → IsEnough g least → div_ceil (clusters_with g spare + spare) g.block_counters ≤ least
 needed-least g spare least roomy below enough = grind (arith, nat_tests, clusters_with-more, div_ceil-le)
 
 -- the result, where the number that is tried is the least, and where it takes too many entries already
-pub possible_spare-found : (g : Growth) (spare : ℕ) → IsLeastSpare g spare → IsRoomy g → entries_with g spare ≤ most_reftable_entries → Some spare ≡ possible_spare g
-possible_spare-found g spare least roomy few = grind (arith, nat_tests, least_spare-is, least-enough)
+pub possible_spare-found : (g : Growth) (spare : ℕ) → IsRoomy g → spare ≤ least_spare g → IsEnough g spare → entries_with g spare ≤ most_reftable_entries → Some spare ≡ possible_spare g
+possible_spare-found g spare roomy below enough few =
+    let least : spare ≡ least_spare g = omega (arith, below, (least-enough g spare roomy).1 enough) in
+    let within : nat_le (grown_reftable_count g) most_reftable_entries ≡ true = grind (arith, nat_tests, rw least at few) in
+    rw within (ap Some least)
 
 pub possible_spare-none : (g : Growth) (spare : ℕ) → IsRoomy g → spare ≤ least_spare g → most_reftable_entries < entries_with g spare → None ≡ possible_spare g
 possible_spare-none g spare roomy below many =

@@ -1,6 +1,6 @@
 use Rattle.std.proofs.Common.{◌≡◌, ℕ, Bool, true, false, ◌&&◌, Option, None, slice_index, arith, rules}
 use Rattle.qcow2_metadata.specs.Table.L2Guards.{MakesEdit, to_zeros}
-use Rattle.qcow2_metadata.specs.Entries.L2Entry.{IsAllocation, has_host_cluster, l2_fault, with_zero_flag}
+use Rattle.qcow2_metadata.specs.Entries.L2Entry.{allocation, has_host_cluster, l2_fault, with_zero_flag}
 use Rattle.qcow2_metadata.specs.Header.{Geometry}
 use Rattle.qcow2_metadata.specs.Table.{TableState, table_after_edit}
 use Rattle.qcow2_metadata.specs.declared.entries.ClustersToFreeEntry.{ClustersToFreeEntry}
@@ -23,6 +23,6 @@ zeros-kept table new index keep kept is = search (rules)
 pub zeros-dropped : (table new : TableState) (index : ℕ) (keep : Bool) (freed : Option ClustersToFreeEntry)
     → (keep && has_host_cluster table.geometry (slice_index table.numbers index)) ≡ false
     → new ≡ table_after_edit table index 1
-    → IsAllocation table.geometry (slice_index table.numbers index) freed
+    → freed ≡ allocation table.geometry (slice_index table.numbers index)
     → MakesEdit (to_zeros keep) index freed table new
 zeros-dropped table new index keep freed clusters_freed_by is allocation = search (rules)

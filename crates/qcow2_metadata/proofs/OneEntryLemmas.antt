@@ -13,7 +13,7 @@ use Rattle.qcow2_metadata.proofs.PieceLemmas.{numbers_stand}
 use Rattle.qcow2_metadata.proofs.PackingLemmas.{counters_at-held, map_range_at}
 use Rattle.qcow2_metadata.specs.Placed.{write_fault}
 use Rattle.qcow2_metadata.specs.Table.{Kind, TableState, layout_of_table, table_layout, table_numbers}
-use Rattle.qcow2_metadata.specs.Table.OneEntry.{EntryRange, IsEntryWriteFault, IsWrittenEntry, IsPartOfCluster, WritesEntries, WritesEntry, entry_cluster_offset, numbers_in, entries_together, range_offset}
+use Rattle.qcow2_metadata.specs.Table.OneEntry.{EntryRange, IsWrittenEntry, IsPartOfCluster, WritesEntries, WritesEntry, numbers_in, entries_together, range_offset}
 
 -- entries whose numbers are in bytes that an image holds
 pub written_entries : (image : Image) (offset : ℕ) (bytes : List ℕ) (range : EntryRange) (numbers : List ℕ) → range.count ≡ length bytes / 8 → Holds image offset bytes
@@ -123,10 +123,6 @@ table_with_entry offset index range numbers old new from below written outside o
 pub part-few : (cb count : ℕ) → cb ≤ 21 → IsPartOfCluster cb count → (0 < count) × (count ≤ 2 ^ 18)
 part-few cb count low (k, is, few) = search (rules, pow_pos, pow_mono)
 
--- the refusals of a write whose place is valid
-faults_of : {T : Type 0} (range : EntryRange) (of_place : Option Fault) (answer : Result T Fault) → IfErr answer (λ fault. (fault ≡ Storage) ⊎ ((fault ≡ NoMemory) × (piece_size < 8 * range.count))) → IfErr answer (IsEntryWriteFault range of_place)
-faults_of range of_place answer faults = grind arith
-
 -- the entries that were written are those that were to be, and then so is the table
 written_of : {T : Type 0} (index : ℕ) (range : EntryRange) (kind : Kind) (cb : ℕ) (cluster : HostCluster) (numbers : List ℕ) (answer : Result T Fault) (old new : Image) → range.first ≤ index → index < range.first + range.count
     → SameOutside (range_offset (table_layout kind cb (length numbers)) cluster range) (8 * range.count) old new → OnOk answer (table_numbers new (range_offset (table_layout kind cb (length numbers)) cluster range) range.count ≡ numbers_in range numbers) → OnOk answer (IsWrittenEntry index range (table_layout kind cb (length numbers)) cluster numbers old new)
@@ -144,7 +140,7 @@ wider offset len cluster size old new from within outside = grind (arith)
 pub WritesEntry-of : {T : Type 0} (kind : Kind) (index : ℕ) (table : TableState) (cluster : HostCluster) (answer : Result T Fault) (old new : StorageState) → table.cluster ≡ Some cluster → write_fault (layout_of_table kind table) table.cluster ≡ None
     → table.geometry.cluster_bits ≤ 21 → IsPartOfCluster table.geometry.cluster_bits (entries_together table.geometry.cluster_bits old index).count
     → WritesEntries answer (cluster.0 * 2 ^ table.geometry.cluster_bits + 8 * (entries_together table.geometry.cluster_bits old index).first) (entries_together table.geometry.cluster_bits old index) table.numbers old new
-    → WritesEntry (layout_of_table kind table) index (entries_together table.geometry.cluster_bits old index) answer table table old new
+    → WritesEntry (layout_of_table kind table) index table.numbers table.cluster answer old new
 WritesEntry-of kind index table cluster answer old new has none low part wrote =
     let cb = table.geometry.cluster_bits in
     let layout = layout_of_table kind table in
@@ -152,11 +148,11 @@ WritesEntry-of kind index table cluster answer old new has none low part wrote =
     let few = part-few cb range.count low part in
     let with_it = multiple_before index range.count few.0 in
     let within = group-within cb range.count cluster.0 index part few.0 in
+    let start = (cluster.0 * 2 ^ cb + 8 * index) / 2 ^ cb * 2 ^ cb in
     record {
       refused = rw none tt;
-      faults = faults_of range (write_fault layout table.cluster) answer wrote.faults;
-      table = refl;
+      faults = grind (arith, wrote.faults);
       written = λ told. rw has (written_of index range kind cb cluster table.numbers answer old.byte_at new.byte_at with_it.0 with_it.1 (wrote.storage.others told) (wrote.written told));
-      cluster = λ told. rw has (wider (range_offset layout cluster range) (8 * range.count) (entry_cluster_offset layout cluster index) (2 ^ cb) old.byte_at new.byte_at within.0 within.1 (wrote.storage.others told));
+      others = λ told. rw has (wider (range_offset layout cluster range) (8 * range.count) start (2 ^ cb) old.byte_at new.byte_at within.0 within.1 (wrote.storage.others told));
       storage = rw has wrote.storage;
     }

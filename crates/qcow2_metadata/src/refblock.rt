@@ -1,6 +1,6 @@
 //! Refcount blocks: how many references each cluster of a part of the image has.
 
-ghost use Rattle.std.specs.Prelude.{◌≡◌, ◌+◌, ◌-◌, ◌*◌, ◌^◌, ◌<◌, ◌≤◌, ◌⊎◌, ◌==◌, IfErr, IfOk, IsOk, IsOkUnless, None, Some, false, length, option_map, replicate, slice_index, true};
+ghost use Rattle.std.specs.Prelude.{◌≡◌, ◌+◌, ◌-◌, ◌*◌, ◌^◌, ◌<◌, ◌≤◌, ◌⊎◌, ◌==◌, IfErr, IfOk, IsOk, IsOkUnless, None, Ok, Some, false, length, option_map, replicate, slice_index, true};
 ghost use Rattle.qcow2_base.specs.Format.{max_file_length};
 ghost use Rattle.qcow2_base.specs.Storage.{OnImage, OnlyReads};
 ghost use Rattle.qcow2_base.specs.Types.{IsClusterBits};
@@ -69,15 +69,14 @@ fn read_counters<S: Storage>(
 ) -> Result<Counters, Fault>
     requires bits { IsClusterBits header.now.v2.cluster_bits }
     requires fits { offset.0 + 2 ^ header.now.v2.cluster_bits ≤ max_file_length }
+    ensures reads { let header = header.now in Reads kept_counters result
+        (λ bytes. Ok (counters_at header.base.refcount_order bytes offset.0
+        (block_entries header.v2.cluster_bits header.base.refcount_order)))
+        (λ _. ⊥) (S.state image.old) (S.state image.new) }
     ensures kind { IfOk result (IsOfOrder header.now.base.refcount_order) }
-    ensures counters { IfOk result (λ counters. OnImage (S.state image.old) (λ bytes.
-        kept_counters counters ≡ counters_at header.now.base.refcount_order bytes offset.0
-        (block_entries header.now.v2.cluster_bits header.now.base.refcount_order))) }
     ensures lawful { IfOk result (λ counters. let header = header.now in
         (length (kept_counters counters) ≡ block_entries header.v2.cluster_bits header.base.refcount_order)
         × AreCounters header.base.refcount_order (kept_counters counters)) }
-    ensures faults { IfErr result (λ fault. (fault ≡ NoMemory) ⊎ (fault ≡ StorageFailed)) }
-    ensures storage { OnlyReads result (S.state image.old) (S.state image.new) }
 {
     let (order, size) = (header.refcount_order(), header.cluster_size());
     let mut counters = Counters::with_capacity(alloc, order, header.rb_entries())?;

@@ -10,7 +10,7 @@ ghost use Rattle.qcow2_metadata.specs.Header.{geometry_of};
 ghost use Rattle.qcow2_metadata.specs.Placed.{FollowsWrite, IsLoaded, RefusesPlace, Writes, loaded_numbers, offset_of};
 ghost use Rattle.qcow2_metadata.specs.Results.{Reads};
 ghost use Rattle.qcow2_metadata.specs.Table.{IsTableFault, IsValidTable, Kind, TableState, entries_fault, first_fault, layout_of_table, new_table, table_layout};
-ghost use Rattle.qcow2_metadata.specs.Table.OneEntry.{WritesEntry, entries_together};
+ghost use Rattle.qcow2_metadata.specs.Table.OneEntry.{WritesEntry};
 
 use crate::placed::Placement;
 use crate::range::range_offset;
@@ -208,10 +208,10 @@ pub trait Table: Sized {
     /// stays as it is, and counts as modified as before, whatever it returns.
     final fn write_entry<S: Storage>(&mut self, image: &mut S, index: usize) -> Result<(), Fault>
         requires { index < length (state self.old).numbers }
-        ensures { let table = state self.old in
-            WritesEntry (layout_of_table kind table) index
-            (entries_together table.geometry.cluster_bits (S.state image.old) index) result
-            table (state self.new) (S.state image.old) (S.state image.new) }
+        ensures written { let table = state self.old in
+            WritesEntry (layout_of_table kind table) index table.numbers table.cluster result
+            (S.state image.old) (S.state image.new) }
+        ensures table { state self.new ≡ state self.old }
     {
         let Some(cluster) = self.get_cluster() else {
             return Err(Fault::NoOffset);

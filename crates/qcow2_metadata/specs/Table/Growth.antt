@@ -1,9 +1,12 @@
 -- How many entries does a table have after it has grown, and how many spare ones does a refcount table take along?
-use Rattle.std.specs.Prelude.{ℕ, ◌+◌, ◌-◌, ◌*◌, ◌/◌, ◌^◌, ◌≤◌, max, nat_le, if◌then◌else◌, List, ◌++◌, length, replicate, Option, Some, None}
+use Rattle.std.specs.Prelude.{◌≡◌, ◌⊎◌, ◌↔◌, IfErr, IfOk, IsErrOf, Result, ℕ, ◌+◌, ◌-◌, ◌*◌, ◌/◌, ◌<◌, ◌≤◌, max, nat_le, if◌then◌else◌, List, ◌++◌, length, replicate, Option, Some, None}
 use Rattle.std.specs.Int.{div_ceil, next_multiple_of}
 use Rattle.qcow2_base.specs.Format.{most_reftable_entries}
+use Rattle.qcow2_base.specs.declared.fault.Fault.{Fault}
+use Rattle.qcow2_base.specs.declared.fault.Fault.TheVariants.{CannotGrow, NoMemory}
 use Rattle.qcow2_metadata.specs.Header.{HeaderRecord}
-use Rattle.qcow2_metadata.specs.Table.{TableState, l2_entries}
+use Rattle.qcow2_metadata.specs.Refblock.{block_entries}
+use Rattle.qcow2_metadata.specs.Table.{TableState, l2_entries, new_table}
 
 -- the number of entries that a table has after it has grown to hold an index: whole clusters of them
 abbrev pub grown_count : TableState → ℕ → ℕ
@@ -12,6 +15,13 @@ grown_count table index = next_multiple_of (max (index + 1) (length table.number
 -- the entries, and then zeros up to a count
 abbrev pub grown_numbers : List ℕ → ℕ → List ℕ
 grown_numbers numbers count = numbers ++ replicate (count - length numbers) 0
+
+-- a copy of a table that is to have this count of entries, the old ones and then zeros. It is refused just where they are
+-- more than the most of its kind, and else fails only where memory runs out
+pub record GrowsTo (count most : ℕ) (numbers : List ℕ) (header : HeaderRecord) (answer : Result TableState Fault) : Type 0 where
+  pub refused : IsErrOf answer CannotGrow ↔ (most < count)
+  pub faults : IfErr answer (λ fault. (fault ≡ CannotGrow) ⊎ (fault ≡ NoMemory))
+  pub grown : IfOk answer (λ table. table ≡ new_table (grown_numbers numbers count) header)
 
 -- a refcount table that is to hold an index: how many entries it has, the index, how many entries fill a
 -- cluster, and how many counters a refcount block has
@@ -27,7 +37,7 @@ growth_of header len index = record {
   len = len;
   index = index;
   cluster_entries = l2_entries header.v2.cluster_bits;
-  block_counters = 2 ^ (header.v2.cluster_bits + 3 - header.base.refcount_order);
+  block_counters = block_entries header.v2.cluster_bits header.base.refcount_order;
 }
 
 -- how many entries the table has with that many spare ones after the index: whole clusters of them

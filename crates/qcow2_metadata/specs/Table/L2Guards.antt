@@ -130,8 +130,6 @@ fits_table g entries e = nat_le (e.index + 1) entries && can_be_made g e.edit
 pub record MakesEdit (edit : EntryEdit) (index : ℕ) (freed : Option ClustersToFreeEntry) (old new : TableState) : Type 0 where
   pub table : new ≡ table_after_edit old index (entry_after old.geometry edit (slice_index old.numbers index))
   pub freed_is : freed ≡ clusters_freed_by old.geometry edit (slice_index old.numbers index)
-  pub met : keeps_clusters old.geometry edit (slice_index old.numbers index) ≡ false
-      → IsAllocation old.geometry (slice_index old.numbers index) freed
 
 -- the entry refers to this cluster and to no other
 abbrev pub MeetsJust : Geometry → ℕ → ℕ → Type 0

@@ -6,8 +6,8 @@ use Rattle.qcow2_base.specs.Storage.{Image, OnImages, OnlyWrites, SameOutside, S
 use Rattle.qcow2_base.specs.declared.fault.Fault.{Fault}
 use Rattle.qcow2_base.specs.declared.fault.Fault.TheVariants.{NoMemory, Storage}
 use Rattle.qcow2_base.specs.declared.types.HostCluster.{HostCluster}
-use Rattle.qcow2_metadata.specs.Placed.{IsWriteFault, Layout, numbers_at, offset_of, write_fault}
-use Rattle.qcow2_metadata.specs.Table.{TableState, table_numbers}
+use Rattle.qcow2_metadata.specs.Placed.{Layout, numbers_at, offset_of, write_fault}
+use Rattle.qcow2_metadata.specs.Table.{table_numbers}
 
 -- how many bytes are written for one entry, under cluster_bits: the greatest alignment that the storage asks
 -- for, eight at least, or eight where that is more than a cluster
@@ -39,43 +39,34 @@ range_offset layout cluster range = offset_of layout cluster + 8 * range.first
 abbrev pub numbers_in : EntryRange → List ℕ → List ℕ
 numbers_in range numbers = map (λ i. slice_index numbers i) (range_with_len range.first range.count)
 
--- the image has a table's numbers at its cluster, but perhaps for that at an index
-abbrev pub HasOthers : ℕ → Layout → HostCluster → List ℕ → Image → Type 0
-HasOthers index layout cluster numbers image = (i : ℕ) → i < length numbers → i ≢ index →
-    be image (offset_of layout cluster + 8 * i) 8 ≡ slice_index numbers i
-
 -- the entry at an index was written, with those beside it: their numbers are in the new image, and the whole table is
 -- where the old image had the others
 pub record IsWrittenEntry (index : ℕ) (range : EntryRange) (layout : Layout) (cluster : HostCluster) (numbers : List ℕ) (old new : Image) : Type 0 where
   pub entries : table_numbers new (range_offset layout cluster range) range.count ≡ numbers_in range numbers
-  pub table : HasOthers index layout cluster numbers old → numbers_at layout cluster new ≡ numbers
+  pub table : ((i : ℕ) → i < length numbers → i ≢ index →
+      be old (offset_of layout cluster + 8 * i) 8 ≡ slice_index numbers i) → numbers_at layout cluster new ≡ numbers
 
--- the refusals of a write of one entry: those of a write, and that memory ran out. It is taken for more
--- bytes than a piece alone
-abbrev pub IsEntryWriteFault : EntryRange → Option Fault → Fault → Type 0
-IsEntryWriteFault range of_place fault = IsWriteFault of_place fault ⊎ ((fault ≡ NoMemory) × (piece_size < 8 * range.count))
-
--- where the cluster that holds a table's entry begins
-abbrev pub entry_cluster_offset : Layout → HostCluster → ℕ → ℕ
-entry_cluster_offset layout cluster index =
-    let size = 2 ^ layout.cluster_bits in (offset_of layout cluster + 8 * index) / size * size
+-- the refusals of a write of entries at a valid place: the storage failed, or memory ran out, which is taken for more bytes
+-- than a piece alone
+abbrev pub IsEntryWriteFault : EntryRange → Fault → Type 0
+IsEntryWriteFault range fault = (fault ≡ Storage) ⊎ ((fault ≡ NoMemory) × (piece_size < 8 * range.count))
 
 -- a write of these entries from an offset on that ended in this answer
 pub record WritesEntries {T : Type 0} (answer : Result T Fault) (offset : ℕ) (range : EntryRange) (numbers : List ℕ) (old new : StorageState) : Type 0 where
-  pub faults : IfErr answer (λ fault. (fault ≡ Storage) ⊎ ((fault ≡ NoMemory) × (piece_size < 8 * range.count)))
+  pub faults : IfErr answer (IsEntryWriteFault range)
   pub written : OnImages old new (λ _ after.
       OnOk answer (table_numbers after offset range.count ≡ numbers_in range numbers))
   pub storage : OnlyWrites answer (Some offset) (8 * range.count) old new
 
--- a write of one entry of a table that ended in this answer. `storage` says which bytes may change by the alignment, and
--- `cluster` serves callers who don't know that: none of any cluster but the entry's
-pub record WritesEntry {T : Type 0} (layout : Layout) (index : ℕ) (range : EntryRange) (answer : Result T Fault) (old new : TableState) (before after : StorageState) : Type 0 where
-  pub refused : IfSome (write_fault layout old.cluster) (λ fault. answer ≡ Err fault)
-  pub faults : IfErr answer (IsEntryWriteFault range (write_fault layout old.cluster))
-  pub table : new ≡ old
-  pub written : OnImages before after (λ was is. OnOk answer (IfSome old.cluster
-      (λ cluster. IsWrittenEntry index range layout cluster old.numbers was is)))
-  pub cluster : OnImages before after (λ was is. IfSome old.cluster
-      (λ cluster. SameOutside (entry_cluster_offset layout cluster index) (2 ^ layout.cluster_bits) was is))
-  pub storage : OnlyWrites answer (option_map (λ cluster. range_offset layout cluster range) old.cluster) (8 * range.count)
-      before after
+-- a write of the entry at an index, with those beside it, that ended in this answer. `storage` says which bytes may change by
+-- the alignment, and `others` serves callers who don't know that: none of any cluster but the entry's
+pub record WritesEntry {T : Type 0} (layout : Layout) (index : ℕ) (numbers : List ℕ) (cluster : Option HostCluster) (answer : Result T Fault) (old new : StorageState) : Type 0 where
+  pub refused : IfSome (write_fault layout cluster) (λ fault. answer ≡ Err fault)
+  pub faults : IfErr answer (λ fault. (write_fault layout cluster ≡ Some fault)
+      ⊎ IsEntryWriteFault (entries_together layout.cluster_bits old index) fault)
+  pub written : OnImages old new (λ before after. OnOk answer (IfSome cluster
+      (λ c. IsWrittenEntry index (entries_together layout.cluster_bits old index) layout c numbers before after)))
+  pub others : OnImages old new (λ before after. IfSome cluster (λ c. let size = 2 ^ layout.cluster_bits in
+      SameOutside ((offset_of layout c + 8 * index) / size * size) size before after))
+  pub storage : let range = entries_together layout.cluster_bits old index in
+      OnlyWrites answer (option_map (λ c. range_offset layout c range) cluster) (8 * range.count) old new

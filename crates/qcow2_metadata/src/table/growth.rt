@@ -4,7 +4,7 @@
 ghost use Rattle.std.specs.Prelude.{◌≡◌, ◌+◌, ◌-◌, ◌^◌, ◌<◌, ◌≤◌, IfSome, max};
 ghost use Rattle.std.specs.Int.{next_multiple_of};
 ghost use Rattle.qcow2_base.specs.Format.{most_reftable_entries};
-ghost use Rattle.qcow2_metadata.specs.Table.Growth.{IsLeastSpare, growth_of, least_spare as least, possible_spare};
+ghost use Rattle.qcow2_metadata.specs.Table.Growth.{growth_of, least_spare as least, possible_spare};
 
 use super::TableKind;
 use crate::{Header, RefTableEntry};
@@ -65,7 +65,6 @@ pub fn least_spare(len: usize, index: usize, header: &Header, turns: &mut Turns)
     requires index { index < most_reftable_entries }
     requires fresh { turns.old.count ≡ 0 }
     ensures spare { result ≡ possible_spare (growth_of header.now len index) }
-    ensures least { IfSome result (IsLeastSpare (growth_of header.now len index)) }
     ensures turns { turns.new.count ≤ least (growth_of header.now len index) }
     ensures tried { IfSome result (λ spare. 1 ≤ turns.new.count) }
 {

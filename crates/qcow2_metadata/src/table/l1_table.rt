@@ -1,13 +1,13 @@
 //! L1 tables: where the L2 tables lie.
 
-ghost use Rattle.std.specs.Prelude.{◌≡◌, ◌⊎◌, ◌*◌, ◌^◌, ◌<◌, ◌↔◌, length, true, Ok, Err, IfSome, IfOk, IfErr, MatchOption, IsErrOf};
+ghost use Rattle.std.specs.Prelude.{◌≡◌, ◌*◌, ◌^◌, ◌<◌, length, true, Ok, Err, IfSome, MatchOption};
 ghost use Rattle.std.proofs.Common.{lit≤};
 ghost use Rattle.qcow2_base.specs.Format.{most_l1_entries};
-ghost use Rattle.qcow2_base.specs.declared.fault.Fault.TheVariants.{NoMemory, NotPlaced};
+ghost use Rattle.qcow2_base.specs.declared.fault.Fault.TheVariants.{NotPlaced};
 ghost use Rattle.qcow2_metadata.specs.Entries.PendingClusters.{IsOneCluster};
 ghost use Rattle.qcow2_metadata.specs.Entries.L1Entry.{l1_entry_for};
-ghost use Rattle.qcow2_metadata.specs.Table.{IsReferable, table_after_edit, new_table};
-ghost use Rattle.qcow2_metadata.specs.Table.Growth.{grown_count, grown_numbers};
+ghost use Rattle.qcow2_metadata.specs.Table.{IsReferable, table_after_edit};
+ghost use Rattle.qcow2_metadata.specs.Table.Growth.{GrowsTo, grown_count};
 
 use super::{EntryTable, L2Table, Table, TableKind};
 use crate::entries::refuse;
@@ -46,11 +46,8 @@ impl EntryTable<L1Entry> {
     /// Refuses to grow past the most entries that an L1 table may have. The table itself stays.
     pub fn clone_and_grow(&self, at_least_index: usize, header: &Header) -> Result<L1Table, Fault>
         requires { header.now.v2.cluster_bits ≡ self.now.geometry.cluster_bits }
-        ensures refused { IsErrOf result Fault.CannotGrow
-            ↔ (most_l1_entries < grown_count self.now at_least_index) }
-        ensures faults { IfErr result (λ fault. (fault ≡ Fault.CannotGrow) ⊎ (fault ≡ NoMemory)) }
-        ensures table { let entries = grown_count self.now at_least_index in
-            IfOk result (λ table. table ≡ new_table (grown_numbers self.now.numbers entries) header.now) }
+        ensures { GrowsTo (grown_count self.now at_least_index) most_l1_entries self.now.numbers header.now
+            result }
     {
         if at_least_index >= L1Entry::MAX_ENTRIES {
             return Err(Fault::CannotGrow);

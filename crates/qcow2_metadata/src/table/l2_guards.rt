@@ -1,7 +1,7 @@
 //! Guards of L2 tables: permission to change one, and to read compressed data that one refers to.
 
 ghost use Rattle.std.specs.Prelude.{◌≡◌, ◌*◌, ◌^◌, ◌<◌, IfOk, IfSome, IsOkAnd, length, option_map, slice_index, true};
-ghost use Rattle.qcow2_metadata.specs.Table.L2Guards.{GivesUp, MakesEdit, is_mappable, to_data, to_zeros};
+ghost use Rattle.qcow2_metadata.specs.Table.L2Guards.{MakesEdit, is_mappable, to_data, to_zeros};
 ghost use Rattle.qcow2_metadata.specs.Entries.L2Entry.{IsAllocation};
 ghost use Rattle.qcow2_metadata.specs.Entries.PendingClusters.{IsOneCluster};
 ghost use Rattle.qcow2_metadata.specs.Entries.L2Mapping.{IsPlaced, meaning};
@@ -52,7 +52,6 @@ impl L2TableWriteGuard<'_> {
     /// The host cluster's offset is at most `MAX_OFFSET`, and it isn't cluster 0, but where guest data lies
     /// in an external data file. Pending clusters that are handed in are that cluster alone, and are spent.
     #[must_use]
-    #[tactic(auto, using(crate::proofs::EditsLemmas::gives_up))]
     pub fn map_cluster(
         &mut self,
         index: usize,
@@ -65,8 +64,6 @@ impl L2TableWriteGuard<'_> {
         ensures same_table { IsSameTable self.old self.new }
         ensures edit { MakesEdit (to_data host_cluster.0) index result
             (guarded_table self.old) (guarded_table self.new) }
-        ensures freed { let table = guarded_table self.old in
-            GivesUp table.geometry (slice_index table.numbers index) host_cluster.0 result }
     {
         if let Some(new_allocation) = new_allocation {
             new_allocation.make_persistent();

@@ -36,11 +36,11 @@ impl TableKind for RefTableEntry {
 }
 
 impl EntryTable<RefTableEntry> {
-    ghost use Rattle.std.specs.Prelude.{◌≡◌, ◌⊎◌, ◌*◌, ◌^◌, ◌<◌, ◌↔◌, length, IfErr, IfOk, IsErrOf};
-    ghost use Rattle.qcow2_base.specs.declared.fault.Fault.TheVariants.{NoMemory, NotPlaced};
+    ghost use Rattle.std.specs.Prelude.{◌≡◌, ◌*◌, ◌^◌, ◌<◌, length};
+    ghost use Rattle.qcow2_base.specs.declared.fault.Fault.TheVariants.{NotPlaced};
     ghost use Rattle.qcow2_metadata.specs.Entries.PendingClusters.{IsOneCluster};
-    ghost use Rattle.qcow2_metadata.specs.Table.{IsReferable, table_after_edit, new_table};
-    ghost use Rattle.qcow2_metadata.specs.Table.Growth.{grown_numbers, grown_reftable_count, growth_of};
+    ghost use Rattle.qcow2_metadata.specs.Table.{IsReferable, table_after_edit};
+    ghost use Rattle.qcow2_metadata.specs.Table.Growth.{GrowsTo, grown_reftable_count, growth_of};
 
     /// A copy of the table that holds an index, and pays for its own growth: the same entries, and then
     /// zeros. They take as few whole clusters as hold the same entries, the index, and the `least_spare`
@@ -49,12 +49,8 @@ impl EntryTable<RefTableEntry> {
     /// Refuses to grow past the most entries that a refcount table may have. The table itself stays.
     pub fn clone_and_grow(&self, header: &Header, at_least_index: usize) -> Result<RefTable, Fault>
         requires { header.now.v2.cluster_bits ≡ self.now.geometry.cluster_bits }
-        ensures refused { IsErrOf result Fault.CannotGrow ↔ (most_reftable_entries
-            < grown_reftable_count (growth_of header.now (length self.now.numbers) at_least_index)) }
-        ensures faults { IfErr result (λ fault. (fault ≡ Fault.CannotGrow) ⊎ (fault ≡ NoMemory)) }
-        ensures table { let entries =
-            grown_reftable_count (growth_of header.now (length self.now.numbers) at_least_index) in
-            IfOk result (λ table. table ≡ new_table (grown_numbers self.now.numbers entries) header.now) }
+        ensures { let growth = growth_of header.now (length self.now.numbers) at_least_index in
+            GrowsTo (grown_reftable_count growth) most_reftable_entries self.now.numbers header.now result }
     {
         if at_least_index >= RefTableEntry::MAX_ENTRIES {
             return Err(Fault::CannotGrow);

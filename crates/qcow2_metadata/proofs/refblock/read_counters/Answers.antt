@@ -1,4 +1,4 @@
-use Rattle.std.proofs.Common.{◌≡◌, ◌+◌, ◌-◌, ◌*◌, ◌/◌, ◌%◌, ◌^◌, ◌++◌, ◌<◌, ◌∙◌, length, min, ap, arith, rules, length-append}
+use Rattle.std.proofs.Common.{◌≡◌, ◌+◌, ◌-◌, ◌*◌, ◌/◌, ◌%◌, ◌^◌, ◌++◌, ◌<◌, ◌∙◌, Ok, length, min, ap, sym, arith, rules, length-append}
 use Rattle.std.proofs.lemmas.List.Elements.{All-append}
 use Rattle.qcow2_base.specs.Storage.{Holds, image_of}
 use Rattle.qcow2_metadata.proofs.PackingLemmas.{counters_at-length, counters_at-small}
@@ -50,7 +50,11 @@ returns-clause-lawful g c =
     let count = same_count order (length list) (block_entries cb order) (2 ^ cb) whole (block_bytes cb order c.requires.bits c.refcount_order-order.ensures.range) in
     rw (← c.refcount_order-order.ensures.value) (count, c.loop-piece.invariant.small)
 
-pub returns-clause-counters : goal.returns-clause-counters
-returns-clause-counters g c told =
-    let count = (returns-clause-lawful g c).0 in
-    rw (← count, ← c.refcount_order-order.ensures.value) (c.loop-piece.invariant.told told)
+pub returns-clause-reads : goal.returns-clause-reads
+returns-clause-reads g c = record {
+  exact = λ told.
+      let count = (returns-clause-lawful g c).0 in
+      rw (← count, ← c.refcount_order-order.ensures.value) (ap Ok (sym (c.loop-piece.invariant.told told)));
+  faults = tt;
+  storage = search rules;
+}

@@ -10,8 +10,8 @@ write_entries-requires-clause-count g c =
 pub write_entries-requires-clause-fits : goal.write_entries-requires-clause-fits
 write_entries-requires-clause-fits g c = grind (arith, nat_tests, group-fits, part-few)
 
-pub returns : goal.returns
-returns g c =
+pub returns-clause-written : goal.returns-clause-written
+returns-clause-written g c =
     let bits = c.cluster_bits-cluster_bits.ensures in
     let count = c.entries_at_once-count.ensures in
     WritesEntry-of g.Self.Table.kind c.args.index (g.Self.Table.state c.args.self.now) c.in-Some.cluster c.write_entries.result _ _ (search rules) (search rules)

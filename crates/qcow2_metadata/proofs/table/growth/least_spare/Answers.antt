@@ -1,7 +1,7 @@
 use Rattle.std.proofs.Common.{◌≡◌, ◌+◌, ◌<◌, ◌≤◌, arith}
 use Rattle.std.specs.Int.{div_ceil}
 use Rattle.qcow2_base.specs.Format.{most_reftable_entries}
-use Rattle.qcow2_metadata.proofs.GrowthLemmas.{IsRoomy-of, div_ceil-le, least-enough, least_spare-is, needed-least, possible_spare-found, possible_spare-none}
+use Rattle.qcow2_metadata.proofs.GrowthLemmas.{IsRoomy-of, div_ceil-le, least_spare-is, needed-least, possible_spare-found, possible_spare-none}
 use Rattle.qcow2_metadata.specs.Table.Growth.{clusters_with, entries_with, growth_of, least_spare}
 use Rattle.qcow2_metadata.proofs.table.growth.least_spare.Goals as goal
 
@@ -14,28 +14,17 @@ returns-then-entries-gt-MAX_ENTRIES-clause-spare c =
     let many : most_reftable_entries < entries_with growth c.loop-len.spare = rw (c.entries_with-entries.ensures, clusters.value) at c.if-entries-gt-MAX_ENTRIES.true in
     possible_spare-none growth c.loop-len.spare roomy c.loop-len.invariant.least many
 
-pub returns-then-needed-spare-clause-least : goal.returns-then-needed-spare-clause-least
-returns-then-needed-spare-clause-least c =
+pub returns-then-needed-spare-clause-spare : goal.returns-then-needed-spare-clause-spare
+returns-then-needed-spare-clause-spare c =
     let growth = growth_of c.args.header.now c.args.len c.args.index in
     let spare = c.loop-len.spare in
     let clusters = c.l2_entries-cluster_entries.ensures in
     let blocks = c.rb_entries-block_counters.ensures in
     let roomy = IsRoomy-of growth (rw clusters.value at clusters.some) (rw blocks.value at blocks.some) in
-    let few : div_ceil (clusters_with growth spare + spare) growth.block_counters ≤ spare = rw (c.div_ceil-needed.ensures, c.entries_with-entries.ensures, clusters.value, blocks.value) at c.if-needed-spare.true in
-    record {
-      some = c.loop-len.invariant.some;
-      enough = (div_ceil-le (clusters_with growth spare + spare) growth.block_counters spare (omega (arith, roomy.blocks))).0 few;
-      least = λ fewer one is. omega (arith, c.loop-len.invariant.least, (least-enough growth fewer roomy).1 is);
-    }
-
-pub returns-then-needed-spare-clause-spare : goal.returns-then-needed-spare-clause-spare
-returns-then-needed-spare-clause-spare c =
-    let growth = growth_of c.args.header.now c.args.len c.args.index in
-    let clusters = c.l2_entries-cluster_entries.ensures in
-    let blocks = c.rb_entries-block_counters.ensures in
-    let roomy = IsRoomy-of growth (rw clusters.value at clusters.some) (rw blocks.value at blocks.some) in
-    let few : entries_with growth c.loop-len.spare ≤ most_reftable_entries = rw (c.entries_with-entries.ensures, clusters.value) at c.if-entries-gt-MAX_ENTRIES.false in
-    possible_spare-found growth c.loop-len.spare (returns-then-needed-spare-clause-least c) roomy few
+    let few : entries_with growth spare ≤ most_reftable_entries = rw (c.entries_with-entries.ensures, clusters.value) at c.if-entries-gt-MAX_ENTRIES.false in
+    let needed : div_ceil (clusters_with growth spare + spare) growth.block_counters ≤ spare = rw (c.div_ceil-needed.ensures, c.entries_with-entries.ensures, clusters.value, blocks.value) at c.if-needed-spare.true in
+    let enough = (div_ceil-le (clusters_with growth spare + spare) growth.block_counters spare (omega (arith, roomy.blocks))).0 needed in
+    possible_spare-found growth spare roomy c.loop-len.invariant.least enough few
 
 pub loop-len-preserved : goal.loop-len-preserved
 loop-len-preserved c =

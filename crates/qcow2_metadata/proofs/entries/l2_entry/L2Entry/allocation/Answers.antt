@@ -1,10 +1,13 @@
-use Rattle.std.proofs.Common.{arith}
+use Rattle.std.proofs.Common.{◌≡◌, ◌+◌, ◌-◌, arith}
 use Rattle.qcow2_metadata.specs.Header.{geometry}
-use Rattle.qcow2_metadata.proofs.EntriesLemmas.{allocation_of_range}
+use Rattle.qcow2_metadata.proofs.EntriesLemmas.{allocation_is}
 use Rattle.qcow2_metadata.proofs.entries.l2_entry.L2Entry.allocation.Goals as goal
 
 pub returns : goal.returns
 returns c =
     let range = c.in_ok-start.ensures in
-    rw (c.cluster-first.ensures, c.cluster-last.ensures)
-    (allocation_of_range (geometry c.args.cluster_bits c.args.external_data_file) c.args.self.now c.in_ok-start.start.0 c.in_ok-start.length range.some (omega (arith, range.length)) (omega (arith, range.length)))
+    let start = c.in_ok-start.start.0 in
+    let len = c.in_ok-start.length in
+    let last : start + len - 1 ≡ start + (len - 1) = omega (arith, range.length) in
+    let is = rw (range.some, last) at (allocation_is (geometry c.args.cluster_bits c.args.external_data_file) c.args.self.now (omega (arith, c.requires.0))) in
+    rw (c.cluster-first.ensures, c.cluster-last.ensures) is

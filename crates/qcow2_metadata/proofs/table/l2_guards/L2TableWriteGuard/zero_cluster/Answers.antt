@@ -1,6 +1,6 @@
 use Rattle.std.proofs.Common.{◌≡◌, ◌&&◌, Bool, ℕ, ap, ◌∙◌, refl, rules, subst, sym, true, false}
 use Rattle.std.specs.Prelude.{slice_index}
-use Rattle.qcow2_metadata.specs.Entries.L2Entry.{IsAllocation, has_host_cluster, with_zero_flag}
+use Rattle.qcow2_metadata.specs.Entries.L2Entry.{allocation, has_host_cluster, with_zero_flag}
 use Rattle.qcow2_metadata.specs.Header.{Geometry, geometry}
 use Rattle.qcow2_metadata.specs.Table.L2Guards.{guarded_table}
 use Rattle.qcow2_metadata.specs.Table.{TableState, table_after_edit}
@@ -51,7 +51,7 @@ returns-clause-edit c =
     ] in
     let same : c.replace_entry-2.new.self.geometry ≡ table.geometry =
     ap (λ (t : TableState). t.geometry) c.replace_entry-2.ensures.edit in
-    let freed : IsAllocation table.geometry v c.allocation_of.result =
-    subst (λ (g : Geometry). IsAllocation g v c.allocation_of.result) same c.allocation_of.ensures in
+    let freed : c.allocation_of.result ≡ allocation table.geometry v =
+    subst (λ (g : Geometry). c.allocation_of.result ≡ allocation g v) same c.allocation_of.ensures.value in
     zeros-dropped table c.replace_entry-2.new.self c.args.index c.args.keep_allocation c.allocation_of.result clusters_freed_by
-    (search rules) (subst (λ (n : ℕ). IsAllocation table.geometry n c.allocation_of.result) number freed)
+    (search rules) (rw number at freed)
