@@ -1,13 +1,19 @@
-use Rattle.std.proofs.Common.{◌≡◌, ◌⊎◌, ℕ, ◌==◌, nat_lt, ◌+◌, ◌<◌, ◌≤◌, Some, None, Result, Ok, Err, List, [], ◌∷◌, map, take, length, get_or, get_or-set_same, get_or-set_other, slice_index, ap, refl, ◌∙◌, arith}
+use Rattle.std.proofs.Common.{MatchResult, Option, inl, inr, ◌≡◌, ◌⊎◌, ◌↔◌, ℕ, Bool, true, false, ◌==◌, nat_lt, ◌+◌, ◌<◌, ◌≤◌, Some, None, Result, Ok, Err, List, [], ◌∷◌, map, take, length, get_or, get_or-set_same, get_or-set_other, slice_index, ap, refl, ◌∙◌, arith}
 use Rattle.std.proofs.lemmas.List.Sums.{sum_by-cons, sum_by_more, sum_by_more_le}
 use Rattle.qcow2_base.specs.declared.types.HostCluster.{HostCluster}
 use Rattle.qcow2_session.specs.Edits.{cluster_numbers}
+use Rattle.qcow2_metadata.specs.Results.{result_map, unless_refused}
+use Rattle.qcow2_metadata.specs.Header.{Geometry}
+use Rattle.std.proofs.lemmas.Bool.{cases_Bool}
 use Rattle.std.proofs.lemmas.Bool.Decides.{nat_tests}
 use Rattle.std.proofs.lemmas.List.{length-set}
 use Rattle.std.proofs.lemmas.List.FromFn.{get_or-map-range_with_len, length-map-range_with_len}
-use Rattle.std.specs.List.{range_with_len}
+use Rattle.std.proofs.lemmas.List.Folds.{Any-from_list_any, list_any_at}
+use Rattle.std.proofs.lemmas.List.FromFn.{get_or-range_with_len, length-range_with_len}
+use Rattle.std.specs.List.{list_any, range_with_len}
 use Rattle.qcow2_base.specs.declared.fault.Fault.{Fault}
-use Rattle.qcow2_metadata.specs.Table.L2Guards.{one_if, times_gained}
+use Rattle.qcow2_base.specs.declared.fault.Fault.TheVariants.{CounterRange}
+use Rattle.qcow2_metadata.specs.Table.L2Guards.{handed_back, one_if, references, times_gained}
 use Rattle.std.proofs.lemmas.Grind.{same_number_lists}
 use Rattle.qcow2_metadata.specs.Entries.{is_among}
 use Rattle.qcow2_metadata.specs.Refblock.Counters.{AreCounters}
@@ -15,7 +21,7 @@ use Rattle.qcow2_metadata.specs.Refblock.{BlockState, greatest_counter, stepped_
 use Rattle.qcow2_metadata.specs.Refblock.Guard.{Decrement, Increment, CounterChange, Steps, counter_after}
 use Rattle.qcow2_metadata.specs.declared.entries.ClustersToFreeEntry.{ClustersToFreeEntry}
 use Rattle.qcow2_session.specs.declared.edits.Outcome.{Outcome}
-use Rattle.qcow2_session.specs.Settled.{CanSettle, ChangesBlock, ChangesCounters, IsChangedBy, IsSameButFlag, LeavesRange, Settles, SomeCannotSettle, SomeLeavesRange, is_between, opposite, range_of_one, times_counted}
+use Rattle.qcow2_session.specs.Settled.{ChangesBlock, ChangesCounters, IsChangedBy, IsSameButFlag, LeavesRange, Settles, SomeLeavesRange, block_or_refusal, cannot_settle, is_between, settled_block, opposite, range_of_one, times_counted}
 
 -- counters that move twice
 moves-twice : (change : CounterChange) (first second total : ℕ → ℕ) (a b c : BlockState)
@@ -112,13 +118,18 @@ settled-by first outcome a b c up down = grind (arith, nat_tests, times-gained)
 pub can-settle : (first : ℕ) (gained : List HostCluster) (freed : List ClustersToFreeEntry) (a b c : BlockState)
     → ChangesCounters Increment (times_counted range_of_one gained first) a b → AreCounters b.geometry.refcount_order b.numbers
     → ChangesCounters Decrement (times_counted (λ item. item) freed first) b c
-    → (index : ℕ) → index < length a.numbers → CanSettle a first freed (cluster_numbers gained) index
+    → (index : ℕ) → index < length a.numbers → cannot_settle a first freed (cluster_numbers gained) index ≡ false
 can-settle first gained freed a b c up fit down = grind (arith, nat_tests, order-kept, fits, times-gained)
 
--- losses that don't fit
+-- gains that don't fit, and losses
+pub gains-short : (first : ℕ) (gained : List HostCluster) (freed : List ClustersToFreeEntry) (a : BlockState)
+    → SomeLeavesRange Increment (times_counted range_of_one gained first) a
+    → (index : ℕ) × (index < length a.numbers) × (cannot_settle a first freed (cluster_numbers gained) index ≡ true)
+gains-short first gained freed a short = grind (arith, nat_tests, times-gained)
+
 pub losses-short : (first : ℕ) (gained : List HostCluster) (freed : List ClustersToFreeEntry) (a b : BlockState)
     → ChangesCounters Increment (times_counted range_of_one gained first) a b
-    → SomeLeavesRange Decrement (times_counted (λ item. item) freed first) b → SomeCannotSettle a first freed (cluster_numbers gained)
+    → SomeLeavesRange Decrement (times_counted (λ item. item) freed first) b → (index : ℕ) × (index < length a.numbers) × (cannot_settle a first freed (cluster_numbers gained) index ≡ true)
 losses-short first gained freed a b up short = grind (arith, nat_tests, times-gained, up.counters)
 
 -- the same changes, counted otherwise
@@ -163,3 +174,79 @@ between-end start end at i past within = grind (arith, nat_tests)
 pub by-index : (numbers : List ℕ) → map (λ i. slice_index numbers i) (range_with_len 0 (length numbers)) ≡ numbers
 by-index numbers =
     grind (arith, nat_tests, length-map-range_with_len, same_number_lists, get_or-map-range_with_len)
+
+-- a test for an index of a list passes exactly where it does at one
+any-index : (test : ℕ → Bool) (n : ℕ) → (list_any test (range_with_len 0 n) ≡ true) ↔ ((i : ℕ) × (i < n) × (test i ≡ true))
+any-index test n = (
+  λ some. grind (arith, Any-from_list_any test (range_with_len 0 n) some, get_or-range_with_len, length-range_with_len),
+  λ one. list_any_at test (range_with_len 0 n) one.0 0 (grind (arith, length-range_with_len)) (grind (arith, get_or-range_with_len)),
+)
+
+-- a block that counted all is the one that the definition gives
+pub settled-is : (first : ℕ) (outcome : Outcome) (old new : BlockState) → Settles first outcome old new
+    → ((index : ℕ) → index < length old.numbers → cannot_settle old first outcome.freed.items (cluster_numbers outcome.gained.items) index ≡ false)
+    → block_or_refusal old first outcome.freed.items (cluster_numbers outcome.gained.items) ≡ Ok new
+settled-is first outcome old new settles each =
+    let n = length old.numbers in
+    let freed = outcome.freed.items in
+    let gained = cluster_numbers outcome.gained.items in
+    let block = settled_block old first freed gained in
+    let short = any-index (cannot_settle old first freed gained) n in
+    let numbers : new.numbers ≡ block.numbers = same_number_lists new.numbers block.numbers (grind (arith, settles.entries, length-map-range_with_len))
+    (λ k below. grind (arith, nat_tests, settles.entries, settles.counters k, each k, get_or-map-range_with_len)) in
+    let some = any-index (λ i. nat_lt 0 (times_gained gained (first + i) + handed_back freed (first + i))) n in
+    let flag : new.modified ≡ block.modified = grind (arith, nat_tests, settles.flag, some) in
+    grind (arith, nat_tests, short.0, each, numbers, flag, settles.others)
+
+-- and where a counter can't count its cluster's references, the definition refuses
+pub refused-is : (block : BlockState) (first : ℕ) (freed : List ClustersToFreeEntry) (gained : List ℕ)
+    → (index : ℕ) × (index < length block.numbers) × (cannot_settle block first freed gained index ≡ true)
+    → block_or_refusal block first freed gained ≡ Err CounterRange
+refused-is block first freed gained short =
+    grind (arith, (any-index (cannot_settle block first freed gained) (length block.numbers)).1 short)
+
+-- a block that the definition gives has no such counter
+none-short : (old new : BlockState) (first : ℕ) (freed : List ClustersToFreeEntry) (gained : List ℕ) → block_or_refusal old first freed gained ≡ Ok new
+    → (index : ℕ) → index < length old.numbers → cannot_settle old first freed gained index ≡ false
+none-short old new first freed gained is index below =
+    let short = any-index (cannot_settle old first freed gained) (length old.numbers) in
+    grind (arith, is, λ (cannot : cannot_settle old first freed gained index ≡ true). short.1 (index, below, cannot))
+
+-- the block that the definition gives counted all
+pub settled-counts : (first : ℕ) (outcome : Outcome) (old new : BlockState) → block_or_refusal old first outcome.freed.items (cluster_numbers outcome.gained.items) ≡ Ok new
+    → Settles first outcome old new
+settled-counts first outcome old new is =
+    let n = length old.numbers in
+    let freed = outcome.freed.items in
+    let gained = cluster_numbers outcome.gained.items in
+    let block = settled_block old first freed gained in
+    let some = any-index (λ i. nat_lt 0 (times_gained gained (first + i) + handed_back freed (first + i))) n in
+    let same : new ≡ block = grind (arith, nat_tests, is) in
+    rw same (record {
+      counters = λ index below. grind (arith, nat_tests, none-short old new first freed gained is index below, get_or-map-range_with_len);
+      entries = length-map-range_with_len _ 0 n;
+      flag = grind (arith, nat_tests, some);
+      others = refl;
+    })
+
+-- counters that are at least the references are so after changes in balance, and only a gain leaves the range
+pub stays-covered : (g : Geometry) (before after : List ℕ) (freed : List ClustersToFreeEntry) (gained : List ℕ) (first : ℕ) (block : BlockState)
+    → ((c : ℕ) → references g after c + handed_back freed c ≡ references g before c + times_gained gained c)
+    → ((i : ℕ) → i < length block.numbers → references g before (first + i) ≤ slice_index block.numbers i)
+    → MatchResult (block_or_refusal block first freed gained)
+    (λ settled. (i : ℕ) → i < length settled.numbers → references g after (first + i) ≤ slice_index settled.numbers i)
+    (λ fault. (i : ℕ) × (i < length block.numbers) × (greatest_counter block.geometry.refcount_order < slice_index block.numbers i + times_gained gained (first + i)))
+stays-covered g before after freed gained first block balance covers =
+    let short = any-index (cannot_settle block first freed gained) (length block.numbers) in
+    elim (cases_Bool (list_any (cannot_settle block first freed gained) (range_with_len 0 (length block.numbers)))) [
+      | inl some ↦ let one = short.0 some in rw some (one.0, one.1, grind (arith, nat_tests, one.2, balance (first + one.0), covers one.0 one.1))
+      | inr none ↦ rw none (λ i below. grind (arith, nat_tests, balance (first + i), covers i, length-map-range_with_len, get_or-map-range_with_len))
+    ]
+
+-- what holds of an answer that no refusal comes before
+pub after-refusal : {A B : Type 0} (P : B → Type 0) (Q : Type 0) (f : A → B) (refusal : Option Fault) (answer : Result A Fault)
+    → (refusal ≡ None → MatchResult answer (λ value. P (f value)) (λ fault. Q)) → (refusal ≡ Some CounterRange → ⊥)
+    → MatchResult (unless_refused refusal (result_map f answer)) P (λ fault. fault ≡ CounterRange → Q)
+after-refusal P Q f None (Ok value) holds other = holds refl
+after-refusal P Q f None (Err fault) holds other = λ is. holds refl
+after-refusal P Q f (Some fault) answer holds other = λ is. absurd (other (ap Some is))

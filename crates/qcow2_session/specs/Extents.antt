@@ -125,19 +125,15 @@ pub record MovesReader (image : StorageState) (old new : ExtentsState) : Type 0 
   pub same : new ≡ record old { position = new.position; table = new.table; ahead = new.ahead }
   pub kept : OnImage image (λ bytes. IsReaderOf bytes new)
 
--- how far a reader comes by an answer: past the extent that begins where it was, and at most to the disk's end. There it
--- returns none and stays; after a fault it is where it was, before the end
-abbrev pub ComesTo : ℕ → ℕ → Result (Option Extent) Fault → ℕ → Type 0
-ComesTo size from (Ok None) to = (from ≡ size) × (to ≡ from)
-ComesTo size from (Ok (Some extent)) to =
-    (extent.start.0 ≡ from) × (from < to) × (to ≡ from + extent.length) × (to ≤ size)
-ComesTo size from (Err fault) to = (to ≡ from) × (from < size)
-
--- what a reader returns at an offset: that the disk ends there, the extent that begins there, or why it can't be found
-abbrev pub TellsExtent : Contents → ℕ → ℕ → Result (Option Extent) Fault → Type 0
-TellsExtent contents size from (Ok None) = from ≡ size
-TellsExtent contents size from (Ok (Some extent)) = IsExtent contents size from extent
-TellsExtent contents size from (Err fault) = RefusesExtent contents size from fault
+-- what a reader returns, and the offset that it comes to: nothing at the disk's end, the extent at its offset, which it
+-- passes, or why that can't be found, and it stays. The disk's contents are those of the image, where its bytes are known
+abbrev pub PassesExtent : StorageState → ExtentsState → Result (Option Extent) Fault → ℕ → Type 0
+PassesExtent image reader (Ok None) to = (reader.position ≡ reader.header.v2.size) × (to ≡ reader.position)
+PassesExtent image reader (Ok (Some extent)) to = (extent.start.0 ≡ reader.position) × (0 < extent.length)
+    × (to ≡ reader.position + extent.length) × (to ≤ reader.header.v2.size)
+    × OnImage image (λ bytes. IsExtent (contents_for reader bytes) reader.header.v2.size reader.position extent)
+PassesExtent image reader (Err fault) to = (to ≡ reader.position) × (reader.position < reader.header.v2.size)
+    × OnImage image (λ bytes. RefusesExtent (contents_for reader bytes) reader.header.v2.size reader.position fault)
 
 -- the bytes of an offset up to another, with a content, as an extent
 abbrev pub extent_of : ℕ → Content × ℕ → Extent

@@ -1,17 +1,18 @@
 -- How do a block's counters follow what edits of an L2 table did to references, and when can't they?
-use Rattle.std.specs.Prelude.{◌≡◌, ◌⊎◌, ◌↔◌, ℕ, Bool, true, ◌+◌, ◌*◌, ◌<◌, ◌≤◌, ◌&&◌, nat_le, nat_lt, length, slice_index, List, MatchResult, Option, Some, option_map, Result, if◌then◌else◌}
-use Rattle.std.specs.List.{sum_by}
+use Rattle.std.specs.Prelude.{◌≡◌, ◌⊎◌, ◌↔◌, ℕ, Bool, true, ◌+◌, ◌-◌, ◌*◌, ◌<◌, ◌≤◌, ◌&&◌, ◌||◌, nat_le, nat_lt, length, map, slice_index, List, Option, Some, option_map, Result, Ok, Err, if◌then◌else◌}
+use Rattle.std.specs.List.{list_any, range_with_len, sum_by}
 use Rattle.qcow2_base.specs.declared.fault.Fault.{Fault}
-use Rattle.qcow2_base.specs.declared.fault.Fault.TheVariants.{BadEdit, CounterRange, ExternalData, NoMemory}
+use Rattle.qcow2_base.specs.declared.fault.Fault.TheVariants.{BadEdit, CounterRange, ExternalData}
 use Rattle.qcow2_base.specs.declared.types.HostCluster.{HostCluster}
-use Rattle.qcow2_metadata.specs.Table.L2Guards.{RunEnd, handed_back, one_if, references, run_of, times_gained}
+use Rattle.qcow2_metadata.specs.Results.{result_map, unless_refused}
+use Rattle.qcow2_metadata.specs.Table.L2Guards.{handed_back, one_if, references, run_of, times_gained}
 use Rattle.qcow2_metadata.specs.Entries.{is_among}
 use Rattle.qcow2_metadata.specs.Header.{HeaderRecord, uses_external_data}
 use Rattle.qcow2_metadata.specs.Refblock.{BlockState, block_entries, greatest_counter}
 use Rattle.qcow2_metadata.specs.Refblock.Guard.{Decrement, Increment, CounterChange}
 use Rattle.qcow2_metadata.specs.Table.{TableState}
 use Rattle.qcow2_metadata.specs.declared.entries.ClustersToFreeEntry.{ClustersToFreeEntry}
-use Rattle.qcow2_session.specs.Edits.{Balances, edits_left, first_unfit_edit, table_left, cluster_numbers, table_edits}
+use Rattle.qcow2_session.specs.Edits.{first_unfit_edit, table_left, cluster_numbers, table_edits}
 use Rattle.qcow2_session.specs.declared.edits.Edit.{Edit}
 use Rattle.qcow2_session.specs.declared.edits.Outcome.{Outcome}
 use Rattle.qcow2_session.specs.declared.settled.Direction.{Direction}
@@ -21,24 +22,27 @@ use Rattle.qcow2_session.specs.declared.settled.Direction.TheVariants.{Down, Up}
 abbrev pub first_counted : BlockState → ℕ → ℕ
 first_counted block rt_index = rt_index * block_entries block.geometry.cluster_bits block.geometry.refcount_order
 
--- the counter at an index can count all that its cluster gained, and then all that it lost
-abbrev pub CanSettle : BlockState → ℕ → List ClustersToFreeEntry → List ℕ → ℕ → Type 0
-CanSettle block first freed gained index =
+-- whether the counter at an index can't count all that its cluster gained, and then all that it lost
+abbrev pub cannot_settle : BlockState → ℕ → List ClustersToFreeEntry → List ℕ → ℕ → Bool
+cannot_settle block first freed gained index =
     let most = slice_index block.numbers index + times_gained gained (first + index) in
-    (most ≤ greatest_counter block.geometry.refcount_order) × (handed_back freed (first + index) ≤ most)
+    nat_lt (greatest_counter block.geometry.refcount_order) most || nat_lt most (handed_back freed (first + index))
 
--- some counter can't
-abbrev pub SomeCannotSettle : BlockState → ℕ → List ClustersToFreeEntry → List ℕ → Type 0
-SomeCannotSettle block first freed gained =
-    (index : ℕ) × (index < length block.numbers) × (CanSettle block first freed gained index → ⊥)
+-- the block whose counters counted what their clusters gained and lost; it counts as modified where there is such a cluster
+abbrev pub settled_block : BlockState → ℕ → List ClustersToFreeEntry → List ℕ → BlockState
+settled_block block first freed gained =
+    let indices = range_with_len 0 (length block.numbers) in
+    let gains = λ (index : ℕ). times_gained gained (first + index) in
+    let losses = λ (index : ℕ). handed_back freed (first + index) in record block {
+      numbers = map (λ index. slice_index block.numbers index + gains index - losses index) indices;
+      modified = list_any (λ index. nat_lt 0 (gains index + losses index)) indices || block.modified;
+    }
 
--- the result of settling a block: each counter can settle, or one can't and that is the fault
-abbrev pub SettlesOrRefuses : {T : Type 0} → BlockState → ℕ → Outcome → Result T Fault → Type 0
-SettlesOrRefuses block first outcome answer =
-    let freed = outcome.freed.items in
-    let gained = cluster_numbers outcome.gained.items in MatchResult answer
-    (λ _. (index : ℕ) → index < length block.numbers → CanSettle block first freed gained index)
-    (λ fault. (fault ≡ CounterRange) × SomeCannotSettle block first freed gained)
+-- that block, or the refusal of a counter that can't count its cluster's references
+abbrev pub block_or_refusal : BlockState → ℕ → List ClustersToFreeEntry → List ℕ → Result BlockState Fault
+block_or_refusal block first freed gained =
+    if list_any (cannot_settle block first freed gained) (range_with_len 0 (length block.numbers)) then Err CounterRange
+    else Ok (settled_block block first freed gained)
 
 -- a block that was settled: each counter, with what its cluster lost, is the one before, with what it gained. The block
 -- counts as modified where it did, and where one of its clusters gained or lost a reference. All else stays
@@ -56,47 +60,19 @@ abbrev pub first_refusal : HeaderRecord → TableState → List Edit → Option 
 first_refusal header table edits =
     if uses_external_data header then Some ExternalData else option_map BadEdit (first_unfit_edit table edits)
 
--- what the edits leave of the table, and what they do to references
-abbrev pub run_of_table : TableState → List Edit → RunEnd
-run_of_table table edits = run_of table.geometry (table_edits edits) table.numbers
-
--- the result of edits that all fit: what they did, where each counter can settle. Else the fault of one that can't, or that
--- memory ran out
-abbrev pub EditsSettleOrRefuse : ℕ → BlockState → RunEnd → TableState → Result Outcome Fault → Type 0
-EditsSettleOrRefuse first block end table answer = MatchResult answer
-    (λ outcome. (edits_left table outcome ≡ end)
-    × ((index : ℕ) → index < length block.numbers → CanSettle block first end.freed end.gained index))
-    (λ fault. (fault ≡ NoMemory) ⊎ ((fault ≡ CounterRange) × SomeCannotSettle block first end.freed end.gained))
-
--- counters follow references: a counter and the references before are together as many as the counter before and the
--- references after
-abbrev pub FollowsReferences : ℕ → TableState → BlockState → TableState → BlockState → Type 0
-FollowsReferences first old_table old_block new_table new_block = (index : ℕ) → index < length old_block.numbers →
-    slice_index new_block.numbers index + references old_table.geometry old_table.numbers (first + index)
-    ≡ slice_index old_block.numbers index + references new_table.geometry new_table.numbers (first + index)
-
--- the table that edits left, and the block that counted their outcome
-pub record EditsAndSettles (first : ℕ) (edits : List Edit) (outcome : Outcome) (old_table : TableState) (old_block : BlockState) (new_table : TableState) (new_block : BlockState) : Type 0 where
-  pub table : new_table ≡ table_left edits old_table new_table.numbers
-  pub balance : Balances outcome old_table new_table
-  pub settled : Settles first outcome old_block new_block
+-- what edits leave of a table, and of a block that counts what they do to references, and what that is: the clusters that
+-- lose one, and the numbers of those that gain one. Or the refusal
+abbrev pub settled_edits_or_refusal : HeaderRecord → TableState → BlockState → ℕ → List Edit → Result (TableState × BlockState × List ClustersToFreeEntry × List ℕ) Fault
+settled_edits_or_refusal header table block rt_index edits =
+    let end = run_of table.geometry (table_edits edits) table.numbers in
+    unless_refused (first_refusal header table edits)
+    (result_map (λ settled. (table_left edits table end.numbers, settled, end.freed, end.gained))
+    (block_or_refusal block (first_counted block rt_index) end.freed end.gained))
 
 -- each counter of the block is at least the table's references to its cluster
 abbrev pub CoversReferences : ℕ → BlockState → TableState → Type 0
 CoversReferences first block table = (index : ℕ) → index < length block.numbers →
     references table.geometry table.numbers (first + index) ≤ slice_index block.numbers index
-
--- some counter can't count what its cluster gained
-abbrev pub SomeCannotGain : ℕ → BlockState → List ℕ → Type 0
-SomeCannotGain first block gained = (index : ℕ) × (index < length block.numbers)
-    × (greatest_counter block.geometry.refcount_order < slice_index block.numbers index + times_gained gained (first + index))
-
--- counters that covered the references cover them after edits too, and only gains that can't be counted are out of range
-abbrev pub StaysCovered : {T : Type 0} → ℕ → List Edit → Result T Fault → TableState → BlockState → TableState → BlockState → Type 0
-StaysCovered first edits answer old_table old_block new_table new_block =
-    CoversReferences first old_block old_table → MatchResult answer
-    (λ _. CoversReferences first new_block new_table)
-    (λ fault. fault ≡ CounterRange → SomeCannotGain first old_block (run_of_table old_table edits).gained)
 
 -- the parts of settling: counters go up, or they go down
 

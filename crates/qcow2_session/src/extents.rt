@@ -3,7 +3,7 @@
 ghost use Rattle.std.specs.Prelude.{◌≡◌, ◌⊎◌, ◌+◌, ◌-◌, ◌*◌, ◌/◌, ◌^◌, ◌<◌, ◌≤◌, ◌↔◌, None, Some, Ok, Err, IfErr, IfOk, IfSome, IsOkAnd, IsSomeAnd, IsTrue, MatchResult};
 ghost use Rattle.qcow2_base.specs.Storage.{OnImage, OnlyReads};
 ghost use Rattle.qcow2_base.specs.declared.fault.Fault.TheVariants.{NoMemory, Storage as StorageFailed};
-ghost use Rattle.qcow2_metadata.specs.Results.{Reads};
+ghost use Rattle.qcow2_metadata.specs.Results.{Reads, result_map};
 ghost use Rattle.qcow2_metadata.specs.Entries.L2Mapping.{IsPlaced, meaning};
 ghost use Rattle.qcow2_metadata.specs.Header.{geometry_of};
 ghost use Rattle.qcow2_metadata.specs.Placed.{RefusesPlace};
@@ -191,7 +191,7 @@ fn keep_table<S: Storage>(
 }
 
 impl<'a> Extents<'a> {
-    ghost use Rattle.qcow2_session.specs.Extents.{ComesTo, IsExtent, IsReaderOf, KeepsTableOf, MovesReader, RefusesExtent, StaysReader, TellsExtent, contents_for, extent_of, extents_begun};
+    ghost use Rattle.qcow2_session.specs.Extents.{IsReaderOf, KeepsTableOf, MovesReader, PassesExtent, StaysReader, contents_for, extent_of, extents_begun};
 
     /// A reader of the extents of an image with this header, from the disk's begin on. Reads the L1 table,
     /// and returns its fault where it is refused. Changes no byte.
@@ -244,15 +244,9 @@ impl<'a> Extents<'a> {
     fn pass_extent<S: Storage>(&mut self, image: &mut S) -> Result<Content, Fault>
         requires within { self.old.position < self.old.header.v2.size }
         requires kept { OnImage (S.state image.old) (λ bytes. IsReaderOf bytes self.old) }
-        ensures told { OnImage (S.state image.old) (λ bytes.
-            let contents = contents_for self.old bytes in MatchResult result
-            (λ content. IsExtent contents self.old.header.v2.size self.old.position
-            (extent_of self.old.position (content, self.new.position)))
-            (RefusesExtent contents self.old.header.v2.size self.old.position)) }
-        ensures position { MatchResult result
-            (λ content. (self.old.position < self.new.position)
-            × (self.new.position ≤ self.old.header.v2.size))
-            (λ fault. self.new.position ≡ self.old.position) }
+        ensures extent { PassesExtent (S.state image.old) self.old
+            (result_map (λ content. Some (extent_of self.old.position (content, self.new.position))) result)
+            self.new.position }
         ensures reader { MovesReader (S.state image.old) self.old self.new }
         ensures faults { IfErr result IsContentFault }
         ensures storage { OnlyReads result (S.state image.old) (S.state image.new) }
@@ -286,10 +280,7 @@ impl<'a> Extents<'a> {
     /// returned. The image must be the one that the reader was made for, unchanged since. Changes no byte.
     pub fn next<S: Storage>(&mut self, image: &mut S) -> Result<Option<Extent>, Fault>
         requires { OnImage (S.state image.old) (λ bytes. IsReaderOf bytes self.old) }
-        ensures told { OnImage (S.state image.old) (λ bytes.
-            let contents = contents_for self.old bytes in TellsExtent contents self.old.header.v2.size
-            self.old.position result) }
-        ensures position { ComesTo self.old.header.v2.size self.old.position result self.new.position }
+        ensures extent { PassesExtent (S.state image.old) self.old result self.new.position }
         ensures reader { MovesReader (S.state image.old) self.old self.new }
         ensures faults { IfErr result IsContentFault }
         ensures storage { OnlyReads result (S.state image.old) (S.state image.new) }

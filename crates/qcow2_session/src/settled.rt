@@ -1,14 +1,16 @@
 //! Counters of a refcount block that follow what edits of a table did to references.
 
-ghost use Rattle.std.specs.Prelude.{◌≡◌, ℕ, ◌+◌, ◌<◌, ◌≤◌, Err, IfErr, IfOk, IfSome, None, OnOk, false, length, nat_lt, slice_index, take, true};
+ghost use Rattle.std.specs.Prelude.{◌≡◌, ℕ, ◌+◌, ◌<◌, ◌≤◌, if◌then◌else◌, Err, IfErr, IfOk, IfSome, None, OnOk, length, nat_lt, slice_index, take};
 ghost use Rattle.qcow2_base.specs.declared.fault.Fault.TheVariants.{CounterRange, ExternalData};
+ghost use Rattle.qcow2_metadata.specs.Results.{Computes, result_map};
 ghost use Rattle.qcow2_metadata.specs.Table.L2Guards.{one_if};
 ghost use Rattle.qcow2_metadata.specs.Entries.{is_among};
 ghost use Rattle.qcow2_metadata.specs.Header.{geometry_of, uses_external_data};
 ghost use Rattle.qcow2_metadata.specs.Refblock.Counters.{AreCounters};
 ghost use Rattle.qcow2_metadata.specs.Refblock.Guard.{Steps, counter_after};
 ghost use Rattle.qcow2_metadata.specs.declared.entries.ClustersToFreeEntry.{ClustersToFreeEntry as Clusters};
-ghost use Rattle.qcow2_session.specs.Settled.{ChangesBlock, ChangesCounters, EditsAndSettles, EditsSettleOrRefuse, IsSameButFlag, Settles, SettlesOrRefuses, SomeLeavesRange, StaysCovered, change_in, first_counted, first_refusal, is_between, opposite, range_of_one, run_of_table, times_counted};
+ghost use Rattle.qcow2_session.specs.Edits.{Balances, cluster_numbers, edits_left};
+ghost use Rattle.qcow2_session.specs.Settled.{ChangesBlock, ChangesCounters, IsSameButFlag, SomeLeavesRange, block_or_refusal, change_in, settled_edits_or_refusal, first_counted, first_refusal, is_between, opposite, range_of_one, times_counted};
 
 use crate::{Edit, Outcome, edit_table, edits_fit};
 use qcow2_base::{ClusterCount, Fault, HostCluster};
@@ -191,8 +193,8 @@ fn count_all<C: Counted>(
 // Counts all that clusters gained by the outcome, and then all that they lost, or nothing. Only the
 // flag may be another after a refusal.
 fn count_outcome(block: &mut RefBlock, first: u128, outcome: &Outcome) -> Result<(), Fault>
-    ensures answer { SettlesOrRefuses block.old first outcome.now result }
-    ensures settled { OnOk result (Settles first outcome.now block.old block.new) }
+    ensures exact { result_map (λ done. block.new) result ≡ block_or_refusal block.old first
+        outcome.now.freed.items (cluster_numbers outcome.now.gained.items) }
     ensures back { IfErr result (λ fault. IsSameButFlag block.old block.new) }
 {
     let gained = outcome.gained.as_slice();
@@ -225,11 +227,10 @@ pub fn settle(
 ) -> Result<(), Fault>
     requires cluster_bits { header.now.v2.cluster_bits ≡ block.old.geometry.cluster_bits }
     requires refcount_order { header.now.base.refcount_order ≡ block.old.geometry.refcount_order }
-    ensures external { uses_external_data header.now ≡ true → result ≡ Err ExternalData }
-    ensures answer { uses_external_data header.now ≡ false →
-        SettlesOrRefuses block.old (first_counted block.old rt_index) outcome.now result }
-    ensures settled { OnOk result
-        (Settles (first_counted block.old rt_index) outcome.now block.old block.new) }
+    ensures exact { result_map (λ done. block.new) result
+        ≡ if uses_external_data header.now then Err ExternalData
+        else block_or_refusal block.old (first_counted block.old rt_index)
+        outcome.now.freed.items (cluster_numbers outcome.now.gained.items) }
     ensures unchanged { IfErr result (λ fault. block.new ≡ block.old) }
 {
     if header.external_data_file() {
@@ -306,13 +307,11 @@ pub fn edit_settled(
     requires cluster_bits { header.now.v2.cluster_bits ≡ block.old.geometry.cluster_bits }
     requires refcount_order { header.now.base.refcount_order ≡ block.old.geometry.refcount_order }
     ensures refused { IfSome (first_refusal header.now table.old edits.now) (λ fault. result ≡ Err fault) }
-    ensures answer { first_refusal header.now table.old edits.now ≡ None → EditsSettleOrRefuse
-        (first_counted block.old rt_index) block.old (run_of_table table.old edits.now) table.new result }
+    ensures exact { Computes
+        (λ outcome. let end = edits_left table.new outcome in (table.new, block.new, end.freed, end.gained))
+        result (settled_edits_or_refusal header.now table.old block.old rt_index edits.now) }
     ensures unchanged { IfErr result (λ fault. (table.new ≡ table.old) × (block.new ≡ block.old)) }
-    ensures edited { IfOk result (λ outcome. EditsAndSettles (first_counted block.old rt_index)
-        edits.now outcome table.old block.old table.new block.new) }
-    ensures covered { StaysCovered (first_counted block.old rt_index) edits.now result
-        table.old block.old table.new block.new }
+    ensures balance { IfOk result (λ outcome. Balances outcome table.old table.new) }
 {
     if header.external_data_file() {
         return Err(Fault::ExternalData);

@@ -1,7 +1,8 @@
 use Rattle.qcow2_metadata.specs.Refblock.Guard.{Decrement, Increment}
-use Rattle.std.proofs.Common.{refl}
+use Rattle.std.proofs.Common.{refl, sym, arith}
+use Rattle.qcow2_session.specs.Edits.{cluster_numbers}
 use Rattle.qcow2_session.specs.Settled.{range_of_one, times_counted}
-use Rattle.qcow2_session.proofs.SettledLemmas.{can-settle, losses-short, moves-back, moves-flagged, settled-by}
+use Rattle.qcow2_session.proofs.SettledLemmas.{can-settle, gains-short, losses-short, moves-back, moves-flagged, refused-is, settled-by, settled-is}
 use Rattle.qcow2_session.proofs.settled.count_outcome.Goals as goal
 
 pub returns-clause-back : goal.returns-clause-back
@@ -12,19 +13,28 @@ returns-clause-back c =
     (rw c.as_slice-gained.ensures.value at c.in_default.ensures.changed).counters)
     (rw (c.unwrap.ensures, c.as_slice-gained.ensures.value) at c.count_list.ensures.changed).counters
 
-pub returns-clause-answer : goal.returns-clause-answer
-returns-clause-answer c = (
-  c.in-Err-count_all.ensures.back.0,
-  losses-short c.args.first c.args.outcome.now.gained.items c.args.outcome.now.freed.items c.args.block.now c.count_all.new.block
-      (rw c.as_slice-gained.ensures.value at c.in_default.ensures.changed).counters (rw c.as_slice.ensures.value at c.in-Err-count_all.ensures.out_of_range),
-)
+pub returns-in-Err-clause-exact : goal.returns-in-Err-clause-exact
+returns-in-Err-clause-exact c =
+    grind (
+      arith,
+      refused-is c.args.block.now c.args.first c.args.outcome.now.freed.items (cluster_numbers c.args.outcome.now.gained.items)
+          (gains-short c.args.first c.args.outcome.now.gained.items c.args.outcome.now.freed.items c.args.block.now (rw c.as_slice-gained.ensures.value at c.in-Err.ensures.out_of_range)),
+    )
 
-pub returns-in_default-count_all-clause-answer : goal.returns-in_default-count_all-clause-answer
-returns-in_default-count_all-clause-answer c =
-    can-settle c.args.first c.args.outcome.now.gained.items c.args.outcome.now.freed.items c.args.block.now c.count_all.new.block c.count_all-2.new.block
-    (rw c.as_slice-gained.ensures.value at c.in_default.ensures.changed).counters c.count_all-2.ensures.fit (rw c.as_slice.ensures.value at c.in_default-count_all.ensures.changed).counters
+pub returns-clause-exact : goal.returns-clause-exact
+returns-clause-exact c =
+    grind (
+      arith,
+      refused-is c.args.block.now c.args.first c.args.outcome.now.freed.items (cluster_numbers c.args.outcome.now.gained.items)
+          (losses-short c.args.first c.args.outcome.now.gained.items c.args.outcome.now.freed.items c.args.block.now c.count_all.new.block
+          (rw c.as_slice-gained.ensures.value at c.in_default.ensures.changed).counters (rw c.as_slice.ensures.value at c.in-Err-count_all.ensures.out_of_range)),
+    )
 
-pub returns-in_default-count_all-clause-settled : goal.returns-in_default-count_all-clause-settled
-returns-in_default-count_all-clause-settled c =
-    settled-by c.args.first c.args.outcome.now c.args.block.now c.count_all.new.block c.count_all-2.new.block
-    (rw c.as_slice-gained.ensures.value at c.in_default.ensures.changed) (rw c.as_slice.ensures.value at c.in_default-count_all.ensures.changed)
+pub returns-in_default-count_all-clause-exact : goal.returns-in_default-count_all-clause-exact
+returns-in_default-count_all-clause-exact c =
+    let up = rw c.as_slice-gained.ensures.value at c.in_default.ensures.changed in
+    let down = rw c.as_slice.ensures.value at c.in_default-count_all.ensures.changed in
+    sym (settled-is c.args.first c.args.outcome.now c.args.block.now c.count_all-2.new.block
+    (settled-by c.args.first c.args.outcome.now c.args.block.now c.count_all.new.block c.count_all-2.new.block up down)
+    (can-settle c.args.first c.args.outcome.now.gained.items c.args.outcome.now.freed.items c.args.block.now c.count_all.new.block c.count_all-2.new.block
+    up.counters c.count_all-2.ensures.fit down.counters))

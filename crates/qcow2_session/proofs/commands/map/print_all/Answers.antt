@@ -27,12 +27,12 @@ loop-extent-preserved g c =
     let before = c.loop-extent.invariant in
     let at = c.loop-extent.extents.position in
     let extent = c.in-Some.extent in
-    let comes = rw c.in-Some.is at c.in_ok-extent.ensures.position in
+    let comes = rw c.in-Some.is at c.in_ok-extent.ensures.extent in
     let moves = c.in_ok-extent.ensures.reader in
     record {
       printed = λ told.
           let printed = before.printed told in
-          let here = rw (c.in-Some.is, before.reads.bytes) at (c.in_ok-extent.ensures.told (before.reads.device.tells ∙ told)) in
+          let here = rw before.reads.bytes at (comes.4 (before.reads.device.tells ∙ told)) in
           let is = subst (λ (reader : ExtentsState). IsExtent (contents_for reader image) reader.header.v2.size at extent) before.same here in (
             printed.0 ++ (extent ∷ []),
             rw comes.2 (extents_more (contents_for start image) start.header.v2.size start.position at printed.0 extent printed.1 is),
