@@ -56,7 +56,11 @@ impl fmt::Display for Field {
     }
 }
 
-/// Why a call refused. Each fault belongs to one rule; the message says what the rule expects.
+/// Why a call refused. Each fault belongs to one rule; the message says what the rule expects. A fault's
+/// number is its place in this list, from 1 on.
+///
+/// A call over a storage may return `Storage` (34), and one that takes memory `NoMemory` (35), also where its
+/// own documentation names neither.
 #[derive(Clone, Copy, Debug, PartialEq, Eq, Error)]
 pub enum Fault {
     #[error("not a qcow2 image: the magic must be 0x514649fb")]
@@ -235,6 +239,6 @@ impl<T: Drop> From<AllocFailed<T>> for Fault {
     ghost from_gives = { λ _ fault. fault ≡ NoMemory };
 
     fn from(_failed: AllocFailed<T>) -> Fault {
-        Fault::from(AllocError)
+        Fault::NoMemory
     }
 }

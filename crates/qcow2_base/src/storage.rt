@@ -33,15 +33,21 @@ impl From<StorageFault> for Fault {
 ///
 /// Any offset and any length may be read or written, as long as the end is at most 2^56. A call that
 /// fails counts one failure, modulo 2^64, and a call that succeeds counts none.
+///
+/// An implementor keeps that count. If no proof shall know the bytes, its `state` has `tells = false` and
+/// `byte_at = λ _. 0`, as that of `FileStorage`, and the four laws are a line each. One that shall be known
+/// gives its bytes, as `MemStorage`. A storage over an aligned device copies through buffers of its own.
 pub trait Storage {
     /// What the storage says.
     ghost state: { Self → StorageState };
 
-    /// The alignment that buffers in memory should have, in bytes: a power of two.
+    /// The alignment of buffers in memory that is best, in bytes: a power of two. Only
+    /// `Table::write_entry` looks at it.
     fn mem_align(&self) -> usize
         ensures { result ≡ (state self.now).mem_align };
 
-    /// The alignment that offsets and lengths should have, in bytes: a power of two.
+    /// The alignment of offsets and lengths that is best, in bytes: a power of two. Only
+    /// `Table::write_entry` looks at it.
     fn req_align(&self) -> usize
         ensures { result ≡ (state self.now).req_align };
 
