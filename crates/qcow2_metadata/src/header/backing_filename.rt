@@ -7,8 +7,8 @@ ghost use Rattle.qcow2_metadata.specs.Header.Text.{is_short, name_text};
 ghost use Rattle.qcow2_metadata.specs.ReadAhead.{ReadsThrough};
 
 use super::Header;
+use super::bytes::{parse_text, read_bytes};
 use super::fixed_parts::cluster_size;
-use super::load::{parse_text, read_bytes};
 use crate::read_ahead::ReadAhead;
 use qcow2_base::{Fault, MAX_BACKING_FILENAME, Storage, V2Header};
 use std::alloc::{AllocError, Global};

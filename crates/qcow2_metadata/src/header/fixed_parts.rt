@@ -10,7 +10,7 @@ ghost use Rattle.qcow2_metadata.specs.Header.Grammar.{AreValidParts, IsBase, IsH
 ghost use Rattle.qcow2_metadata.specs.Header.Text.{AreFitting, base_with_length, fields_text, name_text, v2_with_name};
 
 use super::Header;
-use super::text::push_bytes;
+use super::bytes::push_bytes;
 use crate::range::read_range;
 use qcow2_base::{
     Fault, HostOffset, MAGIC, OnDiskStruct, Storage, V2Header, V3HeaderBase, read_be, write_be,
