@@ -78,7 +78,7 @@ header_extensions-same image other v2 base same =
 header_with_parts-same : (image other : Image) (parts : V2Header × V3HeaderBase)
     → AgreeWithin (2 ^ parts.0.cluster_bits) image other → parts_by parts.0 parts.1 ≡ Ok parts
     → header_with_parts other parts ≡ header_with_parts image parts
-header_with_parts-same image other parts same lawful =
+header_with_parts-same image other parts same valid =
     grind (arith, nat_tests, backing_name-same, header_extensions-same, bytes_at-same)
 
 -- images with the same first cluster have the same header, or the same fault

@@ -9,7 +9,7 @@ use Rattle.std.proofs.Math.Pow.{pow_mono}
 use Rattle.std.proofs.lemmas.Bool.Decides.{nat_tests}
 use Rattle.qcow2_metadata.proofs.TextLemmas.{IsKnown, length-header_text, newer-parts}
 use Rattle.qcow2_base.specs.declared.fault.Fault.TheVariants.{HeaderTooLong, NameTooLong}
-use Rattle.qcow2_metadata.specs.Header.{HeaderRecord, IsLawfulHeader}
+use Rattle.qcow2_metadata.specs.Header.{HeaderRecord, IsValidHeader}
 use Rattle.qcow2_metadata.specs.Header.Extensions.{Extension, FeatureKey, FeatureNameTable, FeatureNames, extension_of, name_chunk, names_of}
 use Rattle.qcow2_base.specs.OnDiskStruct.{header_extension_header, v2_header, v3_header_base}
 use Rattle.qcow2_metadata.specs.Header.Features.{feature_type_number}
@@ -89,14 +89,14 @@ extensions_pieces text before after with_names held i all parts zeros =
     rw (zeros, parts, extensions_text-held with_names held, take_all i held all) (simp append_assoc)
 
 -- a header in memory has no layout where its text is longer than the first cluster, which has 2 MiB at most
-pub too_long : (inside header : HeaderRecord) (with_names : Bool) → IsLawfulHeader inside → inside ≡ header
+pub too_long : (inside header : HeaderRecord) (with_names : Bool) → IsValidHeader inside → inside ≡ header
     → (2 ^ header.v2.cluster_bits ≤ 2 ^ 21 → 2 ^ header.v2.cluster_bits
     < name_place (header_to_write with_names header) + length (name_text header.backing_filename))
     → fits_first_cluster (header_to_write with_names header) ≡ false
-too_long inside header with_names lawful same long = grind (arith, nat_tests, pow_mono, length-header_text)
+too_long inside header with_names valid same long = grind (arith, nat_tests, pow_mono, length-header_text)
 
 -- and it has one where the text isn't longer
-pub laid_out : (inside header : HeaderRecord) (layout : Layout) (end place : ℕ) → IsLawfulHeader inside
+pub laid_out : (inside header : HeaderRecord) (layout : Layout) (end place : ℕ) → IsValidHeader inside
     → inside ≡ header
     → end ≡ header_end header → place ≡ name_place (header_to_write layout.with_names header)
     → layout.v2 ≡ v2_with_name header.v2 place header.backing_filename
@@ -104,7 +104,7 @@ pub laid_out : (inside header : HeaderRecord) (layout : Layout) (end place : ℕ
     → layout.len ≡ place + length (name_text header.backing_filename)
     → layout.len ≤ 2 ^ header.v2.cluster_bits
     → IsLayout (header_to_write layout.with_names header) layout
-laid_out inside header layout end place lawful same ends begins v2 base len short =
+laid_out inside header layout end place valid same ends begins v2 base len short =
     grind (arith, nat_tests, length-header_text)
 
 -- the pieces before the extensions in version 3

@@ -13,7 +13,7 @@ use Rattle.qcow2_base.specs.Storage.{Holds, Image, IsBytes, be, be_fits, be_of_s
 use Rattle.qcow2_base.specs.declared.on_disk_struct.header_extension_header.HeaderExtensionHeader.{HeaderExtensionHeader}
 use Rattle.qcow2_base.specs.declared.on_disk_struct.v3_header_base.V3HeaderBase.{V3HeaderBase}
 use Rattle.qcow2_base.proofs.OnDiskStructLemmas.{be_of_bytes}
-use Rattle.qcow2_metadata.specs.Header.{HeaderRecord, IsLawfulHeader, names_by}
+use Rattle.qcow2_metadata.specs.Header.{HeaderRecord, IsValidHeader, names_by}
 use Rattle.qcow2_metadata.specs.Header.Chain.{IsEnd, SaysExtensions, link_at}
 use Rattle.qcow2_metadata.specs.Header.Extensions.{Extension, data_of, name_in, normal_extension}
 use Rattle.qcow2_metadata.specs.Header.Grammar.{AreSame, HasExtensions, IsBackingName, IsBase, IsHeader}
@@ -327,37 +327,37 @@ held-pieces image header known held =
     }
 
 -- the length of a header that has its places
-placed-length : (header : HeaderRecord) → IsLawfulHeader header → IsPlaced header → IsKnown header
+placed-length : (header : HeaderRecord) → IsValidHeader header → IsPlaced header → IsKnown header
     → header.base.header_length ≡ 104 + length (padded_bytes header.unknown_header_fields)
-placed-length header lawful is known = grind (arith, nat_tests, newer-parts)
+placed-length header valid is known = grind (arith, nat_tests, newer-parts)
 
 -- it fits the first cluster
-placed-fits : (image : Image) (header : HeaderRecord) → IsLawfulHeader header → IsPlaced header
+placed-fits : (image : Image) (header : HeaderRecord) → IsValidHeader header → IsPlaced header
     → HasPieces image header → IsKnown header → header.base.header_length ≤ 2 ^ header.v2.cluster_bits
-placed-fits image header lawful is pieces (inl two) =
-    let none = lawful.older two in
+placed-fits image header valid is pieces (inl two) =
+    let none = valid.older two in
     let short : header.base.header_length ≡ 104 = ap (λ (b : V3HeaderBase). b.header_length) none.0 in
-    omega (arith, short, pow_mono (lawful.cluster_bits.0))
-placed-fits image header lawful is pieces (inr three) =
-    let count = placed-length header lawful is (inr three) in
+    omega (arith, short, pow_mono (valid.cluster_bits.0))
+placed-fits image header valid is pieces (inr three) =
+    let count = placed-length header valid is (inr three) in
     omega (arith, count, (newer-parts header three).1, pieces.count, is.fits)
 
 -- the unknown fields are in the image
-held-unknown : (image : Image) (header : HeaderRecord) → IsLawfulHeader header → HasPieces image header
+held-unknown : (image : Image) (header : HeaderRecord) → IsValidHeader header → HasPieces image header
     → IsKnown header → padded_bytes header.unknown_header_fields
     ≡ bytes_at image 104 (length (padded_bytes header.unknown_header_fields))
-held-unknown image header lawful pieces known = grind (arith, nat_tests, held-bytes_at)
+held-unknown image header valid pieces known = grind (arith, nat_tests, held-bytes_at)
 
 -- the second part is in the image
-held-base : (image : Image) (header : HeaderRecord) → IsLawfulHeader header → IsPlaced header
+held-base : (image : Image) (header : HeaderRecord) → IsValidHeader header → IsPlaced header
     → HasPieces image header → AreFitting (v3_header_base header.base)
     → IsBase image header.v2.version header.base
-held-base image header lawful is pieces fits = record {
+held-base image header valid is pieces fits = record {
   version_3 = λ three.
       let Stands = λ (h : HeaderRecord). Holds image 72 (fields_text (v3_header_base h.base)) in
       let held = subst Stands (sym is.placed) ((pieces.newer three).base) in
       text-fields image 72 0 (v3_header_base header.base) (assumption) fits held;
-  version_2 = λ two. (lawful.older two).0;
+  version_2 = λ two. (valid.older two).0;
 }
 
 -- the backing file's name is in the image
@@ -367,22 +367,22 @@ held-name : (image : Image) (header : HeaderRecord) (name : Option (List ℕ)) �
 held-name image header name none is pieces text = grind (arith, nat_tests, held-bytes_at)
 
 -- the extensions are in the image
-held-extensions : (image : Image) (header : HeaderRecord) → IsLawfulHeader header → IsPlaced header
+held-extensions : (image : Image) (header : HeaderRecord) → IsValidHeader header → IsPlaced header
     → HasPieces image header → All ReadsBack header.extensions
     → HasExtensions image header.v2 header.base (map normal_extension header.extensions)
-held-extensions image header lawful is pieces back =
+held-extensions image header valid is pieces back =
     grind (arith, nat_tests, newer-parts, placed-length, pow_mono, text-says)
 
 -- a header whose text is at the start of an image is the image's, as it reads back
-pub text-header : (image : Image) (header : HeaderRecord) → IsLawfulHeader header
+pub text-header : (image : Image) (header : HeaderRecord) → IsValidHeader header
     → All ReadsBack header.extensions → AreFitting (v2_header header.v2)
     → AreFitting (v3_header_base header.base) → IfSome header.backing_filename IsUtf8
     → header_after_write header ≡ Ok header → Holds image 0 (header_text header) → IsHeader image (header_read_back header)
-text-header image header lawful back fits_v2 fits_base text same held =
+text-header image header valid back fits_v2 fits_base text same held =
     let is = kept-placed header same in
-    let known = lawful.version in
+    let known = valid.version in
     let pieces = held-pieces image header known held in
-    let count = placed-length header lawful is known in
+    let count = placed-length header valid is known in
     let unknown = padded_bytes header.unknown_header_fields in
     let between : header.base.header_length - 104 ≡ length unknown = omega (arith, count) in
     let Stands = λ (h : HeaderRecord). Holds image 0 (fields_text (v2_header h.v2)) in
@@ -391,20 +391,20 @@ text-header image header lawful back fits_v2 fits_base text same held =
     let data_files = same-names_by kind.ExternalDataFileName header.extensions in
     record {
       v2 = text-fields image 0 0 (v2_header header.v2) (assumption) fits_v2 v2_held;
-      base = held-base image header lawful is pieces fits_base;
-      magic = lawful.magic;
+      base = held-base image header valid is pieces fits_base;
+      magic = valid.magic;
       version = known;
-      cluster_bits = lawful.cluster_bits;
+      cluster_bits = valid.cluster_bits;
       header_not_short = omega (arith, count);
-      header_not_big = placed-fits image header lawful is pieces known;
-      l1_table_aligned = lawful.l1_table_aligned;
-      reftable_aligned = lawful.reftable_aligned;
-      refcount_width = lawful.refcount_order;
-      unknown_header_fields = rw between (held-unknown image header lawful pieces known);
+      header_not_big = placed-fits image header valid is pieces known;
+      l1_table_aligned = valid.l1_table_aligned;
+      reftable_aligned = valid.reftable_aligned;
+      refcount_width = valid.refcount_order;
+      unknown_header_fields = rw between (held-unknown image header valid pieces known);
       backing_filename =
           held-name image header header.backing_filename refl is pieces text;
-      extensions = held-extensions image header lawful is pieces back;
-      one_format = subst AreSame (sym formats) (all_same-AreSame _ lawful.one_format);
-      one_data_file = subst AreSame (sym data_files) (all_same-AreSame _ lawful.one_data_file);
-      features = lawful.features;
+      extensions = held-extensions image header valid is pieces back;
+      one_format = subst AreSame (sym formats) (all_same-AreSame _ valid.one_format);
+      one_data_file = subst AreSame (sym data_files) (all_same-AreSame _ valid.one_data_file);
+      features = valid.features;
     }

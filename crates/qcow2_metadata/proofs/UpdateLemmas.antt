@@ -15,7 +15,7 @@ use Rattle.qcow2_base.specs.declared.fault.Field.{Field}
 use Rattle.qcow2_base.specs.declared.fault.Field.TheVariants as field
 use Rattle.qcow2_metadata.proofs.ExtensionsLemmas.{same_extension-Decides}
 use Rattle.qcow2_metadata.specs.Results.{first_failed, after_conditions}
-use Rattle.qcow2_metadata.specs.Header.{HeaderRecord, IsLawfulHeader}
+use Rattle.qcow2_metadata.specs.Header.{HeaderRecord, IsValidHeader}
 use Rattle.qcow2_metadata.specs.Header.Update.{AgreeIn, FieldValue, Number, IsFirstChange, agreements, kept_fields, same_value, value_in, with_header_length, with_size_and_tables}
 
 -- two names, which may be missing
@@ -138,6 +138,6 @@ with_size_and_tables-agreed here there agree =
     }
 
 -- tables of another header lie where clusters begin, and so they do in a header of the same cluster size
-pub with_size_and_tables-lawful : (here there : HeaderRecord) → IsLawfulHeader here → IsLawfulHeader there
-    → here.v2.cluster_bits ≡ there.v2.cluster_bits → IsLawfulHeader (with_size_and_tables here there)
-with_size_and_tables-lawful here there lawful other bits = grind (arith, nat_tests)
+pub with_size_and_tables-valid : (here there : HeaderRecord) → IsValidHeader here → IsValidHeader there
+    → here.v2.cluster_bits ≡ there.v2.cluster_bits → IsValidHeader (with_size_and_tables here there)
+with_size_and_tables-valid here there valid other bits = grind (arith, nat_tests)

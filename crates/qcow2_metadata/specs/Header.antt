@@ -117,7 +117,7 @@ new_header cluster_bits refcount_order backing_filename backing_format data_file
 }
 
 -- what holds of every header, whether it was made or loaded
-pub record IsLawfulHeader (header : HeaderRecord) : Type 0 where
+pub record IsValidHeader (header : HeaderRecord) : Type 0 where
   pub magic : header.v2.magic ≡ magic
   pub version : (header.v2.version ≡ 2) ⊎ (header.v2.version ≡ 3)
   pub cluster_bits : IsClusterBits header.v2.cluster_bits

@@ -42,7 +42,7 @@ pub struct Header {
 
 impl Model for Header {
     ghost use Rattle.std.specs.Prelude.{map, option_map, string_bytes};
-    ghost use Rattle.qcow2_metadata.specs.Header.{HeaderRecord, IsLawfulHeader};
+    ghost use Rattle.qcow2_metadata.specs.Header.{HeaderRecord, IsValidHeader};
     ghost use Rattle.qcow2_metadata.specs.Header.Extensions.{extension_of};
 
     ghost Value = { HeaderRecord };
@@ -55,7 +55,7 @@ impl Model for Header {
       extensions = map extension_of h.extensions.items;
     } };
 
-    ghost invariant = { λ h. IsLawfulHeader record {
+    ghost invariant = { λ h. IsValidHeader record {
       v2 = h.v2;
       base = h.base;
       unknown_header_fields = h.unknown_header_fields.items;

@@ -3,7 +3,7 @@
 
 ghost use Rattle.std.specs.Prelude.{◌≡◌, ◌↔◌, Ok};
 ghost use Rattle.qcow2_base.specs.Storage.{Image};
-ghost use Rattle.qcow2_metadata.specs.Header.{HeaderRecord, IsLawfulHeader};
+ghost use Rattle.qcow2_metadata.specs.Header.{HeaderRecord, IsValidHeader};
 ghost use Rattle.qcow2_metadata.specs.Header.Grammar.{IsHeader, SameFirstCluster, header_of};
 ghost use Rattle.qcow2_metadata.specs.Header.Text.{IsSettled, header_after_write};
 
@@ -21,6 +21,6 @@ pub fn only_the_first_cluster_matters()
 /// What a write leaves of a valid header can be written again, and places the same bytes. So does what it
 /// reads back as, which reads back as itself.
 pub fn a_written_header_reads_back()
-    ensures { (header written : HeaderRecord) → IsLawfulHeader header →
+    ensures { (header written : HeaderRecord) → IsValidHeader header →
         header_after_write header ≡ Ok written → IsSettled written }
 {}

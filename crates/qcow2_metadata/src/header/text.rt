@@ -2,7 +2,7 @@
 
 ghost use Rattle.std.specs.Prelude.{◌≡◌, ◌^◌, ◌<◌, ◌≤◌, ◌++◌, IfOk, IfSome, MatchOption, OnOk, SomeIff, false, replicate};
 ghost use Rattle.qcow2_base.specs.OnDiskStruct.{v2_header, v3_header_base};
-ghost use Rattle.qcow2_metadata.specs.Header.{IsLawfulHeader};
+ghost use Rattle.qcow2_metadata.specs.Header.{IsValidHeader};
 ghost use Rattle.qcow2_metadata.specs.Header.Text.{AreFitting, IsLayout, header_to_write, fits_first_cluster, header_end, header_text, padded_bytes, parts_text};
 
 use super::Header;
@@ -70,7 +70,7 @@ impl Header {
         ensures v2_fits { OnOk result (AreFitting (v2_header layout.now.v2)) }
         ensures base_fits { OnOk result
             (self.now.v2.version ≡ 3 → AreFitting (v3_header_base layout.now.base)) }
-        ensures lawful { IsLawfulHeader self.now }
+        ensures valid { IsValidHeader self.now }
     {
         let mut text = Vec::with_capacity(self.alloc, layout.len)?;
         self.push_parts(&mut text, layout)?;

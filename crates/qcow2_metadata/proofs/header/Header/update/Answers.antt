@@ -2,7 +2,7 @@ use Rattle.std.proofs.Common.{rules, ◌∙◌, ap, lit<, sym}
 use Rattle.qcow2_base.specs.declared.fault.Field.TheVariants as field
 use Rattle.qcow2_metadata.specs.Header.{HeaderRecord}
 use Rattle.qcow2_metadata.specs.Header.Update.{with_size_and_tables}
-use Rattle.qcow2_metadata.proofs.UpdateLemmas.{agreed-all, agreed-more, agreements-agreed, agreements-changed, first_change-at, numbers, with_size_and_tables-agreed, with_size_and_tables-lawful}
+use Rattle.qcow2_metadata.proofs.UpdateLemmas.{agreed-all, agreed-more, agreements-agreed, agreements-changed, first_change-at, numbers, with_size_and_tables-agreed, with_size_and_tables-valid}
 use Rattle.qcow2_metadata.proofs.header.Header.update.Goals as goal
 
 pub returns-then-not-agrees_in-clause-first : goal.returns-then-not-agrees_in-clause-first
@@ -24,7 +24,7 @@ invariant_of-self c =
     let all = agreed-all c.args.self.now c.args.other.now c.loop-field.field-index c.loop-field-test.false c.loop-field.invariant in
     let cluster_bits = λ (header : HeaderRecord). header.v2.cluster_bits in
     let agree = numbers _ _ (all 4 field.Magic (lit< tt)) in
-    with_size_and_tables-lawful _ _ c.self-2.invariant c.other.invariant
+    with_size_and_tables-valid _ _ c.self-2.invariant c.other.invariant
     (ap cluster_bits c.self-2.view_is ∙ agree ∙ sym (ap cluster_bits c.other.view_is))
 
 pub returns-clause-exact : goal.returns-clause-exact
