@@ -66,7 +66,7 @@ impl Model for Header {
 
 impl Header {
     ghost use Rattle.std.specs.Prelude.{◌-◌, ◌*◌, ◌<◌};
-    ghost use Rattle.qcow2_metadata.specs.Header.{first_by, new_header, uses_external_data};
+    ghost use Rattle.qcow2_metadata.specs.Header.{IsValidHeader, first_by, new_header, uses_external_data};
     ghost use Rattle.qcow2_metadata.specs.Header.Extensions.{feature_name_in, name_in};
     ghost use Rattle.qcow2_metadata.specs.declared.header.extensions.HeaderExtensionType.TheVariants as kind;
 
@@ -116,6 +116,13 @@ impl Header {
             backing_filename,
             extensions,
         })
+    }
+
+    // What holds of every header.
+    pub(crate) fn validity(&self)
+        ensures { IsValidHeader self.now }
+    {
+        let _ = &self.v2;
     }
 
     /// The logarithm of the cluster size in bytes, from 9 to 21.

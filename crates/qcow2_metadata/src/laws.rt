@@ -1,11 +1,13 @@
-//! Laws: facts about the definitions that contracts name. Each is a function that does nothing. Its
-//! contract is the law, and its name says it.
+//! Laws: facts about the definitions that contracts name, and what holds of each header. Each is a function
+//! that does nothing. Its contract is the law, and its name says it.
 
 ghost use Rattle.std.specs.Prelude.{◌≡◌, ◌↔◌, Ok};
 ghost use Rattle.qcow2_base.specs.Storage.{Image};
 ghost use Rattle.qcow2_metadata.specs.Header.{HeaderRecord, IsValidHeader};
 ghost use Rattle.qcow2_metadata.specs.Header.Grammar.{IsHeader, SameFirstCluster, header_of};
 ghost use Rattle.qcow2_metadata.specs.Header.Text.{IsSettled, header_after_write};
+
+use crate::Header;
 
 /// A header is read from an image exactly where the grammar says that the image begins with it.
 pub fn the_grammar_and_the_reader_agree()
@@ -17,6 +19,13 @@ pub fn the_grammar_and_the_reader_agree()
 pub fn only_the_first_cluster_matters()
     ensures { (image other : Image) → SameFirstCluster image other → header_of other ≡ header_of image }
 {}
+
+/// Every header in memory is valid.
+pub fn every_header_is_valid(header: &Header)
+    ensures { IsValidHeader header.now }
+{
+    header.validity()
+}
 
 /// What a write leaves of a valid header can be written again, and places the same bytes. So does what it
 /// reads back as, which reads back as itself.
