@@ -1,9 +1,11 @@
 //! Laws: facts about the definitions that contracts name, and what holds of each header. Each is a function
 //! that does nothing. Its contract is the law, and its name says it.
 
-ghost use Rattle.std.specs.Prelude.{◌≡◌, ◌↔◌, Ok};
+ghost use Rattle.std.specs.Prelude.{◌≡◌, ◌↔◌, ℕ, List, Ok, Err};
 ghost use Rattle.qcow2_base.specs.Storage.{Image};
+ghost use Rattle.qcow2_base.specs.declared.fault.Fault.{Fault};
 ghost use Rattle.qcow2_metadata.specs.Header.{HeaderRecord, IsValidHeader};
+ghost use Rattle.qcow2_metadata.specs.Header.Chain.{BreaksBy, IsChain, Link, extensions_at};
 ghost use Rattle.qcow2_metadata.specs.Header.Grammar.{IsHeader, SameFirstCluster, header_of};
 ghost use Rattle.qcow2_metadata.specs.Header.Text.{IsSettled, header_after_write};
 
@@ -13,6 +15,13 @@ use crate::Header;
 pub fn the_grammar_and_the_reader_agree()
     ensures { (image : Image) (header : HeaderRecord) →
         (header_of image ≡ Ok header) ↔ IsHeader image header }
+{}
+
+/// A chain of extensions that breaks at its last one is refused by the fault of that one.
+pub fn a_broken_chain_is_refused()
+    ensures { (image : Image) (len place : ℕ) (links : List Link) (last : Link) (fault : Fault) →
+        IsChain image len place links last → BreaksBy image len last fault →
+        extensions_at image len place ≡ Err fault }
 {}
 
 /// Images with the same first cluster have the same header, or are refused by the same fault.

@@ -1,5 +1,5 @@
 -- Which extensions does a header have, one after another, up to End?
-use Rattle.std.specs.Prelude.{◌≡◌, ◌≢◌, ℕ, zero, suc, ◌+◌, ◌≤◌, ◌==◌, nat_le, IsOk, List, [], ◌∷◌, map, Option, Some, None, Result, Ok, Err, true, false}
+use Rattle.std.specs.Prelude.{◌≡◌, ◌≢◌, ◌⊎◌, ℕ, zero, suc, ◌+◌, ◌<◌, ◌≤◌, ◌==◌, nat_le, IsOk, List, [], ◌∷◌, map, Option, Some, None, Result, Ok, Err, true, false}
 use Rattle.std.specs.Int.{next_multiple_of}
 use Rattle.qcow2_base.specs.Storage.{Image, be}
 use Rattle.qcow2_base.specs.declared.fault.Fault.{Fault}
@@ -55,6 +55,13 @@ pub record SaysExtensions (image : Image) (len place : ℕ) (extensions : List E
   pub chain : IsChain image len place links last
   pub complete : IsEnd len last
   pub said : map (extension_in_link image) links ≡ map Ok extensions
+
+-- the extension breaks its chain by this fault: it ends past that many bytes, or it isn't End and has data that its
+-- type can't read
+abbrev pub BreaksBy : Image → ℕ → Link → Fault → Type 0
+BreaksBy image len link fault =
+    ((len < data_end link) × (fault ≡ ExtensionsExceed))
+    ⊎ ((data_end link ≤ len) × (link.number ≢ 0) × (extension_in_link image link ≡ Err fault))
 
 -- what the extension at a place says, and where the next one is; nothing where it is End
 abbrev pub extension_at : Image → ℕ → ℕ → Result (Option (Extension × ℕ)) Fault
