@@ -4,7 +4,7 @@ use Rattle.std.specs.Str.{IsUtf8}
 use Rattle.std.proofs.Math.Nat.{mod-lt}
 use Rattle.std.proofs.Math.Pow.{pow_mono}
 use Rattle.std.specs.List.{flat_map}
-use Rattle.std.specs.Prelude.{OnOk}
+use Rattle.std.specs.Prelude.{unwrap_or, OnOk}
 use Rattle.std.proofs.lemmas.Bool.Decides.{nat_tests}
 use Rattle.std.proofs.lemmas.List.{get_or-append_right, get_or-append-add, get_or_append_left, ext_get_or, length-replicate}
 use Rattle.std.proofs.lemmas.List.Elements.{All-cons, All-head, All-nil, All-tail}
@@ -14,16 +14,16 @@ use Rattle.qcow2_base.specs.declared.on_disk_struct.header_extension_header.Head
 use Rattle.qcow2_base.specs.declared.on_disk_struct.v3_header_base.V3HeaderBase.{V3HeaderBase}
 use Rattle.qcow2_base.proofs.OnDiskStructLemmas.{be_of_bytes}
 use Rattle.qcow2_metadata.specs.Header.{HeaderRecord, IsValidHeader, names_by}
-use Rattle.qcow2_metadata.specs.Header.Chain.{IsEnd, SaysExtensions, link_at}
-use Rattle.qcow2_metadata.specs.Header.Extensions.{Extension, data_of, name_in, normal_extension}
+use Rattle.qcow2_metadata.specs.Header.Chain.{SaysExtensions, link_at}
+use Rattle.qcow2_metadata.specs.Header.Extensions.{Extension, data_of, name_in, normal_extension, type_number}
 use Rattle.qcow2_metadata.specs.Header.Grammar.{AreSame, HasExtensions, IsBackingName, IsBase, IsHeader}
-use Rattle.qcow2_metadata.specs.Header.Text.{AreFitting, extension_header_of, extension_text, extensions_text, fields_text, header_end, header_text, is_short, name_place, name_text, header_after_write, header_read_back, padded_bytes, parts_text, header_with_places, placed_base, placed_v2}
+use Rattle.qcow2_metadata.specs.Header.Text.{AreFitting, extension_text, extensions_text, fields_text, header_end, header_text, is_short, name_place, header_after_write, header_read_back, padded_bytes, parts_text, header_with_places, placed_base, placed_v2}
 use Rattle.qcow2_metadata.specs.Range.{bytes_at}
 use Rattle.qcow2_metadata.specs.declared.header.extensions.HeaderExtensionType.{HeaderExtensionType}
 use Rattle.qcow2_metadata.specs.declared.header.extensions.HeaderExtensionType.TheVariants as kind
 use Rattle.qcow2_metadata.proofs.GrammarLemmas.{all_same-AreSame}
 use Rattle.qcow2_metadata.proofs.ExtensionsLemmas.{ReadsBack}
-use Rattle.qcow2_metadata.proofs.ChainLemmas.{IsFirst, says_more, says_none}
+use Rattle.qcow2_metadata.proofs.ChainLemmas.{IsEnd, IsFirst, says_more, says_none}
 use Rattle.qcow2_metadata.proofs.RangeLemmas.{held-bytes_at}
 
 -- a field's value fits its bytes
@@ -172,11 +172,12 @@ first-extension : (image : Image) (len place : ℕ) (extension : Extension) → 
     → Holds image place (extension_text extension) → place + length (extension_text extension) ≤ len
     → IsFirst image len place (normal_extension extension) (place + length (extension_text extension))
 first-extension image len place extension back small held within =
-    let header = fields_text (header_extension_header (extension_header_of extension)) in
     let bytes = data_of extension in
+    let before : HeaderExtensionHeader = record { extension_type = type_number extension; length = length bytes } in
+    let header = fields_text (header_extension_header before) in
     let count = length-extension_text extension in
     let first = Holds-first image place header (padded_bytes bytes) held in
-    let are = held-header image place (extension_header_of extension) back.0 (omega (arith, count)) first in
+    let are = held-header image place before back.0 (omega (arith, count)) first in
     let second = Holds-second image place header (padded_bytes bytes) held in
     let padding : List ℕ = replicate (next_multiple_of (length bytes) 8 - length bytes) 0 in
     let content =
@@ -263,7 +264,7 @@ length-parts_text header (inr three) = grind (arith, nat_tests, newer-parts, len
 
 -- how many bytes a header's text has
 pub length-header_text : (header : HeaderRecord) → IsKnown header
-    → length (header_text header) ≡ name_place header + length (name_text header.backing_filename)
+    → length (header_text header) ≡ name_place header + length (unwrap_or header.backing_filename [])
 unfolding header_text
 length-header_text header known = grind (arith, nat_tests, length-append, length-parts_text)
 
@@ -299,8 +300,8 @@ record HasPieces (image : Image) (header : HeaderRecord) : Type 0 where
   v2 : Holds image 0 (fields_text (v2_header (placed_v2 header)))
   newer : header.v2.version ≡ 3 → HasNewerParts image header
   extensions : Holds image (header_end header) (extensions_text header.extensions)
-  name : Holds image (name_place header) (name_text header.backing_filename)
-  count : length (header_text header) ≡ name_place header + length (name_text header.backing_filename)
+  name : Holds image (name_place header) (unwrap_or header.backing_filename [])
+  count : length (header_text header) ≡ name_place header + length (unwrap_or header.backing_filename [])
 
 -- they are in the image
 held-pieces : (image : Image) (header : HeaderRecord) → IsKnown header → Holds image 0 (header_text header)
@@ -309,7 +310,7 @@ unfolding header_text
 held-pieces image header known held =
     let parts = parts_text header in
     let extensions = extensions_text header.extensions in
-    let name = name_text header.backing_filename in
+    let name = unwrap_or header.backing_filename [] in
     let front = Holds-first image 0 (parts ++ extensions) name held in
     let first = Holds-first image 0 parts extensions front in
     let second = Holds-second image 0 parts extensions front in

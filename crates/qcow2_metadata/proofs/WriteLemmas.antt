@@ -11,7 +11,7 @@ use Rattle.qcow2_base.specs.declared.on_disk_struct.v2_header.V2Header.{V2Header
 use Rattle.qcow2_base.specs.declared.on_disk_struct.v3_header_base.V3HeaderBase.{V3HeaderBase}
 use Rattle.qcow2_metadata.specs.Header.{HeaderRecord, IsValidHeader, names_by, other_features}
 use Rattle.qcow2_metadata.specs.Header.Extensions.{Extension, IsStorable, extension_of, name_in}
-use Rattle.qcow2_metadata.specs.Header.Text.{AreFitting, IsLayout, IsWrittenHeader, base_with_length, header_to_write, chosen_extensions, chosen_text, header_end, header_text, header_after_write, placed_text, is_other, name_place, header_with_places}
+use Rattle.qcow2_metadata.specs.Header.Text.{AreFitting, IsLayout, IsWrittenHeader, base_with_length, header_to_write, chosen_extensions, chosen_text, header_end, header_text, header_after_write, is_other, name_place, header_with_places}
 use Rattle.qcow2_metadata.specs.declared.header.text.Layout.{Layout}
 use Rattle.qcow2_metadata.proofs.ExtensionsLemmas.{ReadsBack}
 use Rattle.qcow2_metadata.proofs.NamesLemmas.{storable-reads_back}
@@ -101,7 +101,7 @@ kept-fault header fault is = grind arith
 -- the text that a write places
 pub chosen_text-placed : (header written : HeaderRecord) → header_after_write header ≡ Ok (header_with_places written)
     → chosen_text header ≡ header_text written
-chosen_text-placed header written is = ap placed_text is ∙ header_text-placed written
+chosen_text-placed header written is = rw (is, chosen_text) (header_text-placed written)
 
 -- the second part that is written fits
 base-fits : (with_names : Bool) (header : HeaderRecord) (layout : Layout) → IsValidHeader header

@@ -1,12 +1,12 @@
 //! Laws: facts about the definitions that contracts name, and what holds of each header. Each is a function
 //! that does nothing. Its contract is the law, and its name says it.
 
-ghost use Rattle.std.specs.Prelude.{◌≡◌, ◌↔◌, ℕ, List, Ok, Err};
-ghost use Rattle.qcow2_base.specs.Storage.{Image};
+ghost use Rattle.std.specs.Prelude.{◌≡◌, ◌↔◌, ◌^◌, ◌<◌, max, ℕ, List, Ok, Err};
+ghost use Rattle.qcow2_base.specs.Storage.{Image, be};
 ghost use Rattle.qcow2_base.specs.declared.fault.Fault.{Fault};
 ghost use Rattle.qcow2_metadata.specs.Header.{HeaderRecord, IsValidHeader};
 ghost use Rattle.qcow2_metadata.specs.Header.Chain.{BreaksBy, IsChain, Link, extensions_at};
-ghost use Rattle.qcow2_metadata.specs.Header.Grammar.{IsHeader, SameFirstCluster, header_of};
+ghost use Rattle.qcow2_metadata.specs.Header.Grammar.{IsHeader, header_of};
 ghost use Rattle.qcow2_metadata.specs.Header.Text.{IsSettled, header_after_write};
 
 use crate::Header;
@@ -24,9 +24,11 @@ pub fn a_broken_chain_is_refused()
         extensions_at image len place ≡ Err fault }
 {}
 
-/// Images with the same first cluster have the same header, or are refused by the same fault.
+/// Images with the same first cluster have the same header, or are refused by the same fault. That are
+/// `2 ^ cluster_bits` bytes, as the image says at 20, and 512 in any case.
 pub fn only_the_first_cluster_matters()
-    ensures { (image other : Image) → SameFirstCluster image other → header_of other ≡ header_of image }
+    ensures { (image other : Image) →
+        ((o : ℕ) → o < max 512 (2 ^ be image 20 4) → other o ≡ image o) → header_of other ≡ header_of image }
 {}
 
 /// Every header in memory is valid.

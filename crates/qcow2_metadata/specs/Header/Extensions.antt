@@ -85,15 +85,11 @@ with_feature_name names (number ∷ bytes) = of_type (feature_type_of number) by
     of_type (Some feature_type) [] = Err FeatureNameCut
     of_type (Some feature_type) (bit ∷ name) = Ok (insert_entry key_cmp names (feature_type, bit) (utf8_lossy (until_zero name)))
 
--- the chunk of a table at an index: 48 bytes, or those that are left
-abbrev pub chunk_at : List ℕ → ℕ → List ℕ
-chunk_at bytes index = take 48 (drop (48 * index) bytes)
-
 -- the names of the first chunks of 48 bytes; a later one of the same key replaces an earlier one
 abbrev pub names_of_chunks : List ℕ → ℕ → Result FeatureNames Fault
 names_of_chunks bytes zero = Ok []
 names_of_chunks bytes (suc chunks) =
-    and_then (names_of_chunks bytes chunks) (λ names. with_feature_name names (chunk_at bytes chunks))
+    and_then (names_of_chunks bytes chunks) (λ names. with_feature_name names (take 48 (drop (48 * chunks) bytes)))
 
 -- the names of a feature name table; its last chunk may be shorter
 abbrev pub feature_names : List ℕ → Result FeatureNames Fault

@@ -2,9 +2,10 @@
 
 ghost use Rattle.std.specs.Prelude.{◌≡◌, ◌≢◌, ◌⊎◌, ◌+◌, ◌^◌, ◌<◌, ◌≤◌, ◌++◌, nat_le, [], ◌∷◌, All, IfErr, IfOk, IfSome, IsOkUnless, Ok, OnOk, SomeIff, length, map, option_map, string_bytes};
 ghost use Rattle.qcow2_base.specs.OnDiskStruct.{header_extension_header};
+ghost use Rattle.qcow2_base.specs.Storage.{be};
 ghost use Rattle.qcow2_base.specs.declared.fault.Fault.TheVariants.{ExtensionText};
 ghost use Rattle.qcow2_metadata.specs.Results.{after_conditions, result_map};
-ghost use Rattle.qcow2_metadata.specs.Header.Chain.{data_end, extension_at, extension_header_at, extensions_at, link_at};
+ghost use Rattle.qcow2_metadata.specs.Header.Chain.{data_end, extension_at, extensions_at, link_at};
 ghost use Rattle.qcow2_metadata.specs.Header.Extensions.{IsStorable, data_of, extension_number, extension_of, feature_name_in, name_in, extension_from_data, type_number};
 ghost use Rattle.qcow2_metadata.specs.Header.Features.{HasNumber};
 ghost use Rattle.qcow2_metadata.specs.Header.Grammar.{AreValidParts, IsHeaderFault, header_extensions};
@@ -183,7 +184,7 @@ fn read_extension_header<S: Storage>(
     requires { len ≤ 2 ^ 21 }
     ensures reads { ReadsThrough S.state (λ header. header) result (λ bytes. after_conditions
         ((nat_le (data_end (link_at bytes place)) len, Fault.ExtensionsExceed) ∷ [])
-        (λ _. Ok (extension_header_at bytes place))) IsHeaderFault image.old image.new }
+        (λ _. Ok (record { extension_type = be bytes place 4; length = be bytes (place + 4) 4 }))) IsHeaderFault image.old image.new }
     ensures bounded { IfOk result (λ header. place + 8 + header.length ≤ len) }
 {
     if place > len || len - place < 8 {
