@@ -1,11 +1,17 @@
 //! Laws: facts about the definitions that contracts name, and what holds of each header. Each is a function
 //! that does nothing. Its contract is the law, and its name says it.
 
-ghost use Rattle.std.specs.Prelude.{◌≡◌, ◌↔◌, ◌^◌, ◌<◌, max, ℕ, List, Ok, Err};
+ghost use Rattle.std.specs.Prelude.{◌∷◌, if◌then◌else◌, Some, ◌≡◌, ◌↔◌, ◌^◌, ◌<◌, max, ℕ, List, Ok, Err};
+ghost use Rattle.std.specs.Ordering.{is_eq};
+ghost use Rattle.std.specs.Str.Lossy.{utf8_lossy};
 ghost use Rattle.qcow2_base.specs.Storage.{Image, be};
 ghost use Rattle.qcow2_base.specs.declared.fault.Fault.{Fault};
 ghost use Rattle.qcow2_metadata.specs.Header.{HeaderRecord, IsValidHeader};
 ghost use Rattle.qcow2_metadata.specs.Header.Chain.{BreaksBy, IsChain, Link, extensions_at};
+ghost use Rattle.qcow2_metadata.specs.Header.Extensions.{FeatureKey, FeatureNameTable, FeatureNames, feature_name_in, key_cmp, until_zero, with_feature_name};
+ghost use Rattle.qcow2_metadata.specs.Header.Features.{feature_type_number};
+ghost use Rattle.qcow2_metadata.specs.declared.header.features.FeatureType.{FeatureType};
+ghost use Rattle.qcow2_metadata.specs.Results.{result_map};
 ghost use Rattle.qcow2_metadata.specs.Header.Grammar.{IsHeader, header_of};
 ghost use Rattle.qcow2_metadata.specs.Header.Text.{IsSettled, header_after_write};
 
@@ -22,6 +28,16 @@ pub fn a_broken_chain_is_refused()
     ensures { (image : Image) (len place : ℕ) (links : List Link) (last : Link) (fault : Fault) →
         IsChain image len place links last → BreaksBy image len last fault →
         extensions_at image len place ≡ Err fault }
+{}
+
+/// A chunk of a feature name table names the feature of its key, whatever earlier ones said of that, and leaves what
+/// they said of others. So the last chunk of a key names its feature.
+pub fn the_last_chunk_of_a_key_names_its_feature()
+    ensures { (names : FeatureNames) (kind : FeatureType) (bit : ℕ) (name : List ℕ) (other : FeatureKey) →
+        result_map (λ after. feature_name_in other (FeatureNameTable after))
+        (with_feature_name names (feature_type_number kind ∷ bit ∷ name))
+        ≡ Ok (if is_eq (key_cmp other (kind, bit)) then Some (utf8_lossy (until_zero name))
+        else feature_name_in other (FeatureNameTable names)) }
 {}
 
 /// Images with the same first cluster have the same header, or are refused by the same fault. That are
