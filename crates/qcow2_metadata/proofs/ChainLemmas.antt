@@ -1,10 +1,10 @@
-use Rattle.std.proofs.Common.{◌≡◌, ◌≢◌, ℕ, zero, suc, ◌+◌, ◌*◌, ◌<◌, ◌≤◌, List, [], ◌∷◌, map, Option, Some, None, Result, Ok, Err, refl, ap, ◌∙◌, arith}
+use Rattle.std.proofs.Common.{◌≡◌, ◌≢◌, ℕ, zero, suc, ◌+◌, ◌*◌, ◌<◌, ◌≤◌, List, [], ◌∷◌, map, IsOk, Option, Some, None, Result, Ok, Err, refl, ap, ◌∙◌, arith}
 use Rattle.qcow2_base.specs.Storage.{Image}
 use Rattle.qcow2_base.specs.declared.fault.Fault.{Fault}
 use Rattle.qcow2_base.specs.declared.fault.Fault.TheVariants.{ExtensionsExceed}
 use Rattle.std.proofs.lemmas.Bool.Decides.{nat_tests}
 use Rattle.qcow2_metadata.specs.Results.{and_then, result_map}
-use Rattle.qcow2_metadata.specs.Header.Chain.{IsChain, IsEnd, Link, SaysExtensions, data_end, extension_at, extensions_at, few_extensions, link_at, next_place, extension_in_link}
+use Rattle.qcow2_metadata.specs.Header.Chain.{BreaksBy, IsChain, Link, SaysExtensions, data_end, extension_at, extensions_at, few_extensions, link_at, next_place, extension_in_link}
 use Rattle.qcow2_metadata.specs.Header.Extensions.{Extension}
 
 -- where too few bytes are left for an extension
@@ -18,6 +18,11 @@ pub record IsFirst (image : Image) (len place : ℕ) (extension : Extension) (ne
   pub more : (link_at image place).number ≢ 0
   pub says : extension_in_link image (link_at image place) ≡ Ok extension
   pub next_is : next ≡ next_place (link_at image place)
+
+-- the last extension of a complete chain
+pub record IsEnd (len : ℕ) (last : Link) : Type 0 where
+  pub bounded : data_end last ≤ len
+  pub end : last.number ≡ 0
 
 -- what is at a place, by what is found there
 extension_at-end : (image : Image) (len place : ℕ) → extension_at image len place ≡ Ok None
@@ -88,7 +93,8 @@ says_more image len place next extension others first rest = record {
   links = link_at image place ∷ rest.links;
   last = rest.last;
   chain = chain_more image len place next extension rest.links rest.last first rest.chain;
-  complete = rest.complete;
+  bounded = rest.bounded;
+  end = rest.end;
   said = rw (first.says, rest.said) refl;
 }
 
@@ -149,4 +155,24 @@ chain-says image len place (link ∷ links) last (extension ∷ others) chain en
 pub says-extensions_at : (image : Image) (len place : ℕ) (extensions : List Extension)
     → SaysExtensions image len place extensions → extensions_at image len place ≡ Ok extensions
 says-extensions_at image len place extensions says =
-    chain-says image len place says.links says.last extensions says.chain says.complete says.said
+    chain-says image len place says.links says.last extensions says.chain (record { bounded = says.bounded; end = says.end }) says.said
+
+-- the extension at a place where a chain breaks is refused
+breaks-extension_at : (image : Image) (len place : ℕ) (fault : Fault) → BreaksBy image len (link_at image place) fault
+    → extension_at image len place ≡ Err fault
+breaks-extension_at image len place fault breaks = grind (arith, nat_tests)
+
+-- and so is the chain
+pub breaks-extensions_at : (image : Image) (len place : ℕ) (links : List Link) (last : Link) (fault : Fault)
+    → IsChain image len place links last → BreaksBy image len last fault → extensions_at image len place ≡ Err fault
+breaks-extensions_at image len place [] last fault chain breaks =
+    extensions_at-unfold image len place ∙ rw (breaks-extension_at image len place fault (rw chain at breaks)) refl
+breaks-extensions_at image len place (link ∷ links) last fault chain breaks =
+    by_data (extension_in_link image link) refl chain.3
+    (breaks-extensions_at image len (next_place link) links last fault chain.4 breaks)
+  where
+    by_data : (found : Result Extension Fault) → extension_in_link image link ≡ found → IsOk found
+        → extensions_at image len (next_place link) ≡ Err fault → extensions_at image len place ≡ Err fault
+    by_data (Ok extension) says ok rest =
+        chain_first image len place link links last extension chain says ∙ rw rest refl
+    by_data (Err other) says ok rest = cc

@@ -1,4 +1,4 @@
-use Rattle.std.proofs.Common.{◌≡◌, ℕ, zero, suc, ◌+◌, ◌^◌, ◌<◌, ◌≤◌, ◌==◌, map, Result, Ok, Err, refl, ap, ◌∙◌, inl, inr, arith}
+use Rattle.std.proofs.Common.{◌≡◌, ℕ, zero, suc, ◌+◌, ◌^◌, ◌<◌, ◌≤◌, ◌==◌, max, map, Result, Ok, Err, refl, ap, ◌∙◌, inl, inr, arith}
 use Rattle.std.specs.List.{range_with_len}
 use Rattle.std.proofs.lemmas.Bool.{cases_Bool}
 use Rattle.std.proofs.lemmas.Bool.Decides.{nat_tests}
@@ -8,7 +8,7 @@ use Rattle.qcow2_base.specs.declared.fault.Fault.{Fault}
 use Rattle.qcow2_base.specs.declared.on_disk_struct.v2_header.V2Header.{V2Header}
 use Rattle.qcow2_base.specs.declared.on_disk_struct.v3_header_base.V3HeaderBase.{V3HeaderBase}
 use Rattle.qcow2_metadata.specs.Header.Chain.{extension_at, extensions_at, few_extensions}
-use Rattle.qcow2_metadata.specs.Header.Grammar.{SameFirstCluster, backing_name, base_at, fixed_parts, header_extensions, header_of, header_with_parts, v2_at}
+use Rattle.qcow2_metadata.specs.Header.Grammar.{backing_name, base_at, fixed_parts, header_extensions, header_of, header_with_parts, v2_at}
 use Rattle.qcow2_metadata.specs.Range.{bytes_at}
 use Rattle.qcow2_metadata.proofs.ChainLemmas.{extension_at-past}
 use Rattle.qcow2_metadata.proofs.GrammarLemmas.{fixed_parts-are, parts_by}
@@ -79,11 +79,12 @@ header_extensions-same image other v2 base same =
 header_with_parts-same : (image other : Image) (parts : V2Header × V3HeaderBase)
     → AgreeWithin (2 ^ parts.0.cluster_bits) image other → parts_by parts.0 parts.1 ≡ Ok parts
     → header_with_parts other parts ≡ header_with_parts image parts
-header_with_parts-same image other parts same lawful =
+header_with_parts-same image other parts same valid =
     grind (arith, nat_tests, backing_name-same, header_extensions-same, bytes_at-same)
 
 -- images with the same first cluster have the same header, or the same fault
-pub header_of-same : (image other : Image) → SameFirstCluster image other → header_of other ≡ header_of image
+pub header_of-same : (image other : Image) → ((o : ℕ) → o < max 512 (2 ^ be image 20 4) → other o ≡ image o)
+    → header_of other ≡ header_of image
 unfolding header_of
 header_of-same image other same = by_parts (fixed_parts image) refl
   where

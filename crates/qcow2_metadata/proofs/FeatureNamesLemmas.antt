@@ -1,13 +1,16 @@
-use Rattle.std.proofs.Common.{◌≡◌, ◌≢◌, ℕ, zero, suc, add-one, zero-add, ◌+◌, ◌*◌, ◌<◌, ◌≤◌, List, [], ◌∷◌, length, slice_index, take, drop, map, refl, arith, Option, None, Some, unwrap_or}
+use Rattle.std.proofs.Common.{◌≡◌, ◌≢◌, ℕ, zero, suc, add-one, zero-add, ◌+◌, ◌*◌, ◌<◌, ◌≤◌, List, [], ◌∷◌, length, slice_index, take, drop, map, refl, ap, arith, true, if◌then◌else◌, Option, None, Some, unwrap_or}
 use Rattle.std.specs.Prelude.{Ok, Err}
 use Rattle.std.specs.BTreeMap.{insert_entry}
+use Rattle.std.specs.Map.{lookup}
+use Rattle.std.specs.Ordering.{is_eq}
 use Rattle.std.specs.Str.Lossy.{utf8_lossy}
 use Rattle.std.specs.declared.cmp.Ordering.{Ordering}
 use Rattle.bstr.proofs.lemmas.LossyLemmas.{lossy_chars-utf8_lossy}
 use Rattle.memchr.specs.Find.{IsFirstByte, is_byte}
 use Rattle.qcow2_base.specs.declared.fault.Fault.{Fault}
 use Rattle.std.proofs.lemmas.Bool.Decides.{nat_tests}
-use Rattle.qcow2_metadata.specs.Header.Extensions.{FeatureNames, key_cmp, names_of_chunks, until_zero, with_feature_name}
+use Rattle.qcow2_metadata.specs.Header.Extensions.{FeatureKey, FeatureNameTable, FeatureNames, feature_name_in, key_cmp, names_of_chunks, until_zero, with_feature_name}
+use Rattle.qcow2_metadata.specs.Results.{result_map}
 use Rattle.qcow2_metadata.specs.Header.Features.{feature_type_number, feature_type_of}
 use Rattle.qcow2_metadata.specs.declared.header.features.FeatureType.{FeatureType}
 use Rattle.qcow2_metadata.specs.declared.header.features.FeatureType.TheVariants.{Autoclear, Compatible, Incompatible}
@@ -66,3 +69,26 @@ names_of_chunks-fault bytes fault few (suc more) bad =
 pub names_of_chunks-more : (bytes : List ℕ) (chunks : ℕ) (names : FeatureNames) → names_of_chunks bytes chunks ≡ Ok names
     → names_of_chunks bytes (chunks + 1) ≡ with_feature_name names (take 48 (drop (48 * chunks) bytes))
 names_of_chunks-more bytes chunks names before = rw (add-one chunks, before) refl
+
+-- keys that compare as equal are one
+key_cmp-same : (a b : FeatureKey) → is_eq (key_cmp a b) ≡ true → a ≡ b
+key_cmp-same (kind, m) (other, n) is = grind (arith, nat_tests)
+
+-- the value of a key after one is set
+lookup-set : {K X : Type 0} (cmp : K → K → Ordering) → ((a b : K) → is_eq (cmp a b) ≡ true → a ≡ b)
+    → (entries : List (K × X)) (key other : K) (value : X)
+    → lookup (λ k. is_eq (cmp other k)) (insert_entry cmp entries key value)
+    ≡ (if is_eq (cmp other key) then Some value else lookup (λ k. is_eq (cmp other k)) entries)
+lookup-set cmp same [] key other value = refl
+lookup-set cmp same (entry ∷ entries) key other value =
+    grind (arith, nat_tests, same, lookup-set cmp same entries key other value)
+
+-- the names that features have after a chunk of two bytes and more
+pub named-after_chunk : (names : FeatureNames) (kind : FeatureType) (bit : ℕ) (name : List ℕ) (other : FeatureKey)
+    → result_map (λ after. feature_name_in other (FeatureNameTable after))
+    (with_feature_name names (feature_type_number kind ∷ bit ∷ name))
+    ≡ Ok (if is_eq (key_cmp other (kind, bit)) then Some (utf8_lossy (until_zero name))
+    else feature_name_in other (FeatureNameTable names))
+named-after_chunk names kind bit name other =
+    rw (with_feature_name-named names kind (feature_type_number kind ∷ bit ∷ name) (omega arith) refl)
+    (ap Ok (lookup-set key_cmp key_cmp-same names (kind, bit) other (utf8_lossy (until_zero name))))

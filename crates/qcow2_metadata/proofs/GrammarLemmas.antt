@@ -182,18 +182,18 @@ header_of-is image header is =
     (after_extensions image parts named.0) header named.2 in
     let last = last-hold parts.1 found.0 (header_from image parts named.0 found.0) header found.2 in
     let are = fixed_parts-are image parts fixed.1 in
-    let lawful = are.2 in
+    let valid = are.2 in
     subst (IsHeader image) last.1 (record {
       v2 = subst (λ (h : V2Header). HoldsLayout image (v2_header h)) are.0 assumption;
       base = subst (IsBase image parts.0.version) are.1 (base_at-IsBase image parts.0.version);
-      magic = grind (arith, nat_tests, lawful);
-      version = grind (arith, nat_tests, lawful);
-      cluster_bits = (grind (arith, nat_tests, lawful), grind (arith, nat_tests, lawful));
-      header_not_short = grind (arith, nat_tests, lawful);
-      header_not_big = grind (arith, nat_tests, lawful);
-      l1_table_aligned = grind (arith, nat_tests, lawful);
-      reftable_aligned = grind (arith, nat_tests, lawful);
-      refcount_width = grind (arith, nat_tests, lawful);
+      magic = grind (arith, nat_tests, valid);
+      version = grind (arith, nat_tests, valid);
+      cluster_bits = (grind (arith, nat_tests, valid), grind (arith, nat_tests, valid));
+      header_not_short = grind (arith, nat_tests, valid);
+      header_not_big = grind (arith, nat_tests, valid);
+      l1_table_aligned = grind (arith, nat_tests, valid);
+      reftable_aligned = grind (arith, nat_tests, valid);
+      refcount_width = grind (arith, nat_tests, valid);
       unknown_header_fields = refl;
       backing_filename = backing_name-is image parts.0 named.0 named.1;
       extensions = header_extensions-has image parts.0 parts.1 found.0 found.1;

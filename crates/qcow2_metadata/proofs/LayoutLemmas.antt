@@ -2,18 +2,18 @@ use Rattle.std.proofs.Common.{◌≡◌, ℕ, ◌+◌, ◌-◌, ◌%◌, ◌^◌
 use Rattle.std.specs.BTreeMap.{BTreeMap}
 use Rattle.std.specs.Global.{Global}
 use Rattle.std.specs.List.{flat_map}
-use Rattle.std.specs.Prelude.{Err, IfSome, MatchOption, None, Ok, Option, Some, String, ok_or, string_bytes}
+use Rattle.std.specs.Prelude.{unwrap_or, Err, IfSome, MatchOption, None, Ok, Option, Some, String, ok_or, string_bytes}
 use Rattle.std.proofs.lemmas.List.{length-map, take_min}
 use Rattle.std.proofs.lemmas.List.Folds.{flat_map-map, length-flat_map-take}
 use Rattle.std.proofs.Math.Pow.{pow_mono}
 use Rattle.std.proofs.lemmas.Bool.Decides.{nat_tests}
 use Rattle.qcow2_metadata.proofs.TextLemmas.{IsKnown, length-header_text, newer-parts}
 use Rattle.qcow2_base.specs.declared.fault.Fault.TheVariants.{HeaderTooLong, NameTooLong}
-use Rattle.qcow2_metadata.specs.Header.{HeaderRecord, IsLawfulHeader}
-use Rattle.qcow2_metadata.specs.Header.Extensions.{Extension, FeatureKey, FeatureNameTable, FeatureNames, extension_of, name_chunk, names_of}
+use Rattle.qcow2_metadata.specs.Header.{HeaderRecord, IsValidHeader}
+use Rattle.qcow2_metadata.specs.Header.Extensions.{Extension, FeatureKey, FeatureNameTable, FeatureNames, data_of, extension_of, name_chunk, names_of, type_number}
 use Rattle.qcow2_base.specs.OnDiskStruct.{header_extension_header, v2_header, v3_header_base}
 use Rattle.qcow2_metadata.specs.Header.Features.{feature_type_number}
-use Rattle.qcow2_metadata.specs.Header.Text.{IsChosen, IsLayout, base_with_length, header_end, v2_with_name, header_after_write, header_to_write, chosen_extensions, header_text, extension_header_of, extension_text, extensions_text, fields_text, fits_first_cluster, name_place, name_text, padded_bytes, parts_text, written_text}
+use Rattle.qcow2_metadata.specs.Header.Text.{IsChosen, IsLayout, base_with_length, header_end, v2_with_name, header_after_write, header_to_write, chosen_extensions, header_text, extension_text, extensions_text, fields_text, fits_first_cluster, name_place, padded_bytes, parts_text, written_text}
 use Rattle.qcow2_metadata.specs.declared.header.text.Layout.{Layout}
 use Rattle.qcow2_metadata.specs.declared.header.extensions.HeaderExtension.{HeaderExtension}
 use Rattle.qcow2_metadata.proofs.NamesLemmas.{name_chunks_len}
@@ -77,7 +77,7 @@ names_padded names = grind (arith, nat_tests, name_chunks_len, append-nil)
 
 -- the pieces of an extension of names
 pub names_pieces : (text before after : List ℕ) (extension : Extension) (names : FeatureNames) → extension ≡ FeatureNameTable names
-    → before ≡ text ++ fields_text (header_extension_header (extension_header_of extension))
+    → before ≡ text ++ fields_text (header_extension_header (record { extension_type = type_number extension; length = length (data_of extension) }))
     → after ≡ before ++ flat_map name_chunk names → after ≡ text ++ extension_text extension
 names_pieces text before after extension names is header more = grind (arith, nat_tests, names_padded, append_assoc)
 
@@ -89,22 +89,22 @@ extensions_pieces text before after with_names held i all parts zeros =
     rw (zeros, parts, extensions_text-held with_names held, take_all i held all) (simp append_assoc)
 
 -- a header in memory has no layout where its text is longer than the first cluster, which has 2 MiB at most
-pub too_long : (inside header : HeaderRecord) (with_names : Bool) → IsLawfulHeader inside → inside ≡ header
+pub too_long : (inside header : HeaderRecord) (with_names : Bool) → IsValidHeader inside → inside ≡ header
     → (2 ^ header.v2.cluster_bits ≤ 2 ^ 21 → 2 ^ header.v2.cluster_bits
-    < name_place (header_to_write with_names header) + length (name_text header.backing_filename))
+    < name_place (header_to_write with_names header) + length (unwrap_or header.backing_filename []))
     → fits_first_cluster (header_to_write with_names header) ≡ false
-too_long inside header with_names lawful same long = grind (arith, nat_tests, pow_mono, length-header_text)
+too_long inside header with_names valid same long = grind (arith, nat_tests, pow_mono, length-header_text)
 
 -- and it has one where the text isn't longer
-pub laid_out : (inside header : HeaderRecord) (layout : Layout) (end place : ℕ) → IsLawfulHeader inside
+pub laid_out : (inside header : HeaderRecord) (layout : Layout) (end place : ℕ) → IsValidHeader inside
     → inside ≡ header
     → end ≡ header_end header → place ≡ name_place (header_to_write layout.with_names header)
     → layout.v2 ≡ v2_with_name header.v2 place header.backing_filename
     → layout.base ≡ base_with_length header.v2.version header.base end
-    → layout.len ≡ place + length (name_text header.backing_filename)
+    → layout.len ≡ place + length (unwrap_or header.backing_filename [])
     → layout.len ≤ 2 ^ header.v2.cluster_bits
     → IsLayout (header_to_write layout.with_names header) layout
-laid_out inside header layout end place lawful same ends begins v2 base len short =
+laid_out inside header layout end place valid same ends begins v2 base len short =
     grind (arith, nat_tests, length-header_text)
 
 -- the pieces before the extensions in version 3
@@ -122,27 +122,27 @@ extensions_short header known bits inside = grind (arith, nat_tests, pow_mono, l
 
 -- the pieces of a header's text
 pub text_pieces : (header : HeaderRecord) (first second third fourth : List ℕ) → first ≡ [] → second ≡ first ++ parts_text header
-    → third ≡ second ++ extensions_text header.extensions → fourth ≡ third ++ name_text header.backing_filename
+    → third ≡ second ++ extensions_text header.extensions → fourth ≡ third ++ unwrap_or header.backing_filename []
     → fourth ≡ header_text header
 unfolding header_text
 text_pieces header first second third fourth none parts extensions name = grind (arith, nat_tests)
 
 -- a name that is too long is refused
-pub kept_long : (header : HeaderRecord) → 1023 < length (name_text header.backing_filename)
+pub kept_long : (header : HeaderRecord) → 1023 < length (unwrap_or header.backing_filename [])
     → header_after_write header ≡ Err NameTooLong
 unfolding header_after_write
 kept_long header long = grind (arith, nat_tests)
 
 -- a layout with feature names that was found is the one that is written
 pub whole_chosen : (header : HeaderRecord) (layout : Layout)
-    → length (name_text header.backing_filename) ≤ 1023
+    → length (unwrap_or header.backing_filename []) ≤ 1023
     → IsLayout (header_to_write true header) layout → layout.with_names ≡ true → IsChosen header (Ok layout)
 unfolding header_after_write
 whole_chosen header layout short is names = grind (arith, nat_tests)
 
 -- where there is none, the result is the layout without feature names, or the fault
 pub bare_chosen : (header : HeaderRecord) (found : Option Layout)
-    → length (name_text header.backing_filename) ≤ 1023
+    → length (unwrap_or header.backing_filename []) ≤ 1023
     → fits_first_cluster (header_to_write true header) ≡ false
     → MatchOption found (fits_first_cluster (header_to_write false header) ≡ false) (IsLayout (header_to_write false header))
     → IfSome found (λ layout. layout.with_names ≡ false) → IsChosen header (ok_or found HeaderTooLong)

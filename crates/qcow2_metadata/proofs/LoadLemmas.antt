@@ -1,7 +1,7 @@
-use Rattle.std.proofs.Common.{◌≡◌, ◌≢◌, ◌⊎◌, ◌==◌, ℕ, ◌≤◌, Bool, false, List, [], ◌∷◌, ◌++◌, length, Option, Some, None, Result, Ok, Err, inl, inr, refl, sym, ap, ◌∙◌, add-zero, append_assoc, arith}
+use Rattle.std.proofs.Common.{◌≡◌, ◌≢◌, ◌⊎◌, ◌==◌, ℕ, ◌+◌, ◌≤◌, Bool, false, List, [], ◌∷◌, ◌++◌, length, Option, Some, None, Result, Ok, Err, inl, inr, refl, sym, ap, ◌∙◌, add-zero, append_assoc, arith}
 use Rattle.std.proofs.lemmas.Bool.Decides.{nat_tests}
 use Rattle.qcow2_base.specs.OnDiskStruct.{HoldsLayout, LayoutField, header_extension_header, layout_end, fields_moved_by, v2_header, v3_header_base}
-use Rattle.qcow2_base.specs.Storage.{Holds, Image, image_of}
+use Rattle.qcow2_base.specs.Storage.{Holds, Image, be, image_of}
 use Rattle.qcow2_base.specs.declared.fault.Fault.{Fault}
 use Rattle.qcow2_base.specs.declared.on_disk_struct.header_extension_header.HeaderExtensionHeader.{HeaderExtensionHeader}
 use Rattle.qcow2_base.specs.declared.on_disk_struct.v2_header.V2Header.{V2Header}
@@ -12,7 +12,7 @@ use Rattle.qcow2_metadata.proofs.RangeLemmas.{held-bytes_at}
 use Rattle.qcow2_metadata.proofs.ChainLemmas.{extensions_at-unfold}
 use Rattle.qcow2_metadata.proofs.GrammarLemmas.{IsBase-base_at, fixed_parts-by, header_from, holds-v2_at, parts_by}
 use Rattle.qcow2_metadata.specs.Results.{after_conditions, result_map}
-use Rattle.qcow2_metadata.specs.Header.Chain.{extension_at, extension_header_at, extensions_at}
+use Rattle.qcow2_metadata.specs.Header.Chain.{extension_at, extensions_at}
 use Rattle.qcow2_metadata.specs.Header.Extensions.{Extension}
 use Rattle.qcow2_metadata.specs.Header.Grammar.{IsBase, backing_name, base_at, field_conditions, fixed_parts, header_extensions, header_with_parts, last_conditions, v2_at, version_conditions}
 
@@ -45,11 +45,10 @@ fixed_parts-read image bytes v2 base held within layout is known =
 -- what was read before an extension's data is the image's
 pub read-extension_header_at : (image : Image) (place : ℕ) (bytes : List ℕ) (header : HeaderExtensionHeader)
     → Holds image place bytes → 8 ≤ length bytes → HoldsLayout (image_of bytes) (header_extension_header header)
-    → extension_header_at image place ≡ header
+    → (be image place 4 ≡ header.extension_type) × (be image (place + 4) 4 ≡ header.length)
 read-extension_header_at image place bytes header held within layout =
     let fields = read-layout image place bytes (header_extension_header header) held within layout in
-    let kind = simp add-zero at fields.0 in
-    λ i. record { extension_type = kind i; length = fields.1.0 i }
+    (simp add-zero at fields.0, fields.1.0)
 
 -- what tests of conditions return
 abbrev pub tested : List (Bool × Fault) → Result (Unit {0}) Fault

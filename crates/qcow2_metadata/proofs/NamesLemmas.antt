@@ -18,7 +18,7 @@ use Rattle.std.specs.Ordering.{ordering_reverse}
 use Rattle.qcow2_metadata.proofs.CutLemmas.{IsCutText, IsCutText-take, utf8_lossy-cut, utf8_lossy-replaced}
 use Rattle.qcow2_metadata.proofs.ExtensionsLemmas.{ReadsBack, parsed-unknown, text-reads_back}
 use Rattle.qcow2_metadata.proofs.FeatureNamesLemmas.{with_feature_name-named}
-use Rattle.qcow2_metadata.specs.Header.Extensions.{Extension, FeatureKey, FeatureNameTable, FeatureNames, IsStorable, TextOf, Unknown, chunk_at, feature_names, key_cmp, name_chunk, names_of_chunks, normal_extension, normal_name, until_zero, with_feature_name}
+use Rattle.qcow2_metadata.specs.Header.Extensions.{Extension, FeatureKey, FeatureNameTable, FeatureNames, IsStorable, TextOf, Unknown, feature_names, key_cmp, name_chunk, names_of_chunks, normal_extension, normal_name, until_zero, with_feature_name}
 use Rattle.qcow2_metadata.specs.Results.{result_map}
 use Rattle.qcow2_metadata.specs.declared.header.extensions.HeaderExtensionType.TheVariants as kind
 use Rattle.qcow2_metadata.specs.declared.header.features.FeatureType.TheVariants.{Autoclear, Compatible, Incompatible}
@@ -83,7 +83,7 @@ insert_entry-last (first ∷ done) more named sorted =
 
 -- the chunk after those of other names
 chunk_at-name : (done more : FeatureNames) (named : FeatureKey × List ℕ)
-    → chunk_at (flat_map name_chunk (done ++ named ∷ more)) (length done) ≡ name_chunk named
+    → take 48 (drop (48 * length done) (flat_map name_chunk (done ++ named ∷ more))) ≡ name_chunk named
 chunk_at-name [] more named =
     take_at (name_chunk named) (flat_map name_chunk more) 48 (length-name_chunk named)
 chunk_at-name (first ∷ done) more named =

@@ -6,8 +6,8 @@ use Rattle.qcow2_base.specs.declared.fault.Fault.{Fault}
 use Rattle.qcow2_base.specs.declared.fault.Fault.TheVariants.{HeaderTooLong, NoMemory, Storage}
 use Rattle.qcow2_metadata.specs.Results.{Answers, IsFromOutside, RefusesFirst}
 use Rattle.qcow2_metadata.specs.Header.{HeaderRecord}
-use Rattle.qcow2_metadata.specs.Header.Grammar.{header_of}
-use Rattle.qcow2_metadata.specs.Header.Open.{IsOpenFault, header_after_load}
+use Rattle.qcow2_metadata.specs.Header.Grammar.{IsHeaderFault, header_of}
+use Rattle.qcow2_metadata.specs.Header.Open.{header_after_load}
 use Rattle.qcow2_metadata.specs.Header.Text.{is_short, header_after_write}
 
 -- why a header whose name isn't too long isn't written
@@ -29,7 +29,7 @@ answers-first answer expected is = grind (arith, nat_tests)
 -- the faults of a load for who means to write
 pub opened-faults : (answer : Result HeaderRecord Fault) (header : HeaderRecord) (writable : Bool) → writable ≡ true
     → is_short header.backing_filename ≡ true → Answers (λ h. h) answer (header_after_load true (Ok header))
-    → IfErr answer (λ fault. IsOpenFault writable fault ⊎ IsFromOutside fault)
+    → IfErr answer (λ fault. (IsHeaderFault fault ⊎ ((writable ≡ true) × (fault ≡ HeaderTooLong))) ⊎ IsFromOutside fault)
 opened-faults answer header writable is short answers = grind (arith, nat_tests, opened-too_long)
 
 -- the fault of an image's header is that of its load

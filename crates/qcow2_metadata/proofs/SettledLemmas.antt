@@ -1,5 +1,5 @@
 use Rattle.std.proofs.lemmas.Bool.Decides.{nat_tests}
-use Rattle.std.proofs.Common.{◌≡◌, ℕ, ◌^◌, List, [], ◌∷◌, length, map, refl, ap, ◌∙◌, subst, inl, inr, arith, true, nat_le, Option, Ok, All}
+use Rattle.std.proofs.Common.{◌≡◌, ℕ, ◌^◌, List, [], ◌∷◌, length, map, refl, ap, ◌∙◌, subst, inl, inr, arith, true, false, nat_le, Option, Ok, All}
 use Rattle.std.specs.List.{flat_map}
 use Rattle.std.proofs.lemmas.Bool.{cases_Bool}
 use Rattle.std.proofs.lemmas.List.{append-nil, length-append, length-map}
@@ -7,7 +7,7 @@ use Rattle.std.proofs.lemmas.List.Elements.{All-filter}
 use Rattle.qcow2_base.specs.declared.on_disk_struct.v2_header.V2Header.{V2Header}
 use Rattle.qcow2_metadata.specs.Header.{HeaderRecord}
 use Rattle.qcow2_metadata.specs.Header.Extensions.{Extension, IsStorable, data_of, normal_extension, type_number}
-use Rattle.qcow2_metadata.specs.Header.Text.{IsSettled, header_without_names, extension_text, extensions_text, fits_first_cluster, header_end, header_text, is_other, is_short, header_after_write, header_read_back, padded_bytes, parts_text, header_with_places, placed_base, placed_v2, v2_with_name}
+use Rattle.qcow2_metadata.specs.Header.Text.{IsSettled, header_to_write, extension_text, extensions_text, fits_first_cluster, header_end, header_text, is_other, is_short, header_after_write, header_read_back, padded_bytes, parts_text, header_with_places, placed_base, placed_v2, v2_with_name}
 use Rattle.qcow2_metadata.proofs.NamesLemmas.{name_chunks_len, normal_extensions-once, normal_named}
 use Rattle.qcow2_metadata.proofs.TextLemmas.{length-padded}
 
@@ -141,11 +141,11 @@ kept-settled header written all is =
         | inl fit ↦
             let same : header_with_places header ≡ written = grind arith in
             subst IsSettled same (settled-fits header short fit all)
-        | inr big ↦ elim (cases_Bool (fits_first_cluster (header_without_names header))) [
+        | inr big ↦ elim (cases_Bool (fits_first_cluster (header_to_write false header))) [
           | inl fit ↦
-              let same : header_with_places (header_without_names header) ≡ written = grind arith in
+              let same : header_with_places (header_to_write false header) ≡ written = grind arith in
               let others = All-filter is_other IsStorable header.extensions all in
-              subst IsSettled same (settled-fits (header_without_names header) short fit others)
+              subst IsSettled same (settled-fits (header_to_write false header) short fit others)
           | inr more ↦ grind arith
         ]
       ]

@@ -4,7 +4,7 @@ use Rattle.std.specs.Str.{IsUtf8}
 use Rattle.std.proofs.Math.Nat.{mod-lt}
 use Rattle.std.proofs.Math.Pow.{pow_mono}
 use Rattle.std.specs.List.{flat_map}
-use Rattle.std.specs.Prelude.{OnOk}
+use Rattle.std.specs.Prelude.{unwrap_or, OnOk}
 use Rattle.std.proofs.lemmas.Bool.Decides.{nat_tests}
 use Rattle.std.proofs.lemmas.List.{get_or-append_right, get_or-append-add, get_or_append_left, ext_get_or, length-replicate}
 use Rattle.std.proofs.lemmas.List.Elements.{All-cons, All-head, All-nil, All-tail}
@@ -14,17 +14,17 @@ use Rattle.qcow2_base.proofs.StorageLemmas.{be_fits, be_of_same, be_determines}
 use Rattle.qcow2_base.specs.declared.on_disk_struct.header_extension_header.HeaderExtensionHeader.{HeaderExtensionHeader}
 use Rattle.qcow2_base.specs.declared.on_disk_struct.v3_header_base.V3HeaderBase.{V3HeaderBase}
 use Rattle.qcow2_base.proofs.OnDiskStructLemmas.{be_of_bytes}
-use Rattle.qcow2_metadata.specs.Header.{HeaderRecord, IsLawfulHeader, names_by}
-use Rattle.qcow2_metadata.specs.Header.Chain.{IsEnd, SaysExtensions, link_at}
-use Rattle.qcow2_metadata.specs.Header.Extensions.{Extension, data_of, name_in, normal_extension}
+use Rattle.qcow2_metadata.specs.Header.{HeaderRecord, IsValidHeader, names_by}
+use Rattle.qcow2_metadata.specs.Header.Chain.{SaysExtensions, link_at}
+use Rattle.qcow2_metadata.specs.Header.Extensions.{Extension, data_of, name_in, normal_extension, type_number}
 use Rattle.qcow2_metadata.specs.Header.Grammar.{AreSame, HasExtensions, IsBackingName, IsBase, IsHeader}
-use Rattle.qcow2_metadata.specs.Header.Text.{AreFitting, extension_header_of, extension_text, extensions_text, fields_text, header_end, header_text, is_short, name_place, name_text, header_after_write, header_read_back, padded_bytes, parts_text, header_with_places, placed_base, placed_v2}
+use Rattle.qcow2_metadata.specs.Header.Text.{AreFitting, extension_text, extensions_text, fields_text, header_end, header_text, is_short, name_place, header_after_write, header_read_back, padded_bytes, parts_text, header_with_places, placed_base, placed_v2}
 use Rattle.qcow2_metadata.specs.Range.{bytes_at}
 use Rattle.qcow2_metadata.specs.declared.header.extensions.HeaderExtensionType.{HeaderExtensionType}
 use Rattle.qcow2_metadata.specs.declared.header.extensions.HeaderExtensionType.TheVariants as kind
 use Rattle.qcow2_metadata.proofs.GrammarLemmas.{all_same-AreSame}
 use Rattle.qcow2_metadata.proofs.ExtensionsLemmas.{ReadsBack}
-use Rattle.qcow2_metadata.proofs.ChainLemmas.{IsFirst, says_more, says_none}
+use Rattle.qcow2_metadata.proofs.ChainLemmas.{IsEnd, IsFirst, says_more, says_none}
 use Rattle.qcow2_metadata.proofs.RangeLemmas.{held-bytes_at}
 
 -- a field's value fits its bytes
@@ -173,11 +173,12 @@ first-extension : (image : Image) (len place : ℕ) (extension : Extension) → 
     → Holds image place (extension_text extension) → place + length (extension_text extension) ≤ len
     → IsFirst image len place (normal_extension extension) (place + length (extension_text extension))
 first-extension image len place extension back small held within =
-    let header = fields_text (header_extension_header (extension_header_of extension)) in
     let bytes = data_of extension in
+    let before : HeaderExtensionHeader = record { extension_type = type_number extension; length = length bytes } in
+    let header = fields_text (header_extension_header before) in
     let count = length-extension_text extension in
     let first = Holds-first image place header (padded_bytes bytes) held in
-    let are = held-header image place (extension_header_of extension) back.0 (omega (arith, count)) first in
+    let are = held-header image place before back.0 (omega (arith, count)) first in
     let second = Holds-second image place header (padded_bytes bytes) held in
     let padding : List ℕ = replicate (next_multiple_of (length bytes) 8 - length bytes) 0 in
     let content =
@@ -264,7 +265,7 @@ length-parts_text header (inr three) = grind (arith, nat_tests, newer-parts, len
 
 -- how many bytes a header's text has
 pub length-header_text : (header : HeaderRecord) → IsKnown header
-    → length (header_text header) ≡ name_place header + length (name_text header.backing_filename)
+    → length (header_text header) ≡ name_place header + length (unwrap_or header.backing_filename [])
 unfolding header_text
 length-header_text header known = grind (arith, nat_tests, length-append, length-parts_text)
 
@@ -300,8 +301,8 @@ record HasPieces (image : Image) (header : HeaderRecord) : Type 0 where
   v2 : Holds image 0 (fields_text (v2_header (placed_v2 header)))
   newer : header.v2.version ≡ 3 → HasNewerParts image header
   extensions : Holds image (header_end header) (extensions_text header.extensions)
-  name : Holds image (name_place header) (name_text header.backing_filename)
-  count : length (header_text header) ≡ name_place header + length (name_text header.backing_filename)
+  name : Holds image (name_place header) (unwrap_or header.backing_filename [])
+  count : length (header_text header) ≡ name_place header + length (unwrap_or header.backing_filename [])
 
 -- they are in the image
 held-pieces : (image : Image) (header : HeaderRecord) → IsKnown header → Holds image 0 (header_text header)
@@ -310,7 +311,7 @@ unfolding header_text
 held-pieces image header known held =
     let parts = parts_text header in
     let extensions = extensions_text header.extensions in
-    let name = name_text header.backing_filename in
+    let name = unwrap_or header.backing_filename [] in
     let front = Holds-first image 0 (parts ++ extensions) name held in
     let first = Holds-first image 0 parts extensions front in
     let second = Holds-second image 0 parts extensions front in
@@ -328,37 +329,37 @@ held-pieces image header known held =
     }
 
 -- the length of a header that has its places
-placed-length : (header : HeaderRecord) → IsLawfulHeader header → IsPlaced header → IsKnown header
+placed-length : (header : HeaderRecord) → IsValidHeader header → IsPlaced header → IsKnown header
     → header.base.header_length ≡ 104 + length (padded_bytes header.unknown_header_fields)
-placed-length header lawful is known = grind (arith, nat_tests, newer-parts)
+placed-length header valid is known = grind (arith, nat_tests, newer-parts)
 
 -- it fits the first cluster
-placed-fits : (image : Image) (header : HeaderRecord) → IsLawfulHeader header → IsPlaced header
+placed-fits : (image : Image) (header : HeaderRecord) → IsValidHeader header → IsPlaced header
     → HasPieces image header → IsKnown header → header.base.header_length ≤ 2 ^ header.v2.cluster_bits
-placed-fits image header lawful is pieces (inl two) =
-    let none = lawful.older two in
+placed-fits image header valid is pieces (inl two) =
+    let none = valid.older two in
     let short : header.base.header_length ≡ 104 = ap (λ (b : V3HeaderBase). b.header_length) none.0 in
-    omega (arith, short, pow_mono (lawful.cluster_bits.0))
-placed-fits image header lawful is pieces (inr three) =
-    let count = placed-length header lawful is (inr three) in
+    omega (arith, short, pow_mono (valid.cluster_bits.0))
+placed-fits image header valid is pieces (inr three) =
+    let count = placed-length header valid is (inr three) in
     omega (arith, count, (newer-parts header three).1, pieces.count, is.fits)
 
 -- the unknown fields are in the image
-held-unknown : (image : Image) (header : HeaderRecord) → IsLawfulHeader header → HasPieces image header
+held-unknown : (image : Image) (header : HeaderRecord) → IsValidHeader header → HasPieces image header
     → IsKnown header → padded_bytes header.unknown_header_fields
     ≡ bytes_at image 104 (length (padded_bytes header.unknown_header_fields))
-held-unknown image header lawful pieces known = grind (arith, nat_tests, held-bytes_at)
+held-unknown image header valid pieces known = grind (arith, nat_tests, held-bytes_at)
 
 -- the second part is in the image
-held-base : (image : Image) (header : HeaderRecord) → IsLawfulHeader header → IsPlaced header
+held-base : (image : Image) (header : HeaderRecord) → IsValidHeader header → IsPlaced header
     → HasPieces image header → AreFitting (v3_header_base header.base)
     → IsBase image header.v2.version header.base
-held-base image header lawful is pieces fits = record {
+held-base image header valid is pieces fits = record {
   version_3 = λ three.
       let Stands = λ (h : HeaderRecord). Holds image 72 (fields_text (v3_header_base h.base)) in
       let held = subst Stands (sym is.placed) ((pieces.newer three).base) in
       text-fields image 72 0 (v3_header_base header.base) (assumption) fits held;
-  version_2 = λ two. (lawful.older two).0;
+  version_2 = λ two. (valid.older two).0;
 }
 
 -- the backing file's name is in the image
@@ -368,22 +369,22 @@ held-name : (image : Image) (header : HeaderRecord) (name : Option (List ℕ)) �
 held-name image header name none is pieces text = grind (arith, nat_tests, held-bytes_at)
 
 -- the extensions are in the image
-held-extensions : (image : Image) (header : HeaderRecord) → IsLawfulHeader header → IsPlaced header
+held-extensions : (image : Image) (header : HeaderRecord) → IsValidHeader header → IsPlaced header
     → HasPieces image header → All ReadsBack header.extensions
     → HasExtensions image header.v2 header.base (map normal_extension header.extensions)
-held-extensions image header lawful is pieces back =
+held-extensions image header valid is pieces back =
     grind (arith, nat_tests, newer-parts, placed-length, pow_mono, text-says)
 
 -- a header whose text is at the start of an image is the image's, as it reads back
-pub text-header : (image : Image) (header : HeaderRecord) → IsLawfulHeader header
+pub text-header : (image : Image) (header : HeaderRecord) → IsValidHeader header
     → All ReadsBack header.extensions → AreFitting (v2_header header.v2)
     → AreFitting (v3_header_base header.base) → IfSome header.backing_filename IsUtf8
     → header_after_write header ≡ Ok header → Holds image 0 (header_text header) → IsHeader image (header_read_back header)
-text-header image header lawful back fits_v2 fits_base text same held =
+text-header image header valid back fits_v2 fits_base text same held =
     let is = kept-placed header same in
-    let known = lawful.version in
+    let known = valid.version in
     let pieces = held-pieces image header known held in
-    let count = placed-length header lawful is known in
+    let count = placed-length header valid is known in
     let unknown = padded_bytes header.unknown_header_fields in
     let between : header.base.header_length - 104 ≡ length unknown = omega (arith, count) in
     let Stands = λ (h : HeaderRecord). Holds image 0 (fields_text (v2_header h.v2)) in
@@ -392,20 +393,20 @@ text-header image header lawful back fits_v2 fits_base text same held =
     let data_files = same-names_by kind.ExternalDataFileName header.extensions in
     record {
       v2 = text-fields image 0 0 (v2_header header.v2) (assumption) fits_v2 v2_held;
-      base = held-base image header lawful is pieces fits_base;
-      magic = lawful.magic;
+      base = held-base image header valid is pieces fits_base;
+      magic = valid.magic;
       version = known;
-      cluster_bits = lawful.cluster_bits;
+      cluster_bits = valid.cluster_bits;
       header_not_short = omega (arith, count);
-      header_not_big = placed-fits image header lawful is pieces known;
-      l1_table_aligned = lawful.l1_table_aligned;
-      reftable_aligned = lawful.reftable_aligned;
-      refcount_width = lawful.refcount_order;
-      unknown_header_fields = rw between (held-unknown image header lawful pieces known);
+      header_not_big = placed-fits image header valid is pieces known;
+      l1_table_aligned = valid.l1_table_aligned;
+      reftable_aligned = valid.reftable_aligned;
+      refcount_width = valid.refcount_order;
+      unknown_header_fields = rw between (held-unknown image header valid pieces known);
       backing_filename =
           held-name image header header.backing_filename refl is pieces text;
-      extensions = held-extensions image header lawful is pieces back;
-      one_format = subst AreSame (sym formats) (all_same-AreSame _ lawful.one_format);
-      one_data_file = subst AreSame (sym data_files) (all_same-AreSame _ lawful.one_data_file);
-      features = lawful.features;
+      extensions = held-extensions image header valid is pieces back;
+      one_format = subst AreSame (sym formats) (all_same-AreSame _ valid.one_format);
+      one_data_file = subst AreSame (sym data_files) (all_same-AreSame _ valid.one_data_file);
+      features = valid.features;
     }

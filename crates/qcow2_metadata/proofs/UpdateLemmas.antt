@@ -1,4 +1,3 @@
-use Rattle.std.proofs.lemmas.Bool.Decides.{nat_tests}
 use Rattle.std.proofs.Common.{◌≡◌, ◌∙◌, ℕ, suc, ◌+◌, ◌<◌, ◌≤◌, Bool, true, false, List, [], ◌∷◌, ◌++◌, map, get_or, take, drop, Option, None, Some, Result, Ok, Err, refl, sym, ap, arith, lit<}
 use Rattle.std.proofs.Math.Seq.{drop-cons}
 use Rattle.std.proofs.lemmas.List.{take-append-drop, take_all}
@@ -7,16 +6,15 @@ use Rattle.std.specs.Bool.{Decides}
 use Rattle.std.specs.List.{All}
 use Rattle.std.specs.Option.{option_eq}
 use Rattle.std.specs.Str.{bytes_eq}
-use Rattle.std.proofs.lemmas.Bool.Decides.{not_from_Decides}
+use Rattle.std.proofs.lemmas.Bool.Decides.{nat_tests, not_from_Decides}
 use Rattle.std.proofs.lemmas.Slice.Eq.{bytes_eq-Decides, slice_eq-Decides}
 use Rattle.qcow2_base.specs.declared.fault.Fault.{Fault}
 use Rattle.qcow2_base.specs.declared.fault.Fault.TheVariants.{FieldChanged}
 use Rattle.qcow2_base.specs.declared.fault.Field.{Field}
 use Rattle.qcow2_base.specs.declared.fault.Field.TheVariants as field
 use Rattle.qcow2_metadata.proofs.ExtensionsLemmas.{same_extension-Decides}
-use Rattle.qcow2_metadata.specs.Results.{first_failed, after_conditions}
-use Rattle.qcow2_metadata.specs.Header.{HeaderRecord, IsLawfulHeader}
-use Rattle.qcow2_metadata.specs.Header.Update.{AgreeIn, FieldValue, Number, IsFirstChange, agreements, kept_fields, same_value, value_in, with_header_length, with_size_and_tables}
+use Rattle.qcow2_metadata.specs.Header.{HeaderRecord, IsValidHeader}
+use Rattle.qcow2_metadata.specs.Header.Update.{AgreeIn, FieldValue, Number, IsFirstChange, kept_fields, same_value, value_in, with_size_and_tables}
 
 -- two names, which may be missing
 name-Decides : (a b : Option (List ℕ)) → Decides (option_eq bytes_eq a b) (a ≡ b)
@@ -26,10 +24,6 @@ name-Decides a b = grind (arith, nat_tests, bytes_eq-Decides)
 pub same_value-Decides : (a b : FieldValue) → Decides (same_value a b) (a ≡ b)
 same_value-Decides a b = grind (arith, nat_tests, bytes_eq-Decides, name-Decides, slice_eq-Decides, same_extension-Decides)
 
--- the conditions that the headers agree in these fields
-abbrev agreements_in : HeaderRecord → HeaderRecord → List Field → List (Bool × Fault)
-agreements_in here there = map (λ field. (same_value (value_in field here) (value_in field there), FieldChanged field))
-
 -- the field at a place of the order
 abbrev pub field_at : ℕ → Field
 field_at i = get_or kept_fields i field.Magic
@@ -38,38 +32,6 @@ field_at i = get_or kept_fields i field.Magic
 agreement-Decides : (here there : HeaderRecord) (field : Field)
     → Decides (same_value (value_in field here) (value_in field there)) (AgreeIn here there field)
 agreement-Decides here there field = same_value-Decides (value_in field here) (value_in field there)
-
--- what comes where all conditions hold
-abbrev pass : Unit {0} → Result (Unit {0}) Fault
-pass _ = Ok tt
-
--- fields in which the headers agree fail no condition
-first_failed-agreed : (here there : HeaderRecord) (before after : List Field) → All (AgreeIn here there) before
-    → first_failed (agreements_in here there (before ++ after)) ≡ first_failed (agreements_in here there after)
-first_failed-agreed here there [] after agree = refl
-first_failed-agreed here there (field ∷ before) after agree =
-    let same = (agreement-Decides here there field).1 (agree 0 field (omega arith)) in
-    rw same (first_failed-agreed here there before after (λ k d below. agree (suc k) d (omega arith)))
-
--- an update of headers that agree is let through
-pub agreements-agreed : (here there : HeaderRecord) → All (AgreeIn here there) kept_fields
-    → after_conditions (agreements here there) pass ≡ Ok tt
-agreements-agreed here there agree =
-    let none : first_failed (agreements here there) ≡ None = first_failed-agreed here there kept_fields [] agree in
-    rw none refl
-
--- the first field in which they differ fails the first condition
-pub agreements-changed : (here there : HeaderRecord) (fault : Fault) → IsFirstChange here there fault
-    → after_conditions (agreements here there) pass ≡ Err fault
-agreements-changed here there fault first =
-    let same = (agreement-Decides here there first.field).0 in
-    let apart = first.differ in
-    let fails : same_value (value_in first.field here) (value_in first.field there) ≡ false = grind (arith, same, apart) in
-    let here_fails : first_failed (agreements_in here there (first.field ∷ first.after)) ≡ Some fault = rw (fails, ← first.named) refl in
-    let fields = ap (λ fields. first_failed (agreements_in here there fields)) first.order in
-    let failed : first_failed (agreements here there) ≡ Some fault =
-    fields ∙ first_failed-agreed here there first.before (first.field ∷ first.after) first.agree ∙ here_fails in
-    rw failed refl
 
 -- a field that fails its condition after those that hold is the first in which the headers differ
 pub first_change-at : (here there : HeaderRecord) (i : ℕ) → i < 16 → All (AgreeIn here there) (take i kept_fields)
@@ -103,7 +65,7 @@ numbers a b same = cc
 
 -- headers that agree are one, but for what is taken over and their lengths
 pub with_size_and_tables-agreed : (here there : HeaderRecord) → All (AgreeIn here there) kept_fields
-    → with_size_and_tables here there ≡ with_header_length there here.base.header_length
+    → with_size_and_tables here there ≡ record there { base = record there.base { header_length = here.base.header_length } }
 with_size_and_tables-agreed here there agree =
     let bytes : here.unknown_header_fields ≡ there.unknown_header_fields =
     cc (agree 12 field.Magic (lit< tt)) in
@@ -138,6 +100,6 @@ with_size_and_tables-agreed here there agree =
     }
 
 -- tables of another header lie where clusters begin, and so they do in a header of the same cluster size
-pub with_size_and_tables-lawful : (here there : HeaderRecord) → IsLawfulHeader here → IsLawfulHeader there
-    → here.v2.cluster_bits ≡ there.v2.cluster_bits → IsLawfulHeader (with_size_and_tables here there)
-with_size_and_tables-lawful here there lawful other bits = grind (arith, nat_tests)
+pub with_size_and_tables-valid : (here there : HeaderRecord) → IsValidHeader here → IsValidHeader there
+    → here.v2.cluster_bits ≡ there.v2.cluster_bits → IsValidHeader (with_size_and_tables here there)
+with_size_and_tables-valid here there valid other bits = grind (arith, nat_tests)

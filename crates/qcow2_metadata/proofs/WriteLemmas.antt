@@ -9,9 +9,9 @@ use Rattle.qcow2_base.specs.declared.fault.Fault.{Fault}
 use Rattle.qcow2_base.specs.declared.fault.Fault.TheVariants.{HeaderTooLong, NameTooLong}
 use Rattle.qcow2_base.specs.declared.on_disk_struct.v2_header.V2Header.{V2Header}
 use Rattle.qcow2_base.specs.declared.on_disk_struct.v3_header_base.V3HeaderBase.{V3HeaderBase}
-use Rattle.qcow2_metadata.specs.Header.{HeaderRecord, IsLawfulHeader, names_by, other_features}
+use Rattle.qcow2_metadata.specs.Header.{HeaderRecord, IsValidHeader, names_by, other_features}
 use Rattle.qcow2_metadata.specs.Header.Extensions.{Extension, IsStorable, extension_of, name_in}
-use Rattle.qcow2_metadata.specs.Header.Text.{AreFitting, IsLayout, IsWrittenHeader, base_with_length, header_to_write, chosen_extensions, chosen_text, header_end, header_text, header_after_write, placed_text, is_other, name_place, header_with_places}
+use Rattle.qcow2_metadata.specs.Header.Text.{AreFitting, IsLayout, IsWrittenHeader, base_with_length, header_to_write, chosen_extensions, chosen_text, header_end, header_text, header_after_write, is_other, name_place, header_with_places}
 use Rattle.qcow2_metadata.specs.declared.header.text.Layout.{Layout}
 use Rattle.qcow2_metadata.proofs.ExtensionsLemmas.{ReadsBack}
 use Rattle.qcow2_metadata.proofs.NamesLemmas.{storable-reads_back}
@@ -55,27 +55,27 @@ chosen-nil : (with_names : Bool) (extensions : List Extension) → extensions �
 chosen-nil with_names extensions none = grind (arith, nat_tests)
 
 -- the header that is written is valid
-pub placed-lawful : (with_names : Bool) (header : HeaderRecord) → IsLawfulHeader header
-    → IsLawfulHeader (header_with_places (header_to_write with_names header))
-placed-lawful with_names header lawful =
+pub placed-valid : (with_names : Bool) (header : HeaderRecord) → IsValidHeader header
+    → IsValidHeader (header_with_places (header_to_write with_names header))
+placed-valid with_names header valid =
     let written = header_to_write with_names header in
     let v2 = v2_with_name-keeps header.v2 (name_place written) header.backing_filename in
     let base = base_with_length-keeps header.v2.version header.base (header_end written) in
     record {
-      magic = v2.magic ∙ lawful.magic;
-      version = rw v2.version lawful.version;
-      cluster_bits = rw v2.cluster_bits lawful.cluster_bits;
-      refcount_order = rw base.0 lawful.refcount_order;
-      l1_table_aligned = rw (v2.cluster_bits, v2.l1_table_offset) lawful.l1_table_aligned;
-      reftable_aligned = rw (v2.cluster_bits, v2.refcount_table_offset) lawful.reftable_aligned;
-      features = base.1 ∙ lawful.features;
-      one_format = rw (chosen-names_by with_names kind.BackingFileFormat header.extensions) lawful.one_format;
-      one_data_file = rw (chosen-names_by with_names kind.ExternalDataFileName header.extensions) lawful.one_data_file;
-      backing_filename = lawful.backing_filename;
-      storable = chosen-storable with_names header.extensions lawful.storable;
+      magic = v2.magic ∙ valid.magic;
+      version = rw v2.version valid.version;
+      cluster_bits = rw v2.cluster_bits valid.cluster_bits;
+      refcount_order = rw base.0 valid.refcount_order;
+      l1_table_aligned = rw (v2.cluster_bits, v2.l1_table_offset) valid.l1_table_aligned;
+      reftable_aligned = rw (v2.cluster_bits, v2.refcount_table_offset) valid.reftable_aligned;
+      features = base.1 ∙ valid.features;
+      one_format = rw (chosen-names_by with_names kind.BackingFileFormat header.extensions) valid.one_format;
+      one_data_file = rw (chosen-names_by with_names kind.ExternalDataFileName header.extensions) valid.one_data_file;
+      backing_filename = valid.backing_filename;
+      storable = chosen-storable with_names header.extensions valid.storable;
       older = λ two.
           let is : header.v2.version ≡ 2 = sym v2.version ∙ two in
-          let none = lawful.older is in (
+          let none = valid.older is in (
             older-base header.v2.version header.base (header_end written) is ∙ none.0,
             none.1,
             chosen-nil with_names header.extensions none.2,
@@ -101,29 +101,29 @@ kept-fault header fault is = grind arith
 -- the text that a write places
 pub chosen_text-placed : (header written : HeaderRecord) → header_after_write header ≡ Ok (header_with_places written)
     → chosen_text header ≡ header_text written
-chosen_text-placed header written is = ap placed_text is ∙ header_text-placed written
+chosen_text-placed header written is = rw (is, chosen_text) (header_text-placed written)
 
 -- the second part that is written fits
-base-fits : (with_names : Bool) (header : HeaderRecord) (layout : Layout) → IsLawfulHeader header
+base-fits : (with_names : Bool) (header : HeaderRecord) (layout : Layout) → IsValidHeader header
     → IsLayout (header_to_write with_names header) layout
     → (header.v2.version ≡ 3 → AreFitting (v3_header_base layout.base)) → AreFitting (v3_header_base layout.base)
-base-fits with_names header layout lawful is fits = grind (arith, nat_tests, older-base)
+base-fits with_names header layout valid is fits = grind (arith, nat_tests, older-base)
 
 -- a header whose text is in an image is written there
-pub written-header : (image : Image) (header : HeaderRecord) (layout : Layout) → IsLawfulHeader header
+pub written-header : (image : Image) (header : HeaderRecord) (layout : Layout) → IsValidHeader header
     → IsLayout (header_to_write layout.with_names header) layout
     → header_after_write header ≡ Ok (header_with_places (header_to_write layout.with_names header)) → AreFitting (v2_header layout.v2)
     → (header.v2.version ≡ 3 → AreFitting (v3_header_base layout.base))
     → Holds image 0 (header_text (header_to_write layout.with_names header))
     → IsWrittenHeader image (header_with_places (header_to_write layout.with_names header))
-written-header image header layout lawful is written_is v2 base held =
+written-header image header layout valid is written_is v2 base held =
     let written = header_to_write layout.with_names header in
-    let after = placed-lawful layout.with_names header lawful in
-    let settled = kept-settled header (header_with_places written) lawful.storable written_is in
+    let after = placed-valid layout.with_names header valid in
+    let settled = kept-settled header (header_with_places written) valid.storable written_is in
     let back = All-weaker IsStorable ReadsBack storable-reads_back written.extensions after.storable in
     let fits_v2 = subst (λ (part : V2Header). AreFitting (v2_header part)) is.v2 v2 in
     let fits_base = subst (λ (part : V3HeaderBase). AreFitting (v3_header_base part)) is.base
-    (base-fits layout.with_names header layout lawful is base) in
+    (base-fits layout.with_names header layout valid is base) in
     let text = subst (Holds image 0) (sym (header_text-placed written)) held in
     record {
       text = text;

@@ -58,17 +58,14 @@ abbrev pub all_same : List (List ℕ) → Bool
 all_same [] = true
 all_same (first ∷ names) = list_all (pointwise nat_eq first) names
 
--- the incompatible feature bit that says that guest data lies in another file
-abbrev pub external_data_bit : V3HeaderBase → ℕ
-external_data_bit base = field base.incompatible_features external_data_file_bit 1
+-- whether guest data lies in another file, which an incompatible feature says
+abbrev pub uses_external_data : HeaderRecord → Bool
+uses_external_data header = field header.base.incompatible_features external_data_file_bit 1 == 1
 
 -- the incompatible features but that one
 abbrev pub other_features : V3HeaderBase → ℕ
-other_features base = base.incompatible_features - 2 ^ external_data_file_bit * external_data_bit base
-
--- whether guest data lies in another file
-abbrev pub uses_external_data : HeaderRecord → Bool
-uses_external_data header = external_data_bit header.base == 1
+other_features base =
+    base.incompatible_features - 2 ^ external_data_file_bit * field base.incompatible_features external_data_file_bit 1
 
 -- what features are called in new images
 abbrev pub known_names : FeatureNames
@@ -117,7 +114,7 @@ new_header cluster_bits refcount_order backing_filename backing_format data_file
 }
 
 -- what holds of every header, whether it was made or loaded
-pub record IsLawfulHeader (header : HeaderRecord) : Type 0 where
+pub record IsValidHeader (header : HeaderRecord) : Type 0 where
   pub magic : header.v2.magic ≡ magic
   pub version : (header.v2.version ≡ 2) ⊎ (header.v2.version ≡ 3)
   pub cluster_bits : IsClusterBits header.v2.cluster_bits

@@ -2,15 +2,16 @@
 
 ghost use Rattle.std.specs.Prelude.{◌≡◌, ◌⊎◌, ◌+◌, ◌-◌, ◌^◌, ◌≤◌, IsOkUnless, IfOk, MatchResult, None, map, option_map, string_bytes};
 ghost use Rattle.qcow2_base.specs.Types.{IsClusterBits, IsRefblockBits};
-ghost use Rattle.qcow2_metadata.specs.Header.{all_same, first_by, names_by, new_header};
-ghost use Rattle.qcow2_metadata.specs.Header.Extensions.{extension_of, name_in};
+ghost use Rattle.qcow2_metadata.specs.Header.{new_header};
 
 mod backing_filename;
+mod bytes;
 mod extensions;
 mod feature_names;
 mod features;
 mod fixed_parts;
 mod load;
+mod names;
 mod pointers;
 mod text;
 mod update;
@@ -21,6 +22,7 @@ use feature_names::known_names;
 pub use features::{
     AutoclearFeatures, CompatibleFeatures, FeatureType, IncompatibleFeatures, UnknownValue,
 };
+use names::first_name;
 use qcow2_base::{
     ClusterCount, EXTERNAL_DATA_FILE_BIT, Fault, HostOffset, MAGIC, V2Header, V3HeaderBase,
 };
@@ -40,7 +42,7 @@ pub struct Header {
 
 impl Model for Header {
     ghost use Rattle.std.specs.Prelude.{map, option_map, string_bytes};
-    ghost use Rattle.qcow2_metadata.specs.Header.{HeaderRecord, IsLawfulHeader};
+    ghost use Rattle.qcow2_metadata.specs.Header.{HeaderRecord, IsValidHeader};
     ghost use Rattle.qcow2_metadata.specs.Header.Extensions.{extension_of};
 
     ghost Value = { HeaderRecord };
@@ -53,7 +55,7 @@ impl Model for Header {
       extensions = map extension_of h.extensions.items;
     } };
 
-    ghost invariant = { λ h. IsLawfulHeader record {
+    ghost invariant = { λ h. IsValidHeader record {
       v2 = h.v2;
       base = h.base;
       unknown_header_fields = h.unknown_header_fields.items;
@@ -64,7 +66,7 @@ impl Model for Header {
 
 impl Header {
     ghost use Rattle.std.specs.Prelude.{◌-◌, ◌*◌, ◌<◌};
-    ghost use Rattle.qcow2_metadata.specs.Header.{first_by, new_header, uses_external_data};
+    ghost use Rattle.qcow2_metadata.specs.Header.{IsValidHeader, first_by, new_header, uses_external_data};
     ghost use Rattle.qcow2_metadata.specs.Header.Extensions.{feature_name_in, name_in};
     ghost use Rattle.qcow2_metadata.specs.declared.header.extensions.HeaderExtensionType.TheVariants as kind;
 
@@ -114,6 +116,13 @@ impl Header {
             backing_filename,
             extensions,
         })
+    }
+
+    // What holds of every header.
+    pub(crate) fn validity(&self)
+        ensures { IsValidHeader self.now }
+    {
+        let _ = &self.v2;
     }
 
     /// The logarithm of the cluster size in bytes, from 9 to 21.
@@ -315,36 +324,4 @@ fn new_v2_header(cluster_bits: u32) -> V2Header
         nb_snapshots: 0,
         snapshots_offset: 0,
     }
-}
-
-// The first name that an extension of this type says.
-#[tactic(auto, using(crate::proofs::HeaderLemmas::first_by_at, crate::proofs::HeaderLemmas::no_name_more))]
-fn first_name(
-    extensions: &[HeaderExtension],
-    extension_type: HeaderExtensionType,
-) -> Option<&String>
-    ensures { option_map (λ name. string_bytes name.now) result
-        ≡ first_by (name_in extension_type) (map extension_of extensions.now) }
-{
-    for extension in extensions {
-        if let Some(name) = extension.name(extension_type) {
-            return Some(name);
-        }
-    }
-    None
-}
-
-// Whether all extensions of this type say the same name.
-fn same_names(extensions: &[HeaderExtension], extension_type: HeaderExtensionType) -> bool
-    ensures { result ≡ all_same (names_by (name_in extension_type) (map extension_of extensions.now)) }
-{
-    let first = first_name(extensions, extension_type);
-    for extension in extensions {
-        if let Some(name) = extension.name(extension_type) {
-            if first != Some(name) {
-                return false;
-            }
-        }
-    }
-    true
 }

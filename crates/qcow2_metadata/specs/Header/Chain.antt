@@ -1,10 +1,9 @@
 -- Which extensions does a header have, one after another, up to End?
-use Rattle.std.specs.Prelude.{◌≡◌, ◌≢◌, ℕ, zero, suc, ◌+◌, ◌≤◌, ◌==◌, nat_le, IsOk, List, [], ◌∷◌, map, Option, Some, None, Result, Ok, Err, true, false}
+use Rattle.std.specs.Prelude.{◌≡◌, ◌≢◌, ◌⊎◌, ℕ, zero, suc, ◌+◌, ◌<◌, ◌≤◌, ◌==◌, nat_le, IsOk, List, [], ◌∷◌, map, Option, Some, None, Result, Ok, Err, true, false}
 use Rattle.std.specs.Int.{next_multiple_of}
 use Rattle.qcow2_base.specs.Storage.{Image, be}
 use Rattle.qcow2_base.specs.declared.fault.Fault.{Fault}
 use Rattle.qcow2_base.specs.declared.fault.Fault.TheVariants.{ExtensionsExceed}
-use Rattle.qcow2_base.specs.declared.on_disk_struct.header_extension_header.HeaderExtensionHeader.{HeaderExtensionHeader}
 use Rattle.qcow2_metadata.specs.Results.{and_then, after_conditions, result_map}
 use Rattle.qcow2_metadata.specs.Header.Extensions.{Extension, extension_from_data}
 use Rattle.qcow2_metadata.specs.Range.{bytes_at}
@@ -18,10 +17,6 @@ pub record Link : Type 0 where
 -- the extension at a place
 abbrev pub link_at : Image → ℕ → Link
 link_at image place = record { place = place; number = be image place 4; size = be image (place + 4) 4 }
-
--- what comes before its data
-abbrev pub extension_header_at : Image → ℕ → HeaderExtensionHeader
-extension_header_at image place = record { extension_type = be image place 4; length = be image (place + 4) 4 }
 
 -- where its data ends
 abbrev pub data_end : Link → ℕ
@@ -43,18 +38,21 @@ IsChain image len place (link ∷ links) last =
     (link ≡ link_at image place) × (data_end link ≤ len) × (link.number ≢ 0) × IsOk (extension_in_link image link)
     × IsChain image len (next_place link) links last
 
--- the chain is complete: its last extension is End, and ends within that many bytes
-pub record IsEnd (len : ℕ) (last : Link) : Type 0 where
-  pub bounded : data_end last ≤ len
-  pub end : last.number ≡ 0
-
--- the extensions that a complete chain from a place on says
+-- the extensions that a complete chain from a place on says: its last one is End, and ends within that many bytes
 pub record SaysExtensions (image : Image) (len place : ℕ) (extensions : List Extension) : Type 0 where
   pub links : List Link
   pub last : Link
   pub chain : IsChain image len place links last
-  pub complete : IsEnd len last
+  pub bounded : data_end last ≤ len
+  pub end : last.number ≡ 0
   pub said : map (extension_in_link image) links ≡ map Ok extensions
+
+-- the extension breaks its chain by this fault: it ends past that many bytes, or it isn't End and has data that its
+-- type can't read
+abbrev pub BreaksBy : Image → ℕ → Link → Fault → Type 0
+BreaksBy image len link fault =
+    ((len < data_end link) × (fault ≡ ExtensionsExceed))
+    ⊎ ((data_end link ≤ len) × (link.number ≢ 0) × (extension_in_link image link ≡ Err fault))
 
 -- what the extension at a place says, and where the next one is; nothing where it is End
 abbrev pub extension_at : Image → ℕ → ℕ → Result (Option (Extension × ℕ)) Fault

@@ -1,5 +1,5 @@
 -- What does an extension of a header say, by its type and its data?
-use Rattle.std.specs.Prelude.{◌≡◌, ◌≢◌, ℕ, zero, suc, ◌-◌, ◌*◌, ◌^◌, ◌<◌, ◌==◌, ◌&&◌, Bool, true, false, if◌then◌else◌, All, List, [], ◌∷◌, ◌++◌, length, map, take, drop, replicate, Option, Some, None, Result, Ok, Err, String, string_bytes}
+use Rattle.std.specs.Prelude.{◌≡◌, ◌≢◌, ◌⊎◌, ℕ, zero, suc, ◌-◌, ◌*◌, ◌^◌, ◌<◌, ◌==◌, ◌&&◌, Bool, true, false, if◌then◌else◌, All, List, [], ◌∷◌, ◌++◌, length, map, take, drop, replicate, Option, Some, None, Result, Ok, Err, String, string_bytes}
 use Rattle.std.specs.Global.{Global}
 use Rattle.std.specs.BTreeMap.{BTreeMap, insert_entry}
 use Rattle.std.specs.Cmp.Lexicographic.{pointwise}
@@ -41,12 +41,6 @@ extension_number kind.BackingFileFormat = 0xe2792aca
 extension_number kind.FeatureNameTable = 0x6803f857
 extension_number kind.ExternalDataFileName = 0x44415441
 
--- whether an extension of this type is text
-abbrev pub is_text : HeaderExtensionType → Bool
-is_text kind.BackingFileFormat = true
-is_text kind.ExternalDataFileName = true
-is_text _ = false
-
 -- an extension of the header: text of a type, names of features, or content of a type that isn't known; texts and
 -- contents are bytes
 pub data Extension : Type 0 where
@@ -85,15 +79,11 @@ with_feature_name names (number ∷ bytes) = of_type (feature_type_of number) by
     of_type (Some feature_type) [] = Err FeatureNameCut
     of_type (Some feature_type) (bit ∷ name) = Ok (insert_entry key_cmp names (feature_type, bit) (utf8_lossy (until_zero name)))
 
--- the chunk of a table at an index: 48 bytes, or those that are left
-abbrev pub chunk_at : List ℕ → ℕ → List ℕ
-chunk_at bytes index = take 48 (drop (48 * index) bytes)
-
 -- the names of the first chunks of 48 bytes; a later one of the same key replaces an earlier one
 abbrev pub names_of_chunks : List ℕ → ℕ → Result FeatureNames Fault
 names_of_chunks bytes zero = Ok []
 names_of_chunks bytes (suc chunks) =
-    and_then (names_of_chunks bytes chunks) (λ names. with_feature_name names (chunk_at bytes chunks))
+    and_then (names_of_chunks bytes chunks) (λ names. with_feature_name names (take 48 (drop (48 * chunks) bytes)))
 
 -- the names of a feature name table; its last chunk may be shorter
 abbrev pub feature_names : List ℕ → Result FeatureNames Fault
@@ -102,7 +92,8 @@ feature_names bytes = names_of_chunks bytes (div_ceil (length bytes) 48)
 -- an extension that an image can say: texts are UTF-8, and names of features are in the order of their keys. Only
 -- data of a type that isn't known is kept as it is
 abbrev pub IsStorable : Extension → Type 0
-IsStorable (TextOf type name) = (is_text type ≡ true) × IsUtf8 name
+IsStorable (TextOf type name) =
+    ((type ≡ kind.BackingFileFormat) ⊎ (type ≡ kind.ExternalDataFileName)) × IsUtf8 name
 IsStorable (FeatureNameTable names) =
     IsStrictlySortedBy key_cmp (keys_of names) × All (λ named. IsUtf8 named.1) names
 IsStorable (Unknown number content) =

@@ -1,5 +1,5 @@
 -- Which header do the bytes of an image have, or which fault?
-use Rattle.std.specs.Prelude.{◌≡◌, ◌≢◌, ◌⊎◌, ℕ, ◌+◌, ◌-◌, ◌^◌, ◌%◌, ◌<◌, ◌≤◌, ◌==◌, max, nat_le, ◌||◌, ◌&&◌, Bool, List, [], ◌∷◌, Option, Some, None, Result, Ok, true, false}
+use Rattle.std.specs.Prelude.{◌≡◌, ◌≢◌, ◌⊎◌, ℕ, ◌+◌, ◌-◌, ◌^◌, ◌%◌, ◌≤◌, ◌==◌, nat_le, ◌||◌, ◌&&◌, Bool, List, [], ◌∷◌, Option, Some, None, Result, Ok, true, false}
 use Rattle.std.specs.List.{IsAmong}
 use Rattle.std.specs.Str.{IsUtf8}
 use Rattle.qcow2_base.specs.Format.{max_backing_filename}
@@ -75,18 +75,14 @@ fixed_parts image =
     let base = base_at image v2.version in
     after_conditions (field_conditions v2 base) (λ _. Ok (v2, base)))
 
--- the conditions on the place of the backing file's name
-abbrev pub name_conditions : V2Header → List (Bool × Fault)
-name_conditions v2 =
-    (nat_le v2.backing_file_size max_backing_filename, BackingNameLong)
-    ∷ (nat_le (v2.backing_file_offset + v2.backing_file_size) (2 ^ v2.cluster_bits), BackingNamePlace)
-    ∷ []
-
 -- the backing file's name, where the header says where it is
 abbrev pub backing_name : Image → V2Header → Result (Option (List ℕ)) Fault
 backing_name image v2 = elim (v2.backing_file_offset == 0) [
   | true ↦ Ok None
-  | false ↦ after_conditions (name_conditions v2) (λ _.
+  | false ↦ after_conditions
+      ((nat_le v2.backing_file_size max_backing_filename, BackingNameLong)
+      ∷ (nat_le (v2.backing_file_offset + v2.backing_file_size) (2 ^ v2.cluster_bits), BackingNamePlace)
+      ∷ []) (λ _.
       result_map Some (text BackingNameText (bytes_at image v2.backing_file_offset v2.backing_file_size)))
 ]
 
@@ -110,18 +106,13 @@ pub record IsBase (image : Image) (version : ℕ) (base : V3HeaderBase) : Type 0
   pub version_3 : version ≡ 3 → HoldsLayout image (fields_moved_by 72 (v3_header_base base))
   pub version_2 : version ≡ 2 → base ≡ default_base
 
--- the backing file's name: at most 1023 bytes of text, within the first cluster
-pub record IsName (image : Image) (v2 : V2Header) (name : List ℕ) : Type 0 where
-  pub some : v2.backing_file_offset ≢ 0
-  pub short : v2.backing_file_size ≤ max_backing_filename
-  pub within : v2.backing_file_offset + v2.backing_file_size ≤ 2 ^ v2.cluster_bits
-  pub bytes : name ≡ bytes_at image v2.backing_file_offset v2.backing_file_size
-  pub text : IsUtf8 name
-
--- it is there where the header says a place
+-- the backing file's name, if the header says a place: at most 1023 bytes of text, within the first cluster
 abbrev pub IsBackingName : Image → V2Header → Option (List ℕ) → Type 0
 IsBackingName image v2 None = v2.backing_file_offset ≡ 0
-IsBackingName image v2 (Some name) = IsName image v2 name
+IsBackingName image v2 (Some name) =
+    (v2.backing_file_offset ≢ 0) × (v2.backing_file_size ≤ max_backing_filename)
+    × (v2.backing_file_offset + v2.backing_file_size ≤ 2 ^ v2.cluster_bits)
+    × (name ≡ bytes_at image v2.backing_file_offset v2.backing_file_size) × IsUtf8 name
 
 -- the extensions of version 3 begin where the header ends, and version 2 has none
 pub record HasExtensions (image : Image) (v2 : V2Header) (base : V3HeaderBase) (extensions : List Extension) : Type 0 where
@@ -154,10 +145,6 @@ pub record IsHeader (image : Image) (header : HeaderRecord) : Type 0 where
 -- the refusals of the grammar
 abbrev pub IsHeaderFault : Fault → Type 0
 IsHeaderFault fault = fault_number fault ≤ 17
-
--- the other image has the same first cluster: 2 ^ cluster_bits bytes, as the image says, and 512 in any case
-abbrev pub SameFirstCluster : Image → Image → Type 0
-SameFirstCluster image other = (o : ℕ) → o < max 512 (2 ^ be image 20 4) → other o ≡ image o
 
 -- what holds of the fixed parts of every header
 pub record AreValidParts (v2 : V2Header) (base : V3HeaderBase) : Type 0 where

@@ -31,15 +31,6 @@ opened_text writable (Ok header) = elim (is_rewritten writable header) [
   | false ↦ []
 ]
 
--- how many bytes a load may change: as many as it places of what it reads. What a write says of its range is said only
--- where the storage's bytes are known, so elsewhere the number says nothing
-abbrev pub opened_length : Bool → StorageState → ℕ
-opened_length writable old = length (opened_text writable (header_of old.byte_at))
-
--- the refusals of a load: those of the grammar, and where the header is written, that it is too long
-abbrev pub IsOpenFault : Bool → Fault → Type 0
-IsOpenFault writable fault = IsHeaderFault fault ⊎ ((writable ≡ true) × (fault ≡ HeaderTooLong))
-
 -- a load had to write: the header that it read is one that is rewritten
 abbrev pub HadToWrite : Bool → StorageState → Type 0
 HadToWrite writable old =
@@ -50,7 +41,7 @@ HadToWrite writable old =
 -- settled, as after any write
 pub record Opens (writable : Bool) (answer : Result HeaderRecord Fault) (old new : StorageState) : Type 0 where
   pub reads : writable ≡ false → OnlyReads answer old new
-  pub writes : OnlyWrites answer (Some 0) (opened_length writable old) old new
+  pub writes : OnlyWrites answer (Some 0) (length (opened_text writable (header_of old.byte_at))) old new
   pub placed : OnImages old new (λ before after. OnOk answer (Holds after 0 (opened_text writable (header_of before))))
   pub written : HadToWrite writable old → IfOk answer (IsWrittenHeader new.byte_at)
   pub settled : HadToWrite writable old → IfOk answer IsSettled
@@ -59,5 +50,5 @@ pub record Opens (writable : Bool) (answer : Result HeaderRecord Fault) (old new
 -- of the first condition that they fail
 pub record Loads (writable : Bool) (answer : Result HeaderRecord Fault) (old new : StorageState) : Type 0 where
   pub exact : OnImage old (λ bytes. Answers (λ header. header) answer (header_after_load writable (header_of bytes)))
-  pub faults : IfErr answer (λ fault. IsOpenFault writable fault ⊎ IsFromOutside fault)
+  pub faults : IfErr answer (λ fault. (IsHeaderFault fault ⊎ ((writable ≡ true) × (fault ≡ HeaderTooLong))) ⊎ IsFromOutside fault)
   pub storage : Opens writable answer old new

@@ -11,28 +11,6 @@ use Rattle.qcow2_metadata.specs.Header.{HeaderRecord}
 use Rattle.qcow2_metadata.specs.Table.{TableState}
 use Rattle.qcow2_metadata.specs.declared.entries.ClustersToFreeEntry.{ClustersToFreeEntry}
 
--- the header with another size of the guest's disk
-abbrev pub with_size : HeaderRecord → ℕ → HeaderRecord
-with_size header size = record header { v2 = record header.v2 { size = size } }
-
--- the header with another L1 table: a number of entries from an offset on
-abbrev pub with_l1_table : HeaderRecord → ℕ → ℕ → HeaderRecord
-with_l1_table header offset entries = record header {
-  v2 = record header.v2 {
-    l1_size = entries;
-    l1_table_offset = offset;
-  };
-}
-
--- the header with another refcount table: a number of clusters from an offset on
-abbrev pub with_reftable : HeaderRecord → ℕ → ℕ → HeaderRecord
-with_reftable header offset clusters = record header {
-  v2 = record header.v2 {
-    refcount_table_offset = offset;
-    refcount_table_clusters = clusters;
-  };
-}
-
 -- why a header can't refer to a table of that many units: it has no cluster, or the field can't count them
 abbrev pub pointer_fault : TableState → ℕ → Option Fault
 pointer_fault table count = elim table.cluster [
@@ -43,10 +21,6 @@ pointer_fault table count = elim table.cluster [
 -- how many clusters a table takes
 abbrev pub table_clusters : TableState → ℕ
 table_clusters table = div_ceil (8 * length table.numbers) (2 ^ table.geometry.cluster_bits)
-
--- the pending clusters are all those that a table with this first cluster takes
-abbrev pub ArePendingFor : TableState → HostCluster → ClustersToFreeEntry → Type 0
-ArePendingFor table cluster pending = (pending.first ≡ cluster) × (pending.count.0 ≡ table_clusters table)
 
 -- the image has the fields that lie between two places
 abbrev pub HoldsBetween : Image → ℕ → ℕ → List LayoutField → Type 0

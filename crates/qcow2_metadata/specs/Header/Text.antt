@@ -1,5 +1,5 @@
 -- Which bytes are written for a header, and what does it read back as?
-use Rattle.std.specs.Prelude.{◌≡◌, All, ℕ, ◌<◌, ◌+◌, ◌-◌, ◌^◌, ◌==◌, nat_le, ◌||◌, Bool, true, false, if◌then◌else◌, List, [], ◌∷◌, ◌++◌, length, map, replicate, Option, Some, None, Result, Ok, Err, MatchResult}
+use Rattle.std.specs.Prelude.{◌≡◌, All, ℕ, ◌<◌, ◌+◌, ◌-◌, ◌^◌, ◌==◌, nat_le, ◌||◌, Bool, true, false, if◌then◌else◌, List, [], ◌∷◌, ◌++◌, length, map, replicate, Option, Some, None, unwrap_or, Result, Ok, Err, MatchResult}
 use Rattle.std.specs.Int.{bytes_high_first, next_multiple_of}
 use Rattle.std.specs.List.{filter, flat_map}
 use Rattle.qcow2_base.specs.Format.{max_backing_filename}
@@ -7,7 +7,6 @@ use Rattle.qcow2_base.specs.OnDiskStruct.{LayoutField, header_extension_header, 
 use Rattle.qcow2_base.specs.Storage.{Holds, Image}
 use Rattle.qcow2_base.specs.declared.fault.Fault.{Fault}
 use Rattle.qcow2_base.specs.declared.fault.Fault.TheVariants.{HeaderTooLong, NameTooLong}
-use Rattle.qcow2_base.specs.declared.on_disk_struct.header_extension_header.HeaderExtensionHeader.{HeaderExtensionHeader}
 use Rattle.qcow2_base.specs.declared.on_disk_struct.v2_header.V2Header.{V2Header}
 use Rattle.qcow2_base.specs.declared.on_disk_struct.v3_header_base.V3HeaderBase.{V3HeaderBase}
 use Rattle.qcow2_metadata.specs.Results.{after_conditions}
@@ -28,13 +27,12 @@ AreFitting fields = All (λ f. f.value < 256 ^ f.size) fields
 abbrev pub padded_bytes : List ℕ → List ℕ
 padded_bytes bytes = bytes ++ replicate (next_multiple_of (length bytes) 8 - length bytes) 0
 
--- what comes before its data
-abbrev pub extension_header_of : Extension → HeaderExtensionHeader
-extension_header_of extension = record { extension_type = type_number extension; length = length (data_of extension) }
-
 -- an extension in the image: its type, its length, and its data with the padding
 abbrev pub extension_text : Extension → List ℕ
-extension_text extension = fields_text (header_extension_header (extension_header_of extension)) ++ padded_bytes (data_of extension)
+extension_text extension =
+    let content = data_of extension in
+    fields_text (header_extension_header (record { extension_type = type_number extension; length = length content }))
+    ++ padded_bytes content
 
 -- the extensions one after another, and End, which is eight zero bytes
 abbrev pub extensions_text : List Extension → List ℕ
@@ -51,11 +49,6 @@ header_end header = elim (header.v2.version == 3) [
 -- where the backing file's name begins: right after the extensions
 abbrev pub name_place : HeaderRecord → ℕ
 name_place header = header_end header + length (extensions_text header.extensions)
-
--- the backing file's name as it is written
-abbrev pub name_text : Option (List ℕ) → List ℕ
-name_text None = []
-name_text (Some name) = name
 
 -- the first part with the place and the length of the backing file's name, 0 and 0 where there is none
 abbrev pub v2_with_name : V2Header → ℕ → Option (List ℕ) → V2Header
@@ -91,16 +84,12 @@ parts_text header = elim (header.v2.version == 3) [
 
 -- the bytes of a header: its parts, the extensions, and the backing file's name, with nothing after it
 unfoldable pub header_text : HeaderRecord → List ℕ
-header_text header = parts_text header ++ extensions_text header.extensions ++ name_text header.backing_filename
+header_text header = parts_text header ++ extensions_text header.extensions ++ unwrap_or header.backing_filename []
 
 -- whether an extension is other than a table of feature names
 abbrev pub is_other : Extension → Bool
 is_other (FeatureNameTable names) = false
 is_other _ = true
-
--- the header with no table of feature names
-abbrev pub header_without_names : HeaderRecord → HeaderRecord
-header_without_names header = record header { extensions = filter is_other header.extensions }
 
 -- the extensions that are written: all, or those other than tables of feature names
 abbrev pub chosen_extensions : Bool → List Extension → List Extension
@@ -132,17 +121,15 @@ header_after_write header =
     after_conditions ((is_short header.backing_filename, NameTooLong) ∷ []) (λ _.
     elim (fits_first_cluster header) [
       | true ↦ Ok (header_with_places header)
-      | false ↦ after_conditions ((fits_first_cluster (header_without_names header), HeaderTooLong) ∷ []) (λ _. Ok (header_with_places (header_without_names header)))
+      | false ↦ after_conditions ((fits_first_cluster (header_to_write false header), HeaderTooLong) ∷ []) (λ _. Ok (header_with_places (header_to_write false header)))
     ])
-
--- the bytes of a header that is written
-abbrev pub placed_text : Result HeaderRecord Fault → List ℕ
-placed_text (Ok written) = header_text written
-placed_text (Err fault) = []
 
 -- the bytes that a write places; none where it is refused
 abbrev pub chosen_text : HeaderRecord → List ℕ
-chosen_text header = placed_text (header_after_write header)
+chosen_text header = elim (header_after_write header) [
+  | Ok written ↦ header_text written
+  | Err fault ↦ []
+]
 
 -- what a header that was written reads back as. The unknown fields have their padding, which version 2 has
 -- not, and the names of features are those that the image has

@@ -1,5 +1,5 @@
 -- In which fields may two headers of one image differ, and what does one take over from the other?
-use Rattle.std.specs.Prelude.{◌≡◌, ℕ, Bool, false, ◌==◌, List, [], ◌∷◌, ◌++◌, All, map, Option}
+use Rattle.std.specs.Prelude.{◌≡◌, ℕ, Bool, false, ◌==◌, List, [], ◌∷◌, ◌++◌, All, Option}
 use Rattle.std.specs.Bool.{beq}
 use Rattle.std.specs.Cmp.Lexicographic.{pointwise}
 use Rattle.std.specs.Option.{option_eq}
@@ -72,12 +72,7 @@ same_value (Extensions extensions) (Extensions others) = pointwise same_extensio
 same_value (Flag flag) (Flag other) = beq flag other
 same_value _ _ = false
 
--- whether two headers say the same, field by field, and the fault where they don't
-abbrev pub agreements : HeaderRecord → HeaderRecord → List (Bool × Fault)
-agreements here there =
-    map (λ field. (same_value (value_in field here) (value_in field there), FieldChanged field)) kept_fields
-
--- the fault names the first of them in which the headers differ
+-- the fault names the first of the fields in which the headers differ
 pub record IsFirstChange (here there : HeaderRecord) (fault : Fault) : Type 0 where
   pub field : Field
   pub before : List Field
@@ -98,7 +93,3 @@ with_size_and_tables here there = record here {
     refcount_table_clusters = there.v2.refcount_table_clusters;
   };
 }
-
--- the header with another length
-abbrev pub with_header_length : HeaderRecord → ℕ → HeaderRecord
-with_header_length header len = record header { base = record header.base { header_length = len } }

@@ -1,14 +1,14 @@
 //! The backing file's name: how it is read where a header says, and how it is written.
 
-ghost use Rattle.std.specs.Prelude.{◌≡◌, ◌++◌, IfOk, OnOk, length, option_map, string_bytes, true};
+ghost use Rattle.std.specs.Prelude.{unwrap_or, [], ◌≡◌, ◌++◌, IfOk, OnOk, length, option_map, string_bytes, true};
 ghost use Rattle.qcow2_base.specs.Types.{IsClusterBits};
 ghost use Rattle.qcow2_metadata.specs.Header.Grammar.{IsHeaderFault, backing_name};
-ghost use Rattle.qcow2_metadata.specs.Header.Text.{is_short, name_text};
+ghost use Rattle.qcow2_metadata.specs.Header.Text.{is_short};
 ghost use Rattle.qcow2_metadata.specs.ReadAhead.{ReadsThrough};
 
 use super::Header;
+use super::bytes::{parse_text, read_bytes};
 use super::fixed_parts::cluster_size;
-use super::load::{parse_text, read_bytes};
 use crate::read_ahead::ReadAhead;
 use qcow2_base::{Fault, MAX_BACKING_FILENAME, Storage, V2Header};
 use std::alloc::{AllocError, Global};
@@ -42,7 +42,7 @@ pub(super) fn read_backing_filename<S: Storage>(
 impl Header {
     // How many bytes the backing file's name has.
     pub(super) fn backing_filename_len(&self) -> usize
-        ensures { result ≡ length (name_text self.now.backing_filename) }
+        ensures { result ≡ length (unwrap_or self.now.backing_filename []) }
     {
         match &self.backing_filename {
             Some(name) => name.len(),
@@ -53,7 +53,7 @@ impl Header {
     // Appends the backing file's name to the text.
     pub(super) fn push_backing_filename(&self, text: &mut Vec<u8>) -> Result<(), AllocError>
         ensures { OnOk result
-            (text.new.items ≡ text.old.items ++ name_text self.now.backing_filename) }
+            (text.new.items ≡ text.old.items ++ unwrap_or self.now.backing_filename []) }
     {
         match &self.backing_filename {
             Some(name) => text.extend_from_slice(name.as_bytes()),

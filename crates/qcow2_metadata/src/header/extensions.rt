@@ -2,26 +2,26 @@
 
 ghost use Rattle.std.specs.Prelude.{◌≡◌, ◌≢◌, ◌⊎◌, ◌+◌, ◌^◌, ◌<◌, ◌≤◌, ◌++◌, nat_le, [], ◌∷◌, All, IfErr, IfOk, IfSome, IsOkUnless, Ok, OnOk, SomeIff, length, map, option_map, string_bytes};
 ghost use Rattle.qcow2_base.specs.OnDiskStruct.{header_extension_header};
+ghost use Rattle.qcow2_base.specs.Storage.{be};
 ghost use Rattle.qcow2_base.specs.declared.fault.Fault.TheVariants.{ExtensionText};
 ghost use Rattle.qcow2_metadata.specs.Results.{after_conditions, result_map};
-ghost use Rattle.qcow2_metadata.specs.Header.Chain.{data_end, extension_at, extension_header_at, extensions_at, link_at};
+ghost use Rattle.qcow2_metadata.specs.Header.Chain.{data_end, extension_at, extensions_at, link_at};
 ghost use Rattle.qcow2_metadata.specs.Header.Extensions.{IsStorable, data_of, extension_number, extension_of, feature_name_in, name_in, extension_from_data, type_number};
 ghost use Rattle.qcow2_metadata.specs.Header.Features.{HasNumber};
-ghost use Rattle.qcow2_metadata.specs.Header.Grammar.{AreValidParts, IsHeaderFault, header_extensions, last_conditions};
+ghost use Rattle.qcow2_metadata.specs.Header.Grammar.{AreValidParts, IsHeaderFault, header_extensions};
 ghost use Rattle.qcow2_metadata.specs.Header.Text.{chosen_extensions, extension_text, extensions_text, fields_text, is_other, written_text};
 ghost use Rattle.qcow2_metadata.specs.Range.{bytes_at};
 ghost use Rattle.qcow2_metadata.specs.ReadAhead.{ReadsThrough};
 ghost use Rattle.qcow2_metadata.specs.declared.header.extensions.HeaderExtensionType.TheVariants as kind;
 
+use super::bytes::{parse_text, push_bytes, push_padded, push_zeros, read_bytes};
 use super::feature_names::{FEATURE_NAME_BYTES, push_names, read_feature_names};
+use super::features::{FeatureType, UnknownValue};
 use super::fixed_parts::cluster_size;
-use super::load::{parse_text, read_bytes};
-use super::text::{push_bytes, push_padded, push_zeros};
-use super::{FeatureType, UnknownValue, same_names};
 use crate::read_ahead::ReadAhead;
 use qcow2_base::{
-    EXTERNAL_DATA_FILE_BIT, Fault, HeaderExtensionHeader, HostOffset, OnDiskStruct, Storage,
-    V2Header, V3HeaderBase, read_be, write_be,
+    Fault, HeaderExtensionHeader, HostOffset, OnDiskStruct, Storage, V2Header, V3HeaderBase,
+    read_be, write_be,
 };
 use std::alloc::{AllocError, Global};
 use std::collections::BTreeMap;
@@ -184,7 +184,7 @@ fn read_extension_header<S: Storage>(
     requires { len ≤ 2 ^ 21 }
     ensures reads { ReadsThrough S.state (λ header. header) result (λ bytes. after_conditions
         ((nat_le (data_end (link_at bytes place)) len, Fault.ExtensionsExceed) ∷ [])
-        (λ _. Ok (extension_header_at bytes place))) IsHeaderFault image.old image.new }
+        (λ _. Ok (record { extension_type = be bytes place 4; length = be bytes (place + 4) 4 }))) IsHeaderFault image.old image.new }
     ensures bounded { IfOk result (λ header. place + 8 + header.length ≤ len) }
 {
     if place > len || len - place < 8 {
@@ -243,29 +243,6 @@ fn parse(extension_type: u32, bytes: Vec<u8>) -> Result<HeaderExtension, Fault>
         extension_type,
         content: bytes,
     })
-}
-
-// Refuses texts of one kind that differ, and features that aren't known here.
-pub(super) fn check_extensions(
-    base: &V3HeaderBase,
-    extensions: &[HeaderExtension],
-) -> Result<(), Fault>
-    ensures exact { result
-        ≡ after_conditions (last_conditions base.now (map extension_of extensions.now)) (λ _. Ok tt) }
-    ensures faults { IfErr result IsHeaderFault }
-{
-    if !same_names(extensions, HeaderExtensionType::BackingFileFormat) {
-        return Err(Fault::FormatConflict);
-    }
-    if !same_names(extensions, HeaderExtensionType::ExternalDataFileName) {
-        return Err(Fault::DataFileConflict);
-    }
-    let external = base.incompatible_features >> EXTERNAL_DATA_FILE_BIT & 1;
-    let others = base.incompatible_features - (external << EXTERNAL_DATA_FILE_BIT);
-    if others != 0 {
-        return Err(Fault::Incompatible(others));
-    }
-    Ok(())
 }
 
 impl HeaderExtension {

@@ -12,8 +12,8 @@ ghost use Rattle.qcow2_metadata.specs.Header.Grammar.{IsHeaderFault};
 ghost use Rattle.qcow2_metadata.specs.Range.{bytes_at};
 ghost use Rattle.qcow2_metadata.specs.ReadAhead.{ReadsThrough};
 
-use super::FeatureType::{self, Autoclear, Compatible, Incompatible};
-use super::text::push_zeros;
+use super::bytes::push_zeros;
+use super::features::FeatureType::{self, Autoclear, Compatible, Incompatible};
 use crate::read_ahead::ReadAhead;
 use bstr::ByteSlice;
 use qcow2_base::{Fault, HostOffset, Storage};

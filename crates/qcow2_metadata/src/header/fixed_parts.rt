@@ -1,16 +1,16 @@
 //! The fixed parts of a header: how they are read and tested, and how they are written.
 
-ghost use Rattle.std.specs.Prelude.{◌≡◌, ◌⊎◌, ◌%◌, ◌^◌, ◌<◌, ◌≤◌, ◌++◌, IfErr, IfOk, Ok, OnOk, length};
+ghost use Rattle.std.specs.Prelude.{unwrap_or, [], ◌≡◌, ◌⊎◌, ◌%◌, ◌^◌, ◌<◌, ◌≤◌, ◌++◌, IfErr, IfOk, Ok, OnOk, length};
 ghost use Rattle.qcow2_base.specs.OnDiskStruct.{v2_header, v3_header_base};
 ghost use Rattle.qcow2_base.specs.Storage.{image_of};
 ghost use Rattle.qcow2_base.specs.Types.{IsClusterBits};
 ghost use Rattle.qcow2_metadata.specs.Results.{Reads, after_conditions};
 ghost use Rattle.qcow2_metadata.specs.Header.{magic};
 ghost use Rattle.qcow2_metadata.specs.Header.Grammar.{AreValidParts, IsBase, IsHeaderFault, field_conditions, fixed_parts, version_conditions};
-ghost use Rattle.qcow2_metadata.specs.Header.Text.{AreFitting, base_with_length, fields_text, name_text, v2_with_name};
+ghost use Rattle.qcow2_metadata.specs.Header.Text.{AreFitting, base_with_length, fields_text, v2_with_name};
 
 use super::Header;
-use super::text::push_bytes;
+use super::bytes::push_bytes;
 use crate::range::read_range;
 use qcow2_base::{
     Fault, HostOffset, MAGIC, OnDiskStruct, Storage, V2Header, V3HeaderBase, read_be, write_be,
@@ -111,7 +111,7 @@ pub(super) fn cluster_size(v2: &V2Header) -> u64
 impl Header {
     // The first part of a header whose name lies at a place.
     pub(super) fn placed_v2(&self, name_place: usize) -> V2Header
-        requires { length (name_text self.now.backing_filename) < 2 ^ 32 }
+        requires { length (unwrap_or self.now.backing_filename []) < 2 ^ 32 }
         ensures { result ≡ v2_with_name self.now.v2 name_place self.now.backing_filename }
     {
         match &self.backing_filename {

@@ -1,20 +1,20 @@
 //! Loading a header: the first cluster of an image, looked at where the header says, in its order.
 
-ghost use Rattle.std.specs.Prelude.{◌≡◌, ◌+◌, ◌^◌, ◌≤◌, IfOk, Ok, length, string_bytes, true};
-ghost use Rattle.qcow2_metadata.specs.Results.{Reads, result_map};
+ghost use Rattle.std.specs.Prelude.{◌≡◌, IfOk, true};
+ghost use Rattle.qcow2_metadata.specs.Results.{Reads};
 ghost use Rattle.qcow2_metadata.specs.Header.Open.{Loads};
-ghost use Rattle.qcow2_metadata.specs.Header.Extensions.{text};
 ghost use Rattle.qcow2_metadata.specs.Header.Grammar.{AreValidParts, IsHeaderFault, header_of, header_with_parts};
 ghost use Rattle.qcow2_metadata.specs.Header.Text.{is_short};
-ghost use Rattle.qcow2_metadata.specs.Range.{bytes_at};
 ghost use Rattle.qcow2_metadata.specs.ReadAhead.{ReadsThrough};
 
 use super::Header;
 use super::backing_filename::read_backing_filename;
-use super::extensions::{check_extensions, read_header_extensions};
+use super::bytes::read_bytes;
+use super::extensions::read_header_extensions;
 use super::fixed_parts::{FIXED_BYTES, cluster_size, read_fixed_parts};
+use super::names::check_extensions;
 use crate::read_ahead::ReadAhead;
-use qcow2_base::{Fault, HostOffset, Storage, V2Header, V3HeaderBase};
+use qcow2_base::{Fault, Storage, V2Header, V3HeaderBase};
 use std::alloc::Global;
 
 impl Header {
@@ -75,37 +75,4 @@ fn read_other_parts<S: Storage>(
         backing_filename,
         extensions,
     })
-}
-
-// `len` bytes of the image, from an offset on. Takes memory for them, so it asks that they end within the
-// largest cluster.
-#[tactic(auto, using(crate::proofs::LoadLemmas::bytes_read))]
-pub(super) fn read_bytes<S: Storage>(
-    alloc: Global,
-    image: &mut ReadAhead<S>,
-    offset: u64,
-    len: usize,
-) -> Result<Vec<u8>, Fault>
-    requires { offset + len ≤ 2 ^ 21 }
-    ensures reads { ReadsThrough S.state (λ bytes. bytes.items) result
-        (λ stored. Ok (bytes_at stored offset len)) (λ _. ⊥) image.old image.new }
-    ensures len { IfOk result (λ bytes. length bytes.items ≡ len) }
-{
-    if len == 0 {
-        return Ok(Vec::new(alloc));
-    }
-    let mut bytes = vec![in alloc; 0u8; len]?;
-    image.read_range(HostOffset(offset), &mut bytes)?;
-    Ok(bytes)
-}
-
-// The text that the bytes are, or the fault where they are none.
-#[tactic(auto, using(crate::proofs::ExtensionsLemmas::texts))]
-pub(super) fn parse_text(bytes: Vec<u8>, fault: Fault) -> Result<String, Fault>
-    ensures { result_map string_bytes result ≡ text fault bytes.items }
-{
-    match String::from_utf8(bytes) {
-        Ok(text) => Ok(text),
-        Err(_) => Err(fault),
-    }
 }

@@ -2,7 +2,7 @@
 //! L1 table and its refcount table lie. Each can be written by itself.
 
 ghost use Rattle.std.specs.Prelude.{◌≡◌, ◌*◌, ◌^◌, ◌≤◌, length, Ok, Err, IfSome, MatchOption, OnErr, OnOk};
-ghost use Rattle.qcow2_metadata.specs.Header.Pointers.{ArePendingFor, WritesPart, pointer_fault, table_clusters, with_l1_table, with_reftable, with_size};
+ghost use Rattle.qcow2_metadata.specs.Header.Pointers.{WritesPart, pointer_fault, table_clusters};
 
 use super::Header;
 use crate::entries::refuse;
@@ -13,7 +13,7 @@ impl Header {
     /// Sets the size of the guest's disk, in bytes. The image isn't changed: `write_size` does that.
     #[inline]
     pub fn set_size(&mut self, size: u64)
-        ensures { self.new ≡ with_size self.old size }
+        ensures { self.new ≡ record self.old { v2 = record self.old.v2 { size = size } } }
     {
         self.v2.size = size;
     }
@@ -32,13 +32,18 @@ impl Header {
     ) -> Result<(), Refused>
         requires cluster_bits { l1_table.now.geometry.cluster_bits ≡ self.old.v2.cluster_bits }
         requires pending { IfSome l1_table.now.cluster (λ cluster.
-            IfSome new_allocation (ArePendingFor l1_table.now cluster)) }
+            IfSome new_allocation (λ pending. (pending.first ≡ cluster)
+            × (pending.count.0 ≡ table_clusters l1_table.now))) }
         ensures answer { MatchOption (pointer_fault l1_table.now (length l1_table.now.numbers))
             (result ≡ Ok tt)
             (λ fault. result ≡ Err (record { fault = fault; pending = new_allocation })) }
         ensures set { OnOk result (IfSome l1_table.now.cluster (λ cluster.
-            self.new ≡ with_l1_table self.old (cluster.0 * 2 ^ self.old.v2.cluster_bits)
-            (length l1_table.now.numbers))) }
+            self.new ≡ record self.old {
+              v2 = record self.old.v2 {
+                l1_table_offset = cluster.0 * 2 ^ self.old.v2.cluster_bits;
+                l1_size = length l1_table.now.numbers;
+              };
+            })) }
         ensures unchanged { OnErr result (self.new ≡ self.old) }
     {
         let Some(offset) = l1_table.get_offset() else {
@@ -66,8 +71,12 @@ impl Header {
         ensures answer { MatchOption (pointer_fault reftable.now (table_clusters reftable.now))
             (result ≡ Ok tt) (λ fault. result ≡ Err fault) }
         ensures set { OnOk result (IfSome reftable.now.cluster (λ cluster.
-            self.new ≡ with_reftable self.old (cluster.0 * 2 ^ self.old.v2.cluster_bits)
-            (table_clusters reftable.now))) }
+            self.new ≡ record self.old {
+              v2 = record self.old.v2 {
+                refcount_table_offset = cluster.0 * 2 ^ self.old.v2.cluster_bits;
+                refcount_table_clusters = table_clusters reftable.now;
+              };
+            })) }
         ensures unchanged { OnErr result (self.new ≡ self.old) }
     {
         let Some(offset) = reftable.get_offset() else {

@@ -2,11 +2,11 @@
 
 ghost use Rattle.std.specs.Prelude.{◌≡◌, ◌^◌, ◌<◌, ◌≤◌, ◌++◌, IfOk, IfSome, MatchOption, OnOk, SomeIff, false, replicate};
 ghost use Rattle.qcow2_base.specs.OnDiskStruct.{v2_header, v3_header_base};
-ghost use Rattle.qcow2_base.specs.Storage.{IsBytes, image_of};
-ghost use Rattle.qcow2_metadata.specs.Header.{IsLawfulHeader};
+ghost use Rattle.qcow2_metadata.specs.Header.{IsValidHeader};
 ghost use Rattle.qcow2_metadata.specs.Header.Text.{AreFitting, IsLayout, header_to_write, fits_first_cluster, header_end, header_text, padded_bytes, parts_text};
 
 use super::Header;
+use super::bytes::push_padded;
 use super::extensions::{extensions_len, push_extensions};
 use super::fixed_parts::{FIXED_BYTES, push_base, push_v2};
 use qcow2_base::{OnDiskStruct, V2Header, V3HeaderBase};
@@ -70,7 +70,7 @@ impl Header {
         ensures v2_fits { OnOk result (AreFitting (v2_header layout.now.v2)) }
         ensures base_fits { OnOk result
             (self.now.v2.version ≡ 3 → AreFitting (v3_header_base layout.now.base)) }
-        ensures lawful { IsLawfulHeader self.now }
+        ensures valid { IsValidHeader self.now }
     {
         let mut text = Vec::with_capacity(self.alloc, layout.len)?;
         self.push_parts(&mut text, layout)?;
@@ -95,29 +95,4 @@ impl Header {
         push_base(text, &layout.base)?;
         push_padded(text, &self.unknown_header_fields)
     }
-}
-
-// Appends bytes to the text.
-pub(super) fn push_bytes(text: &mut Vec<u8>, bytes: &[u8]) -> Result<(), AllocError>
-    ensures pushed { OnOk result (text.new.items ≡ text.old.items ++ bytes.now) }
-    ensures bytes { IsBytes (image_of bytes.now) }
-{
-    text.extend_from_slice(bytes)
-}
-
-// Appends zeros to the text.
-pub(super) fn push_zeros(text: &mut Vec<u8>, count: usize) -> Result<(), AllocError>
-    requires { count ≤ 46 }
-    ensures { OnOk result (text.new.items ≡ text.old.items ++ replicate count 0) }
-{
-    text.resize(text.len() + count, 0)
-}
-
-// Appends bytes to the text, and zeros up to a multiple of 8 of them.
-#[tactic(auto, using(crate::proofs::LayoutLemmas::padded_pieces))]
-pub(super) fn push_padded(text: &mut Vec<u8>, bytes: &[u8]) -> Result<(), AllocError>
-    ensures { OnOk result (text.new.items ≡ text.old.items ++ padded_bytes bytes.now) }
-{
-    text.extend_from_slice(bytes)?;
-    push_zeros(text, (8 - bytes.len() % 8) % 8)
 }

@@ -1,8 +1,7 @@
 //! Taking over what changed in another header of the same image.
 
-ghost use Rattle.std.specs.Prelude.{◌≡◌, IfErr, OnErr, OnOk, Ok};
-ghost use Rattle.qcow2_metadata.specs.Results.{after_conditions};
-ghost use Rattle.qcow2_metadata.specs.Header.Update.{IsFirstChange, agreements, same_value, value_in, with_header_length, with_size_and_tables};
+ghost use Rattle.std.specs.Prelude.{◌≡◌, All, MatchResult, OnErr, OnOk};
+ghost use Rattle.qcow2_metadata.specs.Header.Update.{AgreeIn, IsFirstChange, kept_fields, same_value, value_in, with_size_and_tables};
 
 use super::Header;
 use qcow2_base::{Fault, Field};
@@ -36,12 +35,13 @@ impl Header {
     /// field that differs, in the order of `Field`, and changes nothing. The other header may be of another
     /// cluster size, which is such a field. Takes no memory.
     pub fn update(&mut self, other: &Header) -> Result<(), Fault>
-        ensures exact { result ≡ after_conditions (agreements self.old other.now) (λ _. Ok tt) }
-        ensures first { IfErr result (IsFirstChange self.old other.now) }
-        ensures follows { OnOk result
-            (self.new ≡ with_header_length other.now self.old.base.header_length) }
+        ensures agree { MatchResult result (λ _. All (AgreeIn self.old other.now) kept_fields)
+            (IsFirstChange self.old other.now) }
+        ensures follows { OnOk result (self.new ≡ record other.now {
+          base = record other.now.base { header_length = self.old.base.header_length };
+        }) }
         ensures taken { OnOk result (self.new ≡ with_size_and_tables self.old other.now) }
-        ensures kept { OnErr result (self.new ≡ self.old) }
+        ensures unchanged { OnErr result (self.new ≡ self.old) }
     {
         for field in KEPT_FIELDS {
             if !self.agrees_in(other, field) {

@@ -3,6 +3,7 @@
 ghost use Rattle.std.specs.Prelude.{◌≡◌, IfOk, IsTrue, OnErr, OnOk, Ok, Some, true, length};
 ghost use Rattle.qcow2_base.specs.Storage.{Holds, OnImages, OnlyWrites};
 ghost use Rattle.qcow2_metadata.specs.Results.{RefusesFirst};
+ghost use Rattle.qcow2_metadata.specs.Header.{IsValidHeader};
 ghost use Rattle.qcow2_metadata.specs.Header.Open.{is_rewritten, header_after_load, opened_text, without_autoclear};
 ghost use Rattle.qcow2_metadata.specs.Header.Text.{IsChosen, IsLayout, IsSettled, IsWrittenHeader, header_to_write, chosen_text, header_after_write, header_with_places};
 
@@ -26,7 +27,6 @@ impl Header {
         ensures unchanged { OnErr result (self.new ≡ self.old) }
         ensures written { OnOk result (OnImages (S.state image.old) (S.state image.new) (λ _ after.
             IsWrittenHeader after self.new)) }
-        ensures settled { OnOk result (IsSettled self.new) }
         ensures storage { OnlyWrites result (Some 0) (length (chosen_text self.old))
             (S.state image.old) (S.state image.new) }
     {
@@ -83,7 +83,8 @@ impl Header {
     }
 
     fn clear_autoclear_features(&mut self)
-        ensures { self.new ≡ without_autoclear self.old }
+        ensures cleared { self.new ≡ without_autoclear self.old }
+        ensures valid { IsValidHeader self.new }
     {
         self.base.autoclear_features = 0;
     }

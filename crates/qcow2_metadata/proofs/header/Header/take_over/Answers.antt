@@ -2,8 +2,8 @@ use Rattle.std.proofs.Common.{◌≡◌, Bool, ap, map, refl, ◌∙◌, rules, 
 use Rattle.std.proofs.lemmas.Fn.{filter_same}
 use Rattle.std.specs.List.{filter}
 use Rattle.qcow2_metadata.proofs.HeaderLemmas.{held_are}
-use Rattle.qcow2_metadata.proofs.WriteLemmas.{kept-extensions, not_true, placed-lawful}
-use Rattle.qcow2_metadata.specs.Header.{IsLawfulHeader}
+use Rattle.qcow2_metadata.proofs.WriteLemmas.{kept-extensions, not_true, placed-valid}
+use Rattle.qcow2_metadata.specs.Header.{IsValidHeader}
 use Rattle.qcow2_metadata.specs.Header.Extensions.{extension_of}
 use Rattle.qcow2_metadata.specs.Header.Text.{chosen_extensions, is_other}
 use Rattle.qcow2_metadata.proofs.header.Header.take_over.Goals as goal
@@ -29,6 +29,6 @@ returns-then-not-layout c =
 
 pub invariant_of-self : goal.invariant_of-self
 invariant_of-self c =
-    let lawful = subst IsLawfulHeader c.self.view_is c.self.invariant in
-    subst IsLawfulHeader (sym (returns-then-not-layout c))
-    (placed-lawful c.args.layout.with_names c.args.self.now lawful)
+    let valid = subst IsValidHeader c.self.view_is c.self.invariant in
+    subst IsValidHeader (sym (returns-then-not-layout c))
+    (placed-valid c.args.layout.with_names c.args.self.now valid)

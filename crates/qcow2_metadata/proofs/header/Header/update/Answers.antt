@@ -2,17 +2,13 @@ use Rattle.std.proofs.Common.{rules, ◌∙◌, ap, lit<, sym}
 use Rattle.qcow2_base.specs.declared.fault.Field.TheVariants as field
 use Rattle.qcow2_metadata.specs.Header.{HeaderRecord}
 use Rattle.qcow2_metadata.specs.Header.Update.{with_size_and_tables}
-use Rattle.qcow2_metadata.proofs.UpdateLemmas.{agreed-all, agreed-more, agreements-agreed, agreements-changed, first_change-at, numbers, with_size_and_tables-agreed, with_size_and_tables-lawful}
+use Rattle.qcow2_metadata.proofs.UpdateLemmas.{agreed-all, agreed-more, first_change-at, numbers, with_size_and_tables-agreed, with_size_and_tables-valid}
 use Rattle.qcow2_metadata.proofs.header.Header.update.Goals as goal
 
-pub returns-then-not-agrees_in-clause-first : goal.returns-then-not-agrees_in-clause-first
-returns-then-not-agrees_in-clause-first c =
+pub returns-then-not-agrees_in-clause-agree : goal.returns-then-not-agrees_in-clause-agree
+returns-then-not-agrees_in-clause-agree c =
     let fails = sym c.agrees_in.ensures ∙ c.if-not-agrees_in.true in
     first_change-at c.args.self.now c.args.other.now c.loop-field.field-index c.loop-field-test.true c.loop-field.invariant fails
-
-pub returns-then-not-agrees_in-clause-exact : goal.returns-then-not-agrees_in-clause-exact
-returns-then-not-agrees_in-clause-exact c =
-    sym (agreements-changed c.args.self.now c.args.other.now _ (returns-then-not-agrees_in-clause-first c))
 
 pub loop-field-preserved : goal.loop-field-preserved
 loop-field-preserved c =
@@ -24,11 +20,11 @@ invariant_of-self c =
     let all = agreed-all c.args.self.now c.args.other.now c.loop-field.field-index c.loop-field-test.false c.loop-field.invariant in
     let cluster_bits = λ (header : HeaderRecord). header.v2.cluster_bits in
     let agree = numbers _ _ (all 4 field.Magic (lit< tt)) in
-    with_size_and_tables-lawful _ _ c.self-2.invariant c.other.invariant
+    with_size_and_tables-valid _ _ c.self-2.invariant c.other.invariant
     (ap cluster_bits c.self-2.view_is ∙ agree ∙ sym (ap cluster_bits c.other.view_is))
 
-pub returns-clause-exact : goal.returns-clause-exact
-returns-clause-exact c = search (rules, agreements-agreed, agreed-all)
+pub returns-clause-agree : goal.returns-clause-agree
+returns-clause-agree c = search (rules, agreed-all)
 
 pub returns-clause-follows : goal.returns-clause-follows
 returns-clause-follows c =

@@ -1,7 +1,6 @@
 use Rattle.std.proofs.Common.{◌∙◌, rules, subst, sym}
 use Rattle.qcow2_base.specs.Storage.{Holds}
-use Rattle.qcow2_metadata.specs.Header.Text.{IsSettled, IsWrittenHeader, header_to_write, header_with_places}
-use Rattle.qcow2_metadata.proofs.SettledLemmas.{kept-settled}
+use Rattle.qcow2_metadata.specs.Header.Text.{IsWrittenHeader}
 use Rattle.qcow2_metadata.proofs.WriteLemmas.{chosen_text-placed, kept-fault, refused-writes, written-header}
 use Rattle.qcow2_metadata.proofs.header.Header.write.Goals as goal
 
@@ -17,14 +16,8 @@ returns-clause-written g c told =
     let text = c.deref.ensures.value ∙ c.in_ok-text.ensures.text in
     let held = subst (Holds image 0) text (c.in_ok-write.ensures.written told) in
     subst (IsWrittenHeader image) (sym c.take_over.ensures)
-    (written-header image c.args.self.now c.in_ok-layout.layout c.in_ok-text.ensures.lawful c.in_ok-layout.ensures.0
+    (written-header image c.args.self.now c.in_ok-layout.layout c.in_ok-text.ensures.valid c.in_ok-layout.ensures.0
     c.in_ok-layout.ensures.1 c.in_ok-text.ensures.v2_fits c.in_ok-text.ensures.base_fits held)
-
-pub returns-clause-settled : goal.returns-clause-settled
-returns-clause-settled g c =
-    let written = header_with_places (header_to_write c.in_ok-layout.layout.with_names c.args.self.now) in
-    subst IsSettled (sym c.take_over.ensures)
-    (kept-settled c.args.self.now written c.in_ok-text.ensures.lawful.storable c.in_ok-layout.ensures.1)
 
 pub returns-clause-storage : goal.returns-clause-storage
 returns-clause-storage g c = search (rules, chosen_text-placed)

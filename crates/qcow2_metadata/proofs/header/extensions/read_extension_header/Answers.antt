@@ -1,7 +1,5 @@
-use Rattle.std.proofs.Common.{◌≡◌, ◌+◌, ◌≤◌, true, false, nat_le, length, inr, refl, ap, arith, rules}
+use Rattle.std.proofs.Common.{◌≡◌, ◌≤◌, true, false, nat_le, length, inr, refl, arith, rules}
 use Rattle.std.proofs.lemmas.Bool.Decides.{nat_tests}
-use Rattle.qcow2_base.specs.Storage.{be}
-use Rattle.qcow2_base.specs.declared.on_disk_struct.header_extension_header.HeaderExtensionHeader.{HeaderExtensionHeader}
 use Rattle.qcow2_metadata.proofs.LoadLemmas.{read-extension_header_at}
 use Rattle.qcow2_metadata.specs.Header.Chain.{data_end, link_at}
 use Rattle.qcow2_metadata.proofs.header.extensions.read_extension_header.Goals as goal
@@ -17,8 +15,7 @@ returns-then-place-header-clause-reads g c =
         exact = λ told.
             let held = c.in_ok-read_range.ensures.held told in
             let is = read-extension_header_at image place c.read_range.new.buffer header held within c.read_be-header.ensures in
-            let size : be image (place + 4) 4 ≡ header.length = ap (λ (h : HeaderExtensionHeader). h.length) is in
-            let exceeds : nat_le (data_end (link_at image place)) c.args.len ≡ false = grind (arith, nat_tests, size, c.if-place-header.true) in
+            let exceeds : nat_le (data_end (link_at image place)) c.args.len ≡ false = grind (arith, nat_tests, is.1, c.if-place-header.true) in
             inr (inr (rw exceeds refl));
         faults = search rules;
         storage = search rules;
@@ -37,9 +34,8 @@ returns-clause-reads g c =
         exact = λ told.
             let held = c.in_ok-read_range.ensures.held told in
             let is = read-extension_header_at image place c.read_range.new.buffer header held within c.read_be-header.ensures in
-            let size : be image (place + 4) 4 ≡ header.length = ap (λ (h : HeaderExtensionHeader). h.length) is in
-            let fits : nat_le (data_end (link_at image place)) c.args.len ≡ true = grind (arith, nat_tests, size, c.if-place-header.false) in
-            rw (fits, is) refl;
+            let fits : nat_le (data_end (link_at image place)) c.args.len ≡ true = grind (arith, nat_tests, is.1, c.if-place-header.false) in
+            rw (fits, is.0, is.1) refl;
         faults = tt;
         storage = search rules;
       };
