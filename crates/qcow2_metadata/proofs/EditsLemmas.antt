@@ -8,7 +8,7 @@ use Rattle.qcow2_base.specs.Bits.{field}
 use Rattle.qcow2_base.specs.Types.{IsClusterBits}
 use Rattle.qcow2_metadata.specs.Header.{Geometry}
 use Rattle.qcow2_metadata.specs.declared.entries.ClustersToFreeEntry.{ClustersToFreeEntry}
-use Rattle.qcow2_metadata.specs.Entries.L2Entry.{ByteRange, Meets, allocation, byte_range, cluster_count, clusters_met, first_cluster, has_host_cluster, is_compressed, meets, with_zero_flag}
+use Rattle.qcow2_metadata.specs.Entries.L2Entry.{ByteRange, Meets, allocation, byte_range, clusters_met, has_host_cluster, is_compressed, meets, with_zero_flag}
 use Rattle.qcow2_metadata.specs.Entries.{is_among, offset_field}
 use Rattle.qcow2_metadata.proofs.EntriesLemmas.{allocation_is, meets_is_met, offset_in_sectors}
 use Rattle.qcow2_metadata.specs.Table.L2Guards.{EntryEdit, GivesUp, TableEdit, after_edit, can_be_made, entry_after, data_entry, clusters_freed_by, fits_table, cluster_gained_by, handed_back, is_just, is_mappable, keeps_clusters, one_if, references, run_of, times_gained, to_data, to_nothing, to_zeros}
@@ -40,10 +40,10 @@ just cluster = record { first = record { 0 = cluster }; count = record { 0 = 1 }
 clusters_of_one : (cb cluster : ℕ) → clusters_met cb (bytes_of_cluster cb cluster) ≡ just cluster
 clusters_of_one cb cluster =
     let positive = pow_pos cb in
-    let first : first_cluster cb (bytes_of_cluster cb cluster) ≡ cluster = mul-div_cancel cluster positive in
+    let first : cluster * 2 ^ cb / 2 ^ cb ≡ cluster = mul-div_cancel cluster positive in
     let within : cluster * 2 ^ cb + 2 ^ cb - 1 ≡ cluster * 2 ^ cb + (2 ^ cb - 1) = omega arith in
     let last : (cluster * 2 ^ cb + 2 ^ cb - 1) / 2 ^ cb ≡ cluster = rw within (div-mul-add cluster (2 ^ cb) (2 ^ cb - 1) (omega arith)) in
-    let count : cluster_count cb (bytes_of_cluster cb cluster) ≡ 1 = omega (arith, last, first) in
+    let count : (clusters_met cb (bytes_of_cluster cb cluster)).count.0 ≡ 1 = omega (arith, last, first) in
     rw (count, first) refl
 
 -- a data entry refers to its host cluster, and no other

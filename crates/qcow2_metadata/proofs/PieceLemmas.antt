@@ -4,7 +4,7 @@ use Rattle.std.proofs.lemmas.Bool.{cases_lt}
 use Rattle.std.proofs.lemmas.Option.{slice_get-get_or}
 use Rattle.qcow2_base.proofs.StorageLemmas.{image_of-padded}
 use Rattle.qcow2_base.specs.Storage.{Image, IsBytes, be, be_of_same, image_of}
-use Rattle.qcow2_metadata.specs.Pieces.{Stand, number_bytes}
+use Rattle.qcow2_metadata.specs.Pieces.{Stand, big_endian_bytes}
 use Rattle.qcow2_base.specs.declared.types.HostCluster.{HostCluster}
 use Rattle.qcow2_metadata.specs.Placed.{ReadsBack}
 use Rattle.qcow2_metadata.specs.Table.{IsValidTable, Kind, table_layout, table_numbers}
@@ -19,7 +19,7 @@ numbers_stand image offset k numbers within each =
 
 -- where the bytes of numbers of 64 bits are in an image, these are the numbers of the table there
 pub table-stands : (numbers : List ℕ) (image : Image) (offset : ℕ) → All (λ v. v < 2 ^ 64) numbers
-    → Stand (number_bytes numbers) (8 * length numbers) image offset → table_numbers image offset (length numbers) ≡ numbers
+    → Stand (big_endian_bytes 8 numbers) (8 * length numbers) image offset → table_numbers image offset (length numbers) ≡ numbers
 table-stands numbers image offset fits stand =
     stand-decoded 6 (length numbers) (8 * length numbers) numbers image offset (lit≤ tt) fits refl (omega arith) stand
 
@@ -35,7 +35,7 @@ table_reads_back kind cb cluster numbers valid = record {
 -- bytes that have numbers, eight bytes each, are the bytes of these numbers
 pub piece_bytes : (bytes numbers : List ℕ) (first : ℕ) → IsBytes (image_of bytes) → length bytes % 8 ≡ 0
     → ((i : ℕ) → 8 * i + 8 ≤ length bytes → be (image_of bytes) (8 * i) 8 ≡ slice_index numbers (first + i))
-    → (i : ℕ) → i < length bytes → slice_index bytes i ≡ number_bytes numbers (8 * first + i)
+    → (i : ℕ) → i < length bytes → slice_index bytes i ≡ big_endian_bytes 8 numbers (8 * first + i)
 piece_bytes bytes numbers first small eights each i below =
     let own : 8 * (i / 8) + i % 8 ≡ i = omega arith in
     let number : (8 * first + i) / 8 ≡ first + i / 8 = omega arith in

@@ -16,7 +16,7 @@ use Rattle.qcow2_metadata.specs.Entries.L1Entry.{l1_fault}
 use Rattle.qcow2_metadata.specs.Entries.L2Entry.{l2_fault}
 use Rattle.qcow2_metadata.specs.Header.{Geometry, HeaderRecord, geometry_of}
 use Rattle.qcow2_metadata.specs.Results.{IsFromOutside, unless_refused}
-use Rattle.qcow2_metadata.specs.Pieces.{number_bytes}
+use Rattle.qcow2_metadata.specs.Pieces.{big_endian_bytes}
 use Rattle.qcow2_metadata.specs.Placed.{IsValid, Layout, Placed, loaded_numbers, place_fault}
 use Rattle.qcow2_metadata.specs.Range.{range_fault}
 
@@ -36,10 +36,6 @@ new_table numbers header = record { numbers = numbers; cluster = None; modified 
 -- the table with another number at an index; it then counts as modified
 abbrev pub table_after_edit : TableState → ℕ → ℕ → TableState
 table_after_edit table index v = record table { numbers = slice_set table.numbers index v; modified = true }
-
--- a table of these numbers at no place yet, for the same image, and with the same flag
-abbrev pub table_without_place : TableState → List ℕ → TableState
-table_without_place table numbers = record table { numbers = numbers; cluster = None }
 
 -- a kind of table: the most entries that one may have. By cluster_bits, whether one may have that many in memory, and
 -- the fault of a number that is no entry
@@ -89,7 +85,7 @@ table_layout kind cb n = record {
   count = n;
   width = 64;
   byte_count = 8 * n;
-  bytes_of = number_bytes;
+  bytes_of = big_endian_bytes 8;
   numbers_from = λ image offset. table_numbers image offset n;
   fault_of_offset = λ offset. entries_fault kind.most offset n;
   fault_of_numbers = first_fault (kind.fault_of cb);

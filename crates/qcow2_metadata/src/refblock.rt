@@ -237,7 +237,7 @@ impl RefBlock {
     /// Says where in the image the block begins: at a cluster whose offset fits 64 bits. The block then
     /// counts as modified.
     pub fn set_cluster(&mut self, cluster: HostCluster)
-        requires { cluster.0 * 2 ^ self.old.geometry.cluster_bits < 2 ^ 64 }
+        requires { offset_of (block_layout self.old.geometry) cluster < 2 ^ 64 }
         ensures { self.new ≡ record self.old { cluster = Some cluster; modified = true } }
     {
         self.placement.cluster = Some(cluster);

@@ -40,7 +40,7 @@ impl Model for L2Entry {
 }
 
 impl L2Entry {
-    ghost use Rattle.qcow2_metadata.specs.Entries.L2Entry.{IsAllocation, byte_range, compressed_length, compressed_offset, from_pair, has_host_cluster, host_offset, is_compressed, is_zero, l2_fault, l2_reserved_bits, entry_in_copy, with_zero_flag};
+    ghost use Rattle.qcow2_metadata.specs.Entries.L2Entry.{IsAllocation, byte_range, compressed_length, compressed_offset, has_host_cluster, host_offset, is_compressed, is_zero, l2_fault, l2_reserved_bits, entry_in_copy, with_zero_flag};
     ghost use Rattle.qcow2_metadata.specs.Entries.L2Mapping.{IsPlaced, host_cluster, mapping, meaning};
     ghost use Rattle.qcow2_metadata.specs.Entries.{is_copied};
 
@@ -182,7 +182,7 @@ impl L2Entry {
     ) -> Option<(HostCluster, ClusterCount)>
         requires { IsClusterBits cluster_bits }
         ensures { IsAllocation (geometry cluster_bits external_data_file) self.now
-            (option_map from_pair result) }
+            (option_map (λ pair. record { first = pair.0; count = pair.1 }) result) }
     {
         let (start, length) = self.byte_range(cluster_bits, external_data_file)?;
         let first = start.cluster(cluster_bits);

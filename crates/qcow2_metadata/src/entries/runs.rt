@@ -5,7 +5,7 @@ ghost use Rattle.qcow2_base.specs.Format.{most_l2_entries};
 ghost use Rattle.qcow2_base.specs.Types.{IsClusterBits};
 ghost use Rattle.qcow2_metadata.specs.Header.{geometry};
 ghost use Rattle.qcow2_metadata.specs.Entries.L2Entry.{l2_fault};
-ghost use Rattle.qcow2_metadata.specs.Entries.Runs.{Follow, FollowJust, IsPatternOf, follows};
+ghost use Rattle.qcow2_metadata.specs.Entries.Runs.{FollowJust, IsPatternOf, follows};
 
 use super::{AtomicL2Entry, L2Entry, TableEntry};
 
@@ -103,7 +103,8 @@ impl RunPattern {
         requires fits { self.now.value + length entries.now * self.now.step < 2 ^ 64 }
         requires order { first ≤ end }
         requires within { end ≤ length entries.now }
-        ensures { IsTrue result ↔ Follow self.now entries.now first end }
+        ensures { IsTrue result ↔ ((k : ℕ) → first ≤ k → k < end →
+            follows self.now (k + 1) (slice_index entries.now k) ≡ true) }
     {
         let mut expected = self.value + first as u64 * self.step;
         let mut all = true;

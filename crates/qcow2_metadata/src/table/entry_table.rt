@@ -5,7 +5,7 @@ ghost use Rattle.std.proofs.Common.{refl};
 ghost use Rattle.std.specs.List.{All};
 ghost use Rattle.qcow2_base.specs.Format.{most_entries_in_memory};
 ghost use Rattle.qcow2_base.specs.Types.{IsClusterBits};
-ghost use Rattle.qcow2_metadata.specs.Table.{table_after_edit, table_without_place, first_fault, kind_of, new_table};
+ghost use Rattle.qcow2_metadata.specs.Table.{table_after_edit, first_fault, kind_of, new_table};
 ghost use Rattle.qcow2_metadata.specs.Table.Growth.{grown_numbers};
 
 use super::Table;
@@ -145,7 +145,7 @@ impl<E: TableKind> EntryTable<E> {
         requires count { length entries.items ≡ length self.now.numbers }
         requires valid { first_fault (E.fault_of self.now.geometry.cluster_bits)
             (map E.plain entries.items) ≡ None }
-        ensures { result ≡ table_without_place self.now (map E.plain entries.items) }
+        ensures { result ≡ record self.now { numbers = map E.plain entries.items; cluster = None } }
     {
         numbers_fit(&entries);
         let placement = Placement {

@@ -1,12 +1,12 @@
 //! L2 tables: what the clusters of a part of the guest's disk read as.
 
-ghost use Rattle.std.specs.Prelude.{◌≡◌, ℕ, ◌-◌, ◌*◌, ◌^◌, ◌==◌, ◌<◌, IfOk, IsOk, IsOkAnd, IsOkUnless, length, map, replicate, true, false};
+ghost use Rattle.std.specs.Prelude.{◌≡◌, ℕ, None, ◌-◌, ◌*◌, ◌^◌, ◌==◌, ◌<◌, IfOk, IsOk, IsOkAnd, IsOkUnless, length, map, replicate, true, false};
 ghost use Rattle.std.proofs.Common.{lit≤};
 ghost use Rattle.qcow2_base.specs.Format.{most_l2_entries};
 ghost use Rattle.qcow2_metadata.specs.Entries.L2Mapping.{IsPlaced, meaning};
 ghost use Rattle.qcow2_metadata.specs.Entries.L2Entry.{entry_in_copy};
 ghost use Rattle.qcow2_metadata.specs.Placed.{FollowsWrite, Writes};
-ghost use Rattle.qcow2_metadata.specs.Table.{l2_entries, l2_kind, layout_of_table, mapping_at, new_table, table_without_place};
+ghost use Rattle.qcow2_metadata.specs.Table.{l2_entries, l2_kind, layout_of_table, mapping_at, new_table};
 
 use super::pieces::TableBytes;
 use super::{CompressedClusterReadGuard, EntryTable, L2TableWriteGuard, Table, TableKind};
@@ -62,7 +62,7 @@ fn shared_entries(
 impl EntryTable<AtomicL2Entry> {
     ghost use Rattle.std.specs.Prelude.{option_map};
     ghost use Rattle.qcow2_metadata.specs.Table.L2Guards.{IsTableGuard, guarded_range, references};
-    ghost use Rattle.qcow2_metadata.specs.Table.L2Table.{IsMappedRun, compressed_at};
+    ghost use Rattle.qcow2_metadata.specs.Table.L2Table.{IsMappedRun, compressed_range};
 
     /// A table of an image with this header in which no cluster has data. It has no cluster, and
     /// counts as modified. Fails only where memory runs out.
@@ -143,7 +143,7 @@ impl EntryTable<AtomicL2Entry> {
     ) -> Result<Option<CompressedClusterReadGuard<'_>>, Fault>
         requires { guest_cluster.0 * 2 ^ self.now.geometry.cluster_bits < 2 ^ 64 }
         ensures { IsOkAnd result (λ guard.
-            option_map guarded_range guard ≡ compressed_at self.now guest_cluster.0) }
+            option_map guarded_range guard ≡ compressed_range (mapping_at self.now guest_cluster.0)) }
     {
         match self.get_mapping(guest_cluster)? {
             L2Mapping::Compressed {
@@ -165,8 +165,8 @@ impl EntryTable<AtomicL2Entry> {
     #[tactic(auto, using(crate::proofs::SharedLemmas::clones))]
     pub fn try_clone(&self) -> Result<L2Table, Fault>
         ensures fault { IsOkUnless result Fault.NoMemory }
-        ensures table { IfOk result (λ table. table ≡ table_without_place self.now
-            (map (entry_in_copy self.now.geometry.external_data_file) self.now.numbers)) }
+        ensures table { let copied = entry_in_copy self.now.geometry.external_data_file in IfOk result
+            (λ table. table ≡ record self.now { numbers = map copied self.now.numbers; cluster = None }) }
         ensures references { IfOk result (λ table. (cluster : ℕ) →
             references table.geometry table.numbers cluster
             ≡ references self.now.geometry self.now.numbers cluster) }
