@@ -8,7 +8,7 @@ use Rattle.qcow2_base.specs.declared.fault.Fault.{Fault}
 use Rattle.qcow2_base.specs.declared.fault.Fault.TheVariants.{NoMemory, Storage}
 use Rattle.qcow2_base.specs.declared.types.HostCluster.{HostCluster}
 use Rattle.std.proofs.lemmas.List.FromFn.{get_or-map-range_with_len}
-use Rattle.qcow2_metadata.proofs.PieceLemmas.{numbers_stand}
+use Rattle.qcow2_metadata.proofs.TablePiecesLemmas.{numbers_stand}
 use Rattle.qcow2_metadata.proofs.PackingLemmas.{counters_at-held, map_range_at}
 use Rattle.qcow2_metadata.specs.Placed.{write_fault}
 use Rattle.qcow2_metadata.specs.Table.{Kind, TableState, layout_of_table, table_layout, table_numbers}

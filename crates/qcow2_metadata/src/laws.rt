@@ -44,6 +44,7 @@ pub fn an_entry_refers_to_the_clusters_it_meets()
 
 /// An entry that is mapped to a cluster gives up nothing where it refers to that one alone, and else all
 /// that it refers to.
+#[tactic(auto, using(crate::proofs::L2GuardsLemmas::gives_up))]
 pub fn a_mapping_gives_up_all_but_its_own_cluster()
     ensures { (g : Geometry) (entry cluster : ℕ) → IsClusterBits g.cluster_bits →
         GivesUp g entry cluster (clusters_freed_by g (to_data cluster) entry) }

@@ -80,7 +80,7 @@ impl L2Entry {
     /// reference, and a compressed one stays as it is.
     #[inline]
     #[must_use]
-    #[tactic(auto, using(crate::proofs::SharedLemmas::lawful_without_copied))]
+    #[tactic(auto, using(crate::proofs::L2TableLemmas::lawful_without_copied))]
     pub fn without_copied(self) -> L2Entry
         ensures number { result ≡ self % 2 ^ 63 }
         ensures lawful { (cluster_bits : ℕ) →

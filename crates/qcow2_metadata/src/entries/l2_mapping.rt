@@ -134,7 +134,7 @@ fn copied_bit(copied: bool) -> u64
 
 // The number of the entry of `length` bytes of compressed data at an offset.
 #[inline]
-#[tactic(auto, using(crate::proofs::MappingLemmas::compressed_parts_fit))]
+#[tactic(auto, using(crate::proofs::L2MappingLemmas::compressed_parts_fit))]
 fn compressed_number(offset: u64, length: u64, cluster_bits: u32) -> u64
     requires cluster_bits { IsClusterBits cluster_bits }
     requires offset { offset < 2 ^ (70 - cluster_bits) }

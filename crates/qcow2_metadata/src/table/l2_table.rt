@@ -162,7 +162,7 @@ impl EntryTable<AtomicL2Entry> {
     /// host clusters that entries refer to then have a reference more, so no entry of the new table is a
     /// copied one. But one of cluster 0 of an external data file stays, since only its flag shows that
     /// there is a cluster. This table stays as it is. Fails only where memory runs out.
-    #[tactic(auto, using(crate::proofs::SharedLemmas::clones))]
+    #[tactic(auto, using(crate::proofs::L2TableLemmas::clones))]
     pub fn try_clone(&self) -> Result<L2Table, Fault>
         ensures fault { IsOkUnless result Fault.NoMemory }
         ensures table { let copied = entry_in_copy self.now.geometry.external_data_file in IfOk result
