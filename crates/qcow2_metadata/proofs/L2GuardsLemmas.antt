@@ -1,4 +1,4 @@
-use Rattle.std.proofs.Common.{ap, ◌≡◌, ℕ, Bool, true, false, ◌&&◌, ◌==◌, if◌then◌else◌, ◌+◌, ◌-◌, ◌*◌, ◌/◌, ◌^◌, ◌<◌, ◌≤◌, ◌↔◌, Option, Some, None, option_map, unwrap_or, option_to_list, IfSome, List, [], ◌∷◌, length, slice_index, refl, arith, length-set, rules, ◌≢◌, ◌++◌, All, sym, ◌∙◌}
+use Rattle.std.proofs.Common.{ap, ◌≡◌, ℕ, Bool, true, false, ◌&&◌, ◌==◌, if◌then◌else◌, ◌+◌, ◌-◌, ◌*◌, ◌/◌, ◌^◌, ◌<◌, ◌≤◌, ◌↔◌, Option, Some, None, option_map, unwrap_or, option_to_list, IfSome, List, [], ◌∷◌, length, slice_index, refl, arith, length-set, ◌≢◌, ◌++◌, All, sym, ◌∙◌}
 use Rattle.std.proofs.lemmas.Nat.{div-mul-add, mul-le, pow_pos}
 use Rattle.std.proofs.Math.Nat.{mul-div_cancel}
 use Rattle.std.proofs.lemmas.Bool.Decides.{nat_tests}
@@ -13,8 +13,7 @@ use Rattle.qcow2_metadata.specs.declared.entries.ClustersToFreeEntry.{ClustersTo
 use Rattle.qcow2_metadata.specs.Entries.L2Entry.{ByteRange, Meets, allocation, byte_range, clusters_met, has_host_cluster, is_compressed, meets, with_zero_flag, l2_fault}
 use Rattle.qcow2_metadata.specs.Entries.{is_among, offset_field}
 use Rattle.qcow2_metadata.proofs.EntriesLemmas.{allocation_is, meets_is_met, offset_in_sectors}
-use Rattle.qcow2_metadata.specs.Table.L2Guards.{EntryEdit, GivesUp, TableEdit, after_edit, can_be_made, entry_after, data_entry, clusters_freed_by, fits_table, cluster_gained_by, handed_back, is_just, is_mappable, keeps_clusters, one_if, references, run_of, times_gained, to_data, to_nothing, to_zeros, MakesEdit}
-use Rattle.qcow2_metadata.specs.Table.{TableState, table_after_edit}
+use Rattle.qcow2_metadata.specs.Table.L2Guards.{EntryEdit, GivesUp, TableEdit, after_edit, can_be_made, entry_after, data_entry, clusters_freed_by, fits_table, cluster_gained_by, handed_back, is_just, is_mappable, keeps_clusters, one_if, references, run_of, times_gained, to_data, to_nothing, to_zeros}
 
 -- an entry of data in a host cluster at an offset: it is standard and copied, with no reserved bit
 record IsDataAt (v offset : ℕ) : Type 0 where

@@ -1,5 +1,5 @@
-use Rattle.std.proofs.Common.{map-id, ◌≡◌, ℕ, Bool, false, not, ◌&&◌, ◌||◌, ◌==◌, if◌then◌else◌, ◌+◌, ◌-◌, ◌*◌, ◌/◌, ◌%◌, ◌^◌, ◌<◌, ◌≤◌, List, [], ◌∷◌, map, Option, Some, None, refl, ap, ◌∙◌, inl, inr, arith}
-use Rattle.std.proofs.lemmas.Bool.{cases_Bool, cases_lt}
+use Rattle.std.proofs.Common.{map-id, ◌≡◌, ℕ, Bool, ◌+◌, ◌-◌, ◌/◌, ◌%◌, ◌^◌, ◌<◌, ◌≤◌, List, [], ◌∷◌, map, Option, None, refl, ap, ◌∙◌, inl, inr, arith}
+use Rattle.std.proofs.lemmas.Bool.{cases_lt}
 use Rattle.std.proofs.lemmas.Bool.Decides.{nat_tests}
 use Rattle.std.proofs.lemmas.List.Sums.{sum_by-cons}
 use Rattle.std.proofs.lemmas.Nat.{div-mul-add, mod-pow-add, pow_pos}
@@ -8,8 +8,7 @@ use Rattle.std.proofs.Math.Pow.{mod-mod-pow}
 use Rattle.qcow2_base.specs.Bits.{field}
 use Rattle.qcow2_base.specs.declared.fault.Fault.{Fault}
 use Rattle.qcow2_metadata.specs.Table.L2Guards.{one_if, references}
-use Rattle.qcow2_metadata.specs.Entries.L2Entry.{ByteRange, byte_range, is_compressed, l2_fault, meets, entry_in_copy}
-use Rattle.qcow2_metadata.specs.Entries.{offset_field}
+use Rattle.qcow2_metadata.specs.Entries.L2Entry.{byte_range, l2_fault, meets, entry_in_copy}
 use Rattle.qcow2_metadata.specs.Header.{Geometry}
 use Rattle.qcow2_metadata.specs.Table.{first_fault}
 use Rattle.qcow2_metadata.proofs.TableLemmas.{no_fault_at_all}

@@ -44,17 +44,13 @@ pub record Kind : Type 0 where
   pub has_valid_count : ℕ → ℕ → Bool
   pub fault_of : ℕ → ℕ → Option Fault
 
--- a kind by these three
-abbrev pub kind_of : ℕ → (ℕ → ℕ → Bool) → (ℕ → ℕ → Option Fault) → Kind
-kind_of most has_valid_count fault_of = record { most = most; has_valid_count = has_valid_count; fault_of = fault_of }
-
 -- L1 tables
 abbrev pub l1_kind : Kind
-l1_kind = kind_of most_l1_entries (λ _ _. true) l1_fault
+l1_kind = record { most = most_l1_entries; has_valid_count = λ _ _. true; fault_of = l1_fault }
 
 -- L2 tables, each of which fills a cluster
 abbrev pub l2_kind : Kind
-l2_kind = kind_of most_l2_entries (λ cb n. n == l2_entries cb) l2_fault
+l2_kind = record { most = most_l2_entries; has_valid_count = λ cb n. n == l2_entries cb; fault_of = l2_fault }
 
 -- why n entries can't lie in an image from an offset on: they are more than the most of their kind, or their
 -- bytes end past the greatest end

@@ -1,5 +1,5 @@
 -- Which numbers are entries of a refcount table?
-use Rattle.std.specs.Prelude.{ℕ, not, ◌==◌, ◌*◌, ◌%◌, ◌^◌, Option}
+use Rattle.std.specs.Prelude.{ℕ, not, ◌==◌, ◌%◌, ◌^◌, Option}
 use Rattle.qcow2_base.specs.Bits.{field}
 use Rattle.qcow2_base.specs.declared.fault.Fault.{Fault}
 use Rattle.qcow2_metadata.specs.Entries.{entry_fault}

@@ -1,5 +1,5 @@
 -- How do the counters of a refcount block lie in its bytes?
-use Rattle.std.specs.Prelude.{ℕ, Bool, ◌+◌, ◌-◌, ◌*◌, ◌/◌, ◌%◌, ◌^◌, nat_le, if◌then◌else◌, List, [], ◌∷◌, map, take, drop}
+use Rattle.std.specs.Prelude.{ℕ, ◌+◌, ◌-◌, ◌*◌, ◌/◌, ◌%◌, ◌^◌, nat_le, if◌then◌else◌, List, [], ◌∷◌, map, take, drop}
 use Rattle.std.specs.List.{range_with_len}
 use Rattle.qcow2_base.specs.Bits.{field}
 use Rattle.qcow2_base.specs.Storage.{Image, be}

@@ -35,7 +35,6 @@ impl L1Entry {
     /// The entry 0: there is no L2 table.
     pub(crate) const NONE: L1Entry = L1Entry { value: 0 };
 
-    // The entry of an L2 table that begins with a cluster and has exactly one reference.
     #[tactic(auto, using(crate::proofs::EntriesLemmas::l1_entry_is_lawful))]
     pub(crate) fn for_l2_table(cluster: HostCluster, cluster_bits: u32) -> L1Entry
         requires cluster_bits { IsClusterBits cluster_bits }

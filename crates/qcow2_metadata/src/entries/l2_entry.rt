@@ -113,7 +113,6 @@ impl L2Entry {
         field(self.value, 0, 1) == 1
     }
 
-    // Whether the entry is a standard one that refers to a host cluster.
     #[inline]
     pub(crate) fn has_host_cluster(&self, external_data_file: bool) -> bool
         ensures { (cluster_bits : ℕ) →
@@ -190,7 +189,6 @@ impl L2Entry {
         Some((first, ClusterCount(last.0 - first.0 + 1)))
     }
 
-    // The bytes that the entry refers to: where they begin, and how many there are.
     fn byte_range(&self, cluster_bits: u32, external_data_file: bool) -> Option<(HostOffset, u64)>
         requires { IsClusterBits cluster_bits }
         ensures none { IfNone result (byte_range (geometry cluster_bits external_data_file) self.now ≡ None) }
@@ -206,7 +204,6 @@ impl L2Entry {
         Some((offset, 1 << cluster_bits))
     }
 
-    // The host cluster that a standard entry refers to, if it refers to one.
     #[inline]
     #[tactic(auto, using(crate::proofs::EntriesLemmas::cluster_begins_below))]
     fn host_cluster(&self, cluster_bits: u32, external_data_file: bool) -> Option<HostCluster>

@@ -35,7 +35,6 @@ impl RefTableEntry {
     /// The entry 0: there is no refcount block.
     pub(crate) const NONE: RefTableEntry = RefTableEntry { value: 0 };
 
-    // The entry of a refcount block that begins with a cluster.
     #[tactic(auto, using(crate::proofs::EntriesLemmas::ref_entry_is_lawful))]
     pub(crate) fn for_refblock(cluster: HostCluster, cluster_bits: u32) -> RefTableEntry
         requires cluster_bits { IsClusterBits cluster_bits }

@@ -124,7 +124,6 @@ impl L2TableWriteGuard<'_> {
         self.allocation_of(before.get())
     }
 
-    // The host clusters that an entry of the table refers to.
     fn allocation_of(&self, entry: L2Entry) -> Option<ClustersToFreeEntry>
         ensures { IsAllocation (guarded_table self.now).geometry entry result }
     {

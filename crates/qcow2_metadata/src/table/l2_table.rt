@@ -82,7 +82,7 @@ impl EntryTable<AtomicL2Entry> {
     pub fn external_data_file(&self) -> bool
         ensures { result ≡ self.now.geometry.external_data_file }
     {
-        self.has_external_data_file()
+        self.external_data_file
     }
 
     /// What a guest cluster reads as by its entry in this table. The cluster's offset must fit 64 bits.
@@ -95,7 +95,7 @@ impl EntryTable<AtomicL2Entry> {
     {
         let cluster_bits = self.cluster_bits();
         let entry = self.get(guest_cluster.l2_index(cluster_bits));
-        entry.into_mapping(guest_cluster, cluster_bits, self.has_external_data_file())
+        entry.into_mapping(guest_cluster, cluster_bits, self.external_data_file())
     }
 
     /// How many guest clusters, from one on, read on as one by their entries in this table, to its end
@@ -107,7 +107,7 @@ impl EntryTable<AtomicL2Entry> {
     {
         let cluster_bits = self.cluster_bits();
         let index = guest_cluster.l2_index(cluster_bits);
-        let pattern = RunPattern::of(self.get(index), cluster_bits, self.has_external_data_file());
+        let pattern = RunPattern::of(self.get(index), cluster_bits, self.external_data_file());
         let (entries, end) = (self.as_slice(), self.entries());
         ClusterCount(1 + pattern.count(&entries[index + 1..end]) as u64)
     }
@@ -172,7 +172,7 @@ impl EntryTable<AtomicL2Entry> {
             ≡ references self.now.geometry self.now.numbers cluster) }
     {
         let alloc = self.allocator();
-        let entries = shared_entries(alloc, self.as_slice(), self.has_external_data_file())?;
+        let entries = shared_entries(alloc, self.as_slice(), self.external_data_file())?;
         Ok(self.with_entries(entries))
     }
 

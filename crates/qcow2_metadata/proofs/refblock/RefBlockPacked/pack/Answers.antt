@@ -1,4 +1,4 @@
-use Rattle.std.proofs.Common.{length, arith}
+use Rattle.std.proofs.Common.{arith}
 use Rattle.qcow2_metadata.proofs.RefblockLemmas.{piece_in_eights, piece-fits, piece-within}
 use Rattle.qcow2_metadata.proofs.refblock.RefBlockPacked.pack.Goals as goal
 use Rattle.std.proofs.lemmas.Bool.Decides.{nat_tests}
