@@ -5,10 +5,14 @@ use Rattle.std.proofs.Math.Nat.{mul_assoc, mul-mod_left, le-div_iff_mul-le, div-
 use Rattle.std.proofs.Math.Pow.{mod-mod-pow, pow_mono}
 use Rattle.std.proofs.lemmas.Bool.Decides.{nat_tests}
 use Rattle.qcow2_metadata.specs.Header.{Geometry}
-use Rattle.qcow2_metadata.specs.Entries.L2Entry.{ByteRange, IsAllocation, Meets, RangeMeets, allocation, byte_range, cluster_count, clusters_met, first_cluster, is_compressed, l2_fault, l2_reserved_bits, meets}
+use Rattle.qcow2_metadata.specs.Entries.L2Entry.{ByteRange, IsAllocation, Meets, allocation, byte_range, clusters_met, is_compressed, l2_fault, l2_reserved_bits, meets}
 use Rattle.qcow2_metadata.specs.Entries.{IsAmong, entry_fault, is_among, offset_field}
-use Rattle.qcow2_metadata.specs.Entries.L1Entry.{l1_entry_for, l1_fault, l1_reserved_bits}
+use Rattle.qcow2_metadata.specs.Entries.L1Entry.{l1_fault, l1_reserved_bits}
 use Rattle.qcow2_metadata.specs.Entries.RefTableEntry.{ref_fault}
+
+-- some byte of the range lies in cluster c
+abbrev RangeMeets : ℕ → ByteRange → ℕ → Type 0
+RangeMeets cb range c = (byte : ℕ) × (range.start ≤ byte) × (byte < range.end) × (byte / 2 ^ cb ≡ c)
 
 -- the quotients of numbers by one are in their order
 pub div_rises : (a b k : ℕ) → 0 < k → a ≤ b → a / k ≤ b / k
@@ -17,11 +21,11 @@ div_rises a b k p h = (le-div_iff_mul-le p).1 (omega (arith, div-mul-le_self a k
 div_above : (q n k : ℕ) → 0 < k → q * k ≤ n → q ≤ n / k
 div_above q n k p h = (le-div_iff_mul-le p).1 h
 
-last_reached : (cb : ℕ) (range : ByteRange) → range.start < range.end → first_cluster cb range ≤ (range.end - 1) / 2 ^ cb
+last_reached : (cb : ℕ) (range : ByteRange) → range.start < range.end → range.start / 2 ^ cb ≤ (range.end - 1) / 2 ^ cb
 last_reached cb range some = div_rises range.start (range.end - 1) (2 ^ cb) (pow_pos cb) (omega arith)
 
 -- a range meets exactly the clusters from its first byte's to its last byte's
-pub met_clusters : (cb : ℕ) (range : ByteRange) (c : ℕ) → range.start < range.end → RangeMeets cb range c ↔ ((first_cluster cb range ≤ c) × (c < first_cluster cb range + cluster_count cb range))
+met_clusters : (cb : ℕ) (range : ByteRange) (c : ℕ) → range.start < range.end → RangeMeets cb range c ↔ IsAmong (clusters_met cb range) c
 met_clusters cb range c some =
     let p = pow_pos cb in
     let last = last_reached cb range some in (
@@ -35,7 +39,7 @@ met_clusters cb range c some =
     )
 
 -- a range of at most two clusters' bytes meets one to three clusters
-pub met_count : (cb : ℕ) (range : ByteRange) → range.start < range.end → range.end ≤ range.start + 2 * 2 ^ cb → (1 ≤ cluster_count cb range) × (cluster_count cb range ≤ 3)
+pub met_count : (cb : ℕ) (range : ByteRange) → range.start < range.end → range.end ≤ range.start + 2 * 2 ^ cb → (1 ≤ (clusters_met cb range).count.0) × ((clusters_met cb range).count.0 ≤ 3)
 met_count cb range some short = grind (arith, nat_tests, pow_pos, div_rises, add-mul-div_right, last_reached)
 
 -- as many sectors of 512 bytes as the field can count fill two clusters
@@ -102,13 +106,13 @@ pub ref_entry_is_lawful : (cb cluster : ℕ) → 9 ≤ cb → ref_fault cb (clus
 ref_entry_is_lawful cb cluster low = grind (arith, nat_tests, offset_in_sectors, mul-mod_left)
 
 -- a cluster's offset below 2 ^ 56 with the copied flag is an L1 entry
-pub l1_entry_is_lawful : (cb cluster : ℕ) → 9 ≤ cb → cluster * 2 ^ cb < 2 ^ 56 → l1_fault cb (l1_entry_for (cluster * 2 ^ cb)) ≡ None
+pub l1_entry_is_lawful : (cb cluster : ℕ) → 9 ≤ cb → cluster * 2 ^ cb < 2 ^ 56 → l1_fault cb (2 ^ 63 + cluster * 2 ^ cb) ≡ None
 l1_entry_is_lawful cb cluster low fits =
     let offset = cluster * 2 ^ cb in
     let sectors = cluster * 2 ^ (cb - 9) in
     let in_sectors : offset ≡ sectors * 512 = offset_in_sectors cb cluster low in
-    let reserved : l1_reserved_bits (l1_entry_for offset) ≡ 0 = omega arith in
-    let field_is : offset_field (l1_entry_for offset) ≡ offset = omega arith in
+    let reserved : l1_reserved_bits (2 ^ 63 + offset) ≡ 0 = omega arith in
+    let field_is : offset_field (2 ^ 63 + offset) ≡ offset = omega arith in
     let aligned : offset % 2 ^ cb ≡ 0 = mul-mod_left cluster (2 ^ cb) in
     rw (reserved, field_is, aligned) refl
 

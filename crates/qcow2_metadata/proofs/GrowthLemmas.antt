@@ -1,4 +1,4 @@
-use Rattle.std.proofs.Common.{◌≡◌, ℕ, ◌+◌, ◌-◌, ◌*◌, ◌%◌, ◌<◌, ◌≤◌, ◌↔◌, ◌^◌, false, true, nat_le, max, min, None, Some, ap, refl, inl, inr, arith, pow_mono}
+use Rattle.std.proofs.Common.{◌≡◌, ℕ, ◌+◌, ◌-◌, ◌*◌, ◌%◌, ◌<◌, ◌≤◌, ◌↔◌, ◌^◌, false, nat_le, max, min, None, Some, refl, inl, inr, arith, pow_mono}
 use Rattle.std.specs.Int.{div_ceil, next_multiple_of}
 use Rattle.std.proofs.Math.Nat.{div-add-mod, lt_of_mul-lt-mul_right, mod-eq_of_lt, mod_self, mul-div_cancel, mul-le-mul_right}
 use Rattle.std.proofs.lemmas.Bool.{cases_lt}
@@ -100,10 +100,7 @@ needed-least g spare least roomy below enough = grind (arith, nat_tests, cluster
 
 -- the result, where the number that is tried is the least, and where it takes too many entries already
 pub possible_spare-found : (g : Growth) (spare : ℕ) → IsRoomy g → spare ≤ least_spare g → IsEnough g spare → entries_with g spare ≤ most_reftable_entries → Some spare ≡ possible_spare g
-possible_spare-found g spare roomy below enough few =
-    let least : spare ≡ least_spare g = omega (arith, below, (least-enough g spare roomy).1 enough) in
-    let within : nat_le (grown_reftable_count g) most_reftable_entries ≡ true = grind (arith, nat_tests, rw least at few) in
-    rw within (ap Some least)
+possible_spare-found g spare roomy below enough few = grind (arith, nat_tests, least-enough)
 
 pub possible_spare-none : (g : Growth) (spare : ℕ) → IsRoomy g → spare ≤ least_spare g → most_reftable_entries < entries_with g spare → None ≡ possible_spare g
 possible_spare-none g spare roomy below many =

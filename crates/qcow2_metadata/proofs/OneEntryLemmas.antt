@@ -1,15 +1,13 @@
-use Rattle.std.proofs.Common.{◌≡◌, ◌≢◌, ℕ, ◌+◌, ◌-◌, ◌*◌, ◌/◌, ◌%◌, ◌^◌, ◌<◌, ◌≤◌, max, List, length, get_or, slice_index, refl, ◌⊎◌, Option, Some, None, Result, Ok, Err, OnOk, IfErr, sym, ◌∙◌, ap, inl, inr, lit≤, arith, pow_mono, take_all, rules}
+use Rattle.std.proofs.Common.{◌≡◌, ◌≢◌, ℕ, ◌+◌, ◌-◌, ◌*◌, ◌/◌, ◌%◌, ◌^◌, ◌<◌, ◌≤◌, max, List, length, get_or, slice_index, refl, Some, None, Result, Ok, Err, OnOk, sym, ◌∙◌, ap, inl, inr, lit≤, arith, pow_mono, take_all, rules}
 use Rattle.std.proofs.Math.Nat.{div-add-mod, mul-div_cancel, mul-le-mul_right}
 use Rattle.std.proofs.lemmas.Bool.{cases_lt}
 use Rattle.std.proofs.lemmas.Nat.{div-mul-add, div_below, le-div, mod_below, pow-add, pow_below, pow_pos}
-use Rattle.qcow2_metadata.specs.Pieces.{piece_size}
-use Rattle.qcow2_base.specs.Storage.{Holds, Image, IsPowerOfTwo, SameOutside, StorageState, be, image_of}
+use Rattle.qcow2_base.specs.Storage.{Holds, Image, IsPowerOfTwo, SameOutside, StorageState, be, image_of, be_of_same}
 use Rattle.qcow2_base.proofs.StorageLemmas.{be_of_same}
 use Rattle.qcow2_base.specs.declared.fault.Fault.{Fault}
-use Rattle.qcow2_base.specs.declared.fault.Fault.TheVariants.{NoMemory, Storage}
 use Rattle.qcow2_base.specs.declared.types.HostCluster.{HostCluster}
 use Rattle.std.proofs.lemmas.List.FromFn.{get_or-map-range_with_len}
-use Rattle.qcow2_metadata.proofs.PieceLemmas.{numbers_stand}
+use Rattle.qcow2_metadata.proofs.TablePiecesLemmas.{numbers_stand}
 use Rattle.qcow2_metadata.proofs.PackingLemmas.{counters_at-held, map_range_at}
 use Rattle.qcow2_metadata.specs.Placed.{write_fault}
 use Rattle.qcow2_metadata.specs.Table.{Kind, TableState, layout_of_table, table_layout, table_numbers}

@@ -14,7 +14,7 @@ use Rattle.qcow2_metadata.specs.Entries.Runs.{FollowJust, IsPatternOf, follows, 
 use Rattle.qcow2_metadata.specs.Table.{TableState, first_fault, mapping_at}
 use Rattle.qcow2_metadata.specs.Table.L2Table.{IsMappedRun}
 use Rattle.qcow2_metadata.specs.declared.entries.runs.RunPattern.{RunPattern}
-use Rattle.qcow2_metadata.proofs.MappingLemmas.{bit, bit_below}
+use Rattle.qcow2_metadata.proofs.L2MappingLemmas.{bit, bit_below}
 use Rattle.qcow2_metadata.proofs.TableLemmas.{no_fault_item}
 
 -- compressed data reads on from no standard entry

@@ -14,10 +14,6 @@ Stand bytes len image offset = (i : ℕ) → i < len → image (offset + i) ≡ 
 abbrev pub big_endian_bytes : ℕ → List ℕ → Image
 big_endian_bytes width numbers j = slice_index numbers (j / width) / 256 ^ (width - 1 - j % width) % 256
 
--- the bytes of numbers of 64 bits
-abbrev pub number_bytes : List ℕ → Image
-number_bytes numbers = big_endian_bytes 8 numbers
-
 -- a write of bytes from an offset on, in pieces, that failed at a piece. The bytes before that
 -- piece are written, and after it each byte is the old one
 pub record IsTornAtPiece (piece : ℕ) (bytes : Image) (len offset : ℕ) (old new : Image) : Type 0 where
@@ -25,14 +21,10 @@ pub record IsTornAtPiece (piece : ℕ) (bytes : Image) (len offset : ℕ) (old n
   pub before : Stand bytes (piece_size * piece) new offset
   pub after : (o : ℕ) → offset + piece_size * (piece + 1) ≤ o → new o ≡ old o
 
--- the write failed at some piece
-abbrev pub IsTornBytes : Image → ℕ → ℕ → Image → Image → Type 0
-IsTornBytes bytes len offset old new = (piece : ℕ) × IsTornAtPiece piece bytes len offset old new
-
 -- a write of len bytes from an offset on, in pieces, that ended in this answer
 pub record WritesInPieces {T E : Type 0} (answer : Result T E) (offset : ℕ) (bytes : Image) (len : ℕ) (old new : StorageState) : Type 0 where
   pub written : OnOk answer (OnImages old new (λ _ after. Stand bytes len after offset))
-  pub torn : OnErr answer (OnImages old new (λ before after. IsTornBytes bytes len offset before after))
+  pub torn : OnErr answer (OnImages old new (λ before after. (piece : ℕ) × IsTornAtPiece piece bytes len offset before after))
   pub others : OnImages old new (λ before after. SameOutside offset len before after)
   pub failures : CountsFailure answer old new
   pub device : SameDevice old new

@@ -7,7 +7,7 @@ use Rattle.qcow2_base.specs.declared.fault.Fault.{Fault}
 use Rattle.qcow2_base.specs.declared.fault.Fault.TheVariants.{NoOffset, Storage}
 use Rattle.qcow2_base.specs.declared.types.HostCluster.{HostCluster}
 use Rattle.qcow2_metadata.specs.Results.{unless_refused}
-use Rattle.qcow2_metadata.specs.Pieces.{IsTornBytes, Stand}
+use Rattle.qcow2_metadata.specs.Pieces.{IsTornAtPiece, Stand}
 
 -- a table or a refcount block in memory: the numbers that it has, and its cluster in the image if it has one. Also whether
 -- it was changed since it was last read or written, and what it keeps of the image's geometry
@@ -86,23 +86,19 @@ pub record ReadsBack (layout : Layout) (numbers : List ℕ) : Type 0 where
   pub same : (old new : Image) (offset : ℕ) → IsBytes old → Stand (layout.bytes_of numbers) layout.byte_count new offset →
       SameOutside offset layout.byte_count old new → layout.numbers_from old offset ≡ numbers → new ≡ old
 
--- a write of numbers from a cluster on, in pieces, that failed at a piece
+-- a write of numbers from a cluster on, in pieces, that failed at some piece
 abbrev pub IsTorn : Layout → List ℕ → HostCluster → Image → Image → Type 0
-IsTorn layout numbers cluster old new =
-    IsTornBytes (layout.bytes_of numbers) layout.byte_count (offset_of layout cluster) old new
+IsTorn layout numbers cluster old new = (piece : ℕ)
+    × IsTornAtPiece piece (layout.bytes_of numbers) layout.byte_count (offset_of layout cluster) old new
 
 -- a cluster where numbers can't lie refuses all else
 abbrev pub RefusesPlace : {T : Type 0} → Layout → HostCluster → Result T Fault → Type 0
 RefusesPlace layout cluster answer = IfSome (place_fault layout cluster) (λ fault. answer ≡ Err fault)
 
--- the refusals of a write: that of what is written, or a failed storage
-abbrev pub IsWriteFault : Option Fault → Fault → Type 0
-IsWriteFault refusal fault = (refusal ≡ Some fault) ⊎ (fault ≡ Storage)
-
 -- a write of numbers that ended in this answer
 pub record Writes {T : Type 0} (layout : Layout) (numbers : List ℕ) (cluster : Option HostCluster) (answer : Result T Fault) (old new : StorageState) : Type 0 where
   pub refused : IfSome (write_fault layout cluster) (λ fault. answer ≡ Err fault)
-  pub faults : IfErr answer (IsWriteFault (write_fault layout cluster))
+  pub faults : IfErr answer (λ fault. (write_fault layout cluster ≡ Some fault) ⊎ (fault ≡ Storage))
   pub written : OnImages old new (λ before after.
       OnOk answer (IfSome cluster (λ c. IsWritten layout numbers c before after)))
   pub torn : OnImages old new (λ before after.

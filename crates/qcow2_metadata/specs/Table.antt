@@ -16,7 +16,7 @@ use Rattle.qcow2_metadata.specs.Entries.L1Entry.{l1_fault}
 use Rattle.qcow2_metadata.specs.Entries.L2Entry.{l2_fault}
 use Rattle.qcow2_metadata.specs.Header.{Geometry, HeaderRecord, geometry_of}
 use Rattle.qcow2_metadata.specs.Results.{IsFromOutside, unless_refused}
-use Rattle.qcow2_metadata.specs.Pieces.{number_bytes}
+use Rattle.qcow2_metadata.specs.Pieces.{big_endian_bytes}
 use Rattle.qcow2_metadata.specs.Placed.{IsValid, Layout, Placed, loaded_numbers, place_fault}
 use Rattle.qcow2_metadata.specs.Range.{range_fault}
 
@@ -37,10 +37,6 @@ new_table numbers header = record { numbers = numbers; cluster = None; modified 
 abbrev pub table_after_edit : TableState → ℕ → ℕ → TableState
 table_after_edit table index v = record table { numbers = slice_set table.numbers index v; modified = true }
 
--- a table of these numbers at no place yet, for the same image, and with the same flag
-abbrev pub table_without_place : TableState → List ℕ → TableState
-table_without_place table numbers = record table { numbers = numbers; cluster = None }
-
 -- a kind of table: the most entries that one may have. By cluster_bits, whether one may have that many in memory, and
 -- the fault of a number that is no entry
 pub record Kind : Type 0 where
@@ -48,17 +44,13 @@ pub record Kind : Type 0 where
   pub has_valid_count : ℕ → ℕ → Bool
   pub fault_of : ℕ → ℕ → Option Fault
 
--- a kind by these three
-abbrev pub kind_of : ℕ → (ℕ → ℕ → Bool) → (ℕ → ℕ → Option Fault) → Kind
-kind_of most has_valid_count fault_of = record { most = most; has_valid_count = has_valid_count; fault_of = fault_of }
-
 -- L1 tables
 abbrev pub l1_kind : Kind
-l1_kind = kind_of most_l1_entries (λ _ _. true) l1_fault
+l1_kind = record { most = most_l1_entries; has_valid_count = λ _ _. true; fault_of = l1_fault }
 
 -- L2 tables, each of which fills a cluster
 abbrev pub l2_kind : Kind
-l2_kind = kind_of most_l2_entries (λ cb n. n == l2_entries cb) l2_fault
+l2_kind = record { most = most_l2_entries; has_valid_count = λ cb n. n == l2_entries cb; fault_of = l2_fault }
 
 -- why n entries can't lie in an image from an offset on: they are more than the most of their kind, or their
 -- bytes end past the greatest end
@@ -89,7 +81,7 @@ table_layout kind cb n = record {
   count = n;
   width = 64;
   byte_count = 8 * n;
-  bytes_of = number_bytes;
+  bytes_of = big_endian_bytes 8;
   numbers_from = λ image offset. table_numbers image offset n;
   fault_of_offset = λ offset. entries_fault kind.most offset n;
   fault_of_numbers = first_fault (kind.fault_of cb);

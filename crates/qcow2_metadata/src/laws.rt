@@ -1,8 +1,9 @@
 //! Laws: facts about the definitions that contracts name, and what holds of each header. Each is a function
 //! that does nothing. Its contract is the law, and its name says it.
 
-ghost use Rattle.std.specs.Prelude.{◌≡◌, ℕ, ◌≤◌, ◌↔◌, Ok, ◌∷◌, if◌then◌else◌, Some, ◌^◌, ◌<◌, max, List, Err};
+ghost use Rattle.std.specs.Prelude.{◌≡◌, ℕ, ◌≤◌, ◌↔◌, Ok, ◌∷◌, if◌then◌else◌, Some, ◌^◌, ◌<◌, max, List, Err, ◌≢◌, ◌++◌, length, slice_index};
 ghost use Rattle.qcow2_base.specs.Storage.{Image, be};
+ghost use Rattle.std.specs.List.{All};
 ghost use Rattle.qcow2_base.specs.Types.{IsClusterBits};
 ghost use Rattle.qcow2_metadata.specs.Entries.L2Entry.{IsAllocation, allocation};
 ghost use Rattle.qcow2_metadata.specs.Header.{Geometry, HeaderRecord, IsValidHeader};
@@ -17,7 +18,7 @@ ghost use Rattle.qcow2_metadata.specs.declared.header.features.FeatureType.{Feat
 ghost use Rattle.qcow2_metadata.specs.Results.{result_map};
 ghost use Rattle.qcow2_metadata.specs.Header.Text.{IsSettled, header_after_write};
 ghost use Rattle.qcow2_metadata.specs.Table.Growth.{IsLeastSpare, growth_of, least_spare};
-ghost use Rattle.qcow2_metadata.specs.Table.L2Guards.{GivesUp, clusters_freed_by, to_data};
+ghost use Rattle.qcow2_metadata.specs.Table.L2Guards.{GivesUp, clusters_freed_by, to_data, TableEdit, entry_after, run_of};
 
 use crate::Header;
 
@@ -80,7 +81,33 @@ pub fn an_entry_refers_to_the_clusters_it_meets()
 
 /// An entry that is mapped to a cluster gives up nothing where it refers to that one alone, and else all
 /// that it refers to.
+#[tactic(auto, using(crate::proofs::L2GuardsLemmas::gives_up))]
 pub fn a_mapping_gives_up_all_but_its_own_cluster()
     ensures { (g : Geometry) (entry cluster : ℕ) → IsClusterBits g.cluster_bits →
         GivesUp g entry cluster (clusters_freed_by g (to_data cluster) entry) }
+{}
+
+/// An entry that no edit of a list names stays.
+#[tactic(auto, using(crate::proofs::L2GuardsLemmas::run_of_others))]
+pub fn an_entry_that_no_edit_names_stays()
+    ensures { (g : Geometry) (edits : List TableEdit) (numbers : List ℕ) (index : ℕ) →
+        All (λ (e : TableEdit). e.index ≢ index) edits →
+        slice_index (run_of g edits numbers).numbers index ≡ slice_index numbers index }
+{}
+
+/// After a list of edits an entry is what the last edit of its index makes of what those before it left.
+#[tactic(auto, using(crate::proofs::L2GuardsLemmas::run_of_last))]
+pub fn the_last_edit_of_an_entry_decides_it()
+    ensures { (g : Geometry) (before later : List TableEdit) (e : TableEdit) (numbers : List ℕ) →
+        e.index < length numbers → All (λ (other : TableEdit). other.index ≢ e.index) later →
+        slice_index (run_of g (before ++ (e ∷ later)) numbers).numbers e.index
+        ≡ entry_after g e.edit (slice_index (run_of g before numbers).numbers e.index) }
+{}
+
+/// What a list of edits hands back is what its first part hands back, and then what the others do after it.
+#[tactic(auto, using(crate::proofs::L2GuardsLemmas::run_of_freed))]
+pub fn edits_hand_back_in_their_order()
+    ensures { (g : Geometry) (before later : List TableEdit) (numbers : List ℕ) →
+        (run_of g (before ++ later) numbers).freed ≡ (run_of g before numbers).freed
+        ++ (run_of g later (run_of g before numbers).numbers).freed }
 {}

@@ -1,10 +1,8 @@
 //! Refcount blocks: how many references each cluster of a part of the image has.
 
-ghost use Rattle.std.specs.Prelude.{◌≡◌, ◌+◌, ◌-◌, ◌*◌, ◌^◌, ◌<◌, ◌≤◌, ◌⊎◌, ◌==◌, IfErr, IfOk, IsOk, IsOkUnless, None, Ok, Some, false, length, option_map, replicate, slice_index, true};
+ghost use Rattle.std.specs.Prelude.{◌≡◌, ◌+◌, ◌-◌, ◌*◌, ◌^◌, ◌<◌, ◌≤◌, ◌==◌, IfOk, IsOk, IsOkUnless, None, Ok, Some, false, length, option_map, replicate, slice_index, true};
 ghost use Rattle.qcow2_base.specs.Format.{max_file_length};
-ghost use Rattle.qcow2_base.specs.Storage.{OnImage, OnlyReads};
 ghost use Rattle.qcow2_base.specs.Types.{IsClusterBits};
-ghost use Rattle.qcow2_base.specs.declared.fault.Fault.TheVariants.{NoMemory, Storage as StorageFailed};
 ghost use Rattle.qcow2_base.specs.declared.types.HostOffset.{HostOffset as Offset};
 ghost use Rattle.qcow2_metadata.specs.Placed.{FollowsWrite, IsLoaded, RefusesPlace, Writes, offset_of};
 ghost use Rattle.qcow2_metadata.specs.Results.{Reads};
@@ -237,7 +235,7 @@ impl RefBlock {
     /// Says where in the image the block begins: at a cluster whose offset fits 64 bits. The block then
     /// counts as modified.
     pub fn set_cluster(&mut self, cluster: HostCluster)
-        requires { cluster.0 * 2 ^ self.old.geometry.cluster_bits < 2 ^ 64 }
+        requires { offset_of (block_layout self.old.geometry) cluster < 2 ^ 64 }
         ensures { self.new ≡ record self.old { cluster = Some cluster; modified = true } }
     {
         self.placement.cluster = Some(cluster);
@@ -301,7 +299,6 @@ impl RefBlock {
         &self.counters
     }
 
-    // The greatest number that a counter holds.
     #[inline]
     fn greatest(&self) -> u64
         ensures { result ≡ greatest_counter self.now.geometry.refcount_order }

@@ -99,7 +99,7 @@ pub trait Table: Sized {
     /// Says where in the image the table begins: at a cluster whose offset fits 64 bits. The table then
     /// counts as modified.
     fn set_cluster(&mut self, cluster: HostCluster)
-        requires { cluster.0 * 2 ^ (state self.old).geometry.cluster_bits < 2 ^ 64 }
+        requires { offset_of (layout_of_table kind (state self.old)) cluster < 2 ^ 64 }
         ensures { state self.new ≡ record (state self.old) { cluster = Some cluster; modified = true } };
 
     /// Takes the table's cluster away. Whether it counts as modified stays.

@@ -11,7 +11,7 @@ use Rattle.std.proofs.lemmas.List.Sums.{AllPass-from_list_all}
 use Rattle.std.specs.List.{list_all}
 use Rattle.qcow2_base.specs.Types.{IsClusterBits}
 use Rattle.qcow2_base.specs.declared.types.HostCluster.{HostCluster}
-use Rattle.qcow2_metadata.proofs.EditsLemmas.{balance-run}
+use Rattle.qcow2_metadata.proofs.L2GuardsLemmas.{balance-run}
 use Rattle.qcow2_metadata.specs.Table.L2Guards.{RunEnd, TableEdit, after_edit, fits_table, is_mappable, run_of}
 use Rattle.qcow2_metadata.specs.Header.{Geometry}
 use Rattle.qcow2_metadata.specs.Table.{TableState, table_after_edit}

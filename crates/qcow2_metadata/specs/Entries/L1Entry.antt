@@ -11,7 +11,3 @@ l1_reserved_bits v = field v 0 9 + field v 56 7 * 2 ^ 56
 -- the fault of a number that is no L1 entry, if it has one
 abbrev pub l1_fault : ℕ → ℕ → Option Fault
 l1_fault cb v = entry_fault (not (l1_reserved_bits v == 0)) (not (offset_field v % 2 ^ cb == 0))
-
--- the entry of an L2 table that begins at an offset and has one reference: copied, and the offset
-abbrev pub l1_entry_for : ℕ → ℕ
-l1_entry_for offset = 2 ^ 63 + offset

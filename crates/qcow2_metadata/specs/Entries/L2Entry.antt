@@ -3,8 +3,6 @@ use Rattle.std.specs.Prelude.{◌≡◌, ℕ, Bool, false, not, ◌&&◌, ◌||�
 use Rattle.qcow2_base.specs.Format.{max_file_length}
 use Rattle.qcow2_base.specs.Bits.{field}
 use Rattle.qcow2_base.specs.declared.fault.Fault.{Fault}
-use Rattle.qcow2_base.specs.declared.types.ClusterCount.{ClusterCount}
-use Rattle.qcow2_base.specs.declared.types.HostCluster.{HostCluster}
 use Rattle.qcow2_base.specs.declared.types.HostOffset.{HostOffset}
 use Rattle.qcow2_metadata.specs.Header.{Geometry}
 use Rattle.qcow2_metadata.specs.declared.entries.ClustersToFreeEntry.{ClustersToFreeEntry}
@@ -25,22 +23,12 @@ abbrev pub l2_reserved_bits : ℕ → ℕ
 l2_reserved_bits v =
     if is_compressed v then field v 63 1 * 2 ^ 63 else field v 1 8 * 2 ^ 1 + field v 56 6 * 2 ^ 56
 
--- a compressed entry's offset field: the bits below bit 70 - cb
-abbrev pub compressed_offset_field : ℕ → ℕ → ℕ
-compressed_offset_field cb v = v % 2 ^ (70 - cb)
-
--- a reserved bit is set, or a compressed entry's offset is the greatest end or more
-abbrev pub l2_has_reserved : ℕ → ℕ → Bool
-l2_has_reserved cb v =
-    not (l2_reserved_bits v == 0) || (is_compressed v && not (nat_lt (compressed_offset_field cb v) max_file_length))
-
--- a standard entry's offset is no multiple of the cluster size
-abbrev pub l2_is_unaligned : ℕ → ℕ → Bool
-l2_is_unaligned cb v = not (is_compressed v) && not (offset_field v % 2 ^ cb == 0)
-
--- the fault of a number that is no L2 entry, if it has one
+-- the fault of a number that is no L2 entry, if it has one: a reserved bit is set, as a bit of a compressed entry's offset
+-- from the greatest end on is, or a standard entry's offset is no multiple of the cluster size
 abbrev pub l2_fault : ℕ → ℕ → Option Fault
-l2_fault cb v = entry_fault (l2_has_reserved cb v) (l2_is_unaligned cb v)
+l2_fault cb v = entry_fault
+    (not (l2_reserved_bits v == 0) || (is_compressed v && not (nat_lt (v % 2 ^ (70 - cb)) max_file_length)))
+    (not (is_compressed v) && not (offset_field v % 2 ^ cb == 0))
 
 -- a standard entry refers to a cluster: its offset isn't 0, or it is that of cluster 0 of an external data file
 abbrev pub is_allocated : Bool → ℕ → Bool
@@ -64,17 +52,13 @@ abbrev pub entry_in_copy : Bool → ℕ → ℕ
 entry_in_copy external v =
     if external && (not (is_compressed v) && (offset_field v == 0)) then v else v % 2 ^ 63
 
--- where a compressed entry's data begins
+-- where a compressed entry's data begins: the bits below bit 70 - cb
 abbrev pub compressed_offset : ℕ → ℕ → ℕ
-compressed_offset cb v = compressed_offset_field cb v % max_file_length
+compressed_offset cb v = v % 2 ^ (70 - cb) % max_file_length
 
--- how many sectors of 512 bytes a compressed entry has beyond its first
-abbrev pub further_sectors : ℕ → ℕ → ℕ
-further_sectors cb v = field v (70 - cb) (cb - 8)
-
--- how many bytes there are from there to the end of the last sector
+-- how many bytes there are from there to the end of the last sector of 512 bytes; the entry counts those beyond the first
 abbrev pub compressed_length : ℕ → ℕ → ℕ
-compressed_length cb v = 512 * (further_sectors cb v + 1) - compressed_offset cb v % 512
+compressed_length cb v = 512 * (field v (70 - cb) (cb - 8) + 1) - compressed_offset cb v % 512
 
 -- bytes of the image or the data file, from the start to before the end
 pub record ByteRange : Type 0 where
@@ -88,25 +72,16 @@ byte_range g v =
     if is_compressed v then Some (record { start = compressed_offset cb v; end = compressed_offset cb v + compressed_length cb v })
     else (if is_allocated g.external_data_file v then Some (record { start = offset_field v; end = offset_field v + 2 ^ cb }) else None)
 
--- some byte of the range lies in cluster c
-abbrev pub RangeMeets : ℕ → ByteRange → ℕ → Type 0
-RangeMeets cb range c = (byte : ℕ) × (range.start ≤ byte) × (byte < range.end) × (byte / 2 ^ cb ≡ c)
-
 -- the entry refers to a byte of cluster c
 abbrev pub Meets : Geometry → ℕ → ℕ → Type 0
-Meets g v c = (range : ByteRange) × (byte_range g v ≡ Some range) × RangeMeets g.cluster_bits range c
+Meets g v c = (range : ByteRange) × (byte_range g v ≡ Some range)
+    × ((byte : ℕ) × (range.start ≤ byte) × (byte < range.end) × (byte / 2 ^ g.cluster_bits ≡ c))
 
--- the cluster of a range's first byte
-abbrev pub first_cluster : ℕ → ByteRange → ℕ
-first_cluster cb range = range.start / 2 ^ cb
-
--- how many clusters there are from there to that of its last byte
-abbrev pub cluster_count : ℕ → ByteRange → ℕ
-cluster_count cb range = (range.end - 1) / 2 ^ cb - range.start / 2 ^ cb + 1
-
--- the clusters of which a range has a byte
+-- the clusters of which a range has a byte: from that of its first byte to that of its last
 abbrev pub clusters_met : ℕ → ByteRange → ClustersToFreeEntry
-clusters_met cb range = record { first = record { 0 = first_cluster cb range }; count = record { 0 = cluster_count cb range } }
+clusters_met cb range =
+    let first = range.start / 2 ^ cb in
+    record { first = record { 0 = first }; count = record { 0 = (range.end - 1) / 2 ^ cb - first + 1 } }
 
 -- the clusters of which an entry refers to a byte
 abbrev pub allocation : Geometry → ℕ → Option ClustersToFreeEntry
@@ -122,7 +97,3 @@ pub record IsAllocation (g : Geometry) (v : ℕ) (clusters : Option ClustersToFr
   pub met : IfSome clusters (λ some. (c : ℕ) → Meets g v c ↔ IsAmong some c)
   pub none : IfNone clusters ((c : ℕ) → Meets g v c → ⊥)
   pub count : IfSome clusters (λ some. (1 ≤ some.count.0) × (some.count.0 ≤ 3))
-
--- a first cluster and a count, as clusters
-abbrev pub from_pair : HostCluster × ClusterCount → ClustersToFreeEntry
-from_pair pair = record { first = pair.0; count = pair.1 }

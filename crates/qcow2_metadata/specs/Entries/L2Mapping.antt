@@ -85,12 +85,8 @@ entry_of cb (compressed offset length) = 2 ^ 62 + sectors_beyond offset length *
 abbrev pub is_told : Bool → ℕ → Bool → Bool
 is_told external cluster copied = not (cluster == 0) || (external && copied)
 
--- the end of the last sector of 512 bytes that bytes up to an end have a part of
-abbrev pub sector_end : ℕ → ℕ
-sector_end end = div_ceil end 512 * 512
-
 -- what the entry of a mapping reads as: that mapping, with three exceptions. Backing begins where the guest cluster
--- does, cluster 0 may be none, and compressed data reaches to the end of its last sector
+-- does, cluster 0 may be none, and compressed data reaches to the end of its last sector of 512 bytes
 abbrev pub stored_mapping : Geometry → ℕ → Mapping → Mapping
 stored_mapping g guest_cluster (data_file cluster copied) =
     if is_told g.external_data_file cluster copied then data_file cluster copied else backing (guest_cluster * 2 ^ g.cluster_bits)
@@ -98,7 +94,7 @@ stored_mapping g guest_cluster (backing offset) = backing (guest_cluster * 2 ^ g
 stored_mapping g guest_cluster (zeros (Some cluster) copied) =
     if is_told g.external_data_file cluster copied then zeros (Some cluster) copied else zeros None false
 stored_mapping g guest_cluster (zeros None copied) = zeros None false
-stored_mapping g guest_cluster (compressed offset length) = compressed offset (sector_end (offset + length) - offset)
+stored_mapping g guest_cluster (compressed offset length) = compressed offset (div_ceil (offset + length) 512 * 512 - offset)
 
 -- whether a guest cluster's mapping goes on where that of the guest cluster before it ends
 abbrev pub is_consecutive : ℕ → Mapping → Mapping → Bool

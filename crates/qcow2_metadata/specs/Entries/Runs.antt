@@ -27,12 +27,7 @@ abbrev pub IsPatternOf : Geometry → ℕ → RunPattern → Type 0
 IsPatternOf g entry pattern = (k v c other : ℕ) → 1 ≤ k → k ≤ most_l2_entries → v < 2 ^ 64 → l2_fault g.cluster_bits v ≡ None
     → follows pattern k v ≡ reads_on k (mapping g c entry) (mapping g other v)
 
--- of the entries that come after the first of a pattern, those from one on up to another follow it
-abbrev pub Follow : RunPattern → List ℕ → ℕ → ℕ → Type 0
-Follow pattern entries first end =
-    (k : ℕ) → first ≤ k → k < end → follows pattern (k + 1) (slice_index entries k) ≡ true
-
--- that many of them follow it, and not the next one
+-- of the entries that come after the first of a pattern that many follow it, and not the next one
 pub record FollowJust (pattern : RunPattern) (entries : List ℕ) (count : ℕ) : Type 0 where
   pub within : count ≤ length entries
   pub each : (k : ℕ) → k < count → follows pattern (k + 1) (slice_index entries k) ≡ true

@@ -1,5 +1,5 @@
 -- How do the counters of a refcount block lie in its bytes?
-use Rattle.std.specs.Prelude.{ℕ, Bool, ◌+◌, ◌-◌, ◌*◌, ◌/◌, ◌%◌, ◌^◌, nat_le, if◌then◌else◌, List, [], ◌∷◌, map, take, drop}
+use Rattle.std.specs.Prelude.{ℕ, ◌+◌, ◌-◌, ◌*◌, ◌/◌, ◌%◌, ◌^◌, nat_le, if◌then◌else◌, List, [], ◌∷◌, map, take, drop}
 use Rattle.std.specs.List.{range_with_len}
 use Rattle.qcow2_base.specs.Bits.{field}
 use Rattle.qcow2_base.specs.Storage.{Image, be}
@@ -8,10 +8,6 @@ use Rattle.qcow2_metadata.specs.Pieces.{big_endian_bytes}
 -- by the refcount order: how many bits a counter has
 abbrev pub width : ℕ → ℕ
 width order = 2 ^ order
-
--- whether a counter is no wider than a byte
-abbrev pub is_narrow : ℕ → Bool
-is_narrow order = nat_le order 3
 
 -- how many counters a byte has, where they are no wider than it
 abbrev pub per_byte : ℕ → ℕ
@@ -25,7 +21,7 @@ bytes_each order = 2 ^ (order - 3)
 -- a big-endian number of whole bytes
 abbrev pub counter_at : ℕ → Image → ℕ → ℕ → ℕ
 counter_at order image offset i =
-    if is_narrow order
+    if nat_le order 3
     then field (image (offset + i / per_byte order)) (width order * (i % per_byte order)) (width order)
     else be image (offset + bytes_each order * i) (bytes_each order)
 
@@ -42,6 +38,6 @@ from_digits base (digit ∷ digits) = digit + base * from_digits base digits
 -- of one big-endian counter
 abbrev pub counter_bytes : ℕ → List ℕ → Image
 counter_bytes order counters j =
-    if is_narrow order
+    if nat_le order 3
     then from_digits (2 ^ width order) (take (per_byte order) (drop (per_byte order * j) counters))
     else big_endian_bytes (bytes_each order) counters j

@@ -9,10 +9,6 @@ abbrev pub compressed_range : Mapping → Option (ℕ × ℕ)
 compressed_range (compressed offset length) = Some (offset, length)
 compressed_range _ = None
 
--- where the compressed data of a guest cluster lies, by its entry in a table
-abbrev pub compressed_at : TableState → ℕ → Option (ℕ × ℕ)
-compressed_at table guest_cluster = compressed_range (mapping_at table guest_cluster)
-
 -- that many guest clusters from one on, one at least, read on from that one by a table. All are in the part of
 -- the disk that the table is for, and the next one of that part, if there is one, doesn't read on
 pub record IsMappedRun (table : TableState) (first count : ℕ) : Type 0 where

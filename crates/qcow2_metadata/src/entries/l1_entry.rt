@@ -1,6 +1,6 @@
 //! Entries of L1 tables.
 
-ghost use Rattle.std.specs.Prelude.{◌≡◌, ◌*◌, ◌^◌, ◌<◌, None};
+ghost use Rattle.std.specs.Prelude.{◌≡◌, ◌+◌, ◌*◌, ◌^◌, ◌<◌, None};
 ghost use Rattle.qcow2_base.specs.Format.{max_file_length};
 ghost use Rattle.qcow2_base.specs.Types.{IsClusterBits};
 
@@ -30,17 +30,16 @@ impl Model for L1Entry {
 
 impl L1Entry {
     ghost use Rattle.qcow2_metadata.specs.Entries.{is_copied, offset_field, offset_unless_zero};
-    ghost use Rattle.qcow2_metadata.specs.Entries.L1Entry.{l1_entry_for, l1_fault, l1_reserved_bits};
+    ghost use Rattle.qcow2_metadata.specs.Entries.L1Entry.{l1_fault, l1_reserved_bits};
 
     /// The entry 0: there is no L2 table.
     pub(crate) const NONE: L1Entry = L1Entry { value: 0 };
 
-    // The entry of an L2 table that begins with a cluster and has exactly one reference.
     #[tactic(auto, using(crate::proofs::EntriesLemmas::l1_entry_is_lawful))]
     pub(crate) fn for_l2_table(cluster: HostCluster, cluster_bits: u32) -> L1Entry
         requires cluster_bits { IsClusterBits cluster_bits }
         requires place { cluster.0 * 2 ^ cluster_bits < max_file_length }
-        ensures number { result ≡ l1_entry_for (cluster.0 * 2 ^ cluster_bits) }
+        ensures number { result ≡ 2 ^ 63 + cluster.0 * 2 ^ cluster_bits }
         ensures lawful { l1_fault cluster_bits result ≡ None }
     {
         L1Entry {

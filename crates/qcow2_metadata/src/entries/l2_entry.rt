@@ -40,7 +40,7 @@ impl Model for L2Entry {
 }
 
 impl L2Entry {
-    ghost use Rattle.qcow2_metadata.specs.Entries.L2Entry.{IsAllocation, byte_range, compressed_length, compressed_offset, from_pair, has_host_cluster, host_offset, is_compressed, is_zero, l2_fault, l2_reserved_bits, entry_in_copy, with_zero_flag};
+    ghost use Rattle.qcow2_metadata.specs.Entries.L2Entry.{IsAllocation, byte_range, compressed_length, compressed_offset, has_host_cluster, host_offset, is_compressed, is_zero, l2_fault, l2_reserved_bits, entry_in_copy, with_zero_flag};
     ghost use Rattle.qcow2_metadata.specs.Entries.L2Mapping.{IsPlaced, host_cluster, mapping, meaning};
     ghost use Rattle.qcow2_metadata.specs.Entries.{is_copied};
 
@@ -80,7 +80,7 @@ impl L2Entry {
     /// reference, and a compressed one stays as it is.
     #[inline]
     #[must_use]
-    #[tactic(auto, using(crate::proofs::SharedLemmas::lawful_without_copied))]
+    #[tactic(auto, using(crate::proofs::L2TableLemmas::lawful_without_copied))]
     pub fn without_copied(self) -> L2Entry
         ensures number { result ≡ self % 2 ^ 63 }
         ensures lawful { (cluster_bits : ℕ) →
@@ -113,7 +113,6 @@ impl L2Entry {
         field(self.value, 0, 1) == 1
     }
 
-    // Whether the entry is a standard one that refers to a host cluster.
     #[inline]
     pub(crate) fn has_host_cluster(&self, external_data_file: bool) -> bool
         ensures { (cluster_bits : ℕ) →
@@ -182,7 +181,7 @@ impl L2Entry {
     ) -> Option<(HostCluster, ClusterCount)>
         requires { IsClusterBits cluster_bits }
         ensures { IsAllocation (geometry cluster_bits external_data_file) self.now
-            (option_map from_pair result) }
+            (option_map (λ pair. record { first = pair.0; count = pair.1 }) result) }
     {
         let (start, length) = self.byte_range(cluster_bits, external_data_file)?;
         let first = start.cluster(cluster_bits);
@@ -190,7 +189,6 @@ impl L2Entry {
         Some((first, ClusterCount(last.0 - first.0 + 1)))
     }
 
-    // The bytes that the entry refers to: where they begin, and how many there are.
     fn byte_range(&self, cluster_bits: u32, external_data_file: bool) -> Option<(HostOffset, u64)>
         requires { IsClusterBits cluster_bits }
         ensures none { IfNone result (byte_range (geometry cluster_bits external_data_file) self.now ≡ None) }
@@ -206,7 +204,6 @@ impl L2Entry {
         Some((offset, 1 << cluster_bits))
     }
 
-    // The host cluster that a standard entry refers to, if it refers to one.
     #[inline]
     #[tactic(auto, using(crate::proofs::EntriesLemmas::cluster_begins_below))]
     fn host_cluster(&self, cluster_bits: u32, external_data_file: bool) -> Option<HostCluster>

@@ -124,7 +124,6 @@ impl L2Entry {
     }
 }
 
-// Bit 63 of an entry that is copied, else 0.
 #[inline]
 fn copied_bit(copied: bool) -> u64
     ensures { result ≡ spec.copied_bit copied }
@@ -132,9 +131,8 @@ fn copied_bit(copied: bool) -> u64
     if copied { 1 << 63 } else { 0 }
 }
 
-// The number of the entry of `length` bytes of compressed data at an offset.
 #[inline]
-#[tactic(auto, using(crate::proofs::MappingLemmas::compressed_parts_fit))]
+#[tactic(auto, using(crate::proofs::L2MappingLemmas::compressed_parts_fit))]
 fn compressed_number(offset: u64, length: u64, cluster_bits: u32) -> u64
     requires cluster_bits { IsClusterBits cluster_bits }
     requires offset { offset < 2 ^ (70 - cluster_bits) }

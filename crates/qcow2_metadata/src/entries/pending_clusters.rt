@@ -66,7 +66,6 @@ pub struct Refused {
     pub pending: Option<PendingClusters>,
 }
 
-// A refusal that hands the pending value back.
 pub(crate) fn refuse(fault: Fault, pending: Option<PendingClusters>) -> Result<(), Refused>
     ensures { result ≡ Err (record { fault = fault; pending = pending }) }
 {

@@ -29,12 +29,12 @@ impl Model for RefTableEntry {
 
 impl RefTableEntry {
     ghost use Rattle.qcow2_metadata.specs.Entries.{offset_unless_zero};
-    ghost use Rattle.qcow2_metadata.specs.Entries.RefTableEntry.{ref_fault, ref_reserved_bits, refblock_offset_field};
+    ghost use Rattle.qcow2_base.specs.Bits.{field};
+    ghost use Rattle.qcow2_metadata.specs.Entries.RefTableEntry.{ref_fault};
 
     /// The entry 0: there is no refcount block.
     pub(crate) const NONE: RefTableEntry = RefTableEntry { value: 0 };
 
-    // The entry of a refcount block that begins with a cluster.
     #[tactic(auto, using(crate::proofs::EntriesLemmas::ref_entry_is_lawful))]
     pub(crate) fn for_refblock(cluster: HostCluster, cluster_bits: u32) -> RefTableEntry
         requires cluster_bits { IsClusterBits cluster_bits }
@@ -50,7 +50,7 @@ impl RefTableEntry {
     /// The offset of the refcount block, if there is one.
     #[inline]
     pub fn refblock_offset(&self) -> Option<HostOffset>
-        ensures { result ≡ offset_unless_zero (refblock_offset_field self.now) }
+        ensures { result ≡ offset_unless_zero (512 * field self.now 9 55) }
     {
         match field(self.value, 9, 55) * 512 {
             0 => None,
@@ -61,7 +61,7 @@ impl RefTableEntry {
     /// The reserved bits that are set.
     #[inline]
     pub fn reserved_bits(&self) -> u64
-        ensures { result ≡ ref_reserved_bits self.now }
+        ensures { result ≡ field self.now 0 9 }
     {
         field(self.value, 0, 9)
     }

@@ -5,7 +5,7 @@ ghost use Rattle.qcow2_base.specs.Format.{most_l2_entries};
 ghost use Rattle.qcow2_base.specs.Types.{IsClusterBits};
 ghost use Rattle.qcow2_metadata.specs.Header.{geometry};
 ghost use Rattle.qcow2_metadata.specs.Entries.L2Entry.{l2_fault};
-ghost use Rattle.qcow2_metadata.specs.Entries.Runs.{Follow, FollowJust, IsPatternOf, follows};
+ghost use Rattle.qcow2_metadata.specs.Entries.Runs.{FollowJust, IsPatternOf, follows};
 
 use super::{AtomicL2Entry, L2Entry, TableEntry};
 
@@ -42,27 +42,15 @@ impl RunPattern {
                 step: 0,
             };
         }
-        let has_cluster = entry.cluster_offset(external_data_file).is_some();
         let value = entry.without_copied().to_plain();
-        if has_cluster {
-            RunPattern {
-                mask: (1 << 63) - 1,
-                value,
-                step: 1 << cluster_bits,
-            }
+        let (mask, step) = if entry.cluster_offset(external_data_file).is_some() {
+            ((1 << 63) - 1, 1 << cluster_bits)
         } else if external_data_file {
-            RunPattern {
-                mask: u64::MAX,
-                value,
-                step: 0,
-            }
+            (u64::MAX, 0)
         } else {
-            RunPattern {
-                mask: (1 << 63) - 1,
-                value,
-                step: 0,
-            }
-        }
+            ((1 << 63) - 1, 0)
+        };
+        RunPattern { mask, value, step }
     }
 
     /// How many entries follow the pattern, of these that come after its first.
@@ -85,7 +73,6 @@ impl RunPattern {
         self.count_from(entries, done)
     }
 
-    // Whether the first entry, if there is one, follows the pattern.
     #[inline]
     fn is_followed_by_first(&self, entries: &[AtomicL2Entry]) -> bool
         requires { self.now.value + length entries.now * self.now.step < 2 ^ 64 }
@@ -103,7 +90,8 @@ impl RunPattern {
         requires fits { self.now.value + length entries.now * self.now.step < 2 ^ 64 }
         requires order { first ≤ end }
         requires within { end ≤ length entries.now }
-        ensures { IsTrue result ↔ Follow self.now entries.now first end }
+        ensures { IsTrue result ↔ ((k : ℕ) → first ≤ k → k < end →
+            follows self.now (k + 1) (slice_index entries.now k) ≡ true) }
     {
         let mut expected = self.value + first as u64 * self.step;
         let mut all = true;

@@ -20,7 +20,6 @@ pub(super) enum Counters {
 }
 
 impl Counters {
-    // `count` counters that are 0.
     pub(super) fn zeros(alloc: Global, order: u32, count: usize) -> Result<Counters, AllocError>
         requires { order ≤ 6 }
         ensures numbers { IfOk result (λ counters. kept_counters counters ≡ replicate count 0) }
@@ -52,7 +51,6 @@ impl Counters {
         }
     }
 
-    // What the list keeps its counters with.
     pub(super) fn allocator(&self) -> Global {
         match self {
             Counters::U8(list) => *list.allocator(),
@@ -62,7 +60,6 @@ impl Counters {
         }
     }
 
-    // The counter at an index.
     #[inline]
     pub(super) fn get(&self, index: usize) -> u64
         requires { index < length (kept_counters self.now) }

@@ -85,7 +85,7 @@ pub(super) fn pack_wide<T: WideCounter>(list: &[T], first: usize, buffer: &mut [
 }
 
 // Appends the counters of `2^order` bits that are in the bytes to the list.
-#[tactic(auto, using(crate::proofs::NarrowLemmas::counters_are_bytes))]
+#[tactic(auto, using(crate::proofs::PackingLemmas::counters_are_bytes))]
 pub(super) fn unpack_narrow(list: &mut Vec<u8>, order: u32, bytes: &[u8]) -> Result<(), AllocError>
     requires order { order ≤ 3 }
     ensures { OnOk result (list.new.items ≡ list.old.items
@@ -100,7 +100,7 @@ pub(super) fn unpack_narrow(list: &mut Vec<u8>, order: u32, bytes: &[u8]) -> Res
 }
 
 // The same for an order and how many counters a byte has.
-#[tactic(auto, using(crate::proofs::NarrowLemmas::narrow_counters_more))]
+#[tactic(auto, using(crate::proofs::PackingLemmas::narrow_counters_more))]
 fn unpack_bytes<const ORDER: u32, const PER: usize>(
     list: &mut Vec<u8>,
     bytes: &[u8],

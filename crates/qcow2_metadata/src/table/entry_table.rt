@@ -5,7 +5,7 @@ ghost use Rattle.std.proofs.Common.{refl};
 ghost use Rattle.std.specs.List.{All};
 ghost use Rattle.qcow2_base.specs.Format.{most_entries_in_memory};
 ghost use Rattle.qcow2_base.specs.Types.{IsClusterBits};
-ghost use Rattle.qcow2_metadata.specs.Table.{table_after_edit, table_without_place, first_fault, kind_of, new_table};
+ghost use Rattle.qcow2_metadata.specs.Table.{table_after_edit, first_fault, new_table};
 ghost use Rattle.qcow2_metadata.specs.Table.Growth.{grown_numbers};
 
 use super::Table;
@@ -49,13 +49,13 @@ pub struct EntryTable<E: TableKind> {
     entries: Vec<E>,
     pub(super) placement: Placement,
     cluster_bits: u32,
-    external_data_file: bool,
+    pub(super) external_data_file: bool,
 }
 
 impl<E: TableKind> Model for EntryTable<E> {
     ghost use Rattle.std.specs.Prelude.{◌<◌, map};
     ghost use Rattle.qcow2_metadata.specs.Header.{geometry};
-    ghost use Rattle.qcow2_metadata.specs.Table.{IsValidTable, TableState, kind_of};
+    ghost use Rattle.qcow2_metadata.specs.Table.{IsValidTable, TableState};
 
     ghost Value = { TableState };
 
@@ -66,7 +66,8 @@ impl<E: TableKind> Model for EntryTable<E> {
       geometry = geometry t.cluster_bits t.external_data_file;
     } };
 
-    ghost invariant = { λ t. IsValidTable (kind_of E.MAX_ENTRIES E.has_valid_count E.fault_of)
+    ghost invariant = { λ t. IsValidTable
+        (record { most = E.MAX_ENTRIES; has_valid_count = E.has_valid_count; fault_of = E.fault_of })
         t.cluster_bits t.placement.cluster (map E.plain t.entries.items) };
 }
 
@@ -122,14 +123,6 @@ impl<E: TableKind> EntryTable<E> {
         Ok(Self::from_data(list, header))
     }
 
-    // Whether guest data lies in an external data file, by the header that the table was made with.
-    #[inline]
-    pub(super) fn has_external_data_file(&self) -> bool
-        ensures { result ≡ self.now.geometry.external_data_file }
-    {
-        self.external_data_file
-    }
-
     // The entries in order, which are valid.
     #[inline]
     pub(super) fn as_slice(&self) -> &[E]
@@ -145,7 +138,7 @@ impl<E: TableKind> EntryTable<E> {
         requires count { length entries.items ≡ length self.now.numbers }
         requires valid { first_fault (E.fault_of self.now.geometry.cluster_bits)
             (map E.plain entries.items) ≡ None }
-        ensures { result ≡ table_without_place self.now (map E.plain entries.items) }
+        ensures { result ≡ record self.now { numbers = map E.plain entries.items; cluster = None } }
     {
         numbers_fit(&entries);
         let placement = Placement {
@@ -198,7 +191,11 @@ impl<E: TableKind> Table for EntryTable<E> {
 
     ghost state = { λ t. t };
 
-    ghost kind = { kind_of E.MAX_ENTRIES E.has_valid_count E.fault_of };
+    ghost kind = { record {
+      most = E.MAX_ENTRIES;
+      has_valid_count = E.has_valid_count;
+      fault_of = E.fault_of;
+    } };
 
     fn from_data(list: Vec<E>, header: &Header) -> Self
         requires valid { first_fault (E.fault_of header.now.v2.cluster_bits) (map E.plain list.items) ≡ None }

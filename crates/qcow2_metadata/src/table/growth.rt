@@ -30,7 +30,6 @@ impl Turns {
         self.count
     }
 
-    // One more number is tried.
     fn step(&mut self)
         requires { self.old.count < 2 ^ 63 }
         ensures { self.new.count ≡ self.old.count + 1 }

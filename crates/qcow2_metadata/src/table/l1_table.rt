@@ -1,11 +1,10 @@
 //! L1 tables: where the L2 tables lie.
 
-ghost use Rattle.std.specs.Prelude.{◌≡◌, ◌*◌, ◌^◌, ◌<◌, length, true, Ok, Err, IfSome, MatchOption};
+ghost use Rattle.std.specs.Prelude.{◌≡◌, ◌+◌, ◌*◌, ◌^◌, ◌<◌, length, true, Ok, Err, IfSome, MatchOption};
 ghost use Rattle.std.proofs.Common.{lit≤};
 ghost use Rattle.qcow2_base.specs.Format.{most_l1_entries};
 ghost use Rattle.qcow2_base.specs.declared.fault.Fault.TheVariants.{NotPlaced};
 ghost use Rattle.qcow2_metadata.specs.Entries.PendingClusters.{IsOneCluster};
-ghost use Rattle.qcow2_metadata.specs.Entries.L1Entry.{l1_entry_for};
 ghost use Rattle.qcow2_metadata.specs.Table.{IsReferable, table_after_edit};
 ghost use Rattle.qcow2_metadata.specs.Table.Growth.{GrowsTo, grown_count};
 
@@ -82,7 +81,7 @@ impl EntryTable<L1Entry> {
             (self.new ≡ self.old)
             (λ cluster. self.new
             ≡ table_after_edit self.old index
-            (l1_entry_for (cluster.0 * 2 ^ self.old.geometry.cluster_bits))) }
+            (2 ^ 63 + cluster.0 * 2 ^ self.old.geometry.cluster_bits)) }
     {
         let Some(cluster) = l2_table.get_cluster() else {
             return refuse(Fault::NotPlaced, new_allocation);

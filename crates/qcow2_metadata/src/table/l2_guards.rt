@@ -20,7 +20,7 @@ pub struct L2TableWriteGuard<'a> {
 
 impl L2TableWriteGuard<'_> {
     ghost use Rattle.qcow2_metadata.specs.Table.L2Guards.{IsSameTable, guarded_range, guarded_table};
-    ghost use Rattle.qcow2_metadata.specs.Table.L2Table.{compressed_at};
+    ghost use Rattle.qcow2_metadata.specs.Table.L2Table.{compressed_range};
 
     /// What a guest cluster reads as, as `L2Table::get_mapping` says it.
     pub fn get_mapping(&self, guest_cluster: GuestCluster) -> Result<L2Mapping, Fault>
@@ -40,7 +40,8 @@ impl L2TableWriteGuard<'_> {
     ) -> Result<Option<CompressedClusterReadGuard<'_>>, Fault>
         requires { guest_cluster.0 * 2 ^ (guarded_table self.now).geometry.cluster_bits < 2 ^ 64 }
         ensures { IsOkAnd result (λ guard.
-            option_map guarded_range guard ≡ compressed_at (guarded_table self.now) guest_cluster.0) }
+            option_map guarded_range guard
+            ≡ compressed_range (mapping_at (guarded_table self.now) guest_cluster.0)) }
     {
         self.table.lock_compressed_read(guest_cluster)
     }
@@ -123,7 +124,6 @@ impl L2TableWriteGuard<'_> {
         self.allocation_of(before.get())
     }
 
-    // The host clusters that an entry of the table refers to.
     fn allocation_of(&self, entry: L2Entry) -> Option<ClustersToFreeEntry>
         ensures { IsAllocation (guarded_table self.now).geometry entry result }
     {

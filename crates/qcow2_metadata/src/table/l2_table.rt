@@ -1,12 +1,12 @@
 //! L2 tables: what the clusters of a part of the guest's disk read as.
 
-ghost use Rattle.std.specs.Prelude.{◌≡◌, ℕ, ◌-◌, ◌*◌, ◌^◌, ◌==◌, ◌<◌, IfOk, IsOk, IsOkAnd, IsOkUnless, length, map, replicate, true, false};
+ghost use Rattle.std.specs.Prelude.{◌≡◌, ℕ, None, ◌-◌, ◌*◌, ◌^◌, ◌==◌, ◌<◌, IfOk, IsOk, IsOkAnd, IsOkUnless, length, map, replicate, true, false};
 ghost use Rattle.std.proofs.Common.{lit≤};
 ghost use Rattle.qcow2_base.specs.Format.{most_l2_entries};
 ghost use Rattle.qcow2_metadata.specs.Entries.L2Mapping.{IsPlaced, meaning};
 ghost use Rattle.qcow2_metadata.specs.Entries.L2Entry.{entry_in_copy};
 ghost use Rattle.qcow2_metadata.specs.Placed.{FollowsWrite, Writes};
-ghost use Rattle.qcow2_metadata.specs.Table.{l2_entries, l2_kind, layout_of_table, mapping_at, new_table, table_without_place};
+ghost use Rattle.qcow2_metadata.specs.Table.{l2_entries, l2_kind, layout_of_table, mapping_at, new_table};
 
 use super::pieces::TableBytes;
 use super::{CompressedClusterReadGuard, EntryTable, L2TableWriteGuard, Table, TableKind};
@@ -62,7 +62,7 @@ fn shared_entries(
 impl EntryTable<AtomicL2Entry> {
     ghost use Rattle.std.specs.Prelude.{option_map};
     ghost use Rattle.qcow2_metadata.specs.Table.L2Guards.{IsTableGuard, guarded_range, references};
-    ghost use Rattle.qcow2_metadata.specs.Table.L2Table.{IsMappedRun, compressed_at};
+    ghost use Rattle.qcow2_metadata.specs.Table.L2Table.{IsMappedRun, compressed_range};
 
     /// A table of an image with this header in which no cluster has data. It has no cluster, and
     /// counts as modified. Fails only where memory runs out.
@@ -82,7 +82,7 @@ impl EntryTable<AtomicL2Entry> {
     pub fn external_data_file(&self) -> bool
         ensures { result ≡ self.now.geometry.external_data_file }
     {
-        self.has_external_data_file()
+        self.external_data_file
     }
 
     /// What a guest cluster reads as by its entry in this table. The cluster's offset must fit 64 bits.
@@ -95,7 +95,7 @@ impl EntryTable<AtomicL2Entry> {
     {
         let cluster_bits = self.cluster_bits();
         let entry = self.get(guest_cluster.l2_index(cluster_bits));
-        entry.into_mapping(guest_cluster, cluster_bits, self.has_external_data_file())
+        entry.into_mapping(guest_cluster, cluster_bits, self.external_data_file())
     }
 
     /// How many guest clusters, from one on, read on as one by their entries in this table, to its end
@@ -107,7 +107,7 @@ impl EntryTable<AtomicL2Entry> {
     {
         let cluster_bits = self.cluster_bits();
         let index = guest_cluster.l2_index(cluster_bits);
-        let pattern = RunPattern::of(self.get(index), cluster_bits, self.has_external_data_file());
+        let pattern = RunPattern::of(self.get(index), cluster_bits, self.external_data_file());
         let (entries, end) = (self.as_slice(), self.entries());
         ClusterCount(1 + pattern.count(&entries[index + 1..end]) as u64)
     }
@@ -143,7 +143,7 @@ impl EntryTable<AtomicL2Entry> {
     ) -> Result<Option<CompressedClusterReadGuard<'_>>, Fault>
         requires { guest_cluster.0 * 2 ^ self.now.geometry.cluster_bits < 2 ^ 64 }
         ensures { IsOkAnd result (λ guard.
-            option_map guarded_range guard ≡ compressed_at self.now guest_cluster.0) }
+            option_map guarded_range guard ≡ compressed_range (mapping_at self.now guest_cluster.0)) }
     {
         match self.get_mapping(guest_cluster)? {
             L2Mapping::Compressed {
@@ -162,17 +162,17 @@ impl EntryTable<AtomicL2Entry> {
     /// host clusters that entries refer to then have a reference more, so no entry of the new table is a
     /// copied one. But one of cluster 0 of an external data file stays, since only its flag shows that
     /// there is a cluster. This table stays as it is. Fails only where memory runs out.
-    #[tactic(auto, using(crate::proofs::SharedLemmas::clones))]
+    #[tactic(auto, using(crate::proofs::L2TableLemmas::clones))]
     pub fn try_clone(&self) -> Result<L2Table, Fault>
         ensures fault { IsOkUnless result Fault.NoMemory }
-        ensures table { IfOk result (λ table. table ≡ table_without_place self.now
-            (map (entry_in_copy self.now.geometry.external_data_file) self.now.numbers)) }
+        ensures table { let copied = entry_in_copy self.now.geometry.external_data_file in IfOk result
+            (λ table. table ≡ record self.now { numbers = map copied self.now.numbers; cluster = None }) }
         ensures references { IfOk result (λ table. (cluster : ℕ) →
             references table.geometry table.numbers cluster
             ≡ references self.now.geometry self.now.numbers cluster) }
     {
         let alloc = self.allocator();
-        let entries = shared_entries(alloc, self.as_slice(), self.has_external_data_file())?;
+        let entries = shared_entries(alloc, self.as_slice(), self.external_data_file())?;
         Ok(self.with_entries(entries))
     }
 

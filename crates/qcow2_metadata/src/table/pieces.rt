@@ -70,7 +70,6 @@ fn decode<E: TableEntry + Drop>(
     Ok(())
 }
 
-// The number that eight bytes make.
 #[inline]
 #[tactic(auto, unfolding(qcow2_base::specs::Storage::be))]
 fn number_of(chunk: &[u8; 8]) -> u64

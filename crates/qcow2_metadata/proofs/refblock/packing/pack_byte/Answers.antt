@@ -1,6 +1,6 @@
 use Rattle.std.proofs.Common.{◌<◌, length, pow_pos, arith}
 use Rattle.qcow2_metadata.specs.Refblock.Packing.{width}
-use Rattle.qcow2_metadata.proofs.NarrowLemmas.{digit_more, from_digits-more, place_fits, shifted_one}
+use Rattle.qcow2_metadata.proofs.PackingLemmas.{digit_more, from_digits-more, place_fits, shifted_one}
 use Rattle.qcow2_metadata.proofs.refblock.packing.pack_byte.Goals as goal
 
 pub overflow_shl-byte : goal.overflow_shl-byte

@@ -2,7 +2,7 @@ use Rattle.std.proofs.Common.{ℕ, ◌*◌, ◌∙◌, length-set, pow_mono, pow
 use Rattle.std.proofs.lemmas.List.Edits.{fill_by_more}
 use Rattle.qcow2_base.specs.Bits.{field}
 use Rattle.qcow2_metadata.specs.Refblock.Packing.{width}
-use Rattle.qcow2_metadata.proofs.NarrowLemmas.{counters_of_byte, place_fits, shifted_one, values_fit}
+use Rattle.qcow2_metadata.proofs.PackingLemmas.{counters_of_byte, place_fits, shifted_one, values_fit}
 use Rattle.qcow2_metadata.proofs.refblock.packing.unpack_byte.Goals as goal
 use Rattle.std.proofs.lemmas.Bool.Decides.{nat_tests}
 

@@ -1,7 +1,7 @@
 use Rattle.std.proofs.Common.{ℕ, ◌≡◌, ◌∙◌, map, sym, rules, OnOk, map-id}
 use Rattle.std.proofs.lemmas.Iterator.{YieldsList-from_map_by, YieldsList-from_slice}
 use Rattle.qcow2_metadata.specs.Entries.L2Entry.{entry_in_copy}
-use Rattle.qcow2_metadata.proofs.ChunkLemmas.{viewed_from_extend}
+use Rattle.qcow2_metadata.proofs.TablePiecesLemmas.{viewed_from_extend}
 use Rattle.qcow2_metadata.proofs.table.l2_table.shared_entries.Goals as goal
 
 pub returns : goal.returns

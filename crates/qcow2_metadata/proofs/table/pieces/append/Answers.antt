@@ -3,7 +3,7 @@ use Rattle.std.proofs.lemmas.List.{map-append}
 use Rattle.std.proofs.lemmas.Iterator.{YieldsList-from_map_by, YieldsList-from_slice}
 use Rattle.std.proofs.lemmas.Iterator.Adapters.{serves_from_places}
 use Rattle.qcow2_base.specs.Storage.{be, image_of}
-use Rattle.qcow2_metadata.proofs.ChunkLemmas.{lawful_chunk, viewed_from_extend}
+use Rattle.qcow2_metadata.proofs.TablePiecesLemmas.{lawful_chunk, viewed_from_extend}
 use Rattle.qcow2_metadata.proofs.table.pieces.append.Goals as goal
 
 pub returns : goal.returns

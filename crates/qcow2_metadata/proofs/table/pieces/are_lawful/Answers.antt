@@ -1,5 +1,5 @@
 use Rattle.std.proofs.Common.{take, [], arith}
-use Rattle.qcow2_metadata.proofs.ChunkLemmas.{chunk_numbers-more, lawful_more}
+use Rattle.qcow2_metadata.proofs.TablePiecesLemmas.{chunk_numbers-more, lawful_more}
 use Rattle.qcow2_metadata.specs.Table.{chunk_numbers}
 use Rattle.qcow2_metadata.proofs.table.pieces.are_lawful.Goals as goal
 

@@ -1,6 +1,6 @@
 use Rattle.std.proofs.Common.{take, [], arith}
 use Rattle.std.proofs.lemmas.Result.{err_from_is_err_and}
-use Rattle.qcow2_metadata.proofs.ChunkLemmas.{chunk_numbers-more, first_fault-at}
+use Rattle.qcow2_metadata.proofs.TablePiecesLemmas.{chunk_numbers-more, first_fault-at}
 use Rattle.qcow2_metadata.proofs.TableLemmas.{first_fault_more}
 use Rattle.qcow2_metadata.specs.Table.{chunk_numbers}
 use Rattle.qcow2_metadata.proofs.table.pieces.check.Goals as goal

@@ -1,6 +1,6 @@
 use Rattle.std.proofs.Common.{rules, arith}
 use Rattle.std.proofs.lemmas.Result.{err_from_is_err_and}
-use Rattle.qcow2_metadata.proofs.ChunkLemmas.{chunk_numbers-all}
+use Rattle.qcow2_metadata.proofs.TablePiecesLemmas.{chunk_numbers-all}
 use Rattle.qcow2_metadata.proofs.table.pieces.decode.Goals as goal
 use Rattle.std.proofs.lemmas.Bool.Decides.{nat_tests}
 

@@ -1,5 +1,5 @@
 use Rattle.std.proofs.Common.{◌≡◌, ◌*◌, length, arith}
-use Rattle.qcow2_metadata.proofs.PieceLemmas.{held_then_zeros}
+use Rattle.qcow2_metadata.proofs.TablePiecesLemmas.{held_then_zeros}
 use Rattle.qcow2_metadata.proofs.table.pieces.encode.Goals as goal
 
 pub returns-clause-written : goal.returns-clause-written

@@ -2,7 +2,7 @@ use Rattle.std.proofs.Common.{◌≡◌, ◌+◌, ◌-◌, ◌*◌, ◌/◌, ◌
 use Rattle.std.proofs.lemmas.List.{length-append, length-map}
 use Rattle.std.proofs.lemmas.Result.{err_from_is_err_and}
 use Rattle.qcow2_base.specs.Storage.{Holds, image_of}
-use Rattle.qcow2_metadata.proofs.ChunkLemmas.{decoded-refused_piece, table_numbers-read}
+use Rattle.qcow2_metadata.proofs.TablePiecesLemmas.{decoded-refused_piece, table_numbers-read}
 use Rattle.qcow2_metadata.proofs.PackingLemmas.{counters_at-length}
 use Rattle.qcow2_metadata.proofs.TableLemmas.{first_fault-append}
 use Rattle.qcow2_metadata.specs.Table.{table_numbers}

@@ -1,5 +1,5 @@
 use Rattle.std.proofs.Common.{rules}
-use Rattle.qcow2_metadata.proofs.MappingLemmas.{entry_is_lawful, entry_reads_back}
+use Rattle.qcow2_metadata.proofs.L2MappingLemmas.{entry_is_lawful, entry_reads_back}
 use Rattle.qcow2_metadata.proofs.entries.l2_entry.L2Entry.from_mapping.Goals as goal
 use Rattle.qcow2_metadata.proofs.entries.l2_entry.L2Entry.from_mapping.Goals.{in-DataFile, in-Backing, in-Zero-Some-default, in-Zero-None-default, in-Compressed}
 

@@ -4,7 +4,7 @@ use Rattle.qcow2_metadata.specs.Entries.L2Entry.{allocation, has_host_cluster, w
 use Rattle.qcow2_metadata.specs.Header.{Geometry, geometry}
 use Rattle.qcow2_metadata.specs.Table.L2Guards.{guarded_table}
 use Rattle.qcow2_metadata.specs.Table.{TableState, table_after_edit}
-use Rattle.qcow2_metadata.proofs.GuardLemmas.{zeros-dropped, zeros-kept, zeros-lawful}
+use Rattle.qcow2_metadata.proofs.L2GuardsLemmas.{zeros-lawful}
 use Rattle.qcow2_metadata.proofs.table.l2_guards.L2TableWriteGuard.zero_cluster.Goals as goal
 use Rattle.qcow2_metadata.proofs.table.l2_guards.L2TableWriteGuard.zero_cluster.Goals.{else-keep_allocation-via-then-keep_allocation+else-has_host_cluster, else-keep_allocation-via-else-keep_allocation}
 
@@ -31,8 +31,10 @@ returns-then-has_host_cluster-clause-edit c =
     let kept : (c.args.keep_allocation && has_host_cluster table.geometry (slice_index table.numbers c.args.index)) ≡ true =
     rw (c.if-keep_allocation.true, ← number) has in
     let set = c.with_zero_flag.ensures ∙ ap with_zero_flag number in
-    zeros-kept table c.replace_entry.new.self c.args.index c.args.keep_allocation kept
-    (c.replace_entry.ensures.edit ∙ ap (λ (n : ℕ). table_after_edit table c.args.index n) (c.new-zeros.ensures ∙ set))
+    record {
+      table = rw kept (c.replace_entry.ensures.edit ∙ ap (λ (n : ℕ). table_after_edit table c.args.index n) (c.new-zeros.ensures ∙ set));
+      freed_is = rw kept refl;
+    }
 
 pub returns-clause-edit : goal.returns-clause-edit
 returns-clause-edit c =
@@ -40,7 +42,7 @@ returns-clause-edit c =
     let v = c.entry_within-before.result in
     let cb = table.geometry.cluster_bits in
     let number : v ≡ slice_index table.numbers c.args.index = search rules in
-    let clusters_freed_by : (c.args.keep_allocation && has_host_cluster table.geometry (slice_index table.numbers c.args.index)) ≡ false =
+    let dropped : (c.args.keep_allocation && has_host_cluster table.geometry (slice_index table.numbers c.args.index)) ≡ false =
     elim c.else-keep_allocation.branch [
       | else-keep_allocation-via-then-keep_allocation+else-has_host_cluster w ↦
           let none : has_host_cluster table.geometry v ≡ false =
@@ -53,5 +55,4 @@ returns-clause-edit c =
     ap (λ (t : TableState). t.geometry) c.replace_entry-2.ensures.edit in
     let freed : c.allocation_of.result ≡ allocation table.geometry v =
     subst (λ (g : Geometry). c.allocation_of.result ≡ allocation g v) same c.allocation_of.ensures.value in
-    zeros-dropped table c.replace_entry-2.new.self c.args.index c.args.keep_allocation c.allocation_of.result clusters_freed_by
-    (search rules) (rw number at freed)
+    record { table = rw dropped (search rules); freed_is = rw dropped (rw number at freed) }

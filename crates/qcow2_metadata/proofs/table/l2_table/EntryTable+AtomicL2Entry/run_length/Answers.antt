@@ -17,7 +17,7 @@ returns c =
     let table_valid = c.entries-end.ensures.valid in
     let full = (Decides-eqb _ _).0 table_valid.count in
     let cb = c.cluster_bits-cluster_bits.ensures.value in
-    let external = c.has_external_data_file.ensures in
+    let external = c.external_data_file.ensures in
     let own = sym (map-id c.as_slice-entries.result.now) ∙ c.as_slice-entries.ensures.numbers in
     let end : c.entries-end.result ≡ length c.as_slice-entries.result.now = rw own c.entries-end.ensures.count in
     run_of_pattern table c.args.guest_cluster.0 c.count.result c.l2_index-index.result c.as_slice-entries.result.now _ c.of-pattern.result

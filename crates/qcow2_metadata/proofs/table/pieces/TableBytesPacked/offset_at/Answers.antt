@@ -1,4 +1,4 @@
-use Rattle.qcow2_metadata.proofs.PieceLemmas.{table_reads_back}
+use Rattle.qcow2_metadata.proofs.TablePiecesLemmas.{table_reads_back}
 use Rattle.qcow2_metadata.proofs.table.pieces.TableBytesPacked.offset_at.Goals as goal
 
 pub returns-clause-reads_back : goal.returns-clause-reads_back

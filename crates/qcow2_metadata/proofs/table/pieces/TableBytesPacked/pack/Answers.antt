@@ -1,5 +1,5 @@
 use Rattle.std.proofs.Common.{◌≡◌, ◌*◌, arith}
-use Rattle.qcow2_metadata.proofs.PieceLemmas.{piece_bytes}
+use Rattle.qcow2_metadata.proofs.TablePiecesLemmas.{piece_bytes}
 use Rattle.qcow2_metadata.proofs.table.pieces.TableBytesPacked.pack.Goals as goal
 
 pub returns-clause-packed : goal.returns-clause-packed

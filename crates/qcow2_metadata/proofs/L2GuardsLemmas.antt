@@ -1,14 +1,16 @@
-use Rattle.std.proofs.Common.{ap, ◌≡◌, ℕ, Bool, true, false, ◌&&◌, ◌==◌, if◌then◌else◌, ◌+◌, ◌-◌, ◌*◌, ◌/◌, ◌^◌, ◌<◌, ◌≤◌, ◌↔◌, Option, Some, None, option_map, unwrap_or, option_to_list, IfSome, List, [], ◌∷◌, length, slice_index, refl, arith, length-set}
+use Rattle.std.proofs.Common.{ap, ◌≡◌, ℕ, Bool, true, false, ◌&&◌, ◌==◌, if◌then◌else◌, ◌+◌, ◌-◌, ◌*◌, ◌/◌, ◌^◌, ◌<◌, ◌≤◌, ◌↔◌, Option, Some, None, option_map, unwrap_or, option_to_list, IfSome, List, [], ◌∷◌, length, slice_index, refl, arith, length-set, ◌≢◌, ◌++◌, All, sym, ◌∙◌}
 use Rattle.std.proofs.lemmas.Nat.{div-mul-add, mul-le, pow_pos}
 use Rattle.std.proofs.Math.Nat.{mul-div_cancel}
 use Rattle.std.proofs.lemmas.Bool.Decides.{nat_tests}
+use Rattle.std.proofs.lemmas.List.{append_assoc, get_or-set_other, get_or-set_same}
+use Rattle.std.proofs.lemmas.List.Elements.{All-head, All-tail}
 use Rattle.std.proofs.lemmas.List.Sums.{sum_by-append, sum_by-set}
 use Rattle.std.specs.List.{list_all}
 use Rattle.qcow2_base.specs.Bits.{field}
 use Rattle.qcow2_base.specs.Types.{IsClusterBits}
 use Rattle.qcow2_metadata.specs.Header.{Geometry}
 use Rattle.qcow2_metadata.specs.declared.entries.ClustersToFreeEntry.{ClustersToFreeEntry}
-use Rattle.qcow2_metadata.specs.Entries.L2Entry.{ByteRange, Meets, allocation, byte_range, cluster_count, clusters_met, first_cluster, has_host_cluster, is_compressed, meets, with_zero_flag}
+use Rattle.qcow2_metadata.specs.Entries.L2Entry.{ByteRange, Meets, allocation, byte_range, clusters_met, has_host_cluster, is_compressed, meets, with_zero_flag, l2_fault}
 use Rattle.qcow2_metadata.specs.Entries.{is_among, offset_field}
 use Rattle.qcow2_metadata.proofs.EntriesLemmas.{allocation_is, meets_is_met, offset_in_sectors}
 use Rattle.qcow2_metadata.specs.Table.L2Guards.{EntryEdit, GivesUp, TableEdit, after_edit, can_be_made, entry_after, data_entry, clusters_freed_by, fits_table, cluster_gained_by, handed_back, is_just, is_mappable, keeps_clusters, one_if, references, run_of, times_gained, to_data, to_nothing, to_zeros}
@@ -40,10 +42,10 @@ just cluster = record { first = record { 0 = cluster }; count = record { 0 = 1 }
 clusters_of_one : (cb cluster : ℕ) → clusters_met cb (bytes_of_cluster cb cluster) ≡ just cluster
 clusters_of_one cb cluster =
     let positive = pow_pos cb in
-    let first : first_cluster cb (bytes_of_cluster cb cluster) ≡ cluster = mul-div_cancel cluster positive in
+    let first : cluster * 2 ^ cb / 2 ^ cb ≡ cluster = mul-div_cancel cluster positive in
     let within : cluster * 2 ^ cb + 2 ^ cb - 1 ≡ cluster * 2 ^ cb + (2 ^ cb - 1) = omega arith in
     let last : (cluster * 2 ^ cb + 2 ^ cb - 1) / 2 ^ cb ≡ cluster = rw within (div-mul-add cluster (2 ^ cb) (2 ^ cb - 1) (omega arith)) in
-    let count : cluster_count cb (bytes_of_cluster cb cluster) ≡ 1 = omega (arith, last, first) in
+    let count : (clusters_met cb (bytes_of_cluster cb cluster)).count.0 ≡ 1 = omega (arith, last, first) in
     rw (count, first) refl
 
 -- a data entry refers to its host cluster, and no other
@@ -146,3 +148,43 @@ balance-run g (e ∷ edits) numbers c bits fit =
     let freed = sum_by-append (λ (clusters : ClustersToFreeEntry). one_if (is_among clusters c)) (option_to_list (clusters_freed_by g e.edit v)) rest.freed in
     let gains = sum_by-append (λ (d : ℕ). one_if (d == c)) (option_to_list (cluster_gained_by g e.edit v)) rest.gained in
     rw (freed, gains) (omega (arith, entry, table, more))
+
+-- an entry that refers to a host cluster is valid with the zero flag
+pub zeros-lawful : (g : Geometry) (v : ℕ) → has_host_cluster g v ≡ true
+    → l2_fault g.cluster_bits v ≡ None → l2_fault g.cluster_bits (with_zero_flag v) ≡ None
+zeros-lawful g v has lawful = grind (arith, nat_tests, standard_if_host_cluster)
+
+run_of-length : (g : Geometry) (edits : List TableEdit) (numbers : List ℕ) → length (run_of g edits numbers).numbers ≡ length numbers
+run_of-length g [] numbers = refl
+run_of-length g (e ∷ edits) numbers = run_of-length g edits (after_edit g e numbers) ∙ after_edit-length g e numbers
+
+-- an entry that no edit names stays
+pub run_of_others : (g : Geometry) (edits : List TableEdit) (numbers : List ℕ) (index : ℕ) → All (λ (e : TableEdit). e.index ≢ index) edits → slice_index (run_of g edits numbers).numbers index ≡ slice_index numbers index
+run_of_others g [] numbers index others = refl
+run_of_others g (e ∷ edits) numbers index others =
+    let differs = All-head (λ (e : TableEdit). e.index ≢ index) e edits others in
+    run_of_others g edits (after_edit g e numbers) index (All-tail (λ (e : TableEdit). e.index ≢ index) e edits others)
+    ∙ get_or-set_other numbers e.index index (entry_after g e.edit (slice_index numbers e.index)) 0 (λ same. differs (sym same))
+
+-- the numbers that edits leave after others
+run_of-numbers : (g : Geometry) (before later : List TableEdit) (numbers : List ℕ) → (run_of g (before ++ later) numbers).numbers ≡ (run_of g later (run_of g before numbers).numbers).numbers
+run_of-numbers g [] later numbers = refl
+run_of-numbers g (e ∷ before) later numbers = run_of-numbers g before later (after_edit g e numbers)
+
+-- and what they hand back
+pub run_of_freed : (g : Geometry) (before later : List TableEdit) (numbers : List ℕ) → (run_of g (before ++ later) numbers).freed ≡ (run_of g before numbers).freed ++ (run_of g later (run_of g before numbers).numbers).freed
+run_of_freed g [] later numbers = refl
+run_of_freed g (e ∷ before) later numbers =
+    let own = option_to_list (clusters_freed_by g e.edit (slice_index numbers e.index)) in
+    let first = run_of g before (after_edit g e numbers) in
+    ap (λ (freed : List ClustersToFreeEntry). own ++ freed) (run_of_freed g before later (after_edit g e numbers))
+    ∙ sym (append_assoc own first.freed (run_of g later first.numbers).freed)
+
+-- the last edit of an entry decides it
+pub run_of_last : (g : Geometry) (before later : List TableEdit) (e : TableEdit) (numbers : List ℕ) → e.index < length numbers → All (λ (other : TableEdit). other.index ≢ e.index) later
+    → slice_index (run_of g (before ++ (e ∷ later)) numbers).numbers e.index ≡ entry_after g e.edit (slice_index (run_of g before numbers).numbers e.index)
+run_of_last g before later e numbers within others =
+    let left = (run_of g before numbers).numbers in
+    ap (λ (xs : List ℕ). slice_index xs e.index) (run_of-numbers g before (e ∷ later) numbers)
+    ∙ run_of_others g later (after_edit g e left) e.index others
+    ∙ get_or-set_same left e.index (entry_after g e.edit (slice_index left e.index)) 0 (omega (arith, run_of-length g before numbers, within))

@@ -1,5 +1,5 @@
-use Rattle.std.proofs.Common.{map-id, ◌≡◌, ℕ, Bool, false, not, ◌&&◌, ◌||◌, ◌==◌, if◌then◌else◌, ◌+◌, ◌-◌, ◌*◌, ◌/◌, ◌%◌, ◌^◌, ◌<◌, ◌≤◌, List, [], ◌∷◌, map, Option, Some, None, refl, ap, ◌∙◌, inl, inr, arith}
-use Rattle.std.proofs.lemmas.Bool.{cases_Bool, cases_lt}
+use Rattle.std.proofs.Common.{map-id, ◌≡◌, ℕ, Bool, ◌+◌, ◌-◌, ◌/◌, ◌%◌, ◌^◌, ◌<◌, ◌≤◌, List, [], ◌∷◌, map, Option, None, refl, ap, ◌∙◌, inl, inr, arith}
+use Rattle.std.proofs.lemmas.Bool.{cases_lt}
 use Rattle.std.proofs.lemmas.Bool.Decides.{nat_tests}
 use Rattle.std.proofs.lemmas.List.Sums.{sum_by-cons}
 use Rattle.std.proofs.lemmas.Nat.{div-mul-add, mod-pow-add, pow_pos}
@@ -8,8 +8,7 @@ use Rattle.std.proofs.Math.Pow.{mod-mod-pow}
 use Rattle.qcow2_base.specs.Bits.{field}
 use Rattle.qcow2_base.specs.declared.fault.Fault.{Fault}
 use Rattle.qcow2_metadata.specs.Table.L2Guards.{one_if, references}
-use Rattle.qcow2_metadata.specs.Entries.L2Entry.{ByteRange, byte_range, is_compressed, l2_fault, meets, entry_in_copy}
-use Rattle.qcow2_metadata.specs.Entries.{offset_field}
+use Rattle.qcow2_metadata.specs.Entries.L2Entry.{byte_range, l2_fault, meets, entry_in_copy}
 use Rattle.qcow2_metadata.specs.Header.{Geometry}
 use Rattle.qcow2_metadata.specs.Table.{first_fault}
 use Rattle.qcow2_metadata.proofs.TableLemmas.{no_fault_at_all}
@@ -28,24 +27,9 @@ low_field v a b low =
     let above = ap (λ n. n / 2 ^ a) parts ∙ div-mul-add (v / 2 ^ a % 2 ^ (63 - a)) (2 ^ a) (v % 2 ^ a) (mod-lt v (pow_pos a)) in
     ap (λ n. n % 2 ^ b) above ∙ (rw rest at (mod-mod-pow (v / 2 ^ a) (63 - a - b) b))
 
-same_range : (packed none external copied : Bool) (a b : ByteRange) → (external && (not packed && none)) ≡ false → (if packed then Some a else (if not none || (external && false) then Some b else None)) ≡ (if packed then Some a else (if not none || (external && copied) then Some b else None))
-same_range packed none external copied a b other = grind arith
-
 -- an entry refers to the same bytes where a second table has it too
 shared-byte_range : (g : Geometry) (v : ℕ) → 9 ≤ g.cluster_bits → g.cluster_bits ≤ 21 → byte_range g (entry_in_copy g.external_data_file v) ≡ byte_range g v
-shared-byte_range g v low high = elim (cases_Bool (g.external_data_file && (not (is_compressed v) && (offset_field v == 0)))) [
-  | inl stays ↦ rw stays refl
-  | inr other ↦
-      let cb = g.cluster_bits in
-      let kind = low_field v 62 1 (omega arith) in
-      let offset = low_bits v (70 - cb) (omega arith) in
-      let sectors = low_field v (70 - cb) (cb - 8) (omega arith) in
-      let at = low_field v 9 47 (omega arith) in
-      let copied : field (v % 2 ^ 63) 63 1 ≡ 0 = omega arith in
-      let length = 512 * (field v (70 - cb) (cb - 8) + 1) - v % 2 ^ (70 - cb) % 2 ^ 56 % 512 in
-      let start = v % 2 ^ (70 - cb) % 2 ^ 56 in
-      rw (other, kind, offset, sectors, at, copied) (same_range (is_compressed v) (offset_field v == 0) g.external_data_file (field v 63 1 == 1) (record { start = start; end = start + length }) (record { start = offset_field v; end = offset_field v + 2 ^ cb }) other)
-]
+shared-byte_range g v low high = grind (arith, nat_tests, low_field, low_bits)
 
 pub shared-meets : (g : Geometry) (v c : ℕ) → 9 ≤ g.cluster_bits → g.cluster_bits ≤ 21 → meets g (entry_in_copy g.external_data_file v) c ≡ meets g v c
 shared-meets g v c low high = rw (shared-byte_range g v low high) refl

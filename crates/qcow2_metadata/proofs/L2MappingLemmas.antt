@@ -3,11 +3,12 @@ use Rattle.std.proofs.lemmas.Bool.{lt-ltb}
 use Rattle.std.proofs.lemmas.Bool.Decides.{nat_tests}
 use Rattle.std.proofs.lemmas.Nat.{pow_pos, pow-add, shl-shr, mul-le, div-mul-add, mod-mul-add}
 use Rattle.std.proofs.Math.Nat.{mul-mod_left, add-mod_left, mod-eq_of_lt}
+use Rattle.std.specs.Int.{div_ceil}
 use Rattle.qcow2_base.specs.Bits.{field}
 use Rattle.qcow2_metadata.specs.Header.{geometry}
 use Rattle.qcow2_metadata.specs.declared.entries.l2_mapping.L2Mapping.{L2Mapping}
 use Rattle.qcow2_metadata.specs.declared.entries.l2_mapping.L2Mapping.TheVariants.{DataFile, Backing, Zero, Compressed}
-use Rattle.qcow2_metadata.specs.Entries.L2Mapping.{FitsEntry, IsPlaced, copied_bit, entry_of, is_told, mapping, meaning, stored_mapping, sector_end, sectors_beyond, standard_mapping, backing, compressed, data_file, zeros}
+use Rattle.qcow2_metadata.specs.Entries.L2Mapping.{FitsEntry, IsPlaced, copied_bit, entry_of, is_told, mapping, meaning, stored_mapping, sectors_beyond, standard_mapping, backing, compressed, data_file, zeros}
 use Rattle.qcow2_metadata.specs.Entries.{offset_field}
 use Rattle.qcow2_metadata.specs.Entries.L2Entry.{l2_fault}
 use Rattle.qcow2_metadata.proofs.EntriesLemmas.{l2_fault_zero, offset_in_sectors, sectors_fill_two_clusters}
@@ -99,7 +100,7 @@ sectors_below cb offset length low short =
     let one : 512 ≤ 2 ^ cb = pow_mono low in
     omega (arith, all, one)
 
-compressed_reads : (cb guest_cluster offset length : ℕ) (external : Bool) → 9 ≤ cb → cb ≤ 21 → offset < 2 ^ (70 - cb) → offset < 2 ^ 56 → 0 < length → length < 2 ^ cb → mapping (geometry cb external) guest_cluster (2 ^ 62 + sectors_beyond offset length * 2 ^ (70 - cb) + offset) ≡ compressed offset (sector_end (offset + length) - offset)
+compressed_reads : (cb guest_cluster offset length : ℕ) (external : Bool) → 9 ≤ cb → cb ≤ 21 → offset < 2 ^ (70 - cb) → offset < 2 ^ 56 → 0 < length → length < 2 ^ cb → mapping (geometry cb external) guest_cluster (2 ^ 62 + sectors_beyond offset length * 2 ^ (70 - cb) + offset) ≡ compressed offset (div_ceil (offset + length) 512 * 512 - offset)
 compressed_reads cb guest_cluster offset length external low high fits placed some short =
     let few = sectors_below cb offset length low short in
     let fields = compressed_fields cb offset (sectors_beyond offset length) low high fits few in
