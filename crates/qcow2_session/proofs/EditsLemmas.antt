@@ -1,4 +1,4 @@
-use Rattle.std.proofs.Common.{◌≡◌, ℕ, true, not, ◌&&◌, nat_le, nat_eq, ◌+◌, ◌-◌, ◌/◌, ◌^◌, ◌<◌, if◌then◌else◌, Option, None, option_map, List, ◌∷◌, ◌++◌, length, take, drop, get_or, suc, option_to_list, append_assoc, append-nil, ap, refl, ◌∙◌, arith}
+use Rattle.std.proofs.Common.{◌≡◌, ℕ, true, not, ◌&&◌, nat_le, nat_eq, ◌+◌, ◌-◌, ◌/◌, ◌^◌, ◌<◌, if◌then◌else◌, Option, None, option_map, List, map, ◌∷◌, ◌++◌, length, take, drop, get_or, suc, option_to_list, append_assoc, append-nil, ap, refl, ◌∙◌, arith}
 use Rattle.std.proofs.Math.Nat.{le-div_iff_mul-le}
 use Rattle.std.proofs.lemmas.Nat.{pow_pos}
 use Rattle.std.proofs.lemmas.Bool.Decides.{nat_tests}
@@ -17,7 +17,7 @@ use Rattle.qcow2_metadata.specs.Header.{Geometry}
 use Rattle.qcow2_metadata.specs.Table.{TableState, table_after_edit}
 use Rattle.qcow2_metadata.specs.declared.entries.ClustersToFreeEntry.{ClustersToFreeEntry}
 use Rattle.qcow2_session.proofs.FirstLemmas.{all_pass}
-use Rattle.qcow2_session.specs.Edits.{Balances, HasRoom, Makes, are_some, edits_left, first_unfit_edit, edit_fits, table_left, cluster_numbers, table_edit, table_edits}
+use Rattle.qcow2_session.specs.Edits.{Balances, HasRoom, Makes, are_some, edits_left, first_unfit_edit, edit_fits, table_left, cluster_numbers, table_edit}
 use Rattle.qcow2_session.specs.declared.edits.Change.{Change}
 use Rattle.qcow2_session.specs.declared.edits.Edit.{Edit}
 use Rattle.qcow2_session.specs.declared.edits.Outcome.{Outcome}
@@ -37,8 +37,8 @@ joined freed gained rest = record { numbers = rest.numbers; freed = freed ++ res
 
 -- that many of the edits are made, and those that are left lead from the table as it is to the end of all
 pub record IsPartWay (edits : List Edit) (done : ℕ) (before now : TableState) (outcome : Outcome) : Type 0 where
-  pub run : joined outcome.freed.items (cluster_numbers outcome.gained.items) (run_of before.geometry (table_edits (drop done edits)) now.numbers)
-      ≡ run_of before.geometry (table_edits edits) before.numbers
+  pub run : joined outcome.freed.items (cluster_numbers outcome.gained.items) (run_of before.geometry (map table_edit (drop done edits)) now.numbers)
+      ≡ run_of before.geometry (map table_edit edits) before.numbers
   pub table : now ≡ table_left (take done edits) before now.numbers
   pub entries : length now.numbers ≡ length before.numbers
   pub room : HasRoom (length edits - done) outcome
@@ -65,7 +65,7 @@ part_way-next edits done default before now next change outcome after below way 
     let changed : next.numbers ≡ after_edit now.geometry e now.numbers = ap (λ (table : TableState). table.numbers) made.table in
     let numbers : next.numbers ≡ after_edit before.geometry e now.numbers = rw (← geometry) changed in
     let left : drop done edits ≡ get_or edits done default ∷ drop (suc done) edits = drop-cons edits done default below in
-    let run : joined outcome.freed.items (cluster_numbers outcome.gained.items) (run_of before.geometry (e ∷ table_edits (drop (suc done) edits)) now.numbers) ≡ run_of before.geometry (table_edits edits) before.numbers = rw left at way.run in
+    let run : joined outcome.freed.items (cluster_numbers outcome.gained.items) (run_of before.geometry (e ∷ map table_edit (drop (suc done) edits)) now.numbers) ≡ run_of before.geometry (map table_edit edits) before.numbers = rw left at way.run in
     record {
       run = rw (freed, gained, numbers_of-more, joined-more, made.freed, made.gained, geometry, numbers, one_more) run;
       table = grind (arith, made.table, way.table, are_some-take edits done below);
@@ -74,7 +74,7 @@ part_way-next edits done default before now next change outcome after below way 
     }
 
 -- where none is the first that doesn't fit, all edits fit
-pub all_fit : (table : TableState) (edits : List Edit) → first_unfit_edit table edits ≡ None → list_all (fits_table table.geometry (length table.numbers)) (table_edits edits) ≡ true
+pub all_fit : (table : TableState) (edits : List Edit) → first_unfit_edit table edits ≡ None → list_all (fits_table table.geometry (length table.numbers)) (map table_edit edits) ≡ true
 all_fit table edits none =
     list_all-map (fits_table table.geometry (length table.numbers)) table_edit edits ∙ all_pass (edit_fits table) edits none
 
@@ -85,9 +85,9 @@ part_way-fits edits done default before now outcome none below way =
     grind (arith, nat_tests, way.table, way.entries, fits)
 
 -- what a run of edits that fit leaves and hands back is in balance
-pub run_balances : (edits : List Edit) (outcome : Outcome) (old new : TableState) → IsClusterBits old.geometry.cluster_bits → first_unfit_edit old edits ≡ None → edits_left new outcome ≡ run_of old.geometry (table_edits edits) old.numbers → new ≡ table_left edits old new.numbers → Balances outcome old new
+pub run_balances : (edits : List Edit) (outcome : Outcome) (old new : TableState) → IsClusterBits old.geometry.cluster_bits → first_unfit_edit old edits ≡ None → edits_left new outcome ≡ run_of old.geometry (map table_edit edits) old.numbers → new ≡ table_left edits old new.numbers → Balances outcome old new
 run_balances edits outcome old new bits none run left = λ cluster.
-    grind (arith, run, left, balance-run old.geometry (table_edits edits) old.numbers cluster bits (all_fit old edits none))
+    grind (arith, run, left, balance-run old.geometry (map table_edit edits) old.numbers cluster bits (all_fit old edits none))
 
 -- the position that a search for an edit returns
 pub ruleset unfit_position = (YieldsList-from_slice, position_from_yields_List)

@@ -1,4 +1,4 @@
-use Rattle.std.proofs.Common.{◌≡◌, ◌↔◌, ℕ, true, false, Option, ◌+◌, ◌-◌, ◌*◌, ◌/◌, ◌%◌, ◌^◌, ◌<◌, ◌≤◌, min, List, [], ◌∷◌, ◌++◌, length, get_or, Some, None, Result, Ok, Err, IsOkAnd, MatchResult, refl, ap, subst, sym, ◌∙◌, inl, inr, arith}
+use Rattle.std.proofs.Common.{◌≡◌, ◌⊎◌, ◌↔◌, ℕ, true, false, Option, ◌+◌, ◌-◌, ◌*◌, ◌/◌, ◌%◌, ◌^◌, ◌<◌, ◌≤◌, min, List, [], ◌∷◌, ◌++◌, length, get_or, Some, None, Result, Ok, Err, IsOkAnd, MatchResult, refl, ap, subst, sym, ◌∙◌, inl, inr, arith}
 use Rattle.std.proofs.lemmas.Bool.{cases_lt}
 use Rattle.std.proofs.lemmas.Bool.Decides.{nat_tests}
 use Rattle.std.proofs.lemmas.List.{get_or_past}
@@ -8,6 +8,8 @@ use Rattle.std.proofs.Math.Pow.{pow_mono}
 use Rattle.std.specs.Option.{is_some}
 use Rattle.qcow2_base.specs.Storage.{Image, OnlyReads, StorageState}
 use Rattle.qcow2_base.specs.declared.fault.Fault.{Fault}
+use Rattle.qcow2_base.specs.declared.fault.Fault.TheVariants.{NoMemory, Storage}
+use Rattle.qcow2_session.proofs.PrintingLemmas.{refused-as}
 use Rattle.qcow2_base.specs.declared.types.HostCluster.{HostCluster}
 use Rattle.qcow2_metadata.proofs.EntriesLemmas.{div_rises}
 use Rattle.qcow2_metadata.specs.Entries.L2Mapping.{Mapping}
@@ -16,7 +18,7 @@ use Rattle.qcow2_metadata.specs.Header.{Geometry}
 use Rattle.qcow2_metadata.specs.Table.{TableState, loaded_l2_table, mapping_at}
 use Rattle.qcow2_metadata.specs.Table.L2Table.{IsMappedRun}
 use Rattle.qcow2_session.specs.Lookups.{l2_cluster, named_cluster}
-use Rattle.qcow2_session.specs.Extents.{AreExtents, AreInOneTable, Contents, ExtentsState, HasNoTable, IsExtent, IsPiece, IsRefusedFrom, ReadAsOne, StaysReader, content_in, contents_for, contents_in, contents_of, extent_of, moved_on}
+use Rattle.qcow2_session.specs.Extents.{AreExtents, AreInOneTable, Contents, ExtentsState, HasNoTable, IsExtent, IsPiece, ReadAsOne, RefusesExtent, StaysReader, content_in, contents_for, contents_in, contents_of, extent_of, moved_on}
 use Rattle.qcow2_session.specs.declared.extents.Extent.{Extent}
 use Rattle.qcow2_session.specs.declared.extents.Content.{Content}
 
@@ -187,14 +189,15 @@ extent_that_ends contents size start found next some within reads piece differs 
   ends = λ more. (next.0, grind (arith, some, begins_as contents found.1 (next.1 - found.1) next.0 (omega (arith, piece.0)) piece.2), differs);
 }
 
-pub refused_at_end : (contents : Contents) (size start end : ℕ) (content : Content) (fault : Fault) → start < end → end < size → ReadAsOne contents start (end - start) content → contents end ≡ Err fault
-    → IsRefusedFrom contents size start fault
-refused_at_end contents size start end content fault some within reads refused =
+pub refused_at_end : (contents : Contents) (size start end : ℕ) (content : Content) (fault : Fault) → start < end → end < size → ReadAsOne contents start (end - start) content
+    → (fault ≡ Storage) ⊎ (fault ≡ NoMemory) ⊎ (contents end ≡ Err fault) → RefusesExtent contents size start fault
+refused_at_end contents size start end content fault some within reads why =
     let at : start + (end - start) ≡ end = omega (arith, some) in
-    (end - start, content, omega (arith, at, within), reads, rw at refused)
+    refused-as fault (λ refused. (end - start, content, omega (arith, at, within), reads, rw at refused)) why
 
-pub refused_at_start : (contents : Contents) (size start : ℕ) (fault : Fault) → start < size → contents start ≡ Err fault → IsRefusedFrom contents size start fault
-refused_at_start contents size start fault within refused = grind (arith, nat_tests)
+pub refused_at_start : (contents : Contents) (size start : ℕ) (fault : Fault) → start < size
+    → (fault ≡ Storage) ⊎ (fault ≡ NoMemory) ⊎ (contents start ≡ Err fault) → RefusesExtent contents size start fault
+refused_at_start contents size start fault within why = refused-as fault (λ refused. grind (arith, nat_tests)) why
 
 -- what holds of an image by a reader holds later too, where both stay
 pub carried : (old new : Image) (reader later : ExtentsState) (P : Contents → ℕ → Type 0) → later ≡ record reader { table = later.table } → new ≡ old

@@ -1,17 +1,20 @@
-use Rattle.std.proofs.Common.{◌≡◌, ℕ, ◌-◌, ◌^◌, false, true, IsOk, Option, Some, Result, Ok, Err, List, length, arith, inl, inr}
+use Rattle.std.proofs.Common.{◌≡◌, ℕ, false, true, not, IsOk, Option, option_map, Some, Result, Ok, Err, List, length, arith, inl, inr}
 use Rattle.std.proofs.lemmas.Bool.{cases_Bool}
+use Rattle.std.specs.List.{position}
 use Rattle.qcow2_base.specs.Storage.{Image, StorageState}
 use Rattle.qcow2_base.specs.declared.fault.Fault.{Fault}
+use Rattle.qcow2_base.specs.declared.fault.Fault.TheVariants.{BadEdit, BadStep}
 use Rattle.qcow2_base.specs.declared.types.HostCluster.{HostCluster}
 use Rattle.qcow2_metadata.specs.Results.{unless_refused}
 use Rattle.qcow2_metadata.specs.Header.{Geometry, HeaderRecord, geometry_of}
 use Rattle.qcow2_metadata.specs.Placed.{Layout, Placed, Writes, numbers_at}
 use Rattle.qcow2_session.proofs.WholeImageLemmas.{SameOutsideTable, keeps-image-sound, keeps-other-lookups}
 use Rattle.qcow2_metadata.specs.Refblock.{BlockState, block_entries}
-use Rattle.qcow2_metadata.specs.Table.{TableState, l2_layout, loaded_l2_table}
-use Rattle.qcow2_session.specs.Edits.{Balances, edits_or_refusal}
-use Rattle.qcow2_session.specs.Images.{IsOfCluster, KeepsReferences, WritesBack, edits_fault, steps_fault, table_in}
-use Rattle.qcow2_session.specs.Steps.{steps_or_refusal}
+use Rattle.qcow2_metadata.specs.Table.L2Guards.{fits_table}
+use Rattle.qcow2_metadata.specs.Table.{TableState, l2_entries, l2_layout, loaded_l2_table}
+use Rattle.qcow2_session.specs.Edits.{Balances, edits_or_refusal, table_edit}
+use Rattle.qcow2_session.specs.Images.{IsOfCluster, KeepsReferences, WritesBack, table_in}
+use Rattle.qcow2_session.specs.Steps.{first_unfit_step, steps_or_refusal}
 use Rattle.qcow2_session.specs.declared.edits.Edit.{Edit}
 use Rattle.qcow2_session.specs.declared.edits.Outcome.{Outcome}
 use Rattle.qcow2_session.specs.declared.steps.Step.{Step}
@@ -50,12 +53,14 @@ refused-by refusal value fault is = grind arith
 
 -- the refusal of edits that can't be made of a table is the one by its geometry and the number of its entries
 pub refused-edits : (header : HeaderRecord) (table : TableState) (edits : List Edit) (fault : Fault)
-    → table.geometry ≡ geometry_of header → length table.numbers ≡ 2 ^ (header.v2.cluster_bits - 3)
-    → edits_or_refusal table edits ≡ Err fault → edits_fault header edits ≡ Some fault
+    → table.geometry ≡ geometry_of header → length table.numbers ≡ l2_entries header.v2.cluster_bits
+    → edits_or_refusal table edits ≡ Err fault
+    → option_map BadEdit (position (λ edit. not (fits_table (geometry_of header) (l2_entries header.v2.cluster_bits) (table_edit edit))) edits) ≡ Some fault
 refused-edits header table edits fault g full refused = rw (← g, ← full) (refused-by _ _ fault refused)
 
 -- the refusal of steps that aren't in a block's bounds is the one by the number of its counters
 pub refused-steps : (header : HeaderRecord) (block : BlockState) (steps : List Step) (fault : Fault)
     → length block.numbers ≡ block_entries header.v2.cluster_bits header.base.refcount_order
-    → steps_or_refusal block steps ≡ Err fault → steps_fault header steps ≡ Some fault
+    → steps_or_refusal block steps ≡ Err fault
+    → option_map BadStep (first_unfit_step (block_entries header.v2.cluster_bits header.base.refcount_order) steps) ≡ Some fault
 refused-steps header block steps fault full refused = rw (← full) (refused-by _ _ fault refused)

@@ -1,5 +1,5 @@
 use Rattle.std.proofs.lemmas.Bool.Decides.{nat_tests}
-use Rattle.std.proofs.Common.{◌≡◌, ℕ, zero, suc, ◌+◌, ◌<◌, ◌≤◌, List, [], ◌∷◌, ◌++◌, drop, get_or, length, Some, None, inl, inr, refl, ap, arith}
+use Rattle.std.proofs.Common.{◌≡◌, ℕ, zero, suc, ◌+◌, ◌<◌, ◌≤◌, List, [], ◌∷◌, ◌++◌, drop, get_or, length, Some, None, option_map, option_to_list, inl, inr, refl, ap, arith}
 use Rattle.std.proofs.lemmas.Bool.{cases_lt}
 use Rattle.std.proofs.lemmas.List.{drop_more, get_or_past}
 use Rattle.std.proofs.Math.ListN.{drop_of_length-le}
@@ -7,12 +7,12 @@ use Rattle.qcow2_base.specs.Storage.{Image}
 use Rattle.qcow2_base.specs.declared.types.HostCluster.{HostCluster}
 use Rattle.qcow2_metadata.specs.Header.{Geometry}
 use Rattle.qcow2_metadata.specs.Table.{loaded_l2_table}
-use Rattle.qcow2_session.specs.L2Tables.{named_tables, tables_by}
+use Rattle.qcow2_session.specs.L2Tables.{named_tables}
 use Rattle.qcow2_session.specs.Lookups.{named_cluster}
 
 -- tables from an index on: that of the entry there, and those from the next one on
 from_index : (g : Geometry) (l1 : List ℕ) (image : Image) (i : ℕ) → i < length l1
-    → named_tables g i (drop i l1) image ≡ tables_by g i (named_cluster g.cluster_bits (get_or l1 i 0)) image ++ named_tables g (i + 1) (drop (i + 1) l1) image
+    → named_tables g i (drop i l1) image ≡ option_to_list (option_map (λ cluster. (i, loaded_l2_table g cluster image)) (named_cluster g.cluster_bits (get_or l1 i 0))) ++ named_tables g (i + 1) (drop (i + 1) l1) image
 from_index g l1 image i below = ap (λ vs. named_tables g i vs image) (drop_more l1 i 0 below)
 
 -- where no entry names a table any more, there is none

@@ -6,9 +6,9 @@ use Rattle.std.proofs.lemmas.List.{drop_all, length-set, set-get_or, set-set}
 use Rattle.std.proofs.lemmas.List.Sums.{AllPass-from_list_all}
 use Rattle.std.specs.List.{list_all}
 use Rattle.qcow2_metadata.specs.Refblock.{BlockState, greatest_counter}
-use Rattle.qcow2_metadata.specs.Refblock.Guard.{after_change, counter_after}
+use Rattle.qcow2_metadata.specs.Refblock.Guard.{Decrement, Increment, after_change, counter_after}
 use Rattle.qcow2_session.proofs.FirstLemmas.{all_pass}
-use Rattle.qcow2_session.specs.Steps.{Counts, MakesStep, StepsEnd, Undoes, are_some_done, change_of, decrements, steps_left, first_unfit_step, increments, index_of, is_done, block_left, reply_of, run_of_steps, times_made}
+use Rattle.qcow2_session.specs.Steps.{Counts, MakesStep, StepsEnd, are_some_done, change_of, steps_left, first_unfit_step, index_of, is_step, is_done, block_left, reply_of, run_of_steps, times_made}
 use Rattle.qcow2_session.specs.declared.steps.Step.{Step}
 use Rattle.qcow2_session.specs.declared.steps.StepReply.{StepReply}
 use Rattle.qcow2_session.specs.declared.steps.StepReply.TheVariants.{Done}
@@ -64,11 +64,11 @@ each_in_bounds entries steps i default all below =
     grind (arith, nat_tests, AllPass-from_list_all (in_bounds entries) steps all i default below)
 
 -- what a step does to each counter
-counted : (order : ℕ) (step : Step) (counters : List ℕ) (index : ℕ) → index_of step < length counters → let before = slice_index counters (index_of step) in let after = counter_after order (change_of step) before in slice_index (after_change counters (index_of step) after) index + (if decrements index step && is_done (reply_of after before) then 1 else 0) ≡ slice_index counters index + (if increments index step && is_done (reply_of after before) then 1 else 0)
+counted : (order : ℕ) (step : Step) (counters : List ℕ) (index : ℕ) → index_of step < length counters → let before = slice_index counters (index_of step) in let after = counter_after order (change_of step) before in slice_index (after_change counters (index_of step) after) index + (if is_step Decrement index step && is_done (reply_of after before) then 1 else 0) ≡ slice_index counters index + (if is_step Increment index step && is_done (reply_of after before) then 1 else 0)
 counted order step counters index below = grind (arith, nat_tests, get_or-set_same {A = ℕ}, get_or-set_other {A = ℕ})
 
 -- each counter after a run is as before it, plus the increments that were made, minus the decrements
-pub run_counts : (order : ℕ) (steps : List Step) (counters : List ℕ) (index : ℕ) → list_all (in_bounds (length counters)) steps ≡ true → slice_index (run_of_steps order steps counters).counters index + times_made (decrements index) steps (run_of_steps order steps counters).replies ≡ slice_index counters index + times_made (increments index) steps (run_of_steps order steps counters).replies
+pub run_counts : (order : ℕ) (steps : List Step) (counters : List ℕ) (index : ℕ) → list_all (in_bounds (length counters)) steps ≡ true → slice_index (run_of_steps order steps counters).counters index + times_made (is_step Decrement index) steps (run_of_steps order steps counters).replies ≡ slice_index counters index + times_made (is_step Increment index) steps (run_of_steps order steps counters).replies
 run_counts order [] counters index all = refl
 run_counts order (step ∷ steps) counters index all =
     let before = slice_index counters (index_of step) in
@@ -87,18 +87,15 @@ undone_first counters i before true below made = cc
 undone_first counters i before false below made =
     grind (arith, nat_tests, get_or-set_same {A = ℕ}, set-set {A = ℕ}, set-get_or {A = ℕ})
 
-run-undoes : (steps : List Step) (replies : List StepReply) (old new : BlockState) → list_all (in_bounds (length old.numbers)) steps ≡ true → new.geometry.refcount_order ≡ old.geometry.refcount_order → steps_left new replies ≡ run_of_steps old.geometry.refcount_order steps old.numbers → Undoes steps replies old new
-run-undoes steps replies old new all order run = λ index before is made.
-    let is_full = slice_index old.numbers index == greatest_counter old.geometry.refcount_order in
-    grind (arith, nat_tests, is, made, undone_first old.numbers index before is_full)
-
 -- a block that a run led to
 pub run-counts : (steps : List Step) (replies : List StepReply) (old new : BlockState) → first_unfit_step (length old.numbers) steps ≡ None → new.geometry.refcount_order ≡ old.geometry.refcount_order → steps_left new replies ≡ run_of_steps old.geometry.refcount_order steps old.numbers → Counts steps replies old new
 run-counts steps replies old new none order run =
     let all = all_in_bounds (length old.numbers) steps none in
     record {
       balance = λ index. grind (arith, run, run_counts old.geometry.refcount_order steps old.numbers index all);
-      undone = run-undoes steps replies old new all order run;
+      undone = λ index before is made.
+          let is_full = slice_index old.numbers index == greatest_counter old.geometry.refcount_order in
+          grind (arith, nat_tests, is, made, undone_first old.numbers index before is_full);
     }
 
 -- blocks of the same counters

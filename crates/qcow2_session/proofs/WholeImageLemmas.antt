@@ -10,7 +10,7 @@ use Rattle.qcow2_base.specs.Storage.{Image, SameOutside, be}
 use Rattle.qcow2_base.specs.declared.fault.Fault.{Fault}
 use Rattle.qcow2_base.specs.declared.on_disk_struct.v2_header.V2Header.{V2Header}
 use Rattle.qcow2_base.specs.declared.types.HostCluster.{HostCluster}
-use Rattle.qcow2_session.specs.WholeImage.{AreApart, AvoidsHeaderAndL1Table, BalancesImage, ChangesOwnLookups, HasTableApart, IsL2Table, IsSoundImage, IsWithin, KeepsImageSound, KeepsOtherLookups, ShareNoByte, first_cluster_bytes, l2_bytes, l2_cluster_in, l2_clusters, table_bytes, bytes_of_tables}
+use Rattle.qcow2_session.specs.WholeImage.{AreApart, BalancesImage, ChangesOwnLookups, HasTableApart, IsSoundImage, IsWithin, KeepsImageSound, ShareNoByte, first_cluster_bytes, l2_bytes, l2_cluster_in, l2_clusters, table_bytes, bytes_of_tables}
 use Rattle.qcow2_metadata.specs.Table.L2Guards.{handed_back, references, times_gained}
 use Rattle.qcow2_metadata.specs.Entries.L2Entry.{ByteRange}
 use Rattle.qcow2_metadata.specs.Entries.L2Mapping.{Mapping}
@@ -75,8 +75,8 @@ tables-kept : (header : HeaderRecord) (cluster : HostCluster) (old new : Image) 
     → (header_of new ≡ Ok header) × (loaded_l1_table header new ≡ loaded_l1_table header old)
 tables-kept header cluster old new change =
     let is = change.apart.begins in (
-      header-kept header old new is (kept header cluster old new change _ change.apart.avoids.first_cluster) ∙ is,
-      rw (numbers-kept l1_kind header.v2.cluster_bits header.v2.l1_size (l1_cluster header) old new (kept header cluster old new change _ change.apart.avoids.l1_table)) refl,
+      header-kept header old new is (kept header cluster old new change _ change.apart.first_cluster) ∙ is,
+      rw (numbers-kept l1_kind header.v2.cluster_bits header.v2.l1_size (l1_cluster header) old new (kept header cluster old new change _ change.apart.l1_table)) refl,
     )
 
 -- what a guest cluster reads as is kept with its L2 table
@@ -116,9 +116,9 @@ changed-by : (g : Geometry) (header : HeaderRecord) (cluster : HostCluster) (old
     → SameOutsideTable g cluster old new → ChangesL2Table header cluster old new
 changed-by g header cluster old new has outside = grind (arith, nat_tests)
 
-pub keeps-other-lookups : (g : Geometry) (cluster : HostCluster) (old new : Image)
-    → SameOutsideTable g cluster old new → KeepsOtherLookups g cluster old new
-keeps-other-lookups g cluster old new outside = λ header has. changes-own-lookups header cluster old new (changed-by g header cluster old new has outside)
+pub keeps-other-lookups : (g : Geometry) (cluster : HostCluster) (old new : Image) → SameOutsideTable g cluster old new
+    → (header : HeaderRecord) → HasTableApart g cluster header old → ChangesOwnLookups header cluster old new
+keeps-other-lookups g cluster old new outside header has = changes-own-lookups header cluster old new (changed-by g header cluster old new has outside)
 
 -- L2 tables of two clusters share no byte
 l2-apart : (g : Geometry) (a b : HostCluster) → 9 ≤ g.cluster_bits → a.0 ≢ b.0 → ShareNoByte (l2_bytes g a) (l2_bytes g b)
@@ -154,16 +154,6 @@ table-bytes : (header : HeaderRecord) (l1 : List ℕ) (cluster : HostCluster) (k
     → slice_get (l2_clusters header.v2.cluster_bits l1) k ≡ Some cluster
     → slice_get (bytes_of_tables header l1) (suc (suc k)) ≡ Some (l2_bytes (geometry_of header) cluster)
 table-bytes header l1 cluster k found = grind (arith, nat_tests, slice_get-map)
-
--- where no two tables share a byte, the header and the L1 table lie in no L2 table
-avoids-others : (header : HeaderRecord) (l1 : List ℕ) (cluster : HostCluster) (k : ℕ) → AreApart (bytes_of_tables header l1)
-    → slice_get (l2_clusters header.v2.cluster_bits l1) k ≡ Some cluster → AvoidsHeaderAndL1Table header (l2_bytes (geometry_of header) cluster)
-avoids-others header l1 cluster k apart found =
-    let at = table-bytes header l1 cluster k found in
-    record {
-      first_cluster = apart 0 (suc (suc k)) _ _ (λ is. omega (arith, is)) refl at;
-      l1_table = apart 1 (suc (suc k)) _ _ (λ is. omega (arith, is)) refl at;
-    }
 
 -- references in the L2 table at a cluster
 abbrev BalancesTable : Geometry → HostCluster → Outcome → Image → Image → Type 0
@@ -218,13 +208,18 @@ stays-sound header l1 cluster numbers old new sound change loads = record {
 
 -- a write of one of its L2 tables keeps an image sound
 sound-after : (header : HeaderRecord) (l1 : List ℕ) (cluster : HostCluster) (outcome : Outcome) (numbers : List ℕ) (old new : Image)
-    → IsSoundImage old header l1 → IsL2Table header l1 cluster → SameOutsideTable (geometry_of header) cluster old new
+    → IsSoundImage old header l1 → (k : ℕ) × (slice_get (l2_clusters header.v2.cluster_bits l1) k ≡ Some cluster) → SameOutsideTable (geometry_of header) cluster old new
     → loaded_l2_table (geometry_of header) cluster new ≡ Ok numbers → BalancesTable (geometry_of header) cluster outcome old new
     → IsSoundImage new header l1 × BalancesImage (geometry_of header) l1 outcome old new
 sound-after header l1 cluster outcome numbers old new sound found outside loads balance =
-    let avoids = avoids-others header l1 cluster found.0 sound.apart found.1 in
+    let at = table-bytes header l1 cluster found.0 found.1 in
     let change : ChangesL2Table header cluster old new = record {
-      apart = record { begins = sound.begins; geometry = refl; avoids = avoids };
+      apart = record {
+        begins = sound.begins;
+        geometry = refl;
+        first_cluster = sound.apart 0 (suc (suc found.0)) _ _ (λ is. omega (arith, is)) refl at;
+        l1_table = sound.apart 1 (suc (suc found.0)) _ _ (λ is. omega (arith, is)) refl at;
+      };
       same = outside;
     } in (
       stays-sound header l1 cluster numbers old new sound change loads,

@@ -5,7 +5,6 @@ use Rattle.std.specs.Vec.{vec_capacity}
 use Rattle.qcow2_base.specs.declared.fault.Fault.{Fault}
 use Rattle.qcow2_base.specs.declared.fault.Fault.TheVariants.{BadEdit}
 use Rattle.qcow2_base.specs.declared.types.HostCluster.{HostCluster}
-use Rattle.qcow2_metadata.specs.Header.{Geometry}
 use Rattle.qcow2_metadata.specs.Results.{unless_refused}
 use Rattle.qcow2_metadata.specs.Table.L2Guards.{RunEnd, TableEdit, entry_after, clusters_freed_by, fits_table, cluster_gained_by, handed_back, references, run_of, times_gained, to_data, to_nothing, to_zeros}
 use Rattle.qcow2_metadata.specs.Table.{TableState, table_after_edit}
@@ -20,21 +19,13 @@ table_edit (Map index host_cluster) = record { index = index; edit = to_data hos
 table_edit (Zero index keep_allocation) = record { index = index; edit = to_zeros keep_allocation }
 table_edit (Discard index) = record { index = index; edit = to_nothing }
 
--- the changes that edits are
-abbrev pub table_edits : List Edit → List TableEdit
-table_edits edits = map table_edit edits
-
 -- whether the edit can be made of the table
 abbrev pub edit_fits : TableState → Edit → Bool
 edit_fits table edit = fits_table table.geometry (length table.numbers) (table_edit edit)
 
--- the position of the first edit that can't be made of a table with that many entries, if there is one
-abbrev pub first_unfit_edit_in : Geometry → ℕ → List Edit → Option ℕ
-first_unfit_edit_in g entries edits = position (λ edit. not (fits_table g entries (table_edit edit))) edits
-
--- and of this table
+-- the position of the first edit that can't be made of the table, if there is one
 abbrev pub first_unfit_edit : TableState → List Edit → Option ℕ
-first_unfit_edit table edits = first_unfit_edit_in table.geometry (length table.numbers) edits
+first_unfit_edit table edits = position (λ edit. not (edit_fits table edit)) edits
 
 -- a change of a table, and what it did to references
 pub record Makes (e : TableEdit) (change : Change) (old new : TableState) : Type 0 where
@@ -51,7 +42,7 @@ pub record HasRoom (more : ℕ) (outcome : Outcome) : Type 0 where
 -- what edits leave of the table, or the refusal of the first that can't be made
 abbrev pub edits_or_refusal : TableState → List Edit → Result RunEnd Fault
 edits_or_refusal table edits = unless_refused (option_map BadEdit (first_unfit_edit table edits))
-    (Ok (run_of table.geometry (table_edits edits) table.numbers))
+    (Ok (run_of table.geometry (map table_edit edits) table.numbers))
 
 -- the numbers of host clusters
 abbrev pub cluster_numbers : List HostCluster → List ℕ

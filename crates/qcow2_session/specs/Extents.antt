@@ -41,10 +41,6 @@ moved_on distance Absent = Absent
 abbrev pub ReadAsOne : Contents → ℕ → ℕ → Content → Type 0
 ReadAsOne contents from length content = (n : ℕ) → n < length → contents (from + n) ≡ Ok (moved_on n content)
 
--- the byte at an offset reads as something else than this
-abbrev pub Differs : Contents → ℕ → Content → Type 0
-Differs contents offset content = (other : Content) × (contents offset ≡ Ok other) × (other ≢ content)
-
 -- an extent of a disk of this size that begins at an offset: it has bytes, all of them of the disk, which read as one. It
 -- ends with the disk, or the next byte reads as something that doesn't go on from them
 pub record IsExtent (contents : Contents) (size from : ℕ) (extent : Extent) : Type 0 where
@@ -52,8 +48,8 @@ pub record IsExtent (contents : Contents) (size from : ℕ) (extent : Extent) : 
   pub some : 0 < extent.length
   pub within : from + extent.length ≤ size
   pub reads : ReadAsOne contents from extent.length extent.content
-  pub ends : from + extent.length < size →
-      Differs contents (from + extent.length) (moved_on extent.length extent.content)
+  pub ends : from + extent.length < size → (other : Content) × (contents (from + extent.length) ≡ Ok other)
+      × (other ≢ moved_on extent.length extent.content)
 
 -- extents one after another, from an offset up to another
 abbrev pub AreExtents : Contents → ℕ → ℕ → List Extent → ℕ → Type 0
@@ -61,15 +57,12 @@ AreExtents contents size from [] to = from ≡ to
 AreExtents contents size from (extent ∷ extents) to =
     IsExtent contents size from extent × AreExtents contents size (from + extent.length) extents to
 
--- no extent can be found at an offset: the bytes from there on, perhaps none, read as one up to a byte of the disk. The L2
--- table of that byte is refused by this fault
-abbrev pub IsRefusedFrom : Contents → ℕ → ℕ → Fault → Type 0
-IsRefusedFrom contents size from fault = (length : ℕ) × (content : Content) × (from + length < size)
-    × ReadAsOne contents from length content × (contents (from + length) ≡ Err fault)
-
--- why an extent can't be found
+-- why no extent can be found at an offset: the storage failed, memory ran out, or the bytes from there on, perhaps none,
+-- read as one up to a byte of the disk whose L2 table is refused by this fault
 abbrev pub RefusesExtent : Contents → ℕ → ℕ → Fault → Type 0
-RefusesExtent contents size from fault = (fault ≡ Storage) ⊎ (fault ≡ NoMemory) ⊎ IsRefusedFrom contents size from fault
+RefusesExtent contents size from fault = (fault ≡ Storage) ⊎ (fault ≡ NoMemory)
+    ⊎ ((length : ℕ) × (content : Content) × (from + length < size)
+    × ReadAsOne contents from length content × (contents (from + length) ≡ Err fault))
 
 -- the extents from an offset on up to another, at which none can be found for this fault
 abbrev pub AreExtentsBefore : Contents → ℕ → ℕ → List Extent → Fault → Type 0
@@ -89,36 +82,29 @@ pub record ExtentsState : Type 0 where
   pub table : Option TableState
   pub ahead : Option (Content × ℕ)
 
--- a reader of an image with this header and this L1 table that has returned no extent yet
-abbrev pub extents_begun : HeaderRecord → List ℕ → ExtentsState
-extents_begun header l1 = record { header = header; l1 = l1; position = 0; table = None; ahead = None }
-
 -- what each guest byte reads as in an image that a reader reads
 abbrev pub contents_for : ExtentsState → Image → Contents
 contents_for reader image = contents_of (geometry_of reader.header) reader.l1 image
-
--- a table is the one at its cluster in the image
-abbrev pub IsKeptOf : Geometry → Image → TableState → Type 0
-IsKeptOf g image table = IfSome table.cluster (λ cluster. loaded_l2_table g cluster image ≡ Ok table.numbers)
 
 -- the numbers of the table that is kept, none if none is
 abbrev pub kept_numbers : Option TableState → List ℕ
 kept_numbers None = []
 kept_numbers (Some table) = table.numbers
 
--- the table that a reader keeps, if it keeps one, is the same as in the image
-abbrev pub KeepsTableOf : Image → ExtentsState → Type 0
-KeepsTableOf image reader = IfSome reader.table (IsKeptOf (geometry_of reader.header) image)
+-- a table that is kept, if there is one, is the one at its cluster in the image
+abbrev pub IsKeptOf : Geometry → Image → Option TableState → Type 0
+IsKeptOf g image kept = IfSome kept (λ (table : TableState).
+    IfSome table.cluster (λ cluster. loaded_l2_table g cluster image ≡ Ok table.numbers))
 
 -- a reader reads this image: what it keeps is the same as there
 abbrev pub IsReaderOf : Image → ExtentsState → Type 0
-IsReaderOf image reader = KeepsTableOf image reader
+IsReaderOf image reader = IsKeptOf (geometry_of reader.header) image reader.table
     × IfSome reader.ahead (IsPiece (contents_for reader image) reader.header.v2.size reader.position)
 
 -- a reader stays as it is, but that it may keep another table of the image
 pub record StaysReader (image : StorageState) (old new : ExtentsState) : Type 0 where
   pub same : new ≡ record old { table = new.table }
-  pub kept : OnImage image (λ bytes. KeepsTableOf bytes new)
+  pub kept : OnImage image (λ bytes. IsKeptOf (geometry_of new.header) bytes new.table)
 
 -- a reader stays as it is, but for its offset and what it keeps of the image
 pub record MovesReader (image : StorageState) (old new : ExtentsState) : Type 0 where

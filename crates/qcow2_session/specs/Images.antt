@@ -1,23 +1,23 @@
 -- What does a list of changes of a table or a block do to the image that has it?
-use Rattle.std.specs.Prelude.{◌≡◌, ◌⊎◌, ℕ, false, IsErrOf, IsOkAnd, IsOkUnless, List, None, Ok, OnOk, Option, Some, option_map, Result}
+use Rattle.std.specs.Prelude.{◌≡◌, ◌⊎◌, ℕ, false, not, IsErrOf, IsOkAnd, IsOkUnless, List, None, Ok, OnOk, Some, option_map, Result}
+use Rattle.std.specs.List.{position}
 use Rattle.qcow2_base.specs.Storage.{Image, OnImage, OnImages, OnlyWrites, StorageState}
 use Rattle.qcow2_base.specs.declared.fault.Fault.{Fault}
 use Rattle.qcow2_base.specs.declared.fault.Fault.TheVariants.{BadEdit, BadStep, Storage}
 use Rattle.qcow2_base.specs.declared.types.HostCluster.{HostCluster}
 use Rattle.qcow2_metadata.specs.Results.{and_then, result_map}
-use Rattle.qcow2_metadata.specs.Table.L2Guards.{RunEnd}
+use Rattle.qcow2_metadata.specs.Table.L2Guards.{RunEnd, fits_table}
 use Rattle.qcow2_metadata.specs.Header.{HeaderRecord, geometry_of}
 use Rattle.qcow2_metadata.specs.Placed.{IsTorn, Layout, Placed, RefusesPlace, loaded_numbers, numbers_at, offset_of, place_fault}
 use Rattle.qcow2_metadata.specs.Refblock.{BlockState, IsBlockFault, block_entries, block_geometry_of, block_layout, loaded_block}
 use Rattle.qcow2_metadata.specs.Table.{IsTableFault, TableState, l2_entries, l2_layout, loaded_l2_table}
-use Rattle.qcow2_session.specs.WholeImage.{KeepsImageSound, KeepsOtherLookups}
-use Rattle.qcow2_session.specs.Edits.{Balances, edits_or_refusal, first_unfit_edit_in}
+use Rattle.qcow2_session.specs.WholeImage.{ChangesOwnLookups, HasTableApart, KeepsImageSound}
+use Rattle.qcow2_session.specs.Edits.{Balances, edits_or_refusal, table_edit}
 use Rattle.qcow2_session.specs.Steps.{StepsEnd, first_unfit_step, steps_or_refusal}
 use Rattle.qcow2_metadata.specs.declared.entries.ClustersToFreeEntry.{ClustersToFreeEntry}
 use Rattle.qcow2_session.specs.declared.edits.Edit.{Edit}
 use Rattle.qcow2_session.specs.declared.edits.Outcome.{Outcome}
 use Rattle.qcow2_session.specs.declared.steps.Step.{Step}
-use Rattle.qcow2_session.specs.declared.steps.StepReply.{StepReply}
 
 -- a table or a block of these numbers, as it is loaded from a cluster
 abbrev pub loaded_from : {G : Type 0} → G → HostCluster → List ℕ → Placed G
@@ -74,18 +74,13 @@ references_of header cluster edits image = result_map (λ (end : RunEnd). (end.f
 -- same geometry, they reach the lookups of the table's own offsets alone, and no reference of the whole image is lost
 pub record KeepsReferences (header : HeaderRecord) (cluster : HostCluster) (outcome : Outcome) (old new : Image) : Type 0 where
   pub balance : Balances outcome (table_in header cluster old) (table_in header cluster new)
-  pub lookups : KeepsOtherLookups (geometry_of header) cluster old new
+  pub lookups : (own : HeaderRecord) → HasTableApart (geometry_of header) cluster own old → ChangesOwnLookups own cluster old new
   pub whole : KeepsImageSound (geometry_of header) cluster outcome old new
-
--- why edits can't be made of an L2 table of an image with this header
-abbrev pub edits_fault : HeaderRecord → List Edit → Option Fault
-edits_fault header edits =
-    option_map BadEdit (first_unfit_edit_in (geometry_of header) (l2_entries header.v2.cluster_bits) edits)
 
 -- the refusals of edits of an image: those of the table's load, and that of the first edit that can't be made
 abbrev pub IsEditsFault : HeaderRecord → HostCluster → List Edit → Fault → Type 0
-IsEditsFault header cluster edits fault =
-    IsTableFault (l2_layout (geometry_of header)) cluster fault ⊎ (edits_fault header edits ≡ Some fault)
+IsEditsFault header cluster edits fault = let g = geometry_of header in IsTableFault (l2_layout g) cluster fault
+    ⊎ (option_map BadEdit (position (λ edit. not (fits_table g (l2_entries g.cluster_bits) (table_edit edit))) edits) ≡ Some fault)
 
 -- what steps leave of the block that begins with a cluster of an image, or the refusal. That is the load's, else that of
 -- the first step whose index is past the block's end
@@ -93,15 +88,7 @@ abbrev pub steps_end : HeaderRecord → HostCluster → List Step → Image → 
 steps_end header cluster steps image = and_then (loaded_block header cluster image)
     (λ counters. steps_or_refusal (loaded_from (block_geometry_of header) cluster counters) steps)
 
--- what comes of each of the steps of the block that begins with a cluster of an image, or the refusal
-abbrev pub replies_of : HeaderRecord → HostCluster → List Step → Image → Result (List StepReply) Fault
-replies_of header cluster steps image = result_map (λ (end : StepsEnd). end.replies) (steps_end header cluster steps image)
-
--- why steps can't be made of a block of an image with this header
-abbrev pub steps_fault : HeaderRecord → List Step → Option Fault
-steps_fault header steps =
-    option_map BadStep (first_unfit_step (block_entries header.v2.cluster_bits header.base.refcount_order) steps)
-
 -- the refusals of steps of an image: that of the block's place, and that of the first step whose index is past its end
 abbrev pub IsStepsFault : HeaderRecord → HostCluster → List Step → Fault → Type 0
-IsStepsFault header cluster steps fault = IsBlockFault header cluster fault ⊎ (steps_fault header steps ≡ Some fault)
+IsStepsFault header cluster steps fault = IsBlockFault header cluster fault
+    ⊎ (option_map BadStep (first_unfit_step (block_entries header.v2.cluster_bits header.base.refcount_order) steps) ≡ Some fault)

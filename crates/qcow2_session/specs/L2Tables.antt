@@ -1,10 +1,9 @@
 -- Which L2 tables do an image's L1 entries name, one after another?
-use Rattle.std.specs.Prelude.{◌≡◌, ◌⊎◌, ℕ, ◌+◌, ◌<◌, ◌≤◌, List, [], ◌∷◌, ◌++◌, drop, length, Option, Some, None, Result, Ok, Err, IfErr, IfOk, MatchOption}
+use Rattle.std.specs.Prelude.{◌≡◌, ◌⊎◌, ℕ, ◌+◌, ◌<◌, ◌≤◌, List, [], ◌∷◌, ◌++◌, drop, length, Option, Some, None, option_map, option_to_list, Result, Ok, Err, IfErr, IfOk, MatchOption}
 use Rattle.qcow2_base.specs.Format.{most_l1_entries}
 use Rattle.qcow2_base.specs.Storage.{Image}
 use Rattle.qcow2_base.specs.declared.fault.Fault.{Fault}
 use Rattle.qcow2_base.specs.declared.fault.Fault.TheVariants.{NoMemory, Storage}
-use Rattle.qcow2_base.specs.declared.types.HostCluster.{HostCluster}
 use Rattle.qcow2_metadata.specs.Header.{Geometry, HeaderRecord, geometry_of}
 use Rattle.qcow2_metadata.specs.Table.{TableState, l2_entries, loaded_l2_table}
 use Rattle.qcow2_session.specs.Lookups.{named_cluster}
@@ -13,15 +12,12 @@ use Rattle.qcow2_session.specs.Lookups.{named_cluster}
 abbrev pub NamedTables : Type 0
 NamedTables = List (ℕ × Result (List ℕ) Fault)
 
--- the L2 table that the L1 entry at an index names, if it names one
-abbrev pub tables_by : Geometry → ℕ → Option HostCluster → Image → NamedTables
-tables_by g index None image = []
-tables_by g index (Some cluster) image = (index, loaded_l2_table g cluster image) ∷ []
-
 -- the L2 tables that L1 entries name, from an index on
 abbrev pub named_tables : Geometry → ℕ → List ℕ → Image → NamedTables
 named_tables g index [] image = []
-named_tables g index (v ∷ vs) image = tables_by g index (named_cluster g.cluster_bits v) image ++ named_tables g (index + 1) vs image
+named_tables g index (v ∷ vs) image =
+    option_to_list (option_map (λ cluster. (index, loaded_l2_table g cluster image)) (named_cluster g.cluster_bits v))
+    ++ named_tables g (index + 1) vs image
 
 -- what a walk over L2 tables has: the image's header and L1 table, and the index of the L1 entry that it has come to
 pub record WalkState : Type 0 where

@@ -12,7 +12,7 @@ use Rattle.qcow2_metadata.specs.Refblock.{BlockState, block_entries, greatest_co
 use Rattle.qcow2_metadata.specs.Refblock.Guard.{Decrement, Increment, CounterChange}
 use Rattle.qcow2_metadata.specs.Table.{TableState}
 use Rattle.qcow2_metadata.specs.declared.entries.ClustersToFreeEntry.{ClustersToFreeEntry}
-use Rattle.qcow2_session.specs.Edits.{first_unfit_edit, table_left, cluster_numbers, table_edits}
+use Rattle.qcow2_session.specs.Edits.{first_unfit_edit, table_left, cluster_numbers, table_edit}
 use Rattle.qcow2_session.specs.declared.edits.Edit.{Edit}
 use Rattle.qcow2_session.specs.declared.edits.Outcome.{Outcome}
 use Rattle.qcow2_session.specs.declared.settled.Direction.{Direction}
@@ -64,7 +64,7 @@ first_refusal header table edits =
 -- lose one, and the numbers of those that gain one. Or the refusal
 abbrev pub settled_edits_or_refusal : HeaderRecord → TableState → BlockState → ℕ → List Edit → Result (TableState × BlockState × List ClustersToFreeEntry × List ℕ) Fault
 settled_edits_or_refusal header table block rt_index edits =
-    let end = run_of table.geometry (table_edits edits) table.numbers in
+    let end = run_of table.geometry (map table_edit edits) table.numbers in
     unless_refused (first_refusal header table edits)
     (result_map (λ settled. (table_left edits table end.numbers, settled, end.freed, end.gained))
     (block_or_refusal block (first_counted block rt_index) end.freed end.gained))

@@ -80,28 +80,19 @@ abbrev pub times_made : (Step → Bool) → List Step → List StepReply → ℕ
 times_made is_one (step ∷ steps) (reply ∷ replies) = (if is_one step && is_done reply then 1 else 0) + times_made is_one steps replies
 times_made is_one _ _ = 0
 
--- whether a step increments the counter at an index
-abbrev pub increments : ℕ → Step → Bool
-increments at (Inc index) = index == at
-increments at (Dec index) = false
-
--- whether it decrements that counter
-abbrev pub decrements : ℕ → Step → Bool
-decrements at (Inc index) = false
-decrements at (Dec index) = index == at
-
--- an increment and then a decrement of the same counter: where the increment was made, the decrement was made too. The
--- block then takes the same bytes in an image as before
-abbrev pub Undoes : List Step → List StepReply → BlockState → BlockState → Type 0
-Undoes steps replies old new = (index before : ℕ) →
-    steps ≡ Inc index ∷ Dec index ∷ [] → slice_get replies 0 ≡ Some (Done before) →
-    (replies ≡ Done before ∷ Done (before + 1) ∷ [])
-    × (counter_bytes new.geometry.refcount_order new.numbers ≡ counter_bytes old.geometry.refcount_order old.numbers)
+-- whether a step is that change of the counter at an index
+abbrev pub is_step : CounterChange → ℕ → Step → Bool
+is_step Increment at (Inc index) = index == at
+is_step Decrement at (Dec index) = index == at
+is_step _ at _ = false
 
 -- what steps of a block, of which these replies came, do to its counters. Each is as before, plus the increments that
--- were made, minus the decrements that were, and a decrement undoes an increment
+-- were made, minus the decrements that were. Where a decrement comes right after an increment that was made, it was made
+-- too, and the block takes the same bytes in an image as before
 pub record Counts (steps : List Step) (replies : List StepReply) (old new : BlockState) : Type 0 where
   pub balance : (index : ℕ) →
-      slice_index new.numbers index + times_made (decrements index) steps replies
-      ≡ slice_index old.numbers index + times_made (increments index) steps replies
-  pub undone : Undoes steps replies old new
+      slice_index new.numbers index + times_made (is_step Decrement index) steps replies
+      ≡ slice_index old.numbers index + times_made (is_step Increment index) steps replies
+  pub undone : (index before : ℕ) → steps ≡ Inc index ∷ Dec index ∷ [] → slice_get replies 0 ≡ Some (Done before) →
+      (replies ≡ Done before ∷ Done (before + 1) ∷ [])
+      × (counter_bytes new.geometry.refcount_order new.numbers ≡ counter_bytes old.geometry.refcount_order old.numbers)

@@ -42,11 +42,6 @@ table_bytes layout cluster =
 abbrev pub l2_bytes : Geometry → HostCluster → ByteRange
 l2_bytes g cluster = table_bytes (l2_layout g) cluster
 
--- bytes that are none of the first cluster's, and none of the L1 table's
-pub record AvoidsHeaderAndL1Table (header : HeaderRecord) (bytes : ByteRange) : Type 0 where
-  pub first_cluster : ShareNoByte (first_cluster_bytes header) bytes
-  pub l1_table : ShareNoByte (table_bytes (l1_layout header) (l1_cluster header)) bytes
-
 -- the cluster that the L2 table of a guest offset begins with in an image, if there is one
 abbrev pub l2_cluster_in : ℕ → Image → Result (Option HostCluster) Fault
 l2_cluster_in offset image =
@@ -70,20 +65,12 @@ pub record ChangesOwnLookups (header : HeaderRecord) (cluster : HostCluster) (ol
 pub record HasTableApart (g : Geometry) (cluster : HostCluster) (header : HeaderRecord) (image : Image) : Type 0 where
   pub begins : header_of image ≡ Ok header
   pub geometry : geometry_of header ≡ g
-  pub avoids : AvoidsHeaderAndL1Table header (l2_bytes g cluster)
-
--- where the image had the L2 table at a cluster apart, its change reaches the lookups of its own offsets alone
-abbrev pub KeepsOtherLookups : Geometry → HostCluster → Image → Image → Type 0
-KeepsOtherLookups g cluster old new =
-    (header : HeaderRecord) → HasTableApart g cluster header old → ChangesOwnLookups header cluster old new
+  pub first_cluster : ShareNoByte (first_cluster_bytes header) (l2_bytes g cluster)
+  pub l1_table : ShareNoByte (table_bytes (l1_layout header) (l1_cluster header)) (l2_bytes g cluster)
 
 -- the clusters that the L2 tables of an L1 table begin with, in its order
 abbrev pub l2_clusters : ℕ → List ℕ → List HostCluster
 l2_clusters cb l1 = filter_map (named_cluster cb) l1
-
--- an L2 table of the L1 table begins with the cluster
-abbrev pub IsL2Table : HeaderRecord → List ℕ → HostCluster → Type 0
-IsL2Table header l1 cluster = (k : ℕ) × (slice_get (l2_clusters header.v2.cluster_bits l1) k ≡ Some cluster)
 
 -- how many entries of all of an image's L2 tables refer to a cluster
 abbrev pub image_references : Geometry → List ℕ → Image → ℕ → ℕ
@@ -112,7 +99,7 @@ BalancesImage g l1 outcome old new = (c : ℕ) →
 pub record HasSoundTable (g : Geometry) (cluster : HostCluster) (header : HeaderRecord) (l1 : List ℕ) (image : Image) : Type 0 where
   pub sound : IsSoundImage image header l1
   pub geometry : geometry_of header ≡ g
-  pub table : IsL2Table header l1 cluster
+  pub table : (k : ℕ) × (slice_get (l2_clusters header.v2.cluster_bits l1) k ≡ Some cluster)
 
 -- where the image was sound and had the L2 table at a cluster, it stays sound, and no reference of it is lost
 abbrev pub KeepsImageSound : Geometry → HostCluster → Outcome → Image → Image → Type 0

@@ -1,6 +1,6 @@
 //! Lists of edits of an L2 table: all of them are made, or none.
 
-ghost use Rattle.std.specs.Prelude.{◌≡◌, ℕ, ◌+◌, ◌-◌, ◌<◌, ◌≤◌, ◌/◌, ◌^◌, [], ◌++◌, if◌then◌else◌, Err, IfErr, IfOk, IfSome, MatchResult, None, Some, length, not, option_map, option_to_list, slice_index, true};
+ghost use Rattle.std.specs.Prelude.{◌≡◌, ℕ, ◌+◌, ◌-◌, ◌<◌, ◌≤◌, ◌/◌, ◌^◌, [], ◌++◌, if◌then◌else◌, Err, IfErr, IfOk, IfSome, MatchResult, None, Some, length, map, not, option_map, option_to_list, slice_index, true};
 ghost use Rattle.std.specs.Vec.{vec_capacity};
 ghost use Rattle.qcow2_base.specs.Format.{max_offset};
 ghost use Rattle.qcow2_base.specs.Types.{IsClusterBits};
@@ -10,7 +10,7 @@ ghost use Rattle.qcow2_metadata.specs.Results.{Computes};
 ghost use Rattle.qcow2_metadata.specs.Entries.L2Entry.{allocation};
 ghost use Rattle.qcow2_metadata.specs.Table.{table_after_edit};
 ghost use Rattle.qcow2_metadata.specs.Table.L2Guards.{IsSameTable, data_entry, guarded_table, is_just, is_mappable, run_of};
-ghost use Rattle.qcow2_session.specs.Edits.{Balances, HasRoom, Makes, edits_left, first_unfit_edit, edit_fits, table_left, edits_or_refusal, table_edit, table_edits};
+ghost use Rattle.qcow2_session.specs.Edits.{Balances, HasRoom, Makes, edits_left, first_unfit_edit, edit_fits, table_left, edits_or_refusal, table_edit};
 
 use qcow2_base::{ClusterCount, Fault, HostCluster};
 use qcow2_metadata::{ClustersToFreeEntry, L2Table, L2TableWriteGuard, MAX_OFFSET, Table};
@@ -233,7 +233,7 @@ fn make_edits(table: &mut L2Table, edits: &[Edit], outcome: &mut Outcome)
     requires freed { outcome.old.freed.items ≡ [] }
     requires room { HasRoom (length edits.now) outcome.old }
     ensures run { edits_left table.new outcome.new
-        ≡ run_of table.old.geometry (table_edits edits.now) table.old.numbers }
+        ≡ run_of table.old.geometry (map table_edit edits.now) table.old.numbers }
     ensures table { table.new ≡ table_left edits.now table.old table.new.numbers }
 {
     for edit in edits {

@@ -167,8 +167,7 @@ fn keep_table<S: Storage>(
     alloc: Global,
     cluster: HostCluster,
 ) -> Result<(), Fault>
-    requires kept { OnImage (S.state image.old) (λ bytes.
-        IfSome kept.old (IsKeptOf (geometry_of header.now) bytes)) }
+    requires kept { OnImage (S.state image.old) (λ bytes. IsKeptOf (geometry_of header.now) bytes kept.old) }
     requires geometry { IfSome kept.old (λ table. table.geometry ≡ geometry_of header.now) }
     requires end { IsInImage header.now.v2.cluster_bits cluster }
     ensures kept { MatchResult result
@@ -191,7 +190,7 @@ fn keep_table<S: Storage>(
 }
 
 impl<'a> Extents<'a> {
-    ghost use Rattle.qcow2_session.specs.Extents.{IsReaderOf, KeepsTableOf, MovesReader, PassesExtent, StaysReader, contents_for, extent_of, extents_begun};
+    ghost use Rattle.qcow2_session.specs.Extents.{IsReaderOf, MovesReader, PassesExtent, StaysReader, contents_for, extent_of};
 
     /// A reader of the extents of an image with this header, from the disk's begin on. Reads the L1 table,
     /// and returns its fault where it is refused. Changes no byte.
@@ -204,7 +203,13 @@ impl<'a> Extents<'a> {
         ensures reads { Reads (λ extents. extents.l1) result (loaded_l1_table header.now)
             (IsTableFault (l1_layout header.now) (l1_cluster header.now))
             (S.state image.old) (S.state image.new) }
-        ensures begun { IfOk result (λ extents. extents ≡ extents_begun header.now extents.l1) }
+        ensures begun { IfOk result (λ extents. extents ≡ record {
+          header = header.now;
+          l1 = extents.l1;
+          position = 0;
+          table = None;
+          ahead = None;
+        }) }
     {
         let l1_table = load_l1_table(alloc, image, header)?;
         Ok(Extents {
@@ -219,7 +224,8 @@ impl<'a> Extents<'a> {
     // What the byte at an offset reads as, and up to where it surely goes on, at most the disk's size.
     fn piece<S: Storage>(&mut self, image: &mut S, from: u64) -> Result<(Content, u64), Fault>
         requires within { from < self.old.header.v2.size }
-        requires kept { OnImage (S.state image.old) (λ bytes. KeepsTableOf bytes self.old) }
+        requires kept { OnImage (S.state image.old) (λ bytes.
+            IsKeptOf (geometry_of self.old.header) bytes self.old.table) }
         ensures told { OnImage (S.state image.old) (λ bytes.
             MatchResult result (IsPiece (contents_for self.old bytes) self.old.header.v2.size from)
             (λ fault. (fault ≡ StorageFailed) ⊎ (fault ≡ NoMemory)

@@ -4,10 +4,10 @@ ghost use Rattle.std.specs.Prelude.{◌≡◌, ◌⊎◌, [], IfErr, IfOk, false
 ghost use Rattle.qcow2_base.specs.Storage.{OnImage, OnImages};
 ghost use Rattle.qcow2_metadata.specs.Header.{geometry_of};
 ghost use Rattle.qcow2_metadata.specs.Refblock.{block_geometry_of, block_layout};
-ghost use Rattle.qcow2_metadata.specs.Results.{Answers, IsFromOutside};
+ghost use Rattle.qcow2_metadata.specs.Results.{Answers, IsFromOutside, result_map};
 ghost use Rattle.qcow2_metadata.specs.Table.{l2_entries, l2_layout};
 ghost use Rattle.qcow2_session.specs.Edits.{cluster_numbers};
-ghost use Rattle.qcow2_session.specs.Images.{ChangesImage, IsEditsFault, IsOfCluster, IsStepsFault, WritesBack, KeepsReferences, block_in, edits_end, references_of, replies_of, steps_end};
+ghost use Rattle.qcow2_session.specs.Images.{ChangesImage, IsEditsFault, IsOfCluster, IsStepsFault, WritesBack, KeepsReferences, block_in, edits_end, references_of, steps_end};
 ghost use Rattle.qcow2_session.specs.Steps.{Counts, are_some_done};
 
 use crate::{Edit, Outcome, Step, StepReply, edit_table, load_l2_table, step_block};
@@ -73,7 +73,8 @@ pub fn step_image<S: Storage>(
     steps: &[Step],
 ) -> Result<Vec<StepReply>, Fault>
     ensures exact { OnImage (S.state image.old) (λ bytes.
-        Answers (λ replies. replies.items) result (replies_of header.now cluster steps.now bytes)) }
+        Answers (λ replies. replies.items) result
+        (result_map (λ end. end.replies) (steps_end header.now cluster steps.now bytes))) }
     ensures changes { ChangesImage (block_layout (block_geometry_of header.now)) cluster
         (steps_end header.now cluster steps.now) (λ end. end.counters) result
         (S.state image.old) (S.state image.new) }

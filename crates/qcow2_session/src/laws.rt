@@ -1,14 +1,14 @@
 //! Laws: facts about the definitions that contracts name. Each is a function that does nothing. Its
 //! contract is the law, and its name says it.
 
-ghost use Rattle.std.specs.Prelude.{◌≡◌, ℕ, ◌+◌, ◌<◌, List, MatchResult, Ok, length, slice_index};
+ghost use Rattle.std.specs.Prelude.{◌≡◌, ℕ, ◌+◌, ◌<◌, List, MatchResult, Ok, length, map, slice_index};
 ghost use Rattle.qcow2_base.specs.Types.{IsClusterBits};
 ghost use Rattle.qcow2_base.specs.declared.fault.Fault.TheVariants.{CounterRange};
 ghost use Rattle.qcow2_metadata.specs.Header.{HeaderRecord};
 ghost use Rattle.qcow2_metadata.specs.Refblock.{BlockState, greatest_counter};
 ghost use Rattle.qcow2_metadata.specs.Table.{TableState};
 ghost use Rattle.qcow2_metadata.specs.Table.L2Guards.{references, run_of, times_gained};
-ghost use Rattle.qcow2_session.specs.Edits.{Balances, cluster_numbers, table_edits};
+ghost use Rattle.qcow2_session.specs.Edits.{Balances, cluster_numbers, table_edit};
 ghost use Rattle.qcow2_session.specs.Settled.{CoversReferences, Settles, block_or_refusal, settled_edits_or_refusal, first_counted};
 ghost use Rattle.qcow2_session.specs.declared.edits.Edit.{Edit};
 ghost use Rattle.qcow2_session.specs.declared.edits.Outcome.{Outcome};
@@ -45,5 +45,5 @@ pub fn covered_references_stay_covered()
         (λ end. CoversReferences first end.1 end.0)
         (λ fault. fault ≡ CounterRange → (index : ℕ) × (index < length block.numbers)
         × (greatest_counter block.geometry.refcount_order < slice_index block.numbers index
-        + times_gained (run_of table.geometry (table_edits edits) table.numbers).gained (first + index))) }
+        + times_gained (run_of table.geometry (map table_edit edits) table.numbers).gained (first + index))) }
 {}

@@ -5,7 +5,9 @@ use Rattle.qcow2_session.proofs.ImagesLemmas.{refused-edits, references-kept}
 use Rattle.qcow2_session.proofs.images.edit_image.Goals as goal
 
 pub returns-in_err-outcome-clause-faults : goal.returns-in_err-outcome-clause-faults
-returns-in_err-outcome-clause-faults g c = grind (arith, refused-edits)
+returns-in_err-outcome-clause-faults g c =
+    let exit = err_from_is_err_and c.from_residual-in_err-outcome.result c.from_residual-in_err-outcome.ensures.1 in
+    rw (exit.1, exit.2) (grind (arith, refused-edits c.args.header.now c.in_ok-table.table c.args.edits.now c.in_err-outcome.field-0.0))
 
 pub returns-in_err-write_table_back-clause-changes : goal.returns-in_err-write_table_back-clause-changes
 returns-in_err-write_table_back-clause-changes g c =

@@ -1,19 +1,19 @@
-use Rattle.std.proofs.Common.{arith}
+use Rattle.std.proofs.Common.{map, arith}
 use Rattle.qcow2_metadata.proofs.EditsLemmas.{balance-run}
 use Rattle.qcow2_metadata.specs.Refblock.{BlockState}
 use Rattle.qcow2_metadata.specs.Table.L2Guards.{run_of}
 use Rattle.qcow2_session.proofs.EditsLemmas.{all_fit}
 use Rattle.qcow2_session.proofs.SettledLemmas.{after-refusal, stays-covered}
-use Rattle.qcow2_session.specs.Edits.{table_edits, table_left}
+use Rattle.qcow2_session.specs.Edits.{table_edit, table_left}
 use Rattle.qcow2_session.specs.Settled.{CoversReferences, block_or_refusal, first_counted, first_refusal}
 use Rattle.qcow2_session.proofs.laws.covered_references_stay_covered.Goals as goal
 
 pub returns : goal.returns
 returns c = λ header table block rt_index edits bits covers.
     let first = first_counted block rt_index in
-    let end = run_of table.geometry (table_edits edits) table.numbers in
+    let end = run_of table.geometry (map table_edit edits) table.numbers in
     after-refusal (λ done. CoversReferences first done.1 done.0) _ (λ (settled : BlockState). (table_left edits table end.numbers, settled, end.freed, end.gained))
     (first_refusal header table edits) (block_or_refusal block first end.freed end.gained)
     (λ none. stays-covered table.geometry table.numbers end.numbers end.freed end.gained first block
-    (λ c. balance-run table.geometry (table_edits edits) table.numbers c bits (all_fit table edits (grind (arith, none)))) covers)
+    (λ c. balance-run table.geometry (map table_edit edits) table.numbers c bits (all_fit table edits (grind (arith, none)))) covers)
     (λ is. grind (arith, is))

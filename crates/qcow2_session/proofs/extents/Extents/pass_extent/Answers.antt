@@ -3,7 +3,6 @@ use Rattle.std.proofs.lemmas.Result.{err_from_is_err_and}
 use Rattle.qcow2_base.specs.declared.fault.Fault.TheVariants.{NoMemory, Storage}
 use Rattle.qcow2_session.proofs.ExtentsLemmas.{carried, extent_that_ends, pieces_join, reads_any, refused_at_end, refused_at_start, size_stays, stays_twice}
 use Rattle.qcow2_session.proofs.LookupsLemmas.{reads-then}
-use Rattle.qcow2_session.proofs.PrintingLemmas.{refused-as}
 use Rattle.qcow2_session.specs.Extents.{Contents, ExtentsState, IsPiece, contents_for}
 use Rattle.qcow2_session.specs.declared.extents.Content.{Content}
 use Rattle.qcow2_session.proofs.extents.Extents.pass_extent.Goals as goal
@@ -19,7 +18,7 @@ returns-in_err-content-in-None-clause-extent g c =
       search rules,
       c.requires.within,
       λ told.
-          refused-as _ (refused_at_start contents reader.header.v2.size reader.position c.in_err-content-in-None.field-0.0 c.requires.within) (rw position at (c.in_err-content-in-None.ensures.told told)),
+          refused_at_start contents reader.header.v2.size reader.position c.in_err-content-in-None.field-0.0 c.requires.within (rw position at (c.in_err-content-in-None.ensures.told told)),
     )
 
 pub returns-in_err-next-clause-extent : goal.returns-in_err-next-clause-extent
@@ -38,7 +37,7 @@ returns-in_err-next-clause-extent g c =
       λ told.
           let why = carried old (g.S.Storage.state c.loop-end.image).byte_at reader c.loop-end.self (λ (found : Contents) (size : ℕ). (fault ≡ Storage) ⊎ (fault ≡ NoMemory) ⊎ (found end ≡ Err fault)) kept.reader.same kept.storage.bytes
           (c.in_err-next.ensures.told (kept.storage.device.tells ∙ told)) in
-          refused-as _ (refused_at_end contents reader.header.v2.size reader.position end c.match-self.content.0 fault kept.some below (kept.reads told)) why,
+          refused_at_end contents reader.header.v2.size reader.position end c.match-self.content.0 fault kept.some below (kept.reads told) why,
     )
 
 pub returns-then-not-goes_on_as-clause-extent : goal.returns-then-not-goes_on_as-clause-extent
