@@ -9,7 +9,7 @@ use Rattle.std.proofs.Math.Nat.{lt_of_mul-lt-mul_right, mul-add-div, mul-add-mod
 use Rattle.std.proofs.Math.Arith.{mod-mul}
 use Rattle.qcow2_base.specs.Bits.{field}
 use Rattle.qcow2_base.specs.Storage.{Holds, Image, IsBytes, be, image_of}
-use Rattle.qcow2_base.proofs.StorageLemmas.{be_fits, be_of_same, be_determines}
+use Rattle.qcow2_base.proofs.StorageLemmas.{be_determines, be_fits, be_of_same}
 use Rattle.qcow2_metadata.specs.Refblock.Counters.{AreCounters}
 use Rattle.qcow2_metadata.specs.Refblock.Packing.{bytes_each, counter_at, counters_at, from_digits, counter_bytes, per_byte, width}
 use Rattle.std.proofs.lemmas.Bool.Decides.{nat_tests}

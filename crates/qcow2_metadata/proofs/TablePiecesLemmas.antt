@@ -2,8 +2,8 @@ use Rattle.std.proofs.Common.{◌≡◌, ℕ, ◌+◌, ◌*◌, ◌<◌, ◌≤�
 use Rattle.std.proofs.lemmas.List.{get_or-take, length-take, get_or_past, drop_more, get_or-drop, length-drop, map-append, take-append-drop, take_more}
 use Rattle.std.proofs.lemmas.Bool.{cases_lt}
 use Rattle.std.proofs.lemmas.Option.{slice_get-get_or}
-use Rattle.qcow2_base.proofs.StorageLemmas.{image_of-padded}
-use Rattle.qcow2_base.specs.Storage.{Image, IsBytes, be, be_of_same, image_of, Holds}
+use Rattle.qcow2_base.proofs.StorageLemmas.{be_of_same, image_of-padded}
+use Rattle.qcow2_base.specs.Storage.{Image, IsBytes, be, image_of, Holds}
 use Rattle.qcow2_metadata.specs.Pieces.{Stand, big_endian_bytes}
 use Rattle.qcow2_base.specs.declared.types.HostCluster.{HostCluster}
 use Rattle.qcow2_metadata.specs.Placed.{ReadsBack}
@@ -17,7 +17,6 @@ use Rattle.std.proofs.lemmas.Iterator.Adapters.{fact_from_extend}
 use Rattle.std.proofs.lemmas.Iterator.Consumers.{YieldsList-at}
 use Rattle.std.specs.Iterator.{Drains, Yields}
 use Rattle.qcow2_base.specs.Storage.{Holds, Image, be, image_of}
-use Rattle.qcow2_base.proofs.StorageLemmas.{be_of_same}
 use Rattle.qcow2_base.specs.declared.fault.Fault.{Fault}
 use Rattle.qcow2_metadata.proofs.TableLemmas.{first_fault-append, first_fault-join, no_fault_item, no_fault_at_all}
 use Rattle.std.proofs.lemmas.Bool.Decides.{nat_tests}

@@ -10,7 +10,7 @@ use Rattle.std.proofs.lemmas.List.{get_or-append_right, get_or-append-add, get_o
 use Rattle.std.proofs.lemmas.List.Elements.{All-cons, All-head, All-nil, All-tail}
 use Rattle.qcow2_base.specs.OnDiskStruct.{HoldsLayout, LayoutField, big, header_extension_header, fields_moved_by, number_in, v2_header, v3_header_base}
 use Rattle.qcow2_base.specs.Storage.{Holds, Image, IsBytes, be, image_of}
-use Rattle.qcow2_base.proofs.StorageLemmas.{be_fits, be_of_same, be_determines}
+use Rattle.qcow2_base.proofs.StorageLemmas.{be_determines, be_fits, be_of_same}
 use Rattle.qcow2_base.specs.declared.on_disk_struct.header_extension_header.HeaderExtensionHeader.{HeaderExtensionHeader}
 use Rattle.qcow2_base.specs.declared.on_disk_struct.v3_header_base.V3HeaderBase.{V3HeaderBase}
 use Rattle.qcow2_base.proofs.OnDiskStructLemmas.{be_of_bytes}

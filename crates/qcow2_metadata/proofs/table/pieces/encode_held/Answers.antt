@@ -1,6 +1,6 @@
 use Rattle.std.proofs.Common.{◌≡◌, ◌+◌, ◌*◌, Some, inl, sym, ◌∙◌, add-zero, below_more, arith, slice_get}
 use Rattle.std.proofs.lemmas.Option.{get_or_from_slice_get}
-use Rattle.qcow2_base.specs.Storage.{image_of, be_of_same}
+use Rattle.qcow2_base.specs.Storage.{image_of}
 use Rattle.qcow2_base.proofs.StorageLemmas.{be_of_same}
 use Rattle.qcow2_metadata.proofs.PieceLemmas.{found_in_list}
 use Rattle.qcow2_metadata.proofs.TablePiecesLemmas.{found_in_list}
