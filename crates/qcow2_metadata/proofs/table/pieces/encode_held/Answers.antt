@@ -2,7 +2,6 @@ use Rattle.std.proofs.Common.{◌≡◌, ◌+◌, ◌*◌, Some, inl, sym, ◌�
 use Rattle.std.proofs.lemmas.Option.{get_or_from_slice_get}
 use Rattle.qcow2_base.specs.Storage.{image_of}
 use Rattle.qcow2_base.proofs.StorageLemmas.{be_of_same}
-use Rattle.qcow2_metadata.proofs.PieceLemmas.{found_in_list}
 use Rattle.qcow2_metadata.proofs.TablePiecesLemmas.{found_in_list}
 use Rattle.qcow2_metadata.proofs.table.pieces.encode_held.Goals as goal
 
