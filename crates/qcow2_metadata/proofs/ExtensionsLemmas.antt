@@ -1,4 +1,4 @@
-use Rattle.std.proofs.Common.{◌≡◌, ◌≢◌, ◌∙◌, ℕ, ◌^◌, ◌<◌, true, ◌==◌, ◌&&◌, List, map, Ok, Err, refl, sym, ap, arith, String, string_bytes}
+use Rattle.std.proofs.Common.{◌≡◌, ◌≢◌, ◌⊎◌, ◌∙◌, ℕ, ◌^◌, ◌<◌, true, ◌==◌, ◌&&◌, List, map, Ok, Err, refl, sym, ap, arith, String, string_bytes}
 use Rattle.std.proofs.Math.Path.{fun_ext}
 use Rattle.std.specs.Bool.{Decides}
 use Rattle.std.specs.Cmp.Derive.Mapped.{pointwise-map}
@@ -10,7 +10,7 @@ use Rattle.std.proofs.lemmas.Slice.Eq.{bytes_eq-Decides, slice_eq-Decides}
 use Rattle.std.proofs.lemmas.Str.{IsUtf8-from_is_utf8, IsUtf8-had, IsUtf8-string_bytes, is_utf8-from_IsUtf8}
 use Rattle.qcow2_base.specs.declared.fault.Fault.{Fault}
 use Rattle.qcow2_metadata.proofs.GrammarLemmas.{text_of_utf8}
-use Rattle.qcow2_metadata.specs.Header.Extensions.{Extension, FeatureKey, TextOf, Unknown, data_of, extension_number, extension_of, is_text, normal_extension, extension_from_data, same_extension, same_feature_name, text, type_number}
+use Rattle.qcow2_metadata.specs.Header.Extensions.{Extension, FeatureKey, TextOf, Unknown, data_of, extension_number, extension_of, normal_extension, extension_from_data, same_extension, same_feature_name, text, type_number}
 use Rattle.qcow2_metadata.specs.Header.Features.{feature_type_number}
 use Rattle.qcow2_metadata.specs.declared.header.extensions.HeaderExtension.{HeaderExtension}
 use Rattle.qcow2_metadata.specs.declared.header.extensions.HeaderExtension.TheVariants as held
@@ -47,8 +47,8 @@ pub string_is_text : (name : String Global) → IsUtf8 (string_bytes name)
 string_is_text = IsUtf8-string_bytes
 
 -- text of a type that is text reads back
-pub text-reads_back : (type : HeaderExtensionType) (name : List ℕ) → is_text type ≡ true → IsUtf8 name
-    → ReadsBack (TextOf type name)
+pub text-reads_back : (type : HeaderExtensionType) (name : List ℕ)
+    → (type ≡ kind.BackingFileFormat) ⊎ (type ≡ kind.ExternalDataFileName) → IsUtf8 name → ReadsBack (TextOf type name)
 text-reads_back type name is valid = grind (arith, nat_tests, is_utf8-from_IsUtf8)
 
 -- the test of two names with their keys says whether they are the same

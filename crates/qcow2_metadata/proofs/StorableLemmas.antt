@@ -1,4 +1,4 @@
-use Rattle.std.proofs.Common.{◌≡◌, List, [], ◌∷◌, ◌++◌, ℕ, map, refl, sym, subst, arith, rules}
+use Rattle.std.proofs.Common.{◌≡◌, ◌⊎◌, inl, inr, List, [], ◌∷◌, ◌++◌, ℕ, map, refl, sym, subst, arith, rules}
 use lib.Utf8.{encode}
 use Rattle.std.specs.Prelude.{All, true, IfSome, None, Option, Some, String, option_to_list, option_map, string_bytes}
 use Rattle.std.proofs.lemmas.List.Sums.{AllPass-from_list_all}
@@ -14,7 +14,7 @@ use Rattle.std.specs.Str.{IsUtf8, chars, is_utf8}
 use Rattle.qcow2_metadata.specs.Header.{known_names}
 use Rattle.qcow2_metadata.specs.declared.header.extensions.HeaderExtensionType.{HeaderExtensionType}
 use Rattle.qcow2_metadata.specs.declared.header.extensions.HeaderExtensionType.TheVariants as kind
-use Rattle.qcow2_metadata.specs.Header.Extensions.{FeatureKey, FeatureNameTable, FeatureNames, IsStorable, TextOf, is_text, key_cmp, names_of}
+use Rattle.qcow2_metadata.specs.Header.Extensions.{FeatureKey, FeatureNameTable, FeatureNames, IsStorable, TextOf, key_cmp, names_of}
 use Rattle.std.proofs.lemmas.Bool.Decides.{nat_tests}
 
 -- the texts of names in memory are text
@@ -51,7 +51,8 @@ unfolding is_utf8 chars encode
 known_names-storable = (known_names-ordered, all_texts known_names refl)
 
 -- text in memory can be stored, if it is there
-texts-storable : (type : HeaderExtensionType) → is_text type ≡ true → (name : Option (String Global))
+texts-storable : (type : HeaderExtensionType) → (type ≡ kind.BackingFileFormat) ⊎ (type ≡ kind.ExternalDataFileName)
+    → (name : Option (String Global))
     → All IsStorable (map (TextOf type) (option_to_list (option_map string_bytes name)))
 texts-storable type is None = All-nil IsStorable
 texts-storable type is (Some name) = grind (arith, nat_tests, All-cons, IsUtf8-string_bytes, All-nil)
@@ -62,4 +63,5 @@ pub new_extensions-storable : (format data_file : Option (String Global))
     (FeatureNameTable known_names
     ∷ map (TextOf kind.BackingFileFormat) (option_to_list (option_map string_bytes format))
     ++ map (TextOf kind.ExternalDataFileName) (option_to_list (option_map string_bytes data_file)))
-new_extensions-storable format data_file = search (rules, All-cons, known_names-storable, All-append, texts-storable)
+new_extensions-storable format data_file =
+    search (rules, All-cons, known_names-storable, All-append, texts-storable kind.BackingFileFormat (inl refl) format, texts-storable kind.ExternalDataFileName (inr refl) data_file)

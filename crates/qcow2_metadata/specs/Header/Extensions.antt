@@ -1,5 +1,5 @@
 -- What does an extension of a header say, by its type and its data?
-use Rattle.std.specs.Prelude.{◌≡◌, ◌≢◌, ℕ, zero, suc, ◌-◌, ◌*◌, ◌^◌, ◌<◌, ◌==◌, ◌&&◌, Bool, true, false, if◌then◌else◌, All, List, [], ◌∷◌, ◌++◌, length, map, take, drop, replicate, Option, Some, None, Result, Ok, Err, String, string_bytes}
+use Rattle.std.specs.Prelude.{◌≡◌, ◌≢◌, ◌⊎◌, ℕ, zero, suc, ◌-◌, ◌*◌, ◌^◌, ◌<◌, ◌==◌, ◌&&◌, Bool, true, false, if◌then◌else◌, All, List, [], ◌∷◌, ◌++◌, length, map, take, drop, replicate, Option, Some, None, Result, Ok, Err, String, string_bytes}
 use Rattle.std.specs.Global.{Global}
 use Rattle.std.specs.BTreeMap.{BTreeMap, insert_entry}
 use Rattle.std.specs.Cmp.Lexicographic.{pointwise}
@@ -40,12 +40,6 @@ extension_number kind.End = 0
 extension_number kind.BackingFileFormat = 0xe2792aca
 extension_number kind.FeatureNameTable = 0x6803f857
 extension_number kind.ExternalDataFileName = 0x44415441
-
--- whether an extension of this type is text
-abbrev pub is_text : HeaderExtensionType → Bool
-is_text kind.BackingFileFormat = true
-is_text kind.ExternalDataFileName = true
-is_text _ = false
 
 -- an extension of the header: text of a type, names of features, or content of a type that isn't known; texts and
 -- contents are bytes
@@ -98,7 +92,8 @@ feature_names bytes = names_of_chunks bytes (div_ceil (length bytes) 48)
 -- an extension that an image can say: texts are UTF-8, and names of features are in the order of their keys. Only
 -- data of a type that isn't known is kept as it is
 abbrev pub IsStorable : Extension → Type 0
-IsStorable (TextOf type name) = (is_text type ≡ true) × IsUtf8 name
+IsStorable (TextOf type name) =
+    ((type ≡ kind.BackingFileFormat) ⊎ (type ≡ kind.ExternalDataFileName)) × IsUtf8 name
 IsStorable (FeatureNameTable names) =
     IsStrictlySortedBy key_cmp (keys_of names) × All (λ named. IsUtf8 named.1) names
 IsStorable (Unknown number content) =

@@ -1,5 +1,4 @@
-use Rattle.std.proofs.Common.{rules}
-use Rattle.std.proofs.Common.{arith}
+use Rattle.std.proofs.Common.{arith, rules}
 use Rattle.std.proofs.lemmas.Result.{on_ok_weaker}
 use Rattle.qcow2_metadata.proofs.LayoutLemmas.{extensions_pieces, extensions_text_len, parts_within_len}
 use Rattle.qcow2_metadata.proofs.header.extensions.push_extensions.Goals as goal
