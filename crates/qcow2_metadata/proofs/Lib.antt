@@ -2,7 +2,6 @@ mod GrowthExamples
 mod OneEntryExamples
 pub mod ChainLemmas
 pub mod ChunkLemmas
-pub mod ClusterLemmas
 pub mod CutLemmas
 pub mod EditsLemmas
 pub mod EntriesLemmas
@@ -12,23 +11,21 @@ pub mod GrammarLemmas
 pub mod GrowthLemmas
 pub mod GuardLemmas
 pub mod HeaderLemmas
+pub mod LawsLemmas
 pub mod LayoutLemmas
 pub mod LoadLemmas
 pub mod MappingLemmas
-pub mod NamesLemmas
 pub mod NarrowLemmas
 pub mod OneEntryLemmas
 pub mod OpenLemmas
 pub mod PackingLemmas
 pub mod PieceLemmas
 pub mod PiecesLemmas
-pub mod PointerLemmas
+pub mod PointersLemmas
 pub mod RangeLemmas
 pub mod RefblockLemmas
 pub mod RunsLemmas
-pub mod SettledLemmas
 pub mod SharedLemmas
-pub mod StorableLemmas
 pub mod TableLemmas
 pub mod TextLemmas
 pub mod UpdateLemmas

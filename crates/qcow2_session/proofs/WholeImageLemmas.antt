@@ -21,7 +21,7 @@ use Rattle.qcow2_metadata.specs.Table.{Kind, l1_kind, l2_entries, l2_kind, l2_la
 use Rattle.qcow2_metadata.specs.Placed.{numbers_at, offset_of}
 use Rattle.qcow2_session.specs.Edits.{cluster_numbers}
 use Rattle.qcow2_session.specs.declared.edits.Outcome.{Outcome}
-use Rattle.qcow2_metadata.proofs.ClusterLemmas.{header_of-same}
+use Rattle.qcow2_metadata.proofs.LawsLemmas.{header_of-same}
 use Rattle.qcow2_metadata.proofs.GrammarLemmas.{header_of-is, holds-v2_at}
 use Rattle.qcow2_metadata.proofs.TableLemmas.{table_numbers_same}
 

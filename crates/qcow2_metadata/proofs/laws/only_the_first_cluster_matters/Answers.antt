@@ -1,4 +1,4 @@
-use Rattle.qcow2_metadata.proofs.ClusterLemmas.{header_of-same}
+use Rattle.qcow2_metadata.proofs.LawsLemmas.{header_of-same}
 use Rattle.qcow2_metadata.proofs.laws.only_the_first_cluster_matters.Goals as goal
 
 pub returns : goal.returns

@@ -6,7 +6,7 @@ use Rattle.qcow2_metadata.proofs.FeatureNamesLemmas.{names_of_chunks-fault, name
 use Rattle.qcow2_metadata.proofs.RangeLemmas.{chunk_at-held, length-bytes_at}
 use Rattle.qcow2_metadata.specs.Header.Extensions.{names_of, with_feature_name}
 use Rattle.qcow2_metadata.specs.Range.{bytes_at}
-use Rattle.qcow2_metadata.proofs.StorableLemmas.{ordered-storable}
+use Rattle.qcow2_metadata.proofs.ExtensionsLemmas.{ordered-storable}
 use Rattle.qcow2_metadata.proofs.header.feature_names.read_feature_names.Goals as goal
 
 pub returns-in_err-add_feature_name-clause-reads : goal.returns-in_err-add_feature_name-clause-reads
