@@ -99,7 +99,6 @@ impl HeaderExtension {
         }
     }
 
-    // The name that it has for a feature.
     pub(super) fn feature_name(&self, feature_type: FeatureType, bit: u8) -> Option<&String>
         ensures { option_map (λ name. string_bytes name.now) result
             ≡ feature_name_in (feature_type, bit) (extension_of self.now) }
@@ -184,7 +183,8 @@ fn read_extension_header<S: Storage>(
     requires { len ≤ 2 ^ 21 }
     ensures reads { ReadsThrough S.state (λ header. header) result (λ bytes. after_conditions
         ((nat_le (data_end (link_at bytes place)) len, Fault.ExtensionsExceed) ∷ [])
-        (λ _. Ok (record { extension_type = be bytes place 4; length = be bytes (place + 4) 4 }))) IsHeaderFault image.old image.new }
+        (λ _. Ok (record { extension_type = be bytes place 4; length = be bytes (place + 4) 4 })))
+        IsHeaderFault image.old image.new }
     ensures bounded { IfOk result (λ header. place + 8 + header.length ≤ len) }
 {
     if place > len || len - place < 8 {
@@ -266,7 +266,6 @@ impl HeaderExtension {
         }
     }
 
-    // How many bytes its data has.
     #[tactic(auto, using(crate::proofs::LayoutLemmas::table_lens))]
     fn data_len(&self) -> Option<usize>
         ensures { SomeIff result (length (data_of (extension_of self.now)) < 2 ^ 64)

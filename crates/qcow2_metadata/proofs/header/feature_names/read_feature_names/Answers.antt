@@ -47,14 +47,7 @@ pub loop-index-preserved : goal.loop-index-preserved
 loop-index-preserved g c = search (rules, chunk_at-held, names_of_chunks-more)
 
 pub returns-clause-reads : goal.returns-clause-reads
-returns-clause-reads g c = record {
-  reads = record {
-    exact = λ told. grind (arith, length-bytes_at);
-    faults = tt;
-    storage = search rules;
-  };
-  same = search rules;
-}
+returns-clause-reads g c = grind (arith, length-bytes_at)
 
 pub returns-clause-storable : goal.returns-clause-storable
 returns-clause-storable g c = ordered-storable c.loop-index.names c.loop-index.invariant.ordered
