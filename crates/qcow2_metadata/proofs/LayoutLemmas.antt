@@ -16,7 +16,7 @@ use Rattle.qcow2_metadata.specs.Header.Features.{feature_type_number}
 use Rattle.qcow2_metadata.specs.Header.Text.{IsChosen, IsLayout, base_with_length, header_end, v2_with_name, header_after_write, header_to_write, chosen_extensions, header_text, extension_text, extensions_text, fields_text, fits_first_cluster, name_place, padded_bytes, parts_text, written_text}
 use Rattle.qcow2_metadata.specs.declared.header.text.Layout.{Layout}
 use Rattle.qcow2_metadata.specs.declared.header.extensions.HeaderExtension.{HeaderExtension}
-use Rattle.qcow2_metadata.proofs.NamesLemmas.{name_chunks_len}
+use Rattle.qcow2_metadata.proofs.FeatureNamesLemmas.{name_chunks_len}
 
 -- the text of the extensions that are written is that of each, or nothing
 pub chosen-parts : (with_names : Bool) (extensions : List Extension)

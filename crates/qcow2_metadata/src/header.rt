@@ -305,7 +305,6 @@ impl Header {
     }
 }
 
-// The first part of a new header.
 fn new_v2_header(cluster_bits: u32) -> V2Header
     ensures { result ≡ (new_header cluster_bits 0 None None None).v2 }
 {

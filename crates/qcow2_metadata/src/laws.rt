@@ -38,7 +38,8 @@ pub fn a_broken_chain_is_refused()
 /// A chunk of a feature name table names the feature of its key, whatever earlier ones said of that, and
 /// leaves what they said of others. So the last chunk of a key names its feature.
 pub fn the_last_chunk_of_a_key_names_its_feature()
-    ensures { (names : FeatureNames) (kind : FeatureType) (bit : ℕ) (name : List ℕ) (other : FeatureKey) →
+    ensures { (names : FeatureNames) (kind : FeatureType) (bit : ℕ) (name : List ℕ)
+        (other : FeatureKey) →
         result_map (λ after. feature_name_in other (FeatureNameTable after))
         (with_feature_name names (feature_type_number kind ∷ bit ∷ name))
         ≡ Ok (if is_eq (key_cmp other (kind, bit)) then Some (utf8_lossy (until_zero name))

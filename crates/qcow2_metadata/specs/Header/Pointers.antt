@@ -6,10 +6,7 @@ use Rattle.qcow2_base.specs.Storage.{Image, OnImages, OnlyWrites, StorageState}
 use Rattle.qcow2_base.specs.declared.fault.Fault.{Fault}
 use Rattle.qcow2_base.specs.declared.fault.Fault.TheVariants.{NotPlaced, Storage, TooMany}
 use Rattle.qcow2_base.specs.declared.on_disk_struct.v2_header.V2Header.{V2Header}
-use Rattle.qcow2_base.specs.declared.types.HostCluster.{HostCluster}
-use Rattle.qcow2_metadata.specs.Header.{HeaderRecord}
 use Rattle.qcow2_metadata.specs.Table.{TableState}
-use Rattle.qcow2_metadata.specs.declared.entries.ClustersToFreeEntry.{ClustersToFreeEntry}
 
 -- why a header can't refer to a table of that many units: it has no cluster, or the field can't count them
 abbrev pub pointer_fault : TableState → ℕ → Option Fault

@@ -40,7 +40,6 @@ pub(super) fn read_backing_filename<S: Storage>(
 }
 
 impl Header {
-    // How many bytes the backing file's name has.
     pub(super) fn backing_filename_len(&self) -> usize
         ensures { result ≡ length (unwrap_or self.now.backing_filename []) }
     {
@@ -50,7 +49,6 @@ impl Header {
         }
     }
 
-    // Appends the backing file's name to the text.
     pub(super) fn push_backing_filename(&self, text: &mut Vec<u8>) -> Result<(), AllocError>
         ensures { OnOk result
             (text.new.items ≡ text.old.items ++ unwrap_or self.now.backing_filename []) }

@@ -45,7 +45,6 @@ pub(super) fn parse_text(bytes: Vec<u8>, fault: Fault) -> Result<String, Fault>
     }
 }
 
-// Appends bytes to the text.
 pub(super) fn push_bytes(text: &mut Vec<u8>, bytes: &[u8]) -> Result<(), AllocError>
     ensures pushed { OnOk result (text.new.items ≡ text.old.items ++ bytes.now) }
     ensures bytes { IsBytes (image_of bytes.now) }
@@ -53,7 +52,6 @@ pub(super) fn push_bytes(text: &mut Vec<u8>, bytes: &[u8]) -> Result<(), AllocEr
     text.extend_from_slice(bytes)
 }
 
-// Appends zeros to the text.
 pub(super) fn push_zeros(text: &mut Vec<u8>, count: usize) -> Result<(), AllocError>
     requires { count ≤ 46 }
     ensures { OnOk result (text.new.items ≡ text.old.items ++ replicate count 0) }

@@ -99,7 +99,6 @@ impl HeaderExtension {
         }
     }
 
-    // The name that it has for a feature.
     pub(super) fn feature_name(&self, feature_type: FeatureType, bit: u8) -> Option<&String>
         ensures { option_map (λ name. string_bytes name.now) result
             ≡ feature_name_in (feature_type, bit) (extension_of self.now) }
@@ -267,7 +266,6 @@ impl HeaderExtension {
         }
     }
 
-    // How many bytes its data has.
     #[tactic(auto, using(crate::proofs::LayoutLemmas::table_lens))]
     fn data_len(&self) -> Option<usize>
         ensures { SomeIff result (length (data_of (extension_of self.now)) < 2 ^ 64)

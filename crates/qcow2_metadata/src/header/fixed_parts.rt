@@ -98,7 +98,6 @@ fn check_fields(v2: &V2Header, base: &V3HeaderBase) -> Result<(), Fault>
     Ok(())
 }
 
-// The cluster size in bytes.
 #[tactic(auto, using(crate::proofs::HeaderLemmas::powers))]
 pub(super) fn cluster_size(v2: &V2Header) -> u64
     requires { IsClusterBits v2.now.cluster_bits }

@@ -24,7 +24,7 @@ impl Header {
     ///
     /// A table with no cluster is refused by fault 23, else one of 2^32 entries or more by 29: the pending
     /// value comes back, and nothing has changed.
-    #[tactic(auto, using(crate::proofs::PointerLemmas::table_offset_aligned))]
+    #[tactic(auto, using(crate::proofs::PointersLemmas::table_offset_aligned))]
     pub fn set_l1_table(
         &mut self,
         l1_table: &L1Table,
@@ -65,7 +65,7 @@ impl Header {
     ///
     /// A table with no cluster is refused by fault 23, else one of 2^32 clusters or more by 29: nothing has
     /// changed then.
-    #[tactic(auto, using(crate::proofs::PointerLemmas::table_offset_aligned))]
+    #[tactic(auto, using(crate::proofs::PointersLemmas::table_offset_aligned))]
     pub fn set_reftable(&mut self, reftable: &RefTable) -> Result<(), Fault>
         requires cluster_bits { reftable.now.geometry.cluster_bits ≡ self.old.v2.cluster_bits }
         ensures answer { MatchOption (pointer_fault reftable.now (table_clusters reftable.now))

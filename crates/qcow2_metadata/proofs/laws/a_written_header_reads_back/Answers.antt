@@ -1,4 +1,4 @@
-use Rattle.qcow2_metadata.proofs.SettledLemmas.{kept-settled}
+use Rattle.qcow2_metadata.proofs.WriteLemmas.{kept-settled}
 use Rattle.qcow2_metadata.proofs.laws.a_written_header_reads_back.Goals as goal
 
 pub returns : goal.returns

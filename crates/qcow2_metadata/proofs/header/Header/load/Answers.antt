@@ -1,4 +1,4 @@
-use Rattle.std.proofs.Common.{◌≡◌, rules, false, inl, inr, arith}
+use Rattle.std.proofs.Common.{rules, inl, inr, arith}
 use Rattle.std.proofs.lemmas.Result.{err_from_is_err_and}
 use Rattle.qcow2_metadata.proofs.OpenLemmas.{answers-first, opened-faults, opened_fault}
 use Rattle.qcow2_metadata.proofs.header.Header.load.Goals as goal
@@ -16,17 +16,6 @@ returns-in_err-header g c =
         | inl grammar ↦ inl (inl grammar)
         | inr outside ↦ inr outside
       ];
-      storage = search rules;
-    })
-
-pub returns-then-not-writable : goal.returns-then-not-writable
-returns-then-not-writable g c =
-    let image = (g.S.Storage.state c.args.image.now).byte_at in
-    let header = c.in_ok-header.header in
-    let read_only : c.args.writable ≡ false = search rules in
-    rw read_only (record {
-      exact = λ told. search rules;
-      faults = tt;
       storage = search rules;
     })
 

@@ -3,7 +3,7 @@ use Rattle.std.specs.Prelude.{option_to_list}
 use Rattle.qcow2_metadata.specs.Header.{known_names}
 use Rattle.qcow2_metadata.specs.declared.header.extensions.HeaderExtensionType.TheVariants as kind
 use Rattle.qcow2_metadata.specs.Header.Extensions.{FeatureNameTable, extension_of, TextOf}
-use Rattle.qcow2_metadata.proofs.StorableLemmas.{name-text, new_extensions-storable}
+use Rattle.qcow2_metadata.proofs.ExtensionsLemmas.{name-text, new_extensions-storable}
 use Rattle.qcow2_metadata.proofs.header.Header.new.Goals as goal
 
 pub invariant_of-result : goal.invariant_of-result

@@ -1,4 +1,4 @@
-use Rattle.qcow2_metadata.proofs.SettledLemmas.{kept-settled}
+use Rattle.qcow2_metadata.proofs.WriteLemmas.{kept-settled}
 use Rattle.qcow2_metadata.proofs.header.Header.prepared.Goals as goal
 
 pub returns-clause-settled : goal.returns-clause-settled

@@ -56,11 +56,4 @@ loop-extensions-preserved g c =
     }
 
 pub returns-clause-reads : goal.returns-clause-reads
-returns-clause-reads g c = record {
-  reads = record {
-    exact = λ told. search (rules, extensions_at-end);
-    faults = tt;
-    storage = search rules;
-  };
-  same = search rules;
-}
+returns-clause-reads g c = search (rules, extensions_at-end)

@@ -6,7 +6,7 @@ use Rattle.qcow2_metadata.proofs.FeatureNamesLemmas.{names_of_chunks-fault, name
 use Rattle.qcow2_metadata.proofs.RangeLemmas.{chunk_at-held, length-bytes_at}
 use Rattle.qcow2_metadata.specs.Header.Extensions.{names_of, with_feature_name}
 use Rattle.qcow2_metadata.specs.Range.{bytes_at}
-use Rattle.qcow2_metadata.proofs.StorableLemmas.{ordered-storable}
+use Rattle.qcow2_metadata.proofs.ExtensionsLemmas.{ordered-storable}
 use Rattle.qcow2_metadata.proofs.header.feature_names.read_feature_names.Goals as goal
 
 pub returns-in_err-add_feature_name-clause-reads : goal.returns-in_err-add_feature_name-clause-reads
@@ -47,14 +47,7 @@ pub loop-index-preserved : goal.loop-index-preserved
 loop-index-preserved g c = search (rules, chunk_at-held, names_of_chunks-more)
 
 pub returns-clause-reads : goal.returns-clause-reads
-returns-clause-reads g c = record {
-  reads = record {
-    exact = λ told. grind (arith, length-bytes_at);
-    faults = tt;
-    storage = search rules;
-  };
-  same = search rules;
-}
+returns-clause-reads g c = grind (arith, length-bytes_at)
 
 pub returns-clause-storable : goal.returns-clause-storable
 returns-clause-storable g c = ordered-storable c.loop-index.names c.loop-index.invariant.ordered

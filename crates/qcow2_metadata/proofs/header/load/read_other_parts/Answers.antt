@@ -4,7 +4,7 @@ use Rattle.std.proofs.lemmas.List.{nil_from_length}
 use Rattle.std.proofs.Math.Pow.{pow_mono}
 use Rattle.qcow2_metadata.proofs.GrammarLemmas.{header_from, last-hold}
 use Rattle.qcow2_metadata.proofs.LoadLemmas.{header-last, provided-fault}
-use Rattle.qcow2_metadata.proofs.StorableLemmas.{name-text}
+use Rattle.qcow2_metadata.proofs.ExtensionsLemmas.{name-text}
 use Rattle.qcow2_metadata.specs.Header.Extensions.{extension_of}
 use Rattle.qcow2_metadata.specs.Header.Grammar.{last_conditions}
 use Rattle.qcow2_metadata.proofs.header.load.read_other_parts.Goals as goal

@@ -1,6 +1,6 @@
 use Rattle.std.proofs.Common.{◌≤◌, length, rules}
 use Rattle.qcow2_base.specs.OnDiskStruct.{v2_header}
-use Rattle.qcow2_metadata.proofs.PointerLemmas.{part-between}
+use Rattle.qcow2_metadata.proofs.PointersLemmas.{part-between}
 use Rattle.qcow2_metadata.proofs.header.pointers.write_part.Goals as goal
 
 pub returns : goal.returns
