@@ -55,7 +55,7 @@ header-kept header old new is kept =
     header_of-same old new (λ o below. kept o (omega arith, omega (arith, below, size, least)))
 
 -- that many entries are the bytes of a cluster
-pub full_cluster : (cb : ℕ) → 9 ≤ cb → 8 * 2 ^ (cb - 3) ≡ 2 ^ cb
+pub full_cluster : (cb : ℕ) → 9 ≤ cb → 8 * l2_entries cb ≡ 2 ^ cb
 full_cluster cb least =
     let three : 3 + (cb - 3) ≡ cb = omega (arith, least) in
     sym (pow-add 2 3 (cb - 3)) ∙ ap (λ k. 2 ^ k) three
