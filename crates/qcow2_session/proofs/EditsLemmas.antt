@@ -87,8 +87,8 @@ all_fit table edits none =
     list_all-map (fits_table table.geometry (length table.numbers)) table_edit edits ∙ all_pass (edit_fits table) edits none
 
 -- what is left fits the table as it is
-pub part_way-fits : (edits : List Edit) (done : ℕ) (default : Edit) (before now : TableState) (outcome : Outcome) → first_unfit_edit before edits ≡ None → done < length edits → IsPartWay edits done before now outcome → edit_fits now (get_or edits done default) ≡ true
-part_way-fits edits done default before now outcome none below way =
+pub part_way_fits : (edits : List Edit) (done : ℕ) (default : Edit) (before now : TableState) (outcome : Outcome) → first_unfit_edit before edits ≡ None → done < length edits → IsPartWay edits done before now outcome → edit_fits now (get_or edits done default) ≡ true
+part_way_fits edits done default before now outcome none below way =
     let fits = AllPass-from_list_all (edit_fits before) edits (all_pass (edit_fits before) edits none) done default below in
     grind (arith, nat_tests, way.table, way.entries, fits)
 

@@ -1,4 +1,4 @@
-use Rattle.std.proofs.Common.{MatchResult, Option, inl, inr, ◌≡◌, ◌⊎◌, ◌↔◌, ℕ, Bool, true, false, ◌==◌, nat_lt, ◌+◌, ◌<◌, ◌≤◌, Some, None, Result, Ok, Err, List, [], ◌∷◌, map, take, length, get_or, get_or-set_same, get_or-set_other, slice_index, ap, refl, ◌∙◌, arith}
+use Rattle.std.proofs.Common.{MatchResult, Option, inl, inr, ◌≡◌, ◌≢◌, ◌⊎◌, ◌↔◌, ℕ, Bool, true, false, ◌==◌, nat_lt, ◌+◌, ◌<◌, ◌≤◌, Some, None, Result, Ok, Err, List, [], ◌∷◌, map, take, length, get_or, get_or-set_same, get_or-set_other, slice_index, ap, refl, ◌∙◌, arith}
 use Rattle.std.proofs.lemmas.List.Sums.{sum_by-cons, sum_by_more, sum_by_more_le}
 use Rattle.qcow2_base.specs.declared.types.HostCluster.{HostCluster}
 use Rattle.qcow2_session.specs.Edits.{cluster_numbers}
@@ -20,7 +20,7 @@ use Rattle.qcow2_metadata.specs.Refblock.{BlockState, greatest_counter, stepped_
 use Rattle.qcow2_metadata.specs.Refblock.Guard.{Decrement, Increment, CounterChange, Steps, counter_after}
 use Rattle.qcow2_metadata.specs.declared.entries.ClustersToFreeEntry.{ClustersToFreeEntry}
 use Rattle.qcow2_session.specs.declared.edits.Outcome.{Outcome}
-use Rattle.qcow2_session.specs.Settled.{ChangesBlock, ChangesCounters, IsSameButFlag, LeavesRange, Settles, SomeLeavesRange, block_or_refusal, cannot_settle, is_between, settled_block, opposite, range_of_one, times_counted}
+use Rattle.qcow2_session.specs.Settled.{ChangesBlock, ChangesCounters, IsSameButFlag, Settles, SomeLeavesRange, block_or_refusal, cannot_settle, is_between, settled_block, range_of_one, times_counted}
 
 -- counters that move twice
 moves-twice : (change : CounterChange) (first second total : ℕ → ℕ) (a b c : BlockState)
@@ -35,16 +35,12 @@ changes-twice change first second total a b c is one other =
     grind (arith, is, one.flag, other.flag, one.counters.entries, moves-twice change first second total a b c is one.counters other.counters)
 
 -- counters that move there and back
-pub moves-back : (change back : CounterChange) (by : ℕ → ℕ) (a b c : BlockState) → back ≡ opposite change
+pub moves-back : (change back : CounterChange) (by : ℕ → ℕ) (a b c : BlockState) → back ≢ change
     → ChangesCounters change by a b → ChangesCounters back by b c → IsSameButFlag a c
 moves-back change back by a b c is one other =
     let same : c.numbers ≡ a.numbers = same_number_lists c.numbers a.numbers (other.entries ∙ one.entries)
-    (λ k below. grind (arith, is, one.counters k (omega (arith, below, other.entries, one.entries)), other.counters k (omega (arith, below, other.entries)))) in
+    (λ k below. grind (arith, nat_tests, is, one.counters k (omega (arith, below, other.entries, one.entries)), other.counters k (omega (arith, below, other.entries)))) in
     grind (arith, same, one.others, other.others)
-
--- a counter that no step changes
-pub stepped-short : (change : CounterChange) (order v : ℕ) → counter_after order change v ≡ None → LeavesRange change order 1 v
-stepped-short change order v none = grind (arith, nat_tests)
 
 -- a counter that is put in the place of one
 set-moves : (change : CounterChange) (index v : ℕ) (a : BlockState) → index < length a.numbers
@@ -141,8 +137,8 @@ among-between clusters first start end i from to = grind (arith, nat_tests)
 -- a counter of clusters that can't be changed
 pub clusters-short : (change : CounterChange) (by : ℕ → ℕ) (at : ℕ) (a : BlockState) → at < length a.numbers → by at ≡ 1
     → counter_after a.geometry.refcount_order change (slice_index a.numbers at) ≡ None → SomeLeavesRange change by a
-clusters-short change by at a below one none =
-    (at, below, grind (arith, one, stepped-short change a.geometry.refcount_order (slice_index a.numbers at) none))
+clusters-short Increment by at a below one none = (at, below, grind (arith, nat_tests, one, none))
+clusters-short Decrement by at a below one none = (at, below, grind (arith, nat_tests, one, none))
 
 -- one more of a list
 pub times-more : {C : Type 0} (clusters : C → ClustersToFreeEntry) (list : List C) (at : ℕ) (item : C) (first index : ℕ) → at < length list → item ≡ get_or list at item
@@ -156,7 +152,8 @@ times-within clusters list at item first index below is = grind (arith, nat_test
 -- what can't be changed after a part can't be changed at all
 pub list-short : (change : CounterChange) (part one total : ℕ → ℕ) (a b : BlockState) → ChangesCounters change part a b
     → ((i : ℕ) → part i + one i ≤ total i) → SomeLeavesRange change one b → SomeLeavesRange change total a
-list-short change part one total a b moves few short = grind (arith, nat_tests, order-kept)
+list-short Increment part one total a b moves few short = grind (arith, nat_tests, order-kept, few, short)
+list-short Decrement part one total a b moves few short = grind (arith, nat_tests, order-kept, few, short)
 
 -- a range that ended
 pub between-end : (start end at i : ℕ) → end ≤ at → (at ≤ end) ⊎ (at ≡ start) → one_if (is_between start end i) ≡ one_if (is_between start at i)

@@ -229,6 +229,6 @@ sound-after header l1 cluster outcome numbers old new sound found outside loads 
 pub keeps-image-sound : (g : Geometry) (cluster : HostCluster) (outcome : Outcome) (numbers : List ℕ) (old new : Image)
     → SameOutsideTable g cluster old new → loaded_l2_table g cluster new ≡ Ok numbers
     → BalancesTable g cluster outcome old new → KeepsImageSound g cluster outcome old new
-keeps-image-sound g cluster outcome numbers old new outside loads balance = λ header l1 has.
-    rw (← has.geometry) (sound-after header l1 cluster outcome numbers old new has.sound has.table
-    (rw (← has.geometry) at outside) (rw (← has.geometry) at loads) (rw (← has.geometry) at balance))
+keeps-image-sound g cluster outcome numbers old new outside loads balance = λ header l1 k sound same found.
+    rw (← same) (sound-after header l1 cluster outcome numbers old new sound (k, found)
+    (rw (← same) at outside) (rw (← same) at loads) (rw (← same) at balance))

@@ -1,5 +1,5 @@
 use Rattle.qcow2_metadata.specs.Refblock.Guard.{Decrement, Increment}
-use Rattle.std.proofs.Common.{refl, sym, arith}
+use Rattle.std.proofs.Common.{sym, arith}
 use Rattle.qcow2_session.specs.Settled.{range_of_one, times_counted}
 use Rattle.qcow2_session.proofs.SettledLemmas.{can-settle, gains-short, losses-short, moves-back, moves-flagged, settled-by, settled-is}
 use Rattle.qcow2_session.proofs.settled.count_outcome.Goals as goal
@@ -7,7 +7,7 @@ use Rattle.qcow2_session.proofs.settled.count_outcome.Goals as goal
 pub returns-clause-back : goal.returns-clause-back
 returns-clause-back c =
     let by = times_counted range_of_one c.args.outcome.now.gained.items c.args.first in
-    moves-back Increment Decrement by c.args.block.now c.count_all-2.new.block c.count_list.new.block refl
+    moves-back Increment Decrement by c.args.block.now c.count_all-2.new.block c.count_list.new.block (λ is. cc)
     (moves-flagged Increment by c.args.block.now c.count_all.new.block c.count_all-2.new.block c.in-Err-count_all.ensures.back.1
     (rw c.as_slice-gained.ensures.value at c.in_default.ensures.changed).counters)
     (rw (c.unwrap.ensures, c.as_slice-gained.ensures.value) at c.count_list.ensures.changed).counters
