@@ -86,9 +86,6 @@ further size from n some =
       on = moved;
     }
 
-clusters_below : (size n count : ℕ) → 0 < size → n < count * size → n / size < count
-clusters_below size n count some below = (div-lt_iff_lt-mul some).1 below
-
 -- a run in a table is a piece: its bytes read as one, and their entries are in that table
 run_reads_as_one : (table : TableState) (from count length : ℕ) → IsMappedRun table (from / 2 ^ table.geometry.cluster_bits) count
     → from % 2 ^ table.geometry.cluster_bits + length ≤ count * 2 ^ table.geometry.cluster_bits
@@ -98,7 +95,7 @@ run_reads_as_one table from count length run fits = λ n below.
     let k = (from % 2 ^ cb + n) / 2 ^ cb in
     let e = (from % 2 ^ cb + n) % 2 ^ cb in
     let at : IsFurther (2 ^ cb) from n k e = further (2 ^ cb) from n (pow_pos cb) in
-    let few : k < count = clusters_below (2 ^ cb) (from % 2 ^ cb + n) count (pow_pos cb) (omega (arith, below, fits)) in
+    let few : k < count = (div-lt_iff_lt-mul (pow_pos cb)).1 (omega (arith, below, fits)) in
     rw (at.cluster, at.distance) (ap (λ content. Ok content) (content_moves cb k (from % 2 ^ cb) e n _ _ (run.each k few) at.on))
 
 run_is_in_one_table : (table : TableState) (from count to : ℕ) → IsMappedRun table (from / 2 ^ table.geometry.cluster_bits) count
@@ -113,7 +110,7 @@ run_is_in_one_table table from count to run fits = λ offset above below.
     let at : IsFurther (2 ^ cb) from n k e = further (2 ^ cb) from n (pow_pos cb) in
     let same : from + n ≡ offset = omega (arith, above) in
     let cluster : offset / 2 ^ cb ≡ from / 2 ^ cb + k = rw same at at.cluster in
-    let few : k < count = clusters_below (2 ^ cb) (from % 2 ^ cb + n) count (pow_pos cb) (omega (arith, above, below, fits)) in
+    let few : k < count = (div-lt_iff_lt-mul (pow_pos cb)).1 (omega (arith, above, below, fits)) in
     let first = from / 2 ^ cb in
     let whole : first + k ≡ first / size * size + (first % size + k) = omega (arith, div-add-mod' first size) in
     rw (cluster, whole) (div-mul-add (first / size) size (first % size + k) (omega (arith, run.within, few)))
@@ -199,10 +196,7 @@ pub refused_at_start : (contents : Contents) (size start : ℕ) (fault : Fault) 
     → (fault ≡ Storage) ⊎ (fault ≡ NoMemory) ⊎ (contents start ≡ Err fault) → RefusesExtent contents size start fault
 refused_at_start contents size start fault within why = refused-as fault (λ refused. grind (arith, nat_tests)) why
 
--- the disk is as long later too, where a reader stays
-pub size_stays : (reader later : ExtentsState) → later ≡ record reader { table = later.table } → later.header.v2.size ≡ reader.header.v2.size
-size_stays reader later same = ap (λ (r : ExtentsState). r.header.v2.size) same
-
+-- a reader that stays twice
 pub stays_twice : (old new : StorageState) (first second third : ExtentsState) → OnlyReads {T = ℕ} (Ok 0) old new → StaysReader old first second → StaysReader new second third → StaysReader old first third
 stays_twice old new first second third reads one other = grind (arith, nat_tests)
 

@@ -1,6 +1,6 @@
 use Rattle.std.proofs.Common.{ap, ◌≡◌, ◌∙◌, ◌<◌, Ok, refl, rules, arith}
 use Rattle.std.proofs.lemmas.Result.{err_from_is_err_and}
-use Rattle.qcow2_session.proofs.ExtentsLemmas.{extent_that_ends, pieces_join, reads_any, refused_at_end, refused_at_start, size_stays, stays_twice}
+use Rattle.qcow2_session.proofs.ExtentsLemmas.{extent_that_ends, pieces_join, reads_any, refused_at_end, refused_at_start, stays_twice}
 use Rattle.qcow2_session.proofs.LookupsLemmas.{reads-then}
 use Rattle.qcow2_session.specs.Extents.{Contents, ExtentsState, contents_for}
 use Rattle.qcow2_session.proofs.extents.Extents.pass_extent.Goals as goal
@@ -53,7 +53,7 @@ loop-end-preserved g c =
     record {
       start = kept.start;
       some = omega (arith, kept.some, more.0);
-      within = omega (arith, more.1, size_stays c.args.self.now c.loop-end.self kept.reader.same);
+      within = omega (arith, more.1, ap (λ (reader : ExtentsState). reader.header.v2.size) kept.reader.same);
       size = kept.size;
       reads = λ told.
           let piece = rw (kept.reader.same, kept.storage.bytes) at (c.in_ok-next.ensures.told (kept.storage.device.tells ∙ told)) in
