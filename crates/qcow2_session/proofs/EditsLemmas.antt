@@ -1,4 +1,4 @@
-use Rattle.std.proofs.Common.{◌≡◌, ℕ, true, not, ◌&&◌, nat_le, nat_eq, ◌+◌, ◌-◌, ◌/◌, ◌^◌, ◌<◌, if◌then◌else◌, Option, None, option_map, List, map, ◌∷◌, ◌++◌, length, take, drop, get_or, suc, option_to_list, append_assoc, append-nil, ap, refl, ◌∙◌, arith}
+use Rattle.std.proofs.Common.{◌≡◌, ℕ, Bool, true, not, ◌&&◌, nat_le, nat_eq, ◌+◌, ◌-◌, ◌/◌, ◌^◌, ◌<◌, if◌then◌else◌, Option, None, option_map, List, [], map, ◌∷◌, ◌++◌, length, take, drop, get_or, suc, option_to_list, append_assoc, append-nil, ap, refl, sym, ◌∙◌, arith}
 use Rattle.std.proofs.Math.Nat.{le-div_iff_mul-le}
 use Rattle.std.proofs.lemmas.Nat.{pow_pos}
 use Rattle.std.proofs.lemmas.Bool.Decides.{nat_tests}
@@ -8,7 +8,8 @@ use Rattle.std.proofs.lemmas.List.Folds.{list_all-map}
 use Rattle.std.proofs.Math.Seq.{drop-cons}
 use Rattle.std.proofs.lemmas.List.{length-set, map-append, set-set}
 use Rattle.std.proofs.lemmas.List.Sums.{AllPass-from_list_all}
-use Rattle.std.specs.List.{list_all}
+use Rattle.std.proofs.lemmas.Iterator.Adapters.{position_from-zero}
+use Rattle.std.specs.List.{list_all, position, position_from}
 use Rattle.qcow2_base.specs.Types.{IsClusterBits}
 use Rattle.qcow2_base.specs.declared.types.HostCluster.{HostCluster}
 use Rattle.qcow2_metadata.proofs.L2GuardsLemmas.{balance-run}
@@ -16,7 +17,6 @@ use Rattle.qcow2_metadata.specs.Table.L2Guards.{RunEnd, TableEdit, after_edit, f
 use Rattle.qcow2_metadata.specs.Header.{Geometry}
 use Rattle.qcow2_metadata.specs.Table.{TableState, table_after_edit}
 use Rattle.qcow2_metadata.specs.declared.entries.ClustersToFreeEntry.{ClustersToFreeEntry}
-use Rattle.qcow2_session.proofs.FirstLemmas.{all_pass}
 use Rattle.qcow2_session.specs.Edits.{Balances, HasRoom, Makes, are_some, edits_left, first_unfit_edit, edit_fits, table_left, cluster_numbers, table_edit}
 use Rattle.qcow2_session.specs.declared.edits.Change.{Change}
 use Rattle.qcow2_session.specs.declared.edits.Edit.{Edit}
@@ -73,14 +73,22 @@ part_way-next edits done default before now next change outcome after below way 
       room = room (length edits - (done + 1)) (rw enough way.room);
     }
 
+all_pass-from : {X : Type 0} (test : X → Bool) (start : ℕ) (xs : List X) → position_from (λ x. not (test x)) start xs ≡ None → list_all test xs ≡ true
+all_pass-from test start [] none = refl
+all_pass-from test start (x ∷ xs) none = grind (arith, none, all_pass-from test (start + 1) xs)
+
+-- where no item is the first that fails a test, all pass it
+pub all_pass : {X : Type 0} (test : X → Bool) (xs : List X) → position (λ x. not (test x)) xs ≡ None → list_all test xs ≡ true
+all_pass test xs none = all_pass-from test 0 xs (sym (position_from-zero (λ x. not (test x)) xs) ∙ none)
+
 -- where none is the first that doesn't fit, all edits fit
 pub all_fit : (table : TableState) (edits : List Edit) → first_unfit_edit table edits ≡ None → list_all (fits_table table.geometry (length table.numbers)) (map table_edit edits) ≡ true
 all_fit table edits none =
     list_all-map (fits_table table.geometry (length table.numbers)) table_edit edits ∙ all_pass (edit_fits table) edits none
 
 -- what is left fits the table as it is
-pub part_way-fits : (edits : List Edit) (done : ℕ) (default : Edit) (before now : TableState) (outcome : Outcome) → first_unfit_edit before edits ≡ None → done < length edits → IsPartWay edits done before now outcome → edit_fits now (get_or edits done default) ≡ true
-part_way-fits edits done default before now outcome none below way =
+pub part_way_fits : (edits : List Edit) (done : ℕ) (default : Edit) (before now : TableState) (outcome : Outcome) → first_unfit_edit before edits ≡ None → done < length edits → IsPartWay edits done before now outcome → edit_fits now (get_or edits done default) ≡ true
+part_way_fits edits done default before now outcome none below way =
     let fits = AllPass-from_list_all (edit_fits before) edits (all_pass (edit_fits before) edits none) done default below in
     grind (arith, nat_tests, way.table, way.entries, fits)
 

@@ -1,4 +1,4 @@
-use Rattle.std.proofs.Common.{◌≡◌, ◌⊎◌, ◌↔◌, ℕ, true, false, Option, ◌+◌, ◌-◌, ◌*◌, ◌/◌, ◌%◌, ◌^◌, ◌<◌, ◌≤◌, min, List, [], ◌∷◌, ◌++◌, length, get_or, Some, None, Result, Ok, Err, IsOkAnd, MatchResult, refl, ap, subst, sym, ◌∙◌, inl, inr, arith}
+use Rattle.std.proofs.Common.{◌≡◌, ◌⊎◌, ◌↔◌, ℕ, true, false, Option, ◌+◌, ◌-◌, ◌*◌, ◌/◌, ◌%◌, ◌^◌, ◌<◌, ◌≤◌, min, List, [], ◌∷◌, ◌++◌, length, get_or, Some, None, Result, Ok, Err, IsOkAnd, MatchResult, refl, ap, sym, ◌∙◌, inl, inr, arith}
 use Rattle.std.proofs.lemmas.Bool.{cases_lt}
 use Rattle.std.proofs.lemmas.Bool.Decides.{nat_tests}
 use Rattle.std.proofs.lemmas.List.{get_or_past}
@@ -15,10 +15,10 @@ use Rattle.qcow2_metadata.proofs.EntriesLemmas.{div_rises}
 use Rattle.qcow2_metadata.specs.Entries.L2Mapping.{Mapping}
 use Rattle.qcow2_metadata.specs.Entries.Runs.{reads_on}
 use Rattle.qcow2_metadata.specs.Header.{Geometry}
-use Rattle.qcow2_metadata.specs.Table.{TableState, loaded_l2_table, mapping_at}
+use Rattle.qcow2_metadata.specs.Table.{TableState, l2_entries, loaded_l2_table, mapping_at}
 use Rattle.qcow2_metadata.specs.Table.L2Table.{IsMappedRun}
 use Rattle.qcow2_session.specs.Lookups.{l2_cluster, named_cluster}
-use Rattle.qcow2_session.specs.Extents.{AreExtents, AreInOneTable, Contents, ExtentsState, HasNoTable, IsExtent, IsPiece, ReadAsOne, RefusesExtent, StaysReader, content_in, contents_for, contents_in, contents_of, extent_of, moved_on}
+use Rattle.qcow2_session.specs.Extents.{AreExtents, AreInOneTable, Contents, ExtentsState, HasNoTable, IsExtent, IsPiece, ReadAsOne, RefusesExtent, StaysReader, content_in, contents_in, contents_of, extent_of, moved_on}
 use Rattle.qcow2_session.specs.declared.extents.Extent.{Extent}
 use Rattle.qcow2_session.specs.declared.extents.Content.{Content}
 
@@ -37,27 +37,27 @@ pub unnamed_from : (cb : ℕ) (l1 : List ℕ) (first index : ℕ) → length l1 
 unnamed_from cb l1 first index past before k from = grind (arith, before, get_or_past l1 k 0)
 
 -- the parts of the disk that this number of L2 tables is for
-tables_size : (cb n : ℕ) → 9 ≤ cb → n * 2 ^ (2 * cb - 3) ≡ n * 2 ^ (cb - 3) * 2 ^ cb
+tables_size : (cb n : ℕ) → 9 ≤ cb → n * 2 ^ (2 * cb - 3) ≡ n * l2_entries cb * 2 ^ cb
 tables_size cb n low =
     let whole : cb - 3 + cb ≡ 2 * cb - 3 = omega arith in
-    ap (λ x. n * x) (rw whole at (pow-add 2 (cb - 3) cb)) ∙ sym (mul_assoc n (2 ^ (cb - 3)) (2 ^ cb))
+    ap (λ x. n * x) (rw whole at (pow-add 2 (cb - 3) cb)) ∙ sym (mul_assoc n (l2_entries cb) (2 ^ cb))
 
 -- an offset is before the part of an L1 entry where its L1 index is less
-before_entry : (cb offset next : ℕ) → 9 ≤ cb → (offset / 2 ^ cb / 2 ^ (cb - 3) < next) ↔ (offset < next * 2 ^ (2 * cb - 3))
+before_entry : (cb offset next : ℕ) → 9 ≤ cb → (offset / 2 ^ cb / l2_entries cb < next) ↔ (offset < next * 2 ^ (2 * cb - 3))
 before_entry cb offset next low = grind (arith, nat_tests, tables_size, div-lt_iff_lt-mul, pow_pos)
 
-pub reaches_next : (cb from next : ℕ) → 9 ≤ cb → from / 2 ^ cb / 2 ^ (cb - 3) + 1 ≤ next → from < next * 2 ^ (2 * cb - 3)
+pub reaches_next : (cb from next : ℕ) → 9 ≤ cb → from / 2 ^ cb / l2_entries cb + 1 ≤ next → from < next * 2 ^ (2 * cb - 3)
 reaches_next cb from next low above = (before_entry cb from next low).0 (omega (arith, above))
 
 -- no L2 table is for the bytes up to the next L1 entry that names one
 pub no_table_before : (cb : ℕ) (l1 : List ℕ) (from next to : ℕ) → 9 ≤ cb → l2_cluster cb l1 (from / 2 ^ cb) ≡ None → to ≤ next * 2 ^ (2 * cb - 3)
-    → ((k : ℕ) → from / 2 ^ cb / 2 ^ (cb - 3) + 1 ≤ k → k < next → named_cluster cb (get_or l1 k 0) ≡ None)
+    → ((k : ℕ) → from / 2 ^ cb / l2_entries cb + 1 ≤ k → k < next → named_cluster cb (get_or l1 k 0) ≡ None)
     → HasNoTable cb l1 from to
 no_table_before cb l1 from next to low here end none =
     grind (arith, nat_tests, before_entry, div_rises, pow_pos)
 
 pub no_table_after : (cb : ℕ) (l1 : List ℕ) (from to : ℕ) → l2_cluster cb l1 (from / 2 ^ cb) ≡ None
-    → ((k : ℕ) → from / 2 ^ cb / 2 ^ (cb - 3) + 1 ≤ k → named_cluster cb (get_or l1 k 0) ≡ None)
+    → ((k : ℕ) → from / 2 ^ cb / l2_entries cb + 1 ≤ k → named_cluster cb (get_or l1 k 0) ≡ None)
     → HasNoTable cb l1 from to
 no_table_after cb l1 from to here none = grind (arith, nat_tests, div_rises, pow_pos)
 
@@ -86,11 +86,8 @@ further size from n some =
       on = moved;
     }
 
-clusters_below : (size n count : ℕ) → 0 < size → n < count * size → n / size < count
-clusters_below size n count some below = (div-lt_iff_lt-mul some).1 below
-
 -- a run in a table is a piece: its bytes read as one, and their entries are in that table
-pub run_reads_as_one : (table : TableState) (from count length : ℕ) → IsMappedRun table (from / 2 ^ table.geometry.cluster_bits) count
+run_reads_as_one : (table : TableState) (from count length : ℕ) → IsMappedRun table (from / 2 ^ table.geometry.cluster_bits) count
     → from % 2 ^ table.geometry.cluster_bits + length ≤ count * 2 ^ table.geometry.cluster_bits
     → ReadAsOne (contents_in table) from length (content_in table.geometry.cluster_bits (from % 2 ^ table.geometry.cluster_bits) (mapping_at table (from / 2 ^ table.geometry.cluster_bits)))
 run_reads_as_one table from count length run fits = λ n below.
@@ -98,22 +95,22 @@ run_reads_as_one table from count length run fits = λ n below.
     let k = (from % 2 ^ cb + n) / 2 ^ cb in
     let e = (from % 2 ^ cb + n) % 2 ^ cb in
     let at : IsFurther (2 ^ cb) from n k e = further (2 ^ cb) from n (pow_pos cb) in
-    let few : k < count = clusters_below (2 ^ cb) (from % 2 ^ cb + n) count (pow_pos cb) (omega (arith, below, fits)) in
+    let few : k < count = (div-lt_iff_lt-mul (pow_pos cb)).1 (omega (arith, below, fits)) in
     rw (at.cluster, at.distance) (ap (λ content. Ok content) (content_moves cb k (from % 2 ^ cb) e n _ _ (run.each k few) at.on))
 
-pub run_is_in_one_table : (table : TableState) (from count to : ℕ) → IsMappedRun table (from / 2 ^ table.geometry.cluster_bits) count
+run_is_in_one_table : (table : TableState) (from count to : ℕ) → IsMappedRun table (from / 2 ^ table.geometry.cluster_bits) count
     → from % 2 ^ table.geometry.cluster_bits + (to - from) ≤ count * 2 ^ table.geometry.cluster_bits
     → AreInOneTable table.geometry.cluster_bits from to
 run_is_in_one_table table from count to run fits = λ offset above below.
     let cb = table.geometry.cluster_bits in
-    let size = 2 ^ (cb - 3) in
+    let size = l2_entries cb in
     let n = offset - from in
     let k = (from % 2 ^ cb + n) / 2 ^ cb in
     let e = (from % 2 ^ cb + n) % 2 ^ cb in
     let at : IsFurther (2 ^ cb) from n k e = further (2 ^ cb) from n (pow_pos cb) in
     let same : from + n ≡ offset = omega (arith, above) in
     let cluster : offset / 2 ^ cb ≡ from / 2 ^ cb + k = rw same at at.cluster in
-    let few : k < count = clusters_below (2 ^ cb) (from % 2 ^ cb + n) count (pow_pos cb) (omega (arith, above, below, fits)) in
+    let few : k < count = (div-lt_iff_lt-mul (pow_pos cb)).1 (omega (arith, above, below, fits)) in
     let first = from / 2 ^ cb in
     let whole : first + k ≡ first / size * size + (first % size + k) = omega (arith, div-add-mod' first size) in
     rw (cluster, whole) (div-mul-add (first / size) size (first % size + k) (omega (arith, run.within, few)))
@@ -199,16 +196,7 @@ pub refused_at_start : (contents : Contents) (size start : ℕ) (fault : Fault) 
     → (fault ≡ Storage) ⊎ (fault ≡ NoMemory) ⊎ (contents start ≡ Err fault) → RefusesExtent contents size start fault
 refused_at_start contents size start fault within why = refused-as fault (λ refused. grind (arith, nat_tests)) why
 
--- what holds of an image by a reader holds later too, where both stay
-pub carried : (old new : Image) (reader later : ExtentsState) (P : Contents → ℕ → Type 0) → later ≡ record reader { table = later.table } → new ≡ old
-    → P (contents_for later new) later.header.v2.size → P (contents_for reader old) reader.header.v2.size
-carried old new reader later P same bytes holds =
-    let known = subst (λ (r : ExtentsState). P (contents_for r new) r.header.v2.size) same holds in
-    subst (λ (image : Image). P (contents_for reader image) reader.header.v2.size) bytes known
-
-pub size_stays : (reader later : ExtentsState) → later ≡ record reader { table = later.table } → later.header.v2.size ≡ reader.header.v2.size
-size_stays reader later same = ap (λ (r : ExtentsState). r.header.v2.size) same
-
+-- a reader that stays twice
 pub stays_twice : (old new : StorageState) (first second third : ExtentsState) → OnlyReads {T = ℕ} (Ok 0) old new → StaysReader old first second → StaysReader new second third → StaysReader old first third
 stays_twice old new first second third reads one other = grind (arith, nat_tests)
 
@@ -221,7 +209,7 @@ no_shorter : (contents : Contents) (size from length : ℕ) (content : Content) 
     → ReadAsOne contents from length content → from + length ≤ size → extent.length < length → ⊥
 no_shorter contents size from length content extent is same reads within less = grind (arith, nat_tests)
 
-pub extent_once : (contents : Contents) (size from : ℕ) (one other : Extent) → IsExtent contents size from one → IsExtent contents size from other → one ≡ other
+extent_once : (contents : Contents) (size from : ℕ) (one other : Extent) → IsExtent contents size from one → IsExtent contents size from other → one ≡ other
 extent_once contents size from one other first second =
     let content = begins_as contents from one.length one.content first.some first.reads in
     let same = begins_as contents from other.length other.content second.some second.reads in

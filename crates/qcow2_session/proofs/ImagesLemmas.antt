@@ -19,11 +19,11 @@ use Rattle.qcow2_session.specs.declared.edits.Edit.{Edit}
 use Rattle.qcow2_session.specs.declared.edits.Outcome.{Outcome}
 use Rattle.qcow2_session.specs.declared.steps.Step.{Step}
 
-pub writes-back : {G T : Type 0} (layout : Layout) (place : HostCluster) (held : Placed G) (answer : Result T Fault) (old new : StorageState)
+pub writes_back : {G T : Type 0} (layout : Layout) (place : HostCluster) (held : Placed G) (answer : Result T Fault) (old new : StorageState)
     → IsOfCluster layout place old held
     → (held.modified ≡ false → IsOk answer × (new ≡ old))
     → (held.modified ≡ true → Writes layout held.numbers held.cluster answer old new) → WritesBack layout place held answer old new
-writes-back layout place held answer old new of idle wrote = elim (cases_Bool held.modified) [
+writes_back layout place held answer old new of idle wrote = elim (cases_Bool held.modified) [
   | inl is ↦ let left = rw of.cluster at (wrote is) in grind (arith, left, of.valid, is)
   | inr is ↦ let left = idle is in grind (arith, left, of.unmodified is)
 ]
@@ -59,8 +59,8 @@ pub refused-edits : (header : HeaderRecord) (table : TableState) (edits : List E
 refused-edits header table edits fault g full refused = rw (← g, ← full) (refused-by _ _ fault refused)
 
 -- the refusal of steps that aren't in a block's bounds is the one by the number of its counters
-pub refused-steps : (header : HeaderRecord) (block : BlockState) (steps : List Step) (fault : Fault)
+pub refused_steps : (header : HeaderRecord) (block : BlockState) (steps : List Step) (fault : Fault)
     → length block.numbers ≡ block_entries header.v2.cluster_bits header.base.refcount_order
     → steps_or_refusal block steps ≡ Err fault
     → option_map BadStep (first_unfit_step (block_entries header.v2.cluster_bits header.base.refcount_order) steps) ≡ Some fault
-refused-steps header block steps fault full refused = rw (← full) (refused-by _ _ fault refused)
+refused_steps header block steps fault full refused = rw (← full) (refused-by _ _ fault refused)

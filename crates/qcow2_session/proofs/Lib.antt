@@ -3,7 +3,6 @@ pub mod ChangingLemmas
 pub mod CommandsLemmas
 pub mod EditsLemmas
 pub mod ExtentsLemmas
-pub mod FirstLemmas
 pub mod HexLemmas
 pub mod ImagesLemmas
 pub mod L2TablesLemmas

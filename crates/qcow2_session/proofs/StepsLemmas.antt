@@ -7,7 +7,7 @@ use Rattle.std.proofs.lemmas.List.Sums.{AllPass-from_list_all}
 use Rattle.std.specs.List.{list_all}
 use Rattle.qcow2_metadata.specs.Refblock.{BlockState, greatest_counter}
 use Rattle.qcow2_metadata.specs.Refblock.Guard.{Decrement, Increment, after_change, counter_after}
-use Rattle.qcow2_session.proofs.FirstLemmas.{all_pass}
+use Rattle.qcow2_session.proofs.EditsLemmas.{all_pass}
 use Rattle.qcow2_session.specs.Steps.{Counts, MakesStep, StepsEnd, are_some_done, change_of, steps_left, first_unfit_step, index_of, is_step, is_done, block_left, reply_of, run_of_steps, times_made}
 use Rattle.qcow2_session.specs.declared.steps.Step.{Step}
 use Rattle.qcow2_session.specs.declared.steps.StepReply.{StepReply}

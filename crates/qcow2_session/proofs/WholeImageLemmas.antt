@@ -55,14 +55,10 @@ header-kept header old new is kept =
     header_of-same old new (λ o below. kept o (omega arith, omega (arith, below, size, least)))
 
 -- that many entries are the bytes of a cluster
-pub full_cluster : (cb : ℕ) → 9 ≤ cb → 8 * 2 ^ (cb - 3) ≡ 2 ^ cb
+pub full_cluster : (cb : ℕ) → 9 ≤ cb → 8 * l2_entries cb ≡ 2 ^ cb
 full_cluster cb least =
     let three : 3 + (cb - 3) ≡ cb = omega (arith, least) in
     sym (pow-add 2 3 (cb - 3)) ∙ ap (λ k. 2 ^ k) three
-
--- a header has 9 cluster bits at least
-least_bits : (header : HeaderRecord) (image : Image) → header_of image ≡ Ok header → 9 ≤ header.v2.cluster_bits
-least_bits header image is = (header_of-is image header is).cluster_bits.0
 
 -- what shares no byte with the table that is changed is kept
 kept : (header : HeaderRecord) (cluster : HostCluster) (old new : Image) → ChangesL2Table header cluster old new
@@ -108,17 +104,11 @@ lookup-own header cluster old new change offset names =
     grind (arith, nat_tests, names, change.apart.begins, tables-kept header cluster old new change)
 
 -- a change of an L2 table reaches the lookups of its own offsets alone
-changes-own-lookups : (header : HeaderRecord) (cluster : HostCluster) (old new : Image) → ChangesL2Table header cluster old new → ChangesOwnLookups header cluster old new
-changes-own-lookups header cluster old new change = grind (arith, nat_tests, lookup-kept, lookup-own)
-
--- a write of the table of an image that has it apart
-changed-by : (g : Geometry) (header : HeaderRecord) (cluster : HostCluster) (old new : Image) → HasTableApart g cluster header old
-    → SameOutsideTable g cluster old new → ChangesL2Table header cluster old new
-changed-by g header cluster old new has outside = grind (arith, nat_tests)
-
 pub keeps-other-lookups : (g : Geometry) (cluster : HostCluster) (old new : Image) → SameOutsideTable g cluster old new
     → (header : HeaderRecord) → HasTableApart g cluster header old → ChangesOwnLookups header cluster old new
-keeps-other-lookups g cluster old new outside header has = changes-own-lookups header cluster old new (changed-by g header cluster old new has outside)
+keeps-other-lookups g cluster old new outside header has =
+    let change : ChangesL2Table header cluster old new = grind (arith, nat_tests, has, outside) in
+    record { others = lookup-kept header cluster old new change; own = lookup-own header cluster old new change }
 
 -- L2 tables of two clusters share no byte
 l2-apart : (g : Geometry) (a b : HostCluster) → 9 ≤ g.cluster_bits → a.0 ≢ b.0 → ShareNoByte (l2_bytes g a) (l2_bytes g b)
@@ -202,7 +192,7 @@ stays-sound header l1 cluster numbers old new sound change loads = record {
             before.0,
             lookup-kept header cluster old new change offset (λ table names.
                 let named : Ok (Some other) ≡ Ok (Some table) = rw (sound.begins, sound.l1_table, is) at names in
-                l2-apart (geometry_of header) table cluster (least_bits header old change.apart.begins) (λ is_cluster. differs (cc))) ∙ before.1,
+                l2-apart (geometry_of header) table cluster (header_of-is old header change.apart.begins).cluster_bits.0 (λ is_cluster. differs (cc))) ∙ before.1,
           )
     ]
 
@@ -229,6 +219,6 @@ sound-after header l1 cluster outcome numbers old new sound found outside loads 
 pub keeps-image-sound : (g : Geometry) (cluster : HostCluster) (outcome : Outcome) (numbers : List ℕ) (old new : Image)
     → SameOutsideTable g cluster old new → loaded_l2_table g cluster new ≡ Ok numbers
     → BalancesTable g cluster outcome old new → KeepsImageSound g cluster outcome old new
-keeps-image-sound g cluster outcome numbers old new outside loads balance = λ header l1 has.
-    rw (← has.geometry) (sound-after header l1 cluster outcome numbers old new has.sound has.table
-    (rw (← has.geometry) at outside) (rw (← has.geometry) at loads) (rw (← has.geometry) at balance))
+keeps-image-sound g cluster outcome numbers old new outside loads balance = λ header l1 k sound same found.
+    rw (← same) (sound-after header l1 cluster outcome numbers old new sound (k, found)
+    (rw (← same) at outside) (rw (← same) at loads) (rw (← same) at balance))

@@ -81,20 +81,10 @@ abbrev pub change_in : Direction → CounterChange
 change_in Up = Increment
 change_in Down = Decrement
 
--- the change that undoes a change
-abbrev pub opposite : CounterChange → CounterChange
-opposite Increment = Decrement
-opposite Decrement = Increment
-
 -- a counter that was changed that many times
 abbrev pub IsChangedBy : CounterChange → ℕ → ℕ → ℕ → Type 0
 IsChangedBy Increment by old new = new ≡ old + by
 IsChangedBy Decrement by old new = new + by ≡ old
-
--- a counter that can't be changed that many times: it would pass the greatest number, or 0
-abbrev pub LeavesRange : CounterChange → ℕ → ℕ → ℕ → Type 0
-LeavesRange Increment order by counter = greatest_counter order < counter + by
-LeavesRange Decrement order by counter = counter < by
 
 -- a block whose counters were changed, each its number of times; its flag is any
 pub record ChangesCounters (change : CounterChange) (by : ℕ → ℕ) (old new : BlockState) : Type 0 where
@@ -108,10 +98,11 @@ pub record ChangesBlock (change : CounterChange) (by : ℕ → ℕ) (old new : B
   pub counters : ChangesCounters change by old new
   pub flag : (new.modified ≡ true) ↔ ((old.modified ≡ true) ⊎ ((index : ℕ) × (index < length old.numbers) × (0 < by index)))
 
--- some counter can't be changed its number of times
+-- some counter can't be changed its number of times: it would pass the greatest number, or 0
 abbrev pub SomeLeavesRange : CounterChange → (ℕ → ℕ) → BlockState → Type 0
-SomeLeavesRange change by block = (index : ℕ) × (index < length block.numbers)
-    × LeavesRange change block.geometry.refcount_order (by index) (slice_index block.numbers index)
+SomeLeavesRange Increment by block = (index : ℕ) × (index < length block.numbers)
+    × (greatest_counter block.geometry.refcount_order < slice_index block.numbers index + by index)
+SomeLeavesRange Decrement by block = (index : ℕ) × (index < length block.numbers) × (slice_index block.numbers index < by index)
 
 -- whether the index is one of those from a start to before an end
 abbrev pub is_between : ℕ → ℕ → ℕ → Bool

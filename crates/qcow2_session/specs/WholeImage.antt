@@ -95,13 +95,9 @@ BalancesImage g l1 outcome old new = (c : ℕ) →
     image_references g l1 new c + handed_back outcome.freed.items c
     ≡ image_references g l1 old c + times_gained (cluster_numbers outcome.gained.items) c
 
--- a sound image with a header of this geometry, one of whose L2 tables begins with a cluster
-pub record HasSoundTable (g : Geometry) (cluster : HostCluster) (header : HeaderRecord) (l1 : List ℕ) (image : Image) : Type 0 where
-  pub sound : IsSoundImage image header l1
-  pub geometry : geometry_of header ≡ g
-  pub table : (k : ℕ) × (slice_get (l2_clusters header.v2.cluster_bits l1) k ≡ Some cluster)
-
--- where the image was sound and had the L2 table at a cluster, it stays sound, and no reference of it is lost
+-- where the image was sound, with a header of this geometry, and one of its L2 tables begins with a cluster, it stays sound
+-- after edits of that table, and no reference of it is lost
 abbrev pub KeepsImageSound : Geometry → HostCluster → Outcome → Image → Image → Type 0
-KeepsImageSound g cluster outcome old new = (header : HeaderRecord) (l1 : List ℕ) →
-    HasSoundTable g cluster header l1 old → IsSoundImage new header l1 × BalancesImage g l1 outcome old new
+KeepsImageSound g cluster outcome old new = (header : HeaderRecord) (l1 : List ℕ) (k : ℕ) →
+    IsSoundImage old header l1 → geometry_of header ≡ g → slice_get (l2_clusters header.v2.cluster_bits l1) k ≡ Some cluster →
+    IsSoundImage new header l1 × BalancesImage g l1 outcome old new

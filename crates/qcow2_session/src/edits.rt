@@ -227,6 +227,7 @@ pub fn edits_fit(table: &L2Table, edits: &[Edit]) -> Result<(), usize>
 }
 
 // Makes the edits, which all fit the table, one after the other. The outcome has room for what they do.
+#[tactic(auto, using(crate::proofs::EditsLemmas::part_way_fits))]
 fn make_edits(table: &mut L2Table, edits: &[Edit], outcome: &mut Outcome)
     requires fit { first_unfit_edit table.old edits.now ≡ None }
     requires gained { outcome.old.gained.items ≡ [] }

@@ -65,6 +65,7 @@ pub fn edit_image<S: Storage>(
 /// After a storage fault some pieces of the block may be written, then any bytes may be in one, and those
 /// after it are as before. What came of the steps is not returned. After any other fault no byte has changed.
 /// Bytes outside the block's cluster never do.
+#[tactic(auto, using(crate::proofs::ImagesLemmas::refused_steps))]
 pub fn step_image<S: Storage>(
     alloc: Global,
     image: &mut S,
@@ -94,6 +95,7 @@ pub fn step_image<S: Storage>(
 }
 
 // Writes a table to the cluster that it was loaded from, if it is modified. Else the image has it there.
+#[tactic(auto, using(crate::proofs::ImagesLemmas::writes_back))]
 fn write_table_back<S: Storage>(
     table: &mut L2Table,
     image: &mut S,
@@ -108,6 +110,7 @@ fn write_table_back<S: Storage>(
 }
 
 // Writes a block to the cluster that it was loaded from, if it is modified. Else the image has it there.
+#[tactic(auto, using(crate::proofs::ImagesLemmas::writes_back))]
 fn write_block_back<S: Storage>(
     block: &mut RefBlock,
     image: &mut S,

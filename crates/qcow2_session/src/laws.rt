@@ -9,9 +9,11 @@ ghost use Rattle.qcow2_metadata.specs.Refblock.{BlockState, greatest_counter};
 ghost use Rattle.qcow2_metadata.specs.Table.{TableState};
 ghost use Rattle.qcow2_metadata.specs.Table.L2Guards.{references, run_of, times_gained};
 ghost use Rattle.qcow2_session.specs.Edits.{Balances, cluster_numbers, table_edit};
+ghost use Rattle.qcow2_session.specs.Extents.{AreExtents, Contents};
 ghost use Rattle.qcow2_session.specs.Settled.{CoversReferences, Settles, block_or_refusal, settled_edits_or_refusal, first_counted};
 ghost use Rattle.qcow2_session.specs.declared.edits.Edit.{Edit};
 ghost use Rattle.qcow2_session.specs.declared.edits.Outcome.{Outcome};
+ghost use Rattle.qcow2_session.specs.declared.extents.Extent.{Extent};
 
 /// Where settling an outcome isn't refused, each counter of the block, with what its cluster lost, is the one
 /// before, with what it gained. The block counts as modified where one did either. All else stays.
@@ -33,6 +35,13 @@ pub fn counters_follow_references()
         + references old_table.geometry old_table.numbers (first + index)
         ≡ slice_index old_block.numbers index
         + references new_table.geometry new_table.numbers (first + index) }
+{}
+
+/// A disk has one map: extents that follow one another from offset 0 to its size are determined by what its
+/// bytes read as.
+pub fn a_disk_has_one_map()
+    ensures { (contents : Contents) (size : ℕ) (one other : List Extent) →
+        AreExtents contents size 0 one size → AreExtents contents size 0 other size → one ≡ other }
 {}
 
 /// Counters that were at least the table's references are so after settled edits too. Where they were, only a

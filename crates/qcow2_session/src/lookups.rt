@@ -118,6 +118,7 @@ pub(crate) fn load_l2_table<S: Storage>(
 
 /// The cluster that the L2 table of the L1 entry at an index begins with, if the entry names one. It ends by
 /// 2^56. Past the L1 table's end there is none.
+#[tactic(auto, using(crate::proofs::LookupsLemmas::l2_cluster_ends))]
 pub(crate) fn named_cluster(l1_table: &L1Table, index: usize) -> Option<HostCluster>
     ensures value { let cb = l1_table.now.geometry.cluster_bits in
         result ≡ named_cluster cb (slice_index l1_table.now.numbers index) }

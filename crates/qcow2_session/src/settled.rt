@@ -1,6 +1,6 @@
 //! Counters of a refcount block that follow what edits of a table did to references.
 
-ghost use Rattle.std.specs.Prelude.{◌≡◌, ℕ, ◌+◌, ◌<◌, ◌≤◌, if◌then◌else◌, Err, IfErr, IfOk, IfSome, None, OnOk, length, nat_lt, slice_index, take};
+ghost use Rattle.std.specs.Prelude.{◌≡◌, ◌≢◌, ℕ, ◌+◌, ◌<◌, ◌≤◌, if◌then◌else◌, Err, IfErr, IfOk, IfSome, None, OnOk, length, nat_lt, slice_index, take};
 ghost use Rattle.qcow2_base.specs.declared.fault.Fault.TheVariants.{CounterRange, ExternalData};
 ghost use Rattle.qcow2_metadata.specs.Results.{Computes, result_map};
 ghost use Rattle.qcow2_metadata.specs.Table.L2Guards.{one_if};
@@ -10,7 +10,7 @@ ghost use Rattle.qcow2_metadata.specs.Refblock.Counters.{AreCounters};
 ghost use Rattle.qcow2_metadata.specs.Refblock.Guard.{Steps, counter_after};
 ghost use Rattle.qcow2_metadata.specs.declared.entries.ClustersToFreeEntry.{ClustersToFreeEntry as Clusters};
 ghost use Rattle.qcow2_session.specs.Edits.{Balances, cluster_numbers, edits_left};
-ghost use Rattle.qcow2_session.specs.Settled.{ChangesBlock, ChangesCounters, IsSameButFlag, SomeLeavesRange, block_or_refusal, change_in, settled_edits_or_refusal, first_counted, first_refusal, is_between, opposite, range_of_one, times_counted};
+ghost use Rattle.qcow2_session.specs.Settled.{ChangesBlock, ChangesCounters, IsSameButFlag, SomeLeavesRange, block_or_refusal, change_in, settled_edits_or_refusal, first_counted, first_refusal, is_between, range_of_one, times_counted};
 
 use crate::{Edit, Outcome, edit_table, edits_fit};
 use qcow2_base::{ClusterCount, Fault, HostCluster};
@@ -25,9 +25,9 @@ enum Direction {
 }
 
 impl Direction {
-    // The direction that undoes this one.
+    // The other direction, which undoes this one.
     fn back(self) -> Direction
-        ensures { change_in result ≡ opposite (change_in self) }
+        ensures { change_in result ≢ change_in self }
     {
         match self {
             Direction::Up => Direction::Down,

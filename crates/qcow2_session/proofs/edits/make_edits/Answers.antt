@@ -1,9 +1,5 @@
-use Rattle.std.proofs.Common.{arith}
-use Rattle.qcow2_session.proofs.EditsLemmas.{part_way-fits, part_way-next}
+use Rattle.qcow2_session.proofs.EditsLemmas.{part_way-next}
 use Rattle.qcow2_session.proofs.edits.make_edits.Goals as goal
-
-pub make-requires : goal.make-requires
-make-requires c = grind (arith, part_way-fits)
 
 pub loop-edit-preserved : goal.loop-edit-preserved
 loop-edit-preserved c =

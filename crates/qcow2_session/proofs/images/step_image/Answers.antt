@@ -1,11 +1,7 @@
-use Rattle.std.proofs.Common.{sym, arith, rules}
+use Rattle.std.proofs.Common.{sym, rules}
 use Rattle.qcow2_session.specs.Images.{block_in}
-use Rattle.qcow2_session.proofs.ImagesLemmas.{refused-steps}
 use Rattle.qcow2_session.proofs.StepsLemmas.{block-idle, counts-same}
 use Rattle.qcow2_session.proofs.images.step_image.Goals as goal
-
-pub returns-in_err-replies-clause-faults : goal.returns-in_err-replies-clause-faults
-returns-in_err-replies-clause-faults g c = grind (arith, refused-steps)
 
 pub write_block_back-requires : goal.write_block_back-requires
 write_block_back-requires g c = record {
