@@ -1,5 +1,5 @@
 use Rattle.std.proofs.Common.{map, arith}
-use Rattle.qcow2_metadata.proofs.EditsLemmas.{balance-run}
+use Rattle.qcow2_metadata.proofs.L2GuardsLemmas.{balance-run}
 use Rattle.qcow2_metadata.specs.Refblock.{BlockState}
 use Rattle.qcow2_metadata.specs.Table.L2Guards.{run_of}
 use Rattle.qcow2_session.proofs.EditsLemmas.{all_fit}
