@@ -1,6 +1,6 @@
 use Rattle.std.proofs.Common.{◌≡◌, ℕ, ◌+◌, ◌-◌, ◌*◌, ◌%◌, ◌<◌, ◌≤◌, ◌↔◌, ◌^◌, false, nat_le, max, min, None, Some, refl, inl, inr, arith, pow_mono}
 use Rattle.std.specs.Int.{div_ceil, next_multiple_of}
-use Rattle.std.proofs.Math.Nat.{div-add-mod, lt_of_mul-lt-mul_right, mod-eq_of_lt, mod_self, mul-div_cancel, mul-le-mul_right}
+use Rattle.std.proofs.Math.Nat.{div-add-mod, lt_of_mul-lt-mul_right, mod-eq_of_lt, mod_self, mul-add, mul-div_cancel, mul-le-mul_right}
 use Rattle.std.proofs.lemmas.Bool.{cases_lt}
 use Rattle.std.proofs.lemmas.Bool.Decides.{nat_tests}
 use Rattle.std.proofs.lemmas.Grind.{div_ceil_times}
@@ -43,11 +43,7 @@ pub record IsRoomy (g : Growth) : Type 0 where
 
 -- m times a number is m times the one below it, and m more
 times_less : (n m : ℕ) → 1 ≤ n → m * n ≡ m * (n - 1) + m
-times_less n m some =
-    let rest = n - 1 in
-    let all : n ≡ rest + 1 = omega (arith, some) in
-    let times : m * (rest + 1) ≡ m * rest + m = omega arith in
-    rw (← all) at times
+times_less n m some = grind (arith, nat_tests, mul-add)
 
 -- the entries that are wanted fit the clusters that spare blocks count exactly where these are enough. A block counts
 -- its own cluster, and as many of the table as it has other counters
@@ -82,8 +78,8 @@ entries_with-more g a b some more =
     (mul-le-mul_right g.cluster_entries fewer)
 
 -- where a cluster has 64 entries and a block 64 counters at least
-pub IsRoomy-of : (g : Growth) → 64 ≤ g.cluster_entries → 64 ≤ g.block_counters → IsRoomy g
-IsRoomy-of g entries counters = grind (arith, nat_tests, mul-le-mul_right)
+pub IsRoomy_of : (g : Growth) → 64 ≤ g.cluster_entries → 64 ≤ g.block_counters → IsRoomy g
+IsRoomy_of g entries counters = grind (arith, nat_tests, mul-le-mul_right)
 
 -- so it is in every image
 pub IsRoomy-image : (header : HeaderRecord) (len index : ℕ) → IsClusterBits header.v2.cluster_bits → header.base.refcount_order ≤ 6 → IsRoomy (growth_of header len index)
@@ -92,15 +88,15 @@ IsRoomy-image header len index bits order =
     let counter_bits : 6 ≤ header.v2.cluster_bits + 3 - header.base.refcount_order = omega (arith, bits.0, order) in
     let entries : 2 ^ 6 ≤ 2 ^ (header.v2.cluster_bits - 3) = pow_mono entry_bits in
     let counters : 2 ^ 6 ≤ 2 ^ (header.v2.cluster_bits + 3 - header.base.refcount_order) = pow_mono counter_bits in
-    IsRoomy-of (growth_of header len index) entries counters
+    IsRoomy_of (growth_of header len index) entries counters
 
 -- where a number isn't enough, the least is no less than what its blocks would need
 pub needed-least : (g : Growth) (spare least : ℕ) → IsRoomy g → spare ≤ least → IsEnough g least → div_ceil (clusters_with g spare + spare) g.block_counters ≤ least
 needed-least g spare least roomy below enough = grind (arith, nat_tests, clusters_with-more, div_ceil-le)
 
 -- the result, where the number that is tried is the least, and where it takes too many entries already
-pub possible_spare-found : (g : Growth) (spare : ℕ) → IsRoomy g → spare ≤ least_spare g → IsEnough g spare → entries_with g spare ≤ most_reftable_entries → Some spare ≡ possible_spare g
-possible_spare-found g spare roomy below enough few = grind (arith, nat_tests, least-enough)
+pub possible_spare-found : (g : Growth) (spare : ℕ) → IsRoomy g → spare ≤ least_spare g → div_ceil (clusters_with g spare + spare) g.block_counters ≤ spare → entries_with g spare ≤ most_reftable_entries → Some spare ≡ possible_spare g
+possible_spare-found g spare roomy below needed few = grind (arith, nat_tests, least-enough, div_ceil-le)
 
 pub possible_spare-none : (g : Growth) (spare : ℕ) → IsRoomy g → spare ≤ least_spare g → most_reftable_entries < entries_with g spare → None ≡ possible_spare g
 possible_spare-none g spare roomy below many =

@@ -42,8 +42,7 @@ references-map g f (v ∷ vs) c same =
     omega (arith, ap one_if (same v), references-map g f vs c same, sum_by-cons refer (f v) (map f vs), sum_by-cons refer v vs)
 
 pub references-shared : (g : Geometry) (numbers : List ℕ) (c : ℕ) → 9 ≤ g.cluster_bits → g.cluster_bits ≤ 21 → references g (map (entry_in_copy g.external_data_file) numbers) c ≡ references g numbers c
-references-shared g numbers c low high =
-    references-map g (entry_in_copy g.external_data_file) numbers c (λ v. shared-meets g v c low high)
+references-shared g numbers c low high = grind (arith, references-map, shared-meets)
 
 -- what is below 2 ^ 56 in the lowest bits is so without bit 63
 low_bits_below : (v k : ℕ) → v % 2 ^ k < 2 ^ 56 → v % 2 ^ 63 % 2 ^ k < 2 ^ 56

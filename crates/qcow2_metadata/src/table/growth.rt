@@ -60,6 +60,7 @@ pub(super) fn entries_with(len: usize, index: usize, spare: usize, cluster_entri
 ///
 /// Tries at most as many numbers as the least is, also where the table would have too many entries, and
 /// takes no memory.
+#[tactic(auto, using(crate::proofs::GrowthLemmas::IsRoomy_of))]
 pub fn least_spare(len: usize, index: usize, header: &Header, turns: &mut Turns) -> Option<usize>
     requires index { index < most_reftable_entries }
     requires fresh { turns.old.count ≡ 0 }

@@ -1,16 +1,13 @@
-use Rattle.std.proofs.Common.{rules}
+use Rattle.std.proofs.lemmas.Bool.Decides.{nat_tests}
+use Rattle.std.proofs.Common.{rules, arith}
 use Rattle.std.proofs.lemmas.Result.{err_from_is_err_and}
 use Rattle.qcow2_metadata.proofs.placed.Placement.write.Goals as goal
 
 pub returns-in_err-offset-clause-flag : goal.returns-in_err-offset-clause-flag
-returns-in_err-offset-clause-flag g c =
-    let exit = err_from_is_err_and c.from_residual.result c.from_residual.ensures.1 in
-    rw (exit.1, exit.2) (search rules)
+returns-in_err-offset-clause-flag g c = grind (arith, nat_tests, err_from_is_err_and)
 
 pub returns-in_err-offset-clause-written : goal.returns-in_err-offset-clause-written
-returns-in_err-offset-clause-written g c =
-    let exit = err_from_is_err_and c.from_residual.result c.from_residual.ensures.1 in
-    rw (exit.1, exit.2) (search rules)
+returns-in_err-offset-clause-written g c = grind (arith, nat_tests, err_from_is_err_and)
 
 pub returns-in-Ok-clause-written : goal.returns-in-Ok-clause-written
 returns-in-Ok-clause-written g c = record {

@@ -1,9 +1,10 @@
+use Rattle.std.proofs.lemmas.Bool.Decides.{nat_tests}
+use Rattle.std.proofs.Common.{arith}
 use Rattle.qcow2_metadata.proofs.RefblockLemmas.{counter_holds, set-valid}
 use Rattle.qcow2_metadata.proofs.refblock.RefBlock.set.Goals as goal
 
 pub set-requires-clause-fits : goal.set-requires-clause-fits
-set-requires-clause-fits c =
-    counter_holds c.self.inside.refcount_order c.self.inside.counters c.args.counter c.self.invariant.0 (rw (← c.self.view_is) at c.requires.counter)
+set-requires-clause-fits c = grind (arith, nat_tests, counter_holds)
 
 pub invariant_of-self : goal.invariant_of-self
 invariant_of-self c =

@@ -1,4 +1,5 @@
 use Rattle.std.proofs.Common.{◌-◌, ◌<◌, ◌≤◌}
+use Rattle.qcow2_metadata.proofs.GrowthLemmas.{IsRoomy}
 use Rattle.qcow2_metadata.specs.Table.Growth.{growth_of, least_spare}
 use Rattle.qcow2_metadata.proofs.table.growth.least_spare.Given as goal
 
@@ -9,6 +10,7 @@ invariant-loop-len l = record {
   turns : l.turns.count < l.spare;
   least : l.spare ≤ least_spare (growth_of l.header l.len l.index);
   len : l.len ≤ 4194304;
+  roomy : IsRoomy (growth_of l.header l.len l.index);
 }
 
 abbrev pub decreases-loop-len : goal.decreases-loop-len
