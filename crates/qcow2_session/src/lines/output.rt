@@ -71,9 +71,12 @@ pub(crate) fn write_out<W: Write>(bytes: &[u8], writer: &mut W) -> usize
 {
     let mut written = 0;
     for _ in 0..u64::MAX {
+        if written == bytes.len() {
+            return written;
+        }
         let (count, is_failed) = write_part(&bytes[written..], writer);
         written += count;
-        if is_failed || written == bytes.len() {
+        if is_failed {
             return written;
         }
     }
