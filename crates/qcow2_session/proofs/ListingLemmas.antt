@@ -1,5 +1,5 @@
 use Rattle.std.proofs.lemmas.Bool.Decides.{nat_tests}
-use Rattle.std.proofs.Common.{◌≡◌, ◌≢◌, ◌⊎◌, ℕ, zero, suc, add-zero, inl, inr, ◌+◌, ◌-◌, ◌*◌, ◌%◌, ◌^◌, ◌<◌, ◌≤◌, List, [], ◌∷◌, ◌++◌, length, get_or, map, take, Option, Result, Ok, Err, IsTrue, ap, sym, ◌∙◌, append_assoc, append-nil, arith}
+use Rattle.std.proofs.Common.{◌≡◌, ◌≢◌, ◌⊎◌, ℕ, zero, suc, add-zero, inl, inr, ◌+◌, ◌-◌, ◌*◌, ◌%◌, ◌^◌, ◌<◌, ◌≤◌, List, [], ◌∷◌, ◌++◌, length, get_or, map, take, Option, Result, Ok, Err, IsTrue, ap, sym, refl, ◌∙◌, append_assoc, append-nil, arith}
 use Rattle.std.specs.List.{concat}
 use Rattle.std.specs.Io.KnownBytes.{Appends}
 use Rattle.std.proofs.KnownBytes.{Appends-nil, Appends-trans}
@@ -12,7 +12,8 @@ use Rattle.qcow2_base.specs.declared.fault.Fault.{Fault}
 use Rattle.qcow2_base.specs.declared.fault.Fault.TheVariants.{NoMemory, Storage}
 use Rattle.qcow2_metadata.specs.Header.{Geometry, geometry_of}
 use Rattle.qcow2_metadata.specs.Entries.L2Mapping.{Mapping, mapping}
-use Rattle.qcow2_session.proofs.PrintingLemmas.{read_fault-of}
+use Rattle.qcow2_session.proofs.PrintingLemmas.{prints_no-more, read_fault-of, then_prints}
+use Rattle.qcow2_session.specs.Commands.Printing.{PrintsText}
 use Rattle.qcow2_session.specs.Commands.Entries.{entry_line, entry_lines, table_lines}
 use Rattle.qcow2_session.specs.Commands.List.{PrintsList, PrintsTables, PrintsTablesBefore, TableTexts, texts_left, texts_of}
 use Rattle.qcow2_session.specs.L2Tables.{NamedTables, RefusesTable, WalkState, tables_left}
@@ -42,6 +43,15 @@ entry_lines-take-suc label g from (x ∷ xs) (suc i) below =
     let here = entry_line g.cluster_bits (label from) (mapping g from x) in
     ap (λ t. here ++ t) rest ∙ sym (append_assoc here _ _)
 
+-- the lines of the first entries come first
+entry_lines-begin : (label : ℕ → List ℕ) (g : Geometry) (from : ℕ) (xs : List ℕ) (i : ℕ) → (rest : List ℕ) × (entry_lines label g from xs ≡ entry_lines label g from (take i xs) ++ rest)
+entry_lines-begin label g from xs zero = (entry_lines label g from xs, refl)
+entry_lines-begin label g from [] (suc i) = ([], refl)
+entry_lines-begin label g from (x ∷ xs) (suc i) =
+    let others = entry_lines-begin label g (from + 1) xs i in
+    let here = entry_line g.cluster_bits (label from) (mapping g from x) in
+    (others.0, ap (λ t. here ++ t) others.1 ∙ sym (append_assoc here _ _))
+
 -- after the lines of the entries before i comes that of entry i of the table for an L1 index
 pub table_lines-more : (a b c : Option (List ℕ)) (label : ℕ → List ℕ) (g : Geometry) (index : ℕ) (xs : List ℕ) (i : ℕ) (found : Mapping) → i < length xs → length xs ≡ 2 ^ (g.cluster_bits - 3)
     → found ≡ mapping g (index * 2 ^ (g.cluster_bits - 3) + i) (get_or xs ((index * 2 ^ (g.cluster_bits - 3) + i) % 2 ^ (g.cluster_bits - 3)) 0)
@@ -50,6 +60,19 @@ pub table_lines-more : (a b c : Option (List ℕ)) (label : ℕ → List ℕ) (g
     → Appends a c (entry_lines label g (index * 2 ^ (g.cluster_bits - 3)) (take (i + 1) xs))
 table_lines-more a b c label g index xs i found below count is before here =
     grind (arith, mod-mul-add, Appends-trans, entry_lines-take-suc)
+
+-- the line of an entry failed
+pub table_lines-failed : {T U : Type 0} (fault : Fault) (a b c : Option (List ℕ)) (label : ℕ → List ℕ) (g : Geometry) (index : ℕ) (xs : List ℕ) (i : ℕ) (found : Mapping) → i < length xs → length xs ≡ 2 ^ (g.cluster_bits - 3)
+    → found ≡ mapping g (index * 2 ^ (g.cluster_bits - 3) + i) (get_or xs ((index * 2 ^ (g.cluster_bits - 3) + i) % 2 ^ (g.cluster_bits - 3)) 0)
+    → Appends a b (entry_lines label g (index * 2 ^ (g.cluster_bits - 3)) (take i xs))
+    → PrintsText {T = U} (Err fault) b c (entry_line g.cluster_bits (label (index * 2 ^ (g.cluster_bits - 3) + i)) found)
+    → PrintsText {T = T} (Err fault) a c (entry_lines label g (index * 2 ^ (g.cluster_bits - 3)) xs)
+table_lines-failed fault a b c label g index xs i found below count is before failed =
+    let first = index * 2 ^ (g.cluster_bits - 3) in
+    let begin = entry_lines-begin label g first xs (suc i) in
+    let next = entry_lines-take-suc label g first xs i below in
+    let there : (first + i) % 2 ^ (g.cluster_bits - 3) ≡ i = grind (arith, mod-mul-add) in
+    rw (begin.1, next) (prints_no-more fault a c _ begin.0 (then_prints (Err fault) a b c _ _ before (rw (is, there) at failed)))
 
 -- the lines of tables after those of others
 pub tables-printed : (some more : List (List ℕ)) (a b c : Option (List ℕ)) → Appends a b (concat some) → Appends b c (concat more) → Appends a c (concat (some ++ more))

@@ -1,21 +1,28 @@
 use Rattle.std.proofs.lemmas.Bool.Decides.{nat_tests}
-use Rattle.std.proofs.Common.{◌≡◌, ◌≢◌, ◌⊎◌, ℕ, ◌+◌, ◌<◌, List, [], ◌∷◌, ◌++◌, append-nil, flat_map, take_all, get_or, length, take, Option, Result, Ok, Err, IsTrue, refl, arith}
+use Rattle.std.proofs.Common.{◌≡◌, ◌≢◌, ◌⊎◌, ℕ, ◌+◌, ◌<◌, List, [], ◌∷◌, ◌++◌, append-nil, flat_map, take_all, get_or, length, take, drop, take-append-drop, Bool, true, false, Option, Result, Ok, Err, IsTrue, refl, arith}
 use Rattle.std.specs.Result.{IsOkUnless}
 use Rattle.std.specs.Io.KnownBytes.{Appends}
 use Rattle.std.proofs.KnownBytes.{Appends-trans}
 use Rattle.std.proofs.lemmas.Grind.{flat_map-append}
 use Rattle.std.proofs.lemmas.List.{take_more}
 use Rattle.std.proofs.lemmas.List.Folds.{flat_map-map}
-use Rattle.std.proofs.lemmas.Result.{on_ok_weaker}
 use Rattle.qcow2_base.specs.Storage.{Image, OnlyReads, SameDevice, StorageState}
 use Rattle.qcow2_base.specs.declared.fault.Fault.{Fault}
 use Rattle.qcow2_base.specs.declared.fault.Fault.TheVariants.{NoMemory, Storage}
 use Rattle.qcow2_metadata.specs.Results.{result_map}
+use Rattle.qcow2_session.proofs.OutputLemmas.{part-after, part-of_more}
+use Rattle.qcow2_session.specs.Lines.Output.{Gets, output_result}
+use Rattle.qcow2_session.specs.declared.lines.output.Output.{Output}
 use Rattle.qcow2_session.specs.Commands.Printing.{IsReadFault, Prints, PrintsLast, PrintsText}
 
 -- what was printed before, and then these lines, if the print of these succeeds
 pub then_prints : {T : Type 0} (answer : Result T Fault) (a b c : Option (List ℕ)) (lines more : List ℕ) → Appends a b lines → PrintsText answer b c more → PrintsText answer a c (lines ++ more)
-then_prints answer a b c lines more before after = record { fault = after.fault; text = on_ok_weaker answer (Appends-trans a b c lines more before) after.text }
+then_prints (Ok done) a b c lines more before after = record { fault = after.fault; text = Appends-trans a b c lines more before after.text; part = tt }
+then_prints (Err fault) a b c lines more before after = record { fault = after.fault; text = tt; part = part-after a b c lines more before after.part }
+
+-- a print that failed, of lines that more would have followed
+pub prints_no-more : {T U : Type 0} (fault : Fault) (a b : Option (List ℕ)) (lines more : List ℕ) → PrintsText {T = U} (Err fault) a b lines → PrintsText {T = T} (Err fault) a b (lines ++ more)
+prints_no-more fault a b lines more failed = record { fault = failed.fault; text = tt; part = part-of_more a b lines more failed.part }
 
 -- why a call is refused, where one reason leads to another
 pub refused-as : {P Q : Type 0} (fault : Fault) → (P → Q) → (fault ≡ Storage) ⊎ (fault ≡ NoMemory) ⊎ P → (fault ≡ Storage) ⊎ (fault ≡ NoMemory) ⊎ Q
@@ -39,11 +46,29 @@ printed-more line items i default a b c below before here =
     rw (take_more items i default below, flat_map-append line (take i items) (get_or items i default ∷ []), append-nil (line (get_or items i default)))
     (Appends-trans a b c _ _ before here)
 
+-- what an output got by its end
+pub text_finished : {W : Type 0} (contents : W → Option (List ℕ)) (lent new : W) (a b : Output W) (answer : Result (Unit {0}) Fault) (text : List ℕ)
+    → a.writer.now ≡ lent → new ≡ b.writer.now → Gets contents a b text → answer ≡ output_result b.has_failed → PrintsText answer (contents lent) (contents new) text
+text_finished contents lent new a b answer text begins ends got is = by_flag b.has_failed refl
+  where
+    by_flag : (failed : Bool) → b.has_failed ≡ failed → PrintsText answer (contents lent) (contents new) text
+    by_flag true failed = rw (is, failed, ends, ← begins) (record { fault = refl; text = tt; part = rw failed at got })
+    by_flag false calm = rw (is, calm, ends, ← begins) (record { fault = tt; text = rw calm at got; part = tt })
+
+-- the line of one item failed
+pub failed_at : {X T U : Type 0} (line : X → List ℕ) (items : List X) (i : ℕ) (default : X) (fault : Fault) (a b c : Option (List ℕ)) → i < length items
+    → Appends a b (flat_map line (take i items)) → PrintsText {T = U} (Err fault) b c (line (get_or items i default)) → PrintsText {T = T} (Err fault) a c (flat_map line items)
+failed_at {X = X} line items i default fault a b c below before failed =
+    let begun = take_more items i default below in
+    let whole : take (i + 1) items ++ drop (i + 1) items ≡ items = take-append-drop (i + 1) items in
+    rw (← whole, flat_map-append line (take (i + 1) items) (drop (i + 1) items), begun, flat_map-append line (take i items) (get_or items i default ∷ []), append-nil (line (get_or items i default)))
+    (prints_no-more fault a c (flat_map line (take i items) ++ line (get_or items i default)) _ (then_prints (Err fault) a b c _ _ before failed))
+
 -- what lists of lines are printed by
 pub ruleset lines_printed = (printed-more, take_all)
 
 -- and two lists after each other
-pub ruleset outcome_printed = (then_prints, flat_map-map)
+pub ruleset outcome_printed = (then_prints, prints_no-more, flat_map-map)
 
 -- reads that returned a value leave no failure
 pub reads-calm : {T : Type 0} (value : T) (old new : StorageState) → OnlyReads (Ok value) old new → new.failures ≡ old.failures

@@ -5,8 +5,8 @@ use Rattle.qcow2_base.specs.Storage.{StorageState}
 use Rattle.qcow2_base.specs.declared.fault.Fault.{Fault}
 use Rattle.qcow2_metadata.specs.Header.{HeaderRecord}
 use Rattle.qcow2_session.specs.Commands.Facts.{CommandFacts}
-use Rattle.qcow2_session.specs.Commands.Printing.{OutputBytes, PrintsLast}
-use Rattle.qcow2_session.specs.Commands.Report.{AppendsPart, Reports, fault_line}
+use Rattle.qcow2_session.specs.Commands.Printing.{AppendsPart, OutputBytes, PrintsLast}
+use Rattle.qcow2_session.specs.Commands.Report.{Reports, fault_line}
 use Rattle.qcow2_session.specs.Commands.Running.{FindsHeader, Runs}
 
 -- a command ran with the header that it found

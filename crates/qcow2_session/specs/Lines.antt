@@ -1,4 +1,5 @@
 -- What is the text of an offset and of a mapping?
+pub mod Output
 use Rattle.std.specs.Prelude.{ℕ, ◌*◌, ◌^◌, Bool, true, false, List, [], ◌++◌, Some, None, codes}
 use Rattle.std.specs.Fmt.{decimal, digits}
 use Rattle.qcow2_metadata.specs.Entries.L2Mapping.{Mapping, backing, compressed, data_file, zeros}

@@ -6,49 +6,36 @@ ghost use Rattle.qcow2_session.specs.Commands.Printing.{PrintsText};
 ghost use Rattle.qcow2_session.specs.Lines.{copied_text, mapping_text, offset_text};
 
 mod line_buffer;
+mod output;
 
 pub(crate) use line_buffer::LineBuffer;
+pub(crate) use output::{Output, print, write_out};
 use qcow2_base::Fault;
 use qcow2_metadata::L2Mapping;
 use std::io::Write;
 
 /// An item of a list that is printed as a line.
-pub(crate) trait PrintLine {
+pub(crate) trait ToLine {
     /// Its line.
     ghost line: { Self → List ℕ };
 
-    /// Prints it.
-    fn print_line<O: Write>(&self, out: &mut O) -> Result<(), Fault>
-        ensures { PrintsText result (O.contents out.old) (O.contents out.new) (line self.now) };
+    /// Its line, put together.
+    fn to_line(&self) -> LineBuffer
+        ensures { result ≡ line self.now };
 }
 
 /// Prints the line of each item.
 #[tactic(auto, using(crate::proofs::PrintingLemmas::lines_printed))]
-pub(crate) fn print_lines<T: PrintLine, O: Write>(items: &[T], out: &mut O) -> Result<(), Fault>
+pub(crate) fn print_lines<T: ToLine, O: Write>(items: &[T], out: &mut O) -> Result<(), Fault>
     ensures { PrintsText result (O.contents out.old) (O.contents out.new) (flat_map T.line items.now) }
 {
     for item in items {
-        item.print_line(out)?;
+        print(item.to_line().as_bytes(), out)?;
     }
     Ok(())
 }
 
-/// Prints a mapping: what it is, its offset, and its length or whether it is copied.
-pub(crate) fn print_mapping<O: Write>(
-    mapping: &L2Mapping,
-    cluster_bits: u32,
-    out: &mut O,
-) -> Result<(), Fault>
-    requires placed { IsPlaced cluster_bits mapping.now }
-    ensures { PrintsText result (O.contents out.old) (O.contents out.new)
-        (mapping_text cluster_bits (meaning mapping.now)) }
-{
-    let mut line = LineBuffer::new();
-    prepend_mapping(&mut line, mapping, cluster_bits);
-    out.write_all(line.as_bytes()).map_err(|_| Fault::Storage)
-}
-
-/// Puts a mapping in front of a line.
+/// Puts a mapping in front of a line: what it is, its offset, and its length or whether it is copied.
 pub(crate) fn prepend_mapping(line: &mut LineBuffer, mapping: &L2Mapping, cluster_bits: u32)
     requires placed { IsPlaced cluster_bits mapping.now }
     requires room { length line.old ≤ 100 }

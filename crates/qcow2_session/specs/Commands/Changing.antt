@@ -26,7 +26,7 @@ IsMade answer old new = IfErr answer (λ fault. IsOutputFault fault old new)
 -- image failed it is as before, or the numbers are written up to a piece
 pub record PrintsChange {T : Type 0} (answer : Result T Fault) (layout : Layout) (end : Image → Result ChangeEnd Fault) (old new : StorageState) (before after : OutputBytes) : Type 0 where
   pub lines : OnOk answer (OnImage old (λ bytes. IsOkAnd (end bytes) (λ left. Appends before after left.lines)))
-  pub refused : IfErr answer (λ fault. OnImage old (λ bytes. IsRefusal (end bytes) old new fault))
+  pub refused : IfErr answer (λ fault. OnImage old (λ bytes. IsRefusal (end bytes) (λ left. left.lines) old new before after fault))
   pub written : IsMade answer old new → OnImages old new (λ was is.
       IsOkAnd (end was) (λ left. loaded_numbers layout left.cluster is ≡ Ok left.numbers))
   pub unchanged : IfErr answer (λ fault. fault ≢ Storage → new.byte_at ≡ old.byte_at)

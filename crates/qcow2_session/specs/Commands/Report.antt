@@ -1,10 +1,9 @@
 -- What stands on standard error after a run?
-use Rattle.std.specs.Prelude.{◌≡◌, ℕ, List, ◌++◌, take, codes}
+use Rattle.std.specs.Prelude.{◌≡◌, ℕ, List, ◌++◌, codes}
 use Rattle.std.specs.Fmt.{decimal}
-use Rattle.std.specs.Io.KnownBytes.{Appends}
 use Rattle.qcow2_base.specs.Fault.{fault_number}
 use Rattle.qcow2_base.specs.declared.fault.Fault.{Fault}
-use Rattle.qcow2_session.specs.Commands.Printing.{OutputBytes}
+use Rattle.qcow2_session.specs.Commands.Printing.{AppendsPart, OutputBytes}
 
 -- the line of a fault
 abbrev pub fault_line : Fault → List ℕ
@@ -13,10 +12,6 @@ fault_line fault = codes "qmeta: fault " ++ decimal (fault_number fault) ++ code
 -- the line for words that are no command
 abbrev pub usage_line : List ℕ
 usage_line = codes "usage: qmeta COMMAND IMAGE ARGUMENTS\n"
-
--- known bytes grow by a beginning of a line: all of it, or what was written before a write failed
-abbrev pub AppendsPart : OutputBytes → OutputBytes → List ℕ → Type 0
-AppendsPart old new line = (written : ℕ) × Appends old new (take written line)
 
 -- what a run of the program with this status wrote to standard error: nothing after a success, the line of a fault, or
 -- how the program is called

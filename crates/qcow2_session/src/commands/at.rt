@@ -7,7 +7,7 @@ ghost use Rattle.qcow2_session.specs.Commands.Words.{Parses};
 
 use super::Command;
 use super::words::number;
-use crate::lines::print_mapping;
+use crate::lines::{LineBuffer, prepend_mapping, print};
 use crate::lookup_with_header;
 use qcow2_base::{Fault, GuestOffset, Storage};
 use qcow2_metadata::Header;
@@ -32,8 +32,10 @@ pub fn print_mapping_at<S: Storage, O: Write>(
     ensures unchanged { (S.state image.new).byte_at ≡ (S.state image.old).byte_at }
 {
     let mapping = lookup_with_header(alloc, image, header, guest_offset)?;
-    print_mapping(&mapping, header.cluster_bits(), out)?;
-    writeln!(out).map_err(|_| Fault::Storage)
+    let mut line = LineBuffer::new();
+    line.prepend("\n");
+    prepend_mapping(&mut line, &mapping, header.cluster_bits());
+    print(line.as_bytes(), out)
 }
 
 /// What the words of the command `at` ask for.

@@ -9,7 +9,7 @@ ghost use Rattle.qcow2_session.specs.Commands.Words.{Parses};
 
 use super::Command;
 use super::words::{Changes, FromWord, number, parts};
-use crate::lines::{PrintLine, print_lines};
+use crate::lines::{LineBuffer, ToLine, print_lines};
 use crate::{Step, StepReply, step_image};
 use qcow2_base::{Fault, HostCluster, Storage};
 use qcow2_metadata::Header;
@@ -40,15 +40,20 @@ pub fn count_references<S: Storage, O: Write>(
 }
 
 /// What came of a step.
-impl PrintLine for StepReply {
+impl ToLine for StepReply {
     ghost line = { reply_line };
 
-    fn print_line<O: Write>(&self, out: &mut O) -> Result<(), Fault> {
+    fn to_line(&self) -> LineBuffer {
+        let mut line = LineBuffer::new();
         match *self {
-            StepReply::Done(before) => writeln!(out, "ok {before}"),
-            StepReply::Refused => writeln!(out, "refused"),
+            StepReply::Done(before) => {
+                line.prepend("\n");
+                line.prepend_decimal(before);
+                line.prepend("ok ");
+            }
+            StepReply::Refused => line.prepend("refused\n"),
         }
-        .map_err(|_| Fault::Storage)
+        line
     }
 }
 

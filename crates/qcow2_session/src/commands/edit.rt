@@ -13,7 +13,7 @@ ghost use Rattle.qcow2_session.specs.Edits.{cluster_numbers};
 
 use super::Command;
 use super::words::{Changes, FromWord, number, parts};
-use crate::lines::{PrintLine, print_lines};
+use crate::lines::{LineBuffer, ToLine, print_lines};
 use crate::{Edit, Outcome, edit_image, load_l1_table, named_cluster};
 use qcow2_base::{Fault, HostCluster, Storage};
 use qcow2_metadata::{ClustersToFreeEntry, Header};
@@ -71,21 +71,30 @@ fn print_outcome<O: Write>(outcome: &Outcome, out: &mut O) -> Result<(), Fault>
 }
 
 /// Clusters that lost a reference.
-impl PrintLine for ClustersToFreeEntry {
+impl ToLine for ClustersToFreeEntry {
     ghost line = { freed_line };
 
-    fn print_line<O: Write>(&self, out: &mut O) -> Result<(), Fault> {
-        let (first, count) = (self.first.0, self.count.0);
-        writeln!(out, "freed {first} {count}").map_err(|_| Fault::Storage)
+    fn to_line(&self) -> LineBuffer {
+        let mut line = LineBuffer::new();
+        line.prepend("\n");
+        line.prepend_decimal(self.count.0);
+        line.prepend(" ");
+        line.prepend_decimal(self.first.0);
+        line.prepend("freed ");
+        line
     }
 }
 
 /// A cluster that gained a reference.
-impl PrintLine for HostCluster {
+impl ToLine for HostCluster {
     ghost line = { λ cluster. gained_line cluster.0 };
 
-    fn print_line<O: Write>(&self, out: &mut O) -> Result<(), Fault> {
-        writeln!(out, "gained {}", self.0).map_err(|_| Fault::Storage)
+    fn to_line(&self) -> LineBuffer {
+        let mut line = LineBuffer::new();
+        line.prepend("\n");
+        line.prepend_decimal(self.0);
+        line.prepend("gained ");
+        line
     }
 }
 

@@ -8,7 +8,7 @@ ghost use Rattle.qcow2_metadata.specs.Table.{l2_entries};
 ghost use Rattle.qcow2_session.specs.Commands.Entries.{entry_line, label_text, table_lines};
 ghost use Rattle.qcow2_session.specs.Commands.Printing.{PrintsText};
 
-use crate::lines::{LineBuffer, prepend_mapping};
+use crate::lines::{LineBuffer, prepend_mapping, print};
 use qcow2_base::{Fault, GuestCluster};
 use qcow2_metadata::{L2Mapping, L2Table, Table};
 use std::io::Write;
@@ -66,7 +66,7 @@ fn print_entry<O: Write>(
     prepend_mapping(&mut line, mapping, cluster_bits);
     line.prepend(" ");
     prepend_label(&mut line, label, guest_cluster, cluster_bits);
-    out.write_all(line.as_bytes()).map_err(|_| Fault::Storage)
+    print(line.as_bytes(), out)
 }
 
 // Puts the label of a guest cluster in front of a line.

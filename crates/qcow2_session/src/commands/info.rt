@@ -1,9 +1,12 @@
 //! The command `info`: what an image's header says.
 
-ghost use Rattle.std.specs.Prelude.{◌≡◌, Some, option_map, string_bytes};
-ghost use Rattle.qcow2_session.specs.Commands.Info.{backing_lines, answer_text, data_file_lines, info_lines, name_line, place_line, place_lines, size_lines, version_lines};
+ghost use Rattle.std.specs.Prelude.{◌≡◌, ◌+◌, ◌≤◌, ◌++◌, codes, length, option_map, string_bytes};
+ghost use Rattle.std.specs.Fmt.{decimal};
+ghost use Rattle.qcow2_session.specs.Commands.Info.{external_line, info_lines, name_line, place_line, place_lines, size_lines};
 ghost use Rattle.qcow2_session.specs.Commands.Printing.{PrintsText};
+ghost use Rattle.qcow2_session.specs.Lines.Output.{Gets, GoesOn};
 
+use crate::lines::{LineBuffer, Output};
 use qcow2_base::{Fault, HostOffset};
 use qcow2_metadata::Header;
 use std::io::Write;
@@ -15,88 +18,110 @@ use std::io::Write;
 pub fn print_info<O: Write>(header: &Header, out: &mut O) -> Result<(), Fault>
     ensures { PrintsText result (O.contents out.old) (O.contents out.new) (info_lines header.now) }
 {
-    print_version(header, out)?;
-    print_sizes(header, out)?;
-    print_places(header, out)?;
-    print_backing(header, out)?;
-    print_data_file(header, out)
+    let mut out = Output::new(out);
+    print_header(header, &mut out);
+    out.result()
 }
 
-// Prints the version, and how large clusters are.
-fn print_version<O: Write>(header: &Header, out: &mut O) -> Result<(), Fault>
-    ensures { PrintsText result (O.contents out.old) (O.contents out.new) (version_lines header.now) }
+#[tactic(auto, using(crate::proofs::OutputLemmas::goes_further))]
+fn print_header<O: Write>(header: &Header, out: &mut Output<O>)
+    ensures text { Gets O.contents out.old out.new (info_lines header.now) }
+    ensures goes_on { GoesOn out.old out.new }
 {
-    let (version, cluster_bits) = (header.version(), header.cluster_bits());
-    writeln!(out, "version {version}\ncluster-bits {cluster_bits}").map_err(|_| Fault::Storage)
+    out.print(sizes(header).as_bytes());
+    out.print(places(header).as_bytes());
+    print_name("backing", header.backing_filename(), out);
+    print_name("format", header.backing_format(), out);
+    out.print(external(header).as_bytes());
+    print_name("data-file", header.external_data_filename(), out);
 }
 
-// Prints how large the guest's disk is, and refcounts.
-fn print_sizes<O: Write>(header: &Header, out: &mut O) -> Result<(), Fault>
-    ensures { PrintsText result (O.contents out.old) (O.contents out.new) (size_lines header.now) }
+// The version, and how large clusters, the guest's disk and refcounts are.
+fn sizes(header: &Header) -> LineBuffer
+    ensures { result ≡ size_lines header.now }
 {
-    let (size, refcount_order) = (header.size(), header.refcount_order());
-    writeln!(out, "size {size}\nrefcount-order {refcount_order}").map_err(|_| Fault::Storage)
+    let mut line = LineBuffer::new();
+    line.prepend("\n");
+    line.prepend_decimal(u64::from(header.refcount_order()));
+    line.prepend("\nrefcount-order ");
+    line.prepend_decimal(header.size());
+    line.prepend("\nsize ");
+    line.prepend_decimal(u64::from(header.cluster_bits()));
+    line.prepend("\ncluster-bits ");
+    line.prepend_decimal(u64::from(header.version()));
+    line.prepend("version ");
+    line
 }
 
-// Prints where the L1 table and the refcount table lie.
-fn print_places<O: Write>(header: &Header, out: &mut O) -> Result<(), Fault>
-    ensures { PrintsText result (O.contents out.old) (O.contents out.new) (place_lines header.now) }
+// Where the L1 table and the refcount table lie.
+fn places(header: &Header) -> LineBuffer
+    ensures { result ≡ place_lines header.now }
 {
-    let entries = header.l1_table_entries() as u64;
-    print_place("l1", header.l1_table_offset(), entries, out)?;
-    let clusters = header.reftable_clusters().0;
-    print_place("refcount-table", header.reftable_offset(), clusters, out)
+    let mut line = LineBuffer::new();
+    prepend_place(
+        &mut line,
+        header.reftable_offset(),
+        header.reftable_clusters().0,
+    );
+    line.prepend("refcount-table ");
+    prepend_place(
+        &mut line,
+        header.l1_table_offset(),
+        header.l1_table_entries() as u64,
+    );
+    line.prepend("l1 ");
+    line
 }
 
-fn print_place<O: Write>(
-    label: &str,
-    offset: HostOffset,
-    count: u64,
-    out: &mut O,
-) -> Result<(), Fault>
-    ensures { PrintsText result (O.contents out.old) (O.contents out.new)
-        (place_line label.now offset.0 count) }
+// Puts the offset of a table in front of a line, and how many entries or clusters it has.
+fn prepend_place(line: &mut LineBuffer, offset: HostOffset, count: u64)
+    requires { length line.old ≤ 100 }
+    ensures text { line.new ≡ place_line offset.0 count ++ line.old }
+    ensures bound { length line.new ≤ length line.old + 40 }
 {
-    writeln!(out, "{label} {offset} {count}").map_err(|_| Fault::Storage)
+    line.prepend("\n");
+    line.prepend_decimal(count);
+    line.prepend(" ");
+    line.prepend_offset(offset.0);
 }
 
-// Prints the name of the backing file and its format.
-fn print_backing<O: Write>(header: &Header, out: &mut O) -> Result<(), Fault>
-    ensures { PrintsText result (O.contents out.old) (O.contents out.new) (backing_lines header.now) }
+// Whether guest data lies in a file of its own.
+fn external(header: &Header) -> LineBuffer
+    ensures { result ≡ external_line header.now }
 {
-    print_name("backing", header.backing_filename(), out)?;
-    print_name("format", header.backing_format(), out)
-}
-
-// Prints whether guest data lies in a file of its own, and that file's name.
-fn print_data_file<O: Write>(header: &Header, out: &mut O) -> Result<(), Fault>
-    ensures { PrintsText result (O.contents out.old) (O.contents out.new) (data_file_lines header.now) }
-{
-    let external = yes_or_no(header.external_data_file());
-    writeln!(out, "external {external}").map_err(|_| Fault::Storage)?;
-    print_name("data-file", header.external_data_filename(), out)
-}
-
-fn yes_or_no(answer: bool) -> &'static str
-    ensures { result.now ≡ answer_text answer }
-{
-    if answer { "yes" } else { "no" }
+    let mut line = LineBuffer::new();
+    line.prepend(if header.external_data_file() {
+        "external yes\n"
+    } else {
+        "external no\n"
+    });
+    line
 }
 
 // Prints the line of a name, or that there is none.
-fn print_name<O: Write>(label: &str, name: Option<&String>, out: &mut O) -> Result<(), Fault>
-    ensures { PrintsText result (O.contents out.old) (O.contents out.new)
+fn print_name<O: Write>(label: &str, name: Option<&String>, out: &mut Output<O>)
+    ensures text { Gets O.contents out.old out.new
         (name_line label.now (option_map (λ name. string_bytes name.now) name.entry)) }
+    ensures goes_on { GoesOn out.old out.new }
 {
+    out.print(label.as_bytes());
     match name {
-        Some(name) => print_known_name(label, name.as_str(), out),
-        None => writeln!(out, "{label} none").map_err(|_| Fault::Storage),
+        Some(name) => print_text(name.as_str(), out),
+        None => out.print(b" none\n"),
     }
 }
 
-fn print_known_name<O: Write>(label: &str, name: &str, out: &mut O) -> Result<(), Fault>
-    ensures { PrintsText result (O.contents out.old) (O.contents out.new)
-        (name_line label.now (Some name.now)) }
+// Prints how many bytes a text has, and these, each after a space.
+fn print_text<O: Write>(text: &str, out: &mut Output<O>)
+    ensures text { Gets O.contents out.old out.new
+        (codes " " ++ decimal (length text.now) ++ codes " " ++ text.now ++ codes "\n") }
+    ensures goes_on { GoesOn out.old out.new }
 {
-    writeln!(out, "{label} {} {name}", name.len()).map_err(|_| Fault::Storage)
+    let mut line = LineBuffer::new();
+    line.prepend(" ");
+    line.prepend_decimal(text.len() as u64);
+    line.prepend(" ");
+    out.print(line.as_bytes());
+    out.print(text.as_bytes());
+    out.print(b"\n");
 }

@@ -9,7 +9,7 @@ ghost use Rattle.qcow2_session.specs.Commands.Printing.{PrintsText};
 ghost use Rattle.qcow2_session.specs.Commands.Words.{Parses};
 
 use super::Command;
-use crate::lines::LineBuffer;
+use crate::lines::{LineBuffer, print};
 use crate::{Content, Extent, Extents};
 use qcow2_base::{Fault, Storage};
 use qcow2_metadata::Header;
@@ -91,7 +91,7 @@ fn print_all<S: Storage, O: Write>(
 fn print_text<O: Write>(text: &str, out: &mut O) -> Result<(), Fault>
     ensures { PrintsText result (O.contents out.old) (O.contents out.new) text.now }
 {
-    out.write_all(text.as_bytes()).map_err(|_| Fault::Storage)
+    print(text.as_bytes(), out)
 }
 
 // Prints an extent, put together in a line whose bytes no longer matter.
@@ -109,7 +109,7 @@ fn print_extent<O: Write>(
         ExtentFormat::Lines => prepend_line(line, extent),
         ExtentFormat::Json => prepend_row(line, extent),
     }
-    out.write_all(line.as_bytes()).map_err(|_| Fault::Storage)
+    print(line.as_bytes(), out)
 }
 
 // Puts the line of an extent in front of a line.

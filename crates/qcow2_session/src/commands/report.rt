@@ -1,15 +1,12 @@
 //! What stands on standard error: one line, of a fault or of words that are no command.
 
-ghost use Rattle.std.specs.Prelude.{◌≡◌, ◌≤◌, length, take};
-ghost use Rattle.std.specs.Io.KnownBytes.{Appends};
-ghost use Rattle.qcow2_session.specs.Commands.Report.{AppendsPart, fault_line, usage_line};
+ghost use Rattle.std.specs.Prelude.{◌≡◌};
+ghost use Rattle.qcow2_session.specs.Commands.Printing.{AppendsPart};
+ghost use Rattle.qcow2_session.specs.Commands.Report.{fault_line, usage_line};
 
-use crate::lines::LineBuffer;
+use crate::lines::{LineBuffer, write_out};
 use qcow2_base::Fault;
-use std::io::{ErrorKind, Write};
-
-/// How often a line is written on where a write took a part of it, or was interrupted.
-const MOST_WRITES: usize = 1000;
+use std::io::Write;
 
 /// Reports a fault on `err`, and returns the status for it. Where a write fails, a beginning of the line
 /// stands there, perhaps nothing of it. Takes no memory.
@@ -36,38 +33,10 @@ pub(super) fn refuse_words<E: Write>(err: &mut E) -> u8
 }
 
 // Writes a line and flushes it, up to the first call that fails.
+#[tactic(auto, using(crate::proofs::OutputLemmas::part_kept))]
 fn write_line<E: Write>(line: &[u8], err: &mut E)
     ensures { AppendsPart (E.contents err.old) (E.contents err.new) line.now }
 {
     write_out(line, err);
     let _ = err.flush();
-}
-
-// Writes bytes until all are written or a write fails, and returns how many were.
-#[tactic(auto, using(crate::proofs::ReportLemmas::appends_more))]
-fn write_out<E: Write>(bytes: &[u8], err: &mut E) -> usize
-    ensures bound { result ≤ length bytes.now }
-    ensures bytes { Appends (E.contents err.old) (E.contents err.new) (take result bytes.now) }
-{
-    let mut written = 0;
-    for _ in 0..MOST_WRITES {
-        let (count, is_failed) = write_part(&bytes[written..], err);
-        written += count;
-        if is_failed || written == bytes.len() {
-            return written;
-        }
-    }
-    written
-}
-
-// Writes a part of these bytes. Returns how many, and whether the write failed: one that was interrupted is
-// to be made again.
-fn write_part<E: Write>(bytes: &[u8], err: &mut E) -> (usize, bool)
-    ensures bound { result.0 ≤ length bytes.now }
-    ensures bytes { Appends (E.contents err.old) (E.contents err.new) (take result.0 bytes.now) }
-{
-    match err.write(bytes) {
-        Ok(count) => (count, count == 0),
-        Err(error) => (0, error.kind() != ErrorKind::Interrupted),
-    }
 }

@@ -4,7 +4,8 @@ ghost use Rattle.std.specs.Prelude.{◌≡◌, ◌≢◌, ◌≤◌, ◌↔◌, 
 ghost use Rattle.std.specs.Io.KnownBytes.{Keeps};
 ghost use Rattle.qcow2_base.specs.declared.fault.Fault.TheVariants.{Storage as StorageFailed};
 ghost use Rattle.qcow2_session.specs.Commands.{command_of, facts_of};
-ghost use Rattle.qcow2_session.specs.Commands.Report.{AppendsPart, Reports, fault_line};
+ghost use Rattle.qcow2_session.specs.Commands.Printing.{AppendsPart};
+ghost use Rattle.qcow2_session.specs.Commands.Report.{Reports, fault_line};
 ghost use Rattle.qcow2_session.specs.Commands.Running.{FindsHeader, PrintsAtOnce, Runs, RunsAndFlushes};
 
 use super::Command;

@@ -1,10 +1,8 @@
-use Rattle.std.proofs.KnownBytes.{Appends-trans}
-use Rattle.qcow2_session.proofs.PrintingLemmas.{then_prints}
+use Rattle.std.proofs.Common.{◌∙◌, sym, arith}
+use Rattle.qcow2_session.proofs.PrintingLemmas.{text_finished}
 use Rattle.qcow2_session.proofs.commands.info.print_info.Goals as goal
 
 pub returns : goal.returns
 returns g c =
-    then_prints c.print_data_file.result _ _ _ _ _
-    (Appends-trans _ _ _ _ _ (Appends-trans _ _ _ _ _ (Appends-trans _ _ _ _ _
-    c.in_ok-print_version.ensures.text c.in_ok-print_sizes.ensures.text) c.in_ok-print_places.ensures.text)
-    c.in_ok-print_backing.ensures.text) c.print_data_file.ensures
+    let same = sym (c.print_header.ensures.goes_on.same ∙ c.new-out.ensures.same) in
+    text_finished g.O.Write.contents _ _ c.new-out.result c.print_header.new.out _ _ c.new-out.ensures.writer (grind (arith, same)) c.print_header.ensures.text c.result.ensures
