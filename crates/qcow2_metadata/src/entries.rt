@@ -22,7 +22,7 @@ pub use pending_clusters::{PendingClusters, Refused};
 pub use ref_table_entry::RefTableEntry;
 pub(crate) use runs::RunPattern;
 
-/// Host clusters that a dropped entry referred to. Each has one reference less to it.
+/// Host clusters that lost a reference each, or were given up before they got one.
 #[derive(Clone, Copy, Debug, PartialEq, Eq)]
 pub struct ClustersToFreeEntry {
     pub first: HostCluster,

@@ -145,8 +145,9 @@ pub trait Table: Sized {
     /// bytes. It has that cluster and doesn't count as modified. An L2 table has the header's
     /// `l2_entries()`.
     ///
-    /// Refuses more entries than the kind allows, then an end past 2^56, then the first entry that
-    /// isn't valid, and reads no piece after that entry's. Changes no byte, whatever it returns.
+    /// Refuses more entries than the kind allows (20), then an end past 2^56 (21), then the first entry
+    /// with a reserved bit (18) or an unaligned offset (19), and reads no piece after that entry's. Changes
+    /// no byte, whatever it returns.
     final fn load<S: Storage>(
         alloc: Global,
         image: &mut S,

@@ -183,6 +183,7 @@ fn keep_table<S: Storage>(
         None => false,
     };
     if !is_kept {
+        // Its memory is given back before the next table takes as much.
         *kept = None;
         *kept = Some(load_l2_table(alloc, image, header, cluster)?);
     }

@@ -52,7 +52,7 @@ pub fn lookup<S: Storage>(
 /// looked at.
 ///
 /// Reads the header, the L1 table and at most one L2 table, and returns the fault of the first of them that
-/// is refused. It is one of those numbered 1 to 21. Changes no byte.
+/// is refused: one of 1 to 21, and 34 or 35 may come in its place. Changes no byte.
 pub fn lookup_image<S: Storage>(
     alloc: Global,
     image: &mut S,

@@ -283,6 +283,7 @@ impl TableEntry for L2Entry {
         let cluster_bits = header.cluster_bits();
         let entry = L2Entry { value };
         let offset_is_lawful = if entry.is_compressed() {
+            // The bits of the offset from 56 on, which a valid one doesn't have.
             (value >> 56 << 56) % (1 << (70 - cluster_bits)) == 0
         } else {
             HostOffset(field(value, 9, 47) * 512).in_cluster_offset(cluster_bits) == 0

@@ -57,7 +57,8 @@ impl PendingClusters {
     }
 }
 
-/// A call that was given pending clusters refused, and hands them back.
+/// A call that was given pending clusters refused, and hands them back. It can't be dropped: take it apart,
+/// and give the clusters up or use them elsewhere.
 #[derive(Debug, PartialEq, Eq)]
 pub struct Refused {
     /// Why it refused.

@@ -47,7 +47,7 @@ impl From<FeatureType> for u8 {
     }
 }
 
-/// Incompatible features, by their bits' numbers.
+/// Incompatible features. The number of each is its bit as a mask, `2^bit`.
 #[derive(Clone, Copy, Debug, PartialEq, Eq)]
 pub enum IncompatibleFeatures {
     /// Refcounts may be wrong.
@@ -80,7 +80,7 @@ impl TryFrom<u64> for IncompatibleFeatures {
     }
 }
 
-/// The number of the feature's bit.
+/// The feature's bit as a mask, `2^bit`.
 impl From<IncompatibleFeatures> for u64 {
     ghost from_gives = { λ value number. number ≡ 2 ^ incompatible_bit value };
 
@@ -105,7 +105,7 @@ impl From<IncompatibleFeatures> for (FeatureType, u8) {
     }
 }
 
-/// Compatible features, by their bits' numbers.
+/// Compatible features. The number of each is its bit as a mask, `2^bit`.
 #[derive(Clone, Copy, Debug, PartialEq, Eq)]
 pub enum CompatibleFeatures {
     /// Refcounts may be written late.
@@ -126,7 +126,7 @@ impl TryFrom<u64> for CompatibleFeatures {
     }
 }
 
-/// The number of the feature's bit.
+/// The feature's bit as a mask, `2^bit`.
 impl From<CompatibleFeatures> for u64 {
     ghost from_gives = { λ value number. number ≡ 2 ^ compatible_bit value };
 
@@ -146,7 +146,7 @@ impl From<CompatibleFeatures> for (FeatureType, u8) {
     }
 }
 
-/// Autoclear features, by their bits' numbers.
+/// Autoclear features. The number of each is its bit as a mask, `2^bit`.
 #[derive(Clone, Copy, Debug, PartialEq, Eq)]
 pub enum AutoclearFeatures {
     /// The image's bitmaps are consistent.
@@ -170,7 +170,7 @@ impl TryFrom<u64> for AutoclearFeatures {
     }
 }
 
-/// The number of the feature's bit.
+/// The feature's bit as a mask, `2^bit`.
 impl From<AutoclearFeatures> for u64 {
     ghost from_gives = { λ value number. number ≡ 2 ^ autoclear_bit value };
 

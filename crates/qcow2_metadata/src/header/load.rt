@@ -27,7 +27,9 @@ impl Header {
     ///
     /// Who means to write to the image says so by `writable`, and must know each autoclear feature that the
     /// header names. None is known here: where there is one, the header is written without any. A header that
-    /// has no room in the first cluster then is refused by fault 24.
+    /// has no room in the first cluster then is refused by fault 24, and no byte has changed. The header that
+    /// is returned is the one that was written, perhaps without names of features. After a failed write (34)
+    /// any bytes may be where its text goes, and none past it has changed.
     pub fn load<S: Storage>(alloc: Global, image: &mut S, writable: bool) -> Result<Header, Fault>
         ensures { Loads writable result (S.state image.old) (S.state image.new) }
     {

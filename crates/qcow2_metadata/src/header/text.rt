@@ -12,14 +12,14 @@ use super::fixed_parts::{FIXED_BYTES, push_base, push_v2};
 use qcow2_base::{OnDiskStruct, V2Header, V3HeaderBase};
 use std::alloc::AllocError;
 
-/// What a write places and leaves: the fixed parts of the header with the places of its text.
+/// Where each part of a header's text lies: the fixed parts with the places of the others.
 #[derive(Drop)]
 pub(super) struct Layout {
     /// Whether tables of feature names are written.
     pub(super) with_names: bool,
-    /// The first part.
+    /// The fixed part of all versions.
     pub(super) v2: V2Header,
-    /// The second part.
+    /// The fixed part of version 3.
     pub(super) base: V3HeaderBase,
     /// How many bytes the text has.
     pub(super) len: usize,

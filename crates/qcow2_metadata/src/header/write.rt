@@ -51,7 +51,7 @@ impl Header {
         self.layout(false).ok_or(Fault::HeaderTooLong)
     }
 
-    // The header is as it was written.
+    // Makes the header what was written.
     fn take_over(&mut self, layout: Layout)
         requires { IsLayout (header_to_write layout.with_names self.old) layout }
         ensures { self.new ≡ header_with_places (header_to_write layout.with_names self.old) }
