@@ -1,6 +1,7 @@
 /* Preloaded to a program, it refuses one request for memory: that whose number REFUSED_REQUEST says, counted from 1. Without
- * it, or with 0, it refuses none. At the end it writes how many requests there were, and the bytes of the greatest, into the
- * file that REQUESTS_TOLD names. Requests of the loader, before the program begins, don't count. Needs glibc. */
+ * it, or with 0, it refuses none. At the end it writes how many requests there were, the bytes of the greatest, and how many
+ * blocks weren't given back, into the file that REQUESTS_TOLD names. What the loader does before the program begins doesn't
+ * count. Needs glibc. */
 #include <stdio.h>
 #include <stdlib.h>
 
@@ -8,9 +9,11 @@ extern void *__libc_malloc(size_t size);
 extern void *__libc_calloc(size_t count, size_t size);
 extern void *__libc_realloc(void *old, size_t size);
 extern void *__libc_memalign(size_t alignment, size_t size);
+extern void __libc_free(void *block);
 
 static int has_begun;
 static unsigned long refused, requests, greatest;
+static long kept;
 
 __attribute__((constructor)) static void begin(void) {
     const char *number = getenv("REFUSED_REQUEST");
@@ -27,10 +30,24 @@ static int is_refused(size_t size) {
     return requests == refused;
 }
 
-void *malloc(size_t size) { return is_refused(size) ? NULL : __libc_malloc(size); }
-void *calloc(size_t count, size_t size) { return is_refused(count * size) ? NULL : __libc_calloc(count, size); }
-void *realloc(void *old, size_t size) { return is_refused(size) ? NULL : __libc_realloc(old, size); }
-void *aligned_alloc(size_t alignment, size_t size) { return is_refused(size) ? NULL : __libc_memalign(alignment, size); }
+static void *handed_out(void *block) {
+    kept += has_begun && block != NULL;
+    return block;
+}
+
+void *malloc(size_t size) { return is_refused(size) ? NULL : handed_out(__libc_malloc(size)); }
+void *calloc(size_t count, size_t size) { return is_refused(count * size) ? NULL : handed_out(__libc_calloc(count, size)); }
+void *aligned_alloc(size_t alignment, size_t size) {
+    return is_refused(size) ? NULL : handed_out(__libc_memalign(alignment, size));
+}
+void *realloc(void *old, size_t size) {
+    void *block = is_refused(size) ? NULL : __libc_realloc(old, size);
+    return old == NULL ? handed_out(block) : block;
+}
+void free(void *block) {
+    kept -= has_begun && block != NULL;
+    __libc_free(block);
+}
 
 __attribute__((destructor)) static void tell(void) {
     const char *path = getenv("REQUESTS_TOLD");
@@ -38,7 +55,7 @@ __attribute__((destructor)) static void tell(void) {
     has_begun = 0;
     file = path ? fopen(path, "w") : NULL;
     if (file) {
-        fprintf(file, "%lu %lu\n", requests, greatest);
+        fprintf(file, "%lu %lu %ld\n", requests, greatest, kept);
         fclose(file);
     }
 }
