@@ -184,7 +184,7 @@ fn read_extension_header<S: Storage>(
     ensures reads { ReadsThrough S.state (λ header. header) result (λ bytes. after_conditions
         ((nat_le (data_end (link_at bytes place)) len, Fault.ExtensionsExceed) ∷ [])
         (λ _. Ok (record { extension_type = be bytes place 4; length = be bytes (place + 4) 4 })))
-        IsHeaderFault image.old image.new }
+        (λ fault. fault ≡ Fault.ExtensionsExceed) image.old image.new }
     ensures bounded { IfOk result (λ header. place + 8 + header.length ≤ len) }
 {
     if place > len || len - place < 8 {
