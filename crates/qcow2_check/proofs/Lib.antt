@@ -1,0 +1,2 @@
+pub mod NamedTablesLemmas
+pub mod TallyLemmas

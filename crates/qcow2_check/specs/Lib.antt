@@ -1,0 +1,2 @@
+pub mod NamedTables
+pub mod Tally

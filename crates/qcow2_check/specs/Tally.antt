@@ -1,0 +1,64 @@
+-- How are the uses of clusters counted, in memory of a bounded size?
+use Rattle.std.specs.Prelude.{◌≡◌, ℕ, ◌==◌, ◌+◌, ◌-◌, ◌*◌, ◌/◌, ◌%◌, ◌<◌, ◌≤◌, nat_lt, if◌then◌else◌, List, length, slice_index, Option, IsSome, unwrap_or}
+use Rattle.std.specs.Ordering.{nat_cmp}
+use Rattle.std.specs.BTreeMap.{is_at}
+use Rattle.std.specs.List.{fold}
+use Rattle.std.specs.Map.{lookup}
+use Rattle.qcow2_metadata.specs.Entries.{is_among}
+use Rattle.qcow2_metadata.specs.declared.entries.ClustersToFreeEntry.{ClustersToFreeEntry}
+use Rattle.qcow2_check.specs.declared.tally.UseKind.{UseKind}
+use Rattle.qcow2_check.specs.declared.tally.UseKind.TheVariants.{Fixed, Guest, L2Table}
+
+-- clusters that have a use of one kind
+pub record Used : Type 0 where
+  pub kind : UseKind
+  pub clusters : ClustersToFreeEntry
+
+-- the number that marks a kind in a cell
+abbrev pub mark_of : UseKind → ℕ
+mark_of Fixed = 1
+mark_of L2Table = 2
+mark_of Guest = 4
+
+-- a cell counts the uses of a cluster: eight times how many there are, and the marks of their kinds. The cell with one use more
+abbrev pub with_use : UseKind → ℕ → ℕ
+with_use kind cell = cell + 8 + (if cell / mark_of kind % 2 == 1 then 0 else mark_of kind)
+
+-- the cell of cluster c with what clusters that are used add to it
+abbrev pub cell_with : ℕ → ℕ → Used → ℕ
+cell_with c cell used = if is_among used.clusters c then with_use used.kind cell else cell
+
+-- the cells of the clusters from a first to before an end: those of the first clusters one after another, and those of others
+-- by their numbers, at most so many of them
+pub record TallyState : Type 0 where
+  pub first : ℕ
+  pub end : ℕ
+  pub dense : List ℕ
+  pub sparse : List (ℕ × ℕ)
+  pub most : ℕ
+
+-- the cell of cluster c among those that are kept by their numbers, if there is one
+abbrev pub sparse_cell : List (ℕ × ℕ) → ℕ → Option ℕ
+sparse_cell cells c = lookup (is_at (nat_cmp c)) cells
+
+-- the cell of cluster c
+abbrev pub cell_at : TallyState → ℕ → ℕ
+cell_at tally c =
+    if nat_lt (c - tally.first) (length tally.dense) then slice_index tally.dense (c - tally.first)
+    else unwrap_or (sparse_cell tally.sparse c) 0
+
+-- the number after the last of the clusters whose cells stand one after another
+abbrev pub dense_end : TallyState → ℕ
+dense_end tally = tally.first + length tally.dense
+
+-- a tally of uses: it ends after its dense cells, and has others only there
+pub record IsTally (tally : TallyState) : Type 0 where
+  pub some : 0 < length tally.dense
+  pub end : dense_end tally ≤ tally.end
+  pub sparse : (c : ℕ) → IsSome (sparse_cell tally.sparse c) → dense_end tally ≤ c
+
+-- a tally that counted these uses too; it may end sooner then
+pub record CountsMore (uses : List Used) (old new : TallyState) : Type 0 where
+  pub first : new.first ≡ old.first
+  pub end : new.end ≤ old.end
+  pub cells : (c : ℕ) → old.first ≤ c → c < new.end → cell_at new c ≡ fold (cell_with c) (cell_at old c) uses

@@ -1,0 +1,87 @@
+//! The tables and refcount blocks that an image names.
+
+ghost use Rattle.std.specs.Prelude.{◌≡◌, IfErr, IfOk, IfSome, slice_index};
+ghost use Rattle.qcow2_metadata.specs.Header.{geometry_of};
+ghost use Rattle.qcow2_metadata.specs.Placed.{IsLoaded, RefusesPlace};
+ghost use Rattle.qcow2_metadata.specs.Results.{Reads};
+ghost use Rattle.qcow2_metadata.specs.Table.{IsContentFault, IsTableFault, l2_layout, loaded_l2_table};
+ghost use Rattle.qcow2_check.specs.NamedTables.{IsInImage, l1_cluster, l1_layout, loaded_l1_table, loaded_reftable, named_block, named_cluster, reftable_cluster, reftable_layout};
+
+use qcow2_base::{Fault, HostCluster, Storage};
+use qcow2_metadata::{Header, L1Table, L2Table, RefTable, Table};
+use std::alloc::Global;
+
+/// The L1 table of an image with this header, as `L1Table::load` loads it.
+pub fn load_l1_table<S: Storage>(
+    alloc: Global,
+    image: &mut S,
+    header: &Header,
+) -> Result<L1Table, Fault>
+    ensures refused { RefusesPlace (l1_layout header.now) (l1_cluster header.now) result }
+    ensures reads { Reads (λ table. table.numbers) result (loaded_l1_table header.now)
+        (IsTableFault (l1_layout header.now) (l1_cluster header.now))
+        (S.state image.old) (S.state image.new) }
+    ensures loaded { IfOk result (IsLoaded (l1_layout header.now) (geometry_of header.now)
+        (l1_cluster header.now) (S.state image.old)) }
+{
+    let cluster = header.l1_table_offset().cluster(header.cluster_bits());
+    L1Table::load(alloc, image, header, cluster, header.l1_table_entries())
+}
+
+/// The refcount table of an image with this header, as `RefTable::load` loads it.
+pub fn load_reftable<S: Storage>(
+    alloc: Global,
+    image: &mut S,
+    header: &Header,
+) -> Result<RefTable, Fault>
+    ensures refused { RefusesPlace (reftable_layout header.now) (reftable_cluster header.now) result }
+    ensures reads { Reads (λ table. table.numbers) result (loaded_reftable header.now)
+        (IsTableFault (reftable_layout header.now) (reftable_cluster header.now))
+        (S.state image.old) (S.state image.new) }
+    ensures loaded { IfOk result (IsLoaded (reftable_layout header.now) (geometry_of header.now)
+        (reftable_cluster header.now) (S.state image.old)) }
+{
+    let cluster = header.reftable_offset().cluster(header.cluster_bits());
+    RefTable::load(alloc, image, header, cluster, header.reftable_entries())
+}
+
+/// The L2 table that begins with a cluster of an image with this header, as `L2Table::load` loads it.
+pub fn load_l2_table<S: Storage>(
+    alloc: Global,
+    image: &mut S,
+    header: &Header,
+    cluster: HostCluster,
+) -> Result<L2Table, Fault>
+    ensures refused { RefusesPlace (l2_layout (geometry_of header.now)) cluster result }
+    ensures reads { Reads (λ table. table.numbers) result (loaded_l2_table (geometry_of header.now) cluster)
+        (IsTableFault (l2_layout (geometry_of header.now)) cluster)
+        (S.state image.old) (S.state image.new) }
+    ensures loaded { let g = geometry_of header.now in
+        IfOk result (IsLoaded (l2_layout g) g cluster (S.state image.old)) }
+    ensures in_image { IsInImage header.now.v2.cluster_bits cluster →
+        IfErr result IsContentFault }
+{
+    L2Table::load(alloc, image, header, cluster, header.l2_entries())
+}
+
+/// The cluster that the L2 table of the L1 entry at an index begins with, if the entry names one. It ends by
+/// 2^56. Past the L1 table's end there is none.
+#[tactic(auto, using(crate::proofs::NamedTablesLemmas::l2_cluster_ends))]
+pub fn named_cluster(l1_table: &L1Table, index: usize) -> Option<HostCluster>
+    ensures value { let cb = l1_table.now.geometry.cluster_bits in
+        result ≡ named_cluster cb (slice_index l1_table.now.numbers index) }
+    ensures end { IfSome result (IsInImage l1_table.now.geometry.cluster_bits) }
+{
+    let offset = l1_table.get(index).l2_offset()?;
+    Some(offset.cluster(l1_table.cluster_bits()))
+}
+
+/// The cluster that the refcount block of the refcount table entry at an index begins with, if the entry
+/// names one. Past the refcount table's end there is none.
+pub fn named_block(reftable: &RefTable, index: usize) -> Option<HostCluster>
+    ensures { let cb = reftable.now.geometry.cluster_bits in
+        result ≡ named_block cb (slice_index reftable.now.numbers index) }
+{
+    let offset = reftable.get(index).refblock_offset()?;
+    Some(offset.cluster(reftable.cluster_bits()))
+}

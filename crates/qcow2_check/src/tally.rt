@@ -1,0 +1,145 @@
+//! Uses of clusters, counted in memory of a bounded size.
+
+ghost use Rattle.std.specs.Prelude.{◌≡◌, ℕ, ◌+◌, ◌-◌, ◌^◌, ◌<◌, ◌≤◌, [], ◌∷◌, IfOk, IfSome, IsOkUnless, None, OnOk, length, replicate};
+ghost use Rattle.qcow2_base.specs.declared.fault.Fault.TheVariants.{NoMemory};
+ghost use Rattle.qcow2_check.specs.Tally.{CountsMore, cell_at, mark_of, with_use};
+
+use qcow2_base::{ClusterCount, Fault, HostCluster};
+use qcow2_metadata::ClustersToFreeEntry;
+use std::alloc::Global;
+use std::collections::BTreeMap;
+use std::marker::Model;
+
+/// What uses a cluster.
+#[derive(Clone, Copy, Debug, PartialEq, Eq)]
+pub enum UseKind {
+    /// The header, the L1 table, the refcount table, or an entry of the refcount table.
+    Fixed,
+    /// An entry of the L1 table.
+    L2Table,
+    /// An entry of an L2 table.
+    Guest,
+}
+
+impl UseKind {
+    // The number that marks the kind in a cell.
+    #[inline]
+    fn mark(self) -> u64
+        ensures { result ≡ mark_of self }
+    {
+        match self {
+            UseKind::Fixed => 1,
+            UseKind::L2Table => 2,
+            UseKind::Guest => 4,
+        }
+    }
+}
+
+// The cell with one use more. Fails where its number doesn't fit.
+#[inline]
+fn with_use(cell: u64, kind: UseKind) -> Result<u64, Fault>
+    ensures fault { IsOkUnless result NoMemory }
+    ensures cell { IfOk result (λ more. more ≡ with_use kind cell) }
+{
+    let mark = kind.mark();
+    let more = if cell / mark % 2 == 1 {
+        8
+    } else {
+        8 + mark
+    };
+    cell.checked_add(more).ok_or(Fault::NoMemory)
+}
+
+/// How many uses each cluster of a part of an image has. Clauses see it as cells, which count them.
+#[derive(Drop)]
+pub(crate) struct Tally {
+    first: u64,
+    end: u64,
+    dense: Vec<u64>,
+    sparse: BTreeMap<u64, u64>,
+    most: usize,
+}
+
+impl Model for Tally {
+    ghost use Rattle.qcow2_check.specs.Tally.{IsTally, TallyState};
+
+    ghost Value = { TallyState };
+
+    ghost view = { λ t. record {
+      first = t.first;
+      end = t.end;
+      dense = t.dense.items;
+      sparse = t.sparse.entries;
+      most = t.most;
+    } };
+
+    ghost invariant = { λ t. IsTally (record {
+      first = t.first;
+      end = t.end;
+      dense = t.dense.items;
+      sparse = t.sparse.entries;
+      most = t.most;
+    }) };
+}
+
+impl Tally {
+    ghost use Rattle.std.specs.Prelude.{◌≡◌, ◌+◌, ◌-◌, ◌^◌, ◌<◌, ◌≤◌, [], ◌∷◌, length, replicate};
+    ghost use Rattle.qcow2_check.specs.Tally.{IsTally, cell_at, dense_end};
+
+    /// A tally in which no cluster has a use, from a cluster on. The cells of the next `dense` clusters lie one
+    /// after another, and there are at most `most` others. Fails only where memory runs out.
+    pub(crate) fn new(alloc: Global, first: u64, dense: usize, most: usize) -> Result<Tally, Fault>
+        requires some { 0 < dense }
+        requires fits { first + dense < 2 ^ 64 }
+        ensures fault { IsOkUnless result NoMemory }
+        ensures begun { IfOk result (λ tally. (tally.first ≡ first) × (tally.end ≡ 2 ^ 64 - 1)
+            × (tally.dense ≡ replicate dense 0) × ((c : ℕ) → cell_at tally c ≡ 0)) }
+    {
+        Ok(Tally {
+            first,
+            end: u64::MAX,
+            dense: vec![in alloc; 0u64; dense]?,
+            sparse: BTreeMap::new(alloc),
+            most,
+        })
+    }
+
+    /// Counts a use of a cluster, where the tally has its cell. Where there are too many cells it ends before
+    /// the last of them.
+    #[inline]
+    pub(crate) fn add(&mut self, cluster: u64, kind: UseKind) -> Result<(), Fault>
+        ensures fault { IsOkUnless result NoMemory }
+        ensures counted { OnOk result (CountsMore
+            (record { kind = kind; clusters = record { first = record { 0 = cluster }; count = record { 0 = 1 } } } ∷ [])
+            self.old self.new) }
+    {
+        if cluster < self.first || cluster >= self.end {
+            return Ok(());
+        }
+        let index = (cluster - self.first) as usize;
+        if index < self.dense.len() {
+            self.dense[index] = with_use(self.dense[index], kind)?;
+            return Ok(());
+        }
+        self.add_sparse(cluster, kind)
+    }
+
+    // The same of a cluster that is after the dense cells.
+    fn add_sparse(&mut self, cluster: u64, kind: UseKind) -> Result<(), Fault>
+        requires after { dense_end self.old ≤ cluster }
+        requires before { cluster < self.old.end }
+        ensures fault { IsOkUnless result NoMemory }
+        ensures counted { OnOk result (CountsMore
+            (record { kind = kind; clusters = record { first = record { 0 = cluster }; count = record { 0 = 1 } } } ∷ [])
+            self.old self.new) }
+    {
+        let cell = self.sparse.get(&cluster).copied().unwrap_or(0);
+        self.sparse.insert(cluster, with_use(cell, kind)?)?;
+        if self.sparse.len() > self.most {
+            if let Some((last, _)) = self.sparse.pop_last() {
+                self.end = self.end.min(last);
+            }
+        }
+        Ok(())
+    }
+}
