@@ -1,2 +1,3 @@
 pub mod NamedTablesLemmas
 pub mod TallyLemmas
+pub mod UsesLemmas

@@ -1,8 +1,19 @@
-use Rattle.std.proofs.Common.{◌≡◌, ℕ, ◌+◌, ◌<◌, ◌≤◌, List, ◌++◌, arith}
+use Rattle.std.proofs.Common.{◌≡◌, ℕ, ◌+◌, ◌-◌, ◌<◌, ◌≤◌, List, [], ◌∷◌, ◌++◌, arith}
+use Rattle.std.proofs.lemmas.Bool.Decides.{nat_tests}
+use Rattle.qcow2_base.specs.declared.types.HostCluster.{HostCluster}
+use Rattle.qcow2_check.specs.Uses.{used_clusters}
+use Rattle.qcow2_check.specs.declared.tally.UseKind.{UseKind}
 use Rattle.std.proofs.lemmas.Grind.{fold-append}
 use Rattle.qcow2_check.specs.Tally.{CountsMore, TallyState, Used}
 
 -- uses that are counted after others
-pub counts-then : (first second : List Used) (a b c : TallyState)
+pub counts_then : (first second : List Used) (a b c : TallyState)
     → CountsMore first a b → CountsMore second b c → CountsMore (first ++ second) a c
-counts-then first second a b c one other = grind (arith, one, other, fold-append)
+counts_then first second a b c one other = grind (arith, one, other, fold-append)
+
+-- clusters one after another that are counted one by one
+pub counts_next : (kind : UseKind) (first : HostCluster) (count at : ℕ) (a b c : TallyState) → first.0 ≤ at
+    → count ≡ at - first.0
+    → CountsMore (used_clusters kind first count ∷ []) a b → CountsMore (used_clusters kind (record { 0 = at }) 1 ∷ []) b c
+    → CountsMore (used_clusters kind first (at + 1 - first.0) ∷ []) a c
+counts_next kind first count at a b c from is one other = grind (arith, nat_tests, one, other)

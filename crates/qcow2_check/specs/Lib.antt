@@ -1,2 +1,3 @@
 pub mod NamedTables
 pub mod Tally
+pub mod Uses

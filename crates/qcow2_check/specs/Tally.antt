@@ -1,5 +1,5 @@
 -- How are the uses of clusters counted, in memory of a bounded size?
-use Rattle.std.specs.Prelude.{◌≡◌, ℕ, ◌==◌, ◌+◌, ◌-◌, ◌*◌, ◌/◌, ◌%◌, ◌<◌, ◌≤◌, nat_lt, if◌then◌else◌, List, length, slice_index, Option, IsSome, unwrap_or}
+use Rattle.std.specs.Prelude.{◌≡◌, ℕ, ◌==◌, ◌+◌, ◌-◌, ◌*◌, ◌/◌, ◌%◌, ◌^◌, ◌<◌, ◌≤◌, nat_lt, if◌then◌else◌, List, length, slice_index, Option, IsSome, unwrap_or}
 use Rattle.std.specs.Ordering.{nat_cmp}
 use Rattle.std.specs.BTreeMap.{is_at}
 use Rattle.std.specs.List.{fold}
@@ -55,6 +55,7 @@ dense_end tally = tally.first + length tally.dense
 pub record IsTally (tally : TallyState) : Type 0 where
   pub some : 0 < length tally.dense
   pub end : dense_end tally ≤ tally.end
+  pub fits : tally.end < 2 ^ 64
   pub sparse : (c : ℕ) → IsSome (sparse_cell tally.sparse c) → dense_end tally ≤ c
 
 -- a tally that counted these uses too; it may end sooner then

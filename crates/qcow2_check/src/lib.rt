@@ -3,5 +3,6 @@
 
 mod named_tables;
 mod tally;
+mod uses;
 
 pub use named_tables::{load_l1_table, load_l2_table, load_reftable, named_block, named_cluster};

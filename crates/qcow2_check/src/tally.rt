@@ -104,6 +104,22 @@ impl Tally {
         })
     }
 
+    /// The first cluster that it counts.
+    #[inline]
+    pub(crate) fn first(&self) -> u64
+        ensures { result ≡ self.now.first }
+    {
+        self.first
+    }
+
+    /// The cluster that it ends before.
+    #[inline]
+    pub(crate) fn end(&self) -> u64
+        ensures { result ≡ self.now.end }
+    {
+        self.end
+    }
+
     /// Counts a use of a cluster, where the tally has its cell. Where there are too many cells it ends before
     /// the last of them.
     #[inline]

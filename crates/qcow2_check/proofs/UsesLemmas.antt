@@ -1,0 +1,85 @@
+use Rattle.std.proofs.Common.{◌≡◌, ◌⊎◌, ℕ, true, zero, suc, ◌+◌, ◌<◌, List, [], ◌∷◌, ◌++◌, flat_map, take, drop, length, get_or, slice_index, Result, Ok, Err, OnOk, IfErr, ap, refl, ◌∙◌, inl, inr, arith}
+use Rattle.std.proofs.lemmas.List.{append-nil}
+use native.Mathlib.Numerals.{unary_clauses}
+use Rattle.std.proofs.Math.Seq.{take-suc}
+use Rattle.std.proofs.lemmas.Grind.{flat_map-append}
+use Rattle.qcow2_base.specs.Storage.{Image, OnImage, OnlyReads, StorageState}
+use Rattle.qcow2_base.specs.declared.fault.Fault.{Fault}
+use Rattle.qcow2_metadata.specs.Header.{Geometry}
+use Rattle.qcow2_metadata.specs.Results.{Reads, and_then}
+use Rattle.qcow2_metadata.specs.Table.{IsEntryFault}
+use Rattle.qcow2_check.proofs.TallyLemmas.{counts_then}
+use Rattle.qcow2_check.specs.Tally.{CountsMore, TallyState, Used}
+use Rattle.qcow2_check.specs.Uses.{all_load, entry_uses, l1_entry_loads, l1_entry_uses}
+
+-- the tables of L1 entries and of one more can be loaded just where those of both can
+pub all_load_more : (g : Geometry) (image : Image) (vs : List ℕ) (v : ℕ)
+    → all_load g (vs ++ v ∷ []) image ≡ and_then (all_load g vs image) (λ _. l1_entry_loads g image v)
+all_load_more g image [] v = grind arith
+all_load_more g image (w ∷ vs) v = grind (arith, all_load_more g image vs v)
+
+-- where those of the first entries can, and not that of the next, the fault is that of all
+pub all_load_until : (g : Geometry) (image : Image) (vs : List ℕ) (i : ℕ) (fault : Fault) → i < length vs
+    → all_load g (take i vs) image ≡ Ok tt → l1_entry_loads g image (slice_index vs i) ≡ Err fault → all_load g vs image ≡ Err fault
+all_load_until g image [] i fault below loads refused = 
+    let never : ⊥ = omega (arith, below) in elim never [ ]
+all_load_until g image (v ∷ vs) zero fault below loads refused = grind (arith, refused)
+all_load_until g image (v ∷ vs) (suc i) fault below loads refused =
+    grind (arith, loads, all_load_until g image vs i fault (omega (arith, below)))
+
+take_more : {X : Type 0} (xs : List X) (i : ℕ) (d : X) → i < length xs → take (i + 1) xs ≡ take i xs ++ get_or xs i d ∷ []
+take_more xs i d below = simp unary_clauses (take-suc xs i d below)
+
+-- what the first entries and the next use
+pub uses_more : {X : Type 0} (f : X → List Used) (xs : List X) (i : ℕ) (d : X) → i < length xs
+    → flat_map f (take (i + 1) xs) ≡ flat_map f (take i xs) ++ f (get_or xs i d)
+uses_more f xs i d below =
+    rw (take_more xs i d below, flat_map-append f (take i xs) (get_or xs i d ∷ []))
+    (ap (λ ys. flat_map f (take i xs) ++ ys) (append-nil (f (get_or xs i d))))
+
+-- no entry uses clusters of an image whose guest data lies in an external data file
+pub no_entry_uses : (g : Geometry) (numbers : List ℕ) → g.external_data_file ≡ true → flat_map (entry_uses g) numbers ≡ []
+no_entry_uses g [] external = refl
+no_entry_uses g (v ∷ vs) external = grind (arith, external, no_entry_uses g vs external)
+
+-- the answer where all could be loaded
+abbrev pub loaded : Result (Unit {0}) Fault
+loaded = Ok tt
+
+-- the L2 tables that the first L1 entries name are loaded and counted
+pub record AreCounted (g : Geometry) (l1 : List ℕ) (index : ℕ) (old new : StorageState) (before after : TallyState) : Type 0 where
+  pub loads : OnImage old (λ bytes. all_load g (take index l1) bytes ≡ loaded)
+  pub counted : OnImage old (λ bytes. CountsMore (flat_map (l1_entry_uses g bytes) (take index l1)) before after)
+  pub storage : OnlyReads loaded old new
+
+-- and that of the next
+pub counted_more : (g : Geometry) (l1 : List ℕ) (index : ℕ) (old mid new : StorageState) (a b c : TallyState)
+    (answer : Result (Unit {0}) Fault) → index < length l1 → answer ≡ loaded
+    → AreCounted g l1 index old mid a b
+    → Reads (λ done. done) answer (λ bytes. l1_entry_loads g bytes (slice_index l1 index)) IsEntryFault mid new
+    → OnOk answer (OnImage mid (λ bytes. CountsMore (l1_entry_uses g bytes (slice_index l1 index)) b c))
+    → AreCounted g l1 (index + 1) old new a c
+counted_more g l1 index old mid new a b c answer below is so_far reads more =
+    let next : take (index + 1) l1 ≡ take index l1 ++ slice_index l1 index ∷ [] = take_more l1 index 0 below in
+    record {
+      loads = λ told.
+          let here : l1_entry_loads g old.byte_at (slice_index l1 index) ≡ loaded = grind (arith, is, so_far.storage, reads.exact, told) in
+          rw (next, all_load_more g old.byte_at (take index l1) (slice_index l1 index), so_far.loads told) here;
+      counted = λ told.
+          let here : CountsMore (l1_entry_uses g old.byte_at (slice_index l1 index)) b c = grind (arith, is, so_far.storage, more, told) in
+          rw (next, flat_map-append (l1_entry_uses g old.byte_at) (take index l1) (slice_index l1 index ∷ []))
+          (counts_then _ _ a b c (so_far.counted told) (rw append-nil here));
+      storage = grind (arith, is, so_far.storage, reads.storage);
+    }
+
+-- or where it can't be loaded, all can't
+pub refused_at : (g : Geometry) (l1 : List ℕ) (index : ℕ) (old mid new : StorageState) (a b : TallyState)
+    (answer : Result (Unit {0}) Fault) (fault : Fault) → index < length l1 → answer ≡ Err fault
+    → AreCounted g l1 index old mid a b
+    → Reads (λ done. done) answer (λ bytes. l1_entry_loads g bytes (slice_index l1 index)) IsEntryFault mid new
+    → Reads (λ done. done) answer (all_load g l1) IsEntryFault old new
+refused_at g l1 index old mid new a b answer fault below is so_far reads = record {
+  exact = λ told. grind (arith, is, so_far.storage, reads.exact, told, all_load_until g old.byte_at l1 index fault below (so_far.loads told));
+  faults = reads.faults;
+  storage = grind (arith, is, so_far.storage, reads.storage);
+}

@@ -1,0 +1,11 @@
+use Rattle.std.proofs.Common.{◌-◌, ◌≤◌, [], ◌∷◌}
+use Rattle.qcow2_check.specs.Tally.{CountsMore}
+use Rattle.qcow2_check.specs.Uses.{used_clusters}
+use Rattle.qcow2_check.proofs.uses.count_clusters.Given as goal
+
+-- the clusters before this one are counted
+abbrev pub invariant-loop-cluster : goal.invariant-loop-cluster
+invariant-loop-cluster l = record {
+  counted : CountsMore (used_clusters l.kind l.fn.first (l.cluster - l.fn.first.0) ∷ []) l.initial.tally l.tally;
+  within : l.cluster ≤ l.cluster-end;
+}

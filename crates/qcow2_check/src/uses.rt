@@ -1,0 +1,158 @@
+//! Counting what an image uses.
+
+ghost use Rattle.std.specs.Prelude.{◌≡◌, ℕ, ◌+◌, ◌*◌, ◌^◌, ◌<◌, ◌≤◌, [], ◌∷◌, ◌++◌, false, IsOkUnless, Ok, OnOk, Some, flat_map, length, option_map, option_to_list, slice_index};
+ghost use Rattle.qcow2_base.specs.Storage.{OnImage};
+ghost use Rattle.qcow2_base.specs.declared.fault.Fault.TheVariants.{NoMemory};
+ghost use Rattle.qcow2_metadata.specs.Entries.L2Entry.{allocation};
+ghost use Rattle.qcow2_base.specs.Types.{IsClusterBits};
+ghost use Rattle.qcow2_metadata.specs.Header.{geometry, geometry_of};
+ghost use Rattle.qcow2_metadata.specs.Results.{Reads, result_map};
+ghost use Rattle.qcow2_metadata.specs.Table.{IsEntryFault, loaded_l2_table};
+ghost use Rattle.qcow2_check.specs.NamedTables.{IsInImage, named_cluster};
+ghost use Rattle.qcow2_check.specs.Tally.{CountsMore};
+ghost use Rattle.qcow2_check.specs.Uses.{all_load, block_uses, entry_uses, header_uses, l1_entry_loads, l1_entry_uses, table_uses, used_clusters};
+
+use crate::named_tables::{load_l2_table, named_block, named_cluster};
+use crate::tally::{Tally, UseKind};
+use qcow2_base::{ClusterCount, Fault, HostCluster, Storage};
+use qcow2_metadata::{Header, L1Table, L2Entry, L2Table, RefTable, Table};
+use std::alloc::Global;
+
+// Counts one use of each of that many clusters from one on.
+#[tactic(auto, using(crate::proofs::TallyLemmas::counts_next))]
+fn count_clusters(
+    tally: &mut Tally,
+    kind: UseKind,
+    first: HostCluster,
+    count: u64,
+) -> Result<(), Fault>
+    ensures fault { IsOkUnless result NoMemory }
+    ensures counted { OnOk result (CountsMore (used_clusters kind first count ∷ []) tally.old tally.new) }
+{
+    let start = first.0.max(tally.first());
+    let end = first.0.saturating_add(count).min(tally.end());
+    for cluster in start..end.max(start) {
+        tally.add(cluster, kind)?;
+    }
+    Ok(())
+}
+
+// Counts the clusters that an L2 entry refers to.
+fn count_entry(tally: &mut Tally, entry: L2Entry, cluster_bits: u32) -> Result<(), Fault>
+    requires { IsClusterBits cluster_bits }
+    ensures fault { IsOkUnless result NoMemory }
+    ensures counted { OnOk result (CountsMore (entry_uses (geometry cluster_bits false) entry) tally.old tally.new) }
+{
+    match entry.allocation(cluster_bits, false) {
+        Some((first, count)) => count_clusters(tally, UseKind::Guest, first, count.0),
+        None => Ok(()),
+    }
+}
+
+// Counts the clusters that the entries of an L2 table refer to.
+#[tactic(auto, using(crate::proofs::UsesLemmas::no_entry_uses, crate::proofs::UsesLemmas::uses_more, crate::proofs::TallyLemmas::counts_then))]
+fn count_entries(tally: &mut Tally, table: &L2Table) -> Result<(), Fault>
+    ensures fault { IsOkUnless result NoMemory }
+    ensures counted { OnOk result (CountsMore (flat_map (entry_uses table.now.geometry) table.now.numbers)
+        tally.old tally.new) }
+{
+    if table.external_data_file() {
+        return Ok(());
+    }
+    let cluster_bits = table.cluster_bits();
+    for index in 0..table.entries() {
+        count_entry(tally, table.get(index), cluster_bits)?;
+    }
+    Ok(())
+}
+
+// Loads the L2 table that begins with a cluster, and counts it and what its entries refer to.
+fn count_table<S: Storage>(
+    tally: &mut Tally,
+    image: &mut S,
+    header: &Header,
+    alloc: Global,
+    cluster: HostCluster,
+) -> Result<(), Fault>
+    requires { IsInImage header.now.v2.cluster_bits cluster }
+    ensures reads { Reads (λ done. done) result
+        (λ bytes. result_map (λ _. tt) (loaded_l2_table (geometry_of header.now) cluster bytes)) IsEntryFault
+        (S.state image.old) (S.state image.new) }
+    ensures counted { OnOk result (OnImage (S.state image.old) (λ bytes.
+        CountsMore (table_uses (geometry_of header.now) cluster bytes) tally.old tally.new)) }
+{
+    let table = load_l2_table(alloc, image, header, cluster)?;
+    count_clusters(tally, UseKind::L2Table, cluster, 1)?;
+    count_entries(tally, &table)
+}
+
+// Counts the L2 table that an L1 entry names, and what its entries refer to.
+fn count_l1_entry<S: Storage>(
+    tally: &mut Tally,
+    image: &mut S,
+    header: &Header,
+    l1_table: &L1Table,
+    index: usize,
+) -> Result<(), Fault>
+    requires { l1_table.now.geometry ≡ geometry_of header.now }
+    ensures reads { Reads (λ done. done) result
+        (λ bytes. l1_entry_loads (geometry_of header.now) bytes (slice_index l1_table.now.numbers index)) IsEntryFault
+        (S.state image.old) (S.state image.new) }
+    ensures counted { OnOk result (OnImage (S.state image.old) (λ bytes.
+        CountsMore (l1_entry_uses (geometry_of header.now) bytes (slice_index l1_table.now.numbers index))
+        tally.old tally.new)) }
+{
+    match named_cluster(l1_table, index) {
+        Some(cluster) => count_table(tally, image, header, l1_table.allocator(), cluster),
+        None => Ok(()),
+    }
+}
+
+// Counts all L2 tables of an image, and what their entries refer to.
+fn count_l2_tables<S: Storage>(
+    tally: &mut Tally,
+    image: &mut S,
+    header: &Header,
+    l1_table: &L1Table,
+) -> Result<(), Fault>
+    requires { l1_table.now.geometry ≡ geometry_of header.now }
+    ensures reads { Reads (λ done. done) result (all_load (geometry_of header.now) l1_table.now.numbers)
+        IsEntryFault (S.state image.old) (S.state image.new) }
+    ensures counted { OnOk result (OnImage (S.state image.old) (λ bytes.
+        CountsMore (flat_map (l1_entry_uses (geometry_of header.now) bytes) l1_table.now.numbers)
+        tally.old tally.new)) }
+{
+    for index in 0..l1_table.entries() {
+        count_l1_entry(tally, image, header, l1_table, index)?;
+    }
+    Ok(())
+}
+
+// Counts the refcount blocks that a refcount table names.
+fn count_blocks(tally: &mut Tally, reftable: &RefTable) -> Result<(), Fault>
+    ensures fault { IsOkUnless result NoMemory }
+    ensures counted { OnOk result (CountsMore
+        (flat_map (block_uses reftable.now.geometry.cluster_bits) reftable.now.numbers) tally.old tally.new) }
+{
+    for index in 0..reftable.entries() {
+        if let Some(cluster) = named_block(reftable, index) {
+            count_clusters(tally, UseKind::Fixed, cluster, 1)?;
+        }
+    }
+    Ok(())
+}
+
+// Counts the clusters of the header, of the L1 table and of the refcount table.
+fn count_header(tally: &mut Tally, header: &Header) -> Result<(), Fault>
+    ensures fault { IsOkUnless result NoMemory }
+    ensures counted { OnOk result (CountsMore (header_uses header.now) tally.old tally.new) }
+{
+    let cluster_bits = header.cluster_bits();
+    let l1_clusters =
+        ClusterCount::from_byte_size(8 * header.l1_table_entries() as u64, cluster_bits);
+    let l1_cluster = header.l1_table_offset().cluster(cluster_bits);
+    let reftable_cluster = header.reftable_offset().cluster(cluster_bits);
+    count_clusters(tally, UseKind::Fixed, HostCluster(0), 1)?;
+    count_clusters(tally, UseKind::Fixed, l1_cluster, l1_clusters.0)?;
+    count_clusters(tally, UseKind::Fixed, reftable_cluster, header.reftable_clusters().0)
+}
