@@ -1,3 +1,4 @@
+pub mod Counters
 pub mod NamedTables
 pub mod Tally
 pub mod Uses

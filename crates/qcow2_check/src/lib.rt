@@ -1,8 +1,10 @@
 //! What an image says of its own clusters: how many uses each has, and what its counter says.
 #![tactic(auto)]
 
+mod counters;
 mod named_tables;
 mod tally;
 mod uses;
 
+pub use counters::Counters;
 pub use named_tables::{load_l1_table, load_l2_table, load_reftable, named_block, named_cluster};

@@ -1,0 +1,58 @@
+-- What does an image's own counter say of a cluster?
+use Rattle.std.specs.Prelude.{◌≡◌, ℕ, ◌/◌, ◌%◌, List, [], slice_index, Option, Some, None, Result, Ok, IfSome}
+use Rattle.qcow2_base.specs.Storage.{Image, OnImage, StorageState}
+use Rattle.qcow2_base.specs.declared.fault.Fault.{Fault}
+use Rattle.qcow2_base.specs.declared.types.HostCluster.{HostCluster}
+use Rattle.qcow2_metadata.specs.Header.{HeaderRecord}
+use Rattle.qcow2_metadata.specs.Placed.{numbers_at}
+use Rattle.qcow2_metadata.specs.Refblock.{BlockState, block_entries, block_geometry_of, block_layout, loaded_block}
+use Rattle.qcow2_metadata.specs.Results.{result_map}
+use Rattle.qcow2_check.specs.NamedTables.{named_block}
+
+-- how many counters a refcount block has
+abbrev pub counters_each : HeaderRecord → ℕ
+counters_each header = block_entries header.v2.cluster_bits header.base.refcount_order
+
+-- the cluster that the refcount block of cluster c begins with, if there is one
+abbrev pub block_of_cluster : HeaderRecord → List ℕ → ℕ → Option HostCluster
+block_of_cluster header reftable c =
+    named_block header.v2.cluster_bits (slice_index reftable (c / counters_each header))
+
+-- the counter of cluster c, by the numbers of its block
+abbrev pub counter_among : HeaderRecord → List ℕ → ℕ → ℕ
+counter_among header counters c = slice_index counters (c % counters_each header)
+
+-- the counter of cluster c, which is 0 where it has no block
+abbrev pub counter_of : HeaderRecord → List ℕ → Image → ℕ → ℕ
+counter_of header reftable image c = elim (block_of_cluster header reftable c) [
+  | None ↦ 0
+  | Some block ↦ counter_among header (numbers_at (block_layout (block_geometry_of header)) block image) c
+]
+
+-- the same, or why the block can't lie where the refcount table says
+abbrev pub counter_or_fault : HeaderRecord → List ℕ → ℕ → Image → Result ℕ Fault
+counter_or_fault header reftable c image = elim (block_of_cluster header reftable c) [
+  | None ↦ Ok 0
+  | Some block ↦ result_map (λ counters. counter_among header counters c) (loaded_block header block image)
+]
+
+-- what a reader of counters has: the image's header and refcount table, and a block that it keeps
+pub record CountersState : Type 0 where
+  pub header : HeaderRecord
+  pub reftable : List ℕ
+  pub block : Option BlockState
+
+-- the counters of the block that is kept, none if none is
+abbrev pub kept_counters : Option BlockState → List ℕ
+kept_counters None = []
+kept_counters (Some block) = block.numbers
+
+-- a block that is kept, if there is one, is the one at its cluster in the image
+abbrev pub IsKeptOf : HeaderRecord → Image → Option BlockState → Type 0
+IsKeptOf header image kept = IfSome kept (λ (block : BlockState).
+    IfSome block.cluster (λ cluster. loaded_block header cluster image ≡ Ok block.numbers))
+
+-- a reader stays as it is, but that it may keep another block of the image
+pub record StaysReader (image : StorageState) (old new : CountersState) : Type 0 where
+  pub same : new ≡ record old { block = new.block }
+  pub kept : OnImage image (λ bytes. IsKeptOf new.header bytes new.block)
