@@ -1,5 +1,5 @@
 -- How are the uses of clusters counted, in memory of a bounded size?
-use Rattle.std.specs.Prelude.{◌≡◌, ℕ, ◌==◌, ◌+◌, ◌-◌, ◌*◌, ◌/◌, ◌%◌, ◌^◌, ◌<◌, ◌≤◌, nat_lt, if◌then◌else◌, List, length, slice_index, Option, IsSome, unwrap_or}
+use Rattle.std.specs.Prelude.{◌≡◌, ℕ, Bool, ◌==◌, ◌&&◌, ◌||◌, ◌+◌, ◌-◌, ◌*◌, ◌/◌, ◌%◌, ◌^◌, ◌<◌, ◌≤◌, nat_lt, if◌then◌else◌, List, length, slice_index, Option, IsSome, unwrap_or}
 use Rattle.std.specs.Ordering.{nat_cmp}
 use Rattle.std.specs.BTreeMap.{is_at}
 use Rattle.std.specs.List.{fold}
@@ -63,3 +63,12 @@ pub record CountsMore (uses : List Used) (old new : TallyState) : Type 0 where
   pub first : new.first ≡ old.first
   pub end : new.end ≤ old.end
   pub cells : (c : ℕ) → old.first ≤ c → c < new.end → cell_at new c ≡ fold (cell_with c) (cell_at old c) uses
+
+-- whether a cell has the mark of a kind
+abbrev pub has_mark : UseKind → ℕ → Bool
+has_mark kind cell = cell / mark_of kind % 2 == 1
+
+-- whether a cell counts uses that exclude each other
+abbrev pub is_shared_cell : ℕ → Bool
+is_shared_cell cell = (has_mark Fixed cell && nat_lt 1 (cell / 8))
+    || (has_mark L2Table cell && (has_mark Fixed cell || has_mark Guest cell))

@@ -1,11 +1,11 @@
 //! Uses of clusters, counted in memory of a bounded size.
 
 ghost use Rattle.std.specs.Prelude.{◌≡◌, ℕ, ◌+◌, ◌-◌, ◌^◌, ◌<◌, ◌≤◌, [], ◌∷◌, IfOk, IfSome, IsOkUnless, None, OnOk, length, replicate};
+ghost use Rattle.qcow2_base.specs.Format.{max_file_length};
 ghost use Rattle.qcow2_base.specs.declared.fault.Fault.TheVariants.{NoMemory};
-ghost use Rattle.qcow2_check.specs.Tally.{CountsMore, cell_at, mark_of, with_use};
+ghost use Rattle.qcow2_check.specs.Tally.{CountsMore, cell_at, is_shared_cell, mark_of, with_use};
 
-use qcow2_base::{ClusterCount, Fault, HostCluster};
-use qcow2_metadata::ClustersToFreeEntry;
+use qcow2_base::{Fault, MAX_FILE_LENGTH};
 use std::alloc::Global;
 use std::collections::BTreeMap;
 use std::marker::Model;
@@ -90,14 +90,14 @@ impl Tally {
     /// after another, and there are at most `most` others. Fails only where memory runs out.
     pub(crate) fn new(alloc: Global, first: u64, dense: usize, most: usize) -> Result<Tally, Fault>
         requires some { 0 < dense }
-        requires fits { first + dense < 2 ^ 64 }
+        requires fits { first + dense ≤ max_file_length }
         ensures fault { IsOkUnless result NoMemory }
-        ensures begun { IfOk result (λ tally. (tally.first ≡ first) × (tally.end ≡ 2 ^ 64 - 1)
+        ensures begun { IfOk result (λ tally. (tally.first ≡ first) × (tally.end ≡ max_file_length)
             × (tally.dense ≡ replicate dense 0) × ((c : ℕ) → cell_at tally c ≡ 0)) }
     {
         Ok(Tally {
             first,
-            end: u64::MAX,
+            end: MAX_FILE_LENGTH,
             dense: vec![in alloc; 0u64; dense]?,
             sparse: BTreeMap::new(alloc),
             most,
@@ -118,6 +118,38 @@ impl Tally {
         ensures { result ≡ self.now.end }
     {
         self.end
+    }
+
+    /// The cell of a cluster.
+    #[inline]
+    pub(crate) fn cell(&self, cluster: u64) -> u64
+        requires { self.now.first ≤ cluster }
+        ensures { result ≡ cell_at self.now cluster }
+    {
+        match self.dense.get((cluster - self.first) as usize) {
+            Some(cell) => *cell,
+            None => self.sparse.get(&cluster).copied().unwrap_or(0),
+        }
+    }
+
+    /// The first cluster from one on that has a use, or the limit where none before it has.
+    pub(crate) fn next_used(&self, from: u64, limit: u64) -> u64
+        requires from { self.now.first ≤ from }
+        requires some { from ≤ limit }
+        ensures from { from ≤ result }
+        ensures within { result ≤ limit }
+        ensures none { (c : ℕ) → from ≤ c → c < result → cell_at self.now c ≡ 0 }
+    {
+        let dense_end = self.first + self.dense.len() as u64;
+        for cluster in from..limit.min(dense_end) {
+            if self.dense[(cluster - self.first) as usize] != 0 {
+                return cluster;
+            }
+        }
+        match self.sparse.range(from.max(dense_end)..).next() {
+            Some((cluster, _)) => (*cluster).min(limit),
+            None => limit,
+        }
     }
 
     /// Counts a use of a cluster, where the tally has its cell. Where there are too many cells it ends before
@@ -158,4 +190,15 @@ impl Tally {
         }
         Ok(())
     }
+}
+
+// Whether a cell counts uses that exclude each other.
+#[inline]
+fn is_shared(cell: u64) -> bool
+    ensures { result ≡ is_shared_cell cell }
+{
+    let is_fixed = cell % 2 == 1;
+    let is_table = cell / 2 % 2 == 1;
+    let is_guest = cell / 4 % 2 == 1;
+    (is_fixed && cell / 8 > 1) || (is_table && (is_fixed || is_guest))
 }
