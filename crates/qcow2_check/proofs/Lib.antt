@@ -1,3 +1,4 @@
+pub mod CountersLemmas
 pub mod NamedTablesLemmas
 pub mod TallyLemmas
 pub mod UsesLemmas

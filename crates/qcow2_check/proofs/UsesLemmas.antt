@@ -27,7 +27,8 @@ all_load_until g image (v ∷ vs) zero fault below loads refused = grind (arith,
 all_load_until g image (v ∷ vs) (suc i) fault below loads refused =
     grind (arith, loads, all_load_until g image vs i fault (omega (arith, below)))
 
-take_more : {X : Type 0} (xs : List X) (i : ℕ) (d : X) → i < length xs → take (i + 1) xs ≡ take i xs ++ get_or xs i d ∷ []
+-- the first elements of a list and the next
+pub take_more : {X : Type 0} (xs : List X) (i : ℕ) (d : X) → i < length xs → take (i + 1) xs ≡ take i xs ++ get_or xs i d ∷ []
 take_more xs i d below = simp unary_clauses (take-suc xs i d below)
 
 -- what the first entries and the next use
@@ -83,3 +84,10 @@ refused_at g l1 index old mid new a b answer fault below is so_far reads = recor
   faults = reads.faults;
   storage = grind (arith, is, so_far.storage, reads.storage);
 }
+
+-- uses that are counted before those of L2 tables
+pub counts_before : (answer : Result (Unit {0}) Fault) (state : StorageState) (first : List Used) (second : Image → List Used) (a b c : TallyState)
+    → CountsMore first a b → OnOk answer (OnImage state (λ bytes. CountsMore (second bytes) b c))
+    → OnOk answer (OnImage state (λ bytes. CountsMore (first ++ second bytes) a c))
+counts_before (Ok done) state first second a b c one other = λ told. counts_then first (second state.byte_at) a b c one (other told)
+counts_before (Err fault) state first second a b c one other = tt

@@ -1,13 +1,15 @@
 -- What does an image's own counter say of a cluster?
-use Rattle.std.specs.Prelude.{◌≡◌, ℕ, ◌/◌, ◌%◌, List, [], slice_index, Option, Some, None, Result, Ok, IfSome}
+use Rattle.std.specs.Prelude.{◌≡◌, ◌⊎◌, ℕ, ◌/◌, ◌%◌, List, [], slice_index, Option, Some, None, Result, Ok, IfSome}
 use Rattle.qcow2_base.specs.Storage.{Image, OnImage, StorageState}
 use Rattle.qcow2_base.specs.declared.fault.Fault.{Fault}
+use Rattle.qcow2_base.specs.declared.fault.Fault.TheVariants.{TablePlace}
 use Rattle.qcow2_base.specs.declared.types.HostCluster.{HostCluster}
 use Rattle.qcow2_metadata.specs.Header.{HeaderRecord}
-use Rattle.qcow2_metadata.specs.Placed.{numbers_at}
-use Rattle.qcow2_metadata.specs.Refblock.{BlockState, block_entries, block_geometry_of, block_layout, loaded_block}
-use Rattle.qcow2_metadata.specs.Results.{result_map}
-use Rattle.qcow2_check.specs.NamedTables.{named_block}
+use Rattle.qcow2_metadata.specs.Placed.{numbers_at, place_fault}
+use Rattle.qcow2_metadata.specs.Refblock.{BlockState, block_entries, block_geometry_of, block_layout}
+use Rattle.qcow2_metadata.specs.Results.{and_then, unless_refused}
+use Rattle.qcow2_metadata.specs.Table.{IsTableFault, first_fault}
+use Rattle.qcow2_check.specs.NamedTables.{loaded_reftable, named_block, reftable_cluster, reftable_layout}
 
 -- how many counters a refcount block has
 abbrev pub counters_each : HeaderRecord → ℕ
@@ -29,13 +31,6 @@ counter_of header reftable image c = elim (block_of_cluster header reftable c) [
   | Some block ↦ counter_among header (numbers_at (block_layout (block_geometry_of header)) block image) c
 ]
 
--- the same, or why the block can't lie where the refcount table says
-abbrev pub counter_or_fault : HeaderRecord → List ℕ → ℕ → Image → Result ℕ Fault
-counter_or_fault header reftable c image = elim (block_of_cluster header reftable c) [
-  | None ↦ Ok 0
-  | Some block ↦ result_map (λ counters. counter_among header counters c) (loaded_block header block image)
-]
-
 -- what a reader of counters has: the image's header and refcount table, and a block that it keeps
 pub record CountersState : Type 0 where
   pub header : HeaderRecord
@@ -50,9 +45,30 @@ kept_counters (Some block) = block.numbers
 -- a block that is kept, if there is one, is the one at its cluster in the image
 abbrev pub IsKeptOf : HeaderRecord → Image → Option BlockState → Type 0
 IsKeptOf header image kept = IfSome kept (λ (block : BlockState).
-    IfSome block.cluster (λ cluster. loaded_block header cluster image ≡ Ok block.numbers))
+    IfSome block.cluster (λ cluster. block.numbers ≡ numbers_at (block_layout (block_geometry_of header)) cluster image))
 
 -- a reader stays as it is, but that it may keep another block of the image
 pub record StaysReader (image : StorageState) (old new : CountersState) : Type 0 where
   pub same : new ≡ record old { block = new.block }
   pub kept : OnImage image (λ bytes. IsKeptOf new.header bytes new.block)
+
+-- why the block that a refcount table entry names can't lie there, if it names one
+abbrev pub block_place_fault : HeaderRecord → ℕ → Option Fault
+block_place_fault header v = elim (named_block header.v2.cluster_bits v) [
+  | None ↦ None
+  | Some block ↦ place_fault (block_layout (block_geometry_of header)) block
+]
+
+-- why a refcount table's blocks can't all lie where it says, by the first that can't
+abbrev pub blocks_fault : HeaderRecord → List ℕ → Option Fault
+blocks_fault header reftable = first_fault (block_place_fault header) reftable
+
+-- the refcount table of an image with this header, whose blocks can all lie where it says
+abbrev pub placed_reftable : HeaderRecord → Image → Result (List ℕ) Fault
+placed_reftable header image = and_then (loaded_reftable header image) (λ reftable.
+    unless_refused (blocks_fault header reftable) (Ok reftable))
+
+-- the refusals of a refcount table: those of its place, of one of its entries, or of the place of a block
+abbrev pub IsReftableFault : HeaderRecord → Fault → Type 0
+IsReftableFault header fault =
+    IsTableFault (reftable_layout header) (reftable_cluster header) fault ⊎ (fault ≡ TablePlace)

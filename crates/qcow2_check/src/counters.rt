@@ -1,17 +1,17 @@
 //! What an image's own counters say of its clusters.
 
-ghost use Rattle.std.specs.Prelude.{◌≡◌, Ok, Some, None, IfOk, IfSome, IsSomeAnd, MatchResult};
+ghost use Rattle.std.specs.Prelude.{◌≡◌, Ok, Some, None, IfOk, IfSome, IsOkUnless, IsSomeAnd, MatchResult, slice_index};
 ghost use Rattle.qcow2_base.specs.Storage.{OnImage};
 ghost use Rattle.qcow2_base.specs.declared.fault.Fault.TheVariants.{TablePlace};
-ghost use Rattle.qcow2_metadata.specs.Refblock.{block_geometry_of, loaded_block};
-ghost use Rattle.qcow2_metadata.specs.Placed.{RefusesPlace};
+ghost use Rattle.qcow2_metadata.specs.Header.{geometry_of};
+ghost use Rattle.qcow2_metadata.specs.Placed.{RefusesPlace, numbers_at, place_fault};
+ghost use Rattle.qcow2_metadata.specs.Refblock.{block_geometry_of, block_layout};
 ghost use Rattle.qcow2_metadata.specs.Results.{Reads};
-ghost use Rattle.qcow2_metadata.specs.Table.{IsTableFault};
-ghost use Rattle.qcow2_check.specs.Counters.{IsKeptOf, StaysReader, counter_or_fault, kept_counters};
-ghost use Rattle.qcow2_check.specs.NamedTables.{loaded_reftable, reftable_cluster, reftable_layout};
+ghost use Rattle.qcow2_check.specs.Counters.{IsKeptOf, IsReftableFault, StaysReader, block_place_fault, blocks_fault, kept_counters};
+ghost use Rattle.qcow2_check.specs.NamedTables.{reftable_cluster, reftable_layout};
 
 use crate::named_tables::{load_reftable, named_block};
-use qcow2_base::{Fault, HostCluster, Storage};
+use qcow2_base::{Fault, HostCluster, MAX_FILE_LENGTH, Storage};
 use qcow2_metadata::{Header, RefBlock, RefTable, Table};
 use std::alloc::Global;
 use std::marker::Model;
@@ -26,10 +26,10 @@ pub struct Counters<'a> {
 }
 
 impl<'a> Model for Counters<'a> {
-    ghost use Rattle.std.specs.Prelude.{◌≡◌, IfSome};
+    ghost use Rattle.std.specs.Prelude.{◌≡◌, None, IfSome};
     ghost use Rattle.qcow2_metadata.specs.Header.{geometry_of};
     ghost use Rattle.qcow2_metadata.specs.Refblock.{block_geometry_of};
-    ghost use Rattle.qcow2_check.specs.Counters.{CountersState};
+    ghost use Rattle.qcow2_check.specs.Counters.{CountersState, blocks_fault};
 
     ghost Value = { CountersState };
 
@@ -40,7 +40,39 @@ impl<'a> Model for Counters<'a> {
     } };
 
     ghost invariant = { λ c. (c.reftable.geometry ≡ geometry_of c.header.now)
+        × (blocks_fault c.header.now c.reftable.numbers ≡ None)
         × IfSome c.block (λ block. block.geometry ≡ block_geometry_of c.header.now) };
+}
+
+// Why the block that a refcount table entry names can't lie there.
+#[tactic(auto, using(crate::proofs::CountersLemmas::place_refused, crate::proofs::CountersLemmas::place_accepted))]
+fn check_place(header: &Header, reftable: &RefTable, index: usize) -> Result<(), Fault>
+    requires { reftable.now.geometry ≡ geometry_of header.now }
+    ensures fault { IsOkUnless result TablePlace }
+    ensures place { let fault = block_place_fault header.now (slice_index reftable.now.numbers index) in
+        MatchResult result (λ done. fault ≡ None) (λ refusal. fault ≡ Some refusal) }
+{
+    let Some(block) = named_block(reftable, index) else {
+        return Ok(());
+    };
+    if block.0 >= MAX_FILE_LENGTH >> header.cluster_bits() {
+        return Err(Fault::TablePlace);
+    }
+    Ok(())
+}
+
+// Why the blocks can't all lie where the refcount table says, by the first that can't.
+#[tactic(auto, using(crate::proofs::CountersLemmas::places_more))]
+fn check_places(header: &Header, reftable: &RefTable) -> Result<(), Fault>
+    requires { reftable.now.geometry ≡ geometry_of header.now }
+    ensures fault { IsOkUnless result TablePlace }
+    ensures place { let fault = blocks_fault header.now reftable.now.numbers in
+        MatchResult result (λ done. fault ≡ None) (λ refusal. fault ≡ Some refusal) }
+{
+    for index in 0..reftable.entries() {
+        check_place(header, reftable, index)?;
+    }
+    Ok(())
 }
 
 // Keeps the refcount block that begins with a cluster: the one that is kept, where that is it, or else the one
@@ -54,12 +86,14 @@ fn keep_block<S: Storage>(
 ) -> Result<(), Fault>
     requires kept { OnImage (S.state image.old) (λ bytes. IsKeptOf header.now bytes kept.old) }
     requires geometry { IfSome kept.old (λ block. block.geometry ≡ block_geometry_of header.now) }
+    requires place { place_fault (block_layout (block_geometry_of header.now)) cluster ≡ None }
     ensures kept { MatchResult result
         (λ done. IsSomeAnd kept.new (λ block. (block.cluster ≡ Some cluster)
         × (block.geometry ≡ block_geometry_of header.now)))
         (λ fault. kept.new ≡ None) }
-    ensures reads { Reads (λ done. kept_counters kept.new) result (loaded_block header.now cluster)
-        (λ fault. fault ≡ TablePlace) (S.state image.old) (S.state image.new) }
+    ensures reads { Reads (λ done. kept_counters kept.new) result
+        (λ bytes. Ok (numbers_at (block_layout (block_geometry_of header.now)) cluster bytes))
+        (λ _. ⊥) (S.state image.old) (S.state image.new) }
 {
     let is_kept = match kept {
         Some(block) => block.get_cluster() == Some(cluster),
@@ -74,19 +108,19 @@ fn keep_block<S: Storage>(
 }
 
 impl<'a> Counters<'a> {
-    ghost use Rattle.std.specs.Prelude.{◌≡◌, None, IfOk};
+    ghost use Rattle.std.specs.Prelude.{◌≡◌, None, IfOk, IfSome, is_some};
+    ghost use Rattle.qcow2_check.specs.Counters.{block_of_cluster, blocks_fault, counter_of, placed_reftable};
 
-    /// A reader of the counters of an image with this header. Reads the refcount table, and returns its fault
-    /// where it is refused. Changes no byte.
+    /// A reader of the counters of an image with this header. Reads the refcount table, and returns its fault where
+    /// it is refused, and then 21 where a block that it names would end past 2^56. Changes no byte.
     pub fn new<S: Storage>(
         alloc: Global,
         image: &mut S,
         header: &'a Header,
     ) -> Result<Counters<'a>, Fault>
         ensures refused { RefusesPlace (reftable_layout header.now) (reftable_cluster header.now) result }
-        ensures reads { Reads (λ counters. counters.reftable) result (loaded_reftable header.now)
-            (IsTableFault (reftable_layout header.now) (reftable_cluster header.now))
-            (S.state image.old) (S.state image.new) }
+        ensures reads { Reads (λ counters. counters.reftable) result (placed_reftable header.now)
+            (IsReftableFault header.now) (S.state image.old) (S.state image.new) }
         ensures begun { IfOk result (λ counters. counters ≡ record {
           header = header.now;
           reftable = counters.reftable;
@@ -94,6 +128,7 @@ impl<'a> Counters<'a> {
         }) }
     {
         let reftable = load_reftable(alloc, image, header)?;
+        check_places(header, &reftable)?;
         Ok(Counters {
             header,
             reftable,
@@ -101,24 +136,51 @@ impl<'a> Counters<'a> {
         })
     }
 
+    // The cluster that the block of a cluster begins with, if there is one.
+    #[tactic(auto, using(crate::proofs::CountersLemmas::place_of_block))]
+    fn block_of(&self, cluster: HostCluster) -> Option<HostCluster>
+        ensures block { result ≡ block_of_cluster self.now.header self.now.reftable cluster.0 }
+        ensures place { IfSome result (λ block.
+            place_fault (block_layout (block_geometry_of self.now.header)) block ≡ None) }
+    {
+        named_block(&self.reftable, cluster.rt_index(self.header.rb_bits()))
+    }
+
+    /// Whether the refcount table names a block for a cluster.
+    pub(crate) fn has_block(&self, cluster: HostCluster) -> bool
+        ensures { result ≡ is_some (block_of_cluster self.now.header self.now.reftable cluster.0) }
+    {
+        self.block_of(cluster).is_some()
+    }
+
+    /// The refcount table.
+    #[inline]
+    pub(crate) fn reftable(&self) -> &RefTable
+        ensures numbers { result.now.numbers ≡ self.now.reftable }
+        ensures geometry { result.now.geometry ≡ geometry_of self.now.header }
+        ensures placed { blocks_fault self.now.header self.now.reftable ≡ None }
+    {
+        &self.reftable
+    }
+
     /// The counter of a cluster, which is 0 where the refcount table names no block for it or ends before it.
     ///
-    /// Returns the fault of the block's place, 21, where that is refused, and can be asked again. The image must
-    /// be the one that the reader was made for, unchanged since. Changes no byte.
+    /// Fails where the storage does or memory runs out, and can be called again then. The image must be the one that
+    /// the reader was made for, unchanged since. Changes no byte.
     pub fn get<S: Storage>(&mut self, image: &mut S, cluster: HostCluster) -> Result<u64, Fault>
         requires { OnImage (S.state image.old) (λ bytes. IsKeptOf self.old.header bytes self.old.block) }
         ensures reads { Reads (λ counter. counter) result
-            (counter_or_fault self.old.header self.old.reftable cluster.0)
-            (λ fault. fault ≡ TablePlace) (S.state image.old) (S.state image.new) }
+            (λ bytes. Ok (counter_of self.old.header self.old.reftable bytes cluster.0))
+            (λ _. ⊥) (S.state image.old) (S.state image.new) }
         ensures reader { StaysReader (S.state image.old) self.old self.new }
     {
-        let (table_index, index) = cluster.rt_rb_indices(self.header.rb_bits());
-        let Some(place) = named_block(&self.reftable, table_index) else {
+        let Some(place) = self.block_of(cluster) else {
             return Ok(0);
         };
         let alloc = self.reftable.allocator();
         keep_block(&mut self.block, image, self.header, alloc, place)?;
         let block = self.block.as_ref().unwrap();
+        let index = cluster.rb_index(self.header.rb_bits());
         prove!(index < block.entries());
         Ok(block.get(index))
     }

@@ -1,6 +1,6 @@
 //! Uses of clusters, counted in memory of a bounded size.
 
-ghost use Rattle.std.specs.Prelude.{◌≡◌, ℕ, ◌+◌, ◌-◌, ◌^◌, ◌<◌, ◌≤◌, [], ◌∷◌, IfOk, IfSome, IsOkUnless, None, OnOk, length, replicate};
+ghost use Rattle.std.specs.Prelude.{◌≡◌, ℕ, ◌+◌, ◌-◌, ◌/◌, ◌^◌, ◌<◌, ◌≤◌, [], ◌∷◌, IfOk, IfSome, IsOkUnless, None, OnOk, length, replicate};
 ghost use Rattle.qcow2_base.specs.Format.{max_file_length};
 ghost use Rattle.qcow2_base.specs.declared.fault.Fault.TheVariants.{NoMemory};
 ghost use Rattle.qcow2_check.specs.Tally.{CountsMore, cell_at, is_shared_cell, mark_of, with_use};
@@ -192,13 +192,21 @@ impl Tally {
     }
 }
 
-// Whether a cell counts uses that exclude each other.
+/// Whether a cell counts uses that exclude each other.
 #[inline]
-fn is_shared(cell: u64) -> bool
+pub(crate) fn is_shared(cell: u64) -> bool
     ensures { result ≡ is_shared_cell cell }
 {
     let is_fixed = cell % 2 == 1;
     let is_table = cell / 2 % 2 == 1;
     let is_guest = cell / 4 % 2 == 1;
     (is_fixed && cell / 8 > 1) || (is_table && (is_fixed || is_guest))
+}
+
+/// How many uses a cell counts.
+#[inline]
+pub(crate) fn count_of(cell: u64) -> u64
+    ensures { result ≡ cell / 8 }
+{
+    cell / 8
 }

@@ -10,7 +10,7 @@ ghost use Rattle.qcow2_metadata.specs.Results.{Reads, result_map};
 ghost use Rattle.qcow2_metadata.specs.Table.{IsEntryFault, loaded_l2_table};
 ghost use Rattle.qcow2_check.specs.NamedTables.{IsInImage, named_cluster};
 ghost use Rattle.qcow2_check.specs.Tally.{CountsMore};
-ghost use Rattle.qcow2_check.specs.Uses.{all_load, block_uses, entry_uses, header_uses, l1_entry_loads, l1_entry_uses, table_uses, used_clusters};
+ghost use Rattle.qcow2_check.specs.Uses.{all_load, block_uses, entry_uses, header_uses, image_uses, l1_entry_loads, l1_entry_uses, table_uses, used_clusters};
 
 use crate::named_tables::{load_l2_table, named_block, named_cluster};
 use crate::tally::{Tally, UseKind};
@@ -155,4 +155,25 @@ fn count_header(tally: &mut Tally, header: &Header) -> Result<(), Fault>
     count_clusters(tally, UseKind::Fixed, HostCluster(0), 1)?;
     count_clusters(tally, UseKind::Fixed, l1_cluster, l1_clusters.0)?;
     count_clusters(tally, UseKind::Fixed, reftable_cluster, header.reftable_clusters().0)
+}
+
+/// Counts all clusters that an image uses.
+pub(crate) fn count_image<S: Storage>(
+    tally: &mut Tally,
+    image: &mut S,
+    header: &Header,
+    l1_table: &L1Table,
+    reftable: &RefTable,
+) -> Result<(), Fault>
+    requires l1_table { l1_table.now.geometry ≡ geometry_of header.now }
+    requires reftable { reftable.now.geometry ≡ geometry_of header.now }
+    ensures reads { Reads (λ done. done) result (all_load (geometry_of header.now) l1_table.now.numbers)
+        IsEntryFault (S.state image.old) (S.state image.new) }
+    ensures counted { OnOk result (OnImage (S.state image.old) (λ bytes. CountsMore
+        (image_uses (record { header = header.now; l1 = l1_table.now.numbers; reftable = reftable.now.numbers }) bytes)
+        tally.old tally.new)) }
+{
+    count_header(tally, header)?;
+    count_blocks(tally, reftable)?;
+    count_l2_tables(tally, image, header, l1_table)
 }

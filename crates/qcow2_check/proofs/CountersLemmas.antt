@@ -1,0 +1,59 @@
+use Rattle.std.proofs.Common.{◌≡◌, ◌↔◌, ℕ, zero, suc, ◌+◌, ◌*◌, ◌/◌, ◌^◌, ◌<◌, ◌≤◌, List, [], ◌∷◌, length, slice_index, take, Option, None, Some, Ok, refl, ◌∙◌, arith}
+use Rattle.std.proofs.lemmas.Bool.Decides.{nat_tests}
+use Rattle.std.proofs.lemmas.Nat.{pow_pos}
+use Rattle.std.proofs.Math.Nat.{div-lt_iff_lt-mul}
+use Rattle.qcow2_metadata.proofs.TableLemmas.{first_fault-append}
+use Rattle.qcow2_check.proofs.UsesLemmas.{take_more}
+use Rattle.qcow2_base.specs.declared.fault.Fault.{Fault}
+use Rattle.qcow2_base.specs.declared.fault.Fault.TheVariants.{TablePlace}
+use Rattle.qcow2_base.specs.declared.types.HostCluster.{HostCluster}
+use Rattle.qcow2_check.specs.NamedTables.{named_block}
+use Rattle.qcow2_metadata.specs.Header.{HeaderRecord}
+use Rattle.qcow2_metadata.specs.Placed.{place_fault}
+use Rattle.qcow2_metadata.specs.Refblock.{block_geometry_of, block_layout}
+use Rattle.qcow2_metadata.specs.Table.{first_fault}
+use Rattle.qcow2_check.specs.Counters.{block_place_fault, blocks_fault, block_of_cluster, counters_each}
+
+-- the last cluster that ends by the greatest end
+pub place_limit : (block cb most : ℕ) → most ≡ 2 ^ 56 / 2 ^ cb → (most ≤ block) ↔ (2 ^ 56 < block * 2 ^ cb + 2 ^ cb)
+place_limit block cb most is = grind (arith, nat_tests, is, div-lt_iff_lt-mul, pow_pos)
+
+pub place_refused : (header : HeaderRecord) (v : ℕ) (block : HostCluster) (most : ℕ) → named_block header.v2.cluster_bits v ≡ Some block
+    → most ≡ 2 ^ 56 / 2 ^ header.v2.cluster_bits → most ≤ block.0 → block_place_fault header v ≡ Some TablePlace
+place_refused header v block most names is past = grind (arith, nat_tests, names, is, (place_limit block.0 header.v2.cluster_bits most is).0 past)
+
+pub place_accepted : (header : HeaderRecord) (v : ℕ) (block : HostCluster) (most : ℕ) → named_block header.v2.cluster_bits v ≡ Some block
+    → most ≡ 2 ^ 56 / 2 ^ header.v2.cluster_bits → block.0 < most → block_place_fault header v ≡ None
+place_accepted header v block most names is before = grind (arith, nat_tests, names, is, before, (place_limit block.0 header.v2.cluster_bits most is).1)
+
+-- the first fault of numbers, where the first of them have none
+no_fault_more : (f : ℕ → Option Fault) (vs : List ℕ) (i : ℕ) → i < length vs → first_fault f (take i vs) ≡ None
+    → f (slice_index vs i) ≡ None → first_fault f (take (i + 1) vs) ≡ None
+no_fault_more f vs i below none next = rw (take_more vs i 0 below)
+    (first_fault-append f (take i vs) (slice_index vs i ∷ []) none ∙ grind (arith, next))
+
+first_fault_at : (f : ℕ → Option Fault) (vs : List ℕ) (i : ℕ) (fault : Fault) → i < length vs → first_fault f (take i vs) ≡ None
+    → f (slice_index vs i) ≡ Some fault → first_fault f vs ≡ Some fault
+first_fault_at f [] i fault below none here = let never : ⊥ = omega (arith, below) in elim never [ ]
+first_fault_at f (v ∷ vs) zero fault below none here = grind (arith, here)
+first_fault_at f (v ∷ vs) (suc i) fault below none here = grind (arith, none, first_fault_at f vs i fault (omega (arith, below)))
+
+-- the same of the places of blocks
+pub places_more : (header : HeaderRecord) (vs : List ℕ) (i : ℕ) → i < length vs → blocks_fault header (take i vs) ≡ None
+    → block_place_fault header (slice_index vs i) ≡ None → blocks_fault header (take (i + 1) vs) ≡ None
+places_more header vs i = no_fault_more (block_place_fault header) vs i
+
+pub refused_at : (header : HeaderRecord) (vs : List ℕ) (i : ℕ) (fault : Fault) → i < length vs → blocks_fault header (take i vs) ≡ None
+    → block_place_fault header (slice_index vs i) ≡ Some fault → blocks_fault header vs ≡ Some fault
+refused_at header vs i = first_fault_at (block_place_fault header) vs i
+
+-- where all blocks can lie where the refcount table says, each cluster has a counter
+no_fault_at : (f : ℕ → Option Fault) (vs : List ℕ) (i : ℕ) → f 0 ≡ None → first_fault f vs ≡ None → f (slice_index vs i) ≡ None
+no_fault_at f [] i nothing none = nothing
+no_fault_at f (v ∷ vs) zero nothing none = grind (arith, none)
+no_fault_at f (v ∷ vs) (suc i) nothing none = no_fault_at f vs i nothing (grind (arith, none))
+
+pub place_of_block : (header : HeaderRecord) (reftable : List ℕ) (c : ℕ) (block : HostCluster) → blocks_fault header reftable ≡ None
+    → block_of_cluster header reftable c ≡ Some block → place_fault (block_layout (block_geometry_of header)) block ≡ None
+place_of_block header reftable c block placed names =
+    grind (arith, nat_tests, names, no_fault_at (block_place_fault header) reftable (c / counters_each header) refl placed)
