@@ -1,4 +1,5 @@
 pub mod CountersLemmas
+pub mod FindingsLemmas
 pub mod NamedTablesLemmas
 pub mod TallyLemmas
 pub mod UsesLemmas

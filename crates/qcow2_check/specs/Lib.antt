@@ -1,4 +1,5 @@
 pub mod Counters
+pub mod Findings
 pub mod NamedTables
 pub mod Tally
 pub mod Uses

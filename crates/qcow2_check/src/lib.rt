@@ -2,9 +2,11 @@
 #![tactic(auto)]
 
 mod counters;
+mod findings;
 mod named_tables;
 mod tally;
 mod uses;
 
 pub use counters::Counters;
+pub use findings::{Finding, Findings};
 pub use named_tables::{load_l1_table, load_l2_table, load_reftable, named_block, named_cluster};

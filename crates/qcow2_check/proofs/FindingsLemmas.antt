@@ -1,0 +1,74 @@
+use Rattle.std.proofs.Common.{◌≡◌, ◌↔◌, ℕ, true, false, ◌==◌, ◌+◌, ◌*◌, ◌/◌, ◌%◌, ◌<◌, ◌≤◌, nat_lt, ◌&&◌, List, [], ◌∷◌, fold, Some, Ok, refl, ◌∙◌, arith}
+use Rattle.std.proofs.lemmas.Bool.Decides.{nat_tests}
+use Rattle.std.proofs.lemmas.List.Sums.{sum_by-cons}
+use Rattle.qcow2_base.specs.Storage.{Image}
+use Rattle.qcow2_check.specs.Counters.{counter_of}
+use Rattle.qcow2_metadata.specs.Entries.{is_among}
+use Rattle.qcow2_metadata.specs.Table.L2Guards.{one_if}
+use Rattle.qcow2_check.specs.Findings.{FindingsState, IsFindingsOf, finding_at, is_shared, tables_of, uses_of_kind}
+use Rattle.qcow2_check.specs.Tally.{TallyState, Used, cell_at, cell_with, is_shared_cell, mark_of, with_use}
+use Rattle.qcow2_check.specs.Uses.{image_uses, uses_of}
+use Rattle.qcow2_check.specs.declared.tally.UseKind.{UseKind}
+use Rattle.qcow2_check.specs.declared.tally.UseKind.TheVariants.{Fixed, Guest, L2Table}
+
+-- a cell tells how many uses of each kind there are
+pub record Tells (cell f t g : ℕ) : Type 0 where
+  pub count : cell / 8 ≡ f + t + g
+  pub fixed : (cell % 2 ≡ 1) ↔ (0 < f)
+  pub tables : (cell / 2 % 2 ≡ 1) ↔ (0 < t)
+  pub guest : (cell / 4 % 2 ≡ 1) ↔ (0 < g)
+
+tells-fixed : (cell f t g : ℕ) → Tells cell f t g → Tells (with_use Fixed cell) (f + 1) t g
+tells-fixed cell f t g is = grind (arith, nat_tests, is)
+
+tells-table : (cell f t g : ℕ) → Tells cell f t g → Tells (with_use L2Table cell) f (t + 1) g
+tells-table cell f t g is = grind (arith, nat_tests, is)
+
+tells-guest : (cell f t g : ℕ) → Tells cell f t g → Tells (with_use Guest cell) f t (g + 1)
+tells-guest cell f t g is = grind (arith, nat_tests, is)
+
+-- uses of a cluster, with one in front of others
+kind-cons : (kind : UseKind) (used : Used) (uses : List Used) (c : ℕ) → uses_of_kind kind (used ∷ uses) c
+    ≡ one_if (mark_of used.kind == mark_of kind && is_among used.clusters c) + uses_of_kind kind uses c
+kind-cons kind used uses c = sum_by-cons _ used uses
+
+all-cons : (used : Used) (uses : List Used) (c : ℕ) → uses_of (used ∷ uses) c ≡ one_if (is_among used.clusters c) + uses_of uses c
+all-cons used uses c = sum_by-cons _ used uses
+
+-- and so does one that more uses are counted in
+tells-all : (uses : List Used) (c cell f t g : ℕ) → Tells cell f t g → Tells (fold (cell_with c) cell uses)
+    (f + uses_of_kind Fixed uses c) (t + uses_of_kind L2Table uses c) (g + uses_of_kind Guest uses c)
+tells-all [] c cell f t g is = grind (arith, is)
+tells-all (used ∷ uses) c cell f t g is = elim used.kind as (λ kind. used.kind ≡ kind → Tells (fold (cell_with c) cell (used ∷ uses))
+    (f + uses_of_kind Fixed (used ∷ uses) c) (t + uses_of_kind L2Table (used ∷ uses) c) (g + uses_of_kind Guest (used ∷ uses) c)) [
+  | Fixed ↦ λ kind. grind (arith, nat_tests, kind, kind-cons Fixed used uses c, kind-cons L2Table used uses c, kind-cons Guest used uses c, tells-all uses c cell f t g is, tells-all uses c (with_use Fixed cell) (f + 1) t g (tells-fixed cell f t g is))
+  | L2Table ↦ λ kind. grind (arith, nat_tests, kind, kind-cons Fixed used uses c, kind-cons L2Table used uses c, kind-cons Guest used uses c, tells-all uses c cell f t g is, tells-all uses c (with_use L2Table cell) f (t + 1) g (tells-table cell f t g is))
+  | Guest ↦ λ kind. grind (arith, nat_tests, kind, kind-cons Fixed used uses c, kind-cons L2Table used uses c, kind-cons Guest used uses c, tells-all uses c cell f t g is, tells-all uses c (with_use Guest cell) f t (g + 1) (tells-guest cell f t g is))
+] refl
+
+-- all uses of a cluster are of these kinds
+uses_by_kind : (uses : List Used) (c : ℕ) → uses_of uses c ≡ uses_of_kind Fixed uses c + uses_of_kind L2Table uses c + uses_of_kind Guest uses c
+uses_by_kind [] c = refl
+uses_by_kind (used ∷ uses) c = elim used.kind as (λ kind. used.kind ≡ kind → uses_of (used ∷ uses) c
+    ≡ uses_of_kind Fixed (used ∷ uses) c + uses_of_kind L2Table (used ∷ uses) c + uses_of_kind Guest (used ∷ uses) c) [
+  | Fixed ↦ λ kind. grind (arith, nat_tests, kind, all-cons used uses c, kind-cons Fixed used uses c, kind-cons L2Table used uses c, kind-cons Guest used uses c, uses_by_kind uses c)
+  | L2Table ↦ λ kind. grind (arith, nat_tests, kind, all-cons used uses c, kind-cons Fixed used uses c, kind-cons L2Table used uses c, kind-cons Guest used uses c, uses_by_kind uses c)
+  | Guest ↦ λ kind. grind (arith, nat_tests, kind, all-cons used uses c, kind-cons Fixed used uses c, kind-cons L2Table used uses c, kind-cons Guest used uses c, uses_by_kind uses c)
+] refl
+
+-- what the cell of all uses tells
+pub cell_counts : (uses : List Used) (c cell : ℕ) → cell ≡ fold (cell_with c) 0 uses → cell / 8 ≡ uses_of uses c
+cell_counts uses c cell is = grind (arith, nat_tests, is, tells-all uses c 0 0 0 0 (grind (arith, nat_tests)), uses_by_kind uses c)
+
+pub cell_shares : (uses : List Used) (c cell : ℕ) → cell ≡ fold (cell_with c) 0 uses → is_shared_cell cell ≡ is_shared uses c
+cell_shares uses c cell is = grind (arith, nat_tests, is, tells-all uses c 0 0 0 0 (grind (arith, nat_tests)), uses_by_kind uses c)
+
+-- what is found at a cluster, by its counter and its cell
+pub found_is : (reader : FindingsState) (tally : TallyState) (image : Image) (c counter cell : ℕ) → reader.tally ≡ Some tally
+    → IsFindingsOf image reader → tally.first ≤ c → c < tally.end
+    → counter ≡ counter_of reader.header reader.counters.reftable image c → cell ≡ cell_at tally c
+    → record { cluster = record { 0 = c }; counter = counter; uses = cell / 8; shared = is_shared_cell cell } ≡ finding_at (tables_of reader) image c
+found_is reader tally image c counter cell has is from before counts says =
+    let uses = image_uses (tables_of reader) image in
+    let all : cell_at tally c ≡ fold (cell_with c) 0 uses = (rw has at is.counted) c from before in
+    grind (arith, counts, cell_counts uses c cell (says ∙ all), cell_shares uses c cell (says ∙ all))

@@ -1,0 +1,88 @@
+-- Where do an image's counters differ from its uses of clusters, and which clusters have uses that exclude each other?
+use Rattle.std.specs.Prelude.{◌≡◌, ◌≢◌, ◌⊎◌, ℕ, Bool, true, false, not, ◌&&◌, ◌||◌, ◌==◌, ◌+◌, ◌<◌, ◌≤◌, nat_lt, List, Option, Some, None, Result, Ok, Err, IfSome}
+use Rattle.std.specs.List.{fold, sum_by}
+use Rattle.qcow2_base.specs.Format.{max_file_length}
+use Rattle.qcow2_base.specs.Storage.{Image, OnImage, StorageState}
+use Rattle.qcow2_base.specs.declared.fault.Fault.{Fault}
+use Rattle.qcow2_metadata.specs.Entries.{is_among}
+use Rattle.qcow2_metadata.specs.Header.{HeaderRecord, geometry_of}
+use Rattle.qcow2_metadata.specs.Results.{IsFromOutside}
+use Rattle.qcow2_metadata.specs.Table.L2Guards.{one_if}
+use Rattle.qcow2_check.specs.Counters.{CountersState, IsKeptOf, counter_of}
+use Rattle.qcow2_check.specs.Tally.{TallyState, Used, cell_at, cell_with, mark_of}
+use Rattle.qcow2_check.specs.Uses.{ImageTables, all_load, image_uses, uses_of}
+use Rattle.qcow2_check.specs.declared.findings.Finding.{Finding}
+use Rattle.qcow2_check.specs.declared.tally.UseKind.{UseKind}
+use Rattle.qcow2_check.specs.declared.tally.UseKind.TheVariants.{Fixed, L2Table}
+
+-- how many of some uses are those of cluster c of one kind
+abbrev pub uses_of_kind : UseKind → List Used → ℕ → ℕ
+uses_of_kind kind uses c =
+    sum_by (λ (used : Used). one_if (mark_of used.kind == mark_of kind && is_among used.clusters c)) uses
+
+-- whether cluster c has uses that exclude each other: one that must be its only use, and others; or it is an L2 table, and
+-- more than that
+abbrev pub is_shared : List Used → ℕ → Bool
+is_shared uses c = (nat_lt 0 (uses_of_kind Fixed uses c) && nat_lt 1 (uses_of uses c))
+    || (nat_lt 0 (uses_of_kind L2Table uses c) && not (uses_of_kind L2Table uses c == uses_of uses c))
+
+-- what is found at cluster c of an image with these tables
+abbrev pub finding_at : ImageTables → Image → ℕ → Finding
+finding_at tables image c = record {
+  cluster = record { 0 = c };
+  counter = counter_of tables.header tables.reftable image c;
+  uses = uses_of (image_uses tables image) c;
+  shared = is_shared (image_uses tables image) c;
+}
+
+-- whether that is worth telling: the counter isn't the number of uses, or these exclude each other
+abbrev pub is_wrong : Finding → Bool
+is_wrong finding = not (finding.counter == finding.uses) || finding.shared
+
+-- what a reader of findings has: the image's header, its L1 table and its counters, the uses of the clusters of a part of
+-- the image where they are counted, and the cluster that it has come to
+pub record FindingsState : Type 0 where
+  pub header : HeaderRecord
+  pub l1 : List ℕ
+  pub counters : CountersState
+  pub tally : Option TallyState
+  pub position : ℕ
+
+-- the tables of the image that a reader reads
+abbrev pub tables_of : FindingsState → ImageTables
+tables_of reader = record { header = reader.header; l1 = reader.l1; reftable = reader.counters.reftable }
+
+-- a tally has counted all uses of its clusters
+abbrev pub CountsAll : ImageTables → Image → TallyState → Type 0
+CountsAll tables image tally = (c : ℕ) → tally.first ≤ c → c < tally.end →
+    cell_at tally c ≡ fold (cell_with c) 0 (image_uses tables image)
+
+-- a reader reads this image: what it keeps of it is the same as there, and all L2 tables can be loaded
+pub record IsFindingsOf (image : Image) (reader : FindingsState) : Type 0 where
+  pub kept : IsKeptOf reader.header image reader.counters.block
+  pub counted : IfSome reader.tally (CountsAll (tables_of reader) image)
+  pub loads : all_load (geometry_of reader.header) reader.l1 image ≡ Ok (tt {0})
+
+-- a reader stays as it is, but for the cluster that it has come to, the block that it keeps and what it has counted
+pub record MovesFindings (image : StorageState) (old new : FindingsState) : Type 0 where
+  pub same : new ≡ record old {
+    counters = record old.counters { block = new.counters.block };
+    tally = new.tally;
+    position = new.position;
+  }
+  pub kept : OnImage image (λ bytes. IsFindingsOf bytes new)
+
+-- nothing is wrong with the clusters from one on to before another
+abbrev pub AreRight : ImageTables → Image → ℕ → ℕ → Type 0
+AreRight tables image from to = (c : ℕ) → from ≤ c → c < to → is_wrong (finding_at tables image c) ≡ false
+
+-- what a reader returns, and the cluster that it comes to: nothing after the last cluster, or the first finding from its
+-- cluster on, which it passes
+abbrev pub PassesFinding : StorageState → FindingsState → Result (Option Finding) Fault → ℕ → Type 0
+PassesFinding image reader (Ok None) to = (to ≡ max_file_length)
+    × OnImage image (λ bytes. AreRight (tables_of reader) bytes reader.position to)
+PassesFinding image reader (Ok (Some finding)) to = (reader.position ≤ finding.cluster.0) × (to ≡ finding.cluster.0 + 1)
+    × OnImage image (λ bytes. (finding ≡ finding_at (tables_of reader) bytes finding.cluster.0)
+    × (is_wrong finding ≡ true) × AreRight (tables_of reader) bytes reader.position finding.cluster.0)
+PassesFinding image reader (Err fault) to = (reader.position ≤ to)
+    × OnImage image (λ bytes. IsFromOutside fault × AreRight (tables_of reader) bytes reader.position to)
