@@ -1,7 +1,9 @@
-use Rattle.std.proofs.Common.{◌≡◌, ◌↔◌, ℕ, zero, suc, ◌+◌, ◌*◌, ◌/◌, ◌^◌, ◌<◌, ◌≤◌, List, [], ◌∷◌, length, slice_index, take, Option, None, Some, Ok, refl, ◌∙◌, arith}
+use Rattle.std.proofs.Common.{◌≡◌, ◌↔◌, ℕ, zero, suc, ◌+◌, ◌-◌, ◌%◌, ◌*◌, ◌/◌, ◌^◌, ◌<◌, ◌≤◌, List, [], ◌∷◌, length, slice_index, take, Option, None, Some, Ok, refl, ◌∙◌, div-add-mod', arith}
 use Rattle.std.proofs.lemmas.Bool.Decides.{nat_tests}
 use Rattle.std.proofs.lemmas.Nat.{pow_pos}
 use Rattle.std.proofs.Math.Nat.{div-lt_iff_lt-mul}
+use Rattle.qcow2_metadata.proofs.EntriesLemmas.{div_rises}
+use Rattle.std.proofs.lemmas.List.{get_or_past}
 use Rattle.qcow2_metadata.proofs.TableLemmas.{first_fault-append}
 use Rattle.qcow2_check.proofs.UsesLemmas.{take_more}
 use Rattle.qcow2_base.specs.declared.fault.Fault.{Fault}
@@ -57,3 +59,28 @@ pub place_of_block : (header : HeaderRecord) (reftable : List ℕ) (c : ℕ) (bl
     → block_of_cluster header reftable c ≡ Some block → place_fault (block_layout (block_geometry_of header)) block ≡ None
 place_of_block header reftable c block placed names =
     grind (arith, nat_tests, names, no_fault_at (block_place_fault header) reftable (c / counters_each header) refl placed)
+
+same_quotient : (n c other : ℕ) → 0 < n → c ≤ other → other < c - c % n + n → other / n ≡ c / n
+same_quotient n c other some from before =
+    let parts : c / n * n + c % n ≡ c = div-add-mod' c n in
+    let low : c / n ≤ other / n = div_rises c other n some from in
+    let high : other / n < c / n + 1 = (div-lt_iff_lt-mul some).1 (omega (arith, parts, before)) in
+    omega (arith, low, high)
+
+-- clusters up to the end of those that one block counts have the same block
+pub same_block : (header : HeaderRecord) (reftable : List ℕ) (c other : ℕ) → c ≤ other
+    → other < c - c % counters_each header + counters_each header
+    → block_of_cluster header reftable other ≡ block_of_cluster header reftable c
+same_block header reftable c other from before =
+    let n = counters_each header in
+    let same : other / n ≡ c / n = same_quotient n c other (pow_pos _) from before in
+    rw same refl
+
+-- and past the refcount table's end they have none
+pub past_blocks : (header : HeaderRecord) (reftable : List ℕ) (c other : ℕ) → c ≤ other → length reftable ≤ c / counters_each header
+    → block_of_cluster header reftable other ≡ None
+past_blocks header reftable c other from past =
+    let n = counters_each header in
+    let later : c / n ≤ other / n = div_rises c other n (pow_pos _) from in
+    let zero : slice_index reftable (other / n) ≡ 0 = get_or_past reftable (other / n) 0 (omega (arith, past, later)) in
+    rw zero refl

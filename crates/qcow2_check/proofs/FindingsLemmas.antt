@@ -1,13 +1,15 @@
-use Rattle.std.proofs.Common.{◌≡◌, ◌↔◌, ℕ, true, false, ◌==◌, ◌+◌, ◌*◌, ◌/◌, ◌%◌, ◌<◌, ◌≤◌, nat_lt, ◌&&◌, List, [], ◌∷◌, fold, Some, Ok, refl, ◌∙◌, arith}
+use Rattle.std.proofs.Common.{◌≡◌, ◌↔◌, ℕ, true, false, ◌==◌, ◌+◌, ◌*◌, ◌/◌, ◌%◌, ◌<◌, ◌≤◌, nat_lt, ◌&&◌, List, [], ◌∷◌, fold, Some, None, refl, sym, ap, inl, inr, ◌∙◌, arith}
+use Rattle.std.proofs.lemmas.Bool.{cases_lt}
 use Rattle.std.proofs.lemmas.Bool.Decides.{nat_tests}
 use Rattle.std.proofs.lemmas.List.Sums.{sum_by-cons}
 use Rattle.qcow2_base.specs.Storage.{Image}
-use Rattle.qcow2_check.specs.Counters.{counter_of}
+use Rattle.qcow2_check.specs.Counters.{block_of_cluster, counter_of}
 use Rattle.qcow2_metadata.specs.Entries.{is_among}
 use Rattle.qcow2_metadata.specs.Table.L2Guards.{one_if}
-use Rattle.qcow2_check.specs.Findings.{FindingsState, IsFindingsOf, finding_at, is_shared, tables_of, uses_of_kind}
+use Rattle.qcow2_check.specs.Findings.{AreRight, FindingsState, IsFindingsOf, finding_at, is_shared, is_wrong, tables_of, uses_of_kind}
 use Rattle.qcow2_check.specs.Tally.{TallyState, Used, cell_at, cell_with, is_shared_cell, mark_of, with_use}
-use Rattle.qcow2_check.specs.Uses.{image_uses, uses_of}
+use Rattle.qcow2_check.specs.Uses.{ImageTables, image_uses, uses_of}
+use Rattle.qcow2_check.specs.declared.findings.Finding.{Finding}
 use Rattle.qcow2_check.specs.declared.tally.UseKind.{UseKind}
 use Rattle.qcow2_check.specs.declared.tally.UseKind.TheVariants.{Fixed, Guest, L2Table}
 
@@ -72,3 +74,24 @@ found_is reader tally image c counter cell has is from before counts says =
     let uses = image_uses (tables_of reader) image in
     let all : cell_at tally c ≡ fold (cell_with c) 0 uses = (rw has at is.counted) c from before in
     grind (arith, counts, cell_counts uses c cell (says ∙ all), cell_shares uses c cell (says ∙ all))
+
+-- nothing is wrong with clusters that have no use and no block
+pub right_before : (reader : FindingsState) (tally : TallyState) (image : Image) (from to : ℕ) → reader.tally ≡ Some tally
+    → IsFindingsOf image reader → tally.first ≤ from → to ≤ tally.end
+    → ((c : ℕ) → from ≤ c → c < to → cell_at tally c ≡ 0)
+    → ((c : ℕ) → from ≤ c → c < to → block_of_cluster reader.header reader.counters.reftable c ≡ None)
+    → AreRight (tables_of reader) image from to
+right_before reader tally image from to has is first end unused none = λ c after before.
+    let uses = image_uses (tables_of reader) image in
+    let all : cell_at tally c ≡ fold (cell_with c) 0 uses = (rw has at is.counted) c (omega (arith, first, after)) (omega (arith, before, end)) in
+    grind (arith, nat_tests, none c after before, unused c after before, cell_counts uses c 0 (sym (unused c after before) ∙ all), cell_shares uses c 0 (sym (unused c after before) ∙ all))
+
+pub right_more : (tables : ImageTables) (image : Image) (from c : ℕ) (finding : Finding) → AreRight tables image from c
+    → finding ≡ finding_at tables image c → is_wrong finding ≡ false → AreRight tables image from (c + 1)
+right_more tables image from c finding right is fine = λ other after before.
+    elim (cases_lt other c) [
+      | inl below ↦ right other after below
+      | inr above ↦
+        let same : other ≡ c = omega (arith, before, above) in
+        ap (λ k. is_wrong (finding_at tables image k)) same ∙ sym (ap is_wrong is) ∙ fine
+    ]

@@ -6,7 +6,6 @@ use Rattle.qcow2_base.specs.Storage.{Image, OnImage, StorageState}
 use Rattle.qcow2_base.specs.declared.fault.Fault.{Fault}
 use Rattle.qcow2_metadata.specs.Entries.{is_among}
 use Rattle.qcow2_metadata.specs.Header.{HeaderRecord, geometry_of}
-use Rattle.qcow2_metadata.specs.Results.{IsFromOutside}
 use Rattle.qcow2_metadata.specs.Table.L2Guards.{one_if}
 use Rattle.qcow2_check.specs.Counters.{CountersState, IsKeptOf, counter_of}
 use Rattle.qcow2_check.specs.Tally.{TallyState, Used, cell_at, cell_with, mark_of}
@@ -76,13 +75,11 @@ pub record MovesFindings (image : StorageState) (old new : FindingsState) : Type
 abbrev pub AreRight : ImageTables → Image → ℕ → ℕ → Type 0
 AreRight tables image from to = (c : ℕ) → from ≤ c → c < to → is_wrong (finding_at tables image c) ≡ false
 
--- what a reader returns, and the cluster that it comes to: nothing after the last cluster, or the first finding from its
--- cluster on, which it passes
+-- what a reader returns, and the cluster that it comes to: nothing is wrong with the clusters that it passes, but that the
+-- last of them is what it finds
 abbrev pub PassesFinding : StorageState → FindingsState → Result (Option Finding) Fault → ℕ → Type 0
-PassesFinding image reader (Ok None) to = (to ≡ max_file_length)
-    × OnImage image (λ bytes. AreRight (tables_of reader) bytes reader.position to)
 PassesFinding image reader (Ok (Some finding)) to = (reader.position ≤ finding.cluster.0) × (to ≡ finding.cluster.0 + 1)
     × OnImage image (λ bytes. (finding ≡ finding_at (tables_of reader) bytes finding.cluster.0)
     × (is_wrong finding ≡ true) × AreRight (tables_of reader) bytes reader.position finding.cluster.0)
-PassesFinding image reader (Err fault) to = (reader.position ≤ to)
-    × OnImage image (λ bytes. IsFromOutside fault × AreRight (tables_of reader) bytes reader.position to)
+PassesFinding image reader answer to = (reader.position ≤ to)
+    × OnImage image (λ bytes. AreRight (tables_of reader) bytes reader.position to)

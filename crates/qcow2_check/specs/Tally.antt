@@ -1,9 +1,10 @@
 -- How are the uses of clusters counted, in memory of a bounded size?
-use Rattle.std.specs.Prelude.{◌≡◌, ℕ, Bool, ◌==◌, ◌&&◌, ◌||◌, ◌+◌, ◌-◌, ◌*◌, ◌/◌, ◌%◌, ◌^◌, ◌<◌, ◌≤◌, nat_lt, if◌then◌else◌, List, length, slice_index, Option, IsSome, unwrap_or}
+use Rattle.std.specs.Prelude.{◌≡◌, ℕ, Bool, ◌==◌, ◌&&◌, ◌||◌, ◌+◌, ◌-◌, ◌*◌, ◌/◌, ◌%◌, ◌<◌, ◌≤◌, nat_lt, if◌then◌else◌, List, length, slice_index, Option, IsSome, unwrap_or}
 use Rattle.std.specs.Ordering.{nat_cmp}
 use Rattle.std.specs.BTreeMap.{is_at}
 use Rattle.std.specs.List.{fold}
 use Rattle.std.specs.Map.{lookup}
+use Rattle.qcow2_base.specs.Format.{max_file_length}
 use Rattle.qcow2_metadata.specs.Entries.{is_among}
 use Rattle.qcow2_metadata.specs.declared.entries.ClustersToFreeEntry.{ClustersToFreeEntry}
 use Rattle.qcow2_check.specs.declared.tally.UseKind.{UseKind}
@@ -55,7 +56,7 @@ dense_end tally = tally.first + length tally.dense
 pub record IsTally (tally : TallyState) : Type 0 where
   pub some : 0 < length tally.dense
   pub end : dense_end tally ≤ tally.end
-  pub fits : tally.end < 2 ^ 64
+  pub fits : tally.end ≤ max_file_length
   pub sparse : (c : ℕ) → IsSome (sparse_cell tally.sparse c) → dense_end tally ≤ c
 
 -- a tally that counted these uses too; it may end sooner then

@@ -108,7 +108,8 @@ fn keep_block<S: Storage>(
 }
 
 impl<'a> Counters<'a> {
-    ghost use Rattle.std.specs.Prelude.{◌≡◌, None, IfOk, IfSome, is_some};
+    ghost use Rattle.std.specs.Prelude.{◌≡◌, ℕ, ◌<◌, ◌≤◌, None, IfOk, IfSome, is_some};
+    ghost use Rattle.qcow2_base.specs.Format.{max_file_length};
     ghost use Rattle.qcow2_check.specs.Counters.{block_of_cluster, blocks_fault, counter_of, placed_reftable};
 
     /// A reader of the counters of an image with this header. Reads the refcount table, and returns its fault where
@@ -151,6 +152,23 @@ impl<'a> Counters<'a> {
         ensures { result ≡ is_some (block_of_cluster self.now.header self.now.reftable cluster.0) }
     {
         self.block_of(cluster).is_some()
+    }
+
+    /// Up to where clusters have no block as this one has none: the end of those that its block would have, and no end past
+    /// the refcount table's.
+    #[tactic(auto, using(crate::proofs::CountersLemmas::same_block, crate::proofs::CountersLemmas::past_blocks))]
+    pub(crate) fn block_end(&self, cluster: HostCluster) -> u64
+        requires fits { cluster.0 < max_file_length }
+        requires none { block_of_cluster self.now.header self.now.reftable cluster.0 ≡ None }
+        ensures after { cluster.0 < result }
+        ensures none { (c : ℕ) → cluster.0 ≤ c → c < result →
+            block_of_cluster self.now.header self.now.reftable c ≡ None }
+    {
+        let (table_index, index) = cluster.rt_rb_indices(self.header.rb_bits());
+        if table_index >= self.reftable.entries() {
+            return u64::MAX;
+        }
+        cluster.0 - index as u64 + self.header.rb_entries() as u64
     }
 
     /// The refcount table.

@@ -72,9 +72,10 @@ impl<'a> Model for Findings<'a> {
 }
 
 impl<'a> Findings<'a> {
-    ghost use Rattle.std.specs.Prelude.{◌≡◌, ◌<◌, ◌≤◌, IfErr, IfOk, IsSome};
+    ghost use Rattle.std.specs.Prelude.{◌≡◌, ◌<◌, ◌≤◌, IfErr, IfOk, IfSome, IsSome, OnOk};
+    ghost use Rattle.qcow2_base.specs.Storage.{Image, OnImage, OnlyReads};
     ghost use Rattle.qcow2_check.specs.Counters.{counter_of};
-    ghost use Rattle.qcow2_check.specs.Findings.{IsFindingsOf, MovesFindings, finding_at, is_wrong, tables_of};
+    ghost use Rattle.qcow2_check.specs.Findings.{AreRight, IsFindingsOf, MovesFindings, PassesFinding, finding_at, is_wrong, tables_of};
 
     // What is found at a cluster that is counted.
     fn look_at<S: Storage>(&mut self, image: &mut S, cluster: u64) -> Result<Finding, Fault>
@@ -97,5 +98,47 @@ impl<'a> Findings<'a> {
             uses: count_of(cell),
             shared: is_shared(cell),
         })
+    }
+
+    // The first cluster from the reader's on that something may be wrong with, or the end of those that are counted.
+    fn candidate(&self) -> u64
+        requires some { IsSome self.now.tally }
+        requires before { IfSome self.now.tally (λ tally. self.now.position < tally.end) }
+        ensures from { self.now.position ≤ result }
+        ensures within { IfSome self.now.tally (λ tally. result ≤ tally.end) }
+        ensures right { (image : Image) → IsFindingsOf image self.now →
+            AreRight (tables_of self.now) image self.now.position result }
+    {
+        let tally = self.tally.as_ref().unwrap();
+        if self.counters.has_block(HostCluster(self.position)) {
+            return self.position;
+        }
+        let limit = self.counters.block_end(HostCluster(self.position));
+        tally.next_used(self.position, limit.min(tally.end()))
+    }
+
+    // Goes past the clusters up to the next one that something may be wrong with, and returns what is.
+    #[tactic(auto, using(crate::proofs::FindingsLemmas::right_more))]
+    fn step<S: Storage>(&mut self, image: &mut S) -> Result<Option<Finding>, Fault>
+        requires some { IsSome self.old.tally }
+        requires before { IfSome self.old.tally (λ tally. self.old.position < tally.end) }
+        requires reader { OnImage (S.state image.old) (λ bytes. IsFindingsOf bytes self.old) }
+        ensures finding { PassesFinding (S.state image.old) self.old result self.new.position }
+        ensures further { OnOk result (self.old.position < self.new.position) }
+        ensures reader { MovesFindings (S.state image.old) self.old self.new }
+        ensures fault { IfErr result IsFromOutside }
+        ensures storage { OnlyReads result (S.state image.old) (S.state image.new) }
+    {
+        let cluster = self.candidate();
+        if cluster == self.tally.as_ref().unwrap().end() {
+            self.position = cluster;
+            return Ok(None);
+        }
+        let finding = self.look_at(image, cluster)?;
+        self.position = cluster + 1;
+        if finding.is_wrong() {
+            return Ok(Some(finding));
+        }
+        Ok(None)
     }
 }

@@ -115,7 +115,9 @@ impl Tally {
     /// The cluster that it ends before.
     #[inline]
     pub(crate) fn end(&self) -> u64
-        ensures { result ≡ self.now.end }
+        ensures value { result ≡ self.now.end }
+        ensures some { self.now.first < result }
+        ensures fits { result ≤ max_file_length }
     {
         self.end
     }
