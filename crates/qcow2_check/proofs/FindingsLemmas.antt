@@ -6,8 +6,8 @@ use Rattle.qcow2_base.specs.Storage.{Image}
 use Rattle.qcow2_check.specs.Counters.{block_of_cluster, counter_of}
 use Rattle.qcow2_metadata.specs.Entries.{is_among}
 use Rattle.qcow2_metadata.specs.Table.L2Guards.{one_if}
-use Rattle.qcow2_check.specs.Findings.{AreRight, FindingsState, IsFindingsOf, finding_at, is_shared, is_wrong, tables_of, uses_of_kind}
-use Rattle.qcow2_check.specs.Tally.{TallyState, Used, cell_at, cell_with, is_shared_cell, mark_of, with_use}
+use Rattle.qcow2_check.specs.Findings.{AreRight, CountsAll, FindingsState, IsFindingsOf, finding_at, is_shared, is_wrong, tables_of, uses_of_kind}
+use Rattle.qcow2_check.specs.Tally.{CountsMore, TallyState, Used, cell_at, cell_with, is_shared_cell, mark_of, with_use}
 use Rattle.qcow2_check.specs.Uses.{ImageTables, image_uses, uses_of}
 use Rattle.qcow2_check.specs.declared.findings.Finding.{Finding}
 use Rattle.qcow2_check.specs.declared.tally.UseKind.{UseKind}
@@ -95,3 +95,9 @@ right_more tables image from c finding right is fine = λ other after before.
         let same : other ≡ c = omega (arith, before, above) in
         ap (λ k. is_wrong (finding_at tables image k)) same ∙ sym (ap is_wrong is) ∙ fine
     ]
+
+-- a tally that counted all uses, and no others
+pub counts_all : (tables : ImageTables) (image : Image) (old new : TallyState) → ((c : ℕ) → cell_at old c ≡ 0)
+    → CountsMore (image_uses tables image) old new → CountsAll tables image new
+counts_all tables image old new none more = λ c from before.
+    more.cells c (rw more.first at from) before ∙ ap (λ cell. fold (cell_with c) cell (image_uses tables image)) (none c)

@@ -51,6 +51,7 @@ loaded = Ok tt
 pub record AreCounted (g : Geometry) (l1 : List ℕ) (index : ℕ) (old new : StorageState) (before after : TallyState) : Type 0 where
   pub loads : OnImage old (λ bytes. all_load g (take index l1) bytes ≡ loaded)
   pub counted : OnImage old (λ bytes. CountsMore (flat_map (l1_entry_uses g bytes) (take index l1)) before after)
+  pub first : after.first ≡ before.first
   pub storage : OnlyReads loaded old new
 
 -- and that of the next
@@ -59,8 +60,9 @@ pub counted_more : (g : Geometry) (l1 : List ℕ) (index : ℕ) (old mid new : S
     → AreCounted g l1 index old mid a b
     → Reads (λ done. done) answer (λ bytes. l1_entry_loads g bytes (slice_index l1 index)) IsEntryFault mid new
     → OnOk answer (OnImage mid (λ bytes. CountsMore (l1_entry_uses g bytes (slice_index l1 index)) b c))
+    → OnOk answer (c.first ≡ b.first)
     → AreCounted g l1 (index + 1) old new a c
-counted_more g l1 index old mid new a b c answer below is so_far reads more =
+counted_more g l1 index old mid new a b c answer below is so_far reads more first =
     let next : take (index + 1) l1 ≡ take index l1 ++ slice_index l1 index ∷ [] = take_more l1 index 0 below in
     record {
       loads = λ told.
@@ -70,6 +72,7 @@ counted_more g l1 index old mid new a b c answer below is so_far reads more =
           let here : CountsMore (l1_entry_uses g old.byte_at (slice_index l1 index)) b c = grind (arith, is, so_far.storage, more, told) in
           rw (next, flat_map-append (l1_entry_uses g old.byte_at) (take index l1) (slice_index l1 index ∷ []))
           (counts_then _ _ a b c (so_far.counted told) (rw append-nil here));
+      first = grind (arith, is, so_far.first, first);
       storage = grind (arith, is, so_far.storage, reads.storage);
     }
 

@@ -6,8 +6,11 @@ use Rattle.qcow2_base.specs.Storage.{Image, OnImage, StorageState}
 use Rattle.qcow2_base.specs.declared.fault.Fault.{Fault}
 use Rattle.qcow2_metadata.specs.Entries.{is_among}
 use Rattle.qcow2_metadata.specs.Header.{HeaderRecord, geometry_of}
+use Rattle.qcow2_metadata.specs.Results.{IsFromOutside, and_then, result_map}
+use Rattle.qcow2_metadata.specs.Table.{IsContentFault, IsTableFault}
 use Rattle.qcow2_metadata.specs.Table.L2Guards.{one_if}
-use Rattle.qcow2_check.specs.Counters.{CountersState, IsKeptOf, counter_of}
+use Rattle.qcow2_check.specs.Counters.{CountersState, IsKeptOf, IsReftableFault, counter_of, placed_reftable}
+use Rattle.qcow2_check.specs.NamedTables.{l1_cluster, l1_layout, loaded_l1_table}
 use Rattle.qcow2_check.specs.Tally.{TallyState, Used, cell_at, cell_with, mark_of}
 use Rattle.qcow2_check.specs.Uses.{ImageTables, all_load, image_uses, uses_of}
 use Rattle.qcow2_check.specs.declared.findings.Finding.{Finding}
@@ -83,3 +86,19 @@ PassesFinding image reader (Ok (Some finding)) to = (reader.position ≤ finding
     × (is_wrong finding ≡ true) × AreRight (tables_of reader) bytes reader.position finding.cluster.0)
 PassesFinding image reader answer to = (reader.position ≤ to)
     × OnImage image (λ bytes. AreRight (tables_of reader) bytes reader.position to)
+
+-- the tables of an image with this header whose L2 tables can all be loaded, or the first fault: that of the L1 table, of the
+-- refcount table, of the place of a block, or of an L2 table
+abbrev pub checked_tables : HeaderRecord → Image → Result ImageTables Fault
+checked_tables header image =
+    and_then (loaded_l1_table header image) (λ l1.
+    and_then (placed_reftable header image) (λ reftable.
+    result_map (λ _. record { header = header; l1 = l1; reftable = reftable }) (all_load (geometry_of header) l1 image)))
+
+-- these refusals
+abbrev pub IsCheckFault : HeaderRecord → Fault → Type 0
+IsCheckFault header fault = IsTableFault (l1_layout header) (l1_cluster header) fault ⊎ IsReftableFault header fault
+
+-- a fault after these are refused: it is from outside where the image's bytes are known
+abbrev pub IsLaterFault : StorageState → Fault → Type 0
+IsLaterFault image fault = IsContentFault fault × OnImage image (λ _. IsFromOutside fault)

@@ -171,6 +171,17 @@ impl<'a> Counters<'a> {
         cluster.0 - index as u64 + self.header.rb_entries() as u64
     }
 
+    /// How many clusters the blocks count, up to the last of the refcount table.
+    pub(crate) fn counted(&self) -> u64 {
+        let mut counted = 0;
+        for index in 0..self.reftable.entries() {
+            if named_block(&self.reftable, index).is_some() {
+                counted = (index as u64 + 1) << self.header.rb_bits();
+            }
+        }
+        counted
+    }
+
     /// The refcount table.
     #[inline]
     pub(crate) fn reftable(&self) -> &RefTable

@@ -3,18 +3,27 @@
 ghost use Rattle.std.specs.Prelude.{◌≡◌, ℕ, ◌+◌, ◌<◌, ◌≤◌, IfErr, IfOk, IfSome, None};
 ghost use Rattle.qcow2_base.specs.Format.{max_file_length};
 ghost use Rattle.qcow2_base.specs.Storage.{OnImage, OnlyReads};
-ghost use Rattle.qcow2_metadata.specs.Results.{IsFromOutside};
-ghost use Rattle.qcow2_metadata.specs.Table.{IsContentFault};
-ghost use Rattle.qcow2_check.specs.Findings.{is_wrong};
+ghost use Rattle.qcow2_metadata.specs.Header.{geometry_of};
+ghost use Rattle.qcow2_metadata.specs.Results.{IsFromOutside, Reads};
+ghost use Rattle.qcow2_metadata.specs.Table.{IsEntryFault};
+ghost use Rattle.qcow2_check.specs.Findings.{CountsAll, is_wrong};
+ghost use Rattle.qcow2_check.specs.Uses.{all_load};
 
 use crate::counters::Counters;
 use crate::named_tables::load_l1_table;
 use crate::tally::{Tally, count_of, is_shared};
 use crate::uses::count_image;
 use qcow2_base::{Fault, HostCluster, MAX_FILE_LENGTH, Storage};
-use qcow2_metadata::{Header, L1Table, Table};
+use qcow2_metadata::{Header, L1Table, RefTable, Table};
 use std::alloc::Global;
 use std::marker::Model;
+
+// The fewest cells that lie one after another, and the most, which take 64 MiB.
+const FEW_CELLS: usize = 4096;
+const MOST_DENSE: usize = 1 << 23;
+
+// How many other cells there are at most.
+const MOST_SPARSE: usize = 1 << 20;
 
 /// What is wrong with a cluster.
 #[derive(Clone, Copy, Debug, PartialEq, Eq)]
@@ -47,6 +56,10 @@ pub struct Findings<'a> {
     counters: Counters<'a>,
     tally: Option<Tally>,
     position: u64,
+    // How many clusters the refcount blocks count, up to the last.
+    counted: u64,
+    // Whether some cells didn't lie one after another for a window of few clusters that have uses.
+    is_sparse: bool,
 }
 
 impl<'a> Model for Findings<'a> {
@@ -71,11 +84,39 @@ impl<'a> Model for Findings<'a> {
         × IfSome f.tally (λ tally. (tally.first ≤ f.position) × (f.position ≤ tally.end) × (tally.end ≤ max_file_length)) };
 }
 
+// Counts all uses of clusters from one on, in a new tally of so many cells.
+#[tactic(auto, using(crate::proofs::FindingsLemmas::counts_all))]
+fn count_window<S: Storage>(
+    image: &mut S,
+    header: &Header,
+    l1_table: &L1Table,
+    reftable: &RefTable,
+    first: u64,
+    dense: usize,
+    most: usize,
+) -> Result<Tally, Fault>
+    requires l1_table { l1_table.now.geometry ≡ geometry_of header.now }
+    requires reftable { reftable.now.geometry ≡ geometry_of header.now }
+    requires some { 0 < dense }
+    requires fits { first + dense ≤ max_file_length }
+    ensures reads { Reads (λ _. tt) result (all_load (geometry_of header.now) l1_table.now.numbers)
+        IsEntryFault (S.state image.old) (S.state image.new) }
+    ensures counted { IfOk result (λ tally. OnImage (S.state image.old) (λ bytes. CountsAll
+        (record { header = header.now; l1 = l1_table.now.numbers; reftable = reftable.now.numbers }) bytes tally)) }
+    ensures first { IfOk result (λ tally. (tally.first ≡ first) × (first < tally.end) × (tally.end ≤ max_file_length)) }
+{
+    let mut tally = Tally::new(l1_table.allocator(), first, dense, most)?;
+    count_image(&mut tally, image, header, l1_table, reftable)?;
+    prove!(first < tally.end());
+    Ok(tally)
+}
+
 impl<'a> Findings<'a> {
-    ghost use Rattle.std.specs.Prelude.{◌≡◌, ◌<◌, ◌≤◌, IfErr, IfOk, IfSome, IsSome, OnOk};
+    ghost use Rattle.std.specs.Prelude.{◌≡◌, ◌<◌, ◌≤◌, IfErr, IfOk, IfSome, IsSome, IsSomeAnd, IsTrue, OnOk, ◌+◌, ◌↔◌};
+    ghost use Rattle.qcow2_base.specs.Format.{max_file_length};
     ghost use Rattle.qcow2_base.specs.Storage.{Image, OnImage, OnlyReads};
     ghost use Rattle.qcow2_check.specs.Counters.{counter_of};
-    ghost use Rattle.qcow2_check.specs.Findings.{AreRight, IsFindingsOf, MovesFindings, PassesFinding, finding_at, is_wrong, tables_of};
+    ghost use Rattle.qcow2_check.specs.Findings.{AreRight, IsFindingsOf, IsLaterFault, MovesFindings, PassesFinding, finding_at, is_wrong, tables_of};
 
     // What is found at a cluster that is counted.
     fn look_at<S: Storage>(&mut self, image: &mut S, cluster: u64) -> Result<Finding, Fault>
@@ -140,5 +181,62 @@ impl<'a> Findings<'a> {
             return Ok(Some(finding));
         }
         Ok(None)
+    }
+
+    // How many cells lie one after another in the next window, and how many others there are.
+    fn window_size(&self) -> (usize, usize)
+        requires { self.now.position < max_file_length }
+        ensures some { 0 < result.0 }
+        ensures fits { self.now.position + result.0 ≤ max_file_length }
+    {
+        let left = MAX_FILE_LENGTH - self.position;
+        if self.is_sparse {
+            return (left.min(FEW_CELLS as u64) as usize, MOST_SPARSE);
+        }
+        let counted = self.counted.saturating_sub(self.position);
+        let dense = counted.clamp(FEW_CELLS as u64, MOST_DENSE as u64);
+        (left.min(dense) as usize, 0)
+    }
+
+    // Whether the uses of the reader's cluster are counted.
+    fn is_counted(&self) -> bool
+        ensures { IsTrue result ↔ IsSomeAnd self.now.tally (λ tally. self.now.position < tally.end) }
+    {
+        match &self.tally {
+            Some(tally) => self.position < tally.end(),
+            None => false,
+        }
+    }
+
+    // Counts the uses of the reader's cluster and of those after it, unless they are counted.
+    fn keep_window<S: Storage>(&mut self, image: &mut S) -> Result<(), Fault>
+        requires before { self.old.position < max_file_length }
+        requires reader { OnImage (S.state image.old) (λ bytes. IsFindingsOf bytes self.old) }
+        ensures window { OnOk result (IsSomeAnd self.new.tally (λ tally. self.old.position < tally.end)) }
+        ensures reader { MovesFindings (S.state image.old) self.old self.new }
+        ensures position { self.new.position ≡ self.old.position }
+        ensures fault { IfErr result (IsLaterFault (S.state image.old)) }
+        ensures storage { OnlyReads result (S.state image.old) (S.state image.new) }
+    {
+        if self.is_counted() {
+            return Ok(());
+        }
+        if let Some(tally) = &self.tally {
+            self.is_sparse |= tally.used() < MOST_SPARSE as u64;
+        }
+        // Its memory is given back before the next window takes as much.
+        self.tally = None;
+        let (dense, most) = self.window_size();
+        let tally = count_window(
+            image,
+            self.header,
+            &self.l1_table,
+            self.counters.reftable(),
+            self.position,
+            dense,
+            most,
+        )?;
+        self.tally = Some(tally);
+        Ok(())
     }
 }

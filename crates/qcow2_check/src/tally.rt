@@ -58,6 +58,8 @@ pub(crate) struct Tally {
     dense: Vec<u64>,
     sparse: BTreeMap<u64, u64>,
     most: usize,
+    // How many cells count a use.
+    used: u64,
 }
 
 impl Model for Tally {
@@ -101,6 +103,7 @@ impl Tally {
             dense: vec![in alloc; 0u64; dense]?,
             sparse: BTreeMap::new(alloc),
             most,
+            used: 0,
         })
     }
 
@@ -120,6 +123,12 @@ impl Tally {
         ensures fits { result ≤ max_file_length }
     {
         self.end
+    }
+
+    /// How many clusters have a use, perhaps with some that it ends before.
+    #[inline]
+    pub(crate) fn used(&self) -> u64 {
+        self.used
     }
 
     /// The cell of a cluster.
@@ -168,7 +177,9 @@ impl Tally {
         }
         let index = (cluster - self.first) as usize;
         if index < self.dense.len() {
-            self.dense[index] = with_use(self.dense[index], kind)?;
+            let cell = self.dense[index];
+            self.dense[index] = with_use(cell, kind)?;
+            self.used = self.used.wrapping_add((cell == 0) as u64);
             return Ok(());
         }
         self.add_sparse(cluster, kind)
@@ -184,6 +195,7 @@ impl Tally {
             self.old self.new) }
     {
         let cell = self.sparse.get(&cluster).copied().unwrap_or(0);
+        self.used = self.used.wrapping_add((cell == 0) as u64);
         self.sparse.insert(cluster, with_use(cell, kind)?)?;
         if self.sparse.len() > self.most {
             if let Some((last, _)) = self.sparse.pop_last() {

@@ -80,6 +80,7 @@ fn count_table<S: Storage>(
         (S.state image.old) (S.state image.new) }
     ensures counted { OnOk result (OnImage (S.state image.old) (λ bytes.
         CountsMore (table_uses (geometry_of header.now) cluster bytes) tally.old tally.new)) }
+    ensures first { OnOk result (tally.new.first ≡ tally.old.first) }
 {
     let table = load_l2_table(alloc, image, header, cluster)?;
     count_clusters(tally, UseKind::L2Table, cluster, 1)?;
@@ -101,6 +102,7 @@ fn count_l1_entry<S: Storage>(
     ensures counted { OnOk result (OnImage (S.state image.old) (λ bytes.
         CountsMore (l1_entry_uses (geometry_of header.now) bytes (slice_index l1_table.now.numbers index))
         tally.old tally.new)) }
+    ensures first { OnOk result (tally.new.first ≡ tally.old.first) }
 {
     match named_cluster(l1_table, index) {
         Some(cluster) => count_table(tally, image, header, l1_table.allocator(), cluster),
@@ -121,6 +123,7 @@ fn count_l2_tables<S: Storage>(
     ensures counted { OnOk result (OnImage (S.state image.old) (λ bytes.
         CountsMore (flat_map (l1_entry_uses (geometry_of header.now) bytes) l1_table.now.numbers)
         tally.old tally.new)) }
+    ensures first { OnOk result (tally.new.first ≡ tally.old.first) }
 {
     for index in 0..l1_table.entries() {
         count_l1_entry(tally, image, header, l1_table, index)?;
@@ -172,6 +175,7 @@ pub(crate) fn count_image<S: Storage>(
     ensures counted { OnOk result (OnImage (S.state image.old) (λ bytes. CountsMore
         (image_uses (record { header = header.now; l1 = l1_table.now.numbers; reftable = reftable.now.numbers }) bytes)
         tally.old tally.new)) }
+    ensures first { OnOk result (tally.new.first ≡ tally.old.first) }
 {
     count_header(tally, header)?;
     count_blocks(tally, reftable)?;

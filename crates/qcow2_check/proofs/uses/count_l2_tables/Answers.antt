@@ -10,4 +10,4 @@ returns-in_err-count_l1_entry-clause-reads g c =
 
 pub loop-index-preserved : goal.loop-index-preserved
 loop-index-preserved g c =
-    counted_more _ _ _ _ _ _ _ _ _ c.count_l1_entry.result (search rules) (search rules) c.loop-index.invariant (rw c.requires (search rules)) (rw c.requires (search rules))
+    counted_more _ _ _ _ _ _ _ _ _ c.count_l1_entry.result (search rules) (search rules) c.loop-index.invariant (rw c.requires (search rules)) (rw c.requires (search rules)) (search rules)
