@@ -1,14 +1,19 @@
-use Rattle.std.proofs.Common.{◌≡◌, ◌↔◌, ℕ, true, false, ◌==◌, ◌+◌, ◌*◌, ◌/◌, ◌%◌, ◌<◌, ◌≤◌, nat_lt, ◌&&◌, List, [], ◌∷◌, fold, Some, None, refl, sym, ap, inl, inr, ◌∙◌, arith}
+use Rattle.std.proofs.Common.{◌≡◌, ◌↔◌, ℕ, true, false, ◌==◌, ◌+◌, ◌*◌, ◌/◌, ◌%◌, ◌<◌, ◌≤◌, nat_lt, ◌&&◌, List, [], ◌∷◌, fold, Some, None, Ok, Err, refl, sym, ap, inl, inr, ◌∙◌, arith}
 use Rattle.std.proofs.lemmas.Bool.{cases_lt}
 use Rattle.std.proofs.lemmas.Bool.Decides.{nat_tests}
 use Rattle.std.proofs.lemmas.List.Sums.{sum_by-cons}
-use Rattle.qcow2_base.specs.Storage.{Image}
-use Rattle.qcow2_check.specs.Counters.{block_of_cluster, counter_of}
+use Rattle.qcow2_base.specs.Storage.{Image, OnImage, OnlyReads, StorageState}
+use Rattle.qcow2_base.specs.declared.fault.Fault.{Fault}
+use Rattle.qcow2_metadata.specs.Header.{HeaderRecord, geometry_of}
+use Rattle.qcow2_metadata.specs.Results.{Reads}
+use Rattle.qcow2_metadata.specs.Table.{IsEntryFault}
+use Rattle.qcow2_check.specs.NamedTables.{loaded_l1_table}
+use Rattle.qcow2_check.specs.Counters.{block_of_cluster, counter_of, placed_reftable}
 use Rattle.qcow2_metadata.specs.Entries.{is_among}
 use Rattle.qcow2_metadata.specs.Table.L2Guards.{one_if}
-use Rattle.qcow2_check.specs.Findings.{AreRight, CountsAll, FindingsState, IsFindingsOf, finding_at, is_shared, is_wrong, tables_of, uses_of_kind}
+use Rattle.qcow2_check.specs.Findings.{AreRight, CountsAll, FindingsState, IsCheckFault, checked_tables, IsFindingsOf, finding_at, is_shared, is_wrong, tables_of, uses_of_kind}
 use Rattle.qcow2_check.specs.Tally.{CountsMore, TallyState, Used, cell_at, cell_with, is_shared_cell, mark_of, with_use}
-use Rattle.qcow2_check.specs.Uses.{ImageTables, image_uses, uses_of}
+use Rattle.qcow2_check.specs.Uses.{ImageTables, all_load, image_uses, uses_of}
 use Rattle.qcow2_check.specs.declared.findings.Finding.{Finding}
 use Rattle.qcow2_check.specs.declared.tally.UseKind.{UseKind}
 use Rattle.qcow2_check.specs.declared.tally.UseKind.TheVariants.{Fixed, Guest, L2Table}
@@ -101,3 +106,24 @@ pub counts_all : (tables : ImageTables) (image : Image) (old new : TallyState) �
     → CountsMore (image_uses tables image) old new → CountsAll tables image new
 counts_all tables image old new none more = λ c from before.
     more.cells c (rw more.first at from) before ∙ ap (λ cell. fold (cell_with c) cell (image_uses tables image)) (none c)
+
+-- L2 tables that can't all be loaded, after the L1 table and the refcount table
+pub refused_tables : {T : Type 0} (view : T → ImageTables) (header : HeaderRecord) (l1 reftable : List ℕ) (fault : Fault) (a b c d : StorageState)
+    → OnImage a (λ bytes. loaded_l1_table header bytes ≡ Ok l1) → OnlyReads (Ok l1) a b
+    → OnImage b (λ bytes. placed_reftable header bytes ≡ Ok reftable) → OnlyReads (Ok reftable) b c
+    → Reads (λ (done : Unit {0}). done) (Err fault) (all_load (geometry_of header) l1) IsEntryFault c d
+    → Reads view (Err fault) (checked_tables header) (IsCheckFault header) a d
+refused_tables view header l1 reftable fault a b c d first reads_first second reads_second reads = record {
+  exact = λ told. grind (arith, told, first, reads_first, second, reads_second, reads.exact);
+  faults = grind (arith, reads.faults);
+  storage = grind (arith, nat_tests, reads_first, reads_second, reads.storage);
+}
+
+-- and that can all be loaded
+pub tables_checked : (header : HeaderRecord) (l1 reftable : List ℕ) (a b c : StorageState)
+    → OnImage a (λ bytes. loaded_l1_table header bytes ≡ Ok l1) → OnlyReads (Ok l1) a b
+    → OnImage b (λ bytes. placed_reftable header bytes ≡ Ok reftable) → OnlyReads (Ok reftable) b c
+    → OnImage c (λ bytes. all_load (geometry_of header) l1 bytes ≡ Ok (tt {0}))
+    → OnImage a (λ bytes. checked_tables header bytes ≡ Ok (record { header = header; l1 = l1; reftable = reftable }))
+tables_checked header l1 reftable a b c first reads_first second reads_second third =
+    λ told. grind (arith, told, first, reads_first, second, reads_second, third)

@@ -112,11 +112,63 @@ fn count_window<S: Storage>(
 }
 
 impl<'a> Findings<'a> {
-    ghost use Rattle.std.specs.Prelude.{◌≡◌, ◌<◌, ◌≤◌, IfErr, IfOk, IfSome, IsSome, IsSomeAnd, IsTrue, OnOk, ◌+◌, ◌↔◌};
+    ghost use Rattle.std.specs.Prelude.{◌≡◌, ◌<◌, ◌≤◌, Ok, None, IfErr, IfOk, IfSome, IsSome, IsSomeAnd, IsTrue, OnOk, ◌+◌, ◌↔◌};
     ghost use Rattle.qcow2_base.specs.Format.{max_file_length};
     ghost use Rattle.qcow2_base.specs.Storage.{Image, OnImage, OnlyReads};
     ghost use Rattle.qcow2_check.specs.Counters.{counter_of};
-    ghost use Rattle.qcow2_check.specs.Findings.{AreRight, IsFindingsOf, IsLaterFault, MovesFindings, PassesFinding, finding_at, is_wrong, tables_of};
+    ghost use Rattle.qcow2_check.specs.Findings.{AreRight, IsCheckFault, IsFindingsOf, IsLaterFault, MovesFindings, PassesFinding, checked_tables, finding_at, is_wrong, tables_of};
+
+    /// A reader of the findings of an image with this header, before the first of them. Reads its tables, and counts the uses
+    /// of the first clusters.
+    ///
+    /// Returns the first of these faults: that of the L1 table, that of the refcount table, 21 where a refcount block would
+    /// end past 2^56, or that of an L2 table. Changes no byte.
+    pub fn new<S: Storage>(
+        alloc: Global,
+        image: &mut S,
+        header: &'a Header,
+    ) -> Result<Findings<'a>, Fault>
+        ensures reads { Reads tables_of result (checked_tables header.now) (IsCheckFault header.now)
+            (S.state image.old) (S.state image.new) }
+        ensures begun { IfOk result (λ findings. (findings.header ≡ header.now) × (findings.position ≡ 0)) }
+        ensures reader { IfOk result (λ findings. OnImage (S.state image.old) (λ bytes. IsFindingsOf bytes findings)) }
+    {
+        let l1_table = load_l1_table(alloc, image, header)?;
+        let counters = Counters::new(alloc, image, header)?;
+        let counted = counters.counted();
+        let dense = counted.clamp(FEW_CELLS as u64, MOST_DENSE as u64) as usize;
+        let tally = count_window(image, header, &l1_table, counters.reftable(), 0, dense, 0)?;
+        Ok(Findings {
+            header,
+            l1_table,
+            counters,
+            tally: Some(tally),
+            position: 0,
+            counted,
+            is_sparse: false,
+        })
+    }
+
+    /// The next finding, or nothing after the last. Findings come in the order of clusters, each once.
+    ///
+    /// Fails where the storage does or memory runs out, and can be called again then. The image must be the one that the
+    /// reader was made for, unchanged since. Changes no byte.
+    pub fn next<S: Storage>(&mut self, image: &mut S) -> Result<Option<Finding>, Fault>
+        requires { OnImage (S.state image.old) (λ bytes. IsFindingsOf bytes self.old) }
+        ensures finding { PassesFinding (S.state image.old) self.old result self.new.position }
+        ensures end { result ≡ Ok None → self.new.position ≡ max_file_length }
+        ensures reader { MovesFindings (S.state image.old) self.old self.new }
+        ensures fault { IfErr result (IsLaterFault (S.state image.old)) }
+        ensures storage { OnlyReads result (S.state image.old) (S.state image.new) }
+    {
+        while self.position < MAX_FILE_LENGTH {
+            self.keep_window(image)?;
+            if let Some(finding) = self.step(image)? {
+                return Ok(Some(finding));
+            }
+        }
+        Ok(None)
+    }
 
     // What is found at a cluster that is counted.
     fn look_at<S: Storage>(&mut self, image: &mut S, cluster: u64) -> Result<Finding, Fault>
