@@ -1,4 +1,4 @@
-use Rattle.std.proofs.Common.{◌≡◌, ◌↔◌, ℕ, true, false, ◌==◌, ◌+◌, ◌*◌, ◌/◌, ◌%◌, ◌<◌, ◌≤◌, nat_lt, ◌&&◌, List, [], ◌∷◌, fold, Some, None, Ok, Err, refl, sym, ap, inl, inr, ◌∙◌, arith}
+use Rattle.std.proofs.Common.{◌≡◌, ◌↔◌, ℕ, true, false, ◌==◌, ◌+◌, ◌*◌, ◌/◌, ◌%◌, ◌<◌, ◌≤◌, nat_lt, ◌&&◌, IsTrue, List, [], ◌∷◌, fold, Some, None, Ok, Err, refl, sym, ap, subst, inl, inr, ◌∙◌, arith}
 use Rattle.std.proofs.lemmas.Bool.{cases_lt}
 use Rattle.std.proofs.lemmas.Bool.Decides.{nat_tests}
 use Rattle.std.proofs.lemmas.List.Sums.{sum_by-cons}
@@ -11,7 +11,7 @@ use Rattle.qcow2_check.specs.NamedTables.{loaded_l1_table}
 use Rattle.qcow2_check.specs.Counters.{block_of_cluster, counter_of, placed_reftable}
 use Rattle.qcow2_metadata.specs.Entries.{is_among}
 use Rattle.qcow2_metadata.specs.Table.L2Guards.{one_if}
-use Rattle.qcow2_check.specs.Findings.{AreRight, CountsAll, FindingsState, IsCheckFault, checked_tables, IsFindingsOf, finding_at, is_shared, is_wrong, tables_of, uses_of_kind}
+use Rattle.qcow2_check.specs.Findings.{AreRight, CountsAll, FindingsState, IsCheckFault, MovesFindings, PassesFinding, checked_tables, IsFindingsOf, finding_at, is_shared, is_wrong, tables_of, uses_of_kind}
 use Rattle.qcow2_check.specs.Tally.{CountsMore, TallyState, Used, cell_at, cell_with, is_shared_cell, mark_of, with_use}
 use Rattle.qcow2_check.specs.Uses.{ImageTables, all_load, image_uses, uses_of}
 use Rattle.qcow2_check.specs.declared.findings.Finding.{Finding}
@@ -127,3 +127,55 @@ pub tables_checked : (header : HeaderRecord) (l1 reftable : List ℕ) (a b c : S
     → OnImage a (λ bytes. checked_tables header bytes ≡ Ok (record { header = header; l1 = l1; reftable = reftable }))
 tables_checked header l1 reftable a b c first reads_first second reads_second third =
     λ told. grind (arith, told, first, reads_first, second, reads_second, third)
+
+-- clusters that nothing is wrong with, one after another
+right_joins : (tables : ImageTables) (image : Image) (a b c : ℕ) → AreRight tables image a b → AreRight tables image b c → AreRight tables image a c
+right_joins tables image a b c one other = λ k after before.
+    elim (cases_lt k b) [
+      | inl below ↦ one k after below
+      | inr above ↦ other k above before
+    ]
+
+-- what holds of the image and the tables that a reader has later holds of those that it had first
+same_reader : (Fact : ImageTables → Image → Type 0) (old now : StorageState) (first later : FindingsState) → OnlyReads (Ok later.position) old now
+    → MovesFindings old first later → Fact (tables_of later) now.byte_at → Fact (tables_of first) old.byte_at
+same_reader Fact old now first later reads moves fact =
+    let tables : tables_of later ≡ tables_of first = ap tables_of moves.same in
+    subst (λ t. Fact t old.byte_at) tables (subst (λ image. Fact (tables_of later) image) reads.bytes fact)
+
+-- what a reader passes after it has passed clusters that nothing is wrong with
+pub passes_on : (old now : StorageState) (first later : FindingsState) (finding : Finding) (to : ℕ) → OnlyReads (Ok later.position) old now
+    → MovesFindings old first later → first.position ≤ later.position
+    → OnImage old (λ bytes. AreRight (tables_of first) bytes first.position later.position)
+    → PassesFinding now later (Ok (Some finding)) to → PassesFinding old first (Ok (Some finding)) to
+passes_on old now first later finding to reads moves from right passes = (
+  omega (arith, from, passes.0),
+  passes.1,
+  λ told.
+      let found = passes.2 (rw reads.device.tells told) in (
+        same_reader (λ t image. finding ≡ finding_at t image finding.cluster.0) old now first later reads moves found.0,
+        found.1,
+        right_joins (tables_of first) old.byte_at first.position later.position finding.cluster.0 (right told)
+        (same_reader (λ t image. AreRight t image later.position finding.cluster.0) old now first later reads moves found.2),
+      ),
+)
+
+pub passes_none : (old now : StorageState) (first later : FindingsState) (to : ℕ) → OnlyReads (Ok later.position) old now
+    → MovesFindings old first later
+    → OnImage old (λ bytes. AreRight (tables_of first) bytes first.position later.position)
+    → PassesFinding now later (Ok None) to → OnImage old (λ bytes. AreRight (tables_of first) bytes first.position to)
+passes_none old now first later to reads moves right passes = λ told.
+    right_joins (tables_of first) old.byte_at first.position later.position to (right told)
+    (same_reader (λ t image. AreRight t image later.position to) old now first later reads moves (passes.1 (rw reads.device.tells told)))
+
+-- a reader that moves twice
+pub moves_twice : (old now : StorageState) (a b c : FindingsState) → OnlyReads (Ok b.position) old now → MovesFindings old a b → MovesFindings now b c
+    → MovesFindings old a c
+moves_twice old now a b c reads one other = record {
+  same = rw (other.same, one.same) refl;
+  kept = λ told. rw reads.bytes at (other.kept (rw reads.device.tells told));
+}
+
+-- reads one after another that returned values
+pub reads_twice : {A B C : Type 0} (x : A) (y : B) (z : C) (a b c : StorageState) → OnlyReads (Ok x) a b → OnlyReads (Ok y) b c → OnlyReads (Ok z) a c
+reads_twice x y z a b c one other = grind (arith, nat_tests, one, other)
