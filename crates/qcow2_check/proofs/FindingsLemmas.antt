@@ -48,20 +48,20 @@ tells-all : (uses : List Used) (c cell f t g : ℕ) → Tells cell f t g → Tel
 tells-all [] c cell f t g is = grind (arith, is)
 tells-all (used ∷ uses) c cell f t g is = elim used.kind as (λ kind. used.kind ≡ kind → Tells (fold (cell_with c) cell (used ∷ uses))
     (f + uses_of_kind Fixed (used ∷ uses) c) (t + uses_of_kind L2Table (used ∷ uses) c) (g + uses_of_kind Guest (used ∷ uses) c)) [
-  | Fixed ↦ λ kind. grind (arith, nat_tests, kind, kind-cons Fixed used uses c, kind-cons L2Table used uses c, kind-cons Guest used uses c, tells-all uses c cell f t g is, tells-all uses c (with_use Fixed cell) (f + 1) t g (tells-fixed cell f t g is))
-  | L2Table ↦ λ kind. grind (arith, nat_tests, kind, kind-cons Fixed used uses c, kind-cons L2Table used uses c, kind-cons Guest used uses c, tells-all uses c cell f t g is, tells-all uses c (with_use L2Table cell) f (t + 1) g (tells-table cell f t g is))
-  | Guest ↦ λ kind. grind (arith, nat_tests, kind, kind-cons Fixed used uses c, kind-cons L2Table used uses c, kind-cons Guest used uses c, tells-all uses c cell f t g is, tells-all uses c (with_use Guest cell) f t (g + 1) (tells-guest cell f t g is))
-] refl
+      | Fixed ↦ λ kind. grind (arith, nat_tests, kind, kind-cons Fixed used uses c, kind-cons L2Table used uses c, kind-cons Guest used uses c, tells-all uses c cell f t g is, tells-all uses c (with_use Fixed cell) (f + 1) t g (tells-fixed cell f t g is))
+      | L2Table ↦ λ kind. grind (arith, nat_tests, kind, kind-cons Fixed used uses c, kind-cons L2Table used uses c, kind-cons Guest used uses c, tells-all uses c cell f t g is, tells-all uses c (with_use L2Table cell) f (t + 1) g (tells-table cell f t g is))
+      | Guest ↦ λ kind. grind (arith, nat_tests, kind, kind-cons Fixed used uses c, kind-cons L2Table used uses c, kind-cons Guest used uses c, tells-all uses c cell f t g is, tells-all uses c (with_use Guest cell) f t (g + 1) (tells-guest cell f t g is))
+    ] refl
 
 -- all uses of a cluster are of these kinds
 uses_by_kind : (uses : List Used) (c : ℕ) → uses_of uses c ≡ uses_of_kind Fixed uses c + uses_of_kind L2Table uses c + uses_of_kind Guest uses c
 uses_by_kind [] c = refl
 uses_by_kind (used ∷ uses) c = elim used.kind as (λ kind. used.kind ≡ kind → uses_of (used ∷ uses) c
     ≡ uses_of_kind Fixed (used ∷ uses) c + uses_of_kind L2Table (used ∷ uses) c + uses_of_kind Guest (used ∷ uses) c) [
-  | Fixed ↦ λ kind. grind (arith, nat_tests, kind, all-cons used uses c, kind-cons Fixed used uses c, kind-cons L2Table used uses c, kind-cons Guest used uses c, uses_by_kind uses c)
-  | L2Table ↦ λ kind. grind (arith, nat_tests, kind, all-cons used uses c, kind-cons Fixed used uses c, kind-cons L2Table used uses c, kind-cons Guest used uses c, uses_by_kind uses c)
-  | Guest ↦ λ kind. grind (arith, nat_tests, kind, all-cons used uses c, kind-cons Fixed used uses c, kind-cons L2Table used uses c, kind-cons Guest used uses c, uses_by_kind uses c)
-] refl
+      | Fixed ↦ λ kind. grind (arith, nat_tests, kind, all-cons used uses c, kind-cons Fixed used uses c, kind-cons L2Table used uses c, kind-cons Guest used uses c, uses_by_kind uses c)
+      | L2Table ↦ λ kind. grind (arith, nat_tests, kind, all-cons used uses c, kind-cons Fixed used uses c, kind-cons L2Table used uses c, kind-cons Guest used uses c, uses_by_kind uses c)
+      | Guest ↦ λ kind. grind (arith, nat_tests, kind, all-cons used uses c, kind-cons Fixed used uses c, kind-cons L2Table used uses c, kind-cons Guest used uses c, uses_by_kind uses c)
+    ] refl
 
 -- what the cell of all uses tells
 pub cell_counts : (uses : List Used) (c cell : ℕ) → cell ≡ fold (cell_with c) 0 uses → cell / 8 ≡ uses_of uses c
@@ -97,8 +97,8 @@ right_more tables image from c finding right is fine = λ other after before.
     elim (cases_lt other c) [
       | inl below ↦ right other after below
       | inr above ↦
-        let same : other ≡ c = omega (arith, before, above) in
-        ap (λ k. is_wrong (finding_at tables image k)) same ∙ sym (ap is_wrong is) ∙ fine
+          let same : other ≡ c = omega (arith, before, above) in
+          ap (λ k. is_wrong (finding_at tables image k)) same ∙ sym (ap is_wrong is) ∙ fine
     ]
 
 -- a tally that counted all uses, and no others
@@ -156,7 +156,7 @@ passes_on old now first later finding to reads moves from right passes = (
         same_reader (λ t image. finding ≡ finding_at t image finding.cluster.0) old now first later reads moves found.0,
         found.1,
         right_joins (tables_of first) old.byte_at first.position later.position finding.cluster.0 (right told)
-        (same_reader (λ t image. AreRight t image later.position finding.cluster.0) old now first later reads moves found.2),
+            (same_reader (λ t image. AreRight t image later.position finding.cluster.0) old now first later reads moves found.2),
       ),
 )
 

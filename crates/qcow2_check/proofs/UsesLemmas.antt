@@ -21,7 +21,7 @@ all_load_more g image (w ∷ vs) v = grind (arith, all_load_more g image vs v)
 -- where those of the first entries can, and not that of the next, the fault is that of all
 pub all_load_until : (g : Geometry) (image : Image) (vs : List ℕ) (i : ℕ) (fault : Fault) → i < length vs
     → all_load g (take i vs) image ≡ Ok tt → l1_entry_loads g image (slice_index vs i) ≡ Err fault → all_load g vs image ≡ Err fault
-all_load_until g image [] i fault below loads refused = 
+all_load_until g image [] i fault below loads refused =
     let never : ⊥ = omega (arith, below) in elim never [ ]
 all_load_until g image (v ∷ vs) zero fault below loads refused = grind (arith, refused)
 all_load_until g image (v ∷ vs) (suc i) fault below loads refused =

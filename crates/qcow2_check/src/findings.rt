@@ -20,6 +20,7 @@ use std::marker::Model;
 
 // The fewest cells that lie one after another, and the most, which take 64 MiB.
 const FEW_CELLS: usize = 4096;
+
 const MOST_DENSE: usize = 1 << 23;
 
 // How many other cells there are at most.

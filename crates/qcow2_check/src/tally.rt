@@ -42,11 +42,7 @@ fn with_use(cell: u64, kind: UseKind) -> Result<u64, Fault>
     ensures cell { IfOk result (λ more. more ≡ with_use kind cell) }
 {
     let mark = kind.mark();
-    let more = if cell / mark % 2 == 1 {
-        8
-    } else {
-        8 + mark
-    };
+    let more = if cell / mark % 2 == 1 { 8 } else { 8 + mark };
     cell.checked_add(more).ok_or(Fault::NoMemory)
 }
 

@@ -151,13 +151,20 @@ fn count_header(tally: &mut Tally, header: &Header) -> Result<(), Fault>
     ensures counted { OnOk result (CountsMore (header_uses header.now) tally.old tally.new) }
 {
     let cluster_bits = header.cluster_bits();
-    let l1_clusters =
-        ClusterCount::from_byte_size(8 * header.l1_table_entries() as u64, cluster_bits);
+    let l1_clusters = ClusterCount::from_byte_size(
+        8 * header.l1_table_entries() as u64,
+        cluster_bits,
+    );
     let l1_cluster = header.l1_table_offset().cluster(cluster_bits);
     let reftable_cluster = header.reftable_offset().cluster(cluster_bits);
     count_clusters(tally, UseKind::Fixed, HostCluster(0), 1)?;
     count_clusters(tally, UseKind::Fixed, l1_cluster, l1_clusters.0)?;
-    count_clusters(tally, UseKind::Fixed, reftable_cluster, header.reftable_clusters().0)
+    count_clusters(
+        tally,
+        UseKind::Fixed,
+        reftable_cluster,
+        header.reftable_clusters().0,
+    )
 }
 
 /// Counts all clusters that an image uses.
