@@ -60,6 +60,6 @@ count_facts cluster steps = record {
   prints_before_faults = false;
   cluster_bits = None;
   place_fault = None;
-  Ends = λ header answer old new before after.
-      PrintsChange answer (block_layout (block_geometry_of header)) (end_of_steps cluster steps header) old new before after;
+  Ends = λ header run.
+      PrintsChange run (block_layout (block_geometry_of header)) (end_of_steps cluster steps header);
 }

@@ -86,6 +86,5 @@ edit_facts l1_index edits = record {
   prints_before_faults = false;
   cluster_bits = None;
   place_fault = None;
-  Ends = λ header answer old new before after.
-      PrintsChange answer (l2_layout (geometry_of header)) (end_of_edits l1_index edits header) old new before after;
+  Ends = λ header run. PrintsChange run (l2_layout (geometry_of header)) (end_of_edits l1_index edits header);
 }

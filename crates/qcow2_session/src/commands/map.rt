@@ -5,7 +5,7 @@ ghost use Rattle.qcow2_base.specs.Storage.{OnImage, ReadsFor};
 ghost use Rattle.qcow2_base.specs.declared.fault.Fault.TheVariants.{Storage as StorageFailed};
 ghost use Rattle.qcow2_session.specs.Extents.{IsReaderOf};
 ghost use Rattle.qcow2_session.specs.Commands.Map.{PrintsExtents, PrintsRest, closing, content_text, disk_of, extent_line, extent_text, map_command, json_content, json_flags, json_object, json_offset, json_row, opening};
-ghost use Rattle.qcow2_session.specs.Commands.Printing.{PrintsText};
+ghost use Rattle.qcow2_session.specs.Commands.Printing.{PrintsText, run_over};
 ghost use Rattle.qcow2_session.specs.Commands.Words.{Parses};
 
 use super::Command;
@@ -59,8 +59,8 @@ pub fn print_extents<S: Storage, O: Write>(
     format: ExtentFormat,
     out: &mut O,
 ) -> Result<(), Fault>
-    ensures prints { PrintsExtents result format (disk_of header.now)
-        (S.state image.old) (S.state image.new) (O.contents out.old) (O.contents out.new) }
+    ensures prints { PrintsExtents (run_over S.state O.contents result image.old image.new out.old out.new)
+        format (disk_of header.now) }
     ensures storage { ReadsFor (IsErrOf result StorageFailed) (S.state image.old) (S.state image.new) }
 {
     let mut extents = Extents::new(alloc, image, header)?;
@@ -77,8 +77,8 @@ fn print_all<S: Storage, O: Write>(
     out: &mut O,
 ) -> Result<(), Fault>
     requires kept { OnImage (S.state image.old) (λ bytes. IsReaderOf bytes extents.old) }
-    ensures prints { PrintsRest result format extents.old (S.state image.old) (S.state image.new)
-        (O.contents out.old) (O.contents out.new) }
+    ensures prints { PrintsRest (run_over S.state O.contents result image.old image.new out.old out.new)
+        format extents.old }
     ensures storage { ReadsFor (IsErrOf result StorageFailed) (S.state image.old) (S.state image.new) }
 {
     let mut line = LineBuffer::new();

@@ -21,7 +21,7 @@ returns-in_err-outcome-clause-edits g c =
     let cluster = c.in_ok-cluster.cluster in
     let edits = c.args.edits.now in
     let image = (g.S.Storage.state c.args.image.now).byte_at in
-    rw (exit.1, exit.2) (change-refused _ (l2_layout (geometry_of header)) (change_by_edits cluster edits) (end_of_edits c.args.l1_index edits header) (edits_end header cluster edits image) _ _ _ _
+    rw (exit.1, exit.2) (change-refused _ (l2_layout (geometry_of header)) (change_by_edits cluster edits) (end_of_edits c.args.l1_index edits header) (edits_end header cluster edits image) _ _ _ _ _
     (λ told. rw (named.exact told) refl)
     (λ told. refused-as _ (λ bad. part-refused _ (λ (left : RunEnd). (left.freed, left.gained)) _ (rw named.storage.bytes at bad)) (ran.exact (named.storage.device.tells ∙ told)))
     (λ storage. grind (arith, storage, named.storage.told, ran.changes.storage.told))
