@@ -1,5 +1,5 @@
 use Rattle.std.proofs.lemmas.Bool.Decides.{nat_tests}
-use Rattle.std.proofs.Common.{◌≡◌, ◌≢◌, ◌⊎◌, ℕ, zero, suc, add-zero, inl, inr, ◌+◌, ◌-◌, ◌*◌, ◌%◌, ◌^◌, ◌<◌, ◌≤◌, List, [], ◌∷◌, ◌++◌, length, get_or, map, take, Option, Result, Ok, Err, IsTrue, ap, sym, refl, ◌∙◌, append_assoc, append-nil, arith}
+use Rattle.std.proofs.Common.{◌≡◌, ◌≢◌, ◌⊎◌, ℕ, zero, suc, add-zero, inr, ◌+◌, ◌-◌, ◌*◌, ◌%◌, ◌^◌, ◌<◌, ◌≤◌, List, [], ◌∷◌, ◌++◌, length, get_or, map, take, Option, Result, Ok, Err, IsTrue, ap, sym, refl, ◌∙◌, append_assoc, append-nil, arith}
 use Rattle.std.specs.List.{concat}
 use Rattle.std.specs.Io.KnownBytes.{Appends}
 use Rattle.std.proofs.KnownBytes.{Appends-nil, Appends-trans}
@@ -12,6 +12,7 @@ use Rattle.qcow2_base.specs.declared.fault.Fault.{Fault}
 use Rattle.qcow2_base.specs.declared.fault.Fault.TheVariants.{NoMemory, Storage}
 use Rattle.qcow2_metadata.specs.Header.{Geometry, geometry_of}
 use Rattle.qcow2_metadata.specs.Entries.L2Mapping.{Mapping, mapping}
+use Rattle.qcow2_session.proofs.OutputLemmas.{part-after}
 use Rattle.qcow2_session.proofs.PrintingLemmas.{prints_no-more, read_fault-of, run_between, then_prints}
 use Rattle.qcow2_session.specs.Commands.Printing.{OutputBytes, OutputGets, PrintsText, Run}
 use Rattle.qcow2_session.specs.Commands.Entries.{entry_line, entry_lines, table_lines}
@@ -88,19 +89,16 @@ pub texts-more : (left next : WalkState) (index : ℕ) (numbers : List ℕ) (ima
     → texts_left left image ≡ Ok (table_lines Offset (geometry_of left.header) index numbers) ∷ texts_left next image
 texts-more left next index numbers image header first = grind (arith, nat_tests)
 
--- the print of some tables ended after others were printed
-pub PrintsTablesBefore-after : {O : Type 0} (fault : Fault) (known : List (List ℕ)) (some more all : TableTexts) (run : Run O) (between : StorageState) (b : O)
-    → all ≡ map Ok known ++ (some ++ more) → Appends (run.contents run.before) (run.contents b) (concat known) → between.failures ≡ run.old.failures
-    → PrintsTablesBefore fault (record run { old = between; before = b }) some → PrintsTablesBefore fault run all
-PrintsTablesBefore-after fault known some more all run between b are before calm ended = record {
-  printed = known ++ ended.printed;
-  table = ended.table;
-  rest = ended.rest ++ more;
-  are = tables-known known ended.printed (ended.table ∷ ended.rest ++ more) all (are ∙ ap (λ x. map Ok known ++ (x ++ more)) ended.are ∙ ap (λ x. map Ok known ++ x) (append_assoc (map Ok ended.printed) (ended.table ∷ ended.rest) more));
-  why = elim (rw calm at ended.why) [
-    | inl refused ↦ inl (refused.0, tables-printed known ended.printed _ _ _ before refused.1)
-    | inr output ↦ inr output
-  ];
+-- the output failed in the lines of a table, after those of others were printed
+pub ended-printing : {O T : Type 0} (fault : Fault) (known : List (List ℕ)) (lines : List ℕ) (rest all : TableTexts) (run : Run O) (b : OutputBytes)
+    → all ≡ map Ok known ++ Ok lines ∷ rest → Appends (run.contents run.before) b (concat known)
+    → PrintsText {T = T} (Err fault) b (run.contents run.after) lines → run.new.failures ≡ run.old.failures → PrintsTablesBefore fault run all
+ended-printing fault known lines rest all run b are before failed calm = record {
+  printed = known;
+  table = Ok lines;
+  rest = rest;
+  are = are;
+  why = inr ((failed.fault, calm), part-after _ b _ (concat known) lines before failed.part);
 }
 
 -- the print of tables ended at the first of those that are left

@@ -1,12 +1,12 @@
 -- What does the command `list` print?
-use Rattle.std.specs.Prelude.{◌≡◌, ◌⊎◌, ℕ, false, true, List, [], ◌∷◌, ◌++◌, map, None, Result, Ok, IfErr, IsErrOf, IsOk, IsOkAnd, OnOk}
+use Rattle.std.specs.Prelude.{◌≡◌, ◌⊎◌, ℕ, false, true, List, [], ◌∷◌, ◌++◌, map, None, Result, Ok, IfErr, IsErrOf, IsOkAnd, OnOk}
 use Rattle.std.specs.List.{concat}
 use Rattle.qcow2_base.specs.Storage.{Image, OnImage, ReadsFor}
 use Rattle.qcow2_base.specs.declared.fault.Fault.{Fault}
 use Rattle.qcow2_base.specs.declared.fault.Fault.TheVariants.{Storage}
 use Rattle.qcow2_metadata.specs.Results.{result_map}
 use Rattle.qcow2_metadata.specs.Header.{Geometry, HeaderRecord, geometry_of}
-use Rattle.qcow2_session.specs.Commands.Printing.{IsOutputFault, IsReadFault, OutputGets, Run}
+use Rattle.qcow2_session.specs.Commands.Printing.{IsOutputFault, IsReadFault, OutputGets, OutputGetsPart, Run}
 use Rattle.qcow2_session.specs.Commands.Entries.{table_lines}
 use Rattle.qcow2_session.specs.Commands.Facts.{CommandFacts}
 use Rattle.qcow2_session.specs.L2Tables.{NamedTables, WalkState, named_tables, tables_left}
@@ -36,13 +36,14 @@ abbrev pub PrintsAllTables : {O : Type 0} → Run O → TableTexts → Type 0
 PrintsAllTables run tables = (printed : List (List ℕ)) × (tables ≡ map Ok printed) × OutputGets run (concat printed)
 
 -- the print of tables ended in this fault at one of them, where all before it can be loaded: it can't be read, and the
--- output got the lines of those before it, or it can, and the output failed. Nothing is said of what it got then
+-- output got the lines of those before it, or it can, and the output failed and got a beginning of these lines and its own
 pub record PrintsTablesBefore {O : Type 0} (fault : Fault) (run : Run O) (tables : TableTexts) : Type 0 where
   pub printed : List (List ℕ)
   pub table : Result (List ℕ) Fault
   pub rest : TableTexts
   pub are : tables ≡ map Ok printed ++ table ∷ rest
-  pub why : (IsReadFault table run fault × OutputGets run (concat printed)) ⊎ (IsOutputFault run fault × IsOk table)
+  pub why : (IsReadFault table run fault × OutputGets run (concat printed))
+      ⊎ (IsOutputFault run fault × IsOkAnd table (λ lines. OutputGetsPart run (concat printed ++ lines)))
 
 -- a run prints tables: all of them, or those before the one at which it ended
 pub record PrintsTables {O : Type 0} (run : Run O) (tables : Image → TableTexts) : Type 0 where

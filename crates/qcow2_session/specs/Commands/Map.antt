@@ -9,7 +9,7 @@ use Rattle.qcow2_metadata.specs.Results.{result_map}
 use Rattle.qcow2_session.specs.Extents.{AreExtents, AreExtentsBefore, Contents, ExtentsState, contents_for, contents_of}
 use Rattle.qcow2_session.specs.Lookups.{loaded_l1_table}
 use Rattle.qcow2_session.specs.Commands.Facts.{CommandFacts}
-use Rattle.qcow2_session.specs.Commands.Printing.{IsOutputFault, IsReadFault, OutputGets, Run}
+use Rattle.qcow2_session.specs.Commands.Printing.{IsOutputFault, IsReadFault, OutputGets, OutputGetsPart, Run}
 use Rattle.qcow2_session.specs.Commands.Words.{WordList}
 use Rattle.qcow2_session.specs.Lines.{offset_text}
 use Rattle.qcow2_session.specs.declared.commands.map.ExtentFormat.{ExtentFormat}
@@ -105,23 +105,33 @@ abbrev pub PrintsMapBefore : {O : Type 0} → ExtentFormat → Fault → Run O �
 PrintsMapBefore format fault run disk = (extents : List Extent) × AreExtentsBefore disk.contents disk.size 0 extents fault
     × OutputGets run (opening format ++ extents_text format extents)
 
+-- the output got a beginning of the text of a disk: of that of all its extents, or of the extents up to an offset
+abbrev pub PrintsMapPart : {O : Type 0} → ExtentFormat → Run O → Disk → Type 0
+PrintsMapPart format run disk = (extents : List Extent) × (to : ℕ) × AreExtents disk.contents disk.size 0 extents to
+    × OutputGetsPart run (opening format ++ extents_text format extents ++ (if to == disk.size then closing format else []))
+
 -- a run prints the extents from a reader's offset on: up to the disk's size after `Ok`, and after a fault up to the extent
--- that can't be read. Nothing is said of what an output got that failed
+-- that can't be read. An output that failed got a beginning of the text of extents up to an offset
 pub record PrintsRest {O : Type 0} (run : Run O) (format : ExtentFormat) (reader : ExtentsState) : Type 0 where
   pub extents : OnOk run.answer (OnImage run.old (λ bytes. (extents : List Extent)
       × AreExtents (contents_for reader bytes) reader.header.v2.size reader.position extents reader.header.v2.size
       × OutputGets run (extents_text format extents)))
-  pub refused : IfErr run.answer (λ fault. OnImage run.old (λ bytes. IsOutputFault run fault ⊎ ((extents : List Extent)
+  pub refused : IfErr run.answer (λ fault. OnImage run.old (λ bytes.
+      (IsOutputFault run fault × (extents : List Extent) × (to : ℕ)
+      × AreExtents (contents_for reader bytes) reader.header.v2.size reader.position extents to
+      × OutputGetsPart run (extents_text format extents))
+      ⊎ ((extents : List Extent)
       × AreExtentsBefore (contents_for reader bytes) reader.header.v2.size reader.position extents fault
       × OutputGets run (extents_text format extents))))
 
 -- a run maps a disk: it printed all extents, or it was refused. Where the L1 table can't be loaded nothing is printed, else
--- the extents before the one that can't be read. Nothing is said of what an output got that failed
+-- the extents before the one that can't be read. An output that failed got a beginning of the text
 pub record PrintsExtents {O : Type 0} (run : Run O) (format : ExtentFormat) (disk : Image → Result Disk Fault) : Type 0 where
   pub extents : OnOk run.answer (OnImage run.old (λ bytes. IsOkAnd (disk bytes) (PrintsMap format run)))
   pub refused : IfErr run.answer (λ fault. OnImage run.old (λ bytes.
       (IsReadFault (disk bytes) run fault × OutputGets run [])
-      ⊎ IsOkAnd (disk bytes) (λ read. IsOutputFault run fault ⊎ PrintsMapBefore format fault run read)))
+      ⊎ IsOkAnd (disk bytes) (λ read.
+      (IsOutputFault run fault × PrintsMapPart format run read) ⊎ PrintsMapBefore format fault run read)))
 
 -- the facts of the command `map`, which prints extent by extent
 abbrev pub map_facts : ExtentFormat → CommandFacts
