@@ -1,5 +1,5 @@
 use Rattle.std.proofs.lemmas.Bool.Decides.{nat_tests}
-use Rattle.std.proofs.Common.{◌≡◌, ◌≢◌, ◌⊎◌, ℕ, ◌+◌, ◌<◌, List, [], ◌∷◌, ◌++◌, append-nil, flat_map, take_all, get_or, length, take, drop, take-append-drop, Bool, true, false, Option, Result, Ok, Err, IsTrue, refl, arith}
+use Rattle.std.proofs.Common.{◌≡◌, ◌≢◌, ◌⊎◌, ℕ, ◌+◌, ◌<◌, List, [], ◌∷◌, ◌++◌, append-nil, flat_map, take_all, get_or, length, take, drop, take-append-drop, Bool, true, false, if◌then◌else◌, Option, Result, Ok, Err, IsTrue, refl, arith}
 use Rattle.std.specs.Result.{IsOkUnless}
 use Rattle.std.specs.Io.KnownBytes.{Appends}
 use Rattle.std.proofs.KnownBytes.{Appends-trans}
@@ -11,7 +11,7 @@ use Rattle.qcow2_base.specs.declared.fault.Fault.{Fault}
 use Rattle.qcow2_base.specs.declared.fault.Fault.TheVariants.{NoMemory, Storage}
 use Rattle.qcow2_metadata.specs.Results.{result_map}
 use Rattle.qcow2_session.proofs.OutputLemmas.{part-after, part-of_more}
-use Rattle.qcow2_session.specs.Lines.Output.{Gets, output_result}
+use Rattle.qcow2_session.specs.Lines.Output.{Gets}
 use Rattle.qcow2_session.specs.declared.lines.output.Output.{Output}
 use Rattle.qcow2_session.specs.Commands.Printing.{IsReadFault, OutputBytes, Prints, PrintsLast, PrintsText, Run, run_over}
 
@@ -53,7 +53,7 @@ printed-more line items i default a b c below before here =
 
 -- what an output got by its end
 pub text_finished : {W : Type 0} (contents : W → Option (List ℕ)) (lent new : W) (a b : Output W) (answer : Result (Unit {0}) Fault) (text : List ℕ)
-    → a.writer.now ≡ lent → new ≡ b.writer.now → Gets contents a b text → answer ≡ output_result b.has_failed → PrintsText answer (contents lent) (contents new) text
+    → a.writer.now ≡ lent → new ≡ b.writer.now → Gets contents a b text → answer ≡ (if b.has_failed then Err Storage else Ok tt) → PrintsText answer (contents lent) (contents new) text
 text_finished contents lent new a b answer text begins ends got is = by_flag b.has_failed refl
   where
     by_flag : (failed : Bool) → b.has_failed ≡ failed → PrintsText answer (contents lent) (contents new) text

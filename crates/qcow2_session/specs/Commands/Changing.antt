@@ -15,18 +15,14 @@ pub record ChangeEnd : Type 0 where
   pub is_written : Bool
   pub lines : List ℕ
 
--- a change was made, though the output may have failed then
-abbrev pub IsMade : {O : Type 0} → Run O → Type 0
-IsMade run = IfErr run.answer (IsOutputFault run)
-
 -- a run changed its image, which by the old bytes comes to that end, or is refused by that fault: the lines tell of it, or
--- this is why it was refused, or the output failed. The new image has its numbers, once it is made; it is as before where
--- it is refused or nothing is to be written, and always outside the cluster. Where a call of the image failed it is as
--- before, or the numbers are written up to a piece
+-- this is why it was refused, or the output failed. The new image has its numbers, unless a fault but the output's came; it
+-- is as before where it is refused or nothing is to be written, and always outside the cluster. Where a call of the image
+-- failed it is as before, or the numbers are written up to a piece
 pub record PrintsChange {O : Type 0} (run : Run O) (layout : Layout) (end : Image → Result ChangeEnd Fault) : Type 0 where
   pub lines : OnOk run.answer (OnImage run.old (λ bytes. IsOkAnd (end bytes) (λ left. OutputGets run left.lines)))
   pub refused : IfErr run.answer (λ fault. OnImage run.old (λ bytes. IsRefusal (end bytes) (λ left. left.lines) run fault))
-  pub written : IsMade run → OnImages run.old run.new (λ was is.
+  pub written : IfErr run.answer (IsOutputFault run) → OnImages run.old run.new (λ was is.
       IsOkAnd (end was) (λ left. loaded_numbers layout left.cluster is ≡ Ok left.numbers))
   pub unchanged : IfErr run.answer (λ fault. fault ≢ Storage → run.new.byte_at ≡ run.old.byte_at)
   pub idle : OnImages run.old run.new (λ was is. IfOk (end was) (λ left. left.is_written ≡ false → is ≡ was))

@@ -39,23 +39,16 @@ abbrev pub extent_line : Extent → List ℕ
 extent_line extent = offset_text extent.start.0 ++ codes " " ++ offset_text extent.length ++ codes " "
     ++ content_text extent.content ++ codes "\n"
 
--- what JSON says of a content: whether it is in the image, whether it reads as zeros, and whether it is data
-abbrev pub json_flags : Content → List ℕ
-json_flags (Data offset) = codes "\"present\": true, \"zero\": false, \"data\": true"
-json_flags Zeros = codes "\"present\": true, \"zero\": true, \"data\": false"
-json_flags (AllocatedZeros offset) = codes "\"present\": true, \"zero\": true, \"data\": false"
-json_flags Compressed = codes "\"present\": true, \"zero\": false, \"data\": true"
-json_flags Absent = codes "\"present\": false, \"zero\": true, \"data\": false"
-
--- what JSON says of where a content lies, which is nothing where it has no clusters of its own
-abbrev pub json_offset : Content → List ℕ
-json_offset (Data offset) = codes ", \"offset\": " ++ decimal offset.0
-json_offset (AllocatedZeros offset) = codes ", \"offset\": " ++ decimal offset.0
-json_offset _ = []
-
--- all that JSON says of a content
+-- what JSON says of a content: whether it is in the image, reads as zeros, and is data. Then where it lies, which is said
+-- of clusters of its own alone
 abbrev pub json_content : Content → List ℕ
-json_content content = codes ", \"depth\": 0, " ++ json_flags content ++ json_offset content ++ codes "}"
+json_content (Data offset) = codes ", \"depth\": 0, \"present\": true, \"zero\": false, \"data\": true, \"offset\": "
+    ++ decimal offset.0 ++ codes "}"
+json_content (AllocatedZeros offset) =
+    codes ", \"depth\": 0, \"present\": true, \"zero\": true, \"data\": false, \"offset\": " ++ decimal offset.0 ++ codes "}"
+json_content Zeros = codes ", \"depth\": 0, \"present\": true, \"zero\": true, \"data\": false}"
+json_content Compressed = codes ", \"depth\": 0, \"present\": true, \"zero\": false, \"data\": true}"
+json_content Absent = codes ", \"depth\": 0, \"present\": false, \"zero\": true, \"data\": false}"
 
 -- an extent in JSON
 abbrev pub json_object : Extent → List ℕ

@@ -7,11 +7,7 @@ use Rattle.qcow2_base.specs.declared.fault.Fault.TheVariants.{NoMemory, Storage}
 use Rattle.qcow2_metadata.specs.Header.{HeaderRecord, geometry, geometry_of}
 use Rattle.qcow2_metadata.specs.Header.Open.{Loads}
 use Rattle.qcow2_session.specs.Commands.Facts.{CommandFacts}
-use Rattle.qcow2_session.specs.Commands.Printing.{PrintsLast, Run}
-
--- a command that prints at once, when it knows all of its lines: a fault other than the storage fault comes before any line
-abbrev pub PrintsAtOnce : {O : Type 0} → CommandFacts → Run O → Type 0
-PrintsAtOnce facts run = facts.prints_before_faults ≡ false → PrintsLast run
+use Rattle.qcow2_session.specs.Commands.Printing.{Run}
 
 -- a header without an external data file was made for these cluster bits, unless memory ran out
 abbrev pub IsNewHeader : ℕ → Result HeaderRecord Fault → Type 0

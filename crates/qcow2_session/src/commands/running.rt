@@ -4,9 +4,9 @@ ghost use Rattle.std.specs.Prelude.{◌≡◌, ◌≢◌, ◌≤◌, ◌↔◌, 
 ghost use Rattle.std.specs.Io.KnownBytes.{Keeps};
 ghost use Rattle.qcow2_base.specs.declared.fault.Fault.TheVariants.{Storage as StorageFailed};
 ghost use Rattle.qcow2_session.specs.Commands.{command_of, facts_of};
-ghost use Rattle.qcow2_session.specs.Commands.Printing.{AppendsPart, run_over};
+ghost use Rattle.qcow2_session.specs.Commands.Printing.{AppendsPart, PrintsLast, run_over};
 ghost use Rattle.qcow2_session.specs.Commands.Report.{Reports, fault_line};
-ghost use Rattle.qcow2_session.specs.Commands.Running.{FindsHeader, PrintsAtOnce, Runs, RunsAndFlushes};
+ghost use Rattle.qcow2_session.specs.Commands.Running.{FindsHeader, Runs, RunsAndFlushes};
 
 use super::Command;
 use super::at::print_mapping_at;
@@ -124,8 +124,8 @@ pub fn run<S: Storage, O: Write>(
 ) -> Result<(), Fault>
     ensures runs { Runs (facts_of command.now)
         (run_over S.state O.contents result image.old image.new out.old out.new) }
-    ensures at_once { PrintsAtOnce (facts_of command.now)
-        (run_over S.state O.contents result image.old image.new out.old out.new) }
+    ensures at_once { (facts_of command.now).prints_before_faults ≡ false →
+        PrintsLast (run_over S.state O.contents result image.old image.new out.old out.new) }
     ensures unchanged { (facts_of command.now).changes_image ≡ false →
         (S.state image.new).byte_at ≡ (S.state image.old).byte_at }
     ensures place { IfSome (facts_of command.now).place_fault (λ fault.
