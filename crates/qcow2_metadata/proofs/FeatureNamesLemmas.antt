@@ -24,7 +24,7 @@ use Rattle.std.proofs.lemmas.List.{append_assoc, drop_at, drop-drop, length-appe
 use Rattle.std.proofs.lemmas.List.Elements.{All-head, All-tail}
 use Rattle.std.proofs.lemmas.Str.{utf8_lossy-IsUtf8}
 use Rattle.std.proofs.Math.Seq.{take-append-add}
-use Rattle.qcow2_metadata.proofs.CutLemmas.{IsCutText, IsCutText-take, utf8_lossy-cut, utf8_lossy-replaced}
+use Rattle.qcow2_metadata.proofs.FeatureNamesCutLemmas.{IsCutText, IsCutText-take, utf8_lossy-cut, utf8_lossy-replaced}
 use Rattle.qcow2_metadata.proofs.ExtensionsLemmas.{ReadsBack, parsed-unknown, text-reads_back}
 use Rattle.qcow2_metadata.specs.declared.header.extensions.HeaderExtensionType.TheVariants as kind
 

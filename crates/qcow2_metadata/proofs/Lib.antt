@@ -1,9 +1,9 @@
 mod GrowthExamples
 mod OneEntryExamples
 pub mod ChainLemmas
-pub mod CutLemmas
 pub mod EntriesLemmas
 pub mod ExtensionsLemmas
+pub mod FeatureNamesCutLemmas
 pub mod FeatureNamesLemmas
 pub mod GrammarLemmas
 pub mod GrowthLemmas

@@ -1,5 +1,5 @@
 -- What do tables and refcount blocks share: how do they lie in an image, and what do a load and a write of one do?
-use Rattle.std.specs.Prelude.{◌≡◌, ◌≢◌, ◌⊎◌, Err, ◌*◌, ◌^◌, ◌<◌, ℕ, Bool, false, true, IfErr, IfSome, IsErrOf, List, None, OnOk, Option, Result, Ok, Some, length, option_map}
+use Rattle.std.specs.Prelude.{◌≡◌, ◌≢◌, ◌⊎◌, Err, ◌*◌, ◌^◌, ◌<◌, ℕ, Bool, false, true, IfErr, IfSome, IsErrOf, List, None, OnOk, Option, Result, Ok, Some, length, option_map, slice_set}
 use Rattle.std.specs.List.{All}
 use Rattle.qcow2_base.specs.Storage.{Image, IsBytes, OnImage, OnImages, OnlyWrites, SameOutside, StorageState}
 use Rattle.qcow2_base.specs.Types.{IsClusterBits}
@@ -16,6 +16,14 @@ pub record Placed (G : Type 0) : Type 0 where
   pub cluster : Option HostCluster
   pub modified : Bool
   pub geometry : G
+
+-- a table or a block of these numbers that was just made: it has no cluster, and counts as modified
+abbrev pub new_placed : {G : Type 0} → List ℕ → G → Placed G
+new_placed numbers geometry = record { numbers = numbers; cluster = None; modified = true; geometry = geometry }
+
+-- the table or block with another number at an index; it then counts as modified
+abbrev pub with_number : {G : Type 0} → Placed G → ℕ → ℕ → Placed G
+with_number held index number = record held { numbers = slice_set held.numbers index number; modified = true }
 
 -- how numbers lie in an image with clusters of this size: how many there are, how many bits each has, how many bytes they
 -- take and which. Then which numbers are at an offset, and the faults of an offset and of numbers

@@ -32,15 +32,6 @@ block_geometry_of header = block_geometry header.v2.cluster_bits header.base.ref
 abbrev pub block_entries : ℕ → ℕ → ℕ
 block_entries cb order = 2 ^ (cb + 3 - order)
 
--- a block of these counters of an image with this header, which has this cluster, and counts as modified or not
-abbrev pub block_of : HeaderRecord → List ℕ → Option HostCluster → Bool → BlockState
-block_of header counters cluster modified =
-    record { numbers = counters; cluster = cluster; modified = modified; geometry = block_geometry_of header }
-
--- the block with another counter at an index; it then counts as modified
-abbrev pub stepped_block : BlockState → ℕ → ℕ → BlockState
-stepped_block block index counter = record block { numbers = slice_set block.numbers index counter; modified = true }
-
 -- how the counters of a block, which fill a cluster, lie in an image
 abbrev pub block_layout : BlockGeometry → Layout
 block_layout g = record {

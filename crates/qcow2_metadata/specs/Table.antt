@@ -28,15 +28,6 @@ l2_entries cb = 2 ^ (cb - 3)
 abbrev pub TableState : Type 0
 TableState = Placed Geometry
 
--- a table of these numbers that was just made for an image with this header: it has no cluster, and counts
--- as modified
-abbrev pub new_table : List ℕ → HeaderRecord → TableState
-new_table numbers header = record { numbers = numbers; cluster = None; modified = true; geometry = geometry_of header }
-
--- the table with another number at an index; it then counts as modified
-abbrev pub table_after_edit : TableState → ℕ → ℕ → TableState
-table_after_edit table index v = record table { numbers = slice_set table.numbers index v; modified = true }
-
 -- a kind of table: the most entries that one may have. By cluster_bits, whether one may have that many in memory, and
 -- the fault of a number that is no entry
 pub record Kind : Type 0 where

@@ -4,11 +4,11 @@ ghost use Rattle.std.specs.Prelude.{◌≡◌, ◌+◌, ◌-◌, ◌*◌, ◌^�
 ghost use Rattle.qcow2_base.specs.Format.{max_file_length};
 ghost use Rattle.qcow2_base.specs.Types.{IsClusterBits};
 ghost use Rattle.qcow2_base.specs.declared.types.HostOffset.{HostOffset as Offset};
-ghost use Rattle.qcow2_metadata.specs.Placed.{FollowsWrite, IsLoaded, RefusesPlace, Writes, offset_of};
+ghost use Rattle.qcow2_metadata.specs.Placed.{FollowsWrite, IsLoaded, RefusesPlace, Writes, new_placed, offset_of, with_number};
 ghost use Rattle.qcow2_metadata.specs.Results.{Reads};
 ghost use Rattle.qcow2_metadata.specs.Refblock.Guard.{IsBlockGuard};
 ghost use Rattle.qcow2_metadata.specs.Refblock.Counters.{AreCounters, IsOfOrder, kept_counters};
-ghost use Rattle.qcow2_metadata.specs.Refblock.{IsBlockFault, IsValidBlock, block_entries, block_geometry_of, block_layout, block_of, greatest_counter, loaded_block, stepped_block};
+ghost use Rattle.qcow2_metadata.specs.Refblock.{IsBlockFault, IsValidBlock, block_entries, block_geometry_of, block_layout, greatest_counter, loaded_block};
 ghost use Rattle.qcow2_metadata.specs.Refblock.Packing.{counters_at};
 
 mod counters;
@@ -98,8 +98,9 @@ impl RefBlock {
         header: &Header,
     ) -> Result<RefBlock, Fault>
         ensures fault { IsOkUnless result Fault.NoMemory }
-        ensures block { let header = header.now in IfOk result (λ block. block ≡ block_of header
-            (replicate (block_entries header.v2.cluster_bits header.base.refcount_order) 0) None true) }
+        ensures block { let header = header.now in IfOk result (λ block. block ≡ new_placed
+            (replicate (block_entries header.v2.cluster_bits header.base.refcount_order) 0)
+            (block_geometry_of header)) }
     {
         // Counters in memory have no alignment that the image asks for.
         let _ = image;
@@ -311,7 +312,7 @@ impl RefBlock {
     fn set(&mut self, index: usize, counter: u64)
         requires index { index < length self.old.numbers }
         requires counter { counter ≤ greatest_counter self.old.geometry.refcount_order }
-        ensures { self.new ≡ stepped_block self.old index counter }
+        ensures { self.new ≡ with_number self.old index counter }
     {
         self.counters.set(index, counter);
         self.placement.modified = true;

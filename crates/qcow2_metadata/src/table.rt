@@ -7,9 +7,9 @@ ghost use Rattle.qcow2_base.specs.Format.{max_file_length, most_entries_in_memor
 ghost use Rattle.qcow2_base.specs.Types.{IsClusterBits};
 ghost use Rattle.qcow2_base.specs.declared.types.HostOffset.{HostOffset as Offset};
 ghost use Rattle.qcow2_metadata.specs.Header.{geometry_of};
-ghost use Rattle.qcow2_metadata.specs.Placed.{FollowsWrite, IsLoaded, RefusesPlace, Writes, loaded_numbers, offset_of};
+ghost use Rattle.qcow2_metadata.specs.Placed.{FollowsWrite, IsLoaded, RefusesPlace, Writes, loaded_numbers, new_placed, offset_of};
 ghost use Rattle.qcow2_metadata.specs.Results.{Reads};
-ghost use Rattle.qcow2_metadata.specs.Table.{IsTableFault, IsValidTable, Kind, TableState, entries_fault, first_fault, layout_of_table, new_table, table_layout};
+ghost use Rattle.qcow2_metadata.specs.Table.{IsTableFault, IsValidTable, Kind, TableState, entries_fault, first_fault, layout_of_table, table_layout};
 ghost use Rattle.qcow2_metadata.specs.Table.OneEntry.{WritesEntry};
 
 use crate::placed::Placement;
@@ -65,7 +65,8 @@ pub trait Table: Sized {
             (map Self.InternalEntry.plain list.items) ≡ None }
         requires count { IsTrue (kind.has_valid_count header.now.v2.cluster_bits (length list.items)) }
         requires bound { length list.items ≤ most_entries_in_memory }
-        ensures { state result ≡ new_table (map Self.InternalEntry.plain list.items) header.now };
+        ensures { state result ≡ new_placed (map Self.InternalEntry.plain list.items)
+            (geometry_of header.now) };
 
     /// The number of entries.
     fn entries(&self) -> usize

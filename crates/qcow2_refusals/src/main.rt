@@ -51,8 +51,8 @@ fn does<O: Write>(rt: &HostRuntime, word: &str, table: &str, out: &mut O) -> boo
     match word {
         "" => refuse_all(rt.alloc(), table, out) && make_each(rt, "", table, out),
         "memory" => make_each(rt, "", table, out),
-        "once" => make_calls(rt.alloc(), 1, out),
-        "often" => make_calls(rt.alloc(), 1000, out),
+        "once" => make_calls(rt, 1, out),
+        "often" => make_calls(rt, 1000, out),
         "settled" => make_each(rt, "edit_settled", table, out),
         "refused" => make_each(rt, "edit_settled in vain", table, out),
         _ => false,
@@ -100,8 +100,8 @@ fn temporary_path(rt: &HostRuntime) -> io::Result<String> {
 }
 
 // Makes the calls that take no memory, and returns whether each did what it is to do.
-fn make_calls<O: Write>(alloc: Global, turns: u64, out: &mut O) -> bool {
-    let Ok(checks) = without_memory::make_calls(alloc, turns) else {
+fn make_calls<O: Write>(rt: &HostRuntime, turns: u64, out: &mut O) -> bool {
+    let Ok(checks) = without_memory::make_calls(rt, turns) else {
         return false;
     };
     let expected = turns.saturating_mul(OF_A_TURN);

@@ -5,12 +5,11 @@
 mod headers;
 mod tables;
 
-use qcow2_base::{Fault, MemStorage, Storage};
-use std::alloc::Global;
+use qcow2_base::{Fault, FileStorage, MemStorage, Storage};
 
-/// How many things one turn looks at: 3 of a storage, 13 of headers, and 50 of tables and blocks. Each is
-/// as it must be. A call that is left out is one less.
-pub(crate) const OF_A_TURN: u64 = 3 + 13 + 50;
+/// How many things one turn looks at: 3 of a storage, one of a file, 13 of headers, and 50 of tables and
+/// blocks. Each is as it must be. A call that is left out is one less.
+pub(crate) const OF_A_TURN: u64 = 3 + 1 + 13 + 50;
 
 /// How many things were as they must be. Each call is asked for its answer, so that none is left out of the
 /// program.
@@ -25,12 +24,14 @@ impl Checks {
 }
 
 /// Makes each call this many times. What they work on is made before the first turn.
-pub(crate) fn make_calls(alloc: Global, turns: u64) -> Result<Checks, Fault> {
+pub(crate) fn make_calls(rt: &HostRuntime, turns: u64) -> Result<Checks, Fault> {
+    let alloc = rt.alloc();
     let mut checks = Checks(0);
     let mut headers = headers::begin(alloc)?;
     let mut tables = tables::begin(alloc)?;
     for turn in 0..turns {
         read(MemStorage::new(Vec::new(alloc)), 9, &mut checks);
+        checks.expect(FileStorage::open(rt, "runs.txt", false).is_ok());
         headers::make(turn, &mut headers, &mut checks);
         tables::make(turn, &mut tables, &mut checks);
     }

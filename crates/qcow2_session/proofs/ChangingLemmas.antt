@@ -1,15 +1,15 @@
 use Rattle.std.proofs.lemmas.Bool.Decides.{nat_tests}
-use Rattle.std.proofs.Common.{◌≡◌, ◌≢◌, ◌⊎◌, ℕ, false, List, [], Option, Result, Ok, Err, IsTrue, arith}
+use Rattle.std.proofs.Common.{◌≡◌, ◌≢◌, ◌⊎◌, ℕ, false, List, [], Result, Ok, Err, IsTrue, arith}
 use Rattle.std.specs.Result.{IfOk, IsOkAnd}
 use Rattle.std.proofs.lemmas.Result.{on_ok_weaker}
 use Rattle.qcow2_base.specs.Storage.{Image, SameOutside, StorageState}
 use Rattle.qcow2_base.specs.declared.fault.Fault.{Fault}
 use Rattle.qcow2_base.specs.declared.fault.Fault.TheVariants.{NoMemory, Storage}
 use Rattle.qcow2_metadata.specs.Results.{result_map}
-use Rattle.qcow2_session.proofs.PrintingLemmas.{read_fault-of, refused-as}
+use Rattle.qcow2_session.proofs.PrintingLemmas.{read_fault-of, refused-as, run_between}
 use Rattle.qcow2_session.specs.Commands.Changing.{ChangeEnd, PrintsChange}
 use Rattle.qcow2_metadata.specs.Placed.{IsTorn, Layout, loaded_numbers, offset_of}
-use Rattle.qcow2_session.specs.Commands.Printing.{PrintsText}
+use Rattle.qcow2_session.specs.Commands.Printing.{OutputBytes, PrintsText}
 use Rattle.qcow2_session.specs.Edits.{are_some}
 use Rattle.qcow2_session.specs.declared.edits.Edit.{Edit}
 
@@ -58,33 +58,33 @@ abbrev LeavesTorn : {E : Type 0} → Layout → (E → ChangeEnd) → Result E F
 LeavesTorn layout tell run old new = (new ≡ old) ⊎ IsOkAnd run (λ left. IsTorn layout (tell left).numbers (tell left).cluster old new)
 
 -- a change was made, and then printed, if the output didn't fail
-pub change-printed : {T E : Type 0} (answer : Result T Fault) (layout : Layout) (tell : E → ChangeEnd) (end : Image → Result ChangeEnd Fault) (run : Result E Fault) (lines : List ℕ) (old new : StorageState) (a b : Option (List ℕ))
+pub change-printed : {O E : Type 0} (answer : Result (Unit {0}) Fault) (layout : Layout) (tell : E → ChangeEnd) (end : Image → Result ChangeEnd Fault) (run : Result E Fault) (lines : List ℕ) (contents : O → OutputBytes) (old new : StorageState) (a b : O)
     → (IsTrue old.tells → end old.byte_at ≡ result_map tell run)
     → (IsTrue old.tells → result_map (λ left. (tell left).lines) run ≡ Ok lines)
     → (IsTrue old.tells → Loads layout tell run new.byte_at)
     → new.failures ≡ old.failures
     → (IsTrue old.tells → StaysIdle tell run old.byte_at new.byte_at)
     → (IsTrue old.tells → StaysOutside layout tell run old.byte_at new.byte_at)
-    → PrintsText answer a b lines → PrintsChange answer layout end old new a b
-change-printed answer layout tell end run lines old new a b is made loads calm idle outside printed =
+    → PrintsText answer (contents a) (contents b) lines → PrintsChange (run_between contents answer old new a b) layout end
+change-printed answer layout tell end run lines contents old new a b is made loads calm idle outside printed =
     grind (arith, nat_tests, ok-left, on_ok_weaker)
 
 -- there is no place for a change, so none is made
-pub change-unplaced : {T : Type 0} (fault : Fault) (layout : Layout) (end : Image → Result ChangeEnd Fault) (old new : StorageState) (a b : Option (List ℕ))
+pub change-unplaced : {O : Type 0} (fault : Fault) (layout : Layout) (end : Image → Result ChangeEnd Fault) (contents : O → OutputBytes) (old new : StorageState) (a b : O)
     → (IsTrue old.tells → (fault ≡ Storage) ⊎ (fault ≡ NoMemory) ⊎ (end old.byte_at ≡ Err fault))
     → (fault ≡ Storage → new.failures ≢ old.failures) → new.byte_at ≡ old.byte_at
-    → PrintsChange {T = T} (Err fault) layout end old new a b
-change-unplaced fault layout end old new a b refused failed same =
+    → PrintsChange (run_between contents (Err fault) old new a b) layout end
+change-unplaced fault layout end contents old new a b refused failed same =
     grind (arith, nat_tests, read_fault-of, of-any)
 
 -- there is a place for a change, which is refused
-pub change-refused : {T E : Type 0} (fault : Fault) (layout : Layout) (tell : E → ChangeEnd) (end : Image → Result ChangeEnd Fault) (run : Result E Fault) (old new : StorageState) (a b : Option (List ℕ))
+pub change-refused : {O E : Type 0} (fault : Fault) (layout : Layout) (tell : E → ChangeEnd) (end : Image → Result ChangeEnd Fault) (run : Result E Fault) (contents : O → OutputBytes) (old new : StorageState) (a b : O)
     → (IsTrue old.tells → end old.byte_at ≡ result_map tell run)
     → (IsTrue old.tells → (fault ≡ Storage) ⊎ (fault ≡ NoMemory) ⊎ (run ≡ Err fault))
     → (fault ≡ Storage → new.failures ≢ old.failures) → (fault ≢ Storage → new.byte_at ≡ old.byte_at)
     → (IsTrue old.tells → new.failures ≢ old.failures → LeavesTorn layout tell run old.byte_at new.byte_at)
     → (IsTrue old.tells → StaysIdle tell run old.byte_at new.byte_at)
     → (IsTrue old.tells → StaysOutside layout tell run old.byte_at new.byte_at)
-    → PrintsChange {T = T} (Err fault) layout end old new a b
-change-refused fault layout tell end run old new a b is refused failed unchanged torn idle outside =
+    → PrintsChange (run_between contents (Err fault) old new a b) layout end
+change-refused fault layout tell end run contents old new a b is refused failed unchanged torn idle outside =
     grind (arith, nat_tests, read_fault-of, refused-as)

@@ -15,7 +15,8 @@ use Rattle.qcow2_base.specs.declared.types.HostCluster.{HostCluster}
 use Rattle.qcow2_metadata.proofs.L2GuardsLemmas.{balance-run}
 use Rattle.qcow2_metadata.specs.Table.L2Guards.{RunEnd, TableEdit, after_edit, fits_table, is_mappable, run_of}
 use Rattle.qcow2_metadata.specs.Header.{Geometry}
-use Rattle.qcow2_metadata.specs.Table.{TableState, table_after_edit}
+use Rattle.qcow2_metadata.specs.Placed.{with_number}
+use Rattle.qcow2_metadata.specs.Table.{TableState}
 use Rattle.qcow2_metadata.specs.declared.entries.ClustersToFreeEntry.{ClustersToFreeEntry}
 use Rattle.qcow2_session.specs.Edits.{Balances, HasRoom, Makes, are_some, edits_left, first_unfit_edit, edit_fits, table_left, cluster_numbers, table_edit}
 use Rattle.qcow2_session.specs.declared.edits.Change.{Change}
@@ -28,7 +29,7 @@ mappable_by_greatest g cluster greatest is =
     grind (arith, nat_tests, le-div_iff_mul-le {k = 2 ^ g.cluster_bits} {x = cluster} {y = 2 ^ 56 - 512} (pow_pos g.cluster_bits))
 
 -- an entry that is changed twice is as after the second change
-pub edited_twice : (table : TableState) (index v w : ℕ) → table_after_edit (table_after_edit table index v) index w ≡ table_after_edit table index w
+pub edited_twice : (table : TableState) (index v w : ℕ) → with_number (with_number table index v) index w ≡ with_number table index w
 edited_twice table index v w = rw (set-set table.numbers index v w) refl
 
 -- what was done before, and then what a run did

@@ -8,6 +8,7 @@ pub mod ImagesLemmas
 pub mod L2TablesLemmas
 pub mod ListingLemmas
 pub mod LookupsLemmas
+pub mod MapLemmas
 pub mod OutputLemmas
 pub mod PrintingLemmas
 pub mod ReportLemmas

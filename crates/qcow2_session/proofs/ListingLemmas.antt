@@ -1,5 +1,5 @@
 use Rattle.std.proofs.lemmas.Bool.Decides.{nat_tests}
-use Rattle.std.proofs.Common.{◌≡◌, ◌≢◌, ◌⊎◌, ℕ, zero, suc, add-zero, inl, inr, ◌+◌, ◌-◌, ◌*◌, ◌%◌, ◌^◌, ◌<◌, ◌≤◌, List, [], ◌∷◌, ◌++◌, length, get_or, map, take, Option, Result, Ok, Err, IsTrue, ap, sym, refl, ◌∙◌, append_assoc, append-nil, arith}
+use Rattle.std.proofs.Common.{◌≡◌, ◌≢◌, ◌⊎◌, ℕ, zero, suc, add-zero, inr, ◌+◌, ◌-◌, ◌*◌, ◌%◌, ◌^◌, ◌<◌, ◌≤◌, List, [], ◌∷◌, ◌++◌, length, get_or, map, take, Option, Result, Ok, Err, IsTrue, ap, sym, refl, ◌∙◌, append_assoc, append-nil, arith}
 use Rattle.std.specs.List.{concat}
 use Rattle.std.specs.Io.KnownBytes.{Appends}
 use Rattle.std.proofs.KnownBytes.{Appends-nil, Appends-trans}
@@ -12,8 +12,9 @@ use Rattle.qcow2_base.specs.declared.fault.Fault.{Fault}
 use Rattle.qcow2_base.specs.declared.fault.Fault.TheVariants.{NoMemory, Storage}
 use Rattle.qcow2_metadata.specs.Header.{Geometry, geometry_of}
 use Rattle.qcow2_metadata.specs.Entries.L2Mapping.{Mapping, mapping}
-use Rattle.qcow2_session.proofs.PrintingLemmas.{prints_no-more, read_fault-of, then_prints}
-use Rattle.qcow2_session.specs.Commands.Printing.{PrintsText}
+use Rattle.qcow2_session.proofs.OutputLemmas.{part-after}
+use Rattle.qcow2_session.proofs.PrintingLemmas.{prints_no-more, read_fault-of, run_between, then_prints}
+use Rattle.qcow2_session.specs.Commands.Printing.{OutputBytes, OutputGets, PrintsText, Run}
 use Rattle.qcow2_session.specs.Commands.Entries.{entry_line, entry_lines, table_lines}
 use Rattle.qcow2_session.specs.Commands.List.{PrintsList, PrintsTables, PrintsTablesBefore, TableTexts, texts_left, texts_of}
 use Rattle.qcow2_session.specs.L2Tables.{NamedTables, RefusesTable, WalkState, tables_left}
@@ -88,43 +89,41 @@ pub texts-more : (left next : WalkState) (index : ℕ) (numbers : List ℕ) (ima
     → texts_left left image ≡ Ok (table_lines Offset (geometry_of left.header) index numbers) ∷ texts_left next image
 texts-more left next index numbers image header first = grind (arith, nat_tests)
 
--- the print of some tables ended after others were printed
-pub PrintsTablesBefore-after : (fault : Fault) (known : List (List ℕ)) (some more all : TableTexts) (old between new : StorageState) (a b c : Option (List ℕ))
-    → all ≡ map Ok known ++ (some ++ more) → Appends a b (concat known) → between.failures ≡ old.failures
-    → PrintsTablesBefore fault between new b c some → PrintsTablesBefore fault old new a c all
-PrintsTablesBefore-after fault known some more all old between new a b c are before calm ended = record {
-  printed = known ++ ended.printed;
-  table = ended.table;
-  rest = ended.rest ++ more;
-  are = tables-known known ended.printed (ended.table ∷ ended.rest ++ more) all (are ∙ ap (λ x. map Ok known ++ (x ++ more)) ended.are ∙ ap (λ x. map Ok known ++ x) (append_assoc (map Ok ended.printed) (ended.table ∷ ended.rest) more));
-  why = elim (rw calm at ended.why) [
-    | inl refused ↦ inl (refused.0, tables-printed known ended.printed a b c before refused.1)
-    | inr output ↦ inr output
-  ];
+-- the output failed in the lines of a table, after those of others were printed
+pub ended-printing : {O T : Type 0} (fault : Fault) (known : List (List ℕ)) (lines : List ℕ) (rest all : TableTexts) (run : Run O) (b : OutputBytes)
+    → all ≡ map Ok known ++ Ok lines ∷ rest → Appends (run.contents run.before) b (concat known)
+    → PrintsText {T = T} (Err fault) b (run.contents run.after) lines → run.new.failures ≡ run.old.failures → PrintsTablesBefore fault run all
+ended-printing fault known lines rest all run b are before failed calm = record {
+  printed = known;
+  table = Ok lines;
+  rest = rest;
+  are = are;
+  why = inr ((failed.fault, calm), part-after _ b _ (concat known) lines before failed.part);
 }
 
 -- the print of tables ended at the first of those that are left
-pub ended-at : (fault : Fault) (g : Geometry) (known : List (List ℕ)) (left : NamedTables) (all : TableTexts) (old new : StorageState) (a b : Option (List ℕ))
-    → all ≡ map Ok known ++ texts_of g left → Appends a b (concat known) → RefusesTable left fault → (fault ≡ Storage → new.failures ≢ old.failures)
-    → PrintsTablesBefore fault old new a b all
-ended-at fault g known [] all old new a b are before refused failed = absurd refused
-ended-at fault g known (table ∷ rest) all old new a b are before refused failed =
+pub ended-at : {O : Type 0} (fault : Fault) (g : Geometry) (known : List (List ℕ)) (left : NamedTables) (all : TableTexts) (run : Run O)
+    → all ≡ map Ok known ++ texts_of g left → OutputGets run (concat known) → RefusesTable left fault → (fault ≡ Storage → run.new.failures ≢ run.old.failures)
+    → PrintsTablesBefore fault run all
+ended-at fault g known [] all run are before refused failed = absurd refused
+ended-at fault g known (table ∷ rest) all run are before refused failed =
     grind (arith, nat_tests, are, before, refused, failed)
 
 -- and so after reads that returned a value
-ended-after : {T : Type 0} (value : T) (fault : Fault) (tables : TableTexts) (old between new : StorageState) (a b : Option (List ℕ))
-    → OnlyReads (Ok value) old between → PrintsTablesBefore fault between new a b tables → PrintsTablesBefore fault old new a b tables
-ended-after value fault tables old between new a b reads ended = grind (arith, nat_tests, reads, ended)
+ended-after : {T O : Type 0} (value : T) (fault : Fault) (tables : TableTexts) (run : Run O) (between : StorageState)
+    → OnlyReads (Ok value) run.old between → PrintsTablesBefore fault (record run { old = between }) tables → PrintsTablesBefore fault run tables
+ended-after value fault tables run between reads ended = grind (arith, nat_tests, reads, ended)
 
 -- tables that can't be loaded: nothing is printed
-pub PrintsList-none : {T : Type 0} (fault : Fault) (tables : Image → Result TableTexts Fault) (old new : StorageState) (a : Option (List ℕ))
+pub PrintsList-none : {O : Type 0} (fault : Fault) (tables : Image → Result TableTexts Fault) (contents : O → OutputBytes) (old new : StorageState) (a : O)
     → (IsTrue old.tells → (fault ≡ Storage) ⊎ (fault ≡ NoMemory) ⊎ (tables old.byte_at ≡ Err fault)) → (fault ≡ Storage → new.failures ≢ old.failures)
-    → PrintsList {T = T} (Err fault) tables old new a a
-PrintsList-none fault tables old new a refused failed = grind (arith, nat_tests, read_fault-of, Appends-nil, refused, failed)
+    → PrintsList (run_between contents (Err fault) old new a a) tables
+PrintsList-none fault tables contents old new a refused failed = grind (arith, nat_tests, read_fault-of, Appends-nil, refused, failed)
 
 -- the tables that an L1 table names, after that was loaded
-pub PrintsList-tables : {T V : Type 0} (value : V) (answer : Result T Fault) (tables : Image → Result TableTexts Fault) (each : Image → TableTexts) (old between new : StorageState) (a b : Option (List ℕ))
-    → (IsTrue old.tells → tables old.byte_at ≡ Ok (each old.byte_at)) → OnlyReads (Ok value) old between → PrintsTables answer each between new a b → PrintsList answer tables old new a b
-PrintsList-tables value (Ok done) tables each old between new a b are reads prints = grind (arith, nat_tests, are, reads.device, reads.bytes, prints.lines)
-PrintsList-tables value (Err fault) tables each old between new a b are reads prints =
-    grind (arith, nat_tests, are, reads.device, reads.bytes, prints.refused, ended-after value fault (each old.byte_at) old between new a b reads)
+pub PrintsList-tables : {O V : Type 0} (value : V) (answer : Result (Unit {0}) Fault) (tables : Image → Result TableTexts Fault) (each : Image → TableTexts) (contents : O → OutputBytes) (old between new : StorageState) (a b : O)
+    → (IsTrue old.tells → tables old.byte_at ≡ Ok (each old.byte_at)) → OnlyReads (Ok value) old between
+    → PrintsTables (run_between contents answer between new a b) each → PrintsList (run_between contents answer old new a b) tables
+PrintsList-tables value (Ok done) tables each contents old between new a b are reads prints = grind (arith, nat_tests, are, reads.device, reads.bytes, prints.lines)
+PrintsList-tables value (Err fault) tables each contents old between new a b are reads prints =
+    grind (arith, nat_tests, are, reads.device, reads.bytes, prints.refused, ended-after value fault (each old.byte_at) (run_between contents (Err fault) old new a b) between reads)

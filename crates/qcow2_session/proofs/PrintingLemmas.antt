@@ -1,5 +1,5 @@
 use Rattle.std.proofs.lemmas.Bool.Decides.{nat_tests}
-use Rattle.std.proofs.Common.{◌≡◌, ◌≢◌, ◌⊎◌, ℕ, ◌+◌, ◌<◌, List, [], ◌∷◌, ◌++◌, append-nil, flat_map, take_all, get_or, length, take, drop, take-append-drop, Bool, true, false, Option, Result, Ok, Err, IsTrue, refl, arith}
+use Rattle.std.proofs.Common.{◌≡◌, ◌≢◌, ◌⊎◌, ℕ, ◌+◌, ◌<◌, List, [], ◌∷◌, ◌++◌, append-nil, flat_map, take_all, get_or, length, take, drop, take-append-drop, Bool, true, false, if◌then◌else◌, Option, Result, Ok, Err, IsTrue, refl, arith}
 use Rattle.std.specs.Result.{IsOkUnless}
 use Rattle.std.specs.Io.KnownBytes.{Appends}
 use Rattle.std.proofs.KnownBytes.{Appends-trans}
@@ -11,9 +11,9 @@ use Rattle.qcow2_base.specs.declared.fault.Fault.{Fault}
 use Rattle.qcow2_base.specs.declared.fault.Fault.TheVariants.{NoMemory, Storage}
 use Rattle.qcow2_metadata.specs.Results.{result_map}
 use Rattle.qcow2_session.proofs.OutputLemmas.{part-after, part-of_more}
-use Rattle.qcow2_session.specs.Lines.Output.{Gets, output_result}
+use Rattle.qcow2_session.specs.Lines.Output.{Gets}
 use Rattle.qcow2_session.specs.declared.lines.output.Output.{Output}
-use Rattle.qcow2_session.specs.Commands.Printing.{IsReadFault, Prints, PrintsLast, PrintsText}
+use Rattle.qcow2_session.specs.Commands.Printing.{IsReadFault, OutputBytes, Prints, PrintsLast, PrintsText, Run, run_over}
 
 -- what was printed before, and then these lines, if the print of these succeeds
 pub then_prints : {T : Type 0} (answer : Result T Fault) (a b c : Option (List ℕ)) (lines more : List ℕ) → Appends a b lines → PrintsText answer b c more → PrintsText answer a c (lines ++ more)
@@ -29,14 +29,19 @@ pub refused-as : {P Q : Type 0} (fault : Fault) → (P → Q) → (fault ≡ Sto
 refused-as fault leads why = grind (arith, leads)
 
 -- the fault that is meant, memory that ran out, or a failed call of the image
-pub read_fault-of : {V : Type 0} (fault : Fault) (meant : Result V Fault) (old new : StorageState)
-    → (fault ≡ Storage) ⊎ (fault ≡ NoMemory) ⊎ (meant ≡ Err fault) → (fault ≡ Storage → new.failures ≢ old.failures) → IsReadFault meant old new fault
-read_fault-of fault meant old new refused failed = grind arith
+pub read_fault-of : {V O : Type 0} (fault : Fault) (meant : Result V Fault) (run : Run O)
+    → (fault ≡ Storage) ⊎ (fault ≡ NoMemory) ⊎ (meant ≡ Err fault) → (fault ≡ Storage → run.new.failures ≢ run.old.failures) → IsReadFault meant run fault
+read_fault-of fault meant run refused failed = grind arith
+
+-- a run between two states of an image and of its output
+abbrev pub run_between : {O : Type 0} → (O → OutputBytes) → Result (Unit {0}) Fault → StorageState → StorageState → O → O → Run O
+run_between contents answer old new before after = run_over (λ (state : StorageState). state) contents answer old new before after
 
 -- what is read from the bytes is refused, so no line of it is meant
-pub Prints-refused : {T A : Type 0} (fault : Fault) (read : Image → Result A Fault) (lines_of : A → List ℕ) (old new : StorageState) (a b : Option (List ℕ))
-    → (IsTrue old.tells → (fault ≡ Storage) ⊎ (fault ≡ NoMemory) ⊎ (read old.byte_at ≡ Err fault)) → (fault ≡ Storage → new.failures ≢ old.failures) → Prints {T = T} (Err fault) (λ image. result_map lines_of (read image)) old new a b
-Prints-refused fault read lines_of old new a b refused failed =
+pub Prints-refused : {A O : Type 0} (fault : Fault) (read : Image → Result A Fault) (lines_of : A → List ℕ) (contents : O → OutputBytes) (old new : StorageState) (a b : O)
+    → (IsTrue old.tells → (fault ≡ Storage) ⊎ (fault ≡ NoMemory) ⊎ (read old.byte_at ≡ Err fault)) → (fault ≡ Storage → new.failures ≢ old.failures)
+    → Prints (run_between contents (Err fault) old new a b) (λ image. result_map lines_of (read image))
+Prints-refused fault read lines_of contents old new a b refused failed =
     grind (arith, nat_tests, read_fault-of, refused-as)
 
 -- the lines of one item more
@@ -48,7 +53,7 @@ printed-more line items i default a b c below before here =
 
 -- what an output got by its end
 pub text_finished : {W : Type 0} (contents : W → Option (List ℕ)) (lent new : W) (a b : Output W) (answer : Result (Unit {0}) Fault) (text : List ℕ)
-    → a.writer.now ≡ lent → new ≡ b.writer.now → Gets contents a b text → answer ≡ output_result b.has_failed → PrintsText answer (contents lent) (contents new) text
+    → a.writer.now ≡ lent → new ≡ b.writer.now → Gets contents a b text → answer ≡ (if b.has_failed then Err Storage else Ok tt) → PrintsText answer (contents lent) (contents new) text
 text_finished contents lent new a b answer text begins ends got is = by_flag b.has_failed refl
   where
     by_flag : (failed : Bool) → b.has_failed ≡ failed → PrintsText answer (contents lent) (contents new) text
@@ -75,11 +80,11 @@ pub reads-calm : {T : Type 0} (value : T) (old new : StorageState) → OnlyReads
 reads-calm value old new reads = grind (arith, reads.told)
 
 -- calls that printed nothing, whose fault shows whether one of the image failed
-pub last-unprinted : {T O : Type 0} (fault : Fault) (old new : StorageState) (a : O) → (new.failures ≢ old.failures → fault ≡ Storage)
-    → SameDevice old new → PrintsLast {T = T} (Err fault) old new a a
-last-unprinted fault old new a failed device = record { refused = λ other. refl; failed = λ moved. (rw (failed moved) refl, refl); device = device }
+pub last-unprinted : {O : Type 0} (fault : Fault) (contents : O → OutputBytes) (old new : StorageState) (a : O) → (new.failures ≢ old.failures → fault ≡ Storage)
+    → SameDevice old new → PrintsLast (run_between contents (Err fault) old new a a)
+last-unprinted fault contents old new a failed device = record { refused = λ other. refl; failed = λ moved. (rw (failed moved) refl, refl); device = device }
 
 -- a print that comes last, after calls of the image of which none failed
-pub last-printed : {T O : Type 0} (answer : Result T Fault) (old new : StorageState) (a b : O) → IsOkUnless answer Storage → new.failures ≡ old.failures
-    → SameDevice old new → PrintsLast answer old new a b
-last-printed answer old new a b fault calm device = grind (arith, nat_tests)
+pub last-printed : {O : Type 0} (run : Run O) → IsOkUnless run.answer Storage → run.new.failures ≡ run.old.failures
+    → SameDevice run.old run.new → PrintsLast run
+last-printed run fault calm device = grind (arith, nat_tests)

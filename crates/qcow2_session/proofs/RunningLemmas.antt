@@ -4,28 +4,29 @@ use Rattle.std.specs.Result.{MatchResult}
 use Rattle.qcow2_base.specs.Storage.{StorageState}
 use Rattle.qcow2_base.specs.declared.fault.Fault.{Fault}
 use Rattle.qcow2_metadata.specs.Header.{HeaderRecord}
+use Rattle.qcow2_session.proofs.PrintingLemmas.{run_between}
 use Rattle.qcow2_session.specs.Commands.Facts.{CommandFacts}
-use Rattle.qcow2_session.specs.Commands.Printing.{AppendsPart, OutputBytes, PrintsLast}
+use Rattle.qcow2_session.specs.Commands.Printing.{AppendsPart, OutputBytes, PrintsLast, Run}
 use Rattle.qcow2_session.specs.Commands.Report.{Reports, fault_line}
 use Rattle.qcow2_session.specs.Commands.Running.{FindsHeader, Runs}
 
 -- a command ran with the header that it found
-pub runs-with : {T : Type 0} (facts : CommandFacts) (header : HeaderRecord) (answer : Result T Fault) (old left new : StorageState) (a b : OutputBytes)
-    → FindsHeader facts (Ok header) old left → facts.Ends header answer left new a b → Runs facts answer old new a b
-runs-with facts header answer old left new a b found ends = (Ok header, left, found, ends)
+pub runs-with : {O : Type 0} (facts : CommandFacts) (header : HeaderRecord) (run : Run O) (left : StorageState)
+    → FindsHeader facts (Ok header) run.old left → facts.Ends header (record run { old = left }) → Runs facts run
+runs-with facts header run left found ends = (Ok header, left, found, ends)
 
 -- or it found none
-pub runs-without : {T : Type 0} (facts : CommandFacts) (fault : Fault) (old new : StorageState) (a : OutputBytes)
-    → FindsHeader facts (Err fault) old new → Runs {T = T} facts (Err fault) old new a a
-runs-without facts fault old new a found = (Err fault, new, found, (refl, refl, refl))
+pub runs-without : {O : Type 0} (facts : CommandFacts) (fault : Fault) (contents : O → OutputBytes) (old new : StorageState) (a : O)
+    → FindsHeader facts (Err fault) old new → Runs facts (run_between contents (Err fault) old new a a)
+runs-without facts fault contents old new a found = (Err fault, new, found, (refl, refl, refl))
 
 -- what a run with a header comes to, or one without
 pub ruleset runs = (runs-with, runs-without)
 
 -- what a command prints last, after its header was found
-pub last-with : {T O : Type 0} (facts : CommandFacts) (header : HeaderRecord) (answer : Result T Fault) (old left new : StorageState) (a b : O)
-    → FindsHeader facts (Ok header) old left → PrintsLast answer left new a b → PrintsLast answer old new a b
-last-with facts header answer old left new a b found last = grind (arith, nat_tests)
+pub last-with : {O : Type 0} (facts : CommandFacts) (header : HeaderRecord) (run : Run O) (left : StorageState)
+    → FindsHeader facts (Ok header) run.old left → PrintsLast (record run { old = left }) → PrintsLast run
+last-with facts header run left found last = grind (arith, nat_tests)
 
 -- what is on standard error, by the status of a run
 pub reports-run : {T E : Type 0} (ran : Result T Fault) (status : ℕ) (contents : E → OutputBytes) (old new : E)

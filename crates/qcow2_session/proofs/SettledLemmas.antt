@@ -16,7 +16,8 @@ use Rattle.qcow2_metadata.specs.Table.L2Guards.{handed_back, one_if, references,
 use Rattle.std.proofs.lemmas.Grind.{same_number_lists}
 use Rattle.qcow2_metadata.specs.Entries.{is_among}
 use Rattle.qcow2_metadata.specs.Refblock.Counters.{AreCounters}
-use Rattle.qcow2_metadata.specs.Refblock.{BlockState, greatest_counter, stepped_block}
+use Rattle.qcow2_metadata.specs.Placed.{with_number}
+use Rattle.qcow2_metadata.specs.Refblock.{BlockState, greatest_counter}
 use Rattle.qcow2_metadata.specs.Refblock.Guard.{Decrement, Increment, CounterChange, Steps, counter_after}
 use Rattle.qcow2_metadata.specs.declared.entries.ClustersToFreeEntry.{ClustersToFreeEntry}
 use Rattle.qcow2_session.specs.declared.edits.Outcome.{Outcome}
@@ -44,7 +45,7 @@ moves-back change back by a b c is one other =
 
 -- a counter that is put in the place of one
 set-moves : (change : CounterChange) (index v : ℕ) (a : BlockState) → index < length a.numbers
-    → counter_after a.geometry.refcount_order change (slice_index a.numbers index) ≡ Some v → ChangesCounters change (λ i. one_if (i == index)) a (stepped_block a index v)
+    → counter_after a.geometry.refcount_order change (slice_index a.numbers index) ≡ Some v → ChangesCounters change (λ i. one_if (i == index)) a (with_number a index v)
 set-moves change index v a below moved = grind (arith, nat_tests, moved, get_or-set_same, get_or-set_other, length-set)
 
 -- one counter's step

@@ -7,7 +7,8 @@ use Rattle.qcow2_base.specs.declared.fault.Fault.TheVariants.{BadEdit}
 use Rattle.qcow2_base.specs.declared.types.HostCluster.{HostCluster}
 use Rattle.qcow2_metadata.specs.Results.{unless_refused}
 use Rattle.qcow2_metadata.specs.Table.L2Guards.{RunEnd, TableEdit, entry_after, clusters_freed_by, fits_table, cluster_gained_by, handed_back, references, run_of, times_gained, to_data, to_nothing, to_zeros}
-use Rattle.qcow2_metadata.specs.Table.{TableState, table_after_edit}
+use Rattle.qcow2_metadata.specs.Placed.{with_number}
+use Rattle.qcow2_metadata.specs.Table.{TableState}
 use Rattle.qcow2_session.specs.declared.edits.Change.{Change}
 use Rattle.qcow2_session.specs.declared.edits.Edit.{Edit}
 use Rattle.qcow2_session.specs.declared.edits.Edit.TheVariants.{Discard, Map, Zero}
@@ -29,7 +30,7 @@ first_unfit_edit table edits = position (λ edit. not (edit_fits table edit)) ed
 
 -- a change of a table, and what it did to references
 pub record Makes (e : TableEdit) (change : Change) (old new : TableState) : Type 0 where
-  pub table : new ≡ table_after_edit old e.index (entry_after old.geometry e.edit (slice_index old.numbers e.index))
+  pub table : new ≡ with_number old e.index (entry_after old.geometry e.edit (slice_index old.numbers e.index))
   pub gained : option_map (λ (cluster : HostCluster). cluster.0) change.gained
       ≡ cluster_gained_by old.geometry e.edit (slice_index old.numbers e.index)
   pub freed : change.freed ≡ clusters_freed_by old.geometry e.edit (slice_index old.numbers e.index)

@@ -8,7 +8,7 @@ ghost use Rattle.qcow2_base.specs.declared.fault.Fault.TheVariants.{BadEdit};
 ghost use Rattle.qcow2_base.specs.declared.types.HostCluster.{HostCluster as Cluster};
 ghost use Rattle.qcow2_metadata.specs.Results.{Computes};
 ghost use Rattle.qcow2_metadata.specs.Entries.L2Entry.{allocation};
-ghost use Rattle.qcow2_metadata.specs.Table.{table_after_edit};
+ghost use Rattle.qcow2_metadata.specs.Placed.{with_number};
 ghost use Rattle.qcow2_metadata.specs.Table.L2Guards.{IsSameTable, data_entry, guarded_table, is_just, is_mappable, run_of};
 ghost use Rattle.qcow2_session.specs.Edits.{Balances, HasRoom, Makes, edits_left, first_unfit_edit, edit_fits, table_left, edits_or_refusal, table_edit};
 
@@ -109,7 +109,7 @@ fn map_anew(
     ensures same_table { IsSameTable guard.old guard.new }
     ensures table { let table = guarded_table guard.old in
         guarded_table guard.new
-        ≡ table_after_edit table index (data_entry table.geometry.cluster_bits host_cluster.0) }
+        ≡ with_number table index (data_entry table.geometry.cluster_bits host_cluster.0) }
     ensures before { let table = guarded_table guard.old in
         result ≡ allocation table.geometry (slice_index table.numbers index) }
 {

@@ -1,7 +1,8 @@
 -- What may be changed of a refcount block, and what does a step of a counter do?
 use Rattle.std.specs.Prelude.{◌≡◌, ◌==◌, MatchOption, Result, Ok, Err, ℕ, ◌+◌, ◌-◌, if◌then◌else◌, List, slice_index, slice_set, Option, Some, None}
 use Rattle.std.specs.Borrow.{MutBor}
-use Rattle.qcow2_metadata.specs.Refblock.{BlockState, greatest_counter, stepped_block}
+use Rattle.qcow2_metadata.specs.Placed.{with_number}
+use Rattle.qcow2_metadata.specs.Refblock.{BlockState, greatest_counter}
 use Rattle.qcow2_metadata.specs.declared.refblock.guard.RefBlockWriteGuard.{RefBlockWriteGuard}
 use Rattle.qcow2_base.specs.declared.fault.Fault.{Fault}
 use Rattle.qcow2_base.specs.declared.fault.Fault.TheVariants.{CounterRange}
@@ -39,4 +40,4 @@ pub record Steps (change : CounterChange) (index : ℕ) (answer : Result ℕ Fau
   pub answers : MatchOption (counter_after old.geometry.refcount_order change (slice_index old.numbers index))
       (answer ≡ Err CounterRange) (λ counter. answer ≡ Ok (slice_index old.numbers index))
   pub steps : MatchOption (counter_after old.geometry.refcount_order change (slice_index old.numbers index))
-      (new ≡ old) (λ counter. new ≡ stepped_block old index counter)
+      (new ≡ old) (λ counter. new ≡ with_number old index counter)

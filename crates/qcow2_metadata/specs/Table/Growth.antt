@@ -4,9 +4,10 @@ use Rattle.std.specs.Int.{div_ceil, next_multiple_of}
 use Rattle.qcow2_base.specs.Format.{most_reftable_entries}
 use Rattle.qcow2_base.specs.declared.fault.Fault.{Fault}
 use Rattle.qcow2_base.specs.declared.fault.Fault.TheVariants.{CannotGrow, NoMemory}
-use Rattle.qcow2_metadata.specs.Header.{HeaderRecord}
+use Rattle.qcow2_metadata.specs.Header.{HeaderRecord, geometry_of}
 use Rattle.qcow2_metadata.specs.Refblock.{block_entries}
-use Rattle.qcow2_metadata.specs.Table.{TableState, l2_entries, new_table}
+use Rattle.qcow2_metadata.specs.Placed.{new_placed}
+use Rattle.qcow2_metadata.specs.Table.{TableState, l2_entries}
 
 -- the number of entries that a table has after it has grown to hold an index: whole clusters of them
 abbrev pub grown_count : TableState → ℕ → ℕ
@@ -21,7 +22,7 @@ grown_numbers numbers count = numbers ++ replicate (count - length numbers) 0
 pub record GrowsTo (count most : ℕ) (numbers : List ℕ) (header : HeaderRecord) (answer : Result TableState Fault) : Type 0 where
   pub refused : IsErrOf answer CannotGrow ↔ (most < count)
   pub faults : IfErr answer (λ fault. (fault ≡ CannotGrow) ⊎ (fault ≡ NoMemory))
-  pub grown : IfOk answer (λ table. table ≡ new_table (grown_numbers numbers count) header)
+  pub grown : IfOk answer (λ table. table ≡ new_placed (grown_numbers numbers count) (geometry_of header))
 
 -- a refcount table that is to hold an index: how many entries it has, the index, how many entries fill a
 -- cluster, and how many counters a refcount block has

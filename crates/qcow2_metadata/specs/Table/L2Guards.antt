@@ -7,7 +7,8 @@ use Rattle.qcow2_base.specs.Format.{max_offset}
 use Rattle.qcow2_metadata.specs.Entries.L2Entry.{IsAllocation, Meets, allocation, has_host_cluster, meets, with_zero_flag}
 use Rattle.qcow2_metadata.specs.Entries.{is_among}
 use Rattle.qcow2_metadata.specs.Header.{Geometry}
-use Rattle.qcow2_metadata.specs.Table.{TableState, table_after_edit}
+use Rattle.qcow2_metadata.specs.Placed.{with_number}
+use Rattle.qcow2_metadata.specs.Table.{TableState}
 use Rattle.qcow2_metadata.specs.declared.entries.ClustersToFreeEntry.{ClustersToFreeEntry}
 use Rattle.qcow2_metadata.specs.declared.table.l2_guards.L2TableWriteGuard.{L2TableWriteGuard}
 use Rattle.qcow2_metadata.specs.declared.table.l2_guards.CompressedClusterReadGuard.{CompressedClusterReadGuard}
@@ -128,7 +129,7 @@ fits_table g entries e = nat_le (e.index + 1) entries && can_be_made g e.edit
 -- a change of the entry at an index of a table, which handed these clusters back: all that the entry referred to,
 -- unless it goes on doing so
 pub record MakesEdit (edit : EntryEdit) (index : ℕ) (freed : Option ClustersToFreeEntry) (old new : TableState) : Type 0 where
-  pub table : new ≡ table_after_edit old index (entry_after old.geometry edit (slice_index old.numbers index))
+  pub table : new ≡ with_number old index (entry_after old.geometry edit (slice_index old.numbers index))
   pub freed_is : freed ≡ clusters_freed_by old.geometry edit (slice_index old.numbers index)
 
 -- the entry refers to this cluster and to no other

@@ -5,7 +5,9 @@ ghost use Rattle.std.proofs.Common.{refl};
 ghost use Rattle.std.specs.List.{All};
 ghost use Rattle.qcow2_base.specs.Format.{most_entries_in_memory};
 ghost use Rattle.qcow2_base.specs.Types.{IsClusterBits};
-ghost use Rattle.qcow2_metadata.specs.Table.{table_after_edit, first_fault, new_table};
+ghost use Rattle.qcow2_metadata.specs.Header.{geometry_of};
+ghost use Rattle.qcow2_metadata.specs.Placed.{new_placed, with_number};
+ghost use Rattle.qcow2_metadata.specs.Table.{first_fault};
 ghost use Rattle.qcow2_metadata.specs.Table.Growth.{grown_numbers};
 
 use super::Table;
@@ -116,7 +118,7 @@ impl<E: TableKind> EntryTable<E> {
         requires count { IsTrue (E.has_valid_count header.now.v2.cluster_bits entries) }
         ensures fault { IsOkUnless result Fault.NoMemory }
         ensures table { IfOk result (λ table.
-            table ≡ new_table (grown_numbers self.now.numbers entries) header.now) }
+            table ≡ new_placed (grown_numbers self.now.numbers entries) (geometry_of header.now)) }
     {
         let alloc = *self.entries.allocator();
         let list = padded(alloc, self.entries.as_slice(), entries)?;
@@ -169,7 +171,7 @@ impl<E: TableKind> EntryTable<E> {
         requires index { index < length self.old.numbers }
         requires valid { E.fault_of self.old.geometry.cluster_bits (E.plain entry) ≡ None }
         ensures before { E.plain result ≡ slice_index self.old.numbers index }
-        ensures edit { self.new ≡ table_after_edit self.old index (E.plain entry) }
+        ensures edit { self.new ≡ with_number self.old index (E.plain entry) }
     {
         // It fits 64 bits, since it is read as a number of these.
         let _ = entry.to_plain();
@@ -201,7 +203,7 @@ impl<E: TableKind> Table for EntryTable<E> {
         requires valid { first_fault (E.fault_of header.now.v2.cluster_bits) (map E.plain list.items) ≡ None }
         requires count { IsTrue (E.has_valid_count header.now.v2.cluster_bits (length list.items)) }
         requires bound { length list.items ≤ most_entries_in_memory }
-        ensures { result ≡ new_table (map E.plain list.items) header.now }
+        ensures { result ≡ new_placed (map E.plain list.items) (geometry_of header.now) }
     {
         numbers_fit(&list);
         EntryTable {

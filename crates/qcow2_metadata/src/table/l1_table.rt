@@ -5,7 +5,8 @@ ghost use Rattle.std.proofs.Common.{lit≤};
 ghost use Rattle.qcow2_base.specs.Format.{most_l1_entries};
 ghost use Rattle.qcow2_base.specs.declared.fault.Fault.TheVariants.{NotPlaced};
 ghost use Rattle.qcow2_metadata.specs.Entries.PendingClusters.{IsOneCluster};
-ghost use Rattle.qcow2_metadata.specs.Table.{IsReferable, table_after_edit};
+ghost use Rattle.qcow2_metadata.specs.Placed.{with_number};
+ghost use Rattle.qcow2_metadata.specs.Table.{IsReferable};
 ghost use Rattle.qcow2_metadata.specs.Table.Growth.{GrowsTo, grown_count};
 
 use super::{EntryTable, L2Table, Table, TableKind};
@@ -80,7 +81,7 @@ impl EntryTable<L1Entry> {
         ensures edit { MatchOption l2_table.now.cluster
             (self.new ≡ self.old)
             (λ cluster. self.new
-            ≡ table_after_edit self.old index
+            ≡ with_number self.old index
             (2 ^ 63 + cluster.0 * 2 ^ self.old.geometry.cluster_bits)) }
     {
         let Some(cluster) = l2_table.get_cluster() else {

@@ -5,7 +5,8 @@ ghost use Rattle.qcow2_metadata.specs.Table.L2Guards.{MakesEdit, is_mappable, to
 ghost use Rattle.qcow2_metadata.specs.Entries.L2Entry.{IsAllocation};
 ghost use Rattle.qcow2_metadata.specs.Entries.PendingClusters.{IsOneCluster};
 ghost use Rattle.qcow2_metadata.specs.Entries.L2Mapping.{IsPlaced, meaning};
-ghost use Rattle.qcow2_metadata.specs.Table.{table_after_edit, mapping_at};
+ghost use Rattle.qcow2_metadata.specs.Placed.{with_number};
+ghost use Rattle.qcow2_metadata.specs.Table.{mapping_at};
 
 use super::{L2Table, Table, TableKind};
 use crate::{AtomicL2Entry, ClustersToFreeEntry, L2Entry, L2Mapping, PendingClusters};
@@ -116,7 +117,7 @@ impl L2TableWriteGuard<'_> {
     pub fn discard_cluster(&mut self, index: usize) -> Option<ClustersToFreeEntry>
         requires { index < length (guarded_table self.old).numbers }
         ensures same_table { IsSameTable self.old self.new }
-        ensures edit { guarded_table self.new ≡ table_after_edit (guarded_table self.old) index 0 }
+        ensures edit { guarded_table self.new ≡ with_number (guarded_table self.old) index 0 }
         ensures freed { let table = guarded_table self.old in
             IsAllocation table.geometry (slice_index table.numbers index) result }
     {

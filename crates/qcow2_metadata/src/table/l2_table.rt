@@ -5,8 +5,9 @@ ghost use Rattle.std.proofs.Common.{lit≤};
 ghost use Rattle.qcow2_base.specs.Format.{most_l2_entries};
 ghost use Rattle.qcow2_metadata.specs.Entries.L2Mapping.{IsPlaced, meaning};
 ghost use Rattle.qcow2_metadata.specs.Entries.L2Entry.{entry_in_copy};
-ghost use Rattle.qcow2_metadata.specs.Placed.{FollowsWrite, Writes};
-ghost use Rattle.qcow2_metadata.specs.Table.{l2_entries, l2_kind, layout_of_table, mapping_at, new_table};
+ghost use Rattle.qcow2_metadata.specs.Header.{geometry_of};
+ghost use Rattle.qcow2_metadata.specs.Placed.{FollowsWrite, Writes, new_placed};
+ghost use Rattle.qcow2_metadata.specs.Table.{l2_entries, l2_kind, layout_of_table, mapping_at};
 
 use super::pieces::TableBytes;
 use super::{CompressedClusterReadGuard, EntryTable, L2TableWriteGuard, Table, TableKind};
@@ -70,7 +71,8 @@ impl EntryTable<AtomicL2Entry> {
     pub fn new_cleared(alloc: Global, header: &Header) -> Result<L2Table, Fault>
         ensures fault { IsOkUnless result Fault.NoMemory }
         ensures table { IfOk result (λ table.
-            table ≡ new_table (replicate (l2_entries header.now.v2.cluster_bits) 0) header.now) }
+            table ≡ new_placed (replicate (l2_entries header.now.v2.cluster_bits) 0)
+            (geometry_of header.now)) }
     {
         let entries = vec![in alloc; AtomicL2Entry::cleared(); header.l2_entries()]?;
         Ok(L2Table::from_data(entries, header))

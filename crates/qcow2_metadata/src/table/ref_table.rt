@@ -39,7 +39,8 @@ impl EntryTable<RefTableEntry> {
     ghost use Rattle.std.specs.Prelude.{◌≡◌, ◌*◌, ◌^◌, ◌<◌, length};
     ghost use Rattle.qcow2_base.specs.declared.fault.Fault.TheVariants.{NotPlaced};
     ghost use Rattle.qcow2_metadata.specs.Entries.PendingClusters.{IsOneCluster};
-    ghost use Rattle.qcow2_metadata.specs.Table.{IsReferable, table_after_edit};
+    ghost use Rattle.qcow2_metadata.specs.Placed.{with_number};
+    ghost use Rattle.qcow2_metadata.specs.Table.{IsReferable};
     ghost use Rattle.qcow2_metadata.specs.Table.Growth.{GrowsTo, grown_reftable_count, growth_of};
 
     /// A copy of the table that holds an index, and pays for its own growth: the same entries, and then
@@ -84,7 +85,7 @@ impl EntryTable<RefTableEntry> {
         ensures edit { MatchOption refblock.now.cluster
             (self.new ≡ self.old)
             (λ cluster. self.new
-            ≡ table_after_edit self.old index (cluster.0 * 2 ^ self.old.geometry.cluster_bits)) }
+            ≡ with_number self.old index (cluster.0 * 2 ^ self.old.geometry.cluster_bits)) }
     {
         let Some(cluster) = refblock.get_cluster() else {
             return refuse(Fault::NotPlaced, new_allocation);

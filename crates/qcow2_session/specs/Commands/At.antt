@@ -29,5 +29,5 @@ at_facts offset = record {
   prints_before_faults = false;
   cluster_bits = None;
   place_fault = None;
-  Ends = λ header answer old new before after. Prints answer (line_at header offset) old new before after;
+  Ends = λ header run. Prints run (line_at header offset);
 }

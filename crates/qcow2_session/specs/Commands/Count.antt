@@ -40,18 +40,15 @@ abbrev pub reply_line : StepReply → List ℕ
 reply_line (Done before) = codes "ok " ++ decimal before ++ codes "\n"
 reply_line Refused = codes "refused\n"
 
--- what steps of the block at a cluster come to, by what they leave: the lines are those of the replies
-abbrev pub change_by_steps : HostCluster → StepsEnd → ChangeEnd
-change_by_steps cluster left = record {
+-- what steps of the block that begins with a cluster come to, in an image with this header, or why they are refused: the
+-- lines are those of the replies
+abbrev pub end_of_steps : HostCluster → List Step → HeaderRecord → Image → Result ChangeEnd Fault
+end_of_steps cluster steps header image = result_map (λ (left : StepsEnd). record {
   cluster = cluster;
   numbers = left.counters;
   is_written = are_some_done left.replies;
   lines = flat_map reply_line left.replies;
-}
-
--- what steps of the block that begins with a cluster come to, in an image with this header, or why they are refused
-abbrev pub end_of_steps : HostCluster → List Step → HeaderRecord → Image → Result ChangeEnd Fault
-end_of_steps cluster steps header image = result_map (change_by_steps cluster) (steps_end header cluster steps image)
+}) (steps_end header cluster steps image)
 
 -- the facts of the command `count` of the refcount block that begins with a cluster
 abbrev pub count_facts : HostCluster → List Step → CommandFacts
@@ -60,6 +57,6 @@ count_facts cluster steps = record {
   prints_before_faults = false;
   cluster_bits = None;
   place_fault = None;
-  Ends = λ header answer old new before after.
-      PrintsChange answer (block_layout (block_geometry_of header)) (end_of_steps cluster steps header) old new before after;
+  Ends = λ header run.
+      PrintsChange run (block_layout (block_geometry_of header)) (end_of_steps cluster steps header);
 }

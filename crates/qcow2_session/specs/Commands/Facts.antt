@@ -1,16 +1,15 @@
 -- What is said of a command beside the words that ask for it?
-use Rattle.std.specs.Prelude.{ℕ, Bool, Option, Result}
-use Rattle.qcow2_base.specs.Storage.{StorageState}
+use Rattle.std.specs.Prelude.{ℕ, Bool, Option}
 use Rattle.qcow2_base.specs.declared.fault.Fault.{Fault}
 use Rattle.qcow2_metadata.specs.Header.{HeaderRecord}
-use Rattle.qcow2_session.specs.Commands.Printing.{OutputBytes}
+use Rattle.qcow2_session.specs.Commands.Printing.{Run}
 
 -- the facts of a command: whether it may change its image, and whether it may print before a fault other than that of a
 -- failed storage; the cluster bits that its words say, where it reads no header; why the table that its words name can lie
--- in no image; and how it ends with a header: what it printed, why it was refused, and what it changed
+-- in no image; and how a run of it ends with a header: what it printed, why it was refused, and what it changed
 pub record CommandFacts : Type 1 where
   pub changes_image : Bool
   pub prints_before_faults : Bool
   pub cluster_bits : Option ℕ
   pub place_fault : Option Fault
-  pub Ends : {T : Type 0} → HeaderRecord → Result T Fault → StorageState → StorageState → OutputBytes → OutputBytes → Type 0
+  pub Ends : {O : Type 0} → HeaderRecord → Run O → Type 0

@@ -44,5 +44,6 @@ info_facts = record {
   prints_before_faults = false;
   cluster_bits = None;
   place_fault = None;
-  Ends = λ header answer old new before after. (new ≡ old) × PrintsText answer before after (info_lines header);
+  Ends = λ header run. (run.new ≡ run.old)
+      × PrintsText run.answer (run.contents run.before) (run.contents run.after) (info_lines header);
 }

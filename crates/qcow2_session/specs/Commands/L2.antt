@@ -40,6 +40,5 @@ l2_facts cb cluster = record {
   prints_before_faults = false;
   cluster_bits = Some cb;
   place_fault = place_fault (l2_layout (geometry cb false)) cluster;
-  Ends = λ header answer old new before after.
-      Prints answer (lines_of_l2_table (geometry cb false) cluster) old new before after;
+  Ends = λ header run. Prints run (lines_of_l2_table (geometry cb false) cluster);
 }

@@ -1,13 +1,12 @@
 -- What does the command `list` print?
-use Rattle.std.specs.Prelude.{◌≡◌, ◌⊎◌, ℕ, false, true, List, [], ◌∷◌, ◌++◌, map, None, Result, Ok, IfErr, IsErrOf, IsOk, IsOkAnd, OnOk}
+use Rattle.std.specs.Prelude.{◌≡◌, ◌⊎◌, ℕ, false, true, List, [], ◌∷◌, ◌++◌, map, None, Result, Ok, IfErr, IsErrOf, IsOkAnd, OnOk}
 use Rattle.std.specs.List.{concat}
-use Rattle.std.specs.Io.KnownBytes.{Appends}
-use Rattle.qcow2_base.specs.Storage.{Image, OnImage, ReadsFor, StorageState}
+use Rattle.qcow2_base.specs.Storage.{Image, OnImage, ReadsFor}
 use Rattle.qcow2_base.specs.declared.fault.Fault.{Fault}
 use Rattle.qcow2_base.specs.declared.fault.Fault.TheVariants.{Storage}
 use Rattle.qcow2_metadata.specs.Results.{result_map}
 use Rattle.qcow2_metadata.specs.Header.{Geometry, HeaderRecord, geometry_of}
-use Rattle.qcow2_session.specs.Commands.Printing.{IsOutputFault, IsReadFault, OutputBytes}
+use Rattle.qcow2_session.specs.Commands.Printing.{IsOutputFault, IsReadFault, OutputGets, OutputGetsPart, Run}
 use Rattle.qcow2_session.specs.Commands.Entries.{table_lines}
 use Rattle.qcow2_session.specs.Commands.Facts.{CommandFacts}
 use Rattle.qcow2_session.specs.L2Tables.{NamedTables, WalkState, named_tables, tables_left}
@@ -33,32 +32,31 @@ texts_of_tables header image =
     result_map (λ l1. texts_of g (named_tables g 0 l1 image)) (loaded_l1_table header image)
 
 -- all tables can be loaded, and the output got their lines
-abbrev pub PrintsAllTables : OutputBytes → OutputBytes → TableTexts → Type 0
-PrintsAllTables before after tables =
-    (printed : List (List ℕ)) × (tables ≡ map Ok printed) × Appends before after (concat printed)
+abbrev pub PrintsAllTables : {O : Type 0} → Run O → TableTexts → Type 0
+PrintsAllTables run tables = (printed : List (List ℕ)) × (tables ≡ map Ok printed) × OutputGets run (concat printed)
 
 -- the print of tables ended in this fault at one of them, where all before it can be loaded: it can't be read, and the
--- output got the lines of those before it, or it can, and the output failed. Nothing is said of what it got then
-pub record PrintsTablesBefore (fault : Fault) (old new : StorageState) (before after : OutputBytes) (tables : TableTexts) : Type 0 where
+-- output got the lines of those before it, or it can, and the output failed and got a beginning of these lines and its own
+pub record PrintsTablesBefore {O : Type 0} (fault : Fault) (run : Run O) (tables : TableTexts) : Type 0 where
   pub printed : List (List ℕ)
   pub table : Result (List ℕ) Fault
   pub rest : TableTexts
   pub are : tables ≡ map Ok printed ++ table ∷ rest
-  pub why : (IsReadFault table old new fault × Appends before after (concat printed))
-      ⊎ (IsOutputFault fault old new × IsOk table)
+  pub why : (IsReadFault table run fault × OutputGets run (concat printed))
+      ⊎ (IsOutputFault run fault × IsOkAnd table (λ lines. OutputGetsPart run (concat printed ++ lines)))
 
--- the print of tables ended in this answer
-pub record PrintsTables {T : Type 0} (answer : Result T Fault) (tables : Image → TableTexts) (old new : StorageState) (before after : OutputBytes) : Type 0 where
-  pub lines : OnOk answer (OnImage old (λ bytes. PrintsAllTables before after (tables bytes)))
-  pub refused : IfErr answer (λ fault. OnImage old (λ bytes. PrintsTablesBefore fault old new before after (tables bytes)))
+-- a run prints tables: all of them, or those before the one at which it ended
+pub record PrintsTables {O : Type 0} (run : Run O) (tables : Image → TableTexts) : Type 0 where
+  pub lines : OnOk run.answer (OnImage run.old (λ bytes. PrintsAllTables run (tables bytes)))
+  pub refused : IfErr run.answer (λ fault. OnImage run.old (λ bytes. PrintsTablesBefore fault run (tables bytes)))
 
--- the command `list` of the L2 tables of an image ended in this answer: it printed all of them, or it was refused. Where
--- the L1 table can't be loaded nothing is printed, else the lines of the tables before the one at which it ended
-pub record PrintsList {T : Type 0} (answer : Result T Fault) (tables : Image → Result TableTexts Fault) (old new : StorageState) (before after : OutputBytes) : Type 0 where
-  pub lines : OnOk answer (OnImage old (λ bytes. IsOkAnd (tables bytes) (PrintsAllTables before after)))
-  pub refused : IfErr answer (λ fault. OnImage old (λ bytes.
-      (IsReadFault (tables bytes) old new fault × Appends before after [])
-      ⊎ IsOkAnd (tables bytes) (PrintsTablesBefore fault old new before after)))
+-- a run lists the L2 tables of its image: it printed all of them, or it was refused. Where the L1 table can't be loaded
+-- nothing is printed, else the lines of the tables before the one at which it ended
+pub record PrintsList {O : Type 0} (run : Run O) (tables : Image → Result TableTexts Fault) : Type 0 where
+  pub lines : OnOk run.answer (OnImage run.old (λ bytes. IsOkAnd (tables bytes) (PrintsAllTables run)))
+  pub refused : IfErr run.answer (λ fault. OnImage run.old (λ bytes.
+      (IsReadFault (tables bytes) run fault × OutputGets run [])
+      ⊎ IsOkAnd (tables bytes) (PrintsTablesBefore fault run)))
 
 -- the facts of the command `list`, which prints table by table
 abbrev pub list_facts : CommandFacts
@@ -67,6 +65,6 @@ list_facts = record {
   prints_before_faults = true;
   cluster_bits = None;
   place_fault = None;
-  Ends = λ header answer old new before after.
-      PrintsList answer (texts_of_tables header) old new before after × ReadsFor (IsErrOf answer Storage) old new;
+  Ends = λ header run.
+      PrintsList run (texts_of_tables header) × ReadsFor (IsErrOf run.answer Storage) run.old run.new;
 }

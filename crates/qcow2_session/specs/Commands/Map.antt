@@ -1,8 +1,7 @@
 -- What does the command `map` print?
 use Rattle.std.specs.Prelude.{◌⊎◌, ℕ, false, true, ◌==◌, if◌then◌else◌, List, [], ◌∷◌, ◌++◌, flat_map, Option, Some, None, Result, IfErr, IsErrOf, IsOkAnd, OnOk, bytes_eq, codes}
 use Rattle.std.specs.Fmt.{decimal}
-use Rattle.std.specs.Io.KnownBytes.{Appends}
-use Rattle.qcow2_base.specs.Storage.{Image, OnImage, ReadsFor, StorageState}
+use Rattle.qcow2_base.specs.Storage.{Image, OnImage, ReadsFor}
 use Rattle.qcow2_base.specs.declared.fault.Fault.{Fault}
 use Rattle.qcow2_base.specs.declared.fault.Fault.TheVariants.{Storage}
 use Rattle.qcow2_metadata.specs.Header.{HeaderRecord, geometry_of}
@@ -10,7 +9,7 @@ use Rattle.qcow2_metadata.specs.Results.{result_map}
 use Rattle.qcow2_session.specs.Extents.{AreExtents, AreExtentsBefore, Contents, ExtentsState, contents_for, contents_of}
 use Rattle.qcow2_session.specs.Lookups.{loaded_l1_table}
 use Rattle.qcow2_session.specs.Commands.Facts.{CommandFacts}
-use Rattle.qcow2_session.specs.Commands.Printing.{IsOutputFault, IsReadFault, OutputBytes}
+use Rattle.qcow2_session.specs.Commands.Printing.{IsOutputFault, IsReadFault, OutputGets, OutputGetsPart, Run}
 use Rattle.qcow2_session.specs.Commands.Words.{WordList}
 use Rattle.qcow2_session.specs.Lines.{offset_text}
 use Rattle.qcow2_session.specs.declared.commands.map.ExtentFormat.{ExtentFormat}
@@ -40,23 +39,16 @@ abbrev pub extent_line : Extent → List ℕ
 extent_line extent = offset_text extent.start.0 ++ codes " " ++ offset_text extent.length ++ codes " "
     ++ content_text extent.content ++ codes "\n"
 
--- what JSON says of a content: whether it is in the image, whether it reads as zeros, and whether it is data
-abbrev pub json_flags : Content → List ℕ
-json_flags (Data offset) = codes "\"present\": true, \"zero\": false, \"data\": true"
-json_flags Zeros = codes "\"present\": true, \"zero\": true, \"data\": false"
-json_flags (AllocatedZeros offset) = codes "\"present\": true, \"zero\": true, \"data\": false"
-json_flags Compressed = codes "\"present\": true, \"zero\": false, \"data\": true"
-json_flags Absent = codes "\"present\": false, \"zero\": true, \"data\": false"
-
--- what JSON says of where a content lies, which is nothing where it has no clusters of its own
-abbrev pub json_offset : Content → List ℕ
-json_offset (Data offset) = codes ", \"offset\": " ++ decimal offset.0
-json_offset (AllocatedZeros offset) = codes ", \"offset\": " ++ decimal offset.0
-json_offset _ = []
-
--- all that JSON says of a content
+-- what JSON says of a content: whether it is in the image, reads as zeros, and is data. Then where it lies, which is said
+-- of clusters of its own alone
 abbrev pub json_content : Content → List ℕ
-json_content content = codes ", \"depth\": 0, " ++ json_flags content ++ json_offset content ++ codes "}"
+json_content (Data offset) = codes ", \"depth\": 0, \"present\": true, \"zero\": false, \"data\": true, \"offset\": "
+    ++ decimal offset.0 ++ codes "}"
+json_content (AllocatedZeros offset) =
+    codes ", \"depth\": 0, \"present\": true, \"zero\": true, \"data\": false, \"offset\": " ++ decimal offset.0 ++ codes "}"
+json_content Zeros = codes ", \"depth\": 0, \"present\": true, \"zero\": true, \"data\": false}"
+json_content Compressed = codes ", \"depth\": 0, \"present\": true, \"zero\": false, \"data\": true}"
+json_content Absent = codes ", \"depth\": 0, \"present\": false, \"zero\": true, \"data\": false}"
 
 -- an extent in JSON
 abbrev pub json_object : Extent → List ℕ
@@ -97,35 +89,42 @@ disk_of header image = result_map (λ l1. record { contents = contents_of (geome
     (loaded_l1_table header image)
 
 -- the output got the text of all extents of a disk
-abbrev pub PrintsMap : ExtentFormat → OutputBytes → OutputBytes → Disk → Type 0
-PrintsMap format before after disk = (extents : List Extent)
-    × AreExtents disk.contents disk.size 0 extents disk.size
-    × Appends before after (opening format ++ extents_text format extents ++ closing format)
+abbrev pub PrintsMap : {O : Type 0} → ExtentFormat → Run O → Disk → Type 0
+PrintsMap format run disk = (extents : List Extent) × AreExtents disk.contents disk.size 0 extents disk.size
+    × OutputGets run (opening format ++ extents_text format extents ++ closing format)
 
 -- the output got the text of the extents before one that can't be read for this fault
-abbrev pub PrintsMapBefore : ExtentFormat → Fault → OutputBytes → OutputBytes → Disk → Type 0
-PrintsMapBefore format fault before after disk = (extents : List Extent)
-    × AreExtentsBefore disk.contents disk.size 0 extents fault
-    × Appends before after (opening format ++ extents_text format extents)
+abbrev pub PrintsMapBefore : {O : Type 0} → ExtentFormat → Fault → Run O → Disk → Type 0
+PrintsMapBefore format fault run disk = (extents : List Extent) × AreExtentsBefore disk.contents disk.size 0 extents fault
+    × OutputGets run (opening format ++ extents_text format extents)
 
--- the extents from a reader's offset on were printed: up to the disk's size after `Ok`, and after a fault up to the extent
--- that can't be read. Nothing is said of what an output got that failed
-pub record PrintsRest {T : Type 0} (answer : Result T Fault) (format : ExtentFormat) (reader : ExtentsState) (old new : StorageState) (before after : OutputBytes) : Type 0 where
-  pub extents : OnOk answer (OnImage old (λ bytes. (extents : List Extent)
+-- the output got a beginning of the text of a disk: of that of all its extents, or of the extents up to an offset
+abbrev pub PrintsMapPart : {O : Type 0} → ExtentFormat → Run O → Disk → Type 0
+PrintsMapPart format run disk = (extents : List Extent) × (to : ℕ) × AreExtents disk.contents disk.size 0 extents to
+    × OutputGetsPart run (opening format ++ extents_text format extents ++ (if to == disk.size then closing format else []))
+
+-- a run prints the extents from a reader's offset on: up to the disk's size after `Ok`, and after a fault up to the extent
+-- that can't be read. An output that failed got a beginning of the text of extents up to an offset
+pub record PrintsRest {O : Type 0} (run : Run O) (format : ExtentFormat) (reader : ExtentsState) : Type 0 where
+  pub extents : OnOk run.answer (OnImage run.old (λ bytes. (extents : List Extent)
       × AreExtents (contents_for reader bytes) reader.header.v2.size reader.position extents reader.header.v2.size
-      × Appends before after (extents_text format extents)))
-  pub refused : IfErr answer (λ fault. OnImage old (λ bytes. IsOutputFault fault old new ⊎ ((extents : List Extent)
+      × OutputGets run (extents_text format extents)))
+  pub refused : IfErr run.answer (λ fault. OnImage run.old (λ bytes.
+      (IsOutputFault run fault × (extents : List Extent) × (to : ℕ)
+      × AreExtents (contents_for reader bytes) reader.header.v2.size reader.position extents to
+      × OutputGetsPart run (extents_text format extents))
+      ⊎ ((extents : List Extent)
       × AreExtentsBefore (contents_for reader bytes) reader.header.v2.size reader.position extents fault
-      × Appends before after (extents_text format extents))))
+      × OutputGets run (extents_text format extents))))
 
--- the command `map` of a disk ended in this answer: it printed all extents, or it was refused. Where the L1 table can't be
--- loaded nothing is printed, else the extents before the one that can't be read. Nothing is said of what an output got that
--- failed
-pub record PrintsExtents {T : Type 0} (answer : Result T Fault) (format : ExtentFormat) (disk : Image → Result Disk Fault) (old new : StorageState) (before after : OutputBytes) : Type 0 where
-  pub extents : OnOk answer (OnImage old (λ bytes. IsOkAnd (disk bytes) (PrintsMap format before after)))
-  pub refused : IfErr answer (λ fault. OnImage old (λ bytes.
-      (IsReadFault (disk bytes) old new fault × Appends before after [])
-      ⊎ IsOkAnd (disk bytes) (λ read. IsOutputFault fault old new ⊎ PrintsMapBefore format fault before after read)))
+-- a run maps a disk: it printed all extents, or it was refused. Where the L1 table can't be loaded nothing is printed, else
+-- the extents before the one that can't be read. An output that failed got a beginning of the text
+pub record PrintsExtents {O : Type 0} (run : Run O) (format : ExtentFormat) (disk : Image → Result Disk Fault) : Type 0 where
+  pub extents : OnOk run.answer (OnImage run.old (λ bytes. IsOkAnd (disk bytes) (PrintsMap format run)))
+  pub refused : IfErr run.answer (λ fault. OnImage run.old (λ bytes.
+      (IsReadFault (disk bytes) run fault × OutputGets run [])
+      ⊎ IsOkAnd (disk bytes) (λ read.
+      (IsOutputFault run fault × PrintsMapPart format run read) ⊎ PrintsMapBefore format fault run read)))
 
 -- the facts of the command `map`, which prints extent by extent
 abbrev pub map_facts : ExtentFormat → CommandFacts
@@ -134,6 +133,6 @@ map_facts format = record {
   prints_before_faults = true;
   cluster_bits = None;
   place_fault = None;
-  Ends = λ header answer old new before after.
-      PrintsExtents answer format (disk_of header) old new before after × ReadsFor (IsErrOf answer Storage) old new;
+  Ends = λ header run.
+      PrintsExtents run format (disk_of header) × ReadsFor (IsErrOf run.answer Storage) run.old run.new;
 }

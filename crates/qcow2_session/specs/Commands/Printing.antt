@@ -15,21 +15,49 @@ AppendsPart None new bytes = ⊤
 AppendsPart (Some old) None bytes = ⊥
 AppendsPart (Some old) (Some new) bytes = (written : ℕ) × (new ≡ old ++ take written bytes)
 
--- calls that read an image ended in this fault: it is the one that the bytes mean, or memory ran out, or a call of the
+-- a run over an image, to an output: what it returned, the image's storage before and after, and the output before and
+-- after, whose contents are the bytes that it has got
+pub record Run (O : Type 0) : Type 0 where
+  pub answer : Result (Unit {0}) Fault
+  pub old : StorageState
+  pub new : StorageState
+  pub contents : O → OutputBytes
+  pub before : O
+  pub after : O
+
+-- the run that returned this, over an image and to an output that were these before and are these after
+abbrev pub run_over : {S O : Type 0} → (S → StorageState) → (O → OutputBytes) → Result (Unit {0}) Fault → S → S → O → O → Run O
+run_over state contents answer old new before after = record {
+  answer = answer;
+  old = state old;
+  new = state new;
+  contents = contents;
+  before = before;
+  after = after;
+}
+
+-- the output of a run got these bytes
+abbrev pub OutputGets : {O : Type 0} → Run O → List ℕ → Type 0
+OutputGets run bytes = Appends (run.contents run.before) (run.contents run.after) bytes
+
+-- or a beginning of them
+abbrev pub OutputGetsPart : {O : Type 0} → Run O → List ℕ → Type 0
+OutputGetsPart run bytes = AppendsPart (run.contents run.before) (run.contents run.after) bytes
+
+-- what a run read of its image ended in this fault: it is the one that the bytes mean, or memory ran out, or a call of the
 -- image failed
-abbrev pub IsReadFault : {V : Type 0} → Result V Fault → StorageState → StorageState → Fault → Type 0
-IsReadFault meant old new fault =
-    (meant ≡ Err fault) ⊎ (fault ≡ NoMemory) ⊎ ((fault ≡ Storage) × (new.failures ≢ old.failures))
+abbrev pub IsReadFault : {V O : Type 0} → Result V Fault → Run O → Fault → Type 0
+IsReadFault meant run fault =
+    (meant ≡ Err fault) ⊎ (fault ≡ NoMemory) ⊎ ((fault ≡ Storage) × (run.new.failures ≢ run.old.failures))
 
--- the fault is that of a failed output: the storage fault, where no call of the image failed
-abbrev pub IsOutputFault : Fault → StorageState → StorageState → Type 0
-IsOutputFault fault old new = (fault ≡ Storage) × (new.failures ≡ old.failures)
+-- the fault is that of a run's failed output: the storage fault, where no call of the image failed
+abbrev pub IsOutputFault : {O : Type 0} → Run O → Fault → Type 0
+IsOutputFault run fault = (fault ≡ Storage) × (run.new.failures ≡ run.old.failures)
 
--- a command over an image ended in this fault: that of what it read, or that of its output, which got a beginning of the
--- lines that are meant
-abbrev pub IsRefusal : {V : Type 0} → Result V Fault → (V → List ℕ) → StorageState → StorageState → OutputBytes → OutputBytes → Fault → Type 0
-IsRefusal meant lines_of old new before after fault = IsReadFault meant old new fault
-    ⊎ (IsOutputFault fault old new × IsOkAnd meant (λ value. AppendsPart before after (lines_of value)))
+-- a run ended in this fault: that of what it read, or that of its output, which got a beginning of the lines that are meant
+abbrev pub IsRefusal : {V O : Type 0} → Result V Fault → (V → List ℕ) → Run O → Fault → Type 0
+IsRefusal meant lines_of run fault = IsReadFault meant run fault
+    ⊎ (IsOutputFault run fault × IsOkAnd meant (λ value. OutputGetsPart run (lines_of value)))
 
 -- a print of these bytes to an output ended in this answer: the output got them, or it failed and got a beginning of them
 pub record PrintsText {T : Type 0} (answer : Result T Fault) (before after : OutputBytes) (bytes : List ℕ) : Type 0 where
@@ -37,14 +65,14 @@ pub record PrintsText {T : Type 0} (answer : Result T Fault) (before after : Out
   pub text : OnOk answer (Appends before after bytes)
   pub part : OnErr answer (AppendsPart before after bytes)
 
--- a command that prints last ended in this answer: a fault other than the storage fault comes before any line, and so
--- does a failed call of the image, which is that fault
-pub record PrintsLast {T O : Type 0} (answer : Result T Fault) (old new : StorageState) (before after : O) : Type 0 where
-  pub refused : IfErr answer (λ fault. fault ≢ Storage → after ≡ before)
-  pub failed : new.failures ≢ old.failures → IsErrOf answer Storage × (after ≡ before)
-  pub device : SameDevice old new
+-- a run prints last: a fault other than the storage fault comes before any line, and so does a failed call of the image,
+-- which is that fault
+pub record PrintsLast {O : Type 0} (run : Run O) : Type 0 where
+  pub refused : IfErr run.answer (λ fault. fault ≢ Storage → run.after ≡ run.before)
+  pub failed : run.new.failures ≢ run.old.failures → IsErrOf run.answer Storage × (run.after ≡ run.before)
+  pub device : SameDevice run.old run.new
 
--- a command that prints what an image's bytes mean ended in this answer: it printed these lines, or it was refused
-pub record Prints {T : Type 0} (answer : Result T Fault) (meant : Image → Result (List ℕ) Fault) (old new : StorageState) (before after : OutputBytes) : Type 0 where
-  pub lines : OnOk answer (OnImage old (λ bytes. IsOkAnd (meant bytes) (Appends before after)))
-  pub refused : IfErr answer (λ fault. OnImage old (λ bytes. IsRefusal (meant bytes) (λ lines. lines) old new before after fault))
+-- a run prints what its image's bytes mean: it printed these lines, or it was refused
+pub record Prints {O : Type 0} (run : Run O) (meant : Image → Result (List ℕ) Fault) : Type 0 where
+  pub lines : OnOk run.answer (OnImage run.old (λ bytes. IsOkAnd (meant bytes) (OutputGets run)))
+  pub refused : IfErr run.answer (λ fault. OnImage run.old (λ bytes. IsRefusal (meant bytes) (λ lines. lines) run fault))

@@ -7,12 +7,7 @@ use Rattle.qcow2_base.specs.declared.fault.Fault.TheVariants.{NoMemory, Storage}
 use Rattle.qcow2_metadata.specs.Header.{HeaderRecord, geometry, geometry_of}
 use Rattle.qcow2_metadata.specs.Header.Open.{Loads}
 use Rattle.qcow2_session.specs.Commands.Facts.{CommandFacts}
-use Rattle.qcow2_session.specs.Commands.Printing.{OutputBytes, PrintsLast}
-
--- a command that prints at once, when it knows all of its lines: a fault other than the storage fault comes before any line
-abbrev pub PrintsAtOnce : {T O : Type 0} → CommandFacts → Result T Fault → StorageState → StorageState → O → O → Type 0
-PrintsAtOnce facts answer old new before after =
-    facts.prints_before_faults ≡ false → PrintsLast answer old new before after
+use Rattle.qcow2_session.specs.Commands.Printing.{Run}
 
 -- a header without an external data file was made for these cluster bits, unless memory ran out
 abbrev pub IsNewHeader : ℕ → Result HeaderRecord Fault → Type 0
@@ -27,17 +22,17 @@ FindsHeader facts found old new = by_words facts.cluster_bits
     by_words None = Loads facts.changes_image found old new
     by_words (Some cb) = IsNewHeader cb found × (new ≡ old)
 
--- a command over an image ended in this answer: its header is found first, whose fault is the answer before anything is
--- printed, and then the command runs over the image that this left
-abbrev pub Runs : {T : Type 0} → CommandFacts → Result T Fault → StorageState → StorageState → OutputBytes → OutputBytes → Type 0
-Runs facts answer old new before after = (found : Result HeaderRecord Fault) × (left : StorageState)
-    × FindsHeader facts found old left × MatchResult found
-    (λ header. facts.Ends header answer left new before after)
-    (λ fault. (answer ≡ Err fault) × (new ≡ left) × (after ≡ before))
+-- a run of a command: its header is found first, whose fault is the answer before anything is printed, and then the
+-- command runs over the image that this left
+abbrev pub Runs : {O : Type 0} → CommandFacts → Run O → Type 0
+Runs facts run = (found : Result HeaderRecord Fault) × (left : StorageState)
+    × FindsHeader facts found run.old left × MatchResult found
+    (λ header. facts.Ends header (record run { old = left }))
+    (λ fault. (run.answer ≡ Err fault) × (run.new ≡ left) × (run.after ≡ run.before))
 
--- a run over an image, and then the flush of its output, ended in this answer: the fault of the run, if it has one. After a
--- run without a fault only a failed flush is one, the storage fault. The flush changes nothing of what was printed
-abbrev pub RunsAndFlushes : {T : Type 0} → CommandFacts → Result T Fault → StorageState → StorageState → OutputBytes → OutputBytes → Type 0
-RunsAndFlushes facts answer old new before after = (ran : Result (Unit {0}) Fault) × (printed : OutputBytes)
-    × Runs facts ran old new before printed × Keeps printed after
-    × IfErr ran (λ fault. answer ≡ Err fault) × OnOk ran (IsOkUnless answer Storage)
+-- a run of a command, and then the flush of its output: the answer is the fault of the run, if it has one. After a run
+-- without a fault only a failed flush is one, the storage fault. The flush changes nothing of what was printed
+abbrev pub RunsAndFlushes : {O : Type 0} → CommandFacts → Run O → Type 0
+RunsAndFlushes {O = O} facts run = (ran : Result (Unit {0}) Fault) × (printed : O)
+    × Runs facts (record run { answer = ran; after = printed }) × Keeps (run.contents printed) (run.contents run.after)
+    × IfErr ran (λ fault. run.answer ≡ Err fault) × OnOk ran (IsOkUnless run.answer Storage)

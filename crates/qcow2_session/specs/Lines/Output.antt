@@ -1,9 +1,7 @@
 -- What did an output get, and has a write of it failed?
-use Rattle.std.specs.Prelude.{◌≡◌, ℕ, Bool, true, false, List, Result, Ok, Err}
+use Rattle.std.specs.Prelude.{◌≡◌, ℕ, Bool, true, false, List}
 use Rattle.std.specs.Borrow.{MutBor}
 use Rattle.std.specs.Io.KnownBytes.{Appends}
-use Rattle.qcow2_base.specs.declared.fault.Fault.{Fault}
-use Rattle.qcow2_base.specs.declared.fault.Fault.TheVariants.{Storage}
 use Rattle.qcow2_session.specs.Commands.Printing.{AppendsPart, OutputBytes}
 use Rattle.qcow2_session.specs.declared.lines.output.Output.{Output}
 
@@ -26,8 +24,3 @@ pub record Begins {W : Type 0} (lent : MutBor W) (output : Output W) : Type 0 wh
 pub record GoesOn {W : Type 0} (old new : Output W) : Type 0 where
   pub stays : old.has_failed ≡ true → new ≡ old
   pub same : new.writer.ghost_name ≡ old.writer.ghost_name
-
--- what a run ends in whose output has failed or not
-abbrev pub output_result : Bool → Result (Unit {0}) Fault
-output_result true = Err Storage
-output_result false = Ok tt

@@ -2,7 +2,7 @@
 
 ghost use Rattle.std.specs.Prelude.{◌≡◌, map, string_bytes};
 ghost use Rattle.qcow2_session.specs.Commands.At.{line_at, at_command};
-ghost use Rattle.qcow2_session.specs.Commands.Printing.{Prints, PrintsLast};
+ghost use Rattle.qcow2_session.specs.Commands.Printing.{Prints, PrintsLast, run_over};
 ghost use Rattle.qcow2_session.specs.Commands.Words.{Parses};
 
 use super::Command;
@@ -26,9 +26,9 @@ pub fn print_mapping_at<S: Storage, O: Write>(
     guest_offset: GuestOffset,
     out: &mut O,
 ) -> Result<(), Fault>
-    ensures prints { Prints result (line_at header.now guest_offset.0)
-        (S.state image.old) (S.state image.new) (O.contents out.old) (O.contents out.new) }
-    ensures last { PrintsLast result (S.state image.old) (S.state image.new) out.old out.new }
+    ensures prints { Prints (run_over S.state O.contents result image.old image.new out.old out.new)
+        (line_at header.now guest_offset.0) }
+    ensures last { PrintsLast (run_over S.state O.contents result image.old image.new out.old out.new) }
     ensures unchanged { (S.state image.new).byte_at ≡ (S.state image.old).byte_at }
 {
     let mapping = lookup_with_header(alloc, image, header, guest_offset)?;

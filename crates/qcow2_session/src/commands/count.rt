@@ -4,7 +4,7 @@ ghost use Rattle.std.specs.Prelude.{map, string_bytes};
 ghost use Rattle.qcow2_metadata.specs.Refblock.{block_geometry_of, block_layout};
 ghost use Rattle.qcow2_session.specs.Commands.Changing.{PrintsChange};
 ghost use Rattle.qcow2_session.specs.Commands.Count.{end_of_steps, reply_line, step_of, count_command};
-ghost use Rattle.qcow2_session.specs.Commands.Printing.{PrintsLast};
+ghost use Rattle.qcow2_session.specs.Commands.Printing.{PrintsLast, run_over};
 ghost use Rattle.qcow2_session.specs.Commands.Words.{Parses};
 
 use super::Command;
@@ -30,10 +30,9 @@ pub fn count_references<S: Storage, O: Write>(
     steps: &[Step],
     out: &mut O,
 ) -> Result<(), Fault>
-    ensures counts { PrintsChange result (block_layout (block_geometry_of header.now))
-        (end_of_steps cluster steps.now header.now)
-        (S.state image.old) (S.state image.new) (O.contents out.old) (O.contents out.new) }
-    ensures last { PrintsLast result (S.state image.old) (S.state image.new) out.old out.new }
+    ensures counts { PrintsChange (run_over S.state O.contents result image.old image.new out.old out.new)
+        (block_layout (block_geometry_of header.now)) (end_of_steps cluster steps.now header.now) }
+    ensures last { PrintsLast (run_over S.state O.contents result image.old image.new out.old out.new) }
 {
     let replies = step_image(alloc, image, header, cluster, steps)?;
     print_lines(replies.as_slice(), out)

@@ -7,7 +7,7 @@ ghost use Rattle.qcow2_metadata.specs.Results.{Answers};
 ghost use Rattle.qcow2_metadata.specs.Table.{l2_layout};
 ghost use Rattle.qcow2_session.specs.Commands.Changing.{PrintsChange};
 ghost use Rattle.qcow2_session.specs.Commands.Edit.{edit_of, edit_command, end_of_edits, freed_line, gained_line, map_edit_of, table_cluster};
-ghost use Rattle.qcow2_session.specs.Commands.Printing.{PrintsLast, PrintsText};
+ghost use Rattle.qcow2_session.specs.Commands.Printing.{PrintsLast, PrintsText, run_over};
 ghost use Rattle.qcow2_session.specs.Commands.Words.{Parses, parts_of};
 ghost use Rattle.qcow2_session.specs.Edits.{cluster_numbers};
 
@@ -35,10 +35,9 @@ pub fn edit_entries<S: Storage, O: Write>(
     edits: &[Edit],
     out: &mut O,
 ) -> Result<(), Fault>
-    ensures edits { PrintsChange result (l2_layout (geometry_of header.now))
-        (end_of_edits l1_index edits.now header.now)
-        (S.state image.old) (S.state image.new) (O.contents out.old) (O.contents out.new) }
-    ensures last { PrintsLast result (S.state image.old) (S.state image.new) out.old out.new }
+    ensures edits { PrintsChange (run_over S.state O.contents result image.old image.new out.old out.new)
+        (l2_layout (geometry_of header.now)) (end_of_edits l1_index edits.now header.now) }
+    ensures last { PrintsLast (run_over S.state O.contents result image.old image.new out.old out.new) }
 {
     let cluster = table_of_entry(alloc, image, header, l1_index)?;
     let outcome = edit_image(alloc, image, header, cluster, edits)?;

@@ -7,7 +7,7 @@ ghost use Rattle.qcow2_metadata.specs.Header.{geometry, geometry_of};
 ghost use Rattle.qcow2_metadata.specs.Placed.{place_fault};
 ghost use Rattle.qcow2_metadata.specs.Table.{l2_layout};
 ghost use Rattle.qcow2_session.specs.Commands.L2.{cluster_bits_of, lines_of_l2_table, l2_command};
-ghost use Rattle.qcow2_session.specs.Commands.Printing.{Prints, PrintsLast};
+ghost use Rattle.qcow2_session.specs.Commands.Printing.{Prints, PrintsLast, run_over};
 ghost use Rattle.qcow2_session.specs.Commands.Running.{IsNewHeader};
 ghost use Rattle.qcow2_session.specs.Commands.Words.{Parses};
 
@@ -81,9 +81,9 @@ pub fn list_l2_table<S: Storage, O: Write>(
     ensures place { IfSome (place_fault (l2_layout (geometry cluster_bits false)) cluster)
         (λ fault. (result ≡ Err fault) ⊎ (result ≡ Err NoMemory)) }
 
-    ensures prints { Prints result (lines_of_l2_table (geometry cluster_bits false) cluster)
-        (S.state image.old) (S.state image.new) (O.contents out.old) (O.contents out.new) }
-    ensures last { PrintsLast result (S.state image.old) (S.state image.new) out.old out.new }
+    ensures prints { Prints (run_over S.state O.contents result image.old image.new out.old out.new)
+        (lines_of_l2_table (geometry cluster_bits false) cluster) }
+    ensures last { PrintsLast (run_over S.state O.contents result image.old image.new out.old out.new) }
     ensures unchanged { (S.state image.new).byte_at ≡ (S.state image.old).byte_at }
 {
     let header = new_header(alloc, cluster_bits)?;
@@ -108,9 +108,9 @@ pub(super) fn print_l2_table<S: Storage, O: Write>(
 ) -> Result<(), Fault>
     ensures place { IfSome (place_fault (l2_layout (geometry_of header.now)) cluster)
         (λ fault. (result ≡ Err fault) ⊎ (result ≡ Err NoMemory)) }
-    ensures prints { Prints result (lines_of_l2_table (geometry_of header.now) cluster)
-        (S.state image.old) (S.state image.new) (O.contents out.old) (O.contents out.new) }
-    ensures last { PrintsLast result (S.state image.old) (S.state image.new) out.old out.new }
+    ensures prints { Prints (run_over S.state O.contents result image.old image.new out.old out.new)
+        (lines_of_l2_table (geometry_of header.now) cluster) }
+    ensures last { PrintsLast (run_over S.state O.contents result image.old image.new out.old out.new) }
     ensures unchanged { (S.state image.new).byte_at ≡ (S.state image.old).byte_at }
 {
     let table = load_l2_table(alloc, image, header, cluster)?;

@@ -4,6 +4,7 @@ ghost use Rattle.std.specs.Prelude.{IsErrOf};
 ghost use Rattle.qcow2_base.specs.Storage.{ReadsFor};
 ghost use Rattle.qcow2_base.specs.declared.fault.Fault.TheVariants.{Storage as StorageFailed};
 ghost use Rattle.qcow2_session.specs.Commands.List.{PrintsList, PrintsTables, texts_of_tables, texts_left};
+ghost use Rattle.qcow2_session.specs.Commands.Printing.{run_over};
 
 use super::entries::{Label, print_entries};
 use crate::L2Tables;
@@ -25,8 +26,8 @@ pub fn list_tables<S: Storage, O: Write>(
     header: &Header,
     out: &mut O,
 ) -> Result<(), Fault>
-    ensures prints { PrintsList result (texts_of_tables header.now)
-        (S.state image.old) (S.state image.new) (O.contents out.old) (O.contents out.new) }
+    ensures prints { PrintsList (run_over S.state O.contents result image.old image.new out.old out.new)
+        (texts_of_tables header.now) }
     ensures storage { ReadsFor (IsErrOf result StorageFailed) (S.state image.old) (S.state image.new) }
 {
     let mut tables = L2Tables::new(alloc, image, header)?;
@@ -39,8 +40,8 @@ fn print_tables<S: Storage, O: Write>(
     image: &mut S,
     out: &mut O,
 ) -> Result<(), Fault>
-    ensures prints { PrintsTables result (texts_left tables.old)
-        (S.state image.old) (S.state image.new) (O.contents out.old) (O.contents out.new) }
+    ensures prints { PrintsTables (run_over S.state O.contents result image.old image.new out.old out.new)
+        (texts_left tables.old) }
     ensures storage { ReadsFor (IsErrOf result StorageFailed) (S.state image.old) (S.state image.new) }
 {
     while let Some((index, table)) = tables.next(image)? {

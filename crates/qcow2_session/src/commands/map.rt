@@ -4,8 +4,8 @@ ghost use Rattle.std.specs.Prelude.{◌≡◌, ◌+◌, ◌≤◌, ◌++◌, IsE
 ghost use Rattle.qcow2_base.specs.Storage.{OnImage, ReadsFor};
 ghost use Rattle.qcow2_base.specs.declared.fault.Fault.TheVariants.{Storage as StorageFailed};
 ghost use Rattle.qcow2_session.specs.Extents.{IsReaderOf};
-ghost use Rattle.qcow2_session.specs.Commands.Map.{PrintsExtents, PrintsRest, closing, content_text, disk_of, extent_line, extent_text, map_command, json_content, json_flags, json_object, json_offset, json_row, opening};
-ghost use Rattle.qcow2_session.specs.Commands.Printing.{PrintsText};
+ghost use Rattle.qcow2_session.specs.Commands.Map.{PrintsExtents, PrintsRest, closing, content_text, disk_of, extent_line, extent_text, map_command, json_content, json_object, json_row, opening};
+ghost use Rattle.qcow2_session.specs.Commands.Printing.{PrintsText, run_over};
 ghost use Rattle.qcow2_session.specs.Commands.Words.{Parses};
 
 use super::Command;
@@ -59,8 +59,8 @@ pub fn print_extents<S: Storage, O: Write>(
     format: ExtentFormat,
     out: &mut O,
 ) -> Result<(), Fault>
-    ensures prints { PrintsExtents result format (disk_of header.now)
-        (S.state image.old) (S.state image.new) (O.contents out.old) (O.contents out.new) }
+    ensures prints { PrintsExtents (run_over S.state O.contents result image.old image.new out.old out.new)
+        format (disk_of header.now) }
     ensures storage { ReadsFor (IsErrOf result StorageFailed) (S.state image.old) (S.state image.new) }
 {
     let mut extents = Extents::new(alloc, image, header)?;
@@ -77,8 +77,8 @@ fn print_all<S: Storage, O: Write>(
     out: &mut O,
 ) -> Result<(), Fault>
     requires kept { OnImage (S.state image.old) (λ bytes. IsReaderOf bytes extents.old) }
-    ensures prints { PrintsRest result format extents.old (S.state image.old) (S.state image.new)
-        (O.contents out.old) (O.contents out.new) }
+    ensures prints { PrintsRest (run_over S.state O.contents result image.old image.new out.old out.new)
+        format extents.old }
     ensures storage { ReadsFor (IsErrOf result StorageFailed) (S.state image.old) (S.state image.new) }
 {
     let mut line = LineBuffer::new();
@@ -170,45 +170,37 @@ fn prepend_object(line: &mut LineBuffer, extent: &Extent)
     line.prepend("{ \"start\": ");
 }
 
-// Puts all that JSON says of a content in front of a line.
+// Puts what JSON says of a content in front of a line.
 fn prepend_json_content(line: &mut LineBuffer, content: Content)
     requires { length line.old ≤ 10 }
     ensures text { line.new ≡ json_content content ++ line.old }
     ensures bound { length line.new ≤ length line.old + 95 }
 {
-    line.prepend("}");
-    prepend_json_offset(line, content);
-    prepend_json_flags(line, content);
-    line.prepend(", \"depth\": 0, ");
-}
-
-// Puts in front of a line where the clusters of a content lie, if they are whole ones.
-fn prepend_json_offset(line: &mut LineBuffer, content: Content)
-    requires { length line.old ≤ 100 }
-    ensures text { line.new ≡ json_offset content ++ line.old }
-    ensures bound { length line.new ≤ length line.old + 32 }
-{
-    if let Content::Data(offset) | Content::AllocatedZeros(offset) = content {
-        line.prepend_decimal(offset.0);
-        line.prepend(", \"offset\": ");
+    match content {
+        Content::Data(offset) => {
+            line.prepend("}");
+            line.prepend_decimal(offset.0);
+            line.prepend(
+                ", \"depth\": 0, \"present\": true, \"zero\": false, \"data\": true, \"offset\": ",
+            );
+        }
+        Content::AllocatedZeros(offset) => {
+            line.prepend("}");
+            line.prepend_decimal(offset.0);
+            line.prepend(
+                ", \"depth\": 0, \"present\": true, \"zero\": true, \"data\": false, \"offset\": ",
+            );
+        }
+        Content::Zeros => line.prepend(
+            ", \"depth\": 0, \"present\": true, \"zero\": true, \"data\": false}",
+        ),
+        Content::Compressed => line.prepend(
+            ", \"depth\": 0, \"present\": true, \"zero\": false, \"data\": true}",
+        ),
+        Content::Absent => line.prepend(
+            ", \"depth\": 0, \"present\": false, \"zero\": true, \"data\": false}",
+        ),
     }
-}
-
-// Puts in front of a line whether a content is in the image, reads as zeros, and is data.
-fn prepend_json_flags(line: &mut LineBuffer, content: Content)
-    requires { length line.old ≤ 100 }
-    ensures text { line.new ≡ json_flags content ++ line.old }
-    ensures bound { length line.new ≤ length line.old + 46 }
-{
-    line.prepend(match content {
-        Content::Data(_) | Content::Compressed => {
-            "\"present\": true, \"zero\": false, \"data\": true"
-        }
-        Content::Zeros | Content::AllocatedZeros(_) => {
-            "\"present\": true, \"zero\": true, \"data\": false"
-        }
-        Content::Absent => "\"present\": false, \"zero\": true, \"data\": false",
-    });
 }
 
 /// What the words of the command `map` ask for.

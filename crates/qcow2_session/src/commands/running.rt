@@ -4,9 +4,9 @@ ghost use Rattle.std.specs.Prelude.{◌≡◌, ◌≢◌, ◌≤◌, ◌↔◌, 
 ghost use Rattle.std.specs.Io.KnownBytes.{Keeps};
 ghost use Rattle.qcow2_base.specs.declared.fault.Fault.TheVariants.{Storage as StorageFailed};
 ghost use Rattle.qcow2_session.specs.Commands.{command_of, facts_of};
-ghost use Rattle.qcow2_session.specs.Commands.Printing.{AppendsPart};
+ghost use Rattle.qcow2_session.specs.Commands.Printing.{AppendsPart, PrintsLast, run_over};
 ghost use Rattle.qcow2_session.specs.Commands.Report.{Reports, fault_line};
-ghost use Rattle.qcow2_session.specs.Commands.Running.{FindsHeader, PrintsAtOnce, Runs, RunsAndFlushes};
+ghost use Rattle.qcow2_session.specs.Commands.Running.{FindsHeader, Runs, RunsAndFlushes};
 
 use super::Command;
 use super::at::print_mapping_at;
@@ -91,8 +91,8 @@ fn run_and_flush<S: Storage, O: Write>(
     command: &Command,
     out: &mut O,
 ) -> Result<(), Fault>
-    ensures runs { RunsAndFlushes (facts_of command.now) result
-        (S.state image.old) (S.state image.new) (O.contents out.old) (O.contents out.new) }
+    ensures runs { RunsAndFlushes (facts_of command.now)
+        (run_over S.state O.contents result image.old image.new out.old out.new) }
     ensures place { IfSome (facts_of command.now).place_fault (λ fault.
         IsErr result × Keeps (O.contents out.old) (O.contents out.new)) }
     ensures before_any_line { (facts_of command.now).prints_before_faults ≡ false → IfErr result (λ fault.
@@ -122,10 +122,10 @@ pub fn run<S: Storage, O: Write>(
     command: &Command,
     out: &mut O,
 ) -> Result<(), Fault>
-    ensures runs { Runs (facts_of command.now) result (S.state image.old) (S.state image.new)
-        (O.contents out.old) (O.contents out.new) }
-    ensures at_once { PrintsAtOnce (facts_of command.now) result (S.state image.old) (S.state image.new)
-        out.old out.new }
+    ensures runs { Runs (facts_of command.now)
+        (run_over S.state O.contents result image.old image.new out.old out.new) }
+    ensures at_once { (facts_of command.now).prints_before_faults ≡ false →
+        PrintsLast (run_over S.state O.contents result image.old image.new out.old out.new) }
     ensures unchanged { (facts_of command.now).changes_image ≡ false →
         (S.state image.new).byte_at ≡ (S.state image.old).byte_at }
     ensures place { IfSome (facts_of command.now).place_fault (λ fault.

@@ -1,9 +1,9 @@
 //! An output that goes on until a write fails, and then takes nothing more.
 
-ghost use Rattle.std.specs.Prelude.{◌≡◌, ◌≤◌, false, length, take};
+ghost use Rattle.std.specs.Prelude.{◌≡◌, ◌≤◌, false, if◌then◌else◌, length, take};
 ghost use Rattle.std.specs.Io.KnownBytes.{Appends};
 ghost use Rattle.qcow2_session.specs.Commands.Printing.{PrintsText};
-ghost use Rattle.qcow2_session.specs.Lines.Output.{Begins, Gets, GoesOn, output_result};
+ghost use Rattle.qcow2_session.specs.Lines.Output.{Begins, Gets, GoesOn};
 
 use qcow2_base::Fault;
 use std::io::{ErrorKind, Write};
@@ -40,7 +40,7 @@ impl<'a, W: Write> Output<'a, W> {
 
     /// The storage fault, where a write has failed.
     pub(crate) fn result(&self) -> Result<(), Fault>
-        ensures { result ≡ output_result self.now.has_failed }
+        ensures { result ≡ (if self.now.has_failed then Err Fault.Storage else Ok tt) }
     {
         if self.has_failed {
             Err(Fault::Storage)

@@ -1,11 +1,13 @@
-use Rattle.std.proofs.Common.{arith, refl, ◌∙◌}
+use Rattle.std.proofs.Common.{◌++◌, arith, flat_map, refl, ◌∙◌}
 use Rattle.std.proofs.lemmas.Result.{err_from_is_err_and}
 use Rattle.qcow2_session.proofs.ChangingLemmas.{change-printed, change-refused, change-unplaced, idle-edits, loads-part, of-any, part-follows, part-refused}
 use Rattle.qcow2_session.proofs.PrintingLemmas.{last-printed, last-unprinted, refused-as}
-use Rattle.qcow2_session.specs.Commands.Edit.{end_of_edits, change_by_edits}
+use Rattle.qcow2_session.specs.Commands.Edit.{end_of_edits, freed_line, gained_line}
 use Rattle.qcow2_metadata.specs.Header.{geometry_of}
 use Rattle.qcow2_metadata.specs.Table.{l2_layout}
 use Rattle.qcow2_metadata.specs.Table.L2Guards.{RunEnd}
+use Rattle.qcow2_session.specs.Commands.Changing.{ChangeEnd}
+use Rattle.qcow2_session.specs.Edits.{are_some}
 use Rattle.qcow2_session.specs.Images.{edits_end}
 use Rattle.qcow2_session.proofs.commands.edit.edit_entries.Goals as goal
 
@@ -21,7 +23,13 @@ returns-in_err-outcome-clause-edits g c =
     let cluster = c.in_ok-cluster.cluster in
     let edits = c.args.edits.now in
     let image = (g.S.Storage.state c.args.image.now).byte_at in
-    rw (exit.1, exit.2) (change-refused _ (l2_layout (geometry_of header)) (change_by_edits cluster edits) (end_of_edits c.args.l1_index edits header) (edits_end header cluster edits image) _ _ _ _
+    let tell : RunEnd → ChangeEnd = λ left. record {
+      cluster = cluster;
+      numbers = left.numbers;
+      is_written = are_some edits;
+      lines = flat_map freed_line left.freed ++ flat_map gained_line left.gained;
+    } in
+    rw (exit.1, exit.2) (change-refused _ (l2_layout (geometry_of header)) tell (end_of_edits c.args.l1_index edits header) (edits_end header cluster edits image) _ _ _ _ _
     (λ told. rw (named.exact told) refl)
     (λ told. refused-as _ (λ bad. part-refused _ (λ (left : RunEnd). (left.freed, left.gained)) _ (rw named.storage.bytes at bad)) (ran.exact (named.storage.device.tells ∙ told)))
     (λ storage. grind (arith, storage, named.storage.told, ran.changes.storage.told))

@@ -11,5 +11,5 @@ pub returns-in_err-table-clause-prints : goal.returns-in_err-table-clause-prints
 returns-in_err-table-clause-prints g c =
     let left = err_from_is_err_and c.from_residual.result c.from_residual.ensures.1 in
     let bits = geometry_of c.args.header.now in
-    rw left.1 (Prints-refused _ (loaded_l2_table bits c.args.cluster) (table_lines Index bits 0) _ _ _ _
+    rw left.1 (Prints-refused _ (loaded_l2_table bits c.args.cluster) (table_lines Index bits 0) _ _ _ _ _
     (λ told. search rules) (λ storage. search rules))

@@ -15,7 +15,7 @@ returns-clause-prints g c =
     let reads = c.in_ok-tables.ensures.reads.storage in
     let header = c.args.header.now in
     let tables = c.in_ok-tables.tables in
-    PrintsList-tables tables c.print_tables.result (texts_of_tables header) (texts_left tables) _ (g.S.Storage.state c.new.new.image) _ _ _
+    PrintsList-tables tables c.print_tables.result (texts_of_tables header) (texts_left tables) _ _ (g.S.Storage.state c.new.new.image) _ _ _
     (λ told.
     let loaded : loaded_l1_table header image ≡ Ok tables.l1 = search rules in
     rw (loaded, c.in_ok-tables.ensures.begun) refl)
@@ -24,4 +24,4 @@ returns-clause-prints g c =
 pub returns-in_err-tables-clause-prints : goal.returns-in_err-tables-clause-prints
 returns-in_err-tables-clause-prints g c =
     let left = err_from_is_err_and c.from_residual.result c.from_residual.ensures.1 in
-    rw (left.1, left.2) (PrintsList-none _ (texts_of_tables c.args.header.now) (g.S.Storage.state c.args.image.now) _ _ (λ told. search rules) (λ storage. search rules))
+    rw (left.1, left.2) (PrintsList-none _ (texts_of_tables c.args.header.now) _ (g.S.Storage.state c.args.image.now) _ _ (λ told. search rules) (λ storage. search rules))
