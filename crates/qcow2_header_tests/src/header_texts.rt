@@ -9,7 +9,7 @@ pub(crate) type Repeated = (&'static str, usize);
 
 /// A new header with a backing file, and what a write of it places: the names of features, where they fit,
 /// and what else differs from the least header.
-#[derive(Clone, Copy, Debug)]
+#[derive(Clone, Copy)]
 pub(crate) struct NewHeader {
     pub(crate) name: &'static str,
     pub(crate) cluster_bits: u32,
@@ -62,7 +62,7 @@ pub(crate) const OLDER_WRITTEN: Changes = "version=2, backing_file_offset=80, ba
 
 /// A header that is loaded and written: its changes to the least one, those that a write of it places, and
 /// what it calls the first incompatible feature then.
-#[derive(Clone, Copy, Debug)]
+#[derive(Clone, Copy)]
 pub(crate) struct Loaded {
     pub(crate) name: &'static str,
     pub(crate) loaded: Changes,
