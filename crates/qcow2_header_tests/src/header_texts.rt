@@ -104,7 +104,7 @@ pub(crate) const LOADED: &[Loaded] = rows! { Loaded:
     { name: "an empty one", loaded: "104=names 02", written: "104=names 30, 167=00", called: Some("") },
     { name: "many", loaded: MANY_NAMES, written: MANY_WRITTEN, called: Some("a") },
     { name: "two tables that just fit", loaded: TWO_TABLES, written: TWO_WRITTEN, called: Some("a") },
-    { name: "two that don't both go", loaded: TWO_LONG_TABLES,
+    { name: "two that don't fit, which both go", loaded: TWO_LONG_TABLES,
         written: "backing_file_offset=120, backing_file_size=281, 107=07, 400=00", called: None },
 };
 

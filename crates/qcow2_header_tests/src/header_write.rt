@@ -175,8 +175,11 @@ const TOO_LONG: &[Changes] = &[
     "version=2, backing_file_offset=79, backing_file_size=433, 79=61*433",
 ];
 
-fn check_new_refusal(alloc: Global, row: (u32, usize, Fault)) -> Result<(), Fail> {
-    check_refusal(alloc, &mut made(alloc, row.0, ("a", row.1))?, row.2)
+fn check_new_refusal(
+    alloc: Global,
+    (cluster_bits, length, fault): (u32, usize, Fault),
+) -> Result<(), Fail> {
+    check_refusal(alloc, &mut made(alloc, cluster_bits, ("a", length))?, fault)
 }
 
 fn check_loaded_refusal(alloc: Global, changes: Changes) -> Result<(), Fail> {

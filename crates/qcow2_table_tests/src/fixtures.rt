@@ -180,10 +180,6 @@ impl State {
             ..self
         }
     }
-
-    fn number_at(self, index: usize) -> u64 {
-        if index == self.index { self.number } else { 0 }
-    }
 }
 
 /// Fails unless the table is as this says.
@@ -206,9 +202,10 @@ pub(crate) fn check_table<T: Table, R: Debug + Drop>(
 
 // The first entry that is another, with its index.
 fn other_entry<T: Table>(table: &T, state: State) -> Option<(usize, u64)> {
+    let (place, number) = (state.index, state.number);
     for index in 0..state.entries {
         let found = table.get(index).to_plain();
-        if found != state.number_at(index) {
+        if found != if index == place { number } else { 0 } {
             return Some((index, found));
         }
     }

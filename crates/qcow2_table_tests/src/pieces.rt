@@ -10,8 +10,8 @@ use qcow2_testing::{
 use std::alloc::Global;
 use std::test::Fail;
 
-// Where each piece of a table begins, and how many bytes it has.
-type Pieces = &'static [(u64, usize)];
+/// Where each piece of a table begins, and how many bytes it has.
+pub(crate) type Pieces = &'static [(u64, usize)];
 
 // A table, by its cluster and that cluster's offset, and its pieces.
 #[derive(Clone, Copy, Debug)]
@@ -50,8 +50,8 @@ fn image_with_entries(alloc: Global, start: u64, entries: usize) -> Result<MemSt
     Ok(image)
 }
 
-// Fails unless these pieces were read, or written.
-fn check_calls(
+/// Fails unless these pieces were read, or written.
+pub(crate) fn check_calls(
     alloc: Global,
     calls: &[StorageCall],
     pieces: Pieces,
