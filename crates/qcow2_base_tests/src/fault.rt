@@ -1,18 +1,23 @@
 //! Numbers, kinds and messages of faults.
 
 use qcow2_base::{Fault, Field, StorageFault};
-use qcow2_testing::{FAULTS, ToldFault, all_same, each, same, same_text};
+use qcow2_testing::{FAULTS, ReportedFault, all_same, each, same, same_text};
 use std::alloc::{AllocError, AllocFailed, Global};
 use std::test::Fail;
 
-fn check_told(alloc: Global, (fault, number, kind, text): ToldFault) -> Result<(), Fail> {
-    same((fault.number(), fault.kind()), (number, kind), fault)?;
-    same_text(alloc, fault, text)
+fn check_reported(alloc: Global, row: ReportedFault) -> Result<(), Fail> {
+    let fault = row.fault;
+    same(
+        (fault.number(), fault.kind()),
+        (row.number, row.kind),
+        fault,
+    )?;
+    same_text(alloc, fault, row.message)
 }
 
 #[test]
 fn each_fault_has_its_number_its_kind_and_its_message(rt: HostRuntime) -> Result<(), Fail> {
-    each(rt.alloc(), FAULTS, check_told)
+    each(rt.alloc(), FAULTS, check_reported)
 }
 
 const NAMES: &[(Field, &'static str)] = &[

@@ -117,7 +117,7 @@ pub(crate) const WRITES: &[Written] = &[
     (7, &[1, 2, 3, 0, 0, 0, 0, 7, 8]),
 ];
 
-fn is_written(alloc: Global, row: Written) -> Result<(), Fail> {
+fn check_written(alloc: Global, row: Written) -> Result<(), Fail> {
     let (offset, bytes) = row;
     let mut storage = memory(alloc, &[1, 2, 3])?;
     write(&mut storage, &[7, 8], offset)?;
@@ -127,19 +127,19 @@ fn is_written(alloc: Global, row: Written) -> Result<(), Fail> {
 
 #[test]
 fn a_write_replaces_its_range_and_lengthens_with_zeros(rt: HostRuntime) -> Result<(), Fail> {
-    each(rt.alloc(), WRITES, is_written)
+    each(rt.alloc(), WRITES, check_written)
 }
 
 // No memory has room for an image that ends at 2^56.
-fn is_refused(alloc: Global, storage: &mut MemStorage, failures: u32) -> Result<(), Fail> {
+fn check_refused(alloc: Global, storage: &mut MemStorage, failures: u32) -> Result<(), Fail> {
     check_failed_write(alloc, storage, &[7, 8], LIMIT - 2, failures)?;
     same_bytes(storage.bytes(), &[1, 2, 3], failures)
 }
 
-fn are_refused(alloc: Global, storage: &mut MemStorage) -> Result<(), Fail> {
-    is_refused(alloc, storage, 1)?;
-    is_refused(alloc, storage, 2)?;
-    is_refused(alloc, storage, 3)?;
+fn check_refusals(alloc: Global, storage: &mut MemStorage) -> Result<(), Fail> {
+    check_refused(alloc, storage, 1)?;
+    check_refused(alloc, storage, 2)?;
+    check_refused(alloc, storage, 3)?;
     let answers = (write(storage, &[], LIMIT), write(storage, &[7, 8], 1));
     same(answers, (Ok(()), Ok(())), "written")?;
     same_bytes(storage.bytes(), &[1, 7, 8], "written")?;
@@ -148,5 +148,5 @@ fn are_refused(alloc: Global, storage: &mut MemStorage) -> Result<(), Fail> {
 
 #[test]
 fn a_refused_growth_is_counted_and_changes_nothing(rt: HostRuntime) -> Result<(), Fail> {
-    are_refused(rt.alloc(), &mut memory(rt.alloc(), &[1, 2, 3])?)
+    check_refusals(rt.alloc(), &mut memory(rt.alloc(), &[1, 2, 3])?)
 }

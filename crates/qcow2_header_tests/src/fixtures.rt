@@ -47,8 +47,8 @@ pub(crate) fn least_with(
     Ok(image)
 }
 
-// Makes the changes of an image, which grows where it is too short.
-fn change(alloc: Global, image: &mut MemStorage, changes: Changes) -> Result<(), Fail> {
+/// Makes the changes of an image, which grows where it is too short.
+pub(crate) fn change(alloc: Global, image: &mut MemStorage, changes: Changes) -> Result<(), Fail> {
     for part in changes.split(", ") {
         if !part.is_empty() {
             change_part(alloc, image, part)?;

@@ -10,55 +10,95 @@ use qcow2_testing::{each, rows, same};
 use std::alloc::Global;
 use std::test::Fail;
 
-// Cluster bits and the refcount order, and then the cluster size, the entries of an L2 table, the refcounts
-// of a block and their logarithm.
-type Sizes = (u32, u32, usize, usize, usize, u32);
-
-const SIZES: &[Sizes] = rows! {
-    (9, 0, 512, 64, 4096, 12), (9, 4, 512, 64, 256, 8), (9, 6, 512, 64, 64, 6), (10, 4, 1024, 128, 512, 9),
-    (16, 4, 65536, 8192, 32768, 15), (21, 0, 2097152, 262144, 16777216, 24),
-};
-
-fn sizes(header: &Header) -> Sizes {
-    (
-        header.cluster_bits(),
-        header.refcount_order(),
-        header.cluster_size(),
-        header.l2_entries(),
-        header.rb_entries(),
-        header.rb_bits(),
-    )
+// The sizes that a header says.
+#[derive(Clone, Copy, Debug, PartialEq, Eq)]
+struct Sizes {
+    cluster_bits: u32,
+    refcount_order: u32,
+    cluster_size: usize,
+    l2_entries: usize,
+    rb_entries: usize,
+    rb_bits: u32,
 }
 
-// The size of the disk, where the L1 table begins and its entries, and where the refcount table begins, its
-// clusters and its entries.
-type Tables = (u64, HostOffset, usize, HostOffset, ClusterCount, usize);
+const SIZES: &[Sizes] = rows! { Sizes:
+    { cluster_bits: 9, refcount_order: 0, cluster_size: 512, l2_entries: 64, rb_entries: 4096, rb_bits: 12 },
+    { cluster_bits: 9, refcount_order: 4, cluster_size: 512, l2_entries: 64, rb_entries: 256, rb_bits: 8 },
+    { cluster_bits: 9, refcount_order: 6, cluster_size: 512, l2_entries: 64, rb_entries: 64, rb_bits: 6 },
+    { cluster_bits: 10, refcount_order: 4, cluster_size: 1024, l2_entries: 128, rb_entries: 512, rb_bits: 9 },
+    { cluster_bits: 16, refcount_order: 4, cluster_size: 65536, l2_entries: 8192,
+        rb_entries: 32768, rb_bits: 15 },
+    { cluster_bits: 21, refcount_order: 0, cluster_size: 2097152, l2_entries: 262144,
+        rb_entries: 16777216, rb_bits: 24 },
+};
 
-const NO_TABLES: Tables = (0, HostOffset(0), 0, HostOffset(0), ClusterCount(0), 0);
+const RICH_SIZES: Sizes = Sizes {
+    cluster_bits: 9,
+    refcount_order: 5,
+    cluster_size: 512,
+    l2_entries: 64,
+    rb_entries: 128,
+    rb_bits: 7,
+};
 
-const RICH_TABLES: Tables = (
-    0x0102_0304_0506_0708,
-    HostOffset(0x3132_3334_3536_3a00),
-    0x2122_2324,
-    HostOffset(0x4142_4344_4546_4800),
-    ClusterCount(0x5152_5354),
-    0x14_5494_d500,
-);
+fn sizes_of(header: &Header) -> Sizes {
+    Sizes {
+        cluster_bits: header.cluster_bits(),
+        refcount_order: header.refcount_order(),
+        cluster_size: header.cluster_size(),
+        l2_entries: header.l2_entries(),
+        rb_entries: header.rb_entries(),
+        rb_bits: header.rb_bits(),
+    }
+}
 
-fn tables(header: &Header) -> Tables {
-    (
-        header.size(),
-        header.l1_table_offset(),
-        header.l1_table_entries(),
-        header.reftable_offset(),
-        header.reftable_clusters(),
-        header.reftable_entries(),
-    )
+// What a header says of the disk and its tables.
+#[derive(Clone, Copy, Debug, PartialEq, Eq)]
+struct Tables {
+    size: u64,
+    l1_table_offset: HostOffset,
+    l1_table_entries: usize,
+    reftable_offset: HostOffset,
+    reftable_clusters: ClusterCount,
+    reftable_entries: usize,
+}
+
+const NO_TABLES: Tables = Tables {
+    size: 0,
+    l1_table_offset: HostOffset(0),
+    l1_table_entries: 0,
+    reftable_offset: HostOffset(0),
+    reftable_clusters: ClusterCount(0),
+    reftable_entries: 0,
+};
+
+const RICH_TABLES: Tables = Tables {
+    size: 0x0102_0304_0506_0708,
+    l1_table_offset: HostOffset(0x3132_3334_3536_3a00),
+    l1_table_entries: 0x2122_2324,
+    reftable_offset: HostOffset(0x4142_4344_4546_4800),
+    reftable_clusters: ClusterCount(0x5152_5354),
+    reftable_entries: 0x14_5494_d500,
+};
+
+fn tables_of(header: &Header) -> Tables {
+    Tables {
+        size: header.size(),
+        l1_table_offset: header.l1_table_offset(),
+        l1_table_entries: header.l1_table_entries(),
+        reftable_offset: header.reftable_offset(),
+        reftable_clusters: header.reftable_clusters(),
+        reftable_entries: header.reftable_entries(),
+    }
 }
 
 fn check_sizes(alloc: Global, row: Sizes) -> Result<(), Fail> {
-    let header = new(alloc, row.0, row.1, NO_NAMES)?;
-    same((sizes(&header), tables(&header)), (row, NO_TABLES), "new")
+    let header = new(alloc, row.cluster_bits, row.refcount_order, NO_NAMES)?;
+    same(
+        (sizes_of(&header), tables_of(&header)),
+        (row, NO_TABLES),
+        "new",
+    )
 }
 
 #[test]
@@ -69,8 +109,8 @@ fn a_new_header_tells_its_sizes_and_has_no_disk_and_no_tables(rt: HostRuntime) -
 #[test]
 fn a_loaded_header_tells_its_names_and_its_numbers(rt: HostRuntime) -> Result<(), Fail> {
     let header = load_with(rt.alloc(), RICH, "")?;
-    let found = (sizes(&header), tables(&header));
-    same(found, ((9, 5, 512, 64, 128, 7), RICH_TABLES), "rich")?;
+    let found = (sizes_of(&header), tables_of(&header));
+    same(found, (RICH_SIZES, RICH_TABLES), "rich")?;
     same(names_of(&header), RICH_NAMES, "rich")
 }
 
@@ -121,21 +161,26 @@ fn a_new_header_has_the_names_of_eight_features(rt: HostRuntime) -> Result<(), F
     Ok(())
 }
 
-// Changes to the least header, its version, one that is needed, and what the header returns then.
-type Version = (Changes, u32, u32, Result<(), Fault>);
+// Changes to the least header, its version, and what it returns where another one is needed.
+#[derive(Clone, Copy, Debug)]
+struct Version {
+    changes: Changes,
+    version: u32,
+    needed: u32,
+    answer: Result<(), Fault>,
+}
 
-const VERSIONS: &[Version] = rows! {
-    ("", 3, 3, Ok(())), ("", 3, 4, Err(Fault::VersionNeeded)),
-    (OLDER, 2, 2, Ok(())), (OLDER, 2, 3, Err(Fault::VersionNeeded)),
+const VERSIONS: &[Version] = rows! { Version:
+    { changes: "", version: 3, needed: 3, answer: Ok(()) },
+    { changes: "", version: 3, needed: 4, answer: Err(Fault::VersionNeeded) },
+    { changes: OLDER, version: 2, needed: 2, answer: Ok(()) },
+    { changes: OLDER, version: 2, needed: 3, answer: Err(Fault::VersionNeeded) },
 };
 
-fn check_version(alloc: Global, (changes, version, needed, expected): Version) -> Result<(), Fail> {
-    let header = load_with(alloc, changes, "")?;
-    same(
-        (header.version(), header.require_version(needed)),
-        (version, expected),
-        needed,
-    )
+fn check_version(alloc: Global, row: Version) -> Result<(), Fail> {
+    let header = load_with(alloc, row.changes, "")?;
+    let found = (header.version(), header.require_version(row.needed));
+    same(found, (row.version, row.answer), row)
 }
 
 #[test]

@@ -7,17 +7,28 @@ use qcow2_testing::rows;
 /// A backing file's name, which is a text repeated that many times.
 pub(crate) type Repeated = (&'static str, usize);
 
-/// Cluster bits and the backing file's name of a new header, and what a write of it places: the names of
-/// features, where they fit, and what else differs from the least header.
-pub(crate) const NEW: &[(u32, Repeated, Changes, Changes)] = rows! {
-    // a name of 8 bytes, which just fits besides the names of features, and one of 9, which doesn't
-    (9, ("base.img", 1), KNOWN, "backing_file_offset=504, backing_file_size=8, 504=:base.img"),
-    (9, ("backing.1", 1), "", "backing_file_offset=112, backing_file_size=9, 112=:backing.1"),
-    // the longest name in clusters of 512 bytes, and the longest of all
-    (9, ("a", 400), "", "backing_file_offset=112, backing_file_size=400, 112=61*400"),
-    (16, ("a", 1023), KNOWN, LONGEST),
-    // an empty name has a place too
-    (9, ("", 1), KNOWN, "backing_file_offset=504, 503=00"),
+/// A new header with a backing file, and what a write of it places: the names of features, where they fit,
+/// and what else differs from the least header.
+#[derive(Clone, Copy)]
+pub(crate) struct NewHeader {
+    pub(crate) name: &'static str,
+    pub(crate) cluster_bits: u32,
+    pub(crate) backing: Repeated,
+    pub(crate) features: Changes,
+    pub(crate) placed: Changes,
+}
+
+pub(crate) const NEW: &[NewHeader] = rows! { NewHeader:
+    { name: "a name of 8 bytes just fits besides the names of features", cluster_bits: 9,
+        backing: ("base.img", 1), features: KNOWN,
+        placed: "backing_file_offset=504, backing_file_size=8, 504=:base.img" },
+    { name: "one of 9 doesn't", cluster_bits: 9, backing: ("backing.1", 1), features: "",
+        placed: "backing_file_offset=112, backing_file_size=9, 112=:backing.1" },
+    { name: "the longest name in clusters of 512 bytes", cluster_bits: 9, backing: ("a", 400), features: "",
+        placed: "backing_file_offset=112, backing_file_size=400, 112=61*400" },
+    { name: "the longest of all", cluster_bits: 16, backing: ("a", 1023), features: KNOWN, placed: LONGEST },
+    { name: "an empty name has a place too", cluster_bits: 9, backing: ("", 1), features: KNOWN,
+        placed: "backing_file_offset=504, 503=00" },
 };
 
 const LONGEST: Changes =
@@ -49,45 +60,52 @@ pub(crate) const RICH_WRITTEN: Changes = "backing_file_offset=304, backing_file_
 pub(crate) const OLDER_WRITTEN: Changes = "version=2, backing_file_offset=80, backing_file_size=5, \
     cluster_bits=16, 80=:a.img";
 
-/// The changes of a header to the least one, what a write of it places, and what it calls the first
-/// incompatible feature then.
-pub(crate) type Loaded = (Changes, Changes, Option<&'static str>);
+/// A header that is loaded and written: its changes to the least one, those that a write of it places, and
+/// what it calls the first incompatible feature then.
+#[derive(Clone, Copy)]
+pub(crate) struct Loaded {
+    pub(crate) name: &'static str,
+    pub(crate) loaded: Changes,
+    pub(crate) written: Changes,
+    pub(crate) called: Option<&'static str>,
+}
 
-pub(crate) const LOADED: &[Loaded] = rows! {
-    // an empty name has a place, and no name has none
-    ("backing_file_offset=512", "backing_file_offset=112, 111=00", None),
-    ("backing_file_size=0xffffffff", "111=00", None),
-    // a name that lay within the magic
-    ("backing_file_offset=1, backing_file_size=2", "backing_file_offset=112, backing_file_size=2, 112=:FI",
-        None),
-    // unknown fields and their padding
-    ("header_length=105, 104=ab", "header_length=112, 104=ab, 119=00", None),
-    ("header_length=112", "header_length=112, 119=00", None),
-    ("header_length=504, 104=ab", "header_length=504, 104=ab, 511=00", None),
-    // a name that ends with the cluster: an empty one, one in version 2, and one after an empty table of
-    // names of features, which goes where it takes the last byte
-    ("backing_file_offset=512, header_length=504", "backing_file_offset=512, header_length=504, 511=00",
-        None),
-    (OLDER_FULL, OLDER_FULL, None), (EMPTY_TABLE, EMPTY_TABLE, None),
-    (EMPTY_TABLE_MORE, "backing_file_offset=112, backing_file_size=393, 112=61*393", None),
-    // all that a header can have
-    (RICH, RICH_WRITTEN, Some("new")),
-    // End loses its data
-    ("110=0190", "111=00", None),
-    // fifty empty extensions, and one of 5 bytes at an odd place
-    ("104=0000000700000000*50", "104=0000000700000000*50, 511=00", None),
-    ("header_length=105, 104=ab, 108=0700000002a1", "header_length=112, 104=ab, 115=0700000002a1, 135=00",
-        None),
-    ("header_length=105, 108=0700000005:abcde", "header_length=112, 115=0700000005:abcde, 135=00", None),
-    // a header that fills a cluster of 2 MiB
-    ("cluster_bits=21, header_length=0x1ffff8", "cluster_bits=21, header_length=0x1ffff8, 2097151=00",
-        None),
-    // no names of features, an empty one, and many
-    ("104=names 00", "104=names 00, 119=00", None), ("104=names 02", "104=names 30, 167=00", Some("")),
-    (MANY_NAMES, MANY_WRITTEN, Some("a")),
-    // two tables of names, which both stay where they just fit, and else both go
-    (TWO_TABLES, TWO_WRITTEN, Some("a")),
-    (TWO_LONG_TABLES, "backing_file_offset=120, backing_file_size=281, 107=07, 400=00", None),
+pub(crate) const LOADED: &[Loaded] = rows! { Loaded:
+    { name: "an empty name has a place", loaded: "backing_file_offset=512",
+        written: "backing_file_offset=112, 111=00", called: None },
+    { name: "no name has none", loaded: "backing_file_size=0xffffffff", written: "111=00", called: None },
+    { name: "a name that lay within the magic", loaded: "backing_file_offset=1, backing_file_size=2",
+        written: "backing_file_offset=112, backing_file_size=2, 112=:FI", called: None },
+    { name: "an unknown field and its padding", loaded: "header_length=105, 104=ab",
+        written: "header_length=112, 104=ab, 119=00", called: None },
+    { name: "unknown fields without padding", loaded: "header_length=112",
+        written: "header_length=112, 119=00", called: None },
+    { name: "unknown fields up to End", loaded: "header_length=504, 104=ab",
+        written: "header_length=504, 104=ab, 511=00", called: None },
+    { name: "an empty name that ends with the cluster", loaded: "backing_file_offset=512, header_length=504",
+        written: "backing_file_offset=512, header_length=504, 511=00", called: None },
+    { name: "one in version 2", loaded: OLDER_FULL, written: OLDER_FULL, called: None },
+    { name: "one after an empty table of names of features", loaded: EMPTY_TABLE, written: EMPTY_TABLE,
+        called: None },
+    { name: "the table goes where the name takes its last byte", loaded: EMPTY_TABLE_MORE,
+        written: "backing_file_offset=112, backing_file_size=393, 112=61*393", called: None },
+    { name: "all that a header can have", loaded: RICH, written: RICH_WRITTEN, called: Some("new") },
+    { name: "End loses its data", loaded: "110=0190", written: "111=00", called: None },
+    { name: "fifty empty extensions", loaded: "104=0000000700000000*50",
+        written: "104=0000000700000000*50, 511=00", called: None },
+    { name: "an unknown field, and an extension of 2 bytes",
+        loaded: "header_length=105, 104=ab, 108=0700000002a1",
+        written: "header_length=112, 104=ab, 115=0700000002a1, 135=00", called: None },
+    { name: "one of 5 bytes at an odd place", loaded: "header_length=105, 108=0700000005:abcde",
+        written: "header_length=112, 115=0700000005:abcde, 135=00", called: None },
+    { name: "a header that fills a cluster of 2 MiB", loaded: "cluster_bits=21, header_length=0x1ffff8",
+        written: "cluster_bits=21, header_length=0x1ffff8, 2097151=00", called: None },
+    { name: "no names of features", loaded: "104=names 00", written: "104=names 00, 119=00", called: None },
+    { name: "an empty one", loaded: "104=names 02", written: "104=names 30, 167=00", called: Some("") },
+    { name: "many", loaded: MANY_NAMES, written: MANY_WRITTEN, called: Some("a") },
+    { name: "two tables that just fit", loaded: TWO_TABLES, written: TWO_WRITTEN, called: Some("a") },
+    { name: "two that don't fit, which both go", loaded: TWO_LONG_TABLES,
+        written: "backing_file_offset=120, backing_file_size=281, 107=07, 400=00", called: None },
 };
 
 const OLDER_FULL: Changes = "version=2, backing_file_offset=80, backing_file_size=432, 80=61*432";
@@ -119,19 +137,25 @@ pub(crate) type Name = (usize, usize);
 
 /// The bytes of a feature's name, what the feature is called when they are loaded, the bytes that are written
 /// then, and what it is called from the next load on. A feature name table has place for 46 bytes of a name.
-pub(crate) type Cut = (Changes, Name, Changes, Name);
+#[derive(Clone, Copy, Debug)]
+pub(crate) struct Cut {
+    pub(crate) loaded: Changes,
+    pub(crate) called: Name,
+    pub(crate) written: Changes,
+    pub(crate) called_then: Name,
+}
 
 /// Names that are cut when they are written.
-pub(crate) const CUT: &[Cut] = &[
+pub(crate) const CUT: &[Cut] = rows! { Cut:
     // 138 bytes of text
-    ("114=ff*46", (0, 46), "114=efbfbd*15 ef", (0, 16)),
+    { loaded: "114=ff*46", called: (0, 46), written: "114=efbfbd*15 ef", called_then: (0, 16) },
     // 48, 47 and 46, of which 46 are written
-    ("114=61*45 ff", (45, 1), "114=61*45 ef", (45, 1)),
-    ("114=61*44 ff", (44, 1), "114=61*44 efbf", (44, 1)),
-    ("114=61*43 ff", (43, 1), "114=61*43 efbfbd", (43, 1)),
+    { loaded: "114=61*45 ff", called: (45, 1), written: "114=61*45 ef", called_then: (45, 1) },
+    { loaded: "114=61*44 ff", called: (44, 1), written: "114=61*44 efbf", called_then: (44, 1) },
+    { loaded: "114=61*43 ff", called: (43, 1), written: "114=61*43 efbfbd", called_then: (43, 1) },
     // a character that was cut, and text of 46 bytes
-    ("114=61*45 c3", (45, 1), "114=61*45 ef", (45, 1)),
-    ("114=61*46", (46, 0), "114=61*46", (46, 0)),
+    { loaded: "114=61*45 c3", called: (45, 1), written: "114=61*45 ef", called_then: (45, 1) },
+    { loaded: "114=61*46", called: (46, 0), written: "114=61*46", called_then: (46, 0) },
     // what stands after a zero byte goes
-    ("114=610062", (1, 0), "114=61", (1, 0)),
-];
+    { loaded: "114=610062", called: (1, 0), written: "114=61", called_then: (1, 0) },
+};

@@ -3,7 +3,7 @@
 use crate::fixtures::{Changes, OLDER, OLDER_FILLED, filled_with, least_with};
 use crate::header_calls::{NO_NAMES, Names, dirty, load, load_with, names_of, new, write};
 use crate::header_texts::{
-    CUT, Cut, KNOWN, LOADED, Loaded, NEW, Name, OLDER_WRITTEN, Repeated, THREE_NAMES,
+    CUT, Cut, KNOWN, LOADED, Loaded, NEW, Name, NewHeader, OLDER_WRITTEN, Repeated, THREE_NAMES,
 };
 use qcow2_base::{Fault, MemStorage};
 use qcow2_metadata::Header;
@@ -13,23 +13,22 @@ use std::test::Fail;
 
 // Fails unless a write of the header over an image of 300 bytes is one call, which places the text and leaves
 // what is after it.
-fn check_places(alloc: Global, header: &mut Header, text: &[u8]) -> Result<(), Fail> {
+fn check_places(
+    alloc: Global,
+    header: &mut Header,
+    text: &[u8],
+    row: &'static str,
+) -> Result<(), Fail> {
     let expected = filled_with(alloc, 300, text)?;
     let mut image = FailingStorage::new(alloc, filled_image(alloc, 300)?);
     let answer = write(header, &mut image);
-    check_placed(answer, &image, text.len(), expected.bytes())
-}
-
-fn check_placed(
-    answer: Result<(), Fault>,
-    image: &FailingStorage<MemStorage>,
-    len: usize,
-    expected: &[u8],
-) -> Result<(), Fail> {
-    let call = StorageCall::Write { offset: 0, len };
-    let found = (answer, image.calls.len(), image.calls.first());
-    same(found, (Ok(()), 1, Some(&call)), len)?;
-    same_bytes(image.inner.bytes(), expected, len)
+    let call = StorageCall::Write {
+        offset: 0,
+        len: text.len(),
+    };
+    let found = (answer, image.calls.as_slice());
+    same(found, (Ok(()), [call].as_slice()), row)?;
+    same_bytes(image.inner.bytes(), expected.bytes(), row)
 }
 
 // Fails unless that is so, and the text is loaded as the header, which is written again as it is; and unless
@@ -39,21 +38,13 @@ fn check_round_trip(
     header: &mut Header,
     text: &[u8],
     called: (Option<&str>, Option<&str>),
+    row: &'static str,
 ) -> Result<(), Fail> {
-    check_places(alloc, header, text)?;
+    check_places(alloc, header, text, row)?;
     let mut loaded = load(alloc, &mut filled_with(alloc, 2048, text)?, false)?;
-    check_same(alloc, header, &mut loaded, text)?;
-    same((dirty(header), dirty(&loaded)), called, text.len())
-}
-
-fn check_same(
-    alloc: Global,
-    header: &Header,
-    loaded: &mut Header,
-    text: &[u8],
-) -> Result<(), Fail> {
-    same(names_of(loaded), names_of(header), text.len())?;
-    check_places(alloc, loaded, text)
+    same(names_of(&loaded), names_of(header), row)?;
+    check_places(alloc, &mut loaded, text, row)?;
+    same((dirty(header), dirty(&loaded)), called, row)
 }
 
 fn made(alloc: Global, cluster_bits: u32, name: Repeated) -> Result<Header, Fault> {
@@ -73,23 +64,25 @@ fn made(alloc: Global, cluster_bits: u32, name: Repeated) -> Result<Header, Faul
 fn check_new(
     alloc: Global,
     header: &mut Header,
-    known: Changes,
-    changes: Changes,
+    features: Changes,
+    placed: Changes,
+    row: &'static str,
 ) -> Result<(), Fail> {
-    let called = (!known.is_empty()).then_some("dirty");
-    let text = least_with(alloc, known, changes)?;
-    check_round_trip(alloc, header, text.bytes(), (called, called))
+    let called = (!features.is_empty()).then_some("dirty");
+    let text = least_with(alloc, features, placed)?;
+    check_round_trip(alloc, header, text.bytes(), (called, called), row)
+}
+
+fn check_new_header(alloc: Global, row: NewHeader) -> Result<(), Fail> {
+    let mut header = made(alloc, row.cluster_bits, row.backing)?;
+    check_new(alloc, &mut header, row.features, row.placed, row.name)
 }
 
 #[test]
 fn a_new_header_is_written_with_the_names_of_features_where_they_fit(
     rt: HostRuntime,
 ) -> Result<(), Fail> {
-    for (cluster_bits, name, known, changes) in NEW {
-        let mut header = made(rt.alloc(), *cluster_bits, *name)?;
-        check_new(rt.alloc(), &mut header, known, changes)?;
-    }
-    Ok(())
+    each(rt.alloc(), NEW, check_new_header)
 }
 
 #[test]
@@ -101,13 +94,14 @@ fn a_new_header_is_written_with_its_names(rt: HostRuntime) -> Result<(), Fail> {
         external: true,
     };
     let mut header = new(rt.alloc(), 16, 4, names)?;
-    check_new(rt.alloc(), &mut header, KNOWN, THREE_NAMES)
+    check_new(rt.alloc(), &mut header, KNOWN, THREE_NAMES, "three names")
 }
 
-fn check_written(alloc: Global, (changes, text, called): Loaded) -> Result<(), Fail> {
-    let text = least_with(alloc, text, "")?;
-    let mut header = load_with(alloc, changes, "")?;
-    check_round_trip(alloc, &mut header, text.bytes(), (called, called))
+fn check_written(alloc: Global, row: Loaded) -> Result<(), Fail> {
+    let text = least_with(alloc, row.written, "")?;
+    let mut header = load_with(alloc, row.loaded, "")?;
+    let called = (row.called, row.called);
+    check_round_trip(alloc, &mut header, text.bytes(), called, row.name)
 }
 
 #[test]
@@ -122,7 +116,7 @@ fn a_header_of_version_2_ends_with_its_name(rt: HostRuntime) -> Result<(), Fail>
     text.truncate(85);
     for changes in [OLDER, OLDER_FILLED] {
         let mut header = load_with(rt.alloc(), changes, "")?;
-        check_round_trip(rt.alloc(), &mut header, &text, (None, None))?;
+        check_round_trip(rt.alloc(), &mut header, &text, (None, None), changes)?;
     }
     Ok(())
 }
@@ -137,26 +131,23 @@ fn name_of(alloc: Global, name: Name) -> Result<String, AllocError> {
 }
 
 fn check_cut(alloc: Global, header: &mut Header, row: Cut) -> Result<(), Fail> {
-    let (found, first, written, later) = row;
-    let (first, later) = (name_of(alloc, first)?, name_of(alloc, later)?);
-    same(dirty(header), Some(first.as_str()), found)?;
-    let text = least_with(alloc, FULL_NAME, written)?;
-    let called = (Some(first.as_str()), Some(later.as_str()));
-    check_round_trip(alloc, header, text.bytes(), called)
+    let first = name_of(alloc, row.called)?;
+    let then = name_of(alloc, row.called_then)?;
+    same(dirty(header), Some(first.as_str()), row)?;
+    let text = least_with(alloc, FULL_NAME, row.written)?;
+    let called = (Some(first.as_str()), Some(then.as_str()));
+    check_round_trip(alloc, header, text.bytes(), called, row.loaded)
+}
+
+fn check_cut_row(alloc: Global, row: Cut) -> Result<(), Fail> {
+    check_cut(alloc, &mut load_with(alloc, FULL_NAME, row.loaded)?, row)
 }
 
 #[test]
 fn a_feature_name_that_is_cut_is_the_same_from_the_second_load_on(
     rt: HostRuntime,
 ) -> Result<(), Fail> {
-    for row in CUT {
-        check_cut(
-            rt.alloc(),
-            &mut load_with(rt.alloc(), FULL_NAME, row.0)?,
-            *row,
-        )?;
-    }
-    Ok(())
+    each(rt.alloc(), CUT, check_cut_row)
 }
 
 // Fails unless a write is refused by this fault without any call, and changes nothing.
@@ -184,8 +175,11 @@ const TOO_LONG: &[Changes] = &[
     "version=2, backing_file_offset=79, backing_file_size=433, 79=61*433",
 ];
 
-fn check_new_refusal(alloc: Global, row: (u32, usize, Fault)) -> Result<(), Fail> {
-    check_refusal(alloc, &mut made(alloc, row.0, ("a", row.1))?, row.2)
+fn check_new_refusal(
+    alloc: Global,
+    (cluster_bits, length, fault): (u32, usize, Fault),
+) -> Result<(), Fail> {
+    check_refusal(alloc, &mut made(alloc, cluster_bits, ("a", length))?, fault)
 }
 
 fn check_loaded_refusal(alloc: Global, changes: Changes) -> Result<(), Fail> {

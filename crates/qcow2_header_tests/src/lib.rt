@@ -18,6 +18,8 @@ mod header_update;
 #[cfg(test)]
 mod header_write;
 #[cfg(test)]
+mod refused_calls;
+#[cfg(test)]
 mod rich_header;
 #[cfg(test)]
 mod writable_load;

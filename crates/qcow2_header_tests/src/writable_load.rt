@@ -76,12 +76,16 @@ fn are_reads(calls: &[StorageCall]) -> bool {
 }
 
 // Fails unless the calls are two that read, and then one that writes `len` bytes.
-fn check_two_reads_and_a_write(calls: &[StorageCall], len: usize) -> Result<(), Fail> {
+fn check_two_reads_and_a_write(
+    calls: &[StorageCall],
+    len: usize,
+    row: Changes,
+) -> Result<(), Fail> {
     let write = StorageCall::Write { offset: 0, len };
     let [reads @ .., last] = calls else {
-        return holds(false, "calls");
+        return holds(false, row);
     };
-    all_same! { len, reads.len() => 2, are_reads(reads) => true, *last => write }
+    all_same! { row, reads.len() => 2, are_reads(reads) => true, *last => write }
 }
 
 // Fails unless a load for writing places the text in the image, and returns this.
@@ -94,8 +98,8 @@ fn check_clears(
     let mut expected = MemStorage::new(Vec::from_slice(alloc, image.inner.bytes())?);
     put_bytes(&mut expected, 0, text)?;
     check_load(alloc, image, loaded, changes)?;
-    check_two_reads_and_a_write(&image.calls, text.len())?;
-    same_bytes(image.inner.bytes(), expected.bytes(), text.len())
+    check_two_reads_and_a_write(&image.calls, text.len(), changes)?;
+    same_bytes(image.inner.bytes(), expected.bytes(), changes)
 }
 
 fn check_cleared(alloc: Global, (changes, text, loaded): Cleared) -> Result<(), Fail> {

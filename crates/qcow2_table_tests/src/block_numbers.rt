@@ -3,7 +3,7 @@
 use crate::blocks::{load, new_cleared};
 use qcow2_base::{Fault, HostCluster, MemStorage};
 use qcow2_metadata::RefBlock;
-use qcow2_testing::{each, printed, same};
+use qcow2_testing::{each, printed, rows, same};
 use std::alloc::{AllocError, Global};
 use std::test::Fail;
 
@@ -13,19 +13,26 @@ type First = (&'static str, usize);
 // The cluster that a block begins with, and whether it was changed.
 type Place = (Option<HostCluster>, bool);
 
-// A refcount order, how many counters a block of 512 bytes has, and in which integers it keeps their numbers;
-// the first bytes of a block, and the first of these numbers.
-type Kept = (u32, usize, &'static str, &'static [u8], First);
+// How many counters a block of 512 bytes has, and in which integers it keeps their numbers; the first bytes
+// of a block, and the first of these numbers.
+#[derive(Clone, Copy, Debug)]
+struct Kept {
+    order: u32,
+    counters: usize,
+    integers: &'static str,
+    bytes: &'static [u8],
+    first: First,
+}
 
-const KEPT: &[Kept] = &[
-    (0, 4096, "U8", &[0x82], ("0, 1, 0, 0, 0, 0, 0, 1", 8)),
-    (1, 2048, "U8", &[0x0c], ("0, 3, 0, 0", 4)),
-    (2, 1024, "U8", &[0x10], ("0, 1", 2)),
-    (3, 512, "U8", &[0x07], ("7", 1)),
-    (4, 256, "U16", &[0, 0xff], ("255", 1)),
-    (5, 128, "U32", &[0, 0, 0xff, 0xff], ("65535", 1)),
-    (6, 64, "U64", &[0xff; 8], ("18446744073709551615", 1)),
-];
+const KEPT: &[Kept] = rows! { Kept:
+    { order: 0, counters: 4096, integers: "U8", bytes: &[0x82], first: ("0, 1, 0, 0, 0, 0, 0, 1", 8) },
+    { order: 1, counters: 2048, integers: "U8", bytes: &[0x0c], first: ("0, 3, 0, 0", 4) },
+    { order: 2, counters: 1024, integers: "U8", bytes: &[0x10], first: ("0, 1", 2) },
+    { order: 3, counters: 512, integers: "U8", bytes: &[0x07], first: ("7", 1) },
+    { order: 4, counters: 256, integers: "U16", bytes: &[0, 0xff], first: ("255", 1) },
+    { order: 5, counters: 128, integers: "U32", bytes: &[0, 0, 0xff, 0xff], first: ("65535", 1) },
+    { order: 6, counters: 64, integers: "U64", bytes: &[0xff; 8], first: ("18446744073709551615", 1) },
+};
 
 // How a block prints that keeps these numbers first, 0 after them, and nothing else: where it stands, and
 // whether it was changed.
@@ -35,9 +42,9 @@ fn shown(
     first: First,
     (cluster, modified): Place,
 ) -> Result<String, AllocError> {
-    let (order, count, integers, ..) = row;
+    let (order, integers) = (row.order, row.integers);
     let mut text = format!(in alloc; "RefBlock {{ counters: {integers}([{}", first.0)?;
-    for _ in first.1..count {
+    for _ in first.1..row.counters {
         text.push_str(", 0")?;
     }
     let rest = format!(in alloc;
@@ -52,7 +59,7 @@ fn shown(
 fn check_kept(block: &RefBlock, row: Kept, first: First, place: Place) -> Result<(), Fail> {
     let expected = shown(block.allocator(), row, first, place)?;
     let found = printed(block.allocator(), block)?;
-    same(found.as_str(), expected.as_str(), row.0)
+    same(found.as_str(), expected.as_str(), row.order)
 }
 
 // The block of an image of these bytes, and zeros after them.
@@ -63,8 +70,10 @@ fn loaded(alloc: Global, order: u32, bytes: &[u8]) -> Result<RefBlock, Fault> {
 
 fn check_both(alloc: Global, row: Kept) -> Result<(), Fail> {
     let cluster = Some(HostCluster(0));
-    check_kept(&loaded(alloc, row.0, row.3)?, row, row.4, (cluster, false))?;
-    check_kept(&new_cleared(alloc, row.0)?, row, ("0", 1), (None, true))
+    let block = loaded(alloc, row.order, row.bytes)?;
+    check_kept(&block, row, row.first, (cluster, false))?;
+    let block = new_cleared(alloc, row.order)?;
+    check_kept(&block, row, ("0", 1), (None, true))
 }
 
 #[test]

@@ -1,6 +1,6 @@
 //! What holds of L1 tables, L2 tables and refcount tables alike.
 
-use crate::fixtures::{check_table, cleared_l1_table, load, write, write_entry};
+use crate::fixtures::{check_table, cleared, cleared_l1_table, disk_of, load, write, write_entry};
 use qcow2_base::{ClusterCount, Fault};
 use qcow2_metadata::{L1Table, L2Table, RefTable, Table, TableEntry};
 use qcow2_testing::{
@@ -19,46 +19,67 @@ const PAST: Option<Fault> = Some(Fault::TablePlace);
 /// More entries than an L1 table or a refcount table may have.
 const TOO_BIG: Option<Fault> = Some(Fault::TableTooBig);
 
-/// Cluster bits, a cluster, how many entries a table from there on has, numbers by their places among zeros,
-/// and why there is no such table, if so.
-type Place = (u32, u64, usize, &'static [(u64, u64)], Option<Fault>);
+/// A table from a cluster on, numbers by their places among zeros, and why there is no such table, if so.
+#[derive(Clone, Copy, Debug)]
+struct Place {
+    cluster_bits: u32,
+    cluster: u64,
+    entries: usize,
+    numbers: &'static [(u64, u64)],
+    fault: Option<Fault>,
+}
 
-const PLACES: &[Place] = rows! {
-    (9, (1 << 47) - 1, 64, &[], None), (9, (1 << 47) - 1, 65, &[], PAST), (9, 1 << 47, 64, &[], PAST),
-    (9, u64::MAX, 64, &[], PAST), (9, 1 << 47, 0, &[], None), (9, (1 << 47) + 1, 0, &[], PAST),
-    (9, (1 << 47) - 65535, 4194304, &[], PAST), (9, u64::MAX, 4194305, &[], TOO_BIG),
-    (9, 0, usize::MAX, &[], TOO_BIG), (16, (1 << 40) - 1, 8192, &[], None), (16, 1 << 40, 8192, &[], PAST),
-    (21, 1 << 63, 262144, &[], PAST),
+const PLACES: &[Place] = rows! { Place:
+    { cluster_bits: 9, cluster: (1 << 47) - 1, entries: 64, numbers: &[], fault: None },
+    { cluster_bits: 9, cluster: (1 << 47) - 1, entries: 65, numbers: &[], fault: PAST },
+    { cluster_bits: 9, cluster: 1 << 47, entries: 64, numbers: &[], fault: PAST },
+    { cluster_bits: 9, cluster: u64::MAX, entries: 64, numbers: &[], fault: PAST },
+    { cluster_bits: 9, cluster: 1 << 47, entries: 0, numbers: &[], fault: None },
+    { cluster_bits: 9, cluster: (1 << 47) + 1, entries: 0, numbers: &[], fault: PAST },
+    { cluster_bits: 9, cluster: (1 << 47) - 65535, entries: 4194304, numbers: &[], fault: PAST },
+    { cluster_bits: 9, cluster: u64::MAX, entries: 4194305, numbers: &[], fault: TOO_BIG },
+    { cluster_bits: 9, cluster: 0, entries: usize::MAX, numbers: &[], fault: TOO_BIG },
+    { cluster_bits: 16, cluster: (1 << 40) - 1, entries: 8192, numbers: &[], fault: None },
+    { cluster_bits: 16, cluster: 1 << 40, entries: 8192, numbers: &[], fault: PAST },
+    { cluster_bits: 21, cluster: 1 << 63, entries: 262144, numbers: &[], fault: PAST },
     // numbers that are no entries: the first decides, also in another piece of 512 entries
-    (9, 2, 64, &[(1528, 2)], RESERVED),
-    (16, 2, 8192, &[(131112, 0x200), (131120, 2)], UNALIGNED),
-    (16, 2, 8192, &[(131112, 2), (131120, 0x200)], RESERVED),
-    (16, 2, 8192, &[(135160, 0x200), (135168, 2)], UNALIGNED),
-    (16, 2, 8192, &[(135168, 0x202), (135176, 0x200)], RESERVED),
+    { numbers: &[(1528, 2)], fault: RESERVED, cluster_bits: 9, cluster: 2, entries: 64 },
+    { numbers: &[(131112, 0x200), (131120, 2)], fault: UNALIGNED, ..AT_131072 },
+    { numbers: &[(131112, 2), (131120, 0x200)], fault: RESERVED, ..AT_131072 },
+    { numbers: &[(135160, 0x200), (135168, 2)], fault: UNALIGNED, ..AT_131072 },
+    { numbers: &[(135168, 0x202), (135176, 0x200)], fault: RESERVED, ..AT_131072 },
+};
+
+const AT_131072: Place = Place {
+    cluster_bits: 16,
+    cluster: 2,
+    entries: 8192,
+    numbers: &[],
+    fault: None,
 };
 
 // What a load returns where the storage refuses each call if none may be made.
 fn load_of(alloc: Global, row: Place) -> Result<L1Table, Fault> {
-    let (bits, cluster, entries, numbers, fault) = row;
-    let mut image = image_with(alloc, 64, numbers)?;
+    let mut image = image_with(alloc, 64, row.numbers)?;
     put(&mut image, 0, u64::MAX)?;
     let mut image = recorded(alloc, image);
-    if entries == 0 || fault == PAST || fault == TOO_BIG {
+    if row.entries == 0 || row.fault == PAST || row.fault == TOO_BIG {
         image.plan = Some(0);
     }
-    load(alloc, &mut image, (bits, false), cluster, entries)
+    let disk = disk_of(row.cluster_bits);
+    load(alloc, &mut image, disk, row.cluster, row.entries)
 }
 
 // A table is loaded from where it may be, and else no byte is read. Past the image's end all bytes are
 // zero. One without entries takes no call of the storage.
 fn check_load(alloc: Global, row: Place) -> Result<(), Fail> {
-    let (_, cluster, entries, _, fault) = row;
     match load_of(alloc, row) {
         Ok(table) => {
-            same(None, fault, row)?;
-            check_table(&table, (entries, (0, 0), Some(cluster), false), row)
+            same(None, row.fault, row)?;
+            let state = cleared(row.entries).placed(Some(row.cluster), false);
+            check_table(&table, state, row)
         }
-        Err(found) => same(Some(found), fault, row),
+        Err(found) => same(Some(found), row.fault, row),
     }
 }
 
@@ -67,32 +88,41 @@ fn a_table_is_loaded_from_where_it_may_be(rt: HostRuntime) -> Result<(), Fail> {
     each(rt.alloc(), PLACES, check_load)
 }
 
-// How many entries a table has, its cluster, whether it is modified, and why neither it nor an entry can be
-// written there.
-type Refusal = (usize, Option<u64>, bool, Fault);
+// A table, and why neither it nor an entry can be written where it lies.
+#[derive(Clone, Copy, Debug)]
+struct Refusal {
+    entries: usize,
+    cluster: Option<u64>,
+    modified: bool,
+    fault: Fault,
+}
 
-const REFUSALS: &[Refusal] = &[
-    (64, None, true, Fault::NoOffset),
-    (64, Some(1 << 47), true, Fault::TablePlace),
-    (65, Some((1 << 47) - 1), false, Fault::TablePlace),
-    (64, Some((1 << 55) - 1), false, Fault::TablePlace),
-    (4194305, None, false, Fault::NoOffset),
-    (4194305, Some(1), false, Fault::TableTooBig),
-    (4194305, Some(1 << 47), true, Fault::TableTooBig),
-];
+const REFUSALS: &[Refusal] = rows! { Refusal:
+    { entries: 64, cluster: None, modified: true, fault: Fault::NoOffset },
+    { entries: 64, cluster: Some(1 << 47), modified: true, fault: Fault::TablePlace },
+    { entries: 65, cluster: Some((1 << 47) - 1), modified: false, fault: Fault::TablePlace },
+    { entries: 64, cluster: Some((1 << 55) - 1), modified: false, fault: Fault::TablePlace },
+    { entries: 4194305, cluster: None, modified: false, fault: Fault::NoOffset },
+    { entries: 4194305, cluster: Some(1), modified: false, fault: Fault::TableTooBig },
+    { entries: 4194305, cluster: Some(1 << 47), modified: true, fault: Fault::TableTooBig },
+};
 
 fn check_refusal(table: &mut L1Table, row: Refusal) -> Result<(), Fail> {
-    let (entries, cluster, modified, fault) = row;
     let mut image = filled_image(table.allocator(), 512)?;
     let answer = write(table, &mut image);
     let found = (answer, write_entry(table, &mut image, 0));
-    same(found, (Err(fault), Err(fault)), row)?;
+    same(found, (Err(row.fault), Err(row.fault)), row)?;
     same_image(&image, filled_image(table.allocator(), 512), row)?;
-    check_table(table, (entries, (0, 0), cluster, modified), row)
+    check_table(
+        table,
+        cleared(row.entries).placed(row.cluster, row.modified),
+        row,
+    )
 }
 
 fn check_not_written(alloc: Global, row: Refusal) -> Result<(), Fail> {
-    check_refusal(&mut cleared_l1_table(alloc, row.0, row.1, row.2)?, row)
+    let mut table = cleared_l1_table(alloc, row.entries, row.cluster, row.modified)?;
+    check_refusal(&mut table, row)
 }
 
 #[test]

@@ -33,11 +33,32 @@ pub(crate) fn header_with(alloc: Global, cluster_bits: u32) -> Result<Header, Fa
     header_of(alloc, cluster_bits, 4, false)
 }
 
-/// Cluster bits of an image, and whether guest data lies in a file of its own.
-pub(crate) type Disk = (u32, bool);
+/// What entries of tables depend on: cluster bits, and whether guest data lies in a file of its own.
+#[derive(Clone, Copy, Debug)]
+pub(crate) struct Disk {
+    pub(crate) cluster_bits: u32,
+    pub(crate) external: bool,
+}
 
 /// The disk of most tests.
-pub(crate) const DISK: Disk = (9, false);
+pub(crate) const DISK: Disk = Disk {
+    cluster_bits: 9,
+    external: false,
+};
+
+/// The same with guest data in a file of its own.
+pub(crate) const EXTERNAL: Disk = Disk {
+    cluster_bits: 9,
+    external: true,
+};
+
+/// A disk whose guest data is in the image.
+pub(crate) fn disk_of(cluster_bits: u32) -> Disk {
+    Disk {
+        cluster_bits,
+        ..DISK
+    }
+}
 
 /// A kind of table that tests load.
 pub(crate) trait Loads: Table + Drop {
@@ -72,7 +93,7 @@ pub(crate) fn load<T: Loads, S: Storage>(
     cluster: u64,
     entries: usize,
 ) -> Result<T, Fault> {
-    let header = header_of(alloc, disk.0, 4, disk.1)?;
+    let header = header_of(alloc, disk.cluster_bits, 4, disk.external)?;
     if !T::may_have(&header, entries) {
         return Err(Fault::WrongLength);
     }
@@ -124,33 +145,65 @@ pub(crate) const NUMBER: u64 = 0x8000_0000_0020_0000;
 /// Bit 63 of an L1 or L2 entry: its cluster has no other reference.
 pub(crate) const COPIED: u64 = 0x8000_0000_0000_0000;
 
-/// What a table says whose entries but one are 0: how many they are, that one with its index, the
-/// table's cluster, and whether it counts as modified.
-pub(crate) type Told = (usize, (usize, u64), Option<u64>, bool);
+/// A table whose entries are 0 but for `number` at `index`.
+#[derive(Clone, Copy, Debug)]
+pub(crate) struct State {
+    pub(crate) entries: usize,
+    pub(crate) index: usize,
+    pub(crate) number: u64,
+    pub(crate) cluster: Option<u64>,
+    pub(crate) modified: bool,
+}
 
-/// What a table says that cluster 2 of an image of 512-byte clusters holds.
-pub(crate) const LOADED: Told = (64, (3, NUMBER), Some(2), false);
-
-/// Fails unless the table says this.
-pub(crate) fn check_table<T: Table, R: Debug + Drop>(
-    table: &T,
-    told: Told,
-    row: R,
-) -> Result<(), Fail> {
-    let (entries, entry, cluster, modified) = told;
-    let size = 1 << table.cluster_bits();
-    all_same! {
-        row,
-        table.entries() => entries, other_entry(table, entries, entry) => None,
-        table.get_cluster() => cluster.map(HostCluster), table.is_modified() => modified,
-        table.get_offset() => cluster.map(|cluster| HostOffset(cluster.wrapping_mul(size))),
+/// A table that is loaded from cluster 2.
+pub(crate) fn loaded(entries: usize, index: usize, number: u64) -> State {
+    State {
+        entries,
+        index,
+        number,
+        cluster: Some(2),
+        modified: false,
     }
 }
 
-// The first entry that isn't as `entry` says, with its index.
-fn other_entry<T: Table>(table: &T, entries: usize, entry: (usize, u64)) -> Option<(usize, u64)> {
-    let (place, number) = entry;
-    for index in 0..entries {
+/// A table of entries 0 that is new.
+pub(crate) fn cleared(entries: usize) -> State {
+    loaded(entries, 0, 0).placed(None, true)
+}
+
+impl State {
+    /// The same with another cluster or none, and with this flag.
+    pub(crate) fn placed(self, cluster: Option<u64>, modified: bool) -> State {
+        State {
+            cluster,
+            modified,
+            ..self
+        }
+    }
+}
+
+/// Fails unless the table is as this says.
+pub(crate) fn check_table<T: Table, R: Debug + Drop>(
+    table: &T,
+    state: State,
+    row: R,
+) -> Result<(), Fail> {
+    let size = 1 << table.cluster_bits();
+    let offset = state
+        .cluster
+        .map(|cluster| HostOffset(cluster.wrapping_mul(size)));
+    all_same! {
+        row,
+        table.entries() => state.entries, other_entry(table, state) => None,
+        table.get_cluster() => state.cluster.map(HostCluster), table.is_modified() => state.modified,
+        table.get_offset() => offset,
+    }
+}
+
+// The first entry that is another, with its index.
+fn other_entry<T: Table>(table: &T, state: State) -> Option<(usize, u64)> {
+    let (place, number) = (state.index, state.number);
+    for index in 0..state.entries {
         let found = table.get(index).to_plain();
         if found != if index == place { number } else { 0 } {
             return Some((index, found));
@@ -159,18 +212,13 @@ fn other_entry<T: Table>(table: &T, entries: usize, entry: (usize, u64)) -> Opti
     None
 }
 
-/// A table of an image with such a disk that says this.
-pub(crate) fn table_that_tells<T: Loads>(
-    alloc: Global,
-    disk: Disk,
-    told: Told,
-) -> Result<T, Fault> {
-    let (entries, (index, number), cluster, modified) = told;
-    let start = l2_entries(disk.0).saturating_mul(16);
-    let offset = (start as u64).saturating_add((index as u64).saturating_mul(8));
-    let at = [(offset, number)];
-    let mut table = load(alloc, &mut image_with(alloc, start, &at)?, disk, 2, entries)?;
-    place(&mut table, cluster, modified)?;
+/// A table of an image with such a disk that is as this says.
+pub(crate) fn table_with<T: Loads>(alloc: Global, disk: Disk, state: State) -> Result<T, Fault> {
+    let start = l2_entries(disk.cluster_bits).saturating_mul(16);
+    let offset = (start as u64).saturating_add((state.index as u64).saturating_mul(8));
+    let mut image = image_with(alloc, start, &[(offset, state.number)])?;
+    let mut table = load(alloc, &mut image, disk, 2, state.entries)?;
+    place(&mut table, state.cluster, state.modified)?;
     Ok(table)
 }
 
@@ -233,15 +281,20 @@ pub(crate) fn cleared_l2_table(alloc: Global, cluster_bits: u32) -> Result<L2Tab
     L2Table::new_cleared(alloc, &header_with(alloc, cluster_bits)?)
 }
 
-/// Fails unless a table grew to that many entries, of which one may not be 0, or could not if they are 0.
+/// Fails unless the table grew to that many entries, or could not if there are none.
 pub(crate) fn check_grown<T: Table + Drop, R: Debug + Drop>(
     answer: Result<T, Fault>,
-    entries: usize,
-    entry: (usize, u64),
+    entries: Option<usize>,
+    source: State,
     row: R,
 ) -> Result<(), Fail> {
-    match answer {
-        Ok(table) => check_table(&table, (entries, entry, None, true), row),
-        Err(fault) => same((fault, entries), (Fault::CannotGrow, 0), row),
+    let grown = source.placed(None, true);
+    match (answer, entries) {
+        (Ok(table), Some(entries)) => check_table(&table, State { entries, ..grown }, row),
+        (answer, _) => same(
+            (answer.err(), entries),
+            (Some(Fault::CannotGrow), None),
+            row,
+        ),
     }
 }

@@ -1,7 +1,7 @@
 //! L1 tables: how they grow, and how L2 tables are entered in them.
 
 use crate::fixtures::{
-    DISK, LOADED, NUMBER, check_grown, check_table, header_with, table_that_tells,
+    DISK, NUMBER, check_grown, check_table, cleared, disk_of, header_with, loaded, table_with,
 };
 use crate::pending_clusters::{Entered, Refusal, check_entered, refusal};
 use qcow2_base::{ClusterCount, Fault, HostCluster};
@@ -19,24 +19,34 @@ fn grow(table: &L1Table, index: usize) -> Result<L1Table, Fault> {
     table.clone_and_grow(index, &header)
 }
 
-// Cluster bits, how many entries there are, an index, and how many there are once the table has it, or 0 if
-// it can't have it.
-type Growth = (u32, usize, usize, usize);
+// A table, an index, and how many entries there are once the table has it, if it can.
+#[derive(Clone, Copy, Debug)]
+struct Growth {
+    cluster_bits: u32,
+    entries: usize,
+    index: usize,
+    grown: Option<usize>,
+}
 
-const GROWTHS: &[Growth] = rows! {
-    (9, 0, 0, 64), (9, 0, 64, 128), (9, 1, 64, 128), (9, 64, 0, 64), (9, 65, 63, 128),
-    (9, 4096, 4194303, 4194304), (21, 1, 262144, 524288), (21, 0, 4194303, 4194304), (9, 0, 4194304, 0),
-    (9, 1, usize::MAX, 0),
+const GROWTHS: &[Growth] = rows! { Growth:
+    { cluster_bits: 9, entries: 0, index: 0, grown: Some(64) },
+    { cluster_bits: 9, entries: 0, index: 64, grown: Some(128) },
+    { cluster_bits: 9, entries: 1, index: 64, grown: Some(128) },
+    { cluster_bits: 9, entries: 64, index: 0, grown: Some(64) },
+    { cluster_bits: 9, entries: 65, index: 63, grown: Some(128) },
+    { cluster_bits: 9, entries: 4096, index: 4194303, grown: Some(4194304) },
+    { cluster_bits: 21, entries: 1, index: 262144, grown: Some(524288) },
+    { cluster_bits: 21, entries: 0, index: 4194303, grown: Some(4194304) },
+    { cluster_bits: 9, entries: 0, index: 4194304, grown: None },
+    { cluster_bits: 9, entries: 1, index: usize::MAX, grown: None },
 };
 
 // Grows a table whose first entry alone isn't 0, and that stays.
 fn check_growth(alloc: Global, row: Growth) -> Result<(), Fail> {
-    let (bits, entries, index, grown) = row;
-    let entry = (0, if entries > 0 { NUMBER } else { 0 });
-    let told = (entries, entry, Some(2), false);
-    let source: L1Table = table_that_tells(alloc, (bits, false), told)?;
-    check_grown(grow(&source, index), grown, entry, row)?;
-    check_table(&source, told, row)
+    let state = loaded(row.entries, 0, if row.entries > 0 { NUMBER } else { 0 });
+    let source: L1Table = table_with(alloc, disk_of(row.cluster_bits), state)?;
+    check_grown(grow(&source, row.index), row.grown, state, row)?;
+    check_table(&source, state, row)
 }
 
 #[test]
@@ -54,15 +64,17 @@ fn enter(table: &mut L1Table, l2_table: &L2Table, is_pending: bool) -> Result<Re
     Ok(refusal(table.enter_l2_table(3, l2_table, pending)))
 }
 
-const ENTERED: &[Entered] = rows! {
-    (Some(2), false, 0x8000_0000_0000_0400), (Some((1 << 47) - 1), true, 0x80ff_ffff_ffff_fe00),
-    (None, false, NUMBER), (None, true, NUMBER),
+const ENTERED: &[Entered] = rows! { Entered:
+    { cluster: Some(2), is_pending: false, number: 0x8000_0000_0000_0400 },
+    { cluster: Some((1 << 47) - 1), is_pending: true, number: 0x80ff_ffff_ffff_fe00 },
+    { cluster: None, is_pending: false, number: NUMBER },
+    { cluster: None, is_pending: true, number: NUMBER },
 };
 
 fn check_entering(alloc: Global, row: Entered) -> Result<(), Fail> {
-    let mut table: L1Table = table_that_tells(alloc, DISK, LOADED)?;
-    let entered = (64, (0, 0), row.0, true);
-    let found = enter(&mut table, &table_that_tells(alloc, DISK, entered)?, row.1)?;
+    let mut table: L1Table = table_with(alloc, DISK, loaded(64, 3, NUMBER))?;
+    let l2_table = table_with(alloc, DISK, cleared(64).placed(row.cluster, true))?;
+    let found = enter(&mut table, &l2_table, row.is_pending)?;
     check_entered(&table, found, row)
 }
 

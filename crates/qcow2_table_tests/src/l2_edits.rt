@@ -2,7 +2,7 @@
 //! that is read lies.
 
 use crate::entries::{MEANINGS, Meaning};
-use crate::fixtures::{COPIED, check_table, l2_entries, table_that_tells};
+use crate::fixtures::{COPIED, DISK, Disk, EXTERNAL, check_table, l2_entries, loaded, table_with};
 use crate::l2_mapping::Reads::Compressed;
 use crate::l2_mapping::{Reads, mapping_of};
 use qcow2_base::{ClusterCount, GuestCluster, HostCluster};
@@ -79,9 +79,8 @@ fn check_reads(table: &mut L2Table, reads: Reads) -> Result<(), Fail> {
 
 // Reads by an entry of a table.
 fn check_read(alloc: Global, row: Meaning) -> Result<(), Fail> {
-    let (bits, external, number, _, reads) = row;
-    let told = (l2_entries(bits), (7, number), Some(2), false);
-    check_reads(&mut table_that_tells(alloc, (bits, external), told)?, reads)
+    let state = loaded(l2_entries(row.disk.cluster_bits), 7, row.number);
+    check_reads(&mut table_with(alloc, row.disk, state)?, row.reads)
 }
 
 #[test]
@@ -94,17 +93,27 @@ fn a_guest_cluster_reads_as_its_entry_and_has_a_range_if_compressed(
 // An edit of an entry.
 #[derive(Clone, Copy, Debug)]
 enum Edit {
-    // to data in a cluster, with pending clusters or without
-    Map(u64, bool),
+    // to data in a cluster
+    Map(u64),
+    // the same with pending clusters
+    MapPending(u64),
     // to zeros, which may keep the cluster
-    Zero(bool),
+    Zero,
+    Keep,
     Discard,
 }
 
-use Edit::{Discard, Map, Zero};
+use Edit::{Discard, Keep, Map, MapPending, Zero};
 
-// Cluster bits, whether data is external, an entry, an edit of it, what it hands back, and the entry then.
-type Edited = (u32, bool, u64, Edit, Freed, u64);
+// An edit of an entry, what it hands back, and the entry then.
+#[derive(Clone, Copy, Debug)]
+struct Edited {
+    disk: Disk,
+    number: u64,
+    edit: Edit,
+    freed: Freed,
+    after: u64,
+}
 
 // Copied data in cluster 5, and in cluster 6; compressed data of three clusters; and what is handed back.
 const DATA_5: u64 = COPIED + 0xa00;
@@ -117,47 +126,56 @@ const FIVE: Freed = Some((5, 1));
 
 const THREE: Freed = Some((1, 3));
 
-const EDITED: &[Edited] = rows! {
-    (9, false, DATA_5, Map(5, false), None, DATA_5),
-    (9, false, DATA_5, Map(6, true), FIVE, DATA_6),
-    (9, false, 0, Map(5, true), None, DATA_5),
-    (9, false, 0xa01, Map(6, true), FIVE, DATA_6),
-    (9, false, 0xa00, Map(0x7fff_ffff_ffff, true), FIVE, 0x80ff_ffff_ffff_fe00),
-    (9, true, 0xa00, Map(0, true), FIVE, COPIED),
+const EDITED: &[Edited] = rows! { Edited:
+    { disk: DISK, number: DATA_5, edit: Map(5), freed: None, after: DATA_5 },
+    { disk: DISK, number: DATA_5, edit: MapPending(6), freed: FIVE, after: DATA_6 },
+    { disk: DISK, number: 0, edit: MapPending(5), freed: None, after: DATA_5 },
+    { disk: DISK, number: 0xa01, edit: MapPending(6), freed: FIVE, after: DATA_6 },
+    { disk: DISK, number: 0xa00, edit: MapPending(LAST), freed: FIVE, after: 0x80ff_ffff_ffff_fe00 },
+    { disk: EXTERNAL, number: 0xa00, edit: MapPending(0), freed: FIVE, after: COPIED },
     // compressed data: all of it in the cluster, and on both sides
-    (16, false, 0x4040_0000_0001_0010, Map(1, true), None, COPIED + 0x1_0000),
-    (10, false, IN_THREE, Map(2, true), THREE, COPIED + 0x800),
-    (9, false, DATA_5, Zero(true), None, DATA_5 + 1),
-    (9, false, 0xa01, Zero(true), None, 0xa01),
-    (10, true, IN_THREE, Zero(true), THREE, 1),
-    (9, false, 0, Zero(true), None, 1),
-    (9, true, COPIED, Zero(true), None, COPIED + 1),
-    (9, false, DATA_5, Discard, FIVE, 0),
-    (9, false, DATA_5, Zero(false), FIVE, 1),
-    (9, true, COPIED, Zero(false), Some((0, 1)), 1),
-    (9, false, COPIED, Discard, None, 0),
-    (9, true, COPIED, Discard, Some((0, 1)), 0),
-    (16, true, 0x4040_0000_0001_fff0, Discard, Some((1, 2)), 0),
-    (21, false, 0x7fff_ffff_ffff_ffff, Discard, Some((268435455, 3)), 0),
+    { disk: Disk { cluster_bits: 16, external: false }, number: 0x4040_0000_0001_0010,
+        edit: MapPending(1), freed: None, after: COPIED + 0x1_0000 },
+    { disk: Disk { cluster_bits: 10, external: false }, number: IN_THREE,
+        edit: MapPending(2), freed: THREE, after: COPIED + 0x800 },
+    { disk: DISK, number: DATA_5, edit: Keep, freed: None, after: DATA_5 + 1 },
+    { disk: DISK, number: 0xa01, edit: Keep, freed: None, after: 0xa01 },
+    { disk: Disk { cluster_bits: 10, external: true }, number: IN_THREE,
+        edit: Keep, freed: THREE, after: 1 },
+    { disk: DISK, number: 0, edit: Keep, freed: None, after: 1 },
+    { disk: EXTERNAL, number: COPIED, edit: Keep, freed: None, after: COPIED + 1 },
+    { disk: DISK, number: DATA_5, edit: Discard, freed: FIVE, after: 0 },
+    { disk: DISK, number: DATA_5, edit: Zero, freed: FIVE, after: 1 },
+    { disk: EXTERNAL, number: COPIED, edit: Zero, freed: Some((0, 1)), after: 1 },
+    { disk: DISK, number: COPIED, edit: Discard, freed: None, after: 0 },
+    { disk: EXTERNAL, number: COPIED, edit: Discard, freed: Some((0, 1)), after: 0 },
+    { disk: Disk { cluster_bits: 16, external: true }, number: 0x4040_0000_0001_fff0,
+        edit: Discard, freed: Some((1, 2)), after: 0 },
+    { disk: Disk { cluster_bits: 21, external: false }, number: 0x7fff_ffff_ffff_ffff,
+        edit: Discard, freed: Some((268435455, 3)), after: 0 },
 };
+
+// The last cluster of all images.
+const LAST: u64 = 0x7fff_ffff_ffff;
 
 // Edits entry 63.
 fn make(table: &mut L2Table, edit: Edit) -> Result<Freed, Fail> {
     match edit {
-        Map(cluster, pending) => map(table, 63, cluster, pending),
-        Zero(keep) => zero(table, 63, keep),
+        Map(cluster) => map(table, 63, cluster, false),
+        MapPending(cluster) => map(table, 63, cluster, true),
+        Zero => zero(table, 63, false),
+        Keep => zero(table, 63, true),
         Discard => discard(table, 63),
     }
 }
 
 // Edits the entry, and fails unless all other entries stay.
 fn check_edited(alloc: Global, row: Edited) -> Result<(), Fail> {
-    let (bits, external, number, edit, freed, after) = row;
-    let entries = l2_entries(bits);
-    let told = (entries, (63, number), Some(2), false);
-    let mut table = table_that_tells(alloc, (bits, external), told)?;
-    same(make(&mut table, edit)?, freed, row)?;
-    check_table(&table, (entries, (63, after), Some(2), true), row)
+    let entries = l2_entries(row.disk.cluster_bits);
+    let mut table = table_with(alloc, row.disk, loaded(entries, 63, row.number))?;
+    same(make(&mut table, row.edit)?, row.freed, row)?;
+    let state = loaded(entries, 63, row.after);
+    check_table(&table, state.placed(Some(2), true), row)
 }
 
 #[test]

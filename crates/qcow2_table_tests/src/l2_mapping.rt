@@ -82,39 +82,49 @@ fn has_entry(mapping: L2Mapping, bits: u32) -> bool
     }
 }
 
-// Cluster bits, a mapping, the number of its entry, and what guest cluster 3 reads as by it without an
-// external data file and with one, if as another mapping.
-type Entered = (u32, Reads, u64, Option<Reads>, Option<Reads>);
+// A mapping, the number of its entry, and what guest cluster 3 reads as by it without an external data file
+// and with one.
+#[derive(Clone, Copy, Debug)]
+struct Entered {
+    cluster_bits: u32,
+    mapping: Reads,
+    number: u64,
+    internal: Reads,
+    external: Reads,
+}
 
-const ENTERED: &[Entered] = rows! {
-    (9, Data(5, true), COPIED + 0xa00, None, None),
-    (16, Zeros(Some(2), false), 0x2_0001, None, None),
-    (21, Zeros(None, false), 1, None, None),
-    (9, Backing(0), 0, Some(Backing(1536)), Some(Backing(1536))),
+const ENTERED: &[Entered] = rows! { Entered:
+    { cluster_bits: 9, mapping: Data(5, true), number: COPIED + 0xa00,
+        internal: Data(5, true), external: Data(5, true) },
+    { cluster_bits: 16, mapping: Zeros(Some(2), false), number: 0x2_0001,
+        internal: Zeros(Some(2), false), external: Zeros(Some(2), false) },
+    { cluster_bits: 21, mapping: Zeros(None, false), number: 1,
+        internal: Zeros(None, false), external: Zeros(None, false) },
+    { cluster_bits: 9, mapping: Backing(0), number: 0, internal: Backing(1536), external: Backing(1536) },
     // cluster 0 is one only where it is copied in an external data file
-    (9, Data(0, true), COPIED, Some(Backing(1536)), None),
-    (9, Zeros(Some(0), true), COPIED + 1, Some(Zeros(None, false)), None),
+    { cluster_bits: 9, mapping: Data(0, true), number: COPIED,
+        internal: Backing(1536), external: Data(0, true) },
+    { cluster_bits: 9, mapping: Zeros(Some(0), true), number: COPIED + 1,
+        internal: Zeros(None, false), external: Zeros(Some(0), true) },
     // compressed data reaches to the end of its last sector
-    (16, Compressed(0x1_0010, 1000), 0x4040_0000_0001_0010, SECTORS, SECTORS),
-    (21, Compressed(0x600, 2097151), 0x5ffe_0000_0000_0600, LONG_SECTORS, LONG_SECTORS),
+    { cluster_bits: 16, mapping: Compressed(0x1_0010, 1000), number: 0x4040_0000_0001_0010,
+        internal: Compressed(0x1_0010, 1008), external: Compressed(0x1_0010, 1008) },
+    { cluster_bits: 21, mapping: Compressed(0x600, 2097151), number: 0x5ffe_0000_0000_0600,
+        internal: Compressed(0x600, 2097152), external: Compressed(0x600, 2097152) },
 };
-
-const SECTORS: Option<Reads> = Some(Compressed(0x1_0010, 1008));
-
-const LONG_SECTORS: Option<Reads> = Some(Compressed(0x600, 2097152));
 
 // A mapping's entry has this number, and reads as the other mappings.
 fn check_entry(row: Entered) -> Result<(), Fail> {
-    let (bits, reads, number, plain, external) = row;
-    let mapping = mapping_of(reads)?;
+    let bits = row.cluster_bits;
+    let mapping = mapping_of(row.mapping)?;
     holds(is_cluster_bits(bits), row)?;
     holds(has_entry(mapping, bits) && fits(3, 0, bits), row)?;
     let entry = L2Entry::from_mapping(mapping, bits);
-    same(entry.to_plain(), number, row)?;
+    same(entry.to_plain(), row.number, row)?;
     all_same! {
         row,
-        entry.into_mapping(GuestCluster(3), bits, false)? => mapping_of(plain.unwrap_or(reads))?,
-        entry.into_mapping(GuestCluster(3), bits, true)? => mapping_of(external.unwrap_or(reads))?,
+        entry.into_mapping(GuestCluster(3), bits, false)? => mapping_of(row.internal)?,
+        entry.into_mapping(GuestCluster(3), bits, true)? => mapping_of(row.external)?,
     }
 }
 

@@ -1,8 +1,8 @@
 //! L2 tables: new ones, copies for another place, and when they are written.
 
 use crate::fixtures::{
-    COPIED, DISK, NUMBER, check_table, check_written_as, cleared_l2_table, l2_entries, load,
-    table_that_tells, write_if_modified,
+    COPIED, DISK, Disk, EXTERNAL, NUMBER, check_table, check_written_as, cleared, cleared_l2_table,
+    l2_entries, load, loaded, table_with, write_if_modified,
 };
 use crate::l2_edits::{discard, mapping};
 use crate::l2_mapping::Reads::{Backing, Data};
@@ -17,37 +17,46 @@ use std::test::Fail;
 fn a_new_table_fills_a_cluster_with_entries_0(rt: HostRuntime) -> Result<(), Fail> {
     for (bits, entries) in [(9, 64), (16, 8192), (21, 262144)] {
         let table = cleared_l2_table(rt.alloc(), bits)?;
-        check_table(&table, (entries, (0, 0), None, true), bits)?;
+        check_table(&table, cleared(entries), bits)?;
     }
     Ok(())
 }
 
-// Cluster bits, whether guest data is in an external data file, an entry, and it in the copy.
-type Copied = (u32, bool, u64, u64);
+// An entry, and it in the copy. The flag of the table is set where guest data is external.
+#[derive(Clone, Copy, Debug)]
+struct Copied {
+    disk: Disk,
+    number: u64,
+    copy: u64,
+}
 
-const COPIES: &[Copied] = rows! {
-    (9, false, 0, 0), (9, true, 1, 1), (9, false, 0xa00, 0xa00), (9, false, COPIED + 0xa00, 0xa00),
-    (9, true, COPIED + 0xa01, 0xa01), (9, false, COPIED, 0), (9, false, COPIED + 1, 1),
-    (9, true, COPIED, COPIED), (9, true, COPIED + 1, COPIED + 1),
-    (16, true, 0x4040_0000_0001_0010, 0x4040_0000_0001_0010),
-    (21, false, 0x80ff_ffff_ffe0_0001, 0x00ff_ffff_ffe0_0001),
+const COPIES: &[Copied] = rows! { Copied:
+    { disk: DISK, number: 0, copy: 0 }, { disk: EXTERNAL, number: 1, copy: 1 },
+    { disk: DISK, number: 0xa00, copy: 0xa00 }, { disk: DISK, number: COPIED + 0xa00, copy: 0xa00 },
+    { disk: EXTERNAL, number: COPIED + 0xa01, copy: 0xa01 }, { disk: DISK, number: COPIED, copy: 0 },
+    { disk: DISK, number: COPIED + 1, copy: 1 }, { disk: EXTERNAL, number: COPIED, copy: COPIED },
+    { disk: EXTERNAL, number: COPIED + 1, copy: COPIED + 1 },
+    { disk: Disk { cluster_bits: 16, external: true },
+        number: 0x4040_0000_0001_0010, copy: 0x4040_0000_0001_0010 },
+    { disk: Disk { cluster_bits: 21, external: false },
+        number: 0x80ff_ffff_ffe0_0001, copy: 0x00ff_ffff_ffe0_0001 },
 };
 
 fn check_copy(copy: Result<L2Table, Fault>, row: Copied) -> Result<(), Fail> {
-    let (bits, external, _, number) = row;
-    let copy = copy?;
+    let (copy, disk) = (copy?, row.disk);
     let found = (copy.external_data_file(), copy.cluster_bits());
-    same(found, (external, bits), row)?;
-    check_table(&copy, (l2_entries(bits), (63, number), None, external), row)
+    same(found, (disk.external, disk.cluster_bits), row)?;
+    let state = loaded(l2_entries(disk.cluster_bits), 63, row.copy);
+    check_table(&copy, state.placed(None, disk.external), row)
 }
 
 // Copies a table, which stays.
 fn check_copied(alloc: Global, row: Copied) -> Result<(), Fail> {
-    let (bits, external, number, _) = row;
-    let told = (l2_entries(bits), (63, number), Some(2), external);
-    let table: L2Table = table_that_tells(alloc, (bits, external), told)?;
+    let state = loaded(l2_entries(row.disk.cluster_bits), 63, row.number);
+    let state = state.placed(Some(2), row.disk.external);
+    let table: L2Table = table_with(alloc, row.disk, state)?;
     check_copy(table.try_clone(), row)?;
-    check_table(&table, told, row)
+    check_table(&table, state, row)
 }
 
 #[test]
@@ -56,25 +65,33 @@ fn a_copy_has_the_same_mappings_and_no_copied_entry(rt: HostRuntime) -> Result<(
 }
 
 // A table's cluster and whether it is modified, and then the answer and how many calls the storage gets.
-type Written = (Option<u64>, bool, Result<(), Fault>, usize);
+#[derive(Clone, Copy, Debug)]
+struct Written {
+    cluster: Option<u64>,
+    modified: bool,
+    answer: Result<(), Fault>,
+    calls: usize,
+}
 
-const WRITES: &[Written] = rows! {
-    (None, false, Ok(()), 0), (Some(2), false, Ok(()), 0), (Some(1 << 47), false, Ok(()), 0),
-    (Some(1 << 47), true, Err(Fault::TablePlace), 0), (Some(2), true, Ok(()), 1),
+const WRITES: &[Written] = rows! { Written:
+    { cluster: None, modified: false, answer: Ok(()), calls: 0 },
+    { cluster: Some(2), modified: false, answer: Ok(()), calls: 0 },
+    { cluster: Some(1 << 47), modified: false, answer: Ok(()), calls: 0 },
+    { cluster: Some(1 << 47), modified: true, answer: Err(Fault::TablePlace), calls: 0 },
+    { cluster: Some(2), modified: true, answer: Ok(()), calls: 1 },
 };
 
 // Writes the table to a storage that fails at each call if none is to be made.
 fn check_write(table: &mut L2Table, row: Written) -> Result<(), Fail> {
-    let (_, _, answer, calls) = row;
     let alloc = table.allocator();
     let mut image = recorded(alloc, image_with(alloc, 1536, &[(1024, 0x200)])?);
-    if calls == 0 {
+    if row.calls == 0 {
         image.plan = Some(0);
     }
-    let found = write_if_modified(table, &mut image);
-    let found = (found, image.calls.len(), table.is_modified());
-    same(found, (answer, calls, answer.is_err()), row)?;
-    let number = if calls > 0 {
+    let answer = write_if_modified(table, &mut image);
+    let found = (answer, image.calls.len(), table.is_modified());
+    same(found, (row.answer, row.calls, row.answer.is_err()), row)?;
+    let number = if row.calls > 0 {
         (1048, NUMBER)
     } else {
         (1024, 0x200)
@@ -83,8 +100,8 @@ fn check_write(table: &mut L2Table, row: Written) -> Result<(), Fail> {
 }
 
 fn check_written(alloc: Global, row: Written) -> Result<(), Fail> {
-    let told = (64, (3, NUMBER), row.0, row.1);
-    check_write(&mut table_that_tells(alloc, DISK, told)?, row)
+    let state = loaded(64, 3, NUMBER).placed(row.cluster, row.modified);
+    check_write(&mut table_with(alloc, DISK, state)?, row)
 }
 
 #[test]

@@ -32,4 +32,6 @@ mod refcount_blocks;
 #[cfg(test)]
 mod reftable_growth;
 #[cfg(test)]
+mod refused_calls;
+#[cfg(test)]
 mod table_files;

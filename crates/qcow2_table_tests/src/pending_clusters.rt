@@ -1,6 +1,6 @@
 //! Clusters that wait for a reference, and are handed back where nothing refers to them.
 
-use crate::fixtures::check_table;
+use crate::fixtures::{check_table, loaded};
 use qcow2_base::{ClusterCount, Fault, HostCluster};
 use qcow2_metadata::{ClustersToFreeEntry, PendingClusters, Refused, Table};
 use qcow2_testing::same;
@@ -24,19 +24,24 @@ pub(crate) fn not_placed(clusters: Option<(u64, u64)>) -> Refusal {
     Some((Fault::NotPlaced, clusters))
 }
 
-/// The cluster of what is entered as entry 3 of a table whose entry 3 is of another one, if it has one,
-/// whether with pending clusters, and the entry then.
-pub(crate) type Entered = (Option<u64>, bool, u64);
+/// What is entered as entry 3 of a table whose entry 3 is of another one: its cluster, if it has one, whether
+/// with pending clusters, and the entry then.
+#[derive(Clone, Copy, Debug)]
+pub(crate) struct Entered {
+    pub(crate) cluster: Option<u64>,
+    pub(crate) is_pending: bool,
+    pub(crate) number: u64,
+}
 
 /// Fails unless the table has the entry, or else the refusal handed pending cluster 7 back.
 pub(crate) fn check_entered<T: Table>(table: &T, found: Refusal, row: Entered) -> Result<(), Fail> {
-    let (cluster, is_pending, number) = row;
-    let want = match cluster {
+    let expected = match row.cluster {
         Some(_) => None,
-        None => not_placed(is_pending.then_some((7, 1))),
+        None => not_placed(row.is_pending.then_some((7, 1))),
     };
-    same(found, want, row)?;
-    check_table(table, (64, (3, number), Some(2), cluster.is_some()), row)
+    same(found, expected, row)?;
+    let state = loaded(64, 3, row.number);
+    check_table(table, state.placed(Some(2), row.cluster.is_some()), row)
 }
 
 #[test]

@@ -1,33 +1,43 @@
 //! Tables are read and written in pieces of 4096 bytes, counted from where they begin.
 
-use crate::fixtures::{COPIED, DISK, load, write};
+use crate::fixtures::{COPIED, DISK, disk_of, load, write};
 use qcow2_base::{Fault, MemStorage};
 use qcow2_metadata::{L1Table, Table};
 use qcow2_testing::{
-    FailingStorage, StorageCall, each, filled_image, part_of, put, put_bytes, recorded, same,
+    FailingStorage, StorageCall, each, filled_image, part_of, put, put_bytes, recorded, rows, same,
     same_bytes, same_image,
 };
 use std::alloc::Global;
 use std::test::Fail;
 
-// Cluster bits, and then a table's cluster, its offset, how many entries it has, and its pieces: where each
-// begins, and how many bytes it has.
-type Pieces = (u32, u64, u64, usize, &'static [(u64, usize)]);
+/// Where each piece of a table begins, and how many bytes it has.
+pub(crate) type Pieces = &'static [(u64, usize)];
 
-const TABLES: &[Pieces] = &[
-    (9, 8, 4096, 0, &[]),
-    (9, 8, 4096, 1, &[(4096, 8)]),
-    (9, 2, 1024, 64, &[(1024, 512)]),
-    (9, 8, 4096, 511, &[(4096, 4088)]),
-    (9, 8, 4096, 512, &[(4096, 4096)]),
-    (9, 8, 4096, 1025, THREE_PIECES),
+// A table, by its cluster and that cluster's offset, and its pieces.
+#[derive(Clone, Copy, Debug)]
+struct InPieces {
+    cluster_bits: u32,
+    cluster: u64,
+    offset: u64,
+    entries: usize,
+    pieces: Pieces,
+}
+
+const TABLES: &[InPieces] = rows! { InPieces:
+    { cluster_bits: 9, cluster: 8, offset: 4096, entries: 0, pieces: &[] },
+    { cluster_bits: 9, cluster: 8, offset: 4096, entries: 1, pieces: &[(4096, 8)] },
+    { cluster_bits: 9, cluster: 2, offset: 1024, entries: 64, pieces: &[(1024, 512)] },
+    { cluster_bits: 9, cluster: 8, offset: 4096, entries: 511, pieces: &[(4096, 4088)] },
+    { cluster_bits: 9, cluster: 8, offset: 4096, entries: 512, pieces: &[(4096, 4096)] },
+    { cluster_bits: 9, cluster: 8, offset: 4096, entries: 1025, pieces: THREE_PIECES },
     // pieces that begin at no multiple of 4096
-    (9, 1, 512, 513, &[(512, 4096), (4608, 8)]),
-    (9, 7, 3584, 1025, &[(3584, 4096), (7680, 4096), (11776, 8)]),
-    (13, 1, 8192, 1024, &[(8192, 4096), (12288, 4096)]),
-];
+    { cluster_bits: 9, cluster: 1, offset: 512, entries: 513, pieces: &[(512, 4096), (4608, 8)] },
+    { cluster_bits: 9, cluster: 7, offset: 3584, entries: 1025,
+        pieces: &[(3584, 4096), (7680, 4096), (11776, 8)] },
+    { cluster_bits: 13, cluster: 1, offset: 8192, entries: 1024, pieces: &[(8192, 4096), (12288, 4096)] },
+};
 
-const THREE_PIECES: &[(u64, usize)] = &[(4096, 4096), (8192, 4096), (12288, 8)];
+const THREE_PIECES: Pieces = &[(4096, 4096), (8192, 4096), (12288, 8)];
 
 // An image of 0xa5 that has that many entries from an offset on: no two of 4096 are the same.
 fn image_with_entries(alloc: Global, start: u64, entries: usize) -> Result<MemStorage, Fault> {
@@ -40,11 +50,11 @@ fn image_with_entries(alloc: Global, start: u64, entries: usize) -> Result<MemSt
     Ok(image)
 }
 
-// Fails unless these pieces were read, or written.
-fn check_calls(
+/// Fails unless these pieces were read, or written.
+pub(crate) fn check_calls(
     alloc: Global,
     calls: &[StorageCall],
-    pieces: &'static [(u64, usize)],
+    pieces: Pieces,
     is_read: bool,
 ) -> Result<(), Fail> {
     let mut want = Vec::new(alloc);
@@ -60,20 +70,21 @@ fn check_calls(
 }
 
 // Writes the table to an image of other bytes, which are then these.
-fn check_written(table: &mut L1Table, expected: &[u8], row: Pieces) -> Result<(), Fail> {
+fn check_written(table: &mut L1Table, expected: &[u8], row: InPieces) -> Result<(), Fail> {
     let alloc = table.allocator();
     let mut image = recorded(alloc, filled_image(alloc, 20000)?);
     let answer = write(table, &mut image);
     same((answer, table.is_modified()), (Ok(()), false), row)?;
-    check_calls(alloc, &image.calls, row.4, false)?;
+    check_calls(alloc, &image.calls, row.pieces, false)?;
     same_bytes(image.inner.bytes(), expected, row)
 }
 
-fn check_pieces(alloc: Global, row: Pieces) -> Result<(), Fail> {
-    let (bits, cluster, start, entries, pieces) = row;
-    let mut image = recorded(alloc, image_with_entries(alloc, start, entries)?);
-    let mut table: L1Table = load(alloc, &mut image, (bits, false), cluster, entries)?;
-    check_calls(alloc, &image.calls, pieces, true)?;
+fn check_pieces(alloc: Global, row: InPieces) -> Result<(), Fail> {
+    let entries = row.entries;
+    let mut image = recorded(alloc, image_with_entries(alloc, row.offset, entries)?);
+    let disk = disk_of(row.cluster_bits);
+    let mut table: L1Table = load(alloc, &mut image, disk, row.cluster, entries)?;
+    check_calls(alloc, &image.calls, row.pieces, true)?;
     check_written(&mut table, image.inner.bytes(), row)
 }
 

@@ -1,6 +1,6 @@
 //! Setting where a header's tables lie, and writing that and the disk's size by themselves.
 
-use crate::fixtures::{DISK, cleared_l1_table, header_with, table_that_tells};
+use crate::fixtures::{DISK, cleared, cleared_l1_table, header_with, table_with};
 use crate::pending_clusters::{Refusal, not_placed, refusal};
 use qcow2_base::{ClusterCount, Fault, HostCluster, HostOffset, Storage};
 use qcow2_metadata::{Header, L1Table, PendingClusters, RefTable, Table};
@@ -23,7 +23,7 @@ fn set_l1_table(header: &mut Header, table: &L1Table) -> Result<Refusal, Fault> 
 
 // Gives the header a refcount table of 65 entries with a cluster or none.
 fn set_reftable(alloc: Global, header: &mut Header, cluster: Option<u64>) -> Result<(), Fault> {
-    let table: RefTable = table_that_tells(alloc, DISK, (65, (0, 0), cluster, true))?;
+    let table: RefTable = table_with(alloc, DISK, cleared(65).placed(cluster, true))?;
     if table.cluster_bits() != header.cluster_bits() {
         return Err(Fault::ClusterSize);
     }
@@ -61,40 +61,49 @@ fn a_header_refers_to_the_tables_that_it_was_given(rt: HostRuntime) -> Result<()
     }
 }
 
-// Writes one of the three parts.
-fn write_part<S: Storage>(header: &Header, image: &mut S, part: u32) -> Result<(), Fault> {
+// A part of a header that is written by itself.
+#[derive(Clone, Copy, Debug)]
+enum Part {
+    Size,
+    L1Table,
+    Reftable,
+}
+
+fn write_part<S: Storage>(header: &Header, image: &mut S, part: Part) -> Result<(), Fault> {
     match part {
-        0 => header.write_size(image),
-        1 => header.write_l1_table_pointer(image),
-        _ => header.write_reftable_pointer(image),
+        Part::Size => header.write_size(image),
+        Part::L1Table => header.write_l1_table_pointer(image),
+        Part::Reftable => header.write_reftable_pointer(image),
     }
 }
 
-// Which bytes each part has, and where.
-type Part = (u32, u64, &'static [u8]);
-
-const PARTS: &[Part] = &[
-    (0, 24, &[0, 0, 0, 0, 0, 0, 0x10, 0]),
-    (1, 36, &[0, 0, 0, 1, 0, 0, 0, 0, 0, 0, 2, 0]),
-    (2, 48, &[0, 0, 0, 0, 0, 0, 8, 0, 0, 0, 0, 2]),
+// Where the bytes of each part begin, and which they are.
+const PARTS: &[(Part, u64, &'static [u8])] = &[
+    (Part::Size, 24, &[0, 0, 0, 0, 0, 0, 0x10, 0]),
+    (Part::L1Table, 36, &[0, 0, 0, 1, 0, 0, 0, 0, 0, 0, 2, 0]),
+    (Part::Reftable, 48, &[0, 0, 0, 0, 0, 0, 8, 0, 0, 0, 0, 2]),
 ];
 
 // Writes the part over 72 bytes of 0xa5 by one call.
-fn check_written(alloc: Global, header: &Header, row: Part) -> Result<(), Fail> {
-    let (part, at, bytes) = row;
+fn check_written(
+    alloc: Global,
+    header: &Header,
+    part: Part,
+    (at, bytes): (u64, &[u8]),
+) -> Result<(), Fail> {
     let mut expected = filled_image(alloc, 72)?;
     put_bytes(&mut expected, at, bytes)?;
     let mut image = recorded(alloc, filled_image(alloc, 72)?);
     let answer = write_part(header, &mut image, part);
-    same((answer, image.calls.len()), (Ok(()), 1), row)?;
-    same_image(&image.inner, Ok(expected), row)
+    same((answer, image.calls.len()), (Ok(()), 1), part)?;
+    same_image(&image.inner, Ok(expected), part)
 }
 
 #[test]
 fn a_part_is_written_by_one_call_and_no_other_byte_changes(rt: HostRuntime) -> Result<(), Fail> {
     let header = header_with_tables(rt.alloc())?;
-    for row in PARTS {
-        check_written(rt.alloc(), &header, *row)?;
+    for (part, at, bytes) in PARTS {
+        check_written(rt.alloc(), &header, *part, (*at, bytes))?;
     }
     Ok(())
 }

@@ -1,7 +1,7 @@
 //! Refcount blocks: their counters at each width, what steps leave, and where they are read and written.
 
 use crate::blocks::{counter, load, new_cleared, place, told, write, write_if_modified};
-use crate::fixtures::{DISK, LOADED, NUMBER, table_that_tells};
+use crate::fixtures::{DISK, NUMBER, loaded, table_with};
 use crate::pending_clusters::{Entered, Refusal, check_entered, refusal};
 use qcow2_base::{ClusterCount, Fault, HostCluster, HostOffset, MemStorage};
 use qcow2_metadata::{PendingClusters, RefBlock, RefTable, Table};
@@ -12,12 +12,8 @@ use qcow2_testing::{
 use std::alloc::Global;
 use std::test::Fail;
 
-// Bytes of a block that aren't 0: their place, how many, and the number that they are.
-type Bytes = (u64, usize, u64);
-
-// Three clusters of 512 bytes: 0xa5, zeros but for these bytes, and 0xa5 again.
-fn image_with(alloc: Global, bytes: Bytes) -> Result<MemStorage, Fault> {
-    let (place, len, number) = bytes;
+// Three clusters of 512 bytes: 0xa5, zeros but for a number of `len` bytes at a place, and 0xa5 again.
+fn image_with(alloc: Global, place: u64, len: usize, number: u64) -> Result<MemStorage, Fault> {
     let number = number.to_be_bytes();
     let Some(bytes) = number.get(8usize.saturating_sub(len)..) else {
         return Err(Fault::WrongLength);
@@ -39,35 +35,43 @@ enum Tally {
 
 use Tally::{Down, Empty, Full, Up};
 
-type Tallies = &'static [Tally];
+// A counter, the place of its bytes and how many, the number that they are, its steps, and the number then.
+#[derive(Clone, Copy, Debug)]
+struct Stepped {
+    order: u32,
+    index: usize,
+    place: u64,
+    len: usize,
+    before: u64,
+    steps: &'static [Tally],
+    after: u64,
+}
 
-// A refcount order, the index of a counter, the place of its bytes and how many, the number that they are,
-// its steps, and the number then.
-type Stepped = (u32, usize, u64, usize, u64, Tallies, u64);
-
-const STEPPED: &[Stepped] = &[
-    (0, 9, 1, 1, 0, &[Up(0), Full], 2),
-    (0, 0, 0, 1, 0xff, &[Down(1), Empty], 0xfe),
-    (0, 4095, 511, 1, 0x7f, &[Up(0)], 0xff),
-    (1, 1, 0, 1, 0, &[Up(0)], 4),
-    (1, 1, 0, 1, 0, &[Up(0), Up(1), Up(2), Full], 0x0c),
-    (1, 2, 0, 1, 0xff, &[Down(3)], 0xef),
-    (1, 2047, 511, 1, 0x80, &[Up(2)], 0xc0),
-    (2, 3, 1, 1, 0, &[Up(0)], 0x10),
-    (2, 3, 1, 1, 0xff, &[Full, Down(15)], 0xef),
-    (2, 1023, 511, 1, 0x12, &[Down(1)], 2),
-    (3, 511, 511, 1, 0xfe, &[Up(254), Full], 0xff),
-    (3, 0, 0, 2, 0x0107, &[Down(1), Empty], 7),
-    (4, 0, 0, 2, 0x00ff, &[Up(255)], 0x0100),
-    (4, 0, 0, 2, 0, &[Empty], 0),
-    (4, 255, 510, 2, 0x0100, &[Down(256)], 0x00ff),
-    (5, 0, 0, 4, 0xffff, &[Up(65535)], 0x0001_0000),
-    (5, 0, 0, 4, 0xffff_ffff, &[Full], 0xffff_ffff),
-    (5, 127, 508, 4, 0x0100_0000, &[Down(1 << 24)], 0x00ff_ffff),
-    (6, 0, 0, 8, 0xffff_ffff, &[Up(4294967295)], 1 << 32),
-    (6, 63, 504, 8, LESS, &[Up(LESS), Full, Down(u64::MAX)], LESS),
-    (6, 1, 8, 8, 0, &[Empty, Up(0)], 1),
-];
+const STEPPED: &[Stepped] = rows! { Stepped:
+    { order: 0, index: 9, place: 1, len: 1, before: 0, steps: &[Up(0), Full], after: 2 },
+    { order: 0, index: 0, place: 0, len: 1, before: 0xff, steps: &[Down(1), Empty], after: 0xfe },
+    { order: 0, index: 4095, place: 511, len: 1, before: 0x7f, steps: &[Up(0)], after: 0xff },
+    { order: 1, index: 1, place: 0, len: 1, before: 0, steps: &[Up(0)], after: 4 },
+    { order: 1, index: 1, place: 0, len: 1, before: 0, steps: &[Up(0), Up(1), Up(2), Full], after: 0x0c },
+    { order: 1, index: 2, place: 0, len: 1, before: 0xff, steps: &[Down(3)], after: 0xef },
+    { order: 1, index: 2047, place: 511, len: 1, before: 0x80, steps: &[Up(2)], after: 0xc0 },
+    { order: 2, index: 3, place: 1, len: 1, before: 0, steps: &[Up(0)], after: 0x10 },
+    { order: 2, index: 3, place: 1, len: 1, before: 0xff, steps: &[Full, Down(15)], after: 0xef },
+    { order: 2, index: 1023, place: 511, len: 1, before: 0x12, steps: &[Down(1)], after: 2 },
+    { order: 3, index: 511, place: 511, len: 1, before: 0xfe, steps: &[Up(254), Full], after: 0xff },
+    { order: 3, index: 0, place: 0, len: 2, before: 0x0107, steps: &[Down(1), Empty], after: 7 },
+    { order: 4, index: 0, place: 0, len: 2, before: 0x00ff, steps: &[Up(255)], after: 0x0100 },
+    { order: 4, index: 0, place: 0, len: 2, before: 0, steps: &[Empty], after: 0 },
+    { order: 4, index: 255, place: 510, len: 2, before: 0x0100, steps: &[Down(256)], after: 0x00ff },
+    { order: 5, index: 0, place: 0, len: 4, before: 0xffff, steps: &[Up(65535)], after: 0x0001_0000 },
+    { order: 5, index: 0, place: 0, len: 4, before: 0xffff_ffff, steps: &[Full], after: 0xffff_ffff },
+    { order: 5, index: 127, place: 508, len: 4, before: 0x0100_0000, steps: &[Down(1 << 24)],
+        after: 0x00ff_ffff },
+    { order: 6, index: 0, place: 0, len: 8, before: 0xffff_ffff, steps: &[Up(4294967295)], after: 1 << 32 },
+    { order: 6, index: 63, place: 504, len: 8, before: LESS, steps: &[Up(LESS), Full, Down(u64::MAX)],
+        after: LESS },
+    { order: 6, index: 1, place: 8, len: 8, before: 0, steps: &[Empty, Up(0)], after: 1 },
+};
 
 // One less than the most references.
 const LESS: u64 = u64::MAX - 1;
@@ -100,20 +104,18 @@ fn check_answer(block: &mut RefBlock, index: usize, tally: Tally) -> Result<(), 
 
 // Steps a block, and writes it.
 fn check_steps(block: &mut RefBlock, image: &mut MemStorage, row: Stepped) -> Result<(), Fail> {
-    let (_, index, place, len, _, tallies, after) = row;
-    for tally in tallies {
-        check_answer(block, index, *tally)?;
+    for tally in row.steps {
+        check_answer(block, row.index, *tally)?;
     }
     let found = (block.get_cluster(), write(block, image));
     same(found, (Some(HostCluster(1)), Ok(())), row)?;
-    let expected = image_with(block.allocator(), (place, len, after));
+    let expected = image_with(block.allocator(), row.place, row.len, row.after);
     same_image(image, expected, row)
 }
 
 fn check_stepped(alloc: Global, row: Stepped) -> Result<(), Fail> {
-    let (order, _, place, len, number, ..) = row;
-    let mut image = image_with(alloc, (place, len, number))?;
-    let mut block = load(alloc, &mut image, (9, order), 1)?;
+    let mut image = image_with(alloc, row.place, row.len, row.before)?;
+    let mut block = load(alloc, &mut image, (9, row.order), 1)?;
     check_steps(&mut block, &mut image, row)
 }
 
@@ -131,23 +133,38 @@ fn pattern(alloc: Global, len: usize) -> Result<MemStorage, Fault> {
     Ok(MemStorage::new(bytes))
 }
 
-// Cluster bits, a refcount order, how many counters the block has, and the last of them where its bytes are
-// the pattern: the least block ends with the bytes 2 to 9, the largest with 0x27 to 0x2e.
-type Whole = (u32, u32, usize, u64);
+// How many counters a block has, and the last of them where its bytes are the pattern: the least block ends
+// with the bytes 2 to 9, the largest with 0x27 to 0x2e.
+#[derive(Clone, Copy, Debug)]
+struct Whole {
+    cluster_bits: u32,
+    order: u32,
+    counters: usize,
+    last: u64,
+}
 
-const WHOLE: &[Whole] = rows! {
-    (9, 0, 4096, 0), (9, 1, 2048, 0), (9, 2, 1024, 0), (9, 3, 512, 9), (9, 4, 256, 0x0809),
-    (9, 5, 128, 0x0607_0809), (9, 6, 64, 0x0203_0405_0607_0809),
-    (21, 0, 16777216, 0), (21, 1, 8388608, 0), (21, 2, 4194304, 2), (21, 3, 2097152, 0x2e),
-    (21, 4, 1048576, 0x2d2e), (21, 5, 524288, 0x2b2c_2d2e), (21, 6, 262144, 0x2728_292a_2b2c_2d2e),
+const WHOLE: &[Whole] = rows! { Whole:
+    { cluster_bits: 9, order: 0, counters: 4096, last: 0 },
+    { cluster_bits: 9, order: 1, counters: 2048, last: 0 },
+    { cluster_bits: 9, order: 2, counters: 1024, last: 0 },
+    { cluster_bits: 9, order: 3, counters: 512, last: 9 },
+    { cluster_bits: 9, order: 4, counters: 256, last: 0x0809 },
+    { cluster_bits: 9, order: 5, counters: 128, last: 0x0607_0809 },
+    { cluster_bits: 9, order: 6, counters: 64, last: 0x0203_0405_0607_0809 },
+    { cluster_bits: 21, order: 0, counters: 16777216, last: 0 },
+    { cluster_bits: 21, order: 1, counters: 8388608, last: 0 },
+    { cluster_bits: 21, order: 2, counters: 4194304, last: 2 },
+    { cluster_bits: 21, order: 3, counters: 2097152, last: 0x2e },
+    { cluster_bits: 21, order: 4, counters: 1048576, last: 0x2d2e },
+    { cluster_bits: 21, order: 5, counters: 524288, last: 0x2b2c_2d2e },
+    { cluster_bits: 21, order: 6, counters: 262144, last: 0x2728_292a_2b2c_2d2e },
 };
 
 // Fails unless the block is that of these bytes, and writes them.
 fn check_whole(block: &mut RefBlock, bytes: &[u8], row: Whole) -> Result<(), Fail> {
-    let (_, _, entries, last) = row;
-    let found = (told(block), counter(block, entries.saturating_sub(1)));
-    let expected = (entries, Some(HostCluster(0)), false);
-    same(found, (expected, Some((last, last == 0))), row)?;
+    let found = (told(block), counter(block, row.counters.saturating_sub(1)));
+    let expected = (row.counters, Some(HostCluster(0)), false);
+    same(found, (expected, Some((row.last, row.last == 0))), row)?;
     let mut other = filled_image(block.allocator(), bytes.len())?;
     same(write(block, &mut other), Ok(()), row)?;
     same_bytes(other.bytes(), bytes, row)
@@ -155,8 +172,8 @@ fn check_whole(block: &mut RefBlock, bytes: &[u8], row: Whole) -> Result<(), Fai
 
 // Reads the block of the image, and writes it to another.
 fn check_read_and_written(alloc: Global, image: &mut MemStorage, row: Whole) -> Result<(), Fail> {
-    let mut block = load(alloc, image, (row.0, row.1), 0)?;
-    let len = if row.0 == 9 { 512 } else { 2097152 };
+    let mut block = load(alloc, image, (row.cluster_bits, row.order), 0)?;
+    let len = if row.cluster_bits == 9 { 512 } else { 2097152 };
     check_whole(&mut block, part_of(image.bytes(), 0, len)?, row)
 }
 
@@ -173,18 +190,24 @@ fn the_least_and_the_largest_blocks_are_written_as_read(rt: HostRuntime) -> Resu
 type Answer = (Result<(), Fault>, usize);
 
 // A block's cluster, whether it is modified, and what comes of `write_if_modified` and then of a write.
-type Written = (u64, bool, Answer, Answer);
+#[derive(Clone, Copy, Debug)]
+struct Written {
+    cluster: u64,
+    modified: bool,
+    if_modified: Answer,
+    then: Answer,
+}
 
-const WRITES: &[Written] = &[
-    (1, false, (Ok(()), 0), (Ok(()), 1)),
-    (1, true, (Ok(()), 1), (Ok(()), 1)),
-    (1 << 47, false, (Ok(()), 0), PAST),
-    (1 << 47, true, PAST, PAST),
-];
+const WRITES: &[Written] = rows! { Written:
+    { cluster: 1, modified: false, if_modified: (Ok(()), 0), then: (Ok(()), 1) },
+    { cluster: 1, modified: true, if_modified: (Ok(()), 1), then: (Ok(()), 1) },
+    { cluster: 1 << 47, modified: false, if_modified: (Ok(()), 0), then: PAST },
+    { cluster: 1 << 47, modified: true, if_modified: PAST, then: PAST },
+};
 
 const PAST: Answer = (Err(Fault::TablePlace), 0);
 
-fn written(
+fn answer_of(
     block: &mut RefBlock,
     image: &mut FailingStorage<MemStorage>,
     if_modified: bool,
@@ -200,26 +223,27 @@ fn written(
 
 // Writes the block to an image of 0xa5 if it is modified, and then in any case.
 fn check_write(block: &mut RefBlock, row: Written) -> Result<(), Fail> {
-    let (cluster, modified, first, second) = row;
     let alloc = block.allocator();
     let mut image = recorded(alloc, filled_image(alloc, 1536)?);
-    let flag = modified && first.0.is_err();
-    let found = (written(block, &mut image, true), told(block));
-    same(found, (first, (256, Some(HostCluster(cluster)), flag)), row)?;
-    let found = (written(block, &mut image, false), block.is_modified());
-    same(found, (second, flag && second.0.is_err()), row)?;
-    let expected = if second.0.is_err() {
+    let flag = row.modified && row.if_modified.0.is_err();
+    let found = (answer_of(block, &mut image, true), told(block));
+    let state = (256, Some(HostCluster(row.cluster)), flag);
+    same(found, (row.if_modified, state), row)?;
+    let is_refused = row.then.0.is_err();
+    let found = (answer_of(block, &mut image, false), block.is_modified());
+    same(found, (row.then, flag && is_refused), row)?;
+    let expected = if is_refused {
         filled_image(alloc, 1536)
     } else {
-        image_with(alloc, (0, 1, 7))
+        image_with(alloc, 0, 1, 7)
     };
     same_image(&image.inner, expected, row)
 }
 
 // Writes a block of an image at the same place or at another.
 fn check_written(alloc: Global, row: Written) -> Result<(), Fail> {
-    let mut block = load(alloc, &mut image_with(alloc, (0, 1, 7))?, (9, 4), 1)?;
-    place(&mut block, row.0, row.1)?;
+    let mut block = load(alloc, &mut image_with(alloc, 0, 1, 7)?, (9, 4), 1)?;
+    place(&mut block, row.cluster, row.modified)?;
     check_write(&mut block, row)
 }
 
@@ -228,8 +252,8 @@ fn a_block_is_written_where_it_may_be(rt: HostRuntime) -> Result<(), Fail> {
     each(rt.alloc(), WRITES, check_written)
 }
 
-// What a load from a cluster reports.
-fn loaded(alloc: Global, cluster: u64) -> Result<(usize, Option<HostOffset>, bool), Fault> {
+// What a block says that is loaded from a cluster.
+fn told_of(alloc: Global, cluster: u64) -> Result<(usize, Option<HostOffset>, bool), Fault> {
     let block = load(alloc, &mut filled_image(alloc, 16)?, (9, 4), cluster)?;
     Ok((block.entries(), block.get_offset(), block.is_modified()))
 }
@@ -237,8 +261,8 @@ fn loaded(alloc: Global, cluster: u64) -> Result<(usize, Option<HostOffset>, boo
 #[test]
 fn a_block_is_loaded_from_where_it_may_be(rt: HostRuntime) -> Result<(), Fail> {
     let last = (256, Some(HostOffset(0xff_ffff_ffff_fe00)), false);
-    same(loaded(rt.alloc(), (1 << 47) - 1), Ok(last), "last")?;
-    let answer = loaded(rt.alloc(), 1 << 47);
+    same(told_of(rt.alloc(), (1 << 47) - 1), Ok(last), "last")?;
+    let answer = told_of(rt.alloc(), 1 << 47);
     same(answer, Err(Fault::TablePlace), "past the last")
 }
 
@@ -267,23 +291,25 @@ fn enter(table: &mut RefTable, block: &RefBlock, is_pending: bool) -> Result<Ref
     Ok(refusal(table.enter_refblock(3, block, pending)))
 }
 
-const ENTERED: &[Entered] = rows! {
-    (Some(3), false, 0x600), (Some((1 << 47) - 1), true, 0xff_ffff_ffff_fe00),
-    (None, false, NUMBER), (None, true, NUMBER),
+const ENTERED: &[Entered] = rows! { Entered:
+    { cluster: Some(3), is_pending: false, number: 0x600 },
+    { cluster: Some((1 << 47) - 1), is_pending: true, number: 0xff_ffff_ffff_fe00 },
+    { cluster: None, is_pending: false, number: NUMBER },
+    { cluster: None, is_pending: true, number: NUMBER },
 };
 
 fn check_entering(table: &mut RefTable, block: &mut RefBlock, row: Entered) -> Result<(), Fail> {
-    if let Some(cluster) = row.0 {
+    if let Some(cluster) = row.cluster {
         place(block, cluster, true)?;
     }
-    let found = enter(table, block, row.1)?;
+    let found = enter(table, block, row.is_pending)?;
     check_entered(table, found, row)
 }
 
 #[test]
 fn a_block_is_entered_by_its_offset_alone(rt: HostRuntime) -> Result<(), Fail> {
     for row in ENTERED {
-        let mut table = table_that_tells(rt.alloc(), DISK, LOADED)?;
+        let mut table = table_with(rt.alloc(), DISK, loaded(64, 3, NUMBER))?;
         check_entering(&mut table, &mut new_cleared(rt.alloc(), 4)?, *row)?;
     }
     Ok(())

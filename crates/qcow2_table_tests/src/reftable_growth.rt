@@ -1,6 +1,8 @@
 //! Refcount tables: how they grow, and how many spare entries they take along for that.
 
-use crate::fixtures::{NUMBER, check_grown, check_table, header_of, table_that_tells};
+use crate::fixtures::{
+    DISK, NUMBER, check_grown, check_table, cleared, disk_of, header_of, loaded, table_with,
+};
 use qcow2_base::{ClusterCount, Fault};
 use qcow2_metadata::{RefTable, Table, Turns, least_spare};
 use qcow2_testing::{each, holds, rows, same};
@@ -18,58 +20,102 @@ fn grow(table: &RefTable, order: u32, index: usize) -> Result<RefTable, Fault> {
 
 // The least spare entries, if there may be that many, and the turns that it took to find them.
 fn spare_of(alloc: Global, row: Growth) -> Result<(Option<usize>, usize), Fault> {
-    let (bits, order, entries, index, ..) = row;
-    if index >= 4194304 {
+    if row.index >= 4194304 {
         return Ok((None, 0));
     }
-    let header = header_of(alloc, bits, order, false)?;
+    let header = header_of(alloc, row.cluster_bits, row.refcount_order, false)?;
     let mut turns = Turns::new();
-    let spare = least_spare(entries, index, &header, &mut turns);
+    let spare = least_spare(row.entries, row.index, &header, &mut turns);
     Ok((spare, turns.count()))
 }
 
-// A growth of a refcount table: cluster bits and refcount order, how many entries there are and the
-// index that the table is to hold; how many spare entries are the least, and how many entries there are
-// then, or 0 and 0 if there may not be that many.
-type Growth = (u32, u32, usize, usize, usize, usize);
+// A growth of a refcount table to hold an index: how many spare entries are the least, and how many entries
+// there are then, if there may be that many.
+#[derive(Clone, Copy, Debug)]
+struct Growth {
+    cluster_bits: u32,
+    refcount_order: u32,
+    entries: usize,
+    index: usize,
+    spare: Option<usize>,
+    grown: Option<usize>,
+}
 
 // A spare of a thousand.
-const THOUSAND: Growth = (9, 6, 4194304, 0, 1041, 4194304);
+const THOUSAND: Growth = Growth {
+    cluster_bits: 9,
+    refcount_order: 6,
+    entries: 4194304,
+    index: 0,
+    spare: Some(1041),
+    grown: Some(4194304),
+};
 
-const GROWTHS: &[Growth] = rows! {
-    (9, 6, 0, 62, 1, 64), (9, 6, 0, 63, 1, 128), (9, 6, 0, 4030, 1, 4032), (9, 6, 0, 4031, 2, 4096),
-    (9, 6, 4032, 0, 1, 4032), (9, 6, 4033, 0, 2, 4096),
-    (9, 6, 4096, 4096, 2, 4160), (9, 6, 0, 4158, 2, 4224), (9, 6, 8065, 0, 3, 8128),
-    (9, 6, 100000, 100000, 25, 100032), THOUSAND, (9, 6, 0, 4193262, 1041, 4194304),
-    (9, 5, 0, 8127, 2, 8192), (9, 4, 0, 16319, 2, 16384), (10, 6, 0, 16255, 2, 16384),
-    (12, 4, 1048065, 0, 2, 1048576), (16, 4, 8192, 8191, 1, 16384), (21, 6, 0, 262143, 1, 524288),
+// Cluster bits 9, refcount order 6, and too many entries for a table.
+const TOO_MANY: Growth = Growth {
+    cluster_bits: 9,
+    refcount_order: 6,
+    entries: 0,
+    index: 0,
+    spare: None,
+    grown: None,
+};
+
+const GROWTHS: &[Growth] = rows! { Growth:
+    { entries: 0, index: 62, spare: Some(1), grown: Some(64), ..THOUSAND },
+    { entries: 0, index: 63, spare: Some(1), grown: Some(128), ..THOUSAND },
+    { entries: 0, index: 4030, spare: Some(1), grown: Some(4032), ..THOUSAND },
+    { entries: 0, index: 4031, spare: Some(2), grown: Some(4096), ..THOUSAND },
+    { entries: 4032, index: 0, spare: Some(1), grown: Some(4032), ..THOUSAND },
+    { entries: 4033, index: 0, spare: Some(2), grown: Some(4096), ..THOUSAND },
+    { entries: 4096, index: 4096, spare: Some(2), grown: Some(4160), ..THOUSAND },
+    { entries: 0, index: 4158, spare: Some(2), grown: Some(4224), ..THOUSAND },
+    { entries: 8065, index: 0, spare: Some(3), grown: Some(8128), ..THOUSAND },
+    { entries: 100000, index: 100000, spare: Some(25), grown: Some(100032), ..THOUSAND },
+    { ..THOUSAND },
+    { entries: 0, index: 4193262, spare: Some(1041), grown: Some(4194304), ..THOUSAND },
+    { cluster_bits: 9, refcount_order: 5, entries: 0, index: 8127, spare: Some(2), grown: Some(8192) },
+    { cluster_bits: 9, refcount_order: 4, entries: 0, index: 16319, spare: Some(2), grown: Some(16384) },
+    { cluster_bits: 10, refcount_order: 6, entries: 0, index: 16255, spare: Some(2), grown: Some(16384) },
+    { cluster_bits: 12, refcount_order: 4, entries: 1048065, index: 0,
+        spare: Some(2), grown: Some(1048576) },
+    { cluster_bits: 16, refcount_order: 4, entries: 8192, index: 8191,
+        spare: Some(1), grown: Some(16384) },
+    { cluster_bits: 21, refcount_order: 6, entries: 0, index: 262143,
+        spare: Some(1), grown: Some(524288) },
     // too many for a table
-    (9, 6, 0, 4193263, 0, 0), (9, 6, 0, 4194304, 0, 0), (9, 6, 0, usize::MAX, 0, 0),
-    (9, 4, 1, usize::MAX, 0, 0), (9, 0, 0, 4194287, 0, 0), (21, 0, 0, 4194303, 0, 0),
+    { entries: 0, index: 4193263, ..TOO_MANY },
+    { entries: 0, index: 4194304, ..TOO_MANY },
+    { entries: 0, index: usize::MAX, ..TOO_MANY },
+    { refcount_order: 4, entries: 1, index: usize::MAX, ..TOO_MANY },
+    { refcount_order: 0, entries: 0, index: 4194287, ..TOO_MANY },
+    { cluster_bits: 21, refcount_order: 0, entries: 0, index: 4194303, ..TOO_MANY },
 };
 
 // The least spare entries are found in no more turns than they are.
 fn check_spare(alloc: Global, row: Growth) -> Result<(), Fail> {
     let (spare, turns) = spare_of(alloc, row)?;
-    let least = row.4;
-    same(spare, (least > 0).then_some(least), row)?;
-    holds(least == 0 || 1 <= turns && turns <= least, row)
+    same(spare, row.spare, row)?;
+    match spare {
+        Some(least) => holds(1 <= turns && turns <= least, row),
+        None => Ok(()),
+    }
 }
 
 // Grows a table whose last entry alone isn't 0, and that stays.
 fn check_growth(alloc: Global, row: Growth) -> Result<(), Fail> {
-    let (bits, order, entries, index, _, grown) = row;
-    let number = if entries > 0 { NUMBER } else { 0 };
-    let entry = (entries.saturating_sub(1), number);
-    let told = (entries, entry, Some(2), false);
-    let source: RefTable = table_that_tells(alloc, (bits, false), told)?;
-    check_grown(grow(&source, order, index), grown, entry, row)?;
-    check_table(&source, told, row)
+    let number = if row.entries > 0 { NUMBER } else { 0 };
+    let state = loaded(row.entries, row.entries.saturating_sub(1), number);
+    let source: RefTable = table_with(alloc, disk_of(row.cluster_bits), state)?;
+    let answer = grow(&source, row.refcount_order, row.index);
+    check_grown(answer, row.grown, state, row)?;
+    check_table(&source, state, row)
 }
 
 // How many clusters a table of 64 clusters has, once it holds one index more.
 fn clusters_of_grown(alloc: Global) -> Result<ClusterCount, Fail> {
-    let source: RefTable = table_that_tells(alloc, (9, false), (4096, (0, 0), Some(2), false))?;
+    let state = cleared(4096).placed(Some(2), false);
+    let source: RefTable = table_with(alloc, DISK, state)?;
     Ok(grow(&source, 6, 4096)?.cluster_count())
 }
 

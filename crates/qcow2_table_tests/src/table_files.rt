@@ -1,7 +1,7 @@
 //! Tables of the most entries that their kind may have, and tables of images in real files.
 
 use crate::fixtures::{
-    DISK, NUMBER, Told, check_table, check_written_as, load, table_that_tells, write,
+    DISK, NUMBER, State, check_table, check_written_as, disk_of, load, loaded, table_with, write,
 };
 use qcow2_base::{Fault, FileStorage, MemStorage};
 use qcow2_metadata::{L1Table, L2Table, Table};
@@ -15,8 +15,14 @@ fn open(rt: &HostRuntime, path: &str) -> Result<FileStorage<File>, Fault> {
     FileStorage::open(rt, path, true)
 }
 
-// What the table says of which only the last of the most entries isn't 0.
-const LARGEST: Told = (4194304, (4194303, NUMBER), Some(8), false);
+// The table of which only the last of the most entries isn't 0.
+const LARGEST: State = State {
+    entries: 4194304,
+    index: 4194303,
+    number: NUMBER,
+    cluster: Some(8),
+    modified: false,
+};
 
 // That table, which begins at byte 4096 of a file. The file then has zeros before the last entry.
 fn largest_table(rt: &HostRuntime, path: &str) -> Result<L1Table, Fault> {
@@ -50,7 +56,8 @@ fn an_l1_table_of_the_most_entries_goes_from_file_to_file(rt: HostRuntime) -> Re
 // Loads the table at a cluster of a file, of which entry 3 alone may not be 0.
 fn check_loaded(rt: &HostRuntime, path: &str, cluster: u64, number: u64) -> Result<(), Fail> {
     let table: L2Table = load(rt.alloc(), &mut open(rt, path)?, DISK, cluster, 64)?;
-    check_table(&table, (64, (3, number), Some(cluster), false), cluster)
+    let state = loaded(64, 3, number).placed(Some(cluster), false);
+    check_table(&table, state, cluster)
 }
 
 // Two clusters of 0xa5, and a table that ends with its entry 3.
@@ -84,18 +91,24 @@ fn largest_l2_table(alloc: Global) -> Result<MemStorage, Fault> {
     Ok(image)
 }
 
-const LARGEST_L2: Told = (262144, (262143, NUMBER), Some(1), false);
+const LARGEST_L2: State = State {
+    entries: 262144,
+    index: 262143,
+    number: NUMBER,
+    cluster: Some(1),
+    modified: false,
+};
 
 // Writes the table, and reads it back.
 fn check_round_trip(table: &mut L2Table) -> Result<(), Fail> {
     let alloc = table.allocator();
     let mut image = filled_image(alloc, 4194312)?;
     check_written_as(table, &mut image, largest_l2_table(alloc))?;
-    let found: L2Table = load(alloc, &mut image, (21, false), 1, 262144)?;
+    let found: L2Table = load(alloc, &mut image, disk_of(21), 1, 262144)?;
     check_table(&found, LARGEST_L2, "read back")
 }
 
 #[test]
 fn an_l2_table_of_the_most_entries_is_written_and_read_back(rt: HostRuntime) -> Result<(), Fail> {
-    check_round_trip(&mut table_that_tells(rt.alloc(), (21, false), LARGEST_L2)?)
+    check_round_trip(&mut table_with(rt.alloc(), disk_of(21), LARGEST_L2)?)
 }

@@ -7,9 +7,13 @@ use std::alloc::{AllocError, Global};
 use std::fmt::{Debug, Display};
 use std::test::Fail;
 
-/// A table or a list, laid out by hand: a row in one line, if it fits.
+/// A table or a list, laid out by hand: a row in one line, if it fits. Rows of a struct have its name before
+/// the first: `rows! { Width: { order: 0, counters: 4096 }, { order: 1, counters: 2048 } }`.
 #[macro_export]
 macro_rules! rows {
+    ($row:ident: $({ $($fields:tt)* }),* $(,)?) => {
+        &[$($row { $($fields)* }),*]
+    };
     ($($row:expr),* $(,)?) => {
         &[$($row),*]
     };

@@ -14,7 +14,7 @@ mod temporary_files;
 pub use comparisons::{each, holds, part_of, printed, row_error, same, same_bytes, same_text};
 pub use conditions::{fits, is_cluster_bits};
 pub use failing::{FailingStorage, StorageCall, take_turn};
-pub use faults::{FAULTS, ToldFault};
+pub use faults::{FAULTS, ReportedFault};
 pub use faulty_files::{FaultyFile, FaultyFiles, Opens};
 pub use images::{filled_image, image_with, put, put_bytes, recorded, same_image};
 pub use temporary_files::{TemporaryFile, file_holds, temporary_file, temporary_path};

@@ -3,7 +3,7 @@
 use super::whole_images::check_run;
 use crate::failing_output::{FailingOutput, Failure};
 use qcow2_session::{report_fault, run_words};
-use qcow2_testing::{FAULTS, FaultyFiles, ToldFault, each, rows, same};
+use qcow2_testing::{FAULTS, FaultyFiles, ReportedFault, each, rows, same};
 use std::alloc::Global;
 use std::rt::Files;
 use std::test::Fail;
@@ -88,7 +88,7 @@ fn words_that_are_no_command_are_the_usage_line(rt: HostRuntime) -> Result<(), F
 }
 
 // On an output that takes all, one that takes three bytes a call, and one that is interrupted once.
-fn check_reported(alloc: Global, fault: ToldFault) -> Result<(), Fail> {
+fn check_reported(alloc: Global, fault: ReportedFault) -> Result<(), Fail> {
     check_reported_on(alloc, Failure::Never, fault)?;
     check_reported_on(alloc, Failure::Short, fault)?;
     check_reported_on(alloc, Failure::Interrupted, fault)
@@ -97,7 +97,7 @@ fn check_reported(alloc: Global, fault: ToldFault) -> Result<(), Fail> {
 fn check_reported_on(
     alloc: Global,
     failure: Failure,
-    (fault, number, ..): ToldFault,
+    ReportedFault { fault, number, .. }: ReportedFault,
 ) -> Result<(), Fail> {
     let mut err = FailingOutput::new(alloc, failure);
     let status = report_fault(fault, &mut err);
