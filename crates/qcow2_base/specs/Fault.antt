@@ -1,11 +1,13 @@
 -- Which number, kind and words has each fault?
 use Rattle.std.specs.Prelude.{ℕ, List, codes}
 use Rattle.qcow2_base.specs.declared.fault.Fault.{Fault}
-use Rattle.qcow2_base.specs.declared.fault.Fault.TheVariants.{NotQcow2, Version, ClusterSize, HeaderShort, HeaderBig, L1Unaligned, ReftableUnaligned, RefcountWidth, BackingNameLong, BackingNamePlace, BackingNameText, ExtensionsExceed, ExtensionText, FeatureNameCut, FormatConflict, DataFileConflict, Incompatible, EntryReserved, EntryUnaligned, TableTooBig, TablePlace, NoOffset, NotPlaced, HeaderTooLong, NameTooLong, FieldChanged, VersionNeeded, CannotGrow, TooMany, CounterRange, WrongLength, BadEdit, BadStep, Storage, NoMemory, ExternalData}
+use Rattle.qcow2_base.specs.declared.fault.Fault.TheVariants.{NotQcow2, Version, ClusterSize, HeaderShort, HeaderBig, L1Unaligned, ReftableUnaligned, RefcountWidth, BackingNameLong, BackingNamePlace, BackingNameText, ExtensionsExceed, ExtensionText, FeatureNameCut, FormatConflict, DataFileConflict, Incompatible, EntryReserved, EntryUnaligned, TableTooBig, TablePlace, NoOffset, NotPlaced, HeaderTooLong, NameTooLong, FieldChanged, VersionNeeded, CannotGrow, TooMany, CounterRange, WrongLength, BadEdit, BadStep, Storage, NoMemory, ExternalData, Uncounted}
 use Rattle.qcow2_base.specs.declared.fault.Field.{Field}
 use Rattle.qcow2_base.specs.declared.fault.Field.TheVariants as field
 use Rattle.qcow2_base.specs.declared.fault.FaultKind.{FaultKind}
 use Rattle.qcow2_base.specs.declared.fault.FaultKind.TheVariants as kind
+use Rattle.qcow2_base.specs.declared.fault.UncountedPart.{UncountedPart}
+use Rattle.qcow2_base.specs.declared.fault.UncountedPart.TheVariants as part
 
 -- the number of a fault
 abbrev pub fault_number : Fault → ℕ
@@ -45,6 +47,7 @@ fault_number (BadStep position) = 33
 fault_number Storage = 34
 fault_number NoMemory = 35
 fault_number ExternalData = 36
+fault_number (Uncounted part) = 37
 
 -- the kind of a fault
 abbrev pub fault_kind : Fault → FaultKind
@@ -60,6 +63,7 @@ fault_kind HeaderTooLong = kind.Other
 fault_kind (FieldChanged field) = kind.Other
 fault_kind CannotGrow = kind.Other
 fault_kind VersionNeeded = kind.Unsupported
+fault_kind (Uncounted part) = kind.Unsupported
 fault_kind Storage = kind.Storage
 fault_kind NoMemory = kind.NoMemory
 fault_kind _ = kind.InvalidData
@@ -82,3 +86,9 @@ field_name field.UnknownFields = codes "the unknown header fields"
 field_name field.BackingName = codes "the backing file name"
 field_name field.Extensions = codes "the header extensions"
 field_name field.ExternalData = codes "the use of an external data file"
+
+-- what a message calls a part of an image
+abbrev pub part_name : UncountedPart → List ℕ
+part_name part.Snapshots = codes "snapshots"
+part_name part.Bitmaps = codes "bitmaps"
+part_name part.Encryption = codes "an encryption header"

@@ -56,6 +56,29 @@ impl fmt::Display for Field {
     }
 }
 
+/// A part of an image that refers to clusters, and that isn't read here.
+#[derive(Clone, Copy, Debug, PartialEq, Eq)]
+pub enum UncountedPart {
+    Snapshots,
+    Bitmaps,
+    Encryption,
+}
+
+/// What the part is.
+impl fmt::Display for UncountedPart {
+    ghost use Rattle.qcow2_base.specs.Fault.{part_name};
+
+    ghost output = { λ part. Some (part_name part) };
+
+    fn fmt<W: fmt::Write>(&self, f: &mut fmt::Formatter<W>) -> fmt::Result {
+        f.write_str(match self {
+            UncountedPart::Snapshots => "snapshots",
+            UncountedPart::Bitmaps => "bitmaps",
+            UncountedPart::Encryption => "an encryption header",
+        })
+    }
+}
+
 /// Why a call refused. Each fault belongs to one rule; the message says what the rule expects. A fault's
 /// number is its place in this list, from 1 on.
 ///
@@ -135,6 +158,8 @@ pub enum Fault {
     NoMemory,
     #[error("refcounts of data clusters must stand in the image, it has an external data file")]
     ExternalData,
+    #[error("all that refers to clusters must be read, the image has {0}")]
+    Uncounted(UncountedPart),
 }
 
 /// What sort of fault it is, for a caller that treats faults by their sort.
@@ -146,7 +171,7 @@ pub enum FaultKind {
     InvalidInput,
     /// The image or a value is in a state that does not allow the call.
     Other,
-    /// The image's version has no room for what was asked.
+    /// The image's version has no room for what was asked, or the image has a part that isn't read here.
     Unsupported,
     /// The storage failed.
     Storage,
@@ -157,7 +182,7 @@ pub enum FaultKind {
 impl Fault {
     ghost use Rattle.qcow2_base.specs.Fault.{fault_number, fault_kind};
 
-    /// The fault's fixed number, from 1 to 36, which `qmeta` prints.
+    /// The fault's fixed number, from 1 to 37, which `qmeta` prints.
     pub fn number(&self) -> u32
         ensures { result ≡ fault_number self.now }
     {
@@ -198,6 +223,7 @@ impl Fault {
             Fault::Storage => 34,
             Fault::NoMemory => 35,
             Fault::ExternalData => 36,
+            Fault::Uncounted(_) => 37,
         }
     }
 
@@ -217,7 +243,7 @@ impl Fault {
             | Fault::HeaderTooLong
             | Fault::FieldChanged(_)
             | Fault::CannotGrow => FaultKind::Other,
-            Fault::VersionNeeded => FaultKind::Unsupported,
+            Fault::VersionNeeded | Fault::Uncounted(_) => FaultKind::Unsupported,
             Fault::Storage => FaultKind::Storage,
             Fault::NoMemory => FaultKind::NoMemory,
             _ => FaultKind::InvalidData,

@@ -9,7 +9,7 @@ mod storage;
 mod types;
 
 pub use bits::field;
-pub use fault::{Fault, FaultKind, Field};
+pub use fault::{Fault, FaultKind, Field, UncountedPart};
 pub use format::{
     EXTERNAL_DATA_FILE_BIT, MAGIC, MAX_BACKING_FILENAME, MAX_FILE_LENGTH, MAX_L1_ENTRIES,
     MAX_OFFSET, MAX_REFTABLE_ENTRIES,

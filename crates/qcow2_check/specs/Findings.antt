@@ -1,12 +1,13 @@
 -- Where do an image's counters differ from its uses of clusters, and which clusters have uses that exclude each other?
-use Rattle.std.specs.Prelude.{◌≡◌, ◌≢◌, ◌⊎◌, ℕ, Bool, true, false, not, ◌&&◌, ◌||◌, ◌==◌, ◌+◌, ◌<◌, ◌≤◌, nat_lt, List, Option, Some, None, Result, Ok, Err, IfSome}
+use Rattle.std.specs.Prelude.{◌≡◌, ◌≢◌, ◌⊎◌, ℕ, Bool, true, false, not, ◌&&◌, ◌||◌, ◌==◌, ◌+◌, ◌<◌, ◌≤◌, nat_lt, List, Option, Some, None, option_map, Result, Ok, Err, IfSome}
 use Rattle.std.specs.List.{fold, sum_by}
 use Rattle.qcow2_base.specs.Format.{max_file_length}
 use Rattle.qcow2_base.specs.Storage.{Image, OnImage, StorageState}
 use Rattle.qcow2_base.specs.declared.fault.Fault.{Fault}
+use Rattle.qcow2_base.specs.declared.fault.Fault.TheVariants.{Uncounted}
 use Rattle.qcow2_metadata.specs.Entries.{is_among}
-use Rattle.qcow2_metadata.specs.Header.{HeaderRecord, geometry_of}
-use Rattle.qcow2_metadata.specs.Results.{IsFromOutside, and_then, result_map}
+use Rattle.qcow2_metadata.specs.Header.{HeaderRecord, geometry_of, uncounted_part}
+use Rattle.qcow2_metadata.specs.Results.{IsFromOutside, and_then, result_map, unless_refused}
 use Rattle.qcow2_metadata.specs.Table.{IsContentFault, IsTableFault}
 use Rattle.qcow2_metadata.specs.Table.L2Guards.{one_if}
 use Rattle.qcow2_check.specs.Counters.{CountersState, IsKeptOf, IsReftableFault, counter_of, placed_reftable}
@@ -87,17 +88,18 @@ PassesFinding image reader (Ok (Some finding)) to = (reader.position ≤ finding
 PassesFinding image reader answer to = (reader.position ≤ to)
     × OnImage image (λ bytes. AreRight (tables_of reader) bytes reader.position to)
 
--- the tables of an image with this header whose L2 tables can all be loaded, or the first fault: that of the L1 table, of the
--- refcount table, of the place of a block, or of an L2 table
+-- the tables of an image with this header that can be checked, or the first fault: a part that isn't read here, or that of the
+-- L1 table, of the refcount table, of the place of a block, or of an L2 table
 abbrev pub checked_tables : HeaderRecord → Image → Result ImageTables Fault
-checked_tables header image =
-    and_then (loaded_l1_table header image) (λ l1.
+checked_tables header image = unless_refused (option_map Uncounted (uncounted_part header))
+    (and_then (loaded_l1_table header image) (λ l1.
     and_then (placed_reftable header image) (λ reftable.
-    result_map (λ _. record { header = header; l1 = l1; reftable = reftable }) (all_load (geometry_of header) l1 image)))
+    result_map (λ _. record { header = header; l1 = l1; reftable = reftable }) (all_load (geometry_of header) l1 image))))
 
 -- these refusals
 abbrev pub IsCheckFault : HeaderRecord → Fault → Type 0
-IsCheckFault header fault = IsTableFault (l1_layout header) (l1_cluster header) fault ⊎ IsReftableFault header fault
+IsCheckFault header fault = (option_map Uncounted (uncounted_part header) ≡ Some fault)
+    ⊎ IsTableFault (l1_layout header) (l1_cluster header) fault ⊎ IsReftableFault header fault
 
 -- a fault after these are refused: it is from outside where the image's bytes are known
 abbrev pub IsLaterFault : StorageState → Fault → Type 0

@@ -122,7 +122,7 @@ impl<'a> Findings<'a> {
     /// A reader of the findings of an image with this header, before the first of them. Reads its tables, and counts the uses
     /// of the first clusters.
     ///
-    /// Returns the first of these faults: that of the L1 table, that of the refcount table, 21 where a refcount block would
+    /// Returns the first of these faults: 37 where the image has snapshots, bitmaps or an encryption header, that of the L1 table, that of the refcount table, 21 where a refcount block would
     /// end past 2^56, or that of an L2 table. Changes no byte.
     pub fn new<S: Storage>(
         alloc: Global,
@@ -134,6 +134,9 @@ impl<'a> Findings<'a> {
         ensures begun { IfOk result (λ findings. (findings.header ≡ header.now) × (findings.position ≡ 0)) }
         ensures reader { IfOk result (λ findings. OnImage (S.state image.old) (λ bytes. IsFindingsOf bytes findings)) }
     {
+        if let Some(part) = header.uncounted_part() {
+            return Err(Fault::Uncounted(part));
+        }
         let l1_table = load_l1_table(alloc, image, header)?;
         let counters = Counters::new(alloc, image, header)?;
         let counted = counters.counted();

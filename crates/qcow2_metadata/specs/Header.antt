@@ -7,16 +7,18 @@ pub mod Open
 pub mod Pointers
 pub mod Text
 pub mod Update
-use Rattle.std.specs.Prelude.{◌≡◌, ◌⊎◌, All, ℕ, Bool, true, nat_eq, ◌==◌, ◌+◌, ◌-◌, ◌*◌, ◌%◌, ◌^◌, ◌≤◌, List, [], ◌∷◌, ◌++◌, map, codes, Option, IfSome, is_some, if◌then◌else◌, option_to_list, slice_get}
+use Rattle.std.specs.Prelude.{◌≡◌, ◌⊎◌, All, ℕ, Bool, true, not, nat_eq, ◌==◌, ◌+◌, ◌-◌, ◌*◌, ◌%◌, ◌^◌, ◌≤◌, List, [], ◌∷◌, ◌++◌, map, codes, Option, Some, None, IfSome, is_some, if◌then◌else◌, option_to_list, slice_get}
 use Rattle.std.specs.Cmp.Lexicographic.{pointwise}
-use Rattle.std.specs.List.{list_all}
+use Rattle.std.specs.List.{list_all, list_any}
 use Rattle.std.specs.Str.{IsUtf8}
 use Rattle.qcow2_base.specs.Format.{external_data_file_bit}
 use Rattle.qcow2_base.specs.Bits.{field}
 use Rattle.qcow2_base.specs.Types.{IsClusterBits}
+use Rattle.qcow2_base.specs.declared.fault.UncountedPart.{UncountedPart}
+use Rattle.qcow2_base.specs.declared.fault.UncountedPart.TheVariants.{Bitmaps, Encryption, Snapshots}
 use Rattle.qcow2_base.specs.declared.on_disk_struct.v2_header.V2Header.{V2Header}
 use Rattle.qcow2_base.specs.declared.on_disk_struct.v3_header_base.V3HeaderBase.{V3HeaderBase}
-use Rattle.qcow2_metadata.specs.Header.Extensions.{Extension, FeatureNameTable, FeatureNames, IsStorable, TextOf, name_in}
+use Rattle.qcow2_metadata.specs.Header.Extensions.{Extension, FeatureNameTable, FeatureNames, IsStorable, is_unknown, TextOf, name_in}
 use Rattle.qcow2_metadata.specs.declared.header.extensions.HeaderExtensionType.TheVariants as kind
 use Rattle.qcow2_metadata.specs.declared.header.features.FeatureType.TheVariants.{Incompatible, Compatible, Autoclear}
 
@@ -66,6 +68,14 @@ uses_external_data header = field header.base.incompatible_features external_dat
 abbrev pub other_features : V3HeaderBase → ℕ
 other_features base =
     base.incompatible_features - 2 ^ external_data_file_bit * field base.incompatible_features external_data_file_bit 1
+
+-- the first part of an image that refers to clusters and that isn't read here, if it has one
+abbrev pub uncounted_part : HeaderRecord → Option UncountedPart
+uncounted_part header =
+    if not (header.v2.nb_snapshots == 0) then Some Snapshots
+    else if list_any (is_unknown 0x23852875) header.extensions then Some Bitmaps
+    else if list_any (is_unknown 0x0537be77) header.extensions then Some Encryption
+    else None
 
 -- what features are called in new images
 abbrev pub known_names : FeatureNames

@@ -17,6 +17,7 @@ mod text;
 mod update;
 mod write;
 
+use extensions::has_unknown;
 pub use extensions::{HeaderExtension, HeaderExtensionType};
 use feature_names::known_names;
 pub use features::{
@@ -24,10 +25,16 @@ pub use features::{
 };
 use names::first_name;
 use qcow2_base::{
-    ClusterCount, EXTERNAL_DATA_FILE_BIT, Fault, HostOffset, MAGIC, V2Header, V3HeaderBase,
+    ClusterCount, EXTERNAL_DATA_FILE_BIT, Fault, HostOffset, MAGIC, UncountedPart, V2Header,
+    V3HeaderBase,
 };
 use std::alloc::Global;
 use std::marker::Model;
+
+// The types of extensions that say where bitmaps and an encryption header lie.
+const BITMAPS: u32 = 0x23852875;
+
+const ENCRYPTION: u32 = 0x0537be77;
 
 /// The header of an image in memory. Clauses see it as its record.
 #[derive(Debug, Drop)]
@@ -66,7 +73,7 @@ impl Model for Header {
 
 impl Header {
     ghost use Rattle.std.specs.Prelude.{◌-◌, ◌*◌, ◌<◌};
-    ghost use Rattle.qcow2_metadata.specs.Header.{IsValidHeader, first_by, new_header, uses_external_data};
+    ghost use Rattle.qcow2_metadata.specs.Header.{IsValidHeader, first_by, new_header, uncounted_part, uses_external_data};
     ghost use Rattle.qcow2_metadata.specs.Header.Extensions.{feature_name_in, name_in};
     ghost use Rattle.qcow2_metadata.specs.declared.header.extensions.HeaderExtensionType.TheVariants as kind;
 
@@ -282,6 +289,20 @@ impl Header {
             }
         }
         None
+    }
+
+    /// The first part of the image that refers to clusters and that isn't read here, if it has one: snapshots, bitmaps, or
+    /// encryption.
+    pub fn uncounted_part(&self) -> Option<UncountedPart>
+        ensures { result ≡ uncounted_part self.now }
+    {
+        if self.v2.nb_snapshots != 0 {
+            return Some(UncountedPart::Snapshots);
+        }
+        if has_unknown(&self.extensions, BITMAPS) {
+            return Some(UncountedPart::Bitmaps);
+        }
+        has_unknown(&self.extensions, ENCRYPTION).then_some(UncountedPart::Encryption)
     }
 
     /// The version of the format, 2 or 3.

@@ -1,6 +1,6 @@
 //! The faults of the library, as they are reported.
 
-use qcow2_base::{Fault, FaultKind, Field};
+use qcow2_base::{Fault, FaultKind, Field, UncountedPart};
 
 /// A fault, and how it is reported.
 #[derive(Clone, Copy, Debug)]
@@ -69,4 +69,10 @@ pub const FAULTS: &[ReportedFault] = faults! {
     Fault::NoMemory => 35 NoMemory "memory must be left for the call, none was",
     Fault::ExternalData => 36 InvalidInput
         "refcounts of data clusters must stand in the image, it has an external data file",
+    Fault::Uncounted(UncountedPart::Snapshots) => 37 Unsupported
+        "all that refers to clusters must be read, the image has snapshots",
+    Fault::Uncounted(UncountedPart::Bitmaps) => 37 Unsupported
+        "all that refers to clusters must be read, the image has bitmaps",
+    Fault::Uncounted(UncountedPart::Encryption) => 37 Unsupported
+        "all that refers to clusters must be read, the image has an encryption header",
 };

@@ -48,6 +48,11 @@ pub data Extension : Type 0 where
   FeatureNameTable : FeatureNames → Extension
   Unknown : ℕ → List ℕ → Extension
 
+-- whether an extension is of the type with this number, which isn't known here
+abbrev pub is_unknown : ℕ → Extension → Bool
+is_unknown number (Unknown other content) = other == number
+is_unknown number _ = false
+
 -- the names that a table in memory has
 abbrev pub names_of : BTreeMap FeatureKey (String Global) → FeatureNames
 names_of names = map (λ entry. (entry.0, string_bytes entry.1)) names.entries

@@ -6,7 +6,8 @@ ghost use Rattle.qcow2_base.specs.Storage.{be};
 ghost use Rattle.qcow2_base.specs.declared.fault.Fault.TheVariants.{ExtensionText};
 ghost use Rattle.qcow2_metadata.specs.Results.{after_conditions, result_map};
 ghost use Rattle.qcow2_metadata.specs.Header.Chain.{data_end, extension_at, extensions_at, link_at};
-ghost use Rattle.qcow2_metadata.specs.Header.Extensions.{IsStorable, data_of, extension_number, extension_of, feature_name_in, name_in, extension_from_data, type_number};
+ghost use Rattle.std.specs.List.{list_any};
+ghost use Rattle.qcow2_metadata.specs.Header.Extensions.{IsStorable, data_of, extension_number, extension_of, feature_name_in, is_unknown, name_in, extension_from_data, type_number};
 ghost use Rattle.qcow2_metadata.specs.Header.Features.{HasNumber};
 ghost use Rattle.qcow2_metadata.specs.Header.Grammar.{AreValidParts, IsHeaderFault, header_extensions};
 ghost use Rattle.qcow2_metadata.specs.Header.Text.{chosen_extensions, extension_text, extensions_text, fields_text, is_other, written_text};
@@ -99,6 +100,19 @@ impl HeaderExtension {
         }
     }
 
+    // Whether it is of the type with this number, which isn't known here.
+    fn is_unknown(&self, number: u32) -> bool
+        ensures { result ≡ is_unknown number (extension_of self.now) }
+    {
+        match self {
+            HeaderExtension::Unknown {
+                extension_type,
+                content: _,
+            } => *extension_type == number,
+            _ => false,
+        }
+    }
+
     pub(super) fn feature_name(&self, feature_type: FeatureType, bit: u8) -> Option<&String>
         ensures { option_map (λ name. string_bytes name.now) result
             ≡ feature_name_in (feature_type, bit) (extension_of self.now) }
@@ -108,6 +122,18 @@ impl HeaderExtension {
             _ => None,
         }
     }
+}
+
+/// Whether an extension is of the type with this number, which isn't known here.
+pub(super) fn has_unknown(extensions: &[HeaderExtension], number: u32) -> bool
+    ensures { result ≡ list_any (is_unknown number) (map extension_of extensions.now) }
+{
+    for extension in extensions {
+        if extension.is_unknown(number) {
+            return true;
+        }
+    }
+    false
 }
 
 // The extensions, of which version 2 has none.
