@@ -1,0 +1,11 @@
+//! Tests of what an image says of its own clusters: of counters, and of findings.
+#![tactic(auto)]
+
+#[cfg(test)]
+mod counters;
+#[cfg(test)]
+mod findings;
+#[cfg(test)]
+mod refused_calls;
+#[cfg(test)]
+mod sample_image;

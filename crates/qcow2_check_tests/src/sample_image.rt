@@ -1,0 +1,80 @@
+//! A small image that is consistent, changes of it, and the calls that are tested, without their clauses.
+
+use qcow2_base::{Fault, HostCluster, MemStorage, Storage};
+use qcow2_check::{Counters, Finding, Findings};
+use qcow2_metadata::Header;
+use qcow2_testing::{image_with, put};
+use std::alloc::Global;
+
+/// Numbers of eight bytes, and where each stands in an image.
+pub(crate) type Numbers<'a> = &'a [(u64, u64)];
+
+// Bit 63 of an entry.
+const COPIED: u64 = 1 << 63;
+
+/// Where the header, its tables and the first block of the sample image lie.
+pub(crate) const HEADER: u64 = 0;
+pub(crate) const L1_TABLE: u64 = 512;
+pub(crate) const REFTABLE: u64 = 1024;
+pub(crate) const BLOCK: u64 = 1536;
+pub(crate) const L2_TABLE: u64 = 2048;
+
+// Clusters of 512 bytes, an L1 table of two entries in cluster 1, the refcount table in cluster 2, its block in
+// cluster 3, with counters of 16 bits, and an L2 table in cluster 4. Guest cluster 3 is the data in cluster 5. The
+// six clusters have the counter 1.
+const SAMPLE: Numbers<'static> = &[
+    (HEADER, 0x5146_49fb_0000_0003),
+    (HEADER + 16, 9),
+    (HEADER + 24, 65536),
+    (HEADER + 32, 2),
+    (HEADER + 40, L1_TABLE),
+    (HEADER + 48, REFTABLE),
+    (HEADER + 56, 1 << 32),
+    (HEADER + 96, 0x0000_0004_0000_0068),
+    (L1_TABLE, COPIED | L2_TABLE),
+    (REFTABLE, BLOCK),
+    (BLOCK, 0x0001_0001_0001_0001),
+    (BLOCK + 8, 0x0001_0001_0000_0000),
+    (L2_TABLE + 24, COPIED | 2560),
+];
+
+/// The sample image with these changes, which may lengthen it.
+pub(crate) fn sample_image(alloc: Global, changes: Numbers<'_>) -> Result<MemStorage, Fault> {
+    let mut image = image_with(alloc, 3072, SAMPLE)?;
+    for (place, number) in changes {
+        put(&mut image, *place, *number)?;
+    }
+    Ok(image)
+}
+
+/// All findings of an image, in order, the first hundred of them at most.
+pub(crate) fn findings_of<S: Storage>(
+    alloc: Global,
+    image: &mut S,
+) -> Result<Vec<Finding>, Fault> {
+    let header = Header::load(alloc, image, false)?;
+    let mut findings = Findings::new(alloc, image, &header)?;
+    let mut found = Vec::new(alloc);
+    for _ in 0..100 {
+        let Some(finding) = findings.next(image)? else {
+            return Ok(found);
+        };
+        found.push(finding)?;
+    }
+    Ok(found)
+}
+
+/// The counters of these clusters.
+pub(crate) fn counters_of<S: Storage>(
+    alloc: Global,
+    image: &mut S,
+    clusters: &[u64],
+) -> Result<Vec<u64>, Fault> {
+    let header = Header::load(alloc, image, false)?;
+    let mut counters = Counters::new(alloc, image, &header)?;
+    let mut found = Vec::new(alloc);
+    for cluster in clusters {
+        found.push(counters.get(image, HostCluster(*cluster))?)?;
+    }
+    Ok(found)
+}
