@@ -3,6 +3,7 @@
 
 mod counters;
 mod findings;
+pub mod laws;
 mod named_tables;
 mod tally;
 mod uses;

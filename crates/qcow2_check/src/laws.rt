@@ -1,0 +1,26 @@
+//! Laws: facts about the definitions that contracts name. Each is a function that does nothing. Its
+//! contract is the law, and its name says it.
+
+ghost use Rattle.std.specs.Prelude.{◌≡◌, ℕ, ◌<◌, ◌≤◌};
+ghost use Rattle.qcow2_base.specs.Format.{max_file_length};
+ghost use Rattle.qcow2_base.specs.Storage.{Image};
+ghost use Rattle.qcow2_check.specs.Counters.{counter_of};
+ghost use Rattle.qcow2_check.specs.Findings.{AreRight, uses_of_kind};
+ghost use Rattle.qcow2_check.specs.Uses.{ImageTables, image_uses, uses_of};
+ghost use Rattle.qcow2_check.specs.declared.tally.UseKind.TheVariants.{Fixed, L2Table};
+
+/// Where nothing is found of an image, the counter of each cluster is the number of its uses.
+pub fn counters_are_uses_where_nothing_is_found()
+    ensures { (tables : ImageTables) (image : Image) → AreRight tables image 0 max_file_length →
+        (c : ℕ) → c < max_file_length →
+        counter_of tables.header tables.reftable image c ≡ uses_of (image_uses tables image) c }
+{}
+
+/// Where nothing is found of an image, a cluster of the header, of the L1 table, of the refcount table or of a block has
+/// no other use, and one of an L2 table has no use but by L1 entries.
+pub fn uses_exclude_no_others_where_nothing_is_found()
+    ensures { (tables : ImageTables) (image : Image) → AreRight tables image 0 max_file_length →
+        (c : ℕ) → c < max_file_length → let uses = image_uses tables image in
+        (0 < uses_of_kind Fixed uses c → uses_of uses c ≡ 1)
+        × (0 < uses_of_kind L2Table uses c → uses_of uses c ≡ uses_of_kind L2Table uses c) }
+{}
