@@ -17,7 +17,8 @@ use Rattle.qcow2_metadata.specs.Entries.Runs.{reads_on}
 use Rattle.qcow2_metadata.specs.Header.{Geometry}
 use Rattle.qcow2_metadata.specs.Table.{TableState, l2_entries, loaded_l2_table, mapping_at}
 use Rattle.qcow2_metadata.specs.Table.L2Table.{IsMappedRun}
-use Rattle.qcow2_session.specs.Lookups.{l2_cluster, named_cluster}
+use Rattle.qcow2_check.specs.NamedTables.{named_cluster}
+use Rattle.qcow2_session.specs.Lookups.{l2_cluster}
 use Rattle.qcow2_session.specs.Extents.{AreExtents, AreInOneTable, Contents, ExtentsState, HasNoTable, IsExtent, IsPiece, ReadAsOne, RefusesExtent, StaysReader, content_in, contents_in, contents_of, extent_of, moved_on}
 use Rattle.qcow2_session.specs.declared.extents.Extent.{Extent}
 use Rattle.qcow2_session.specs.declared.extents.Content.{Content}

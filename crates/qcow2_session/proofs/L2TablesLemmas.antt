@@ -8,7 +8,7 @@ use Rattle.qcow2_base.specs.declared.types.HostCluster.{HostCluster}
 use Rattle.qcow2_metadata.specs.Header.{Geometry}
 use Rattle.qcow2_metadata.specs.Table.{loaded_l2_table}
 use Rattle.qcow2_session.specs.L2Tables.{named_tables}
-use Rattle.qcow2_session.specs.Lookups.{named_cluster}
+use Rattle.qcow2_check.specs.NamedTables.{named_cluster}
 
 -- tables from an index on: that of the entry there, and those from the next one on
 from_index : (g : Geometry) (l1 : List ℕ) (image : Image) (i : ℕ) → i < length l1

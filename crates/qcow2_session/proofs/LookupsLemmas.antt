@@ -12,35 +12,12 @@ use Rattle.qcow2_metadata.specs.Header.{Geometry}
 use Rattle.qcow2_metadata.specs.Results.{IsFromOutside}
 use Rattle.qcow2_metadata.specs.Table.{IsContentFault, IsTableFault, l2_layout}
 use Rattle.qcow2_metadata.specs.Placed.{place_fault}
-use Rattle.qcow2_session.specs.Lookups.{IsInImage}
+use Rattle.qcow2_check.specs.NamedTables.{IsInImage}
 
 -- the cluster of an offset that fits 64 bits begins at one that does
 pub cluster_fits : (offset cluster cb other : ℕ) → offset < 2 ^ 64 → cluster ≡ offset / 2 ^ cb → other ≡ cb → cluster * 2 ^ other < 2 ^ 64
 cluster_fits offset cluster cb other fits is same =
     rw (is, same) (omega (arith, div-mul-le_self offset (2 ^ cb), fits))
-
--- a cluster with an offset below 2 ^ 56 ends by there
-pub cluster_ends : (offset cb : ℕ) → cb ≤ 21 → offset < 2 ^ 56 → offset / 2 ^ cb * 2 ^ cb + 2 ^ cb ≤ 2 ^ 56
-cluster_ends offset cb high below =
-    let whole : (56 - cb) + cb ≡ 56 = omega arith in
-    let total : 2 ^ 56 ≡ 2 ^ (56 - cb) * 2 ^ cb = sym (ap (λ x. 2 ^ x) whole) ∙ pow-add 2 (56 - cb) cb in
-    let row : offset / 2 ^ cb < 2 ^ (56 - cb) = shr_below offset (56 - cb) cb (rw whole below) in
-    let room : (offset / 2 ^ cb + 1) * 2 ^ cb ≤ 2 ^ (56 - cb) * 2 ^ cb = mul-le _ _ _ _ (omega arith) (omega arith) in
-    omega (arith, total, room)
-
--- and so does the one that an L1 entry's offset lies in
-pub l2_cluster_ends : (v cb cluster : ℕ) (offset : HostOffset) → cb ≤ 21 →
-    offset_unless_zero (offset_field v) ≡ Some offset → cluster ≡ offset.0 / 2 ^ cb → cluster * 2 ^ cb + 2 ^ cb ≤ 2 ^ 56
-l2_cluster_ends v cb cluster offset high says is = grind (arith, nat_tests, cluster_ends)
-
--- an L2 table that begins with a cluster of the image can lie there
-pub l2_table_fits : (g : Geometry) (cluster : HostCluster) → IsInImage g.cluster_bits cluster → place_fault (l2_layout g) cluster ≡ None
-l2_table_fits g cluster within = grind (arith, nat_tests, pow-le-pow_right, pow-add)
-
--- and is refused for what is read there alone
-pub content_fault : {T : Type 0} (g : Geometry) (cluster : HostCluster) (answer : Result T Fault) →
-    IsInImage g.cluster_bits cluster → IfErr answer (λ fault. IsTableFault (l2_layout g) cluster fault ⊎ IsFromOutside fault) → IfErr answer IsContentFault
-content_fault g cluster answer within faults = grind (arith, l2_table_fits g cluster within, faults)
 
 -- reads one after the other, of which the first succeeded, are reads
 pub reads-then : {A B : Type 0} (value : A) (answer : Result B Fault) (first second third : StorageState) →

@@ -16,7 +16,8 @@ use Rattle.qcow2_metadata.specs.Entries.L2Entry.{ByteRange}
 use Rattle.qcow2_metadata.specs.Entries.L2Mapping.{Mapping}
 use Rattle.qcow2_metadata.specs.Header.{Geometry, HeaderRecord, geometry_of}
 use Rattle.qcow2_metadata.specs.Header.Grammar.{header_of}
-use Rattle.qcow2_session.specs.Lookups.{image_mapping, l1_cluster, loaded_l1_table, l2_cluster, mapping_by}
+use Rattle.qcow2_check.specs.NamedTables.{l1_cluster, loaded_l1_table}
+use Rattle.qcow2_session.specs.Lookups.{image_mapping, l2_cluster, mapping_by}
 use Rattle.qcow2_metadata.specs.Table.{Kind, l1_kind, l2_entries, l2_kind, l2_layout, loaded_l2_table, table_layout, table_numbers}
 use Rattle.qcow2_metadata.specs.Placed.{numbers_at, offset_of}
 use Rattle.qcow2_session.specs.Edits.{cluster_numbers}

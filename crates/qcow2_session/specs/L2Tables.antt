@@ -6,7 +6,7 @@ use Rattle.qcow2_base.specs.declared.fault.Fault.{Fault}
 use Rattle.qcow2_base.specs.declared.fault.Fault.TheVariants.{NoMemory, Storage}
 use Rattle.qcow2_metadata.specs.Header.{Geometry, HeaderRecord, geometry_of}
 use Rattle.qcow2_metadata.specs.Table.{TableState, l2_entries, loaded_l2_table}
-use Rattle.qcow2_session.specs.Lookups.{named_cluster}
+use Rattle.qcow2_check.specs.NamedTables.{named_cluster}
 
 -- L2 tables one after another: the index of the L1 entry that names each, and its numbers or why it can't be loaded
 abbrev pub NamedTables : Type 0

@@ -7,6 +7,7 @@ use Rattle.qcow2_base.specs.Types.{IsClusterBits}
 use Rattle.qcow2_base.specs.declared.fault.Fault.{Fault}
 use Rattle.qcow2_base.specs.declared.types.HostCluster.{HostCluster}
 use Rattle.qcow2_base.specs.declared.types.HostOffset.{HostOffset}
+use Rattle.qcow2_check.specs.NamedTables.{loaded_l1_table, named_cluster}
 use Rattle.qcow2_metadata.specs.Results.{and_then, result_map}
 use Rattle.qcow2_metadata.specs.Entries.L2Mapping.{Mapping, mapping, backing}
 use Rattle.qcow2_metadata.specs.Entries.{offset_field, offset_unless_zero}
@@ -15,29 +16,9 @@ use Rattle.qcow2_metadata.specs.Header.Grammar.{header_of}
 use Rattle.qcow2_metadata.specs.Placed.{Layout, loaded_numbers}
 use Rattle.qcow2_metadata.specs.Table.{l1_kind, l2_entries, loaded_l2_table, table_layout}
 
--- how the L1 table of an image with this header lies in it
-abbrev pub l1_layout : HeaderRecord → Layout
-l1_layout header = table_layout l1_kind header.v2.cluster_bits header.v2.l1_size
-
--- the cluster that it begins with
-abbrev pub l1_cluster : HeaderRecord → HostCluster
-l1_cluster header = record { 0 = header.v2.l1_table_offset / 2 ^ header.v2.cluster_bits }
-
--- the L1 table of an image with this header
-abbrev pub loaded_l1_table : HeaderRecord → Image → Result (List ℕ) Fault
-loaded_l1_table header image = loaded_numbers (l1_layout header) (l1_cluster header) image
-
--- the cluster that the L2 table of an L1 entry begins with, if there is one
-abbrev pub named_cluster : ℕ → ℕ → Option HostCluster
-named_cluster cb v = option_map (λ (offset : HostOffset). record { 0 = offset.0 / 2 ^ cb }) (offset_unless_zero (offset_field v))
-
 -- and that of a guest cluster; past the L1 table's end its entry is 0
 abbrev pub l2_cluster : ℕ → List ℕ → ℕ → Option HostCluster
 l2_cluster cb l1 guest_cluster = named_cluster cb (slice_index l1 (guest_cluster / l2_entries cb))
-
--- a cluster of an image with clusters of 2 ^ cb bytes, which ends by the greatest end
-abbrev pub IsInImage : ℕ → HostCluster → Type 0
-IsInImage cb cluster = IsClusterBits cb × (cluster.0 * 2 ^ cb + 2 ^ cb ≤ max_file_length)
 
 -- what a guest cluster reads as by the L2 table that begins with a cluster, or where there is none
 abbrev pub mapping_by : Geometry → Option HostCluster → ℕ → Image → Result Mapping Fault

@@ -12,7 +12,8 @@ use Rattle.qcow2_metadata.specs.Header.{Geometry, HeaderRecord, geometry_of}
 use Rattle.qcow2_metadata.specs.Header.Grammar.{header_of}
 use Rattle.qcow2_session.specs.Edits.{cluster_numbers}
 use Rattle.qcow2_session.specs.declared.edits.Outcome.{Outcome}
-use Rattle.qcow2_session.specs.Lookups.{image_mapping, l1_cluster, l1_layout, loaded_l1_table, l2_cluster, mapping_by, named_cluster}
+use Rattle.qcow2_check.specs.NamedTables.{l1_cluster, l1_layout, loaded_l1_table, named_cluster}
+use Rattle.qcow2_session.specs.Lookups.{image_mapping, l2_cluster, mapping_by}
 use Rattle.qcow2_metadata.specs.Table.{l2_layout}
 use Rattle.qcow2_metadata.specs.Placed.{Layout, numbers_at, offset_of}
 

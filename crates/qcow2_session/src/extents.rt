@@ -8,11 +8,13 @@ ghost use Rattle.qcow2_metadata.specs.Entries.L2Mapping.{IsPlaced, meaning};
 ghost use Rattle.qcow2_metadata.specs.Header.{geometry_of};
 ghost use Rattle.qcow2_metadata.specs.Placed.{RefusesPlace};
 ghost use Rattle.qcow2_metadata.specs.Table.{IsContentFault, IsEntryFault, IsTableFault, loaded_l2_table};
-ghost use Rattle.qcow2_session.specs.Lookups.{IsInImage, l1_cluster, l1_layout, l2_cluster, loaded_l1_table};
+ghost use Rattle.qcow2_check.specs.NamedTables.{IsInImage, l1_cluster, l1_layout, loaded_l1_table};
+ghost use Rattle.qcow2_session.specs.Lookups.{l2_cluster};
 ghost use Rattle.qcow2_session.specs.Extents.{AreInOneTable, HasNoTable, IsKeptOf, IsPiece, content_in, contents_in, kept_numbers, moved_on};
 
-use crate::lookups::{l2_cluster, load_l1_table, load_l2_table, next_named};
+use crate::lookups::{l2_cluster, next_named};
 use qcow2_base::{Fault, GuestOffset, HostCluster, HostOffset, Storage};
+use qcow2_check::{load_l1_table, load_l2_table};
 use qcow2_metadata::{Header, L1Table, L2Mapping, L2Table, Table};
 use std::alloc::Global;
 use std::marker::Model;

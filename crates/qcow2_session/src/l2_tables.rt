@@ -4,10 +4,11 @@ ghost use Rattle.std.specs.Prelude.{IfOk, IfSome};
 ghost use Rattle.qcow2_base.specs.Storage.{OnImage, OnlyReads};
 ghost use Rattle.qcow2_metadata.specs.Results.{Reads};
 ghost use Rattle.qcow2_metadata.specs.Table.{IsTableFault};
-ghost use Rattle.qcow2_session.specs.Lookups.{l1_cluster, l1_layout, loaded_l1_table};
+ghost use Rattle.qcow2_check.specs.NamedTables.{l1_cluster, l1_layout, loaded_l1_table};
 
-use crate::lookups::{load_l1_table, load_l2_table, named_cluster, next_named};
+use crate::lookups::next_named;
 use qcow2_base::{Fault, Storage};
+use qcow2_check::{load_l1_table, load_l2_table, named_cluster};
 use qcow2_metadata::{Header, L1Table, L2Table, Table};
 use std::alloc::Global;
 use std::marker::Model;

@@ -6,9 +6,11 @@ ghost use Rattle.qcow2_metadata.specs.Header.{geometry_of};
 ghost use Rattle.qcow2_metadata.specs.Placed.{IsLoaded, RefusesPlace};
 ghost use Rattle.qcow2_metadata.specs.Results.{Reads};
 ghost use Rattle.qcow2_metadata.specs.Table.{IsContentFault, IsEntryFault, IsTableFault, l2_layout, loaded_l2_table};
-ghost use Rattle.qcow2_session.specs.Lookups.{IsImageFault, IsInImage, guest_mapping, image_mapping, l1_cluster, l1_layout, l2_cluster, loaded_l1_table, mapping_in, named_cluster};
+ghost use Rattle.qcow2_check.specs.NamedTables.{IsInImage, l1_cluster, l1_layout, loaded_l1_table, named_cluster};
+ghost use Rattle.qcow2_session.specs.Lookups.{IsImageFault, guest_mapping, image_mapping, l2_cluster, mapping_in};
 
 use qcow2_base::{Fault, GuestCluster, GuestOffset, HostCluster, Storage};
+use qcow2_check::{load_l1_table, load_l2_table, named_cluster};
 use qcow2_metadata::{Header, L1Table, L2Mapping, L2Table, Table};
 use std::alloc::Global;
 
@@ -78,54 +80,6 @@ pub(crate) fn lookup_with_header<S: Storage>(
 {
     let l1_table = load_l1_table(alloc, image, header)?;
     lookup(alloc, image, header, &l1_table, guest_offset)
-}
-
-/// The L1 table of an image with this header, as `L1Table::load` loads it.
-pub(crate) fn load_l1_table<S: Storage>(
-    alloc: Global,
-    image: &mut S,
-    header: &Header,
-) -> Result<L1Table, Fault>
-    ensures refused { RefusesPlace (l1_layout header.now) (l1_cluster header.now) result }
-    ensures reads { Reads (λ table. table.numbers) result (loaded_l1_table header.now)
-        (IsTableFault (l1_layout header.now) (l1_cluster header.now))
-        (S.state image.old) (S.state image.new) }
-    ensures loaded { IfOk result (IsLoaded (l1_layout header.now) (geometry_of header.now)
-        (l1_cluster header.now) (S.state image.old)) }
-{
-    let cluster = header.l1_table_offset().cluster(header.cluster_bits());
-    L1Table::load(alloc, image, header, cluster, header.l1_table_entries())
-}
-
-/// The L2 table that begins with a cluster of an image with this header, as `L2Table::load` loads it.
-pub(crate) fn load_l2_table<S: Storage>(
-    alloc: Global,
-    image: &mut S,
-    header: &Header,
-    cluster: HostCluster,
-) -> Result<L2Table, Fault>
-    ensures refused { RefusesPlace (l2_layout (geometry_of header.now)) cluster result }
-    ensures reads { Reads (λ table. table.numbers) result (loaded_l2_table (geometry_of header.now) cluster)
-        (IsTableFault (l2_layout (geometry_of header.now)) cluster)
-        (S.state image.old) (S.state image.new) }
-    ensures loaded { let g = geometry_of header.now in
-        IfOk result (IsLoaded (l2_layout g) g cluster (S.state image.old)) }
-    ensures in_image { IsInImage header.now.v2.cluster_bits cluster →
-        IfErr result IsContentFault }
-{
-    L2Table::load(alloc, image, header, cluster, header.l2_entries())
-}
-
-/// The cluster that the L2 table of the L1 entry at an index begins with, if the entry names one. It ends by
-/// 2^56. Past the L1 table's end there is none.
-#[tactic(auto, using(crate::proofs::LookupsLemmas::l2_cluster_ends))]
-pub(crate) fn named_cluster(l1_table: &L1Table, index: usize) -> Option<HostCluster>
-    ensures value { let cb = l1_table.now.geometry.cluster_bits in
-        result ≡ named_cluster cb (slice_index l1_table.now.numbers index) }
-    ensures end { IfSome result (IsInImage l1_table.now.geometry.cluster_bits) }
-{
-    let offset = l1_table.get(index).l2_offset()?;
-    Some(offset.cluster(l1_table.cluster_bits()))
 }
 
 /// The first L1 entry from an index on that names an L2 table, if there is one.

@@ -10,7 +10,7 @@ use Rattle.qcow2_session.specs.Commands.Printing.{IsOutputFault, IsReadFault, Ou
 use Rattle.qcow2_session.specs.Commands.Entries.{table_lines}
 use Rattle.qcow2_session.specs.Commands.Facts.{CommandFacts}
 use Rattle.qcow2_session.specs.L2Tables.{NamedTables, WalkState, named_tables, tables_left}
-use Rattle.qcow2_session.specs.Lookups.{loaded_l1_table}
+use Rattle.qcow2_check.specs.NamedTables.{loaded_l1_table}
 use Rattle.qcow2_session.specs.declared.commands.entries.Label.TheVariants.{Offset}
 
 -- of tables one after another, the lines of each, or why it can't be loaded

@@ -1,5 +1,5 @@
 use Rattle.std.proofs.Common.{◌≡◌, ℕ, ◌<◌, ◌≤◌, None, get_or}
-use Rattle.qcow2_session.specs.Lookups.{named_cluster}
+use Rattle.qcow2_check.specs.NamedTables.{named_cluster}
 use Rattle.qcow2_session.proofs.lookups.next_named.Given as goal
 
 -- no entry before this one names an L2 table
