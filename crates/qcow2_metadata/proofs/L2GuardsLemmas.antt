@@ -11,9 +11,10 @@ use Rattle.qcow2_base.specs.Types.{IsClusterBits}
 use Rattle.qcow2_metadata.specs.Header.{Geometry}
 use Rattle.qcow2_metadata.specs.declared.entries.ClustersToFreeEntry.{ClustersToFreeEntry}
 use Rattle.qcow2_metadata.specs.Entries.L2Entry.{ByteRange, Meets, allocation, byte_range, clusters_met, has_host_cluster, is_compressed, meets, with_zero_flag, l2_fault}
+use Rattle.qcow2_metadata.specs.Entries.L2Mapping.{data_file, entry_of}
 use Rattle.qcow2_metadata.specs.Entries.{is_among, offset_field}
 use Rattle.qcow2_metadata.proofs.EntriesLemmas.{allocation_is, meets_is_met, offset_in_sectors}
-use Rattle.qcow2_metadata.specs.Table.L2Guards.{EntryEdit, GivesUp, TableEdit, after_edit, can_be_made, entry_after, data_entry, clusters_freed_by, fits_table, cluster_gained_by, handed_back, is_just, is_mappable, keeps_clusters, one_if, references, run_of, times_gained, to_data, to_nothing, to_zeros}
+use Rattle.qcow2_metadata.specs.Table.L2Guards.{EntryEdit, GivesUp, TableEdit, after_edit, can_be_made, entry_after, clusters_freed_by, fits_table, cluster_gained_by, handed_back, is_just, is_mappable, keeps_clusters, one_if, references, run_of, times_gained, to_data, to_nothing, to_zeros}
 
 -- an entry of data in a host cluster at an offset: it is standard and copied, with no reserved bit
 record IsDataAt (v offset : ℕ) : Type 0 where
@@ -22,7 +23,7 @@ record IsDataAt (v offset : ℕ) : Type 0 where
   copied : field v 63 1 ≡ 1
   high : field v 56 6 ≡ 0
 
-data_entry_is_data : (g : Geometry) (cluster : ℕ) → IsClusterBits g.cluster_bits → is_mappable g cluster ≡ true → IsDataAt (data_entry g.cluster_bits cluster) (cluster * 2 ^ g.cluster_bits)
+data_entry_is_data : (g : Geometry) (cluster : ℕ) → IsClusterBits g.cluster_bits → is_mappable g cluster ≡ true → IsDataAt (entry_of g.cluster_bits (data_file cluster true)) (cluster * 2 ^ g.cluster_bits)
 data_entry_is_data g cluster bits mappable = grind (arith, nat_tests, offset_in_sectors)
 
 second_holds : (a b : Bool) → (a && b) ≡ true → b ≡ true
@@ -32,7 +33,7 @@ second_holds a b both = grind arith
 abbrev bytes_of_cluster : ℕ → ℕ → ByteRange
 bytes_of_cluster cb cluster = record { start = cluster * 2 ^ cb; end = cluster * 2 ^ cb + 2 ^ cb }
 
-data_range : (g : Geometry) (cluster : ℕ) → IsClusterBits g.cluster_bits → is_mappable g cluster ≡ true → byte_range g (data_entry g.cluster_bits cluster) ≡ Some (bytes_of_cluster g.cluster_bits cluster)
+data_range : (g : Geometry) (cluster : ℕ) → IsClusterBits g.cluster_bits → is_mappable g cluster ≡ true → byte_range g (entry_of g.cluster_bits (data_file cluster true)) ≡ Some (bytes_of_cluster g.cluster_bits cluster)
 data_range g cluster bits mappable = grind (arith, nat_tests, data_entry_is_data, mul-le, pow_pos)
 
 -- these clusters are the one alone
@@ -49,7 +50,7 @@ clusters_of_one cb cluster =
     rw (count, first) refl
 
 -- a data entry refers to its host cluster, and no other
-pub data_entry-allocation : (g : Geometry) (cluster : ℕ) → IsClusterBits g.cluster_bits → is_mappable g cluster ≡ true → allocation g (data_entry g.cluster_bits cluster) ≡ Some (just cluster)
+pub data_entry-allocation : (g : Geometry) (cluster : ℕ) → IsClusterBits g.cluster_bits → is_mappable g cluster ≡ true → allocation g (entry_of g.cluster_bits (data_file cluster true)) ≡ Some (just cluster)
 data_entry-allocation g cluster bits mappable =
     rw (data_range g cluster bits mappable, clusters_of_one g.cluster_bits cluster) refl
 
@@ -57,7 +58,7 @@ data_entry-allocation g cluster bits mappable =
 abbrev refer : Option ClustersToFreeEntry → ℕ → Bool
 refer found c = unwrap_or (option_map (λ clusters. is_among clusters c) found) false
 
-pub data_entry-meets : (g : Geometry) (cluster c : ℕ) → IsClusterBits g.cluster_bits → is_mappable g cluster ≡ true → meets g (data_entry g.cluster_bits cluster) c ≡ (cluster == c)
+pub data_entry-meets : (g : Geometry) (cluster c : ℕ) → IsClusterBits g.cluster_bits → is_mappable g cluster ≡ true → meets g (entry_of g.cluster_bits (data_file cluster true)) c ≡ (cluster == c)
 data_entry-meets g cluster c bits mappable = rw (data_entry-allocation g cluster bits mappable) (grind (arith, nat_tests))
 
 pub standard_if_host_cluster : (g : Geometry) (v : ℕ) → has_host_cluster g v ≡ true → is_compressed v ≡ false

@@ -9,7 +9,8 @@ ghost use Rattle.qcow2_base.specs.declared.types.HostCluster.{HostCluster as Clu
 ghost use Rattle.qcow2_metadata.specs.Results.{Computes};
 ghost use Rattle.qcow2_metadata.specs.Entries.L2Entry.{allocation};
 ghost use Rattle.qcow2_metadata.specs.Placed.{with_number};
-ghost use Rattle.qcow2_metadata.specs.Table.L2Guards.{IsSameTable, data_entry, guarded_table, is_just, is_mappable, run_of};
+ghost use Rattle.qcow2_metadata.specs.Entries.L2Mapping.{data_file, entry_of};
+ghost use Rattle.qcow2_metadata.specs.Table.L2Guards.{IsSameTable, guarded_table, is_just, is_mappable, run_of};
 ghost use Rattle.qcow2_session.specs.Edits.{Balances, HasRoom, Makes, edits_left, first_unfit_edit, edit_fits, table_left, edits_or_refusal, table_edit};
 
 use qcow2_base::{ClusterCount, Fault, HostCluster};
@@ -109,7 +110,7 @@ fn map_anew(
     ensures same_table { IsSameTable guard.old guard.new }
     ensures table { let table = guarded_table guard.old in
         guarded_table guard.new
-        ≡ with_number table index (data_entry table.geometry.cluster_bits host_cluster.0) }
+        ≡ with_number table index (entry_of table.geometry.cluster_bits (data_file host_cluster.0 true)) }
     ensures before { let table = guarded_table guard.old in
         result ≡ allocation table.geometry (slice_index table.numbers index) }
 {

@@ -1,5 +1,5 @@
 -- What is a storage in a file, and what is known of it?
-use Rattle.std.specs.Prelude.{ℕ, false}
+use Rattle.std.specs.Prelude.{false}
 use Rattle.qcow2_base.specs.Storage.{StorageState}
 use Rattle.qcow2_base.specs.declared.storage.file.FileStorage.{FileStorage}
 
@@ -7,16 +7,12 @@ use Rattle.qcow2_base.specs.declared.storage.file.FileStorage.{FileStorage}
 abbrev pub file_of : {F : Type 0} → FileStorage F → F
 file_of storage = storage.file
 
--- how many calls have failed, modulo 2^64
-abbrev pub file_failures : {F : Type 0} → FileStorage F → ℕ
-file_failures storage = storage.failures
-
 -- what is known of it as a storage: nothing of its bytes
 abbrev pub file_state : {F : Type 0} → FileStorage F → StorageState
 file_state storage = record {
   tells = false;
   byte_at = λ _. 0;
-  failures = file_failures storage;
+  failures = storage.failures;
   mem_align = 1;
   req_align = 1;
 }

@@ -11,16 +11,12 @@ memory_bytes m = m.bytes.items
 abbrev pub alignment : MemStorage → ℕ
 alignment m = m.align
 
--- how many calls have failed, modulo 2^64
-abbrev pub memory_failures : MemStorage → ℕ
-memory_failures m = m.failures
-
 -- what is known of it as a storage
 abbrev pub memory_state : MemStorage → StorageState
 memory_state m = record {
   tells = true;
   byte_at = image_of (memory_bytes m);
-  failures = memory_failures m;
+  failures = m.failures;
   mem_align = alignment m;
   req_align = alignment m;
 }

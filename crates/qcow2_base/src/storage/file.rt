@@ -6,7 +6,7 @@ ghost use Rattle.std.specs.Io.KnownBytes.{Keeps};
 ghost use Rattle.std.specs.Io.Seek.{MovesTo};
 ghost use Rattle.std.proofs.Common.{rules};
 ghost use Rattle.qcow2_base.specs.Format.{max_file_length};
-ghost use Rattle.qcow2_base.specs.Storage.File.{file_of, file_failures, file_state};
+ghost use Rattle.qcow2_base.specs.Storage.File.{file_of, file_state};
 ghost use Rattle.qcow2_base.specs.Storage.{TellsReads, ReadsBytes, WritesBytes, Holds, image_of};
 
 use super::{Storage, StorageFault};
@@ -33,7 +33,7 @@ impl<F: Read + Write + Seek + OpenFile + Drop> FileStorage<F> {
         writable: bool,
     ) -> Result<FileStorage<F>, Fault>
         ensures fault { IsOkUnless result Fault.Storage }
-        ensures failures { IfOk result (λ storage. file_failures storage ≡ 0) }
+        ensures failures { IfOk result (λ storage. (file_state storage).failures ≡ 0) }
     {
         match open_file(rt, path, writable) {
             Ok(file) => Ok(FileStorage { file, failures: 0 }),

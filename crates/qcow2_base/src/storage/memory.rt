@@ -21,13 +21,13 @@ pub struct MemStorage {
 }
 
 impl MemStorage {
-    ghost use Rattle.qcow2_base.specs.Storage.Memory.{memory_bytes, alignment, memory_failures};
+    ghost use Rattle.qcow2_base.specs.Storage.Memory.{memory_bytes, memory_state, alignment};
 
     /// An image of these bytes, with both alignments 1. It keeps the vector's allocator.
     pub fn new(bytes: Vec<u8>) -> MemStorage
         ensures bytes { memory_bytes result ≡ bytes.items }
         ensures align { alignment result ≡ 1 }
-        ensures failures { memory_failures result ≡ 0 }
+        ensures failures { (memory_state result).failures ≡ 0 }
     {
         MemStorage {
             bytes,
@@ -41,7 +41,7 @@ impl MemStorage {
         requires { IsPowerOfTwo align }
         ensures bytes { memory_bytes result ≡ memory_bytes self }
         ensures align { alignment result ≡ align }
-        ensures failures { memory_failures result ≡ memory_failures self }
+        ensures failures { (memory_state result).failures ≡ (memory_state self).failures }
     {
         MemStorage {
             bytes: self.bytes,

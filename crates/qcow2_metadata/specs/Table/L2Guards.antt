@@ -5,6 +5,7 @@ use Rattle.std.specs.Int.NonZero.{non_zero_u64_get}
 use Rattle.std.specs.List.{sum_by}
 use Rattle.qcow2_base.specs.Format.{max_offset}
 use Rattle.qcow2_metadata.specs.Entries.L2Entry.{IsAllocation, Meets, allocation, has_host_cluster, meets, with_zero_flag}
+use Rattle.qcow2_metadata.specs.Entries.L2Mapping.{data_file, entry_of}
 use Rattle.qcow2_metadata.specs.Entries.{is_among}
 use Rattle.qcow2_metadata.specs.Header.{Geometry}
 use Rattle.qcow2_metadata.specs.Placed.{with_number}
@@ -36,13 +37,9 @@ pub data EntryEdit : Type 0 where
   to_zeros : (keep : Bool) → EntryEdit
   to_nothing : EntryEdit
 
--- the entry of data in a host cluster that has no other reference
-abbrev pub data_entry : ℕ → ℕ → ℕ
-data_entry cb cluster = 2 ^ 63 + cluster * 2 ^ cb
-
--- the entry after the change
+-- the entry after the change: one that maps to a host cluster says that it has no other reference
 abbrev pub entry_after : Geometry → EntryEdit → ℕ → ℕ
-entry_after g (to_data cluster) v = data_entry g.cluster_bits cluster
+entry_after g (to_data cluster) v = entry_of g.cluster_bits (data_file cluster true)
 entry_after g (to_zeros keep) v = if keep && has_host_cluster g v then with_zero_flag v else 1
 entry_after g to_nothing v = 0
 

@@ -50,14 +50,10 @@ json_content Zeros = codes ", \"depth\": 0, \"present\": true, \"zero\": true, \
 json_content Compressed = codes ", \"depth\": 0, \"present\": true, \"zero\": false, \"data\": true}"
 json_content Absent = codes ", \"depth\": 0, \"present\": false, \"zero\": true, \"data\": false}"
 
--- an extent in JSON
-abbrev pub json_object : Extent → List ℕ
-json_object extent = codes "{ \"start\": " ++ decimal extent.start.0 ++ codes ", \"length\": " ++ decimal extent.length
-    ++ json_content extent.content
-
 -- an extent in a list of JSON, with what stands between it and the one before it; the first begins at 0
 abbrev pub json_row : Extent → List ℕ
-json_row extent = (if extent.start.0 == 0 then [] else codes ",\n") ++ json_object extent
+json_row extent = (if extent.start.0 == 0 then [] else codes ",\n") ++ (codes "{ \"start\": " ++ decimal extent.start.0
+    ++ codes ", \"length\": " ++ decimal extent.length ++ json_content extent.content)
 
 -- the text of an extent
 abbrev pub extent_text : ExtentFormat → Extent → List ℕ

@@ -4,7 +4,7 @@ ghost use Rattle.std.specs.Prelude.{◌≡◌, ◌+◌, ◌≤◌, ◌++◌, IsE
 ghost use Rattle.qcow2_base.specs.Storage.{OnImage, ReadsFor};
 ghost use Rattle.qcow2_base.specs.declared.fault.Fault.TheVariants.{Storage as StorageFailed};
 ghost use Rattle.qcow2_session.specs.Extents.{IsReaderOf};
-ghost use Rattle.qcow2_session.specs.Commands.Map.{PrintsExtents, PrintsRest, closing, content_text, disk_of, extent_line, extent_text, map_command, json_content, json_object, json_row, opening};
+ghost use Rattle.qcow2_session.specs.Commands.Map.{PrintsExtents, PrintsRest, closing, content_text, disk_of, extent_line, extent_text, map_command, json_content, json_row, opening};
 ghost use Rattle.qcow2_session.specs.Commands.Printing.{PrintsText, run_over};
 ghost use Rattle.qcow2_session.specs.Commands.Words.{Parses};
 
@@ -151,23 +151,14 @@ fn prepend_row(line: &mut LineBuffer, extent: &Extent)
     requires { length line.old ≤ 10 }
     ensures { line.new ≡ json_row extent.now ++ line.old }
 {
-    prepend_object(line, extent);
-    if extent.start.0 != 0 {
-        line.prepend(",\n");
-    }
-}
-
-// Puts an extent in JSON in front of a line.
-fn prepend_object(line: &mut LineBuffer, extent: &Extent)
-    requires { length line.old ≤ 10 }
-    ensures text { line.new ≡ json_object extent.now ++ line.old }
-    ensures bound { length line.new ≤ length line.old + 160 }
-{
     prepend_json_content(line, extent.content);
     line.prepend_decimal(extent.length);
     line.prepend(", \"length\": ");
     line.prepend_decimal(extent.start.0);
     line.prepend("{ \"start\": ");
+    if extent.start.0 != 0 {
+        line.prepend(",\n");
+    }
 }
 
 // Puts what JSON says of a content in front of a line.
