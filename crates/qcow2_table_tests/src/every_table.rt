@@ -43,19 +43,15 @@ const PLACES: &[Place] = rows! { Place:
     { cluster_bits: 16, cluster: 1 << 40, entries: 8192, numbers: &[], fault: PAST },
     { cluster_bits: 21, cluster: 1 << 63, entries: 262144, numbers: &[], fault: PAST },
     // numbers that are no entries: the first decides, also in another piece of 512 entries
-    { numbers: &[(1528, 2)], fault: RESERVED, cluster_bits: 9, cluster: 2, entries: 64 },
-    { numbers: &[(131112, 0x200), (131120, 2)], fault: UNALIGNED, ..AT_131072 },
-    { numbers: &[(131112, 2), (131120, 0x200)], fault: RESERVED, ..AT_131072 },
-    { numbers: &[(135160, 0x200), (135168, 2)], fault: UNALIGNED, ..AT_131072 },
-    { numbers: &[(135168, 0x202), (135176, 0x200)], fault: RESERVED, ..AT_131072 },
-};
-
-const AT_131072: Place = Place {
-    cluster_bits: 16,
-    cluster: 2,
-    entries: 8192,
-    numbers: &[],
-    fault: None,
+    { cluster_bits: 9, cluster: 2, entries: 64, numbers: &[(1528, 2)], fault: RESERVED },
+    { cluster_bits: 16, cluster: 2, entries: 8192,
+        numbers: &[(131112, 0x200), (131120, 2)], fault: UNALIGNED },
+    { cluster_bits: 16, cluster: 2, entries: 8192,
+        numbers: &[(131112, 2), (131120, 0x200)], fault: RESERVED },
+    { cluster_bits: 16, cluster: 2, entries: 8192,
+        numbers: &[(135160, 0x200), (135168, 2)], fault: UNALIGNED },
+    { cluster_bits: 16, cluster: 2, entries: 8192,
+        numbers: &[(135168, 0x202), (135176, 0x200)], fault: RESERVED },
 };
 
 // What a load returns where the storage refuses each call if none may be made.

@@ -67,8 +67,7 @@ fn enter(table: &mut L1Table, l2_table: &L2Table, is_pending: bool) -> Result<Re
 const ENTERED: &[Entered] = rows! { Entered:
     { cluster: Some(2), is_pending: false, number: 0x8000_0000_0000_0400 },
     { cluster: Some((1 << 47) - 1), is_pending: true, number: 0x80ff_ffff_ffff_fe00 },
-    { cluster: None, is_pending: false, number: NUMBER },
-    { cluster: None, is_pending: true, number: NUMBER },
+    { cluster: None, is_pending: false, number: NUMBER }, { cluster: None, is_pending: true, number: NUMBER },
 };
 
 fn check_entering(alloc: Global, row: Entered) -> Result<(), Fail> {

@@ -97,8 +97,9 @@ enum Edit {
     Map(u64),
     // the same with pending clusters
     MapPending(u64),
-    // to zeros, which may keep the cluster
+    // to zeros, without the cluster
     Zero,
+    // to zeros that keep it
     Keep,
     Discard,
 }

@@ -253,7 +253,7 @@ fn a_block_is_written_where_it_may_be(rt: HostRuntime) -> Result<(), Fail> {
 }
 
 // What a block says that is loaded from a cluster.
-fn told_of(alloc: Global, cluster: u64) -> Result<(usize, Option<HostOffset>, bool), Fault> {
+fn loaded_from(alloc: Global, cluster: u64) -> Result<(usize, Option<HostOffset>, bool), Fault> {
     let block = load(alloc, &mut filled_image(alloc, 16)?, (9, 4), cluster)?;
     Ok((block.entries(), block.get_offset(), block.is_modified()))
 }
@@ -261,8 +261,8 @@ fn told_of(alloc: Global, cluster: u64) -> Result<(usize, Option<HostOffset>, bo
 #[test]
 fn a_block_is_loaded_from_where_it_may_be(rt: HostRuntime) -> Result<(), Fail> {
     let last = (256, Some(HostOffset(0xff_ffff_ffff_fe00)), false);
-    same(told_of(rt.alloc(), (1 << 47) - 1), Ok(last), "last")?;
-    let answer = told_of(rt.alloc(), 1 << 47);
+    same(loaded_from(rt.alloc(), (1 << 47) - 1), Ok(last), "last")?;
+    let answer = loaded_from(rt.alloc(), 1 << 47);
     same(answer, Err(Fault::TablePlace), "past the last")
 }
 
@@ -294,8 +294,7 @@ fn enter(table: &mut RefTable, block: &RefBlock, is_pending: bool) -> Result<Ref
 const ENTERED: &[Entered] = rows! { Entered:
     { cluster: Some(3), is_pending: false, number: 0x600 },
     { cluster: Some((1 << 47) - 1), is_pending: true, number: 0xff_ffff_ffff_fe00 },
-    { cluster: None, is_pending: false, number: NUMBER },
-    { cluster: None, is_pending: true, number: NUMBER },
+    { cluster: None, is_pending: false, number: NUMBER }, { cluster: None, is_pending: true, number: NUMBER },
 };
 
 fn check_entering(table: &mut RefTable, block: &mut RefBlock, row: Entered) -> Result<(), Fail> {
