@@ -2,12 +2,14 @@
 
 use crate::fixtures::{
     COPIED, DISK, NUMBER, check_table, check_written_as, cleared_l2_table, l2_entries, load,
-    table_that_tells, write_if_modified,
+    table_that_tells,
 };
-use crate::l2_edits::{discard, mapping};
+use crate::l2_edits::mapping;
 use crate::l2_mapping::Reads::{Backing, Data};
 use crate::l2_mapping::mapping_of;
-use qcow2_base::{Fault, MemStorage};
+use crate::pending_clusters::clusters;
+use qcow2_base::{Fault, HostCluster, MemStorage};
+use qcow2_calls::{copy_l2_table, discard_cluster, write_l2_table_if_modified};
 use qcow2_metadata::{L2Table, Table};
 use qcow2_testing::{each, image_with, recorded, rows, same, same_image};
 use std::alloc::Global;
@@ -46,7 +48,7 @@ fn check_copied(alloc: Global, row: Copied) -> Result<(), Fail> {
     let (bits, external, number, _) = row;
     let told = (l2_entries(bits), (63, number), Some(2), external);
     let table: L2Table = table_that_tells(alloc, (bits, external), told)?;
-    check_copy(table.try_clone(), row)?;
+    check_copy(copy_l2_table(&table), row)?;
     check_table(&table, told, row)
 }
 
@@ -71,7 +73,8 @@ fn check_write(table: &mut L2Table, row: Written) -> Result<(), Fail> {
     if calls == 0 {
         image.plan = Some(0);
     }
-    let found = write_if_modified(table, &mut image);
+    let cluster = table.get_cluster().unwrap_or(HostCluster(0));
+    let found = write_l2_table_if_modified(table, &mut image, cluster);
     let found = (found, image.calls.len(), table.is_modified());
     same(found, (answer, calls, answer.is_err()), row)?;
     let number = if calls > 0 {
@@ -123,6 +126,10 @@ fn a_mapping_is_written_as_read_and_gone_once_discarded(rt: HostRuntime) -> Resu
     let mut table = one_mapping(rt.alloc())?;
     let mut image = image_with(rt.alloc(), 1536, &[])?;
     check_written_as(&mut table, &mut image, image_of_one_mapping(rt.alloc()))?;
-    same(discard(&mut table, 3)?, Some((5, 1)), "discarded")?;
+    same(
+        discard_cluster(&mut table, 3),
+        Ok(Some(clusters(5, 1))),
+        "discarded",
+    )?;
     check_written_as(&mut table, &mut image, image_with(rt.alloc(), 1536, &[]))
 }

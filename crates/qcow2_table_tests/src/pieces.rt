@@ -1,7 +1,8 @@
 //! Tables are read and written in pieces of 4096 bytes, counted from where they begin.
 
-use crate::fixtures::{COPIED, DISK, load, write};
+use crate::fixtures::{COPIED, DISK, load};
 use qcow2_base::{Fault, MemStorage};
+use qcow2_calls::write_table;
 use qcow2_metadata::{L1Table, Table};
 use qcow2_testing::{
     FailingStorage, StorageCall, each, filled_image, part_of, put, put_bytes, recorded, same,
@@ -63,7 +64,7 @@ fn check_calls(
 fn check_written(table: &mut L1Table, expected: &[u8], row: Pieces) -> Result<(), Fail> {
     let alloc = table.allocator();
     let mut image = recorded(alloc, filled_image(alloc, 20000)?);
-    let answer = write(table, &mut image);
+    let answer = write_table(table, &mut image);
     same((answer, table.is_modified()), (Ok(()), false), row)?;
     check_calls(alloc, &image.calls, row.4, false)?;
     same_bytes(image.inner.bytes(), expected, row)
@@ -106,12 +107,12 @@ fn a_load_reads_no_piece_after_that_of_a_bad_entry(rt: HostRuntime) -> Result<()
 fn check_torn(table: &mut L1Table, image: &mut FailingStorage<MemStorage>) -> Result<(), Fail> {
     let alloc = table.allocator();
     image.plan = Some(2);
-    let answer = write(table, image);
+    let answer = write_table(table, image);
     let refused = (Err(Fault::Storage), true);
     same((answer, table.is_modified()), refused, "refused")?;
     let torn = image_with_entries(alloc, 4096, 1024);
     same_image(&image.inner, torn, "refused")?;
-    let answer = write(table, image);
+    let answer = write_table(table, image);
     same((answer, table.is_modified()), (Ok(()), false), "again")?;
     let whole = image_with_entries(alloc, 4096, 1025);
     same_image(&image.inner, whole, "again")

@@ -1,31 +1,18 @@
 //! Refcount tables: how they grow, and how many spare entries they take along for that.
 
-use crate::fixtures::{NUMBER, check_grown, check_table, header_of, table_that_tells};
+use crate::fixtures::{NUMBER, check_grown, check_table, table_that_tells};
 use qcow2_base::{ClusterCount, Fault};
-use qcow2_metadata::{RefTable, Table, Turns, least_spare};
+use qcow2_calls::{grow_reftable, header_of, least_spare};
+use qcow2_metadata::{RefTable, Table};
 use qcow2_testing::{each, holds, rows, same};
 use std::alloc::Global;
 use std::test::Fail;
 
-// What the growth of a table returns.
-fn grow(table: &RefTable, order: u32, index: usize) -> Result<RefTable, Fault> {
-    let header = header_of(table.allocator(), table.cluster_bits(), order, false)?;
-    if header.cluster_bits() != table.cluster_bits() {
-        return Err(Fault::WrongLength);
-    }
-    table.clone_and_grow(&header, index)
-}
-
 // The least spare entries, if there may be that many, and the turns that it took to find them.
 fn spare_of(alloc: Global, row: Growth) -> Result<(Option<usize>, usize), Fault> {
     let (bits, order, entries, index, ..) = row;
-    if index >= 4194304 {
-        return Ok((None, 0));
-    }
     let header = header_of(alloc, bits, order, false)?;
-    let mut turns = Turns::new();
-    let spare = least_spare(entries, index, &header, &mut turns);
-    Ok((spare, turns.count()))
+    Ok(least_spare(entries, index, &header))
 }
 
 // A growth of a refcount table: cluster bits and refcount order, how many entries there are and the
@@ -63,14 +50,16 @@ fn check_growth(alloc: Global, row: Growth) -> Result<(), Fail> {
     let entry = (entries.saturating_sub(1), number);
     let told = (entries, entry, Some(2), false);
     let source: RefTable = table_that_tells(alloc, (bits, false), told)?;
-    check_grown(grow(&source, order, index), grown, entry, row)?;
+    let answer = grow_reftable(&source, &header_of(alloc, bits, order, false)?, index);
+    check_grown(answer, grown, entry, row)?;
     check_table(&source, told, row)
 }
 
 // How many clusters a table of 64 clusters has, once it holds one index more.
 fn clusters_of_grown(alloc: Global) -> Result<ClusterCount, Fail> {
     let source: RefTable = table_that_tells(alloc, (9, false), (4096, (0, 0), Some(2), false))?;
-    Ok(grow(&source, 6, 4096)?.cluster_count())
+    let grown = grow_reftable(&source, &header_of(alloc, 9, 6, false)?, 4096)?;
+    Ok(grown.cluster_count())
 }
 
 #[test]
