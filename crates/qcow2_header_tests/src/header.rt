@@ -1,7 +1,7 @@
 //! What headers say of an image.
 
-use crate::fixtures::{Changes, OLDER};
-use crate::header_calls::{NO_NAMES, Names, called, load_with, names_of, new};
+use crate::fixtures::{Changes, OLDER, load_with};
+use crate::names::{NO_NAMES, Names, called, header_with_names, names_of};
 use crate::rich_header::RICH;
 use qcow2_base::{ClusterCount, Fault, HostOffset};
 use qcow2_metadata::FeatureType::{self, Autoclear, Compatible, Incompatible};
@@ -33,7 +33,7 @@ const SIZES: &[Sizes] = rows! { Sizes:
 
 // A new header has these sizes, no disk and no tables.
 fn check_sizes(alloc: Global, row: Sizes) -> Result<(), Fail> {
-    let header = new(alloc, row.cluster_bits, row.refcount_order, NO_NAMES)?;
+    let header = header_with_names(alloc, row.cluster_bits, row.refcount_order, NO_NAMES)?;
     all_same! {
         row,
         header.cluster_bits() => row.cluster_bits, header.refcount_order() => row.refcount_order,
@@ -90,7 +90,11 @@ const NAMES: &[Names<'static>] = rows! {
 };
 
 fn check_names(alloc: Global, expected: Names<'_>) -> Result<(), Fail> {
-    same(names_of(&new(alloc, 9, 4, expected)?), expected, "names")
+    same(
+        names_of(&header_with_names(alloc, 9, 4, expected)?),
+        expected,
+        "names",
+    )
 }
 
 #[test]
@@ -110,7 +114,7 @@ const FEATURES: &[(FeatureType, u32, Option<&'static str>)] = rows! {
 
 #[test]
 fn a_new_header_has_the_names_of_eight_features(rt: HostRuntime) -> Result<(), Fail> {
-    let header = new(rt.alloc(), 9, 4, NO_NAMES)?;
+    let header = header_with_names(rt.alloc(), 9, 4, NO_NAMES)?;
     for row in FEATURES {
         let (feature_type, bit, expected) = *row;
         same(called(&header, feature_type, bit), expected, *row)?;

@@ -4,10 +4,10 @@ mod in_memory;
 pub(crate) mod run;
 pub(crate) mod whole_images;
 
-use crate::calls::list_l2_table;
 use crate::failing_output::{FailingOutput, Failure};
 use crate::tables::table_of;
-use qcow2_base::{Fault, MemStorage};
+use qcow2_base::{Fault, HostCluster, MemStorage};
+use qcow2_calls::list_l2_table;
 use qcow2_testing::{FailingStorage, each, rows, same, same_bytes};
 use std::alloc::Global;
 use std::test::Fail;
@@ -103,7 +103,8 @@ fn check_list(alloc: Global, row: Row) -> Result<(), Fail> {
     let (image, lines) = table_and_lines(alloc, first, cases, len)?;
     let mut image = FailingStorage::new(alloc, image);
     let mut out = FailingOutput::new(alloc, Failure::Never);
-    let answer = list_l2_table(alloc, &mut image, place, &mut out);
+    let (bits, cluster) = (place.0, HostCluster(place.1));
+    let answer = list_l2_table(alloc, &mut image, bits, cluster, &mut out);
     let found = (answer, image.calls.is_empty());
     same(found, (expected, expected == PAST), place)?;
     same_bytes(out.bytes(), lines.as_bytes(), place)

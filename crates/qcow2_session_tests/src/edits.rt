@@ -1,12 +1,12 @@
 //! Lists of edits of an L2 table: what all of them leave together, and which lists are refused.
 
-use crate::calls::{edit_table, edits_fit};
 use crate::sample_image::COPIED;
 use crate::tables::{
     DATA_5, Entries, GONE, KEEP, PAST, References, TO_0, TO_1, TO_2, TO_5, TO_6, ZERO,
     check_outcome, check_table, map, outcome, table_with,
 };
 use qcow2_base::{ClusterCount, Fault, HostCluster};
+use qcow2_calls::{edit_table, edits_fit};
 use qcow2_metadata::ClustersToFreeEntry;
 use qcow2_session::{Edit, Outcome};
 use qcow2_testing::{each, rows, same};
@@ -97,7 +97,7 @@ fn check_edits(alloc: Global, row: Row<'_>, modified: bool) -> Result<(), Fail> 
     let mut table = table_with(alloc, image, before, modified)?;
     let fit = expected.map(|_| ());
     same(edits_fit(&table, edits), fit, name)?;
-    let answer = edit_table(&mut table, edits);
+    let answer = edit_table(alloc, &mut table, edits);
     check_outcome(answer, expected.map_err(Fault::BadEdit), name)?;
     let is_edited = expected.is_ok() && !edits.is_empty();
     check_table(&table, after, modified || is_edited, name)

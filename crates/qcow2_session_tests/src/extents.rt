@@ -1,11 +1,12 @@
 //! What disks read as, as extents: kinds of content beside each other, at the borders of clusters, of tables
 //! and of the disk, and by which fault a damaged table ends them.
 
-use crate::calls::extents_of;
 use crate::sample_image::{COPIED, Numbers, check_sample, sample_image};
 use Content::{Absent, Compressed, Zeros};
 use qcow2_base::{Fault, GuestOffset, HostOffset, Storage};
-use qcow2_session::{Content, Extent};
+use qcow2_calls::load_header;
+use qcow2_metadata::Header;
+use qcow2_session::{Content, Extent, Extents};
 use qcow2_testing::{FailingStorage, each, rows, same};
 use std::alloc::Global;
 use std::fmt::Debug;
@@ -106,6 +107,34 @@ fn check_row(alloc: Global, row: Row) -> Result<(), Fail> {
     let mut image = sample_image(alloc, bits, changes)?;
     check_extents(alloc, &mut image, parts, (fault, fault), name)?;
     check_sample(alloc, image.bytes(), (bits, changes), name)
+}
+
+// The extents of an image, and the faults on the way. A call that is refused is made again, and the second
+// refusal ends the extents.
+fn extents_of<S: Storage>(
+    alloc: Global,
+    image: &mut S,
+) -> Result<(Vec<Extent>, Vec<Fault>), Fault> {
+    let header = load_header(alloc, image, false)?;
+    read_extents(alloc, image, &header)
+}
+
+fn read_extents<S: Storage>(
+    alloc: Global,
+    image: &mut S,
+    header: &Header,
+) -> Result<(Vec<Extent>, Vec<Fault>), Fault> {
+    let mut extents = Extents::new(alloc, image, header)?;
+    let mut told = Vec::new(alloc);
+    let mut faults = Vec::new(alloc);
+    while faults.len() < 2 {
+        match extents.next(image) {
+            Ok(Some(extent)) => told.push(extent)?,
+            Ok(None) => break,
+            Err(fault) => faults.push(fault)?,
+        }
+    }
+    Ok((told, faults))
 }
 
 // Fails unless these extents are reported of an image, and then these faults.

@@ -1,9 +1,9 @@
 //! Lists of edits of an image: what stands in it then, what is handed back, and what refuses them.
 
-use crate::calls::edit_image;
 use crate::images::{Contents, check_image, recording_image};
 use crate::tables::{GONE, PAST, References, TO_0, TO_5, TO_6, check_outcome, map, outcome};
-use qcow2_base::Fault;
+use qcow2_base::{Fault, HostCluster};
+use qcow2_calls::{edit_image, header_of};
 use qcow2_session::Edit;
 use qcow2_testing::rows;
 use std::alloc::Global;
@@ -87,7 +87,8 @@ fn check_edits(alloc: Global, row: Row, around: u8) -> Result<(), Fail> {
     let (name, (bits, cluster, external), before, edits, expected, after) = row;
     let place = (bits, cluster);
     let mut image = recording_image(alloc, place, around, before)?;
-    let answer = edit_image(alloc, &mut image, (bits, external), cluster, edits);
+    let header = header_of(alloc, bits, 4, external)?;
+    let answer = edit_image(alloc, &mut image, &header, HostCluster(cluster), edits);
     let is_read = expected != Err(Fault::TablePlace);
     let is_written = expected.is_ok() && !edits.is_empty();
     check_outcome(answer, expected, name)?;

@@ -1,11 +1,11 @@
 //! Lists of steps of an image: what came of each, what stands in the image then, and what refuses them.
 
 use crate::blocks::check_replies;
-use crate::calls::step_image;
 use crate::images::{Contents, check_image, recording_image};
 use crate::steps::{DEC_0, DEC_1, INC_0, UP_UP_DOWN};
 use StepReply::{Done, Refused};
-use qcow2_base::Fault;
+use qcow2_base::{Fault, HostCluster};
+use qcow2_calls::{header_of, step_image};
 use qcow2_session::{Step, StepReply};
 use qcow2_testing::rows;
 use std::alloc::Global;
@@ -70,7 +70,8 @@ fn check_steps(alloc: Global, row: Row, around: u8) -> Result<(), Fail> {
     let (name, (bits, cluster, order), before, steps, expected, after) = row;
     let place = (bits, cluster);
     let mut image = recording_image(alloc, place, around, before)?;
-    let answer = step_image(alloc, &mut image, (bits, order), cluster, steps);
+    let header = header_of(alloc, bits, order, false)?;
+    let answer = step_image(alloc, &mut image, &header, HostCluster(cluster), steps);
     let is_read = expected != Err(Fault::TablePlace);
     let is_written = check_replies(answer, expected, name)?;
     let calls = (is_read, is_written);

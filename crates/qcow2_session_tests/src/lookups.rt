@@ -1,9 +1,9 @@
 //! What guest offsets read as, by each kind of entry, and by which fault a damaged image is refused.
 
-use crate::calls::{load_header, load_l1_table, lookup, lookup_image};
 use crate::sample_image::{COPIED, Numbers, sample_image};
 use Answer::{Backing, Compressed, Data, Refused, Zeros};
 use qcow2_base::{Fault, GuestOffset, HostCluster, MemStorage};
+use qcow2_calls::{load_header, load_table, lookup, lookup_image};
 use qcow2_metadata::L2Mapping;
 use qcow2_testing::{FailingStorage, StorageCall, each, part_of, rows, same, same_bytes};
 use std::alloc::Global;
@@ -141,8 +141,9 @@ fn by_tables(
     image: &mut MemStorage,
     offset: GuestOffset,
 ) -> Result<L2Mapping, Fault> {
-    let header = load_header(alloc, image)?;
-    let l1_table = load_l1_table(alloc, image, &header)?;
+    let header = load_header(alloc, image, false)?;
+    let cluster = header.l1_table_offset().cluster(header.cluster_bits());
+    let l1_table = load_table(alloc, image, &header, cluster, header.l1_table_entries())?;
     lookup(alloc, image, &header, &l1_table, offset)
 }
 

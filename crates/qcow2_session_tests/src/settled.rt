@@ -1,18 +1,17 @@
 //! Counters of a block that follow what edits of a table did to references.
 
 use crate::blocks::{Counters, block_of, check_counters};
-use crate::calls::{edit_image, edit_settled, settle, settle_outcome};
-use crate::images::header_with;
 use crate::sample_image::sample_image;
 use crate::tables::{
     DATA_5, GONE, KEEP, PAST, References, TO_5, TO_6, check_outcome, check_table, outcome,
     table_with,
 };
 use qcow2_base::{Fault, HostCluster, MemStorage};
+use qcow2_calls::{edit_image, edit_settled, header_of, load_block, settle, write_block};
 use qcow2_metadata::{L2Table, RefBlock};
-use qcow2_session::Edit;
+use qcow2_session::{Edit, Outcome};
 use qcow2_testing::{each, put_bytes, rows, same, same_bytes};
-use std::alloc::Global;
+use std::alloc::{AllocError, Global};
 use std::test::Fail;
 
 // The cluster bits, the refcount order, and whether data is external.
@@ -116,6 +115,14 @@ fn check_ends(alloc: Global, (order, count, greatest): Width) -> Result<(), Fail
     check_rows(alloc, &[0xff; 512], &rows)
 }
 
+// What edits did, as they would report it.
+fn outcome_of(alloc: Global, (gained, freed): References<'_>) -> Result<Outcome, AllocError> {
+    Ok(Outcome {
+        gained: Vec::from_slice(alloc, gained)?,
+        freed: Vec::from_slice(alloc, freed)?,
+    })
+}
+
 // Settles a block that begins with these bytes, and has the row's counters, with this flag.
 fn check_settled(
     alloc: Global,
@@ -126,7 +133,13 @@ fn check_settled(
 ) -> Result<(), Fail> {
     let (image, rt_index, before, references, (fault, marks), after) = row;
     let mut block = block_of(alloc, image, (bytes, before), modified)?;
-    let answer = settle(&mut block, image, rt_index, references);
+    let header = header_of(alloc, image.0, image.1, image.2)?;
+    let answer = settle(
+        &mut block,
+        &header,
+        rt_index,
+        &outcome_of(alloc, references)?,
+    );
     same(answer.err(), fault, place)?;
     check_counters(&block, after, modified || marks, place)
 }
@@ -189,7 +202,8 @@ fn check_settled_edits(
     let image: Image = (9, order, external);
     let mut table = table_with(alloc, (9, external), (3, &[entry]), table_modified)?;
     let mut block = block_of(alloc, image, (&[], before), block_modified)?;
-    let answer = edit_settled(&mut table, &mut block, image, rt_index, edits);
+    let header = header_of(alloc, 9, order, external)?;
+    let answer = edit_settled(alloc, &mut table, &mut block, &header, rt_index, edits);
     check_outcome(answer, expected, place)?;
     let table_modified = table_modified || expected.is_ok() && !edits.is_empty();
     let modified = (table_modified, block_modified);
@@ -218,11 +232,11 @@ fn image_with_block(alloc: Global) -> Result<MemStorage, Fail> {
 
 // Edits the table at cluster 2 of the image, and counts that in the block at cluster 3.
 fn edit_and_settle(alloc: Global, image: &mut MemStorage, edits: &[Edit]) -> Result<(), Fault> {
-    let outcome = edit_image(alloc, image, (9, false), 2, edits)?;
-    let header = header_with(alloc, 9, 4, false)?;
-    let mut block = RefBlock::load(alloc, image, &header, HostCluster(3))?;
-    settle_outcome(&mut block, &header, 0, &outcome)?;
-    block.write(image)
+    let header = header_of(alloc, 9, 4, false)?;
+    let outcome = edit_image(alloc, image, &header, HostCluster(2), edits)?;
+    let mut block = load_block(alloc, image, &header, HostCluster(3))?;
+    settle(&mut block, &header, 0, &outcome)?;
+    write_block(&mut block, image)
 }
 
 #[test]

@@ -1,9 +1,9 @@
 //! Lists of steps of a refcount block: what came of each, what all leave, and which lists are refused.
 
 use crate::blocks::{Counters, block_of, check_counters, check_replies};
-use crate::calls::step_block;
 use StepReply::{Done, Refused};
 use qcow2_base::Fault;
+use qcow2_calls::step_block;
 use qcow2_session::{Step, StepReply};
 use qcow2_testing::{each, rows};
 use std::alloc::{AllocError, Global};
@@ -71,7 +71,7 @@ fn steps_are_made_in_their_order_or_refused_together(rt: HostRuntime) -> Result<
 fn check_steps(alloc: Global, row: Row<'_>, modified: bool) -> Result<(), Fail> {
     let (name, (order, bytes), steps, expected, counters) = row;
     let mut block = block_of(alloc, (9, order, false), (bytes, &[]), modified)?;
-    let answer = step_block(&mut block, steps);
+    let answer = step_block(alloc, &mut block, steps);
     let some_done = check_replies(answer, expected.map_err(Fault::BadStep), name)?;
     check_counters(&block, counters, modified || some_done, name)
 }

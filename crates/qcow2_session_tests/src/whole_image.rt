@@ -1,10 +1,10 @@
 //! A whole image, of two L2 tables that share no byte: what edits of one of them leave of all references, and
 //! of the other's mappings.
 
-use crate::calls::{edit_image, lookup_image};
 use crate::sample_image::{COPIED, Numbers, sample_image};
 use crate::tables::map;
-use qcow2_base::{Fault, GuestOffset, MemStorage};
+use qcow2_base::{Fault, GuestOffset, HostCluster, MemStorage};
+use qcow2_calls::{edit_image, header_of, lookup_image};
 use qcow2_metadata::L2Mapping;
 use qcow2_session::{Edit, Outcome};
 use qcow2_testing::{each, part_of, row_error, rows, same};
@@ -62,7 +62,8 @@ fn check_balance(alloc: Global, (name, table, edits, expected): Row) -> Result<(
     let mut gained = references(image.bytes())?;
     same(gained, references_of(BEFORE)?, name)?;
     let other = mappings(alloc, &mut image, 1 - table % 2)?;
-    let outcome = edit_image(alloc, &mut image, (9, false), 2 + table % 2, edits)?;
+    let (header, cluster) = (header_of(alloc, 9, 4, false)?, HostCluster(2 + table % 2));
+    let outcome = edit_image(alloc, &mut image, &header, cluster, edits)?;
     let mut freed = references(image.bytes())?;
     same(freed, references_of(expected)?, name)?;
     add_outcome(&outcome, &mut gained, &mut freed);

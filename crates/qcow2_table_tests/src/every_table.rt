@@ -1,7 +1,8 @@
 //! What holds of L1 tables, L2 tables and refcount tables alike.
 
-use crate::fixtures::{check_table, cleared, cleared_l1_table, disk_of, load, write, write_entry};
+use crate::fixtures::{check_table, cleared, cleared_l1_table, disk_of, load};
 use qcow2_base::{ClusterCount, Fault};
+use qcow2_calls::{write_entry, write_table};
 use qcow2_metadata::{L1Table, L2Table, RefTable, Table, TableEntry};
 use qcow2_testing::{
     all_same, each, filled_image, image_with, put, recorded, rows, same, same_image,
@@ -105,7 +106,7 @@ const REFUSALS: &[Refusal] = rows! { Refusal:
 
 fn check_refusal(table: &mut L1Table, row: Refusal) -> Result<(), Fail> {
     let mut image = filled_image(table.allocator(), 512)?;
-    let answer = write(table, &mut image);
+    let answer = write_table(table, &mut image);
     let found = (answer, write_entry(table, &mut image, 0));
     same(found, (Err(row.fault), Err(row.fault)), row)?;
     same_image(&image, filled_image(table.allocator(), 512), row)?;

@@ -1,32 +1,19 @@
 //! Refcount tables: how they grow, and how many spare entries they take along for that.
 
 use crate::fixtures::{
-    DISK, NUMBER, check_grown, check_table, cleared, disk_of, header_of, loaded, table_with,
+    DISK, NUMBER, check_grown, check_table, cleared, disk_of, loaded, table_with,
 };
 use qcow2_base::{ClusterCount, Fault};
-use qcow2_metadata::{RefTable, Table, Turns, least_spare};
+use qcow2_calls::{grow_reftable, header_of, least_spare};
+use qcow2_metadata::{RefTable, Table};
 use qcow2_testing::{each, holds, rows, same};
 use std::alloc::Global;
 use std::test::Fail;
 
-// What the growth of a table returns.
-fn grow(table: &RefTable, order: u32, index: usize) -> Result<RefTable, Fault> {
-    let header = header_of(table.allocator(), table.cluster_bits(), order, false)?;
-    if header.cluster_bits() != table.cluster_bits() {
-        return Err(Fault::WrongLength);
-    }
-    table.clone_and_grow(&header, index)
-}
-
 // The least spare entries, if there may be that many, and the turns that it took to find them.
 fn spare_of(alloc: Global, row: Growth) -> Result<(Option<usize>, usize), Fault> {
-    if row.index >= 4194304 {
-        return Ok((None, 0));
-    }
     let header = header_of(alloc, row.cluster_bits, row.refcount_order, false)?;
-    let mut turns = Turns::new();
-    let spare = least_spare(row.entries, row.index, &header, &mut turns);
-    Ok((spare, turns.count()))
+    Ok(least_spare(row.entries, row.index, &header))
 }
 
 // A growth of a refcount table to hold an index: how many spare entries are the least, and how many entries
@@ -96,7 +83,8 @@ fn check_growth(alloc: Global, row: Growth) -> Result<(), Fail> {
     let number = if row.entries > 0 { NUMBER } else { 0 };
     let state = loaded(row.entries, row.entries.saturating_sub(1), number);
     let source: RefTable = table_with(alloc, disk_of(row.cluster_bits), state)?;
-    let answer = grow(&source, row.refcount_order, row.index);
+    let header = header_of(alloc, row.cluster_bits, row.refcount_order, false)?;
+    let answer = grow_reftable(&source, &header, row.index);
     check_grown(answer, row.grown, state, row)?;
     check_table(&source, state, row)
 }
@@ -105,7 +93,8 @@ fn check_growth(alloc: Global, row: Growth) -> Result<(), Fail> {
 fn clusters_of_grown(alloc: Global) -> Result<ClusterCount, Fail> {
     let state = cleared(4096).placed(Some(2), false);
     let source: RefTable = table_with(alloc, DISK, state)?;
-    Ok(grow(&source, 6, 4096)?.cluster_count())
+    let grown = grow_reftable(&source, &header_of(alloc, 9, 6, false)?, 4096)?;
+    Ok(grown.cluster_count())
 }
 
 #[test]

@@ -1,9 +1,10 @@
 //! Tables of the most entries that their kind may have, and tables of images in real files.
 
 use crate::fixtures::{
-    DISK, NUMBER, State, check_table, check_written_as, disk_of, load, loaded, table_with, write,
+    DISK, NUMBER, State, check_table, check_written_as, disk_of, load, loaded, table_with,
 };
 use qcow2_base::{Fault, FileStorage, MemStorage};
+use qcow2_calls::write_table;
 use qcow2_metadata::{L1Table, L2Table, Table};
 use qcow2_testing::{file_holds, filled_image, put, put_bytes, same, temporary_file};
 use std::alloc::Global;
@@ -31,7 +32,11 @@ fn largest_table(rt: &HostRuntime, path: &str) -> Result<L1Table, Fault> {
 fn check_written(rt: &HostRuntime, path: &str, other: &str) -> Result<(), Fail> {
     let mut table = largest_table(rt, path)?;
     check_table(&table, largest(), "loaded")?;
-    same(write(&mut table, &mut open(rt, other)?), Ok(()), "write")?;
+    same(
+        write_table(&mut table, &mut open(rt, other)?),
+        Ok(()),
+        "write",
+    )?;
     check_table(&table, largest(), "written")
 }
 

@@ -2,10 +2,10 @@
 
 use super::run::words_of;
 use super::whole_images::INFO;
-use crate::calls::run_command;
 use crate::failing_output::{FailingOutput, Failure};
 use crate::sample_image::{COPIED, Numbers, check_sample, sample_image};
 use qcow2_base::{Fault, MemStorage};
+use qcow2_calls::{parse_command, run};
 use qcow2_testing::{each, rows, same};
 use std::alloc::Global;
 use std::test::Fail;
@@ -62,6 +62,22 @@ fn check_row(alloc: Global, row: Row) -> Result<(), Fail> {
     let mut image = sample_image(alloc, 9, before)?;
     check_printed(alloc, &mut image, line, expected)?;
     check_sample(alloc, image.bytes(), (9, after), line)
+}
+
+// Runs the command that the words of a line ask for, if they ask for one.
+fn run_command(
+    alloc: Global,
+    image: &mut MemStorage,
+    words: &[String],
+    out: &mut FailingOutput,
+) -> Answer {
+    let [name, _, arguments @ ..] = words else {
+        return None;
+    };
+    match parse_command(alloc, name.as_str(), arguments)? {
+        Ok(command) => Some(run(alloc, image, &command, out)),
+        Err(error) => Some(Err(Fault::from(error))),
+    }
 }
 
 // Runs a line, and fails unless the command returns and prints this.
