@@ -1,6 +1,8 @@
 //! Images that begin with a header, by the fields and the bytes that differ.
 
 use qcow2_base::{Fault, MemStorage};
+use qcow2_calls::load_header;
+use qcow2_metadata::Header;
 use qcow2_testing::{filled_image, put_bytes, row_error, rows};
 use std::alloc::Global;
 use std::test::Fail;
@@ -143,4 +145,14 @@ pub(crate) fn filled_with(alloc: Global, len: usize, text: &[u8]) -> Result<MemS
     let mut image = filled_image(alloc, len)?;
     put_bytes(&mut image, 0, text)?;
     Ok(image)
+}
+
+/// Loads the least header with these changes, and then others.
+pub(crate) fn load_with(alloc: Global, changes: Changes, others: Changes) -> Result<Header, Fail> {
+    Ok(load_header(alloc, &mut least_with(alloc, changes, others)?, false)?)
+}
+
+/// The fault that a load is refused by, if it is.
+pub(crate) fn refusal(alloc: Global, image: &mut MemStorage) -> Option<Fault> {
+    load_header(alloc, image, false).err()
 }

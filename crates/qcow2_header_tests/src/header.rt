@@ -1,17 +1,16 @@
 //! What headers say of an image.
 
-use crate::fixtures::{Changes, OLDER};
-use crate::header_calls::{NO_NAMES, Names, called, load_with, names_of, new};
+use crate::fixtures::{Changes, OLDER, load_with};
+use crate::names::{NO_NAMES, Names, called, header_with_names, names_of};
 use crate::rich_header::RICH;
 use qcow2_base::{ClusterCount, Fault, HostOffset};
 use qcow2_metadata::FeatureType::{self, Autoclear, Compatible, Incompatible};
-use qcow2_metadata::Header;
-use qcow2_testing::{each, rows, same};
+use qcow2_testing::{all_same, each, rows, same};
 use std::alloc::Global;
 use std::test::Fail;
 
 // The sizes that a header says.
-#[derive(Clone, Copy, Debug, PartialEq, Eq)]
+#[derive(Clone, Copy, Debug)]
 struct Sizes {
     cluster_bits: u32,
     refcount_order: u32,
@@ -32,73 +31,21 @@ const SIZES: &[Sizes] = rows! { Sizes:
         rb_entries: 16777216, rb_bits: 24 },
 };
 
-const RICH_SIZES: Sizes = Sizes {
-    cluster_bits: 9,
-    refcount_order: 5,
-    cluster_size: 512,
-    l2_entries: 64,
-    rb_entries: 128,
-    rb_bits: 7,
-};
-
-fn sizes_of(header: &Header) -> Sizes {
-    Sizes {
-        cluster_bits: header.cluster_bits(),
-        refcount_order: header.refcount_order(),
-        cluster_size: header.cluster_size(),
-        l2_entries: header.l2_entries(),
-        rb_entries: header.rb_entries(),
-        rb_bits: header.rb_bits(),
-    }
-}
-
-// What a header says of the disk and its tables.
-#[derive(Clone, Copy, Debug, PartialEq, Eq)]
-struct Tables {
-    size: u64,
-    l1_table_offset: HostOffset,
-    l1_table_entries: usize,
-    reftable_offset: HostOffset,
-    reftable_clusters: ClusterCount,
-    reftable_entries: usize,
-}
-
-const NO_TABLES: Tables = Tables {
-    size: 0,
-    l1_table_offset: HostOffset(0),
-    l1_table_entries: 0,
-    reftable_offset: HostOffset(0),
-    reftable_clusters: ClusterCount(0),
-    reftable_entries: 0,
-};
-
-const RICH_TABLES: Tables = Tables {
-    size: 0x0102_0304_0506_0708,
-    l1_table_offset: HostOffset(0x3132_3334_3536_3a00),
-    l1_table_entries: 0x2122_2324,
-    reftable_offset: HostOffset(0x4142_4344_4546_4800),
-    reftable_clusters: ClusterCount(0x5152_5354),
-    reftable_entries: 0x14_5494_d500,
-};
-
-fn tables_of(header: &Header) -> Tables {
-    Tables {
-        size: header.size(),
-        l1_table_offset: header.l1_table_offset(),
-        l1_table_entries: header.l1_table_entries(),
-        reftable_offset: header.reftable_offset(),
-        reftable_clusters: header.reftable_clusters(),
-        reftable_entries: header.reftable_entries(),
-    }
-}
-
+// A new header has these sizes, no disk and no tables.
 fn check_sizes(alloc: Global, row: Sizes) -> Result<(), Fail> {
-    let header = new(alloc, row.cluster_bits, row.refcount_order, NO_NAMES)?;
-    same(
-        (sizes_of(&header), tables_of(&header)),
-        (row, NO_TABLES),
-        "new",
-    )
+    let header = header_with_names(alloc, row.cluster_bits, row.refcount_order, NO_NAMES)?;
+    all_same! {
+        row,
+        header.cluster_bits() => row.cluster_bits, header.refcount_order() => row.refcount_order,
+        header.cluster_size() => row.cluster_size, header.l2_entries() => row.l2_entries,
+        header.rb_entries() => row.rb_entries, header.rb_bits() => row.rb_bits,
+    }?;
+    all_same! {
+        row,
+        header.size() => 0, header.l1_table_offset() => HostOffset(0), header.l1_table_entries() => 0,
+        header.reftable_offset() => HostOffset(0), header.reftable_clusters() => ClusterCount(0),
+        header.reftable_entries() => 0,
+    }
 }
 
 #[test]
@@ -109,8 +56,18 @@ fn a_new_header_tells_its_sizes_and_has_no_disk_and_no_tables(rt: HostRuntime) -
 #[test]
 fn a_loaded_header_tells_its_names_and_its_numbers(rt: HostRuntime) -> Result<(), Fail> {
     let header = load_with(rt.alloc(), RICH, "")?;
-    let found = (sizes_of(&header), tables_of(&header));
-    same(found, (RICH_SIZES, RICH_TABLES), "rich")?;
+    all_same! {
+        "sizes",
+        header.cluster_bits() => 9, header.refcount_order() => 5, header.cluster_size() => 512,
+        header.l2_entries() => 64, header.rb_entries() => 128, header.rb_bits() => 7,
+    }?;
+    all_same! {
+        "tables",
+        header.size() => 0x0102_0304_0506_0708, header.l1_table_entries() => 0x2122_2324,
+        header.l1_table_offset() => HostOffset(0x3132_3334_3536_3a00),
+        header.reftable_offset() => HostOffset(0x4142_4344_4546_4800),
+        header.reftable_clusters() => ClusterCount(0x5152_5354), header.reftable_entries() => 0x14_5494_d500,
+    }?;
     same(names_of(&header), RICH_NAMES, "rich")
 }
 
@@ -133,7 +90,11 @@ const NAMES: &[Names<'static>] = rows! {
 };
 
 fn check_names(alloc: Global, expected: Names<'_>) -> Result<(), Fail> {
-    same(names_of(&new(alloc, 9, 4, expected)?), expected, "names")
+    same(
+        names_of(&header_with_names(alloc, 9, 4, expected)?),
+        expected,
+        "names",
+    )
 }
 
 #[test]
@@ -153,7 +114,7 @@ const FEATURES: &[(FeatureType, u32, Option<&'static str>)] = rows! {
 
 #[test]
 fn a_new_header_has_the_names_of_eight_features(rt: HostRuntime) -> Result<(), Fail> {
-    let header = new(rt.alloc(), 9, 4, NO_NAMES)?;
+    let header = header_with_names(rt.alloc(), 9, 4, NO_NAMES)?;
     for row in FEATURES {
         let (feature_type, bit, expected) = *row;
         same(called(&header, feature_type, bit), expected, *row)?;

@@ -1,8 +1,9 @@
 //! What a load of a header returns.
 
-use crate::fixtures::{Changes, least_with};
-use crate::header_calls::{NO_NAMES, Names, called, load, load_with, loaded_names, refusal};
+use crate::fixtures::{Changes, least_with, load_with, refusal};
+use crate::names::{NO_NAMES, Names, called, loaded_names};
 use qcow2_base::Fault;
+use qcow2_calls::load_header;
 use qcow2_metadata::FeatureType::{self, Autoclear, Compatible, Incompatible};
 use qcow2_testing::{each, rows, same};
 use std::alloc::Global;
@@ -110,7 +111,7 @@ const LOADED: &[Loaded] = rows! {
 };
 
 fn check_loaded(alloc: Global, (changes, expected): Loaded) -> Result<(), Fail> {
-    let loaded = load(alloc, &mut least_with(alloc, changes, "")?, false);
+    let loaded = load_header(alloc, &mut least_with(alloc, changes, "")?, false);
     same(loaded_names(&loaded), expected, changes)
 }
 

@@ -1,13 +1,13 @@
 //! Taking over what changed in another header of the same image, and which field is reported where they
 //! differ.
 
-use crate::fixtures::Changes;
-use crate::header_calls::{load_with, update};
+use crate::fixtures::{Changes, load_with};
 use qcow2_base::Fault;
 use qcow2_base::Field::{
     self, Autoclear, BackingName, BackingOffset, BackingSize, ClusterBits, Compatible, CryptMethod,
     Extensions, Incompatible, NbSnapshots, RefcountOrder, SnapshotsOffset, UnknownFields, Version,
 };
+use qcow2_calls::update_header;
 use qcow2_metadata::Header;
 use qcow2_testing::{each, printed, rows, same};
 use std::alloc::Global;
@@ -52,7 +52,7 @@ fn check_becomes(alloc: Global, (here, there): (Changes, Changes)) -> Result<(),
 
 fn check_taken_over(alloc: Global, header: &mut Header, other: &Header) -> Result<(), Fail> {
     let expected = printed(alloc, other)?;
-    same(update(header, other), Ok(()), &expected)?;
+    same(update_header(header, other), Ok(()), &expected)?;
     same(&printed(alloc, header)?, &expected, "header")
 }
 
@@ -112,7 +112,7 @@ fn check_refused(
     field: Field,
 ) -> Result<(), Fail> {
     let before = printed(alloc, header)?;
-    let answer = update(header, other);
+    let answer = update_header(header, other);
     let found = (answer, printed(alloc, header)?);
     same(found, (Err(Fault::FieldChanged(field)), before), field)
 }

@@ -1,11 +1,12 @@
 //! What a write of a header places, and what it leaves as it was.
 
-use crate::fixtures::{Changes, OLDER, OLDER_FILLED, filled_with, least_with};
-use crate::header_calls::{NO_NAMES, Names, dirty, load, load_with, names_of, new, write};
+use crate::fixtures::{Changes, OLDER, OLDER_FILLED, filled_with, least_with, load_with};
 use crate::header_texts::{
     CUT, Cut, KNOWN, LOADED, Loaded, NEW, Name, NewHeader, OLDER_WRITTEN, Repeated, THREE_NAMES,
 };
+use crate::names::{dirty, names_of};
 use qcow2_base::{Fault, MemStorage};
+use qcow2_calls::{load_header, new_header, write_header};
 use qcow2_metadata::Header;
 use qcow2_testing::{FailingStorage, StorageCall, each, filled_image, printed, same, same_bytes};
 use std::alloc::{AllocError, Global};
@@ -21,7 +22,7 @@ fn check_places(
 ) -> Result<(), Fail> {
     let expected = filled_with(alloc, 300, text)?;
     let mut image = FailingStorage::new(alloc, filled_image(alloc, 300)?);
-    let answer = write(header, &mut image);
+    let answer = write_header(header, &mut image);
     let call = StorageCall::Write {
         offset: 0,
         len: text.len(),
@@ -41,7 +42,7 @@ fn check_round_trip(
     row: &'static str,
 ) -> Result<(), Fail> {
     check_places(alloc, header, text, row)?;
-    let mut loaded = load(alloc, &mut filled_with(alloc, 2048, text)?, false)?;
+    let mut loaded = load_header(alloc, &mut filled_with(alloc, 2048, text)?, false)?;
     same(names_of(&loaded), names_of(header), row)?;
     check_places(alloc, &mut loaded, text, row)?;
     same((dirty(header), dirty(&loaded)), called, row)
@@ -49,16 +50,7 @@ fn check_round_trip(
 
 fn made(alloc: Global, cluster_bits: u32, name: Repeated) -> Result<Header, Fault> {
     let name = name.0.repeat(alloc, name.1)?;
-    let backing = Some(name.as_str());
-    new(
-        alloc,
-        cluster_bits,
-        4,
-        Names {
-            backing,
-            ..NO_NAMES
-        },
-    )
+    new_header(alloc, cluster_bits, 4, Some(name.as_str()), None, None)
 }
 
 fn check_new(
@@ -87,13 +79,8 @@ fn a_new_header_is_written_with_the_names_of_features_where_they_fit(
 
 #[test]
 fn a_new_header_is_written_with_its_names(rt: HostRuntime) -> Result<(), Fail> {
-    let names = Names {
-        backing: Some("base.img"),
-        format: Some("qcow2"),
-        data_file: Some("data.raw"),
-        external: true,
-    };
-    let mut header = new(rt.alloc(), 16, 4, names)?;
+    let (name, format) = (Some("base.img"), Some("qcow2"));
+    let mut header = new_header(rt.alloc(), 16, 4, name, format, Some("data.raw"))?;
     check_new(rt.alloc(), &mut header, KNOWN, THREE_NAMES, "three names")
 }
 
@@ -154,7 +141,7 @@ fn a_feature_name_that_is_cut_is_the_same_from_the_second_load_on(
 fn check_refusal(alloc: Global, header: &mut Header, fault: Fault) -> Result<(), Fail> {
     let before = printed(alloc, header)?;
     let mut image = FailingStorage::new(alloc, filled_image(alloc, 2048)?);
-    let answer = write(header, &mut image);
+    let answer = write_header(header, &mut image);
     let found = (answer, image.calls.len(), printed(alloc, header)?);
     same(found, (Err(fault), 0, before), fault)
 }

@@ -8,8 +8,6 @@ mod fixtures;
 #[cfg(test)]
 mod header;
 #[cfg(test)]
-mod header_calls;
-#[cfg(test)]
 mod header_load;
 #[cfg(test)]
 mod header_texts;
@@ -17,6 +15,8 @@ mod header_texts;
 mod header_update;
 #[cfg(test)]
 mod header_write;
+#[cfg(test)]
+mod names;
 #[cfg(test)]
 mod refused_calls;
 #[cfg(test)]

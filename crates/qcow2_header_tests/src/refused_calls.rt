@@ -1,9 +1,11 @@
 //! What a call of a header leaves where the storage refuses one of its calls, each in turn: the image and the
 //! header as they were. The same call does all then.
 
-use crate::fixtures::{Changes, change};
-use crate::header_calls::{load, load_with, write};
+use crate::fixtures::{Changes, change, load_with};
 use qcow2_base::{Fault, MemStorage, Storage};
+use qcow2_calls::{
+    load_header, write_header, write_l1_table_pointer, write_reftable_pointer, write_size,
+};
 use qcow2_metadata::Header;
 use qcow2_testing::{FailingStorage, each, filled_image, holds, printed, rows, same, same_bytes};
 use std::alloc::Global;
@@ -99,12 +101,12 @@ fn make<S: Storage>(
     image: &mut S,
 ) -> Result<(), Fault> {
     match call {
-        Load => *header = load(alloc, image, false)?,
-        LoadForWriting => *header = load(alloc, image, true)?,
-        Write => write(header, image)?,
-        WriteSize => header.write_size(image)?,
-        WriteL1TablePointer => header.write_l1_table_pointer(image)?,
-        WriteReftablePointer => header.write_reftable_pointer(image)?,
+        Load => *header = load_header(alloc, image, false)?,
+        LoadForWriting => *header = load_header(alloc, image, true)?,
+        Write => write_header(header, image)?,
+        WriteSize => write_size(header, image)?,
+        WriteL1TablePointer => write_l1_table_pointer(header, image)?,
+        WriteReftablePointer => write_reftable_pointer(header, image)?,
     }
     Ok(())
 }
@@ -138,7 +140,7 @@ fn check_done(
     let mut after = image_after(alloc, run)?;
     same_bytes(image.inner.bytes(), after.bytes(), run.name)?;
     let expected = match run.call {
-        Load | LoadForWriting | Write => load(alloc, &mut after, false)?,
+        Load | LoadForWriting | Write => load_header(alloc, &mut after, false)?,
         WriteSize | WriteL1TablePointer | WriteReftablePointer => load_with(alloc, run.header, "")?,
     };
     let is_same = printed(alloc, header)? == printed(alloc, &expected)?;

@@ -1,7 +1,6 @@
 //! A header with all that a header can have, whole and cut.
 
-use crate::fixtures::{Changes, least_with};
-use crate::header_calls::refusal;
+use crate::fixtures::{Changes, least_with, refusal};
 use qcow2_base::{Fault, MemStorage};
 use qcow2_testing::{row_error, rows, same};
 use std::alloc::Global;

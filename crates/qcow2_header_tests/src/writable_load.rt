@@ -1,10 +1,11 @@
 //! Loads of an image that is to be changed: autoclear features are cleared, by a write of the whole header.
 
 use crate::fixtures::{Changes, OLDER, OLDER_FILLED, filled_with, least_with};
-use crate::header_calls::{NO_NAMES, Names, load, loaded_names};
 use crate::header_texts::RICH_WRITTEN;
+use crate::names::{NO_NAMES, Names, loaded_names};
 use crate::rich_header::RICH;
 use qcow2_base::{Fault, FileStorage, MemStorage, Storage};
+use qcow2_calls::load_header;
 use qcow2_testing::{
     FailingStorage, StorageCall, all_same, each, holds, printed, put_bytes, rows, same, same_bytes,
     temporary_file,
@@ -30,7 +31,7 @@ fn check_load<S: Storage>(
     expected: Loaded,
     row: Changes,
 ) -> Result<(), Fail> {
-    let loaded = load(alloc, image, true);
+    let loaded = load_header(alloc, image, true);
     same(loaded_names(&loaded), expected, row)
 }
 
@@ -146,7 +147,7 @@ fn open(rt: &HostRuntime, path: &str) -> Result<FileStorage, Fault> {
 
 // What a header prints that a load of the image for writing returns.
 fn printed_load<S: Storage>(alloc: Global, image: &mut S) -> Result<String, Fault> {
-    let header = load(alloc, image, true)?;
+    let header = load_header(alloc, image, true)?;
     Ok(printed(alloc, &header)?)
 }
 

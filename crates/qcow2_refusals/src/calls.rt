@@ -1,4 +1,4 @@
-//! The calls, each by functions that promise nothing, so that no clause of the library is carried on.
+//! The calls of runs, by their names.
 
 mod commands;
 mod copies;

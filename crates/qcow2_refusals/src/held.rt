@@ -2,7 +2,8 @@
 
 use crate::outputs::Output;
 use crate::runs::{Run, image_of, usize_of};
-use qcow2_base::{Fault, HostCluster, MemStorage, Storage};
+use qcow2_base::{Fault, HostCluster, MemStorage};
+use qcow2_calls::{header_of, load_block, load_header, load_table, new_header};
 use qcow2_metadata::{
     FeatureType, Header, L1Table, L2Table, RefBlock, RefTable, Table, TableEntry,
 };
@@ -36,7 +37,7 @@ pub(crate) struct Held {
 /// What a run's call begins with.
 pub(crate) fn hold(alloc: Global, run: &Run<'_>) -> Result<Held, Fault> {
     let mut image = image_of(alloc, run.setup.source, "")?;
-    let header = header_of(alloc, run.setup.header)?;
+    let header = described_header(alloc, run.setup.header)?;
     let mut held = hold_over(alloc, &mut image, header)?;
     if run.is_modified {
         held.l1_table.set_modified();
@@ -53,12 +54,13 @@ pub(crate) fn hold_over(
     image: &mut MemStorage,
     header: Header,
 ) -> Result<Held, Fault> {
+    let entries = header.l2_entries();
     Ok(Held {
         alloc,
-        l1_table: l1_table(alloc, image, &header)?,
-        l2_table: l2_table(alloc, image, &header)?,
-        reftable: reftable(alloc, image, &header)?,
-        block: block(alloc, image, &header)?,
+        l1_table: load_table(alloc, image, &header, TABLES, entries)?,
+        l2_table: load_table(alloc, image, &header, TABLES, entries)?,
+        reftable: load_table(alloc, image, &header, TABLES, entries)?,
+        block: load_block(alloc, image, &header, BLOCK)?,
         out: Output::new(alloc)?,
         header,
     })
@@ -66,29 +68,15 @@ pub(crate) fn hold_over(
 
 // A new header of these cluster bits and this refcount order, a new one for the backing file backing.1, or
 // that of the disk where its size is this.
-fn header_of(alloc: Global, header: &str) -> Result<Header, Fault> {
+fn described_header(alloc: Global, header: &str) -> Result<Header, Fault> {
     let mut words = header.split_whitespace();
     let kind = words.next();
     let (first, second) = (usize_of(words.next()), usize_of(words.next()));
     match kind {
-        Some("new") => new_header(alloc, first, second),
+        Some("new") => header_of(alloc, first.min(99) as u32, second.min(99) as u32, false),
         Some("disk") => disk_header(alloc, first as u64),
-        _ => {
-            let name = String::from_str(alloc, "backing.1")?;
-            Header::new(alloc, 9, 4, Some(name), None, None)
-        }
+        _ => new_header(alloc, 9, 4, Some("backing.1"), None, None),
     }
-}
-
-/// A new header of these cluster bits and this refcount order, or the nearest that there are.
-pub(crate) fn new_header(
-    alloc: Global,
-    cluster_bits: usize,
-    refcount_order: usize,
-) -> Result<Header, Fault> {
-    let cluster_bits = cluster_bits.clamp(9, 21) as u32;
-    let refcount_order = refcount_order.min(6) as u32;
-    Header::new(alloc, cluster_bits, refcount_order, None, None, None)
 }
 
 /// The header of the disk, where its size is this.
@@ -97,48 +85,6 @@ pub(crate) fn disk_header(alloc: Global, size: u64) -> Result<Header, Fault> {
     let mut header = load_header(alloc, &mut image, false)?;
     header.set_size(size);
     Ok(header)
-}
-
-// ---- Loads of which no clause matters here
-
-pub(crate) fn load_header<S: Storage>(
-    alloc: Global,
-    image: &mut S,
-    writable: bool,
-) -> Result<Header, Fault> {
-    Header::load(alloc, image, writable)
-}
-
-pub(crate) fn l1_table<S: Storage>(
-    alloc: Global,
-    image: &mut S,
-    header: &Header,
-) -> Result<L1Table, Fault> {
-    L1Table::load(alloc, image, header, TABLES, header.l2_entries())
-}
-
-pub(crate) fn l2_table<S: Storage>(
-    alloc: Global,
-    image: &mut S,
-    header: &Header,
-) -> Result<L2Table, Fault> {
-    L2Table::load(alloc, image, header, TABLES, header.l2_entries())
-}
-
-pub(crate) fn reftable<S: Storage>(
-    alloc: Global,
-    image: &mut S,
-    header: &Header,
-) -> Result<RefTable, Fault> {
-    RefTable::load(alloc, image, header, TABLES, header.l2_entries())
-}
-
-pub(crate) fn block<S: Storage>(
-    alloc: Global,
-    image: &mut S,
-    header: &Header,
-) -> Result<RefBlock, Fault> {
-    RefBlock::load(alloc, image, header, BLOCK)
 }
 
 // ---- What it shows

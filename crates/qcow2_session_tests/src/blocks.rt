@@ -1,7 +1,7 @@
 //! Refcount blocks to step and to settle, and comparisons of what is left of them.
 
-use crate::calls::{flag, load_block, step_block};
-use qcow2_base::{Fault, HostCluster};
+use qcow2_base::{Fault, HostCluster, MemStorage};
+use qcow2_calls::{header_of, load_block, step_block};
 use qcow2_metadata::RefBlock;
 use qcow2_session::{Step, StepReply};
 use qcow2_testing::same;
@@ -20,20 +20,31 @@ const CLUSTER: HostCluster = HostCluster(0);
 /// guest data may be external. These counters are counted up then.
 pub(crate) fn block_of(
     alloc: Global,
-    image: (u32, u32, bool),
+    (bits, order, external): (u32, u32, bool),
     (bytes, counters): (&[u8], Counters<'_>),
     modified: bool,
 ) -> Result<RefBlock, Fault> {
-    let mut block = load_block(alloc, bytes, image)?;
+    let header = header_of(alloc, bits, order, external)?;
+    let mut image = MemStorage::new(Vec::from_slice(alloc, bytes)?);
+    let mut block = load_block(alloc, &mut image, &header, CLUSTER)?;
     count_up(&mut block, counters)?;
     flag(&mut block, modified);
     Ok(block)
 }
 
+// Sets or clears the flag.
+fn flag(block: &mut RefBlock, modified: bool) {
+    if modified {
+        block.set_modified();
+    } else {
+        block.clear_modified();
+    }
+}
+
 fn count_up(block: &mut RefBlock, counters: Counters<'_>) -> Result<(), Fault> {
     for run in counters {
         let steps = steps_up(block.allocator(), *run)?;
-        step_block(block, &steps)?;
+        step_block(block.allocator(), block, &steps)?;
     }
     Ok(())
 }

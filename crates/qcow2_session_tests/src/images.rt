@@ -1,8 +1,7 @@
 //! Images to edit and to step: a table or block of zeros, with other bytes around it.
 
 use qcow2_base::{Fault, MemStorage};
-use qcow2_metadata::Header;
-use qcow2_testing::{FailingStorage, StorageCall, is_cluster_bits, put_bytes, same, same_bytes};
+use qcow2_testing::{FailingStorage, StorageCall, put_bytes, same, same_bytes};
 use std::alloc::Global;
 use std::fmt::Debug;
 use std::test::Fail;
@@ -12,21 +11,6 @@ pub(crate) type Parts<'a> = &'a [(u64, &'a [u8])];
 
 /// How many bytes an image has, and the parts that stand in it.
 pub(crate) type Contents<'a> = (usize, Parts<'a>);
-
-/// A header of an image with these cluster bits and this refcount order, whose guest data may lie in an
-/// external data file.
-pub(crate) fn header_with(
-    alloc: Global,
-    bits: u32,
-    order: u32,
-    external: bool,
-) -> Result<Header, Fault> {
-    if !is_cluster_bits(bits) || order > 6 {
-        return Err(Fault::ClusterSize);
-    }
-    let name = String::from_str(alloc, "data.raw")?;
-    Header::new(alloc, bits, order, None, None, external.then_some(name))
-}
 
 // An image with these parts, of cluster bits and a cluster whose other bytes are 0. This byte stands around
 // that.

@@ -5,8 +5,6 @@
 #[cfg(test)]
 mod blocks;
 #[cfg(test)]
-mod calls;
-#[cfg(test)]
 mod commands;
 #[cfg(test)]
 mod edits;
@@ -24,6 +22,8 @@ mod image_steps;
 mod images;
 #[cfg(test)]
 mod lookups;
+#[cfg(test)]
+mod refused_calls;
 #[cfg(test)]
 mod sample_image;
 #[cfg(test)]

@@ -1,7 +1,7 @@
 //! L2 tables to edit, and comparisons of what edits of them leave.
 
-use crate::calls::load_l2_table;
-use qcow2_base::{Fault, HostCluster};
+use qcow2_base::{Fault, HostCluster, MemStorage};
+use qcow2_calls::{header_of, load_table};
 use qcow2_metadata::{ClustersToFreeEntry, L2Table, Table, TableEntry};
 use qcow2_session::{Edit, Outcome};
 use qcow2_testing::same;
@@ -86,11 +86,13 @@ pub(crate) fn table_of(alloc: Global, entries: Entries<'_>) -> Result<Vec<u8>, A
 /// A table of an image with these cluster bits, whose guest data may lie in an external data file.
 pub(crate) fn table_with(
     alloc: Global,
-    image: (u32, bool),
+    (bits, external): (u32, bool),
     entries: Entries<'_>,
     modified: bool,
 ) -> Result<L2Table, Fault> {
-    let mut table = load_l2_table(alloc, table_of(alloc, entries)?, image)?;
+    let header = header_of(alloc, bits, 4, external)?;
+    let mut image = MemStorage::new(table_of(alloc, entries)?);
+    let mut table: L2Table = load_table(alloc, &mut image, &header, CLUSTER, header.l2_entries())?;
     if modified {
         table.set_modified();
     }

@@ -1,9 +1,8 @@
-//! Refcount blocks to test with, and calls of blocks without any clauses.
+//! Refcount blocks to test with, and what they say.
 
-use crate::fixtures::header_of;
-use qcow2_base::{Fault, HostCluster, MemStorage, Storage};
+use qcow2_base::{Fault, HostCluster, Storage};
+use qcow2_calls::{header_of, load_block, new_block, set_block_cluster};
 use qcow2_metadata::RefBlock;
-use qcow2_testing::fits;
 use std::alloc::Global;
 
 /// What a load of a block returns, by cluster bits and refcount order of the image.
@@ -14,38 +13,18 @@ pub(crate) fn load<S: Storage>(
     cluster: u64,
 ) -> Result<RefBlock, Fault> {
     let header = header_of(alloc, size.0, size.1, false)?;
-    RefBlock::load(alloc, image, &header, HostCluster(cluster))
+    load_block(alloc, image, &header, HostCluster(cluster))
 }
 
 /// A block of 512 bytes in which no cluster has a reference.
 pub(crate) fn new_cleared(alloc: Global, order: u32) -> Result<RefBlock, Fault> {
-    let header = header_of(alloc, 9, order, false)?;
-    RefBlock::new_cleared(alloc, &MemStorage::new(Vec::new(alloc)), &header)
-}
-
-/// What a write of a block returns.
-pub(crate) fn write<S: Storage>(block: &mut RefBlock, image: &mut S) -> Result<(), Fault> {
-    block.write(image)
-}
-
-/// What `write_if_modified` returns, which is given the block's own cluster.
-pub(crate) fn write_if_modified<S: Storage>(
-    block: &mut RefBlock,
-    image: &mut S,
-) -> Result<(), Fault> {
-    let Some(cluster) = block.get_cluster() else {
-        return Err(Fault::NoOffset);
-    };
-    block.write_if_modified(image, cluster)
+    new_block(alloc, &header_of(alloc, 9, order, false)?)
 }
 
 /// Gives the block a cluster, and sets or clears its flag. Fails where the cluster's offset doesn't fit
 /// 64 bits.
 pub(crate) fn place(block: &mut RefBlock, cluster: u64, modified: bool) -> Result<(), Fault> {
-    if !fits(cluster, 0, block.cluster_bits()) {
-        return Err(Fault::TablePlace);
-    }
-    block.set_cluster(HostCluster(cluster));
+    set_block_cluster(block, HostCluster(cluster))?;
     if !modified {
         block.clear_modified();
     }

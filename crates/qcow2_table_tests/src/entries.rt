@@ -1,9 +1,10 @@
 //! Which numbers are entries of tables, and what they mean.
 
-use crate::fixtures::{COPIED, DISK, Disk, EXTERNAL, header_of, header_with};
+use crate::fixtures::{COPIED, DISK, Disk, EXTERNAL, header_with};
 use crate::l2_mapping::Reads::{Backing, Compressed, Data, Zeros};
 use crate::l2_mapping::{Reads, mapping_of};
 use qcow2_base::{Fault, GuestCluster, HostOffset};
+use qcow2_calls::header_of;
 use qcow2_metadata::{AtomicL2Entry, Header, L1Entry, L2Entry, RefTableEntry, TableEntry};
 use qcow2_testing::{all_same, each, fits, holds, rows, same};
 use std::alloc::Global;

@@ -1,7 +1,8 @@
 //! What holds of L1 tables, L2 tables and refcount tables alike.
 
-use crate::fixtures::{check_table, cleared, cleared_l1_table, disk_of, load, write, write_entry};
+use crate::fixtures::{check_table, cleared, cleared_l1_table, disk_of, load};
 use qcow2_base::{ClusterCount, Fault};
+use qcow2_calls::{write_entry, write_table};
 use qcow2_metadata::{L1Table, L2Table, RefTable, Table, TableEntry};
 use qcow2_testing::{
     all_same, each, filled_image, image_with, put, recorded, rows, same, same_image,
@@ -43,19 +44,15 @@ const PLACES: &[Place] = rows! { Place:
     { cluster_bits: 16, cluster: 1 << 40, entries: 8192, numbers: &[], fault: PAST },
     { cluster_bits: 21, cluster: 1 << 63, entries: 262144, numbers: &[], fault: PAST },
     // numbers that are no entries: the first decides, also in another piece of 512 entries
-    { numbers: &[(1528, 2)], fault: RESERVED, cluster_bits: 9, cluster: 2, entries: 64 },
-    { numbers: &[(131112, 0x200), (131120, 2)], fault: UNALIGNED, ..AT_131072 },
-    { numbers: &[(131112, 2), (131120, 0x200)], fault: RESERVED, ..AT_131072 },
-    { numbers: &[(135160, 0x200), (135168, 2)], fault: UNALIGNED, ..AT_131072 },
-    { numbers: &[(135168, 0x202), (135176, 0x200)], fault: RESERVED, ..AT_131072 },
-};
-
-const AT_131072: Place = Place {
-    cluster_bits: 16,
-    cluster: 2,
-    entries: 8192,
-    numbers: &[],
-    fault: None,
+    { cluster_bits: 9, cluster: 2, entries: 64, numbers: &[(1528, 2)], fault: RESERVED },
+    { cluster_bits: 16, cluster: 2, entries: 8192,
+        numbers: &[(131112, 0x200), (131120, 2)], fault: UNALIGNED },
+    { cluster_bits: 16, cluster: 2, entries: 8192,
+        numbers: &[(131112, 2), (131120, 0x200)], fault: RESERVED },
+    { cluster_bits: 16, cluster: 2, entries: 8192,
+        numbers: &[(135160, 0x200), (135168, 2)], fault: UNALIGNED },
+    { cluster_bits: 16, cluster: 2, entries: 8192,
+        numbers: &[(135168, 0x202), (135176, 0x200)], fault: RESERVED },
 };
 
 // What a load returns where the storage refuses each call if none may be made.
@@ -109,7 +106,7 @@ const REFUSALS: &[Refusal] = rows! { Refusal:
 
 fn check_refusal(table: &mut L1Table, row: Refusal) -> Result<(), Fail> {
     let mut image = filled_image(table.allocator(), 512)?;
-    let answer = write(table, &mut image);
+    let answer = write_table(table, &mut image);
     let found = (answer, write_entry(table, &mut image, 0));
     same(found, (Err(row.fault), Err(row.fault)), row)?;
     same_image(&image, filled_image(table.allocator(), 512), row)?;

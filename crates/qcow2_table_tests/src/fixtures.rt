@@ -1,32 +1,14 @@
-//! Tables to test with, and calls of tables without any clauses: tests compare what is returned, and no
-//! proof about a test has to read what the call ensures.
+//! Tables to test with.
 
 ghost use Rattle.std.specs.Prelude.{◌^◌, ◌≤◌, IsTrue};
 
 use qcow2_base::{Fault, HostCluster, HostOffset, MemStorage, Storage};
-use qcow2_metadata::{
-    EntryTable, Header, L1Table, L2Table, RefTable, Table, TableEntry, TableKind,
-};
-use qcow2_testing::{all_same, fits, image_with, is_cluster_bits, same, same_image};
+use qcow2_calls::{LoadedTable, header_of, load_table, new_l2_table, set_cluster, write_table};
+use qcow2_metadata::{EntryTable, Header, L1Table, L2Table, Table, TableEntry, TableKind};
+use qcow2_testing::{all_same, image_with, same, same_image};
 use std::alloc::Global;
 use std::fmt::Debug;
 use std::test::Fail;
-
-/// A header of an image with clusters of `2^cluster_bits` bytes, whose refcounts have `2^refcount_order`
-/// bits, and whose guest data may lie in a file of its own. Cluster bits are 9 to 21, and the order 0 to 6.
-pub(crate) fn header_of(
-    alloc: Global,
-    cluster_bits: u32,
-    refcount_order: u32,
-    external_data_file: bool,
-) -> Result<Header, Fault> {
-    if !is_cluster_bits(cluster_bits) || refcount_order > 6 {
-        return Err(Fault::ClusterSize);
-    }
-    let name = String::from_str(alloc, "data.raw")?;
-    let name = external_data_file.then_some(name);
-    Header::new(alloc, cluster_bits, refcount_order, None, None, name)
-}
 
 /// A header of an image with these cluster bits, and else as most images have it.
 pub(crate) fn header_with(alloc: Global, cluster_bits: u32) -> Result<Header, Fault> {
@@ -60,33 +42,8 @@ pub(crate) fn disk_of(cluster_bits: u32) -> Disk {
     }
 }
 
-/// A kind of table that tests load.
-pub(crate) trait Loads: Table + Drop {
-    /// Whether a table of an image with this header may have that many entries.
-    fn may_have(header: &Header, entries: usize) -> bool
-        ensures { IsTrue result → IsTrue (Self.kind.has_valid_count header.now.v2.cluster_bits entries) };
-}
-
-impl Loads for L1Table {
-    fn may_have(_header: &Header, _entries: usize) -> bool {
-        true
-    }
-}
-
-impl Loads for RefTable {
-    fn may_have(_header: &Header, _entries: usize) -> bool {
-        true
-    }
-}
-
-impl Loads for L2Table {
-    fn may_have(header: &Header, entries: usize) -> bool {
-        entries == header.l2_entries()
-    }
-}
-
 /// What a load of that many entries from a cluster on returns, of an image with such a disk.
-pub(crate) fn load<T: Loads, S: Storage>(
+pub(crate) fn load<T: LoadedTable, S: Storage>(
     alloc: Global,
     image: &mut S,
     disk: Disk,
@@ -94,39 +51,7 @@ pub(crate) fn load<T: Loads, S: Storage>(
     entries: usize,
 ) -> Result<T, Fault> {
     let header = header_of(alloc, disk.cluster_bits, 4, disk.external)?;
-    if !T::may_have(&header, entries) {
-        return Err(Fault::WrongLength);
-    }
-    T::load(alloc, image, &header, HostCluster(cluster), entries)
-}
-
-/// What a write of the table returns.
-pub(crate) fn write<T: Table, S: Storage>(table: &mut T, image: &mut S) -> Result<(), Fault> {
-    table.write(image)
-}
-
-/// What a write of one entry returns.
-pub(crate) fn write_entry<T: Table, S: Storage>(
-    table: &mut T,
-    image: &mut S,
-    index: usize,
-) -> Result<(), Fault> {
-    if index >= table.entries() {
-        return Err(Fault::WrongLength);
-    }
-    table.write_entry(image, index)
-}
-
-/// What `write_if_modified` returns, which is given the table's own cluster.
-pub(crate) fn write_if_modified<S: Storage>(
-    table: &mut L2Table,
-    image: &mut S,
-) -> Result<(), Fault> {
-    match table.get_cluster() {
-        Some(cluster) => table.write_if_modified(image, cluster),
-        None if table.is_modified() => Err(Fault::WrongLength),
-        None => table.write_if_modified(image, HostCluster(0)),
-    }
+    load_table(alloc, image, &header, HostCluster(cluster), entries)
 }
 
 /// Writes the table, and fails unless the image is then the other.
@@ -135,7 +60,7 @@ pub(crate) fn check_written_as<T: Table>(
     image: &mut MemStorage,
     expected: Result<MemStorage, Fault>,
 ) -> Result<(), Fail> {
-    same(write(table, image), Ok(()), "write")?;
+    same(write_table(table, image), Ok(()), "write")?;
     same_image(image, expected, "written")
 }
 
@@ -213,7 +138,11 @@ fn other_entry<T: Table>(table: &T, state: State) -> Option<(usize, u64)> {
 }
 
 /// A table of an image with such a disk that is as this says.
-pub(crate) fn table_with<T: Loads>(alloc: Global, disk: Disk, state: State) -> Result<T, Fault> {
+pub(crate) fn table_with<T: LoadedTable>(
+    alloc: Global,
+    disk: Disk,
+    state: State,
+) -> Result<T, Fault> {
     let start = l2_entries(disk.cluster_bits).saturating_mul(16);
     let offset = (start as u64).saturating_add((state.index as u64).saturating_mul(8));
     let mut image = image_with(alloc, start, &[(offset, state.number)])?;
@@ -235,8 +164,7 @@ pub(crate) fn l2_entries(cluster_bits: u32) -> usize {
 // doesn't fit 64 bits.
 fn place<T: Table>(table: &mut T, cluster: Option<u64>, modified: bool) -> Result<(), Fault> {
     match cluster {
-        Some(cluster) if !fits(cluster, 0, table.cluster_bits()) => return Err(Fault::TablePlace),
-        Some(cluster) => table.set_cluster(HostCluster(cluster)),
+        Some(cluster) => set_cluster(table, HostCluster(cluster))?,
         None => table.unset_cluster(),
     }
     if modified {
@@ -278,7 +206,7 @@ pub(crate) fn cleared_l1_table(
 
 /// A new L2 table.
 pub(crate) fn cleared_l2_table(alloc: Global, cluster_bits: u32) -> Result<L2Table, Fault> {
-    L2Table::new_cleared(alloc, &header_with(alloc, cluster_bits)?)
+    new_l2_table(alloc, &header_with(alloc, cluster_bits)?)
 }
 
 /// Fails unless the table grew to that many entries, or could not if there are none.

@@ -3,21 +3,12 @@
 use crate::fixtures::{
     DISK, NUMBER, check_grown, check_table, cleared, disk_of, header_with, loaded, table_with,
 };
-use crate::pending_clusters::{Entered, Refusal, check_entered, refusal};
-use qcow2_base::{ClusterCount, Fault, HostCluster};
-use qcow2_metadata::{L1Table, L2Table, PendingClusters, Table};
-use qcow2_testing::{each, holds, rows};
+use crate::pending_clusters::{Entered, check_entered, pending_of};
+use qcow2_calls::{enter_l2_table, grow_l1_table};
+use qcow2_metadata::L1Table;
+use qcow2_testing::{each, rows};
 use std::alloc::Global;
 use std::test::Fail;
-
-// What the growth of a table returns.
-fn grow(table: &L1Table, index: usize) -> Result<L1Table, Fault> {
-    let header = header_with(table.allocator(), table.cluster_bits())?;
-    if header.cluster_bits() != table.cluster_bits() {
-        return Err(Fault::WrongLength);
-    }
-    table.clone_and_grow(index, &header)
-}
 
 // A table, an index, and how many entries there are once the table has it, if it can.
 #[derive(Clone, Copy, Debug)]
@@ -45,7 +36,9 @@ const GROWTHS: &[Growth] = rows! { Growth:
 fn check_growth(alloc: Global, row: Growth) -> Result<(), Fail> {
     let state = loaded(row.entries, 0, if row.entries > 0 { NUMBER } else { 0 });
     let source: L1Table = table_with(alloc, disk_of(row.cluster_bits), state)?;
-    check_grown(grow(&source, row.index), row.grown, state, row)?;
+    let header = header_with(alloc, row.cluster_bits)?;
+    let answer = grow_l1_table(&source, row.index, &header);
+    check_grown(answer, row.grown, state, row)?;
     check_table(&source, state, row)
 }
 
@@ -54,27 +47,16 @@ fn an_l1_table_grows_by_whole_clusters(rt: HostRuntime) -> Result<(), Fail> {
     each(rt.alloc(), GROWTHS, check_growth)
 }
 
-// Enters an L2 table as entry 3, with a pending cluster or without.
-fn enter(table: &mut L1Table, l2_table: &L2Table, is_pending: bool) -> Result<Refusal, Fail> {
-    holds(table.cluster_bits() == 9 && table.in_bounds(3), "L1 table")?;
-    holds(l2_table.cluster_bits() == 9, "L2 table")?;
-    let cluster = l2_table.get_cluster().unwrap_or(HostCluster(7));
-    holds(0 < cluster.0 && cluster.0 < 1 << 47, cluster)?;
-    let pending = is_pending.then(|| PendingClusters::new(cluster, ClusterCount(1)));
-    Ok(refusal(table.enter_l2_table(3, l2_table, pending)))
-}
-
 const ENTERED: &[Entered] = rows! { Entered:
     { cluster: Some(2), is_pending: false, number: 0x8000_0000_0000_0400 },
     { cluster: Some((1 << 47) - 1), is_pending: true, number: 0x80ff_ffff_ffff_fe00 },
-    { cluster: None, is_pending: false, number: NUMBER },
-    { cluster: None, is_pending: true, number: NUMBER },
+    { cluster: None, is_pending: false, number: NUMBER }, { cluster: None, is_pending: true, number: NUMBER },
 };
 
 fn check_entering(alloc: Global, row: Entered) -> Result<(), Fail> {
     let mut table: L1Table = table_with(alloc, DISK, loaded(64, 3, NUMBER))?;
     let l2_table = table_with(alloc, DISK, cleared(64).placed(row.cluster, true))?;
-    let found = enter(&mut table, &l2_table, row.is_pending)?;
+    let found = enter_l2_table(&mut table, 3, &l2_table, pending_of(row));
     check_entered(&table, found, row)
 }
 

@@ -5,42 +5,16 @@ use crate::entries::{MEANINGS, Meaning};
 use crate::fixtures::{COPIED, DISK, Disk, EXTERNAL, check_table, l2_entries, loaded, table_with};
 use crate::l2_mapping::Reads::Compressed;
 use crate::l2_mapping::{Reads, mapping_of};
-use qcow2_base::{ClusterCount, GuestCluster, HostCluster};
-use qcow2_metadata::{
-    ClustersToFreeEntry, CompressedClusterReadGuard, L2Mapping, L2Table, MAX_OFFSET,
-    PendingClusters, Table,
-};
+use crate::pending_clusters::clusters;
+use qcow2_base::{Fault, GuestCluster, HostCluster};
+use qcow2_calls::{discard_cluster, map_cluster, zero_cluster};
+use qcow2_metadata::{CompressedClusterReadGuard, L2Mapping, L2Table, Table};
 use qcow2_testing::{each, fits, holds, rows, same};
 use std::alloc::Global;
 use std::test::Fail;
 
 /// The first cluster that is handed back and how many, if any.
 type Freed = Option<(u64, u64)>;
-
-fn freed(freed: Option<ClustersToFreeEntry>) -> Freed {
-    freed.map(|freed| (freed.first.0, freed.count.0))
-}
-
-// Maps to the cluster, which pending clusters may be handed in for.
-fn map(table: &mut L2Table, index: usize, cluster: u64, pending: bool) -> Result<Freed, Fail> {
-    let bits = table.cluster_bits();
-    holds(table.in_bounds(index) && fits(cluster, 0, bits), cluster)?;
-    let cluster = HostCluster(cluster);
-    holds(cluster.offset(bits) <= MAX_OFFSET, cluster)?;
-    holds(cluster.0 > 0 || table.external_data_file(), cluster)?;
-    let pending = pending.then(|| PendingClusters::new(cluster, ClusterCount(1)));
-    Ok(freed(table.lock_write().map_cluster(index, cluster, pending)))
-}
-
-fn zero(table: &mut L2Table, index: usize, keep: bool) -> Result<Freed, Fail> {
-    holds(table.in_bounds(index), index)?;
-    Ok(freed(table.lock_write().zero_cluster(index, keep)?))
-}
-
-pub(crate) fn discard(table: &mut L2Table, index: usize) -> Result<Freed, Fail> {
-    holds(table.in_bounds(index), index)?;
-    Ok(freed(table.lock_write().discard_cluster(index)))
-}
 
 /// What a guest cluster reads as, which the table and the permission to change it say alike.
 pub(crate) fn mapping(table: &mut L2Table, guest_cluster: u64) -> Result<L2Mapping, Fail> {
@@ -97,8 +71,9 @@ enum Edit {
     Map(u64),
     // the same with pending clusters
     MapPending(u64),
-    // to zeros, which may keep the cluster
+    // to zeros, without the cluster
     Zero,
+    // to zeros that keep it
     Keep,
     Discard,
 }
@@ -159,14 +134,17 @@ const EDITED: &[Edited] = rows! { Edited:
 const LAST: u64 = 0x7fff_ffff_ffff;
 
 // Edits entry 63.
-fn make(table: &mut L2Table, edit: Edit) -> Result<Freed, Fail> {
-    match edit {
-        Map(cluster) => map(table, 63, cluster, false),
-        MapPending(cluster) => map(table, 63, cluster, true),
-        Zero => zero(table, 63, false),
-        Keep => zero(table, 63, true),
-        Discard => discard(table, 63),
-    }
+fn make(table: &mut L2Table, edit: Edit) -> Result<Freed, Fault> {
+    let freed = match edit {
+        Map(cluster) => map_cluster(table, 63, HostCluster(cluster), None),
+        MapPending(cluster) => {
+            map_cluster(table, 63, HostCluster(cluster), Some(clusters(cluster, 1)))
+        }
+        Zero => zero_cluster(table, 63, false),
+        Keep => zero_cluster(table, 63, true),
+        Discard => discard_cluster(table, 63),
+    };
+    Ok(freed?.map(|freed| (freed.first.0, freed.count.0)))
 }
 
 // Edits the entry, and fails unless all other entries stay.

@@ -149,8 +149,9 @@ const GOES_ON: &[Pair] = rows! {
 };
 
 fn check_run(row: Pair) -> Result<(), Fail> {
-    let (first, second) = (mapping_of(row.0)?, mapping_of(row.1)?);
-    same(second.is_consecutive(&first, 9), row.2, row)
+    let (first, second, goes_on) = row;
+    let (first, second) = (mapping_of(first)?, mapping_of(second)?);
+    same(second.is_consecutive(&first, 9), goes_on, row)
 }
 
 #[test]

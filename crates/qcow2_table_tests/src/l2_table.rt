@@ -2,12 +2,14 @@
 
 use crate::fixtures::{
     COPIED, DISK, Disk, EXTERNAL, NUMBER, check_table, check_written_as, cleared, cleared_l2_table,
-    l2_entries, load, loaded, table_with, write_if_modified,
+    l2_entries, load, loaded, table_with,
 };
-use crate::l2_edits::{discard, mapping};
+use crate::l2_edits::mapping;
 use crate::l2_mapping::Reads::{Backing, Data};
 use crate::l2_mapping::mapping_of;
-use qcow2_base::{Fault, MemStorage};
+use crate::pending_clusters::clusters;
+use qcow2_base::{Fault, HostCluster, MemStorage};
+use qcow2_calls::{copy_l2_table, discard_cluster, write_l2_table_if_modified};
 use qcow2_metadata::{L2Table, Table};
 use qcow2_testing::{each, image_with, recorded, rows, same, same_image};
 use std::alloc::Global;
@@ -55,7 +57,7 @@ fn check_copied(alloc: Global, row: Copied) -> Result<(), Fail> {
     let state = loaded(l2_entries(row.disk.cluster_bits), 63, row.number);
     let state = state.placed(Some(2), row.disk.external);
     let table: L2Table = table_with(alloc, row.disk, state)?;
-    check_copy(table.try_clone(), row)?;
+    check_copy(copy_l2_table(&table), row)?;
     check_table(&table, state, row)
 }
 
@@ -88,7 +90,8 @@ fn check_write(table: &mut L2Table, row: Written) -> Result<(), Fail> {
     if row.calls == 0 {
         image.plan = Some(0);
     }
-    let answer = write_if_modified(table, &mut image);
+    let cluster = table.get_cluster().unwrap_or(HostCluster(0));
+    let answer = write_l2_table_if_modified(table, &mut image, cluster);
     let found = (answer, image.calls.len(), table.is_modified());
     same(found, (row.answer, row.calls, row.answer.is_err()), row)?;
     let number = if row.calls > 0 {
@@ -140,6 +143,10 @@ fn a_mapping_is_written_as_read_and_gone_once_discarded(rt: HostRuntime) -> Resu
     let mut table = one_mapping(rt.alloc())?;
     let mut image = image_with(rt.alloc(), 1536, &[])?;
     check_written_as(&mut table, &mut image, image_of_one_mapping(rt.alloc()))?;
-    same(discard(&mut table, 3)?, Some((5, 1)), "discarded")?;
+    same(
+        discard_cluster(&mut table, 3),
+        Ok(Some(clusters(5, 1))),
+        "discarded",
+    )?;
     check_written_as(&mut table, &mut image, image_with(rt.alloc(), 1536, &[]))
 }

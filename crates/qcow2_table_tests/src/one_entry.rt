@@ -1,7 +1,8 @@
 //! Writes of one entry: which bytes of the image change, by how many calls, and what they are then.
 
-use crate::fixtures::{check_table, disk_of, loaded, table_with, write_entry};
+use crate::fixtures::{check_table, disk_of, loaded, table_with};
 use qcow2_base::{Fault, MemStorage};
+use qcow2_calls::write_entry;
 use qcow2_metadata::{L1Table, Table};
 use qcow2_testing::{
     FailingStorage, StorageCall, each, filled_image, put, put_bytes, recorded, rows, same,

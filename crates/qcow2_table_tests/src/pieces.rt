@@ -1,7 +1,8 @@
 //! Tables are read and written in pieces of 4096 bytes, counted from where they begin.
 
-use crate::fixtures::{COPIED, DISK, disk_of, load, write};
+use crate::fixtures::{COPIED, DISK, disk_of, load};
 use qcow2_base::{Fault, MemStorage};
+use qcow2_calls::write_table;
 use qcow2_metadata::{L1Table, Table};
 use qcow2_testing::{
     FailingStorage, StorageCall, each, filled_image, part_of, put, put_bytes, recorded, rows, same,
@@ -73,7 +74,7 @@ pub(crate) fn check_calls(
 fn check_written(table: &mut L1Table, expected: &[u8], row: InPieces) -> Result<(), Fail> {
     let alloc = table.allocator();
     let mut image = recorded(alloc, filled_image(alloc, 20000)?);
-    let answer = write(table, &mut image);
+    let answer = write_table(table, &mut image);
     same((answer, table.is_modified()), (Ok(()), false), row)?;
     check_calls(alloc, &image.calls, row.pieces, false)?;
     same_bytes(image.inner.bytes(), expected, row)
@@ -117,12 +118,12 @@ fn a_load_reads_no_piece_after_that_of_a_bad_entry(rt: HostRuntime) -> Result<()
 fn check_torn(table: &mut L1Table, image: &mut FailingStorage<MemStorage>) -> Result<(), Fail> {
     let alloc = table.allocator();
     image.plan = Some(2);
-    let answer = write(table, image);
+    let answer = write_table(table, image);
     let refused = (Err(Fault::Storage), true);
     same((answer, table.is_modified()), refused, "refused")?;
     let torn = image_with_entries(alloc, 4096, 1024);
     same_image(&image.inner, torn, "refused")?;
-    let answer = write(table, image);
+    let answer = write_table(table, image);
     same((answer, table.is_modified()), (Ok(()), false), "again")?;
     let whole = image_with_entries(alloc, 4096, 1025);
     same_image(&image.inner, whole, "again")

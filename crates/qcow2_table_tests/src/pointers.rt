@@ -1,44 +1,42 @@
 //! Setting where a header's tables lie, and writing that and the disk's size by themselves.
 
 use crate::fixtures::{DISK, cleared, cleared_l1_table, header_with, table_with};
-use crate::pending_clusters::{Refusal, not_placed, refusal};
-use qcow2_base::{ClusterCount, Fault, HostCluster, HostOffset, Storage};
-use qcow2_metadata::{Header, L1Table, PendingClusters, RefTable, Table};
+use crate::pending_clusters::clusters;
+use qcow2_base::{ClusterCount, Fault, HostOffset, Storage};
+use qcow2_calls::{
+    Refusal, set_l1_table, set_reftable, write_l1_table_pointer, write_reftable_pointer, write_size,
+};
+use qcow2_metadata::{Header, L1Table, RefTable, Table};
 use qcow2_testing::{all_same, filled_image, put_bytes, recorded, same, same_image};
 use std::alloc::Global;
 use std::test::Fail;
 
 // Gives the header an L1 table of one entry with a cluster, whose clusters are pending, or without one and
 // with pending clusters 7 to 9.
-fn set_l1_table(header: &mut Header, table: &L1Table) -> Result<Refusal, Fault> {
-    if table.cluster_bits() != header.cluster_bits() {
-        return Err(Fault::ClusterSize);
-    }
+fn set_pending_table(header: &mut Header, table: &L1Table) -> Result<(), Refusal> {
     let pending = match table.get_cluster() {
-        Some(first) => PendingClusters::new(first, table.cluster_count()),
-        None => PendingClusters::new(HostCluster(7), ClusterCount(3)),
+        Some(first) => clusters(first.0, table.cluster_count().0),
+        None => clusters(7, 3),
     };
-    Ok(refusal(header.set_l1_table(table, Some(pending))))
+    set_l1_table(header, table, Some(pending))
 }
 
 // Gives the header a refcount table of 65 entries with a cluster or none.
-fn set_reftable(alloc: Global, header: &mut Header, cluster: Option<u64>) -> Result<(), Fault> {
+fn set_table_of_65(alloc: Global, header: &mut Header, cluster: Option<u64>) -> Result<(), Fault> {
     let table: RefTable = table_with(alloc, DISK, cleared(65).placed(cluster, true))?;
-    if table.cluster_bits() != header.cluster_bits() {
-        return Err(Fault::ClusterSize);
-    }
-    header.set_reftable(&table)
+    set_reftable(header, &table)
 }
 
 // Gives the header an L1 table of one entry at 0x200 and a refcount table of 65 entries at 0x800, and then
 // tables without a cluster, which are refused.
 fn set_tables(alloc: Global, header: &mut Header) -> Result<(), Fail> {
-    let found = set_l1_table(header, &cleared_l1_table(alloc, 1, Some(1), true)?)?;
-    let answer = set_reftable(alloc, header, Some(4));
-    same((found, answer), (None, Ok(())), "placed")?;
-    let found = set_l1_table(header, &cleared_l1_table(alloc, 1, None, true)?)?;
-    let answer = set_reftable(alloc, header, None);
-    let expected = (not_placed(Some((7, 3))), Err(Fault::NotPlaced));
+    let found = set_pending_table(header, &cleared_l1_table(alloc, 1, Some(1), true)?);
+    let answer = set_table_of_65(alloc, header, Some(4));
+    same((found, answer), (Ok(()), Ok(())), "placed")?;
+    let found = set_pending_table(header, &cleared_l1_table(alloc, 1, None, true)?);
+    let answer = set_table_of_65(alloc, header, None);
+    let refusal = (Fault::NotPlaced, Some(clusters(7, 3)));
+    let expected = (Err(refusal), Err(Fault::NotPlaced));
     same((found, answer), expected, "not placed")
 }
 
@@ -71,9 +69,9 @@ enum Part {
 
 fn write_part<S: Storage>(header: &Header, image: &mut S, part: Part) -> Result<(), Fault> {
     match part {
-        Part::Size => header.write_size(image),
-        Part::L1Table => header.write_l1_table_pointer(image),
-        Part::Reftable => header.write_reftable_pointer(image),
+        Part::Size => write_size(header, image),
+        Part::L1Table => write_l1_table_pointer(header, image),
+        Part::Reftable => write_reftable_pointer(header, image),
     }
 }
 

@@ -1,13 +1,14 @@
 //! Refcount blocks: their counters at each width, what steps leave, and where they are read and written.
 
-use crate::blocks::{counter, load, new_cleared, place, told, write, write_if_modified};
+use crate::blocks::{counter, load, new_cleared, place, told};
 use crate::fixtures::{DISK, NUMBER, loaded, table_with};
-use crate::pending_clusters::{Entered, Refusal, check_entered, refusal};
-use qcow2_base::{ClusterCount, Fault, HostCluster, HostOffset, MemStorage};
-use qcow2_metadata::{PendingClusters, RefBlock, RefTable, Table};
+use crate::pending_clusters::{Entered, check_entered, pending_of};
+use qcow2_base::{Fault, HostCluster, HostOffset, MemStorage};
+use qcow2_calls::{decrement, enter_refblock, increment, write_block, write_block_if_modified};
+use qcow2_metadata::{RefBlock, RefTable};
 use qcow2_testing::{
-    FailingStorage, each, filled_image, holds, part_of, put_bytes, recorded, rows, same,
-    same_bytes, same_image,
+    FailingStorage, each, filled_image, part_of, put_bytes, recorded, rows, same, same_bytes,
+    same_image,
 };
 use std::alloc::Global;
 use std::test::Fail;
@@ -76,19 +77,6 @@ const STEPPED: &[Stepped] = rows! { Stepped:
 // One less than the most references.
 const LESS: u64 = u64::MAX - 1;
 
-// What one step of the counter returns: the number before it.
-fn step(block: &mut RefBlock, index: usize, is_up: bool) -> Result<u64, Fault> {
-    if index >= block.entries() {
-        return Err(Fault::WrongLength);
-    }
-    let mut guard = block.lock_write();
-    if is_up {
-        guard.increment(index)
-    } else {
-        guard.decrement(index)
-    }
-}
-
 // Makes the step, which sets the flag if it isn't refused.
 fn check_answer(block: &mut RefBlock, index: usize, tally: Tally) -> Result<(), Fail> {
     let (is_up, answer) = match tally {
@@ -98,7 +86,11 @@ fn check_answer(block: &mut RefBlock, index: usize, tally: Tally) -> Result<(), 
         Empty => (false, Err(Fault::CounterRange)),
     };
     let modified = block.is_modified() || answer.is_ok();
-    let found = step(block, index, is_up);
+    let found = if is_up {
+        increment(block, index)
+    } else {
+        decrement(block, index)
+    };
     same((found, block.is_modified()), (answer, modified), tally)
 }
 
@@ -107,7 +99,7 @@ fn check_steps(block: &mut RefBlock, image: &mut MemStorage, row: Stepped) -> Re
     for tally in row.steps {
         check_answer(block, row.index, *tally)?;
     }
-    let found = (block.get_cluster(), write(block, image));
+    let found = (block.get_cluster(), write_block(block, image));
     same(found, (Some(HostCluster(1)), Ok(())), row)?;
     let expected = image_with(block.allocator(), row.place, row.len, row.after);
     same_image(image, expected, row)
@@ -166,7 +158,7 @@ fn check_whole(block: &mut RefBlock, bytes: &[u8], row: Whole) -> Result<(), Fai
     let expected = (row.counters, Some(HostCluster(0)), false);
     same(found, (expected, Some((row.last, row.last == 0))), row)?;
     let mut other = filled_image(block.allocator(), bytes.len())?;
-    same(write(block, &mut other), Ok(()), row)?;
+    same(write_block(block, &mut other), Ok(()), row)?;
     same_bytes(other.bytes(), bytes, row)
 }
 
@@ -213,10 +205,9 @@ fn answer_of(
     if_modified: bool,
 ) -> Answer {
     image.calls.clear();
-    let answer = if if_modified {
-        write_if_modified(block, image)
-    } else {
-        write(block, image)
+    let answer = match (if_modified, block.get_cluster()) {
+        (true, Some(cluster)) => write_block_if_modified(block, image, cluster),
+        _ => write_block(block, image),
     };
     (answer, image.calls.len())
 }
@@ -253,7 +244,7 @@ fn a_block_is_written_where_it_may_be(rt: HostRuntime) -> Result<(), Fail> {
 }
 
 // What a block says that is loaded from a cluster.
-fn told_of(alloc: Global, cluster: u64) -> Result<(usize, Option<HostOffset>, bool), Fault> {
+fn loaded_from(alloc: Global, cluster: u64) -> Result<(usize, Option<HostOffset>, bool), Fault> {
     let block = load(alloc, &mut filled_image(alloc, 16)?, (9, 4), cluster)?;
     Ok((block.entries(), block.get_offset(), block.is_modified()))
 }
@@ -261,8 +252,8 @@ fn told_of(alloc: Global, cluster: u64) -> Result<(usize, Option<HostOffset>, bo
 #[test]
 fn a_block_is_loaded_from_where_it_may_be(rt: HostRuntime) -> Result<(), Fail> {
     let last = (256, Some(HostOffset(0xff_ffff_ffff_fe00)), false);
-    same(told_of(rt.alloc(), (1 << 47) - 1), Ok(last), "last")?;
-    let answer = told_of(rt.alloc(), 1 << 47);
+    same(loaded_from(rt.alloc(), (1 << 47) - 1), Ok(last), "last")?;
+    let answer = loaded_from(rt.alloc(), 1 << 47);
     same(answer, Err(Fault::TablePlace), "past the last")
 }
 
@@ -271,7 +262,7 @@ fn check_cleared(block: &mut RefBlock) -> Result<(), Fail> {
     block.set_modified();
     let found = (told(block), counter(block, 255));
     same(found, ((256, None, true), Some((0, true))), "cleared")?;
-    let answer = write(block, &mut filled_image(block.allocator(), 0)?);
+    let answer = write_block(block, &mut filled_image(block.allocator(), 0)?);
     let refused = (Err(Fault::NoOffset), (256, None, true));
     same((answer, told(block)), refused, "written")
 }
@@ -281,28 +272,17 @@ fn a_cleared_block_has_no_reference_and_no_place(rt: HostRuntime) -> Result<(), 
     check_cleared(&mut new_cleared(rt.alloc(), 4)?)
 }
 
-// Enters the block as entry 3, with a pending cluster or without.
-fn enter(table: &mut RefTable, block: &RefBlock, is_pending: bool) -> Result<Refusal, Fail> {
-    holds(table.cluster_bits() == 9 && table.in_bounds(3), "table")?;
-    holds(block.cluster_bits() == 9, "block")?;
-    let cluster = block.get_cluster().unwrap_or(HostCluster(7));
-    holds(0 < cluster.0 && cluster.0 < 1 << 47, cluster)?;
-    let pending = is_pending.then(|| PendingClusters::new(cluster, ClusterCount(1)));
-    Ok(refusal(table.enter_refblock(3, block, pending)))
-}
-
 const ENTERED: &[Entered] = rows! { Entered:
     { cluster: Some(3), is_pending: false, number: 0x600 },
     { cluster: Some((1 << 47) - 1), is_pending: true, number: 0xff_ffff_ffff_fe00 },
-    { cluster: None, is_pending: false, number: NUMBER },
-    { cluster: None, is_pending: true, number: NUMBER },
+    { cluster: None, is_pending: false, number: NUMBER }, { cluster: None, is_pending: true, number: NUMBER },
 };
 
 fn check_entering(table: &mut RefTable, block: &mut RefBlock, row: Entered) -> Result<(), Fail> {
     if let Some(cluster) = row.cluster {
         place(block, cluster, true)?;
     }
-    let found = enter(table, block, row.is_pending)?;
+    let found = enter_refblock(table, 3, block, pending_of(row));
     check_entered(table, found, row)
 }
 

@@ -1,32 +1,19 @@
 //! Refcount tables: how they grow, and how many spare entries they take along for that.
 
 use crate::fixtures::{
-    DISK, NUMBER, check_grown, check_table, cleared, disk_of, header_of, loaded, table_with,
+    DISK, NUMBER, check_grown, check_table, cleared, disk_of, loaded, table_with,
 };
 use qcow2_base::{ClusterCount, Fault};
-use qcow2_metadata::{RefTable, Table, Turns, least_spare};
+use qcow2_calls::{grow_reftable, header_of, least_spare};
+use qcow2_metadata::{RefTable, Table};
 use qcow2_testing::{each, holds, rows, same};
 use std::alloc::Global;
 use std::test::Fail;
 
-// What the growth of a table returns.
-fn grow(table: &RefTable, order: u32, index: usize) -> Result<RefTable, Fault> {
-    let header = header_of(table.allocator(), table.cluster_bits(), order, false)?;
-    if header.cluster_bits() != table.cluster_bits() {
-        return Err(Fault::WrongLength);
-    }
-    table.clone_and_grow(&header, index)
-}
-
 // The least spare entries, if there may be that many, and the turns that it took to find them.
 fn spare_of(alloc: Global, row: Growth) -> Result<(Option<usize>, usize), Fault> {
-    if row.index >= 4194304 {
-        return Ok((None, 0));
-    }
     let header = header_of(alloc, row.cluster_bits, row.refcount_order, false)?;
-    let mut turns = Turns::new();
-    let spare = least_spare(row.entries, row.index, &header, &mut turns);
-    Ok((spare, turns.count()))
+    Ok(least_spare(row.entries, row.index, &header))
 }
 
 // A growth of a refcount table to hold an index: how many spare entries are the least, and how many entries
@@ -51,45 +38,34 @@ const THOUSAND: Growth = Growth {
     grown: Some(4194304),
 };
 
-// Cluster bits 9, refcount order 6, and too many entries for a table.
-const TOO_MANY: Growth = Growth {
-    cluster_bits: 9,
-    refcount_order: 6,
-    entries: 0,
-    index: 0,
-    spare: None,
-    grown: None,
-};
-
 const GROWTHS: &[Growth] = rows! { Growth:
-    { entries: 0, index: 62, spare: Some(1), grown: Some(64), ..THOUSAND },
-    { entries: 0, index: 63, spare: Some(1), grown: Some(128), ..THOUSAND },
-    { entries: 0, index: 4030, spare: Some(1), grown: Some(4032), ..THOUSAND },
-    { entries: 0, index: 4031, spare: Some(2), grown: Some(4096), ..THOUSAND },
-    { entries: 4032, index: 0, spare: Some(1), grown: Some(4032), ..THOUSAND },
-    { entries: 4033, index: 0, spare: Some(2), grown: Some(4096), ..THOUSAND },
-    { entries: 4096, index: 4096, spare: Some(2), grown: Some(4160), ..THOUSAND },
-    { entries: 0, index: 4158, spare: Some(2), grown: Some(4224), ..THOUSAND },
-    { entries: 8065, index: 0, spare: Some(3), grown: Some(8128), ..THOUSAND },
-    { entries: 100000, index: 100000, spare: Some(25), grown: Some(100032), ..THOUSAND },
+    { cluster_bits: 9, refcount_order: 6, entries: 0, index: 62, spare: Some(1), grown: Some(64) },
+    { cluster_bits: 9, refcount_order: 6, entries: 0, index: 63, spare: Some(1), grown: Some(128) },
+    { cluster_bits: 9, refcount_order: 6, entries: 0, index: 4030, spare: Some(1), grown: Some(4032) },
+    { cluster_bits: 9, refcount_order: 6, entries: 0, index: 4031, spare: Some(2), grown: Some(4096) },
+    { cluster_bits: 9, refcount_order: 6, entries: 4032, index: 0, spare: Some(1), grown: Some(4032) },
+    { cluster_bits: 9, refcount_order: 6, entries: 4033, index: 0, spare: Some(2), grown: Some(4096) },
+    { cluster_bits: 9, refcount_order: 6, entries: 4096, index: 4096, spare: Some(2), grown: Some(4160) },
+    { cluster_bits: 9, refcount_order: 6, entries: 0, index: 4158, spare: Some(2), grown: Some(4224) },
+    { cluster_bits: 9, refcount_order: 6, entries: 8065, index: 0, spare: Some(3), grown: Some(8128) },
+    { cluster_bits: 9, refcount_order: 6, entries: 100000, index: 100000,
+        spare: Some(25), grown: Some(100032) },
     { ..THOUSAND },
-    { entries: 0, index: 4193262, spare: Some(1041), grown: Some(4194304), ..THOUSAND },
+    { cluster_bits: 9, refcount_order: 6, entries: 0, index: 4193262,
+        spare: Some(1041), grown: Some(4194304) },
     { cluster_bits: 9, refcount_order: 5, entries: 0, index: 8127, spare: Some(2), grown: Some(8192) },
     { cluster_bits: 9, refcount_order: 4, entries: 0, index: 16319, spare: Some(2), grown: Some(16384) },
     { cluster_bits: 10, refcount_order: 6, entries: 0, index: 16255, spare: Some(2), grown: Some(16384) },
-    { cluster_bits: 12, refcount_order: 4, entries: 1048065, index: 0,
-        spare: Some(2), grown: Some(1048576) },
-    { cluster_bits: 16, refcount_order: 4, entries: 8192, index: 8191,
-        spare: Some(1), grown: Some(16384) },
-    { cluster_bits: 21, refcount_order: 6, entries: 0, index: 262143,
-        spare: Some(1), grown: Some(524288) },
+    { cluster_bits: 12, refcount_order: 4, entries: 1048065, index: 0, spare: Some(2), grown: Some(1048576) },
+    { cluster_bits: 16, refcount_order: 4, entries: 8192, index: 8191, spare: Some(1), grown: Some(16384) },
+    { cluster_bits: 21, refcount_order: 6, entries: 0, index: 262143, spare: Some(1), grown: Some(524288) },
     // too many for a table
-    { entries: 0, index: 4193263, ..TOO_MANY },
-    { entries: 0, index: 4194304, ..TOO_MANY },
-    { entries: 0, index: usize::MAX, ..TOO_MANY },
-    { refcount_order: 4, entries: 1, index: usize::MAX, ..TOO_MANY },
-    { refcount_order: 0, entries: 0, index: 4194287, ..TOO_MANY },
-    { cluster_bits: 21, refcount_order: 0, entries: 0, index: 4194303, ..TOO_MANY },
+    { cluster_bits: 9, refcount_order: 6, entries: 0, index: 4193263, spare: None, grown: None },
+    { cluster_bits: 9, refcount_order: 6, entries: 0, index: 4194304, spare: None, grown: None },
+    { cluster_bits: 9, refcount_order: 6, entries: 0, index: usize::MAX, spare: None, grown: None },
+    { cluster_bits: 9, refcount_order: 4, entries: 1, index: usize::MAX, spare: None, grown: None },
+    { cluster_bits: 9, refcount_order: 0, entries: 0, index: 4194287, spare: None, grown: None },
+    { cluster_bits: 21, refcount_order: 0, entries: 0, index: 4194303, spare: None, grown: None },
 };
 
 // The least spare entries are found in no more turns than they are.
@@ -107,7 +83,8 @@ fn check_growth(alloc: Global, row: Growth) -> Result<(), Fail> {
     let number = if row.entries > 0 { NUMBER } else { 0 };
     let state = loaded(row.entries, row.entries.saturating_sub(1), number);
     let source: RefTable = table_with(alloc, disk_of(row.cluster_bits), state)?;
-    let answer = grow(&source, row.refcount_order, row.index);
+    let header = header_of(alloc, row.cluster_bits, row.refcount_order, false)?;
+    let answer = grow_reftable(&source, &header, row.index);
     check_grown(answer, row.grown, state, row)?;
     check_table(&source, state, row)
 }
@@ -116,7 +93,8 @@ fn check_growth(alloc: Global, row: Growth) -> Result<(), Fail> {
 fn clusters_of_grown(alloc: Global) -> Result<ClusterCount, Fail> {
     let state = cleared(4096).placed(Some(2), false);
     let source: RefTable = table_with(alloc, DISK, state)?;
-    Ok(grow(&source, 6, 4096)?.cluster_count())
+    let grown = grow_reftable(&source, &header_of(alloc, 9, 6, false)?, 4096)?;
+    Ok(grown.cluster_count())
 }
 
 #[test]

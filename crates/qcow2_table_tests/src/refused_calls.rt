@@ -2,11 +2,12 @@
 //! and cluster as they were, and in the image the pieces before. The same call does all then.
 
 use crate::blocks;
-use crate::fixtures::{
-    Loads, NUMBER, check_table, disk_of, load, loaded, write, write_entry, write_if_modified,
-};
+use crate::fixtures::{NUMBER, check_table, disk_of, load, loaded};
 use crate::pieces::{Pieces, check_calls};
 use qcow2_base::{Fault, HostCluster, MemStorage, Storage};
+use qcow2_calls::{
+    write_block, write_block_if_modified, write_entry, write_l2_table_if_modified, write_table,
+};
 use qcow2_metadata::{L1Table, L2Table, RefBlock, RefTable, Table};
 use qcow2_testing::{
     FailingStorage, filled_image, part_of, put, put_bytes, recorded, rows, same, same_image,
@@ -86,6 +87,9 @@ const OF_BLOCKS: &[Run] = rows! { Run:
     { call: Write, modified: true, refused: true, done: false, ..LOAD },
 };
 
+// The cluster of the table or block.
+const CLUSTER: HostCluster = HostCluster(2);
+
 // An image of 0xa5 but for these pieces of the table or block.
 fn image_with(alloc: Global, pieces: &[(u64, usize)]) -> Result<MemStorage, Fault> {
     let mut image = filled_image(alloc, 24576)?;
@@ -120,7 +124,7 @@ fn hold(alloc: Global, kind: Kind, modified: bool) -> Result<Held, Fault> {
     Ok(held)
 }
 
-fn make_of_table<T: Loads, S: Storage>(
+fn make_of_table<T: Table, S: Storage>(
     table: &mut T,
     call: Call,
     image: &mut S,
@@ -128,7 +132,7 @@ fn make_of_table<T: Loads, S: Storage>(
     if call == WriteEntry {
         write_entry(table, image, 1023)
     } else {
-        write(table, image)
+        write_table(table, image)
     }
 }
 
@@ -143,13 +147,14 @@ fn make<S: Storage>(
         *held = read(alloc, kind, image)?;
         return Ok(());
     }
+    let is_conditional = call == WriteIfModified;
     match held {
         Held::L1Table(table) => make_of_table(table, call, image),
-        Held::L2Table(table) if call == WriteIfModified => write_if_modified(table, image),
+        Held::L2Table(table) if is_conditional => write_l2_table_if_modified(table, image, CLUSTER),
         Held::L2Table(table) => make_of_table(table, call, image),
         Held::Reftable(table) => make_of_table(table, call, image),
-        Held::Block(block) if call == WriteIfModified => blocks::write_if_modified(block, image),
-        Held::Block(block) => blocks::write(block, image),
+        Held::Block(block) if is_conditional => write_block_if_modified(block, image, CLUSTER),
+        Held::Block(block) => write_block(block, image),
     }
 }
 
@@ -163,7 +168,7 @@ fn check_held<R: Debug + Copy + Drop>(held: &Held, modified: bool, row: R) -> Re
         Held::Reftable(table) => check_table(table, state, row),
         Held::Block(block) => {
             let found = (block.get_cluster(), block.is_modified());
-            same(found, (Some(HostCluster(2)), modified), row)
+            same(found, (Some(CLUSTER), modified), row)
         }
     }
 }

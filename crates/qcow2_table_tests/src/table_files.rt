@@ -1,9 +1,10 @@
 //! Tables of the most entries that their kind may have, and tables of images in real files.
 
 use crate::fixtures::{
-    DISK, NUMBER, State, check_table, check_written_as, disk_of, load, loaded, table_with, write,
+    DISK, NUMBER, State, check_table, check_written_as, disk_of, load, loaded, table_with,
 };
 use qcow2_base::{Fault, FileStorage, MemStorage};
+use qcow2_calls::write_table;
 use qcow2_metadata::{L1Table, L2Table, Table};
 use qcow2_testing::{file_holds, filled_image, put, put_bytes, same, temporary_file};
 use std::alloc::Global;
@@ -16,13 +17,9 @@ fn open(rt: &HostRuntime, path: &str) -> Result<FileStorage<File>, Fault> {
 }
 
 // The table of which only the last of the most entries isn't 0.
-const LARGEST: State = State {
-    entries: 4194304,
-    index: 4194303,
-    number: NUMBER,
-    cluster: Some(8),
-    modified: false,
-};
+fn largest() -> State {
+    loaded(4194304, 4194303, NUMBER).placed(Some(8), false)
+}
 
 // That table, which begins at byte 4096 of a file. The file then has zeros before the last entry.
 fn largest_table(rt: &HostRuntime, path: &str) -> Result<L1Table, Fault> {
@@ -34,9 +31,13 @@ fn largest_table(rt: &HostRuntime, path: &str) -> Result<L1Table, Fault> {
 // Loads the table from one file and writes it to another.
 fn check_written(rt: &HostRuntime, path: &str, other: &str) -> Result<(), Fail> {
     let mut table = largest_table(rt, path)?;
-    check_table(&table, LARGEST, "loaded")?;
-    same(write(&mut table, &mut open(rt, other)?), Ok(()), "write")?;
-    check_table(&table, LARGEST, "written")
+    check_table(&table, largest(), "loaded")?;
+    same(
+        write_table(&mut table, &mut open(rt, other)?),
+        Ok(()),
+        "write",
+    )?;
+    check_table(&table, largest(), "written")
 }
 
 fn check_same(rt: &HostRuntime, path: &str, other: &str) -> Result<(), Fail> {
@@ -91,13 +92,9 @@ fn largest_l2_table(alloc: Global) -> Result<MemStorage, Fault> {
     Ok(image)
 }
 
-const LARGEST_L2: State = State {
-    entries: 262144,
-    index: 262143,
-    number: NUMBER,
-    cluster: Some(1),
-    modified: false,
-};
+fn largest_of_l2() -> State {
+    loaded(262144, 262143, NUMBER).placed(Some(1), false)
+}
 
 // Writes the table, and reads it back.
 fn check_round_trip(table: &mut L2Table) -> Result<(), Fail> {
@@ -105,10 +102,10 @@ fn check_round_trip(table: &mut L2Table) -> Result<(), Fail> {
     let mut image = filled_image(alloc, 4194312)?;
     check_written_as(table, &mut image, largest_l2_table(alloc))?;
     let found: L2Table = load(alloc, &mut image, disk_of(21), 1, 262144)?;
-    check_table(&found, LARGEST_L2, "read back")
+    check_table(&found, largest_of_l2(), "read back")
 }
 
 #[test]
 fn an_l2_table_of_the_most_entries_is_written_and_read_back(rt: HostRuntime) -> Result<(), Fail> {
-    check_round_trip(&mut table_with(rt.alloc(), disk_of(21), LARGEST_L2)?)
+    check_round_trip(&mut table_with(rt.alloc(), disk_of(21), largest_of_l2())?)
 }

@@ -2,7 +2,8 @@
 
 use crate::held::Held;
 use qcow2_base::{Fault, Storage};
-use qcow2_session::{Command, run};
+use qcow2_calls::{parse_command, run};
+use qcow2_session::Command;
 use std::alloc::{AllocError, Global};
 
 fn words_of(alloc: Global, line: &str) -> Result<Vec<String>, AllocError> {
@@ -18,7 +19,7 @@ fn command_of(alloc: Global, line: &str) -> Result<Command, Fault> {
     let [name, arguments @ ..] = words.as_slice() else {
         return Err(Fault::WrongLength);
     };
-    match Command::parse(alloc, name.as_str(), arguments) {
+    match parse_command(alloc, name.as_str(), arguments) {
         Some(command) => Ok(command?),
         None => Err(Fault::WrongLength),
     }

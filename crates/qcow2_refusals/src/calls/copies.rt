@@ -2,16 +2,17 @@
 
 use crate::held::Held;
 use crate::outputs::{Output, tell};
-use qcow2_base::{Fault, MemStorage};
-use qcow2_metadata::{HeaderExtension, L2Table, RefBlock, Table, TableEntry};
+use qcow2_base::Fault;
+use qcow2_calls::{copy_l2_table, grow_l1_table, grow_reftable, new_block, new_l2_table};
+use qcow2_metadata::{HeaderExtension, Table, TableEntry};
 use std::alloc::AllocError;
 
 pub(super) fn make(call: &str, of: &str, held: &mut Held) -> Result<(), Fault> {
     match (call, of) {
         ("new_cleared", "L2 table") => clear_table(held),
         ("new_cleared", _) => clear_block(held),
-        ("clone_and_grow", "L1 table") => grow_l1_table(held),
-        ("clone_and_grow", _) => grow_reftable(held),
+        ("clone_and_grow", "L1 table") => tell_grown_l1_table(held),
+        ("clone_and_grow", _) => tell_grown_reftable(held),
         ("try_clone", _) => clone_table(held),
         ("HeaderExtension::clone", _) => clone_extension(held),
         _ => Err(Fault::WrongLength),
@@ -31,35 +32,28 @@ fn copy_of(extension: &HeaderExtension) -> Result<HeaderExtension, AllocError> {
 }
 
 fn clear_table(held: &mut Held) -> Result<(), Fault> {
-    let table = L2Table::new_cleared(held.alloc, &held.header)?;
+    let table = new_l2_table(held.alloc, &held.header)?;
     tell_table(&mut held.out, &table)
 }
 
 fn clear_block(held: &mut Held) -> Result<(), Fault> {
-    let image = MemStorage::new(Vec::new(held.alloc));
-    let block = RefBlock::new_cleared(held.alloc, &image, &held.header)?;
+    let block = new_block(held.alloc, &held.header)?;
     let told = (block.entries(), block.get_cluster(), block.is_modified());
     tell(&mut held.out, &told)
 }
 
 fn clone_table(held: &mut Held) -> Result<(), Fault> {
-    let table = held.l2_table.try_clone()?;
+    let table = copy_l2_table(&held.l2_table)?;
     tell_table(&mut held.out, &table)
 }
 
-fn grow_l1_table(held: &mut Held) -> Result<(), Fault> {
-    if held.header.cluster_bits() != held.l1_table.cluster_bits() {
-        return Err(Fault::WrongLength);
-    }
-    let table = held.l1_table.clone_and_grow(128, &held.header)?;
+fn tell_grown_l1_table(held: &mut Held) -> Result<(), Fault> {
+    let table = grow_l1_table(&held.l1_table, 128, &held.header)?;
     tell_table(&mut held.out, &table)
 }
 
-fn grow_reftable(held: &mut Held) -> Result<(), Fault> {
-    if held.header.cluster_bits() != held.reftable.cluster_bits() {
-        return Err(Fault::WrongLength);
-    }
-    let table = held.reftable.clone_and_grow(&held.header, 126)?;
+fn tell_grown_reftable(held: &mut Held) -> Result<(), Fault> {
+    let table = grow_reftable(&held.reftable, &held.header, 126)?;
     tell_table(&mut held.out, &table)
 }
 

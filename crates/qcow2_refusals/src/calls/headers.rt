@@ -1,10 +1,13 @@
 //! Calls of headers.
 
-use crate::held::{Held, load_header};
+use crate::held::Held;
 use crate::outputs::{Output, tell};
 use qcow2_base::{Fault, Storage};
+use qcow2_calls::{
+    load_header, new_header, write_header, write_l1_table_pointer, write_reftable_pointer,
+    write_size,
+};
 use qcow2_metadata::Header;
-use std::alloc::Global;
 
 pub(super) fn make<S: Storage>(call: &str, held: &mut Held, image: &mut S) -> Result<(), Fault> {
     match call {
@@ -16,10 +19,10 @@ pub(super) fn make<S: Storage>(call: &str, held: &mut Held, image: &mut S) -> Re
 
 fn write<S: Storage>(call: &str, header: &mut Header, image: &mut S) -> Result<(), Fault> {
     match call {
-        "Header::write" => header.write(image),
-        "Header::write_size" => header.write_size(image),
-        "Header::write_l1_table_pointer" => header.write_l1_table_pointer(image),
-        "Header::write_reftable_pointer" => header.write_reftable_pointer(image),
+        "Header::write" => write_header(header, image),
+        "Header::write_size" => write_size(header, image),
+        "Header::write_l1_table_pointer" => write_l1_table_pointer(header, image),
+        "Header::write_reftable_pointer" => write_reftable_pointer(header, image),
         _ => Err(Fault::WrongLength),
     }
 }
@@ -31,7 +34,8 @@ fn load<S: Storage>(call: &str, held: &mut Held, image: &mut S) -> Result<(), Fa
 }
 
 fn new(held: &mut Held) -> Result<(), Fault> {
-    let header = header_of_names(held.alloc)?;
+    let (name, format) = (Some("base.img"), Some("qcow2"));
+    let header = new_header(held.alloc, 9, 4, name, format, Some("data.raw"))?;
     tell_names(&header, &mut held.out)
 }
 
@@ -39,11 +43,4 @@ fn tell_names(header: &Header, out: &mut Output) -> Result<(), Fault> {
     tell(out, &header.backing_filename())?;
     tell(out, &header.backing_format())?;
     tell(out, &header.external_data_filename())
-}
-
-fn header_of_names(alloc: Global) -> Result<Header, Fault> {
-    let name = String::from_str(alloc, "base.img")?;
-    let format = String::from_str(alloc, "qcow2")?;
-    let data_file = String::from_str(alloc, "data.raw")?;
-    Header::new(alloc, 9, 4, Some(name), Some(format), Some(data_file))
 }

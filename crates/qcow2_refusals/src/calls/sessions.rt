@@ -3,10 +3,10 @@
 use crate::held::{BLOCK, Held, TABLES};
 use crate::outputs::tell;
 use qcow2_base::{Fault, GuestOffset, HostCluster, Storage};
-use qcow2_metadata::Table;
-use qcow2_session::{
-    Edit, Step, edit_image, edit_settled, edit_table, lookup, lookup_image, step_block, step_image,
+use qcow2_calls::{
+    edit_image, edit_settled, edit_table, lookup, lookup_image, step_block, step_image,
 };
+use qcow2_session::{Edit, Step};
 use qcow2_testing::rows;
 
 // Edits of a table in memory, and of the first and the last entry of one of 65536 bytes.
@@ -42,13 +42,6 @@ pub(super) fn step(held: &mut Held) -> Result<(), Fault> {
 
 pub(super) fn settle(held: &mut Held) -> Result<(), Fault> {
     let (header, table, block) = (&held.header, &mut held.l2_table, &mut held.block);
-    if header.cluster_bits() != block.cluster_bits()
-        || header.refcount_order() != block.refcount_order()
-        || header.cluster_bits() != table.cluster_bits()
-        || header.external_data_file() != table.external_data_file()
-    {
-        return Err(Fault::WrongLength);
-    }
     let outcome = edit_settled(held.alloc, table, block, header, 0, TABLE_EDITS)?;
     tell(&mut held.out, &outcome)
 }
@@ -82,9 +75,6 @@ fn step_in<S: Storage>(held: &mut Held, image: &mut S) -> Result<(), Fault> {
 }
 
 fn look_up<S: Storage>(held: &mut Held, image: &mut S) -> Result<(), Fault> {
-    if held.header.cluster_bits() != held.l1_table.cluster_bits() {
-        return Err(Fault::WrongLength);
-    }
     let (header, l1_table) = (&held.header, &held.l1_table);
     let mapping = lookup(held.alloc, image, header, l1_table, GUEST_OFFSET)?;
     tell(&mut held.out, &mapping)

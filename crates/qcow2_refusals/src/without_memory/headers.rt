@@ -1,8 +1,11 @@
 //! Calls of headers: getters, setters, `update`, the pointer writes, and entries that are made by a header.
 
 use super::Checks;
-use crate::held::{disk_header, new_header};
+use crate::held::disk_header;
 use qcow2_base::{Fault, MemStorage};
+use qcow2_calls::{
+    header_of, update_header, write_l1_table_pointer, write_reftable_pointer, write_size,
+};
 use qcow2_metadata::{FeatureType, Header, L1Entry, L2Entry, RefTableEntry, TableEntry};
 use std::alloc::Global;
 
@@ -17,7 +20,7 @@ pub(super) struct Headers {
 
 pub(super) fn begin(alloc: Global) -> Result<Headers, Fault> {
     let image = MemStorage::new(vec![in alloc; 0; 512]?);
-    let first = new_header(alloc, 9, 4)?;
+    let first = header_of(alloc, 9, 4, false)?;
     let disk = disk_header(alloc, 32768)?;
     let other = disk_header(alloc, 32768)?;
     Ok(Headers {
@@ -35,7 +38,7 @@ pub(super) fn make(turn: u64, headers: &mut Headers, checks: &mut Checks) {
     checks.expect(points(&headers.disk, turn, 512, 1));
     checks.expect(has_no_names(&headers.first) && has_no_names(&headers.disk));
     checks.expect(names_dirty(&headers.first) && !names_dirty(&headers.disk));
-    checks.expect(headers.other.update(&headers.disk).is_ok());
+    checks.expect(update_header(&mut headers.other, &headers.disk).is_ok());
     checks.expect(headers.other.size() == turn);
     make_entries(turn % 1024 * 512, &headers.first, checks);
     write_pointers(&headers.disk, &mut headers.image, checks);
@@ -81,7 +84,7 @@ fn make_entries(number: u64, header: &Header, checks: &mut Checks) {
 }
 
 fn write_pointers(header: &Header, image: &mut MemStorage, checks: &mut Checks) {
-    checks.expect(header.write_size(image).is_ok());
-    checks.expect(header.write_l1_table_pointer(image).is_ok());
-    checks.expect(header.write_reftable_pointer(image).is_ok());
+    checks.expect(write_size(header, image).is_ok());
+    checks.expect(write_l1_table_pointer(header, image).is_ok());
+    checks.expect(write_reftable_pointer(header, image).is_ok());
 }

@@ -2,13 +2,16 @@
 
 use super::Checks;
 use crate::calls::tables;
-use crate::held::{Held, TABLES, hold_over, new_header};
+use crate::held::{Held, TABLES, hold_over};
 use qcow2_base::{ClusterCount, Fault, GuestCluster, HostCluster, HostOffset, MemStorage};
-use qcow2_metadata::{
-    ClustersToFreeEntry, Header, L1Table, L2Table, MAX_OFFSET, PendingClusters, RefBlock, RefTable,
-    Refused, Table, TableEntry, Turns, least_spare,
+use qcow2_calls::{
+    discard_cluster, edits_fit, enter_l2_table, enter_refblock, header_of, least_spare,
+    map_cluster, set_block_cluster, set_cluster, set_l1_table, set_reftable, settle, zero_cluster,
 };
-use qcow2_session::{Edit, Outcome, edits_fit, settle};
+use qcow2_metadata::{
+    ClustersToFreeEntry, Header, L1Table, L2Table, RefBlock, RefTable, Table, TableEntry,
+};
+use qcow2_session::{Edit, Outcome};
 use qcow2_testing::{fits, image_with, rows};
 use std::alloc::Global;
 
@@ -36,7 +39,7 @@ pub(super) fn begin(alloc: Global) -> Result<Tables, Fault> {
 
 // Tables and a block that have no entries, but for the L2 table, which is that of the image.
 fn begin_held(alloc: Global, image: &mut MemStorage) -> Result<Held, Fault> {
-    let header = new_header(alloc, 9, 4)?;
+    let header = header_of(alloc, 9, 4, false)?;
     let mut held = hold_over(alloc, &mut MemStorage::new(Vec::new(alloc)), header)?;
     tables::make("load", "L2 table", &mut held, image)?;
     Ok(held)
@@ -50,14 +53,15 @@ fn begin_outcome(alloc: Global) -> Result<Outcome, Fault> {
 
 pub(super) fn make(turn: u64, tables: &mut Tables, checks: &mut Checks) {
     make_in_memory(&mut tables.held, (turn % 32 + 4) as usize, checks);
-    checks.expect(settles(&mut tables.held, &tables.outcome));
+    let Held { header, block, .. } = &mut tables.held;
+    checks.expect(settle(block, header, 0, &tables.outcome).is_ok());
     write(&mut tables.held, &mut tables.image, checks);
 }
 
 // The entry at the index is one that each turn sets anew, before it is looked at.
 fn make_in_memory(held: &mut Held, index: usize, checks: &mut Checks) {
-    enter_l2_table(&mut held.l1_table, &mut held.l2_table, index, checks);
-    enter_refblock(&mut held.reftable, &mut held.block, index, checks);
+    enter_in_l1_table(&mut held.l1_table, &mut held.l2_table, index, checks);
+    enter_in_reftable(&mut held.reftable, &mut held.block, index, checks);
     point(&mut held.header, &held.l1_table, &held.reftable, checks);
     look_up(&mut held.l2_table, checks);
     change(&mut held.l2_table, index, checks);
@@ -84,63 +88,34 @@ fn look_at<T: Table>(table: &mut T, index: usize, entry: u64, checks: &mut Check
     checks.expect(table.is_modified());
 }
 
-// The fault that a call has returned which hands a pending value back, if it did. That is given up.
-fn fault_of(answer: Result<(), Refused>) -> Option<Fault> {
-    let Err(Refused { fault, pending }) = answer else {
-        return None;
-    };
-    if let Some(pending) = pending {
-        let _ = pending.give_up();
-    }
-    Some(fault)
-}
-
-fn enter_l2_table(
+fn enter_in_l1_table(
     l1_table: &mut L1Table,
     l2_table: &mut L2Table,
     index: usize,
     checks: &mut Checks,
 ) {
-    if !l1_table.in_bounds(index) || l2_table.cluster_bits() != l1_table.cluster_bits() {
-        return;
-    }
     l2_table.unset_cluster();
-    let answer = l1_table.enter_l2_table(index, l2_table, None);
-    checks.expect(fault_of(answer) == Some(Fault::NotPlaced));
-    if TABLES.offset(l2_table.cluster_bits()) > MAX_OFFSET {
-        return;
-    }
-    l2_table.set_cluster(TABLES);
-    let pending = PendingClusters::new(TABLES, ClusterCount(1));
-    let answer = l1_table.enter_l2_table(index, l2_table, Some(pending));
-    checks.expect(fault_of(answer).is_none());
+    let answer = enter_l2_table(l1_table, index, l2_table, None);
+    checks.expect(answer == Err((Fault::NotPlaced, None)));
+    let placed = set_cluster(l2_table, TABLES).is_ok();
+    let answer = enter_l2_table(l1_table, index, l2_table, Some(only(TABLES)));
+    checks.expect(placed && answer.is_ok());
 }
 
-fn enter_refblock(
+fn enter_in_reftable(
     reftable: &mut RefTable,
     block: &mut RefBlock,
     index: usize,
     checks: &mut Checks,
 ) {
-    if !reftable.in_bounds(index) || block.cluster_bits() != reftable.cluster_bits() {
-        return;
-    }
-    if TABLES.offset(block.cluster_bits()) > MAX_OFFSET {
-        return;
-    }
-    block.set_cluster(TABLES);
-    let pending = PendingClusters::new(TABLES, ClusterCount(1));
-    let answer = reftable.enter_refblock(index, block, Some(pending));
-    checks.expect(fault_of(answer).is_none());
+    let placed = set_block_cluster(block, TABLES).is_ok();
+    let answer = enter_refblock(reftable, index, block, Some(only(TABLES)));
+    checks.expect(placed && answer.is_ok());
 }
 
 fn point(header: &mut Header, l1_table: &L1Table, reftable: &RefTable, checks: &mut Checks) {
-    if header.cluster_bits() == l1_table.cluster_bits() {
-        checks.expect(fault_of(header.set_l1_table(l1_table, None)).is_none());
-    }
-    if header.cluster_bits() == reftable.cluster_bits() {
-        checks.expect(header.set_reftable(reftable).is_ok());
-    }
+    checks.expect(set_l1_table(header, l1_table, None).is_ok());
+    checks.expect(set_reftable(header, reftable).is_ok());
 }
 
 // Guest cluster 3, which is the compressed data.
@@ -162,14 +137,10 @@ fn look_up(table: &mut L2Table, checks: &mut Checks) {
 // An entry of 0 is mapped, kept as zeros, and discarded.
 fn change(table: &mut L2Table, index: usize, checks: &mut Checks) {
     let cluster = HostCluster(8);
-    if index >= table.entries() || cluster.offset(table.cluster_bits()) > MAX_OFFSET {
-        return;
-    }
     checks.expect(edits_fit(table, &[Edit::Discard { index }]).is_ok());
-    let mut guard = table.lock_write();
-    checks.expect(guard.map_cluster(index, cluster, None).is_none());
-    checks.expect(guard.zero_cluster(index, true) == Ok(None));
-    checks.expect(guard.discard_cluster(index) == Some(only(cluster)));
+    checks.expect(map_cluster(table, index, cluster, None) == Ok(None));
+    checks.expect(zero_cluster(table, index, true) == Ok(None));
+    checks.expect(discard_cluster(table, index) == Ok(Some(only(cluster))));
 }
 
 // This cluster alone.
@@ -196,13 +167,6 @@ fn count(block: &mut RefBlock, index: usize, checks: &mut Checks) {
     checks.expect(guard.decrement(index).is_ok() && guard.is_zero(index));
 }
 
-fn settles(held: &mut Held, outcome: &Outcome) -> bool {
-    let (header, block) = (&held.header, &mut held.block);
-    header.cluster_bits() == block.cluster_bits()
-        && header.refcount_order() == block.refcount_order()
-        && settle(block, header, 0, outcome).is_ok()
-}
-
 // Which calls write what: each of these is made.
 const WRITES: &[(&str, &str)] = rows! {
     ("L1 table", "write"), ("L1 table", "write_entry"), ("Refcount table", "write"),
@@ -220,8 +184,6 @@ fn make_new(alloc: Global, header: &Header, index: usize, checks: &mut Checks) {
     let l1_table = L1Table::from_data(Vec::new(alloc), header);
     let reftable = RefTable::from_data(Vec::new(alloc), header);
     checks.expect(l1_table.entries() == 0 && reftable.entries() == 0);
-    if index < 4194304 {
-        let mut turns = Turns::new();
-        checks.expect(least_spare(64, index, header, &mut turns).is_some() && turns.count() > 0);
-    }
+    let (spare, turns) = least_spare(64, index, header);
+    checks.expect(spare.is_some() && turns > 0);
 }

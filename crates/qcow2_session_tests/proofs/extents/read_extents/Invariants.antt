@@ -1,6 +1,6 @@
 use Rattle.std.proofs.Common.{◌+◌, ◌-◌, ◌≤◌, IsTrue, vec_len}
 use Rattle.qcow2_session.specs.Extents.{IsReaderOf}
-use Rattle.qcow2_session_tests.proofs.calls.read_extents.Given as goal
+use Rattle.qcow2_session_tests.proofs.extents.read_extents.Given as goal
 
 -- the reader is one of the image, and is no further than the disk's end
 abbrev pub invariant-loop-extents : goal.invariant-loop-extents

@@ -1,0 +1,64 @@
+//! Calls of refcount blocks.
+
+use crate::NOT_MADE;
+use qcow2_base::{Fault, HostCluster, MemStorage, Storage};
+use qcow2_metadata::{Header, RefBlock};
+use qcow2_testing::fits;
+use std::alloc::Global;
+
+/// `RefBlock::load`.
+pub fn load_block<S: Storage>(
+    alloc: Global,
+    image: &mut S,
+    header: &Header,
+    cluster: HostCluster,
+) -> Result<RefBlock, Fault> {
+    RefBlock::load(alloc, image, header, cluster)
+}
+
+/// `RefBlock::new_cleared`.
+pub fn new_block(alloc: Global, header: &Header) -> Result<RefBlock, Fault> {
+    RefBlock::new_cleared(alloc, &MemStorage::new(Vec::new(alloc)), header)
+}
+
+/// `RefBlock::write`.
+pub fn write_block<S: Storage>(block: &mut RefBlock, image: &mut S) -> Result<(), Fault> {
+    block.write(image)
+}
+
+/// `RefBlock::write_if_modified`.
+pub fn write_block_if_modified<S: Storage>(
+    block: &mut RefBlock,
+    image: &mut S,
+    cluster: HostCluster,
+) -> Result<(), Fault> {
+    if block.is_modified() && block.get_cluster() != Some(cluster) {
+        return Err(NOT_MADE);
+    }
+    block.write_if_modified(image, cluster)
+}
+
+/// `RefBlock::set_cluster`.
+pub fn set_block_cluster(block: &mut RefBlock, cluster: HostCluster) -> Result<(), Fault> {
+    if !fits(cluster.0, 0, block.cluster_bits()) {
+        return Err(NOT_MADE);
+    }
+    block.set_cluster(cluster);
+    Ok(())
+}
+
+/// `RefBlockWriteGuard::increment`.
+pub fn increment(block: &mut RefBlock, index: usize) -> Result<u64, Fault> {
+    if index >= block.entries() {
+        return Err(NOT_MADE);
+    }
+    block.lock_write().increment(index)
+}
+
+/// `RefBlockWriteGuard::decrement`.
+pub fn decrement(block: &mut RefBlock, index: usize) -> Result<u64, Fault> {
+    if index >= block.entries() {
+        return Err(NOT_MADE);
+    }
+    block.lock_write().decrement(index)
+}

@@ -1,0 +1,44 @@
+//! The calls of the libraries without their clauses. Tests compare what comes of a call with their tables,
+//! and no proof about a test has to read what the call ensures.
+//!
+//! A call whose `requires` doesn't hold isn't made: it is the fault `NOT_MADE`.
+#![tactic(auto)]
+
+mod blocks;
+mod headers;
+mod sessions;
+mod tables;
+
+pub use blocks::{
+    decrement, increment, load_block, new_block, set_block_cluster, write_block,
+    write_block_if_modified,
+};
+pub use headers::{
+    header_of, load_header, new_header, update_header, write_header, write_l1_table_pointer,
+    write_reftable_pointer, write_size,
+};
+use qcow2_base::Fault;
+use qcow2_metadata::{ClustersToFreeEntry, Refused};
+pub use sessions::{
+    edit_image, edit_settled, edit_table, edits_fit, list_l2_table, lookup, lookup_image,
+    parse_command, run, settle, step_block, step_image,
+};
+pub use tables::{
+    LoadedTable, copy_l2_table, discard_cluster, enter_l2_table, enter_refblock, grow_l1_table,
+    grow_reftable, least_spare, load_table, map_cluster, new_l2_table, set_cluster, set_l1_table,
+    set_reftable, write_entry, write_l2_table_if_modified, write_table, zero_cluster,
+};
+
+/// The fault of a call that is not made. No call here returns it otherwise.
+pub const NOT_MADE: Fault = Fault::WrongLength;
+
+/// The fault of a call, and the pending clusters that it handed back, if there were some.
+pub type Refusal = (Fault, Option<ClustersToFreeEntry>);
+
+// Gives the clusters up that a refusal hands back.
+fn given_up(answer: Result<(), Refused>) -> Result<(), Refusal> {
+    let Err(Refused { fault, pending }) = answer else {
+        return Ok(());
+    };
+    Err((fault, pending.map(|pending| pending.give_up())))
+}
