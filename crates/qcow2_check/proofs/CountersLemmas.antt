@@ -1,4 +1,4 @@
-use Rattle.std.proofs.Common.{◌≡◌, ◌↔◌, ℕ, zero, suc, ◌+◌, ◌-◌, ◌%◌, ◌*◌, ◌/◌, ◌^◌, ◌<◌, ◌≤◌, List, [], ◌∷◌, length, slice_index, take, Option, None, Some, Ok, refl, ◌∙◌, div-add-mod', arith}
+use Rattle.std.proofs.Common.{◌≡◌, ◌↔◌, ℕ, zero, suc, ◌+◌, ◌-◌, ◌%◌, ◌*◌, ◌/◌, ◌^◌, ◌<◌, ◌≤◌, List, [], ◌∷◌, length, slice_index, take, Option, None, Some, refl, ◌∙◌, div-add-mod', arith}
 use Rattle.std.proofs.lemmas.Bool.Decides.{nat_tests}
 use Rattle.std.proofs.lemmas.Nat.{pow_pos}
 use Rattle.std.proofs.Math.Nat.{div-lt_iff_lt-mul}
@@ -20,13 +20,13 @@ use Rattle.qcow2_check.specs.Counters.{block_place_fault, blocks_fault, block_of
 pub place_limit : (block cb most : ℕ) → most ≡ 2 ^ 56 / 2 ^ cb → (most ≤ block) ↔ (2 ^ 56 < block * 2 ^ cb + 2 ^ cb)
 place_limit block cb most is = grind (arith, nat_tests, is, div-lt_iff_lt-mul, pow_pos)
 
-pub place_refused : (header : HeaderRecord) (v : ℕ) (block : HostCluster) (most : ℕ) → named_block header.v2.cluster_bits v ≡ Some block
+pub refused : (header : HeaderRecord) (v : ℕ) (block : HostCluster) (most : ℕ) → named_block header.v2.cluster_bits v ≡ Some block
     → most ≡ 2 ^ 56 / 2 ^ header.v2.cluster_bits → most ≤ block.0 → block_place_fault header v ≡ Some TablePlace
-place_refused header v block most names is past = grind (arith, nat_tests, names, is, (place_limit block.0 header.v2.cluster_bits most is).0 past)
+refused header v block most names is past = grind (arith, nat_tests, names, is, (place_limit block.0 header.v2.cluster_bits most is).0 past)
 
-pub place_accepted : (header : HeaderRecord) (v : ℕ) (block : HostCluster) (most : ℕ) → named_block header.v2.cluster_bits v ≡ Some block
+pub accepted : (header : HeaderRecord) (v : ℕ) (block : HostCluster) (most : ℕ) → named_block header.v2.cluster_bits v ≡ Some block
     → most ≡ 2 ^ 56 / 2 ^ header.v2.cluster_bits → block.0 < most → block_place_fault header v ≡ None
-place_accepted header v block most names is before = grind (arith, nat_tests, names, is, before, (place_limit block.0 header.v2.cluster_bits most is).1)
+accepted header v block most names is before = grind (arith, nat_tests, names, is, before, (place_limit block.0 header.v2.cluster_bits most is).1)
 
 -- the first fault of numbers, where the first of them have none
 no_fault_more : (f : ℕ → Option Fault) (vs : List ℕ) (i : ℕ) → i < length vs → first_fault f (take i vs) ≡ None
@@ -77,9 +77,9 @@ same_block header reftable c other from before =
     rw same refl
 
 -- and past the refcount table's end they have none
-pub past_blocks : (header : HeaderRecord) (reftable : List ℕ) (c other : ℕ) → c ≤ other → length reftable ≤ c / counters_each header
+pub ends : (header : HeaderRecord) (reftable : List ℕ) (c other : ℕ) → c ≤ other → length reftable ≤ c / counters_each header
     → block_of_cluster header reftable other ≡ None
-past_blocks header reftable c other from past =
+ends header reftable c other from past =
     let n = counters_each header in
     let later : c / n ≤ other / n = div_rises c other n (pow_pos _) from in
     let zero : slice_index reftable (other / n) ≡ 0 = get_or_past reftable (other / n) 0 (omega (arith, past, later)) in

@@ -1,10 +1,10 @@
-use Rattle.std.proofs.Common.{◌≡◌, ◌↔◌, ℕ, true, false, ◌==◌, ◌+◌, ◌*◌, ◌/◌, ◌%◌, ◌<◌, ◌≤◌, nat_lt, ◌&&◌, IsTrue, List, [], ◌∷◌, fold, Some, None, Ok, Err, refl, sym, ap, subst, inl, inr, ◌∙◌, arith}
+use Rattle.std.proofs.Common.{◌≡◌, ◌↔◌, ℕ, false, ◌==◌, ◌+◌, ◌/◌, ◌%◌, ◌<◌, ◌≤◌, ◌&&◌, List, [], ◌∷◌, fold, Some, None, Ok, Err, refl, sym, ap, subst, inl, inr, ◌∙◌, arith}
 use Rattle.std.proofs.lemmas.Bool.{cases_lt}
 use Rattle.std.proofs.lemmas.Bool.Decides.{nat_tests}
 use Rattle.std.proofs.lemmas.List.Sums.{sum_by-cons}
 use Rattle.qcow2_base.specs.Storage.{Image, OnImage, OnlyReads, StorageState}
 use Rattle.qcow2_base.specs.declared.fault.Fault.{Fault}
-use Rattle.qcow2_metadata.specs.Header.{HeaderRecord, geometry_of}
+use Rattle.qcow2_metadata.specs.Header.{HeaderRecord, geometry_of, uncounted_part}
 use Rattle.qcow2_metadata.specs.Results.{Reads}
 use Rattle.qcow2_metadata.specs.Table.{IsEntryFault}
 use Rattle.qcow2_check.specs.NamedTables.{loaded_l1_table}
@@ -109,24 +109,16 @@ counts_all tables image old new none more = λ c from before.
 
 -- L2 tables that can't all be loaded, after the L1 table and the refcount table
 pub refused_tables : {T : Type 0} (view : T → ImageTables) (header : HeaderRecord) (l1 reftable : List ℕ) (fault : Fault) (a b c d : StorageState)
+    → uncounted_part header ≡ None
     → OnImage a (λ bytes. loaded_l1_table header bytes ≡ Ok l1) → OnlyReads (Ok l1) a b
     → OnImage b (λ bytes. placed_reftable header bytes ≡ Ok reftable) → OnlyReads (Ok reftable) b c
     → Reads (λ (done : Unit {0}). done) (Err fault) (all_load (geometry_of header) l1) IsEntryFault c d
     → Reads view (Err fault) (checked_tables header) (IsCheckFault header) a d
-refused_tables view header l1 reftable fault a b c d first reads_first second reads_second reads = record {
-  exact = λ told. grind (arith, told, first, reads_first, second, reads_second, reads.exact);
+refused_tables view header l1 reftable fault a b c d counted first reads_first second reads_second reads = record {
+  exact = λ told. grind (arith, counted, told, first, reads_first, second, reads_second, reads.exact);
   faults = grind (arith, reads.faults);
   storage = grind (arith, nat_tests, reads_first, reads_second, reads.storage);
 }
-
--- and that can all be loaded
-pub tables_checked : (header : HeaderRecord) (l1 reftable : List ℕ) (a b c : StorageState)
-    → OnImage a (λ bytes. loaded_l1_table header bytes ≡ Ok l1) → OnlyReads (Ok l1) a b
-    → OnImage b (λ bytes. placed_reftable header bytes ≡ Ok reftable) → OnlyReads (Ok reftable) b c
-    → OnImage c (λ bytes. all_load (geometry_of header) l1 bytes ≡ Ok (tt {0}))
-    → OnImage a (λ bytes. checked_tables header bytes ≡ Ok (record { header = header; l1 = l1; reftable = reftable }))
-tables_checked header l1 reftable a b c first reads_first second reads_second third =
-    λ told. grind (arith, told, first, reads_first, second, reads_second, third)
 
 -- clusters that nothing is wrong with, one after another
 right_joins : (tables : ImageTables) (image : Image) (a b c : ℕ) → AreRight tables image a b → AreRight tables image b c → AreRight tables image a c
@@ -179,3 +171,8 @@ moves_twice old now a b c reads one other = record {
 -- reads one after another that returned values
 pub reads_twice : {A B C : Type 0} (x : A) (y : B) (z : C) (a b c : StorageState) → OnlyReads (Ok x) a b → OnlyReads (Ok y) b c → OnlyReads (Ok z) a c
 reads_twice x y z a b c one other = grind (arith, nat_tests, one, other)
+
+-- uses that don't exclude each other
+pub excludes : (uses : List Used) (c : ℕ) → is_shared uses c ≡ false
+    → (0 < uses_of_kind Fixed uses c → uses_of uses c ≡ 1) × (0 < uses_of_kind L2Table uses c → uses_of uses c ≡ uses_of_kind L2Table uses c)
+excludes uses c apart = grind (arith, nat_tests, apart, uses_by_kind uses c)

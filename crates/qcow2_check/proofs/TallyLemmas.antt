@@ -1,7 +1,7 @@
-use Rattle.std.proofs.Common.{◌≡◌, ℕ, ◌+◌, ◌-◌, ◌<◌, ◌≤◌, List, [], ◌∷◌, ◌++◌, arith}
+use Rattle.std.proofs.Common.{◌≡◌, ℕ, ◌+◌, ◌-◌, ◌≤◌, List, [], ◌∷◌, ◌++◌, arith}
 use Rattle.std.proofs.lemmas.Bool.Decides.{nat_tests}
 use Rattle.qcow2_base.specs.declared.types.HostCluster.{HostCluster}
-use Rattle.qcow2_check.specs.Uses.{used_clusters}
+use Rattle.qcow2_check.specs.Tally.{used_clusters}
 use Rattle.qcow2_check.specs.declared.tally.UseKind.{UseKind}
 use Rattle.std.proofs.lemmas.Grind.{fold-append}
 use Rattle.qcow2_check.specs.Tally.{CountsMore, TallyState, Used}

@@ -1,4 +1,4 @@
-use Rattle.std.proofs.Common.{◌≡◌, ◌⊎◌, ℕ, true, zero, suc, ◌+◌, ◌<◌, List, [], ◌∷◌, ◌++◌, flat_map, take, drop, length, get_or, slice_index, Result, Ok, Err, OnOk, IfErr, ap, refl, ◌∙◌, inl, inr, arith}
+use Rattle.std.proofs.Common.{◌≡◌, ℕ, true, zero, suc, ◌+◌, ◌<◌, List, [], ◌∷◌, ◌++◌, flat_map, take, length, get_or, slice_index, Result, Ok, Err, OnOk, ap, refl, arith}
 use Rattle.std.proofs.lemmas.List.{append-nil}
 use native.Mathlib.Numerals.{unary_clauses}
 use Rattle.std.proofs.Math.Seq.{take-suc}
@@ -94,3 +94,9 @@ pub counts_before : (answer : Result (Unit {0}) Fault) (state : StorageState) (f
     → OnOk answer (OnImage state (λ bytes. CountsMore (first ++ second bytes) a c))
 counts_before (Ok done) state first second a b c one other = λ told. counts_then first (second state.byte_at) a b c one (other told)
 counts_before (Err fault) state first second a b c one other = tt
+
+-- uses of one element of a list, counted after those of the elements before it
+pub counts_entry : {X : Type 0} (f : X → List Used) (xs : List X) (i : ℕ) (d : X) (a b c : TallyState) → i < length xs
+    → CountsMore (flat_map f (take i xs)) a b → CountsMore (f (get_or xs i d)) b c → CountsMore (flat_map f (take (i + 1) xs)) a c
+counts_entry f xs i d a b c below one other =
+    rw (uses_more f xs i d below) (counts_then (flat_map f (take i xs)) (f (get_or xs i d)) a b c one other)

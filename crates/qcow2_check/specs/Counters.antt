@@ -38,19 +38,19 @@ pub record CountersState : Type 0 where
   pub block : Option BlockState
 
 -- the counters of the block that is kept, none if none is
-abbrev pub kept_counters : Option BlockState → List ℕ
-kept_counters None = []
-kept_counters (Some block) = block.numbers
+abbrev pub counters_kept : Option BlockState → List ℕ
+counters_kept None = []
+counters_kept (Some block) = block.numbers
 
 -- a block that is kept, if there is one, is the one at its cluster in the image
-abbrev pub IsKeptOf : HeaderRecord → Image → Option BlockState → Type 0
-IsKeptOf header image kept = IfSome kept (λ (block : BlockState).
+abbrev pub IsKeptBlockOf : HeaderRecord → Image → Option BlockState → Type 0
+IsKeptBlockOf header image kept = IfSome kept (λ (block : BlockState).
     IfSome block.cluster (λ cluster. block.numbers ≡ numbers_at (block_layout (block_geometry_of header)) cluster image))
 
 -- a reader stays as it is, but that it may keep another block of the image
-pub record StaysReader (image : StorageState) (old new : CountersState) : Type 0 where
+pub record StaysCounters (image : StorageState) (old new : CountersState) : Type 0 where
   pub same : new ≡ record old { block = new.block }
-  pub kept : OnImage image (λ bytes. IsKeptOf new.header bytes new.block)
+  pub kept : OnImage image (λ bytes. IsKeptBlockOf new.header bytes new.block)
 
 -- why the block that a refcount table entry names can't lie there, if it names one
 abbrev pub block_place_fault : HeaderRecord → ℕ → Option Fault

@@ -1,7 +1,6 @@
 -- Where do an image's counters differ from its uses of clusters, and which clusters have uses that exclude each other?
-use Rattle.std.specs.Prelude.{◌≡◌, ◌≢◌, ◌⊎◌, ℕ, Bool, true, false, not, ◌&&◌, ◌||◌, ◌==◌, ◌+◌, ◌<◌, ◌≤◌, nat_lt, List, Option, Some, None, option_map, Result, Ok, Err, IfSome}
+use Rattle.std.specs.Prelude.{◌≡◌, ◌⊎◌, ℕ, Bool, true, false, not, ◌&&◌, ◌||◌, ◌==◌, ◌+◌, ◌<◌, ◌≤◌, nat_lt, List, Option, Some, option_map, Result, Ok, IfSome}
 use Rattle.std.specs.List.{fold, sum_by}
-use Rattle.qcow2_base.specs.Format.{max_file_length}
 use Rattle.qcow2_base.specs.Storage.{Image, OnImage, StorageState}
 use Rattle.qcow2_base.specs.declared.fault.Fault.{Fault}
 use Rattle.qcow2_base.specs.declared.fault.Fault.TheVariants.{Uncounted}
@@ -10,7 +9,7 @@ use Rattle.qcow2_metadata.specs.Header.{HeaderRecord, geometry_of, uncounted_par
 use Rattle.qcow2_metadata.specs.Results.{IsFromOutside, and_then, result_map, unless_refused}
 use Rattle.qcow2_metadata.specs.Table.{IsContentFault, IsTableFault}
 use Rattle.qcow2_metadata.specs.Table.L2Guards.{one_if}
-use Rattle.qcow2_check.specs.Counters.{CountersState, IsKeptOf, IsReftableFault, counter_of, placed_reftable}
+use Rattle.qcow2_check.specs.Counters.{CountersState, IsKeptBlockOf, IsReftableFault, counter_of, placed_reftable}
 use Rattle.qcow2_check.specs.NamedTables.{l1_cluster, l1_layout, loaded_l1_table}
 use Rattle.qcow2_check.specs.Tally.{TallyState, Used, cell_at, cell_with, mark_of}
 use Rattle.qcow2_check.specs.Uses.{ImageTables, all_load, image_uses, uses_of}
@@ -62,7 +61,7 @@ CountsAll tables image tally = (c : ℕ) → tally.first ≤ c → c < tally.end
 
 -- a reader reads this image: what it keeps of it is the same as there, and all L2 tables can be loaded
 pub record IsFindingsOf (image : Image) (reader : FindingsState) : Type 0 where
-  pub kept : IsKeptOf reader.header image reader.counters.block
+  pub kept : IsKeptBlockOf reader.header image reader.counters.block
   pub counted : IfSome reader.tally (CountsAll (tables_of reader) image)
   pub loads : all_load (geometry_of reader.header) reader.l1 image ≡ Ok (tt {0})
 

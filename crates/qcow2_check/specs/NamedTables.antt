@@ -1,5 +1,5 @@
 -- Which tables and refcount blocks does an image name, and where do they lie?
-use Rattle.std.specs.Prelude.{◌≡◌, true, ℕ, ◌+◌, ◌*◌, ◌/◌, ◌^◌, ◌≤◌, List, Option, option_map, Result}
+use Rattle.std.specs.Prelude.{true, ℕ, ◌+◌, ◌*◌, ◌/◌, ◌^◌, ◌≤◌, List, Option, option_map, Result}
 use Rattle.qcow2_base.specs.Format.{max_file_length, most_reftable_entries}
 use Rattle.qcow2_base.specs.Storage.{Image}
 use Rattle.qcow2_base.specs.Types.{IsClusterBits}

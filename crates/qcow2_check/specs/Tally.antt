@@ -1,5 +1,5 @@
 -- How are the uses of clusters counted, in memory of a bounded size?
-use Rattle.std.specs.Prelude.{◌≡◌, ℕ, Bool, ◌==◌, ◌&&◌, ◌||◌, ◌+◌, ◌-◌, ◌*◌, ◌/◌, ◌%◌, ◌<◌, ◌≤◌, nat_lt, if◌then◌else◌, List, length, slice_index, Option, IsSome, unwrap_or}
+use Rattle.std.specs.Prelude.{◌≡◌, ℕ, Bool, ◌==◌, ◌&&◌, ◌||◌, ◌+◌, ◌-◌, ◌/◌, ◌%◌, ◌<◌, ◌≤◌, nat_lt, if◌then◌else◌, List, length, slice_index, Option, IsSome, unwrap_or}
 use Rattle.std.specs.Ordering.{nat_cmp}
 use Rattle.std.specs.BTreeMap.{is_at}
 use Rattle.std.specs.List.{fold}
@@ -7,6 +7,7 @@ use Rattle.std.specs.Map.{lookup}
 use Rattle.qcow2_base.specs.Format.{max_file_length}
 use Rattle.qcow2_metadata.specs.Entries.{is_among}
 use Rattle.qcow2_metadata.specs.declared.entries.ClustersToFreeEntry.{ClustersToFreeEntry}
+use Rattle.qcow2_base.specs.declared.types.HostCluster.{HostCluster}
 use Rattle.qcow2_check.specs.declared.tally.UseKind.{UseKind}
 use Rattle.qcow2_check.specs.declared.tally.UseKind.TheVariants.{Fixed, Guest, L2Table}
 
@@ -14,6 +15,11 @@ use Rattle.qcow2_check.specs.declared.tally.UseKind.TheVariants.{Fixed, Guest, L
 pub record Used : Type 0 where
   pub kind : UseKind
   pub clusters : ClustersToFreeEntry
+
+-- that many clusters from one on, used in this way
+abbrev pub used_clusters : UseKind → HostCluster → ℕ → Used
+used_clusters kind first count =
+    record { kind = kind; clusters = record { first = first; count = record { 0 = count } } }
 
 -- the number that marks a kind in a cell
 abbrev pub mark_of : UseKind → ℕ
@@ -30,7 +36,7 @@ abbrev pub cell_with : ℕ → ℕ → Used → ℕ
 cell_with c cell used = if is_among used.clusters c then with_use used.kind cell else cell
 
 -- the cells of the clusters from a first to before an end: those of the first clusters one after another, and those of others
--- by their numbers, at most so many of them
+-- by their numbers, of which there is a most
 pub record TallyState : Type 0 where
   pub first : ℕ
   pub end : ℕ

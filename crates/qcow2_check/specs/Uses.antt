@@ -1,5 +1,5 @@
 -- Which clusters does an image use, and how often?
-use Rattle.std.specs.Prelude.{ℕ, Bool, true, false, ◌*◌, ◌^◌, List, [], ◌∷◌, ◌++◌, flat_map, if◌then◌else◌, option_map, option_to_list, Option, Some, None, Result, Ok}
+use Rattle.std.specs.Prelude.{ℕ, ◌*◌, ◌^◌, List, [], ◌∷◌, ◌++◌, flat_map, if◌then◌else◌, option_map, option_to_list, Some, None, Result, Ok}
 use Rattle.std.specs.Int.{div_ceil}
 use Rattle.std.specs.List.{sum_by}
 use Rattle.qcow2_base.specs.Storage.{Image}
@@ -12,10 +12,8 @@ use Rattle.qcow2_metadata.specs.Placed.{numbers_at}
 use Rattle.qcow2_metadata.specs.Results.{and_then, result_map}
 use Rattle.qcow2_metadata.specs.Table.{l2_layout, loaded_l2_table}
 use Rattle.qcow2_metadata.specs.Table.L2Guards.{one_if}
-use Rattle.qcow2_metadata.specs.declared.entries.ClustersToFreeEntry.{ClustersToFreeEntry}
 use Rattle.qcow2_check.specs.NamedTables.{l1_cluster, named_block, named_cluster, reftable_cluster}
-use Rattle.qcow2_check.specs.Tally.{Used}
-use Rattle.qcow2_check.specs.declared.tally.UseKind.{UseKind}
+use Rattle.qcow2_check.specs.Tally.{Used, used_clusters}
 use Rattle.qcow2_check.specs.declared.tally.UseKind.TheVariants.{Fixed, Guest, L2Table}
 
 -- the tables of an image that name clusters: its header, its L1 table and its refcount table
@@ -24,10 +22,9 @@ pub record ImageTables : Type 0 where
   pub l1 : List ℕ
   pub reftable : List ℕ
 
--- that many clusters from one on, used in this way
-abbrev pub used_clusters : UseKind → HostCluster → ℕ → Used
-used_clusters kind first count =
-    record { kind = kind; clusters = record { first = first; count = record { 0 = count } } }
+-- the tables of an image with this header
+abbrev pub image_tables : HeaderRecord → List ℕ → List ℕ → ImageTables
+image_tables header l1 reftable = record { header = header; l1 = l1; reftable = reftable }
 
 -- the header's cluster, the clusters that the L1 table's bytes are in, and those of the refcount table
 abbrev pub header_uses : HeaderRecord → List Used

@@ -7,7 +7,7 @@ ghost use Rattle.qcow2_metadata.specs.Header.{geometry_of};
 ghost use Rattle.qcow2_metadata.specs.Placed.{RefusesPlace, numbers_at, place_fault};
 ghost use Rattle.qcow2_metadata.specs.Refblock.{block_geometry_of, block_layout};
 ghost use Rattle.qcow2_metadata.specs.Results.{Reads};
-ghost use Rattle.qcow2_check.specs.Counters.{IsKeptOf, IsReftableFault, StaysReader, block_place_fault, blocks_fault, kept_counters};
+ghost use Rattle.qcow2_check.specs.Counters.{IsKeptBlockOf, IsReftableFault, StaysCounters, block_place_fault, blocks_fault, counters_kept};
 ghost use Rattle.qcow2_check.specs.NamedTables.{reftable_cluster, reftable_layout};
 
 use crate::named_tables::{load_reftable, named_block};
@@ -45,7 +45,7 @@ impl<'a> Model for Counters<'a> {
 }
 
 // Why the block that a refcount table entry names can't lie there.
-#[tactic(auto, using(crate::proofs::CountersLemmas::place_refused, crate::proofs::CountersLemmas::place_accepted))]
+#[tactic(auto, using(crate::proofs::CountersLemmas::refused, crate::proofs::CountersLemmas::accepted))]
 fn check_place(header: &Header, reftable: &RefTable, index: usize) -> Result<(), Fault>
     requires { reftable.now.geometry ≡ geometry_of header.now }
     ensures fault { IsOkUnless result TablePlace }
@@ -75,8 +75,8 @@ fn check_places(header: &Header, reftable: &RefTable) -> Result<(), Fault>
     Ok(())
 }
 
-// Keeps the refcount block that begins with a cluster: the one that is kept, where that is it, or else the one
-// that `RefBlock::load` loads. After a fault none is kept.
+// Keeps the refcount block that begins with a cluster: the one that is kept, where that is it, or else the
+// one that `RefBlock::load` loads. After a fault none is kept.
 fn keep_block<S: Storage>(
     kept: &mut Option<RefBlock>,
     image: &mut S,
@@ -84,14 +84,14 @@ fn keep_block<S: Storage>(
     alloc: Global,
     cluster: HostCluster,
 ) -> Result<(), Fault>
-    requires kept { OnImage (S.state image.old) (λ bytes. IsKeptOf header.now bytes kept.old) }
+    requires kept { OnImage (S.state image.old) (λ bytes. IsKeptBlockOf header.now bytes kept.old) }
     requires geometry { IfSome kept.old (λ block. block.geometry ≡ block_geometry_of header.now) }
     requires place { place_fault (block_layout (block_geometry_of header.now)) cluster ≡ None }
     ensures kept { MatchResult result
         (λ done. IsSomeAnd kept.new (λ block. (block.cluster ≡ Some cluster)
         × (block.geometry ≡ block_geometry_of header.now)))
         (λ fault. kept.new ≡ None) }
-    ensures reads { Reads (λ done. kept_counters kept.new) result
+    ensures reads { Reads (λ done. counters_kept kept.new) result
         (λ bytes. Ok (numbers_at (block_layout (block_geometry_of header.now)) cluster bytes))
         (λ _. ⊥) (S.state image.old) (S.state image.new) }
 {
@@ -112,8 +112,8 @@ impl<'a> Counters<'a> {
     ghost use Rattle.qcow2_base.specs.Format.{max_file_length};
     ghost use Rattle.qcow2_check.specs.Counters.{block_of_cluster, blocks_fault, counter_of, placed_reftable};
 
-    /// A reader of the counters of an image with this header. Reads the refcount table, and returns its fault where
-    /// it is refused, and then 21 where a block that it names would end past 2^56. Changes no byte.
+    /// A reader of the counters of an image with this header. Reads the refcount table, and returns its fault
+    /// where it is refused, and then 21 where a block that it names would end past 2^56. Changes no byte.
     pub fn new<S: Storage>(
         alloc: Global,
         image: &mut S,
@@ -154,9 +154,9 @@ impl<'a> Counters<'a> {
         self.block_of(cluster).is_some()
     }
 
-    /// Up to where clusters have no block as this one has none: the end of those that its block would have, and no end past
-    /// the refcount table's.
-    #[tactic(auto, using(crate::proofs::CountersLemmas::same_block, crate::proofs::CountersLemmas::past_blocks))]
+    /// Up to where clusters have no block as this one has none: the end of those that its block would have,
+    /// and no end past the refcount table's.
+    #[tactic(auto, using(crate::proofs::CountersLemmas::same_block, crate::proofs::CountersLemmas::ends))]
     pub(crate) fn block_end(&self, cluster: HostCluster) -> u64
         requires fits { cluster.0 < max_file_length }
         requires none { block_of_cluster self.now.header self.now.reftable cluster.0 ≡ None }
@@ -194,14 +194,14 @@ impl<'a> Counters<'a> {
 
     /// The counter of a cluster, which is 0 where the refcount table names no block for it or ends before it.
     ///
-    /// Fails where the storage does or memory runs out, and can be called again then. The image must be the one that
-    /// the reader was made for, unchanged since. Changes no byte.
+    /// Fails where the storage does or memory runs out, and can be called again then. The image must be the
+    /// one that the reader was made for, unchanged since. Changes no byte.
     pub fn get<S: Storage>(&mut self, image: &mut S, cluster: HostCluster) -> Result<u64, Fault>
-        requires { OnImage (S.state image.old) (λ bytes. IsKeptOf self.old.header bytes self.old.block) }
+        requires { OnImage (S.state image.old) (λ bytes. IsKeptBlockOf self.old.header bytes self.old.block) }
         ensures reads { Reads (λ counter. counter) result
             (λ bytes. Ok (counter_of self.old.header self.old.reftable bytes cluster.0))
             (λ _. ⊥) (S.state image.old) (S.state image.new) }
-        ensures reader { StaysReader (S.state image.old) self.old self.new }
+        ensures reader { StaysCounters (S.state image.old) self.old self.new }
     {
         let Some(place) = self.block_of(cluster) else {
             return Ok(0);

@@ -7,7 +7,7 @@ ghost use Rattle.qcow2_metadata.specs.Header.{geometry_of};
 ghost use Rattle.qcow2_metadata.specs.Results.{IsFromOutside, Reads};
 ghost use Rattle.qcow2_metadata.specs.Table.{IsEntryFault};
 ghost use Rattle.qcow2_check.specs.Findings.{CountsAll, is_wrong};
-ghost use Rattle.qcow2_check.specs.Uses.{all_load};
+ghost use Rattle.qcow2_check.specs.Uses.{all_load, image_tables};
 
 use crate::counters::Counters;
 use crate::named_tables::load_l1_table;
@@ -48,8 +48,9 @@ impl Finding {
     }
 }
 
-/// A reader of an image's findings, one after another. It holds the L1 table, the refcount table, a refcount block
-/// and the uses of a part of the image's clusters. Clauses see it as what it has of the image and how far it has come.
+/// A reader of an image's findings, one after another. It holds the L1 table, the refcount table, a refcount
+/// block and the uses of a part of the image's clusters. Clauses see it as what it has of the image and how
+/// far it has come.
 #[derive(Drop)]
 pub struct Findings<'a> {
     header: &'a Header,
@@ -82,10 +83,11 @@ impl<'a> Model for Findings<'a> {
     ghost invariant = { λ f. (f.l1_table.geometry ≡ geometry_of f.header.now)
         × (f.counters.header ≡ f.header.now)
         × (f.position ≤ max_file_length)
-        × IfSome f.tally (λ tally. (tally.first ≤ f.position) × (f.position ≤ tally.end) × (tally.end ≤ max_file_length)) };
+        × IfSome f.tally (λ tally. (tally.first ≤ f.position) × (f.position ≤ tally.end)
+        × (tally.end ≤ max_file_length)) };
 }
 
-// Counts all uses of clusters from one on, in a new tally of so many cells.
+// Counts all uses of clusters from one on, in a new tally.
 #[tactic(auto, using(crate::proofs::FindingsLemmas::counts_all))]
 fn count_window<S: Storage>(
     image: &mut S,
@@ -103,8 +105,9 @@ fn count_window<S: Storage>(
     ensures reads { Reads (λ _. tt) result (all_load (geometry_of header.now) l1_table.now.numbers)
         IsEntryFault (S.state image.old) (S.state image.new) }
     ensures counted { IfOk result (λ tally. OnImage (S.state image.old) (λ bytes. CountsAll
-        (record { header = header.now; l1 = l1_table.now.numbers; reftable = reftable.now.numbers }) bytes tally)) }
-    ensures first { IfOk result (λ tally. (tally.first ≡ first) × (first < tally.end) × (tally.end ≤ max_file_length)) }
+        (image_tables header.now l1_table.now.numbers reftable.now.numbers) bytes tally)) }
+    ensures first { IfOk result (λ tally. (tally.first ≡ first) × (first < tally.end)
+        × (tally.end ≤ max_file_length)) }
 {
     let mut tally = Tally::new(l1_table.allocator(), first, dense, most)?;
     count_image(&mut tally, image, header, l1_table, reftable)?;
@@ -119,11 +122,12 @@ impl<'a> Findings<'a> {
     ghost use Rattle.qcow2_check.specs.Counters.{counter_of};
     ghost use Rattle.qcow2_check.specs.Findings.{AreRight, IsCheckFault, IsFindingsOf, IsLaterFault, MovesFindings, PassesFinding, checked_tables, finding_at, is_wrong, tables_of};
 
-    /// A reader of the findings of an image with this header, before the first of them. Reads its tables, and counts the uses
-    /// of the first clusters.
+    /// A reader of the findings of an image with this header, before the first of them. Reads its tables, and
+    /// counts the uses of the first clusters.
     ///
-    /// Returns the first of these faults: 37 where the image has snapshots, bitmaps or an encryption header, that of the L1 table, that of the refcount table, 21 where a refcount block would
-    /// end past 2^56, or that of an L2 table. Changes no byte.
+    /// Returns the first of these faults: 37 where the image has snapshots, bitmaps or an encryption header,
+    /// that of the L1 table, that of the refcount table, 21 where a refcount block would end past 2^56, or
+    /// that of an L2 table. Changes no byte.
     pub fn new<S: Storage>(
         alloc: Global,
         image: &mut S,
@@ -132,7 +136,8 @@ impl<'a> Findings<'a> {
         ensures reads { Reads tables_of result (checked_tables header.now) (IsCheckFault header.now)
             (S.state image.old) (S.state image.new) }
         ensures begun { IfOk result (λ findings. (findings.header ≡ header.now) × (findings.position ≡ 0)) }
-        ensures reader { IfOk result (λ findings. OnImage (S.state image.old) (λ bytes. IsFindingsOf bytes findings)) }
+        ensures reader { IfOk result (λ findings. OnImage (S.state image.old) (λ bytes.
+            IsFindingsOf bytes findings)) }
     {
         if let Some(part) = header.uncounted_part() {
             return Err(Fault::Uncounted(part));
@@ -155,8 +160,8 @@ impl<'a> Findings<'a> {
 
     /// The next finding, or nothing after the last. Findings come in the order of clusters, each once.
     ///
-    /// Fails where the storage does or memory runs out, and can be called again then. The image must be the one that the
-    /// reader was made for, unchanged since. Changes no byte.
+    /// Fails where the storage does or memory runs out, and can be called again then. The image must be the
+    /// one that the reader was made for, unchanged since. Changes no byte.
     pub fn next<S: Storage>(&mut self, image: &mut S) -> Result<Option<Finding>, Fault>
         requires { OnImage (S.state image.old) (λ bytes. IsFindingsOf bytes self.old) }
         ensures finding { PassesFinding (S.state image.old) self.old result self.new.position }
@@ -183,8 +188,8 @@ impl<'a> Findings<'a> {
             finding ≡ finding_at (tables_of self.old) bytes cluster)) }
         ensures cluster { IfOk result (λ finding. finding.cluster.0 ≡ cluster) }
         ensures fault { IfErr result IsFromOutside }
-        ensures reader { MovesFindings (S.state image.old) self.old self.new × (self.new.position ≡ self.old.position)
-            × (self.new.tally ≡ self.old.tally) }
+        ensures reader { MovesFindings (S.state image.old) self.old self.new
+            × (self.new.position ≡ self.old.position) × (self.new.tally ≡ self.old.tally) }
         ensures storage { OnlyReads result (S.state image.old) (S.state image.new) }
     {
         let counter = self.counters.get(image, HostCluster(cluster))?;
@@ -197,7 +202,8 @@ impl<'a> Findings<'a> {
         })
     }
 
-    // The first cluster from the reader's on that something may be wrong with, or the end of those that are counted.
+    // The first cluster from the reader's on that something may be wrong with, or the end of those that are
+    // counted.
     fn candidate(&self) -> u64
         requires some { IsSome self.now.tally }
         requires before { IfSome self.now.tally (λ tally. self.now.position < tally.end) }

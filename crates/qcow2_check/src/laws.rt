@@ -16,8 +16,8 @@ pub fn counters_are_uses_where_nothing_is_found()
         counter_of tables.header tables.reftable image c ≡ uses_of (image_uses tables image) c }
 {}
 
-/// Where nothing is found of an image, a cluster of the header, of the L1 table, of the refcount table or of a block has
-/// no other use, and one of an L2 table has no use but by L1 entries.
+/// Where nothing is found of an image, a cluster of the header, of the L1 table, of the refcount table or of
+/// a block has no other use, and one of an L2 table has no use but by L1 entries.
 pub fn uses_exclude_no_others_where_nothing_is_found()
     ensures { (tables : ImageTables) (image : Image) → AreRight tables image 0 max_file_length →
         (c : ℕ) → c < max_file_length → let uses = image_uses tables image in

@@ -3,7 +3,7 @@
 ghost use Rattle.std.specs.Prelude.{◌≡◌, ℕ, ◌+◌, ◌-◌, ◌/◌, ◌^◌, ◌<◌, ◌≤◌, [], ◌∷◌, IfOk, IfSome, IsOkUnless, None, OnOk, length, replicate};
 ghost use Rattle.qcow2_base.specs.Format.{max_file_length};
 ghost use Rattle.qcow2_base.specs.declared.fault.Fault.TheVariants.{NoMemory};
-ghost use Rattle.qcow2_check.specs.Tally.{CountsMore, cell_at, is_shared_cell, mark_of, with_use};
+ghost use Rattle.qcow2_check.specs.Tally.{CountsMore, cell_at, is_shared_cell, mark_of, used_clusters, with_use};
 
 use qcow2_base::{Fault, MAX_FILE_LENGTH};
 use std::alloc::Global;
@@ -84,8 +84,8 @@ impl Tally {
     ghost use Rattle.std.specs.Prelude.{◌≡◌, ◌+◌, ◌-◌, ◌^◌, ◌<◌, ◌≤◌, [], ◌∷◌, length, replicate};
     ghost use Rattle.qcow2_check.specs.Tally.{IsTally, cell_at, dense_end};
 
-    /// A tally in which no cluster has a use, from a cluster on. The cells of the next `dense` clusters lie one
-    /// after another, and there are at most `most` others. Fails only where memory runs out.
+    /// A tally in which no cluster has a use, from a cluster on. The cells of the next `dense` clusters lie
+    /// one after another, and there are at most `most` others. Fails only where memory runs out.
     pub(crate) fn new(alloc: Global, first: u64, dense: usize, most: usize) -> Result<Tally, Fault>
         requires some { 0 < dense }
         requires fits { first + dense ≤ max_file_length }
@@ -165,8 +165,7 @@ impl Tally {
     pub(crate) fn add(&mut self, cluster: u64, kind: UseKind) -> Result<(), Fault>
         ensures fault { IsOkUnless result NoMemory }
         ensures counted { OnOk result (CountsMore
-            (record { kind = kind; clusters = record { first = record { 0 = cluster }; count = record { 0 = 1 } } } ∷ [])
-            self.old self.new) }
+            (used_clusters kind (record { 0 = cluster }) 1 ∷ []) self.old self.new) }
     {
         if cluster < self.first || cluster >= self.end {
             return Ok(());
@@ -187,8 +186,7 @@ impl Tally {
         requires before { cluster < self.old.end }
         ensures fault { IsOkUnless result NoMemory }
         ensures counted { OnOk result (CountsMore
-            (record { kind = kind; clusters = record { first = record { 0 = cluster }; count = record { 0 = 1 } } } ∷ [])
-            self.old self.new) }
+            (used_clusters kind (record { 0 = cluster }) 1 ∷ []) self.old self.new) }
     {
         let cell = self.sparse.get(&cluster).copied().unwrap_or(0);
         self.used = self.used.wrapping_add((cell == 0) as u64);

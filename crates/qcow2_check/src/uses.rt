@@ -9,8 +9,8 @@ ghost use Rattle.qcow2_metadata.specs.Header.{geometry, geometry_of};
 ghost use Rattle.qcow2_metadata.specs.Results.{Reads, result_map};
 ghost use Rattle.qcow2_metadata.specs.Table.{IsEntryFault, loaded_l2_table};
 ghost use Rattle.qcow2_check.specs.NamedTables.{IsInImage, named_cluster};
-ghost use Rattle.qcow2_check.specs.Tally.{CountsMore};
-ghost use Rattle.qcow2_check.specs.Uses.{all_load, block_uses, entry_uses, header_uses, image_uses, l1_entry_loads, l1_entry_uses, table_uses, used_clusters};
+ghost use Rattle.qcow2_check.specs.Tally.{CountsMore, used_clusters};
+ghost use Rattle.qcow2_check.specs.Uses.{all_load, block_uses, entry_uses, header_uses, image_tables, image_uses, l1_entry_loads, l1_entry_uses, table_uses};
 
 use crate::named_tables::{load_l2_table, named_block, named_cluster};
 use crate::tally::{Tally, UseKind};
@@ -41,7 +41,8 @@ fn count_clusters(
 fn count_entry(tally: &mut Tally, entry: L2Entry, cluster_bits: u32) -> Result<(), Fault>
     requires { IsClusterBits cluster_bits }
     ensures fault { IsOkUnless result NoMemory }
-    ensures counted { OnOk result (CountsMore (entry_uses (geometry cluster_bits false) entry) tally.old tally.new) }
+    ensures counted { OnOk result (CountsMore (entry_uses (geometry cluster_bits false) entry)
+        tally.old tally.new) }
 {
     match entry.allocation(cluster_bits, false) {
         Some((first, count)) => count_clusters(tally, UseKind::Guest, first, count.0),
@@ -50,7 +51,7 @@ fn count_entry(tally: &mut Tally, entry: L2Entry, cluster_bits: u32) -> Result<(
 }
 
 // Counts the clusters that the entries of an L2 table refer to.
-#[tactic(auto, using(crate::proofs::UsesLemmas::no_entry_uses, crate::proofs::UsesLemmas::uses_more, crate::proofs::TallyLemmas::counts_then))]
+#[tactic(auto, using(crate::proofs::UsesLemmas::no_entry_uses, crate::proofs::UsesLemmas::counts_entry))]
 fn count_entries(tally: &mut Tally, table: &L2Table) -> Result<(), Fault>
     ensures fault { IsOkUnless result NoMemory }
     ensures counted { OnOk result (CountsMore (flat_map (entry_uses table.now.geometry) table.now.numbers)
@@ -97,8 +98,8 @@ fn count_l1_entry<S: Storage>(
 ) -> Result<(), Fault>
     requires { l1_table.now.geometry ≡ geometry_of header.now }
     ensures reads { Reads (λ done. done) result
-        (λ bytes. l1_entry_loads (geometry_of header.now) bytes (slice_index l1_table.now.numbers index)) IsEntryFault
-        (S.state image.old) (S.state image.new) }
+        (λ bytes. l1_entry_loads (geometry_of header.now) bytes (slice_index l1_table.now.numbers index))
+        IsEntryFault (S.state image.old) (S.state image.new) }
     ensures counted { OnOk result (OnImage (S.state image.old) (λ bytes.
         CountsMore (l1_entry_uses (geometry_of header.now) bytes (slice_index l1_table.now.numbers index))
         tally.old tally.new)) }
@@ -180,7 +181,7 @@ pub(crate) fn count_image<S: Storage>(
     ensures reads { Reads (λ done. done) result (all_load (geometry_of header.now) l1_table.now.numbers)
         IsEntryFault (S.state image.old) (S.state image.new) }
     ensures counted { OnOk result (OnImage (S.state image.old) (λ bytes. CountsMore
-        (image_uses (record { header = header.now; l1 = l1_table.now.numbers; reftable = reftable.now.numbers }) bytes)
+        (image_uses (image_tables header.now l1_table.now.numbers reftable.now.numbers) bytes)
         tally.old tally.new)) }
     ensures first { OnOk result (tally.new.first ≡ tally.old.first) }
 {

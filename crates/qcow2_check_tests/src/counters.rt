@@ -16,9 +16,11 @@ struct Counted<'a> {
 const COUNTED: &[Counted<'static>] = rows! { Counted:
     { name: "the first block", changes: &[(BLOCK + 504, 0x0002_0003_0004_ffff)],
         clusters: &[0, 5, 6, 252, 253, 254, 255], counters: &[1, 1, 0, 2, 3, 4, 65535] },
-    { name: "clusters without a block", changes: &[], clusters: &[256, 1 << 14, 1 << 47, u64::MAX], counters: &[0, 0, 0, 0] },
+    { name: "clusters without a block", changes: &[],
+        clusters: &[256, 1 << 14, 1 << 47, u64::MAX], counters: &[0, 0, 0, 0] },
     // the second block lies past the image's end, where all is 0, and the third is the first one again
-    { name: "one block after another", changes: &[(REFTABLE + 8, 1 << 20), (REFTABLE + 16, BLOCK), (BLOCK + 8, 9 << 32)],
+    { name: "one block after another",
+        changes: &[(REFTABLE + 8, 1 << 20), (REFTABLE + 16, BLOCK), (BLOCK + 8, 9 << 32)],
         clusters: &[5, 261, 517, 5, 261, 773], counters: &[9, 0, 9, 9, 0, 0] },
     { name: "counters of one bit", changes: &[(HEADER + 96, 0x68), (BLOCK, 0x8100_0000_0000_0000)],
         clusters: &[0, 1, 6, 7, 8, 55, 103, 4095, 4096], counters: &[1, 0, 0, 1, 0, 0, 0, 0, 0] },

@@ -18,7 +18,7 @@ struct Found<'a> {
 
 // Findings, one in a line.
 macro_rules! found {
-    ($({ cluster: $cluster:expr, counter: $counter:expr, uses: $uses:expr, shared: $shared:expr }),* $(,)?) => {
+    ($($cluster:literal counter $counter:literal uses $uses:literal shared $shared:literal),* $(,)?) => {
         &[$(Finding { cluster: HostCluster($cluster), counter: $counter, uses: $uses, shared: $shared }),*]
     };
 }
@@ -33,62 +33,62 @@ const LAST: u64 = (1 << 56) - 512;
 const FOUND: &[Found<'static>] = rows! { Found:
     { name: "a consistent image", changes: &[], findings: &[] },
     { name: "a leaked cluster", changes: &[(BLOCK + 12, 7)],
-        findings: found! { { cluster: 9, counter: 7, uses: 0, shared: false } } },
+        findings: found! { 9 counter 7 uses 0 shared false } },
     { name: "a cluster without its reference", changes: &[(BLOCK + 8, 0x0001_0000_0000_0000)],
-        findings: found! { { cluster: 5, counter: 0, uses: 1, shared: false } } },
+        findings: found! { 5 counter 0 uses 1 shared false } },
     { name: "a cluster with one reference too many", changes: &[(BLOCK + 8, 0x0001_0002_0000_0000)],
-        findings: found! { { cluster: 5, counter: 2, uses: 1, shared: false } } },
+        findings: found! { 5 counter 2 uses 1 shared false } },
     { name: "data that two entries name", changes: &[(NEXT_ENTRY, 2560)],
-        findings: found! { { cluster: 5, counter: 1, uses: 2, shared: false } } },
+        findings: found! { 5 counter 1 uses 2 shared false } },
     { name: "data that two entries name, and its counter says so",
         changes: &[(NEXT_ENTRY, 2560), (BLOCK + 8, 0x0001_0002_0000_0000)], findings: &[] },
     { name: "an L2 table that two entries name", changes: &[(NEXT_TABLE, L2_TABLE)],
-        findings: found! { { cluster: 4, counter: 1, uses: 2, shared: false },
-            { cluster: 5, counter: 1, uses: 2, shared: false } } },
+        findings: found! { 4 counter 1 uses 2 shared false, 5 counter 1 uses 2 shared false } },
     // clusters whose uses exclude each other, whatever the counter says
     { name: "data in the L1 table", changes: &[(NEXT_ENTRY, 512), (BLOCK, 0x0001_0002_0001_0001)],
-        findings: found! { { cluster: 1, counter: 2, uses: 2, shared: true } } },
+        findings: found! { 1 counter 2 uses 2 shared true } },
     { name: "compressed data in the header", changes: &[(NEXT_ENTRY, 1 << 62 | 100)],
-        findings: found! { { cluster: 0, counter: 1, uses: 2, shared: true } } },
+        findings: found! { 0 counter 1 uses 2 shared true } },
     { name: "data in the refcount table", changes: &[(NEXT_ENTRY, REFTABLE)],
-        findings: found! { { cluster: 2, counter: 1, uses: 2, shared: true } } },
+        findings: found! { 2 counter 1 uses 2 shared true } },
     { name: "data in a block", changes: &[(NEXT_ENTRY, BLOCK)],
-        findings: found! { { cluster: 3, counter: 1, uses: 2, shared: true } } },
+        findings: found! { 3 counter 1 uses 2 shared true } },
     { name: "data in an L2 table", changes: &[(NEXT_ENTRY, L2_TABLE)],
-        findings: found! { { cluster: 4, counter: 1, uses: 2, shared: true } } },
+        findings: found! { 4 counter 1 uses 2 shared true } },
     { name: "an L2 table in the refcount table", changes: &[(NEXT_TABLE, REFTABLE)],
-        findings: found! { { cluster: 2, counter: 1, uses: 2, shared: true },
-            { cluster: 3, counter: 1, uses: 2, shared: true } } },
+        findings: found! { 2 counter 1 uses 2 shared true, 3 counter 1 uses 2 shared true } },
     { name: "a block that two entries name", changes: &[(REFTABLE + 8, BLOCK)],
-        findings: found! { { cluster: 3, counter: 1, uses: 2, shared: true },
-            { cluster: 256, counter: 1, uses: 0, shared: false }, { cluster: 257, counter: 1, uses: 0, shared: false },
-            { cluster: 258, counter: 1, uses: 0, shared: false }, { cluster: 259, counter: 1, uses: 0, shared: false },
-            { cluster: 260, counter: 1, uses: 0, shared: false }, { cluster: 261, counter: 1, uses: 0, shared: false } } },
+        findings: found! { 3 counter 1 uses 2 shared true,
+            256 counter 1 uses 0 shared false, 257 counter 1 uses 0 shared false,
+            258 counter 1 uses 0 shared false, 259 counter 1 uses 0 shared false,
+            260 counter 1 uses 0 shared false, 261 counter 1 uses 0 shared false } },
     { name: "no block", changes: &[(REFTABLE, 0)],
-        findings: found! { { cluster: 0, counter: 0, uses: 1, shared: false }, { cluster: 1, counter: 0, uses: 1, shared: false },
-            { cluster: 2, counter: 0, uses: 1, shared: false }, { cluster: 4, counter: 0, uses: 1, shared: false },
-            { cluster: 5, counter: 0, uses: 1, shared: false } } },
+        findings: found! { 0 counter 0 uses 1 shared false, 1 counter 0 uses 1 shared false,
+            2 counter 0 uses 1 shared false, 4 counter 0 uses 1 shared false,
+            5 counter 0 uses 1 shared false } },
     // compressed data of one sector, and of two that begin one byte after cluster 6 does
     { name: "compressed data", changes: &[(NEXT_ENTRY, 1 << 62 | 3072)],
-        findings: found! { { cluster: 6, counter: 0, uses: 1, shared: false } } },
+        findings: found! { 6 counter 0 uses 1 shared false } },
     { name: "compressed data over a border", changes: &[(NEXT_ENTRY, 3 << 61 | 3073)],
-        findings: found! { { cluster: 6, counter: 0, uses: 1, shared: false }, { cluster: 7, counter: 0, uses: 1, shared: false } } },
+        findings: found! { 6 counter 0 uses 1 shared false, 7 counter 0 uses 1 shared false } },
     // data past all counters, in clusters that no window has together
     { name: "clusters far apart",
         changes: &[(NEXT_ENTRY, 256 << 9), (NEXT_ENTRY + 8, 4095 << 9), (NEXT_ENTRY + 16, 4096 << 9),
-            (NEXT_ENTRY + 24, 8192 << 9), (NEXT_ENTRY + 32, LAST), (NEXT_ENTRY + 40, 1 << 40), (NEXT_ENTRY + 48, LAST)],
-        findings: found! { { cluster: 256, counter: 0, uses: 1, shared: false }, { cluster: 4095, counter: 0, uses: 1, shared: false },
-            { cluster: 4096, counter: 0, uses: 1, shared: false }, { cluster: 8192, counter: 0, uses: 1, shared: false },
-            { cluster: 1 << 31, counter: 0, uses: 1, shared: false }, { cluster: (1 << 47) - 1, counter: 0, uses: 2, shared: false } } },
+            (NEXT_ENTRY + 24, 8192 << 9), (NEXT_ENTRY + 32, LAST), (NEXT_ENTRY + 40, 1 << 40),
+            (NEXT_ENTRY + 48, LAST)],
+        findings: found! { 256 counter 0 uses 1 shared false, 4095 counter 0 uses 1 shared false,
+            4096 counter 0 uses 1 shared false, 8192 counter 0 uses 1 shared false,
+            2147483648 counter 0 uses 1 shared false, 140737488355327 counter 0 uses 2 shared false } },
     // an external data file, whose clusters have no counter
     { name: "data in another file", changes: &[(HEADER + 72, 4)],
-        findings: found! { { cluster: 5, counter: 1, uses: 0, shared: false } } },
+        findings: found! { 5 counter 1 uses 0 shared false } },
     // a zero with a cluster, and one without
     { name: "zeros", changes: &[(NEXT_ENTRY, 1), (NEXT_ENTRY + 8, 3073)],
-        findings: found! { { cluster: 6, counter: 0, uses: 1, shared: false } } },
+        findings: found! { 6 counter 0 uses 1 shared false } },
     // the refcount table lies in cluster 6 then
     { name: "an L1 table of two clusters",
-        changes: &[(HEADER + 32, 65), (HEADER + 48, 3072), (REFTABLE, 0), (3072, BLOCK), (BLOCK + 8, 0x0001_0001_0001_0000)],
+        changes: &[(HEADER + 32, 65), (HEADER + 48, 3072), (REFTABLE, 0), (3072, BLOCK),
+            (BLOCK + 8, 0x0001_0001_0001_0000)],
         findings: &[] },
 };
 
@@ -110,8 +110,10 @@ struct Refused<'a> {
 }
 
 const REFUSED: &[Refused<'static>] = rows! { Refused:
-    { name: "snapshots", changes: &[(HEADER + 60, 1 << 32)], fault: Fault::Uncounted(UncountedPart::Snapshots) },
-    { name: "bitmaps", changes: &[(HEADER + 104, 0x2385_2875_0000_0000)], fault: Fault::Uncounted(UncountedPart::Bitmaps) },
+    { name: "snapshots", changes: &[(HEADER + 60, 1 << 32)],
+        fault: Fault::Uncounted(UncountedPart::Snapshots) },
+    { name: "bitmaps", changes: &[(HEADER + 104, 0x2385_2875_0000_0000)],
+        fault: Fault::Uncounted(UncountedPart::Bitmaps) },
     { name: "an encryption header after an unknown extension",
         changes: &[(HEADER + 104, 7 << 32), (HEADER + 112, 0x0537_be77_0000_0000)],
         fault: Fault::Uncounted(UncountedPart::Encryption) },

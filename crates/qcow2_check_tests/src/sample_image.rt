@@ -19,9 +19,9 @@ pub(crate) const REFTABLE: u64 = 1024;
 pub(crate) const BLOCK: u64 = 1536;
 pub(crate) const L2_TABLE: u64 = 2048;
 
-// Clusters of 512 bytes, an L1 table of two entries in cluster 1, the refcount table in cluster 2, its block in
-// cluster 3, with counters of 16 bits, and an L2 table in cluster 4. Guest cluster 3 is the data in cluster 5. The
-// six clusters have the counter 1.
+// Clusters of 512 bytes, an L1 table of two entries in cluster 1, the refcount table in cluster 2, its block
+// in cluster 3, with counters of 16 bits, and an L2 table in cluster 4. Guest cluster 3 is the data in
+// cluster 5. The six clusters have the counter 1.
 const SAMPLE: Numbers<'static> = &[
     (HEADER, 0x5146_49fb_0000_0003),
     (HEADER + 16, 9),

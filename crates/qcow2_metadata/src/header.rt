@@ -291,8 +291,8 @@ impl Header {
         None
     }
 
-    /// The first part of the image that refers to clusters and that isn't read here, if it has one: snapshots, bitmaps, or
-    /// encryption.
+    /// The first part of the image that refers to clusters and that isn't read here, if it has one:
+    /// snapshots, bitmaps, or encryption.
     pub fn uncounted_part(&self) -> Option<UncountedPart>
         ensures { result ≡ uncounted_part self.now }
     {

@@ -1,6 +1,6 @@
 use Rattle.std.proofs.Common.{◌-◌, ◌≤◌, [], ◌∷◌}
 use Rattle.qcow2_check.specs.Tally.{CountsMore}
-use Rattle.qcow2_check.specs.Uses.{used_clusters}
+use Rattle.qcow2_check.specs.Tally.{used_clusters}
 use Rattle.qcow2_check.proofs.uses.count_clusters.Given as goal
 
 -- the clusters before this one are counted

@@ -1,4 +1,4 @@
-use Rattle.std.proofs.Common.{◌≡◌, ap, rules, arith}
+use Rattle.std.proofs.Common.{◌≡◌, ap, rules}
 use Rattle.qcow2_check.proofs.FindingsLemmas.{right_before}
 use Rattle.qcow2_check.specs.Findings.{FindingsState}
 use Rattle.qcow2_check.proofs.findings.Findings.candidate.Goals as goal

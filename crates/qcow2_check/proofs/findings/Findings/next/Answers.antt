@@ -1,7 +1,7 @@
-use Rattle.std.proofs.Common.{◌≡◌, ◌≤◌, Ok, None, Result, Option, rules, arith}
+use Rattle.std.proofs.Common.{◌≡◌, ◌≤◌, Ok, rules, arith}
 use Rattle.qcow2_base.specs.Storage.{OnImage, OnlyReads}
 use Rattle.qcow2_check.proofs.FindingsLemmas.{moves_twice, passes_none, passes_on, reads_twice}
-use Rattle.qcow2_check.specs.Findings.{AreRight, MovesFindings, PassesFinding, tables_of}
+use Rattle.qcow2_check.specs.Findings.{AreRight, MovesFindings, tables_of}
 use Rattle.qcow2_check.proofs.findings.Findings.next.Goals as goal
 
 pub returns-in-Some-clause-finding : goal.returns-in-Some-clause-finding
