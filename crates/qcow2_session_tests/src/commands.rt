@@ -1,6 +1,6 @@
 //! The command `l2`: the lines of a table, and its faults.
 
-mod in_memory;
+pub(crate) mod in_memory;
 pub(crate) mod run;
 pub(crate) mod whole_images;
 
@@ -57,34 +57,53 @@ const UNALIGNED: Result<(), Fault> = Err(Fault::EntryUnaligned);
 
 const PAST: Result<(), Fault> = Err(Fault::TablePlace);
 
-// Cluster bits, and the cluster that is listed. What the image begins with: the index of the first entry
-// that isn't 0, the entries with their lines, and how many bytes of all that there are. The fault.
-type Row = (
-    (u32, u64),
-    (usize, &'static [Case], usize),
-    Result<(), Fault>,
-);
+// A cluster that is listed, of an image of at most `len` bytes that begins with a table: from the entry at
+// `first` on it has these entries, with their lines. The fault.
+#[derive(Clone, Copy)]
+struct Row {
+    name: &'static str,
+    cluster_bits: u32,
+    cluster: u64,
+    first: usize,
+    cases: &'static [Case],
+    len: usize,
+    expected: Result<(), Fault>,
+}
+
+const ROW: Row = Row {
+    name: "",
+    cluster_bits: 9,
+    cluster: 0,
+    first: 0,
+    cases: &[(GOOD, "")],
+    len: ALL,
+    expected: Ok(()),
+};
 
 const ROWS: &[Row] = rows! {
-    ((9, 0), (0, NINE_BITS, ALL), Ok(())),
-    ((16, 0), (0, SIXTEEN_BITS, ALL), Ok(())),
-    ((21, 0), (0, TWENTY_ONE_BITS, ALL), Ok(())),
+    Row { name: "clusters of 512 bytes", cases: NINE_BITS, ..ROW },
+    Row { name: "clusters of 64 KiB", cluster_bits: 16, cases: SIXTEEN_BITS, ..ROW },
+    Row { name: "clusters of 2 MiB", cluster_bits: 21, cases: TWENTY_ONE_BITS, ..ROW },
     // the last entry, and one past it
-    ((21, 0), (262_143, LAST_ENTRY, ALL), Ok(())),
+    Row { name: "the last entry, and one past it", cluster_bits: 21, first: 262_143, cases: LAST_ENTRY,
+        ..ROW },
     // images that end inside their table, which goes on with zeros
-    ((9, 0), (0, &[(0x8000_0000_0000_0a00, "")], 6), Ok(())),
-    ((9, 0), (0, CUT_OFF, 13), Ok(())),
+    Row { name: "an image of 6 bytes", cases: &[(0x8000_0000_0000_0a00, "")], len: 6, ..ROW },
+    Row { name: "an image of 13 bytes", cases: CUT_OFF, len: 13, ..ROW },
     // the greatest cluster of a table is the one that ends at 2^56
-    ((9, (1 << 47) - 1), (0, &[(GOOD, "")], ALL), Ok(())),
-    ((21, (1 << 35) - 1), (0, &[(GOOD, "")], ALL), Ok(())),
+    Row { name: "the last cluster", cluster: (1 << 47) - 1, ..ROW },
+    Row { name: "the last cluster of 2 MiB", cluster_bits: 21, cluster: (1 << 35) - 1, ..ROW },
     // the first bad entry is the fault, and no line is printed
-    ((9, 0), (0, &[(GOOD, ""), (2, ""), (GOOD, "")], ALL), RESERVED),
-    ((9, 0), (0, &[(GOOD, ""), (0xc000_0000_0000_0000, "")], ALL), RESERVED),
-    ((16, 0), (0, &[(GOOD, ""), (0x200, ""), (2, "")], ALL), UNALIGNED),
-    ((16, 0), (0, &[(GOOD, ""), (2, ""), (0x200, "")], ALL), RESERVED),
-    ((9, 1 << 47), (0, &[(GOOD, "")], ALL), PAST),
-    ((9, u64::MAX), (0, &[(GOOD, "")], ALL), PAST),
-    ((21, 1 << 35), (0, &[(GOOD, "")], ALL), PAST),
+    Row { name: "a reserved bit", cases: &[(GOOD, ""), (2, ""), (GOOD, "")], expected: RESERVED, ..ROW },
+    Row { name: "a compressed entry with the copied flag", cases: &[(GOOD, ""), (0xc000_0000_0000_0000, "")],
+        expected: RESERVED, ..ROW },
+    Row { name: "the first fault is no alignment", cluster_bits: 16,
+        cases: &[(GOOD, ""), (0x200, ""), (2, "")], expected: UNALIGNED, ..ROW },
+    Row { name: "the first fault is a reserved bit", cluster_bits: 16,
+        cases: &[(GOOD, ""), (2, ""), (0x200, "")], expected: RESERVED, ..ROW },
+    Row { name: "past the last cluster", cluster: 1 << 47, expected: PAST, ..ROW },
+    Row { name: "the greatest number", cluster: u64::MAX, expected: PAST, ..ROW },
+    Row { name: "past the last cluster of 2 MiB", cluster_bits: 21, cluster: 1 << 35, expected: PAST, ..ROW },
 };
 
 const LAST_ENTRY: &[Case] = &[(GOOD, "262143 data 0x200000 copied\n"), (GOOD, "")];
@@ -99,15 +118,14 @@ fn a_table_is_listed_as_far_as_the_image_goes_or_refused(rt: HostRuntime) -> Res
 
 // Lists the table of a row. One that would end past the greatest end is refused before any read.
 fn check_list(alloc: Global, row: Row) -> Result<(), Fail> {
-    let (place, (first, cases, len), expected) = row;
-    let (image, lines) = table_and_lines(alloc, first, cases, len)?;
+    let (image, lines) = table_and_lines(alloc, row.first, row.cases, row.len)?;
     let mut image = FailingStorage::new(alloc, image);
     let mut out = FailingOutput::new(alloc, Failure::Never);
-    let (bits, cluster) = (place.0, HostCluster(place.1));
-    let answer = list_l2_table(alloc, &mut image, bits, cluster, &mut out);
+    let cluster = HostCluster(row.cluster);
+    let answer = list_l2_table(alloc, &mut image, row.cluster_bits, cluster, &mut out);
     let found = (answer, image.calls.is_empty());
-    same(found, (expected, expected == PAST), place)?;
-    same_bytes(out.bytes(), lines.as_bytes(), place)
+    same(found, (row.expected, row.expected == PAST), row.name)?;
+    same_bytes(out.bytes(), lines.as_bytes(), row.name)
 }
 
 // The first `len` bytes of an image that begins with a table, and all its lines.

@@ -13,18 +13,28 @@ use qcow2_testing::{each, rows, same};
 use std::alloc::{AllocError, Global};
 use std::test::Fail;
 
-// A list of edits of a table: the cluster bits, whether data is external, and the entries. What the edits do
-// to references, or the position of the first that is refused, and the entries then.
-type Row<'a> = (
-    &'a str,
-    (u32, bool),
-    Entries<'a>,
-    &'a [Edit],
-    Result<References<'a>, usize>,
-    Entries<'a>,
-);
+// A list of edits of a table, what they do to references or the position of the first that is refused, and
+// the entries then.
+#[derive(Clone, Copy)]
+struct Row<'a> {
+    name: &'a str,
+    cluster_bits: u32,
+    external: bool,
+    before: Entries<'a>,
+    edits: &'a [Edit],
+    expected: Result<References<'a>, usize>,
+    after: Entries<'a>,
+}
 
-const PLAIN: (u32, bool) = (9, false);
+const ROW: Row<'static> = Row {
+    name: "no edit",
+    cluster_bits: 9,
+    external: false,
+    before: DATA,
+    edits: &[],
+    expected: NOTHING,
+    after: DATA,
+};
 
 const CLEARED: Entries<'static> = (0, &[]);
 
@@ -33,44 +43,57 @@ const DATA: Entries<'static> = (3, &[DATA_5]);
 const NOTHING: Result<References<'static>, usize> = Ok(outcome!([], []));
 
 const ROWS: &[Row<'static>] = rows! {
-    ("no edit", PLAIN, DATA, &[], NOTHING, DATA),
-    ("gone again", PLAIN, DATA, &[TO_5, TO_6, GONE], Ok(outcome!([6], [(5, 1), (6, 1)])), CLEARED),
-    ("zeros that are data again", PLAIN, (3, &[0xa00]), &[KEEP, KEEP, TO_5], NOTHING, DATA),
-    ("zeros, gone", PLAIN, DATA, &[KEEP, ZERO, KEEP, GONE], Ok(outcome!([], [(5, 1)])), CLEARED),
+    ROW,
+    Row { name: "gone again", edits: &[TO_5, TO_6, GONE], expected: Ok(outcome!([6], [(5, 1), (6, 1)])),
+        after: CLEARED, ..ROW },
+    Row { name: "zeros that are data again", before: (3, &[0xa00]), edits: &[KEEP, KEEP, TO_5], ..ROW },
+    Row { name: "zeros, gone", edits: &[KEEP, ZERO, KEEP, GONE], expected: Ok(outcome!([], [(5, 1)])),
+        after: CLEARED, ..ROW },
     // cluster 0 of an external data file, which only the copied flag shows
-    ("data in cluster 0 again", (9, true), CLEARED, &[TO_0, KEEP, TO_0], Ok(outcome!([0], [])),
-        (3, &[COPIED])),
-    ("zeros in cluster 0", (9, true), CLEARED, &[TO_0, KEEP], Ok(outcome!([0], [])), (3, &[COPIED + 1])),
-    ("no cluster 0 in the image", PLAIN, (3, &[COPIED]), &[KEEP, TO_5], Ok(outcome!([5], [])), DATA),
+    Row { name: "data in cluster 0 again", external: true, before: CLEARED, edits: &[TO_0, KEEP, TO_0],
+        expected: Ok(outcome!([0], [])), after: (3, &[COPIED]), ..ROW },
+    Row { name: "zeros in cluster 0", external: true, before: CLEARED, edits: &[TO_0, KEEP],
+        expected: Ok(outcome!([0], [])), after: (3, &[COPIED + 1]), ..ROW },
+    Row { name: "no cluster 0 in the image", before: (3, &[COPIED]), edits: &[KEEP, TO_5],
+        expected: Ok(outcome!([5], [])), ..ROW },
     // compressed data in its own cluster, and in three clusters, which zeros can't keep
-    ("its own", (16, false), (3, &[0x4040_0000_0001_0010]), &[TO_1], NOTHING, (3, &[COPIED + 0x1_0000])),
-    ("the second of three", (10, false), COMPRESSED_1_TO_3, &[TO_2], Ok(outcome!([2], [(1, 3)])),
-        (3, &[COPIED + 0x800])),
-    ("three that zeros can't keep", (10, false), COMPRESSED_1_TO_3, &[KEEP, TO_2, TO_1],
-        Ok(outcome!([2, 1], [(1, 3), (2, 1)])), (3, &[COPIED + 0x400])),
+    Row { name: "its own", cluster_bits: 16, before: (3, &[0x4040_0000_0001_0010]), edits: &[TO_1],
+        after: (3, &[COPIED + 0x1_0000]), ..ROW },
+    Row { name: "the second of three", cluster_bits: 10, before: COMPRESSED_1_TO_3, edits: &[TO_2],
+        expected: Ok(outcome!([2], [(1, 3)])), after: (3, &[COPIED + 0x800]), ..ROW },
+    Row { name: "three that zeros can't keep", cluster_bits: 10, before: COMPRESSED_1_TO_3,
+        edits: &[KEEP, TO_2, TO_1], expected: Ok(outcome!([2, 1], [(1, 3), (2, 1)])),
+        after: (3, &[COPIED + 0x400]), ..ROW },
     // data from the last byte of cluster 5 on, that ends in the next cluster and in the one after it
-    ("two and three clusters of 2 MiB", (21, true),
-        (3, &[0x4002_0000_00bf_ffff, 0x6002_0000_00bf_ffff]), &[ZERO, map!(4, 5)],
-        Ok(outcome!([5], [(5, 2), (5, 3)])), (3, &[1, COPIED + 0xa0_0000])),
+    Row { name: "two and three clusters of 2 MiB", cluster_bits: 21, external: true,
+        before: (3, &[0x4002_0000_00bf_ffff, 0x6002_0000_00bf_ffff]), edits: &[ZERO, map!(4, 5)],
+        expected: Ok(outcome!([5], [(5, 2), (5, 3)])), after: (3, &[1, COPIED + 0xa0_0000]), ..ROW },
     // compressed data in clusters 1 to 3 and in cluster 2, data in cluster 5, and data and zeros in cluster 6
-    ("entries that share clusters", (10, false),
-        (0, &[0x7000_0000_0000_0600, 0x4000_0000_0000_0900, COPIED + 0x1400, 0x1800, 0x1801, 0]),
-        MIXED, Ok(outcome!([8, 4, 9, 2], [(1, 3), (2, 1), (6, 1), (4, 1), (8, 1)])),
-        (0, &[0, COPIED + 0x800, COPIED + 0x1400, 0x1801, 0, COPIED + 0x2400])),
+    Row { name: "entries that share clusters", cluster_bits: 10,
+        before: (0, &[0x7000_0000_0000_0600, 0x4000_0000_0000_0900, COPIED + 0x1400, 0x1800, 0x1801, 0]),
+        edits: MIXED, expected: Ok(outcome!([8, 4, 9, 2], [(1, 3), (2, 1), (6, 1), (4, 1), (8, 1)])),
+        after: (0, &[0, COPIED + 0x800, COPIED + 0x1400, 0x1801, 0, COPIED + 0x2400]), ..ROW },
     // the last index and the greatest cluster
-    ("the last entry of a table of 512 bytes", PLAIN, CLEARED, &[map!(63, 0x7fff_ffff_ffff)],
-        Ok(outcome!([0x7fff_ffff_ffff], [])), (63, &[0x80ff_ffff_ffff_fe00])),
-    ("the last entry of a table of 2 MiB", (21, true), (262_143, &[0x80ff_ffff_ffe0_0000]),
-        &[Edit::Discard { index: 262_143 }, map!(262_143, 0x7_ffff_ffff)],
-        Ok(outcome!([0x7_ffff_ffff], [(0x7_ffff_ffff, 1)])), (262_143, &[0x80ff_ffff_ffe0_0000])),
+    Row { name: "the last entry of a table of 512 bytes", before: CLEARED,
+        edits: &[map!(63, 0x7fff_ffff_ffff)], expected: Ok(outcome!([0x7fff_ffff_ffff], [])),
+        after: (63, &[0x80ff_ffff_ffff_fe00]), ..ROW },
+    Row { name: "the last entry of a table of 2 MiB", cluster_bits: 21, external: true,
+        before: (262_143, &[0x80ff_ffff_ffe0_0000]),
+        edits: &[Edit::Discard { index: 262_143 }, map!(262_143, 0x7_ffff_ffff)],
+        expected: Ok(outcome!([0x7_ffff_ffff], [(0x7_ffff_ffff, 1)])),
+        after: (262_143, &[0x80ff_ffff_ffe0_0000]), ..ROW },
     // refused: indices past the end, cluster 0, and clusters past the greatest of 512 bytes and of 2 MiB
-    ("past the end", PLAIN, DATA, &[GONE, PAST], Err(1), DATA),
-    ("the greatest index", PLAIN, DATA, &[ZERO, Edit::Discard { index: usize::MAX }], Err(1), DATA),
-    ("cluster 0", PLAIN, DATA, &[KEEP, GONE, TO_0, PAST], Err(2), DATA),
-    ("cluster 0 of an empty table", PLAIN, CLEARED, &[TO_0, KEEP, TO_0], Err(0), CLEARED),
-    ("2^47", (9, true), DATA, &[map!(3, 1 << 47)], Err(0), DATA),
-    ("2^35", (21, false), CLEARED, &[TO_5, TO_6, GONE, KEEP, map!(3, 1 << 35)], Err(4), CLEARED),
-    ("the greatest number", PLAIN, CLEARED, &[GONE, map!(3, u64::MAX)], Err(1), CLEARED),
+    Row { name: "past the end", edits: &[GONE, PAST], expected: Err(1), ..ROW },
+    Row { name: "the greatest index", edits: &[ZERO, Edit::Discard { index: usize::MAX }], expected: Err(1),
+        ..ROW },
+    Row { name: "cluster 0", edits: &[KEEP, GONE, TO_0, PAST], expected: Err(2), ..ROW },
+    Row { name: "cluster 0 of an empty table", before: CLEARED, edits: &[TO_0, KEEP, TO_0], expected: Err(0),
+        after: CLEARED, ..ROW },
+    Row { name: "2^47", external: true, edits: &[map!(3, 1 << 47)], expected: Err(0), ..ROW },
+    Row { name: "2^35", cluster_bits: 21, before: CLEARED, edits: &[TO_5, TO_6, GONE, KEEP, map!(3, 1 << 35)],
+        expected: Err(4), after: CLEARED, ..ROW },
+    Row { name: "the greatest number", before: CLEARED, edits: &[GONE, map!(3, u64::MAX)], expected: Err(1),
+        after: CLEARED, ..ROW },
 };
 
 const COMPRESSED_1_TO_3: Entries<'static> = (3, &[0x7000_0000_0000_0600]);
@@ -93,14 +116,14 @@ fn edits_are_made_one_after_the_other_or_change_nothing(rt: HostRuntime) -> Resu
 
 // Makes the edits of a row, of a table with this flag.
 fn check_edits(alloc: Global, row: Row<'_>, modified: bool) -> Result<(), Fail> {
-    let (name, image, before, edits, expected, after) = row;
-    let mut table = table_with(alloc, image, before, modified)?;
-    let fit = expected.map(|_| ());
-    same(edits_fit(&table, edits), fit, name)?;
-    let answer = edit_table(alloc, &mut table, edits);
-    check_outcome(answer, expected.map_err(Fault::BadEdit), name)?;
-    let is_edited = expected.is_ok() && !edits.is_empty();
-    check_table(&table, after, modified || is_edited, name)
+    let image = (row.cluster_bits, row.external);
+    let mut table = table_with(alloc, image, row.before, modified)?;
+    let fit = row.expected.map(|_| ());
+    same(edits_fit(&table, row.edits), fit, row.name)?;
+    let answer = edit_table(alloc, &mut table, row.edits);
+    check_outcome(answer, row.expected.map_err(Fault::BadEdit), row.name)?;
+    let is_edited = row.expected.is_ok() && !row.edits.is_empty();
+    check_table(&table, row.after, modified || is_edited, row.name)
 }
 
 // Ten thousand edits of a table of 8192 entries: a map of each entry and a discard of it after that. Which
@@ -126,6 +149,14 @@ fn many_edits(alloc: Global) -> Result<(Vec<Edit>, Outcome), AllocError> {
 fn ten_thousand_edits_are_made_in_their_order(rt: HostRuntime) -> Result<(), Fail> {
     let (edits, outcome) = many_edits(rt.alloc())?;
     let expected: Result<References<'_>, usize> = Ok((&outcome.gained, &outcome.freed));
-    let row: Row<'_> = ("many", (16, false), CLEARED, &edits, expected, CLEARED);
+    let row = Row {
+        name: "many",
+        cluster_bits: 16,
+        external: false,
+        before: CLEARED,
+        edits: &edits,
+        expected,
+        after: CLEARED,
+    };
     check_edits(rt.alloc(), row, false)
 }

@@ -28,66 +28,82 @@ macro_rules! allocated {
     };
 }
 
-// Cluster bits, changes of the sample image, the extents that are reported, and the fault that ends them.
-type Row = (
-    &'static str,
-    u32,
-    Numbers<'static>,
-    &'static [Part],
-    Option<Fault>,
-);
+// Changes of the sample image, the extents that are reported then, and the fault that ends them.
+#[derive(Clone, Copy)]
+struct Row {
+    name: &'static str,
+    cluster_bits: u32,
+    changes: Numbers<'static>,
+    parts: &'static [Part],
+    fault: Option<Fault>,
+}
+
+const ROW: Row = Row {
+    name: "",
+    cluster_bits: 9,
+    changes: &[],
+    parts: &[],
+    fault: None,
+};
 
 const ROWS: &[Row] = rows! {
-    ("one cluster of data", 9, &[], &[(1536, Absent), DATA, (30720, Absent)], None),
-    ("a disk of 0 bytes", 9, &[(24, 0)], &[], None),
-    ("a disk of one byte", 9, &[(24, 1)], &[(1, Absent)], None),
-    ("to inside the data", 9, &[(24, 1537)], &[(1536, Absent), data!(1, 0xa00)], None),
-    ("to the data's end", 9, &[(24, 2048)], &[(1536, Absent), DATA], None),
+    Row { name: "one cluster of data", parts: &[(1536, Absent), DATA, (30720, Absent)], ..ROW },
+    Row { name: "a disk of 0 bytes", changes: &[(24, 0)], ..ROW },
+    Row { name: "a disk of one byte", changes: &[(24, 1)], parts: &[(1, Absent)], ..ROW },
+    Row { name: "to inside the data", changes: &[(24, 1537)], parts: &[(1536, Absent), data!(1, 0xa00)],
+        ..ROW },
+    Row { name: "to the data's end", changes: &[(24, 2048)], parts: &[(1536, Absent), DATA], ..ROW },
     // the largest disk, past a short L1 table
-    ("2^64 - 1", 9, &[(24, MAX)], &[(1536, Absent), DATA, (MAX - 2048, Absent)], None),
-    ("data in one host cluster after another, copied or not", 9,
-        &[(1056, 0xc00), (1064, COPIED + 0xe00)],
-        &[(1536, Absent), data!(1536, 0xa00), (29696, Absent)], None),
-    ("data backwards, with a hole, and shared", 9, &[(1056, 0x800), (1064, 0xc00), (1072, 0xc00)],
-        &[(1536, Absent), DATA, data!(512, 0x800), data!(512, 0xc00), data!(512, 0xc00),
-        (29184, Absent)], None),
-    ("zeros with clusters one after another, and without", 9,
-        &[(1048, 0xa01), (1056, COPIED + 0xc01), (1064, 1), (1072, COPIED + 1), (1080, 0xe01)],
-        &[(1536, Absent), allocated!(1024, 0xa00), (1024, Zeros), allocated!(512, 0xe00),
-        (28672, Absent)], None),
-    ("compressed clusters of different places and lengths", 9,
-        &[(1048, 0x4000_0000_0000_0601), (1056, 0x6000_0000_0000_0001)],
-        &[(1536, Absent), (1024, Compressed), (30208, Absent)], None),
-    ("cluster 0 of an external data file, and the one after it", 9,
-        &[(72, 4), (1040, 0), (1048, COPIED), (1056, 0x200), (1064, COPIED + 1)],
-        &[(1536, Absent), data!(1024, 0), allocated!(512, 0), (29696, Absent)], None),
-    ("zeros without a cluster, and those of cluster 0 of an external data file", 9,
-        &[(72, 4), (1048, 1), (1056, COPIED + 1), (1064, 1)],
-        &[(1536, Absent), (512, Zeros), allocated!(512, 0), (512, Zeros), (29696, Absent)], None),
-    ("data that goes on in the next L2 table", 9,
-        &[(24, 65536), (32, 2), (520, 0x600), (1048, 0), (1528, 0xa00), (1536, 0xc00)],
-        &[(32256, Absent), data!(1024, 0xa00), (32256, Absent)], None),
-    ("data that doesn't", 9,
-        &[(24, 65536), (32, 2), (520, 0x600), (1048, 0), (1528, 0xa00), (1536, 0xa00)],
-        &[(32256, Absent), DATA, DATA, (32256, Absent)], None),
-    ("the second L1 entry alone, of a table that is longer than the disk", 9,
-        &[(24, 36000), (32, 4), (512, 0), (520, 0x400), (528, 0x200)],
-        &[(34304, Absent), DATA, (1184, Absent)], None),
-    ("one L2 table twice", 9, &[(24, 65536), (32, 2), (520, 0x400)],
-        &[(1536, Absent), DATA, (32256, Absent), DATA, (30720, Absent)], None),
+    Row { name: "2^64 - 1", changes: &[(24, MAX)], parts: &[(1536, Absent), DATA, (MAX - 2048, Absent)],
+        ..ROW },
+    Row { name: "data in one host cluster after another, copied or not",
+        changes: &[(1056, 0xc00), (1064, COPIED + 0xe00)],
+        parts: &[(1536, Absent), data!(1536, 0xa00), (29696, Absent)], ..ROW },
+    Row { name: "data backwards, with a hole, and shared",
+        changes: &[(1056, 0x800), (1064, 0xc00), (1072, 0xc00)],
+        parts: &[(1536, Absent), DATA, data!(512, 0x800), data!(512, 0xc00), data!(512, 0xc00),
+        (29184, Absent)],
+        ..ROW },
+    Row { name: "zeros with clusters one after another, and without",
+        changes: &[(1048, 0xa01), (1056, COPIED + 0xc01), (1064, 1), (1072, COPIED + 1), (1080, 0xe01)],
+        parts: &[(1536, Absent), allocated!(1024, 0xa00), (1024, Zeros), allocated!(512, 0xe00),
+        (28672, Absent)],
+        ..ROW },
+    Row { name: "compressed clusters of different places and lengths",
+        changes: &[(1048, 0x4000_0000_0000_0601), (1056, 0x6000_0000_0000_0001)],
+        parts: &[(1536, Absent), (1024, Compressed), (30208, Absent)], ..ROW },
+    Row { name: "cluster 0 of an external data file, and the one after it",
+        changes: &[(72, 4), (1040, 0), (1048, COPIED), (1056, 0x200), (1064, COPIED + 1)],
+        parts: &[(1536, Absent), data!(1024, 0), allocated!(512, 0), (29696, Absent)], ..ROW },
+    Row { name: "zeros without a cluster, and those of cluster 0 of an external data file",
+        changes: &[(72, 4), (1048, 1), (1056, COPIED + 1), (1064, 1)],
+        parts: &[(1536, Absent), (512, Zeros), allocated!(512, 0), (512, Zeros), (29696, Absent)], ..ROW },
+    Row { name: "data that goes on in the next L2 table",
+        changes: &[(24, 65536), (32, 2), (520, 0x600), (1048, 0), (1528, 0xa00), (1536, 0xc00)],
+        parts: &[(32256, Absent), data!(1024, 0xa00), (32256, Absent)], ..ROW },
+    Row { name: "data that doesn't",
+        changes: &[(24, 65536), (32, 2), (520, 0x600), (1048, 0), (1528, 0xa00), (1536, 0xa00)],
+        parts: &[(32256, Absent), DATA, DATA, (32256, Absent)], ..ROW },
+    Row { name: "the second L1 entry alone, of a table that is longer than the disk",
+        changes: &[(24, 36000), (32, 4), (512, 0), (520, 0x400), (528, 0x200)],
+        parts: &[(34304, Absent), DATA, (1184, Absent)], ..ROW },
+    Row { name: "one L2 table twice", changes: &[(24, 65536), (32, 2), (520, 0x400)],
+        parts: &[(1536, Absent), DATA, (32256, Absent), DATA, (30720, Absent)], ..ROW },
     // bad entries: after the disk's end in its last table, in a table after it, and in the second table
-    ("in the last table", 9, &[(24, 1536), (1528, 2)], &[], RESERVED),
-    ("in a table behind the disk's end", 9, &[(24, 32768), (32, 2), (520, 0x600), (1536, 2)],
-        &[(1536, Absent), DATA, (30720, Absent)], None),
-    ("in the second table", 9, &[(24, 65536), (32, 2), (520, 0x600), (1536, 0x201), (1544, 2)],
-        &[(1536, Absent), DATA], RESERVED),
-    ("data past 2^40, in clusters of 2 MiB", 21,
-        &[(24, 0x100_0100_0000), (32, 3), (0x20_0000, 0), (0x20_0010, 0x40_0000)],
-        &[(0x100_0060_0000, Absent), data!(0x20_0000, 0xa0_0000), (0x80_0000, Absent)], None),
-    ("whole tables, in clusters of 64 KiB", 16, &[(24, 0x4000_0001), (32, 2), (0x1_0008, 0x2_0000)],
-        &[(0x3_0000, Absent), data!(0x1_0000, 0x5_0000), (0x1fff_0000, Absent),
+    Row { name: "in the last table", changes: &[(24, 1536), (1528, 2)], fault: RESERVED, ..ROW },
+    Row { name: "in a table behind the disk's end", changes: &[(24, 32768), (32, 2), (520, 0x600), (1536, 2)],
+        parts: &[(1536, Absent), DATA, (30720, Absent)], ..ROW },
+    Row { name: "in the second table",
+        changes: &[(24, 65536), (32, 2), (520, 0x600), (1536, 0x201), (1544, 2)],
+        parts: &[(1536, Absent), DATA], fault: RESERVED, ..ROW },
+    Row { name: "data past 2^40, in clusters of 2 MiB", cluster_bits: 21,
+        changes: &[(24, 0x100_0100_0000), (32, 3), (0x20_0000, 0), (0x20_0010, 0x40_0000)],
+        parts: &[(0x100_0060_0000, Absent), data!(0x20_0000, 0xa0_0000), (0x80_0000, Absent)], ..ROW },
+    Row { name: "whole tables, in clusters of 64 KiB", cluster_bits: 16,
+        changes: &[(24, 0x4000_0001), (32, 2), (0x1_0008, 0x2_0000)],
+        parts: &[(0x3_0000, Absent), data!(0x1_0000, 0x5_0000), (0x1fff_0000, Absent),
         data!(0x1_0000, 0x5_0000), (0x1ffc_0001, Absent)],
-        None),
+        ..ROW },
 };
 
 const DATA: Part = data!(512, 0xa00);
@@ -103,10 +119,20 @@ fn each_disk_is_told_as_extents(rt: HostRuntime) -> Result<(), Fail> {
 
 // Reports the extents of the image of a row, of which no byte changes.
 fn check_row(alloc: Global, row: Row) -> Result<(), Fail> {
-    let (name, bits, changes, parts, fault) = row;
-    let mut image = sample_image(alloc, bits, changes)?;
-    check_extents(alloc, &mut image, parts, (fault, fault), name)?;
-    check_sample(alloc, image.bytes(), (bits, changes), name)
+    let mut image = sample_image(alloc, row.cluster_bits, row.changes)?;
+    check_extents(
+        alloc,
+        &mut image,
+        row.parts,
+        (row.fault, row.fault),
+        row.name,
+    )?;
+    check_sample(
+        alloc,
+        image.bytes(),
+        (row.cluster_bits, row.changes),
+        row.name,
+    )
 }
 
 // The extents of an image, and the faults on the way. A call that is refused is made again, and the second

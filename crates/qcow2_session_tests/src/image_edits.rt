@@ -21,42 +21,62 @@ const DATA: (u64, &[u8]) = (1048, &[0x80, 0, 0, 0, 0, 0, 0x0a, 0]);
 // The entry of the lowest reserved bit, as its last byte.
 const RESERVED: &[u8] = &[2];
 
-// A list of edits of an image: its cluster bits, the table's cluster, whether data is external, and the
-// image. What the edits do to references, or the fault that they are refused by, and the image then.
-type Row = (
-    &'static str,
-    (u32, u64, bool),
-    Contents<'static>,
-    &'static [Edit],
-    Result<References<'static>, Fault>,
-    Contents<'static>,
-);
+// A list of edits of the table at a cluster of an image, what they do to references or the fault that they
+// are refused by, and the image then.
+#[derive(Clone, Copy)]
+struct Row {
+    name: &'static str,
+    cluster_bits: u32,
+    cluster: u64,
+    external: bool,
+    before: Contents<'static>,
+    edits: &'static [Edit],
+    expected: Result<References<'static>, Fault>,
+    after: Contents<'static>,
+}
 
-const ROWS: &[Row] = rows! {
-    ("gone", PLAIN, ONE, &[TO_5, TO_6, GONE], Ok(outcome!([6], [(5, 1), (6, 1)])), (1536, &[])),
-    ("no edit", PLAIN, ONE, &[], NOTHING, ONE),
-    ("no edit at the last place", (9, LAST, false), SHORT, &[], NOTHING, SHORT),
-    ("an edit that leaves the entry", PLAIN, ONE, &[TO_5], NOTHING, ONE),
-    ("a hundred edits", PLAIN, ONE, &[GONE; 100], Ok(outcome!([], [(5, 1)])), (1536, &[])),
-    ("a table past the end", PLAIN, (1024, &[]), &[TO_5], Ok(outcome!([5], [])), ONE),
-    ("cluster 0 of an external data file", (9, 2, true), (2000, &[DATA]), &[TO_0],
-        Ok(outcome!([0], [(5, 1)])), (2000, &[(1048, &[0x80])])),
-    ("both ends of a table of 2 MiB", (21, 1, false),
-        (4_194_400, &[(2_097_152, &[0x80, 0, 0, 0, 0, 0x40, 0, 0])]), ENDS_OF_2_MIB,
-        Ok(outcome!([3], [(2, 1)])),
-        (4_194_400, &[(2_097_159, &[1]), (4_194_296, &[0x80, 0, 0, 0, 0, 0x60, 0, 0])])),
-    ("past the end", PLAIN, ONE, &[GONE, PAST], Err(Fault::BadEdit(1)), ONE),
-    ("at the last place", (9, LAST, false), SHORT, &[PAST], Err(Fault::BadEdit(0)), SHORT),
-    ("past 2^56", (9, LAST + 1, false), SHORT, &[PAST], Err(Fault::TablePlace), SHORT),
-    ("past 64 bits", (9, u64::MAX, false), SHORT, &[], Err(Fault::TablePlace), SHORT),
-    // damaged entries: the last one, one that isn't aligned before it, and the last one of 2 MiB
-    ("reserved", PLAIN, DAMAGED, &[PAST], Err(Fault::EntryReserved), DAMAGED),
-    ("unaligned", (10, 1, false), DAMAGED_2, &[GONE], Err(Fault::EntryUnaligned), DAMAGED_2),
-    ("of 2 MiB", (21, 1, false), DAMAGED_LAST, ENDS_OF_2_MIB, Err(Fault::EntryReserved),
-        DAMAGED_LAST),
+const ROW: Row = Row {
+    name: "no edit",
+    cluster_bits: 9,
+    cluster: 2,
+    external: false,
+    before: ONE,
+    edits: &[],
+    expected: NOTHING,
+    after: ONE,
 };
 
-const PLAIN: (u32, u64, bool) = (9, 2, false);
+const ROWS: &[Row] = rows! {
+    Row { name: "gone", edits: &[TO_5, TO_6, GONE], expected: Ok(outcome!([6], [(5, 1), (6, 1)])),
+        after: (1536, &[]), ..ROW },
+    ROW,
+    Row { name: "no edit at the last place", cluster: LAST, before: SHORT, after: SHORT, ..ROW },
+    Row { name: "an edit that leaves the entry", edits: &[TO_5], ..ROW },
+    Row { name: "a hundred edits", edits: &[GONE; 100], expected: Ok(outcome!([], [(5, 1)])),
+        after: (1536, &[]), ..ROW },
+    Row { name: "a table past the end", before: (1024, &[]), edits: &[TO_5], expected: Ok(outcome!([5], [])),
+        ..ROW },
+    Row { name: "cluster 0 of an external data file", external: true, before: (2000, &[DATA]), edits: &[TO_0],
+        expected: Ok(outcome!([0], [(5, 1)])), after: (2000, &[(1048, &[0x80])]), ..ROW },
+    Row { name: "both ends of a table of 2 MiB", cluster_bits: 21, cluster: 1,
+        before: (4_194_400, &[(2_097_152, &[0x80, 0, 0, 0, 0, 0x40, 0, 0])]), edits: ENDS_OF_2_MIB,
+        expected: Ok(outcome!([3], [(2, 1)])),
+        after: (4_194_400, &[(2_097_159, &[1]), (4_194_296, &[0x80, 0, 0, 0, 0, 0x60, 0, 0])]), ..ROW },
+    Row { name: "past the end", edits: &[GONE, PAST], expected: Err(Fault::BadEdit(1)), ..ROW },
+    Row { name: "at the last place", cluster: LAST, before: SHORT, edits: &[PAST],
+        expected: Err(Fault::BadEdit(0)), after: SHORT, ..ROW },
+    Row { name: "past 2^56", cluster: LAST + 1, before: SHORT, edits: &[PAST],
+        expected: Err(Fault::TablePlace), after: SHORT, ..ROW },
+    Row { name: "past 64 bits", cluster: u64::MAX, before: SHORT, expected: Err(Fault::TablePlace),
+        after: SHORT, ..ROW },
+    // damaged entries: the last one, one that isn't aligned before it, and the last one of 2 MiB
+    Row { name: "reserved", before: DAMAGED, edits: &[PAST], expected: Err(Fault::EntryReserved),
+        after: DAMAGED, ..ROW },
+    Row { name: "unaligned", cluster_bits: 10, cluster: 1, before: DAMAGED_2, edits: &[GONE],
+        expected: Err(Fault::EntryUnaligned), after: DAMAGED_2, ..ROW },
+    Row { name: "of 2 MiB", cluster_bits: 21, cluster: 1, before: DAMAGED_LAST, edits: ENDS_OF_2_MIB,
+        expected: Err(Fault::EntryReserved), after: DAMAGED_LAST, ..ROW },
+};
 
 const NOTHING: Result<References<'static>, Fault> = Ok(outcome!([], []));
 
@@ -84,14 +104,19 @@ fn edits_stand_in_the_image_or_leave_it(rt: HostRuntime) -> Result<(), Fail> {
 
 // Makes the edits of a row, where this byte stands around the table.
 fn check_edits(alloc: Global, row: Row, around: u8) -> Result<(), Fail> {
-    let (name, (bits, cluster, external), before, edits, expected, after) = row;
-    let place = (bits, cluster);
-    let mut image = recording_image(alloc, place, around, before)?;
-    let header = header_of(alloc, bits, 4, external)?;
-    let answer = edit_image(alloc, &mut image, &header, HostCluster(cluster), edits);
-    let is_read = expected != Err(Fault::TablePlace);
-    let is_written = expected.is_ok() && !edits.is_empty();
-    check_outcome(answer, expected, name)?;
+    let place = (row.cluster_bits, row.cluster);
+    let mut image = recording_image(alloc, place, around, row.before)?;
+    let header = header_of(alloc, row.cluster_bits, 4, row.external)?;
+    let answer = edit_image(
+        alloc,
+        &mut image,
+        &header,
+        HostCluster(row.cluster),
+        row.edits,
+    );
+    let is_read = row.expected != Err(Fault::TablePlace);
+    let is_written = row.expected.is_ok() && !row.edits.is_empty();
+    check_outcome(answer, row.expected, row.name)?;
     let calls = (is_read, is_written);
-    check_image(&image, alloc, place, around, after, calls, name)
+    check_image(&image, alloc, place, around, row.after, calls, row.name)
 }

@@ -14,35 +14,54 @@ use std::test::Fail;
 // The bytes of an entry of the table in cluster 2, before the block.
 const ENTRY: &[u8] = &[0x80, 0, 0, 0, 0, 0, 0x0a, 0];
 
-// A list of steps of an image: its cluster bits, the block's cluster and the refcount order, and the image.
-// What comes of each step, or the fault that they are refused by, and the image then.
-type Row = (
-    &'static str,
-    (u32, u64, u32),
-    Contents<'static>,
-    &'static [Step],
-    Result<&'static [StepReply], Fault>,
-    Contents<'static>,
-);
+// A list of steps of the block at a cluster of an image, what comes of each or the fault that they are
+// refused by, and the image then.
+#[derive(Clone, Copy)]
+struct Row {
+    name: &'static str,
+    cluster_bits: u32,
+    cluster: u64,
+    refcount_order: u32,
+    before: Contents<'static>,
+    steps: &'static [Step],
+    expected: Result<&'static [StepReply], Fault>,
+    after: Contents<'static>,
+}
+
+const ROW: Row = Row {
+    name: "",
+    cluster_bits: 9,
+    cluster: 3,
+    refcount_order: 4,
+    before: TABLE,
+    steps: &[],
+    expected: Ok(&[]),
+    after: TABLE,
+};
 
 const ROWS: &[Row] = rows! {
-    ("up, up, down, and one that is at 0", (9, 3, 4), TABLE, &[INC_0, INC_0, DEC_0, DEC_1],
-        Ok(UP_UP_DOWN), (2048, &[(1048, ENTRY), (1536, &[0, 1])])),
-    ("none is done", (9, 3, 4), TABLE, &[DEC_0, DEC_1], Ok(&[Refused, Refused]), TABLE),
-    ("no step at the last place", (9, LAST, 4), (700, &[]), &[], Ok(&[]), (700, &[])),
-    ("up and down", (9, 1, 4), SEVEN, &[INC_0, DEC_0], Ok(&[Done(7), Done(8)]), SEVEN),
-    ("a hundred", (9, 1, 4), SEVEN, &[Step::Dec { index: 1 }; 100], Ok(&[Refused; 100]), SEVEN),
-    ("both ends of a block of 64 KiB", (16, 1, 4), (196_608, &[]),
-        &[Step::Inc { index: 32_767 }, INC_0], Ok(&[Done(0), Done(0)]),
-        (196_608, &[(65_536, &[0, 1]), (131_070, &[0, 1])])),
-    ("both ends of a block of 2 MiB", (21, 1, 3), (4_194_400, &[(4_194_303, &[9])]),
-        &[Step::Dec { index: 2_097_151 }, INC_0], Ok(&[Done(9), Done(0)]),
-        (4_194_400, &[(2_097_152, &[1]), (4_194_303, &[8])])),
+    Row { name: "up, up, down, and one that is at 0", steps: &[INC_0, INC_0, DEC_0, DEC_1],
+        expected: Ok(UP_UP_DOWN), after: (2048, &[(1048, ENTRY), (1536, &[0, 1])]), ..ROW },
+    Row { name: "none is done", steps: &[DEC_0, DEC_1], expected: Ok(&[Refused, Refused]), ..ROW },
+    Row { name: "no step at the last place", cluster: LAST, before: (700, &[]), after: (700, &[]), ..ROW },
+    Row { name: "up and down", cluster: 1, before: SEVEN, steps: &[INC_0, DEC_0],
+        expected: Ok(&[Done(7), Done(8)]), after: SEVEN, ..ROW },
+    Row { name: "a hundred", cluster: 1, before: SEVEN, steps: &[Step::Dec { index: 1 }; 100],
+        expected: Ok(&[Refused; 100]), after: SEVEN, ..ROW },
+    Row { name: "both ends of a block of 64 KiB", cluster_bits: 16, cluster: 1, before: (196_608, &[]),
+        steps: &[Step::Inc { index: 32_767 }, INC_0], expected: Ok(&[Done(0), Done(0)]),
+        after: (196_608, &[(65_536, &[0, 1]), (131_070, &[0, 1])]), ..ROW },
+    Row { name: "both ends of a block of 2 MiB", cluster_bits: 21, cluster: 1, refcount_order: 3,
+        before: (4_194_400, &[(4_194_303, &[9])]), steps: &[Step::Dec { index: 2_097_151 }, INC_0],
+        expected: Ok(&[Done(9), Done(0)]), after: (4_194_400, &[(2_097_152, &[1]), (4_194_303, &[8])]),
+        ..ROW },
     // indices past the end, also after steps that could be made
-    ("past the end", (9, 3, 4), TABLE, &[INC_0, DEC_0, MAX], Err(Fault::BadStep(2)), TABLE),
-    ("past it at the last place", (9, LAST, 4), TABLE, &[PAST], Err(Fault::BadStep(0)), TABLE),
-    ("past 2^56", (9, LAST + 1, 4), TABLE, &[PAST], Err(Fault::TablePlace), TABLE),
-    ("past 64 bits", (21, u64::MAX, 4), TABLE, &[], Err(Fault::TablePlace), TABLE),
+    Row { name: "past the end", steps: &[INC_0, DEC_0, MAX], expected: Err(Fault::BadStep(2)), ..ROW },
+    Row { name: "past it at the last place", cluster: LAST, steps: &[PAST], expected: Err(Fault::BadStep(0)),
+        ..ROW },
+    Row { name: "past 2^56", cluster: LAST + 1, steps: &[PAST], expected: Err(Fault::TablePlace), ..ROW },
+    Row { name: "past 64 bits", cluster_bits: 21, cluster: u64::MAX, expected: Err(Fault::TablePlace),
+        ..ROW },
 };
 
 const TABLE: Contents<'static> = (1536, &[(1048, ENTRY)]);
@@ -67,13 +86,18 @@ fn steps_stand_in_the_image_or_leave_it(rt: HostRuntime) -> Result<(), Fail> {
 
 // Makes the steps of a row, where this byte stands around the block.
 fn check_steps(alloc: Global, row: Row, around: u8) -> Result<(), Fail> {
-    let (name, (bits, cluster, order), before, steps, expected, after) = row;
-    let place = (bits, cluster);
-    let mut image = recording_image(alloc, place, around, before)?;
-    let header = header_of(alloc, bits, order, false)?;
-    let answer = step_image(alloc, &mut image, &header, HostCluster(cluster), steps);
-    let is_read = expected != Err(Fault::TablePlace);
-    let is_written = check_replies(answer, expected, name)?;
+    let place = (row.cluster_bits, row.cluster);
+    let mut image = recording_image(alloc, place, around, row.before)?;
+    let header = header_of(alloc, row.cluster_bits, row.refcount_order, false)?;
+    let answer = step_image(
+        alloc,
+        &mut image,
+        &header,
+        HostCluster(row.cluster),
+        row.steps,
+    );
+    let is_read = row.expected != Err(Fault::TablePlace);
+    let is_written = check_replies(answer, row.expected, row.name)?;
     let calls = (is_read, is_written);
-    check_image(&image, alloc, place, around, after, calls, name)
+    check_image(&image, alloc, place, around, row.after, calls, row.name)
 }

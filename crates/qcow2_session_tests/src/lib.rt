@@ -23,6 +23,8 @@ mod images;
 #[cfg(test)]
 mod lookups;
 #[cfg(test)]
+mod refused_calls;
+#[cfg(test)]
 mod sample_image;
 #[cfg(test)]
 mod settled;

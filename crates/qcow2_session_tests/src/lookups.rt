@@ -23,49 +23,76 @@ enum Answer {
 // Offsets, and what the cluster of each reads as.
 type Offsets<'a> = &'a [(u64, Answer)];
 
-// Cluster bits, changes of the sample image, and what offsets read as then.
-type Row = (&'static str, u32, Numbers<'static>, Offsets<'static>);
+// Changes of the sample image, and what offsets read as then.
+#[derive(Clone, Copy)]
+struct Row {
+    name: &'static str,
+    cluster_bits: u32,
+    changes: Numbers<'static>,
+    offsets: Offsets<'static>,
+}
+
+const ROW: Row = Row {
+    name: "",
+    cluster_bits: 9,
+    changes: &[],
+    offsets: ABSENT,
+};
 
 const ROWS: &[Row] = rows! {
-    ("one cluster of data", 9, &[],
-        &[(1535, Backing(1024)), (1536, Data(5, true)), (2047, Data(5, true)), (2048, Backing(2048)),
-        (32768, Backing(32768)), (u64::MAX, Backing(0xffff_ffff_ffff_fe00))]),
-    ("the first entry of an L2 table, the last and one between, in clusters of 2 MiB", 21,
-        &[(0x40_0000, 0x60_0000), (0x5f_fff8, 0x80_0000)],
-        &[(0x1f_ffff, Data(3, false)), (0x7f_ffff, Data(5, true)), (0x80_0000, Backing(0x80_0000)),
+    Row { name: "one cluster of data",
+        offsets: &[(1535, Backing(1024)), (1536, Data(5, true)), (2047, Data(5, true)), (2048, Backing(2048)),
+        (32768, Backing(32768)), (u64::MAX, Backing(0xffff_ffff_ffff_fe00))],
+        ..ROW },
+    Row { name: "the first entry of an L2 table, the last and one between, in clusters of 2 MiB",
+        cluster_bits: 21, changes: &[(0x40_0000, 0x60_0000), (0x5f_fff8, 0x80_0000)],
+        offsets: &[(0x1f_ffff, Data(3, false)), (0x7f_ffff, Data(5, true)), (0x80_0000, Backing(0x80_0000)),
         (0x7f_ffff_ffff, Data(4, false)), (0x80_0000_0000, Backing(0x80_0000_0000)),
-        (u64::MAX, Backing(0xffff_ffff_ffe0_0000))]),
-    ("data past 2^40, in clusters of 2 MiB", 21, &[(32, 3), (0x20_0010, 0x40_0000)],
-        &[(0x100_0060_0000, Data(5, true)), (0x100_0080_0000, Backing(0x100_0080_0000))]),
-    ("a second L2 table, behind the image's end", 9, &[(32, 2), (520, COPIED + 0x600)],
-        &[(1543, Data(5, true)), (34311, Backing(34304))]),
-    ("the second L1 entry alone", 9, &[(32, 2), (512, 0), (520, 0x400)],
-        &[(1543, Backing(1536)), (34311, Data(5, true))]),
-    ("an L2 table at the end of 2^56", 9, &[(512, 0x80ff_ffff_ffff_fe00)], ABSENT),
-    ("no L1 entry", 9, &[(32, 0)], ABSENT),
-    ("no L1 entry, at 2^56", 9, &[(32, 0), (40, 1 << 56)], ABSENT),
-    ("a disk of 0 bytes", 9, &[(24, 0)], &[(1543, Data(5, true))]),
-    ("data that isn't copied", 9, &[(1048, 0xa00)], &[(1543, Data(5, false))]),
-    ("zeros", 9, &[(1048, COPIED + 1)], &[(1543, Zeros(None, false))]),
-    ("zeros with a cluster", 9, &[(1048, 0xa01)], &[(1543, Zeros(Some(HostCluster(5)), false))]),
-    ("no data", 9, &[(1048, COPIED)], ABSENT),
-    ("data in external cluster 0", 9, &[(72, 4), (1048, COPIED)], &[(1543, Data(0, true))]),
-    ("compressed", 9, &[(1048, 0x6000_0000_0000_0601)], &[(1543, Compressed(0x601, 1023))]),
+        (u64::MAX, Backing(0xffff_ffff_ffe0_0000))],
+        ..ROW },
+    Row { name: "data past 2^40, in clusters of 2 MiB", cluster_bits: 21,
+        changes: &[(32, 3), (0x20_0010, 0x40_0000)],
+        offsets: &[(0x100_0060_0000, Data(5, true)), (0x100_0080_0000, Backing(0x100_0080_0000))], ..ROW },
+    Row { name: "a second L2 table, behind the image's end", changes: &[(32, 2), (520, COPIED + 0x600)],
+        offsets: &[(1543, Data(5, true)), (34311, Backing(34304))], ..ROW },
+    Row { name: "the second L1 entry alone", changes: &[(32, 2), (512, 0), (520, 0x400)],
+        offsets: &[(1543, Backing(1536)), (34311, Data(5, true))], ..ROW },
+    Row { name: "an L2 table at the end of 2^56", changes: &[(512, 0x80ff_ffff_ffff_fe00)], ..ROW },
+    Row { name: "no L1 entry", changes: &[(32, 0)], ..ROW },
+    Row { name: "no L1 entry, at 2^56", changes: &[(32, 0), (40, 1 << 56)], ..ROW },
+    Row { name: "a disk of 0 bytes", changes: &[(24, 0)], offsets: &[(1543, Data(5, true))], ..ROW },
+    Row { name: "data that isn't copied", changes: &[(1048, 0xa00)], offsets: &[(1543, Data(5, false))],
+        ..ROW },
+    Row { name: "zeros", changes: &[(1048, COPIED + 1)], offsets: &[(1543, Zeros(None, false))], ..ROW },
+    Row { name: "zeros with a cluster", changes: &[(1048, 0xa01)],
+        offsets: &[(1543, Zeros(Some(HostCluster(5)), false))], ..ROW },
+    Row { name: "no data", changes: &[(1048, COPIED)], ..ROW },
+    Row { name: "data in external cluster 0", changes: &[(72, 4), (1048, COPIED)],
+        offsets: &[(1543, Data(0, true))], ..ROW },
+    Row { name: "compressed", changes: &[(1048, 0x6000_0000_0000_0601)],
+        offsets: &[(1543, Compressed(0x601, 1023))], ..ROW },
     // damaged images: the fault is that of the first bad part
-    ("no qcow2 image", 9, &[(0, 0x5146_49fa_0000_0003), (512, 1)], &[(1543, Refused(Fault::NotQcow2))]),
-    ("an unknown feature", 9, &[(72, 8)], &[(0, Refused(Fault::Incompatible(8)))]),
-    ("an unaligned L1 table", 16, &[(40, 0x1_0200)], &[(0, Refused(Fault::L1Unaligned))]),
-    ("2^32 - 1 L1 entries", 9, &[(32, 0xffff_ffff)],
-        &[(1543, Refused(Fault::TableTooBig)), (u64::MAX, Refused(Fault::TableTooBig))]),
-    ("an L1 table at 2^56", 9, &[(40, 1 << 56)], TOO_FAR),
-    ("an L1 table of no entry past 2^56", 9, &[(32, 0), (40, (1 << 56) + 512)], TOO_FAR),
-    ("a bad L1 entry", 9, &[(32, 2), (520, 1)], &[(1543, RESERVED), (u64::MAX, RESERVED)]),
-    ("one past the table", 9, &[(520, 1)], &[(32768, Backing(32768))]),
-    ("an unaligned L2 table", 16, &[(0x1_0000, COPIED + 0x2_0200)], &[(u64::MAX, UNALIGNED)]),
-    ("a bad L2 entry", 9, &[(1528, 2)],
-        &[(0, RESERVED), (32767, RESERVED), (32768, Backing(32768))]),
-    ("data that begins in a cluster, and then a bad entry", 16, &[(0x2_0018, 0x200), (0x2_0020, 2)],
-        &[(0, UNALIGNED), (0x2000_0000, Backing(0x2000_0000))]),
+    Row { name: "no qcow2 image", changes: &[(0, 0x5146_49fa_0000_0003), (512, 1)],
+        offsets: &[(1543, Refused(Fault::NotQcow2))], ..ROW },
+    Row { name: "an unknown feature", changes: &[(72, 8)], offsets: &[(0, Refused(Fault::Incompatible(8)))],
+        ..ROW },
+    Row { name: "an unaligned L1 table", cluster_bits: 16, changes: &[(40, 0x1_0200)],
+        offsets: &[(0, Refused(Fault::L1Unaligned))], ..ROW },
+    Row { name: "2^32 - 1 L1 entries", changes: &[(32, 0xffff_ffff)],
+        offsets: &[(1543, Refused(Fault::TableTooBig)), (u64::MAX, Refused(Fault::TableTooBig))], ..ROW },
+    Row { name: "an L1 table at 2^56", changes: &[(40, 1 << 56)], offsets: TOO_FAR, ..ROW },
+    Row { name: "an L1 table of no entry past 2^56", changes: &[(32, 0), (40, (1 << 56) + 512)],
+        offsets: TOO_FAR, ..ROW },
+    Row { name: "a bad L1 entry", changes: &[(32, 2), (520, 1)],
+        offsets: &[(1543, RESERVED), (u64::MAX, RESERVED)], ..ROW },
+    Row { name: "one past the table", changes: &[(520, 1)], offsets: &[(32768, Backing(32768))], ..ROW },
+    Row { name: "an unaligned L2 table", cluster_bits: 16, changes: &[(0x1_0000, COPIED + 0x2_0200)],
+        offsets: &[(u64::MAX, UNALIGNED)], ..ROW },
+    Row { name: "a bad L2 entry", changes: &[(1528, 2)],
+        offsets: &[(0, RESERVED), (32767, RESERVED), (32768, Backing(32768))], ..ROW },
+    Row { name: "data that begins in a cluster, and then a bad entry", cluster_bits: 16,
+        changes: &[(0x2_0018, 0x200), (0x2_0020, 2)],
+        offsets: &[(0, UNALIGNED), (0x2000_0000, Backing(0x2000_0000))], ..ROW },
 };
 
 const RESERVED: Answer = Refused(Fault::EntryReserved);
@@ -93,9 +120,9 @@ fn each_offset_reads_as_the_image_says(rt: HostRuntime) -> Result<(), Fail> {
     each(rt.alloc(), ROWS, check_row)
 }
 
-fn check_row(alloc: Global, (name, cluster_bits, changes, offsets): Row) -> Result<(), Fail> {
-    let image = sample_image(alloc, cluster_bits, changes)?;
-    check_offsets(alloc, image.bytes(), offsets, name)
+fn check_row(alloc: Global, row: Row) -> Result<(), Fail> {
+    let image = sample_image(alloc, row.cluster_bits, row.changes)?;
+    check_offsets(alloc, image.bytes(), row.offsets, row.name)
 }
 
 #[test]

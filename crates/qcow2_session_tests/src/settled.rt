@@ -6,27 +6,51 @@ use crate::tables::{
     DATA_5, GONE, KEEP, PAST, References, TO_5, TO_6, check_outcome, check_table, outcome,
     table_with,
 };
+use End::{Counted, Refused, Unchanged};
 use qcow2_base::{Fault, HostCluster, MemStorage};
 use qcow2_calls::{edit_image, edit_settled, header_of, load_block, settle, write_block};
-use qcow2_metadata::{L2Table, RefBlock};
 use qcow2_session::{Edit, Outcome};
 use qcow2_testing::{each, put_bytes, rows, same, same_bytes};
 use std::alloc::{AllocError, Global};
 use std::test::Fail;
 
-// The cluster bits, the refcount order, and whether data is external.
-type Image = (u32, u32, bool);
+// How a block ends that is settled.
+#[derive(Clone, Copy)]
+enum End {
+    /// Counters were changed, so that it counts as modified.
+    Counted,
+    Unchanged,
+    Refused(Fault),
+}
 
-// What is settled: the image, the block's index in the refcount table, and its counters. What edits did, the
-// fault, whether the block counts as modified then though it didn't, and the counters then.
-type Row<'a> = (
-    Image,
-    usize,
-    Counters<'a>,
-    References<'a>,
-    (Option<Fault>, bool),
-    Counters<'a>,
-);
+// A block that begins with these bytes and has these counters, and its index in the refcount table; what
+// edits did, how the block ends, and its counters then.
+#[derive(Clone, Copy)]
+struct Row<'a> {
+    name: &'static str,
+    cluster_bits: u32,
+    refcount_order: u32,
+    external: bool,
+    rt_index: usize,
+    bytes: &'a [u8],
+    before: Counters<'a>,
+    references: References<'a>,
+    end: End,
+    after: Counters<'a>,
+}
+
+const ROW: Row<'static> = Row {
+    name: "",
+    cluster_bits: 9,
+    refcount_order: 4,
+    external: false,
+    rt_index: 0,
+    bytes: &[],
+    before: FIVE,
+    references: outcome!([], []),
+    end: Unchanged,
+    after: FIVE,
+};
 
 // The index in the refcount table of a block of 64 counters whose first one is for cluster 2^64.
 const AT_2_TO_THE_64: usize = 1 << 58;
@@ -38,36 +62,51 @@ const ONES: Counters<'static> = &[(0, 64, 1)];
 
 const FIVE: Counters<'static> = &[(5, 1, 1)];
 
-const RANGE: Option<Fault> = Some(Fault::CounterRange);
+const OUT_OF_RANGE: End = Refused(Fault::CounterRange);
 
-const EXTERNAL: Option<Fault> = Some(Fault::ExternalData);
+const EXTERNAL: End = Refused(Fault::ExternalData);
 
 const ROWS: &[Row<'static>] = rows! {
-    ((9, 4, false), 0, FIVE, outcome!([6], [(5, 1), (6, 1)]), (None, true), &[]),
-    ((9, 4, false), 0, &[], outcome!([6], [(5, 1), (6, 1)]), (RANGE, false), &[]),
-    ((10, 4, false), 0, &[(1, 3, 1)], outcome!([2], [(1, 3)]), (None, true), &[(2, 1, 1)]),
-    ((9, 6, false), 0, &[(63, 1, 1)], outcome!([], [(63, 2)]), (None, true), &[]),
-    ((9, 6, false), 1, &[(0, 1, 1)], outcome!([], [(63, 2)]), (None, true), &[]),
-    ((9, 0, false), 0, FIVE, outcome!([5], [(5, 1)]), (RANGE, false), FIVE),
+    Row { name: "one lost, one gained and lost", references: outcome!([6], [(5, 1), (6, 1)]), end: Counted,
+        after: &[], ..ROW },
+    Row { name: "one lost that has no reference", before: &[], references: outcome!([6], [(5, 1), (6, 1)]),
+        end: OUT_OF_RANGE, after: &[], ..ROW },
+    Row { name: "the first and the last of three", cluster_bits: 10, before: &[(1, 3, 1)],
+        references: outcome!([2], [(1, 3)]), end: Counted, after: &[(2, 1, 1)], ..ROW },
+    Row { name: "the last of a block and one past it", refcount_order: 6, before: &[(63, 1, 1)],
+        references: outcome!([], [(63, 2)]), end: Counted, after: &[], ..ROW },
+    Row { name: "the first of the second block", refcount_order: 6, rt_index: 1, before: &[(0, 1, 1)],
+        references: outcome!([], [(63, 2)]), end: Counted, after: &[], ..ROW },
+    Row { name: "one bit, gained before it is lost", refcount_order: 0, references: outcome!([5], [(5, 1)]),
+        end: OUT_OF_RANGE, ..ROW },
     // a cluster that gains or loses more than one reference
-    ((9, 1, false), 0, FIVE, outcome!([5, 5], [(5, 1)]), (None, true), &[(5, 1, 2)]),
-    ((9, 4, false), 0, &[(5, 2, 1)], outcome!([], [(5, 2), (5, 1)]), (RANGE, false), &[(5, 2, 1)]),
+    Row { name: "gained twice, lost once", refcount_order: 1, references: outcome!([5, 5], [(5, 1)]),
+        end: Counted, after: &[(5, 1, 2)], ..ROW },
+    Row { name: "lost twice", before: &[(5, 2, 1)], references: outcome!([], [(5, 2), (5, 1)]),
+        end: OUT_OF_RANGE, after: &[(5, 2, 1)], ..ROW },
     // ranges that begin before the block, and that end before it and begin after it
-    ((9, 6, false), 1, ONES, outcome!([], [(60, 8)]), (None, true), &[(4, 60, 1)]),
-    ((9, 6, false), 1, ONES, outcome!([], [(0, 64), (128, 1)]), (None, false), ONES),
+    Row { name: "from before the block on", refcount_order: 6, rt_index: 1, before: ONES,
+        references: outcome!([], [(60, 8)]), end: Counted, after: &[(4, 60, 1)], ..ROW },
+    Row { name: "before the block and after it", refcount_order: 6, rt_index: 1, before: ONES,
+        references: outcome!([], [(0, 64), (128, 1)]), after: ONES, ..ROW },
     // ranges of 2^64 - 1 clusters
-    ((9, 6, false), 0, ONES, outcome!([], [(1, MAX)]), (None, true), &[(0, 1, 1)]),
-    ((9, 6, false), 0, ONES, outcome!([], [(MAX, MAX)]), (None, false), ONES),
+    Row { name: "to 2^64", refcount_order: 6, before: ONES, references: outcome!([], [(1, MAX)]),
+        end: Counted, after: &[(0, 1, 1)], ..ROW },
+    Row { name: "at the last cluster", refcount_order: 6, before: ONES,
+        references: outcome!([], [(MAX, MAX)]), after: ONES, ..ROW },
     // blocks that begin past every cluster, at 2^64, and 64 clusters before it
-    ((9, 6, false), usize::MAX, ONES, outcome!([MAX], [(MAX, MAX)]), (None, false), ONES),
-    ((9, 6, false), AT_2_TO_THE_64, ONES, outcome!([], [(MAX, 3)]), (None, true), &[(2, 62, 1)]),
-    ((9, 6, false), AT_2_TO_THE_64 - 1, ONES, outcome!([], [(MAX, 3)]), (None, true), &[(0, 63, 1)]),
-    // no clusters
-    ((9, 4, false), 0, FIVE, outcome!([], [(5, 0)]), (None, false), FIVE),
+    Row { name: "past every cluster", refcount_order: 6, rt_index: usize::MAX, before: ONES,
+        references: outcome!([MAX], [(MAX, MAX)]), after: ONES, ..ROW },
+    Row { name: "at 2^64", refcount_order: 6, rt_index: AT_2_TO_THE_64, before: ONES,
+        references: outcome!([], [(MAX, 3)]), end: Counted, after: &[(2, 62, 1)], ..ROW },
+    Row { name: "64 before 2^64", refcount_order: 6, rt_index: AT_2_TO_THE_64 - 1, before: ONES,
+        references: outcome!([], [(MAX, 3)]), end: Counted, after: &[(0, 63, 1)], ..ROW },
+    Row { name: "no cluster", references: outcome!([], [(5, 0)]), ..ROW },
     // what was counted up or down before a refusal is put back
-    ((9, 4, false), 0, FIRST_200, outcome!([0, 1, 2], [(0, 200), (255, 1)]), (RANGE, false), FIRST_200),
-    // an external data file, which is refused before anything
-    ((9, 4, true), 0, FIVE, outcome!([5], [(6, 1)]), (EXTERNAL, false), FIVE),
+    Row { name: "200 counted down before one that can't be", before: FIRST_200,
+        references: outcome!([0, 1, 2], [(0, 200), (255, 1)]), end: OUT_OF_RANGE, after: FIRST_200, ..ROW },
+    Row { name: "an external data file", external: true, references: outcome!([5], [(6, 1)]), end: EXTERNAL,
+        ..ROW },
 };
 
 const FIRST_200: Counters<'static> = &[(0, 200, 1)];
@@ -80,18 +119,15 @@ const WIDTHS: &[Width] = rows! {
     (6, 64, MAX),
 };
 
-// Settles a block that begins with these bytes, with each flag, as each row says.
-fn check_rows(alloc: Global, bytes: &[u8], rows: &[Row<'_>]) -> Result<(), Fail> {
-    for (place, row) in rows.iter().enumerate() {
-        check_settled(alloc, bytes, *row, false, place)?;
-        check_settled(alloc, bytes, *row, true, place)?;
-    }
-    Ok(())
+// Settles the block of a row, with each flag.
+fn check_both(alloc: Global, row: Row<'_>) -> Result<(), Fail> {
+    check_settled(alloc, row, false)?;
+    check_settled(alloc, row, true)
 }
 
 #[test]
 fn counters_follow_what_clusters_gained_and_lost(rt: HostRuntime) -> Result<(), Fail> {
-    check_rows(rt.alloc(), &[], ROWS)
+    each(rt.alloc(), ROWS, check_both)
 }
 
 #[test]
@@ -102,17 +138,42 @@ fn no_counter_passes_the_greatest_number_of_its_width(rt: HostRuntime) -> Result
 // A cluster gains what it loses where its counter is 0, but not where it is at the greatest number, as all
 // are of bytes 0xff.
 fn check_ends(alloc: Global, (order, count, greatest): Width) -> Result<(), Fail> {
-    let image: Image = (9, order, false);
     let full = [(0, count, greatest)];
     let below = [(5, 1, greatest.wrapping_sub(1)), (0, count, greatest)];
-    let gained_and_lost: References<'_> = outcome!([5], [(5, 1)]);
-    let row: Row<'_> = (image, 0, &[], gained_and_lost, (None, true), &[]);
-    check_rows(alloc, &[], &[row])?;
-    let rows: [Row<'_>; 2] = [
-        (image, 0, &[], gained_and_lost, (RANGE, false), &full),
-        (image, 0, &[], outcome!([], [(5, 1)]), (None, true), &below),
-    ];
-    check_rows(alloc, &[0xff; 512], &rows)
+    check_end(alloc, (order, &[]), GAINED_AND_LOST, Counted, &[])?;
+    check_end(alloc, (order, FULL), GAINED_AND_LOST, OUT_OF_RANGE, &full)?;
+    check_end(
+        alloc,
+        (order, FULL),
+        outcome!([], [(5, 1)]),
+        Counted,
+        &below,
+    )
+}
+
+const GAINED_AND_LOST: References<'static> = outcome!([5], [(5, 1)]);
+
+const FULL: &[u8] = &[0xff; 512];
+
+// Settles a block of this refcount order that begins with these bytes.
+fn check_end(
+    alloc: Global,
+    (refcount_order, bytes): (u32, &'static [u8]),
+    references: References<'static>,
+    end: End,
+    after: Counters<'_>,
+) -> Result<(), Fail> {
+    let row = Row {
+        name: "the ends of a width",
+        refcount_order,
+        bytes,
+        before: &[],
+        references,
+        end,
+        after,
+        ..ROW
+    };
+    check_both(alloc, row)
 }
 
 // What edits did, as they would report it.
@@ -123,70 +184,90 @@ fn outcome_of(alloc: Global, (gained, freed): References<'_>) -> Result<Outcome,
     })
 }
 
-// Settles a block that begins with these bytes, and has the row's counters, with this flag.
-fn check_settled(
-    alloc: Global,
-    bytes: &[u8],
-    row: Row<'_>,
-    modified: bool,
-    place: usize,
-) -> Result<(), Fail> {
-    let (image, rt_index, before, references, (fault, marks), after) = row;
-    let mut block = block_of(alloc, image, (bytes, before), modified)?;
+// Settles the block of a row, with this flag.
+fn check_settled(alloc: Global, row: Row<'_>, modified: bool) -> Result<(), Fail> {
+    let image = (row.cluster_bits, row.refcount_order, row.external);
+    let mut block = block_of(alloc, image, (row.bytes, row.before), modified)?;
     let header = header_of(alloc, image.0, image.1, image.2)?;
-    let answer = settle(
-        &mut block,
-        &header,
-        rt_index,
-        &outcome_of(alloc, references)?,
-    );
-    same(answer.err(), fault, place)?;
-    check_counters(&block, after, modified || marks, place)
+    let outcome = outcome_of(alloc, row.references)?;
+    let answer = settle(&mut block, &header, row.rt_index, &outcome);
+    let (expected, counts_some) = match row.end {
+        Counted => (Ok(()), true),
+        Unchanged => (Ok(()), false),
+        Refused(fault) => (Err(fault), false),
+    };
+    same(answer, expected, row.name)?;
+    check_counters(&block, row.after, modified || counts_some, row.name)
 }
 
 // Entry 3 of a table of compressed data in clusters 0 and 1.
 const COMPRESSED_0_1: u64 = 0x6000_0000_0000_0001;
 
-// An image's refcount order and whether data is external, and the block's index in the refcount table; its
-// counters and entry 3 of the table; the edits; what they did or the fault; and what is left: the entry, the
-// counters, and whether the block then counts as modified though it didn't.
-type Settled<'a> = (
-    (u32, bool, usize),
-    (Counters<'a>, u64),
-    &'a [Edit],
-    Result<References<'a>, Fault>,
-    (Counters<'a>, u64, bool),
-);
+// A block, its index in the refcount table, and entry 3 of a table. Edits of that, what they did or the
+// fault, and what is left of both; whether the block then counts as modified though it didn't.
+#[derive(Clone, Copy)]
+struct Settled {
+    name: &'static str,
+    refcount_order: u32,
+    external: bool,
+    rt_index: usize,
+    before: Counters<'static>,
+    entry: u64,
+    edits: &'static [Edit],
+    expected: Result<References<'static>, Fault>,
+    after: Counters<'static>,
+    entry_after: u64,
+    counts_some: bool,
+}
+
+const SETTLED_ROW: Settled = Settled {
+    name: "",
+    refcount_order: 4,
+    external: false,
+    rt_index: 0,
+    before: FIVE,
+    entry: DATA_5,
+    edits: &[],
+    expected: NOTHING,
+    after: FIVE,
+    entry_after: DATA_5,
+    counts_some: false,
+};
+
+const NOTHING: Result<References<'static>, Fault> = Ok(outcome!([], []));
 
 const CANNOT_COUNT: Result<References<'static>, Fault> = Err(Fault::CounterRange);
 
-const SETTLED: &[Settled<'static>] = rows! {
-    ((4, false, 0), (FIVE, DATA_5), &[GONE], Ok(outcome!([], [(5, 1)])), (&[], 0, true)),
-    ((4, false, 0), (&[], DATA_5), &[GONE], CANNOT_COUNT, (&[], DATA_5, false)),
-    ((4, false, 0), (FIVE, DATA_5), &[KEEP], Ok(outcome!([], [])), (FIVE, DATA_5 + 1, false)),
-    ((4, false, 0), (&[(0, 2, 1)], COMPRESSED_0_1), &[TO_5], Ok(outcome!([5], [(0, 2)])),
-        (FIVE, DATA_5, true)),
-    // there and back
-    ((4, false, 0), (FIVE, DATA_5), &[TO_6, TO_5], THERE_AND_BACK, (FIVE, DATA_5, true)),
-    ((0, false, 0), (FIVE, DATA_5), &[TO_6, TO_5], CANNOT_COUNT, (FIVE, DATA_5, false)),
-    // a hundred edits
-    ((4, false, 0), (FIVE, DATA_5), &[GONE; 100], Ok(outcome!([], [(5, 1)])), (&[], 0, true)),
-    // a block that counts none of the clusters
-    ((4, false, 1), (FIVE, DATA_5), &[GONE], Ok(outcome!([], [(5, 1)])), (FIVE, 0, false)),
-    // the edits fit first
-    ((4, false, 0), (&[], DATA_5), &[GONE, PAST], Err(Fault::BadEdit(1)), (&[], DATA_5, false)),
-    ((4, false, 0), (FIVE, DATA_5), &[], Ok(outcome!([], [])), (FIVE, DATA_5, false)),
-    // an external data file, which is refused before anything
-    ((4, true, 0), (FIVE, DATA_5), &[PAST], Err(Fault::ExternalData), (FIVE, DATA_5, false)),
+const SETTLED: &[Settled] = rows! {
+    Settled { name: "discarded data", edits: &[GONE], expected: Ok(outcome!([], [(5, 1)])), after: &[],
+        entry_after: 0, counts_some: true, ..SETTLED_ROW },
+    Settled { name: "discarded, but not counted", before: &[], edits: &[GONE], expected: CANNOT_COUNT,
+        after: &[], ..SETTLED_ROW },
+    Settled { name: "zeros that keep the cluster", edits: &[KEEP], entry_after: DATA_5 + 1, ..SETTLED_ROW },
+    Settled { name: "compressed data, remapped", before: &[(0, 2, 1)], entry: COMPRESSED_0_1, edits: &[TO_5],
+        expected: Ok(outcome!([5], [(0, 2)])), counts_some: true, ..SETTLED_ROW },
+    Settled { name: "there and back", edits: &[TO_6, TO_5], expected: THERE_AND_BACK, counts_some: true,
+        ..SETTLED_ROW },
+    Settled { name: "there and back, by counters of one bit", refcount_order: 0, edits: &[TO_6, TO_5],
+        expected: CANNOT_COUNT, ..SETTLED_ROW },
+    Settled { name: "a hundred discards", edits: &[GONE; 100], expected: Ok(outcome!([], [(5, 1)])),
+        after: &[], entry_after: 0, counts_some: true, ..SETTLED_ROW },
+    Settled { name: "a block of other clusters", rt_index: 1, edits: &[GONE],
+        expected: Ok(outcome!([], [(5, 1)])), entry_after: 0, ..SETTLED_ROW },
+    Settled { name: "an edit past the end, which is refused first", before: &[], edits: &[GONE, PAST],
+        expected: Err(Fault::BadEdit(1)), after: &[], ..SETTLED_ROW },
+    Settled { name: "no edit", ..SETTLED_ROW },
+    Settled { name: "an external data file", external: true, edits: &[PAST],
+        expected: Err(Fault::ExternalData), ..SETTLED_ROW },
 };
 
 const THERE_AND_BACK: Result<References<'static>, Fault> = Ok(outcome!([6, 5], [(5, 1), (6, 1)]));
 
 #[test]
 fn edits_are_counted_or_not_made(rt: HostRuntime) -> Result<(), Fail> {
-    for (place, row) in SETTLED.iter().enumerate() {
-        check_settled_edits(rt.alloc(), *row, (false, true), place)?;
-        check_settled_edits(rt.alloc(), *row, (true, false), place)?;
+    for row in SETTLED {
+        check_settled_edits(rt.alloc(), *row, (false, true))?;
+        check_settled_edits(rt.alloc(), *row, (true, false))?;
     }
     Ok(())
 }
@@ -194,32 +275,29 @@ fn edits_are_counted_or_not_made(rt: HostRuntime) -> Result<(), Fail> {
 // Makes the edits of a table and a block with these flags.
 fn check_settled_edits(
     alloc: Global,
-    row: Settled<'_>,
+    row: Settled,
     (table_modified, block_modified): (bool, bool),
-    place: usize,
 ) -> Result<(), Fail> {
-    let ((order, external, rt_index), (before, entry), edits, expected, left) = row;
-    let image: Image = (9, order, external);
-    let mut table = table_with(alloc, (9, external), (3, &[entry]), table_modified)?;
-    let mut block = block_of(alloc, image, (&[], before), block_modified)?;
-    let header = header_of(alloc, 9, order, external)?;
+    let image = (9, row.refcount_order, row.external);
+    let mut table = table_with(alloc, (9, row.external), (3, &[row.entry]), table_modified)?;
+    let mut block = block_of(alloc, image, (&[], row.before), block_modified)?;
+    let header = header_of(alloc, 9, row.refcount_order, row.external)?;
+    let Settled {
+        rt_index,
+        edits,
+        ..
+    } = row;
     let answer = edit_settled(alloc, &mut table, &mut block, &header, rt_index, edits);
-    check_outcome(answer, expected, place)?;
-    let table_modified = table_modified || expected.is_ok() && !edits.is_empty();
-    let modified = (table_modified, block_modified);
-    check_left(&table, &block, left, modified, place)
-}
-
-// Fails unless this is left of a table and of a block that had this flag.
-fn check_left(
-    table: &L2Table,
-    block: &RefBlock,
-    (counters, entry, counts_some): (Counters<'_>, u64, bool),
-    (table_modified, block_modified): (bool, bool),
-    place: usize,
-) -> Result<(), Fail> {
-    check_table(table, (3, &[entry]), table_modified, place)?;
-    check_counters(block, counters, block_modified || counts_some, place)
+    check_outcome(answer, row.expected, row.name)?;
+    let is_edited = row.expected.is_ok() && !edits.is_empty();
+    check_table(
+        &table,
+        (3, &[row.entry_after]),
+        table_modified || is_edited,
+        row.name,
+    )?;
+    let block_modified = block_modified || row.counts_some;
+    check_counters(&block, row.after, block_modified, row.name)
 }
 
 // The sample image with a refcount block at cluster 3, in which cluster 5 has a reference.

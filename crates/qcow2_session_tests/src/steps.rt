@@ -25,34 +25,52 @@ const AT_ENDS: &[Step] = rows! {
     Step::Dec { index: 2 }, Step::Dec { index: 2 },
 };
 
-// A refcount order, and the first bytes of a block. A list of steps, what came of each or the position of the
-// first that is refused with the whole list, and the counters then.
-type Row<'a> = (
-    &'a str,
-    (u32, &'a [u8]),
-    &'a [Step],
-    Result<&'a [StepReply], usize>,
-    Counters<'a>,
-);
+// A list of steps of a block that begins with these bytes, what came of each or the position of the first
+// that is refused with the whole list, and the counters then.
+#[derive(Clone, Copy)]
+struct Row<'a> {
+    name: &'a str,
+    refcount_order: u32,
+    bytes: &'a [u8],
+    steps: &'a [Step],
+    expected: Result<&'a [StepReply], usize>,
+    counters: Counters<'a>,
+}
+
+const ROW: Row<'static> = Row {
+    name: "",
+    refcount_order: 4,
+    bytes: &[],
+    steps: &[],
+    expected: Ok(&[]),
+    counters: &[],
+};
 
 const ROWS: &[Row<'static>] = rows! {
-    ("no step", (4, &[0, 7]), &[], Ok(&[]), &[(0, 1, 7)]),
-    ("one at 0", (4, &[]), &[INC_0, INC_0, DEC_0, DEC_1], Ok(UP_UP_DOWN), &[(0, 1, 1)]),
-    ("one past the end", (4, &[0, 7]), &[INC_0, Step::Inc { index: 256 }], Err(1), &[(0, 1, 7)]),
-    ("none", (4, &[0xff, 0xff]), &[INC_0, DEC_1, INC_0], Ok(&[Refused; 3]), &[(0, 1, 65535)]),
-    ("those after a refused one are made", (4, &[0, 1, 0, 9]), &[DEC_0, DEC_0, DEC_1, INC_0],
-        Ok(&[Done(1), Refused, Done(9), Done(0)]), &[(0, 1, 1), (1, 1, 8)]),
+    Row { name: "no step", bytes: &[0, 7], counters: &[(0, 1, 7)], ..ROW },
+    Row { name: "one at 0", steps: &[INC_0, INC_0, DEC_0, DEC_1], expected: Ok(UP_UP_DOWN),
+        counters: &[(0, 1, 1)], ..ROW },
+    Row { name: "one past the end", bytes: &[0, 7], steps: &[INC_0, Step::Inc { index: 256 }],
+        expected: Err(1), counters: &[(0, 1, 7)], ..ROW },
+    Row { name: "none", bytes: &[0xff, 0xff], steps: &[INC_0, DEC_1, INC_0], expected: Ok(&[Refused; 3]),
+        counters: &[(0, 1, 65535)], ..ROW },
+    Row { name: "those after a refused one are made", bytes: &[0, 1, 0, 9],
+        steps: &[DEC_0, DEC_0, DEC_1, INC_0], expected: Ok(&[Done(1), Refused, Done(9), Done(0)]),
+        counters: &[(0, 1, 1), (1, 1, 8)], ..ROW },
     // a refused increment isn't undone by the decrement after it
-    ("one bit", (0, &[3]), &[INC_1, DEC_1], Ok(&[Refused, Done(1)]), &[(0, 1, 1)]),
-    ("two counters of a byte", (1, &[0x0c]), &[INC_1, INC_0, DEC_1],
-        Ok(&[Refused, Done(0), Done(3)]), &[(0, 1, 1), (1, 1, 2)]),
-    ("the last index", (4, &[0, 7]), &[Step::Inc { index: 255 }, INC_0, Step::Inc { index: 255 }],
-        Ok(&[Done(0), Done(7), Done(1)]), &[(0, 1, 8), (255, 1, 2)]),
-    ("two past the end", (4, &[0, 7, 0, 1]),
-        &[INC_0, DEC_1, Step::Dec { index: 257 }, Step::Inc { index: 256 }], Err(2),
-        &[(0, 1, 7), (1, 1, 1)]),
-    ("the greatest index", (0, &[1]),
-        &[DEC_0, Step::Inc { index: 4095 }, Step::Dec { index: usize::MAX }], Err(2), &[(0, 1, 1)]),
+    Row { name: "one bit", refcount_order: 0, bytes: &[3], steps: &[INC_1, DEC_1],
+        expected: Ok(&[Refused, Done(1)]), counters: &[(0, 1, 1)], ..ROW },
+    Row { name: "two counters of a byte", refcount_order: 1, bytes: &[0x0c], steps: &[INC_1, INC_0, DEC_1],
+        expected: Ok(&[Refused, Done(0), Done(3)]), counters: &[(0, 1, 1), (1, 1, 2)], ..ROW },
+    Row { name: "the last index", bytes: &[0, 7],
+        steps: &[Step::Inc { index: 255 }, INC_0, Step::Inc { index: 255 }],
+        expected: Ok(&[Done(0), Done(7), Done(1)]), counters: &[(0, 1, 8), (255, 1, 2)], ..ROW },
+    Row { name: "two past the end", bytes: &[0, 7, 0, 1],
+        steps: &[INC_0, DEC_1, Step::Dec { index: 257 }, Step::Inc { index: 256 }], expected: Err(2),
+        counters: &[(0, 1, 7), (1, 1, 1)], ..ROW },
+    Row { name: "the greatest index", refcount_order: 0, bytes: &[1],
+        steps: &[DEC_0, Step::Inc { index: 4095 }, Step::Dec { index: usize::MAX }], expected: Err(2),
+        counters: &[(0, 1, 1)], ..ROW },
 };
 
 /// What comes of two increments and a decrement of a counter at 0, and of a decrement of another one.
@@ -69,11 +87,11 @@ fn steps_are_made_in_their_order_or_refused_together(rt: HostRuntime) -> Result<
 
 // Makes the steps of a row, of a block with this flag.
 fn check_steps(alloc: Global, row: Row<'_>, modified: bool) -> Result<(), Fail> {
-    let (name, (order, bytes), steps, expected, counters) = row;
-    let mut block = block_of(alloc, (9, order, false), (bytes, &[]), modified)?;
-    let answer = step_block(alloc, &mut block, steps);
-    let some_done = check_replies(answer, expected.map_err(Fault::BadStep), name)?;
-    check_counters(&block, counters, modified || some_done, name)
+    let image = (9, row.refcount_order, false);
+    let mut block = block_of(alloc, image, (row.bytes, &[]), modified)?;
+    let answer = step_block(alloc, &mut block, row.steps);
+    let some_done = check_replies(answer, row.expected.map_err(Fault::BadStep), row.name)?;
+    check_counters(&block, row.counters, modified || some_done, row.name)
 }
 
 // A refcount order, and the first bytes of a block: a counter at the greatest number of its width, which
@@ -99,13 +117,26 @@ fn check_width(alloc: Global, (order, bytes, greatest): Width) -> Result<(), Fai
     let replies: &[StepReply] =
         rows! { below, Refused, top, Refused, top, Refused, Done(0), Done(1), Refused };
     let counters = [(0, 2, greatest.wrapping_sub(1))];
-    let row: Row<'_> = (
-        "at their ends",
-        (order, bytes),
-        AT_ENDS,
-        Ok(replies),
-        &counters,
-    );
+    check_made(alloc, (order, bytes), AT_ENDS, replies, &counters)
+}
+
+// Fails unless steps of a block that begins with these bytes do this.
+fn check_made<'a>(
+    alloc: Global,
+    (refcount_order, bytes): (u32, &'a [u8]),
+    steps: &'a [Step],
+    replies: &'a [StepReply],
+    counters: Counters<'a>,
+) -> Result<(), Fail> {
+    let expected: Result<&'a [StepReply], usize> = Ok(replies);
+    let row = Row {
+        name: "steps that are made",
+        refcount_order,
+        bytes,
+        steps,
+        expected,
+        counters,
+    };
     check_steps(alloc, row, false)
 }
 
@@ -134,8 +165,7 @@ fn many_steps(alloc: Global, count: usize) -> Result<(Vec<Step>, Vec<StepReply>)
 
 fn check_many(alloc: Global, count: usize, counters: Counters<'_>) -> Result<(), Fail> {
     let (steps, replies) = many_steps(alloc, count)?;
-    let row: Row<'_> = ("many steps", (4, &[]), &steps, Ok(&replies), counters);
-    check_steps(alloc, row, false)
+    check_made(alloc, (4, &[]), &steps, &replies, counters)
 }
 
 // 10,000 is 39 times 256, and 16.

@@ -30,19 +30,25 @@ const TWO_TABLES: Numbers<'static> = rows! {
 
 const BEFORE: Counts = &[(5, 2), (6, 1), (11, 1), (12, 2)];
 
-// The table that is edited, 0 or 1, the edits, and the references then.
-type Row = (&'static str, u64, &'static [Edit], Counts);
+// Edits of one of both tables, 0 or 1, and the references then.
+#[derive(Clone, Copy)]
+struct Row {
+    name: &'static str,
+    table: u64,
+    edits: &'static [Edit],
+    after: Counts,
+}
 
 const ROWS: &[Row] = rows! {
-    ("no edit", 0, &[], BEFORE),
-    ("discards", 0, &[Edit::Discard { index: 3 }, Edit::Discard { index: 4 }],
-        &[(5, 1), (6, 1), (12, 1)]),
-    ("to shared clusters, and one of two", 0, &[map!(3, 6), map!(0, 5), map!(4, 12)],
-        &[(5, 2), (6, 2), (12, 2)]),
-    ("zeros", 1, ZEROS, &[(5, 2), (11, 1), (12, 1)]),
-    ("to its own cluster, there and back", 1,
-        &[map!(2, 12), map!(63, 31), Edit::Discard { index: 63 }, map!(63, 30)],
-        &[(5, 2), (6, 1), (11, 1), (12, 2), (30, 1)]),
+    Row { name: "no edit", table: 0, edits: &[], after: BEFORE },
+    Row { name: "discards", table: 0, edits: &[Edit::Discard { index: 3 }, Edit::Discard { index: 4 }],
+        after: &[(5, 1), (6, 1), (12, 1)] },
+    Row { name: "to shared clusters, and one of two", table: 0, edits: &[map!(3, 6), map!(0, 5), map!(4, 12)],
+        after: &[(5, 2), (6, 2), (12, 2)] },
+    Row { name: "zeros", table: 1, edits: ZEROS, after: &[(5, 2), (11, 1), (12, 1)] },
+    Row { name: "to its own cluster, there and back", table: 1,
+        edits: &[map!(2, 12), map!(63, 31), Edit::Discard { index: 63 }, map!(63, 30)],
+        after: &[(5, 2), (6, 1), (11, 1), (12, 2), (30, 1)] },
 };
 
 // Zeros that keep a cluster, that keep none, and that keep none of compressed data.
@@ -57,19 +63,20 @@ fn no_reference_of_a_whole_image_is_lost(rt: HostRuntime) -> Result<(), Fail> {
 }
 
 // Those after and those handed back are as many as those before and those gained.
-fn check_balance(alloc: Global, (name, table, edits, expected): Row) -> Result<(), Fail> {
+fn check_balance(alloc: Global, row: Row) -> Result<(), Fail> {
+    let (table, other_table) = (row.table % 2, 1 - row.table % 2);
     let mut image = sample_image(alloc, 9, TWO_TABLES)?;
     let mut gained = references(image.bytes())?;
-    same(gained, references_of(BEFORE)?, name)?;
-    let other = mappings(alloc, &mut image, 1 - table % 2)?;
-    let (header, cluster) = (header_of(alloc, 9, 4, false)?, HostCluster(2 + table % 2));
-    let outcome = edit_image(alloc, &mut image, &header, cluster, edits)?;
+    same(gained, references_of(BEFORE)?, row.name)?;
+    let other = mappings(alloc, &mut image, other_table)?;
+    let (header, cluster) = (header_of(alloc, 9, 4, false)?, HostCluster(2 + table));
+    let outcome = edit_image(alloc, &mut image, &header, cluster, row.edits)?;
     let mut freed = references(image.bytes())?;
-    same(freed, references_of(expected)?, name)?;
+    same(freed, references_of(row.after)?, row.name)?;
     add_outcome(&outcome, &mut gained, &mut freed);
-    same(freed, gained, name)?;
+    same(freed, gained, row.name)?;
     mappings(alloc, &mut image, table)?;
-    same(mappings(alloc, &mut image, 1 - table % 2)?, other, name)
+    same(mappings(alloc, &mut image, other_table)?, other, row.name)
 }
 
 // What the guest clusters of the first table or of the second one read as, none of which is refused.

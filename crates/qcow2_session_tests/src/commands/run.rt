@@ -1,6 +1,6 @@
 //! Lines of words: how a run of them ends over files and outputs that fail, and which are no command.
 
-use super::whole_images::check_run;
+use super::whole_images::{RUN, Run, check_run};
 use crate::failing_output::{FailingOutput, Failure};
 use qcow2_session::{report_fault, run_words};
 use qcow2_testing::{FAULTS, FaultyFiles, ReportedFault, each, rows, same};
@@ -8,8 +8,27 @@ use std::alloc::Global;
 use std::rt::Files;
 use std::test::Fail;
 
-// What a run ends with: the status, and what was flushed of the output and of the error output.
-pub(crate) type Outcome<'a> = (u8, &'a str, &'a str);
+/// What a run ends with, by what was flushed of its outputs.
+#[derive(Clone, Copy, Debug, PartialEq)]
+pub(crate) enum Ended<'a> {
+    /// It printed this, and had no fault.
+    Done(&'a str),
+    /// It printed this, and reported its fault by that.
+    Failed(&'a str, &'a str),
+    /// It was no command, and reported that by this.
+    NoCommand(&'a str),
+}
+
+impl<'a> Ended<'a> {
+    /// The status, and what was flushed of the output and of the error output.
+    fn parts(self) -> (u8, &'a str, &'a str) {
+        match self {
+            Ended::Done(out) => (0, out, ""),
+            Ended::Failed(out, err) => (1, out, err),
+            Ended::NoCommand(err) => (2, "", err),
+        }
+    }
+}
 
 // Where the outputs of a run fail: that of its lines, and that of its faults.
 pub(crate) type Failures = (Failure, Failure);
@@ -50,12 +69,12 @@ pub(crate) fn check_line(
     image: &str,
     line: &str,
     failures: Failures,
-    expected: Outcome<'_>,
+    expected: Ended<'_>,
 ) -> Result<(), Fail> {
     let (status, out, err) = run_line(files, image, line, failures)?;
     let out = std::str::from_utf8(out.flushed())?;
     let err = std::str::from_utf8(err.flushed())?;
-    same((status, out, err), expected, line)
+    same((status, out, err), expected.parts(), line)
 }
 
 // Lines that are no command. A number is 1 to 20 digits that fit 64 bits.
@@ -76,13 +95,20 @@ const NO_COMMANDS: &[&str] = rows! {
     "count IMAGE 3 inc:0:1", "count IMAGE 3 inc:0 discard:0",
 };
 
-pub(super) const NO_COMMAND: Outcome<'static> = (2, "", "usage: qmeta COMMAND IMAGE ARGUMENTS\n");
+pub(super) const NO_COMMAND: Ended<'static> = Ended::NoCommand(
+    "usage: qmeta COMMAND IMAGE ARGUMENTS\n",
+);
 
 // No file is opened.
 #[test]
 fn words_that_are_no_command_are_the_usage_line(rt: HostRuntime) -> Result<(), Fail> {
     for line in NO_COMMANDS {
-        check_run(&rt, "no-command", (&[], &[]), line, NO_FAILURES, NO_COMMAND)?;
+        let run = Run {
+            line: *line,
+            ended: NO_COMMAND,
+            ..RUN
+        };
+        check_run(&rt, "no-command", &run)?;
     }
     Ok(())
 }

@@ -1,8 +1,9 @@
 //! The commands over whole images: what they print, and what the file is then.
 
 use super::in_memory::{EXTENTS, JSON};
-use super::run::{Failures, NO_COMMAND, NO_FAILURES, Outcome, check_line};
-use crate::failing_output::Failure::{Flush, Interrupted, Never, Short, WriteAfter};
+use super::run::Ended::{self, Done, Failed, NoCommand};
+use super::run::{NO_COMMAND, NO_FAILURES, check_line};
+use crate::failing_output::Failure::{self, Flush, Interrupted, Never, Short, WriteAfter};
 use crate::sample_image::{COPIED, Numbers, check_sample, sample_image};
 use qcow2_testing::{FaultyFiles, Opens, TemporaryFile, rows, same, temporary_file};
 use std::alloc::{AllocError, Global};
@@ -21,15 +22,15 @@ const DATA_LINE: &str = "data 0xa00 copied\n";
 const BACKING: &str = "backing 0x0\n";
 
 // What runs end with that print nothing: the first has no fault.
-const SILENT: Outcome<'static> = (0, "", "");
+const SILENT: Ended<'static> = Done("");
 
-const BAD_ENTRY: Outcome<'static> = (1, "", "qmeta: fault 18\n");
+const BAD_ENTRY: Ended<'static> = Failed("", "qmeta: fault 18\n");
 
-const NO_PLACE: Outcome<'static> = (1, "", "qmeta: fault 21\n");
+const NO_PLACE: Ended<'static> = Failed("", "qmeta: fault 21\n");
 
-const BAD_EDIT: Outcome<'static> = (1, "", "qmeta: fault 32\n");
+const BAD_EDIT: Ended<'static> = Failed("", "qmeta: fault 32\n");
 
-const NO_FILE: Outcome<'static> = (1, "", STORAGE);
+const NO_FILE: Ended<'static> = Failed("", STORAGE);
 
 const STORAGE: &str = "qmeta: fault 34\n";
 
@@ -82,17 +83,17 @@ const NO_ROOM: Numbers<'static> = rows! {
 const AUTOCLEAR: Numbers<'static> = &[(88, 1)];
 
 // Commands over the sample image that leave it as it is, and what they end with.
-const LOOKS: &[(&str, Outcome<'static>)] = rows! {
+const LOOKS: &[(&str, Ended<'static>)] = rows! {
     // tables, by their cluster bits and their cluster
-    ("l2 IMAGE 9 2", (0, ONE_LINE, "")),
+    ("l2 IMAGE 9 2", Done(ONE_LINE)),
     ("l2 IMAGE 9 0", BAD_ENTRY),
-    ("l2 IMAGE 10 1", (1, "", "qmeta: fault 19\n")),
+    ("l2 IMAGE 10 1", Failed("", "qmeta: fault 19\n")),
     ("l2 IMAGE 21 1", SILENT),
     ("l2 IMAGE 9 140737488355327", SILENT),
     ("l2 IMAGE 9 140737488355328", NO_PLACE),
     ("l2 IMAGE 9 18446744073709551615", NO_PLACE),
-    ("l2 IMAGE 9 00000000000000000002", (0, ONE_LINE, "")),
-    ("l2 IMAGE 00000000000000000009 2", (0, ONE_LINE, "")),
+    ("l2 IMAGE 9 00000000000000000002", Done(ONE_LINE)),
+    ("l2 IMAGE 00000000000000000009 2", Done(ONE_LINE)),
     // no file
     ("l2 no-such-folder/image 9 2", NO_FILE),
     ("l2 / 9 2", NO_FILE),
@@ -101,113 +102,134 @@ const LOOKS: &[(&str, Outcome<'static>)] = rows! {
     ("map / json", NO_FILE),
     ("edit no-such-folder/image 0 zero:3", NO_FILE),
     // whole images
-    ("info IMAGE", (0, INFO, "")),
-    ("list IMAGE", (0, LIST, "")),
-    ("map IMAGE", (0, EXTENTS, "")),
-    ("map IMAGE json", (0, JSON, "")),
-    ("at IMAGE 0", (0, BACKING, "")),
-    ("at IMAGE 1543", (0, DATA_LINE, "")),
-    ("at IMAGE 32768", (0, "backing 0x8000\n", "")),
-    ("at IMAGE 18446744073709551615", (0, "backing 0xfffffffffffffe00\n", "")),
+    ("info IMAGE", Done(INFO)),
+    ("list IMAGE", Done(LIST)),
+    ("map IMAGE", Done(EXTENTS)),
+    ("map IMAGE json", Done(JSON)),
+    ("at IMAGE 0", Done(BACKING)),
+    ("at IMAGE 1543", Done(DATA_LINE)),
+    ("at IMAGE 32768", Done("backing 0x8000\n")),
+    ("at IMAGE 18446744073709551615", Done("backing 0xfffffffffffffe00\n")),
     ("edit IMAGE 0", SILENT),
-    ("count IMAGE 3 dec:0", (0, "refused\n", "")),
+    ("count IMAGE 3 dec:0", Done("refused\n")),
     ("edit IMAGE 0 discard:3 map:64:5", BAD_EDIT),
     ("edit IMAGE 0 map:0:0", BAD_EDIT),
-    ("edit IMAGE 1 discard:0", (1, "", "qmeta: fault 23\n")),
-    ("count IMAGE 3 inc:256", (1, "", "qmeta: fault 33\n")),
+    ("edit IMAGE 1 discard:0", Failed("", "qmeta: fault 23\n")),
+    ("count IMAGE 3 inc:256", Failed("", "qmeta: fault 33\n")),
     ("count IMAGE 140737488355328 inc:0", NO_PLACE),
 };
 
-// Changes of the sample image, a command, what it ends with, and how the image differs from the sample image
-// then.
-type Row = (
-    Numbers<'static>,
-    &'static str,
-    Outcome<'static>,
-    Numbers<'static>,
-);
+// A line, changes of the sample image, where the outputs of lines and of faults fail, what the run ends with,
+// and how the image differs from the sample image then.
+#[derive(Clone, Copy)]
+pub(crate) struct Run<'a> {
+    pub(crate) line: &'a str,
+    pub(crate) before: Numbers<'a>,
+    pub(crate) out: Failure,
+    pub(crate) err: Failure,
+    pub(crate) ended: Ended<'a>,
+    pub(crate) after: Numbers<'a>,
+}
 
-const ROWS: &[Row] = rows! {
+pub(crate) const RUN: Run<'static> = Run {
+    line: "",
+    before: &[],
+    out: Never,
+    err: Never,
+    ended: SILENT,
+    after: &[],
+};
+
+const ROWS: &[Run<'static>] = rows! {
     // a table and no header
-    (TABLE_ALONE, "l2 IMAGE 9 2", (0, ONE_LINE, ""), TABLE_ALONE),
-    (TABLE_ALONE, "l2 IMAGE 9 0", SILENT, TABLE_ALONE),
+    Run { line: "l2 IMAGE 9 2", before: TABLE_ALONE, ended: Done(ONE_LINE), after: TABLE_ALONE, ..RUN },
+    Run { line: "l2 IMAGE 9 0", before: TABLE_ALONE, ended: SILENT, after: TABLE_ALONE, ..RUN },
     // edits and steps, which change their table or block alone, and may lengthen the image
-    (&[], "edit IMAGE 0 map:3:5 map:3:6 discard:3", (0, "freed 5 1\nfreed 6 1\ngained 6\n", ""),
-        &[(1048, 0)]),
-    (&[], "edit IMAGE 0 keep:3", SILENT, &[(1048, COPIED + 0xa01)]),
-    (&[], "count IMAGE 2 dec:15 inc:0", (0, "ok 2560\nok 0\n", ""),
-        &[(1024, 1 << 48), (1048, COPIED + 0x9ff)]),
-    (&[], "count IMAGE 3 inc:0 inc:0 dec:0 dec:1", (0, "ok 0\nok 1\nok 2\nrefused\n", ""), COUNTED),
-    (AUTOCLEAR, "info IMAGE", (0, INFO, ""), AUTOCLEAR),
-    (AUTOCLEAR, "list IMAGE", (0, LIST, ""), AUTOCLEAR),
-    (AUTOCLEAR, "edit IMAGE 0", SILENT, &[]),
-    (AUTOCLEAR, "edit IMAGE 0 zero:64", BAD_EDIT, &[]),
-    (AUTOCLEAR, "count IMAGE 3", SILENT, &[]),
+    Run { line: "edit IMAGE 0 map:3:5 map:3:6 discard:3", ended: Done("freed 5 1\nfreed 6 1\ngained 6\n"),
+        after: &[(1048, 0)], ..RUN },
+    Run { line: "edit IMAGE 0 keep:3", ended: SILENT, after: &[(1048, COPIED + 0xa01)], ..RUN },
+    Run { line: "count IMAGE 2 dec:15 inc:0", ended: Done("ok 2560\nok 0\n"),
+        after: &[(1024, 1 << 48), (1048, COPIED + 0x9ff)], ..RUN },
+    Run { line: "count IMAGE 3 inc:0 inc:0 dec:0 dec:1", ended: Done("ok 0\nok 1\nok 2\nrefused\n"),
+        after: COUNTED, ..RUN },
+    Run { line: "info IMAGE", before: AUTOCLEAR, ended: Done(INFO), after: AUTOCLEAR, ..RUN },
+    Run { line: "list IMAGE", before: AUTOCLEAR, ended: Done(LIST), after: AUTOCLEAR, ..RUN },
+    Run { line: "edit IMAGE 0", before: AUTOCLEAR, ended: SILENT, ..RUN },
+    Run { line: "edit IMAGE 0 zero:64", before: AUTOCLEAR, ended: BAD_EDIT, ..RUN },
+    Run { line: "count IMAGE 3", before: AUTOCLEAR, ended: SILENT, ..RUN },
     // a header alone, and one with names
-    (HEADER_ALONE, "list IMAGE", SILENT, HEADER_ALONE),
-    (HEADER_ALONE, "at IMAGE 0", (0, BACKING, ""), HEADER_ALONE),
-    (NAMES, "info IMAGE", (0, NAMES_INFO, ""), NAMES),
-    (OLDER, "info IMAGE", (0, OLDER_INFO, ""), OLDER),
+    Run { line: "list IMAGE", before: HEADER_ALONE, ended: SILENT, after: HEADER_ALONE, ..RUN },
+    Run { line: "at IMAGE 0", before: HEADER_ALONE, ended: Done(BACKING), after: HEADER_ALONE, ..RUN },
+    Run { line: "info IMAGE", before: NAMES, ended: Done(NAMES_INFO), after: NAMES, ..RUN },
+    Run { line: "info IMAGE", before: OLDER, ended: Done(OLDER_INFO), after: OLDER, ..RUN },
     // one L2 table named twice, one by the second L1 entry alone, and a copied L1 entry that names none
-    (TABLE_TWICE, "list IMAGE", (0, TWO_LINES, ""), TABLE_TWICE),
-    (SECOND_ALONE, "list IMAGE", (0, "0x8600 data 0xa00 copied\n", ""), SECOND_ALONE),
-    (&[(512, COPIED)], "list IMAGE", SILENT, &[(512, COPIED)]),
-    (&[(512, COPIED)], "edit IMAGE 0 zero:3", (1, "", "qmeta: fault 23\n"), &[(512, COPIED)]),
+    Run { line: "list IMAGE", before: TABLE_TWICE, ended: Done(TWO_LINES), after: TABLE_TWICE, ..RUN },
+    Run { line: "list IMAGE", before: SECOND_ALONE, ended: Done("0x8600 data 0xa00 copied\n"),
+        after: SECOND_ALONE, ..RUN },
+    Run { line: "list IMAGE", before: &[(512, COPIED)], ended: SILENT, after: &[(512, COPIED)], ..RUN },
+    Run { line: "edit IMAGE 0 zero:3", before: &[(512, COPIED)], ended: Failed("", "qmeta: fault 23\n"),
+        after: &[(512, COPIED)], ..RUN },
     // a damaged part is its fault where a command reads it
-    (&[(0, 0)], "list IMAGE", (1, "", "qmeta: fault 1\n"), &[(0, 0)]),
-    (VERSION_4, "list IMAGE", (1, "", "qmeta: fault 2\n"), VERSION_4),
+    Run { line: "list IMAGE", before: &[(0, 0)], ended: Failed("", "qmeta: fault 1\n"), after: &[(0, 0)],
+        ..RUN },
+    Run { line: "list IMAGE", before: VERSION_4, ended: Failed("", "qmeta: fault 2\n"), after: VERSION_4,
+        ..RUN },
     // an L1 table that ends 8 bytes past 2^56
-    (FAR_L1_TABLE, "list IMAGE", NO_PLACE, FAR_L1_TABLE),
+    Run { line: "list IMAGE", before: FAR_L1_TABLE, ended: NO_PLACE, after: FAR_L1_TABLE, ..RUN },
     // a bad entry of the L1 table, one of the L2 table, and one of the second L2 table
-    (&[(512, 1)], "info IMAGE", (0, INFO, ""), &[(512, 1)]),
-    (&[(512, 1)], "list IMAGE", BAD_ENTRY, &[(512, 1)]),
-    (&[(1528, 2)], "at IMAGE 0", BAD_ENTRY, &[(1528, 2)]),
-    (&[(1528, 2)], "edit IMAGE 0 discard:3", BAD_ENTRY, &[(1528, 2)]),
-    (BAD_SECOND_TABLE, "list IMAGE", (1, LIST, "qmeta: fault 18\n"), BAD_SECOND_TABLE),
-    (&[(1528, 2)], "map IMAGE", BAD_ENTRY, &[(1528, 2)]),
-    (&[(1528, 2)], "map IMAGE json", (1, "[", "qmeta: fault 18\n"), &[(1528, 2)]),
-    (&[(32, 0xffff_ffff)], "map IMAGE", (1, "", "qmeta: fault 20\n"), &[(32, 0xffff_ffff)]),
+    Run { line: "info IMAGE", before: &[(512, 1)], ended: Done(INFO), after: &[(512, 1)], ..RUN },
+    Run { line: "list IMAGE", before: &[(512, 1)], ended: BAD_ENTRY, after: &[(512, 1)], ..RUN },
+    Run { line: "at IMAGE 0", before: &[(1528, 2)], ended: BAD_ENTRY, after: &[(1528, 2)], ..RUN },
+    Run { line: "edit IMAGE 0 discard:3", before: &[(1528, 2)], ended: BAD_ENTRY, after: &[(1528, 2)],
+        ..RUN },
+    Run { line: "list IMAGE", before: BAD_SECOND_TABLE, ended: Failed(LIST, "qmeta: fault 18\n"),
+        after: BAD_SECOND_TABLE, ..RUN },
+    Run { line: "map IMAGE", before: &[(1528, 2)], ended: BAD_ENTRY, after: &[(1528, 2)], ..RUN },
+    Run { line: "map IMAGE json", before: &[(1528, 2)], ended: Failed("[", "qmeta: fault 18\n"),
+        after: &[(1528, 2)], ..RUN },
+    Run { line: "map IMAGE", before: &[(32, 0xffff_ffff)], ended: Failed("", "qmeta: fault 20\n"),
+        after: &[(32, 0xffff_ffff)], ..RUN },
     // a header that loads, but has no room once it is to be written
-    (NO_ROOM, "at IMAGE 1543", (0, DATA_LINE, ""), NO_ROOM),
-    (NO_ROOM, "edit IMAGE 0", (1, "", "qmeta: fault 24\n"), NO_ROOM),
-    (NO_ROOM, "count IMAGE 3 inc:0", (1, "", "qmeta: fault 24\n"), NO_ROOM),
+    Run { line: "at IMAGE 1543", before: NO_ROOM, ended: Done(DATA_LINE), after: NO_ROOM, ..RUN },
+    Run { line: "edit IMAGE 0", before: NO_ROOM, ended: Failed("", "qmeta: fault 24\n"), after: NO_ROOM,
+        ..RUN },
+    Run { line: "count IMAGE 3 inc:0", before: NO_ROOM, ended: Failed("", "qmeta: fault 24\n"),
+        after: NO_ROOM, ..RUN },
 };
 
 const VERSION_4: Numbers<'static> = &[(0, 0x5146_49fb_0000_0004)];
 
 #[test]
 fn each_command_says_what_the_image_means(rt: HostRuntime) -> Result<(), Fail> {
-    for (line, expected) in LOOKS {
-        check_run(&rt, "looks", (&[], &[]), line, NO_FAILURES, *expected)?;
+    for (line, ended) in LOOKS {
+        check_run(&rt, "looks", &run_of(*line, *ended))?;
     }
     Ok(())
 }
 
 #[test]
 fn edits_and_steps_change_just_their_table_or_block(rt: HostRuntime) -> Result<(), Fail> {
-    for (before, line, expected, after) in ROWS {
-        let changes = (*before, *after);
-        check_run(&rt, "changes", changes, line, NO_FAILURES, *expected)?;
+    for run in ROWS {
+        check_run(&rt, "changes", run)?;
     }
     Ok(())
 }
 
+// A run of a line that leaves the sample image as it is.
+fn run_of<'a>(line: &'a str, ended: Ended<'a>) -> Run<'a> {
+    Run { line, ended, ..RUN }
+}
+
 // Runs a line over a file of the sample image with changes, and fails unless the run ends so, opens the file
 // as its command does, and leaves it with these changes.
-pub(crate) fn check_run(
-    rt: &HostRuntime,
-    name: &str,
-    (before, after): (Numbers<'_>, Numbers<'_>),
-    line: &str,
-    failures: Failures,
-    expected: Outcome<'_>,
-) -> Result<(), Fail> {
-    let file = sample_file(rt, name, before)?;
+pub(crate) fn check_run(rt: &HostRuntime, name: &str, run: &Run<'_>) -> Result<(), Fail> {
+    let Run { line, ended, .. } = *run;
+    let file = sample_file(rt, name, run.before)?;
     let files = FaultyFiles::new(rt);
-    check_line(&files, file.path.as_str(), line, failures, expected)?;
-    same(files.opens(), opens_of(line, expected.0), line)?;
+    check_line(&files, file.path.as_str(), line, (run.out, run.err), ended)?;
+    same(files.opens(), opens_of(line, ended), line)?;
     let found = fs::read(rt, file.path.as_str())?;
-    check_sample(rt.alloc(), &found, (9, after), line)
+    check_sample(rt.alloc(), &found, (9, run.after), line)
 }
 
 // The sample image, whose clusters have 512 bytes, with these changes, in a file.
@@ -220,24 +242,15 @@ fn sample_file<'a>(
     temporary_file(rt, name, image.bytes())
 }
 
-// How a command that ends with a status opens its image: a line that is no command opens none.
-fn opens_of(line: &str, status: u8) -> Opens {
+// How a run that ends so opens its image: a line that is no command opens none.
+fn opens_of(line: &str, ended: Ended<'_>) -> Opens {
     let changes = line.starts_with("edit ") || line.starts_with("count ");
-    let is_command = status != 2;
+    let is_command = !matches!(ended, NoCommand(_));
     Opens {
         reading: u64::from(is_command && !changes),
         other: u64::from(is_command && changes),
     }
 }
-
-// Such rows, and where the outputs of lines and of faults fail.
-type FailingRow = (
-    Numbers<'static>,
-    &'static str,
-    Failures,
-    Outcome<'static>,
-    Numbers<'static>,
-);
 
 // Five entries, and the lines of those that aren't left to the backing file.
 const LINES_5: Numbers<'static> = rows! {
@@ -246,32 +259,37 @@ const LINES_5: Numbers<'static> = rows! {
 
 const LINES: &str = "0 data 0xa00 copied\n2 zero\n3 zero 0x600\n4 compressed 0x600 512\n";
 
-const FAILING: &[FailingRow] = rows! {
-    (LINES_5, "l2 IMAGE 9 2", (WriteAfter(30), Never), (1, CUT_LINES, STORAGE), LINES_5),
-    (LINES_5, "l2 IMAGE 9 2", (WriteAfter(64), Never), (0, LINES, ""), LINES_5),
-    (&[], "list IMAGE", (WriteAfter(6), Never), (1, "0x600 ", STORAGE), &[]),
-    (&[], "edit IMAGE 0 map:3:6", (WriteAfter(10), Never), (1, "freed 5 1\n", STORAGE), MAPPED_TO_6),
-    (&[], "count IMAGE 3 inc:0 dec:1", (WriteAfter(4), Never), (1, "ok 0", STORAGE), COUNTED),
-    (&[], "map IMAGE", (WriteAfter(20), Never), (1, "0x0 0x600 backing\n0x", STORAGE), &[]),
-    (&[], "map IMAGE json", (WriteAfter(0), Never), NO_FILE, &[]),
-    (&[], "map IMAGE", (Short, Never), (0, EXTENTS, ""), &[]),
-    (&[], "map IMAGE", (Interrupted, Never), (0, EXTENTS, ""), &[]),
+const FAILING: &[Run<'static>] = rows! {
+    Run { line: "l2 IMAGE 9 2", before: LINES_5, out: WriteAfter(30), ended: Failed(CUT_LINES, STORAGE),
+        after: LINES_5, ..RUN },
+    Run { line: "l2 IMAGE 9 2", before: LINES_5, out: WriteAfter(64), ended: Done(LINES), after: LINES_5,
+        ..RUN },
+    Run { line: "list IMAGE", out: WriteAfter(6), ended: Failed("0x600 ", STORAGE), ..RUN },
+    Run { line: "edit IMAGE 0 map:3:6", out: WriteAfter(10), ended: Failed("freed 5 1\n", STORAGE),
+        after: MAPPED_TO_6, ..RUN },
+    Run { line: "count IMAGE 3 inc:0 dec:1", out: WriteAfter(4), ended: Failed("ok 0", STORAGE),
+        after: COUNTED, ..RUN },
+    Run { line: "map IMAGE", out: WriteAfter(20), ended: Failed("0x0 0x600 backing\n0x", STORAGE), ..RUN },
+    Run { line: "map IMAGE json", out: WriteAfter(0), ended: NO_FILE, ..RUN },
+    Run { line: "map IMAGE", out: Short, ended: Done(EXTENTS), ..RUN },
+    Run { line: "map IMAGE", out: Interrupted, ended: Done(EXTENTS), ..RUN },
     // a failed flush is reported where the run has no fault of its own
-    (&[], "l2 IMAGE 9 2", (Flush, Never), NO_FILE, &[]),
-    (&[], "map IMAGE", (Flush, Never), NO_FILE, &[]),
-    (&[(1528, 2)], "map IMAGE", (Flush, Never), BAD_ENTRY, &[(1528, 2)]),
-    (&[], "edit IMAGE 0 zero:3", (Flush, Never), NO_FILE, &[(1048, 1)]),
-    (&[], "l2 IMAGE 9 140737488355328", (Flush, Never), NO_PLACE, &[]),
+    Run { line: "l2 IMAGE 9 2", out: Flush, ended: NO_FILE, ..RUN },
+    Run { line: "map IMAGE", out: Flush, ended: NO_FILE, ..RUN },
+    Run { line: "map IMAGE", before: &[(1528, 2)], out: Flush, ended: BAD_ENTRY, after: &[(1528, 2)], ..RUN },
+    Run { line: "edit IMAGE 0 zero:3", out: Flush, ended: NO_FILE, after: &[(1048, 1)], ..RUN },
+    Run { line: "l2 IMAGE 9 140737488355328", out: Flush, ended: NO_PLACE, ..RUN },
     // a failed error output keeps the status
-    (&[], "l2 IMAGE 9 2", (Never, WriteAfter(0)), (0, ONE_LINE, ""), &[]),
-    (&[], "l2 IMAGE 9 140737488355328", (Never, WriteAfter(5)), (1, "", "qmeta"), &[]),
-    (&[], "l2 IMAGE 9 140737488355328", (Never, Flush), (1, "", ""), &[]),
-    (&[], "l2 IMAGE 8 2", (Never, WriteAfter(9)), (2, "", "usage: qm"), &[]),
+    Run { line: "l2 IMAGE 9 2", err: WriteAfter(0), ended: Done(ONE_LINE), ..RUN },
+    Run { line: "l2 IMAGE 9 140737488355328", err: WriteAfter(5), ended: Failed("", "qmeta"), ..RUN },
+    Run { line: "l2 IMAGE 9 140737488355328", err: Flush, ended: Failed("", ""), ..RUN },
+    Run { line: "l2 IMAGE 8 2", err: WriteAfter(9), ended: NoCommand("usage: qm"),
+        ..RUN },
     // an error output that takes a part at a time, or is interrupted, has the whole line in the end
-    (&[], "l2 IMAGE 9 140737488355328", (Never, Short), NO_PLACE, &[]),
-    (&[], "l2 IMAGE 9 140737488355328", (Never, Interrupted), NO_PLACE, &[]),
-    (&[], "l2 IMAGE 8 2", (Never, Short), NO_COMMAND, &[]),
-    (&[], "l2 IMAGE 8 2", (Never, Interrupted), NO_COMMAND, &[]),
+    Run { line: "l2 IMAGE 9 140737488355328", err: Short, ended: NO_PLACE, ..RUN },
+    Run { line: "l2 IMAGE 9 140737488355328", err: Interrupted, ended: NO_PLACE, ..RUN },
+    Run { line: "l2 IMAGE 8 2", err: Short, ended: NO_COMMAND, ..RUN },
+    Run { line: "l2 IMAGE 8 2", err: Interrupted, ended: NO_COMMAND, ..RUN },
 };
 
 const CUT_LINES: &str = "0 data 0xa00 copied\n2 zero\n3 z";
@@ -282,22 +300,22 @@ const COUNTED: Numbers<'static> = &[(1536, 1 << 48), (2040, 0)];
 
 #[test]
 fn failing_outputs_are_told_and_keep_what_they_took(rt: HostRuntime) -> Result<(), Fail> {
-    for (before, line, failures, expected, after) in FAILING {
-        check_run(&rt, "failing", (before, after), line, *failures, *expected)?;
+    for run in FAILING {
+        check_run(&rt, "failing", run)?;
     }
     Ok(())
 }
 
 // Commands one after the other over a sample image whose second L1 entry names an L2 table past its end.
-const MAPS: &[(&str, Outcome<'static>)] = rows! {
-    ("at IMAGE 32768", (0, "backing 0x8000\n", "")),
-    ("edit IMAGE 1 map:0:5", (0, "gained 5\n", "")),
-    ("at IMAGE 32768", (0, DATA_LINE, "")),
-    ("at IMAGE 1543", (0, DATA_LINE, "")),
-    ("list IMAGE", (0, "0x600 data 0xa00 copied\n0x8000 data 0xa00 copied\n", "")),
-    ("edit IMAGE 0 map:3:6", (0, MAPPED, "")),
-    ("at IMAGE 1543", (0, "data 0xc00 copied\n", "")),
-    ("at IMAGE 0", (0, BACKING, "")),
+const MAPS: &[(&str, Ended<'static>)] = rows! {
+    ("at IMAGE 32768", Done("backing 0x8000\n")),
+    ("edit IMAGE 1 map:0:5", Done("gained 5\n")),
+    ("at IMAGE 32768", Done(DATA_LINE)),
+    ("at IMAGE 1543", Done(DATA_LINE)),
+    ("list IMAGE", Done("0x600 data 0xa00 copied\n0x8000 data 0xa00 copied\n")),
+    ("edit IMAGE 0 map:3:6", Done(MAPPED)),
+    ("at IMAGE 1543", Done("data 0xc00 copied\n")),
+    ("at IMAGE 0", Done(BACKING)),
 };
 
 const MAPPED: &str = "freed 5 1\ngained 6\n";
@@ -347,7 +365,7 @@ fn check_failed_calls(rt: &HostRuntime, line: &str, printed: &str, calls: u64) -
         let expected = if passes < calls {
             NO_FILE
         } else {
-            (0, printed, "")
+            Done(printed)
         };
         check_line(&files, file.path.as_str(), line, NO_FAILURES, expected)?;
     }
@@ -362,7 +380,7 @@ fn a_file_that_may_not_be_written_is_not_edited(rt: HostRuntime) -> Result<(), F
     files.read_only = true;
     let line = "edit IMAGE 0 zero:3";
     check_line(&files, file.path.as_str(), line, NO_FAILURES, NO_FILE)?;
-    same(files.opens(), opens_of(line, 1), "opens")
+    same(files.opens(), opens_of(line, NO_FILE), "opens")
 }
 
 // Names of images. Each is that of a file as it is: nothing in it has a meaning.
@@ -375,7 +393,7 @@ const PATHS: &[&str] = rows! {
 fn check_name<'a>(rt: &'a HostRuntime, name: &'a str, path: &'a str) -> Result<(), Fail> {
     let mut files = FaultyFiles::new(rt);
     files.alias = Some((name, path));
-    let (data, freed) = ((0, DATA_LINE, ""), (0, "freed 5 1\n", ""));
+    let (data, freed) = (Done(DATA_LINE), Done("freed 5 1\n"));
     check_line(&files, name, "at IMAGE 1543", NO_FAILURES, data)?;
     check_line(&files, name, "edit IMAGE 0 discard:3", NO_FAILURES, freed)
 }
@@ -401,28 +419,18 @@ fn a_hundred_edits_are_made_by_one_command(rt: HostRuntime) -> Result<(), Fail> 
     let line = with_fifty(rt.alloc(), "edit IMAGE 0", " map:3:6 map:3:5")?;
     let freed = with_fifty(rt.alloc(), "", "freed 5 1\nfreed 6 1\n")?;
     let printed = with_fifty(rt.alloc(), freed.as_str(), "gained 6\ngained 5\n")?;
-    let expected = (0, printed.as_str(), "");
-    check_run(
-        &rt,
-        "edits",
-        (&[], &[]),
-        line.as_str(),
-        NO_FAILURES,
-        expected,
-    )
+    let run = run_of(line.as_str(), Done(printed.as_str()));
+    check_run(&rt, "edits", &run)
 }
 
 #[test]
 fn a_hundred_steps_are_made_by_one_command(rt: HostRuntime) -> Result<(), Fail> {
     let line = with_fifty(rt.alloc(), "count IMAGE 3", " inc:0 dec:0")?;
     let printed = with_fifty(rt.alloc(), "", "ok 0\nok 1\n")?;
-    let expected = (0, printed.as_str(), "");
-    check_run(
-        &rt,
-        "steps",
-        (&[], &[(2040, 0)]),
-        line.as_str(),
-        NO_FAILURES,
-        expected,
-    )
+    let after: Numbers<'_> = &[(2040, 0)];
+    let run = Run {
+        after,
+        ..run_of(line.as_str(), Done(printed.as_str()))
+    };
+    check_run(&rt, "steps", &run)
 }
