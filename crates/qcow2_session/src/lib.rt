@@ -21,6 +21,6 @@ use l2_tables::L2Tables;
 pub use lookups::{lookup, lookup_image};
 use lookups::lookup_with_header;
 pub use qcow2_check::{Counters, Finding, Findings};
-use qcow2_check::{load_l1_table, named_cluster};
+use qcow2_check::{load_l1_table, load_l2_table, named_cluster};
 pub use settled::{edit_settled, settle};
 pub use steps::{Step, StepReply, step_block};
