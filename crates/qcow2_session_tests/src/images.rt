@@ -3,7 +3,6 @@
 use qcow2_base::{Fault, MemStorage};
 use qcow2_testing::{FailingStorage, StorageCall, put_bytes, same, same_bytes};
 use std::alloc::Global;
-use std::fmt::Debug;
 use std::test::Fail;
 
 /// Bytes at offsets of an image.

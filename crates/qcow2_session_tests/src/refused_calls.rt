@@ -6,9 +6,9 @@ use crate::commands::whole_images::INFO;
 use crate::failing_output::{FailingOutput, Failure};
 use crate::sample_image::{COPIED, Numbers, sample_image};
 use crate::tables::map;
-use Call::{EditImage, Line, LookUpImage, StepImage};
+use Call::{EditImage, Line, LoadHeader, LookUpImage, StepImage};
 use qcow2_base::{Fault, GuestOffset, HostCluster, MemStorage};
-use qcow2_calls::{edit_image, header_of, lookup_image, step_image};
+use qcow2_calls::{edit_image, header_of, load_header, lookup_image, step_image};
 use qcow2_session::{Edit, Step};
 use qcow2_testing::{
     FailingStorage, StorageCall, each, holds, part_of, put_bytes, row_error, rows, same, same_bytes,
@@ -16,9 +16,11 @@ use qcow2_testing::{
 use std::alloc::Global;
 use std::test::Fail;
 
-// A call over an image: of the table or block in cluster 2, of an offset, or of the command of a line.
+// A call over an image: a load for writing, one of the table or block in cluster 2, one of an offset, or the
+// command of a line.
 #[derive(Clone, Copy, Debug)]
 enum Call {
+    LoadHeader,
     EditImage(&'static [Edit]),
     StepImage(&'static [Step]),
     LookUpImage(GuestOffset),
@@ -65,6 +67,7 @@ const ROWS: &[Row] = rows! {
     Row { call: Line("count IMAGE 3 inc:0 inc:0 dec:0 dec:1"), after: COUNTED,
         printed: "ok 0\nok 1\nok 2\nrefused\n", ..ROW },
     // an autoclear feature, which a load for writing clears by one write of the header
+    Row { call: LoadHeader, before: AUTOCLEAR, calls: 2 + 1, ..ROW },
     Row { call: Line("edit IMAGE 0 map:3:6 keep:4"), before: AUTOCLEAR, calls: 2 + 1 + 1 + 1 + 1,
         after: MAPPED_TO_6, printed: "freed 5 1\ngained 6\n", ..ROW },
     Row { call: Line("count IMAGE 3 inc:0 inc:0 dec:0 dec:1"), before: AUTOCLEAR, calls: 2 + 1 + 1 + 1,
@@ -101,6 +104,7 @@ fn make(
     let header = header_of(alloc, row.cluster_bits, 4, false)?;
     let cluster = HostCluster(2);
     Ok(match row.call {
+        LoadHeader => load_header(alloc, image, true).map(|_| ()),
         EditImage(edits) => edit_image(alloc, image, &header, cluster, edits).map(|_| ()),
         StepImage(steps) => step_image(alloc, image, &header, cluster, steps).map(|_| ()),
         LookUpImage(offset) => lookup_image(alloc, image, offset).map(|_| ()),
