@@ -1,18 +1,8 @@
 use Rattle.std.proofs.lemmas.Bool.Decides.{nat_tests}
-use Rattle.std.proofs.Common.{◌≡◌, ◌⊎◌, ℕ, ◌+◌, ◌-◌, ◌*◌, ◌/◌, ◌^◌, ◌<◌, ◌≤◌, Some, None, Result, Ok, ap, sym, ◌∙◌, arith}
-use Rattle.std.proofs.Math.Nat.{div-mul-le_self, pow-le-pow_right}
-use Rattle.std.proofs.lemmas.Nat.{mul-le, pow-add, shr_below}
+use Rattle.std.proofs.Common.{◌≡◌, ℕ, ◌*◌, ◌/◌, ◌^◌, ◌<◌, Result, Ok, arith}
+use Rattle.std.proofs.Math.Nat.{div-mul-le_self}
 use Rattle.qcow2_base.specs.Storage.{OnlyReads, ReadsFor, StorageState}
 use Rattle.qcow2_base.specs.declared.fault.Fault.{Fault}
-use Rattle.std.specs.Result.{IfErr}
-use Rattle.qcow2_base.specs.declared.types.HostCluster.{HostCluster}
-use Rattle.qcow2_base.specs.declared.types.HostOffset.{HostOffset}
-use Rattle.qcow2_metadata.specs.Entries.{offset_field, offset_unless_zero}
-use Rattle.qcow2_metadata.specs.Header.{Geometry}
-use Rattle.qcow2_metadata.specs.Results.{IsFromOutside}
-use Rattle.qcow2_metadata.specs.Table.{IsContentFault, IsTableFault, l2_layout}
-use Rattle.qcow2_metadata.specs.Placed.{place_fault}
-use Rattle.qcow2_check.specs.NamedTables.{IsInImage}
 
 -- the cluster of an offset that fits 64 bits begins at one that does
 pub cluster_fits : (offset cluster cb other : ℕ) → offset < 2 ^ 64 → cluster ≡ offset / 2 ^ cb → other ≡ cb → cluster * 2 ^ other < 2 ^ 64

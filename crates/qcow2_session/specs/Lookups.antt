@@ -1,20 +1,15 @@
 -- What does a guest offset read as, by an image's header, L1 table and L2 tables?
-use Rattle.std.specs.Prelude.{◌≤◌, ℕ, ◌+◌, ◌*◌, ◌/◌, ◌%◌, ◌^◌, List, slice_index, Option, Some, None, option_map, Result, Ok}
-use Rattle.qcow2_base.specs.Format.{max_file_length}
+use Rattle.std.specs.Prelude.{◌≤◌, ℕ, ◌*◌, ◌/◌, ◌%◌, ◌^◌, List, slice_index, Option, Some, None, Result, Ok}
 use Rattle.qcow2_base.specs.Fault.{fault_number}
 use Rattle.qcow2_base.specs.Storage.{Image}
-use Rattle.qcow2_base.specs.Types.{IsClusterBits}
 use Rattle.qcow2_base.specs.declared.fault.Fault.{Fault}
 use Rattle.qcow2_base.specs.declared.types.HostCluster.{HostCluster}
-use Rattle.qcow2_base.specs.declared.types.HostOffset.{HostOffset}
 use Rattle.qcow2_check.specs.NamedTables.{loaded_l1_table, named_cluster}
 use Rattle.qcow2_metadata.specs.Results.{and_then, result_map}
 use Rattle.qcow2_metadata.specs.Entries.L2Mapping.{Mapping, mapping, backing}
-use Rattle.qcow2_metadata.specs.Entries.{offset_field, offset_unless_zero}
 use Rattle.qcow2_metadata.specs.Header.{Geometry, HeaderRecord, geometry_of}
 use Rattle.qcow2_metadata.specs.Header.Grammar.{header_of}
-use Rattle.qcow2_metadata.specs.Placed.{Layout, loaded_numbers}
-use Rattle.qcow2_metadata.specs.Table.{l1_kind, l2_entries, loaded_l2_table, table_layout}
+use Rattle.qcow2_metadata.specs.Table.{l2_entries, loaded_l2_table}
 
 -- and that of a guest cluster; past the L1 table's end its entry is 0
 abbrev pub l2_cluster : ℕ → List ℕ → ℕ → Option HostCluster

@@ -55,4 +55,6 @@ returns-clause-prints g c =
     (grind (arith, reads-calm))
 
 pub returns-in_err-print_all-clause-storage : goal.returns-in_err-print_all-clause-storage
-returns-in_err-print_all-clause-storage g c = grind (arith, reads-then_for)
+returns-in_err-print_all-clause-storage g c =
+    let left = err_from_is_err_and c.from_residual-in_err-print_all.result c.from_residual-in_err-print_all.ensures.1 in
+    rw (left.1, left.2) (reads-then_for c.in_ok-extents.extents _ _ _ c.in_ok-extents.ensures.reads.storage c.in_err-print_all.ensures.storage)
