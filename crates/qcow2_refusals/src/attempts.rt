@@ -4,7 +4,6 @@ use crate::calls::Answer;
 use crate::held::{Held, MOST_NUMBERS, Numbers, hold};
 use crate::runs::{Run, image_of, number_of};
 use qcow2_base::{Fault, MemStorage};
-use qcow2_testing::StorageCall;
 use std::alloc::Global;
 
 /// Why a run isn't as it must be.
@@ -20,8 +19,6 @@ pub(crate) enum Wrong {
     Told,
     /// What the call works on beside the image.
     Held,
-    /// Each of its calls was refused, and there are ever more.
-    Endless,
 }
 
 impl From<Fault> for Wrong {
@@ -50,8 +47,6 @@ pub(crate) struct Attempt {
     after: MemStorage,
     /// Whether the call lengthens the image.
     pub(crate) grows: bool,
-    /// Whether the image was changed by an earlier call.
-    is_again: bool,
 }
 
 /// Begins a run.
@@ -72,14 +67,12 @@ pub(crate) fn begin(alloc: Global, run: &Run<'_>) -> Result<Attempt, Fault> {
         opened,
         after,
         grows,
-        is_again: false,
     })
 }
 
 impl Attempt {
     /// Fails unless all stands that must after this answer: what the call reported, what it works on, and
-    /// where it succeeds the image, whose bytes are these now. Where a write of the output has failed, the
-    /// image was changed by then, and is changed once more.
+    /// the image, whose bytes are these now.
     pub(crate) fn check(
         &mut self,
         run: &Run<'_>,
@@ -87,37 +80,23 @@ impl Attempt {
         image: &[u8],
     ) -> Result<(), Wrong> {
         unless(answer != Answer::Other, Wrong::Answer)?;
-        let may_differ = answer != Answer::Done || self.held.out.has_failed;
-        unless(may_differ || image == self.after.bytes(), Wrong::Image)?;
-        unless(self.told_stands(run, answer), Wrong::Told)?;
-        self.is_again = !self.is_unchanged(image);
-        let changes = match answer {
-            Answer::Done => run.done,
-            Answer::StorageFailed => run.refused,
-            _ => "",
+        let is_done = answer == Answer::Done;
+        let image_stands = if is_done {
+            image == self.after.bytes()
+        } else {
+            image == self.before.bytes() || image == self.opened.bytes()
         };
-        unless(self.held_stands(changes), Wrong::Held)
-    }
-
-    /// Whether nothing is changed of the image, whose bytes are these, but maybe its header as it is loaded.
-    pub(crate) fn is_unchanged(&self, image: &[u8]) -> bool {
-        image == self.before.bytes() || image == self.opened.bytes()
-    }
-
-    /// The image's bytes where these calls have passed: those of after the call where they wrote.
-    pub(crate) fn written(&self, calls: &[StorageCall]) -> Result<Vec<u8>, Fault> {
-        let mut bytes = Vec::from_slice(self.held.alloc, self.before.bytes())?;
-        for call in calls {
-            if let StorageCall::Write { offset, len } = call {
-                write_from(self.after.bytes(), &mut bytes, *offset as usize, *len)?;
-            }
-        }
-        Ok(bytes)
+        unless(image_stands, Wrong::Image)?;
+        unless(self.told_stands(run, answer), Wrong::Told)?;
+        unless(
+            self.held_stands(if is_done { run.done } else { "" }),
+            Wrong::Held,
+        )
     }
 
     // All is reported, or a beginning of it where the call was refused.
     fn told_stands(&self, run: &Run<'_>, answer: Answer) -> bool {
-        let (all, told) = (run.told(self.is_again), self.held.out.bytes.as_slice());
+        let (all, told) = (run.told, self.held.out.as_slice());
         let is_long_enough = answer != Answer::Done || told.len() == all.len();
         is_long_enough && begins_with(all.as_bytes(), told)
     }
@@ -161,18 +140,4 @@ fn begins_with(text: &[u8], told: &[u8]) -> bool {
         }
     }
     true
-}
-
-// Writes `len` of the new bytes in their place, after zeros where the old ones end before it.
-fn write_from(new: &[u8], bytes: &mut Vec<u8>, place: usize, len: usize) -> Result<(), Fault> {
-    let end = place.saturating_add(len);
-    if bytes.len() < end {
-        bytes.resize(end, 0)?;
-    }
-    for at in place..end {
-        if let (Some(byte), Some(new)) = (bytes.get_mut(at), new.get(at)) {
-            *byte = *new;
-        }
-    }
-    Ok(())
 }

@@ -9,6 +9,8 @@ pub(crate) mod tables;
 use crate::held::Held;
 use crate::runs::Run;
 use qcow2_base::{Fault, Storage};
+use std::fmt::Debug;
+use std::io::Write;
 
 /// What a call returned, as far as refusals go.
 #[derive(Clone, Copy, PartialEq, Eq)]
@@ -21,7 +23,7 @@ pub(crate) enum Answer {
 
 /// Makes the call of a run.
 pub(crate) fn make<S: Storage>(run: &Run<'_>, held: &mut Held, image: &mut S) -> Answer {
-    held.out.bytes.clear();
+    held.out.clear();
     match make_call(run, held, image) {
         Ok(()) => Answer::Done,
         Err(Fault::Storage) => Answer::StorageFailed,
@@ -56,5 +58,13 @@ fn make_in_memory(call: &str, of: &str, held: &mut Held) -> Result<(), Fault> {
         "edit_settled" => sessions::settle(held),
         "edit_settled in vain" => sessions::settle_in_vain(held),
         _ => copies::make(call, of, held),
+    }
+}
+
+// Writes what a value prints as by `Debug`.
+fn tell<T: Debug>(out: &mut Vec<u8>, value: &T) -> Result<(), Fault> {
+    match write!(out, "{value:?}") {
+        Ok(()) => Ok(()),
+        Err(_) => Err(Fault::WrongLength),
     }
 }

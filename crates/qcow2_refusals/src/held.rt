@@ -1,6 +1,5 @@
 //! What a call works on beside an image, and what it shows of itself.
 
-use crate::outputs::Output;
 use crate::runs::{Run, image_of, usize_of};
 use qcow2_base::{Fault, HostCluster, MemStorage};
 use qcow2_calls::{header_of, load_block, load_header, load_table, new_header};
@@ -18,6 +17,9 @@ pub(crate) const BLOCK: HostCluster = HostCluster(2);
 /// More numbers than are shown of any of them.
 pub(crate) const MOST_NUMBERS: usize = 1 << 17;
 
+/// More bytes than any call reports, so that no write of them asks for memory.
+const MOST_REPORTED: usize = 1024;
+
 /// A disk of 64 clusters of 512 bytes, of which guest cluster 3 is the data in host cluster 5.
 const DISK: &str = "2048 0 2048 0=514649fb00000003 16=9 24=8000 32=1 40=200 96=400000068 \
     512=8000000000000400 1048=8000000000000a00";
@@ -31,7 +33,7 @@ pub(crate) struct Held {
     pub(crate) l2_table: L2Table,
     pub(crate) reftable: RefTable,
     pub(crate) block: RefBlock,
-    pub(crate) out: Output,
+    pub(crate) out: Vec<u8>,
 }
 
 /// What a run's call begins with.
@@ -61,7 +63,7 @@ pub(crate) fn hold_over(
         l2_table: load_table(alloc, image, &header, TABLES, entries)?,
         reftable: load_table(alloc, image, &header, TABLES, entries)?,
         block: load_block(alloc, image, &header, BLOCK)?,
-        out: Output::new(alloc)?,
+        out: Vec::with_capacity(alloc, MOST_REPORTED)?,
         header,
     })
 }

@@ -1,25 +1,20 @@
-//! Makes each call of the library that can fail with each of its refusals, and reports what isn't as it must
-//! be.
+//! Makes each call of the library that takes memory, reports what isn't as it must be, and prints how many
+//! runs there are.
 //!
-//! With no word, it refuses each call of the storage and each write of the output in turn, and prints a line
-//! for each run with how many there are; then it makes each run where nothing is refused, and prints how many
-//! runs there are. `scripts/refuse-each-allocation` runs it with other words: with `memory` it does the
-//! latter alone, and each of its requests for memory is refused in turn; with `once` and with `often` it
-//! makes calls that must take no memory, once or a thousand times; with `settled` and with `refused` it makes
-//! edits that the counters follow, or can't: all memory is taken before they are looked at.
+//! `scripts/refuse-each-allocation` refuses each of its requests for memory in turn, and runs it with words
+//! too: with `once` and with `often` it makes calls that must take no memory, once or a thousand times; with
+//! `settled` and with `refused` it makes edits that the counters follow, or can't: all memory is taken before
+//! they are looked at.
 #![tactic(auto)]
 
 mod attempts;
 mod calls;
 mod held;
 mod memory;
-mod outputs;
-mod refusals;
 mod runs;
 mod without_memory;
 
 use crate::memory::{Memory, again};
-use crate::refusals::Refusals;
 use crate::runs::take_all;
 use crate::without_memory::OF_A_TURN;
 use std::alloc::Global;
@@ -49,27 +44,13 @@ fn first_word(rt: &HostRuntime) -> io::Result<String> {
 // Does what the word says, and returns whether all was as it must be.
 fn does<O: Write>(rt: &HostRuntime, word: &str, table: &str, out: &mut O) -> bool {
     match word {
-        "" => refuse_all(rt.alloc(), table, out) && make_each(rt, "", table, out),
-        "memory" => make_each(rt, "", table, out),
+        "" => make_each(rt, "", table, out),
         "once" => make_calls(rt, 1, out),
         "often" => make_calls(rt, 1000, out),
         "settled" => make_each(rt, "edit_settled", table, out),
         "refused" => make_each(rt, "edit_settled in vain", table, out),
         _ => false,
     }
-}
-
-fn refuse_all<O: Write>(alloc: Global, table: &str, out: &mut O) -> bool {
-    let mut refusals = Refusals {
-        alloc,
-        out,
-        of_writes: false,
-        all_right: true,
-    };
-    take_all(table, &mut refusals);
-    refusals.of_writes = true;
-    take_all(table, &mut refusals);
-    refusals.all_right
 }
 
 // Makes each run, or each of one call.

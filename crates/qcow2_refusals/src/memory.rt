@@ -111,8 +111,6 @@ fn has_done(
 ) -> Result<bool, Wrong> {
     let may_fail = answer != Answer::StorageFailed || attempt.grows;
     unless(may_fail, Wrong::Answer)?;
-    let is_done = answer == Answer::Done;
-    unless(is_done || attempt.is_unchanged(image), Wrong::Image)?;
     attempt.check(run, answer, image)?;
-    Ok(is_done)
+    Ok(answer == Answer::Done)
 }

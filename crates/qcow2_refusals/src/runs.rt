@@ -27,12 +27,10 @@ pub(crate) struct Run<'a> {
     before: &'a str,
     /// The numbers of the image after a call that succeeds.
     pub(crate) after: &'a str,
-    /// The numbers that it changes where the storage refuses.
-    pub(crate) refused: &'a str,
-    /// Those that it changes where it succeeds.
+    /// Those that it changes of what it is made on.
     pub(crate) done: &'a str,
-    told: &'a str,
-    told_again: &'a str,
+    /// What it reports.
+    pub(crate) told: &'a str,
     words: &'a str,
     opened: &'a str,
 }
@@ -73,10 +71,8 @@ fn run_of<'a>(setup: Setup<'a>, line: &'a str) -> Run<'a> {
         is_modified: text_of(columns.next()) == "1",
         before: text_of(columns.next()),
         after: text_of(columns.next()),
-        refused: text_of(columns.next()),
         done: text_of(columns.next()),
         told: text_of(columns.next()),
-        told_again: text_of(columns.next()),
         words: text_of(columns.next()),
         opened: text_of(columns.next()),
     }
@@ -126,14 +122,6 @@ impl Run<'_> {
             return self.call;
         }
         self.words
-    }
-
-    /// What the call must report, over an image that it has changed before or not.
-    pub(crate) fn told(&self, is_again: bool) -> &str {
-        if is_again && !self.told_again.is_empty() {
-            return self.told_again;
-        }
-        self.told
     }
 }
 

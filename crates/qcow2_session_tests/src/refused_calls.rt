@@ -6,29 +6,33 @@ use crate::commands::whole_images::INFO;
 use crate::failing_output::{FailingOutput, Failure};
 use crate::sample_image::{COPIED, Numbers, sample_image};
 use crate::tables::map;
-use Call::{EditImage, Line, LoadHeader, LookUpImage, StepImage};
-use qcow2_base::{Fault, GuestOffset, HostCluster, MemStorage};
-use qcow2_calls::{edit_image, header_of, load_header, lookup_image, step_image};
+use Call::{EditImage, Line, LoadHeader, LookUp, LookUpImage, StepImage};
+use qcow2_base::{Fault, GuestOffset, HostCluster, MemStorage, Storage};
+use qcow2_calls::{
+    edit_image, header_of, load_header, load_table, lookup, lookup_image, step_image,
+};
+use qcow2_metadata::L1Table;
 use qcow2_session::{Edit, Step};
 use qcow2_testing::{
-    FailingStorage, StorageCall, each, holds, part_of, put_bytes, row_error, rows, same, same_bytes,
+    FailingStorage, StorageCall, each, part_of, put_bytes, row_error, rows, same, same_bytes,
 };
 use std::alloc::Global;
 use std::test::Fail;
 
-// A call over an image: a load for writing, one of the table or block in cluster 2, one of an offset, or the
-// command of a line.
+// A call over an image: a load for writing, one of the table or block in cluster 2, one of an offset by the
+// L1 table in cluster 1 or by the whole image, or the command of a line.
 #[derive(Clone, Copy, Debug)]
 enum Call {
     LoadHeader,
     EditImage(&'static [Edit]),
     StepImage(&'static [Step]),
+    LookUp(GuestOffset),
     LookUpImage(GuestOffset),
     Line(&'static str),
 }
 
 // A call over the sample image with changes: how many calls of the storage it makes, how the image differs
-// from the sample image then, and what is printed. Made again, it leaves the same.
+// from the sample image then, and what is printed; and what it prints again where it has changed the image.
 #[derive(Clone, Copy)]
 struct Row {
     call: Call,
@@ -37,6 +41,7 @@ struct Row {
     calls: u64,
     after: Numbers<'static>,
     printed: &'static str,
+    again: &'static str,
 }
 
 // The header is read by two calls, and a table of 512 bytes by one.
@@ -47,12 +52,14 @@ const ROW: Row = Row {
     calls: 2 + 1 + 1,
     after: &[],
     printed: "",
+    again: "",
 };
 
 const ROWS: &[Row] = rows! {
     // a table of 64 KiB, which is read and written in 16 pieces, and a block of 4096 bytes
     Row { call: EditImage(ENDS_OF_64_KIB), cluster_bits: 16, calls: 16 + 16, after: MAPPED_ENDS, ..ROW },
     Row { call: StepImage(STEPS), cluster_bits: 12, calls: 1 + 1, after: STEPPED, ..ROW },
+    Row { call: LookUp(GuestOffset(1543)), calls: 1, ..ROW },
     Row { call: LookUpImage(GuestOffset(1543)), ..ROW },
     Row { call: Line("info IMAGE"), calls: 2, printed: INFO, ..ROW },
     Row { call: Line("list IMAGE"), printed: "0x600 data 0xa00 copied\n", ..ROW },
@@ -64,15 +71,24 @@ const ROWS: &[Row] = rows! {
     Row { call: Line("l2 IMAGE 9 2"), calls: 1, printed: "3 data 0xa00 copied\n", ..ROW },
     Row { call: Line("edit IMAGE 0 map:3:6 keep:4"), calls: 2 + 1 + 1 + 1, after: MAPPED_TO_6,
         printed: "freed 5 1\ngained 6\n", ..ROW },
-    Row { call: Line("count IMAGE 3 inc:0 inc:0 dec:0 dec:1"), after: COUNTED,
-        printed: "ok 0\nok 1\nok 2\nrefused\n", ..ROW },
+    Row { call: Line("edit IMAGE 0 map:3:5 map:3:6 discard:3"), calls: 2 + 1 + 1 + 1, after: &[(1048, 0)],
+        printed: "freed 5 1\nfreed 6 1\ngained 6\n",
+        again: "freed 5 1\nfreed 6 1\ngained 5\ngained 6\n", ..ROW },
+    Row { call: Line("edit IMAGE 0 map:0:5 zero:8191"), cluster_bits: 16, calls: 2 + 1 + 16 + 16,
+        after: &[(0x2_0000, COPIED + 0x5_0000), (0x2_fff8, 1)], printed: "gained 5\n", ..ROW },
+    Row { call: Line("count IMAGE 3 inc:0 inc:0 dec:0 dec:1"), after: COUNTED, printed: COUNTS,
+        again: COUNTS_AGAIN, ..ROW },
     // an autoclear feature, which a load for writing clears by one write of the header
     Row { call: LoadHeader, before: AUTOCLEAR, calls: 2 + 1, ..ROW },
     Row { call: Line("edit IMAGE 0 map:3:6 keep:4"), before: AUTOCLEAR, calls: 2 + 1 + 1 + 1 + 1,
         after: MAPPED_TO_6, printed: "freed 5 1\ngained 6\n", ..ROW },
     Row { call: Line("count IMAGE 3 inc:0 inc:0 dec:0 dec:1"), before: AUTOCLEAR, calls: 2 + 1 + 1 + 1,
-        after: COUNTED, printed: "ok 0\nok 1\nok 2\nrefused\n", ..ROW },
+        after: COUNTED, printed: COUNTS, again: COUNTS_AGAIN, ..ROW },
 };
+
+const COUNTS: &str = "ok 0\nok 1\nok 2\nrefused\n";
+
+const COUNTS_AGAIN: &str = "ok 1\nok 2\nok 3\nrefused\n";
 
 const ENDS_OF_64_KIB: &[Edit] = rows! { map!(0, 5), map!(8191, 6) };
 
@@ -107,12 +123,21 @@ fn make(
         LoadHeader => load_header(alloc, image, true).map(|_| ()),
         EditImage(edits) => edit_image(alloc, image, &header, cluster, edits).map(|_| ()),
         StepImage(steps) => step_image(alloc, image, &header, cluster, steps).map(|_| ()),
+        LookUp(offset) => look_up(alloc, image, offset),
         LookUpImage(offset) => lookup_image(alloc, image, offset).map(|_| ()),
         Line(line) => match run_command(alloc, image, line, out)? {
             Some(answer) => answer,
             None => return Err(row_error(line)),
         },
     })
+}
+
+// Looks an offset up by the header and the L1 table of the sample image.
+fn look_up<S: Storage>(alloc: Global, image: &mut S, offset: GuestOffset) -> Result<(), Fault> {
+    let mut sample = sample_image(alloc, 9, &[])?;
+    let header = load_header(alloc, &mut sample, false)?;
+    let l1_table: L1Table = load_table(alloc, &mut sample, &header, HostCluster(1), 1)?;
+    lookup(alloc, image, &header, &l1_table, offset).map(|_| ())
 }
 
 // The image of a row before its call, which records its calls.
@@ -142,52 +167,63 @@ fn a_refused_call_of_the_storage_leaves_what_was_written_before_it(
 }
 
 fn check_calls(alloc: Global, row: Row) -> Result<(), Fail> {
-    for passes in 0..=row.calls {
+    let mut image = image_before(alloc, row)?;
+    check_done(alloc, row, &mut image, row.calls)?;
+    same(image.calls.len() as u64, row.calls, row.call)?;
+    check_after(alloc, row, &image, row.calls)?;
+    for passes in 0..row.calls {
         check_refused_call(alloc, row, passes)?;
     }
     Ok(())
 }
 
-// Makes the call of a row whose storage refuses the call after `passes`, if there is one, and then once more.
+// Makes the call of a row whose storage refuses the call after `passes`, and then once more.
 fn check_refused_call(alloc: Global, row: Row, passes: u64) -> Result<(), Fail> {
     let place = (row.call, passes);
     let mut image = image_before(alloc, row)?;
     image.plan = Some(passes);
-    let is_refused = passes < row.calls;
-    let expected = if is_refused {
-        Err(Fault::Storage)
-    } else {
-        Ok(())
-    };
-    let printed = check_answer(alloc, row, &mut image, expected, passes)?;
-    holds(is_refused || printed == row.printed.len(), place)?;
-    let calls = passes.saturating_add(u64::from(is_refused));
-    same(image.calls.len() as u64, calls, place)?;
-    let passed = part_of(&image.calls, 0, passes as usize)?;
-    let left = image_with_writes(alloc, row, passed)?;
+    let mut out = FailingOutput::new(alloc, Failure::Never);
+    let answer = make(alloc, row, &mut image, &mut out)?;
+    let text = part_of(row.printed.as_bytes(), 0, out.bytes().len())?;
+    same((answer, out.bytes()), (Err(Fault::Storage), text), place)?;
+    same(image.calls.len() as u64, passes.saturating_add(1), place)?;
+    let left = image_with_writes(alloc, row, part_of(&image.calls, 0, passes as usize)?)?;
     same_bytes(image.inner.bytes(), left.bytes(), place)?;
-    if is_refused {
-        check_answer(alloc, row, &mut image, Ok(()), passes)?;
-    }
-    let after = sample_image(alloc, row.cluster_bits, row.after)?;
-    same_bytes(image.inner.bytes(), after.bytes(), place)
+    check_done(alloc, row, &mut image, passes)?;
+    check_after(alloc, row, &image, passes)
 }
 
-// Makes the call, and returns how many bytes it printed, which are a beginning of the text.
-fn check_answer(
+// Fails unless the call is done, and prints what it must over this image.
+fn check_done(
     alloc: Global,
     row: Row,
     image: &mut FailingStorage<MemStorage>,
-    expected: Result<(), Fault>,
     passes: u64,
-) -> Result<usize, Fail> {
+) -> Result<(), Fail> {
+    let is_again = is_changed(alloc, row, image)?;
+    let text = if is_again { row.again } else { row.printed };
     let mut out = FailingOutput::new(alloc, Failure::Never);
     let answer = make(alloc, row, image, &mut out)?;
-    same(answer, expected, (row.call, passes))?;
-    let printed = out.bytes().len();
-    let text = part_of(row.printed.as_bytes(), 0, printed)?;
-    same_bytes(out.bytes(), text, (row.call, passes))?;
-    Ok(printed)
+    let found = (answer, std::str::from_utf8(out.bytes())?);
+    same(found, (Ok(()), text), (row.call, passes))
+}
+
+// Whether more is changed of the image of a row than its header.
+fn is_changed(alloc: Global, row: Row, image: &FailingStorage<MemStorage>) -> Result<bool, Fail> {
+    let before = sample_image(alloc, row.cluster_bits, row.before)?;
+    let start = 1usize.wrapping_shl(row.cluster_bits);
+    let found = part_of(image.inner.bytes(), start, image.inner.bytes().len())?;
+    Ok(found != part_of(before.bytes(), start, before.bytes().len())?)
+}
+
+fn check_after(
+    alloc: Global,
+    row: Row,
+    image: &FailingStorage<MemStorage>,
+    passes: u64,
+) -> Result<(), Fail> {
+    let after = sample_image(alloc, row.cluster_bits, row.after)?;
+    same_bytes(image.inner.bytes(), after.bytes(), (row.call, passes))
 }
 
 #[test]
@@ -204,7 +240,7 @@ fn check_writes(alloc: Global, row: Row) -> Result<(), Fail> {
     Ok(())
 }
 
-// Makes the call of a row whose output takes `room` bytes. The image is changed by then.
+// Makes the call of a row whose output takes `room` bytes, and then once more. The image is changed by then.
 fn check_refused_write(alloc: Global, row: Row, room: usize) -> Result<(), Fail> {
     let mut image = image_before(alloc, row)?;
     let mut out = FailingOutput::new(alloc, Failure::WriteAfter(room));
@@ -215,6 +251,6 @@ fn check_refused_write(alloc: Global, row: Row, room: usize) -> Result<(), Fail>
         (Err(Fault::Storage), text),
         (row.call, room),
     )?;
-    let after = sample_image(alloc, row.cluster_bits, row.after)?;
-    same_bytes(image.inner.bytes(), after.bytes(), (row.call, room))
+    check_after(alloc, row, &image, room as u64)?;
+    check_done(alloc, row, &mut image, room as u64)
 }

@@ -1,7 +1,7 @@
 //! Calls that take memory and no storage: tables, blocks and an extension that are made, copied and grown.
 
+use super::tell;
 use crate::held::Held;
-use crate::outputs::{Output, tell};
 use qcow2_base::Fault;
 use qcow2_calls::{copy_l2_table, grow_l1_table, grow_reftable, new_block, new_l2_table};
 use qcow2_metadata::{HeaderExtension, Table, TableEntry};
@@ -58,7 +58,7 @@ fn tell_grown_reftable(held: &mut Held) -> Result<(), Fault> {
 }
 
 // Reports how many entries a table has, that at index 3, its cluster and its flag.
-fn tell_table<T: Table>(out: &mut Output, table: &T) -> Result<(), Fault> {
+fn tell_table<T: Table>(out: &mut Vec<u8>, table: &T) -> Result<(), Fault> {
     let (entries, entry) = (table.entries(), table.get(3).to_plain());
     tell(
         out,

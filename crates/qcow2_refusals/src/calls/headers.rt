@@ -1,7 +1,7 @@
 //! Calls of headers.
 
+use super::tell;
 use crate::held::Held;
-use crate::outputs::{Output, tell};
 use qcow2_base::{Fault, Storage};
 use qcow2_calls::{
     load_header, new_header, write_header, write_l1_table_pointer, write_reftable_pointer,
@@ -39,7 +39,7 @@ fn new(held: &mut Held) -> Result<(), Fault> {
     tell_names(&header, &mut held.out)
 }
 
-fn tell_names(header: &Header, out: &mut Output) -> Result<(), Fault> {
+fn tell_names(header: &Header, out: &mut Vec<u8>) -> Result<(), Fault> {
     tell(out, &header.backing_filename())?;
     tell(out, &header.backing_format())?;
     tell(out, &header.external_data_filename())

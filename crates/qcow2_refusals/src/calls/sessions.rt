@@ -1,7 +1,7 @@
 //! Lists of changes, and lookups.
 
+use super::tell;
 use crate::held::{BLOCK, Held, TABLES};
-use crate::outputs::tell;
 use qcow2_base::{Fault, GuestOffset, HostCluster, Storage};
 use qcow2_calls::{
     edit_image, edit_settled, edit_table, lookup, lookup_image, step_block, step_image,
