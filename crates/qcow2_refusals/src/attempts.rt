@@ -1,8 +1,8 @@
 //! A run that has begun, and whether all stands that must after its call.
 
 use crate::calls::Answer;
-use crate::held::{Held, MOST_NUMBERS, Numbers, hold};
-use crate::runs::{Run, image_of, number_of};
+use crate::held::{Held, MOST_NUMBERS, Shown, hold};
+use crate::runs::Run;
 use qcow2_base::{Fault, MemStorage};
 use std::alloc::Global;
 
@@ -16,7 +16,7 @@ pub(crate) enum Wrong {
     /// The image's bytes.
     Image,
     /// What the call reported.
-    Told,
+    Report,
     /// What the call works on beside the image.
     Held,
 }
@@ -40,8 +40,8 @@ pub(crate) fn unless(holds: bool, wrong: Wrong) -> Result<(), Wrong> {
 #[derive(Drop)]
 pub(crate) struct Attempt {
     pub(crate) held: Held,
-    first: Numbers,
-    numbers: Numbers,
+    first: Shown,
+    shown: Shown,
     pub(crate) before: MemStorage,
     opened: MemStorage,
     after: MemStorage,
@@ -50,19 +50,19 @@ pub(crate) struct Attempt {
 }
 
 /// Begins a run.
-pub(crate) fn begin(alloc: Global, run: &Run<'_>) -> Result<Attempt, Fault> {
-    let mut first = Numbers(Vec::with_capacity(alloc, MOST_NUMBERS)?);
-    let numbers = Numbers(Vec::with_capacity(alloc, MOST_NUMBERS)?);
+pub(crate) fn begin(alloc: Global, run: &Run) -> Result<Attempt, Fault> {
+    let mut first = Shown(Vec::with_capacity(alloc, MOST_NUMBERS)?);
+    let shown = Shown(Vec::with_capacity(alloc, MOST_NUMBERS)?);
     let before = run.before(alloc)?;
     let opened = run.opened(alloc)?;
-    let after = image_of(alloc, run.setup.image, run.after)?;
+    let after = run.after(alloc)?;
     let held = hold(alloc, run)?;
-    held.tell(&mut first);
+    held.show(&mut first);
     let grows = before.bytes().len() < after.bytes().len();
     Ok(Attempt {
         held,
         first,
-        numbers,
+        shown,
         before,
         opened,
         after,
@@ -73,12 +73,7 @@ pub(crate) fn begin(alloc: Global, run: &Run<'_>) -> Result<Attempt, Fault> {
 impl Attempt {
     /// Fails unless all stands that must after this answer: what the call reported, what it works on, and
     /// the image, whose bytes are these now.
-    pub(crate) fn check(
-        &mut self,
-        run: &Run<'_>,
-        answer: Answer,
-        image: &[u8],
-    ) -> Result<(), Wrong> {
+    pub(crate) fn check(&mut self, run: &Run, answer: Answer, image: &[u8]) -> Result<(), Wrong> {
         unless(answer != Answer::Other, Wrong::Answer)?;
         let is_done = answer == Answer::Done;
         let image_stands = if is_done {
@@ -87,57 +82,41 @@ impl Attempt {
             image == self.before.bytes() || image == self.opened.bytes()
         };
         unless(image_stands, Wrong::Image)?;
-        unless(self.told_stands(run, answer), Wrong::Told)?;
-        unless(
-            self.held_stands(if is_done { run.done } else { "" }),
-            Wrong::Held,
-        )
+        unless(self.report_stands(run, answer), Wrong::Report)?;
+        let changes = if is_done { run.changes } else { &[] };
+        unless(self.held_stands(changes), Wrong::Held)
     }
 
     // All is reported, or a beginning of it where the call was refused.
-    fn told_stands(&self, run: &Run<'_>, answer: Answer) -> bool {
-        let (all, told) = (run.told, self.held.out.as_slice());
-        let is_long_enough = answer != Answer::Done || told.len() == all.len();
-        is_long_enough && begins_with(all.as_bytes(), told)
+    fn report_stands(&self, run: &Run, answer: Answer) -> bool {
+        let (all, reported) = (run.reports.as_bytes(), self.held.out.as_slice());
+        let is_long_enough = answer != Answer::Done || reported.len() == all.len();
+        is_long_enough && all.get(..reported.len()) == Some(reported)
     }
 
     // It shows the numbers that it showed at first, but for these.
-    fn held_stands(&mut self, changes: &str) -> bool {
-        self.held.tell(&mut self.numbers);
-        takes_all_back(&mut self.numbers.0, &self.first.0, changes)
+    fn held_stands(&mut self, changes: &[(usize, u64)]) -> bool {
+        self.held.show(&mut self.shown);
+        takes_all_back(&mut self.shown.0, &self.first.0, changes)
     }
 }
 
-// Puts the old numbers back where those stand which the words say, and returns whether all are old then.
-fn takes_all_back(numbers: &mut [u64], first: &[u64], changes: &str) -> bool {
-    for word in changes.split_whitespace() {
-        if !takes_back(numbers, first, word) {
+// Puts the old numbers back where these stand, and returns whether all are old then.
+fn takes_all_back(numbers: &mut [u64], first: &[u64], changes: &[(usize, u64)]) -> bool {
+    for change in changes {
+        if !takes_back(numbers, first, *change) {
             return false;
         }
     }
     *numbers == *first
 }
 
-// Puts the old number back where that stands which the word says.
-fn takes_back(numbers: &mut [u64], first: &[u64], word: &str) -> bool {
-    let Some((index, number)) = number_of(word) else {
-        return false;
-    };
+// Puts the old number back where this stands.
+fn takes_back(numbers: &mut [u64], first: &[u64], (index, number): (usize, u64)) -> bool {
     let (Some(now), Some(old)) = (numbers.get_mut(index), first.get(index)) else {
         return false;
     };
     let stands = *now == number;
     *now = *old;
     stands
-}
-
-// Whether the text, where / stands for a new line, begins with what was reported.
-fn begins_with(text: &[u8], told: &[u8]) -> bool {
-    for (index, byte) in told.iter().enumerate() {
-        let shown = if *byte == b'\n' { b'/' } else { *byte };
-        if text.get(index) != Some(&shown) {
-            return false;
-        }
-    }
-    true
 }

@@ -1,4 +1,4 @@
-//! The calls of runs, by their names.
+//! The calls of runs.
 
 mod commands;
 mod copies;
@@ -7,8 +7,9 @@ mod sessions;
 pub(crate) mod tables;
 
 use crate::held::Held;
-use crate::runs::Run;
+use crate::runs::Call;
 use qcow2_base::{Fault, Storage};
+use qcow2_calls::{write_header, write_l1_table_pointer, write_reftable_pointer, write_size};
 use std::fmt::Debug;
 use std::io::Write;
 
@@ -21,10 +22,10 @@ pub(crate) enum Answer {
     Other,
 }
 
-/// Makes the call of a run.
-pub(crate) fn make<S: Storage>(run: &Run<'_>, held: &mut Held, image: &mut S) -> Answer {
+/// Makes a call.
+pub(crate) fn make<S: Storage>(call: Call, held: &mut Held, image: &mut S) -> Answer {
     held.out.clear();
-    match make_call(run, held, image) {
+    match make_call(call, held, image) {
         Ok(()) => Answer::Done,
         Err(Fault::Storage) => Answer::StorageFailed,
         Err(Fault::NoMemory) => Answer::NoMemory,
@@ -32,32 +33,30 @@ pub(crate) fn make<S: Storage>(run: &Run<'_>, held: &mut Held, image: &mut S) ->
     }
 }
 
-fn make_call<S: Storage>(run: &Run<'_>, held: &mut Held, image: &mut S) -> Result<(), Fault> {
-    if run.is_command() {
-        return commands::make(run.words(), held, image);
-    }
-    if run.call.starts_with("Header::") {
-        return headers::make(run.call, held, image);
-    }
-    match run.call {
-        "load" | "write" | "write_entry" | "aligned write_entry" | "write_if_modified" => {
-            tables::make(run.call, run.of, held, image)
-        }
-        "edit_image" | "step_image" | "lookup" | "lookup_image" => {
-            sessions::make(run.call, held, image)
-        }
-        call => make_in_memory(call, run.of, held),
-    }
-}
-
-// Makes a call that takes no image.
-fn make_in_memory(call: &str, of: &str, held: &mut Held) -> Result<(), Fault> {
+fn make_call<S: Storage>(call: Call, held: &mut Held, image: &mut S) -> Result<(), Fault> {
     match call {
-        "edit_table" => sessions::edit(held),
-        "step_block" => sessions::step(held),
-        "edit_settled" => sessions::settle(held),
-        "edit_settled in vain" => sessions::settle_in_vain(held),
-        _ => copies::make(call, of, held),
+        Call::NewHeader => headers::new(held),
+        Call::LoadHeader { for_writing } => headers::load(for_writing, held, image),
+        Call::WriteHeader => write_header(&mut held.header, image),
+        Call::WriteSize => write_size(&held.header, image),
+        Call::WriteL1TablePointer => write_l1_table_pointer(&held.header, image),
+        Call::WriteReftablePointer => write_reftable_pointer(&held.header, image),
+        Call::CopyExtension => copies::clone_extension(held),
+        Call::Placed(call, kind) => tables::make(call, kind, held, image),
+        Call::NewL2Table => copies::clear_table(held),
+        Call::NewBlock => copies::clear_block(held),
+        Call::CopyL2Table => copies::clone_table(held),
+        Call::GrowL1Table => copies::tell_grown_l1_table(held),
+        Call::GrowReftable => copies::tell_grown_reftable(held),
+        Call::EditTable => sessions::edit(held),
+        Call::StepBlock => sessions::step(held),
+        Call::EditSettled => sessions::settle(held),
+        Call::EditUnsettled => sessions::settle_in_vain(held),
+        Call::EditImage => sessions::edit_in(held, image),
+        Call::StepImage => sessions::step_in(held, image),
+        Call::LookUp => sessions::look_up(held, image),
+        Call::LookUpImage => sessions::look_up_image(held, image),
+        Call::Command(line) => commands::make(line, held, image),
     }
 }
 

@@ -1,21 +1,22 @@
 //! Makes each call of the library that takes memory, reports what isn't as it must be, and prints how many
 //! runs there are.
 //!
-//! `scripts/refuse-each-allocation` refuses each of its requests for memory in turn, and runs it with words
-//! too: with `once` and with `often` it makes calls that must take no memory, once or a thousand times; with
-//! `settled` and with `refused` it makes edits that the counters follow, or can't: all memory is taken before
-//! they are looked at.
+//! `scripts/refuse-each-allocation` runs it with the number of each run, and refuses each of its requests for
+//! memory in turn. With `once` and with `often` it makes calls that must take no memory, once or a thousand
+//! times; with `settled` and with `refused` it makes edits that the counters follow, or can't: all memory is
+//! taken before they are looked at.
 #![tactic(auto)]
 
 mod attempts;
 mod calls;
 mod held;
 mod memory;
+mod rows;
 mod runs;
 mod without_memory;
 
-use crate::memory::{Memory, again};
-use crate::runs::take_all;
+use crate::memory::{Memory, Selected, again};
+use crate::runs::Call;
 use crate::without_memory::OF_A_TURN;
 use std::alloc::Global;
 use std::io::Write;
@@ -23,12 +24,10 @@ use std::process::ExitCode;
 use std::{env, fs, io, process};
 
 fn main(rt: HostRuntime) -> ExitCode {
-    let word = again(|| first_word(&rt));
-    let table = again(|| fs::read_to_string(&rt, "runs.txt"));
-    let (Ok(word), Ok(table)) = (word, table) else {
+    let Ok(word) = again(|| first_word(&rt)) else {
         return ExitCode::FAILURE;
     };
-    if does(&rt, &word, &table, &mut rt.stdout()) {
+    if does(&rt, &word, &mut rt.stdout()) {
         ExitCode::SUCCESS
     } else {
         ExitCode::FAILURE
@@ -42,19 +41,22 @@ fn first_word(rt: &HostRuntime) -> io::Result<String> {
 }
 
 // Does what the word says, and returns whether all was as it must be.
-fn does<O: Write>(rt: &HostRuntime, word: &str, table: &str, out: &mut O) -> bool {
+fn does<O: Write>(rt: &HostRuntime, word: &str, out: &mut O) -> bool {
     match word {
-        "" => make_each(rt, "", table, out),
+        "" => make_each(rt, Selected::All, out),
+        "settled" => make_each(rt, Selected::Call(Call::EditSettled), out),
+        "refused" => make_each(rt, Selected::Call(Call::EditUnsettled), out),
         "once" => make_calls(rt, 1, out),
         "often" => make_calls(rt, 1000, out),
-        "settled" => make_each(rt, "edit_settled", table, out),
-        "refused" => make_each(rt, "edit_settled in vain", table, out),
-        _ => false,
+        word => match word.parse::<u64>() {
+            Ok(number) => make_each(rt, Selected::Number(number), out),
+            Err(_) => false,
+        },
     }
 }
 
-// Makes each run, or each of one call.
-fn make_each<O: Write>(rt: &HostRuntime, call: &str, table: &str, out: &mut O) -> bool {
+// Makes the runs that are selected.
+fn make_each<O: Write>(rt: &HostRuntime, selected: Selected, out: &mut O) -> bool {
     let Ok(path) = again(|| temporary_path(rt)) else {
         return false;
     };
@@ -62,12 +64,13 @@ fn make_each<O: Write>(rt: &HostRuntime, call: &str, table: &str, out: &mut O) -
         rt,
         out,
         path: path.as_str(),
-        call,
-        runs: 0,
+        selected,
+        passed: 0,
+        made: 0,
         all_right: true,
     };
-    take_all(table, &mut memory);
-    let (runs, all_right) = (memory.runs, memory.all_right);
+    memory.make_all();
+    let (runs, all_right) = (memory.made, memory.all_right);
     let _ = fs::remove_file(rt, path.as_str());
     writeln!(out, "{runs} runs").is_ok() && all_right && runs > 0
 }

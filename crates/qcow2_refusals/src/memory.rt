@@ -5,11 +5,22 @@
 
 use crate::attempts::{Attempt, Wrong, begin, unless};
 use crate::calls::{Answer, make};
-use crate::runs::{Each, Run};
+use crate::rows::{blocks, headers, lists, new_values, sessions, tables};
+use crate::runs::{Call, Run};
 use qcow2_base::{Fault, FileStorage, MemStorage};
 use std::alloc::Global;
 use std::fs;
 use std::io::Write;
+
+/// Which runs are made.
+#[derive(Clone, Copy)]
+pub(crate) enum Selected {
+    All,
+    /// Those of this call.
+    Call(Call),
+    /// The one of this number, from 1 on.
+    Number(u64),
+}
 
 /// Makes each run, and reports those that aren't as they must be.
 #[derive(Drop)]
@@ -18,25 +29,50 @@ pub(crate) struct Memory<'a, O> {
     pub(crate) out: &'a mut O,
     /// Where the file of a run lies.
     pub(crate) path: &'a str,
-    /// The call of the runs that are made, or nothing for all runs.
-    pub(crate) call: &'a str,
-    pub(crate) runs: u64,
+    pub(crate) selected: Selected,
+    /// How many runs were passed by or made, and how many were made.
+    pub(crate) passed: u64,
+    pub(crate) made: u64,
     pub(crate) all_right: bool,
 }
 
-impl<O: Write> Each for Memory<'_, O> {
-    fn take(&mut self, run: &Run<'_>) {
-        if !self.call.is_empty() && self.call != run.call {
-            return;
+impl<O: Write> Memory<'_, O> {
+    /// Makes the runs.
+    pub(crate) fn make_all(&mut self) {
+        self.make_each(headers::RUNS);
+        self.make_each(tables::RUNS);
+        self.make_each(blocks::RUNS);
+        self.make_each(new_values::RUNS);
+        self.make_each(lists::RUNS);
+        self.make_each(sessions::RUNS);
+    }
+
+    fn make_each(&mut self, runs: &[Run]) {
+        for run in runs {
+            self.passed = self.passed.saturating_add(1);
+            if self.is_selected(run) {
+                self.make(run);
+            }
         }
-        self.runs = self.runs.saturating_add(1);
+    }
+
+    fn is_selected(&self, run: &Run) -> bool {
+        match self.selected {
+            Selected::All => true,
+            Selected::Call(call) => call == run.call,
+            Selected::Number(number) => number == self.passed,
+        }
+    }
+
+    fn make(&mut self, run: &Run) {
+        self.made = self.made.saturating_add(1);
         let made = match over_memory(self.rt.alloc(), run) {
             Ok(()) if run.is_in_a_file() => over_file(self.rt, self.path, run),
             made => made,
         };
         if let Err(wrong) = made {
             self.all_right = false;
-            let _ = writeln!(self.out, "{} {}: {wrong:?} is wrong", run.call, run.of);
+            let _ = writeln!(self.out, "{:?}: {wrong:?} is wrong", run.call);
         }
     }
 }
@@ -51,19 +87,15 @@ pub(crate) fn again<T: Drop, E: Drop, F: Fn() -> Result<T, E>>(call: F) -> Resul
     }
 }
 
-fn over_memory(alloc: Global, run: &Run<'_>) -> Result<(), Wrong> {
+fn over_memory(alloc: Global, run: &Run) -> Result<(), Wrong> {
     let mut image = again(|| run.before(alloc))?;
     let mut attempt = again(|| begin(alloc, run))?;
     make_in_memory(run, &mut attempt, &mut image)
 }
 
-fn make_in_memory(
-    run: &Run<'_>,
-    attempt: &mut Attempt,
-    image: &mut MemStorage,
-) -> Result<(), Wrong> {
+fn make_in_memory(run: &Run, attempt: &mut Attempt, image: &mut MemStorage) -> Result<(), Wrong> {
     for _ in 0..2 {
-        let answer = make(run, &mut attempt.held, image);
+        let answer = make(run.call, &mut attempt.held, image);
         if has_done(run, attempt, answer, image.bytes())? {
             return Ok(());
         }
@@ -71,7 +103,7 @@ fn make_in_memory(
     Err(Wrong::Answer)
 }
 
-fn over_file(rt: &HostRuntime, path: &str, run: &Run<'_>) -> Result<(), Wrong> {
+fn over_file(rt: &HostRuntime, path: &str, run: &Run) -> Result<(), Wrong> {
     let mut attempt = again(|| begin(rt.alloc(), run))?;
     make_in_file(rt, path, run, &mut attempt)
 }
@@ -83,14 +115,14 @@ fn open(rt: &HostRuntime, path: &str) -> Result<FileStorage, Fault> {
 fn make_in_file(
     rt: &HostRuntime,
     path: &str,
-    run: &Run<'_>,
+    run: &Run,
     attempt: &mut Attempt,
 ) -> Result<(), Wrong> {
     let is_written = fs::write(rt, path, attempt.before.bytes()).is_ok();
     unless(is_written, Wrong::Beginning)?;
     let mut file = again(|| open(rt, path))?;
     for _ in 0..2 {
-        let answer = make(run, &mut attempt.held, &mut file);
+        let answer = make(run.call, &mut attempt.held, &mut file);
         let Ok(bytes) = again(|| fs::read(rt, path)) else {
             return Err(Wrong::Beginning);
         };
@@ -103,12 +135,7 @@ fn make_in_file(
 
 // Returns whether all is done. Fails unless all stands that must after this answer: a refusal of memory,
 // which is one of the storage where that had to grow, or none.
-fn has_done(
-    run: &Run<'_>,
-    attempt: &mut Attempt,
-    answer: Answer,
-    image: &[u8],
-) -> Result<bool, Wrong> {
+fn has_done(run: &Run, attempt: &mut Attempt, answer: Answer, image: &[u8]) -> Result<bool, Wrong> {
     let may_fail = answer != Answer::StorageFailed || attempt.grows;
     unless(may_fail, Wrong::Answer)?;
     attempt.check(run, answer, image)?;

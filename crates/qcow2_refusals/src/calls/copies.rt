@@ -7,20 +7,8 @@ use qcow2_calls::{copy_l2_table, grow_l1_table, grow_reftable, new_block, new_l2
 use qcow2_metadata::{HeaderExtension, Table, TableEntry};
 use std::alloc::AllocError;
 
-pub(super) fn make(call: &str, of: &str, held: &mut Held) -> Result<(), Fault> {
-    match (call, of) {
-        ("new_cleared", "L2 table") => clear_table(held),
-        ("new_cleared", _) => clear_block(held),
-        ("clone_and_grow", "L1 table") => tell_grown_l1_table(held),
-        ("clone_and_grow", _) => tell_grown_reftable(held),
-        ("try_clone", _) => clone_table(held),
-        ("HeaderExtension::clone", _) => clone_extension(held),
-        _ => Err(Fault::WrongLength),
-    }
-}
-
-// Reports the extension that is copied too, whatever comes of its copy.
-fn clone_extension(held: &mut Held) -> Result<(), Fault> {
+/// Reports the extension that is copied too, whatever comes of its copy.
+pub(super) fn clone_extension(held: &mut Held) -> Result<(), Fault> {
     let name = String::from_str(held.alloc, "qcow2")?;
     let extension = HeaderExtension::BackingFileFormat(name);
     tell(&mut held.out, &extension)?;
@@ -31,28 +19,28 @@ fn copy_of(extension: &HeaderExtension) -> Result<HeaderExtension, AllocError> {
     extension.clone()
 }
 
-fn clear_table(held: &mut Held) -> Result<(), Fault> {
+pub(super) fn clear_table(held: &mut Held) -> Result<(), Fault> {
     let table = new_l2_table(held.alloc, &held.header)?;
     tell_table(&mut held.out, &table)
 }
 
-fn clear_block(held: &mut Held) -> Result<(), Fault> {
+pub(super) fn clear_block(held: &mut Held) -> Result<(), Fault> {
     let block = new_block(held.alloc, &held.header)?;
     let told = (block.entries(), block.get_cluster(), block.is_modified());
     tell(&mut held.out, &told)
 }
 
-fn clone_table(held: &mut Held) -> Result<(), Fault> {
+pub(super) fn clone_table(held: &mut Held) -> Result<(), Fault> {
     let table = copy_l2_table(&held.l2_table)?;
     tell_table(&mut held.out, &table)
 }
 
-fn tell_grown_l1_table(held: &mut Held) -> Result<(), Fault> {
+pub(super) fn tell_grown_l1_table(held: &mut Held) -> Result<(), Fault> {
     let table = grow_l1_table(&held.l1_table, 128, &held.header)?;
     tell_table(&mut held.out, &table)
 }
 
-fn tell_grown_reftable(held: &mut Held) -> Result<(), Fault> {
+pub(super) fn tell_grown_reftable(held: &mut Held) -> Result<(), Fault> {
     let table = grow_reftable(&held.reftable, &held.header, 126)?;
     tell_table(&mut held.out, &table)
 }

@@ -55,32 +55,23 @@ pub(super) fn settle_in_vain(held: &mut Held) -> Result<(), Fault> {
     }
 }
 
-pub(super) fn make<S: Storage>(call: &str, held: &mut Held, image: &mut S) -> Result<(), Fault> {
-    match call {
-        "edit_image" => edit_in(held, image),
-        "step_image" => step_in(held, image),
-        "lookup" => look_up(held, image),
-        _ => look_up_image(held, image),
-    }
-}
-
-fn edit_in<S: Storage>(held: &mut Held, image: &mut S) -> Result<(), Fault> {
+pub(super) fn edit_in<S: Storage>(held: &mut Held, image: &mut S) -> Result<(), Fault> {
     let outcome = edit_image(held.alloc, image, &held.header, TABLES, IMAGE_EDITS)?;
     tell(&mut held.out, &outcome)
 }
 
-fn step_in<S: Storage>(held: &mut Held, image: &mut S) -> Result<(), Fault> {
+pub(super) fn step_in<S: Storage>(held: &mut Held, image: &mut S) -> Result<(), Fault> {
     let replies = step_image(held.alloc, image, &held.header, BLOCK, IMAGE_STEPS)?;
     tell(&mut held.out, &replies)
 }
 
-fn look_up<S: Storage>(held: &mut Held, image: &mut S) -> Result<(), Fault> {
+pub(super) fn look_up<S: Storage>(held: &mut Held, image: &mut S) -> Result<(), Fault> {
     let (header, l1_table) = (&held.header, &held.l1_table);
     let mapping = lookup(held.alloc, image, header, l1_table, GUEST_OFFSET)?;
     tell(&mut held.out, &mapping)
 }
 
-fn look_up_image<S: Storage>(held: &mut Held, image: &mut S) -> Result<(), Fault> {
+pub(super) fn look_up_image<S: Storage>(held: &mut Held, image: &mut S) -> Result<(), Fault> {
     let mapping = lookup_image(held.alloc, image, GUEST_OFFSET)?;
     tell(&mut held.out, &mapping)
 }

@@ -3,6 +3,8 @@
 use super::Checks;
 use crate::calls::tables;
 use crate::held::{Held, TABLES, hold_over};
+use crate::runs::PlacedCall::{Load, Write, WriteEntry, WriteIfModified};
+use crate::runs::{Kind, PlacedCall};
 use qcow2_base::{ClusterCount, Fault, GuestCluster, HostCluster, HostOffset, MemStorage};
 use qcow2_calls::{
     discard_cluster, edits_fit, enter_l2_table, enter_refblock, header_of, least_spare,
@@ -41,7 +43,7 @@ pub(super) fn begin(alloc: Global) -> Result<Tables, Fault> {
 fn begin_held(alloc: Global, image: &mut MemStorage) -> Result<Held, Fault> {
     let header = header_of(alloc, 9, 4, false)?;
     let mut held = hold_over(alloc, &mut MemStorage::new(Vec::new(alloc)), header)?;
-    tables::make("load", "L2 table", &mut held, image)?;
+    tables::make(Load, Kind::L2Table, &mut held, image)?;
     Ok(held)
 }
 
@@ -168,15 +170,16 @@ fn count(block: &mut RefBlock, index: usize, checks: &mut Checks) {
 }
 
 // Which calls write what: each of these is made.
-const WRITES: &[(&str, &str)] = rows! {
-    ("L1 table", "write"), ("L1 table", "write_entry"), ("Refcount table", "write"),
-    ("Refcount table", "write_entry"), ("L2 table", "write_if_modified"), ("L2 table", "write"),
-    ("L2 table", "write_entry"), ("refcount block", "write_if_modified"), ("refcount block", "write"),
+const WRITES: &[(PlacedCall, Kind)] = rows! {
+    (Write, Kind::L1Table), (WriteEntry, Kind::L1Table),
+    (Write, Kind::Reftable), (WriteEntry, Kind::Reftable),
+    (WriteIfModified, Kind::L2Table), (Write, Kind::L2Table), (WriteEntry, Kind::L2Table),
+    (WriteIfModified, Kind::Block), (Write, Kind::Block),
 };
 
 fn write(held: &mut Held, image: &mut MemStorage, checks: &mut Checks) {
-    for (kind, call) in WRITES {
-        checks.expect(tables::make(call, kind, held, image).is_ok());
+    for (call, kind) in WRITES {
+        checks.expect(tables::make(*call, *kind, held, image).is_ok());
     }
 }
 

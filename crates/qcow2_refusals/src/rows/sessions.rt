@@ -1,0 +1,56 @@
+//! Runs of lists in an image, of lookups and of commands.
+
+use crate::held::DISK;
+use crate::rows::RUN;
+use crate::runs::Call::{Command, EditImage, LookUp, LookUpImage, StepImage};
+use crate::runs::HeaderOf::{Disk, New};
+use crate::runs::{EMPTY, Image, Run};
+use qcow2_testing::rows;
+
+pub(crate) const RUNS: &[Run] = rows! {
+    Run { call: EditImage, header: New(16, 4),
+        image: Some(Image { len: 131_072, zeros: (0, 131_072), ..EMPTY }),
+        after: &[(65536, 0x8000_0000_0005_0000), (131_064, 0x8000_0000_0006_0000)],
+        reports: "Outcome { gained: [HostCluster(5), HostCluster(6)], freed: [] }", ..RUN },
+    Run { call: StepImage, header: New(12, 4),
+        image: Some(Image { len: 12288, zeros: (8192, 12288), ..EMPTY }), before: &[(8192, 7 << 48)],
+        after: &[(8192, 8 << 48), (12280, 1)], reports: "[Done(7), Refused, Done(0)]", ..RUN },
+    Run { call: LookUp, reports: DATA, ..OF_A_DISK },
+    Run { call: LookUpImage, reports: DATA, ..OF_A_DISK },
+    Run { call: Command("info"), reports: INFO, ..OF_A_DISK },
+    Run { call: Command("list"), reports: "0x600 data 0xa00 copied\n", ..OF_A_DISK },
+    Run { call: Command("at 1543"), reports: "data 0xa00 copied\n", ..OF_A_DISK },
+    Run { call: Command("map"), reports: EXTENTS, ..OF_A_DISK },
+    Run { call: Command("map json"), reports: JSON, ..OF_A_DISK },
+    Run { call: Command("l2 9 2"), reports: "3 data 0xa00 copied\n", ..OF_A_DISK },
+    Run { call: Command("edit 0 map:3:5 map:3:6 discard:3"), after: &[(1048, 0)],
+        reports: "freed 5 1\nfreed 6 1\ngained 6\n", ..OF_A_DISK },
+    Run { call: Command("count 3 inc:0 inc:0 dec:0 dec:1"), after: &[(1536, 1 << 48)],
+        reports: "ok 0\nok 1\nok 2\nrefused\n", ..OF_A_DISK },
+    // autoclear features, which a load for writing clears
+    Run { call: Command("edit 0 map:3:6 map:3:5"), before: &[(88, 1)], opened: &[(88, 0)],
+        after: &[(88, 0)], reports: "freed 5 1\nfreed 6 1\ngained 6\ngained 5\n", ..OF_A_DISK },
+    Run { call: Command("count 3 inc:0 dec:0"), before: &[(88, 1)], opened: &[(88, 0)], after: &[(88, 0)],
+        reports: "ok 0\nok 1\n", ..OF_A_DISK },
+};
+
+const OF_A_DISK: Run = Run {
+    header: Disk(0x8000),
+    source: DISK,
+    image: Some(DISK),
+    ..RUN
+};
+
+const DATA: &str = "DataFile { host_cluster: HostCluster(5), copied: true }";
+
+const INFO: &str = "version 3\ncluster-bits 9\nsize 32768\nrefcount-order 4\nl1 0x200 1\n\
+    refcount-table 0x0 0\nbacking none\nformat none\nexternal no\ndata-file none\n";
+
+const EXTENTS: &str = "0x0 0x600 backing\n0x600 0x200 data 0xa00\n0x800 0x7800 backing\n";
+
+const JSON: &str = "[{ \"start\": 0, \"length\": 1536, \"depth\": 0, \
+    \"present\": false, \"zero\": true, \"data\": false},\n\
+    { \"start\": 1536, \"length\": 512, \"depth\": 0, \
+    \"present\": true, \"zero\": false, \"data\": true, \"offset\": 2560},\n\
+    { \"start\": 2048, \"length\": 30720, \"depth\": 0, \
+    \"present\": false, \"zero\": true, \"data\": false}]\n";
