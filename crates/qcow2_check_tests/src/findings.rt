@@ -25,6 +25,7 @@ macro_rules! found {
 
 // Entry 4 of the L2 table, and entry 1 of the L1 table.
 const NEXT_ENTRY: u64 = L2_TABLE + 32;
+
 const NEXT_TABLE: u64 = L1_TABLE + 8;
 
 // The greatest offset of a cluster.

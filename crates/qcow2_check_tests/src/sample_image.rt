@@ -14,9 +14,13 @@ const COPIED: u64 = 1 << 63;
 
 /// Where the header, its tables and the first block of the sample image lie.
 pub(crate) const HEADER: u64 = 0;
+
 pub(crate) const L1_TABLE: u64 = 512;
+
 pub(crate) const REFTABLE: u64 = 1024;
+
 pub(crate) const BLOCK: u64 = 1536;
+
 pub(crate) const L2_TABLE: u64 = 2048;
 
 // Clusters of 512 bytes, an L1 table of two entries in cluster 1, the refcount table in cluster 2, its block
@@ -48,10 +52,7 @@ pub(crate) fn sample_image(alloc: Global, changes: Numbers<'_>) -> Result<MemSto
 }
 
 /// All findings of an image, in order, the first hundred of them at most.
-pub(crate) fn findings_of<S: Storage>(
-    alloc: Global,
-    image: &mut S,
-) -> Result<Vec<Finding>, Fault> {
+pub(crate) fn findings_of<S: Storage>(alloc: Global, image: &mut S) -> Result<Vec<Finding>, Fault> {
     let header = Header::load(alloc, image, false)?;
     let mut findings = Findings::new(alloc, image, &header)?;
     let mut found = Vec::new(alloc);
