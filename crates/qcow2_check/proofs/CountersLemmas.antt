@@ -11,10 +11,11 @@ use Rattle.qcow2_base.specs.declared.fault.Fault.TheVariants.{TablePlace}
 use Rattle.qcow2_base.specs.declared.types.HostCluster.{HostCluster}
 use Rattle.qcow2_check.specs.NamedTables.{named_block}
 use Rattle.qcow2_metadata.specs.Header.{HeaderRecord}
-use Rattle.qcow2_metadata.specs.Placed.{place_fault}
-use Rattle.qcow2_metadata.specs.Refblock.{block_geometry_of, block_layout}
+use Rattle.qcow2_base.specs.Storage.{Image}
+use Rattle.qcow2_metadata.specs.Placed.{numbers_at, place_fault}
+use Rattle.qcow2_metadata.specs.Refblock.{BlockState, block_geometry_of, block_layout}
 use Rattle.qcow2_metadata.specs.Table.{first_fault}
-use Rattle.qcow2_check.specs.Counters.{block_place_fault, blocks_fault, block_of_cluster, counters_each}
+use Rattle.qcow2_check.specs.Counters.{IsKeptBlockOf, block_place_fault, blocks_fault, block_of_cluster, counter_of, counters_each}
 
 -- the last cluster that ends by the greatest end
 pub place_limit : (block cb most : ℕ) → most ≡ 2 ^ 56 / 2 ^ cb → (most ≤ block) ↔ (2 ^ 56 < block * 2 ^ cb + 2 ^ cb)
@@ -67,6 +68,13 @@ same_quotient n c other some from before =
     let high : other / n < c / n + 1 = (div-lt_iff_lt-mul some).1 (omega (arith, parts, before)) in
     omega (arith, low, high)
 
+pub same_remainder : (n c other : ℕ) → 0 < n → c ≤ other → other < c - c % n + n → c % n + (other - c) ≡ other % n
+same_remainder n c other some from before =
+    let one : c / n * n + c % n ≡ c = div-add-mod' c n in
+    let both : other / n * n + other % n ≡ other = div-add-mod' other n in
+    let same : other / n ≡ c / n = same_quotient n c other some from before in
+    omega (arith, one, rw same at both, from)
+
 -- clusters up to the end of those that one block counts have the same block
 pub same_block : (header : HeaderRecord) (reftable : List ℕ) (c other : ℕ) → c ≤ other
     → other < c - c % counters_each header + counters_each header
@@ -84,3 +92,11 @@ ends header reftable c other from past =
     let later : c / n ≤ other / n = div_rises c other n (pow_pos _) from in
     let zero : slice_index reftable (other / n) ≡ 0 = get_or_past reftable (other / n) 0 (omega (arith, past, later)) in
     rw zero refl
+
+-- the counter of a cluster whose block is kept
+pub kept_counter : (header : HeaderRecord) (reftable : List ℕ) (image : Image) (block : BlockState) (b : HostCluster) (c : ℕ) → block.cluster ≡ Some b
+    → block_of_cluster header reftable c ≡ Some b → IsKeptBlockOf header image (Some block)
+    → counter_of header reftable image c ≡ slice_index block.numbers (c % counters_each header)
+kept_counter header reftable image block b c named place kept =
+    let numbers : block.numbers ≡ numbers_at (block_layout (block_geometry_of header)) b image = rw named at kept in
+    grind (arith, place, numbers)

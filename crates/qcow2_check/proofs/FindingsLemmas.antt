@@ -1,4 +1,4 @@
-use Rattle.std.proofs.Common.{◌≡◌, ◌↔◌, ℕ, false, ◌==◌, ◌+◌, ◌/◌, ◌%◌, ◌<◌, ◌≤◌, ◌&&◌, List, [], ◌∷◌, fold, Some, None, Ok, Err, refl, sym, ap, subst, inl, inr, ◌∙◌, arith}
+use Rattle.std.proofs.Common.{◌≡◌, ◌↔◌, ℕ, false, ◌==◌, ◌+◌, ◌/◌, ◌%◌, ◌<◌, ◌≤◌, ◌&&◌, List, [], ◌∷◌, fold, Some, None, Ok, Err, refl, sym, ap, subst, inl, inr, ◌∙◌, slice_index, ◌-◌, div-add-mod', IsSomeAnd, Option, arith}
 use Rattle.std.proofs.lemmas.Bool.{cases_lt}
 use Rattle.std.proofs.lemmas.Bool.Decides.{nat_tests}
 use Rattle.std.proofs.lemmas.List.Sums.{sum_by-cons}
@@ -8,7 +8,11 @@ use Rattle.qcow2_metadata.specs.Header.{HeaderRecord, geometry_of, uncounted_par
 use Rattle.qcow2_metadata.specs.Results.{Reads}
 use Rattle.qcow2_metadata.specs.Table.{IsEntryFault}
 use Rattle.qcow2_check.specs.NamedTables.{loaded_l1_table}
-use Rattle.qcow2_check.specs.Counters.{block_of_cluster, counter_of, placed_reftable}
+use Rattle.qcow2_check.proofs.CountersLemmas.{kept_counter, same_block, same_remainder}
+use Rattle.qcow2_check.specs.Counters.{IsKeptBlockOf, block_of_cluster, counter_of, counters_each, placed_reftable}
+use Rattle.qcow2_base.specs.declared.types.HostCluster.{HostCluster}
+use Rattle.qcow2_metadata.specs.Refblock.{BlockState}
+use Rattle.std.proofs.lemmas.Nat.{pow_pos}
 use Rattle.qcow2_metadata.specs.Entries.{is_among}
 use Rattle.qcow2_metadata.specs.Table.L2Guards.{one_if}
 use Rattle.qcow2_check.specs.Findings.{AreRight, CountsAll, FindingsState, IsCheckFault, MovesFindings, PassesFinding, checked_tables, IsFindingsOf, finding_at, is_shared, is_wrong, tables_of, uses_of_kind}
@@ -176,3 +180,55 @@ reads_twice x y z a b c one other = grind (arith, nat_tests, one, other)
 pub excludes : (uses : List Used) (c : ℕ) → is_shared uses c ≡ false
     → (0 < uses_of_kind Fixed uses c → uses_of uses c ≡ 1) × (0 < uses_of_kind L2Table uses c → uses_of uses c ≡ uses_of_kind L2Table uses c)
 excludes uses c apart = grind (arith, nat_tests, apart, uses_by_kind uses c)
+
+-- what holds of each number below one and of that one holds of each number below the next
+pub below_next : (P : ℕ → Type 0) (n k : ℕ) → ((j : ℕ) → j < n → P j) → P n → k < n + 1 → P k
+below_next P n k before here below = elim (cases_lt k n) [
+  | inl less ↦ before k less
+  | inr more ↦
+      let same : n ≡ k = omega (arith, below, more) in
+      subst P same here
+]
+
+-- nothing is wrong with clusters of one block whose counters are the numbers of their uses
+pub right_in_block : (reader : FindingsState) (tally : TallyState) (block : BlockState) (b : HostCluster) (image : Image) (from count : ℕ)
+    → reader.tally ≡ Some tally → reader.counters.block ≡ Some block → block.cluster ≡ Some b
+    → block_of_cluster reader.header reader.counters.reftable from ≡ Some b
+    → IsFindingsOf image reader → tally.first ≤ from → from + count ≤ tally.end
+    → from % counters_each reader.header + count ≤ counters_each reader.header
+    → ((k : ℕ) → k < count → (slice_index block.numbers (from % counters_each reader.header + k) ≡ cell_at tally (from + k) / 8)
+    × (is_shared_cell (cell_at tally (from + k)) ≡ false))
+    → AreRight (tables_of reader) image from (from + count)
+right_in_block reader tally block b image from count has kept named place is first end fits right = λ c after before.
+    let n = counters_each reader.header in
+    let uses = image_uses (tables_of reader) image in
+    let within : c < tally.end = omega (arith, before, end) in
+    let all : cell_at tally c ≡ fold (cell_with c) 0 uses = (rw has at is.counted) c (omega (arith, first, after)) within in
+    let here : from + (c - from) ≡ c = omega (arith, after) in
+    let fine = rw here at (right (c - from) (omega (arith, after, before))) in
+    let room : c < from - from % n + n = omega (arith, fits, before, div-add-mod' from n) in
+    let index : from % n + (c - from) ≡ c % n = same_remainder n from c (pow_pos _) after room in
+    let place_c : block_of_cluster reader.header reader.counters.reftable c ≡ Some b =
+    same_block reader.header reader.counters.reftable from c after room ∙ place in
+    let kept_is : IsKeptBlockOf reader.header image (Some block) = rw kept at is.kept in
+    let counter : counter_of reader.header reader.counters.reftable image c ≡ uses_of uses c =
+    kept_counter reader.header reader.counters.reftable image block b c named place_c kept_is
+    ∙ sym (rw index at (sym fine.0)) ∙ cell_counts uses c (cell_at tally c) all in
+    let apart : is_shared uses c ≡ false = sym (cell_shares uses c (cell_at tally c) all) ∙ fine.1 in
+    grind (arith, nat_tests, counter, apart)
+
+pub right_in_kept : (reader : FindingsState) (tally : TallyState) (block : BlockState) (image : Image) (from count : ℕ)
+    → reader.tally ≡ Some tally → reader.counters.block ≡ Some block
+    → IsSomeAnd block.cluster (λ place. block_of_cluster reader.header reader.counters.reftable from ≡ Some place)
+    → IsFindingsOf image reader → tally.first ≤ from → from + count ≤ tally.end
+    → from % counters_each reader.header + count ≤ counters_each reader.header
+    → ((k : ℕ) → k < count → (slice_index block.numbers (from % counters_each reader.header + k) ≡ cell_at tally (from + k) / 8)
+    × (is_shared_cell (cell_at tally (from + k)) ≡ false))
+    → AreRight (tables_of reader) image from (from + count)
+right_in_kept reader tally block image from count has kept place is first end fits right = by_place block.cluster refl place
+  where
+    by_place : (found : Option HostCluster) → block.cluster ≡ found
+        → IsSomeAnd found (λ place. block_of_cluster reader.header reader.counters.reftable from ≡ Some place)
+        → AreRight (tables_of reader) image from (from + count)
+    by_place None same place = elim place [ ]
+    by_place (Some b) same place = right_in_block reader tally block b image from count has kept same place is first end fits right

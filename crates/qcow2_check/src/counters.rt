@@ -108,7 +108,7 @@ fn keep_block<S: Storage>(
 }
 
 impl<'a> Counters<'a> {
-    ghost use Rattle.std.specs.Prelude.{◌≡◌, ℕ, ◌<◌, ◌≤◌, None, IfOk, IfSome, is_some};
+    ghost use Rattle.std.specs.Prelude.{◌≡◌, ℕ, ◌<◌, ◌≤◌, None, Some, IfOk, IfSome, IsSomeAnd, is_some};
     ghost use Rattle.qcow2_base.specs.Format.{max_file_length};
     ghost use Rattle.qcow2_check.specs.Counters.{block_of_cluster, blocks_fault, counter_of, placed_reftable};
 
@@ -145,6 +145,20 @@ impl<'a> Counters<'a> {
             place_fault (block_layout (block_geometry_of self.now.header)) block ≡ None) }
     {
         named_block(&self.reftable, cluster.rt_index(self.header.rb_bits()))
+    }
+
+    /// The block of a cluster, if it is kept.
+    #[inline]
+    pub(crate) fn kept_for(&self, cluster: HostCluster) -> Option<&RefBlock>
+        ensures kept { IfSome result (λ block. self.now.block ≡ Some block.now) }
+        ensures place { IfSome result (λ block. IsSomeAnd block.now.cluster (λ place.
+            block_of_cluster self.now.header self.now.reftable cluster.0 ≡ Some place)) }
+        ensures geometry { IfSome result (λ block.
+            block.now.geometry ≡ block_geometry_of self.now.header) }
+    {
+        let block = self.block.as_ref()?;
+        let place = self.block_of(cluster)?;
+        (block.get_cluster() == Some(place)).then_some(block)
     }
 
     /// Whether the refcount table names a block for a cluster.

@@ -1,12 +1,13 @@
 //! Clusters whose counter isn't their number of uses, or that have uses which exclude each other.
 
-ghost use Rattle.std.specs.Prelude.{◌≡◌, ℕ, ◌+◌, ◌<◌, ◌≤◌, IfErr, IfOk, IfSome, None};
+ghost use Rattle.std.specs.Prelude.{◌≡◌, ◌↔◌, ℕ, ◌+◌, ◌/◌, ◌^◌, ◌<◌, ◌≤◌, IfErr, IfOk, IfSome, IsTrue, None, false, length, slice_index};
 ghost use Rattle.qcow2_base.specs.Format.{max_file_length};
 ghost use Rattle.qcow2_base.specs.Storage.{OnImage, OnlyReads};
 ghost use Rattle.qcow2_metadata.specs.Header.{geometry_of};
 ghost use Rattle.qcow2_metadata.specs.Results.{IsFromOutside, Reads};
 ghost use Rattle.qcow2_metadata.specs.Table.{IsEntryFault};
 ghost use Rattle.qcow2_check.specs.Findings.{CountsAll, is_wrong};
+ghost use Rattle.qcow2_check.specs.Tally.{cell_at, is_shared_cell};
 ghost use Rattle.qcow2_check.specs.Uses.{all_load, image_tables};
 
 use crate::counters::Counters;
@@ -14,7 +15,7 @@ use crate::named_tables::load_l1_table;
 use crate::tally::{Tally, count_of, is_shared};
 use crate::uses::count_image;
 use qcow2_base::{Fault, HostCluster, MAX_FILE_LENGTH, Storage};
-use qcow2_metadata::{Header, L1Table, RefTable, Table};
+use qcow2_metadata::{Header, L1Table, RefBlock, RefTable, Table};
 use std::alloc::Global;
 use std::marker::Model;
 
@@ -115,6 +116,33 @@ fn count_window<S: Storage>(
     Ok(tally)
 }
 
+// How many clusters from one on nothing is wrong with, at most that many, by their counters from an index on
+// and by their cells.
+fn right_clusters(block: &RefBlock, tally: &Tally, first: u64, index: usize, count: usize) -> usize
+    requires first { tally.now.first ≤ first }
+    requires fits { first + count < 2 ^ 64 }
+    requires index { index + count ≤ length block.now.numbers }
+    ensures within { result ≤ count }
+    ensures right { (k : ℕ) → k < result → let cell = cell_at tally.now (first + k) in
+        (slice_index block.now.numbers (index + k) ≡ cell / 8) × (is_shared_cell cell ≡ false) }
+{
+    prove!(count <= block.entries());
+    for k in 0..count {
+        if !is_right(block.get(index + k), tally.cell(first + k as u64)) {
+            return k;
+        }
+    }
+    count
+}
+
+// Whether nothing is wrong with a cluster of this counter and this cell.
+#[inline]
+fn is_right(counter: u64, cell: u64) -> bool
+    ensures { IsTrue result ↔ (counter ≡ cell / 8) × (is_shared_cell cell ≡ false) }
+{
+    counter == count_of(cell) && !is_shared(cell)
+}
+
 impl<'a> Findings<'a> {
     ghost use Rattle.std.specs.Prelude.{◌≡◌, ◌<◌, ◌≤◌, Ok, None, IfErr, IfOk, IfSome, IsSome, IsSomeAnd, IsTrue, OnOk, ◌+◌, ◌↔◌};
     ghost use Rattle.qcow2_base.specs.Format.{max_file_length};
@@ -213,6 +241,13 @@ impl<'a> Findings<'a> {
             AreRight (tables_of self.now) image self.now.position result }
     {
         let tally = self.tally.as_ref().unwrap();
+        if let Some(block) = self.counters.kept_for(HostCluster(self.position)) {
+            let index = HostCluster(self.position).rb_index(self.header.rb_bits());
+            prove!(index < block.entries());
+            let left = (tally.end() - self.position) as usize;
+            let count = left.min(block.entries() - index);
+            return self.position + right_clusters(block, tally, self.position, index, count) as u64;
+        }
         if self.counters.has_block(HostCluster(self.position)) {
             return self.position;
         }

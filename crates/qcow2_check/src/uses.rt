@@ -38,6 +38,7 @@ fn count_clusters(
 }
 
 // Counts the clusters that an L2 entry refers to.
+#[inline]
 fn count_entry(tally: &mut Tally, entry: L2Entry, cluster_bits: u32) -> Result<(), Fault>
     requires { IsClusterBits cluster_bits }
     ensures fault { IsOkUnless result NoMemory }
@@ -45,6 +46,7 @@ fn count_entry(tally: &mut Tally, entry: L2Entry, cluster_bits: u32) -> Result<(
         tally.old tally.new) }
 {
     match entry.allocation(cluster_bits, false) {
+        Some((first, ClusterCount(1))) => tally.add(first.0, UseKind::Guest),
         Some((first, count)) => count_clusters(tally, UseKind::Guest, first, count.0),
         None => Ok(()),
     }

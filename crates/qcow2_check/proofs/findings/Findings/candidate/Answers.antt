@@ -1,5 +1,6 @@
-use Rattle.std.proofs.Common.{◌≡◌, ap, rules}
-use Rattle.qcow2_check.proofs.FindingsLemmas.{right_before}
+use Rattle.std.proofs.Common.{◌%◌, ◌≡◌, ap, rules}
+use Rattle.qcow2_check.proofs.FindingsLemmas.{right_before, right_in_kept}
+use Rattle.qcow2_check.specs.Counters.{counters_each}
 use Rattle.qcow2_check.specs.Findings.{FindingsState}
 use Rattle.qcow2_check.proofs.findings.Findings.candidate.Goals as goal
 
@@ -12,3 +13,13 @@ returns-clause-right c = λ image reads.
     let blocks = rw (header, reftable) at c.block_end-limit.ensures.none in
     right_before c.args.self.now c.unwrap-tally.result.now image c.args.self.now.position c.next_used.result (search rules) reads (search rules) (search rules)
     none (λ k after before. blocks k (search rules) (search rules))
+
+pub returns-in-Some-clause-right : goal.returns-in-Some-clause-right
+returns-in-Some-clause-right c = λ image reads.
+    let position : c.self.inside.position ≡ c.args.self.now.position = ap (λ (reader : FindingsState). reader.position) c.self.view_is in
+    let index : c.rb_index-index.result ≡ c.args.self.now.position % counters_each c.args.self.now.header = search rules in
+    let right = rw index at c.right_clusters.ensures.right in
+    let right_here = rw position at right in
+    rw position (right_in_kept c.args.self.now c.unwrap-tally.result.now c.in-Some.block.now image c.args.self.now.position c.right_clusters.result
+    (search rules) (search rules) (search rules) reads (search rules) (search rules) (search rules)
+    right_here)
