@@ -1,4 +1,4 @@
-use Rattle.std.proofs.Common.{◌≡◌, ◌↔◌, ℕ, false, ◌==◌, ◌+◌, ◌/◌, ◌%◌, ◌<◌, ◌≤◌, ◌&&◌, List, [], ◌∷◌, fold, Some, None, Ok, Err, refl, sym, ap, subst, inl, inr, ◌∙◌, slice_index, ◌-◌, div-add-mod', IsSomeAnd, Option, arith}
+use Rattle.std.proofs.Common.{◌≡◌, ◌↔◌, ℕ, false, ◌==◌, ◌+◌, ◌/◌, ◌%◌, ◌<◌, ◌≤◌, ◌&&◌, List, [], ◌∷◌, fold, Some, None, Result, Ok, Err, refl, sym, ap, subst, inl, inr, ◌∙◌, slice_index, ◌-◌, div-add-mod', IsSomeAnd, Option, arith}
 use Rattle.std.proofs.lemmas.Bool.{cases_lt}
 use Rattle.std.proofs.lemmas.Bool.Decides.{nat_tests}
 use Rattle.std.proofs.lemmas.List.Sums.{sum_by-cons}
@@ -16,7 +16,7 @@ use Rattle.std.proofs.lemmas.Nat.{pow_pos}
 use Rattle.qcow2_metadata.specs.Entries.{is_among}
 use Rattle.qcow2_metadata.specs.Table.L2Guards.{one_if}
 use Rattle.qcow2_check.specs.Findings.{AreRight, CountsAll, FindingsState, IsCheckFault, MovesFindings, PassesFinding, checked_tables, IsFindingsOf, finding_at, is_shared, is_wrong, tables_of, uses_of_kind}
-use Rattle.qcow2_check.specs.Tally.{CountsMore, TallyState, Used, cell_at, cell_with, is_shared_cell, mark_of, with_use}
+use Rattle.qcow2_check.specs.Tally.{CountsMore, TallyState, ClusterUse, cell_at, cell_with, is_shared_cell, mark_of, with_use}
 use Rattle.qcow2_check.specs.Uses.{ImageTables, all_load, image_uses, uses_of}
 use Rattle.qcow2_check.specs.declared.findings.Finding.{Finding}
 use Rattle.qcow2_check.specs.declared.tally.UseKind.{UseKind}
@@ -39,15 +39,15 @@ tells-guest : (cell f t g : ℕ) → Tells cell f t g → Tells (with_use Guest 
 tells-guest cell f t g is = grind (arith, nat_tests, is)
 
 -- uses of a cluster, with one in front of others
-kind-cons : (kind : UseKind) (used : Used) (uses : List Used) (c : ℕ) → uses_of_kind kind (used ∷ uses) c
+kind-cons : (kind : UseKind) (used : ClusterUse) (uses : List ClusterUse) (c : ℕ) → uses_of_kind kind (used ∷ uses) c
     ≡ one_if (mark_of used.kind == mark_of kind && is_among used.clusters c) + uses_of_kind kind uses c
 kind-cons kind used uses c = sum_by-cons _ used uses
 
-all-cons : (used : Used) (uses : List Used) (c : ℕ) → uses_of (used ∷ uses) c ≡ one_if (is_among used.clusters c) + uses_of uses c
+all-cons : (used : ClusterUse) (uses : List ClusterUse) (c : ℕ) → uses_of (used ∷ uses) c ≡ one_if (is_among used.clusters c) + uses_of uses c
 all-cons used uses c = sum_by-cons _ used uses
 
 -- and so does one that more uses are counted in
-tells-all : (uses : List Used) (c cell f t g : ℕ) → Tells cell f t g → Tells (fold (cell_with c) cell uses)
+tells-all : (uses : List ClusterUse) (c cell f t g : ℕ) → Tells cell f t g → Tells (fold (cell_with c) cell uses)
     (f + uses_of_kind Fixed uses c) (t + uses_of_kind L2Table uses c) (g + uses_of_kind Guest uses c)
 tells-all [] c cell f t g is = grind (arith, is)
 tells-all (used ∷ uses) c cell f t g is = elim used.kind as (λ kind. used.kind ≡ kind → Tells (fold (cell_with c) cell (used ∷ uses))
@@ -58,7 +58,7 @@ tells-all (used ∷ uses) c cell f t g is = elim used.kind as (λ kind. used.kin
     ] refl
 
 -- all uses of a cluster are of these kinds
-uses_by_kind : (uses : List Used) (c : ℕ) → uses_of uses c ≡ uses_of_kind Fixed uses c + uses_of_kind L2Table uses c + uses_of_kind Guest uses c
+uses_by_kind : (uses : List ClusterUse) (c : ℕ) → uses_of uses c ≡ uses_of_kind Fixed uses c + uses_of_kind L2Table uses c + uses_of_kind Guest uses c
 uses_by_kind [] c = refl
 uses_by_kind (used ∷ uses) c = elim used.kind as (λ kind. used.kind ≡ kind → uses_of (used ∷ uses) c
     ≡ uses_of_kind Fixed (used ∷ uses) c + uses_of_kind L2Table (used ∷ uses) c + uses_of_kind Guest (used ∷ uses) c) [
@@ -68,10 +68,10 @@ uses_by_kind (used ∷ uses) c = elim used.kind as (λ kind. used.kind ≡ kind 
     ] refl
 
 -- what the cell of all uses tells
-pub cell_counts : (uses : List Used) (c cell : ℕ) → cell ≡ fold (cell_with c) 0 uses → cell / 8 ≡ uses_of uses c
+pub cell_counts : (uses : List ClusterUse) (c cell : ℕ) → cell ≡ fold (cell_with c) 0 uses → cell / 8 ≡ uses_of uses c
 cell_counts uses c cell is = grind (arith, nat_tests, is, tells-all uses c 0 0 0 0 (grind (arith, nat_tests)), uses_by_kind uses c)
 
-pub cell_shares : (uses : List Used) (c cell : ℕ) → cell ≡ fold (cell_with c) 0 uses → is_shared_cell cell ≡ is_shared uses c
+pub cell_shares : (uses : List ClusterUse) (c cell : ℕ) → cell ≡ fold (cell_with c) 0 uses → is_shared_cell cell ≡ is_shared uses c
 cell_shares uses c cell is = grind (arith, nat_tests, is, tells-all uses c 0 0 0 0 (grind (arith, nat_tests)), uses_by_kind uses c)
 
 -- what is found at a cluster, by its counter and its cell
@@ -139,6 +139,10 @@ same_reader Fact old now first later reads moves fact =
     let tables : tables_of later ≡ tables_of first = ap tables_of moves.same in
     subst (λ t. Fact t old.byte_at) tables (subst (λ image. Fact (tables_of later) image) reads.bytes fact)
 
+-- no number is below itself
+below_all : ⊥ → ⊥
+below_all never = never
+
 -- what a reader passes after it has passed clusters that nothing is wrong with
 pub passes_on : (old now : StorageState) (first later : FindingsState) (finding : Finding) (to : ℕ) → OnlyReads (Ok later.position) old now
     → MovesFindings old first later → first.position ≤ later.position
@@ -164,6 +168,20 @@ passes_none old now first later to reads moves right passes = λ told.
     right_joins (tables_of first) old.byte_at first.position later.position to (right told)
     (same_reader (λ t image. AreRight t image later.position to) old now first later reads moves (passes.1 (rw reads.device.tells told)))
 
+-- what a reader passes after it has stayed at its cluster
+pub passes_same : (old now : StorageState) (first later : FindingsState) (answer : Result (Option Finding) Fault) (to : ℕ) → OnlyReads (Ok later.position) old now
+    → MovesFindings old first later → later.position ≡ first.position → PassesFinding now later answer to → PassesFinding old first answer to
+passes_same old now first later (Ok (Some finding)) to reads moves same passes =
+    passes_on old now first later finding to reads moves (omega (arith, same)) (λ told c from before. elim (below_all (omega (arith, same, from, before))) [ ]) passes
+passes_same old now first later (Ok None) to reads moves same passes = (
+  omega (arith, same, passes.0),
+  passes_none old now first later to reads moves (λ told c from before. elim (below_all (omega (arith, same, from, before))) [ ]) passes,
+)
+passes_same old now first later (Err fault) to reads moves same passes = (
+  omega (arith, same, passes.0),
+  passes_none old now first later to reads moves (λ told c from before. elim (below_all (omega (arith, same, from, before))) [ ]) passes,
+)
+
 -- a reader that moves twice
 pub moves_twice : (old now : StorageState) (a b c : FindingsState) → OnlyReads (Ok b.position) old now → MovesFindings old a b → MovesFindings now b c
     → MovesFindings old a c
@@ -177,7 +195,7 @@ pub reads_twice : {A B C : Type 0} (x : A) (y : B) (z : C) (a b c : StorageState
 reads_twice x y z a b c one other = grind (arith, nat_tests, one, other)
 
 -- uses that don't exclude each other
-pub excludes : (uses : List Used) (c : ℕ) → is_shared uses c ≡ false
+pub excludes : (uses : List ClusterUse) (c : ℕ) → is_shared uses c ≡ false
     → (0 < uses_of_kind Fixed uses c → uses_of uses c ≡ 1) × (0 < uses_of_kind L2Table uses c → uses_of uses c ≡ uses_of_kind L2Table uses c)
 excludes uses c apart = grind (arith, nat_tests, apart, uses_by_kind uses c)
 

@@ -4,10 +4,10 @@ use Rattle.qcow2_base.specs.declared.types.HostCluster.{HostCluster}
 use Rattle.qcow2_check.specs.Tally.{used_clusters}
 use Rattle.qcow2_check.specs.declared.tally.UseKind.{UseKind}
 use Rattle.std.proofs.lemmas.Grind.{fold-append}
-use Rattle.qcow2_check.specs.Tally.{CountsMore, TallyState, Used}
+use Rattle.qcow2_check.specs.Tally.{CountsMore, TallyState, ClusterUse}
 
 -- uses that are counted after others
-pub counts_then : (first second : List Used) (a b c : TallyState)
+pub counts_then : (first second : List ClusterUse) (a b c : TallyState)
     → CountsMore first a b → CountsMore second b c → CountsMore (first ++ second) a c
 counts_then first second a b c one other = grind (arith, one, other, fold-append)
 

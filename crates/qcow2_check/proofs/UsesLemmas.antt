@@ -9,7 +9,7 @@ use Rattle.qcow2_metadata.specs.Header.{Geometry}
 use Rattle.qcow2_metadata.specs.Results.{Reads, and_then}
 use Rattle.qcow2_metadata.specs.Table.{IsEntryFault}
 use Rattle.qcow2_check.proofs.TallyLemmas.{counts_then}
-use Rattle.qcow2_check.specs.Tally.{CountsMore, TallyState, Used}
+use Rattle.qcow2_check.specs.Tally.{CountsMore, TallyState, ClusterUse}
 use Rattle.qcow2_check.specs.Uses.{all_load, entry_uses, l1_entry_loads, l1_entry_uses}
 
 -- the tables of L1 entries and of one more can be loaded just where those of both can
@@ -32,7 +32,7 @@ pub take_more : {X : Type 0} (xs : List X) (i : ℕ) (d : X) → i < length xs �
 take_more xs i d below = simp unary_clauses (take-suc xs i d below)
 
 -- what the first entries and the next use
-pub uses_more : {X : Type 0} (f : X → List Used) (xs : List X) (i : ℕ) (d : X) → i < length xs
+pub uses_more : {X : Type 0} (f : X → List ClusterUse) (xs : List X) (i : ℕ) (d : X) → i < length xs
     → flat_map f (take (i + 1) xs) ≡ flat_map f (take i xs) ++ f (get_or xs i d)
 uses_more f xs i d below =
     rw (take_more xs i d below, flat_map-append f (take i xs) (get_or xs i d ∷ []))
@@ -89,14 +89,14 @@ refused_at g l1 index old mid new a b answer fault below is so_far reads = recor
 }
 
 -- uses that are counted before those of L2 tables
-pub counts_before : (answer : Result (Unit {0}) Fault) (state : StorageState) (first : List Used) (second : Image → List Used) (a b c : TallyState)
+pub counts_before : (answer : Result (Unit {0}) Fault) (state : StorageState) (first : List ClusterUse) (second : Image → List ClusterUse) (a b c : TallyState)
     → CountsMore first a b → OnOk answer (OnImage state (λ bytes. CountsMore (second bytes) b c))
     → OnOk answer (OnImage state (λ bytes. CountsMore (first ++ second bytes) a c))
 counts_before (Ok done) state first second a b c one other = λ told. counts_then first (second state.byte_at) a b c one (other told)
 counts_before (Err fault) state first second a b c one other = tt
 
 -- uses of one element of a list, counted after those of the elements before it
-pub counts_entry : {X : Type 0} (f : X → List Used) (xs : List X) (i : ℕ) (d : X) (a b c : TallyState) → i < length xs
+pub counts_entry : {X : Type 0} (f : X → List ClusterUse) (xs : List X) (i : ℕ) (d : X) (a b c : TallyState) → i < length xs
     → CountsMore (flat_map f (take i xs)) a b → CountsMore (f (get_or xs i d)) b c → CountsMore (flat_map f (take (i + 1) xs)) a c
 counts_entry f xs i d a b c below one other =
     rw (uses_more f xs i d below) (counts_then (flat_map f (take i xs)) (f (get_or xs i d)) a b c one other)

@@ -20,15 +20,11 @@ abbrev pub block_of_cluster : HeaderRecord → List ℕ → ℕ → Option HostC
 block_of_cluster header reftable c =
     named_block header.v2.cluster_bits (slice_index reftable (c / counters_each header))
 
--- the counter of cluster c, by the numbers of its block
-abbrev pub counter_among : HeaderRecord → List ℕ → ℕ → ℕ
-counter_among header counters c = slice_index counters (c % counters_each header)
-
 -- the counter of cluster c, which is 0 where it has no block
 abbrev pub counter_of : HeaderRecord → List ℕ → Image → ℕ → ℕ
 counter_of header reftable image c = elim (block_of_cluster header reftable c) [
   | None ↦ 0
-  | Some block ↦ counter_among header (numbers_at (block_layout (block_geometry_of header)) block image) c
+  | Some block ↦ slice_index (numbers_at (block_layout (block_geometry_of header)) block image) (c % counters_each header)
 ]
 
 -- what a reader of counters has: the image's header and refcount table, and a block that it keeps
@@ -38,17 +34,17 @@ pub record CountersState : Type 0 where
   pub block : Option BlockState
 
 -- the counters of the block that is kept, none if none is
-abbrev pub counters_kept : Option BlockState → List ℕ
-counters_kept None = []
-counters_kept (Some block) = block.numbers
+abbrev pub numbers_of_kept : Option BlockState → List ℕ
+numbers_of_kept None = []
+numbers_of_kept (Some block) = block.numbers
 
 -- a block that is kept, if there is one, is the one at its cluster in the image
 abbrev pub IsKeptBlockOf : HeaderRecord → Image → Option BlockState → Type 0
 IsKeptBlockOf header image kept = IfSome kept (λ (block : BlockState).
     IfSome block.cluster (λ cluster. block.numbers ≡ numbers_at (block_layout (block_geometry_of header)) cluster image))
 
--- a reader stays as it is, but that it may keep another block of the image
-pub record StaysCounters (image : StorageState) (old new : CountersState) : Type 0 where
+-- a reader is as before, but that it may keep another block of the image
+pub record IsSameButBlock (image : StorageState) (old new : CountersState) : Type 0 where
   pub same : new ≡ record old { block = new.block }
   pub kept : OnImage image (λ bytes. IsKeptBlockOf new.header bytes new.block)
 

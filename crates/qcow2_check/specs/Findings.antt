@@ -11,20 +11,20 @@ use Rattle.qcow2_metadata.specs.Table.{IsContentFault, IsTableFault}
 use Rattle.qcow2_metadata.specs.Table.L2Guards.{one_if}
 use Rattle.qcow2_check.specs.Counters.{CountersState, IsKeptBlockOf, IsReftableFault, counter_of, placed_reftable}
 use Rattle.qcow2_check.specs.NamedTables.{l1_cluster, l1_layout, loaded_l1_table}
-use Rattle.qcow2_check.specs.Tally.{TallyState, Used, cell_at, cell_with, mark_of}
+use Rattle.qcow2_check.specs.Tally.{TallyState, ClusterUse, cell_at, cell_with, mark_of}
 use Rattle.qcow2_check.specs.Uses.{ImageTables, all_load, image_uses, uses_of}
 use Rattle.qcow2_check.specs.declared.findings.Finding.{Finding}
 use Rattle.qcow2_check.specs.declared.tally.UseKind.{UseKind}
 use Rattle.qcow2_check.specs.declared.tally.UseKind.TheVariants.{Fixed, L2Table}
 
 -- how many of some uses are those of cluster c of one kind
-abbrev pub uses_of_kind : UseKind → List Used → ℕ → ℕ
+abbrev pub uses_of_kind : UseKind → List ClusterUse → ℕ → ℕ
 uses_of_kind kind uses c =
-    sum_by (λ (used : Used). one_if (mark_of used.kind == mark_of kind && is_among used.clusters c)) uses
+    sum_by (λ (used : ClusterUse). one_if (mark_of used.kind == mark_of kind && is_among used.clusters c)) uses
 
 -- whether cluster c has uses that exclude each other: one that must be its only use, and others; or it is an L2 table, and
 -- more than that
-abbrev pub is_shared : List Used → ℕ → Bool
+abbrev pub is_shared : List ClusterUse → ℕ → Bool
 is_shared uses c = (nat_lt 0 (uses_of_kind Fixed uses c) && nat_lt 1 (uses_of uses c))
     || (nat_lt 0 (uses_of_kind L2Table uses c) && not (uses_of_kind L2Table uses c == uses_of uses c))
 

@@ -12,12 +12,12 @@ use Rattle.qcow2_check.specs.declared.tally.UseKind.{UseKind}
 use Rattle.qcow2_check.specs.declared.tally.UseKind.TheVariants.{Fixed, Guest, L2Table}
 
 -- clusters that have a use of one kind
-pub record Used : Type 0 where
+pub record ClusterUse : Type 0 where
   pub kind : UseKind
   pub clusters : ClustersToFreeEntry
 
 -- that many clusters from one on, used in this way
-abbrev pub used_clusters : UseKind → HostCluster → ℕ → Used
+abbrev pub used_clusters : UseKind → HostCluster → ℕ → ClusterUse
 used_clusters kind first count =
     record { kind = kind; clusters = record { first = first; count = record { 0 = count } } }
 
@@ -32,7 +32,7 @@ abbrev pub with_use : UseKind → ℕ → ℕ
 with_use kind cell = cell + 8 + (if cell / mark_of kind % 2 == 1 then 0 else mark_of kind)
 
 -- the cell of cluster c with what clusters that are used add to it
-abbrev pub cell_with : ℕ → ℕ → Used → ℕ
+abbrev pub cell_with : ℕ → ℕ → ClusterUse → ℕ
 cell_with c cell used = if is_among used.clusters c then with_use used.kind cell else cell
 
 -- the cells of the clusters from a first to before an end: those of the first clusters one after another, and those of others
@@ -66,7 +66,7 @@ pub record IsTally (tally : TallyState) : Type 0 where
   pub sparse : (c : ℕ) → IsSome (sparse_cell tally.sparse c) → dense_end tally ≤ c
 
 -- a tally that counted these uses too; it may end sooner then
-pub record CountsMore (uses : List Used) (old new : TallyState) : Type 0 where
+pub record CountsMore (uses : List ClusterUse) (old new : TallyState) : Type 0 where
   pub first : new.first ≡ old.first
   pub end : new.end ≤ old.end
   pub cells : (c : ℕ) → old.first ≤ c → c < new.end → cell_at new c ≡ fold (cell_with c) (cell_at old c) uses

@@ -13,7 +13,7 @@ use Rattle.qcow2_metadata.specs.Results.{and_then, result_map}
 use Rattle.qcow2_metadata.specs.Table.{l2_layout, loaded_l2_table}
 use Rattle.qcow2_metadata.specs.Table.L2Guards.{one_if}
 use Rattle.qcow2_check.specs.NamedTables.{l1_cluster, named_block, named_cluster, reftable_cluster}
-use Rattle.qcow2_check.specs.Tally.{Used, used_clusters}
+use Rattle.qcow2_check.specs.Tally.{ClusterUse, used_clusters}
 use Rattle.qcow2_check.specs.declared.tally.UseKind.TheVariants.{Fixed, Guest, L2Table}
 
 -- the tables of an image that name clusters: its header, its L1 table and its refcount table
@@ -27,41 +27,41 @@ abbrev pub image_tables : HeaderRecord → List ℕ → List ℕ → ImageTables
 image_tables header l1 reftable = record { header = header; l1 = l1; reftable = reftable }
 
 -- the header's cluster, the clusters that the L1 table's bytes are in, and those of the refcount table
-abbrev pub header_uses : HeaderRecord → List Used
+abbrev pub header_uses : HeaderRecord → List ClusterUse
 header_uses header = used_clusters Fixed (record { 0 = 0 }) 1
     ∷ used_clusters Fixed (l1_cluster header) (div_ceil (8 * header.v2.l1_size) (2 ^ header.v2.cluster_bits))
     ∷ used_clusters Fixed (reftable_cluster header) header.v2.refcount_table_clusters ∷ []
 
 -- the block that a refcount table entry names
-abbrev pub block_uses : ℕ → ℕ → List Used
+abbrev pub block_uses : ℕ → ℕ → List ClusterUse
 block_uses cb v = option_to_list (option_map (λ cluster. used_clusters Fixed cluster 1) (named_block cb v))
 
 -- the clusters that an L2 entry refers to, which are none of the image where guest data lies in an external data file
-abbrev pub entry_uses : Geometry → ℕ → List Used
+abbrev pub entry_uses : Geometry → ℕ → List ClusterUse
 entry_uses g v = if g.external_data_file then []
     else option_to_list (option_map (λ clusters. record { kind = Guest; clusters = clusters }) (allocation g v))
 
 -- the L2 table that begins with a cluster, and what its entries refer to
-abbrev pub table_uses : Geometry → HostCluster → Image → List Used
+abbrev pub table_uses : Geometry → HostCluster → Image → List ClusterUse
 table_uses g cluster image = used_clusters L2Table cluster 1
     ∷ flat_map (entry_uses g) (numbers_at (l2_layout g) cluster image)
 
 -- the L2 table that an L1 entry names, and what its entries refer to
-abbrev pub l1_entry_uses : Geometry → Image → ℕ → List Used
+abbrev pub l1_entry_uses : Geometry → Image → ℕ → List ClusterUse
 l1_entry_uses g image v = elim (named_cluster g.cluster_bits v) [
   | None ↦ []
   | Some cluster ↦ table_uses g cluster image
 ]
 
 -- all clusters that an image with these tables uses, as often as it does
-abbrev pub image_uses : ImageTables → Image → List Used
+abbrev pub image_uses : ImageTables → Image → List ClusterUse
 image_uses tables image = header_uses tables.header
     ++ flat_map (block_uses tables.header.v2.cluster_bits) tables.reftable
     ++ flat_map (l1_entry_uses (geometry_of tables.header) image) tables.l1
 
 -- how many of some uses are those of cluster c
-abbrev pub uses_of : List Used → ℕ → ℕ
-uses_of uses c = sum_by (λ (used : Used). one_if (is_among used.clusters c)) uses
+abbrev pub uses_of : List ClusterUse → ℕ → ℕ
+uses_of uses c = sum_by (λ (used : ClusterUse). one_if (is_among used.clusters c)) uses
 
 -- whether the L2 table that an L1 entry names can be loaded
 abbrev pub l1_entry_loads : Geometry → Image → ℕ → Result (Unit {0}) Fault

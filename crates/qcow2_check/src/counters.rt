@@ -7,7 +7,7 @@ ghost use Rattle.qcow2_metadata.specs.Header.{geometry_of};
 ghost use Rattle.qcow2_metadata.specs.Placed.{RefusesPlace, numbers_at, place_fault};
 ghost use Rattle.qcow2_metadata.specs.Refblock.{block_geometry_of, block_layout};
 ghost use Rattle.qcow2_metadata.specs.Results.{Reads};
-ghost use Rattle.qcow2_check.specs.Counters.{IsKeptBlockOf, IsReftableFault, StaysCounters, block_place_fault, blocks_fault, counters_kept};
+ghost use Rattle.qcow2_check.specs.Counters.{IsKeptBlockOf, IsReftableFault, IsSameButBlock, block_place_fault, blocks_fault, numbers_of_kept};
 ghost use Rattle.qcow2_check.specs.NamedTables.{reftable_cluster, reftable_layout};
 
 use crate::named_tables::{load_reftable, named_block};
@@ -91,7 +91,7 @@ fn keep_block<S: Storage>(
         (λ done. IsSomeAnd kept.new (λ block. (block.cluster ≡ Some cluster)
         × (block.geometry ≡ block_geometry_of header.now)))
         (λ fault. kept.new ≡ None) }
-    ensures reads { Reads (λ done. counters_kept kept.new) result
+    ensures reads { Reads (λ done. numbers_of_kept kept.new) result
         (λ bytes. Ok (numbers_at (block_layout (block_geometry_of header.now)) cluster bytes))
         (λ _. ⊥) (S.state image.old) (S.state image.new) }
 {
@@ -215,7 +215,7 @@ impl<'a> Counters<'a> {
         ensures reads { Reads (λ counter. counter) result
             (λ bytes. Ok (counter_of self.old.header self.old.reftable bytes cluster.0))
             (λ _. ⊥) (S.state image.old) (S.state image.new) }
-        ensures reader { StaysCounters (S.state image.old) self.old self.new }
+        ensures reader { IsSameButBlock (S.state image.old) self.old self.new }
     {
         let Some(place) = self.block_of(cluster) else {
             return Ok(0);

@@ -144,10 +144,12 @@ fn is_right(counter: u64, cell: u64) -> bool
 }
 
 impl<'a> Findings<'a> {
-    ghost use Rattle.std.specs.Prelude.{◌≡◌, ◌<◌, ◌≤◌, Ok, None, IfErr, IfOk, IfSome, IsSome, IsSomeAnd, IsTrue, OnOk, ◌+◌, ◌↔◌};
+    ghost use Rattle.std.specs.Prelude.{◌≡◌, ◌<◌, ◌≤◌, Ok, Err, None, IfErr, IfOk, IfSome, IsSome, IsSomeAnd, IsTrue, OnOk, ◌+◌, ◌↔◌};
     ghost use Rattle.qcow2_base.specs.Format.{max_file_length};
     ghost use Rattle.qcow2_base.specs.Storage.{Image, OnImage, OnlyReads};
     ghost use Rattle.qcow2_check.specs.Counters.{counter_of};
+    ghost use Rattle.qcow2_base.specs.declared.fault.Fault.TheVariants.{Uncounted};
+    ghost use Rattle.qcow2_metadata.specs.Header.{uncounted_part};
     ghost use Rattle.qcow2_check.specs.Findings.{AreRight, IsCheckFault, IsFindingsOf, IsLaterFault, MovesFindings, PassesFinding, checked_tables, finding_at, is_wrong, tables_of};
 
     /// A reader of the findings of an image with this header, before the first of them. Reads its tables, and
@@ -161,6 +163,7 @@ impl<'a> Findings<'a> {
         image: &mut S,
         header: &'a Header,
     ) -> Result<Findings<'a>, Fault>
+        ensures uncounted { IfSome (uncounted_part header.now) (λ part. result ≡ Err (Uncounted part)) }
         ensures reads { Reads tables_of result (checked_tables header.now) (IsCheckFault header.now)
             (S.state image.old) (S.state image.new) }
         ensures begun { IfOk result (λ findings. (findings.header ≡ header.now) × (findings.position ≡ 0)) }
@@ -199,7 +202,6 @@ impl<'a> Findings<'a> {
         ensures storage { OnlyReads result (S.state image.old) (S.state image.new) }
     {
         while self.position < MAX_FILE_LENGTH {
-            self.keep_window(image)?;
             if let Some(finding) = self.step(image)? {
                 return Ok(Some(finding));
             }
@@ -255,9 +257,10 @@ impl<'a> Findings<'a> {
         tally.next_used(self.position, limit.min(tally.end()))
     }
 
-    // Goes past the clusters up to the next one that something may be wrong with, and returns what is.
+    // Goes past the clusters that are counted, up to the next one that something may be wrong with, and
+    // returns what is.
     #[tactic(auto, using(crate::proofs::FindingsLemmas::right_more))]
-    fn step<S: Storage>(&mut self, image: &mut S) -> Result<Option<Finding>, Fault>
+    fn pass_counted<S: Storage>(&mut self, image: &mut S) -> Result<Option<Finding>, Fault>
         requires some { IsSome self.old.tally }
         requires before { IfSome self.old.tally (λ tally. self.old.position < tally.end) }
         requires reader { OnImage (S.state image.old) (λ bytes. IsFindingsOf bytes self.old) }
@@ -278,6 +281,21 @@ impl<'a> Findings<'a> {
             return Ok(Some(finding));
         }
         Ok(None)
+    }
+
+    // Goes past some clusters, and returns what is wrong with the last. Counts their uses first, unless they
+    // are counted.
+    fn step<S: Storage>(&mut self, image: &mut S) -> Result<Option<Finding>, Fault>
+        requires before { self.old.position < max_file_length }
+        requires reader { OnImage (S.state image.old) (λ bytes. IsFindingsOf bytes self.old) }
+        ensures finding { PassesFinding (S.state image.old) self.old result self.new.position }
+        ensures further { OnOk result (self.old.position < self.new.position) }
+        ensures reader { MovesFindings (S.state image.old) self.old self.new }
+        ensures fault { IfErr result (IsLaterFault (S.state image.old)) }
+        ensures storage { OnlyReads result (S.state image.old) (S.state image.new) }
+    {
+        self.keep_window(image)?;
+        self.pass_counted(image)
     }
 
     // How many cells lie one after another in the next window, and how many others there are.

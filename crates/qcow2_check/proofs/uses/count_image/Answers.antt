@@ -2,15 +2,15 @@ use Rattle.std.proofs.Common.{List, ◌++◌, flat_map}
 use Rattle.qcow2_base.specs.Storage.{Image}
 use Rattle.qcow2_metadata.specs.Header.{geometry_of}
 use Rattle.qcow2_check.proofs.UsesLemmas.{counts_before}
-use Rattle.qcow2_check.specs.Tally.{Used}
+use Rattle.qcow2_check.specs.Tally.{ClusterUse}
 use Rattle.qcow2_check.specs.Uses.{block_uses, header_uses, l1_entry_uses}
 use Rattle.qcow2_check.proofs.uses.count_image.Goals as goal
 
 pub returns-clause-counted : goal.returns-clause-counted
 returns-clause-counted g c =
     let header = c.args.header.now in
-    let blocks : List Used = flat_map (block_uses header.v2.cluster_bits) c.args.reftable.now.numbers in
-    let tables : Image → List Used = λ image. flat_map (l1_entry_uses (geometry_of header) image) c.args.l1_table.now.numbers in
+    let blocks : List ClusterUse = flat_map (block_uses header.v2.cluster_bits) c.args.reftable.now.numbers in
+    let tables : Image → List ClusterUse = λ image. flat_map (l1_entry_uses (geometry_of header) image) c.args.l1_table.now.numbers in
     let old = g.S.Storage.state c.args.image.now in
     let first = c.count_header.new.tally in
     let second = c.count_blocks.new.tally in
