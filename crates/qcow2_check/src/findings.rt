@@ -13,19 +13,46 @@ ghost use Rattle.qcow2_check.specs.Uses.{all_load, image_tables};
 use crate::counters::Counters;
 use crate::named_tables::load_l1_table;
 use crate::tally::{Tally, count_of, is_shared};
-use crate::uses::count_image;
+use crate::uses::{count_image, most_uses};
 use qcow2_base::{Fault, HostCluster, MAX_FILE_LENGTH, Storage};
 use qcow2_metadata::{Header, L1Table, RefBlock, RefTable, Table};
 use std::alloc::Global;
 use std::marker::Model;
 
-// The fewest cells that lie one after another, and the most, which take 64 MiB.
+// The fewest cells that lie one after another.
 const FEW_CELLS: usize = 4096;
 
-const MOST_DENSE: usize = 1 << 23;
+// How many bytes they take at most.
+const MOST_BYTES: usize = 1 << 26;
 
 // How many other cells there are at most.
 const MOST_SPARSE: usize = 1 << 20;
+
+// How many uses of a cluster fit no narrow cell.
+const MANY_USES: u64 = 1 << 29;
+
+// Clusters whose uses are counted at once: those whose cells lie one after another from the first on, and at
+// most so many others. The cells are wide or narrow.
+#[derive(Clone, Copy)]
+struct Window {
+    first: u64,
+    dense: usize,
+    most: usize,
+    is_wide: bool,
+}
+
+// How many cells lie one after another in a window, where the refcount blocks count so many clusters.
+fn dense_cells(counted: u64, is_wide: bool) -> usize
+    ensures some { 0 < result }
+    ensures few { result ≤ 2 ^ 24 }
+{
+    let most = if is_wide {
+        MOST_BYTES / 8
+    } else {
+        MOST_BYTES / 4
+    };
+    counted.clamp(FEW_CELLS as u64, most as u64) as usize
+}
 
 /// What is wrong with a cluster.
 #[derive(Clone, Copy, Debug, PartialEq, Eq)]
@@ -61,6 +88,7 @@ pub struct Findings<'a> {
     position: u64,
     // How many clusters the refcount blocks count, up to the last.
     counted: u64,
+    is_wide: bool,
     // Whether some cells didn't lie one after another for a window of few clusters that have uses.
     is_sparse: bool,
 }
@@ -95,22 +123,26 @@ fn count_window<S: Storage>(
     header: &Header,
     l1_table: &L1Table,
     reftable: &RefTable,
-    first: u64,
-    dense: usize,
-    most: usize,
+    window: Window,
 ) -> Result<Tally, Fault>
     requires l1_table { l1_table.now.geometry ≡ geometry_of header.now }
     requires reftable { reftable.now.geometry ≡ geometry_of header.now }
-    requires some { 0 < dense }
-    requires fits { first + dense ≤ max_file_length }
+    requires some { 0 < window.dense }
+    requires fits { window.first + window.dense ≤ max_file_length }
     ensures reads { Reads (λ _. tt) result (all_load (geometry_of header.now) l1_table.now.numbers)
         IsEntryFault (S.state image.old) (S.state image.new) }
     ensures counted { IfOk result (λ tally. OnImage (S.state image.old) (λ bytes. CountsAll
         (image_tables header.now l1_table.now.numbers reftable.now.numbers) bytes tally)) }
-    ensures first { IfOk result (λ tally. (tally.first ≡ first) × (first < tally.end)
+    ensures first { IfOk result (λ tally. (tally.first ≡ window.first) × (window.first < tally.end)
         × (tally.end ≤ max_file_length)) }
 {
-    let mut tally = Tally::new(l1_table.allocator(), first, dense, most)?;
+    let Window {
+        first,
+        dense,
+        most,
+        is_wide,
+    } = window;
+    let mut tally = Tally::new(l1_table.allocator(), first, dense, most, is_wide)?;
     count_image(&mut tally, image, header, l1_table, reftable)?;
     prove!(first < tally.end());
     Ok(tally)
@@ -175,9 +207,16 @@ impl<'a> Findings<'a> {
         }
         let l1_table = load_l1_table(alloc, image, header)?;
         let counters = Counters::new(alloc, image, header)?;
+        let reftable = counters.reftable();
         let counted = counters.counted();
-        let dense = counted.clamp(FEW_CELLS as u64, MOST_DENSE as u64) as usize;
-        let tally = count_window(image, header, &l1_table, counters.reftable(), 0, dense, 0)?;
+        let is_wide = most_uses(header, &l1_table, reftable) >= MANY_USES;
+        let window = Window {
+            first: 0,
+            dense: dense_cells(counted, is_wide),
+            most: 0,
+            is_wide,
+        };
+        let tally = count_window(image, header, &l1_table, reftable, window)?;
         Ok(Findings {
             header,
             l1_table,
@@ -185,6 +224,7 @@ impl<'a> Findings<'a> {
             tally: Some(tally),
             position: 0,
             counted,
+            is_wide,
             is_sparse: false,
         })
     }
@@ -298,19 +338,26 @@ impl<'a> Findings<'a> {
         self.pass_counted(image)
     }
 
-    // How many cells lie one after another in the next window, and how many others there are.
-    fn window_size(&self) -> (usize, usize)
+    // The window that begins with the reader's cluster.
+    fn next_window(&self) -> Window
         requires { self.now.position < max_file_length }
-        ensures some { 0 < result.0 }
-        ensures fits { self.now.position + result.0 ≤ max_file_length }
+        ensures first { result.first ≡ self.now.position }
+        ensures some { 0 < result.dense }
+        ensures fits { self.now.position + result.dense ≤ max_file_length }
     {
         let left = MAX_FILE_LENGTH - self.position;
-        if self.is_sparse {
-            return (left.min(FEW_CELLS as u64) as usize, MOST_SPARSE);
+        let (dense, most) = if self.is_sparse {
+            (FEW_CELLS, MOST_SPARSE)
+        } else {
+            let counted = self.counted.saturating_sub(self.position);
+            (dense_cells(counted, self.is_wide), 0)
+        };
+        Window {
+            first: self.position,
+            dense: left.min(dense as u64) as usize,
+            most,
+            is_wide: self.is_wide,
         }
-        let counted = self.counted.saturating_sub(self.position);
-        let dense = counted.clamp(FEW_CELLS as u64, MOST_DENSE as u64);
-        (left.min(dense) as usize, 0)
     }
 
     // Whether the uses of the reader's cluster are counted.
@@ -337,20 +384,13 @@ impl<'a> Findings<'a> {
             return Ok(());
         }
         if let Some(tally) = &self.tally {
-            self.is_sparse |= tally.used() < MOST_SPARSE as u64;
+            self.is_sparse |= tally.used() < MOST_SPARSE;
         }
         // Its memory is given back before the next window takes as much.
         self.tally = None;
-        let (dense, most) = self.window_size();
-        let tally = count_window(
-            image,
-            self.header,
-            &self.l1_table,
-            self.counters.reftable(),
-            self.position,
-            dense,
-            most,
-        )?;
+        let window = self.next_window();
+        let reftable = self.counters.reftable();
+        let tally = count_window(image, self.header, &self.l1_table, reftable, window)?;
         self.tally = Some(tally);
         Ok(())
     }

@@ -5,6 +5,9 @@ ghost use Rattle.qcow2_base.specs.Format.{max_file_length};
 ghost use Rattle.qcow2_base.specs.declared.fault.Fault.TheVariants.{NoMemory};
 ghost use Rattle.qcow2_check.specs.Tally.{CountsMore, cell_at, is_shared_cell, mark_of, used_clusters, with_use};
 
+mod cells;
+
+use cells::Cells;
 use qcow2_base::{Fault, MAX_FILE_LENGTH};
 use std::alloc::Global;
 use std::collections::BTreeMap;
@@ -51,22 +54,21 @@ fn with_use(cell: u64, kind: UseKind) -> Result<u64, Fault>
 pub(crate) struct Tally {
     first: u64,
     end: u64,
-    dense: Vec<u64>,
+    dense: Cells,
     sparse: BTreeMap<u64, u64>,
     most: usize,
-    // How many cells count a use.
-    used: u64,
 }
 
 impl Model for Tally {
     ghost use Rattle.qcow2_check.specs.Tally.{IsTally, TallyState};
+    ghost use Rattle.qcow2_check.specs.Tally.Cells.{kept_cells};
 
     ghost Value = { TallyState };
 
     ghost view = { λ t. record {
       first = t.first;
       end = t.end;
-      dense = t.dense.items;
+      dense = kept_cells t.dense;
       sparse = t.sparse.entries;
       most = t.most;
     } };
@@ -74,7 +76,7 @@ impl Model for Tally {
     ghost invariant = { λ t. IsTally (record {
       first = t.first;
       end = t.end;
-      dense = t.dense.items;
+      dense = kept_cells t.dense;
       sparse = t.sparse.entries;
       most = t.most;
     }) };
@@ -85,8 +87,15 @@ impl Tally {
     ghost use Rattle.qcow2_check.specs.Tally.{IsTally, cell_at, dense_end};
 
     /// A tally in which no cluster has a use, from a cluster on. The cells of the next `dense` clusters lie
-    /// one after another, and there are at most `most` others. Fails only where memory runs out.
-    pub(crate) fn new(alloc: Global, first: u64, dense: usize, most: usize) -> Result<Tally, Fault>
+    /// one after another, in 32 bits each or in 64, and there are at most `most` others. Fails only where
+    /// memory runs out.
+    pub(crate) fn new(
+        alloc: Global,
+        first: u64,
+        dense: usize,
+        most: usize,
+        is_wide: bool,
+    ) -> Result<Tally, Fault>
         requires some { 0 < dense }
         requires fits { first + dense ≤ max_file_length }
         ensures fault { IsOkUnless result NoMemory }
@@ -96,10 +105,9 @@ impl Tally {
         Ok(Tally {
             first,
             end: MAX_FILE_LENGTH,
-            dense: vec![in alloc; 0u64; dense]?,
+            dense: Cells::zeros(alloc, dense, is_wide)?,
             sparse: BTreeMap::new(alloc),
             most,
-            used: 0,
         })
     }
 
@@ -122,9 +130,8 @@ impl Tally {
     }
 
     /// How many clusters have a use, perhaps with some that it ends before.
-    #[inline]
-    pub(crate) fn used(&self) -> u64 {
-        self.used
+    pub(crate) fn used(&self) -> usize {
+        self.dense.used().saturating_add(self.sparse.len())
     }
 
     /// The cell of a cluster.
@@ -133,10 +140,11 @@ impl Tally {
         requires { self.now.first ≤ cluster }
         ensures { result ≡ cell_at self.now cluster }
     {
-        match self.dense.get((cluster - self.first) as usize) {
-            Some(cell) => *cell,
-            None => self.sparse.get(&cluster).copied().unwrap_or(0),
+        let index = (cluster - self.first) as usize;
+        if index < self.dense.len() {
+            return self.dense.get(index);
         }
+        self.sparse.get(&cluster).copied().unwrap_or(0)
     }
 
     /// The first cluster from one on that has a use, or the limit where none before it has.
@@ -149,7 +157,7 @@ impl Tally {
     {
         let dense_end = self.first + self.dense.len() as u64;
         for cluster in from..limit.min(dense_end) {
-            if self.dense[(cluster - self.first) as usize] != 0 {
+            if self.dense.get((cluster - self.first) as usize) != 0 {
                 return cluster;
             }
         }
@@ -167,14 +175,14 @@ impl Tally {
         ensures counted { OnOk result (CountsMore
             (used_clusters kind (record { 0 = cluster }) 1 ∷ []) self.old self.new) }
     {
-        if cluster < self.first || cluster >= self.end {
+        if cluster < self.first {
             return Ok(());
         }
         let index = (cluster - self.first) as usize;
         if index < self.dense.len() {
-            let cell = self.dense[index];
-            self.dense[index] = with_use(cell, kind)?;
-            self.used = self.used.wrapping_add((cell == 0) as u64);
+            return self.dense.add(index, kind);
+        }
+        if cluster >= self.end {
             return Ok(());
         }
         self.add_sparse(cluster, kind)
@@ -189,7 +197,6 @@ impl Tally {
             (used_clusters kind (record { 0 = cluster }) 1 ∷ []) self.old self.new) }
     {
         let cell = self.sparse.get(&cluster).copied().unwrap_or(0);
-        self.used = self.used.wrapping_add((cell == 0) as u64);
         self.sparse.insert(cluster, with_use(cell, kind)?)?;
         if self.sparse.len() > self.most {
             if let Some((last, _)) = self.sparse.pop_last() {

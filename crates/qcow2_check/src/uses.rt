@@ -1,9 +1,9 @@
 //! Counting what an image uses.
 
-ghost use Rattle.std.specs.Prelude.{◌≡◌, ℕ, ◌+◌, ◌*◌, ◌^◌, ◌<◌, ◌≤◌, [], ◌∷◌, ◌++◌, false, IsOkUnless, Ok, OnOk, Some, flat_map, length, option_map, option_to_list, slice_index};
+ghost use Rattle.std.specs.Prelude.{◌≡◌, ℕ, ◌+◌, ◌*◌, ◌^◌, ◌<◌, ◌≤◌, [], ◌∷◌, ◌++◌, false, IsOkUnless, None, Ok, OnOk, Some, flat_map, length, option_map, option_to_list, slice_index};
 ghost use Rattle.qcow2_base.specs.Storage.{OnImage};
 ghost use Rattle.qcow2_base.specs.declared.fault.Fault.TheVariants.{NoMemory};
-ghost use Rattle.qcow2_metadata.specs.Entries.L2Entry.{allocation};
+ghost use Rattle.qcow2_metadata.specs.Entries.L2Entry.{allocation, l2_fault};
 ghost use Rattle.qcow2_base.specs.Types.{IsClusterBits};
 ghost use Rattle.qcow2_metadata.specs.Header.{geometry, geometry_of};
 ghost use Rattle.qcow2_metadata.specs.Results.{Reads, result_map};
@@ -39,14 +39,31 @@ fn count_clusters(
 
 // Counts the clusters that an L2 entry refers to.
 #[inline]
+#[tactic(auto, using(crate::proofs::UsesLemmas::standard_uses, crate::proofs::UsesLemmas::standard_without))]
 fn count_entry(tally: &mut Tally, entry: L2Entry, cluster_bits: u32) -> Result<(), Fault>
+    requires bits { IsClusterBits cluster_bits }
+    requires valid { l2_fault cluster_bits entry ≡ None }
+    ensures fault { IsOkUnless result NoMemory }
+    ensures counted { OnOk result (CountsMore (entry_uses (geometry cluster_bits false) entry)
+        tally.old tally.new) }
+{
+    if entry.is_compressed() {
+        return count_compressed(tally, entry, cluster_bits);
+    }
+    match entry.cluster_offset(false) {
+        Some(offset) => tally.add(offset.cluster(cluster_bits).0, UseKind::Guest),
+        None => Ok(()),
+    }
+}
+
+// The same of a compressed entry.
+fn count_compressed(tally: &mut Tally, entry: L2Entry, cluster_bits: u32) -> Result<(), Fault>
     requires { IsClusterBits cluster_bits }
     ensures fault { IsOkUnless result NoMemory }
     ensures counted { OnOk result (CountsMore (entry_uses (geometry cluster_bits false) entry)
         tally.old tally.new) }
 {
     match entry.allocation(cluster_bits, false) {
-        Some((first, ClusterCount(1))) => tally.add(first.0, UseKind::Guest),
         Some((first, count)) => count_clusters(tally, UseKind::Guest, first, count.0),
         None => Ok(()),
     }
@@ -168,6 +185,20 @@ fn count_header(tally: &mut Tally, header: &Header) -> Result<(), Fault>
         reftable_cluster,
         header.reftable_clusters().0,
     )
+}
+
+/// How many uses an image has of one cluster at most: one for each entry of the L2 tables that are named,
+/// of these themselves, and of the refcount table, and three of its header.
+pub(crate) fn most_uses(header: &Header, l1_table: &L1Table, reftable: &RefTable) -> u64 {
+    let mut tables = 0u64;
+    for index in 0..l1_table.entries() {
+        tables = tables.saturating_add(u64::from(named_cluster(l1_table, index).is_some()));
+    }
+    let each = header.l2_entries() as u64;
+    let entries = tables.saturating_mul(each.saturating_add(1));
+    entries
+        .saturating_add(reftable.entries() as u64)
+        .saturating_add(3)
 }
 
 /// Counts all clusters that an image uses.
