@@ -39,7 +39,7 @@ impl UseKind {
 }
 
 // The cell with one use more. Fails where its number doesn't fit.
-#[inline]
+#[inline(always)]
 fn with_use(cell: u64, kind: UseKind) -> Result<u64, Fault>
     ensures fault { IsOkUnless result NoMemory }
     ensures cell { IfOk result (λ more. more ≡ with_use kind cell) }
@@ -169,7 +169,7 @@ impl Tally {
 
     /// Counts a use of a cluster, where the tally has its cell. Where there are too many cells it ends before
     /// the last of them.
-    #[inline]
+    #[inline(always)]
     pub(crate) fn add(&mut self, cluster: u64, kind: UseKind) -> Result<(), Fault>
         ensures fault { IsOkUnless result NoMemory }
         ensures counted { OnOk result (CountsMore
@@ -189,6 +189,7 @@ impl Tally {
     }
 
     // The same of a cluster that is after the dense cells.
+    #[inline(never)]
     fn add_sparse(&mut self, cluster: u64, kind: UseKind) -> Result<(), Fault>
         requires after { dense_end self.old ≤ cluster }
         requires before { cluster < self.old.end }

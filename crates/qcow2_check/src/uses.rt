@@ -38,7 +38,7 @@ fn count_clusters(
 }
 
 // Counts the clusters that an L2 entry refers to.
-#[inline]
+#[inline(always)]
 #[tactic(auto, using(crate::proofs::UsesLemmas::standard_uses, crate::proofs::UsesLemmas::standard_without))]
 fn count_entry(tally: &mut Tally, entry: L2Entry, cluster_bits: u32) -> Result<(), Fault>
     requires bits { IsClusterBits cluster_bits }

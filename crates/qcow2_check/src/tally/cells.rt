@@ -48,7 +48,7 @@ impl Cells {
     }
 
     // Counts a use in a cell. Fails where its number doesn't fit, and then changes nothing.
-    #[inline]
+    #[inline(always)]
     pub(super) fn add(&mut self, index: usize, kind: UseKind) -> Result<(), Fault>
         requires { index < length (kept_cells self.old) }
         ensures fault { IsOkUnless result NoMemory }
