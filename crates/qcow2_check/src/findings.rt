@@ -25,6 +25,9 @@ const FEW_CELLS: usize = 4096;
 // How many bytes they take at most.
 const MOST_BYTES: usize = 1 << 26;
 
+// How many clusters are compared together.
+const TOGETHER: usize = 64;
+
 // How many other cells there are at most.
 const MOST_SPARSE: usize = 1 << 20;
 
@@ -148,8 +151,41 @@ fn count_window<S: Storage>(
     Ok(tally)
 }
 
+// The counters of a block from an index on.
+fn counters_from(block: &RefBlock, index: usize) -> [u64; TOGETHER]
+    requires { index + 64 ≤ length block.now.numbers }
+    ensures { (k : ℕ) → k < 64 → slice_index result k ≡ slice_index block.now.numbers (index + k) }
+{
+    prove!(index < block.entries());
+    let mut counters = [0; TOGETHER];
+    for k in 0..TOGETHER {
+        counters[k] = block.get(index + k);
+    }
+    counters
+}
+
 // How many clusters from one on nothing is wrong with, at most that many, by their counters from an index on
-// and by their cells.
+// and by their cells. Perhaps some more.
+#[tactic(auto, using(crate::proofs::FindingsLemmas::plain_is_right))]
+fn plain_clusters(block: &RefBlock, tally: &Tally, first: u64, index: usize, count: usize) -> usize
+    requires first { tally.now.first ≤ first }
+    requires fits { first + count < 2 ^ 64 }
+    requires index { index + count ≤ length block.now.numbers }
+    ensures within { result ≤ count }
+    ensures right { (k : ℕ) → k < result → let cell = cell_at tally.now (first + k) in
+        (slice_index block.now.numbers (index + k) ≡ cell / 8) × (is_shared_cell cell ≡ false) }
+{
+    prove!(count <= block.entries());
+    for chunk in 0..count / TOGETHER {
+        let start = TOGETHER * chunk;
+        if !tally.are_plain(first + start as u64, &counters_from(block, index + start)) {
+            return start;
+        }
+    }
+    count / TOGETHER * TOGETHER
+}
+
+// The same, but that it looks further where several that are compared together aren't all used by guest data.
 fn right_clusters(block: &RefBlock, tally: &Tally, first: u64, index: usize, count: usize) -> usize
     requires first { tally.now.first ≤ first }
     requires fits { first + count < 2 ^ 64 }
@@ -159,12 +195,14 @@ fn right_clusters(block: &RefBlock, tally: &Tally, first: u64, index: usize, cou
         (slice_index block.now.numbers (index + k) ≡ cell / 8) × (is_shared_cell cell ≡ false) }
 {
     prove!(count <= block.entries());
-    for k in 0..count {
+    let plain = plain_clusters(block, tally, first, index, count);
+    let end = count.min(plain + TOGETHER);
+    for k in plain..end {
         if !is_right(block.get(index + k), tally.cell(first + k as u64)) {
             return k;
         }
     }
-    count
+    end
 }
 
 // Whether nothing is wrong with a cluster of this counter and this cell.

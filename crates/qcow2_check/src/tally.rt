@@ -1,9 +1,9 @@
 //! Uses of clusters, counted in memory of a bounded size.
 
-ghost use Rattle.std.specs.Prelude.{◌≡◌, ℕ, ◌+◌, ◌-◌, ◌/◌, ◌^◌, ◌<◌, ◌≤◌, [], ◌∷◌, IfOk, IfSome, IsOkUnless, None, OnOk, length, replicate};
+ghost use Rattle.std.specs.Prelude.{◌≡◌, ℕ, ◌+◌, ◌-◌, ◌/◌, ◌^◌, ◌<◌, ◌≤◌, [], ◌∷◌, IfOk, IfSome, IsOkUnless, IsTrue, None, OnOk, false, length, replicate, slice_index};
 ghost use Rattle.qcow2_base.specs.Format.{max_file_length};
 ghost use Rattle.qcow2_base.specs.declared.fault.Fault.TheVariants.{NoMemory};
-ghost use Rattle.qcow2_check.specs.Tally.{CountsMore, cell_at, is_shared_cell, mark_of, used_clusters, with_use};
+ghost use Rattle.qcow2_check.specs.Tally.{CountsMore, IsPlain, cell_at, is_shared_cell, mark_of, used_clusters, with_use};
 
 mod cells;
 
@@ -38,15 +38,13 @@ impl UseKind {
     }
 }
 
-// The cell with one use more. Fails where its number doesn't fit.
+// The cell with one use more, if its number fits.
 #[inline(always)]
-fn with_use(cell: u64, kind: UseKind) -> Result<u64, Fault>
-    ensures fault { IsOkUnless result NoMemory }
-    ensures cell { IfOk result (λ more. more ≡ with_use kind cell) }
+fn with_use(cell: u64, kind: UseKind) -> Option<u64>
+    ensures { IfSome result (λ more. more ≡ with_use kind cell) }
 {
     let mark = kind.mark();
-    let more = if cell / mark % 2 == 1 { 8 } else { 8 + mark };
-    cell.checked_add(more).ok_or(Fault::NoMemory)
+    cell.checked_add(if cell / mark % 2 == 1 { 8 } else { 8 + mark })
 }
 
 /// How many uses each cluster of a part of an image has. Clauses see it as cells, which count them.
@@ -147,6 +145,23 @@ impl Tally {
         self.sparse.get(&cluster).copied().unwrap_or(0)
     }
 
+    /// Whether nothing is wrong with the clusters from one on that have these counters, and all their uses
+    /// are by guest data. Perhaps not where some of their cells aren't dense.
+    #[inline]
+    #[tactic(auto, using(crate::proofs::TallyLemmas::plain_dense))]
+    pub(crate) fn are_plain(&self, first: u64, counters: &[u64]) -> bool
+        requires { self.now.first ≤ first }
+        ensures { IsTrue result → (k : ℕ) → k < length counters.now →
+            IsPlain (cell_at self.now (first + k)) (slice_index counters.now k) }
+    {
+        let index = (first - self.first) as usize;
+        let len = self.dense.len();
+        if index > len || counters.len() > len - index {
+            return false;
+        }
+        self.dense.are_plain(index, counters)
+    }
+
     /// The first cluster from one on that has a use, or the limit where none before it has.
     pub(crate) fn next_used(&self, from: u64, limit: u64) -> u64
         requires from { self.now.first ≤ from }
@@ -167,23 +182,29 @@ impl Tally {
         }
     }
 
+    /// Counts a use of a cluster where its cell is one of the dense ones and its number fits. Returns whether
+    /// it did; else nothing changes.
+    #[inline(always)]
+    pub(crate) fn add_dense(&mut self, cluster: u64, kind: UseKind) -> bool
+        ensures counted { IsTrue result → CountsMore
+            (used_clusters kind (record { 0 = cluster }) 1 ∷ []) self.old self.new }
+        ensures same { result ≡ false → self.new ≡ self.old }
+    {
+        cluster >= self.first && self.dense.add((cluster - self.first) as usize, kind)
+    }
+
     /// Counts a use of a cluster, where the tally has its cell. Where there are too many cells it ends before
     /// the last of them.
-    #[inline(always)]
     pub(crate) fn add(&mut self, cluster: u64, kind: UseKind) -> Result<(), Fault>
         ensures fault { IsOkUnless result NoMemory }
         ensures counted { OnOk result (CountsMore
             (used_clusters kind (record { 0 = cluster }) 1 ∷ []) self.old self.new) }
     {
-        if cluster < self.first {
+        if self.add_dense(cluster, kind) || cluster < self.first || cluster >= self.end {
             return Ok(());
         }
-        let index = (cluster - self.first) as usize;
-        if index < self.dense.len() {
-            return self.dense.add(index, kind);
-        }
-        if cluster >= self.end {
-            return Ok(());
+        if cluster - self.first < self.dense.len() as u64 {
+            return Err(Fault::NoMemory);
         }
         self.add_sparse(cluster, kind)
     }
@@ -198,7 +219,8 @@ impl Tally {
             (used_clusters kind (record { 0 = cluster }) 1 ∷ []) self.old self.new) }
     {
         let cell = self.sparse.get(&cluster).copied().unwrap_or(0);
-        self.sparse.insert(cluster, with_use(cell, kind)?)?;
+        let more = with_use(cell, kind).ok_or(Fault::NoMemory)?;
+        self.sparse.insert(cluster, more)?;
         if self.sparse.len() > self.most {
             if let Some((last, _)) = self.sparse.pop_last() {
                 self.end = self.end.min(last);

@@ -1,6 +1,6 @@
 //! Counting what an image uses.
 
-ghost use Rattle.std.specs.Prelude.{◌≡◌, ℕ, ◌+◌, ◌*◌, ◌^◌, ◌<◌, ◌≤◌, [], ◌∷◌, ◌++◌, false, IsOkUnless, None, Ok, OnOk, Some, flat_map, length, option_map, option_to_list, slice_index};
+ghost use Rattle.std.specs.Prelude.{◌≡◌, ℕ, ◌+◌, ◌*◌, ◌^◌, ◌<◌, ◌≤◌, [], ◌∷◌, ◌++◌, false, IsOkUnless, IsTrue, None, Ok, OnOk, Some, flat_map, length, option_map, option_to_list, slice_index};
 ghost use Rattle.qcow2_base.specs.Storage.{OnImage};
 ghost use Rattle.qcow2_base.specs.declared.fault.Fault.TheVariants.{NoMemory};
 ghost use Rattle.qcow2_metadata.specs.Entries.L2Entry.{allocation, l2_fault};
@@ -38,34 +38,37 @@ fn count_clusters(
 }
 
 // Counts the clusters that an L2 entry refers to.
-#[inline(always)]
-#[tactic(auto, using(crate::proofs::UsesLemmas::standard_uses, crate::proofs::UsesLemmas::standard_without))]
+#[inline(never)]
 fn count_entry(tally: &mut Tally, entry: L2Entry, cluster_bits: u32) -> Result<(), Fault>
-    requires bits { IsClusterBits cluster_bits }
-    requires valid { l2_fault cluster_bits entry ≡ None }
-    ensures fault { IsOkUnless result NoMemory }
-    ensures counted { OnOk result (CountsMore (entry_uses (geometry cluster_bits false) entry)
-        tally.old tally.new) }
-{
-    if entry.is_compressed() {
-        return count_compressed(tally, entry, cluster_bits);
-    }
-    match entry.cluster_offset(false) {
-        Some(offset) => tally.add(offset.cluster(cluster_bits).0, UseKind::Guest),
-        None => Ok(()),
-    }
-}
-
-// The same of a compressed entry.
-fn count_compressed(tally: &mut Tally, entry: L2Entry, cluster_bits: u32) -> Result<(), Fault>
     requires { IsClusterBits cluster_bits }
     ensures fault { IsOkUnless result NoMemory }
     ensures counted { OnOk result (CountsMore (entry_uses (geometry cluster_bits false) entry)
         tally.old tally.new) }
 {
     match entry.allocation(cluster_bits, false) {
+        Some((first, ClusterCount(1))) => tally.add(first.0, UseKind::Guest),
         Some((first, count)) => count_clusters(tally, UseKind::Guest, first, count.0),
         None => Ok(()),
+    }
+}
+
+// The same, only where the entry is a standard one and the cell of its cluster is dense. Returns whether that
+// is so; else nothing changes.
+#[inline(always)]
+#[tactic(auto, using(crate::proofs::UsesLemmas::standard_uses, crate::proofs::UsesLemmas::standard_without))]
+fn count_standard(tally: &mut Tally, entry: L2Entry, cluster_bits: u32) -> bool
+    requires bits { IsClusterBits cluster_bits }
+    requires valid { l2_fault cluster_bits entry ≡ None }
+    ensures counted { IsTrue result → CountsMore (entry_uses (geometry cluster_bits false) entry)
+        tally.old tally.new }
+    ensures same { result ≡ false → tally.new ≡ tally.old }
+{
+    if entry.is_compressed() {
+        return false;
+    }
+    match entry.cluster_offset(false) {
+        Some(offset) => tally.add_dense(offset.cluster(cluster_bits).0, UseKind::Guest),
+        None => true,
     }
 }
 
@@ -81,7 +84,10 @@ fn count_entries(tally: &mut Tally, table: &L2Table) -> Result<(), Fault>
     }
     let cluster_bits = table.cluster_bits();
     for index in 0..table.entries() {
-        count_entry(tally, table.get(index), cluster_bits)?;
+        let entry = table.get(index);
+        if !count_standard(tally, entry, cluster_bits) {
+            count_entry(tally, entry, cluster_bits)?;
+        }
     }
     Ok(())
 }

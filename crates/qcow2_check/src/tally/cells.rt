@@ -1,13 +1,45 @@
 //! Cells in memory that lie one after another: one number each, in integers of 32 or of 64 bits.
 
-ghost use Rattle.std.specs.Prelude.{◌≡◌, ◌<◌, IfOk, IsOkUnless, OnOk, length, replicate, slice_index, slice_set};
-ghost use Rattle.qcow2_base.specs.declared.fault.Fault.TheVariants.{NoMemory};
-ghost use Rattle.qcow2_check.specs.Tally.{with_use};
+ghost use Rattle.std.specs.Prelude.{◌≡◌, ◌↔◌, ℕ, ◌+◌, ◌<◌, ◌≤◌, IfOk, IsTrue, false, length, replicate, slice_index, slice_set};
+ghost use Rattle.qcow2_check.specs.Tally.{IsPlain, with_use};
 ghost use Rattle.qcow2_check.specs.Tally.Cells.{kept_cells};
 
 use super::{UseKind, with_use};
-use qcow2_base::Fault;
 use std::alloc::{AllocError, Global};
+
+// Whether a cell counts as many uses as the counter says, all of them by guest data.
+#[inline]
+fn is_plain(cell: u64, counter: u64) -> bool
+    ensures { IsTrue result ↔ IsPlain cell counter }
+{
+    (cell / 8 == counter) & (cell % 4 == 0)
+}
+
+// Whether all cells do. Looks at each, so that several are compared at once.
+fn are_plain_narrow(cells: &[u32], counters: &[u64]) -> bool
+    requires { length cells.now ≡ length counters.now }
+    ensures { IsTrue result → (k : ℕ) → k < length counters.now →
+        IsPlain (slice_index cells.now k) (slice_index counters.now k) }
+{
+    let mut plain = true;
+    for k in 0..cells.len() {
+        plain &= is_plain(u64::from(cells[k]), counters[k]);
+    }
+    plain
+}
+
+// The same of wide cells.
+fn are_plain_wide(cells: &[u64], counters: &[u64]) -> bool
+    requires { length cells.now ≡ length counters.now }
+    ensures { IsTrue result → (k : ℕ) → k < length counters.now →
+        IsPlain (slice_index cells.now k) (slice_index counters.now k) }
+{
+    let mut plain = true;
+    for k in 0..cells.len() {
+        plain &= is_plain(cells[k], counters[k]);
+    }
+    plain
+}
 
 /// A list of cells. A narrow one counts at most 2^29 - 1 uses.
 #[derive(Drop)]
@@ -47,23 +79,47 @@ impl Cells {
         }
     }
 
-    // Counts a use in a cell. Fails where its number doesn't fit, and then changes nothing.
+    // Counts a use in a cell. Returns whether there is the cell and its number fits; else nothing changes.
     #[inline(always)]
-    pub(super) fn add(&mut self, index: usize, kind: UseKind) -> Result<(), Fault>
-        requires { index < length (kept_cells self.old) }
-        ensures fault { IsOkUnless result NoMemory }
-        ensures counted { OnOk result (kept_cells self.new ≡ slice_set (kept_cells self.old) index
+    pub(super) fn add(&mut self, index: usize, kind: UseKind) -> bool
+        ensures counted { IsTrue result → (index < length (kept_cells self.old))
+            × (kept_cells self.new ≡ slice_set (kept_cells self.old) index
             (with_use kind (slice_index (kept_cells self.old) index))) }
+        ensures same { result ≡ false → kept_cells self.new ≡ kept_cells self.old }
         ensures count { length (kept_cells self.new) ≡ length (kept_cells self.old) }
     {
+        if index >= self.len() {
+            return false;
+        }
         match self {
             Cells::Narrow(list) => {
-                let cell = with_use(u64::from(list[index]), kind)?;
-                list[index] = u32::try_from(cell).map_err(|_| Fault::NoMemory)?;
+                let more = with_use(u64::from(list[index]), kind);
+                let Some(Ok(cell)) = more.map(u32::try_from) else {
+                    return false;
+                };
+                list[index] = cell;
             }
-            Cells::Wide(list) => list[index] = with_use(list[index], kind)?,
+            Cells::Wide(list) => {
+                let Some(cell) = with_use(list[index], kind) else {
+                    return false;
+                };
+                list[index] = cell;
+            }
         }
-        Ok(())
+        true
+    }
+
+    // Whether each cell from an index on counts as many uses as its counter says, all of them by guest data.
+    #[inline]
+    pub(super) fn are_plain(&self, index: usize, counters: &[u64]) -> bool
+        requires { index + length counters.now ≤ length (kept_cells self.now) }
+        ensures { IsTrue result → (k : ℕ) → k < length counters.now →
+            IsPlain (slice_index (kept_cells self.now) (index + k)) (slice_index counters.now k) }
+    {
+        match self {
+            Cells::Narrow(list) => are_plain_narrow(&list[index..index + counters.len()], counters),
+            Cells::Wide(list) => are_plain_wide(&list[index..index + counters.len()], counters),
+        }
     }
 
     // How many cells count a use.
