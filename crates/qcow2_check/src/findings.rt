@@ -22,8 +22,8 @@ use std::marker::Model;
 // The fewest cells that lie one after another.
 const FEW_CELLS: usize = 4096;
 
-// How many bytes they take at most.
-const MOST_BYTES: usize = 1 << 26;
+// How many bytes they take at most. Narrow ones are enough for 1 TiB in clusters of 64 KiB, and its tables.
+const MOST_BYTES: usize = 68 << 20;
 
 // How many clusters are compared together.
 const TOGETHER: usize = 64;
@@ -47,7 +47,7 @@ struct Window {
 // How many cells lie one after another in a window, where the refcount blocks count so many clusters.
 fn dense_cells(counted: u64, is_wide: bool) -> usize
     ensures some { 0 < result }
-    ensures few { result ≤ 2 ^ 24 }
+    ensures few { result ≤ 2 ^ 25 }
 {
     let most = if is_wide {
         MOST_BYTES / 8

@@ -182,15 +182,18 @@ impl Tally {
         }
     }
 
-    /// Counts a use of a cluster where its cell is one of the dense ones and its number fits. Returns whether
-    /// it did; else nothing changes.
+    /// Counts a use of a cluster as `add` does, unless its cell is none of the dense ones or would count too
+    /// many. Returns whether the use is counted; else nothing changes.
     #[inline(always)]
-    pub(crate) fn add_dense(&mut self, cluster: u64, kind: UseKind) -> bool
+    pub(crate) fn try_add(&mut self, cluster: u64, kind: UseKind) -> bool
         ensures counted { IsTrue result → CountsMore
             (used_clusters kind (record { 0 = cluster }) 1 ∷ []) self.old self.new }
         ensures same { result ≡ false → self.new ≡ self.old }
+        ensures within { result ≡ false → (self.old.first ≤ cluster) × (cluster < self.old.end) }
     {
-        cluster >= self.first && self.dense.add((cluster - self.first) as usize, kind)
+        cluster < self.first
+            || self.dense.add((cluster - self.first) as usize, kind)
+            || cluster >= self.end
     }
 
     /// Counts a use of a cluster, where the tally has its cell. Where there are too many cells it ends before
@@ -200,7 +203,7 @@ impl Tally {
         ensures counted { OnOk result (CountsMore
             (used_clusters kind (record { 0 = cluster }) 1 ∷ []) self.old self.new) }
     {
-        if self.add_dense(cluster, kind) || cluster < self.first || cluster >= self.end {
+        if self.try_add(cluster, kind) {
             return Ok(());
         }
         if cluster - self.first < self.dense.len() as u64 {

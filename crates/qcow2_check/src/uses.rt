@@ -52,8 +52,8 @@ fn count_entry(tally: &mut Tally, entry: L2Entry, cluster_bits: u32) -> Result<(
     }
 }
 
-// The same, only where the entry is a standard one and the cell of its cluster is dense. Returns whether that
-// is so; else nothing changes.
+// The same, unless the entry is compressed or its use can't be counted by `try_add`. Returns whether it is
+// counted; else nothing changes.
 #[inline(always)]
 #[tactic(auto, using(crate::proofs::UsesLemmas::standard_uses, crate::proofs::UsesLemmas::standard_without))]
 fn count_standard(tally: &mut Tally, entry: L2Entry, cluster_bits: u32) -> bool
@@ -67,7 +67,7 @@ fn count_standard(tally: &mut Tally, entry: L2Entry, cluster_bits: u32) -> bool
         return false;
     }
     match entry.cluster_offset(false) {
-        Some(offset) => tally.add_dense(offset.cluster(cluster_bits).0, UseKind::Guest),
+        Some(offset) => tally.try_add(offset.cluster(cluster_bits).0, UseKind::Guest),
         None => true,
     }
 }
