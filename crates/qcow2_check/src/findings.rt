@@ -34,8 +34,8 @@ const MOST_SPARSE: usize = 1 << 20;
 // How many uses of a cluster fit no narrow cell.
 const MANY_USES: u64 = 1 << 29;
 
-// Clusters whose uses are counted at once: those whose cells lie one after another from the first on, and at
-// most so many others. The cells are wide or narrow.
+// Clusters whose uses are counted at once: `dense` of them from the first on, whose cells lie one after
+// another, and at most `most` others. The cells are wide or narrow.
 #[derive(Clone, Copy)]
 struct Window {
     first: u64,
@@ -44,7 +44,7 @@ struct Window {
     is_wide: bool,
 }
 
-// How many cells lie one after another in a window, where the refcount blocks count so many clusters.
+// How many cells lie one after another in a window, by how many clusters from it on the blocks count.
 fn dense_cells(counted: u64, is_wide: bool) -> usize
     ensures some { 0 < result }
     ensures few { result ≤ 2 ^ 25 }
