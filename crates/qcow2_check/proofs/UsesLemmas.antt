@@ -128,7 +128,3 @@ standard_uses cb v offset standard valid refers =
 
 pub standard_without : (cb v : ℕ) → is_compressed v ≡ false → host_offset false v ≡ None → entry_uses (geometry cb false) v ≡ []
 standard_without cb v standard refers = grind (arith, nat_tests, standard, refers)
-
--- the entry 0 uses none
-pub unallocated_uses : (cb : ℕ) → entry_uses (geometry cb false) 0 ≡ []
-unallocated_uses cb = refl

@@ -15,7 +15,7 @@ ghost use Rattle.qcow2_check.specs.Uses.{all_load, block_uses, entry_uses, heade
 use crate::named_tables::{load_l2_table, named_block, named_cluster};
 use crate::tally::{Tally, UseKind};
 use qcow2_base::{ClusterCount, Fault, HostCluster, Storage};
-use qcow2_metadata::{Header, L1Table, L2Entry, L2Table, RefTable, Table, TableEntry};
+use qcow2_metadata::{Header, L1Table, L2Entry, L2Table, RefTable, Table};
 use std::alloc::Global;
 
 // Counts one use of each of that many clusters from one on.
@@ -55,7 +55,7 @@ fn count_entry(tally: &mut Tally, entry: L2Entry, cluster_bits: u32) -> Result<(
 // The same, unless the entry is compressed or its use can't be counted by `try_add`. Returns whether it is
 // counted; else nothing changes.
 #[inline(always)]
-#[tactic(auto, using(crate::proofs::UsesLemmas::standard_uses, crate::proofs::UsesLemmas::standard_without, crate::proofs::UsesLemmas::unallocated_uses))]
+#[tactic(auto, using(crate::proofs::UsesLemmas::standard_uses, crate::proofs::UsesLemmas::standard_without))]
 fn count_standard(tally: &mut Tally, entry: L2Entry, cluster_bits: u32) -> bool
     requires bits { IsClusterBits cluster_bits }
     requires valid { l2_fault cluster_bits entry ≡ None }
@@ -63,9 +63,6 @@ fn count_standard(tally: &mut Tally, entry: L2Entry, cluster_bits: u32) -> bool
         tally.old tally.new }
     ensures same { result ≡ false → tally.new ≡ tally.old }
 {
-    if entry.to_plain() == 0 {
-        return true;
-    }
     if entry.is_compressed() {
         return false;
     }
