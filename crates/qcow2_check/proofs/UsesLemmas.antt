@@ -1,4 +1,4 @@
-use Rattle.std.proofs.Common.{◌≡◌, ℕ, true, false, zero, suc, ◌+◌, ◌-◌, ◌*◌, ◌/◌, ◌%◌, ◌^◌, ◌<◌, List, [], ◌∷◌, ◌++◌, flat_map, take, length, get_or, slice_index, Some, None, Result, Ok, Err, OnOk, div-add-mod', ap, refl, arith}
+use Rattle.std.proofs.Common.{◌≡◌, ℕ, true, false, zero, suc, ◌+◌, ◌-◌, ◌*◌, ◌/◌, ◌%◌, ◌^◌, ◌<◌, ◌≤◌, List, [], ◌∷◌, ◌++◌, flat_map, take, length, get_or, slice_index, Some, None, Result, Ok, Err, OnOk, add-zero, div-add-mod', ap, refl, arith}
 use Rattle.std.proofs.lemmas.List.{append-nil}
 use Rattle.std.proofs.lemmas.Bool.Decides.{nat_tests}
 use Rattle.std.proofs.lemmas.Nat.{div-mul-add, pow_pos}
@@ -128,3 +128,17 @@ standard_uses cb v offset standard valid refers =
 
 pub standard_without : (cb v : ℕ) → is_compressed v ≡ false → host_offset false v ≡ None → entry_uses (geometry cb false) v ≡ []
 standard_without cb v standard refers = grind (arith, nat_tests, standard, refers)
+
+-- the entry 0 uses none
+pub unallocated_uses : (g : Geometry) → g.external_data_file ≡ false → entry_uses g 0 ≡ []
+unallocated_uses g inside = rw inside refl
+
+-- and so entries 0 add none to those before them
+pub unallocated_more : (f : ℕ → List ClusterUse) (numbers : List ℕ) (i k : ℕ) → f 0 ≡ [] → i + k ≤ length numbers
+    → ((j : ℕ) → j < k → slice_index numbers (i + j) ≡ 0) → flat_map f (take (i + k) numbers) ≡ flat_map f (take i numbers)
+unallocated_more f numbers i zero none within zeros = rw (add-zero i) refl
+unallocated_more f numbers i (suc k) none within zeros =
+    let sum : i + suc k ≡ i + k + 1 = omega arith in
+    let last : get_or numbers (i + k) 0 ≡ 0 = zeros k (omega arith) in
+    rw (sum, uses_more f numbers (i + k) 0 (omega (arith, within)), last, none, append-nil (flat_map f (take (i + k) numbers)))
+    (unallocated_more f numbers i k none (omega (arith, within)) (λ j below. zeros j (omega (arith, below))))

@@ -15,8 +15,11 @@ ghost use Rattle.qcow2_check.specs.Uses.{all_load, block_uses, entry_uses, heade
 use crate::named_tables::{load_l2_table, named_block, named_cluster};
 use crate::tally::{Tally, UseKind};
 use qcow2_base::{ClusterCount, Fault, HostCluster, Storage};
-use qcow2_metadata::{Header, L1Table, L2Entry, L2Table, RefTable, Table};
+use qcow2_metadata::{Header, L1Table, L2Entry, L2Table, RefTable, Table, TableEntry};
 use std::alloc::Global;
+
+// How many entries are looked at together.
+const TOGETHER: usize = 16;
 
 // Counts one use of each of that many clusters from one on.
 #[tactic(auto, using(crate::proofs::TallyLemmas::counts_next))]
@@ -72,6 +75,20 @@ fn count_standard(tally: &mut Tally, entry: L2Entry, cluster_bits: u32) -> bool
     }
 }
 
+// Whether the entries from an index on, as many as are looked at together, are all the entry 0.
+#[inline(always)]
+fn are_unallocated(table: &L2Table, first: usize) -> bool
+    requires { first + 16 ≤ length table.now.numbers }
+    ensures { IsTrue result → (k : ℕ) → k < 16 → slice_index table.now.numbers (first + k) ≡ 0 }
+{
+    prove!(first < table.entries());
+    let mut unallocated = true;
+    for k in 0..TOGETHER {
+        unallocated &= table.get(first + k).to_plain() == 0;
+    }
+    unallocated
+}
+
 // Counts the clusters that the entries of an L2 table refer to.
 #[tactic(auto, using(crate::proofs::UsesLemmas::no_entry_uses, crate::proofs::UsesLemmas::counts_entry))]
 fn count_entries(tally: &mut Tally, table: &L2Table) -> Result<(), Fault>
@@ -82,11 +99,17 @@ fn count_entries(tally: &mut Tally, table: &L2Table) -> Result<(), Fault>
     if table.external_data_file() {
         return Ok(());
     }
-    let cluster_bits = table.cluster_bits();
-    for index in 0..table.entries() {
-        let entry = table.get(index);
-        if !count_standard(tally, entry, cluster_bits) {
-            count_entry(tally, entry, cluster_bits)?;
+    let (cluster_bits, entries) = (table.cluster_bits(), table.entries());
+    let mut index = 0;
+    while index < entries {
+        if index % TOGETHER == 0 && entries - index >= TOGETHER && are_unallocated(table, index) {
+            index += TOGETHER;
+        } else {
+            let entry = table.get(index);
+            if !count_standard(tally, entry, cluster_bits) {
+                count_entry(tally, entry, cluster_bits)?;
+            }
+            index += 1;
         }
     }
     Ok(())
