@@ -150,7 +150,7 @@ impl<'a> Findings<'a> {
     ghost use Rattle.qcow2_check.specs.Counters.{counter_of};
     ghost use Rattle.qcow2_base.specs.declared.fault.Fault.TheVariants.{Uncounted};
     ghost use Rattle.qcow2_metadata.specs.Header.{uncounted_part};
-    ghost use Rattle.qcow2_check.specs.Findings.{AreRight, IsCheckFault, IsFindingsOf, IsLaterFault, MovesFindings, PassesFinding, checked_tables, finding_at, is_wrong, tables_of};
+    ghost use Rattle.qcow2_check.specs.Findings.{AreRight, GoesPast, IsCheckFault, IsFindingsOf, IsLaterFault, MovesFindings, PassesFinding, TakesFinding, checked_tables, finding_at, findings_left, is_wrong, tables_of};
 
     /// A reader of the findings of an image with this header, before the first of them. Reads its tables, and
     /// counts the uses of the first clusters.
@@ -195,12 +195,14 @@ impl<'a> Findings<'a> {
     /// one that the reader was made for, unchanged since. Changes no byte.
     pub fn next<S: Storage>(&mut self, image: &mut S) -> Result<Option<Finding>, Fault>
         requires { OnImage (S.state image.old) (λ bytes. IsFindingsOf bytes self.old) }
-        ensures finding { PassesFinding (S.state image.old) self.old result self.new.position }
-        ensures end { result ≡ Ok None → self.new.position ≡ max_file_length }
+        ensures finding { OnImage (S.state image.old) (λ bytes.
+            TakesFinding (findings_left self.old bytes) (findings_left self.new bytes) result) }
+        ensures further { GoesPast self.old.position result self.new.position }
         ensures reader { MovesFindings (S.state image.old) self.old self.new }
         ensures fault { IfErr result (IsLaterFault (S.state image.old)) }
         ensures storage { OnlyReads result (S.state image.old) (S.state image.new) }
     {
+        prove!(self.position <= MAX_FILE_LENGTH);
         while self.position < MAX_FILE_LENGTH {
             if let Some(finding) = self.step(image)? {
                 return Ok(Some(finding));
@@ -265,7 +267,8 @@ impl<'a> Findings<'a> {
         requires before { IfSome self.old.tally (λ tally. self.old.position < tally.end) }
         requires reader { OnImage (S.state image.old) (λ bytes. IsFindingsOf bytes self.old) }
         ensures finding { PassesFinding (S.state image.old) self.old result self.new.position }
-        ensures further { OnOk result (self.old.position < self.new.position) }
+        ensures further { (self.new.position ≤ max_file_length)
+            × OnOk result (self.old.position < self.new.position) }
         ensures reader { MovesFindings (S.state image.old) self.old self.new }
         ensures fault { IfErr result IsFromOutside }
         ensures storage { OnlyReads result (S.state image.old) (S.state image.new) }
@@ -289,7 +292,8 @@ impl<'a> Findings<'a> {
         requires before { self.old.position < max_file_length }
         requires reader { OnImage (S.state image.old) (λ bytes. IsFindingsOf bytes self.old) }
         ensures finding { PassesFinding (S.state image.old) self.old result self.new.position }
-        ensures further { OnOk result (self.old.position < self.new.position) }
+        ensures further { (self.new.position ≤ max_file_length)
+            × OnOk result (self.old.position < self.new.position) }
         ensures reader { MovesFindings (S.state image.old) self.old self.new }
         ensures fault { IfErr result (IsLaterFault (S.state image.old)) }
         ensures storage { OnlyReads result (S.state image.old) (S.state image.new) }
