@@ -1,6 +1,6 @@
-use Rattle.std.proofs.Common.{◌≡◌, ℕ, zero, suc, true, false, ◌+◌, ◌-◌, ◌<◌, ◌≤◌, [], ◌∷◌, Result, Ok, Err, Some, None, Option, IsTrue, refl, sym, ap, ◌∙◌, arith}
+use Rattle.std.proofs.Common.{◌≡◌, ℕ, zero, suc, true, false, ◌+◌, ◌-◌, ◌<◌, ◌≤◌, [], ◌∷◌, Result, Ok, Err, Some, None, Option, IsTrue, refl, sym, ap, subst, ◌∙◌, arith}
 use Rattle.qcow2_base.specs.Format.{max_file_length}
-use Rattle.qcow2_base.specs.Storage.{Image, StorageState}
+use Rattle.qcow2_base.specs.Storage.{Image, OnImage, OnlyReads, StorageState}
 use Rattle.qcow2_base.specs.declared.fault.Fault.{Fault}
 use Rattle.qcow2_check.specs.Findings.{AreRight, FindingsState, PassesFinding, TakesFinding, finding_at, findings_from, findings_left, is_wrong, tables_of}
 use Rattle.qcow2_check.specs.Uses.{ImageTables}
@@ -66,3 +66,14 @@ takes-finding image reader later (Ok None) told same low high end passes =
 takes-finding image reader later (Err fault) told same low high end passes =
     rw same (pass-right (tables_of reader) image.byte_at reader.position (later.position - reader.position) (max_file_length - later.position) (max_file_length - reader.position) later.position
     (omega (arith, passes.0, high)) (omega (arith, passes.0)) (passes.1 told))
+
+-- a reader at the end comes to no finding
+pub none-at-end : (image : Image) (reader : FindingsState) → reader.position ≡ max_file_length → findings_left reader image ≡ []
+none-at-end image reader end = rw end (no-more (tables_of reader) image max_file_length)
+
+-- what a reader returns of an image after it was read, and what it returns of it before
+pub takes-later : {T : Type 0} (value : T) (old now : StorageState) (a b : FindingsState) (answer : Result (Option Finding) Fault) → OnlyReads (Ok value) old now
+    → OnImage now (λ bytes. TakesFinding (findings_left a bytes) (findings_left b bytes) answer)
+    → OnImage old (λ bytes. TakesFinding (findings_left a bytes) (findings_left b bytes) answer)
+takes-later value old now a b answer reads takes = λ told.
+    subst (λ image. TakesFinding (findings_left a image) (findings_left b image) answer) reads.bytes (takes (rw reads.device.tells told))

@@ -13,6 +13,7 @@ pub mod OutputLemmas
 pub mod PrintingLemmas
 pub mod ReportLemmas
 pub mod RunningLemmas
+pub mod RunsLemmas
 pub mod SettledLemmas
 pub mod StepsLemmas
 pub mod WholeImageLemmas

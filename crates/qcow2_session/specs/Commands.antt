@@ -1,6 +1,7 @@
 -- Which commands are there, what asks for each, and what are its facts?
 pub mod At
 pub mod Changing
+pub mod Check
 pub mod Count
 pub mod Edit
 pub mod Entries

@@ -9,6 +9,7 @@ use qcow2_base::{GuestOffset, HostCluster};
 use std::alloc::{AllocError, Global};
 
 mod at;
+mod check;
 mod count;
 mod edit;
 mod entries;

@@ -11,7 +11,7 @@ returns-in-Some-clause-finding g c =
     let kept = c.loop-self.invariant in
     let old = g.S.Storage.state c.args.image.now in
     let passes = passes_on old (g.S.Storage.state c.loop-self.image) c.args.self.now c.loop-self.self c.in-Some.finding c.step.new.self.position
-        kept.storage kept.reader kept.from kept.right (rw c.in-Some.is at c.in_ok-finding.ensures.finding) in
+    kept.storage kept.reader kept.from kept.right (rw c.in-Some.is at c.in_ok-finding.ensures.finding) in
     λ told. takes-finding old c.args.self.now c.step.new.self (Ok (Some c.in-Some.finding)) told
     (ap tables_of (moves_twice old (g.S.Storage.state c.loop-self.image) c.args.self.now c.loop-self.self c.step.new.self kept.storage kept.reader c.in_ok-finding.ensures.reader).same)
     (omega (arith, kept.from, kept.within)) c.in_ok-finding.ensures.further.0 (λ none. grind (arith, none)) passes
