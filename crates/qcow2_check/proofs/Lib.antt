@@ -1,5 +1,6 @@
 pub mod CountersLemmas
 pub mod FindingsLemmas
+pub mod FlagsLemmas
 pub mod NamedTablesLemmas
 pub mod TallyLemmas
 pub mod UsesLemmas
