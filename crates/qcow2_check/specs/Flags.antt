@@ -108,8 +108,8 @@ flags_left reader image = elim reader.table [
 ]
 
 -- how many steps a reader needs yet at most: two for each L1 entry, but one for an entry whose table is held
-abbrev pub steps_left : FlagsState → ℕ
-steps_left reader = elim reader.table [
+abbrev pub passes_left : FlagsState → ℕ
+passes_left reader = elim reader.table [
   | None ↦ 2 * (length reader.l1 - reader.index)
   | Some table ↦ 2 * (length reader.l1 - reader.index) - 1
 ]

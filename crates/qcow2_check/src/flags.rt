@@ -1,4 +1,4 @@
-//! Entries whose flag `copied` isn't what the counter of their cluster says.
+//! Entries whose copied flag isn't what the counter of their cluster says.
 
 ghost use Rattle.std.specs.Prelude.{◌≡◌, ◌+◌, ◌*◌, ◌<◌, false, IfErr, Ok, length, slice_index};
 ghost use Rattle.qcow2_base.specs.Format.{most_l1_entries};
@@ -16,7 +16,7 @@ use qcow2_base::{Fault, GuestCluster, GuestOffset, HostCluster, Storage};
 use qcow2_metadata::{Header, L1Table, L2Entry, L2Table, Table};
 use std::marker::Model;
 
-/// Which entry has a flag.
+/// Which entry a copied flag is in.
 #[derive(Clone, Copy, Debug, PartialEq, Eq)]
 pub enum FlagPlace {
     /// The L1 entry at an index.
@@ -25,7 +25,7 @@ pub enum FlagPlace {
     Offset(GuestOffset),
 }
 
-/// A flag `copied` that is wrong. It is set in an entry whose cluster has a counter other than 1: who writes
+/// A copied flag that is wrong. It is set in an entry whose cluster has a counter other than 1: who writes
 /// there in place destroys somebody else's data. Or it isn't set, though the counter is 1: that only costs a
 /// copy.
 #[derive(Clone, Copy, Debug, PartialEq, Eq)]
@@ -209,7 +209,7 @@ impl<'a> Flags<'a> {
     ghost use Rattle.qcow2_base.specs.Storage.{OnImage, OnlyReads};
     ghost use Rattle.qcow2_metadata.specs.Header.{geometry_of};
     ghost use Rattle.qcow2_check.specs.Findings.{IsLaterFault};
-    ghost use Rattle.qcow2_check.specs.Flags.{IsFlagsOf, MovesFlags, PassesFlag, TakesFlag, flags_left, steps_left};
+    ghost use Rattle.qcow2_check.specs.Flags.{IsFlagsOf, MovesFlags, PassesFlag, TakesFlag, flags_left, passes_left};
 
     /// A reader of the wrong flags of the image that these are of, before the first of them.
     pub(crate) fn new(header: &'a Header, l1_table: L1Table, counters: Counters<'a>) -> Flags<'a>
@@ -262,7 +262,7 @@ impl<'a> Flags<'a> {
         requires reader { OnImage (S.state image.old) (λ bytes. IsFlagsOf bytes self.old) }
         ensures flag { OnImage (S.state image.old) (λ bytes.
             PassesFlag (flags_left self.old bytes) (flags_left self.new bytes) result) }
-        ensures further { result ≡ Ok None → steps_left self.new < steps_left self.old }
+        ensures further { result ≡ Ok None → passes_left self.new < passes_left self.old }
         ensures reader { MovesFlags (S.state image.old) self.old self.new }
         ensures fault { IfErr result (IsLaterFault (S.state image.old)) }
         ensures storage { OnlyReads result (S.state image.old) (S.state image.new) }
@@ -281,7 +281,7 @@ impl<'a> Flags<'a> {
         requires reader { OnImage (S.state image.old) (λ bytes. IsFlagsOf bytes self.old) }
         ensures flag { OnImage (S.state image.old) (λ bytes.
             PassesFlag (flags_left self.old bytes) (flags_left self.new bytes) result) }
-        ensures further { result ≡ Ok None → steps_left self.new < steps_left self.old }
+        ensures further { result ≡ Ok None → passes_left self.new < passes_left self.old }
         ensures reader { MovesFlags (S.state image.old) self.old self.new }
         ensures fault { IfErr result IsFromOutside }
         ensures storage { OnlyReads result (S.state image.old) (S.state image.new) }
@@ -310,7 +310,7 @@ impl<'a> Flags<'a> {
         requires reader { OnImage (S.state image.old) (λ bytes. IsFlagsOf bytes self.old) }
         ensures flag { OnImage (S.state image.old) (λ bytes.
             PassesFlag (flags_left self.old bytes) (flags_left self.new bytes) result) }
-        ensures further { result ≡ Ok None → steps_left self.new < steps_left self.old }
+        ensures further { result ≡ Ok None → passes_left self.new < passes_left self.old }
         ensures reader { MovesFlags (S.state image.old) self.old self.new }
         ensures fault { IfErr result (IsLaterFault (S.state image.old)) }
         ensures storage { OnlyReads result (S.state image.old) (S.state image.new) }

@@ -1,6 +1,6 @@
 use Rattle.std.proofs.Common.{◌≡◌, Ok}
 use Rattle.qcow2_base.specs.Storage.{OnImage, OnlyReads}
-use Rattle.qcow2_check.specs.Flags.{MovesFlags, flags_left, steps_left}
+use Rattle.qcow2_check.specs.Flags.{MovesFlags, flags_left, passes_left}
 use Rattle.qcow2_check.proofs.flags.Flags.next.Given as goal
 
 -- all wrong flags are left, and the reader reads the same image
@@ -14,4 +14,4 @@ invariant-loop-self g l =
     }
 
 abbrev pub decreases-loop-self : goal.decreases-loop-self
-decreases-loop-self g l = steps_left l.self
+decreases-loop-self g l = passes_left l.self
