@@ -11,6 +11,7 @@ ghost use Rattle.qcow2_check.specs.Tally.{cell_at, is_shared_cell};
 ghost use Rattle.qcow2_check.specs.Uses.{all_load, image_tables};
 
 use crate::counters::Counters;
+use crate::flags::Flags;
 use crate::named_tables::load_l1_table;
 use crate::tally::{Tally, count_of, is_shared};
 use crate::uses::count_image;
@@ -66,8 +67,8 @@ pub struct Findings<'a> {
 }
 
 impl<'a> Model for Findings<'a> {
-    ghost use Rattle.std.specs.Prelude.{◌≡◌, ◌<◌, ◌≤◌, IfSome, None};
-    ghost use Rattle.qcow2_base.specs.Format.{max_file_length};
+    ghost use Rattle.std.specs.Prelude.{◌≡◌, ◌<◌, ◌≤◌, IfSome, None, length};
+    ghost use Rattle.qcow2_base.specs.Format.{max_file_length, most_l1_entries};
     ghost use Rattle.qcow2_metadata.specs.Header.{geometry_of};
     ghost use Rattle.qcow2_check.specs.Findings.{FindingsState};
 
@@ -82,6 +83,7 @@ impl<'a> Model for Findings<'a> {
     } };
 
     ghost invariant = { λ f. (f.l1_table.geometry ≡ geometry_of f.header.now)
+        × (length f.l1_table.numbers ≤ most_l1_entries)
         × (f.counters.header ≡ f.header.now)
         × (f.position ≤ max_file_length)
         × IfSome f.tally (λ tally. (tally.first ≤ f.position) × (f.position ≤ tally.end)
@@ -151,6 +153,7 @@ impl<'a> Findings<'a> {
     ghost use Rattle.qcow2_base.specs.declared.fault.Fault.TheVariants.{Uncounted};
     ghost use Rattle.qcow2_metadata.specs.Header.{uncounted_part};
     ghost use Rattle.qcow2_check.specs.Findings.{AreRight, GoesPast, IsCheckFault, IsFindingsOf, IsLaterFault, MovesFindings, PassesFinding, TakesFinding, checked_tables, finding_at, findings_left, is_wrong, tables_of};
+    ghost use Rattle.qcow2_check.specs.Flags.{IsFlagsOf, flags_left, image_flags};
 
     /// A reader of the findings of an image with this header, before the first of them. Reads its tables, and
     /// counts the uses of the first clusters.
@@ -209,6 +212,23 @@ impl<'a> Findings<'a> {
             }
         }
         Ok(None)
+    }
+
+    /// A reader of the wrong flags of the same image, before the first of them. It takes over the L1 table
+    /// and the counters. The memory of the uses is given back.
+    pub fn into_flags(self) -> Flags<'a>
+        ensures flags { result ≡ record {
+          header = self.entry.header;
+          l1 = self.entry.l1;
+          counters = self.entry.counters;
+          index = 0;
+          table = None;
+          position = 0;
+        } }
+        ensures left { (image : Image) → flags_left result image ≡ image_flags (tables_of self.entry) image }
+        ensures reader { (image : Image) → IsFindingsOf image self.entry → IsFlagsOf image result }
+    {
+        Flags::new(self.header, self.l1_table, self.counters)
     }
 
     // What is found at a cluster that is counted.
