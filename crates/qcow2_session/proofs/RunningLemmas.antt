@@ -11,7 +11,7 @@ use Rattle.qcow2_session.specs.Commands.Report.{Reports, fault_line}
 use Rattle.qcow2_session.specs.Commands.Running.{FindsHeader, Runs}
 
 -- a command ran with the header that it found
-pub runs-with : {O : Type 0} (facts : CommandFacts) (header : HeaderRecord) (run : Run O) (left : StorageState)
+pub runs-with : {O : Type 0} (facts : CommandFacts) (header : HeaderRecord) (run : Run (Unit {0}) O) (left : StorageState)
     → FindsHeader facts (Ok header) run.old left → facts.Ends header (record run { old = left }) → Runs facts run
 runs-with facts header run left found ends = (Ok header, left, found, ends)
 
@@ -24,7 +24,7 @@ runs-without facts fault contents old new a found = (Err fault, new, found, (ref
 pub ruleset runs = (runs-with, runs-without)
 
 -- what a command prints last, after its header was found
-pub last-with : {O : Type 0} (facts : CommandFacts) (header : HeaderRecord) (run : Run O) (left : StorageState)
+pub last-with : {A O : Type 0} (facts : CommandFacts) (header : HeaderRecord) (run : Run A O) (left : StorageState)
     → FindsHeader facts (Ok header) run.old left → PrintsLast (record run { old = left }) → PrintsLast run
 last-with facts header run left found last = grind (arith, nat_tests)
 

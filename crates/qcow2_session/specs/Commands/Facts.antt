@@ -12,4 +12,4 @@ pub record CommandFacts : Type 1 where
   pub prints_before_faults : Bool
   pub cluster_bits : Option ℕ
   pub place_fault : Option Fault
-  pub Ends : {O : Type 0} → HeaderRecord → Run O → Type 0
+  pub Ends : {O : Type 0} → HeaderRecord → Run (Unit {0}) O → Type 0

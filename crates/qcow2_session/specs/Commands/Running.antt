@@ -24,7 +24,7 @@ FindsHeader facts found old new = by_words facts.cluster_bits
 
 -- a run of a command: its header is found first, whose fault is the answer before anything is printed, and then the
 -- command runs over the image that this left
-abbrev pub Runs : {O : Type 0} → CommandFacts → Run O → Type 0
+abbrev pub Runs : {O : Type 0} → CommandFacts → Run (Unit {0}) O → Type 0
 Runs facts run = (found : Result HeaderRecord Fault) × (left : StorageState)
     × FindsHeader facts found run.old left × MatchResult found
     (λ header. facts.Ends header (record run { old = left }))
@@ -32,7 +32,7 @@ Runs facts run = (found : Result HeaderRecord Fault) × (left : StorageState)
 
 -- a run of a command, and then the flush of its output: the answer is the fault of the run, if it has one. After a run
 -- without a fault only a failed flush is one, the storage fault. The flush changes nothing of what was printed
-abbrev pub RunsAndFlushes : {O : Type 0} → CommandFacts → Run O → Type 0
+abbrev pub RunsAndFlushes : {O : Type 0} → CommandFacts → Run (Unit {0}) O → Type 0
 RunsAndFlushes {O = O} facts run = (ran : Result (Unit {0}) Fault) × (printed : O)
     × Runs facts (record run { answer = ran; after = printed }) × Keeps (run.contents printed) (run.contents run.after)
     × IfErr ran (λ fault. run.answer ≡ Err fault) × OnOk ran (IsOkUnless run.answer Storage)
