@@ -15,5 +15,6 @@ pub mod ReportLemmas
 pub mod RunningLemmas
 pub mod SettledLemmas
 pub mod StepsLemmas
+pub mod VerdictLemmas
 pub mod WholeImageLemmas
 pub mod WordsLemmas

@@ -63,6 +63,7 @@ abbrev pub list_facts : CommandFacts
 list_facts = record {
   changes_image = false;
   prints_before_faults = true;
+  has_verdict = false;
   cluster_bits = None;
   place_fault = None;
   Ends = λ header run.

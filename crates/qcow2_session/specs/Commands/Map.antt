@@ -127,6 +127,7 @@ abbrev pub map_facts : ExtentFormat → CommandFacts
 map_facts format = record {
   changes_image = false;
   prints_before_faults = true;
+  has_verdict = false;
   cluster_bits = None;
   place_fault = None;
   Ends = λ header run.
