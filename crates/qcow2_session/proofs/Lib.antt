@@ -16,5 +16,6 @@ pub mod RunningLemmas
 pub mod RunsLemmas
 pub mod SettledLemmas
 pub mod StepsLemmas
+pub mod VerdictLemmas
 pub mod WholeImageLemmas
 pub mod WordsLemmas

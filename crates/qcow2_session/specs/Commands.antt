@@ -13,6 +13,7 @@ pub mod Map
 pub mod Printing
 pub mod Report
 pub mod Running
+pub mod Verdict
 pub mod Words
 use Rattle.std.specs.Prelude.{if◌then◌else◌, ◌∷◌, Option, None, bytes_eq, codes}
 use Rattle.qcow2_session.specs.Commands.At.{at_command, at_facts}

@@ -19,6 +19,7 @@ mod list;
 mod map;
 mod report;
 mod running;
+mod verdict;
 mod words;
 
 pub use at::print_mapping_at;
@@ -30,6 +31,7 @@ pub use list::list_tables;
 pub use map::{ExtentFormat, print_extents};
 pub use report::report_fault;
 pub use running::{run, run_words};
+pub use verdict::Verdict;
 pub use words::Changes;
 use words::alone;
 
