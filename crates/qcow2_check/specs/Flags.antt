@@ -107,12 +107,13 @@ flags_left reader image = elim reader.table [
       ++ l1_flags reader.header reader.counters.reftable image (reader.index + 1) (drop (reader.index + 1) reader.l1)
 ]
 
--- how many steps a reader needs yet at most: two for each L1 entry, but one for an entry whose table is held
-abbrev pub passes_left : FlagsState → ℕ
-passes_left reader = elim reader.table [
-  | None ↦ 2 * (length reader.l1 - reader.index)
-  | Some table ↦ 2 * (length reader.l1 - reader.index) - 1
-]
+-- how many steps a reader needs yet at most: two for each L1 entry and one for each entry of its table
+abbrev pub steps_left : FlagsState → ℕ
+steps_left reader = let all = (length reader.l1 - reader.index) * (l2_entries reader.header.v2.cluster_bits + 2) in
+    elim reader.table [
+      | None ↦ all
+      | Some table ↦ all - 1 - reader.position
+    ]
 
 -- a reader of flags reads this image: the block that it keeps is the same as there, and all L2 tables can be loaded
 pub record IsFlagsOf (image : Image) (reader : FlagsState) : Type 0 where
