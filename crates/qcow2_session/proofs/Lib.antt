@@ -1,5 +1,6 @@
 mod WholeImageExamples
 pub mod ChangingLemmas
+pub mod CheckLemmas
 pub mod CommandsLemmas
 pub mod EditsLemmas
 pub mod ExtentsLemmas

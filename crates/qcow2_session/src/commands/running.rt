@@ -12,6 +12,7 @@ ghost use Rattle.qcow2_session.specs.declared.commands.verdict.Verdict.TheVarian
 
 use super::Command;
 use super::at::print_mapping_at;
+use super::check::check_image;
 use super::count::count_references;
 use super::edit::edit_entries;
 use super::info::print_info;
@@ -153,6 +154,7 @@ pub fn run<S: Storage, O: Write>(
         Command::At { guest_offset } => {
             fine(print_mapping_at(alloc, image, &header, *guest_offset, out))
         }
+        Command::Check => check_image(alloc, image, &header, out),
         Command::Edit { l1_index, edits } => {
             fine(edit_entries(alloc, image, &header, *l1_index, edits.as_slice(), out))
         }

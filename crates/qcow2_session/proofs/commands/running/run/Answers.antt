@@ -31,6 +31,10 @@ returns-in-At-clause-at_once g c = λ silent.
     last-with (facts_of c.args.command.now) c.in_ok-header.header _ _ c.in_ok-header.ensures
     (rw c.fine-in-At.ensures.answer (fine-PrintsLast c.print_mapping_at.result _ _ _ _ _ c.print_mapping_at.ensures.last))
 
+pub returns-in-Check-clause-runs : goal.returns-in-Check-clause-runs
+returns-in-Check-clause-runs g c = runs-with (facts_of c.args.command.now) c.in_ok-header.header _ _ c.in_ok-header.ensures
+    (rw c.in-Check.is (c.check_image.ensures.prints, c.check_image.ensures.storage))
+
 pub returns-in-Edit-clause-runs : goal.returns-in-Edit-clause-runs
 returns-in-Edit-clause-runs g c = runs-with (facts_of c.args.command.now) c.in_ok-header.header _ _ c.in_ok-header.ensures
     (rw (c.in-Edit.is, c.fine-in-Edit.ensures.answer)
