@@ -1,6 +1,6 @@
 //! Entries whose copied flag isn't what the counter of their cluster says.
 
-ghost use Rattle.std.specs.Prelude.{◌≡◌, ◌+◌, ◌*◌, ◌<◌, false, IfErr, Ok, length, slice_index};
+ghost use Rattle.std.specs.Prelude.{◌≡◌, ◌+◌, ◌*◌, ◌<◌, ◌≤◌, false, IfErr, IfOk, IfSome, Ok, length, slice_index};
 ghost use Rattle.qcow2_base.specs.Format.{most_l1_entries};
 ghost use Rattle.qcow2_base.specs.Storage.{OnImage, OnlyReads};
 ghost use Rattle.qcow2_base.specs.Types.{IsClusterBits};
@@ -26,8 +26,8 @@ pub enum FlagPlace {
 }
 
 /// A copied flag that is wrong. It is set in an entry whose cluster has a counter other than 1: who writes
-/// there in place destroys somebody else's data. Or it isn't set, though the counter is 1: that only costs a
-/// copy.
+/// there in place destroys somebody else's data. Or it isn't set, though the counter is 1 or there is none:
+/// that only costs a copy.
 #[derive(Clone, Copy, Debug, PartialEq, Eq)]
 pub struct WrongFlag {
     pub place: FlagPlace,
@@ -191,6 +191,8 @@ fn next_in_table<S: Storage>(
         TakesFlag (left position.old) (left position.new) result) }
     ensures reader { IsSameButBlock (S.state image.old) counters.old counters.new }
     ensures fault { IfErr result IsFromOutside }
+    ensures further { (position.old ≤ position.new) × IfOk result (λ found. IfSome found (λ flag.
+        (position.old < position.new) × (position.new ≤ length table.now.numbers))) }
     ensures storage { OnlyReads result (S.state image.old) (S.state image.new) }
 {
     while *position < table.entries() {
@@ -204,12 +206,12 @@ fn next_in_table<S: Storage>(
 }
 
 impl<'a> Flags<'a> {
-    ghost use Rattle.std.specs.Prelude.{◌≡◌, ◌<◌, ◌≤◌, Ok, None, IfErr, IsSome, length};
+    ghost use Rattle.std.specs.Prelude.{◌≡◌, ◌<◌, ◌≤◌, None, IfErr, IsSome, length};
     ghost use Rattle.qcow2_base.specs.Format.{most_l1_entries};
     ghost use Rattle.qcow2_base.specs.Storage.{OnImage, OnlyReads};
     ghost use Rattle.qcow2_metadata.specs.Header.{geometry_of};
     ghost use Rattle.qcow2_check.specs.Findings.{IsLaterFault};
-    ghost use Rattle.qcow2_check.specs.Flags.{IsFlagsOf, MovesFlags, PassesFlag, TakesFlag, flags_left, passes_left};
+    ghost use Rattle.qcow2_check.specs.Flags.{GoesFurther, IsFlagsOf, MovesFlags, PassesFlag, StepsFurther, TakesFlag, flags_left};
 
     /// A reader of the wrong flags of the image that these are of, before the first of them.
     pub(crate) fn new(header: &'a Header, l1_table: L1Table, counters: Counters<'a>) -> Flags<'a>
@@ -243,7 +245,7 @@ impl<'a> Flags<'a> {
         requires { OnImage (S.state image.old) (λ bytes. IsFlagsOf bytes self.old) }
         ensures flag { OnImage (S.state image.old) (λ bytes.
             TakesFlag (flags_left self.old bytes) (flags_left self.new bytes) result) }
-        ensures end { result ≡ Ok None → self.new.index ≡ length self.new.l1 }
+        ensures further { GoesFurther result self.old self.new }
         ensures reader { MovesFlags (S.state image.old) self.old self.new }
         ensures fault { IfErr result (IsLaterFault (S.state image.old)) }
         ensures storage { OnlyReads result (S.state image.old) (S.state image.new) }
@@ -262,7 +264,7 @@ impl<'a> Flags<'a> {
         requires reader { OnImage (S.state image.old) (λ bytes. IsFlagsOf bytes self.old) }
         ensures flag { OnImage (S.state image.old) (λ bytes.
             PassesFlag (flags_left self.old bytes) (flags_left self.new bytes) result) }
-        ensures further { result ≡ Ok None → passes_left self.new < passes_left self.old }
+        ensures further { StepsFurther result self.old self.new }
         ensures reader { MovesFlags (S.state image.old) self.old self.new }
         ensures fault { IfErr result (IsLaterFault (S.state image.old)) }
         ensures storage { OnlyReads result (S.state image.old) (S.state image.new) }
@@ -281,7 +283,7 @@ impl<'a> Flags<'a> {
         requires reader { OnImage (S.state image.old) (λ bytes. IsFlagsOf bytes self.old) }
         ensures flag { OnImage (S.state image.old) (λ bytes.
             PassesFlag (flags_left self.old bytes) (flags_left self.new bytes) result) }
-        ensures further { result ≡ Ok None → passes_left self.new < passes_left self.old }
+        ensures further { StepsFurther result self.old self.new }
         ensures reader { MovesFlags (S.state image.old) self.old self.new }
         ensures fault { IfErr result IsFromOutside }
         ensures storage { OnlyReads result (S.state image.old) (S.state image.new) }
@@ -310,7 +312,7 @@ impl<'a> Flags<'a> {
         requires reader { OnImage (S.state image.old) (λ bytes. IsFlagsOf bytes self.old) }
         ensures flag { OnImage (S.state image.old) (λ bytes.
             PassesFlag (flags_left self.old bytes) (flags_left self.new bytes) result) }
-        ensures further { result ≡ Ok None → passes_left self.new < passes_left self.old }
+        ensures further { StepsFurther result self.old self.new }
         ensures reader { MovesFlags (S.state image.old) self.old self.new }
         ensures fault { IfErr result (IsLaterFault (S.state image.old)) }
         ensures storage { OnlyReads result (S.state image.old) (S.state image.new) }

@@ -1,4 +1,4 @@
-use Rattle.std.proofs.Common.{◌≡◌, ◌-◌, length, Ok}
+use Rattle.std.proofs.Common.{◌≡◌, ◌-◌, ◌≤◌, length, Ok}
 use Rattle.qcow2_base.specs.Storage.{OnImage, OnlyReads}
 use Rattle.qcow2_check.specs.Counters.{IsSameButBlock}
 use Rattle.qcow2_check.specs.Flags.{l2_flags_from}
@@ -12,6 +12,7 @@ invariant-loop-position g l =
       left : OnImage old (λ bytes.
           l2_flags_from l.fn.counters.header l.fn.counters.reftable bytes l.l1_index l.table.numbers l.fn.position
           ≡ l2_flags_from l.fn.counters.header l.fn.counters.reftable bytes l.l1_index l.table.numbers l.position);
+      further : l.fn.position ≤ l.position;
       reader : IsSameButBlock old l.fn.counters l.counters;
       storage : OnlyReads (Ok l.position) old (g.S.Storage.state l.image);
     }
