@@ -1,5 +1,5 @@
 -- Which entries of an image say wrongly that they are the only one to refer to a cluster, or don't say it?
-use Rattle.std.specs.Prelude.{◌≡◌, ℕ, Bool, true, not, ◌==◌, ◌+◌, ◌-◌, ◌*◌, ◌/◌, ◌^◌, if◌then◌else◌, List, [], ◌∷◌, ◌++◌, drop, length, Option, Some, None, option_map, option_to_list, Result, Ok, Err}
+use Rattle.std.specs.Prelude.{◌≡◌, ℕ, Bool, true, not, ◌==◌, ◌+◌, ◌-◌, ◌*◌, ◌/◌, ◌^◌, ◌<◌, ◌≤◌, if◌then◌else◌, List, [], ◌∷◌, ◌++◌, drop, length, Option, Some, None, option_map, option_to_list, Result, Ok, Err}
 use Rattle.qcow2_base.specs.Storage.{Image, OnImage, StorageState}
 use Rattle.qcow2_base.specs.declared.fault.Fault.{Fault}
 use Rattle.qcow2_base.specs.declared.types.HostCluster.{HostCluster}
@@ -107,13 +107,12 @@ flags_left reader image = elim reader.table [
       ++ l1_flags reader.header reader.counters.reftable image (reader.index + 1) (drop (reader.index + 1) reader.l1)
 ]
 
--- how many steps a reader needs yet at most: two for each L1 entry and one for each entry of its table
-abbrev pub steps_left : FlagsState → ℕ
-steps_left reader = let all = (length reader.l1 - reader.index) * (l2_entries reader.header.v2.cluster_bits + 2) in
-    elim reader.table [
-      | None ↦ all
-      | Some table ↦ all - 1 - reader.position
-    ]
+-- how many steps a reader needs yet at most: for each L1 entry one to its L2 table, one for each entry there, and one past it
+abbrev pub flag_steps : FlagsState → ℕ
+flag_steps reader = let each = l2_entries reader.header.v2.cluster_bits + 2 in elim reader.table [
+  | None ↦ (length reader.l1 - reader.index) * each
+  | Some table ↦ (length reader.l1 - (reader.index + 1)) * each + (length table.numbers - reader.position + 1)
+]
 
 -- a reader of flags reads this image: the block that it keeps is the same as there, and all L2 tables can be loaded
 pub record IsFlagsOf (image : Image) (reader : FlagsState) : Type 0 where
@@ -124,6 +123,17 @@ pub record IsFlagsOf (image : Image) (reader : FlagsState) : Type 0 where
 pub record MovesFlags (image : StorageState) (old new : FlagsState) : Type 0 where
   pub tables : flag_tables new ≡ flag_tables old
   pub kept : OnImage image (λ bytes. IsFlagsOf bytes new)
+
+-- how far a reader of flags goes: it needs fewer steps after it has returned one, and none after it has returned nothing
+abbrev pub GoesFurther : Result (Option WrongFlag) Fault → FlagsState → FlagsState → Type 0
+GoesFurther (Ok None) old new = flag_steps new ≡ 0
+GoesFurther (Ok (Some flag)) old new = flag_steps new < flag_steps old
+GoesFurther (Err fault) old new = flag_steps new ≤ flag_steps old
+
+-- and by one step: it needs fewer after any answer but a fault
+abbrev pub StepsFurther : Result (Option WrongFlag) Fault → FlagsState → FlagsState → Type 0
+StepsFurther (Ok found) old new = flag_steps new < flag_steps old
+StepsFurther (Err fault) old new = flag_steps new ≤ flag_steps old
 
 -- what a reader of flags returns: the first of those that are left, or nothing where none is. After a fault all are left
 abbrev pub TakesFlag : List WrongFlag → List WrongFlag → Result (Option WrongFlag) Fault → Type 0

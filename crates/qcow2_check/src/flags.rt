@@ -26,8 +26,8 @@ pub enum FlagPlace {
 }
 
 /// A copied flag that is wrong. It is set in an entry whose cluster has a counter other than 1: who writes
-/// there in place destroys somebody else's data. Or it isn't set, though the counter is 1: that only costs a
-/// copy.
+/// there in place destroys somebody else's data. Or it isn't set, though the counter is 1 or there is none:
+/// that only costs a copy.
 #[derive(Clone, Copy, Debug, PartialEq, Eq)]
 pub struct WrongFlag {
     pub place: FlagPlace,
@@ -75,7 +75,7 @@ impl<'a> Model for Flags<'a> {
         × (f.index ≤ length f.l1_table.numbers)
         × IfSome f.table (λ table. (table.geometry ≡ geometry_of f.header.now)
         × (length table.numbers ≡ l2_entries table.geometry.cluster_bits)
-        × (f.position ≤ length table.numbers) × (f.index < length f.l1_table.numbers)) };
+        × (f.index < length f.l1_table.numbers)) };
 }
 
 // The flag of the entry at a place, where it is wrong by the counter of the cluster that the entry names.
@@ -184,16 +184,15 @@ fn next_in_table<S: Storage>(
     requires table { (table.now.geometry ≡ geometry_of counters.old.header)
         × (length table.now.numbers ≡ l2_entries table.now.geometry.cluster_bits) }
     requires l1_index { l1_index < most_l1_entries }
-    requires position { position.old ≤ length table.now.numbers }
     requires reader { OnImage (S.state image.old) (λ bytes.
         IsKeptBlockOf counters.old.header bytes counters.old.block) }
     ensures flag { OnImage (S.state image.old) (λ bytes.
         let left = l2_flags_from counters.old.header counters.old.reftable bytes l1_index table.now.numbers in
         TakesFlag (left position.old) (left position.new) result) }
-    ensures further { (position.old ≤ position.new) × (position.new ≤ length table.now.numbers)
-        × IfOk result (λ found. IfSome found (λ _. position.old < position.new)) }
     ensures reader { IsSameButBlock (S.state image.old) counters.old counters.new }
     ensures fault { IfErr result IsFromOutside }
+    ensures further { (position.old ≤ position.new) × IfOk result (λ found. IfSome found (λ flag.
+        (position.old < position.new) × (position.new ≤ length table.now.numbers))) }
     ensures storage { OnlyReads result (S.state image.old) (S.state image.new) }
 {
     while *position < table.entries() {
@@ -207,12 +206,12 @@ fn next_in_table<S: Storage>(
 }
 
 impl<'a> Flags<'a> {
-    ghost use Rattle.std.specs.Prelude.{◌≡◌, ◌<◌, ◌≤◌, None, IfErr, IfOk, IfSome, IsSome, OnOk, length};
+    ghost use Rattle.std.specs.Prelude.{◌≡◌, ◌<◌, ◌≤◌, None, IfErr, IsSome, length};
     ghost use Rattle.qcow2_base.specs.Format.{most_l1_entries};
     ghost use Rattle.qcow2_base.specs.Storage.{OnImage, OnlyReads};
     ghost use Rattle.qcow2_metadata.specs.Header.{geometry_of};
     ghost use Rattle.qcow2_check.specs.Findings.{IsLaterFault};
-    ghost use Rattle.qcow2_check.specs.Flags.{IsFlagsOf, MovesFlags, PassesFlag, TakesFlag, flags_left, steps_left};
+    ghost use Rattle.qcow2_check.specs.Flags.{GoesFurther, IsFlagsOf, MovesFlags, PassesFlag, StepsFurther, TakesFlag, flags_left};
 
     /// A reader of the wrong flags of the image that these are of, before the first of them.
     pub(crate) fn new(header: &'a Header, l1_table: L1Table, counters: Counters<'a>) -> Flags<'a>
@@ -246,7 +245,7 @@ impl<'a> Flags<'a> {
         requires { OnImage (S.state image.old) (λ bytes. IsFlagsOf bytes self.old) }
         ensures flag { OnImage (S.state image.old) (λ bytes.
             TakesFlag (flags_left self.old bytes) (flags_left self.new bytes) result) }
-        ensures further { IfOk result (λ found. IfSome found (λ _. steps_left self.new < steps_left self.old)) }
+        ensures further { GoesFurther result self.old self.new }
         ensures reader { MovesFlags (S.state image.old) self.old self.new }
         ensures fault { IfErr result (IsLaterFault (S.state image.old)) }
         ensures storage { OnlyReads result (S.state image.old) (S.state image.new) }
@@ -265,7 +264,7 @@ impl<'a> Flags<'a> {
         requires reader { OnImage (S.state image.old) (λ bytes. IsFlagsOf bytes self.old) }
         ensures flag { OnImage (S.state image.old) (λ bytes.
             PassesFlag (flags_left self.old bytes) (flags_left self.new bytes) result) }
-        ensures further { OnOk result (steps_left self.new < steps_left self.old) }
+        ensures further { StepsFurther result self.old self.new }
         ensures reader { MovesFlags (S.state image.old) self.old self.new }
         ensures fault { IfErr result (IsLaterFault (S.state image.old)) }
         ensures storage { OnlyReads result (S.state image.old) (S.state image.new) }
@@ -284,7 +283,7 @@ impl<'a> Flags<'a> {
         requires reader { OnImage (S.state image.old) (λ bytes. IsFlagsOf bytes self.old) }
         ensures flag { OnImage (S.state image.old) (λ bytes.
             PassesFlag (flags_left self.old bytes) (flags_left self.new bytes) result) }
-        ensures further { OnOk result (steps_left self.new < steps_left self.old) }
+        ensures further { StepsFurther result self.old self.new }
         ensures reader { MovesFlags (S.state image.old) self.old self.new }
         ensures fault { IfErr result IsFromOutside }
         ensures storage { OnlyReads result (S.state image.old) (S.state image.new) }
@@ -313,7 +312,7 @@ impl<'a> Flags<'a> {
         requires reader { OnImage (S.state image.old) (λ bytes. IsFlagsOf bytes self.old) }
         ensures flag { OnImage (S.state image.old) (λ bytes.
             PassesFlag (flags_left self.old bytes) (flags_left self.new bytes) result) }
-        ensures further { OnOk result (steps_left self.new < steps_left self.old) }
+        ensures further { StepsFurther result self.old self.new }
         ensures reader { MovesFlags (S.state image.old) self.old self.new }
         ensures fault { IfErr result (IsLaterFault (S.state image.old)) }
         ensures storage { OnlyReads result (S.state image.old) (S.state image.new) }

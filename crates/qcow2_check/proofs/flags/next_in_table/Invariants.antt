@@ -12,7 +12,7 @@ invariant-loop-position g l =
       left : OnImage old (λ bytes.
           l2_flags_from l.fn.counters.header l.fn.counters.reftable bytes l.l1_index l.table.numbers l.fn.position
           ≡ l2_flags_from l.fn.counters.header l.fn.counters.reftable bytes l.l1_index l.table.numbers l.position);
-      further : (l.fn.position ≤ l.position) × (l.position ≤ length l.table.numbers);
+      further : l.fn.position ≤ l.position;
       reader : IsSameButBlock old l.fn.counters l.counters;
       storage : OnlyReads (Ok l.position) old (g.S.Storage.state l.image);
     }

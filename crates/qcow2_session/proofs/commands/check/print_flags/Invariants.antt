@@ -1,7 +1,7 @@
 use Rattle.std.proofs.Common.{◌≡◌, ◌++◌, ℕ, List, Ok, flat_map}
 use Rattle.std.specs.Io.KnownBytes.{Appends}
 use Rattle.qcow2_base.specs.Storage.{OnImage, OnlyReads}
-use Rattle.qcow2_check.specs.Flags.{IsFlagsOf, MovesFlags, flags_left, steps_left}
+use Rattle.qcow2_check.specs.Flags.{IsFlagsOf, MovesFlags, flags_left, flag_steps}
 use Rattle.qcow2_check.specs.declared.flags.WrongFlag.{WrongFlag}
 use Rattle.qcow2_session.specs.Commands.Check.Lines.{flag_line}
 use Rattle.qcow2_session.specs.Commands.Check.Totals.{with_flags}
@@ -22,4 +22,4 @@ invariant-loop-flag g l =
     }
 
 abbrev pub decreases-loop-flag : goal.decreases-loop-flag
-decreases-loop-flag g l = steps_left l.flags
+decreases-loop-flag g l = flag_steps l.flags
