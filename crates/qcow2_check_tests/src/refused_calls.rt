@@ -1,6 +1,8 @@
 //! What a refused call of the storage leaves of a check.
 
-use crate::sample_image::{L1_TABLE, L2_TABLE, Numbers, findings_of, flags_of, sample_image};
+use crate::sample_image::{
+    COPIED, L1_TABLE, L2_TABLE, Numbers, REFTABLE, findings_of, flags_of, sample_image,
+};
 use qcow2_base::Fault;
 use qcow2_testing::{recorded, same, same_bytes};
 use std::test::Fail;
@@ -8,8 +10,14 @@ use std::test::Fail;
 // More calls of the storage than a check of the sample image makes.
 const MOST_CALLS: u64 = 64;
 
-// A second L2 table, whose last entry has a wrong flag.
-const TWO_TABLES: Numbers<'static> = &[(L1_TABLE + 8, 3072), (3072 + 504, L2_TABLE)];
+// A second L2 table and a second block, and entries with wrong flags whose clusters are of both blocks.
+const TWO_TABLES: Numbers<'static> = &[
+    (L1_TABLE + 8, 3072),
+    (3072 + 504, L2_TABLE),
+    (REFTABLE + 8, 3584),
+    (3584, 0),
+    (L2_TABLE + 32, COPIED | 300 << 9),
+];
 
 #[test]
 fn each_refused_read_is_the_storage_fault_and_changes_nothing(rt: HostRuntime) -> Result<(), Fail> {
