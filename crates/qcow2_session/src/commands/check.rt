@@ -3,13 +3,13 @@
 ghost use Rattle.std.specs.Prelude.{◌≡◌, IfOk, IsErrOf, flat_map};
 ghost use Rattle.qcow2_base.specs.Storage.{OnImage, ReadsFor};
 ghost use Rattle.qcow2_base.specs.declared.fault.Fault.TheVariants.{Storage as StorageFailed};
-ghost use Rattle.qcow2_check.specs.Findings.{IsFindingsOf, MovesFindings};
+ghost use Rattle.qcow2_check.specs.Findings.{IsFindingsOf, MovesFindings, tables_of};
 ghost use Rattle.qcow2_check.specs.Flags.{IsFlagsOf, flags_left};
-ghost use Rattle.qcow2_session.specs.Commands.Check.{PrintsLines, PrintsReport, checked_report};
-ghost use Rattle.qcow2_session.specs.Commands.Check.Lines.{flag_line, run_lines};
+ghost use Rattle.qcow2_session.specs.Commands.Check.{PrintsLines, PrintsReport, checked_report, report_on};
+ghost use Rattle.qcow2_session.specs.Commands.Check.Lines.{flag_line, run_lines, totals_line};
 ghost use Rattle.qcow2_session.specs.Commands.Check.Runs.{runs_left};
-ghost use Rattle.qcow2_session.specs.Commands.Check.Totals.{run_totals, with_flags};
-ghost use Rattle.qcow2_session.specs.Commands.Printing.{run_over};
+ghost use Rattle.qcow2_session.specs.Commands.Check.Totals.{run_totals, verdict_of, with_flags};
+ghost use Rattle.qcow2_session.specs.Commands.Printing.{PrintsText, run_over};
 
 use crate::Verdict;
 use crate::lines::{ToLine, print};
@@ -42,10 +42,36 @@ pub fn check_image<S: Storage, O: Write>(
         (checked_report header.now) }
     ensures storage { ReadsFor (IsErrOf result StorageFailed) (S.state image.old) (S.state image.new) }
 {
-    let mut runs = FindingRuns::new(Findings::new(alloc, image, header)?);
+    let findings = Findings::new(alloc, image, header)?;
+    print_report(findings, image, out)
+}
+
+// Prints the report on the image that a reader is at the begin of, and returns its verdict.
+fn print_report<S: Storage, O: Write>(
+    findings: Findings<'_>,
+    image: &mut S,
+    out: &mut O,
+) -> Result<Verdict, Fault>
+    requires reader { OnImage (S.state image.old) (λ bytes. IsFindingsOf bytes findings) }
+    requires begun { findings.position ≡ 0 }
+    ensures prints { PrintsLines (run_over S.state O.contents result image.old image.new out.old out.new)
+        (λ bytes. (report_on (tables_of findings.entry) bytes).lines) }
+    ensures verdict { IfOk result (λ verdict. OnImage (S.state image.old) (λ bytes.
+        verdict ≡ (report_on (tables_of findings.entry) bytes).verdict)) }
+    ensures storage { ReadsFor (IsErrOf result StorageFailed) (S.state image.old) (S.state image.new) }
+{
+    let mut runs = FindingRuns::new(findings);
     let totals = print_runs(&mut runs, image, out)?;
     let mut flags = runs.into_findings().into_flags();
     let totals = print_flags(&mut flags, image, totals, out)?;
+    print_totals(&totals, out)
+}
+
+// Prints the last line of a check, and returns the verdict that its totals come to.
+fn print_totals<O: Write>(totals: &Totals, out: &mut O) -> Result<Verdict, Fault>
+    ensures text { PrintsText result (O.contents out.old) (O.contents out.new) (totals_line totals.now) }
+    ensures verdict { IfOk result (λ verdict. verdict ≡ verdict_of totals.now) }
+{
     print(totals.line().as_bytes(), out)?;
     Ok(totals.verdict())
 }
