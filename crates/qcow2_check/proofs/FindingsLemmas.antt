@@ -1,6 +1,8 @@
-use Rattle.std.proofs.Common.{◌≡◌, ◌↔◌, ℕ, false, ◌==◌, ◌+◌, ◌/◌, ◌%◌, ◌<◌, ◌≤◌, ◌&&◌, List, [], ◌∷◌, fold, Some, None, Result, Ok, Err, refl, sym, ap, subst, inl, inr, ◌∙◌, slice_index, ◌-◌, div-add-mod', IsSomeAnd, Option, arith}
+use Rattle.std.proofs.Common.{◌≡◌, ◌↔◌, ℕ, false, ◌==◌, ◌+◌, ◌/◌, ◌%◌, ◌<◌, ◌≤◌, ◌&&◌, List, [], ◌∷◌, fold, Some, None, Result, Ok, Err, refl, sym, ap, subst, inl, inr, ◌∙◌, length, slice_index, slice_set, ◌-◌, div-add-mod', IsSomeAnd, Option, arith}
 use Rattle.std.proofs.lemmas.Bool.{cases_lt}
 use Rattle.std.proofs.lemmas.Bool.Decides.{nat_tests}
+use Rattle.std.proofs.lemmas.Grind.{get_or-set_at}
+use Rattle.std.proofs.lemmas.List.{get_or-set_other}
 use Rattle.std.proofs.lemmas.List.Sums.{sum_by-cons}
 use Rattle.qcow2_base.specs.Storage.{Image, OnImage, OnlyReads, StorageState}
 use Rattle.qcow2_base.specs.declared.fault.Fault.{Fault}
@@ -16,7 +18,7 @@ use Rattle.std.proofs.lemmas.Nat.{pow_pos}
 use Rattle.qcow2_metadata.specs.Entries.{is_among}
 use Rattle.qcow2_metadata.specs.Table.L2Guards.{one_if}
 use Rattle.qcow2_check.specs.Findings.{AreRight, CountsAll, FindingsState, IsCheckFault, MovesFindings, PassesFinding, checked_tables, IsFindingsOf, finding_at, is_shared, is_wrong, tables_of, uses_of_kind}
-use Rattle.qcow2_check.specs.Tally.{CountsMore, TallyState, ClusterUse, cell_at, cell_with, is_shared_cell, mark_of, with_use}
+use Rattle.qcow2_check.specs.Tally.{CountsMore, IsPlain, TallyState, ClusterUse, cell_at, cell_with, is_shared_cell, mark_of, with_use}
 use Rattle.qcow2_check.specs.Uses.{ImageTables, all_load, image_uses, uses_of}
 use Rattle.qcow2_check.specs.declared.findings.Finding.{Finding}
 use Rattle.qcow2_check.specs.declared.tally.UseKind.{UseKind}
@@ -250,3 +252,41 @@ right_in_kept reader tally block image from count has kept place is first end fi
         → AreRight (tables_of reader) image from (from + count)
     by_place None same place = elim place [ ]
     by_place (Some b) same place = right_in_block reader tally block b image from count has kept same place is first end fits right
+
+-- nothing is wrong with a cluster whose uses are all by guest data, and as many as its counter says
+pub plain_is_right : (cell counter : ℕ) → IsPlain cell counter → (counter ≡ cell / 8) × (is_shared_cell cell ≡ false)
+plain_is_right cell counter plain = (sym plain.0, grind (arith, nat_tests, plain.1))
+
+-- nothing is wrong with the cluster that lies k after a first, by its counter, which lies k after an index, and by its cell
+abbrev pub IsRightAt : List ℕ → TallyState → ℕ → ℕ → ℕ → Type 0
+IsRightAt numbers tally index first k =
+    (slice_index numbers (index + k) ≡ cell_at tally (first + k) / 8) × (is_shared_cell (cell_at tally (first + k)) ≡ false)
+
+-- that holds of all before one and of those of a chunk from it on, so it does of all before the chunk's end
+pub right_chunk : (numbers counters : List ℕ) (tally : TallyState) (index first start count : ℕ)
+    → ((k : ℕ) → k < start → IsRightAt numbers tally index first k)
+    → ((j : ℕ) → j < count → IsPlain (cell_at tally (first + start + j)) (slice_index counters j))
+    → ((j : ℕ) → j < count → slice_index counters j ≡ slice_index numbers (index + start + j))
+    → (k : ℕ) → k < start + count → IsRightAt numbers tally index first k
+right_chunk numbers counters tally index first start count before plain copied k below = elim (cases_lt k start) [
+  | inl less ↦ before k less
+  | inr more ↦
+      let j = k - start in
+      let within : j < count = omega (arith, below, more) in
+      let cluster : first + start + j ≡ first + k = omega (arith, more) in
+      let place : index + start + j ≡ index + k = omega (arith, more) in
+      let here : IsPlain (cell_at tally (first + k)) (slice_index counters j) = rw cluster at (plain j within) in
+      let same : slice_index counters j ≡ slice_index numbers (index + k) = rw place at (copied j within) in
+      let right = plain_is_right _ _ here in
+      (sym same ∙ right.0, right.1)
+]
+
+-- numbers that are copied one by one
+pub copied_next : (f : ℕ → ℕ) (xs : List ℕ) (n v : ℕ) → n < length xs → ((k : ℕ) → k < n → slice_index xs k ≡ f k) → v ≡ f n
+    → (k : ℕ) → k < n + 1 → slice_index (slice_set xs n v) k ≡ f k
+copied_next f xs n v within before here k below = elim (cases_lt k n) [
+  | inl less ↦ get_or-set_other xs n k v 0 (λ same. omega (arith, less, same)) ∙ before k less
+  | inr more ↦
+      let same : k ≡ n = omega (arith, below, more) in
+      get_or-set_at xs n k v 0 same within ∙ here ∙ ap f (sym same)
+]

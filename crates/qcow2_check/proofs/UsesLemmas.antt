@@ -1,16 +1,22 @@
-use Rattle.std.proofs.Common.{◌≡◌, ℕ, true, zero, suc, ◌+◌, ◌<◌, List, [], ◌∷◌, ◌++◌, flat_map, take, length, get_or, slice_index, Result, Ok, Err, OnOk, ap, refl, arith}
+use Rattle.std.proofs.Common.{◌≡◌, ℕ, true, false, zero, suc, ◌+◌, ◌-◌, ◌*◌, ◌/◌, ◌%◌, ◌^◌, ◌<◌, ◌≤◌, List, [], ◌∷◌, ◌++◌, flat_map, take, length, get_or, slice_index, Some, None, Result, Ok, Err, OnOk, add-zero, div-add-mod', ap, refl, arith}
 use Rattle.std.proofs.lemmas.List.{append-nil}
+use Rattle.std.proofs.lemmas.Bool.Decides.{nat_tests}
+use Rattle.std.proofs.lemmas.Nat.{div-mul-add, pow_pos}
+use Rattle.qcow2_base.specs.declared.types.HostOffset.{HostOffset}
+use Rattle.qcow2_metadata.specs.Entries.{offset_field}
+use Rattle.qcow2_metadata.specs.Entries.L2Entry.{host_offset, is_compressed, l2_fault}
 use native.Mathlib.Numerals.{unary_clauses}
 use Rattle.std.proofs.Math.Seq.{take-suc}
 use Rattle.std.proofs.lemmas.Grind.{flat_map-append}
 use Rattle.qcow2_base.specs.Storage.{Image, OnImage, OnlyReads, StorageState}
 use Rattle.qcow2_base.specs.declared.fault.Fault.{Fault}
-use Rattle.qcow2_metadata.specs.Header.{Geometry}
+use Rattle.qcow2_metadata.specs.Header.{Geometry, geometry}
 use Rattle.qcow2_metadata.specs.Results.{Reads, and_then}
 use Rattle.qcow2_metadata.specs.Table.{IsEntryFault}
 use Rattle.qcow2_check.proofs.TallyLemmas.{counts_then}
-use Rattle.qcow2_check.specs.Tally.{CountsMore, TallyState, ClusterUse}
+use Rattle.qcow2_check.specs.Tally.{CountsMore, TallyState, ClusterUse, used_clusters}
 use Rattle.qcow2_check.specs.Uses.{all_load, entry_uses, l1_entry_loads, l1_entry_uses}
+use Rattle.qcow2_check.specs.declared.tally.UseKind.TheVariants.{Guest}
 
 -- the tables of L1 entries and of one more can be loaded just where those of both can
 pub all_load_more : (g : Geometry) (image : Image) (vs : List ℕ) (v : ℕ)
@@ -100,3 +106,39 @@ pub counts_entry : {X : Type 0} (f : X → List ClusterUse) (xs : List X) (i : �
     → CountsMore (flat_map f (take i xs)) a b → CountsMore (f (get_or xs i d)) b c → CountsMore (flat_map f (take (i + 1) xs)) a c
 counts_entry f xs i d a b c below one other =
     rw (uses_more f xs i d below) (counts_then (flat_map f (take i xs)) (f (get_or xs i d)) a b c one other)
+
+-- a range of one cluster's length that begins with a cluster ends with it
+one_cluster : (cb offset : ℕ) → offset % 2 ^ cb ≡ 0 → (offset + 2 ^ cb - 1) / 2 ^ cb ≡ offset / 2 ^ cb
+one_cluster cb offset whole =
+    let w = 2 ^ cb in
+    let q = offset / w in
+    let some : 0 < w = pow_pos _ in
+    let parts : q * w + offset % w ≡ offset = div-add-mod' offset w in
+    let sum : offset + w - 1 ≡ q * w + (w - 1) = omega (arith, parts, whole, some) in
+    rw sum (div-mul-add q w (w - 1) (omega (arith, some)))
+
+standard_aligned : (cb v : ℕ) → is_compressed v ≡ false → l2_fault cb v ≡ None → offset_field v % 2 ^ cb ≡ 0
+standard_aligned cb v standard valid = grind (arith, nat_tests, standard, valid)
+
+-- a standard entry uses the cluster that it refers to, or none
+pub standard_uses : (cb v : ℕ) (offset : HostOffset) → is_compressed v ≡ false → l2_fault cb v ≡ None → host_offset false v ≡ Some offset
+    → entry_uses (geometry cb false) v ≡ used_clusters Guest (record { 0 = offset.0 / 2 ^ cb }) 1 ∷ []
+standard_uses cb v offset standard valid refers =
+    grind (arith, nat_tests, standard, refers, one_cluster cb (offset_field v) (standard_aligned cb v standard valid))
+
+pub standard_without : (cb v : ℕ) → is_compressed v ≡ false → host_offset false v ≡ None → entry_uses (geometry cb false) v ≡ []
+standard_without cb v standard refers = grind (arith, nat_tests, standard, refers)
+
+-- the entry 0 uses none
+pub unallocated_uses : (g : Geometry) → g.external_data_file ≡ false → entry_uses g 0 ≡ []
+unallocated_uses g inside = rw inside refl
+
+-- and so entries 0 add none to those before them
+pub unallocated_more : (f : ℕ → List ClusterUse) (numbers : List ℕ) (i k : ℕ) → f 0 ≡ [] → i + k ≤ length numbers
+    → ((j : ℕ) → j < k → slice_index numbers (i + j) ≡ 0) → flat_map f (take (i + k) numbers) ≡ flat_map f (take i numbers)
+unallocated_more f numbers i zero none within zeros = rw (add-zero i) refl
+unallocated_more f numbers i (suc k) none within zeros =
+    let sum : i + suc k ≡ i + k + 1 = omega arith in
+    let last : get_or numbers (i + k) 0 ≡ 0 = zeros k (omega arith) in
+    rw (sum, uses_more f numbers (i + k) 0 (omega (arith, within)), last, none, append-nil (flat_map f (take (i + k) numbers)))
+    (unallocated_more f numbers i k none (omega (arith, within)) (λ j below. zeros j (omega (arith, below))))

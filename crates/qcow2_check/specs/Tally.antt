@@ -1,4 +1,5 @@
 -- How are the uses of clusters counted, in memory of a bounded size?
+pub mod Cells
 use Rattle.std.specs.Prelude.{◌≡◌, ℕ, Bool, ◌==◌, ◌&&◌, ◌||◌, ◌+◌, ◌-◌, ◌/◌, ◌%◌, ◌<◌, ◌≤◌, nat_lt, if◌then◌else◌, List, length, slice_index, Option, IsSome, unwrap_or}
 use Rattle.std.specs.Ordering.{nat_cmp}
 use Rattle.std.specs.BTreeMap.{is_at}
@@ -79,3 +80,7 @@ has_mark kind cell = cell / mark_of kind % 2 == 1
 abbrev pub is_shared_cell : ℕ → Bool
 is_shared_cell cell = (has_mark Fixed cell && nat_lt 1 (cell / 8))
     || (has_mark L2Table cell && (has_mark Fixed cell || has_mark Guest cell))
+
+-- a cell counts as many uses as a counter says, all of them by guest data
+abbrev pub IsPlain : ℕ → ℕ → Type 0
+IsPlain cell counter = (cell / 8 ≡ counter) × (cell % 4 ≡ 0)

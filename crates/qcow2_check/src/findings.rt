@@ -14,19 +14,49 @@ use crate::counters::Counters;
 use crate::flags::Flags;
 use crate::named_tables::load_l1_table;
 use crate::tally::{Tally, count_of, is_shared};
-use crate::uses::count_image;
+use crate::uses::{count_image, most_uses};
 use qcow2_base::{Fault, HostCluster, MAX_FILE_LENGTH, Storage};
 use qcow2_metadata::{Header, L1Table, RefBlock, RefTable, Table};
 use std::alloc::Global;
 use std::marker::Model;
 
-// The fewest cells that lie one after another, and the most, which take 64 MiB.
+// The fewest cells that lie one after another.
 const FEW_CELLS: usize = 4096;
 
-const MOST_DENSE: usize = 1 << 23;
+// How many bytes they take at most. Narrow ones are enough for 1 TiB in clusters of 64 KiB, and its tables.
+const MOST_BYTES: usize = 68 << 20;
+
+// How many clusters are compared together.
+const TOGETHER: usize = 64;
 
 // How many other cells there are at most.
 const MOST_SPARSE: usize = 1 << 20;
+
+// How many uses of a cluster fit no narrow cell.
+const MANY_USES: u64 = 1 << 29;
+
+// Clusters whose uses are counted at once: `dense` of them from the first on, whose cells lie one after
+// another, and at most `most` others. The cells are wide or narrow.
+#[derive(Clone, Copy)]
+struct Window {
+    first: u64,
+    dense: usize,
+    most: usize,
+    is_wide: bool,
+}
+
+// How many cells lie one after another in a window, by how many clusters from it on the blocks count.
+fn dense_cells(counted: u64, is_wide: bool) -> usize
+    ensures some { 0 < result }
+    ensures few { result ≤ 2 ^ 25 }
+{
+    let most = if is_wide {
+        MOST_BYTES / 8
+    } else {
+        MOST_BYTES / 4
+    };
+    counted.clamp(FEW_CELLS as u64, most as u64) as usize
+}
 
 /// What is wrong with a cluster.
 #[derive(Clone, Copy, Debug, PartialEq, Eq)]
@@ -62,6 +92,7 @@ pub struct Findings<'a> {
     position: u64,
     // How many clusters the refcount blocks count, up to the last.
     counted: u64,
+    is_wide: bool,
     // Whether some cells didn't lie one after another for a window of few clusters that have uses.
     is_sparse: bool,
 }
@@ -97,29 +128,66 @@ fn count_window<S: Storage>(
     header: &Header,
     l1_table: &L1Table,
     reftable: &RefTable,
-    first: u64,
-    dense: usize,
-    most: usize,
+    window: Window,
 ) -> Result<Tally, Fault>
     requires l1_table { l1_table.now.geometry ≡ geometry_of header.now }
     requires reftable { reftable.now.geometry ≡ geometry_of header.now }
-    requires some { 0 < dense }
-    requires fits { first + dense ≤ max_file_length }
+    requires some { 0 < window.dense }
+    requires fits { window.first + window.dense ≤ max_file_length }
     ensures reads { Reads (λ _. tt) result (all_load (geometry_of header.now) l1_table.now.numbers)
         IsEntryFault (S.state image.old) (S.state image.new) }
     ensures counted { IfOk result (λ tally. OnImage (S.state image.old) (λ bytes. CountsAll
         (image_tables header.now l1_table.now.numbers reftable.now.numbers) bytes tally)) }
-    ensures first { IfOk result (λ tally. (tally.first ≡ first) × (first < tally.end)
+    ensures first { IfOk result (λ tally. (tally.first ≡ window.first) × (window.first < tally.end)
         × (tally.end ≤ max_file_length)) }
 {
-    let mut tally = Tally::new(l1_table.allocator(), first, dense, most)?;
+    let Window {
+        first,
+        dense,
+        most,
+        is_wide,
+    } = window;
+    let mut tally = Tally::new(l1_table.allocator(), first, dense, most, is_wide)?;
     count_image(&mut tally, image, header, l1_table, reftable)?;
     prove!(first < tally.end());
     Ok(tally)
 }
 
+// The counters of a block from an index on.
+fn counters_from(block: &RefBlock, index: usize) -> [u64; TOGETHER]
+    requires { index + 64 ≤ length block.now.numbers }
+    ensures { (k : ℕ) → k < 64 → slice_index result k ≡ slice_index block.now.numbers (index + k) }
+{
+    prove!(index < block.entries());
+    let mut counters = [0; TOGETHER];
+    for k in 0..TOGETHER {
+        counters[k] = block.get(index + k);
+    }
+    counters
+}
+
 // How many clusters from one on nothing is wrong with, at most that many, by their counters from an index on
-// and by their cells.
+// and by their cells. Perhaps some more.
+#[tactic(auto, using(crate::proofs::FindingsLemmas::plain_is_right))]
+fn plain_clusters(block: &RefBlock, tally: &Tally, first: u64, index: usize, count: usize) -> usize
+    requires first { tally.now.first ≤ first }
+    requires fits { first + count < 2 ^ 64 }
+    requires index { index + count ≤ length block.now.numbers }
+    ensures within { result ≤ count }
+    ensures right { (k : ℕ) → k < result → let cell = cell_at tally.now (first + k) in
+        (slice_index block.now.numbers (index + k) ≡ cell / 8) × (is_shared_cell cell ≡ false) }
+{
+    prove!(count <= block.entries());
+    for chunk in 0..count / TOGETHER {
+        let start = TOGETHER * chunk;
+        if !tally.are_plain(first + start as u64, &counters_from(block, index + start)) {
+            return start;
+        }
+    }
+    count / TOGETHER * TOGETHER
+}
+
+// The same, but that it looks further where several that are compared together aren't all used by guest data.
 fn right_clusters(block: &RefBlock, tally: &Tally, first: u64, index: usize, count: usize) -> usize
     requires first { tally.now.first ≤ first }
     requires fits { first + count < 2 ^ 64 }
@@ -129,12 +197,14 @@ fn right_clusters(block: &RefBlock, tally: &Tally, first: u64, index: usize, cou
         (slice_index block.now.numbers (index + k) ≡ cell / 8) × (is_shared_cell cell ≡ false) }
 {
     prove!(count <= block.entries());
-    for k in 0..count {
+    let plain = plain_clusters(block, tally, first, index, count);
+    let end = count.min(plain + TOGETHER);
+    for k in plain..end {
         if !is_right(block.get(index + k), tally.cell(first + k as u64)) {
             return k;
         }
     }
-    count
+    end
 }
 
 // Whether nothing is wrong with a cluster of this counter and this cell.
@@ -178,9 +248,16 @@ impl<'a> Findings<'a> {
         }
         let l1_table = load_l1_table(alloc, image, header)?;
         let counters = Counters::new(alloc, image, header)?;
+        let reftable = counters.reftable();
         let counted = counters.counted();
-        let dense = counted.clamp(FEW_CELLS as u64, MOST_DENSE as u64) as usize;
-        let tally = count_window(image, header, &l1_table, counters.reftable(), 0, dense, 0)?;
+        let is_wide = most_uses(header, &l1_table, reftable) >= MANY_USES;
+        let window = Window {
+            first: 0,
+            dense: dense_cells(counted, is_wide),
+            most: 0,
+            is_wide,
+        };
+        let tally = count_window(image, header, &l1_table, reftable, window)?;
         Ok(Findings {
             header,
             l1_table,
@@ -188,6 +265,7 @@ impl<'a> Findings<'a> {
             tally: Some(tally),
             position: 0,
             counted,
+            is_wide,
             is_sparse: false,
         })
     }
@@ -322,19 +400,26 @@ impl<'a> Findings<'a> {
         self.pass_counted(image)
     }
 
-    // How many cells lie one after another in the next window, and how many others there are.
-    fn window_size(&self) -> (usize, usize)
+    // The window that begins with the reader's cluster.
+    fn next_window(&self) -> Window
         requires { self.now.position < max_file_length }
-        ensures some { 0 < result.0 }
-        ensures fits { self.now.position + result.0 ≤ max_file_length }
+        ensures first { result.first ≡ self.now.position }
+        ensures some { 0 < result.dense }
+        ensures fits { self.now.position + result.dense ≤ max_file_length }
     {
         let left = MAX_FILE_LENGTH - self.position;
-        if self.is_sparse {
-            return (left.min(FEW_CELLS as u64) as usize, MOST_SPARSE);
+        let (dense, most) = if self.is_sparse {
+            (FEW_CELLS, MOST_SPARSE)
+        } else {
+            let counted = self.counted.saturating_sub(self.position);
+            (dense_cells(counted, self.is_wide), 0)
+        };
+        Window {
+            first: self.position,
+            dense: left.min(dense as u64) as usize,
+            most,
+            is_wide: self.is_wide,
         }
-        let counted = self.counted.saturating_sub(self.position);
-        let dense = counted.clamp(FEW_CELLS as u64, MOST_DENSE as u64);
-        (left.min(dense) as usize, 0)
     }
 
     // Whether the uses of the reader's cluster are counted.
@@ -361,20 +446,13 @@ impl<'a> Findings<'a> {
             return Ok(());
         }
         if let Some(tally) = &self.tally {
-            self.is_sparse |= tally.used() < MOST_SPARSE as u64;
+            self.is_sparse |= tally.used() < MOST_SPARSE;
         }
         // Its memory is given back before the next window takes as much.
         self.tally = None;
-        let (dense, most) = self.window_size();
-        let tally = count_window(
-            image,
-            self.header,
-            &self.l1_table,
-            self.counters.reftable(),
-            self.position,
-            dense,
-            most,
-        )?;
+        let window = self.next_window();
+        let reftable = self.counters.reftable();
+        let tally = count_window(image, self.header, &self.l1_table, reftable, window)?;
         self.tally = Some(tally);
         Ok(())
     }

@@ -1,10 +1,13 @@
 //! Uses of clusters, counted in memory of a bounded size.
 
-ghost use Rattle.std.specs.Prelude.{◌≡◌, ℕ, ◌+◌, ◌-◌, ◌/◌, ◌^◌, ◌<◌, ◌≤◌, [], ◌∷◌, IfOk, IfSome, IsOkUnless, None, OnOk, length, replicate};
+ghost use Rattle.std.specs.Prelude.{◌≡◌, ℕ, ◌+◌, ◌-◌, ◌/◌, ◌^◌, ◌<◌, ◌≤◌, [], ◌∷◌, IfOk, IfSome, IsOkUnless, IsTrue, None, OnOk, false, length, replicate, slice_index};
 ghost use Rattle.qcow2_base.specs.Format.{max_file_length};
 ghost use Rattle.qcow2_base.specs.declared.fault.Fault.TheVariants.{NoMemory};
-ghost use Rattle.qcow2_check.specs.Tally.{CountsMore, cell_at, is_shared_cell, mark_of, used_clusters, with_use};
+ghost use Rattle.qcow2_check.specs.Tally.{CountsMore, IsPlain, cell_at, is_shared_cell, mark_of, used_clusters, with_use};
 
+mod cells;
+
+use cells::Cells;
 use qcow2_base::{Fault, MAX_FILE_LENGTH};
 use std::alloc::Global;
 use std::collections::BTreeMap;
@@ -35,15 +38,13 @@ impl UseKind {
     }
 }
 
-// The cell with one use more. Fails where its number doesn't fit.
-#[inline]
-fn with_use(cell: u64, kind: UseKind) -> Result<u64, Fault>
-    ensures fault { IsOkUnless result NoMemory }
-    ensures cell { IfOk result (λ more. more ≡ with_use kind cell) }
+// The cell with one use more, if its number fits.
+#[inline(always)]
+fn with_use(cell: u64, kind: UseKind) -> Option<u64>
+    ensures { IfSome result (λ more. more ≡ with_use kind cell) }
 {
     let mark = kind.mark();
-    let more = if cell / mark % 2 == 1 { 8 } else { 8 + mark };
-    cell.checked_add(more).ok_or(Fault::NoMemory)
+    cell.checked_add(if cell / mark % 2 == 1 { 8 } else { 8 + mark })
 }
 
 /// How many uses each cluster of a part of an image has. Clauses see it as cells, which count them.
@@ -51,22 +52,21 @@ fn with_use(cell: u64, kind: UseKind) -> Result<u64, Fault>
 pub(crate) struct Tally {
     first: u64,
     end: u64,
-    dense: Vec<u64>,
+    dense: Cells,
     sparse: BTreeMap<u64, u64>,
     most: usize,
-    // How many cells count a use.
-    used: u64,
 }
 
 impl Model for Tally {
     ghost use Rattle.qcow2_check.specs.Tally.{IsTally, TallyState};
+    ghost use Rattle.qcow2_check.specs.Tally.Cells.{kept_cells};
 
     ghost Value = { TallyState };
 
     ghost view = { λ t. record {
       first = t.first;
       end = t.end;
-      dense = t.dense.items;
+      dense = kept_cells t.dense;
       sparse = t.sparse.entries;
       most = t.most;
     } };
@@ -74,7 +74,7 @@ impl Model for Tally {
     ghost invariant = { λ t. IsTally (record {
       first = t.first;
       end = t.end;
-      dense = t.dense.items;
+      dense = kept_cells t.dense;
       sparse = t.sparse.entries;
       most = t.most;
     }) };
@@ -85,8 +85,15 @@ impl Tally {
     ghost use Rattle.qcow2_check.specs.Tally.{IsTally, cell_at, dense_end};
 
     /// A tally in which no cluster has a use, from a cluster on. The cells of the next `dense` clusters lie
-    /// one after another, and there are at most `most` others. Fails only where memory runs out.
-    pub(crate) fn new(alloc: Global, first: u64, dense: usize, most: usize) -> Result<Tally, Fault>
+    /// one after another, in 32 bits each or in 64, and there are at most `most` others. Fails only where
+    /// memory runs out.
+    pub(crate) fn new(
+        alloc: Global,
+        first: u64,
+        dense: usize,
+        most: usize,
+        is_wide: bool,
+    ) -> Result<Tally, Fault>
         requires some { 0 < dense }
         requires fits { first + dense ≤ max_file_length }
         ensures fault { IsOkUnless result NoMemory }
@@ -96,10 +103,9 @@ impl Tally {
         Ok(Tally {
             first,
             end: MAX_FILE_LENGTH,
-            dense: vec![in alloc; 0u64; dense]?,
+            dense: Cells::zeros(alloc, dense, is_wide)?,
             sparse: BTreeMap::new(alloc),
             most,
-            used: 0,
         })
     }
 
@@ -122,9 +128,8 @@ impl Tally {
     }
 
     /// How many clusters have a use, perhaps with some that it ends before.
-    #[inline]
-    pub(crate) fn used(&self) -> u64 {
-        self.used
+    pub(crate) fn used(&self) -> usize {
+        self.dense.used().saturating_add(self.sparse.len())
     }
 
     /// The cell of a cluster.
@@ -133,10 +138,28 @@ impl Tally {
         requires { self.now.first ≤ cluster }
         ensures { result ≡ cell_at self.now cluster }
     {
-        match self.dense.get((cluster - self.first) as usize) {
-            Some(cell) => *cell,
-            None => self.sparse.get(&cluster).copied().unwrap_or(0),
+        let index = (cluster - self.first) as usize;
+        if index < self.dense.len() {
+            return self.dense.get(index);
         }
+        self.sparse.get(&cluster).copied().unwrap_or(0)
+    }
+
+    /// Whether nothing is wrong with the clusters from one on that have these counters, and all their uses
+    /// are by guest data. Perhaps not where some of their cells aren't dense.
+    #[inline]
+    #[tactic(auto, using(crate::proofs::TallyLemmas::plain_dense))]
+    pub(crate) fn are_plain(&self, first: u64, counters: &[u64]) -> bool
+        requires { self.now.first ≤ first }
+        ensures { IsTrue result → (k : ℕ) → k < length counters.now →
+            IsPlain (cell_at self.now (first + k)) (slice_index counters.now k) }
+    {
+        let index = (first - self.first) as usize;
+        let len = self.dense.len();
+        if index > len || counters.len() > len - index {
+            return false;
+        }
+        self.dense.are_plain(index, counters)
     }
 
     /// The first cluster from one on that has a use, or the limit where none before it has.
@@ -149,7 +172,7 @@ impl Tally {
     {
         let dense_end = self.first + self.dense.len() as u64;
         for cluster in from..limit.min(dense_end) {
-            if self.dense[(cluster - self.first) as usize] != 0 {
+            if self.dense.get((cluster - self.first) as usize) != 0 {
                 return cluster;
             }
         }
@@ -159,28 +182,38 @@ impl Tally {
         }
     }
 
+    /// Counts a use of a cluster as `add` does, unless its cell is none of the dense ones or would count too
+    /// many. Returns whether the use is counted; else nothing changes.
+    #[inline(always)]
+    pub(crate) fn try_add(&mut self, cluster: u64, kind: UseKind) -> bool
+        ensures counted { IsTrue result → CountsMore
+            (used_clusters kind (record { 0 = cluster }) 1 ∷ []) self.old self.new }
+        ensures same { result ≡ false → self.new ≡ self.old }
+        ensures within { result ≡ false → (self.old.first ≤ cluster) × (cluster < self.old.end) }
+    {
+        cluster < self.first
+            || self.dense.add((cluster - self.first) as usize, kind)
+            || cluster >= self.end
+    }
+
     /// Counts a use of a cluster, where the tally has its cell. Where there are too many cells it ends before
     /// the last of them.
-    #[inline]
     pub(crate) fn add(&mut self, cluster: u64, kind: UseKind) -> Result<(), Fault>
         ensures fault { IsOkUnless result NoMemory }
         ensures counted { OnOk result (CountsMore
             (used_clusters kind (record { 0 = cluster }) 1 ∷ []) self.old self.new) }
     {
-        if cluster < self.first || cluster >= self.end {
+        if self.try_add(cluster, kind) {
             return Ok(());
         }
-        let index = (cluster - self.first) as usize;
-        if index < self.dense.len() {
-            let cell = self.dense[index];
-            self.dense[index] = with_use(cell, kind)?;
-            self.used = self.used.wrapping_add((cell == 0) as u64);
-            return Ok(());
+        if cluster - self.first < self.dense.len() as u64 {
+            return Err(Fault::NoMemory);
         }
         self.add_sparse(cluster, kind)
     }
 
     // The same of a cluster that is after the dense cells.
+    #[inline(never)]
     fn add_sparse(&mut self, cluster: u64, kind: UseKind) -> Result<(), Fault>
         requires after { dense_end self.old ≤ cluster }
         requires before { cluster < self.old.end }
@@ -189,8 +222,8 @@ impl Tally {
             (used_clusters kind (record { 0 = cluster }) 1 ∷ []) self.old self.new) }
     {
         let cell = self.sparse.get(&cluster).copied().unwrap_or(0);
-        self.used = self.used.wrapping_add((cell == 0) as u64);
-        self.sparse.insert(cluster, with_use(cell, kind)?)?;
+        let more = with_use(cell, kind).ok_or(Fault::NoMemory)?;
+        self.sparse.insert(cluster, more)?;
         if self.sparse.len() > self.most {
             if let Some((last, _)) = self.sparse.pop_last() {
                 self.end = self.end.min(last);

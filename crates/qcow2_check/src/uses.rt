@@ -1,9 +1,9 @@
 //! Counting what an image uses.
 
-ghost use Rattle.std.specs.Prelude.{◌≡◌, ℕ, ◌+◌, ◌*◌, ◌^◌, ◌<◌, ◌≤◌, [], ◌∷◌, ◌++◌, false, IsOkUnless, Ok, OnOk, Some, flat_map, length, option_map, option_to_list, slice_index};
+ghost use Rattle.std.specs.Prelude.{◌≡◌, ℕ, ◌+◌, ◌*◌, ◌^◌, ◌<◌, ◌≤◌, [], ◌∷◌, ◌++◌, false, IsOkUnless, IsTrue, None, Ok, OnOk, Some, flat_map, length, option_map, option_to_list, slice_index};
 ghost use Rattle.qcow2_base.specs.Storage.{OnImage};
 ghost use Rattle.qcow2_base.specs.declared.fault.Fault.TheVariants.{NoMemory};
-ghost use Rattle.qcow2_metadata.specs.Entries.L2Entry.{allocation};
+ghost use Rattle.qcow2_metadata.specs.Entries.L2Entry.{allocation, l2_fault};
 ghost use Rattle.qcow2_base.specs.Types.{IsClusterBits};
 ghost use Rattle.qcow2_metadata.specs.Header.{geometry, geometry_of};
 ghost use Rattle.qcow2_metadata.specs.Results.{Reads, result_map};
@@ -15,8 +15,11 @@ ghost use Rattle.qcow2_check.specs.Uses.{all_load, block_uses, entry_uses, heade
 use crate::named_tables::{load_l2_table, named_block, named_cluster};
 use crate::tally::{Tally, UseKind};
 use qcow2_base::{ClusterCount, Fault, HostCluster, Storage};
-use qcow2_metadata::{Header, L1Table, L2Entry, L2Table, RefTable, Table};
+use qcow2_metadata::{Header, L1Table, L2Entry, L2Table, RefTable, Table, TableEntry};
 use std::alloc::Global;
+
+// How many entries are looked at together.
+const TOGETHER: usize = 16;
 
 // Counts one use of each of that many clusters from one on.
 #[tactic(auto, using(crate::proofs::TallyLemmas::counts_next))]
@@ -38,7 +41,7 @@ fn count_clusters(
 }
 
 // Counts the clusters that an L2 entry refers to.
-#[inline]
+#[inline(never)]
 fn count_entry(tally: &mut Tally, entry: L2Entry, cluster_bits: u32) -> Result<(), Fault>
     requires { IsClusterBits cluster_bits }
     ensures fault { IsOkUnless result NoMemory }
@@ -52,6 +55,40 @@ fn count_entry(tally: &mut Tally, entry: L2Entry, cluster_bits: u32) -> Result<(
     }
 }
 
+// The same, unless the entry is compressed or its use can't be counted by `try_add`. Returns whether it is
+// counted; else nothing changes.
+#[inline(always)]
+#[tactic(auto, using(crate::proofs::UsesLemmas::standard_uses, crate::proofs::UsesLemmas::standard_without))]
+fn count_standard(tally: &mut Tally, entry: L2Entry, cluster_bits: u32) -> bool
+    requires bits { IsClusterBits cluster_bits }
+    requires valid { l2_fault cluster_bits entry ≡ None }
+    ensures counted { IsTrue result → CountsMore (entry_uses (geometry cluster_bits false) entry)
+        tally.old tally.new }
+    ensures same { result ≡ false → tally.new ≡ tally.old }
+{
+    if entry.is_compressed() {
+        return false;
+    }
+    match entry.cluster_offset(false) {
+        Some(offset) => tally.try_add(offset.cluster(cluster_bits).0, UseKind::Guest),
+        None => true,
+    }
+}
+
+// Whether the entries from an index on, as many as are looked at together, are all the entry 0.
+#[inline(always)]
+fn are_unallocated(table: &L2Table, first: usize) -> bool
+    requires { first + 16 ≤ length table.now.numbers }
+    ensures { IsTrue result → (k : ℕ) → k < 16 → slice_index table.now.numbers (first + k) ≡ 0 }
+{
+    prove!(first < table.entries());
+    let mut unallocated = true;
+    for k in 0..TOGETHER {
+        unallocated &= table.get(first + k).to_plain() == 0;
+    }
+    unallocated
+}
+
 // Counts the clusters that the entries of an L2 table refer to.
 #[tactic(auto, using(crate::proofs::UsesLemmas::no_entry_uses, crate::proofs::UsesLemmas::counts_entry))]
 fn count_entries(tally: &mut Tally, table: &L2Table) -> Result<(), Fault>
@@ -62,9 +99,18 @@ fn count_entries(tally: &mut Tally, table: &L2Table) -> Result<(), Fault>
     if table.external_data_file() {
         return Ok(());
     }
-    let cluster_bits = table.cluster_bits();
-    for index in 0..table.entries() {
-        count_entry(tally, table.get(index), cluster_bits)?;
+    let (cluster_bits, entries) = (table.cluster_bits(), table.entries());
+    let mut index = 0;
+    while index < entries {
+        if index % TOGETHER == 0 && entries - index >= TOGETHER && are_unallocated(table, index) {
+            index += TOGETHER;
+        } else {
+            let entry = table.get(index);
+            if !count_standard(tally, entry, cluster_bits) {
+                count_entry(tally, entry, cluster_bits)?;
+            }
+            index += 1;
+        }
     }
     Ok(())
 }
@@ -168,6 +214,20 @@ fn count_header(tally: &mut Tally, header: &Header) -> Result<(), Fault>
         reftable_cluster,
         header.reftable_clusters().0,
     )
+}
+
+/// How many uses an image has of one cluster at most: one for each entry of the L2 tables that are named,
+/// of these themselves, and of the refcount table, and three of its header.
+pub(crate) fn most_uses(header: &Header, l1_table: &L1Table, reftable: &RefTable) -> u64 {
+    let mut tables = 0u64;
+    for index in 0..l1_table.entries() {
+        tables = tables.saturating_add(u64::from(named_cluster(l1_table, index).is_some()));
+    }
+    let each = header.l2_entries() as u64;
+    let entries = tables.saturating_mul(each.saturating_add(1));
+    entries
+        .saturating_add(reftable.entries() as u64)
+        .saturating_add(3)
 }
 
 /// Counts all clusters that an image uses.

@@ -1,9 +1,9 @@
 use Rattle.std.proofs.Common.{◌≡◌, ℕ, zero, suc, ◌+◌, ◌-◌, ◌*◌, ◌/◌, ◌%◌, ◌^◌, ◌<◌, ◌≤◌, ◌⊎◌, List, [], ◌∷◌, ◌++◌, map, length, slice_index, take, drop, refl, sym, ◌∙◌, ap, inl, inr, add-zero, zero-add, add_assoc, append_assoc, mul-zero, mod-eq_of_lt, pow-suc, pow_pos, mul-le-mul_left, le-leb, get_or-drop, get_or-take, length-append, length-drop, length-take, arith, mul_assoc, pow_mono}
 use Rattle.std.specs.List.{All, range_with_len}
 use Rattle.std.proofs.lemmas.Bool.{cases_lt, lt-leb}
-use Rattle.std.proofs.lemmas.List.{get_or-append_right, get_or_append_left, get_or_past, map_push, take_more}
+use Rattle.std.proofs.lemmas.List.{get_or-append_right, get_or_append_left, get_or_past, take_more}
 use Rattle.std.proofs.lemmas.List.Elements.{All-drop, All-head, All-tail, All-take, All-get_or}
-use Rattle.std.proofs.lemmas.List.FromFn.{fill_by_all, get_or-map-range_with_len, length-map-range_with_len, map-range_with_len_more}
+use Rattle.std.proofs.lemmas.List.FromFn.{fill_by_all, get_or-map-range_with_len, length-map-range_with_len}
 use Rattle.std.proofs.lemmas.Nat.{div-mul-add, div_below, mul-add-lt, mod-mul-add, mod-pow-add, mod_below, shr-shr, pow-add}
 use Rattle.std.proofs.Math.Nat.{lt_of_mul-lt-mul_right, mul-add-div, mul-add-mod_self_left, add-mul-div_left, add-mul-mod_self_left, div-eq_of_lt, le-div_iff_mul-le, mod-one, zero-div, zero-mod, one-le-pow, div-one}
 use Rattle.std.proofs.Math.Arith.{mod-mul}
@@ -169,10 +169,6 @@ counters_at-held order n len image offset bytes low whole within held =
 pub counters_at-append : (order n m len : ℕ) (image : Image) (offset : ℕ) → order ≤ 6 → width order * n ≡ 8 * len → counters_at order image offset (n + m) ≡ counters_at order image offset n ++ counters_at order image (offset + len) m
 counters_at-append order n m len image offset low whole = grind (arith, nat_tests, map_range-append, counter_at-later)
 
--- one counter more
-pub counters_at-more : (order : ℕ) (image : Image) (offset n : ℕ) → counters_at order image offset (n + 1) ≡ counters_at order image offset n ++ counter_at order image offset n ∷ []
-counters_at-more order image offset n = map-range_with_len_more (counter_at order image offset) 0 n n (omega arith)
-
 counter_is_small : (order : ℕ) (counters : List ℕ) (i : ℕ) → AreCounters order counters → slice_index counters i < 2 ^ width order
 counter_is_small order counters i small = grind (arith, get_or_past, pow_pos)
 
@@ -239,9 +235,12 @@ packed-counters_at order n len image offset j low bytes whole below = elim (case
   | inr wide ↦ wide_byte_again order n len image offset j wide low bytes whole below
 ]
 
--- one wide counter more is read
-pub wide_counters-more : {X : Type 0} (number : X → ℕ) (order : ℕ) (image : Image) (items before : List X) (x : X) (size i : ℕ) → 4 ≤ order → size ≡ bytes_each order → be image (size * i) size ≡ number x → map number items ≡ map number before ++ counters_at order image 0 i → map number (items ++ x ∷ []) ≡ map number before ++ counters_at order image 0 (i + 1)
-wide_counters-more number order image items before x size i wide each read so_far = grind (arith, lt-leb, zero-add, map_push, counters_at-more, append_assoc)
+-- each counter of whole bytes ends by the end of the bytes
+pub counter_ends : (order size len x : ℕ) → size ≡ bytes_each order → x < len / size → size * x + size ≤ len
+counter_ends order size len x each below =
+    let some : 0 < size = rw each (pow_pos _) in
+    let whole : (x + 1) * size ≤ len = (le-div_iff_mul-le some).0 (omega (arith, below)) in
+    omega (arith, whole)
 
 -- one wide counter more is written
 pub wide_bytes-more : (order size first index : ℕ) (counters old new : List ℕ) → 4 ≤ order → size ≡ bytes_each order → IsBytes (image_of new)

@@ -5,7 +5,7 @@ ghost use Rattle.std.proofs.Common.{lit≤};
 ghost use Rattle.qcow2_base.specs.Storage.{image_of};
 ghost use Rattle.qcow2_base.specs.OnDiskStruct.{Big, big};
 ghost use Rattle.qcow2_metadata.specs.Refblock.Counters.{AreCounters};
-ghost use Rattle.qcow2_metadata.specs.Refblock.Packing.{counters_at, from_digits, counter_bytes, per_byte, width};
+ghost use Rattle.qcow2_metadata.specs.Refblock.Packing.{counter_at, counters_at, from_digits, counter_bytes, per_byte, width};
 
 use qcow2_base::{OnDiskStruct, read_be, write_be};
 use std::alloc::AllocError;
@@ -65,10 +65,12 @@ pub(super) fn unpack_wide<T: WideCounter>(list: &mut Vec<T>, bytes: &[u8]) -> Re
     ensures { OnOk result (map T.number list.new.items ≡ map T.number list.old.items
         ++ counters_at T.order (image_of bytes.now) 0 (length bytes.now / T.ON_DISK_SIZE)) }
 {
-    for index in 0..bytes.len() / T::ON_DISK_SIZE {
-        list.push(read_be(bytes, T::ON_DISK_SIZE * index))?;
-    }
-    Ok(())
+    list.extend((0..bytes.len() / T::ON_DISK_SIZE).map(
+        |index: usize| -> T
+            requires { T.ON_DISK_SIZE * index + T.ON_DISK_SIZE ≤ length bytes.now }
+            ensures { T.number result ≡ counter_at T.order (image_of bytes.entry.now) 0 index }
+        { read_be(bytes, T::ON_DISK_SIZE * index) },
+    ))
 }
 
 // Puts the bytes of counters into the buffer, from those of counter `first` on.

@@ -1,0 +1,132 @@
+//! Cells in memory that lie one after another: one number each, in integers of 32 or of 64 bits.
+
+ghost use Rattle.std.specs.Prelude.{◌≡◌, ◌↔◌, ℕ, ◌+◌, ◌<◌, ◌≤◌, IfOk, IsTrue, false, length, replicate, slice_index, slice_set};
+ghost use Rattle.qcow2_check.specs.Tally.{IsPlain, with_use};
+ghost use Rattle.qcow2_check.specs.Tally.Cells.{kept_cells};
+
+use super::{UseKind, with_use};
+use std::alloc::{AllocError, Global};
+
+// Whether a cell counts as many uses as the counter says, all of them by guest data.
+#[inline]
+fn is_plain(cell: u64, counter: u64) -> bool
+    ensures { IsTrue result ↔ IsPlain cell counter }
+{
+    (cell / 8 == counter) & (cell % 4 == 0)
+}
+
+// Whether all cells do. Looks at each, so that several are compared at once.
+fn are_plain_narrow(cells: &[u32], counters: &[u64]) -> bool
+    requires { length cells.now ≡ length counters.now }
+    ensures { IsTrue result → (k : ℕ) → k < length counters.now →
+        IsPlain (slice_index cells.now k) (slice_index counters.now k) }
+{
+    let mut plain = true;
+    for k in 0..cells.len() {
+        plain &= is_plain(u64::from(cells[k]), counters[k]);
+    }
+    plain
+}
+
+// The same of wide cells.
+fn are_plain_wide(cells: &[u64], counters: &[u64]) -> bool
+    requires { length cells.now ≡ length counters.now }
+    ensures { IsTrue result → (k : ℕ) → k < length counters.now →
+        IsPlain (slice_index cells.now k) (slice_index counters.now k) }
+{
+    let mut plain = true;
+    for k in 0..cells.len() {
+        plain &= is_plain(cells[k], counters[k]);
+    }
+    plain
+}
+
+/// A list of cells. A narrow one counts at most 2^29 - 1 uses.
+#[derive(Drop)]
+pub(super) enum Cells {
+    Narrow(Vec<u32>),
+    Wide(Vec<u64>),
+}
+
+impl Cells {
+    pub(super) fn zeros(alloc: Global, count: usize, is_wide: bool) -> Result<Cells, AllocError>
+        ensures { IfOk result (λ cells. kept_cells cells ≡ replicate count 0) }
+    {
+        if is_wide {
+            return Ok(Cells::Wide(vec![in alloc; 0; count]?));
+        }
+        Ok(Cells::Narrow(vec![in alloc; 0; count]?))
+    }
+
+    #[inline]
+    pub(super) fn len(&self) -> usize
+        ensures { result ≡ length (kept_cells self.now) }
+    {
+        match self {
+            Cells::Narrow(list) => list.len(),
+            Cells::Wide(list) => list.len(),
+        }
+    }
+
+    #[inline]
+    pub(super) fn get(&self, index: usize) -> u64
+        requires { index < length (kept_cells self.now) }
+        ensures { result ≡ slice_index (kept_cells self.now) index }
+    {
+        match self {
+            Cells::Narrow(list) => u64::from(list[index]),
+            Cells::Wide(list) => list[index],
+        }
+    }
+
+    // Counts a use in a cell. Returns whether there is the cell and its number fits; else nothing changes.
+    #[inline(always)]
+    pub(super) fn add(&mut self, index: usize, kind: UseKind) -> bool
+        ensures counted { IsTrue result → (index < length (kept_cells self.old))
+            × (kept_cells self.new ≡ slice_set (kept_cells self.old) index
+            (with_use kind (slice_index (kept_cells self.old) index))) }
+        ensures same { result ≡ false → kept_cells self.new ≡ kept_cells self.old }
+        ensures count { length (kept_cells self.new) ≡ length (kept_cells self.old) }
+    {
+        if index >= self.len() {
+            return false;
+        }
+        match self {
+            Cells::Narrow(list) => {
+                let more = with_use(u64::from(list[index]), kind);
+                let Some(Ok(cell)) = more.map(u32::try_from) else {
+                    return false;
+                };
+                list[index] = cell;
+            }
+            Cells::Wide(list) => {
+                let Some(cell) = with_use(list[index], kind) else {
+                    return false;
+                };
+                list[index] = cell;
+            }
+        }
+        true
+    }
+
+    // Whether each cell from an index on counts as many uses as its counter says, all of them by guest data.
+    #[inline]
+    pub(super) fn are_plain(&self, index: usize, counters: &[u64]) -> bool
+        requires { index + length counters.now ≤ length (kept_cells self.now) }
+        ensures { IsTrue result → (k : ℕ) → k < length counters.now →
+            IsPlain (slice_index (kept_cells self.now) (index + k)) (slice_index counters.now k) }
+    {
+        match self {
+            Cells::Narrow(list) => are_plain_narrow(&list[index..index + counters.len()], counters),
+            Cells::Wide(list) => are_plain_wide(&list[index..index + counters.len()], counters),
+        }
+    }
+
+    // How many cells count a use.
+    pub(super) fn used(&self) -> usize {
+        match self {
+            Cells::Narrow(list) => list.iter().filter(|cell| **cell != 0).count(),
+            Cells::Wide(list) => list.iter().filter(|cell| **cell != 0).count(),
+        }
+    }
+}
