@@ -5,7 +5,7 @@ ghost use Rattle.std.specs.Prelude.{◌≡◌, IsTrue};
 use crate::NOT_MADE;
 use qcow2_base::{Fault, GuestOffset, HostCluster, Storage};
 use qcow2_metadata::{Header, L1Table, L2Mapping, L2Table, RefBlock, Table};
-use qcow2_session::{Command, Edit, Outcome, Step, StepReply};
+use qcow2_session::{Command, Edit, Outcome, Step, StepReply, Verdict};
 use qcow2_testing::is_cluster_bits;
 use std::alloc::{AllocError, Global};
 use std::io::Write;
@@ -131,7 +131,7 @@ pub fn run<S: Storage, O: Write>(
     image: &mut S,
     command: &Command,
     out: &mut O,
-) -> Result<(), Fault> {
+) -> Result<Verdict, Fault> {
     qcow2_session::run(alloc, image, command, out)
 }
 

@@ -1,6 +1,7 @@
 -- Where do an image's counters differ from its uses of clusters, and which clusters have uses that exclude each other?
-use Rattle.std.specs.Prelude.{◌≡◌, ◌⊎◌, ℕ, Bool, true, false, not, ◌&&◌, ◌||◌, ◌==◌, ◌+◌, ◌<◌, ◌≤◌, nat_lt, List, Option, Some, option_map, Result, Ok, IfSome}
+use Rattle.std.specs.Prelude.{◌≡◌, ◌⊎◌, ℕ, zero, suc, Bool, true, false, not, ◌&&◌, ◌||◌, ◌==◌, ◌+◌, ◌-◌, ◌<◌, ◌≤◌, nat_lt, if◌then◌else◌, List, [], ◌∷◌, Option, Some, None, option_map, Result, Ok, Err, IfSome}
 use Rattle.std.specs.List.{fold, sum_by}
+use Rattle.qcow2_base.specs.Format.{max_file_length}
 use Rattle.qcow2_base.specs.Storage.{Image, OnImage, StorageState}
 use Rattle.qcow2_base.specs.declared.fault.Fault.{Fault}
 use Rattle.qcow2_base.specs.declared.fault.Fault.TheVariants.{Uncounted}
@@ -77,6 +78,36 @@ pub record MovesFindings (image : StorageState) (old new : FindingsState) : Type
 -- nothing is wrong with the clusters from one on to before another
 abbrev pub AreRight : ImageTables → Image → ℕ → ℕ → Type 0
 AreRight tables image from to = (c : ℕ) → from ≤ c → c < to → is_wrong (finding_at tables image c) ≡ false
+
+-- the findings among that many clusters from one on, in the order of clusters
+unfoldable pub findings_from : ImageTables → Image → ℕ → ℕ → List Finding
+findings_from tables image from zero = []
+findings_from tables image from (suc count) =
+    let finding = finding_at tables image from in
+    let rest = findings_from tables image (from + 1) count in
+    if is_wrong finding then finding ∷ rest else rest
+
+-- all findings of an image with these tables
+abbrev pub image_findings : ImageTables → Image → List Finding
+image_findings tables image = findings_from tables image 0 max_file_length
+
+-- the findings that a reader comes to yet
+abbrev pub findings_left : FindingsState → Image → List Finding
+findings_left reader image =
+    findings_from (tables_of reader) image reader.position (max_file_length - reader.position)
+
+-- what a reader returns of the findings that it comes to yet: the first, or nothing where there is none. After a fault all are
+-- left
+abbrev pub TakesFinding : List Finding → List Finding → Result (Option Finding) Fault → Type 0
+TakesFinding before after (Ok None) = before ≡ []
+TakesFinding before after (Ok (Some finding)) = before ≡ finding ∷ after
+TakesFinding before after (Err fault) = before ≡ after
+
+-- how far a reader goes by what it returns, from a cluster to another: past the one that it finds, or to the end
+abbrev pub GoesPast : ℕ → Result (Option Finding) Fault → ℕ → Type 0
+GoesPast from (Ok (Some finding)) to = (from ≤ finding.cluster.0) × (to ≡ finding.cluster.0 + 1) × (to ≤ max_file_length)
+GoesPast from (Ok None) to = (from ≤ to) × (to ≡ max_file_length)
+GoesPast from (Err fault) to = from ≤ to
 
 -- what a reader returns, and the cluster that it comes to: nothing is wrong with the clusters that it passes, but that the
 -- last of them is what it finds

@@ -1,5 +1,6 @@
 pub mod Counters
 pub mod Findings
+pub mod Flags
 pub mod NamedTables
 pub mod Tally
 pub mod Uses

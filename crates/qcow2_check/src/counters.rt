@@ -138,6 +138,7 @@ impl<'a> Counters<'a> {
     }
 
     // The cluster that the block of a cluster begins with, if there is one.
+    #[inline]
     #[tactic(auto, using(crate::proofs::CountersLemmas::place_of_block))]
     fn block_of(&self, cluster: HostCluster) -> Option<HostCluster>
         ensures block { result ≡ block_of_cluster self.now.header self.now.reftable cluster.0 }

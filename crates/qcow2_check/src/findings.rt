@@ -11,6 +11,7 @@ ghost use Rattle.qcow2_check.specs.Tally.{cell_at, is_shared_cell};
 ghost use Rattle.qcow2_check.specs.Uses.{all_load, image_tables};
 
 use crate::counters::Counters;
+use crate::flags::Flags;
 use crate::named_tables::load_l1_table;
 use crate::tally::{Tally, count_of, is_shared};
 use crate::uses::{count_image, most_uses};
@@ -97,8 +98,8 @@ pub struct Findings<'a> {
 }
 
 impl<'a> Model for Findings<'a> {
-    ghost use Rattle.std.specs.Prelude.{◌≡◌, ◌<◌, ◌≤◌, IfSome, None};
-    ghost use Rattle.qcow2_base.specs.Format.{max_file_length};
+    ghost use Rattle.std.specs.Prelude.{◌≡◌, ◌<◌, ◌≤◌, IfSome, None, length};
+    ghost use Rattle.qcow2_base.specs.Format.{max_file_length, most_l1_entries};
     ghost use Rattle.qcow2_metadata.specs.Header.{geometry_of};
     ghost use Rattle.qcow2_check.specs.Findings.{FindingsState};
 
@@ -113,6 +114,7 @@ impl<'a> Model for Findings<'a> {
     } };
 
     ghost invariant = { λ f. (f.l1_table.geometry ≡ geometry_of f.header.now)
+        × (length f.l1_table.numbers ≤ most_l1_entries)
         × (f.counters.header ≡ f.header.now)
         × (f.position ≤ max_file_length)
         × IfSome f.tally (λ tally. (tally.first ≤ f.position) × (f.position ≤ tally.end)
@@ -220,7 +222,8 @@ impl<'a> Findings<'a> {
     ghost use Rattle.qcow2_check.specs.Counters.{counter_of};
     ghost use Rattle.qcow2_base.specs.declared.fault.Fault.TheVariants.{Uncounted};
     ghost use Rattle.qcow2_metadata.specs.Header.{uncounted_part};
-    ghost use Rattle.qcow2_check.specs.Findings.{AreRight, IsCheckFault, IsFindingsOf, IsLaterFault, MovesFindings, PassesFinding, checked_tables, finding_at, is_wrong, tables_of};
+    ghost use Rattle.qcow2_check.specs.Findings.{AreRight, GoesPast, IsCheckFault, IsFindingsOf, IsLaterFault, MovesFindings, PassesFinding, TakesFinding, checked_tables, finding_at, findings_left, is_wrong, tables_of};
+    ghost use Rattle.qcow2_check.specs.Flags.{IsFlagsOf, flags_left, image_flags};
 
     /// A reader of the findings of an image with this header, before the first of them. Reads its tables, and
     /// counts the uses of the first clusters.
@@ -273,18 +276,37 @@ impl<'a> Findings<'a> {
     /// one that the reader was made for, unchanged since. Changes no byte.
     pub fn next<S: Storage>(&mut self, image: &mut S) -> Result<Option<Finding>, Fault>
         requires { OnImage (S.state image.old) (λ bytes. IsFindingsOf bytes self.old) }
-        ensures finding { PassesFinding (S.state image.old) self.old result self.new.position }
-        ensures end { result ≡ Ok None → self.new.position ≡ max_file_length }
+        ensures finding { OnImage (S.state image.old) (λ bytes.
+            TakesFinding (findings_left self.old bytes) (findings_left self.new bytes) result) }
+        ensures further { GoesPast self.old.position result self.new.position }
         ensures reader { MovesFindings (S.state image.old) self.old self.new }
         ensures fault { IfErr result (IsLaterFault (S.state image.old)) }
         ensures storage { OnlyReads result (S.state image.old) (S.state image.new) }
     {
+        prove!(self.position <= MAX_FILE_LENGTH);
         while self.position < MAX_FILE_LENGTH {
             if let Some(finding) = self.step(image)? {
                 return Ok(Some(finding));
             }
         }
         Ok(None)
+    }
+
+    /// A reader of the wrong flags of the same image, before the first of them. It takes over the L1 table
+    /// and the counters. The memory of the uses is given back.
+    pub fn into_flags(self) -> Flags<'a>
+        ensures flags { result ≡ record {
+          header = self.entry.header;
+          l1 = self.entry.l1;
+          counters = self.entry.counters;
+          index = 0;
+          table = None;
+          position = 0;
+        } }
+        ensures left { (image : Image) → flags_left result image ≡ image_flags (tables_of self.entry) image }
+        ensures reader { (image : Image) → IsFindingsOf image self.entry → IsFlagsOf image result }
+    {
+        Flags::new(self.header, self.l1_table, self.counters)
     }
 
     // What is found at a cluster that is counted.
@@ -343,7 +365,8 @@ impl<'a> Findings<'a> {
         requires before { IfSome self.old.tally (λ tally. self.old.position < tally.end) }
         requires reader { OnImage (S.state image.old) (λ bytes. IsFindingsOf bytes self.old) }
         ensures finding { PassesFinding (S.state image.old) self.old result self.new.position }
-        ensures further { OnOk result (self.old.position < self.new.position) }
+        ensures further { (self.new.position ≤ max_file_length)
+            × OnOk result (self.old.position < self.new.position) }
         ensures reader { MovesFindings (S.state image.old) self.old self.new }
         ensures fault { IfErr result IsFromOutside }
         ensures storage { OnlyReads result (S.state image.old) (S.state image.new) }
@@ -367,7 +390,8 @@ impl<'a> Findings<'a> {
         requires before { self.old.position < max_file_length }
         requires reader { OnImage (S.state image.old) (λ bytes. IsFindingsOf bytes self.old) }
         ensures finding { PassesFinding (S.state image.old) self.old result self.new.position }
-        ensures further { OnOk result (self.old.position < self.new.position) }
+        ensures further { (self.new.position ≤ max_file_length)
+            × OnOk result (self.old.position < self.new.position) }
         ensures reader { MovesFindings (S.state image.old) self.old self.new }
         ensures fault { IfErr result (IsLaterFault (S.state image.old)) }
         ensures storage { OnlyReads result (S.state image.old) (S.state image.new) }

@@ -3,6 +3,7 @@
 
 mod counters;
 mod findings;
+mod flags;
 pub mod laws;
 mod named_tables;
 mod tally;
@@ -10,4 +11,5 @@ mod uses;
 
 pub use counters::Counters;
 pub use findings::{Finding, Findings};
+pub use flags::{FlagPlace, Flags, WrongFlag};
 pub use named_tables::{load_l1_table, load_l2_table, load_reftable, named_block, named_cluster};

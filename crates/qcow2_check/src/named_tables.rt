@@ -78,6 +78,7 @@ pub fn named_cluster(l1_table: &L1Table, index: usize) -> Option<HostCluster>
 
 /// The cluster that the refcount block of the refcount table entry at an index begins with, if the entry
 /// names one. Past the refcount table's end there is none.
+#[inline]
 pub fn named_block(reftable: &RefTable, index: usize) -> Option<HostCluster>
     ensures { let cb = reftable.now.geometry.cluster_bits in
         result ≡ named_block cb (slice_index reftable.now.numbers index) }

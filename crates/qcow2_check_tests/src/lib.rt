@@ -1,10 +1,13 @@
-//! Tests of what an image says of its own clusters: of counters, and of findings.
+//! Tests of what an image says of its own clusters: of counters, of findings and of wrong
+//! flags.
 #![tactic(auto)]
 
 #[cfg(test)]
 mod counters;
 #[cfg(test)]
 mod findings;
+#[cfg(test)]
+mod flags;
 #[cfg(test)]
 mod refused_calls;
 #[cfg(test)]

@@ -1,7 +1,7 @@
 //! A small image that is consistent, changes of it, and the calls that are tested, without their clauses.
 
 use qcow2_base::{Fault, HostCluster, MemStorage, Storage};
-use qcow2_check::{Counters, Finding, Findings};
+use qcow2_check::{Counters, Finding, Findings, WrongFlag};
 use qcow2_metadata::Header;
 use qcow2_testing::{image_with, put};
 use std::alloc::Global;
@@ -9,8 +9,8 @@ use std::alloc::Global;
 /// Numbers of eight bytes, and where each stands in an image.
 pub(crate) type Numbers<'a> = &'a [(u64, u64)];
 
-// Bit 63 of an entry.
-const COPIED: u64 = 1 << 63;
+/// Bit 63 of an entry.
+pub(crate) const COPIED: u64 = 1 << 63;
 
 /// Where the header, its tables and the first block of the sample image lie.
 pub(crate) const HEADER: u64 = 0;
@@ -61,6 +61,23 @@ pub(crate) fn findings_of<S: Storage>(alloc: Global, image: &mut S) -> Result<Ve
             return Ok(found);
         };
         found.push(finding)?;
+    }
+    Ok(found)
+}
+
+/// All wrong flags of an image, in order, the first hundred of them at most. Where a read is refused, the
+/// reader is called again.
+pub(crate) fn flags_of<S: Storage>(alloc: Global, image: &mut S) -> Result<Vec<WrongFlag>, Fault> {
+    let header = Header::load(alloc, image, false)?;
+    let mut flags = Findings::new(alloc, image, &header)?.into_flags();
+    let mut found = Vec::new(alloc);
+    for _ in 0..100 {
+        match flags.next(image) {
+            Ok(Some(flag)) => found.push(flag)?,
+            Ok(None) => return Ok(found),
+            Err(Fault::Storage) => {}
+            Err(fault) => return Err(fault),
+        }
     }
     Ok(found)
 }

@@ -58,7 +58,7 @@ abbrev LeavesTorn : {E : Type 0} → Layout → (E → ChangeEnd) → Result E F
 LeavesTorn layout tell run old new = (new ≡ old) ⊎ IsOkAnd run (λ left. IsTorn layout (tell left).numbers (tell left).cluster old new)
 
 -- a change was made, and then printed, if the output didn't fail
-pub change-printed : {O E : Type 0} (answer : Result (Unit {0}) Fault) (layout : Layout) (tell : E → ChangeEnd) (end : Image → Result ChangeEnd Fault) (run : Result E Fault) (lines : List ℕ) (contents : O → OutputBytes) (old new : StorageState) (a b : O)
+pub change-printed : {A O E : Type 0} (answer : Result A Fault) (layout : Layout) (tell : E → ChangeEnd) (end : Image → Result ChangeEnd Fault) (run : Result E Fault) (lines : List ℕ) (contents : O → OutputBytes) (old new : StorageState) (a b : O)
     → (IsTrue old.tells → end old.byte_at ≡ result_map tell run)
     → (IsTrue old.tells → result_map (λ left. (tell left).lines) run ≡ Ok lines)
     → (IsTrue old.tells → Loads layout tell run new.byte_at)
@@ -70,21 +70,21 @@ change-printed answer layout tell end run lines contents old new a b is made loa
     grind (arith, nat_tests, ok-left, on_ok_weaker)
 
 -- there is no place for a change, so none is made
-pub change-unplaced : {O : Type 0} (fault : Fault) (layout : Layout) (end : Image → Result ChangeEnd Fault) (contents : O → OutputBytes) (old new : StorageState) (a b : O)
+pub change-unplaced : {A O : Type 0} (fault : Fault) (layout : Layout) (end : Image → Result ChangeEnd Fault) (contents : O → OutputBytes) (old new : StorageState) (a b : O)
     → (IsTrue old.tells → (fault ≡ Storage) ⊎ (fault ≡ NoMemory) ⊎ (end old.byte_at ≡ Err fault))
     → (fault ≡ Storage → new.failures ≢ old.failures) → new.byte_at ≡ old.byte_at
-    → PrintsChange (run_between contents (Err fault) old new a b) layout end
+    → PrintsChange {A = A} (run_between contents (Err fault) old new a b) layout end
 change-unplaced fault layout end contents old new a b refused failed same =
     grind (arith, nat_tests, read_fault-of, of-any)
 
 -- there is a place for a change, which is refused
-pub change-refused : {O E : Type 0} (fault : Fault) (layout : Layout) (tell : E → ChangeEnd) (end : Image → Result ChangeEnd Fault) (run : Result E Fault) (contents : O → OutputBytes) (old new : StorageState) (a b : O)
+pub change-refused : {A O E : Type 0} (fault : Fault) (layout : Layout) (tell : E → ChangeEnd) (end : Image → Result ChangeEnd Fault) (run : Result E Fault) (contents : O → OutputBytes) (old new : StorageState) (a b : O)
     → (IsTrue old.tells → end old.byte_at ≡ result_map tell run)
     → (IsTrue old.tells → (fault ≡ Storage) ⊎ (fault ≡ NoMemory) ⊎ (run ≡ Err fault))
     → (fault ≡ Storage → new.failures ≢ old.failures) → (fault ≢ Storage → new.byte_at ≡ old.byte_at)
     → (IsTrue old.tells → new.failures ≢ old.failures → LeavesTorn layout tell run old.byte_at new.byte_at)
     → (IsTrue old.tells → StaysIdle tell run old.byte_at new.byte_at)
     → (IsTrue old.tells → StaysOutside layout tell run old.byte_at new.byte_at)
-    → PrintsChange (run_between contents (Err fault) old new a b) layout end
+    → PrintsChange {A = A} (run_between contents (Err fault) old new a b) layout end
 change-refused fault layout tell end run contents old new a b is refused failed unchanged torn idle outside =
     grind (arith, nat_tests, read_fault-of, refused-as)

@@ -3,7 +3,7 @@ use Rattle.std.proofs.lemmas.Bool.Decides.{nat_tests}
 use Rattle.std.proofs.lemmas.Str.Parse.{IsNumeralModel, numerals_by_value, tells_all_ascii_digits, parse_plain}
 use Rattle.std.specs.Option.{IfSome}
 use Rattle.qcow2_base.specs.declared.fault.Fault.{Fault}
-use Rattle.std.specs.Result.{IfErr, IsErr, result_ok}
+use Rattle.std.specs.Result.{IsErr, OnErr, result_ok}
 use Rattle.std.specs.Str.{all_ascii_digits}
 use Rattle.std.specs.Str.Parse.{ParsesUnsigned, digits_value}
 use Rattle.qcow2_session.proofs.ListingLemmas.{guest_offset-fits, table_lines-more}
@@ -32,7 +32,7 @@ pub IfSome-follows : {X : Type 0} {P Q : X → Type 0} (found : Option X) → ((
 IfSome-follows found follows holds = grind (arith, follows, holds)
 
 -- a fault of its own is what a run returns
-pub own-refused : {T : Type 0} (ran answer : Result T Fault) → IsErr ran → IfErr ran (λ fault. answer ≡ Err fault) → IsErr answer
+pub own-refused : {T : Type 0} (ran answer : Result T Fault) → IsErr ran → OnErr ran (answer ≡ ran) → IsErr answer
 own-refused ran answer refused own = grind (arith, refused, own)
 
 -- a table's lines so far, and that of the next entry

@@ -1,5 +1,6 @@
 mod WholeImageExamples
 pub mod ChangingLemmas
+pub mod CheckLemmas
 pub mod CommandsLemmas
 pub mod EditsLemmas
 pub mod ExtentsLemmas
@@ -13,7 +14,9 @@ pub mod OutputLemmas
 pub mod PrintingLemmas
 pub mod ReportLemmas
 pub mod RunningLemmas
+pub mod RunsLemmas
 pub mod SettledLemmas
 pub mod StepsLemmas
+pub mod VerdictLemmas
 pub mod WholeImageLemmas
 pub mod WordsLemmas

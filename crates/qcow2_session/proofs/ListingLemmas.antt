@@ -90,7 +90,7 @@ pub texts-more : (left next : WalkState) (index : ℕ) (numbers : List ℕ) (ima
 texts-more left next index numbers image header first = grind (arith, nat_tests)
 
 -- the output failed in the lines of a table, after those of others were printed
-pub ended-printing : {O T : Type 0} (fault : Fault) (known : List (List ℕ)) (lines : List ℕ) (rest all : TableTexts) (run : Run O) (b : OutputBytes)
+pub ended-printing : {A O T : Type 0} (fault : Fault) (known : List (List ℕ)) (lines : List ℕ) (rest all : TableTexts) (run : Run A O) (b : OutputBytes)
     → all ≡ map Ok known ++ Ok lines ∷ rest → Appends (run.contents run.before) b (concat known)
     → PrintsText {T = T} (Err fault) b (run.contents run.after) lines → run.new.failures ≡ run.old.failures → PrintsTablesBefore fault run all
 ended-printing fault known lines rest all run b are before failed calm = record {
@@ -102,7 +102,7 @@ ended-printing fault known lines rest all run b are before failed calm = record 
 }
 
 -- the print of tables ended at the first of those that are left
-pub ended-at : {O : Type 0} (fault : Fault) (g : Geometry) (known : List (List ℕ)) (left : NamedTables) (all : TableTexts) (run : Run O)
+pub ended-at : {A O : Type 0} (fault : Fault) (g : Geometry) (known : List (List ℕ)) (left : NamedTables) (all : TableTexts) (run : Run A O)
     → all ≡ map Ok known ++ texts_of g left → OutputGets run (concat known) → RefusesTable left fault → (fault ≡ Storage → run.new.failures ≢ run.old.failures)
     → PrintsTablesBefore fault run all
 ended-at fault g known [] all run are before refused failed = absurd refused
@@ -110,20 +110,20 @@ ended-at fault g known (table ∷ rest) all run are before refused failed =
     grind (arith, nat_tests, are, before, refused, failed)
 
 -- and so after reads that returned a value
-ended-after : {T O : Type 0} (value : T) (fault : Fault) (tables : TableTexts) (run : Run O) (between : StorageState)
+ended-after : {T A O : Type 0} (value : T) (fault : Fault) (tables : TableTexts) (run : Run A O) (between : StorageState)
     → OnlyReads (Ok value) run.old between → PrintsTablesBefore fault (record run { old = between }) tables → PrintsTablesBefore fault run tables
 ended-after value fault tables run between reads ended = grind (arith, nat_tests, reads, ended)
 
 -- tables that can't be loaded: nothing is printed
-pub PrintsList-none : {O : Type 0} (fault : Fault) (tables : Image → Result TableTexts Fault) (contents : O → OutputBytes) (old new : StorageState) (a : O)
+pub PrintsList-none : {A O : Type 0} (fault : Fault) (tables : Image → Result TableTexts Fault) (contents : O → OutputBytes) (old new : StorageState) (a : O)
     → (IsTrue old.tells → (fault ≡ Storage) ⊎ (fault ≡ NoMemory) ⊎ (tables old.byte_at ≡ Err fault)) → (fault ≡ Storage → new.failures ≢ old.failures)
-    → PrintsList (run_between contents (Err fault) old new a a) tables
+    → PrintsList {A = A} (run_between contents (Err fault) old new a a) tables
 PrintsList-none fault tables contents old new a refused failed = grind (arith, nat_tests, read_fault-of, Appends-nil, refused, failed)
 
 -- the tables that an L1 table names, after that was loaded
-pub PrintsList-tables : {O V : Type 0} (value : V) (answer : Result (Unit {0}) Fault) (tables : Image → Result TableTexts Fault) (each : Image → TableTexts) (contents : O → OutputBytes) (old between new : StorageState) (a b : O)
+pub PrintsList-tables : {A O V : Type 0} (value : V) (answer : Result A Fault) (tables : Image → Result TableTexts Fault) (each : Image → TableTexts) (contents : O → OutputBytes) (old between new : StorageState) (a b : O)
     → (IsTrue old.tells → tables old.byte_at ≡ Ok (each old.byte_at)) → OnlyReads (Ok value) old between
     → PrintsTables (run_between contents answer between new a b) each → PrintsList (run_between contents answer old new a b) tables
 PrintsList-tables value (Ok done) tables each contents old between new a b are reads prints = grind (arith, nat_tests, are, reads.device, reads.bytes, prints.lines)
-PrintsList-tables value (Err fault) tables each contents old between new a b are reads prints =
-    grind (arith, nat_tests, are, reads.device, reads.bytes, prints.refused, ended-after value fault (each old.byte_at) (run_between contents (Err fault) old new a b) between reads)
+PrintsList-tables {A = A} value (Err fault) tables each contents old between new a b are reads prints =
+    grind (arith, nat_tests, are, reads.device, reads.bytes, prints.refused, ended-after value fault (each old.byte_at) (run_between {A = A} contents (Err fault) old new a b) between reads)

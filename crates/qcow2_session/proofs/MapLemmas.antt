@@ -28,7 +28,7 @@ pub opening-part : (format : ExtentFormat) (extents : List Extent) (more : List 
 opening-part format extents more a b c first part = part-of_more a c _ more (part-after a b c _ _ first part)
 
 -- all extents of a disk are printed, and then what follows them, if the output doesn't fail
-pub map-closed : {O : Type 0} (answer : Result (Unit {0}) Fault) (format : ExtentFormat) (disk : Image → Result Disk Fault) (read : Disk) (contents : O → OutputBytes) (old new : StorageState) (a c : O) (b : OutputBytes)
+pub map-closed : {A O : Type 0} (answer : Result A Fault) (format : ExtentFormat) (disk : Image → Result Disk Fault) (read : Disk) (contents : O → OutputBytes) (old new : StorageState) (a c : O) (b : OutputBytes)
     → (IsTrue old.tells → disk old.byte_at ≡ Ok read)
     → (IsTrue old.tells → (extents : List Extent) × AreExtents read.contents read.size 0 extents read.size × Appends (contents a) b (opening format ++ extents_text format extents))
     → PrintsText answer b (contents c) (closing format) → new.failures ≡ old.failures → PrintsExtents (run_between contents answer old new a c) format disk

@@ -29,18 +29,18 @@ pub refused-as : {P Q : Type 0} (fault : Fault) → (P → Q) → (fault ≡ Sto
 refused-as fault leads why = grind (arith, leads)
 
 -- the fault that is meant, memory that ran out, or a failed call of the image
-pub read_fault-of : {V O : Type 0} (fault : Fault) (meant : Result V Fault) (run : Run O)
+pub read_fault-of : {V A O : Type 0} (fault : Fault) (meant : Result V Fault) (run : Run A O)
     → (fault ≡ Storage) ⊎ (fault ≡ NoMemory) ⊎ (meant ≡ Err fault) → (fault ≡ Storage → run.new.failures ≢ run.old.failures) → IsReadFault meant run fault
 read_fault-of fault meant run refused failed = grind arith
 
 -- a run between two states of an image and of its output
-abbrev pub run_between : {O : Type 0} → (O → OutputBytes) → Result (Unit {0}) Fault → StorageState → StorageState → O → O → Run O
+abbrev pub run_between : {A O : Type 0} → (O → OutputBytes) → Result A Fault → StorageState → StorageState → O → O → Run A O
 run_between contents answer old new before after = run_over (λ (state : StorageState). state) contents answer old new before after
 
 -- what is read from the bytes is refused, so no line of it is meant
-pub Prints-refused : {A O : Type 0} (fault : Fault) (read : Image → Result A Fault) (lines_of : A → List ℕ) (contents : O → OutputBytes) (old new : StorageState) (a b : O)
+pub Prints-refused : {V A O : Type 0} (fault : Fault) (read : Image → Result V Fault) (lines_of : V → List ℕ) (contents : O → OutputBytes) (old new : StorageState) (a b : O)
     → (IsTrue old.tells → (fault ≡ Storage) ⊎ (fault ≡ NoMemory) ⊎ (read old.byte_at ≡ Err fault)) → (fault ≡ Storage → new.failures ≢ old.failures)
-    → Prints (run_between contents (Err fault) old new a b) (λ image. result_map lines_of (read image))
+    → Prints {A = A} (run_between contents (Err fault) old new a b) (λ image. result_map lines_of (read image))
 Prints-refused fault read lines_of contents old new a b refused failed =
     grind (arith, nat_tests, read_fault-of, refused-as)
 
@@ -80,11 +80,11 @@ pub reads-calm : {T : Type 0} (value : T) (old new : StorageState) → OnlyReads
 reads-calm value old new reads = grind (arith, reads.told)
 
 -- calls that printed nothing, whose fault shows whether one of the image failed
-pub last-unprinted : {O : Type 0} (fault : Fault) (contents : O → OutputBytes) (old new : StorageState) (a : O) → (new.failures ≢ old.failures → fault ≡ Storage)
-    → SameDevice old new → PrintsLast (run_between contents (Err fault) old new a a)
+pub last-unprinted : {A O : Type 0} (fault : Fault) (contents : O → OutputBytes) (old new : StorageState) (a : O) → (new.failures ≢ old.failures → fault ≡ Storage)
+    → SameDevice old new → PrintsLast {A = A} (run_between contents (Err fault) old new a a)
 last-unprinted fault contents old new a failed device = record { refused = λ other. refl; failed = λ moved. (rw (failed moved) refl, refl); device = device }
 
 -- a print that comes last, after calls of the image of which none failed
-pub last-printed : {O : Type 0} (run : Run O) → IsOkUnless run.answer Storage → run.new.failures ≡ run.old.failures
+pub last-printed : {A O : Type 0} (run : Run A O) → IsOkUnless run.answer Storage → run.new.failures ≡ run.old.failures
     → SameDevice run.old run.new → PrintsLast run
 last-printed run fault calm device = grind (arith, nat_tests)

@@ -1,17 +1,21 @@
 use Rattle.std.proofs.lemmas.Bool.Decides.{nat_tests}
-use Rattle.std.proofs.Common.{◌≡◌, ℕ, Result, Ok, Err, refl, arith}
-use Rattle.std.specs.Result.{MatchResult}
+use Rattle.std.proofs.Common.{◌≡◌, ◌≢◌, ◌⊎◌, ℕ, ◌∙◌, Result, Ok, Err, inl, inr, refl, sym, arith}
+use Rattle.std.specs.Result.{IsOk, MatchResult, OnErr, OnOk}
 use Rattle.qcow2_base.specs.Storage.{StorageState}
 use Rattle.qcow2_base.specs.declared.fault.Fault.{Fault}
+use Rattle.qcow2_base.specs.declared.fault.Fault.TheVariants.{Storage}
 use Rattle.qcow2_metadata.specs.Header.{HeaderRecord}
 use Rattle.qcow2_session.proofs.PrintingLemmas.{run_between}
 use Rattle.qcow2_session.specs.Commands.Facts.{CommandFacts}
 use Rattle.qcow2_session.specs.Commands.Printing.{AppendsPart, OutputBytes, PrintsLast, Run}
 use Rattle.qcow2_session.specs.Commands.Report.{Reports, fault_line}
 use Rattle.qcow2_session.specs.Commands.Running.{FindsHeader, Runs}
+use Rattle.qcow2_session.specs.Commands.Verdict.{status_of_verdict}
+use Rattle.qcow2_session.specs.declared.commands.verdict.Verdict.{Verdict}
+use Rattle.qcow2_session.specs.declared.commands.verdict.Verdict.TheVariants.{Fine, Harmful, Harmless}
 
 -- a command ran with the header that it found
-pub runs-with : {O : Type 0} (facts : CommandFacts) (header : HeaderRecord) (run : Run O) (left : StorageState)
+pub runs-with : {O : Type 0} (facts : CommandFacts) (header : HeaderRecord) (run : Run Verdict O) (left : StorageState)
     → FindsHeader facts (Ok header) run.old left → facts.Ends header (record run { old = left }) → Runs facts run
 runs-with facts header run left found ends = (Ok header, left, found, ends)
 
@@ -24,22 +28,40 @@ runs-without facts fault contents old new a found = (Err fault, new, found, (ref
 pub ruleset runs = (runs-with, runs-without)
 
 -- what a command prints last, after its header was found
-pub last-with : {O : Type 0} (facts : CommandFacts) (header : HeaderRecord) (run : Run O) (left : StorageState)
+pub last-with : {A O : Type 0} (facts : CommandFacts) (header : HeaderRecord) (run : Run A O) (left : StorageState)
     → FindsHeader facts (Ok header) run.old left → PrintsLast (record run { old = left }) → PrintsLast run
 last-with facts header run left found last = grind (arith, nat_tests)
 
+-- what a run comes to after the flush of its output
+pub answer-flushed : {E : Type 0} (ran answer : Result Verdict Fault) (flushed : Result (Unit {0}) E) → OnErr ran (answer ≡ ran)
+    → OnOk ran (MatchResult flushed (λ _. answer ≡ ran) (λ _. answer ≡ Err Storage)) → (answer ≡ ran) ⊎ (IsOk ran × (answer ≡ Err Storage))
+answer-flushed (Ok verdict) answer (Ok done) own flush = inl flush
+answer-flushed (Ok verdict) answer (Err error) own flush = inr (refl, flush)
+answer-flushed (Err fault) answer flushed own flush = inl own
+
+-- no verdict has the status of a fault, or that of wrong words
+never-one : (verdict : Verdict) → status_of_verdict verdict ≢ 1
+never-one Fine is = absurd (omega (arith, is))
+never-one Harmless is = absurd (omega (arith, is))
+never-one Harmful is = absurd (omega (arith, is))
+
+never-two : (verdict : Verdict) → status_of_verdict verdict ≢ 2
+never-two Fine is = absurd (omega (arith, is))
+never-two Harmless is = absurd (omega (arith, is))
+never-two Harmful is = absurd (omega (arith, is))
+
 -- what is on standard error, by the status of a run
-pub reports-run : {T E : Type 0} (ran : Result T Fault) (status : ℕ) (contents : E → OutputBytes) (old new : E)
-    → MatchResult ran (λ _. status ≡ 0) (λ _. status ≡ 1)
+pub reports-run : {E : Type 0} (ran : Result Verdict Fault) (status : ℕ) (contents : E → OutputBytes) (old new : E)
+    → MatchResult ran (λ verdict. status ≡ status_of_verdict verdict) (λ _. status ≡ 1)
     → MatchResult ran (λ _. new ≡ old) (λ fault. AppendsPart (contents old) (contents new) (fault_line fault))
     → Reports status contents old new
-reports-run (Ok done) status contents old new is line = record {
-  success = λ _. line;
-  fault = λ one. absurd (omega (arith, is, one));
-  wrong_words = λ two. absurd (omega (arith, is, two));
+reports-run (Ok verdict) status contents old new is line = record {
+  verdict = λ no_fault words. line;
+  fault = λ one. absurd (never-one verdict (sym is ∙ one));
+  wrong_words = λ two. absurd (never-two verdict (sym is ∙ two));
 }
 reports-run (Err fault) status contents old new is line = record {
-  success = λ none. absurd (omega (arith, is, none));
+  verdict = λ no_fault words. absurd (no_fault is);
   fault = λ _. (fault, line);
   wrong_words = λ two. absurd (omega (arith, is, two));
 }

@@ -1,6 +1,7 @@
 -- Which commands are there, what asks for each, and what are its facts?
 pub mod At
 pub mod Changing
+pub mod Check
 pub mod Count
 pub mod Edit
 pub mod Entries
@@ -12,9 +13,11 @@ pub mod Map
 pub mod Printing
 pub mod Report
 pub mod Running
+pub mod Verdict
 pub mod Words
 use Rattle.std.specs.Prelude.{if◌then◌else◌, ◌∷◌, Option, None, bytes_eq, codes}
 use Rattle.qcow2_session.specs.Commands.At.{at_command, at_facts}
+use Rattle.qcow2_session.specs.Commands.Check.{check_facts}
 use Rattle.qcow2_session.specs.Commands.Count.{count_command, count_facts}
 use Rattle.qcow2_session.specs.Commands.Edit.{edit_command, edit_facts}
 use Rattle.qcow2_session.specs.Commands.Facts.{CommandFacts}
@@ -33,6 +36,7 @@ command_by_name name arguments =
     else if bytes_eq name (codes "list") then command_alone command.List arguments
     else if bytes_eq name (codes "map") then map_command arguments
     else if bytes_eq name (codes "at") then at_command arguments
+    else if bytes_eq name (codes "check") then command_alone command.Check arguments
     else if bytes_eq name (codes "edit") then edit_command arguments
     else if bytes_eq name (codes "count") then count_command arguments
     else if bytes_eq name (codes "l2") then l2_command arguments else None
@@ -49,6 +53,7 @@ facts_of command.Info = info_facts
 facts_of command.List = list_facts
 facts_of (command.Map format) = map_facts format
 facts_of (command.At guest_offset) = at_facts guest_offset.0
+facts_of command.Check = check_facts
 facts_of (command.Edit l1_index edits) = edit_facts l1_index edits
 facts_of (command.Count cluster steps) = count_facts cluster steps
 facts_of (command.L2 cluster_bits cluster) = l2_facts cluster_bits cluster

@@ -9,6 +9,7 @@ use qcow2_base::{GuestOffset, HostCluster};
 use std::alloc::{AllocError, Global};
 
 mod at;
+mod check;
 mod count;
 mod edit;
 mod entries;
@@ -18,9 +19,11 @@ mod list;
 mod map;
 mod report;
 mod running;
+mod verdict;
 mod words;
 
 pub use at::print_mapping_at;
+pub use check::check_image;
 pub use count::count_references;
 pub use edit::edit_entries;
 pub use info::print_info;
@@ -29,6 +32,7 @@ pub use list::list_tables;
 pub use map::{ExtentFormat, print_extents};
 pub use report::report_fault;
 pub use running::{run, run_words};
+pub use verdict::Verdict;
 pub use words::Changes;
 use words::alone;
 
@@ -47,6 +51,8 @@ pub enum Command {
     At {
         guest_offset: GuestOffset,
     },
+    /// `check IMAGE`: whether counters and flags are what the tables say.
+    Check,
     /// `edit IMAGE L1INDEX EDIT..`: edits of the L2 table of an L1 entry.
     Edit {
         l1_index: usize,
@@ -79,6 +85,7 @@ impl Command {
             "list" => alone(Command::List, arguments),
             "map" => map::parse(arguments),
             "at" => at::parse(arguments),
+            "check" => alone(Command::Check, arguments),
             "edit" => edit::parse(alloc, arguments),
             "count" => count::parse(alloc, arguments),
             "l2" => l2::parse(arguments),

@@ -126,7 +126,7 @@ fn make(
         LookUp(offset) => look_up(alloc, image, offset),
         LookUpImage(offset) => lookup_image(alloc, image, offset).map(|_| ()),
         Line(line) => match run_command(alloc, image, line, out)? {
-            Some(answer) => answer,
+            Some(answer) => answer.map(|_| ()),
             None => return Err(row_error(line)),
         },
     })

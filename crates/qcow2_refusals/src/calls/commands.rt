@@ -28,5 +28,5 @@ fn command_of(alloc: Global, line: &str) -> Result<Command, Fault> {
 /// Runs the command of these words, which name no image.
 pub(super) fn make<S: Storage>(line: &str, held: &mut Held, image: &mut S) -> Result<(), Fault> {
     let command = command_of(held.alloc, line)?;
-    run(held.alloc, image, &command, &mut held.out)
+    run(held.alloc, image, &command, &mut held.out).map(|_| ())
 }

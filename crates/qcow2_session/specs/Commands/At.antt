@@ -27,6 +27,7 @@ abbrev pub at_facts : ℕ → CommandFacts
 at_facts offset = record {
   changes_image = false;
   prints_before_faults = false;
+  has_verdict = false;
   cluster_bits = None;
   place_fault = None;
   Ends = λ header run. Prints run (line_at header offset);

@@ -19,7 +19,7 @@ pub record ChangeEnd : Type 0 where
 -- this is why it was refused, or the output failed. The new image has its numbers, unless a fault but the output's came; it
 -- is as before where it is refused or nothing is to be written, and always outside the cluster. Where a call of the image
 -- failed it is as before, or the numbers are written up to a piece
-pub record PrintsChange {O : Type 0} (run : Run O) (layout : Layout) (end : Image → Result ChangeEnd Fault) : Type 0 where
+pub record PrintsChange {A O : Type 0} (run : Run A O) (layout : Layout) (end : Image → Result ChangeEnd Fault) : Type 0 where
   pub lines : OnOk run.answer (OnImage run.old (λ bytes. IsOkAnd (end bytes) (λ left. OutputGets run left.lines)))
   pub refused : IfErr run.answer (λ fault. OnImage run.old (λ bytes. IsRefusal (end bytes) (λ left. left.lines) run fault))
   pub written : IfErr run.answer (IsOutputFault run) → OnImages run.old run.new (λ was is.

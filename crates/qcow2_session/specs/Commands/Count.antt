@@ -55,6 +55,7 @@ abbrev pub count_facts : HostCluster → List Step → CommandFacts
 count_facts cluster steps = record {
   changes_image = true;
   prints_before_faults = false;
+  has_verdict = false;
   cluster_bits = None;
   place_fault = None;
   Ends = λ header run.

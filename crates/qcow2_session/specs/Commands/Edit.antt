@@ -80,6 +80,7 @@ abbrev pub edit_facts : ℕ → List Edit → CommandFacts
 edit_facts l1_index edits = record {
   changes_image = true;
   prints_before_faults = false;
+  has_verdict = false;
   cluster_bits = None;
   place_fault = None;
   Ends = λ header run. PrintsChange run (l2_layout (geometry_of header)) (end_of_edits l1_index edits header);

@@ -42,6 +42,7 @@ abbrev pub info_facts : CommandFacts
 info_facts = record {
   changes_image = false;
   prints_before_faults = false;
+  has_verdict = false;
   cluster_bits = None;
   place_fault = None;
   Ends = λ header run. (run.new ≡ run.old)

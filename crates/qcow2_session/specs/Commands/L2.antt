@@ -38,6 +38,7 @@ abbrev pub l2_facts : ℕ → HostCluster → CommandFacts
 l2_facts cb cluster = record {
   changes_image = false;
   prints_before_faults = false;
+  has_verdict = false;
   cluster_bits = Some cb;
   place_fault = place_fault (l2_layout (geometry cb false)) cluster;
   Ends = λ header run. Prints run (lines_of_l2_table (geometry cb false) cluster);

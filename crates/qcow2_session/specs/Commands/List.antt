@@ -32,12 +32,12 @@ texts_of_tables header image =
     result_map (λ l1. texts_of g (named_tables g 0 l1 image)) (loaded_l1_table header image)
 
 -- all tables can be loaded, and the output got their lines
-abbrev pub PrintsAllTables : {O : Type 0} → Run O → TableTexts → Type 0
+abbrev pub PrintsAllTables : {A O : Type 0} → Run A O → TableTexts → Type 0
 PrintsAllTables run tables = (printed : List (List ℕ)) × (tables ≡ map Ok printed) × OutputGets run (concat printed)
 
 -- the print of tables ended in this fault at one of them, where all before it can be loaded: it can't be read, and the
 -- output got the lines of those before it, or it can, and the output failed and got a beginning of these lines and its own
-pub record PrintsTablesBefore {O : Type 0} (fault : Fault) (run : Run O) (tables : TableTexts) : Type 0 where
+pub record PrintsTablesBefore {A O : Type 0} (fault : Fault) (run : Run A O) (tables : TableTexts) : Type 0 where
   pub printed : List (List ℕ)
   pub table : Result (List ℕ) Fault
   pub rest : TableTexts
@@ -46,13 +46,13 @@ pub record PrintsTablesBefore {O : Type 0} (fault : Fault) (run : Run O) (tables
       ⊎ (IsOutputFault run fault × IsOkAnd table (λ lines. OutputGetsPart run (concat printed ++ lines)))
 
 -- a run prints tables: all of them, or those before the one at which it ended
-pub record PrintsTables {O : Type 0} (run : Run O) (tables : Image → TableTexts) : Type 0 where
+pub record PrintsTables {A O : Type 0} (run : Run A O) (tables : Image → TableTexts) : Type 0 where
   pub lines : OnOk run.answer (OnImage run.old (λ bytes. PrintsAllTables run (tables bytes)))
   pub refused : IfErr run.answer (λ fault. OnImage run.old (λ bytes. PrintsTablesBefore fault run (tables bytes)))
 
 -- a run lists the L2 tables of its image: it printed all of them, or it was refused. Where the L1 table can't be loaded
 -- nothing is printed, else the lines of the tables before the one at which it ended
-pub record PrintsList {O : Type 0} (run : Run O) (tables : Image → Result TableTexts Fault) : Type 0 where
+pub record PrintsList {A O : Type 0} (run : Run A O) (tables : Image → Result TableTexts Fault) : Type 0 where
   pub lines : OnOk run.answer (OnImage run.old (λ bytes. IsOkAnd (tables bytes) (PrintsAllTables run)))
   pub refused : IfErr run.answer (λ fault. OnImage run.old (λ bytes.
       (IsReadFault (tables bytes) run fault × OutputGets run [])
@@ -63,6 +63,7 @@ abbrev pub list_facts : CommandFacts
 list_facts = record {
   changes_image = false;
   prints_before_faults = true;
+  has_verdict = false;
   cluster_bits = None;
   place_fault = None;
   Ends = λ header run.

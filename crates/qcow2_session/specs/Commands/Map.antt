@@ -85,23 +85,23 @@ disk_of header image = result_map (λ l1. record { contents = contents_of (geome
     (loaded_l1_table header image)
 
 -- the output got the text of all extents of a disk
-abbrev pub PrintsMap : {O : Type 0} → ExtentFormat → Run O → Disk → Type 0
+abbrev pub PrintsMap : {A O : Type 0} → ExtentFormat → Run A O → Disk → Type 0
 PrintsMap format run disk = (extents : List Extent) × AreExtents disk.contents disk.size 0 extents disk.size
     × OutputGets run (opening format ++ extents_text format extents ++ closing format)
 
 -- the output got the text of the extents before one that can't be read for this fault
-abbrev pub PrintsMapBefore : {O : Type 0} → ExtentFormat → Fault → Run O → Disk → Type 0
+abbrev pub PrintsMapBefore : {A O : Type 0} → ExtentFormat → Fault → Run A O → Disk → Type 0
 PrintsMapBefore format fault run disk = (extents : List Extent) × AreExtentsBefore disk.contents disk.size 0 extents fault
     × OutputGets run (opening format ++ extents_text format extents)
 
 -- the output got a beginning of the text of a disk: of that of all its extents, or of the extents up to an offset
-abbrev pub PrintsMapPart : {O : Type 0} → ExtentFormat → Run O → Disk → Type 0
+abbrev pub PrintsMapPart : {A O : Type 0} → ExtentFormat → Run A O → Disk → Type 0
 PrintsMapPart format run disk = (extents : List Extent) × (to : ℕ) × AreExtents disk.contents disk.size 0 extents to
     × OutputGetsPart run (opening format ++ extents_text format extents ++ (if to == disk.size then closing format else []))
 
 -- a run prints the extents from a reader's offset on: up to the disk's size after `Ok`, and after a fault up to the extent
 -- that can't be read. An output that failed got a beginning of the text of extents up to an offset
-pub record PrintsRest {O : Type 0} (run : Run O) (format : ExtentFormat) (reader : ExtentsState) : Type 0 where
+pub record PrintsRest {A O : Type 0} (run : Run A O) (format : ExtentFormat) (reader : ExtentsState) : Type 0 where
   pub extents : OnOk run.answer (OnImage run.old (λ bytes. (extents : List Extent)
       × AreExtents (contents_for reader bytes) reader.header.v2.size reader.position extents reader.header.v2.size
       × OutputGets run (extents_text format extents)))
@@ -115,7 +115,7 @@ pub record PrintsRest {O : Type 0} (run : Run O) (format : ExtentFormat) (reader
 
 -- a run maps a disk: it printed all extents, or it was refused. Where the L1 table can't be loaded nothing is printed, else
 -- the extents before the one that can't be read. An output that failed got a beginning of the text
-pub record PrintsExtents {O : Type 0} (run : Run O) (format : ExtentFormat) (disk : Image → Result Disk Fault) : Type 0 where
+pub record PrintsExtents {A O : Type 0} (run : Run A O) (format : ExtentFormat) (disk : Image → Result Disk Fault) : Type 0 where
   pub extents : OnOk run.answer (OnImage run.old (λ bytes. IsOkAnd (disk bytes) (PrintsMap format run)))
   pub refused : IfErr run.answer (λ fault. OnImage run.old (λ bytes.
       (IsReadFault (disk bytes) run fault × OutputGets run [])
@@ -127,6 +127,7 @@ abbrev pub map_facts : ExtentFormat → CommandFacts
 map_facts format = record {
   changes_image = false;
   prints_before_faults = true;
+  has_verdict = false;
   cluster_bits = None;
   place_fault = None;
   Ends = λ header run.

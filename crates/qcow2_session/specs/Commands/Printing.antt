@@ -17,8 +17,8 @@ AppendsPart (Some old) (Some new) bytes = (written : ℕ) × (new ≡ old ++ tak
 
 -- a run over an image, to an output: what it returned, the image's storage before and after, and the output before and
 -- after, whose contents are the bytes that it has got
-pub record Run (O : Type 0) : Type 0 where
-  pub answer : Result (Unit {0}) Fault
+pub record Run (A O : Type 0) : Type 0 where
+  pub answer : Result A Fault
   pub old : StorageState
   pub new : StorageState
   pub contents : O → OutputBytes
@@ -26,7 +26,7 @@ pub record Run (O : Type 0) : Type 0 where
   pub after : O
 
 -- the run that returned this, over an image and to an output that were these before and are these after
-abbrev pub run_over : {S O : Type 0} → (S → StorageState) → (O → OutputBytes) → Result (Unit {0}) Fault → S → S → O → O → Run O
+abbrev pub run_over : {S A O : Type 0} → (S → StorageState) → (O → OutputBytes) → Result A Fault → S → S → O → O → Run A O
 run_over state contents answer old new before after = record {
   answer = answer;
   old = state old;
@@ -37,25 +37,25 @@ run_over state contents answer old new before after = record {
 }
 
 -- the output of a run got these bytes
-abbrev pub OutputGets : {O : Type 0} → Run O → List ℕ → Type 0
+abbrev pub OutputGets : {A O : Type 0} → Run A O → List ℕ → Type 0
 OutputGets run bytes = Appends (run.contents run.before) (run.contents run.after) bytes
 
 -- or a beginning of them
-abbrev pub OutputGetsPart : {O : Type 0} → Run O → List ℕ → Type 0
+abbrev pub OutputGetsPart : {A O : Type 0} → Run A O → List ℕ → Type 0
 OutputGetsPart run bytes = AppendsPart (run.contents run.before) (run.contents run.after) bytes
 
 -- what a run read of its image ended in this fault: it is the one that the bytes mean, or memory ran out, or a call of the
 -- image failed
-abbrev pub IsReadFault : {V O : Type 0} → Result V Fault → Run O → Fault → Type 0
+abbrev pub IsReadFault : {V A O : Type 0} → Result V Fault → Run A O → Fault → Type 0
 IsReadFault meant run fault =
     (meant ≡ Err fault) ⊎ (fault ≡ NoMemory) ⊎ ((fault ≡ Storage) × (run.new.failures ≢ run.old.failures))
 
 -- the fault is that of a run's failed output: the storage fault, where no call of the image failed
-abbrev pub IsOutputFault : {O : Type 0} → Run O → Fault → Type 0
+abbrev pub IsOutputFault : {A O : Type 0} → Run A O → Fault → Type 0
 IsOutputFault run fault = (fault ≡ Storage) × (run.new.failures ≡ run.old.failures)
 
 -- a run ended in this fault: that of what it read, or that of its output, which got a beginning of the lines that are meant
-abbrev pub IsRefusal : {V O : Type 0} → Result V Fault → (V → List ℕ) → Run O → Fault → Type 0
+abbrev pub IsRefusal : {V A O : Type 0} → Result V Fault → (V → List ℕ) → Run A O → Fault → Type 0
 IsRefusal meant lines_of run fault = IsReadFault meant run fault
     ⊎ (IsOutputFault run fault × IsOkAnd meant (λ value. OutputGetsPart run (lines_of value)))
 
@@ -67,12 +67,12 @@ pub record PrintsText {T : Type 0} (answer : Result T Fault) (before after : Out
 
 -- a run prints last: a fault other than the storage fault comes before any line, and so does a failed call of the image,
 -- which is that fault
-pub record PrintsLast {O : Type 0} (run : Run O) : Type 0 where
+pub record PrintsLast {A O : Type 0} (run : Run A O) : Type 0 where
   pub refused : IfErr run.answer (λ fault. fault ≢ Storage → run.after ≡ run.before)
   pub failed : run.new.failures ≢ run.old.failures → IsErrOf run.answer Storage × (run.after ≡ run.before)
   pub device : SameDevice run.old run.new
 
 -- a run prints what its image's bytes mean: it printed these lines, or it was refused
-pub record Prints {O : Type 0} (run : Run O) (meant : Image → Result (List ℕ) Fault) : Type 0 where
+pub record Prints {A O : Type 0} (run : Run A O) (meant : Image → Result (List ℕ) Fault) : Type 0 where
   pub lines : OnOk run.answer (OnImage run.old (λ bytes. IsOkAnd (meant bytes) (OutputGets run)))
   pub refused : IfErr run.answer (λ fault. OnImage run.old (λ bytes. IsRefusal (meant bytes) (λ lines. lines) run fault))

@@ -1,5 +1,5 @@
 -- What stands on standard error after a run?
-use Rattle.std.specs.Prelude.{◌≡◌, ℕ, List, ◌++◌, codes}
+use Rattle.std.specs.Prelude.{◌≡◌, ◌≢◌, ℕ, List, ◌++◌, codes}
 use Rattle.std.specs.Fmt.{decimal}
 use Rattle.qcow2_base.specs.Fault.{fault_number}
 use Rattle.qcow2_base.specs.declared.fault.Fault.{Fault}
@@ -13,9 +13,9 @@ fault_line fault = codes "qmeta: fault " ++ decimal (fault_number fault) ++ code
 abbrev pub usage_line : List ℕ
 usage_line = codes "usage: qmeta COMMAND IMAGE ARGUMENTS\n"
 
--- what a run of the program with this status wrote to standard error: nothing after a success, the line of a fault, or
--- how the program is called
+-- what a run of the program with this status wrote to standard error: the line of a fault, how the program is called, or
+-- nothing after any other status
 pub record Reports {E : Type 0} (status : ℕ) (contents : E → OutputBytes) (old new : E) : Type 0 where
-  pub success : status ≡ 0 → new ≡ old
+  pub verdict : status ≢ 1 → status ≢ 2 → new ≡ old
   pub fault : status ≡ 1 → (fault : Fault) × AppendsPart (contents old) (contents new) (fault_line fault)
   pub wrong_words : status ≡ 2 → AppendsPart (contents old) (contents new) usage_line

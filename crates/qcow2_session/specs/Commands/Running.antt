@@ -1,5 +1,5 @@
 -- What does a run of a command come to, from the load of the header to the flush of the output?
-use Rattle.std.specs.Prelude.{◌≡◌, false, ℕ, Option, Some, None, Result, Err, IfErr, IsOkUnless, MatchResult, OnOk}
+use Rattle.std.specs.Prelude.{◌≡◌, ◌⊎◌, false, ℕ, Option, Some, None, Result, Err, IsOk, MatchResult}
 use Rattle.std.specs.Io.KnownBytes.{Keeps}
 use Rattle.qcow2_base.specs.Storage.{StorageState}
 use Rattle.qcow2_base.specs.declared.fault.Fault.{Fault}
@@ -8,6 +8,7 @@ use Rattle.qcow2_metadata.specs.Header.{HeaderRecord, geometry, geometry_of}
 use Rattle.qcow2_metadata.specs.Header.Open.{Loads}
 use Rattle.qcow2_session.specs.Commands.Facts.{CommandFacts}
 use Rattle.qcow2_session.specs.Commands.Printing.{Run}
+use Rattle.qcow2_session.specs.declared.commands.verdict.Verdict.{Verdict}
 
 -- a header without an external data file was made for these cluster bits, unless memory ran out
 abbrev pub IsNewHeader : ℕ → Result HeaderRecord Fault → Type 0
@@ -24,15 +25,15 @@ FindsHeader facts found old new = by_words facts.cluster_bits
 
 -- a run of a command: its header is found first, whose fault is the answer before anything is printed, and then the
 -- command runs over the image that this left
-abbrev pub Runs : {O : Type 0} → CommandFacts → Run O → Type 0
+abbrev pub Runs : {O : Type 0} → CommandFacts → Run Verdict O → Type 0
 Runs facts run = (found : Result HeaderRecord Fault) × (left : StorageState)
     × FindsHeader facts found run.old left × MatchResult found
     (λ header. facts.Ends header (record run { old = left }))
     (λ fault. (run.answer ≡ Err fault) × (run.new ≡ left) × (run.after ≡ run.before))
 
--- a run of a command, and then the flush of its output: the answer is the fault of the run, if it has one. After a run
--- without a fault only a failed flush is one, the storage fault. The flush changes nothing of what was printed
-abbrev pub RunsAndFlushes : {O : Type 0} → CommandFacts → Run O → Type 0
-RunsAndFlushes {O = O} facts run = (ran : Result (Unit {0}) Fault) × (printed : O)
+-- a run of a command, and then the flush of its output: the answer is that of the run, its verdict or its fault. Only after
+-- a run without a fault it may be the storage fault, of a failed flush. The flush changes nothing of what was printed
+abbrev pub RunsAndFlushes : {O : Type 0} → CommandFacts → Run Verdict O → Type 0
+RunsAndFlushes {O = O} facts run = (ran : Result Verdict Fault) × (printed : O)
     × Runs facts (record run { answer = ran; after = printed }) × Keeps (run.contents printed) (run.contents run.after)
-    × IfErr ran (λ fault. run.answer ≡ Err fault) × OnOk ran (IsOkUnless run.answer Storage)
+    × ((run.answer ≡ ran) ⊎ (IsOk ran × (run.answer ≡ Err Storage)))

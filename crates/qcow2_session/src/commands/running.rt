@@ -1,15 +1,18 @@
 //! Running a command over its image, and the whole program.
 
-ghost use Rattle.std.specs.Prelude.{◌≡◌, ◌≢◌, ◌≤◌, ◌↔◌, None, Ok, Err, false, map, string_bytes, IsErr, IsOk, IfErr, IfSome, OnOk, MatchResult};
+ghost use Rattle.std.specs.Prelude.{◌≡◌, ◌≢◌, ◌≤◌, ◌↔◌, None, Ok, Err, false, map, string_bytes, IsErr, IfErr, IfOk, IfSome, OnErr, OnOk, MatchResult};
 ghost use Rattle.std.specs.Io.KnownBytes.{Keeps};
 ghost use Rattle.qcow2_base.specs.declared.fault.Fault.TheVariants.{Storage as StorageFailed};
 ghost use Rattle.qcow2_session.specs.Commands.{command_of, facts_of};
 ghost use Rattle.qcow2_session.specs.Commands.Printing.{AppendsPart, PrintsLast, run_over};
 ghost use Rattle.qcow2_session.specs.Commands.Report.{Reports, fault_line};
 ghost use Rattle.qcow2_session.specs.Commands.Running.{FindsHeader, Runs, RunsAndFlushes};
+ghost use Rattle.qcow2_session.specs.Commands.Verdict.{fine_unless_failed, status_of_verdict};
+ghost use Rattle.qcow2_session.specs.declared.commands.verdict.Verdict.TheVariants.{Fine};
 
 use super::Command;
 use super::at::print_mapping_at;
+use super::check::check_image;
 use super::count::count_references;
 use super::edit::edit_entries;
 use super::info::print_info;
@@ -17,6 +20,7 @@ use super::l2::{new_header, print_l2_table};
 use super::list::list_tables;
 use super::map::print_extents;
 use super::report::{refuse_words, report_fault};
+use super::verdict::Verdict;
 use qcow2_base::{Fault, FileStorage, Storage};
 use qcow2_metadata::Header;
 use std::alloc::Global;
@@ -25,7 +29,8 @@ use std::io::Write;
 use std::rt::Files;
 
 /// Runs a command line, the words after the program's name, and returns the program's status: 0 for
-/// success, 1 for a fault and 2 for words that are no command.
+/// success, 1 for a fault and 2 for words that are no command. 3 and 4 are those of `Verdict::status`, for
+/// what a command found that is wrong with its image.
 ///
 /// What the command finds goes to `out`, where lines before a fault stay. A fault is the line
 /// `qmeta: fault N` on `err`, wrong words are the usage line there. `out` is flushed after a command,
@@ -36,7 +41,10 @@ pub fn run_words<R: Files + AllocGlobal, O: Write, E: Write>(
     out: &mut O,
     err: &mut E,
 ) -> u8
-    ensures status { result ≤ 2 }
+    // Only a command whose runs have verdicts ends with 3 or 4.
+    ensures status { (result ≤ 4) × IfSome (command_of (map string_bytes words.now)) (λ command.
+        (facts_of command).has_verdict ≡ false → result ≤ 1) }
+
     ensures wrong_words { (result ≡ 2) ↔ (command_of (map string_bytes words.now) ≡ None) }
     ensures no_lines { result ≡ 2 → out.new ≡ out.old }
     ensures reports { Reports result E.contents err.old err.new }
@@ -56,14 +64,14 @@ pub fn run_words<R: Files + AllocGlobal, O: Write, E: Write>(
     }
 }
 
-// The status of a run, after its fault is reported.
-fn status_of<E: Write>(ran: Result<(), Fault>, err: &mut E) -> u8
-    ensures status { MatchResult ran (λ _. result ≡ 0) (λ _. result ≡ 1) }
+// The status of a run: that of its verdict, or 1 after its fault is reported.
+fn status_of<E: Write>(ran: Result<Verdict, Fault>, err: &mut E) -> u8
+    ensures status { MatchResult ran (λ verdict. result ≡ status_of_verdict verdict) (λ _. result ≡ 1) }
     ensures line { MatchResult ran (λ _. err.new ≡ err.old) (λ fault.
         AppendsPart (E.contents err.old) (E.contents err.new) (fault_line fault)) }
 {
     match ran {
-        Ok(()) => 0,
+        Ok(verdict) => verdict.status(),
         Err(fault) => report_fault(fault, err),
     }
 }
@@ -74,11 +82,12 @@ fn run_on_file<R: Files + AllocGlobal, O: Write>(
     path: &str,
     command: &Command,
     out: &mut O,
-) -> Result<(), Fault>
+) -> Result<Verdict, Fault>
     ensures place { IfSome (facts_of command.now).place_fault (λ fault.
         IsErr result × Keeps (O.contents out.old) (O.contents out.new)) }
     ensures before_any_line { (facts_of command.now).prints_before_faults ≡ false → IfErr result (λ fault.
         fault ≢ StorageFailed → Keeps (O.contents out.old) (O.contents out.new)) }
+    ensures verdict { (facts_of command.now).has_verdict ≡ false → IfOk result (λ verdict. verdict ≡ Fine) }
 {
     let mut image = FileStorage::open(rt, path, command.changes_image())?;
     run_and_flush(rt.alloc(), &mut image, command, out)
@@ -90,38 +99,43 @@ fn run_and_flush<S: Storage, O: Write>(
     image: &mut S,
     command: &Command,
     out: &mut O,
-) -> Result<(), Fault>
+) -> Result<Verdict, Fault>
     ensures runs { RunsAndFlushes (facts_of command.now)
         (run_over S.state O.contents result image.old image.new out.old out.new) }
     ensures place { IfSome (facts_of command.now).place_fault (λ fault.
         IsErr result × Keeps (O.contents out.old) (O.contents out.new)) }
     ensures before_any_line { (facts_of command.now).prints_before_faults ≡ false → IfErr result (λ fault.
         fault ≢ StorageFailed → Keeps (O.contents out.old) (O.contents out.new)) }
+    ensures verdict { (facts_of command.now).has_verdict ≡ false → IfOk result (λ verdict. verdict ≡ Fine) }
 {
     let ran = run(alloc, image, command, out);
     after_flush(ran, out.flush())
 }
 
 // What a run comes to whose output was flushed after it: its own fault comes before a failed flush.
-fn after_flush(ran: Result<(), Fault>, flushed: io::Result<()>) -> Result<(), Fault>
-    ensures own { IfErr ran (λ fault. result ≡ Err fault) }
-    ensures flush { OnOk ran (MatchResult flushed (λ _. IsOk result) (λ _. result ≡ Err StorageFailed)) }
+fn after_flush(ran: Result<Verdict, Fault>, flushed: io::Result<()>) -> Result<Verdict, Fault>
+    ensures own { OnErr ran (result ≡ ran) }
+    ensures flush { OnOk ran (MatchResult flushed (λ _. result ≡ ran) (λ _. result ≡ Err StorageFailed)) }
 {
-    ran?;
-    flushed.map_err(|_| Fault::Storage)
+    let verdict = ran?;
+    match flushed {
+        Ok(()) => Ok(verdict),
+        Err(_) => Err(Fault::Storage),
+    }
 }
 
 /// Runs a command over an image, and prints to `out` what it finds. The image's header is loaded first,
 /// by who writes to the image for `edit` and `count`; `l2` doesn't look at it.
 ///
-/// Returns the fault of the header, or what the command's own function returns.
+/// Returns the fault of the header, or what the command's own function returns: `Fine` where that returns no
+/// verdict.
 #[tactic(auto, using(crate::proofs::RunningLemmas::runs))]
 pub fn run<S: Storage, O: Write>(
     alloc: Global,
     image: &mut S,
     command: &Command,
     out: &mut O,
-) -> Result<(), Fault>
+) -> Result<Verdict, Fault>
     ensures runs { Runs (facts_of command.now)
         (run_over S.state O.contents result image.old image.new out.old out.new) }
     ensures at_once { (facts_of command.now).prints_before_faults ≡ false →
@@ -130,23 +144,35 @@ pub fn run<S: Storage, O: Write>(
         (S.state image.new).byte_at ≡ (S.state image.old).byte_at }
     ensures place { IfSome (facts_of command.now).place_fault (λ fault.
         IsErr result × (out.new ≡ out.old)) }
+    ensures verdict { (facts_of command.now).has_verdict ≡ false → IfOk result (λ verdict. verdict ≡ Fine) }
 {
     let header = find_header(alloc, image, command)?;
     match command {
-        Command::Info => print_info(&header, out),
-        Command::List => list_tables(alloc, image, &header, out),
-        Command::Map { format } => print_extents(alloc, image, &header, *format, out),
+        Command::Info => fine(print_info(&header, out)),
+        Command::List => fine(list_tables(alloc, image, &header, out)),
+        Command::Map { format } => fine(print_extents(alloc, image, &header, *format, out)),
         Command::At { guest_offset } => {
-            print_mapping_at(alloc, image, &header, *guest_offset, out)
+            fine(print_mapping_at(alloc, image, &header, *guest_offset, out))
         }
+        Command::Check => check_image(alloc, image, &header, out),
         Command::Edit { l1_index, edits } => {
-            edit_entries(alloc, image, &header, *l1_index, edits.as_slice(), out)
+            fine(edit_entries(alloc, image, &header, *l1_index, edits.as_slice(), out))
         }
         Command::Count { cluster, steps } => {
-            count_references(alloc, image, &header, *cluster, steps.as_slice(), out)
+            fine(count_references(alloc, image, &header, *cluster, steps.as_slice(), out))
         }
-        Command::L2 { cluster, .. } => print_l2_table(alloc, image, &header, *cluster, out),
+        Command::L2 { cluster, .. } => {
+            fine(print_l2_table(alloc, image, &header, *cluster, out))
+        }
     }
+}
+
+// What a run returns whose command's own function returns no verdict.
+fn fine(ran: Result<(), Fault>) -> Result<Verdict, Fault>
+    ensures answer { result ≡ fine_unless_failed ran }
+    ensures verdict { IfOk result (λ verdict. verdict ≡ Fine) }
+{
+    ran.map(|()| Verdict::Fine)
 }
 
 // The header that a command works with: a new one of the cluster bits that its words say, or else that of the

@@ -6,6 +6,7 @@ use crate::failing_output::{FailingOutput, Failure};
 use crate::sample_image::{COPIED, Numbers, check_sample, sample_image};
 use qcow2_base::{Fault, Storage};
 use qcow2_calls::{parse_command, run};
+use qcow2_session::Verdict;
 use qcow2_testing::{each, rows, same};
 use std::alloc::Global;
 use std::test::Fail;
@@ -30,9 +31,9 @@ const ROW: Row = Row {
 };
 
 /// What a command returns, or nothing where the words are none.
-pub(crate) type Answer = Option<Result<(), Fault>>;
+pub(crate) type Answer = Option<Result<Verdict, Fault>>;
 
-const DONE: Answer = Some(Ok(()));
+const DONE: Answer = Some(Ok(Verdict::Fine));
 
 pub(crate) const JSON: &str = "[{ \"start\": 0, \"length\": 1536, \"depth\": 0, \
     \"present\": false, \"zero\": true, \"data\": false},\n\

@@ -2,7 +2,7 @@
 
 use super::whole_images::{RUN, Run, check_run};
 use crate::failing_output::{FailingOutput, Failure};
-use qcow2_session::{report_fault, run_words};
+use qcow2_session::{Verdict, report_fault, run_words};
 use qcow2_testing::{FAULTS, FaultyFiles, ReportedFault, each, rows, same};
 use std::alloc::Global;
 use std::rt::Files;
@@ -138,4 +138,20 @@ fn check_reported_on(
 #[test]
 fn a_fault_is_reported_by_its_number(rt: HostRuntime) -> Result<(), Fail> {
     each(rt.alloc(), FAULTS, check_reported)
+}
+
+// 1 and 2 are the statuses of faults and of words that are no command.
+#[test]
+fn a_verdict_is_a_status(rt: HostRuntime) -> Result<(), Fail> {
+    each(rt.alloc(), VERDICTS, check_verdict)
+}
+
+const VERDICTS: &[(Verdict, u8)] = rows! {
+    (Verdict::Fine, 0),
+    (Verdict::Harmless, 3),
+    (Verdict::Harmful, 4),
+};
+
+fn check_verdict(_alloc: Global, (verdict, status): (Verdict, u8)) -> Result<(), Fail> {
+    same(verdict.status(), status, verdict)
 }

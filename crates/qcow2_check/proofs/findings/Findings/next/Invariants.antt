@@ -10,6 +10,7 @@ invariant-loop-self g l =
     let old = g.S.Storage.state l.fn.image in
     record {
       from : l.fn.self.position ≤ l.self.position;
+      within : l.self.position ≤ max_file_length;
       right : OnImage old (λ bytes. AreRight (tables_of l.fn.self) bytes l.fn.self.position l.self.position);
       kept : OnImage old (λ bytes. IsFindingsOf bytes l.self);
       reader : MovesFindings old l.fn.self l.self;

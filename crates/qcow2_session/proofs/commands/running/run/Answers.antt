@@ -1,46 +1,67 @@
 use Rattle.std.proofs.Common.{refl}
 use Rattle.qcow2_session.proofs.RunningLemmas.{last-with, runs-with}
+use Rattle.qcow2_session.proofs.VerdictLemmas.{fine-Prints, fine-PrintsChange, fine-PrintsExtents, fine-PrintsLast, fine-PrintsList, fine-PrintsText, fine-ReadsFor}
 use Rattle.qcow2_session.specs.Commands.{facts_of}
 use Rattle.qcow2_session.proofs.commands.running.run.Goals as goal
 
 pub returns-in-Info-clause-runs : goal.returns-in-Info-clause-runs
 returns-in-Info-clause-runs g c = runs-with (facts_of c.args.command.now) c.in_ok-header.header _ _ c.in_ok-header.ensures
-    (rw c.in-Info.is (refl, c.print_info.ensures))
+    (rw (c.in-Info.is, c.fine.ensures.answer) (refl, fine-PrintsText c.print_info.result _ _ _ c.print_info.ensures))
 
 pub returns-in-List-clause-runs : goal.returns-in-List-clause-runs
 returns-in-List-clause-runs g c = runs-with (facts_of c.args.command.now) c.in_ok-header.header _ _ c.in_ok-header.ensures
-    (rw c.in-List.is (c.list_tables.ensures.prints, c.list_tables.ensures.storage))
+    (rw (c.in-List.is, c.fine-in-List.ensures.answer) (
+      fine-PrintsList c.list_tables.result _ _ _ _ _ _ c.list_tables.ensures.prints,
+      fine-ReadsFor c.list_tables.result _ _ c.list_tables.ensures.storage,
+    ))
 
 pub returns-in-Map-clause-runs : goal.returns-in-Map-clause-runs
 returns-in-Map-clause-runs g c = runs-with (facts_of c.args.command.now) c.in_ok-header.header _ _ c.in_ok-header.ensures
-    (rw c.in-Map.is (c.print_extents.ensures.prints, c.print_extents.ensures.storage))
+    (rw (c.in-Map.is, c.fine-in-Map.ensures.answer) (
+      fine-PrintsExtents c.print_extents.result _ _ _ _ _ _ _ c.print_extents.ensures.prints,
+      fine-ReadsFor c.print_extents.result _ _ c.print_extents.ensures.storage,
+    ))
 
 pub returns-in-At-clause-runs : goal.returns-in-At-clause-runs
 returns-in-At-clause-runs g c = runs-with (facts_of c.args.command.now) c.in_ok-header.header _ _ c.in_ok-header.ensures
-    (rw c.in-At.is c.print_mapping_at.ensures.prints)
+    (rw (c.in-At.is, c.fine-in-At.ensures.answer) (fine-Prints c.print_mapping_at.result _ _ _ _ _ _ c.print_mapping_at.ensures.prints))
 
 pub returns-in-At-clause-at_once : goal.returns-in-At-clause-at_once
 returns-in-At-clause-at_once g c = λ silent.
-    last-with (facts_of c.args.command.now) c.in_ok-header.header _ _ c.in_ok-header.ensures c.print_mapping_at.ensures.last
+    last-with (facts_of c.args.command.now) c.in_ok-header.header _ _ c.in_ok-header.ensures
+    (rw c.fine-in-At.ensures.answer (fine-PrintsLast c.print_mapping_at.result _ _ _ _ _ c.print_mapping_at.ensures.last))
+
+pub returns-in-Check-clause-runs : goal.returns-in-Check-clause-runs
+returns-in-Check-clause-runs g c = runs-with (facts_of c.args.command.now) c.in_ok-header.header _ _ c.in_ok-header.ensures
+    (rw c.in-Check.is (c.check_image.ensures.prints, c.check_image.ensures.storage))
 
 pub returns-in-Edit-clause-runs : goal.returns-in-Edit-clause-runs
 returns-in-Edit-clause-runs g c = runs-with (facts_of c.args.command.now) c.in_ok-header.header _ _ c.in_ok-header.ensures
-    (rw c.in-Edit.is (rw c.as_slice.ensures at c.edit_entries.ensures.edits))
+    (rw (c.in-Edit.is, c.fine-in-Edit.ensures.answer)
+    (fine-PrintsChange c.edit_entries.result _ _ _ _ _ _ _ (rw c.as_slice.ensures at c.edit_entries.ensures.edits)))
 
 pub returns-in-Edit-clause-at_once : goal.returns-in-Edit-clause-at_once
 returns-in-Edit-clause-at_once g c = λ silent.
-    last-with (facts_of c.args.command.now) c.in_ok-header.header _ _ c.in_ok-header.ensures c.edit_entries.ensures.last
+    last-with (facts_of c.args.command.now) c.in_ok-header.header _ _ c.in_ok-header.ensures
+    (rw c.fine-in-Edit.ensures.answer (fine-PrintsLast c.edit_entries.result _ _ _ _ _ c.edit_entries.ensures.last))
 
 pub returns-in-Count-clause-runs : goal.returns-in-Count-clause-runs
 returns-in-Count-clause-runs g c = runs-with (facts_of c.args.command.now) c.in_ok-header.header _ _ c.in_ok-header.ensures
-    (rw c.in-Count.is (rw c.as_slice-in-Count.ensures at c.count_references.ensures.counts))
+    (rw (c.in-Count.is, c.fine-in-Count.ensures.answer)
+    (fine-PrintsChange c.count_references.result _ _ _ _ _ _ _ (rw c.as_slice-in-Count.ensures at c.count_references.ensures.counts)))
 
 pub returns-in-Count-clause-at_once : goal.returns-in-Count-clause-at_once
 returns-in-Count-clause-at_once g c = λ silent.
-    last-with (facts_of c.args.command.now) c.in_ok-header.header _ _ c.in_ok-header.ensures c.count_references.ensures.last
+    last-with (facts_of c.args.command.now) c.in_ok-header.header _ _ c.in_ok-header.ensures
+    (rw c.fine-in-Count.ensures.answer (fine-PrintsLast c.count_references.result _ _ _ _ _ c.count_references.ensures.last))
 
 pub returns-clause-runs : goal.returns-clause-runs
 returns-clause-runs g c =
     let found = rw c.in-L2.is at c.in_ok-header.ensures in
     runs-with (facts_of c.args.command.now) c.in_ok-header.header _ _ c.in_ok-header.ensures
-    (rw (c.in-L2.is, ← found.0) c.print_l2_table.ensures.prints)
+    (rw (c.in-L2.is, ← found.0, c.fine-in-L2.ensures.answer) (fine-Prints c.print_l2_table.result _ _ _ _ _ _ c.print_l2_table.ensures.prints))
+
+pub returns-clause-at_once : goal.returns-clause-at_once
+returns-clause-at_once g c = λ silent.
+    last-with (facts_of c.args.command.now) c.in_ok-header.header _ _ c.in_ok-header.ensures
+    (rw c.fine-in-L2.ensures.answer (fine-PrintsLast c.print_l2_table.result _ _ _ _ _ c.print_l2_table.ensures.last))

@@ -1,6 +1,6 @@
 use Rattle.std.proofs.Common.{arith}
-use Rattle.std.proofs.lemmas.Result.{on_ok_weaker}
 use Rattle.qcow2_session.proofs.CommandsLemmas.{IfSome-follows, own-refused}
+use Rattle.qcow2_session.proofs.RunningLemmas.{answer-flushed}
 use Rattle.qcow2_session.proofs.commands.running.run_and_flush.Goals as goal
 
 pub returns-clause-runs : goal.returns-clause-runs
@@ -9,8 +9,7 @@ returns-clause-runs g c = (
   _,
   c.run-ran.ensures.runs,
   c.flush.ensures.bytes,
-  c.after_flush.ensures.own,
-  on_ok_weaker c.run-ran.result (λ flushed. grind (arith, flushed)) c.after_flush.ensures.flush,
+  answer-flushed c.run-ran.result _ c.flush.result c.after_flush.ensures.own c.after_flush.ensures.flush,
 )
 
 pub returns-clause-place : goal.returns-clause-place

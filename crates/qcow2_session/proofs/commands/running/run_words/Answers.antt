@@ -12,3 +12,6 @@ returns-in_default-clause-wrong_words g c = grind (arith, too_few_words, length-
 
 pub returns-in_default-clause-place : goal.returns-in_default-clause-place
 returns-in_default-clause-place g c = grind (arith, too_few_words, length-map)
+
+pub returns-in_default-clause-status : goal.returns-in_default-clause-status
+returns-in_default-clause-status g c = grind (arith, too_few_words, length-map)

@@ -1,0 +1,42 @@
+use Rattle.std.proofs.lemmas.Bool.Decides.{nat_tests}
+use Rattle.std.proofs.Common.{◌≡◌, ℕ, zero, suc, ◌+◌, ◌-◌, ◌*◌, ◌^◌, ◌<◌, ◌≤◌, List, [], ◌∷◌, length, slice_index, Some, Ok, Err, IsTrue, arith}
+use Rattle.std.proofs.Math.Pow.{pow_mono}
+use Rattle.std.proofs.lemmas.Nat.{mul-add-lt, mul-lt}
+use Rattle.qcow2_base.specs.Storage.{Image, OnImage, StorageState}
+use Rattle.qcow2_base.specs.declared.fault.Fault.{Fault}
+use Rattle.qcow2_base.specs.declared.types.HostCluster.{HostCluster}
+use Rattle.qcow2_metadata.specs.Header.{Geometry, HeaderRecord, geometry_of}
+use Rattle.qcow2_metadata.specs.Results.{Answers}
+use Rattle.qcow2_metadata.specs.Table.{IsContentFault, TableState, loaded_l2_table}
+use Rattle.qcow2_check.specs.Findings.{IsLaterFault}
+use Rattle.qcow2_check.specs.NamedTables.{named_cluster}
+use Rattle.qcow2_check.specs.Uses.{all_load, l1_entry_loads}
+
+-- the offset of each guest cluster that an L1 table of the most entries leads to fits 64 bits
+pub guest_offset_fits : (cb index l2_index : ℕ) → cb ≤ 21 → index < 4194304 → l2_index < 2 ^ (cb - 3) → (index * 2 ^ (cb - 3) + l2_index) * 2 ^ cb < 2 ^ 64
+guest_offset_fits cb index l2_index low l1 l2 =
+    let few : cb - 3 ≤ 18 = omega (arith, low) in
+    let entries : 2 ^ (cb - 3) ≤ 2 ^ 18 = pow_mono few in
+    let size : 2 ^ cb ≤ 2 ^ 21 = pow_mono low in
+    let below = mul-add-lt index (2 ^ (cb - 3)) l2_index 4194304 l1 l2 in
+    let cluster : index * 2 ^ (cb - 3) + l2_index < 2 ^ 40 = omega (arith, below, entries) in
+    let all = mul-lt (index * 2 ^ (cb - 3) + l2_index) (2 ^ cb) (2 ^ 40) (2 ^ 21 + 1) cluster (omega (arith, size)) in
+    omega (arith, all)
+
+-- where all L2 tables can be loaded, that of each L1 entry can
+pub loads_each : (g : Geometry) (image : Image) (vs : List ℕ) (i : ℕ) → i < length vs → all_load g vs image ≡ Ok tt
+    → l1_entry_loads g image (slice_index vs i) ≡ Ok tt
+loads_each g image [] i below loads = let never : ⊥ = omega (arith, below) in elim never [ ]
+loads_each g image (v ∷ vs) zero below loads = grind (arith, loads)
+loads_each g image (v ∷ vs) (suc i) below loads = grind (arith, loads, loads_each g image vs i (omega (arith, below)))
+
+-- so the fault of a load is from outside where the image's bytes are known
+pub later_fault : (header : HeaderRecord) (l1 : List ℕ) (index : ℕ) (cluster : HostCluster) (fault : Fault) (old now : StorageState)
+    → index < length l1 → named_cluster header.v2.cluster_bits (slice_index l1 index) ≡ Some cluster → IsContentFault fault
+    → OnImage old (λ bytes. all_load (geometry_of header) l1 bytes ≡ Ok (tt {0})) → (IsTrue old.tells → (now.tells ≡ old.tells) × (now.byte_at ≡ old.byte_at))
+    → OnImage now (λ bytes. Answers (λ (table : TableState). table.numbers) (Err fault) (loaded_l2_table (geometry_of header) cluster bytes))
+    → IsLaterFault old fault
+later_fault header l1 index cluster fault old now below named content loads same refused = (
+  content,
+  λ told. grind (arith, nat_tests, named, same told, refused, loads_each (geometry_of header) old.byte_at l1 index below (loads told)),
+)

@@ -1,0 +1,332 @@
+//! Entries whose copied flag isn't what the counter of their cluster says.
+
+ghost use Rattle.std.specs.Prelude.{◌≡◌, ◌+◌, ◌*◌, ◌<◌, ◌≤◌, false, IfErr, IfOk, IfSome, Ok, length, slice_index};
+ghost use Rattle.qcow2_base.specs.Format.{most_l1_entries};
+ghost use Rattle.qcow2_base.specs.Storage.{OnImage, OnlyReads};
+ghost use Rattle.qcow2_base.specs.Types.{IsClusterBits};
+ghost use Rattle.qcow2_metadata.specs.Header.{geometry, geometry_of};
+ghost use Rattle.qcow2_metadata.specs.Results.{IsFromOutside, Reads};
+ghost use Rattle.qcow2_metadata.specs.Table.{l2_entries};
+ghost use Rattle.qcow2_check.specs.Counters.{IsKeptBlockOf, IsSameButBlock};
+ghost use Rattle.qcow2_check.specs.Flags.{TakesFlag, data_counter, flagged_cluster, l2_flag, l2_flags_from, wrong_flag};
+
+use crate::counters::Counters;
+use crate::named_tables::{load_l2_table, named_cluster};
+use qcow2_base::{Fault, GuestCluster, GuestOffset, HostCluster, Storage};
+use qcow2_metadata::{Header, L1Table, L2Entry, L2Table, Table};
+use std::marker::Model;
+
+/// Which entry a copied flag is in.
+#[derive(Clone, Copy, Debug, PartialEq, Eq)]
+pub enum FlagPlace {
+    /// The L1 entry at an index.
+    L1Index(usize),
+    /// The L2 entry of the guest cluster at an offset.
+    Offset(GuestOffset),
+}
+
+/// A copied flag that is wrong. It is set in an entry whose cluster has a counter other than 1: who writes
+/// there in place destroys somebody else's data. Or it isn't set, though the counter is 1 or there is none:
+/// that only costs a copy.
+#[derive(Clone, Copy, Debug, PartialEq, Eq)]
+pub struct WrongFlag {
+    pub place: FlagPlace,
+    /// The cluster that the entry names.
+    pub cluster: HostCluster,
+    /// The counter of the cluster, which has none in an external data file.
+    pub counter: Option<u64>,
+    pub is_set: bool,
+}
+
+/// A reader of an image's wrong flags, one after another: those of L1 entries in their order, each followed
+/// by those of the L2 table that the entry names. It holds the L1 table, the refcount table, a refcount
+/// block and an L2 table. Clauses see it as what it has of the image and how far it has come.
+#[derive(Drop)]
+pub struct Flags<'a> {
+    header: &'a Header,
+    l1_table: L1Table,
+    counters: Counters<'a>,
+    index: usize,
+    table: Option<L2Table>,
+    position: usize,
+}
+
+impl<'a> Model for Flags<'a> {
+    ghost use Rattle.std.specs.Prelude.{◌≡◌, ◌<◌, ◌≤◌, IfSome, length};
+    ghost use Rattle.qcow2_base.specs.Format.{most_l1_entries};
+    ghost use Rattle.qcow2_metadata.specs.Header.{geometry_of};
+    ghost use Rattle.qcow2_metadata.specs.Table.{l2_entries};
+    ghost use Rattle.qcow2_check.specs.Flags.{FlagsState};
+
+    ghost Value = { FlagsState };
+
+    ghost view = { λ f. record {
+      header = f.header.now;
+      l1 = f.l1_table.numbers;
+      counters = f.counters;
+      index = f.index;
+      table = f.table;
+      position = f.position;
+    } };
+
+    ghost invariant = { λ f. (f.l1_table.geometry ≡ geometry_of f.header.now)
+        × (length f.l1_table.numbers ≤ most_l1_entries)
+        × (f.counters.header ≡ f.header.now)
+        × (f.index ≤ length f.l1_table.numbers)
+        × IfSome f.table (λ table. (table.geometry ≡ geometry_of f.header.now)
+        × (length table.numbers ≡ l2_entries table.geometry.cluster_bits)
+        × (f.index < length f.l1_table.numbers)) };
+}
+
+// The flag of the entry at a place, where it is wrong by the counter of the cluster that the entry names.
+#[inline]
+fn wrong_flag(
+    place: FlagPlace,
+    cluster: HostCluster,
+    counter: Option<u64>,
+    is_set: bool,
+) -> Option<WrongFlag>
+    ensures { result ≡ wrong_flag place cluster counter is_set }
+{
+    let is_sole = match counter {
+        Some(counter) => counter == 1,
+        None => true,
+    };
+    (is_set != is_sole).then_some(WrongFlag {
+        place,
+        cluster,
+        counter,
+        is_set,
+    })
+}
+
+// The cluster that an L2 entry with a flag names, if it names one.
+#[inline]
+fn flagged_cluster(
+    entry: L2Entry,
+    cluster_bits: u32,
+    external_data_file: bool,
+) -> Option<HostCluster>
+    requires { IsClusterBits cluster_bits }
+    ensures { result ≡ flagged_cluster (geometry cluster_bits external_data_file) entry }
+{
+    if entry.is_compressed() {
+        return None;
+    }
+    let offset = entry.cluster_offset(external_data_file)?;
+    Some(offset.cluster(cluster_bits))
+}
+
+// The counter of a cluster of guest data, which has none in an external data file.
+#[inline]
+fn data_counter<S: Storage>(
+    counters: &mut Counters<'_>,
+    image: &mut S,
+    cluster: HostCluster,
+    external_data_file: bool,
+) -> Result<Option<u64>, Fault>
+    requires external { external_data_file ≡ (geometry_of counters.old.header).external_data_file }
+    requires reader { OnImage (S.state image.old) (λ bytes.
+        IsKeptBlockOf counters.old.header bytes counters.old.block) }
+    ensures reads { Reads (λ counter. counter) result
+        (λ bytes. Ok (data_counter counters.old.header counters.old.reftable bytes cluster))
+        (λ _. ⊥) (S.state image.old) (S.state image.new) }
+    ensures reader { IsSameButBlock (S.state image.old) counters.old counters.new }
+{
+    if external_data_file {
+        return Ok(None);
+    }
+    Ok(Some(counters.get(image, cluster)?))
+}
+
+// The flag of the entry at an index of the L2 table of an L1 entry, where it is wrong.
+#[inline]
+#[tactic(auto, using(crate::proofs::FlagsLemmas::guest_offset_fits))]
+fn entry_flag<S: Storage>(
+    counters: &mut Counters<'_>,
+    image: &mut S,
+    table: &L2Table,
+    l1_index: usize,
+    index: usize,
+) -> Result<Option<WrongFlag>, Fault>
+    requires table { table.now.geometry ≡ geometry_of counters.old.header }
+    requires l1_index { l1_index < most_l1_entries }
+    requires index { index < l2_entries table.now.geometry.cluster_bits }
+    requires reader { OnImage (S.state image.old) (λ bytes.
+        IsKeptBlockOf counters.old.header bytes counters.old.block) }
+    ensures reads { let guest = l1_index * l2_entries table.now.geometry.cluster_bits + index in
+        Reads (λ flag. flag) result
+        (λ bytes. Ok (l2_flag counters.old.header counters.old.reftable bytes guest
+        (slice_index table.now.numbers index)))
+        (λ _. ⊥) (S.state image.old) (S.state image.new) }
+    ensures reader { IsSameButBlock (S.state image.old) counters.old counters.new }
+{
+    let (cluster_bits, external) = (table.cluster_bits(), table.external_data_file());
+    let entry = table.get(index);
+    let Some(cluster) = flagged_cluster(entry, cluster_bits, external) else {
+        return Ok(None);
+    };
+    let counter = data_counter(counters, image, cluster, external)?;
+    let guest_cluster = GuestCluster::from_l1_l2_indices(l1_index, index, cluster_bits);
+    let place = FlagPlace::Offset(guest_cluster.offset(cluster_bits));
+    Ok(wrong_flag(place, cluster, counter, entry.is_copied()))
+}
+
+// The next wrong flag in the L2 table of an L1 entry, from the entry at a position on. The position comes to
+// be that of the entry after it, or the table's end.
+fn next_in_table<S: Storage>(
+    counters: &mut Counters<'_>,
+    image: &mut S,
+    table: &L2Table,
+    l1_index: usize,
+    position: &mut usize,
+) -> Result<Option<WrongFlag>, Fault>
+    requires table { (table.now.geometry ≡ geometry_of counters.old.header)
+        × (length table.now.numbers ≡ l2_entries table.now.geometry.cluster_bits) }
+    requires l1_index { l1_index < most_l1_entries }
+    requires reader { OnImage (S.state image.old) (λ bytes.
+        IsKeptBlockOf counters.old.header bytes counters.old.block) }
+    ensures flag { OnImage (S.state image.old) (λ bytes.
+        let left = l2_flags_from counters.old.header counters.old.reftable bytes l1_index table.now.numbers in
+        TakesFlag (left position.old) (left position.new) result) }
+    ensures reader { IsSameButBlock (S.state image.old) counters.old counters.new }
+    ensures fault { IfErr result IsFromOutside }
+    ensures further { (position.old ≤ position.new) × IfOk result (λ found. IfSome found (λ flag.
+        (position.old < position.new) × (position.new ≤ length table.now.numbers))) }
+    ensures storage { OnlyReads result (S.state image.old) (S.state image.new) }
+{
+    while *position < table.entries() {
+        let found = entry_flag(counters, image, table, l1_index, *position)?;
+        *position += 1;
+        if found.is_some() {
+            return Ok(found);
+        }
+    }
+    Ok(None)
+}
+
+impl<'a> Flags<'a> {
+    ghost use Rattle.std.specs.Prelude.{◌≡◌, ◌<◌, ◌≤◌, None, IfErr, IsSome, length};
+    ghost use Rattle.qcow2_base.specs.Format.{most_l1_entries};
+    ghost use Rattle.qcow2_base.specs.Storage.{OnImage, OnlyReads};
+    ghost use Rattle.qcow2_metadata.specs.Header.{geometry_of};
+    ghost use Rattle.qcow2_check.specs.Findings.{IsLaterFault};
+    ghost use Rattle.qcow2_check.specs.Flags.{GoesFurther, IsFlagsOf, MovesFlags, PassesFlag, StepsFurther, TakesFlag, flags_left};
+
+    /// A reader of the wrong flags of the image that these are of, before the first of them.
+    pub(crate) fn new(header: &'a Header, l1_table: L1Table, counters: Counters<'a>) -> Flags<'a>
+        requires geometry { l1_table.geometry ≡ geometry_of header.now }
+        requires entries { length l1_table.numbers ≤ most_l1_entries }
+        requires counters { counters.header ≡ header.now }
+        ensures { result ≡ record {
+          header = header.now;
+          l1 = l1_table.numbers;
+          counters = counters.entry;
+          index = 0;
+          table = None;
+          position = 0;
+        } }
+    {
+        Flags {
+            header,
+            l1_table,
+            counters,
+            index: 0,
+            table: None,
+            position: 0,
+        }
+    }
+
+    /// The next wrong flag, or nothing after the last.
+    ///
+    /// Fails where the storage does or memory runs out, and can be called again then. The image must be the
+    /// one that the reader was made for, unchanged since. Changes no byte.
+    pub fn next<S: Storage>(&mut self, image: &mut S) -> Result<Option<WrongFlag>, Fault>
+        requires { OnImage (S.state image.old) (λ bytes. IsFlagsOf bytes self.old) }
+        ensures flag { OnImage (S.state image.old) (λ bytes.
+            TakesFlag (flags_left self.old bytes) (flags_left self.new bytes) result) }
+        ensures further { GoesFurther result self.old self.new }
+        ensures reader { MovesFlags (S.state image.old) self.old self.new }
+        ensures fault { IfErr result (IsLaterFault (S.state image.old)) }
+        ensures storage { OnlyReads result (S.state image.old) (S.state image.new) }
+    {
+        while self.index < self.l1_table.entries() {
+            if let Some(flag) = self.step(image)? {
+                return Ok(Some(flag));
+            }
+        }
+        Ok(None)
+    }
+
+    // Goes on to the table of the reader's L1 entry, or within it.
+    fn step<S: Storage>(&mut self, image: &mut S) -> Result<Option<WrongFlag>, Fault>
+        requires index { self.old.index < length self.old.l1 }
+        requires reader { OnImage (S.state image.old) (λ bytes. IsFlagsOf bytes self.old) }
+        ensures flag { OnImage (S.state image.old) (λ bytes.
+            PassesFlag (flags_left self.old bytes) (flags_left self.new bytes) result) }
+        ensures further { StepsFurther result self.old self.new }
+        ensures reader { MovesFlags (S.state image.old) self.old self.new }
+        ensures fault { IfErr result (IsLaterFault (S.state image.old)) }
+        ensures storage { OnlyReads result (S.state image.old) (S.state image.new) }
+    {
+        if self.table.is_some() {
+            self.pass_entries(image)
+        } else {
+            self.open_table(image)
+        }
+    }
+
+    // Goes past the entries of the table that is held, up to the next whose flag is wrong, and then past the
+    // table.
+    fn pass_entries<S: Storage>(&mut self, image: &mut S) -> Result<Option<WrongFlag>, Fault>
+        requires table { IsSome self.old.table }
+        requires reader { OnImage (S.state image.old) (λ bytes. IsFlagsOf bytes self.old) }
+        ensures flag { OnImage (S.state image.old) (λ bytes.
+            PassesFlag (flags_left self.old bytes) (flags_left self.new bytes) result) }
+        ensures further { StepsFurther result self.old self.new }
+        ensures reader { MovesFlags (S.state image.old) self.old self.new }
+        ensures fault { IfErr result IsFromOutside }
+        ensures storage { OnlyReads result (S.state image.old) (S.state image.new) }
+    {
+        let table = self.table.as_ref().unwrap();
+        let found = next_in_table(
+            &mut self.counters,
+            image,
+            table,
+            self.index,
+            &mut self.position,
+        )?;
+        if found.is_none() {
+            // Its memory is given back before the next table takes as much.
+            self.table = None;
+            self.index += 1;
+        }
+        Ok(found)
+    }
+
+    // Looks at the flag of the reader's L1 entry, and loads the table that it names. Goes past an entry that
+    // names none.
+    fn open_table<S: Storage>(&mut self, image: &mut S) -> Result<Option<WrongFlag>, Fault>
+        requires table { self.old.table ≡ None }
+        requires index { self.old.index < length self.old.l1 }
+        requires reader { OnImage (S.state image.old) (λ bytes. IsFlagsOf bytes self.old) }
+        ensures flag { OnImage (S.state image.old) (λ bytes.
+            PassesFlag (flags_left self.old bytes) (flags_left self.new bytes) result) }
+        ensures further { StepsFurther result self.old self.new }
+        ensures reader { MovesFlags (S.state image.old) self.old self.new }
+        ensures fault { IfErr result (IsLaterFault (S.state image.old)) }
+        ensures storage { OnlyReads result (S.state image.old) (S.state image.new) }
+    {
+        let Some(cluster) = named_cluster(&self.l1_table, self.index) else {
+            self.index += 1;
+            return Ok(None);
+        };
+        let counter = self.counters.get(image, cluster)?;
+        let alloc = self.l1_table.allocator();
+        self.table = Some(load_l2_table(alloc, image, self.header, cluster)?);
+        self.position = 0;
+        let is_set = self.l1_table.get(self.index).is_copied();
+        let place = FlagPlace::L1Index(self.index);
+        Ok(wrong_flag(place, cluster, Some(counter), is_set))
+    }
+}

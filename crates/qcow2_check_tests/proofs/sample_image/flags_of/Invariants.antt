@@ -1,0 +1,7 @@
+use Rattle.qcow2_base.specs.Storage.{OnImage}
+use Rattle.qcow2_check.specs.Flags.{IsFlagsOf}
+use Rattle.qcow2_check_tests.proofs.sample_image.flags_of.Given as goal
+
+-- the reader reads the same image
+abbrev pub invariant-loop : goal.invariant-loop
+invariant-loop g l = OnImage (g.S.Storage.state l.image) (λ bytes. IsFlagsOf bytes l.flags)

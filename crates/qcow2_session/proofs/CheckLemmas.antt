@@ -1,0 +1,179 @@
+use Rattle.std.proofs.lemmas.Bool.Decides.{nat_tests}
+use Rattle.std.proofs.Common.{◌≡◌, ◌⊎◌, ℕ, ◌+◌, Bool, not, List, [], ◌∷◌, ◌++◌, flat_map, length, take, take_all, Option, None, Some, Result, Ok, Err, IsTrue, inl, inr, refl, sym, ap, subst, ◌∙◌, append-nil, append_assoc, arith}
+use Rattle.std.specs.List.{sum_by}
+use Rattle.std.specs.Result.{IfOk, IsErrOf}
+use Rattle.std.specs.Io.KnownBytes.{Appends}
+use Rattle.std.proofs.KnownBytes.{Appends-nil, Appends-trans}
+use Rattle.std.proofs.lemmas.Grind.{flat_map-append}
+use Rattle.std.proofs.lemmas.List.Sums.{sum_by_push}
+use Rattle.qcow2_base.specs.Storage.{Image, OnImage, ReadsFor, StorageState}
+use Rattle.qcow2_base.specs.declared.fault.Fault.{Fault}
+use Rattle.qcow2_base.specs.declared.fault.Fault.TheVariants.{NoMemory, Storage}
+use Rattle.qcow2_check.specs.Findings.{FindingsState, checked_tables, image_findings, tables_of}
+use Rattle.qcow2_check.specs.Uses.{ImageTables}
+use Rattle.qcow2_check.specs.declared.flags.WrongFlag.{WrongFlag}
+use Rattle.qcow2_metadata.specs.Table.L2Guards.{one_if}
+use Rattle.qcow2_session.proofs.OutputLemmas.{part-after, part-of_more, part_taken}
+use Rattle.qcow2_metadata.specs.Header.{HeaderRecord}
+use Rattle.qcow2_metadata.specs.Results.{IsFromOutside, result_map}
+use Rattle.qcow2_session.proofs.PrintingLemmas.{run_between}
+use Rattle.qcow2_session.specs.Commands.Check.{PrintsLines, PrintsReport, checked_report, lines_of, report_on}
+use Rattle.qcow2_session.specs.Commands.Check.Runs.{RunsState, joined, runs_left}
+use Rattle.qcow2_session.specs.Commands.Check.Totals.{clusters_of, is_leaked, is_missing, is_shared, run_totals, with_flag, with_flags, with_run}
+use Rattle.qcow2_session.specs.Commands.Printing.{AppendsPart, OutputBytes, PrintsText}
+use Rattle.qcow2_session.specs.declared.commands.check.runs.FindingRun.{FindingRun}
+use Rattle.qcow2_session.specs.declared.commands.verdict.Verdict.{Verdict}
+use Rattle.qcow2_session.specs.declared.commands.check.totals.Totals.{Totals}
+
+-- what is known of an image's bytes after reads is known of those before
+pub known-before : (Fact : Image → Type 0) (old now : StorageState) → now.tells ≡ old.tells → now.byte_at ≡ old.byte_at → OnImage now Fact → OnImage old Fact
+known-before Fact old now tells bytes fact = λ told. subst Fact bytes (fact (rw tells told))
+
+-- all of some bytes are a beginning of them
+pub part-of_all : (a b : OutputBytes) (bytes : List ℕ) → Appends a b bytes → AppendsPart a b bytes
+part-of_all a b bytes all = part_taken a b bytes (length bytes) (subst (λ xs. Appends a b xs) (sym (take_all (length bytes) bytes (omega arith))) all)
+
+-- one item more
+pub items-more : {T : Type 0} (all printed left later : List T) (item : T) → all ≡ printed ++ left → left ≡ item ∷ later → all ≡ (printed ++ item ∷ []) ++ later
+items-more all printed left later item are is = are ∙ ap (λ rest. printed ++ rest) is ∙ sym (append_assoc printed (item ∷ []) later)
+
+pub lines-more : {T : Type 0} (line : T → List ℕ) (printed : List T) (item : T) (a b c : OutputBytes) → Appends a b (flat_map line printed) → Appends b c (line item)
+    → Appends a c (flat_map line (printed ++ item ∷ []))
+lines-more line printed item a b c before here =
+    rw (flat_map-append line printed (item ∷ []), append-nil (line item)) (Appends-trans a b c (flat_map line printed) (line item) before here)
+
+-- a print of items that ended before the ones that are left
+pub lines-ended : {T : Type 0} (line : T → List ℕ) (all printed left : List T) (a b : OutputBytes) → all ≡ printed ++ left → Appends a b (flat_map line printed)
+    → AppendsPart a b (flat_map line all)
+lines-ended line all printed left a b are before =
+    rw (are, flat_map-append line printed left) (part-of_more a b (flat_map line printed) (flat_map line left) (part-of_all a b (flat_map line printed) before))
+
+-- a print of items that ended in the line of one of them
+pub lines-failed : {T : Type 0} (line : T → List ℕ) (all printed left later : List T) (item : T) (a b c : OutputBytes) → all ≡ printed ++ left → left ≡ item ∷ later
+    → Appends a b (flat_map line printed) → AppendsPart b c (line item) → AppendsPart a c (flat_map line all)
+lines-failed line all printed left later item a b c are is before failed =
+    rw (items-more all printed left later item are is, flat_map-append line (printed ++ item ∷ []) later, flat_map-append line printed (item ∷ []), append-nil (line item))
+    (part-of_more a c (flat_map line printed ++ line item) (flat_map line later) (part-after a b c (flat_map line printed) (line item) before failed))
+
+-- a print of items after the last
+pub lines-all : {T : Type 0} (line : T → List ℕ) (all printed left : List T) (a b : OutputBytes) → all ≡ printed ++ left → left ≡ [] → Appends a b (flat_map line printed)
+    → Appends a b (flat_map line all)
+lines-all line all printed left a b are none before = rw (are, none, append-nil printed) before
+
+-- the totals of one run more
+pub totals-run : (printed : List FindingRun) (run : FindingRun) → with_run (run_totals printed) run ≡ run_totals (printed ++ run ∷ [])
+totals-run printed run = rw (sum_by_push (clusters_of is_leaked) printed run, sum_by_push (clusters_of is_missing) printed run, sum_by_push (clusters_of is_shared) printed run) refl
+
+-- the totals of one flag more
+pub totals-flag : (totals : Totals) (printed : List WrongFlag) (flag : WrongFlag) → with_flag (with_flags totals printed) flag ≡ with_flags totals (printed ++ flag ∷ [])
+totals-flag totals printed flag =
+    let set = sum_by_push (λ (f : WrongFlag). one_if f.is_set) printed flag in
+    let unset = sum_by_push (λ (f : WrongFlag). one_if (not f.is_set)) printed flag in
+    let false_flags : totals.false_flags + sum_by (λ (f : WrongFlag). one_if f.is_set) printed + one_if flag.is_set
+    ≡ totals.false_flags + (sum_by (λ (f : WrongFlag). one_if f.is_set) printed + one_if flag.is_set) = omega arith in
+    let late_flags : totals.late_flags + sum_by (λ (f : WrongFlag). one_if (not f.is_set)) printed + one_if (not flag.is_set)
+    ≡ totals.late_flags + (sum_by (λ (f : WrongFlag). one_if (not f.is_set)) printed + one_if (not flag.is_set)) = omega arith in
+    rw (set, unset, false_flags, late_flags) refl
+
+-- a print of lines, and then of more
+pub lines-then : {A B O : Type 0} (first : A) (answer : Result B Fault) (f g : Image → List ℕ) (contents : O → OutputBytes) (old mid new : StorageState) (a b c : O)
+    → mid.tells ≡ old.tells → mid.byte_at ≡ old.byte_at
+    → PrintsLines (run_between contents (Ok first) old mid a b) f → PrintsLines (run_between contents answer mid new b c) g
+    → PrintsLines (run_between contents answer old new a c) (λ bytes. f bytes ++ g bytes)
+lines-then first (Ok done) f g contents old mid new a b c tells bytes one other = record {
+  all = λ told. Appends-trans (contents a) (contents b) (contents c) (f old.byte_at) (g old.byte_at) (one.all told)
+      (known-before (λ image. Appends (contents b) (contents c) (g image)) old mid tells bytes other.all told);
+  part = tt;
+}
+lines-then first (Err fault) f g contents old mid new a b c tells bytes one other = record {
+  all = tt;
+  part = λ told.
+      let later = known-before (λ image. IsFromOutside fault × AppendsPart (contents b) (contents c) (g image)) old mid tells bytes other.part told in
+      (later.0, part-after (contents a) (contents b) (contents c) (f old.byte_at) (g old.byte_at) (one.all told) later.1);
+}
+
+-- a print that failed, of lines that more would have followed
+pub lines-no_more : {A B O : Type 0} (fault : Fault) (f g : Image → List ℕ) (contents : O → OutputBytes) (old new : StorageState) (a b : O)
+    → PrintsLines {A = A} (run_between contents (Err fault) old new a b) f → PrintsLines {A = B} (run_between contents (Err fault) old new a b) (λ bytes. f bytes ++ g bytes)
+lines-no_more fault f g contents old new a b failed = record {
+  all = tt;
+  part = λ told. let part = failed.part told in (part.0, part-of_more (contents a) (contents b) (f old.byte_at) (g old.byte_at) part.1);
+}
+
+-- a print of a text that is what the image's bytes mean
+pub text-lines : {A O : Type 0} (answer : Result A Fault) (text : List ℕ) (f : Image → List ℕ) (contents : O → OutputBytes) (old new : StorageState) (a b : O)
+    → OnImage old (λ bytes. text ≡ f bytes) → PrintsText answer (contents a) (contents b) text → PrintsLines (run_between contents answer old new a b) f
+text-lines (Ok done) text f contents old new a b means prints = record { all = λ told. subst (λ bytes. Appends (contents a) (contents b) bytes) (means told) prints.text; part = tt }
+text-lines (Err fault) text f contents old new a b means prints =
+    record { all = tt; part = λ told. (inr prints.fault, subst (λ bytes. AppendsPart (contents a) (contents b) bytes) (means told) prints.part) }
+
+-- a print of lines that are others
+pub lines-as : {A O : Type 0} (answer : Result A Fault) (f g : Image → List ℕ) (contents : O → OutputBytes) (old new : StorageState) (a b : O)
+    → f old.byte_at ≡ g old.byte_at → PrintsLines (run_between contents answer old new a b) f → PrintsLines (run_between contents answer old new a b) g
+lines-as (Ok done) f g contents old new a b same prints = record { all = λ told. subst (λ bytes. Appends (contents a) (contents b) bytes) same (prints.all told); part = tt }
+lines-as (Err fault) f g contents old new a b same prints = record {
+  all = tt;
+  part = λ told. let part = prints.part told in (part.0, subst (λ bytes. AppendsPart (contents a) (contents b) bytes) same part.1);
+}
+
+-- the runs that a reader of runs comes to from the image's begin
+pub runs-begin : (reader : RunsState) (findings : FindingsState) (image : Image) → reader ≡ record { findings = findings; ahead = None } → findings.position ≡ 0
+    → runs_left reader image ≡ joined (image_findings (tables_of findings) image)
+runs-begin reader findings image is begun = rw (is, begun) refl
+
+-- what the totals of runs and then of flags mean, after the reads
+pub totals-mean : (first last : Totals) (runs : Image → List FindingRun) (flags : Image → List WrongFlag) (old mid new : StorageState)
+    → mid.tells ≡ old.tells → mid.byte_at ≡ old.byte_at → new.tells ≡ mid.tells → new.byte_at ≡ mid.byte_at
+    → OnImage old (λ bytes. first ≡ run_totals (runs bytes)) → OnImage mid (λ bytes. last ≡ with_flags first (flags bytes))
+    → OnImage new (λ bytes. last ≡ with_flags (run_totals (runs bytes)) (flags bytes))
+totals-mean first last runs flags old mid new tells bytes later_tells later_bytes one other = λ told.
+    let known : IsTrue old.tells = rw (later_tells, tells) at told in
+    let both : last ≡ with_flags (run_totals (runs old.byte_at)) (flags old.byte_at) =
+    known-before (λ image. last ≡ with_flags first (flags image)) old mid tells bytes other known
+    ∙ ap (λ t. with_flags t (flags old.byte_at)) (one known) in
+    subst (λ image. last ≡ with_flags (run_totals (runs image)) (flags image)) (sym (later_bytes ∙ bytes)) both
+
+-- reads and prints that returned a value, and then others
+pub reads_for-twice : {A told : Type 0} (value : A) (a b c : StorageState) → ReadsFor (IsErrOf {T = A} (Ok value) Storage) a b → ReadsFor told b c → ReadsFor told a c
+reads_for-twice value a b c one other = grind (arith, nat_tests, one, other)
+
+-- reads for which a fault is returned, whatever else could have been
+pub reads_for-fault : {A B : Type 0} (fault : Fault) (a b : StorageState) → ReadsFor (IsErrOf {T = A} (Err fault) Storage) a b → ReadsFor (IsErrOf {T = B} (Err fault) Storage) a b
+reads_for-fault fault a b reads = grind (arith, nat_tests, reads)
+
+-- nothing is a beginning of any bytes
+nothing-printed : (a : OutputBytes) (bytes : List ℕ) → AppendsPart a a bytes
+nothing-printed None bytes = tt
+nothing-printed (Some xs) bytes = (0, sym (append-nil xs))
+
+-- an image that can't be checked: nothing is printed
+pub report-refused : {O : Type 0} (fault : Fault) (header : HeaderRecord) (contents : O → OutputBytes) (old new : StorageState) (a : O)
+    → OnImage old (λ bytes. (fault ≡ Storage) ⊎ (fault ≡ NoMemory) ⊎ (checked_tables header bytes ≡ Err fault))
+    → PrintsReport (run_between contents (Err fault) old new a a) (checked_report header)
+report-refused fault header contents old new a why = record { lines = tt; refused = λ told. by_cause (why told) }
+  where
+    by_cause : (fault ≡ Storage) ⊎ (fault ≡ NoMemory) ⊎ (checked_tables header old.byte_at ≡ Err fault)
+        → ((checked_report header old.byte_at ≡ Err fault) × Appends (contents a) (contents a) [])
+        ⊎ (IsFromOutside fault × AppendsPart (contents a) (contents a) (lines_of (checked_report header old.byte_at)))
+    by_cause (inl failed) = inr (inr failed, nothing-printed (contents a) (lines_of (checked_report header old.byte_at)))
+    by_cause (inr (inl full)) = inr (inl full, nothing-printed (contents a) (lines_of (checked_report header old.byte_at)))
+    by_cause (inr (inr refused)) = inl (ap (result_map (λ tables. report_on tables old.byte_at)) refused, Appends-nil (contents a))
+
+-- a report on the tables of an image with this header, after they were read
+pub report-found : {O : Type 0} (answer : Result Verdict Fault) (header : HeaderRecord) (tables : ImageTables) (contents : O → OutputBytes) (old mid new : StorageState) (a b : O)
+    → mid.tells ≡ old.tells → mid.byte_at ≡ old.byte_at → OnImage old (λ bytes. checked_tables header bytes ≡ Ok tables)
+    → PrintsLines (run_between contents answer mid new a b) (λ bytes. (report_on tables bytes).lines)
+    → IfOk answer (λ verdict. OnImage mid (λ bytes. verdict ≡ (report_on tables bytes).verdict))
+    → PrintsReport (run_between contents answer old new a b) (checked_report header)
+report-found (Ok verdict) header tables contents old mid new a b tells bytes is prints judged = record {
+  lines = λ told. rw (is told) (
+    sym (known-before (λ image. verdict ≡ (report_on tables image).verdict) old mid tells bytes judged told),
+    known-before (λ image. Appends (contents a) (contents b) (report_on tables image).lines) old mid tells bytes prints.all told,
+  );
+  refused = tt;
+}
+report-found (Err fault) header tables contents old mid new a b tells bytes is prints judged = record {
+  lines = tt;
+  refused = λ told. inr (rw (is told)
+      (known-before (λ image. IsFromOutside fault × AppendsPart (contents a) (contents b) (report_on tables image).lines) old mid tells bytes prints.part told));
+}

@@ -1,0 +1,69 @@
+-- What does the command `check` print, and what is its verdict?
+pub mod Lines
+pub mod Runs
+pub mod Totals
+use Rattle.std.specs.Prelude.{◌≡◌, ◌⊎◌, false, true, ℕ, List, [], ◌++◌, flat_map, None, Result, Ok, Err, IfErr, IfOk, IsErrOf, IsOkAnd, OnOk}
+use Rattle.qcow2_base.specs.Storage.{Image, OnImage, ReadsFor}
+use Rattle.qcow2_base.specs.declared.fault.Fault.{Fault}
+use Rattle.qcow2_base.specs.declared.fault.Fault.TheVariants.{Storage}
+use Rattle.qcow2_check.specs.Findings.{checked_tables, image_findings}
+use Rattle.qcow2_check.specs.Flags.{image_flags}
+use Rattle.qcow2_check.specs.Uses.{ImageTables}
+use Rattle.qcow2_metadata.specs.Header.{HeaderRecord}
+use Rattle.qcow2_metadata.specs.Results.{IsFromOutside, result_map}
+use Rattle.qcow2_session.specs.Commands.Check.Lines.{flag_line, run_lines, totals_line}
+use Rattle.qcow2_session.specs.Commands.Check.Runs.{joined}
+use Rattle.qcow2_session.specs.Commands.Check.Totals.{run_totals, verdict_of, with_flags}
+use Rattle.qcow2_session.specs.Commands.Facts.{CommandFacts}
+use Rattle.qcow2_session.specs.Commands.Printing.{OutputGets, OutputGetsPart, Run}
+use Rattle.qcow2_session.specs.declared.commands.verdict.Verdict.{Verdict}
+
+-- what a check comes to: its lines, and the verdict
+pub record Report : Type 0 where
+  pub lines : List ℕ
+  pub verdict : Verdict
+
+-- the report on an image with these tables: the runs of findings, the wrong flags, and how many they are
+abbrev pub report_on : ImageTables → Image → Report
+report_on tables image =
+    let runs = joined (image_findings tables image) in
+    let flags = image_flags tables image in
+    let totals = with_flags (run_totals runs) flags in
+    record {
+      lines = flat_map run_lines runs ++ flat_map flag_line flags ++ totals_line totals;
+      verdict = verdict_of totals;
+    }
+
+-- the report on an image with this header, or why it can't be checked
+abbrev pub checked_report : HeaderRecord → Image → Result Report Fault
+checked_report header image = result_map (λ tables. report_on tables image) (checked_tables header image)
+
+-- the lines of a report, none where there is no report
+abbrev pub lines_of : Result Report Fault → List ℕ
+lines_of (Ok report) = report.lines
+lines_of (Err fault) = []
+
+-- a run prints some lines that its image's bytes mean, or a beginning of them, where a fault comes from outside
+pub record PrintsLines {A O : Type 0} (run : Run A O) (lines : Image → List ℕ) : Type 0 where
+  pub all : OnOk run.answer (OnImage run.old (λ bytes. OutputGets run (lines bytes)))
+  pub part : IfErr run.answer (λ fault. OnImage run.old (λ bytes. IsFromOutside fault × OutputGetsPart run (lines bytes)))
+
+-- a run prints the report on its image, and has its verdict; or it was refused. Where the image can't be checked nothing is
+-- printed, else a beginning of the report, since the fault came from outside
+pub record PrintsReport {O : Type 0} (run : Run Verdict O) (report : Image → Result Report Fault) : Type 0 where
+  pub lines : IfOk run.answer (λ verdict. OnImage run.old (λ bytes. IsOkAnd (report bytes) (λ found.
+      (found.verdict ≡ verdict) × OutputGets run found.lines)))
+  pub refused : IfErr run.answer (λ fault. OnImage run.old (λ bytes. ((report bytes ≡ Err fault) × OutputGets run [])
+      ⊎ (IsFromOutside fault × OutputGetsPart run (lines_of (report bytes)))))
+
+-- the facts of the command `check`, which may run out of memory after it has printed
+abbrev pub check_facts : CommandFacts
+check_facts = record {
+  changes_image = false;
+  prints_before_faults = true;
+  has_verdict = true;
+  cluster_bits = None;
+  place_fault = None;
+  Ends = λ header run.
+      PrintsReport run (checked_report header) × ReadsFor (IsErrOf run.answer Storage) run.old run.new;
+}

@@ -1,0 +1,53 @@
+-- What are the lines of a check?
+use Rattle.std.specs.Prelude.{ℕ, if◌then◌else◌, List, [], ◌++◌, Option, Some, None, codes}
+use Rattle.std.specs.Fmt.{decimal}
+use Rattle.qcow2_check.specs.declared.flags.FlagPlace.{FlagPlace}
+use Rattle.qcow2_check.specs.declared.flags.FlagPlace.TheVariants.{L1Index, Offset}
+use Rattle.qcow2_check.specs.declared.flags.WrongFlag.{WrongFlag}
+use Rattle.qcow2_session.specs.Commands.Check.Totals.{is_leaked, is_missing, verdict_of}
+use Rattle.qcow2_session.specs.Lines.{offset_text}
+use Rattle.qcow2_session.specs.declared.commands.check.runs.FindingRun.{FindingRun}
+use Rattle.qcow2_session.specs.declared.commands.check.totals.Totals.{Totals}
+use Rattle.qcow2_session.specs.declared.commands.verdict.Verdict.{Verdict}
+use Rattle.qcow2_session.specs.declared.commands.verdict.Verdict.TheVariants.{Fine, Harmful, Harmless}
+
+-- what a line says of a run after the kind: the first cluster, how many they are, their counter and their number of uses
+abbrev pub run_numbers : FindingRun → List ℕ
+run_numbers run = decimal run.first.cluster.0 ++ codes " " ++ decimal run.count ++ codes " " ++ decimal run.first.counter
+    ++ codes " " ++ decimal run.first.uses ++ codes "\n"
+
+-- the lines of a run: one for each kind that it is of
+abbrev pub run_lines : FindingRun → List ℕ
+run_lines run = (if is_leaked run.first then codes "leaked " ++ run_numbers run else [])
+    ++ (if is_missing run.first then codes "missing " ++ run_numbers run else [])
+    ++ (if run.first.shared then codes "shared " ++ run_numbers run else [])
+
+-- which entry has a flag
+abbrev pub place_text : FlagPlace → List ℕ
+place_text (L1Index index) = codes "l1 " ++ decimal index
+place_text (Offset offset) = offset_text offset.0
+
+-- the counter of a cluster, where it has one
+abbrev pub counter_text : Option ℕ → List ℕ
+counter_text None = codes "none"
+counter_text (Some counter) = decimal counter
+
+-- the line of a wrong flag: whether it is set, its entry, the cluster that the entry names, and its counter
+abbrev pub flag_line : WrongFlag → List ℕ
+flag_line flag = (if flag.is_set then codes "false " else codes "late ") ++ place_text flag.place
+    ++ codes " " ++ decimal flag.cluster.0 ++ codes " " ++ counter_text flag.counter ++ codes "\n"
+
+-- how many clusters and flags of each kind there are
+abbrev pub counts_line : Totals → List ℕ
+counts_line totals = codes "leaked " ++ decimal totals.leaked ++ codes " missing " ++ decimal totals.missing
+    ++ codes " shared " ++ decimal totals.shared ++ codes " false " ++ decimal totals.false_flags
+    ++ codes " late " ++ decimal totals.late_flags ++ codes "\n"
+
+-- the last line of a check
+abbrev pub totals_line : Totals → List ℕ
+totals_line totals = by_verdict (verdict_of totals)
+  where
+    by_verdict : Verdict → List ℕ
+    by_verdict Fine = codes "consistent\n"
+    by_verdict Harmless = counts_line totals
+    by_verdict Harmful = counts_line totals

@@ -1,0 +1,121 @@
+//! The command `check`: whether an image's counters and flags are what its tables say.
+
+ghost use Rattle.std.specs.Prelude.{◌≡◌, IfOk, IsErrOf, flat_map};
+ghost use Rattle.qcow2_base.specs.Storage.{OnImage, ReadsFor};
+ghost use Rattle.qcow2_base.specs.declared.fault.Fault.TheVariants.{Storage as StorageFailed};
+ghost use Rattle.qcow2_check.specs.Findings.{IsFindingsOf, MovesFindings, tables_of};
+ghost use Rattle.qcow2_check.specs.Flags.{IsFlagsOf, flags_left};
+ghost use Rattle.qcow2_session.specs.Commands.Check.{PrintsLines, PrintsReport, checked_report, report_on};
+ghost use Rattle.qcow2_session.specs.Commands.Check.Lines.{flag_line, run_lines, totals_line};
+ghost use Rattle.qcow2_session.specs.Commands.Check.Runs.{runs_left};
+ghost use Rattle.qcow2_session.specs.Commands.Check.Totals.{run_totals, verdict_of, with_flags};
+ghost use Rattle.qcow2_session.specs.Commands.Printing.{PrintsText, run_over};
+
+use crate::Verdict;
+use crate::lines::{ToLine, print};
+use qcow2_base::{Fault, Storage};
+use qcow2_check::{Findings, Flags};
+use qcow2_metadata::Header;
+use runs::FindingRuns;
+use std::alloc::Global;
+use std::io::Write;
+use totals::Totals;
+
+mod lines;
+mod runs;
+mod totals;
+
+/// Prints what is wrong with the counters and flags of an image with this header, and returns what is to be
+/// thought of it. First come the clusters whose counter isn't their number of uses, or whose uses exclude each
+/// other: a line for each run of neighbours with the same numbers. Then come the wrong flags, and last the
+/// totals, or that the image is consistent.
+///
+/// Returns the fault of `Findings::new` before any line. A fault after a line is 34 or 35. A failed write to
+/// `out` is the storage fault. Changes no byte of the image.
+pub fn check_image<S: Storage, O: Write>(
+    alloc: Global,
+    image: &mut S,
+    header: &Header,
+    out: &mut O,
+) -> Result<Verdict, Fault>
+    ensures prints { PrintsReport (run_over S.state O.contents result image.old image.new out.old out.new)
+        (checked_report header.now) }
+    ensures storage { ReadsFor (IsErrOf result StorageFailed) (S.state image.old) (S.state image.new) }
+{
+    let findings = Findings::new(alloc, image, header)?;
+    print_report(findings, image, out)
+}
+
+// Prints the report on the image that a reader is at the begin of, and returns its verdict.
+fn print_report<S: Storage, O: Write>(
+    findings: Findings<'_>,
+    image: &mut S,
+    out: &mut O,
+) -> Result<Verdict, Fault>
+    requires reader { OnImage (S.state image.old) (λ bytes. IsFindingsOf bytes findings) }
+    requires begun { findings.position ≡ 0 }
+    ensures prints { PrintsLines (run_over S.state O.contents result image.old image.new out.old out.new)
+        (λ bytes. (report_on (tables_of findings.entry) bytes).lines) }
+    ensures verdict { IfOk result (λ verdict. OnImage (S.state image.old) (λ bytes.
+        verdict ≡ (report_on (tables_of findings.entry) bytes).verdict)) }
+    ensures storage { ReadsFor (IsErrOf result StorageFailed) (S.state image.old) (S.state image.new) }
+{
+    let mut runs = FindingRuns::new(findings);
+    let totals = print_runs(&mut runs, image, out)?;
+    let mut flags = runs.into_findings().into_flags();
+    let totals = print_flags(&mut flags, image, totals, out)?;
+    print_totals(&totals, out)
+}
+
+// Prints the last line of a check, and returns the verdict that its totals come to.
+fn print_totals<O: Write>(totals: &Totals, out: &mut O) -> Result<Verdict, Fault>
+    ensures text { PrintsText result (O.contents out.old) (O.contents out.new) (totals_line totals.now) }
+    ensures verdict { IfOk result (λ verdict. verdict ≡ verdict_of totals.now) }
+{
+    print(totals.line().as_bytes(), out)?;
+    Ok(totals.verdict())
+}
+
+// Prints the runs that a reader comes to yet, and returns how many clusters of each kind they have.
+fn print_runs<S: Storage, O: Write>(
+    runs: &mut FindingRuns<'_>,
+    image: &mut S,
+    out: &mut O,
+) -> Result<Totals, Fault>
+    requires { OnImage (S.state image.old) (λ bytes. IsFindingsOf bytes runs.old.findings) }
+    ensures prints { PrintsLines (run_over S.state O.contents result image.old image.new out.old out.new)
+        (λ bytes. flat_map run_lines (runs_left runs.old bytes)) }
+    ensures totals { IfOk result (λ totals. OnImage (S.state image.old) (λ bytes.
+        totals ≡ run_totals (runs_left runs.old bytes))) }
+    ensures reader { MovesFindings (S.state image.old) runs.old.findings runs.new.findings }
+    ensures storage { ReadsFor (IsErrOf result StorageFailed) (S.state image.old) (S.state image.new) }
+{
+    let mut totals = Totals::new();
+    while let Some(run) = runs.next(image)? {
+        totals = totals.with_run(&run)?;
+        print(run.to_line().as_bytes(), out)?;
+    }
+    Ok(totals)
+}
+
+// Prints the wrong flags that a reader comes to yet, and returns totals with theirs.
+fn print_flags<S: Storage, O: Write>(
+    flags: &mut Flags<'_>,
+    image: &mut S,
+    totals: Totals,
+    out: &mut O,
+) -> Result<Totals, Fault>
+    requires { OnImage (S.state image.old) (λ bytes. IsFlagsOf bytes flags.old) }
+    ensures prints { PrintsLines (run_over S.state O.contents result image.old image.new out.old out.new)
+        (λ bytes. flat_map flag_line (flags_left flags.old bytes)) }
+    ensures totals { IfOk result (λ new. OnImage (S.state image.old) (λ bytes.
+        new ≡ with_flags totals (flags_left flags.old bytes))) }
+    ensures storage { ReadsFor (IsErrOf result StorageFailed) (S.state image.old) (S.state image.new) }
+{
+    let mut totals = totals;
+    while let Some(flag) = flags.next(image)? {
+        totals = totals.with_flag(&flag)?;
+        print(flag.to_line().as_bytes(), out)?;
+    }
+    Ok(totals)
+}

@@ -1,0 +1,90 @@
+//! The lines of a check: those of runs of findings, and of wrong flags.
+
+ghost use Rattle.std.specs.Prelude.{◌≡◌, ◌+◌, ◌≤◌, ◌++◌, length};
+ghost use Rattle.qcow2_session.specs.Commands.Check.Lines.{counter_text, flag_line, place_text, run_lines, run_numbers};
+
+use super::runs::FindingRun;
+use crate::lines::{LineBuffer, ToLine};
+use qcow2_check::{FlagPlace, WrongFlag};
+
+/// Clusters of which the same is found: a line for each kind that they are of.
+impl ToLine for FindingRun {
+    ghost line = { run_lines };
+
+    fn to_line(&self) -> LineBuffer {
+        let mut line = LineBuffer::new();
+        if self.first.shared {
+            prepend_numbers(&mut line, self);
+            line.prepend("shared ");
+        }
+        if self.is_missing() {
+            prepend_numbers(&mut line, self);
+            line.prepend("missing ");
+        }
+        if self.is_leaked() {
+            prepend_numbers(&mut line, self);
+            line.prepend("leaked ");
+        }
+        line
+    }
+}
+
+// Puts the numbers of a run in front of a line.
+fn prepend_numbers(line: &mut LineBuffer, run: &FindingRun)
+    requires { length line.old ≤ 100 }
+    ensures text { line.new ≡ run_numbers run.now ++ line.old }
+    ensures bound { length line.new ≤ length line.old + 84 }
+{
+    line.prepend("\n");
+    line.prepend_decimal(run.first.uses);
+    line.prepend(" ");
+    line.prepend_decimal(run.first.counter);
+    line.prepend(" ");
+    line.prepend_decimal(run.count);
+    line.prepend(" ");
+    line.prepend_decimal(run.first.cluster.0);
+}
+
+/// A flag that is wrong.
+impl ToLine for WrongFlag {
+    ghost line = { flag_line };
+
+    fn to_line(&self) -> LineBuffer {
+        let mut line = LineBuffer::new();
+        line.prepend("\n");
+        prepend_counter(&mut line, self.counter);
+        line.prepend(" ");
+        line.prepend_decimal(self.cluster.0);
+        line.prepend(" ");
+        prepend_place(&mut line, self.place);
+        line.prepend(if self.is_set { "false " } else { "late " });
+        line
+    }
+}
+
+// Puts the counter of a cluster in front of a line, if it has one.
+fn prepend_counter(line: &mut LineBuffer, counter: Option<u64>)
+    requires { length line.old ≤ 100 }
+    ensures text { line.new ≡ counter_text counter ++ line.old }
+    ensures bound { length line.new ≤ length line.old + 20 }
+{
+    match counter {
+        Some(counter) => line.prepend_decimal(counter),
+        None => line.prepend("none"),
+    }
+}
+
+// Puts in front of a line which entry has a flag.
+fn prepend_place(line: &mut LineBuffer, place: FlagPlace)
+    requires { length line.old ≤ 100 }
+    ensures text { line.new ≡ place_text place ++ line.old }
+    ensures bound { length line.new ≤ length line.old + 23 }
+{
+    match place {
+        FlagPlace::L1Index(index) => {
+            line.prepend_decimal(index as u64);
+            line.prepend("l1 ");
+        }
+        FlagPlace::Offset(offset) => line.prepend_offset(offset.0),
+    }
+}

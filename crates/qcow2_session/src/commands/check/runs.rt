@@ -1,0 +1,159 @@
+//! Findings of neighbouring clusters, joined to runs.
+
+ghost use Rattle.std.specs.Prelude.{◌≡◌, ◌+◌, ◌^◌, ◌<◌, if◌then◌else◌};
+ghost use Rattle.qcow2_session.specs.Commands.Check.Totals.{is_leaked, is_missing};
+ghost use Rattle.qcow2_session.specs.Commands.Check.Runs.{goes_on, single};
+
+use qcow2_base::{Fault, Storage};
+use qcow2_check::{Finding, Findings};
+use std::marker::Model;
+
+/// Clusters one after another of which the same is found.
+#[derive(Clone, Copy)]
+pub struct FindingRun {
+    // What is found of the first.
+    pub(super) first: Finding,
+    // How many they are.
+    pub(super) count: u64,
+}
+
+impl FindingRun {
+    // The run of one finding.
+    fn new(first: Finding) -> FindingRun
+        ensures { result ≡ single first }
+    {
+        FindingRun { first, count: 1 }
+    }
+
+    // Whether the counter of the clusters is greater than their number of uses.
+    pub(super) fn is_leaked(&self) -> bool
+        ensures { result ≡ is_leaked self.now.first }
+    {
+        self.first.uses < self.first.counter
+    }
+
+    // Whether it is smaller.
+    pub(super) fn is_missing(&self) -> bool
+        ensures { result ≡ is_missing self.now.first }
+    {
+        self.first.counter < self.first.uses
+    }
+
+    // How many clusters of the run are of a kind, if all of them are or none.
+    pub(super) fn clusters_if(&self, is_kind: bool) -> u64
+        ensures { result ≡ (if is_kind then self.now.count else 0) }
+    {
+        if is_kind { self.count } else { 0 }
+    }
+
+    // Whether a finding is of the cluster after the run, and the same but for that.
+    fn goes_on(&self, finding: &Finding) -> bool
+        requires { self.now.first.cluster.0 + self.now.count < 2 ^ 64 }
+        ensures { result ≡ goes_on self.now finding.now }
+    {
+        finding.cluster.0 == self.first.cluster.0 + self.count
+            && finding.counter == self.first.counter
+            && finding.uses == self.first.uses
+            && finding.shared == self.first.shared
+    }
+}
+
+/// A reader of the runs of an image's findings, one after another.
+#[derive(Drop)]
+pub(super) struct FindingRuns<'a> {
+    findings: Findings<'a>,
+    // The finding after the last run, which was read to know that the run ends.
+    ahead: Option<Finding>,
+}
+
+impl<'a> Model for FindingRuns<'a> {
+    ghost use Rattle.std.specs.Prelude.{◌<◌, IfSome};
+    ghost use Rattle.qcow2_session.specs.Commands.Check.Runs.{RunsState};
+
+    ghost Value = { RunsState };
+
+    ghost view = { λ r. record { findings = r.findings; ahead = r.ahead } };
+
+    ghost invariant = { λ r. IfSome r.ahead (λ finding. finding.cluster.0 < r.findings.position) };
+}
+
+impl<'a> FindingRuns<'a> {
+    ghost use Rattle.std.specs.Prelude.{◌≡◌, ◌<◌, ◌≤◌, ◌∷◌, IfErr, IfOk, IfSome, None};
+    ghost use Rattle.qcow2_base.specs.Storage.{OnImage, OnlyReads};
+    ghost use Rattle.qcow2_check.specs.Findings.{IsFindingsOf, IsLaterFault, MovesFindings, findings_left};
+    ghost use Rattle.qcow2_session.specs.Commands.Check.Runs.{TakesFirst, all_left, joined, most_left, runs_left};
+
+    /// A reader of the runs of findings that a reader comes to yet.
+    pub(super) fn new(findings: Findings<'a>) -> FindingRuns<'a>
+        ensures { result ≡ record { findings = findings.entry; ahead = None } }
+    {
+        FindingRuns {
+            findings,
+            ahead: None,
+        }
+    }
+
+    /// The reader of findings, which has come to its end where this one has.
+    pub(super) fn into_findings(self) -> Findings<'a>
+        ensures { result ≡ self.entry.findings }
+    {
+        self.findings
+    }
+
+    /// The next run, or nothing after the last. After a fault a run may be lost.
+    pub(super) fn next<S: Storage>(&mut self, image: &mut S) -> Result<Option<FindingRun>, Fault>
+        requires { OnImage (S.state image.old) (λ bytes. IsFindingsOf bytes self.old.findings) }
+        ensures run { OnImage (S.state image.old) (λ bytes.
+            TakesFirst (runs_left self.old bytes) (runs_left self.new bytes) result) }
+        ensures further { IfOk result (λ run. IfSome run (λ _. most_left self.new < most_left self.old)) }
+        ensures reader { MovesFindings (S.state image.old) self.old.findings self.new.findings }
+        ensures fault { IfErr result (IsLaterFault (S.state image.old)) }
+        ensures storage { OnlyReads result (S.state image.old) (S.state image.new) }
+    {
+        let Some(first) = self.take_finding(image)? else {
+            return Ok(None);
+        };
+        Ok(Some(self.run_from(image, first)?))
+    }
+
+    // The finding that was read ahead, or else the next one.
+    fn take_finding<S: Storage>(&mut self, image: &mut S) -> Result<Option<Finding>, Fault>
+        requires { OnImage (S.state image.old) (λ bytes. IsFindingsOf bytes self.old.findings) }
+        ensures finding { OnImage (S.state image.old) (λ bytes. TakesFirst
+            (all_left self.old bytes) (findings_left self.new.findings bytes) result) }
+        ensures further { IfOk result (λ found. IfSome found (λ finding.
+            (most_left self.new < most_left self.old) × (finding.cluster.0 < self.new.findings.position))) }
+        ensures reader { MovesFindings (S.state image.old) self.old.findings self.new.findings
+            × (self.new.ahead ≡ None) }
+        ensures fault { IfErr result (IsLaterFault (S.state image.old)) }
+        ensures storage { OnlyReads result (S.state image.old) (S.state image.new) }
+    {
+        match self.ahead.take() {
+            Some(finding) => Ok(Some(finding)),
+            None => self.findings.next(image),
+        }
+    }
+
+    // The run that begins with a finding, the last that was read.
+    fn run_from<S: Storage>(&mut self, image: &mut S, first: Finding) -> Result<FindingRun, Fault>
+        requires reader { OnImage (S.state image.old) (λ bytes. IsFindingsOf bytes self.old.findings) }
+        requires first { first.cluster.0 < self.old.findings.position }
+        requires none { self.old.ahead ≡ None }
+        ensures run { IfOk result (λ run. OnImage (S.state image.old) (λ bytes.
+            joined (first ∷ findings_left self.old.findings bytes) ≡ run ∷ runs_left self.new bytes)) }
+        ensures further { most_left self.new ≤ most_left self.old }
+        ensures reader { MovesFindings (S.state image.old) self.old.findings self.new.findings }
+        ensures fault { IfErr result (IsLaterFault (S.state image.old)) }
+        ensures storage { OnlyReads result (S.state image.old) (S.state image.new) }
+    {
+        let mut run = FindingRun::new(first);
+        while let Some(finding) = self.findings.next(image)? {
+            if !run.goes_on(&finding) {
+                self.ahead = Some(finding);
+                return Ok(run);
+            }
+            run.count += 1;
+        }
+        Ok(run)
+    }
+}
