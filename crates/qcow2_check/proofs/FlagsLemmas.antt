@@ -1,5 +1,5 @@
 use Rattle.std.proofs.lemmas.Bool.Decides.{nat_tests}
-use Rattle.std.proofs.Common.{◌≡◌, ℕ, zero, suc, ◌+◌, ◌-◌, ◌*◌, ◌^◌, ◌<◌, ◌≤◌, List, [], ◌∷◌, length, slice_index, Some, Ok, Err, IsTrue, arith}
+use Rattle.std.proofs.Common.{◌≡◌, ℕ, zero, suc, Bool, true, false, None, ap, drop, add-zero, drop-cons, refl, ◌∙◌, ◌++◌, option_to_list, ◌+◌, ◌-◌, ◌*◌, ◌^◌, ◌<◌, ◌≤◌, List, [], ◌∷◌, length, slice_index, Some, Ok, Err, IsTrue, arith}
 use Rattle.std.proofs.Math.Pow.{pow_mono}
 use Rattle.std.proofs.lemmas.Nat.{mul-add-lt, mul-lt}
 use Rattle.qcow2_base.specs.Storage.{Image, OnImage, StorageState}
@@ -7,8 +7,9 @@ use Rattle.qcow2_base.specs.declared.fault.Fault.{Fault}
 use Rattle.qcow2_base.specs.declared.types.HostCluster.{HostCluster}
 use Rattle.qcow2_metadata.specs.Header.{Geometry, HeaderRecord, geometry_of}
 use Rattle.qcow2_metadata.specs.Results.{Answers}
-use Rattle.qcow2_metadata.specs.Table.{IsContentFault, TableState, loaded_l2_table}
+use Rattle.qcow2_metadata.specs.Table.{IsContentFault, TableState, l2_entries, loaded_l2_table}
 use Rattle.qcow2_check.specs.Findings.{IsLaterFault}
+use Rattle.qcow2_check.specs.Flags.{l2_flag, l2_flags, l2_flags_from}
 use Rattle.qcow2_check.specs.NamedTables.{named_cluster}
 use Rattle.qcow2_check.specs.Uses.{all_load, l1_entry_loads}
 
@@ -40,3 +41,34 @@ later_fault header l1 index cluster fault old now below named content loads same
   content,
   λ told. grind (arith, nat_tests, named, same told, refused, loads_each (geometry_of header) old.byte_at l1 index below (loads told)),
 )
+
+-- the wrong flags from an entry of a table on: that of the entry, and those from the next
+flags_here : (header : HeaderRecord) (reftable : List ℕ) (image : Image) (index : ℕ) (numbers : List ℕ) (i : ℕ) → i < length numbers
+    → l2_flags_from header reftable image index numbers i
+    ≡ option_to_list (l2_flag header reftable image (index * l2_entries header.v2.cluster_bits + i) (slice_index numbers i)) ++ l2_flags_from header reftable image index numbers (i + 1)
+flags_here header reftable image index numbers i below =
+    let guest = index * l2_entries header.v2.cluster_bits in
+    let one_more : suc i ≡ i + 1 = omega arith in
+    let next : guest + i + 1 ≡ guest + (i + 1) = omega arith in
+    ap (λ vs. l2_flags header reftable image (guest + i) vs) (drop-cons numbers i 0 below)
+    ∙ ap (λ from. option_to_list (l2_flag header reftable image (guest + i) (slice_index numbers i)) ++ l2_flags header reftable image from (drop (suc i) numbers)) next
+    ∙ ap (λ n. option_to_list (l2_flag header reftable image (guest + i) (slice_index numbers i)) ++ l2_flags header reftable image (guest + (i + 1)) (drop n numbers)) one_more
+
+-- an entry 0 has no flag
+no_flag : (header : HeaderRecord) (reftable : List ℕ) (image : Image) (guest : ℕ) → l2_flag header reftable image guest 0 ≡ None
+no_flag header reftable image guest = by_file (geometry_of header).external_data_file refl
+  where
+    by_file : (external : Bool) → (geometry_of header).external_data_file ≡ external → l2_flag header reftable image guest 0 ≡ None
+    by_file true is = grind (arith, nat_tests, is)
+    by_file false is = grind (arith, nat_tests, is)
+
+-- and so have several
+pub no_flags : (header : HeaderRecord) (reftable : List ℕ) (image : Image) (index : ℕ) (numbers : List ℕ) (i k : ℕ) → i + k ≤ length numbers
+    → ((j : ℕ) → j < k → slice_index numbers (i + j) ≡ 0)
+    → l2_flags_from header reftable image index numbers i ≡ l2_flags_from header reftable image index numbers (i + k)
+no_flags header reftable image index numbers i zero within zeros = rw (add-zero i) refl
+no_flags header reftable image index numbers i (suc k) within zeros =
+    let sum : i + suc k ≡ i + k + 1 = omega arith in
+    let last : slice_index numbers (i + k) ≡ 0 = zeros k (omega arith) in
+    no_flags header reftable image index numbers i k (omega (arith, within)) (λ j below. zeros j (omega (arith, below)))
+    ∙ flags_here header reftable image index numbers (i + k) (omega (arith, within)) ∙ rw (last, sum, no_flag header reftable image (index * l2_entries header.v2.cluster_bits + (i + k))) refl

@@ -211,7 +211,25 @@ impl<'a> Counters<'a> {
     ///
     /// Fails where the storage does or memory runs out, and can be called again then. The image must be the
     /// one that the reader was made for, unchanged since. Changes no byte.
+    #[inline]
+    #[tactic(auto, using(crate::proofs::CountersLemmas::kept_counter))]
     pub fn get<S: Storage>(&mut self, image: &mut S, cluster: HostCluster) -> Result<u64, Fault>
+        requires { OnImage (S.state image.old) (λ bytes. IsKeptBlockOf self.old.header bytes self.old.block) }
+        ensures reads { Reads (λ counter. counter) result
+            (λ bytes. Ok (counter_of self.old.header self.old.reftable bytes cluster.0))
+            (λ _. ⊥) (S.state image.old) (S.state image.new) }
+        ensures reader { IsSameButBlock (S.state image.old) self.old self.new }
+    {
+        if let Some(block) = self.kept_for(cluster) {
+            let index = cluster.rb_index(self.header.rb_bits());
+            prove!(index < block.entries());
+            return Ok(block.get(index));
+        }
+        self.load(image, cluster)
+    }
+
+    // The same, where the block of the cluster isn't kept yet.
+    fn load<S: Storage>(&mut self, image: &mut S, cluster: HostCluster) -> Result<u64, Fault>
         requires { OnImage (S.state image.old) (λ bytes. IsKeptBlockOf self.old.header bytes self.old.block) }
         ensures reads { Reads (λ counter. counter) result
             (λ bytes. Ok (counter_of self.old.header self.old.reftable bytes cluster.0))

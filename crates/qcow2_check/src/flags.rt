@@ -1,6 +1,6 @@
 //! Entries whose copied flag isn't what the counter of their cluster says.
 
-ghost use Rattle.std.specs.Prelude.{◌≡◌, ◌+◌, ◌*◌, ◌<◌, ◌≤◌, false, IfErr, IfOk, IfSome, Ok, length, slice_index};
+ghost use Rattle.std.specs.Prelude.{◌≡◌, ℕ, ◌+◌, ◌*◌, ◌<◌, ◌≤◌, false, IsTrue, IfErr, IfOk, IfSome, Ok, length, slice_index};
 ghost use Rattle.qcow2_base.specs.Format.{most_l1_entries};
 ghost use Rattle.qcow2_base.specs.Storage.{OnImage, OnlyReads};
 ghost use Rattle.qcow2_base.specs.Types.{IsClusterBits};
@@ -12,6 +12,7 @@ ghost use Rattle.qcow2_check.specs.Flags.{TakesFlag, data_counter, flagged_clust
 
 use crate::counters::Counters;
 use crate::named_tables::{load_l2_table, named_cluster};
+use crate::uses::{TOGETHER, are_unallocated};
 use qcow2_base::{Fault, GuestCluster, GuestOffset, HostCluster, Storage};
 use qcow2_metadata::{Header, L1Table, L2Entry, L2Table, Table};
 use std::marker::Model;
@@ -172,8 +173,19 @@ fn entry_flag<S: Storage>(
     Ok(wrong_flag(place, cluster, counter, entry.is_copied()))
 }
 
+// Whether a group of entries that are looked at together begins at an index, and all of them are the entry 0.
+#[inline]
+fn starts_unallocated(table: &L2Table, index: usize) -> bool
+    requires { index < length table.now.numbers }
+    ensures { IsTrue result → (index + 16 ≤ length table.now.numbers)
+        × ((k : ℕ) → k < 16 → slice_index table.now.numbers (index + k) ≡ 0) }
+{
+    index % TOGETHER == 0 && table.entries() - index >= TOGETHER && are_unallocated(table, index)
+}
+
 // The next wrong flag in the L2 table of an L1 entry, from the entry at a position on. The position comes to
 // be that of the entry after it, or the table's end.
+#[tactic(auto, using(crate::proofs::FlagsLemmas::no_flags))]
 fn next_in_table<S: Storage>(
     counters: &mut Counters<'_>,
     image: &mut S,
@@ -195,11 +207,16 @@ fn next_in_table<S: Storage>(
         (position.old < position.new) × (position.new ≤ length table.now.numbers))) }
     ensures storage { OnlyReads result (S.state image.old) (S.state image.new) }
 {
-    while *position < table.entries() {
-        let found = entry_flag(counters, image, table, l1_index, *position)?;
-        *position += 1;
-        if found.is_some() {
-            return Ok(found);
+    let entries = table.entries();
+    while *position < entries {
+        if starts_unallocated(table, *position) {
+            *position += TOGETHER;
+        } else {
+            let found = entry_flag(counters, image, table, l1_index, *position)?;
+            *position += 1;
+            if found.is_some() {
+                return Ok(found);
+            }
         }
     }
     Ok(None)

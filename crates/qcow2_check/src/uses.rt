@@ -19,7 +19,7 @@ use qcow2_metadata::{Header, L1Table, L2Entry, L2Table, RefTable, Table, TableEn
 use std::alloc::Global;
 
 // How many entries are looked at together.
-const TOGETHER: usize = 16;
+pub(crate) const TOGETHER: usize = 16;
 
 // Counts one use of each of that many clusters from one on.
 #[tactic(auto, using(crate::proofs::TallyLemmas::counts_next))]
@@ -75,9 +75,9 @@ fn count_standard(tally: &mut Tally, entry: L2Entry, cluster_bits: u32) -> bool
     }
 }
 
-// Whether the entries from an index on, as many as are looked at together, are all the entry 0.
+/// Whether the entries from an index on, as many as are looked at together, are all the entry 0.
 #[inline(always)]
-fn are_unallocated(table: &L2Table, first: usize) -> bool
+pub(crate) fn are_unallocated(table: &L2Table, first: usize) -> bool
     requires { first + 16 ≤ length table.now.numbers }
     ensures { IsTrue result → (k : ℕ) → k < 16 → slice_index table.now.numbers (first + k) ≡ 0 }
 {
