@@ -1,5 +1,5 @@
 use Rattle.std.proofs.lemmas.Bool.Decides.{nat_tests}
-use Rattle.std.proofs.Common.{◌≡◌, ◌⊎◌, ℕ, ◌+◌, Bool, not, List, [], ◌∷◌, ◌++◌, flat_map, length, take, take_all, Option, None, Some, Result, Ok, Err, IsTrue, inl, inr, refl, sym, ap, subst, ◌∙◌, append-nil, append_assoc, arith}
+use Rattle.std.proofs.Common.{◌≡◌, ◌⊎◌, ℕ, ◌+◌, not, List, [], ◌∷◌, ◌++◌, flat_map, length, take_all, None, Some, Result, Ok, Err, IsTrue, inl, inr, refl, sym, ap, subst, ◌∙◌, append-nil, append_assoc, arith}
 use Rattle.std.specs.List.{sum_by}
 use Rattle.std.specs.Result.{IfOk, IsErrOf}
 use Rattle.std.specs.Io.KnownBytes.{Appends}
@@ -18,8 +18,8 @@ use Rattle.qcow2_metadata.specs.Header.{HeaderRecord}
 use Rattle.qcow2_metadata.specs.Results.{IsFromOutside, result_map}
 use Rattle.qcow2_session.proofs.PrintingLemmas.{run_between}
 use Rattle.qcow2_session.specs.Commands.Check.{PrintsLines, PrintsReport, checked_report, lines_of, report_on}
-use Rattle.qcow2_session.specs.Commands.Check.Runs.{RunsState, joined, runs_left}
-use Rattle.qcow2_session.specs.Commands.Check.Totals.{clusters_of, is_leaked, is_missing, is_shared, run_totals, with_flag, with_flags, with_run}
+use Rattle.qcow2_session.specs.Commands.Check.Runs.{RunsState, runs_of, runs_left}
+use Rattle.qcow2_session.specs.Commands.Check.Totals.{clusters_of, is_leaked, is_missing, has_exclusive_uses, run_totals, with_flag, with_flags, with_run}
 use Rattle.qcow2_session.specs.Commands.Printing.{AppendsPart, OutputBytes, PrintsText}
 use Rattle.qcow2_session.specs.declared.commands.check.runs.FindingRun.{FindingRun}
 use Rattle.qcow2_session.specs.declared.commands.verdict.Verdict.{Verdict}
@@ -62,7 +62,7 @@ lines-all line all printed left a b are none before = rw (are, none, append-nil 
 
 -- the totals of one run more
 pub totals-run : (printed : List FindingRun) (run : FindingRun) → with_run (run_totals printed) run ≡ run_totals (printed ++ run ∷ [])
-totals-run printed run = rw (sum_by_push (clusters_of is_leaked) printed run, sum_by_push (clusters_of is_missing) printed run, sum_by_push (clusters_of is_shared) printed run) refl
+totals-run printed run = rw (sum_by_push (clusters_of is_leaked) printed run, sum_by_push (clusters_of is_missing) printed run, sum_by_push (clusters_of has_exclusive_uses) printed run) refl
 
 -- the totals of one flag more
 pub totals-flag : (totals : Totals) (printed : List WrongFlag) (flag : WrongFlag) → with_flag (with_flags totals printed) flag ≡ with_flags totals (printed ++ flag ∷ [])
@@ -118,7 +118,7 @@ lines-as (Err fault) f g contents old new a b same prints = record {
 
 -- the runs that a reader of runs comes to from the image's begin
 pub runs-begin : (reader : RunsState) (findings : FindingsState) (image : Image) → reader ≡ record { findings = findings; ahead = None } → findings.position ≡ 0
-    → runs_left reader image ≡ joined (image_findings (tables_of findings) image)
+    → runs_left reader image ≡ runs_of (image_findings (tables_of findings) image)
 runs-begin reader findings image is begun = rw (is, begun) refl
 
 -- what the totals of runs and then of flags mean, after the reads

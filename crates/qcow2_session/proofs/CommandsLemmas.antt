@@ -6,7 +6,8 @@ use Rattle.qcow2_base.specs.declared.fault.Fault.{Fault}
 use Rattle.std.specs.Result.{IsErr, OnErr, result_ok}
 use Rattle.std.specs.Str.{all_ascii_digits}
 use Rattle.std.specs.Str.Parse.{ParsesUnsigned, digits_value}
-use Rattle.qcow2_session.proofs.ListingLemmas.{guest_offset-fits, table_lines-more}
+use Rattle.qcow2_check.proofs.FlagsLemmas.{guest_offset_fits}
+use Rattle.qcow2_session.proofs.ListingLemmas.{table_lines-more}
 use Rattle.qcow2_session.specs.Commands.{command_of}
 use Rattle.qcow2_session.specs.Commands.Words.{word_number}
 
@@ -36,4 +37,4 @@ pub own-refused : {T : Type 0} (ran answer : Result T Fault) → IsErr ran → O
 own-refused ran answer refused own = grind (arith, refused, own)
 
 -- a table's lines so far, and that of the next entry
-pub ruleset table_printed = (guest_offset-fits, table_lines-more)
+pub ruleset table_printed = (guest_offset_fits, table_lines-more)

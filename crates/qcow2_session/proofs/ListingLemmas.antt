@@ -1,12 +1,11 @@
 use Rattle.std.proofs.lemmas.Bool.Decides.{nat_tests}
-use Rattle.std.proofs.Common.{◌≡◌, ◌≢◌, ◌⊎◌, ℕ, zero, suc, add-zero, inr, ◌+◌, ◌-◌, ◌*◌, ◌%◌, ◌^◌, ◌<◌, ◌≤◌, List, [], ◌∷◌, ◌++◌, length, get_or, map, take, Option, Result, Ok, Err, IsTrue, ap, sym, refl, ◌∙◌, append_assoc, append-nil, arith}
+use Rattle.std.proofs.Common.{◌≡◌, ◌≢◌, ◌⊎◌, ℕ, zero, suc, add-zero, inr, ◌+◌, ◌-◌, ◌*◌, ◌%◌, ◌^◌, ◌<◌, List, [], ◌∷◌, ◌++◌, length, get_or, map, take, Option, Result, Ok, Err, IsTrue, ap, sym, refl, ◌∙◌, append_assoc, append-nil, arith}
 use Rattle.std.specs.List.{concat}
 use Rattle.std.specs.Io.KnownBytes.{Appends}
 use Rattle.std.proofs.KnownBytes.{Appends-nil, Appends-trans}
-use Rattle.std.proofs.Math.Pow.{pow_mono}
 use Rattle.std.proofs.lemmas.List.{map-append}
 use Rattle.std.proofs.lemmas.List.Folds.{concat-append}
-use Rattle.std.proofs.lemmas.Nat.{mod-mul-add, mul-add-lt, mul-lt}
+use Rattle.std.proofs.lemmas.Nat.{mod-mul-add}
 use Rattle.qcow2_base.specs.Storage.{Image, OnlyReads, StorageState}
 use Rattle.qcow2_base.specs.declared.fault.Fault.{Fault}
 use Rattle.qcow2_base.specs.declared.fault.Fault.TheVariants.{NoMemory, Storage}
@@ -19,17 +18,6 @@ use Rattle.qcow2_session.specs.Commands.Entries.{entry_line, entry_lines, table_
 use Rattle.qcow2_session.specs.Commands.List.{PrintsList, PrintsTables, PrintsTablesBefore, TableTexts, texts_left, texts_of}
 use Rattle.qcow2_session.specs.L2Tables.{NamedTables, RefusesTable, WalkState, tables_left}
 use Rattle.qcow2_session.specs.declared.commands.entries.Label.TheVariants.{Offset}
-
--- the offset of each guest cluster that an L1 table of the most entries leads to fits 64 bits
-pub guest_offset-fits : (cb index l2_index : ℕ) → cb ≤ 21 → index < 4194304 → l2_index < 2 ^ (cb - 3) → (index * 2 ^ (cb - 3) + l2_index) * 2 ^ cb < 2 ^ 64
-guest_offset-fits cb index l2_index low l1 l2 =
-    let few : cb - 3 ≤ 18 = omega (arith, low) in
-    let entries : 2 ^ (cb - 3) ≤ 2 ^ 18 = pow_mono few in
-    let size : 2 ^ cb ≤ 2 ^ 21 = pow_mono low in
-    let below = mul-add-lt index (2 ^ (cb - 3)) l2_index 4194304 l1 l2 in
-    let cluster : index * 2 ^ (cb - 3) + l2_index < 2 ^ 40 = omega (arith, below, entries) in
-    let all = mul-lt (index * 2 ^ (cb - 3) + l2_index) (2 ^ cb) (2 ^ 40) (2 ^ 21 + 1) cluster (omega (arith, size)) in
-    omega (arith, all)
 
 -- the lines of one more entry
 entry_lines-take-suc : (label : ℕ → List ℕ) (g : Geometry) (from : ℕ) (xs : List ℕ) (i : ℕ) →

@@ -1,7 +1,7 @@
 use Rattle.std.proofs.Common.{◌≡◌, ℕ, zero, suc, Bool, true, false, ◌+◌, List, [], ◌∷◌, ◌++◌, refl, sym, ap, ◌∙◌, ◌<◌, append-nil, append_assoc, arith}
 use Rattle.std.proofs.lemmas.Bool.Decides.{nat_tests}
 use Rattle.qcow2_check.specs.declared.findings.Finding.{Finding}
-use Rattle.qcow2_session.specs.Commands.Check.Runs.{goes_on, joined, joined_before, single}
+use Rattle.qcow2_session.specs.Commands.Check.Runs.{goes_on, runs_of, joined_before, single}
 use Rattle.qcow2_session.specs.declared.commands.check.runs.FindingRun.{FindingRun}
 
 -- the finding that many clusters further on, and the same but for that
@@ -53,22 +53,22 @@ joins : (finding : Finding) (n m : ℕ) (runs : List FindingRun) → m ≡ n + 1
 joins finding n m runs is = rw (goes-on-further finding, is) refl
 
 -- findings of one run are joined to it
-pub joined-one : (finding : Finding) (n : ℕ) → joined (members finding (suc n)) ≡ record { first = finding; count = suc n } ∷ []
+pub joined-one : (finding : Finding) (n : ℕ) → runs_of (members finding (suc n)) ≡ record { first = finding; count = suc n } ∷ []
 unfolding members
 joined-one finding zero = refl
 joined-one finding (suc n) = ap (joined_before finding) (joined-one (further finding 1) n) ∙ joins finding (suc n) (suc (suc n)) [] (omega arith)
 
 -- and so are they before a finding that doesn't go on from them
 pub joined-more : (finding : Finding) (n : ℕ) (next : Finding) (rest : List Finding) → goes_on (record { first = finding; count = suc n }) next ≡ false
-    → joined (members finding (suc n) ++ next ∷ rest) ≡ record { first = finding; count = suc n } ∷ joined (next ∷ rest)
+    → runs_of (members finding (suc n) ++ next ∷ rest) ≡ record { first = finding; count = suc n } ∷ runs_of (next ∷ rest)
 unfolding members
 joined-more finding zero next rest ends =
-    let begins = joined-first next (joined rest) in
+    let begins = joined-first next (runs_of rest) in
     rw (begins.are, begins.first, ends) refl
 joined-more finding (suc n) next rest ends =
     let sum : finding.cluster.0 + 1 + suc n ≡ finding.cluster.0 + suc (suc n) = omega arith in
     let later : goes_on (record { first = further finding 1; count = suc n }) next ≡ false = rw sum ends in
-    ap (joined_before finding) (joined-more (further finding 1) n next rest later) ∙ joins finding (suc n) (suc (suc n)) (joined (next ∷ rest)) (omega arith)
+    ap (joined_before finding) (joined-more (further finding 1) n next rest later) ∙ joins finding (suc n) (suc (suc n)) (runs_of (next ∷ rest)) (omega arith)
 
 -- a finding many clusters further on than one that is further on itself
 further-twice : (finding : Finding) (n : ℕ) → further (further finding 1) n ≡ further finding (suc n)
@@ -94,20 +94,20 @@ run-goes_on run next all left later on are is =
     (are ∙ ap (λ rest. members run.first run.count ++ rest) (is ∙ ap (λ f. f ∷ later) (goes-further run.first next run.count on)))
 
 -- a run that nothing is found after
-pub run-ends : (run : FindingRun) (all : List Finding) → 0 < run.count → all ≡ members run.first run.count ++ [] → joined all ≡ run ∷ []
+pub run-ends : (run : FindingRun) (all : List Finding) → 0 < run.count → all ≡ members run.first run.count ++ [] → runs_of all ≡ run ∷ []
 run-ends run all some are = by_count run.count refl
   where
-    by_count : (n : ℕ) → run.count ≡ n → joined all ≡ run ∷ []
+    by_count : (n : ℕ) → run.count ≡ n → runs_of all ≡ run ∷ []
     by_count zero is = absurd (omega (arith, some, is))
-    by_count (suc n) is = ap joined (are ∙ append-nil (members run.first run.count) ∙ ap (members run.first) is) ∙ joined-one run.first n
+    by_count (suc n) is = ap runs_of (are ∙ append-nil (members run.first run.count) ∙ ap (members run.first) is) ∙ joined-one run.first n
         ∙ ap (λ k. record run { count = k } ∷ []) (sym is)
 
 -- a run before a finding that doesn't go on from it
 pub run-stops : (run : FindingRun) (next : Finding) (all left later : List Finding) → 0 < run.count → goes_on run next ≡ false
-    → all ≡ members run.first run.count ++ left → left ≡ next ∷ later → joined all ≡ run ∷ joined (next ∷ later)
+    → all ≡ members run.first run.count ++ left → left ≡ next ∷ later → runs_of all ≡ run ∷ runs_of (next ∷ later)
 run-stops run next all left later some off are is = by_count run.count refl
   where
-    by_count : (n : ℕ) → run.count ≡ n → joined all ≡ run ∷ joined (next ∷ later)
+    by_count : (n : ℕ) → run.count ≡ n → runs_of all ≡ run ∷ runs_of (next ∷ later)
     by_count zero none = absurd (omega (arith, some, none))
-    by_count (suc n) count = ap joined (are ∙ ap (λ rest. members run.first run.count ++ rest) is ∙ ap (λ k. members run.first k ++ next ∷ later) count)
-        ∙ joined-more run.first n next later (rw count at off) ∙ ap (λ k. record run { count = k } ∷ joined (next ∷ later)) (sym count)
+    by_count (suc n) count = ap runs_of (are ∙ ap (λ rest. members run.first run.count ++ rest) is ∙ ap (λ k. members run.first k ++ next ∷ later) count)
+        ∙ joined-more run.first n next later (rw count at off) ∙ ap (λ k. record run { count = k } ∷ runs_of (next ∷ later)) (sym count)

@@ -12,7 +12,7 @@ use Rattle.qcow2_check.specs.Uses.{ImageTables}
 use Rattle.qcow2_metadata.specs.Header.{HeaderRecord}
 use Rattle.qcow2_metadata.specs.Results.{IsFromOutside, result_map}
 use Rattle.qcow2_session.specs.Commands.Check.Lines.{flag_line, run_lines, totals_line}
-use Rattle.qcow2_session.specs.Commands.Check.Runs.{joined}
+use Rattle.qcow2_session.specs.Commands.Check.Runs.{runs_of}
 use Rattle.qcow2_session.specs.Commands.Check.Totals.{run_totals, verdict_of, with_flags}
 use Rattle.qcow2_session.specs.Commands.Facts.{CommandFacts}
 use Rattle.qcow2_session.specs.Commands.Printing.{OutputGets, OutputGetsPart, Run}
@@ -26,7 +26,7 @@ pub record Report : Type 0 where
 -- the report on an image with these tables: the runs of findings, the wrong flags, and how many they are
 abbrev pub report_on : ImageTables → Image → Report
 report_on tables image =
-    let runs = joined (image_findings tables image) in
+    let runs = runs_of (image_findings tables image) in
     let flags = image_flags tables image in
     let totals = with_flags (run_totals runs) flags in
     record {

@@ -26,9 +26,9 @@ mod runs;
 mod totals;
 
 /// Prints what is wrong with the counters and flags of an image with this header, and returns what is to be
-/// thought of it. First come the clusters whose counter isn't their number of uses, or whose uses exclude each
-/// other: a line for each run of neighbours with the same numbers. Then come the wrong flags, and last the
-/// totals, or that the image is consistent.
+/// thought of it. First come the clusters whose counter isn't their number of uses, or whose uses exclude
+/// each other: a line for each run of neighbours with the same numbers. Then come the wrong flags, and last
+/// the totals, or that the image is consistent.
 ///
 /// Returns the fault of `Findings::new` before any line. A fault after a line is 34 or 35. A failed write to
 /// `out` is the storage fault. Changes no byte of the image.

@@ -25,9 +25,9 @@ joined_before finding (run ∷ runs) =
     else single finding ∷ run ∷ runs
 
 -- the runs that findings are: each is as long as it can be
-abbrev pub joined : List Finding → List FindingRun
-joined [] = []
-joined (finding ∷ findings) = joined_before finding (joined findings)
+abbrev pub runs_of : List Finding → List FindingRun
+runs_of [] = []
+runs_of (finding ∷ findings) = joined_before finding (runs_of findings)
 
 -- what a reader of runs has: a reader of findings, and the finding that it has read beyond the last run
 pub record RunsState : Type 0 where
@@ -40,7 +40,7 @@ all_left reader image = option_to_list reader.ahead ++ findings_left reader.find
 
 -- the runs that a reader comes to yet
 abbrev pub runs_left : RunsState → Image → List FindingRun
-runs_left reader image = joined (all_left reader image)
+runs_left reader image = runs_of (all_left reader image)
 
 -- how many findings there can be yet
 abbrev pub most_left : RunsState → ℕ

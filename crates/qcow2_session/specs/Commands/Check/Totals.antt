@@ -18,8 +18,8 @@ abbrev pub is_missing : Finding → Bool
 is_missing finding = nat_lt finding.counter finding.uses
 
 -- whether its uses exclude each other
-abbrev pub is_shared : Finding → Bool
-is_shared finding = finding.shared
+abbrev pub has_exclusive_uses : Finding → Bool
+has_exclusive_uses finding = finding.shared
 
 -- how many clusters of a run are of a kind: all or none
 abbrev pub clusters_of : (Finding → Bool) → FindingRun → ℕ
@@ -30,7 +30,7 @@ abbrev pub run_totals : List FindingRun → Totals
 run_totals runs = record {
   leaked = sum_by (clusters_of is_leaked) runs;
   missing = sum_by (clusters_of is_missing) runs;
-  shared = sum_by (clusters_of is_shared) runs;
+  shared = sum_by (clusters_of has_exclusive_uses) runs;
   false_flags = 0;
   late_flags = 0;
 }
@@ -47,7 +47,7 @@ abbrev pub with_run : Totals → FindingRun → Totals
 with_run totals run = record totals {
   leaked = totals.leaked + clusters_of is_leaked run;
   missing = totals.missing + clusters_of is_missing run;
-  shared = totals.shared + clusters_of is_shared run;
+  shared = totals.shared + clusters_of has_exclusive_uses run;
 }
 
 -- totals with one flag more

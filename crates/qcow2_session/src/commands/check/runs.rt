@@ -81,7 +81,7 @@ impl<'a> FindingRuns<'a> {
     ghost use Rattle.std.specs.Prelude.{◌≡◌, ◌<◌, ◌≤◌, ◌∷◌, IfErr, IfOk, IfSome, None};
     ghost use Rattle.qcow2_base.specs.Storage.{OnImage, OnlyReads};
     ghost use Rattle.qcow2_check.specs.Findings.{IsFindingsOf, IsLaterFault, MovesFindings, findings_left};
-    ghost use Rattle.qcow2_session.specs.Commands.Check.Runs.{TakesFirst, all_left, joined, most_left, runs_left};
+    ghost use Rattle.qcow2_session.specs.Commands.Check.Runs.{TakesFirst, all_left, runs_of, most_left, runs_left};
 
     /// A reader of the runs of findings that a reader comes to yet.
     pub(super) fn new(findings: Findings<'a>) -> FindingRuns<'a>
@@ -140,7 +140,7 @@ impl<'a> FindingRuns<'a> {
         requires first { first.cluster.0 < self.old.findings.position }
         requires none { self.old.ahead ≡ None }
         ensures run { IfOk result (λ run. OnImage (S.state image.old) (λ bytes.
-            joined (first ∷ findings_left self.old.findings bytes) ≡ run ∷ runs_left self.new bytes)) }
+            runs_of (first ∷ findings_left self.old.findings bytes) ≡ run ∷ runs_left self.new bytes)) }
         ensures further { most_left self.new ≤ most_left self.old }
         ensures reader { MovesFindings (S.state image.old) self.old.findings self.new.findings }
         ensures fault { IfErr result (IsLaterFault (S.state image.old)) }
