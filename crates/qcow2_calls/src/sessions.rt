@@ -135,6 +135,16 @@ pub fn run<S: Storage, O: Write>(
     qcow2_session::run(alloc, image, command, out)
 }
 
+/// `qcow2_session::commands::check_image`.
+pub fn check_image<S: Storage, O: Write>(
+    alloc: Global,
+    image: &mut S,
+    header: &Header,
+    out: &mut O,
+) -> Result<Verdict, Fault> {
+    qcow2_session::commands::check_image(alloc, image, header, out)
+}
+
 /// `qcow2_session::commands::list_l2_table`.
 pub fn list_l2_table<S: Storage, O: Write>(
     alloc: Global,

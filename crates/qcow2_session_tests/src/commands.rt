@@ -1,5 +1,6 @@
 //! The command `l2`: the lines of a table, and its faults.
 
+pub(crate) mod check;
 pub(crate) mod in_memory;
 pub(crate) mod run;
 pub(crate) mod whole_images;

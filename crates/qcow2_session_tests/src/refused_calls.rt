@@ -1,6 +1,7 @@
 //! Calls and commands of which each call of the storage is refused in turn, and commands whose output is full
 //! after each byte: what they return, and what they leave.
 
+use crate::commands::check::{ALL_KINDS, ALL_LINES, LATE_LINES, LATE_TABLES};
 use crate::commands::in_memory::{EXTENTS, JSON, run_command};
 use crate::commands::whole_images::INFO;
 use crate::failing_output::{FailingOutput, Failure};
@@ -68,6 +69,11 @@ const ROWS: &[Row] = rows! {
     Row { call: Line("map IMAGE"), printed: EXTENTS, ..ROW },
     Row { call: Line("map IMAGE json"), printed: JSON, ..ROW },
     Row { call: Line("at IMAGE 1543"), printed: "data 0xa00 copied\n", ..ROW },
+    // the L1 table and the refcount table, each L2 table for uses, the block, each L2 table again for flags
+    Row { call: Line("check IMAGE"), before: ALL_KINDS, calls: 2 + 2 + 1 + 1 + 1, after: ALL_KINDS,
+        printed: ALL_LINES, ..ROW },
+    Row { call: Line("check IMAGE"), before: LATE_TABLES, calls: 2 + 2 + 2 + 1 + 2, after: LATE_TABLES,
+        printed: LATE_LINES, ..ROW },
     Row { call: Line("l2 IMAGE 9 2"), calls: 1, printed: "3 data 0xa00 copied\n", ..ROW },
     Row { call: Line("edit IMAGE 0 map:3:6 keep:4"), calls: 2 + 1 + 1 + 1, after: MAPPED_TO_6,
         printed: "freed 5 1\ngained 6\n", ..ROW },

@@ -37,6 +37,24 @@ pub(crate) fn sample_image(
     Ok(image)
 }
 
+/// What makes the sample image with clusters of 512 bytes one whose counters are right, and then changes of
+/// that. Its refcount table is cluster 3, and names one block, cluster 4. There the counters of clusters 0 to
+/// 5 are 1, in 16 bits each.
+macro_rules! counted {
+    ($($change:expr),* $(,)?) => {
+        &[
+            (48, 0x600),
+            (56, 1 << 32),
+            (0x600, 0x800),
+            (0x800, 0x0001_0001_0001_0001),
+            (0x808, 0x0001_0001_0000_0000),
+            $($change),*
+        ]
+    };
+}
+
+pub(crate) use counted;
+
 /// Fails unless these bytes are the sample image with these changes.
 pub(crate) fn check_sample(
     alloc: Global,

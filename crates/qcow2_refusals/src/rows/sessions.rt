@@ -4,7 +4,7 @@ use crate::held::DISK;
 use crate::rows::RUN;
 use crate::runs::Call::{Command, EditImage, LookUp, LookUpImage, StepImage};
 use crate::runs::HeaderOf::{Disk, New};
-use crate::runs::{EMPTY, Image, Run};
+use crate::runs::{EMPTY, Image, Numbers, Run};
 use qcow2_testing::rows;
 
 pub(crate) const RUNS: &[Run] = rows! {
@@ -22,6 +22,7 @@ pub(crate) const RUNS: &[Run] = rows! {
     Run { call: Command("at 1543"), reports: "data 0xa00 copied\n", ..OF_A_DISK },
     Run { call: Command("map"), reports: EXTENTS, ..OF_A_DISK },
     Run { call: Command("map json"), reports: JSON, ..OF_A_DISK },
+    Run { call: Command("check"), before: COUNTED, after: COUNTED, reports: CHECKED, ..OF_A_DISK },
     Run { call: Command("l2 9 2"), reports: "3 data 0xa00 copied\n", ..OF_A_DISK },
     Run { call: Command("edit 0 map:3:5 map:3:6 discard:3"), after: &[(1048, 0)],
         reports: "freed 5 1\nfreed 6 1\ngained 6\n", ..OF_A_DISK },
@@ -40,6 +41,20 @@ const OF_A_DISK: Run = Run {
     image: Some(DISK),
     ..RUN
 };
+
+// A refcount table in cluster 3, and its block in cluster 4. There the counters of clusters 0 to 5 are 1, but
+// that of cluster 5 is 2, and that of cluster 7 is 1.
+const COUNTED: Numbers = &[
+    (48, 0x600),
+    (56, 1 << 32),
+    (0x600, 0x800),
+    (0x800, 0x0001_0001_0001_0001),
+    (0x808, 0x0001_0002_0000_0001),
+];
+
+// The data has one reference, by an entry with the copied flag.
+const CHECKED: &str = "leaked 5 1 2 1\nleaked 7 1 1 0\nfalse 0x600 5 2\n\
+    leaked 2 missing 0 shared 0 false 1 late 0\n";
 
 const DATA: &str = "DataFile { host_cluster: HostCluster(5), copied: true }";
 

@@ -13,6 +13,10 @@ use std::test::Fail;
 pub(crate) enum Ended<'a> {
     /// It printed this, and had no fault.
     Done(&'a str),
+    /// It printed this, and found only what harms nobody.
+    Harmless(&'a str),
+    /// It printed this, and found what may destroy data.
+    Harmful(&'a str),
     /// It printed this, and reported its fault by that.
     Failed(&'a str, &'a str),
     /// It was no command, and reported that by this.
@@ -24,6 +28,8 @@ impl<'a> Ended<'a> {
     fn parts(self) -> (u8, &'a str, &'a str) {
         match self {
             Ended::Done(out) => (0, out, ""),
+            Ended::Harmless(out) => (3, out, ""),
+            Ended::Harmful(out) => (4, out, ""),
             Ended::Failed(out, err) => (1, out, err),
             Ended::NoCommand(err) => (2, "", err),
         }
@@ -89,6 +95,7 @@ const NO_COMMANDS: &[&str] = rows! {
     "l2 IMAGE 9 9.0", "l2 IMAGE 9 1e1", "l2 IMAGE 9 0x9", "l2 IMAGE 9 a", "l2 IMAGE 9 \u{0669}",
     "l2 IMAGE 9 18446744073709551616", "l2 IMAGE 9 000000000000000000002",
     "info", "info IMAGE 9", "list IMAGE ", "at IMAGE", "at IMAGE 0x600", "at IMAGE 0 0",
+    "check", "check IMAGE ", "check IMAGE x", "check IMAGE 0", "check IMAGE Repair",
     "edit IMAGE", "edit IMAGE map:3:5", "edit IMAGE 0 map:3", "edit IMAGE 0 map:3:5:1", "edit IMAGE 0 map::5",
     "edit IMAGE 0 zero:3:1", "edit IMAGE 0 keep", "edit IMAGE 0 Discard:3", "edit IMAGE 0 discard:3 inc:3",
     "count IMAGE", "count IMAGE 3 inc:", "count IMAGE 3 add:0", "count IMAGE 3 inc:+1",

@@ -1,5 +1,6 @@
 //! The commands over whole images: what they print, and what the file is then.
 
+use super::check::{ALL_KINDS, ALL_LINES};
 use super::in_memory::{EXTENTS, JSON};
 use super::run::Ended::{self, Done, Failed, NoCommand};
 use super::run::{NO_COMMAND, NO_FAILURES, check_line};
@@ -100,6 +101,7 @@ const LOOKS: &[(&str, Ended<'static>)] = rows! {
     ("l2  9 140737488355328", NO_FILE),
     ("map no-such-folder/image", NO_FILE),
     ("map / json", NO_FILE),
+    ("check no-such-folder/image", NO_FILE),
     ("edit no-such-folder/image 0 zero:3", NO_FILE),
     // whole images
     ("info IMAGE", Done(INFO)),
@@ -273,9 +275,14 @@ const FAILING: &[Run<'static>] = rows! {
     Run { line: "map IMAGE json", out: WriteAfter(0), ended: NO_FILE, ..RUN },
     Run { line: "map IMAGE", out: Short, ended: Done(EXTENTS), ..RUN },
     Run { line: "map IMAGE", out: Interrupted, ended: Done(EXTENTS), ..RUN },
-    // a failed flush is reported where the run has no fault of its own
+    Run { line: "check IMAGE", before: ALL_KINDS, out: WriteAfter(20), after: ALL_KINDS,
+        ended: Failed("leaked 1 1 3 2\nshare", STORAGE), ..RUN },
+    Run { line: "check IMAGE", before: ALL_KINDS, out: Short, ended: Ended::Harmful(ALL_LINES),
+        after: ALL_KINDS, ..RUN },
+    // a failed flush is reported where the run has no fault of its own, whatever its verdict
     Run { line: "l2 IMAGE 9 2", out: Flush, ended: NO_FILE, ..RUN },
     Run { line: "map IMAGE", out: Flush, ended: NO_FILE, ..RUN },
+    Run { line: "check IMAGE", before: ALL_KINDS, out: Flush, ended: NO_FILE, after: ALL_KINDS, ..RUN },
     Run { line: "map IMAGE", before: &[(1528, 2)], out: Flush, ended: BAD_ENTRY, after: &[(1528, 2)], ..RUN },
     Run { line: "edit IMAGE 0 zero:3", out: Flush, ended: NO_FILE, after: &[(1048, 1)], ..RUN },
     Run { line: "l2 IMAGE 9 140737488355328", out: Flush, ended: NO_PLACE, ..RUN },
