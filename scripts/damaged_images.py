@@ -14,7 +14,7 @@ COPIED, COMPRESSED, ZERO = 1 << 63, 1 << 62, 1
 # Sizes of clusters, by their bits: most are small, since a check of a small disk says more then.
 CLUSTER_BITS = [9, 9, 9, 10, 11, 12, 12, 13, 14, 16, 18, 21]
 
-# How many damages an image may have, and how many tries there are to place an entry.
+# How many damages an image may have.
 MOST_DAMAGES = 4
 
 
@@ -58,6 +58,7 @@ class Draft:
         self.name_tables()
         self.map_guest_clusters()
         self.count_and_flag()
+        self.size = self.l1_size * self.entries * self.cluster - 512 * chance.randrange(self.cluster // 512)
 
     def __str__(self):
         outside = ", data outside" if self.is_external else ""
@@ -170,8 +171,8 @@ class Draft:
             self.write_at(file, self.reftable_cluster, stored_numbers(self.reftable, self.entries))
             for start, table in self.tables.items():
                 self.write_at(file, start, stored_numbers(table, self.entries))
-            for block in range(len(self.firsts("block"))):
-                self.write_at(file, self.firsts("block")[block], self.stored_block(block))
+            for number, start in enumerate(self.firsts("block")):
+                self.write_at(file, start, self.stored_block(number))
             file.truncate(self.length)
 
     def write_at(self, file, cluster, stored):
@@ -197,10 +198,9 @@ class Draft:
         return bytes(stored)
 
     def header(self, name):
-        size = self.l1_size * self.entries * self.cluster - 512 * self.chance.randrange(self.cluster // 512)
         reftable_clusters = next(part.count for part in self.parts if part.kind == "reftable")
         l1_start, reftable_start = self.l1_cluster * self.cluster, self.reftable_cluster * self.cluster
-        fields = (self.version, 0, 0, self.cluster_bits, size, 0, self.l1_size, l1_start, reftable_start)
+        fields = (self.version, 0, 0, self.cluster_bits, self.size, 0, self.l1_size, l1_start, reftable_start)
         start = struct.pack(">4sIQIIQIIQQIIQ", b"QFI\xfb", *fields, reftable_clusters, 0, 0)
         if self.version == 2:
             return start
