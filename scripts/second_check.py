@@ -1,0 +1,215 @@
+"""What `qmeta check` must print of an image, by a second reading of the definitions in docs/FORMAT.md.
+
+Nothing here is shared with the program: tables and counters are dictionaries of what isn't 0. The images are of
+features that the program knows, and their L1 tables and refcount tables end at or below 2^56.
+"""
+
+import re
+import struct
+from array import array
+from collections import Counter
+from itertools import groupby
+from typing import NamedTuple
+
+# Bits of table entries, and the greatest end of a table.
+COPIED, COMPRESSED = 1 << 63, 1 << 62
+OFFSET = (1 << 56) - 512
+GREATEST_END = 1 << 56
+
+# The kinds of lines, in the order of the last one, and those that may destroy data.
+KINDS = ("leaked", "missing", "shared", "false", "late")
+HARMFUL = {"missing", "shared", "false"}
+
+
+class Refused(Exception):
+    """The fault that a check ends in before any line, by its number."""
+
+
+class Entry(NamedTuple):
+    """A number of a table that isn't 0: its index, its bits, and the bytes that it refers to, where it does."""
+
+    index: int
+    bits: int
+    start: int
+    length: int
+
+
+class Tables:
+    """The tables of an image, as its bytes say."""
+
+    def __init__(self, path):
+        with open(path, "rb") as self.file:
+            self.length = self.file.seek(0, 2)
+            self.read_header()
+            self.l1 = self.entries_at(self.l1_start, self.l1_entries, self.l1_entry)
+            blocks = self.entries_at(self.reftable_start, self.reftable_clusters * self.cluster // 8, self.block_entry)
+            self.blocks = {entry.index: entry.start for entry in blocks}
+            if any(start + self.cluster > GREATEST_END for start in self.blocks.values()):
+                raise Refused(21)
+            self.l2 = {start: self.entries_at(start, self.cluster // 8, self.l2_entry) for start in self.l2_starts()}
+            self.counters = dict(self.stored_counters())
+
+    def bytes_at(self, start, length):
+        self.file.seek(start)
+        return self.file.read(length).ljust(length, b"\0")
+
+    def read_header(self):
+        header = self.bytes_at(0, 104)
+        version, self.cluster_bits = struct.unpack_from(">I12xI", header, 4)
+        self.l1_entries, self.l1_start, self.reftable_start = struct.unpack_from(">IQQ", header, 36)
+        self.reftable_clusters, snapshots = struct.unpack_from(">II", header, 56)
+        self.is_external = version > 2 and header[79] & 4 != 0
+        self.order = header[99] if version > 2 else 4
+        self.cluster = 1 << self.cluster_bits
+        if snapshots:
+            raise Refused(37)
+
+    def entries_at(self, start, count, read):
+        numbers = array("Q", self.bytes_at(start, 8 * count))
+        numbers.byteswap()
+        return [read(index, number) for index, number in enumerate(numbers) if number]
+
+    def entry(self, index, bits, reserved, start):
+        """An entry that refers to a cluster, unless its offset is 0."""
+        if bits & reserved:
+            raise Refused(18)
+        if start % self.cluster:
+            raise Refused(19)
+        return Entry(index, bits, start, self.cluster if start else 0)
+
+    def l1_entry(self, index, bits):
+        return self.entry(index, bits, ~(COPIED | OFFSET), bits & OFFSET)
+
+    def block_entry(self, index, bits):
+        return self.entry(index, bits, 511, bits)
+
+    def l2_entry(self, index, bits):
+        if not bits & COMPRESSED:
+            entry = self.entry(index, bits, ~(COPIED | OFFSET | 1), bits & OFFSET)
+            is_first = self.is_external and bits & COPIED
+            return entry._replace(length=self.cluster) if is_first else entry
+        width = 70 - self.cluster_bits
+        start, sectors = bits % (1 << width), (bits & ~COMPRESSED) >> width
+        if bits & COPIED or start >= GREATEST_END:
+            raise Refused(18)
+        return Entry(index, bits, start, 512 * (sectors + 1) - start % 512)
+
+    def l2_starts(self):
+        """Where L2 tables begin, in the order of the L1 table. One that is named twice is there once."""
+        return {entry.start: None for entry in self.l1 if entry.length}
+
+    def stored_counters(self):
+        """Each cluster whose counter isn't 0, and that counter. They are found by bytes that aren't 0."""
+        width = 1 << self.order
+        counters = Counter()
+        for index, start in self.blocks.items():
+            first = index * (self.cluster * 8 // width)
+            for found in re.finditer(rb"[^\0]", self.bytes_at(start, self.cluster)):
+                place, byte = found.start(), found[0][0]
+                if width < 8:
+                    for part in range(8 // width):
+                        counters[first + place * 8 // width + part] = byte >> part * width & (1 << width) - 1
+                else:
+                    cluster, further = divmod(place, width // 8)
+                    counters[first + cluster] += byte << width - 8 - 8 * further
+        return {cluster: counter for cluster, counter in counters.items() if counter}
+
+
+class Check:
+    """What is wrong with an image, and what the program must print of it."""
+
+    def __init__(self, path):
+        self.tables = Tables(path)
+        self.spans = []
+        self.fixed, self.l2, self.guest = Counter(), Counter(), Counter()
+        self.count_uses()
+        self.uses = self.fixed + self.l2 + self.guest
+        self.totals, self.text = Counter(), ""
+        self.tell_clusters()
+        for entry in self.tables.l1:
+            if entry.length:
+                self.tell_flag(f"l1 {entry.index}", entry, True)
+                self.tell_flags_of_table(entry)
+
+    def use(self, uses, start, length):
+        """Counts a use of each cluster that has one of some bytes."""
+        if length:
+            self.spans.append((start, length))
+            uses.update(range(start // self.tables.cluster, (start + length - 1) // self.tables.cluster + 1))
+
+    def count_uses(self):
+        tables = self.tables
+        self.use(self.fixed, 0, 1)
+        self.use(self.fixed, tables.l1_start, 8 * tables.l1_entries)
+        self.use(self.fixed, tables.reftable_start, tables.reftable_clusters * tables.cluster)
+        for start in tables.blocks.values():
+            self.use(self.fixed, start, tables.cluster)
+        for entry in tables.l1:
+            self.use(self.l2, entry.start, entry.length)
+            if entry.length and not tables.is_external:
+                for guest in tables.l2[entry.start]:
+                    self.use(self.guest, guest.start, guest.length)
+
+    def finding(self, cluster):
+        """The counter of a cluster, its number of uses, and whether these exclude each other."""
+        uses, l2 = self.uses[cluster], self.l2[cluster]
+        shared = self.fixed[cluster] > 0 and uses > 1 or l2 > 0 and l2 != uses
+        return self.tables.counters.get(cluster, 0), uses, shared
+
+    def tell_clusters(self):
+        findings = {c: self.finding(c) for c in sorted(self.uses.keys() | self.tables.counters.keys())}
+        wrong = [c for c, (counter, uses, shared) in findings.items() if counter != uses or shared]
+        for _, run in groupby(enumerate(wrong), lambda pair: (pair[1] - pair[0], findings[pair[1]])):
+            clusters = [cluster for _, cluster in run]
+            counter, uses, shared = findings[clusters[0]]
+            kinds = ["leaked"] * (counter > uses) + ["missing"] * (counter < uses) + ["shared"] * shared
+            for kind in kinds:
+                self.text += f"{kind} {clusters[0]} {len(clusters)} {counter} {uses}\n"
+                self.totals[kind] += len(clusters)
+
+    def tell_flags_of_table(self, l1_entry):
+        for entry in self.tables.l2[l1_entry.start]:
+            if entry.length and not entry.bits & COMPRESSED:
+                guest = l1_entry.index * (self.tables.cluster // 8) + entry.index
+                self.tell_flag(f"{guest * self.tables.cluster:#x}", entry, not self.tables.is_external)
+
+    def tell_flag(self, place, entry, is_counted):
+        cluster = entry.start // self.tables.cluster
+        counter = self.tables.counters.get(cluster, 0) if is_counted else "none"
+        is_set = entry.bits & COPIED != 0
+        if is_set != (counter in (1, "none")):
+            kind = "false" if is_set else "late"
+            self.text += f"{kind} {place} {cluster} {counter}\n"
+            self.totals[kind] += 1
+
+    def printed(self):
+        """What the program prints, and then its status where that isn't 0."""
+        if not self.totals:
+            return "consistent\n"
+        last = " ".join(f"{kind} {self.totals[kind]}" for kind in KINDS)
+        return f"{self.text}{last}\nstatus {4 if HARMFUL & self.totals.keys() else 3}\n"
+
+    def differences(self):
+        """Why `qemu-img check` counts otherwise: rows of the table in docs/DIFFERENCES.md, by what is in the image."""
+        tables = self.tables
+        length = -(-tables.length // 512) * 512
+        end = max(-(-length // tables.cluster), max(self.uses) + 1)
+        compressed = (entry.bits & COMPRESSED for table in tables.l2.values() for entry in table)
+        cases = {
+            "past the end": any(start + span - length >= tables.cluster for start, span in self.spans),
+            "counters past the end": any(cluster >= end for cluster in tables.counters),
+            "past the greatest counter": max(self.uses.values()) >= 1 << (1 << tables.order),
+            "uses of a block": any(self.uses[start // tables.cluster] > 1 for start in tables.blocks.values()),
+            "only copied": any(not entry.length for entry in tables.l1),
+            "compressed data outside": tables.is_external and any(compressed),
+        }
+        return [name for name, holds in cases.items() if holds]
+
+
+def printed_by_check(path):
+    """What `qmeta check` must print of an image, with its status, and why `qemu-img check` counts otherwise."""
+    try:
+        check = Check(path)
+    except Refused as refused:
+        return f"qmeta: fault {refused}\nstatus 1\n", ["refused"]
+    return check.printed(), check.differences()
