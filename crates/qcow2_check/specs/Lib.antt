@@ -1,3 +1,4 @@
+pub mod Consistency
 pub mod Counters
 pub mod Findings
 pub mod Flags

@@ -1,6 +1,7 @@
 //! What an image says of its own clusters: how many uses each has, and what its counter says.
 #![tactic(auto)]
 
+mod consistency;
 mod counters;
 mod findings;
 mod flags;
@@ -9,6 +10,7 @@ mod named_tables;
 mod tally;
 mod uses;
 
+pub use consistency::is_consistent;
 pub use counters::Counters;
 pub use findings::{Finding, Findings};
 pub use flags::{FlagPlace, Flags, WrongFlag};
