@@ -15,10 +15,12 @@ ghost use Rattle.qcow2_metadata.specs.Header.Grammar.{header_of};
 ghost use Rattle.qcow2_metadata.specs.Refblock.{BlockState, greatest_counter};
 ghost use Rattle.qcow2_metadata.specs.Table.{TableState};
 ghost use Rattle.qcow2_metadata.specs.Table.L2Guards.{references, run_of, times_gained};
+ghost use Rattle.qcow2_session.specs.Commands.Check.{report_on};
 ghost use Rattle.qcow2_session.specs.Edits.{Balances, cluster_numbers, table_edit};
 ghost use Rattle.qcow2_session.specs.Extents.{AreExtents, Contents};
 ghost use Rattle.qcow2_session.specs.Settled.{CoversReferences, Settles, block_or_refusal, settled_edits_or_refusal, first_counted};
 ghost use Rattle.qcow2_session.specs.WholeImage.{HasTableApart};
+ghost use Rattle.qcow2_session.specs.declared.commands.verdict.Verdict.TheVariants.{Fine};
 ghost use Rattle.qcow2_session.specs.declared.edits.Edit.{Edit};
 ghost use Rattle.qcow2_session.specs.declared.edits.Outcome.{Outcome};
 ghost use Rattle.qcow2_session.specs.declared.extents.Extent.{Extent};
@@ -63,6 +65,12 @@ pub fn covered_references_stay_covered()
         (λ fault. fault ≡ CounterRange → (index : ℕ) × (index < length block.numbers)
         × (greatest_counter block.geometry.refcount_order < slice_index block.numbers index
         + times_gained (run_of table.geometry (map table_edit edits) table.numbers).gained (first + index))) }
+{}
+
+/// Where a check finds an image consistent, nothing is wrong with any of its clusters.
+pub fn all_is_right_where_the_verdict_is_fine()
+    ensures { (tables : ImageTables) (image : Image) → (report_on tables image).verdict ≡ Fine →
+        AreRight tables image 0 max_file_length }
 {}
 
 /// Where nothing is found of an image, an L2 table that an L1 entry names lies apart from the first cluster
