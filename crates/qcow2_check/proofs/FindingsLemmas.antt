@@ -41,7 +41,7 @@ tells-guest : (cell f t g : ℕ) → Tells cell f t g → Tells (with_use Guest 
 tells-guest cell f t g is = grind (arith, nat_tests, is)
 
 -- uses of a cluster, with one in front of others
-kind-cons : (kind : UseKind) (used : ClusterUse) (uses : List ClusterUse) (c : ℕ) → uses_of_kind kind (used ∷ uses) c
+pub kind-cons : (kind : UseKind) (used : ClusterUse) (uses : List ClusterUse) (c : ℕ) → uses_of_kind kind (used ∷ uses) c
     ≡ one_if (mark_of used.kind == mark_of kind && is_among used.clusters c) + uses_of_kind kind uses c
 kind-cons kind used uses c = sum_by-cons _ used uses
 
@@ -60,7 +60,7 @@ tells-all (used ∷ uses) c cell f t g is = elim used.kind as (λ kind. used.kin
     ] refl
 
 -- all uses of a cluster are of these kinds
-uses_by_kind : (uses : List ClusterUse) (c : ℕ) → uses_of uses c ≡ uses_of_kind Fixed uses c + uses_of_kind L2Table uses c + uses_of_kind Guest uses c
+pub uses_by_kind : (uses : List ClusterUse) (c : ℕ) → uses_of uses c ≡ uses_of_kind Fixed uses c + uses_of_kind L2Table uses c + uses_of_kind Guest uses c
 uses_by_kind [] c = refl
 uses_by_kind (used ∷ uses) c = elim used.kind as (λ kind. used.kind ≡ kind → uses_of (used ∷ uses) c
     ≡ uses_of_kind Fixed (used ∷ uses) c + uses_of_kind L2Table (used ∷ uses) c + uses_of_kind Guest (used ∷ uses) c) [

@@ -1,8 +1,9 @@
-use Rattle.std.proofs.Common.{◌≡◌, ℕ, zero, suc, true, false, ◌+◌, ◌-◌, ◌<◌, ◌≤◌, [], ◌∷◌, Result, Ok, Err, Some, None, Option, IsTrue, refl, sym, ap, subst, ◌∙◌, arith}
+use Rattle.std.proofs.Common.{◌≡◌, ◌↔◌, ℕ, length, inl, inr, zero, suc, true, false, ◌+◌, ◌-◌, ◌<◌, ◌≤◌, [], ◌∷◌, Result, Ok, Err, Some, None, Option, IsTrue, refl, sym, ap, subst, ◌∙◌, arith}
+use Rattle.std.proofs.lemmas.Bool.{cases_lt}
 use Rattle.qcow2_base.specs.Format.{max_file_length}
 use Rattle.qcow2_base.specs.Storage.{Image, OnImage, OnlyReads, StorageState}
 use Rattle.qcow2_base.specs.declared.fault.Fault.{Fault}
-use Rattle.qcow2_check.specs.Findings.{AreRight, FindingsState, PassesFinding, TakesFinding, finding_at, findings_from, findings_left, is_wrong, tables_of}
+use Rattle.qcow2_check.specs.Findings.{AreRight, FindingsState, PassesFinding, TakesFinding, finding_at, findings_from, findings_left, image_findings, is_wrong, tables_of}
 use Rattle.qcow2_check.specs.Uses.{ImageTables}
 use Rattle.qcow2_check.specs.declared.findings.Finding.{Finding}
 
@@ -77,3 +78,26 @@ pub takes-later : {T : Type 0} (value : T) (old now : StorageState) (a b : Findi
     → OnImage old (λ bytes. TakesFinding (findings_left a bytes) (findings_left b bytes) answer)
 takes-later value old now a b answer reads takes = λ told.
     subst (λ image. TakesFinding (findings_left a image) (findings_left b image) answer) reads.bytes (takes (rw reads.device.tells told))
+
+-- nothing is wrong with clusters that nothing is found of
+all-right : (tables : ImageTables) (image : Image) (from count : ℕ) → findings_from tables image from count ≡ []
+    → AreRight tables image from (from + count)
+all-right tables image from zero none = λ c after before. absurd (omega (arith, after, before))
+all-right tables image from (suc count) none = with_next (all-right tables image (from + 1) count)
+  where
+    with_next : (findings_from tables image (from + 1) count ≡ [] → AreRight tables image (from + 1) (from + 1 + count))
+        → AreRight tables image from (from + suc count)
+    with_next next c after before = elim (is_wrong (finding_at tables image from)) as (λ test. is_wrong (finding_at tables image from) ≡ test
+        → is_wrong (finding_at tables image c) ≡ false) [
+          | true ↦ λ wrong. absurd (omega (arith, ap length (sym (take-one tables image from count wrong) ∙ none)))
+          | false ↦ λ right. elim (cases_lt from c) [
+            | inl later ↦ next (sym (pass-one tables image from count right) ∙ none) c (omega (arith, later)) (omega (arith, before))
+            | inr here ↦
+                let same : from ≡ c = omega (arith, after, here) in
+                rw same at right
+          ]
+        ] refl
+
+-- just where nothing is wrong with any cluster nothing is found
+pub none-just-where-right : (tables : ImageTables) (image : Image) → (image_findings tables image ≡ []) ↔ AreRight tables image 0 max_file_length
+none-just-where-right tables image = (all-right tables image 0 max_file_length, none-found tables image 0 (omega arith))

@@ -1,3 +1,4 @@
+pub mod ApartLemmas
 pub mod CountersLemmas
 pub mod FindingsLemmas
 pub mod FindingsListLemmas

@@ -1,13 +1,19 @@
 //! Laws: facts about the definitions that contracts name. Each is a function that does nothing. Its
 //! contract is the law, and its name says it.
 
-ghost use Rattle.std.specs.Prelude.{◌≡◌, ℕ, ◌<◌, ◌≤◌};
+ghost use Rattle.std.specs.Prelude.{◌≡◌, ◌↔◌, ℕ, ◌<◌, ◌≤◌, []};
 ghost use Rattle.qcow2_base.specs.Format.{max_file_length};
 ghost use Rattle.qcow2_base.specs.Storage.{Image};
 ghost use Rattle.qcow2_check.specs.Counters.{counter_of};
-ghost use Rattle.qcow2_check.specs.Findings.{AreRight, uses_of_kind};
+ghost use Rattle.qcow2_check.specs.Findings.{AreRight, image_findings, uses_of_kind};
 ghost use Rattle.qcow2_check.specs.Uses.{ImageTables, image_uses, uses_of};
-ghost use Rattle.qcow2_check.specs.declared.tally.UseKind.TheVariants.{Fixed, L2Table};
+ghost use Rattle.qcow2_check.specs.declared.tally.UseKind.TheVariants.{Fixed, Guest, L2Table};
+
+/// Nothing is found of an image exactly where nothing is wrong with any of its clusters.
+pub fn nothing_is_found_just_where_all_is_right()
+    ensures { (tables : ImageTables) (image : Image) →
+        (image_findings tables image ≡ []) ↔ AreRight tables image 0 max_file_length }
+{}
 
 /// Where nothing is found of an image, the counter of each cluster is the number of its uses.
 pub fn counters_are_uses_where_nothing_is_found()
@@ -23,4 +29,12 @@ pub fn uses_exclude_no_others_where_nothing_is_found()
         (c : ℕ) → c < max_file_length → let uses = image_uses tables image in
         (0 < uses_of_kind Fixed uses c → uses_of uses c ≡ 1)
         × (0 < uses_of_kind L2Table uses c → uses_of uses c ≡ uses_of_kind L2Table uses c) }
+{}
+
+/// Where nothing is found of an image, a cluster of guest data is none of a table or a block: it has no use
+/// but by guest data.
+pub fn guest_data_lies_in_no_table_where_nothing_is_found()
+    ensures { (tables : ImageTables) (image : Image) → AreRight tables image 0 max_file_length →
+        (c : ℕ) → c < max_file_length → let uses = image_uses tables image in
+        0 < uses_of_kind Guest uses c → uses_of uses c ≡ uses_of_kind Guest uses c }
 {}

@@ -1,7 +1,9 @@
 mod WholeImageExamples
+pub mod ApartLemmas
 pub mod ChangingLemmas
 pub mod CheckLemmas
 pub mod CommandsLemmas
+pub mod ConsistentLemmas
 pub mod EditsLemmas
 pub mod ExtentsLemmas
 pub mod HexLemmas

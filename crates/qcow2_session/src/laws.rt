@@ -1,16 +1,26 @@
 //! Laws: facts about the definitions that contracts name. Each is a function that does nothing. Its
 //! contract is the law, and its name says it.
 
-ghost use Rattle.std.specs.Prelude.{◌≡◌, ℕ, ◌+◌, ◌<◌, List, MatchResult, Ok, length, map, slice_index};
+ghost use Rattle.std.specs.Prelude.{◌≡◌, ℕ, ◌+◌, ◌<◌, List, MatchResult, Ok, Some, length, map, slice_index};
+ghost use Rattle.qcow2_base.specs.Format.{max_file_length};
+ghost use Rattle.qcow2_base.specs.Storage.{Image};
 ghost use Rattle.qcow2_base.specs.Types.{IsClusterBits};
 ghost use Rattle.qcow2_base.specs.declared.fault.Fault.TheVariants.{CounterRange};
-ghost use Rattle.qcow2_metadata.specs.Header.{HeaderRecord};
+ghost use Rattle.qcow2_base.specs.declared.types.HostCluster.{HostCluster};
+ghost use Rattle.qcow2_check.specs.Findings.{AreRight};
+ghost use Rattle.qcow2_check.specs.NamedTables.{named_cluster};
+ghost use Rattle.qcow2_check.specs.Uses.{ImageTables};
+ghost use Rattle.qcow2_metadata.specs.Header.{HeaderRecord, geometry_of};
+ghost use Rattle.qcow2_metadata.specs.Header.Grammar.{header_of};
 ghost use Rattle.qcow2_metadata.specs.Refblock.{BlockState, greatest_counter};
 ghost use Rattle.qcow2_metadata.specs.Table.{TableState};
 ghost use Rattle.qcow2_metadata.specs.Table.L2Guards.{references, run_of, times_gained};
+ghost use Rattle.qcow2_session.specs.Commands.Check.{report_on};
 ghost use Rattle.qcow2_session.specs.Edits.{Balances, cluster_numbers, table_edit};
 ghost use Rattle.qcow2_session.specs.Extents.{AreExtents, Contents};
 ghost use Rattle.qcow2_session.specs.Settled.{CoversReferences, Settles, block_or_refusal, settled_edits_or_refusal, first_counted};
+ghost use Rattle.qcow2_session.specs.WholeImage.{HasTableApart};
+ghost use Rattle.qcow2_session.specs.declared.commands.verdict.Verdict.TheVariants.{Fine};
 ghost use Rattle.qcow2_session.specs.declared.edits.Edit.{Edit};
 ghost use Rattle.qcow2_session.specs.declared.edits.Outcome.{Outcome};
 ghost use Rattle.qcow2_session.specs.declared.extents.Extent.{Extent};
@@ -55,4 +65,19 @@ pub fn covered_references_stay_covered()
         (λ fault. fault ≡ CounterRange → (index : ℕ) × (index < length block.numbers)
         × (greatest_counter block.geometry.refcount_order < slice_index block.numbers index
         + times_gained (run_of table.geometry (map table_edit edits) table.numbers).gained (first + index))) }
+{}
+
+/// Where a check finds an image consistent, nothing is wrong with any of its clusters.
+pub fn all_is_right_where_the_verdict_is_fine()
+    ensures { (tables : ImageTables) (image : Image) → (report_on tables image).verdict ≡ Fine →
+        AreRight tables image 0 max_file_length }
+{}
+
+/// Where nothing is found of an image, an L2 table that an L1 entry names lies apart from the first cluster
+/// and the L1 table.
+pub fn an_l2_table_lies_apart_where_nothing_is_found()
+    ensures { (tables : ImageTables) (image : Image) (k : ℕ) (cluster : HostCluster) →
+        header_of image ≡ Ok tables.header → AreRight tables image 0 max_file_length →
+        named_cluster tables.header.v2.cluster_bits (slice_index tables.l1 k) ≡ Some cluster →
+        HasTableApart (geometry_of tables.header) cluster tables.header image }
 {}

@@ -1,0 +1,69 @@
+use Rattle.std.proofs.Common.{◌≡◌, ℕ, zero, suc, Bool, true, false, ◌+◌, List, [], ◌∷◌, length, ap, refl, arith}
+use Rattle.std.proofs.lemmas.Bool.Decides.{nat_tests}
+use Rattle.std.proofs.lemmas.List.Sums.{sum_by-cons}
+use Rattle.std.specs.List.{sum_by}
+use Rattle.qcow2_base.specs.Format.{max_file_length}
+use Rattle.qcow2_base.specs.Storage.{Image}
+use Rattle.qcow2_check.proofs.FindingsListLemmas.{none-just-where-right}
+use Rattle.qcow2_check.specs.Findings.{AreRight, finding_at, findings_from, image_findings, is_wrong}
+use Rattle.qcow2_check.specs.Flags.{image_flags}
+use Rattle.qcow2_check.specs.Uses.{ImageTables}
+use Rattle.qcow2_check.specs.declared.findings.Finding.{Finding}
+use Rattle.qcow2_check.specs.declared.flags.WrongFlag.{WrongFlag}
+use Rattle.qcow2_session.specs.Commands.Check.{report_on}
+use Rattle.qcow2_session.specs.Commands.Check.Runs.{joined, joined_before, single}
+use Rattle.qcow2_session.specs.Commands.Check.Totals.{clusters_of, is_leaked, is_missing, is_shared, run_totals, verdict_of, with_flags}
+use Rattle.qcow2_session.specs.declared.commands.check.runs.FindingRun.{FindingRun}
+use Rattle.qcow2_session.specs.declared.commands.check.totals.Totals.{Totals}
+use Rattle.qcow2_session.specs.declared.commands.verdict.Verdict.TheVariants.{Fine}
+
+-- the first of the findings is of a cluster that something is wrong with
+first-wrong : (tables : ImageTables) (image : Image) (from count : ℕ) (found : Finding) (rest : List Finding)
+    → findings_from tables image from count ≡ found ∷ rest → is_wrong found ≡ true
+unfolding findings_from
+first-wrong tables image from zero found rest is = absurd (omega (arith, ap length is))
+first-wrong tables image from (suc count) found rest is = with_next (first-wrong tables image (from + 1) count found rest)
+  where
+    with_next : (findings_from tables image (from + 1) count ≡ found ∷ rest → is_wrong found ≡ true) → is_wrong found ≡ true
+    with_next next = elim (is_wrong (finding_at tables image from)) as (λ test. is_wrong (finding_at tables image from) ≡ test → is_wrong found ≡ true) [
+      | true ↦ λ wrong. grind (arith, wrong, is)
+      | false ↦ λ right. next (grind (arith, right, is))
+    ] refl
+
+-- a finding in front of runs is not of a kind that no cluster of them is of
+none-of-kind : (is_kind : Finding → Bool) (finding : Finding) (runs : List FindingRun)
+    → sum_by (clusters_of is_kind) (joined_before finding runs) ≡ 0 → is_kind finding ≡ false
+none-of-kind is_kind finding [] none = grind (arith, nat_tests, none, sum_by-cons (clusters_of is_kind) (single finding) [])
+none-of-kind is_kind finding (run ∷ runs) none = grind (
+  arith,
+  nat_tests,
+  none,
+  sum_by-cons (clusters_of is_kind) (record { first = finding; count = run.count + 1 }) runs,
+  sum_by-cons (clusters_of is_kind) (single finding) (run ∷ runs),
+)
+
+-- where the verdict is that all is fine, nothing is counted
+fine-zero : (totals : Totals) → verdict_of totals ≡ Fine → (totals.leaked ≡ 0) × (totals.missing ≡ 0) × (totals.shared ≡ 0)
+fine-zero totals fine = grind (arith, nat_tests, fine)
+
+-- nothing is wrong with a finding of such a verdict
+fine-right : (finding : Finding) (findings : List Finding) (flags : List WrongFlag)
+    → verdict_of (with_flags (run_totals (joined (finding ∷ findings))) flags) ≡ Fine → is_wrong finding ≡ false
+fine-right finding findings flags fine =
+    let zeros = fine-zero (with_flags (run_totals (joined (finding ∷ findings))) flags) fine in
+    let runs = joined findings in
+    grind (arith, nat_tests, none-of-kind is_leaked finding runs zeros.0, none-of-kind is_missing finding runs zeros.1, none-of-kind is_shared finding runs zeros.2)
+
+-- so there is none
+fine-none : (tables : ImageTables) (image : Image) (flags : List WrongFlag) (findings : List Finding) → image_findings tables image ≡ findings
+    → verdict_of (with_flags (run_totals (joined findings)) flags) ≡ Fine → findings ≡ []
+fine-none tables image flags [] are fine = refl
+fine-none tables image flags (finding ∷ findings) are fine =
+    let wrong = first-wrong tables image 0 max_file_length finding findings are in
+    let right = fine-right finding findings flags fine in
+    grind (arith, wrong, right)
+
+-- and nothing is wrong with any cluster
+pub right-where-fine : (tables : ImageTables) (image : Image) → (report_on tables image).verdict ≡ Fine → AreRight tables image 0 max_file_length
+right-where-fine tables image fine =
+    (none-just-where-right tables image).0 (fine-none tables image (image_flags tables image) (image_findings tables image) refl fine)
