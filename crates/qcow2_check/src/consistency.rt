@@ -11,8 +11,8 @@ use qcow2_base::{Fault, Storage};
 use qcow2_metadata::Header;
 use std::alloc::Global;
 
-/// Whether an image with this header is consistent: the counter of each cluster is its number of uses, no uses
-/// of a cluster exclude each other, and no copied flag is wrong.
+/// Whether an image with this header is consistent: the counter of each cluster is its number of uses, no
+/// uses of a cluster exclude each other, and no copied flag is wrong.
 ///
 /// Returns the fault of `Findings::new`. Changes no byte.
 pub fn is_consistent<S: Storage>(

@@ -1,7 +1,9 @@
-//! Tests of what an image says of its own clusters: of counters, of findings and of wrong
-//! flags.
+//! Tests of what an image says of its own clusters: of counters, of findings, of wrong flags, and of all of
+//! them together.
 #![tactic(auto)]
 
+#[cfg(test)]
+mod consistency;
 #[cfg(test)]
 mod counters;
 #[cfg(test)]
