@@ -95,3 +95,18 @@ named-apart tables image k cluster right names =
 pub guest-alone : (uses : List ClusterUse) (c : ℕ) → is_shared uses c ≡ false → 0 < uses_of_kind Guest uses c
     → uses_of uses c ≡ uses_of_kind Guest uses c
 guest-alone uses c apart used = grind (arith, nat_tests, used, excludes uses c apart, uses_by_kind uses c)
+
+-- nor has any cluster two uses by the header and its tables
+pub header-once : (tables : ImageTables) (image : Image) (c : ℕ) → AreRight tables image 0 max_file_length → c < max_file_length
+    → uses_of_kind Fixed (header_uses tables.header) c ≤ 1
+header-once tables image c right below =
+    let uses = image_uses tables image in
+    let blocks = flat_map (block_uses tables.header.v2.cluster_bits) tables.reftable in
+    let last = flat_map (l1_entry_uses (geometry_of tables.header) image) tables.l1 in
+    let apart : is_shared uses c ≡ false = grind (arith, nat_tests, right c (omega arith) below) in
+    grind (arith, nat_tests, excludes uses c apart, uses_by_kind uses c, kind-append Fixed (header_uses tables.header) (blocks ++ last) c)
+
+-- the first cluster has two where the L1 table reaches it
+pub l1-first-used : (header : HeaderRecord) → (l1_cluster header).0 ≡ 0 → 0 < div_ceil (8 * header.v2.l1_size) (2 ^ header.v2.cluster_bits)
+    → 1 < uses_of_kind Fixed (header_uses header) 0
+l1-first-used header first some = grind (arith, nat_tests, kind-cons, first, some)

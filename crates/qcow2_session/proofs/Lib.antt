@@ -18,6 +18,7 @@ pub mod ReportLemmas
 pub mod RunningLemmas
 pub mod RunsLemmas
 pub mod SettledLemmas
+pub mod SoundLemmas
 pub mod StepsLemmas
 pub mod VerdictLemmas
 pub mod WholeImageLemmas

@@ -112,7 +112,7 @@ keeps-other-lookups g cluster old new outside header has =
     record { others = lookup-kept header cluster old new change; own = lookup-own header cluster old new change }
 
 -- L2 tables of two clusters share no byte
-l2-apart : (g : Geometry) (a b : HostCluster) → 9 ≤ g.cluster_bits → a.0 ≢ b.0 → ShareNoByte (l2_bytes g a) (l2_bytes g b)
+pub l2-apart : (g : Geometry) (a b : HostCluster) → 9 ≤ g.cluster_bits → a.0 ≢ b.0 → ShareNoByte (l2_bytes g a) (l2_bytes g b)
 l2-apart g a b least differ = λ o in_a in_b. differ (sym (of_byte a o in_a) ∙ of_byte b o in_b)
   where
     of_byte : (c : HostCluster) (o : ℕ) → IsWithin (l2_bytes g c) o → o / 2 ^ g.cluster_bits ≡ c.0

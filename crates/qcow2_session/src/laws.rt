@@ -1,13 +1,13 @@
 //! Laws: facts about the definitions that contracts name. Each is a function that does nothing. Its
 //! contract is the law, and its name says it.
 
-ghost use Rattle.std.specs.Prelude.{◌≡◌, ℕ, ◌+◌, ◌<◌, List, MatchResult, Ok, Some, length, map, slice_index};
+ghost use Rattle.std.specs.Prelude.{◌≡◌, ℕ, ◌+◌, ◌<◌, List, MatchResult, Ok, Some, length, map, slice_get, slice_index};
 ghost use Rattle.qcow2_base.specs.Format.{max_file_length};
 ghost use Rattle.qcow2_base.specs.Storage.{Image};
 ghost use Rattle.qcow2_base.specs.Types.{IsClusterBits};
 ghost use Rattle.qcow2_base.specs.declared.fault.Fault.TheVariants.{CounterRange};
 ghost use Rattle.qcow2_base.specs.declared.types.HostCluster.{HostCluster};
-ghost use Rattle.qcow2_check.specs.Findings.{AreRight};
+ghost use Rattle.qcow2_check.specs.Findings.{AreRight, checked_tables};
 ghost use Rattle.qcow2_check.specs.NamedTables.{named_cluster};
 ghost use Rattle.qcow2_check.specs.Uses.{ImageTables};
 ghost use Rattle.qcow2_metadata.specs.Header.{HeaderRecord, geometry_of};
@@ -19,7 +19,7 @@ ghost use Rattle.qcow2_session.specs.Commands.Check.{report_on};
 ghost use Rattle.qcow2_session.specs.Edits.{Balances, cluster_numbers, table_edit};
 ghost use Rattle.qcow2_session.specs.Extents.{AreExtents, Contents};
 ghost use Rattle.qcow2_session.specs.Settled.{CoversReferences, Settles, block_or_refusal, settled_edits_or_refusal, first_counted};
-ghost use Rattle.qcow2_session.specs.WholeImage.{HasTableApart};
+ghost use Rattle.qcow2_session.specs.WholeImage.{HasTableApart, IsSoundImage, l2_clusters};
 ghost use Rattle.qcow2_session.specs.declared.commands.verdict.Verdict.TheVariants.{Fine};
 ghost use Rattle.qcow2_session.specs.declared.edits.Edit.{Edit};
 ghost use Rattle.qcow2_session.specs.declared.edits.Outcome.{Outcome};
@@ -80,4 +80,15 @@ pub fn an_l2_table_lies_apart_where_nothing_is_found()
         header_of image ≡ Ok tables.header → AreRight tables image 0 max_file_length →
         named_cluster tables.header.v2.cluster_bits (slice_index tables.l1 k) ≡ Some cluster →
         HasTableApart (geometry_of tables.header) cluster tables.header image }
+{}
+
+/// An image that can be checked, and of which nothing is found, is sound, if no two L1 entries name one L2
+/// table.
+pub fn an_image_is_sound_where_nothing_is_found()
+    ensures { (tables : ImageTables) (image : Image) →
+        header_of image ≡ Ok tables.header → checked_tables tables.header image ≡ Ok tables →
+        AreRight tables image 0 max_file_length →
+        ((i j : ℕ) (table : HostCluster) → let named = l2_clusters tables.header.v2.cluster_bits tables.l1 in
+        slice_get named i ≡ Some table → slice_get named j ≡ Some table → i ≡ j) →
+        IsSoundImage image tables.header tables.l1 }
 {}
