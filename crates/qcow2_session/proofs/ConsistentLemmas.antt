@@ -11,8 +11,8 @@ use Rattle.qcow2_check.specs.Uses.{ImageTables}
 use Rattle.qcow2_check.specs.declared.findings.Finding.{Finding}
 use Rattle.qcow2_check.specs.declared.flags.WrongFlag.{WrongFlag}
 use Rattle.qcow2_session.specs.Commands.Check.{report_on}
-use Rattle.qcow2_session.specs.Commands.Check.Runs.{joined, joined_before, single}
-use Rattle.qcow2_session.specs.Commands.Check.Totals.{clusters_of, is_leaked, is_missing, is_shared, run_totals, verdict_of, with_flags}
+use Rattle.qcow2_session.specs.Commands.Check.Runs.{runs_of, joined_before, single}
+use Rattle.qcow2_session.specs.Commands.Check.Totals.{clusters_of, is_leaked, is_missing, has_exclusive_uses, run_totals, verdict_of, with_flags}
 use Rattle.qcow2_session.specs.declared.commands.check.runs.FindingRun.{FindingRun}
 use Rattle.qcow2_session.specs.declared.commands.check.totals.Totals.{Totals}
 use Rattle.qcow2_session.specs.declared.commands.verdict.Verdict.TheVariants.{Fine}
@@ -48,15 +48,15 @@ fine-zero totals fine = grind (arith, nat_tests, fine)
 
 -- nothing is wrong with a finding of such a verdict
 fine-right : (finding : Finding) (findings : List Finding) (flags : List WrongFlag)
-    → verdict_of (with_flags (run_totals (joined (finding ∷ findings))) flags) ≡ Fine → is_wrong finding ≡ false
+    → verdict_of (with_flags (run_totals (runs_of (finding ∷ findings))) flags) ≡ Fine → is_wrong finding ≡ false
 fine-right finding findings flags fine =
-    let zeros = fine-zero (with_flags (run_totals (joined (finding ∷ findings))) flags) fine in
-    let runs = joined findings in
-    grind (arith, nat_tests, none-of-kind is_leaked finding runs zeros.0, none-of-kind is_missing finding runs zeros.1, none-of-kind is_shared finding runs zeros.2)
+    let zeros = fine-zero (with_flags (run_totals (runs_of (finding ∷ findings))) flags) fine in
+    let runs = runs_of findings in
+    grind (arith, nat_tests, none-of-kind is_leaked finding runs zeros.0, none-of-kind is_missing finding runs zeros.1, none-of-kind has_exclusive_uses finding runs zeros.2)
 
 -- so there is none
 fine-none : (tables : ImageTables) (image : Image) (flags : List WrongFlag) (findings : List Finding) → image_findings tables image ≡ findings
-    → verdict_of (with_flags (run_totals (joined findings)) flags) ≡ Fine → findings ≡ []
+    → verdict_of (with_flags (run_totals (runs_of findings)) flags) ≡ Fine → findings ≡ []
 fine-none tables image flags [] are fine = refl
 fine-none tables image flags (finding ∷ findings) are fine =
     let wrong = first-wrong tables image 0 max_file_length finding findings are in
