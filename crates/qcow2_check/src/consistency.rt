@@ -4,7 +4,8 @@ ghost use Rattle.std.specs.Prelude.{◌≡◌, ◌⊎◌, Err, IfErr, IfOk, IsOk
 ghost use Rattle.qcow2_base.specs.Storage.{OnImage, OnlyReads};
 ghost use Rattle.qcow2_metadata.specs.Results.{IsFromOutside};
 ghost use Rattle.qcow2_check.specs.Consistency.{Judges};
-ghost use Rattle.qcow2_check.specs.Findings.{checked_tables};
+ghost use Rattle.qcow2_metadata.specs.Table.{IsContentFault};
+ghost use Rattle.qcow2_check.specs.Findings.{IsCheckFault, checked_tables};
 
 use crate::findings::Findings;
 use qcow2_base::{Fault, Storage};
@@ -22,8 +23,9 @@ pub fn is_consistent<S: Storage>(
 ) -> Result<bool, Fault>
     ensures consistent { IfOk result (λ answer. OnImage (S.state image.old) (λ bytes.
         IsOkAnd (checked_tables header.now bytes) (λ tables. Judges answer tables bytes))) }
-    ensures fault { IfErr result (λ fault. OnImage (S.state image.old) (λ bytes.
+    ensures refused { IfErr result (λ fault. OnImage (S.state image.old) (λ bytes.
         IsFromOutside fault ⊎ (checked_tables header.now bytes ≡ Err fault))) }
+    ensures faults { IfErr result (λ fault. IsCheckFault header.now fault ⊎ IsContentFault fault) }
     ensures storage { OnlyReads result (S.state image.old) (S.state image.new) }
 {
     let mut findings = Findings::new(alloc, image, header)?;
