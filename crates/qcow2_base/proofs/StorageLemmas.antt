@@ -1,11 +1,12 @@
-use Rattle.std.proofs.Common.{◌≡◌, ℕ, zero, suc, ◌+◌, ◌^◌, ◌<◌, ◌-◌, min, List, [], ◌∷◌, ◌++◌, length, replicate, slice_index, refl, sym, ◌∙◌, add-zero, add_assoc, arith, inl, inr, lit<, Option, Some, None, IfSome, length-append}
-use Rattle.std.specs.Io.KnownBytes.{Keeps}
+use Rattle.std.proofs.Common.{◌≡◌, ℕ, zero, suc, ◌+◌, ◌^◌, ◌<◌, ◌≤◌, List, [], ◌∷◌, ◌++◌, drop, length, replicate, slice_index, refl, sym, ap, ◌∙◌, add-zero, add_assoc, arith, inl, inr, lit<, Option, Some, None, IfSome, length-append}
+use Rattle.std.specs.Io.KnownBytes.{Consumes, IsAtEnd}
+use Rattle.std.specs.Prelude.{unwrap_or}
 use Rattle.std.proofs.lemmas.Bool.{cases_lt}
-use Rattle.std.proofs.lemmas.List.{get_or_past, length-replicate}
+use Rattle.std.proofs.lemmas.List.{append-nil, get_or-drop, get_or_append_left, get_or_past, length-replicate}
 use Rattle.std.proofs.lemmas.Nat.{mul-add-lt, same_from_place}
 use Rattle.std.proofs.Math.Nat.{pow-suc}
 use mathlib.Core.Path.{fun_ext}
-use Rattle.qcow2_base.specs.Storage.{Holds, Image, IsBytes, be, image_of}
+use Rattle.qcow2_base.specs.Storage.{Holds, Image, IsBytes, TellsReads, be, image_of}
 
 -- two images that agree over n bytes have the same number there
 pub be_of_same : (f g : Image) (n o p : ℕ) → ((k : ℕ) → k < n → f (o + k) ≡ g (p + k)) → be f o n ≡ be g p n
@@ -51,28 +52,57 @@ padded_read (b ∷ bytes) n (suc o) = padded_read bytes n o
 pub image_of-padded : (bytes : List ℕ) (n : ℕ) → image_of (bytes ++ replicate n 0) ≡ image_of bytes
 image_of-padded bytes n = fun_ext (padded_read bytes n)
 
--- what is stored from the offset on, and then zeros from the end on
-stored_then_zeros : (bytes front : List ℕ) (offset n : ℕ) →
-    length front ≡ min (length bytes - offset) (length front + n) →
-    Holds (image_of bytes) offset front →
+-- what a file gives from the offset on, up to its end, and then zeros
+given_then_zeros : (bytes front rest : List ℕ) (offset n : ℕ) →
+    drop offset bytes ≡ front ++ rest →
+    (0 < n → rest ≡ []) →
     Holds (image_of bytes) offset (front ++ replicate n 0)
-stored_then_zeros bytes front offset n count holds = record {
-  each = λ i below. rw (padded_read front n i) (elim (cases_lt i (length front)) [
-    | inl stored ↦ holds.each i stored
-    | inr past ↦ get_or_past front i 0 past ∙ sym (get_or_past bytes (offset + i) 0 (omega (arith, below, length-append front (replicate n 0), length-replicate {A = ℕ} n 0)))
+given_then_zeros bytes front rest offset n given end = record {
+  each = λ i below. rw (padded_read front n i, ← get_or-drop offset bytes i 0, given) (elim (cases_lt i (length front)) [
+    | inl stored ↦ sym (get_or_append_left front rest 0 i stored)
+    | inr past ↦ rw (end (omega (arith, below, past, length-append front (replicate n 0), length-replicate {A = ℕ} n 0)), append-nil front) refl
   ]);
 }
 
--- the same where the bytes may be known, and stay
-pub known_then_zeros : (known kept : Option (List ℕ)) (front : List ℕ) (offset end n : ℕ) →
-    IfSome known (λ bytes. end ≡ length bytes) →
-    Keeps known kept →
-    length front ≡ min (end - offset) (length front + n) →
-    IfSome kept (λ bytes. Holds (image_of bytes) offset front) →
+-- the same where more may be known to be left
+left_then_zeros : (bytes front : List ℕ) (left : Option (List ℕ)) (offset n : ℕ) →
+    Consumes (Some (drop offset bytes)) left front →
+    (0 < n → IsAtEnd left) →
+    Holds (image_of bytes) offset (front ++ replicate n 0)
+left_then_zeros bytes front None offset n given end = absurd given
+left_then_zeros bytes front (Some rest) offset n given end = given_then_zeros bytes front rest offset n given end
+
+-- the same where the bytes may be known
+pub known_then_zeros : (known old left : Option (List ℕ)) (front : List ℕ) (offset n : ℕ) →
+    IfSome known (λ bytes. old ≡ Some (drop offset bytes)) →
+    Consumes old left front →
+    (0 < n → IsAtEnd left) →
     IfSome known (λ bytes. Holds (image_of bytes) offset (front ++ replicate n 0))
-known_then_zeros None kept front offset end n len keeps count holds = tt
-known_then_zeros (Some bytes) None front offset end n len keeps count holds = absurd keeps
-known_then_zeros (Some bytes) (Some same) front offset end n len keeps count holds =
-    stored_then_zeros bytes front offset n
-    (rw (← len) count)
-    (rw (← keeps) holds)
+known_then_zeros None old left front offset n same given end = tt
+known_then_zeros (Some bytes) old left front offset n same given end =
+    left_then_zeros bytes front left offset n (rw (← same) given) end
+
+rest_of_known : {F : Type 0} (bytes : F → Option (List ℕ)) (position : F → Option ℕ) (remaining : F → Option (List ℕ)) →
+    TellsReads bytes position remaining → (file : F) (offset : ℕ) → position file ≡ Some offset →
+    (known : Option (List ℕ)) → bytes file ≡ known → IfSome known (λ xs. remaining file ≡ Some (drop offset xs))
+rest_of_known bytes position remaining tells file offset at None same = tt
+rest_of_known bytes position remaining tells file offset at (Some xs) same =
+    let told = tells file xs same in
+    let place : Some told.0 ≡ Some offset = sym told.1 ∙ at in
+    told.2 ∙ ap (λ n. Some (drop n xs)) (ap (λ o. unwrap_or o 0) place)
+
+-- a file whose bytes may be known gives those from its position on
+pub gives_rest : {F : Type 0} (bytes : F → Option (List ℕ)) (position : F → Option ℕ) (remaining : F → Option (List ℕ)) →
+    TellsReads bytes position remaining → (file : F) (offset : ℕ) → position file ≡ Some offset →
+    IfSome (bytes file) (λ xs. remaining file ≡ Some (drop offset xs))
+gives_rest bytes position remaining tells file offset at =
+    rest_of_known bytes position remaining tells file offset at (bytes file) refl
+
+-- past the end there are zeros, where the bytes may be known
+pub known_past_end : (known : Option (List ℕ)) (offset n : ℕ) →
+    IfSome known (λ bytes. length bytes ≤ offset) →
+    IfSome known (λ bytes. Holds (image_of bytes) offset (replicate n 0))
+known_past_end None offset n past = tt
+known_past_end (Some bytes) offset n past = record {
+  each = λ i below. zeros_read n i ∙ sym (get_or_past bytes (offset + i) 0 (omega (arith, past)));
+}

@@ -160,6 +160,8 @@ pub enum Fault {
     ExternalData,
     #[error("all that refers to clusters must be read, the image has {0}")]
     Uncounted(UncountedPart),
+    #[error("the uses of a cluster must not exclude each other, nobody knows which of them to believe")]
+    Overlap,
 }
 
 /// What sort of fault it is, for a caller that treats faults by their sort.
@@ -182,7 +184,7 @@ pub enum FaultKind {
 impl Fault {
     ghost use Rattle.qcow2_base.specs.Fault.{fault_number, fault_kind};
 
-    /// The fault's fixed number, from 1 to 37, which `qmeta` prints.
+    /// The fault's fixed number, from 1 to 38, which `qmeta` prints.
     pub fn number(&self) -> u32
         ensures { result ≡ fault_number self.now }
     {
@@ -224,6 +226,7 @@ impl Fault {
             Fault::NoMemory => 35,
             Fault::ExternalData => 36,
             Fault::Uncounted(_) => 37,
+            Fault::Overlap => 38,
         }
     }
 

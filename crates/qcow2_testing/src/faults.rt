@@ -75,4 +75,6 @@ pub const FAULTS: &[ReportedFault] = faults! {
         "all that refers to clusters must be read, the image has bitmaps",
     Fault::Uncounted(UncountedPart::Encryption) => 37 Unsupported
         "all that refers to clusters must be read, the image has an encryption header",
+    Fault::Overlap => 38 InvalidData
+        "the uses of a cluster must not exclude each other, nobody knows which of them to believe",
 };

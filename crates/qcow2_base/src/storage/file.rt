@@ -1,8 +1,8 @@
 //! An image in a file.
 
-ghost use Rattle.std.specs.Prelude.{◌≡◌, ◌+◌, ◌^◌, ◌%◌, ◌≤◌, ◌↔◌, true, length, refl, is_ok, IsOk, IsErr, IsOkUnless, IfOk, IfSome, OnOk, MatchResult};
+ghost use Rattle.std.specs.Prelude.{◌≡◌, ◌+◌, ◌^◌, ◌%◌, ◌<◌, ◌≤◌, ◌↔◌, true, Some, length, take, refl, is_ok, IsOk, IsErr, IsOkUnless, IfOk, IfSome, OnOk, MatchResult};
 ghost use Rattle.std.specs.Fs.{new_options, with_read, with_write, IsDir, file_type};
-ghost use Rattle.std.specs.Io.KnownBytes.{Keeps};
+ghost use Rattle.std.specs.Io.KnownBytes.{Consumes, IsAtEnd, Keeps};
 ghost use Rattle.std.specs.Io.Seek.{MovesTo};
 ghost use Rattle.std.proofs.Common.{rules};
 ghost use Rattle.qcow2_base.specs.Format.{max_file_length};
@@ -13,7 +13,7 @@ use super::{Storage, StorageFault};
 use crate::Fault;
 use std::fs::{File, Metadata, OpenFile, OpenOptions};
 use std::io;
-use std::io::{Read, Seek, SeekFrom, Write};
+use std::io::{ErrorKind, Read, Seek, SeekFrom, Write};
 use std::rt::Files;
 
 /// An image in a file. Nothing is known of its bytes, since what a file holds is outside any proof.
@@ -61,7 +61,7 @@ fn refuse_directory(metadata: &Metadata) -> io::Result<()>
     ensures { IsErr result ↔ IsDir (file_type metadata.now) }
 {
     if metadata.is_dir() {
-        return Err(io::ErrorKind::IsADirectory.into());
+        return Err(ErrorKind::IsADirectory.into());
     }
     Ok(())
 }
@@ -126,34 +126,72 @@ fn read_at<F: Read + Seek>(file: &mut F, buf: &mut [u8], offset: u64) -> io::Res
     ensures { TellsReads F.stream_bytes F.stream_position F.remaining →
         IfSome (F.stream_bytes file.old) (λ bytes. OnOk result (Holds (image_of bytes) offset buf.new)) }
 {
-    let end = length_of(file)?;
-    let stored = end.saturating_sub(offset).min(buf.len() as u64) as usize;
-    let (stored, past) = buf.split_at_mut(stored);
-    read_stored(file, stored, offset)?;
+    match seek_to(file, offset) {
+        Ok(()) => read_here(file, buf, offset),
+        // A place past the end may be one that a file system refuses.
+        Err(_) => fill_past_end(file, buf, offset),
+    }
+}
+
+// The same where the file's position is `offset`. A file that gives no more bytes before its end fails.
+fn read_here<F: Read + Seek>(file: &mut F, buf: &mut [u8], offset: u64) -> io::Result<()>
+    ensures { TellsReads F.stream_bytes F.stream_position F.remaining →
+        F.stream_position file.old ≡ Some offset →
+        IfSome (F.stream_bytes file.old) (λ bytes. OnOk result (Holds (image_of bytes) offset buf.new)) }
+{
+    let count = read_up_to_end(file, buf)?;
+    let (_, past) = buf.split_at_mut(count);
+    if !past.is_empty() {
+        refuse_longer(file, offset.saturating_add(count as u64))?;
+    }
     past.fill(0);
     Ok(())
 }
 
-// The length is sought for at each read, so that a block device has one too.
-fn length_of<F: Read + Seek>(file: &mut F) -> io::Result<u64>
-    ensures len { TellsReads F.stream_bytes F.stream_position F.remaining →
-        IfSome (F.stream_bytes file.old) (λ bytes. IfOk result (λ len. len ≡ length bytes)) }
-    ensures bytes { Keeps (F.stream_bytes file.old) (F.stream_bytes file.new) }
-{
-    file.seek(SeekFrom::End(0))
-}
-
-// Fills the buffer with the bytes from `offset` on, all of them below the end. Asks nothing of the
-// file for an empty buffer.
-fn read_stored<F: Read + Seek>(file: &mut F, buf: &mut [u8], offset: u64) -> io::Result<()>
+// Fills the buffer with zeros, unless the file has bytes from `offset` on.
+fn fill_past_end<F: Read + Seek>(file: &mut F, buf: &mut [u8], offset: u64) -> io::Result<()>
     ensures { TellsReads F.stream_bytes F.stream_position F.remaining →
         IfSome (F.stream_bytes file.old) (λ bytes. OnOk result (Holds (image_of bytes) offset buf.new)) }
 {
-    if buf.is_empty() {
-        return Ok(());
+    refuse_longer(file, offset)?;
+    buf.fill(0);
+    Ok(())
+}
+
+// Fails where the file is longer. Its length is sought for, so that a block device has one too.
+fn refuse_longer<F: Read + Seek>(file: &mut F, len: u64) -> io::Result<()>
+    ensures { TellsReads F.stream_bytes F.stream_position F.remaining →
+        IfSome (F.stream_bytes file.old) (λ bytes. OnOk result (length bytes ≤ len)) }
+{
+    if file.seek(SeekFrom::End(0))? > len {
+        return Err(ErrorKind::UnexpectedEof.into());
     }
-    seek_to(file, offset)?;
-    file.read_exact(buf)
+    Ok(())
+}
+
+// Reads until the buffer is full or the file gives no more, and returns how many bytes it gave.
+fn read_up_to_end<F: Read>(file: &mut F, buf: &mut [u8]) -> io::Result<usize>
+    ensures count { IfOk result (λ count. count ≤ length buf.new) }
+    ensures bytes { IfOk result (λ count.
+        Consumes (F.remaining file.old) (F.remaining file.new) (take count buf.new)) }
+    ensures end { IfOk result (λ count. count < length buf.new → IsAtEnd (F.remaining file.new)) }
+{
+    let mut count = 0;
+    for _ in 0..u64::MAX {
+        if count >= buf.len() {
+            return Ok(count);
+        }
+        match file.read(&mut buf[count..]) {
+            Ok(0) => return Ok(count),
+            Ok(more) => count += more,
+            Err(error) => {
+                if error.kind() != ErrorKind::Interrupted {
+                    return Err(error);
+                }
+            }
+        }
+    }
+    Err(ErrorKind::Interrupted.into())
 }
 
 fn seek_to<F: Seek>(file: &mut F, offset: u64) -> io::Result<()>

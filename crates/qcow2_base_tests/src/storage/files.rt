@@ -2,11 +2,11 @@
 
 use super::{
     LIMIT, WRITES, Written, check_bytes, check_failed_read, check_failed_write, check_failures,
-    check_read, write,
+    check_read, read, write,
 };
 use qcow2_base::{Fault, FileStorage, StorageFault};
 use qcow2_testing::{
-    FaultyFile, FaultyFiles, file_holds, holds, same, temporary_file, temporary_path,
+    FaultyFile, FaultyFiles, file_holds, holds, rows, same, temporary_file, temporary_path,
 };
 use std::fs;
 use std::fs::File;
@@ -131,21 +131,44 @@ fn short_reads_and_writes_are_gone_on_with(rt: HostRuntime) -> Result<(), Fail> 
     Ok(())
 }
 
-fn check_failing_read(rt: &HostRuntime, path: &str, passes: u64) -> Result<(), Fail> {
+// Where a read of four bytes begins, how often it asks a file that gives two at a time, and what it reads.
+// It asks for a place and twice for bytes, and for the length too where the second time gave none.
+const CALLS: &[(u64, u64, [u8; 4])] = rows! {
+    (1, 3, [2, 3, 4, 5]), (3, 4, [4, 5, 0, 0]),
+};
+
+fn check_failing_read(
+    rt: &HostRuntime,
+    path: &str,
+    row: (u64, u64, [u8; 4]),
+    passes: u64,
+) -> Result<(), Fail> {
+    let (offset, _, bytes) = row;
     let mut storage = faulty(rt, path, (Some(passes), 2, u64::MAX))?;
-    check_failed_read(rt.alloc(), &mut storage, 1)?;
-    check_bytes(rt.alloc(), &mut storage, 1, &[2, 3, 4, 5])
+    same(
+        read(&mut storage, &mut [0; 4], offset),
+        Err(StorageFault),
+        row,
+    )?;
+    check_failures(rt.alloc(), &storage, 1)?;
+    check_bytes(rt.alloc(), &mut storage, offset, &bytes)
 }
 
-// A file is asked for its metadata when it is opened. A read of four bytes, two at a time, asks it four
-// times: for its end, for a place, and twice for bytes.
+fn check_failing_reads(rt: &HostRuntime, path: &str, row: (u64, u64, [u8; 4])) -> Result<(), Fail> {
+    for passed in 0..row.1 {
+        check_failing_read(rt, path, row, passed + 1)?;
+    }
+    Ok(())
+}
+
+// A file is asked for its metadata when it is opened.
 #[test]
 fn an_open_or_a_read_fails_where_one_call_of_the_file_does(rt: HostRuntime) -> Result<(), Fail> {
     let file = temporary_file(&rt, "failed-read", &[1, 2, 3, 4, 5])?;
     let answer = faulty(&rt, file.path.as_str(), (Some(0), 2, u64::MAX));
     same(answer.err(), Some(Fault::Storage), "at its metadata")?;
-    for passes in 1..5 {
-        check_failing_read(&rt, file.path.as_str(), passes)?;
+    for row in CALLS {
+        check_failing_reads(&rt, file.path.as_str(), *row)?;
     }
     Ok(())
 }
