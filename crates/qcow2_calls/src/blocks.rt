@@ -47,6 +47,14 @@ pub fn set_block_cluster(block: &mut RefBlock, cluster: HostCluster) -> Result<(
     Ok(())
 }
 
+/// `RefBlockWriteGuard::set`.
+pub fn set_counter(block: &mut RefBlock, index: usize, counter: u64) -> Result<u64, Fault> {
+    if index >= block.entries() {
+        return Err(NOT_MADE);
+    }
+    block.lock_write().set(index, counter)
+}
+
 /// `RefBlockWriteGuard::increment`.
 pub fn increment(block: &mut RefBlock, index: usize) -> Result<u64, Fault> {
     if index >= block.entries() {

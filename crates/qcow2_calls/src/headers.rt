@@ -15,6 +15,11 @@ pub fn load_header<S: Storage>(
     Header::load(alloc, image, writable)
 }
 
+/// `Header::into_writable`.
+pub fn into_writable<S: Storage>(header: Header, image: &mut S) -> Result<Header, Fault> {
+    header.into_writable(image)
+}
+
 // The name as a text of its own, if there is one.
 fn text(alloc: Global, name: Option<&str>) -> Result<Option<String>, AllocError> {
     name.map(|name| String::from_str(alloc, name)).transpose()

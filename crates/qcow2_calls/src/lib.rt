@@ -10,23 +10,24 @@ mod sessions;
 mod tables;
 
 pub use blocks::{
-    decrement, increment, load_block, new_block, set_block_cluster, write_block,
+    decrement, increment, load_block, new_block, set_block_cluster, set_counter, write_block,
     write_block_if_modified,
 };
 pub use headers::{
-    header_of, load_header, new_header, update_header, write_header, write_l1_table_pointer,
-    write_reftable_pointer, write_size,
+    header_of, into_writable, load_header, new_header, update_header, write_header,
+    write_l1_table_pointer, write_reftable_pointer, write_size,
 };
 use qcow2_base::Fault;
 use qcow2_metadata::{ClustersToFreeEntry, Refused};
 pub use sessions::{
-    check_image, edit_image, edit_settled, edit_table, edits_fit, list_l2_table, lookup,
-    lookup_image, parse_command, run, settle, step_block, step_image,
+    check_image, check_image_in_json, edit_image, edit_settled, edit_table, edits_fit,
+    list_l2_table, lookup, lookup_image, parse_command, run, settle, step_block, step_image,
 };
 pub use tables::{
     LoadedTable, copy_l2_table, discard_cluster, enter_l2_table, enter_refblock, grow_l1_table,
-    grow_reftable, least_spare, load_table, map_cluster, new_l2_table, set_cluster, set_l1_table,
-    set_reftable, write_entry, write_l2_table_if_modified, write_table, zero_cluster,
+    grow_reftable, least_spare, load_table, map_cluster, new_l2_table, set_cluster, set_l1_copied,
+    set_l1_table, set_l2_copied, set_reftable, write_entry, write_l2_table_if_modified,
+    write_table, zero_cluster,
 };
 
 /// The fault of a call that is not made. No call here returns it otherwise.

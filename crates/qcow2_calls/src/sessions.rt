@@ -120,9 +120,10 @@ pub fn lookup_image<S: Storage>(
 pub fn parse_command(
     alloc: Global,
     name: &str,
+    image: &str,
     arguments: &[String],
 ) -> Option<Result<Command, AllocError>> {
-    Command::parse(alloc, name, arguments)
+    Command::parse(alloc, name, image, arguments)
 }
 
 /// `qcow2_session::run`.
@@ -143,6 +144,17 @@ pub fn check_image<S: Storage, O: Write>(
     out: &mut O,
 ) -> Result<Verdict, Fault> {
     qcow2_session::commands::check_image(alloc, image, header, out)
+}
+
+/// `qcow2_session::commands::check_image_in_json`.
+pub fn check_image_in_json<S: Storage, O: Write>(
+    alloc: Global,
+    image: &mut S,
+    header: &Header,
+    file_name: &str,
+    out: &mut O,
+) -> Result<Verdict, Fault> {
+    qcow2_session::commands::check_image_in_json(alloc, image, header, file_name, out)
 }
 
 /// `qcow2_session::commands::list_l2_table`.

@@ -232,6 +232,24 @@ pub fn discard_cluster(
     Ok(table.lock_write().discard_cluster(index))
 }
 
+/// `L2TableWriteGuard::set_copied`.
+pub fn set_l2_copied(table: &mut L2Table, index: usize, is_copied: bool) -> Result<(), Fault> {
+    if !table.in_bounds(index) || is_copied && table.get(index).is_compressed() {
+        return Err(NOT_MADE);
+    }
+    table.lock_write().set_copied(index, is_copied);
+    Ok(())
+}
+
+/// `L1Table::set_copied`.
+pub fn set_l1_copied(table: &mut L1Table, index: usize, is_copied: bool) -> Result<(), Fault> {
+    if !table.in_bounds(index) {
+        return Err(NOT_MADE);
+    }
+    table.set_copied(index, is_copied);
+    Ok(())
+}
+
 // ---- What these calls require
 
 fn to_pending(clusters: ClustersToFreeEntry) -> PendingClusters

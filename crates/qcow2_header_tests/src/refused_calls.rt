@@ -4,7 +4,8 @@
 use crate::fixtures::{Changes, change, load_with};
 use qcow2_base::{Fault, MemStorage, Storage};
 use qcow2_calls::{
-    load_header, write_header, write_l1_table_pointer, write_reftable_pointer, write_size,
+    into_writable, load_header, write_header, write_l1_table_pointer, write_reftable_pointer,
+    write_size,
 };
 use qcow2_metadata::Header;
 use qcow2_testing::{FailingStorage, each, filled_image, holds, printed, rows, same, same_bytes};
@@ -15,13 +16,17 @@ use std::test::Fail;
 enum Call {
     Load,
     LoadForWriting,
+    LoadAndIntoWritable,
     Write,
     WriteSize,
     WriteL1TablePointer,
     WriteReftablePointer,
 }
 
-use Call::{Load, LoadForWriting, Write, WriteL1TablePointer, WriteReftablePointer, WriteSize};
+use Call::{
+    Load, LoadAndIntoWritable, LoadForWriting, Write, WriteL1TablePointer, WriteReftablePointer,
+    WriteSize,
+};
 
 // A call of a header, which has these changes to the least one; an image of `len` bytes 0xa5 with changes
 // before the call, and further ones after it; and how many calls of the storage it makes.
@@ -42,6 +47,8 @@ const RUNS: &[Run] = rows! { Run:
         len: 1024, before: AUTOCLEAR, after: "autoclear_features=0", calls: 3 },
     { name: "one that lengthens the image", call: LoadForWriting, header: SMALL,
         len: 104, before: AUTOCLEAR_AT_END, after: "autoclear_features=0, 111=00", calls: 3 },
+    { name: "one for reading, and then for writing", call: LoadAndIntoWritable, header: SMALL,
+        len: 1024, before: AUTOCLEAR, after: "autoclear_features=0", calls: 3 },
     { name: "one that takes names of features out", call: LoadForWriting, header: SMALL,
         len: 2048, before: AUTOCLEAR_NAMED, after: NAMED_WRITTEN, calls: 3 },
     { name: "a write that takes names of features out", call: Write, header: NAMED,
@@ -103,6 +110,7 @@ fn make<S: Storage>(
     match call {
         Load => *header = load_header(alloc, image, false)?,
         LoadForWriting => *header = load_header(alloc, image, true)?,
+        LoadAndIntoWritable => *header = into_writable(load_header(alloc, image, false)?, image)?,
         Write => write_header(header, image)?,
         WriteSize => write_size(header, image)?,
         WriteL1TablePointer => write_l1_table_pointer(header, image)?,
@@ -140,7 +148,9 @@ fn check_done(
     let mut after = image_after(alloc, run)?;
     same_bytes(image.inner.bytes(), after.bytes(), run.name)?;
     let expected = match run.call {
-        Load | LoadForWriting | Write => load_header(alloc, &mut after, false)?,
+        Load | LoadForWriting | LoadAndIntoWritable | Write => load_header(
+            alloc, &mut after, false,
+        )?,
         WriteSize | WriteL1TablePointer | WriteReftablePointer => load_with(alloc, run.header, "")?,
     };
     let is_same = printed(alloc, header)? == printed(alloc, &expected)?;

@@ -5,7 +5,8 @@ use crate::header_texts::RICH_WRITTEN;
 use crate::names::{NO_NAMES, Names, loaded_names};
 use crate::rich_header::RICH;
 use qcow2_base::{Fault, FileStorage, MemStorage, Storage};
-use qcow2_calls::load_header;
+use qcow2_calls::{into_writable, load_header};
+use qcow2_metadata::Header;
 use qcow2_testing::{
     FailingStorage, StorageCall, all_same, each, holds, printed, put_bytes, rows, same, same_bytes,
     temporary_file,
@@ -24,15 +25,32 @@ fn image_with(alloc: Global, changes: Changes) -> Result<FailingStorage<MemStora
 // What a load returns: the names, or the fault.
 type Loaded = Result<Names<'static>, Fault>;
 
+// How a header is come by whose image may be written: by a load for writing, or by one for reading and a call
+// for writing after it.
+#[derive(Clone, Copy, Debug)]
+enum Way {
+    AtOnce,
+    AfterReading,
+}
+
+const WAYS: [Way; 2] = [Way::AtOnce, Way::AfterReading];
+
+fn load_for_writing<S: Storage>(alloc: Global, image: &mut S, way: Way) -> Result<Header, Fault> {
+    match way {
+        Way::AtOnce => load_header(alloc, image, true),
+        Way::AfterReading => into_writable(load_header(alloc, image, false)?, image),
+    }
+}
+
 // Fails unless a load of the image for writing returns this.
 fn check_load<S: Storage>(
     alloc: Global,
     image: &mut S,
     expected: Loaded,
-    row: Changes,
+    (row, way): (Changes, Way),
 ) -> Result<(), Fail> {
-    let loaded = load_header(alloc, image, true);
-    same(loaded_names(&loaded), expected, row)
+    let loaded = load_for_writing(alloc, image, way);
+    same(loaded_names(&loaded), expected, (row, way))
 }
 
 // Autoclear features and other changes to the least header, the text that is written, and what a load for
@@ -94,19 +112,22 @@ fn check_clears(
     alloc: Global,
     image: &mut FailingStorage<MemStorage>,
     text: &[u8],
-    (changes, loaded): (Changes, Loaded),
+    (changes, loaded, way): (Changes, Loaded, Way),
 ) -> Result<(), Fail> {
     let mut expected = MemStorage::new(Vec::from_slice(alloc, image.inner.bytes())?);
     put_bytes(&mut expected, 0, text)?;
-    check_load(alloc, image, loaded, changes)?;
+    check_load(alloc, image, loaded, (changes, way))?;
     check_two_reads_and_a_write(&image.calls, text.len(), changes)?;
     same_bytes(image.inner.bytes(), expected.bytes(), changes)
 }
 
 fn check_cleared(alloc: Global, (changes, text, loaded): Cleared) -> Result<(), Fail> {
     let text = least_with(alloc, text, "")?;
-    let mut image = image_with(alloc, changes)?;
-    check_clears(alloc, &mut image, text.bytes(), (changes, loaded))
+    for way in WAYS {
+        let mut image = image_with(alloc, changes)?;
+        check_clears(alloc, &mut image, text.bytes(), (changes, loaded, way))?;
+    }
+    Ok(())
 }
 
 #[test]
@@ -129,9 +150,12 @@ const LEFT: &[(Changes, Loaded)] = rows! {
 
 // Fails unless a load for writing returns this, and writes nothing.
 fn check_only_reads(alloc: Global, (changes, loaded): (Changes, Loaded)) -> Result<(), Fail> {
-    let mut image = image_with(alloc, changes)?;
-    check_load(alloc, &mut image, loaded, changes)?;
-    holds(are_reads(&image.calls), changes)
+    for way in WAYS {
+        let mut image = image_with(alloc, changes)?;
+        check_load(alloc, &mut image, loaded, (changes, way))?;
+        holds(are_reads(&image.calls), (changes, way))?;
+    }
+    Ok(())
 }
 
 #[test]

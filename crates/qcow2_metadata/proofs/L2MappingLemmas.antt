@@ -8,8 +8,8 @@ use Rattle.qcow2_base.specs.Bits.{field}
 use Rattle.qcow2_metadata.specs.Header.{geometry}
 use Rattle.qcow2_metadata.specs.declared.entries.l2_mapping.L2Mapping.{L2Mapping}
 use Rattle.qcow2_metadata.specs.declared.entries.l2_mapping.L2Mapping.TheVariants.{DataFile, Backing, Zero, Compressed}
-use Rattle.qcow2_metadata.specs.Entries.L2Mapping.{FitsEntry, IsPlaced, copied_bit, entry_of, is_told, mapping, meaning, stored_mapping, sectors_beyond, standard_mapping, backing, compressed, data_file, zeros}
-use Rattle.qcow2_metadata.specs.Entries.{offset_field}
+use Rattle.qcow2_metadata.specs.Entries.L2Mapping.{FitsEntry, IsPlaced, entry_of, is_told, mapping, meaning, stored_mapping, sectors_beyond, standard_mapping, backing, compressed, data_file, zeros}
+use Rattle.qcow2_metadata.specs.Entries.{copied_bit, offset_field}
 use Rattle.qcow2_metadata.specs.Entries.L2Entry.{l2_fault}
 use Rattle.qcow2_metadata.proofs.EntriesLemmas.{l2_fault_zero, offset_in_sectors, sectors_fill_two_clusters}
 

@@ -1,31 +1,13 @@
-use Rattle.std.proofs.Common.{map-id, ◌≡◌, ℕ, Bool, ◌+◌, ◌-◌, ◌/◌, ◌%◌, ◌^◌, ◌<◌, ◌≤◌, List, [], ◌∷◌, map, Option, None, refl, ap, ◌∙◌, inl, inr, arith}
-use Rattle.std.proofs.lemmas.Bool.{cases_lt}
+use Rattle.std.proofs.Common.{map-id, ◌≡◌, ℕ, Bool, ◌≤◌, List, [], ◌∷◌, map, Option, None, refl, ap, arith}
 use Rattle.std.proofs.lemmas.Bool.Decides.{nat_tests}
 use Rattle.std.proofs.lemmas.List.Sums.{sum_by-cons}
-use Rattle.std.proofs.lemmas.Nat.{div-mul-add, mod-pow-add, pow_pos}
-use Rattle.std.proofs.Math.Nat.{mod-le, mod-lt}
-use Rattle.std.proofs.Math.Pow.{mod-mod-pow}
-use Rattle.qcow2_base.specs.Bits.{field}
 use Rattle.qcow2_base.specs.declared.fault.Fault.{Fault}
 use Rattle.qcow2_metadata.specs.Table.L2Guards.{one_if, references}
 use Rattle.qcow2_metadata.specs.Entries.L2Entry.{byte_range, l2_fault, meets, entry_in_copy}
 use Rattle.qcow2_metadata.specs.Header.{Geometry}
 use Rattle.qcow2_metadata.specs.Table.{first_fault}
+use Rattle.qcow2_metadata.proofs.CopiedLemmas.{lawful_without_copied, low_bits, low_field}
 use Rattle.qcow2_metadata.proofs.TableLemmas.{no_fault_at_all}
-
--- the bits below bit 63 stay without bit 63
-low_bits : (v a : ℕ) → a ≤ 63 → v % 2 ^ 63 % 2 ^ a ≡ v % 2 ^ a
-low_bits v a low =
-    let split : 63 - a + a ≡ 63 = omega arith in
-    rw split at (mod-mod-pow v (63 - a) a)
-
-low_field : (v a b : ℕ) → a + b ≤ 63 → field (v % 2 ^ 63) a b ≡ field v a b
-low_field v a b low =
-    let split : 63 - a + a ≡ 63 = omega arith in
-    let rest : 63 - a - b + b ≡ 63 - a = omega arith in
-    let parts = rw split at (mod-pow-add v (63 - a) a) in
-    let above = ap (λ n. n / 2 ^ a) parts ∙ div-mul-add (v / 2 ^ a % 2 ^ (63 - a)) (2 ^ a) (v % 2 ^ a) (mod-lt v (pow_pos a)) in
-    ap (λ n. n % 2 ^ b) above ∙ (rw rest at (mod-mod-pow (v / 2 ^ a) (63 - a - b) b))
 
 -- an entry refers to the same bytes where a second table has it too
 shared-byte_range : (g : Geometry) (v : ℕ) → 9 ≤ g.cluster_bits → g.cluster_bits ≤ 21 → byte_range g (entry_in_copy g.external_data_file v) ≡ byte_range g v
@@ -43,20 +25,6 @@ references-map g f (v ∷ vs) c same =
 
 pub references-shared : (g : Geometry) (numbers : List ℕ) (c : ℕ) → 9 ≤ g.cluster_bits → g.cluster_bits ≤ 21 → references g (map (entry_in_copy g.external_data_file) numbers) c ≡ references g numbers c
 references-shared g numbers c low high = grind (arith, references-map, shared-meets)
-
--- what is below 2 ^ 56 in the lowest bits is so without bit 63
-low_bits_below : (v k : ℕ) → v % 2 ^ k < 2 ^ 56 → v % 2 ^ 63 % 2 ^ k < 2 ^ 56
-low_bits_below v k low = elim (cases_lt 63 k) [
-  | inl wide ↦
-      let split : k - 63 + 63 ≡ k = omega arith in
-      let same = rw split at (mod-mod-pow v (k - 63) 63) in
-      omega (arith, same, mod-le (v % 2 ^ 63) (2 ^ k), mod-le (v % 2 ^ k) (2 ^ 63))
-  | inr narrow ↦ rw (low_bits v k narrow) low
-]
-
--- a valid entry is valid without its copied flag, whatever is above bit 63
-pub lawful_without_copied : (cb v : ℕ) → l2_fault cb v ≡ None → l2_fault cb (v % 2 ^ 63) ≡ None
-lawful_without_copied cb v lawful = grind (arith, nat_tests, low_field, low_bits_below)
 
 shared_is_lawful : (external : Bool) (cb v : ℕ) → l2_fault cb v ≡ None → l2_fault cb (entry_in_copy external v) ≡ None
 shared_is_lawful external cb v lawful = grind (arith, lawful_without_copied)

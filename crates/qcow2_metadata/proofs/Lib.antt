@@ -1,6 +1,7 @@
 mod GrowthExamples
 mod OneEntryExamples
 pub mod ChainLemmas
+pub mod CopiedLemmas
 pub mod EntriesLemmas
 pub mod ExtensionsLemmas
 pub mod FeatureNamesCutLemmas
@@ -26,4 +27,5 @@ pub mod TableLemmas
 pub mod TablePiecesLemmas
 pub mod TextLemmas
 pub mod UpdateLemmas
+pub mod WritableLemmas
 pub mod WriteLemmas

@@ -1,13 +1,13 @@
-use Rattle.std.proofs.Common.{◌≡◌, ◌⊎◌, Bool, true, arith}
+use Rattle.std.proofs.Common.{◌≡◌, ◌⊎◌, Bool, true, false, arith}
 use Rattle.std.proofs.lemmas.Bool.Decides.{nat_tests}
 use Rattle.std.specs.Prelude.{Err, IfErr, Ok, Result}
 use Rattle.qcow2_base.specs.Storage.{Image}
 use Rattle.qcow2_base.specs.declared.fault.Fault.{Fault}
-use Rattle.qcow2_base.specs.declared.fault.Fault.TheVariants.{HeaderTooLong, NoMemory, Storage}
+use Rattle.qcow2_base.specs.declared.fault.Fault.TheVariants.{HeaderTooLong, NameTooLong, NoMemory, Storage}
 use Rattle.qcow2_metadata.specs.Results.{Answers, IsFromOutside, RefusesFirst}
 use Rattle.qcow2_metadata.specs.Header.{HeaderRecord}
 use Rattle.qcow2_metadata.specs.Header.Grammar.{IsHeaderFault, header_of}
-use Rattle.qcow2_metadata.specs.Header.Open.{header_after_load}
+use Rattle.qcow2_metadata.specs.Header.Open.{IsWritableFault, header_after_load}
 use Rattle.qcow2_metadata.specs.Header.Text.{is_short, header_after_write}
 
 -- why a header whose name isn't too long isn't written
@@ -16,10 +16,21 @@ kept-too_long : (header : HeaderRecord) (fault : Fault) → is_short header.back
 unfolding header_after_write
 kept-too_long header fault short is = grind arith
 
+-- why it isn't, whatever its name
+writable_fault : (header : HeaderRecord) (fault : Fault) → header_after_load true (Ok header) ≡ Err fault
+    → (fault ≡ HeaderTooLong) ⊎ ((fault ≡ NameTooLong) × (is_short header.backing_filename ≡ false))
+unfolding header_after_write
+writable_fault header fault is = grind (arith, nat_tests)
+
 -- the fault of a header that was loaded and then written
 opened-too_long : (header : HeaderRecord) (fault : Fault) → is_short header.backing_filename ≡ true
     → header_after_load true (Ok header) ≡ Err fault → fault ≡ HeaderTooLong
 opened-too_long header fault short is = grind (arith, nat_tests, kept-too_long)
+
+-- the faults of a header that is made one whose image may be written
+pub writable-faults : (answer : Result HeaderRecord Fault) (header : HeaderRecord)
+    → RefusesFirst (λ h. h) answer (header_after_load true (Ok header)) → IfErr answer (IsWritableFault header)
+writable-faults answer header is = grind (arith, nat_tests, writable_fault)
 
 -- what is returned once refusals come first is what is returned
 pub answers-first : (answer : Result HeaderRecord Fault) (expected : Result HeaderRecord Fault)

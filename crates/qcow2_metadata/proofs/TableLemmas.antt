@@ -1,11 +1,11 @@
-use Rattle.std.proofs.Common.{map-id, vec_len, ◌≡◌, ℕ, zero, suc, ◌+◌, ◌-◌, ◌*◌, ◌<◌, ◌≤◌, lit≤, List, [], ◌∷◌, ◌++◌, map, length, get_or, replicate, set, take, Option, Some, None, IfSome, refl, ◌∙◌, ap, arith, Bor}
+use Rattle.std.proofs.Common.{map-id, vec_len, ◌≡◌, ℕ, zero, suc, ◌+◌, ◌-◌, ◌*◌, ◌^◌, ◌<◌, ◌≤◌, lit≤, List, [], ◌∷◌, ◌++◌, map, length, get_or, replicate, set, take, Option, Some, None, IfSome, pow-add, refl, sym, ◌∙◌, ap, arith, Bor}
 use Rattle.std.specs.Option.{option_or}
 use Rattle.std.proofs.lemmas.List.{length-map, map-append, take_all}
 use Rattle.std.specs.Slice.{IsGetResult}
 use Rattle.qcow2_base.specs.Storage.{Image}
 use Rattle.qcow2_base.specs.declared.fault.Fault.{Fault}
 use Rattle.qcow2_metadata.proofs.PackingLemmas.{counters_at-length, counters_at-same}
-use Rattle.qcow2_metadata.specs.Table.{first_fault, table_numbers}
+use Rattle.qcow2_metadata.specs.Table.{first_fault, l2_entries, table_numbers}
 use Rattle.qcow2_metadata.specs.Table.Growth.{grown_numbers}
 use Rattle.std.proofs.lemmas.Bool.Decides.{nat_tests}
 
@@ -75,3 +75,9 @@ first_fault-grown fault numbers n h lawful =
 pub ruleset items = (no_fault_item, length-map)
 
 pub ruleset paddings = (vec_len, grown_items, first_fault-grown)
+
+-- that many entries are the bytes of a cluster
+pub full_cluster : (cb : ℕ) → 9 ≤ cb → 8 * l2_entries cb ≡ 2 ^ cb
+full_cluster cb least =
+    let three : 3 + (cb - 3) ≡ cb = omega (arith, least) in
+    sym (pow-add 2 3 (cb - 3)) ∙ ap (λ k. 2 ^ k) three

@@ -5,7 +5,7 @@ pub mod L2Mapping
 pub mod PendingClusters
 pub mod RefTableEntry
 pub mod Runs
-use Rattle.std.specs.Prelude.{ℕ, Bool, true, false, ◌&&◌, ◌==◌, ◌+◌, ◌*◌, ◌<◌, ◌≤◌, nat_le, nat_lt, if◌then◌else◌, Option, Some, None}
+use Rattle.std.specs.Prelude.{ℕ, Bool, true, false, ◌&&◌, ◌==◌, ◌+◌, ◌*◌, ◌%◌, ◌^◌, ◌<◌, ◌≤◌, nat_le, nat_lt, if◌then◌else◌, Option, Some, None}
 use Rattle.qcow2_base.specs.Bits.{field}
 use Rattle.qcow2_base.specs.declared.fault.Fault.{Fault}
 use Rattle.qcow2_base.specs.declared.fault.Fault.TheVariants.{EntryReserved, EntryUnaligned}
@@ -25,6 +25,15 @@ offset_field v = 512 * field v 9 47
 -- bit 63: the refcount is exactly one
 abbrev pub is_copied : ℕ → Bool
 is_copied v = field v 63 1 == 1
+
+-- bit 63 of an entry that is copied
+abbrev pub copied_bit : Bool → ℕ
+copied_bit true = 2 ^ 63
+copied_bit false = 0
+
+-- the entry with the flag or without it
+abbrev pub with_copied : Bool → ℕ → ℕ
+with_copied copied v = v % 2 ^ 63 + copied_bit copied
 
 -- clusters one after another are a ClustersToFreeEntry: the first, and how many. Cluster c is one of them
 abbrev pub IsAmong : ClustersToFreeEntry → ℕ → Type 0

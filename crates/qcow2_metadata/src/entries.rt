@@ -3,6 +3,7 @@
 ghost use Rattle.std.specs.Prelude.{◌≡◌, ℕ, ◌⊎◌, ◌↔◌, IsTrue, Option, None, IfOk, IfErr, OnOk};
 ghost use Rattle.qcow2_base.specs.declared.fault.Fault.{Fault as AnyFault};
 ghost use Rattle.qcow2_base.specs.declared.fault.Fault.TheVariants.{EntryReserved, EntryUnaligned};
+ghost use Rattle.qcow2_metadata.specs.Entries as spec;
 
 use crate::Header;
 use qcow2_base::{ClusterCount, Fault, HostCluster};
@@ -27,6 +28,14 @@ pub(crate) use runs::RunPattern;
 pub struct ClustersToFreeEntry {
     pub first: HostCluster,
     pub count: ClusterCount,
+}
+
+// Bit 63 of an entry that is copied.
+#[inline]
+fn copied_bit(copied: bool) -> u64
+    ensures { result ≡ spec.copied_bit copied }
+{
+    if copied { 1 << 63 } else { 0 }
 }
 
 /// An entry of a table: a number of eight bytes that is valid under the image's cluster size.

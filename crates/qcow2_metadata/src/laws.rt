@@ -1,11 +1,14 @@
 //! Laws: facts about the definitions that contracts name, and what holds of each header. Each is a function
 //! that does nothing. Its contract is the law, and its name says it.
 
-ghost use Rattle.std.specs.Prelude.{◌≡◌, ℕ, ◌≤◌, ◌↔◌, Ok, ◌∷◌, if◌then◌else◌, Some, ◌^◌, ◌<◌, max, List, Err, ◌≢◌, ◌++◌, length, slice_index};
+ghost use Rattle.std.specs.Prelude.{◌≡◌, ℕ, Bool, true, false, ◌≤◌, ◌↔◌, Ok, ◌∷◌, if◌then◌else◌, Some, ◌^◌, ◌<◌, max, List, Err, ◌≢◌, ◌++◌, length, slice_index};
 ghost use Rattle.qcow2_base.specs.Storage.{Image, be};
 ghost use Rattle.std.specs.List.{All};
 ghost use Rattle.qcow2_base.specs.Types.{IsClusterBits};
-ghost use Rattle.qcow2_metadata.specs.Entries.L2Entry.{IsAllocation, allocation};
+ghost use Rattle.qcow2_metadata.specs.Entries.L2Entry.{IsAllocation, allocation, refers_by_flag};
+ghost use Rattle.qcow2_metadata.specs.Entries.{offset_field, with_copied};
+ghost use Rattle.qcow2_metadata.specs.Entries.L1Entry.{l1_fault};
+ghost use Rattle.qcow2_metadata.specs.Header.Open.{SaysSame, header_after_load};
 ghost use Rattle.qcow2_metadata.specs.Header.{Geometry, HeaderRecord, IsValidHeader};
 ghost use Rattle.qcow2_metadata.specs.Header.Grammar.{IsHeader, header_of};
 ghost use Rattle.std.specs.Ordering.{is_eq};
@@ -16,7 +19,7 @@ ghost use Rattle.qcow2_metadata.specs.Header.Extensions.{FeatureKey, FeatureName
 ghost use Rattle.qcow2_metadata.specs.Header.Features.{feature_type_number};
 ghost use Rattle.qcow2_metadata.specs.declared.header.features.FeatureType.{FeatureType};
 ghost use Rattle.qcow2_metadata.specs.Results.{result_map};
-ghost use Rattle.qcow2_metadata.specs.Header.Text.{IsSettled, header_after_write};
+ghost use Rattle.qcow2_metadata.specs.Header.Text.{IsSettled, header_after_write, header_read_back};
 ghost use Rattle.qcow2_metadata.specs.Table.Growth.{IsLeastSpare, growth_of, least_spare};
 ghost use Rattle.qcow2_metadata.specs.Table.L2Guards.{GivesUp, clusters_freed_by, to_data, TableEdit, entry_after, run_of};
 
@@ -67,6 +70,13 @@ pub fn a_written_header_reads_back()
         header_after_write header ≡ Ok written → IsSettled written }
 {}
 
+/// A header that is made one whose image may be written says of the image what it said before. So does what
+/// it reads back as.
+pub fn a_header_made_writable_says_the_same()
+    ensures { (header written : HeaderRecord) → header_after_load true (Ok header) ≡ Ok written →
+        SaysSame header written × SaysSame header (header_read_back written) }
+{}
+
 /// The number of spare entries by division is the least that is enough, and one at least.
 pub fn the_spare_by_division_is_the_least()
     ensures { (header : HeaderRecord) (len index : ℕ) → IsClusterBits header.v2.cluster_bits →
@@ -78,6 +88,23 @@ pub fn the_spare_by_division_is_the_least()
 pub fn an_entry_refers_to_the_clusters_it_meets()
     ensures { (g : Geometry) (entry : ℕ) → IsClusterBits g.cluster_bits →
         IsAllocation g entry (allocation g entry) }
+{}
+
+/// The copied flag of an L1 entry says nothing of the offset that the entry names, nor of whether it is
+/// valid.
+pub fn the_flag_of_an_l1_entry_names_no_table()
+    ensures { (cluster_bits entry : ℕ) (copied : Bool) →
+        (offset_field (with_copied copied entry) ≡ offset_field entry)
+        × (l1_fault cluster_bits (with_copied copied entry) ≡ l1_fault cluster_bits entry) }
+{}
+
+/// The copied flag of an L2 entry says nothing of the clusters that the entry refers to, but where it has
+/// nothing else to say that it refers to cluster 0 of an external data file.
+#[tactic(auto, using(crate::proofs::CopiedLemmas::clusters))]
+pub fn the_flag_of_an_l2_entry_names_no_cluster()
+    ensures { (g : Geometry) (entry : ℕ) (copied : Bool) → IsClusterBits g.cluster_bits →
+        refers_by_flag g.external_data_file entry ≡ false →
+        allocation g (with_copied copied entry) ≡ allocation g entry }
 {}
 
 /// An entry that is mapped to a cluster gives up nothing where it refers to that one alone, and else all

@@ -87,8 +87,10 @@ fn entries_tell_where_l2_tables_and_blocks_lie(rt: HostRuntime) -> Result<(), Fa
     let header = header_with(rt.alloc(), 9)?;
     let entry = L1Entry::try_from_plain(COPIED + 0x400, &header)?;
     let other = RefTableEntry::try_from_plain(0xffff_ffff_ffff_fe00, &header)?;
+    let without = entry.with_copied(false);
     all_same! {
         "L1 table and refcount table",
+        without.to_plain() => 0x400, without.with_copied(true) => entry,
         entry.l2_offset() => Some(HostOffset(0x400)), entry.is_copied() => true, entry.reserved_bits() => 0,
         other.refblock_offset() => Some(HostOffset(0xffff_ffff_ffff_fe00)), other.reserved_bits() => 0,
     }
@@ -173,11 +175,16 @@ const COMPRESSED: u64 = 0x60ff_ffff_ffff_ffff;
 fn check_reserved_bits(alloc: Global, row: Bits) -> Result<(), Fail> {
     let entry = L2Entry::try_from_plain(row.number, &header_with(alloc, 9)?)?;
     let other = entry.without_copied();
+    if !entry.is_compressed() {
+        let copied = entry.with_copied(true);
+        same(copied.to_plain(), row.rest | COPIED, row)?;
+    }
     let mut cell = AtomicL2Entry::new(entry);
     all_same! {
         row,
         entry.is_compressed() => row.compressed, entry.is_copied() => row.copied,
         entry.is_zero() => row.zero, entry.reserved_bits() => 0, other.to_plain() => row.rest,
+        entry.with_copied(false) => other,
         entry.compressed_descriptor() => row.number & 0x3fff_ffff_ffff_ffff,
         cell.swap(other) => entry, cell.get() => other,
     }

@@ -1,12 +1,13 @@
 //! L1 tables: how they grow, and how L2 tables are entered in them.
 
 use crate::fixtures::{
-    DISK, NUMBER, check_grown, check_table, cleared, disk_of, header_with, loaded, table_with,
+    COPIED, DISK, NUMBER, check_grown, check_table, cleared, disk_of, header_with, loaded,
+    table_with,
 };
 use crate::pending_clusters::{Entered, check_entered, pending_of};
-use qcow2_calls::{enter_l2_table, grow_l1_table};
+use qcow2_calls::{NOT_MADE, enter_l2_table, grow_l1_table, set_l1_copied};
 use qcow2_metadata::L1Table;
-use qcow2_testing::{each, rows};
+use qcow2_testing::{each, rows, same};
 use std::alloc::Global;
 use std::test::Fail;
 
@@ -63,4 +64,47 @@ fn check_entering(alloc: Global, row: Entered) -> Result<(), Fail> {
 #[test]
 fn an_entered_l2_table_is_copied_and_at_its_offset(rt: HostRuntime) -> Result<(), Fail> {
     each(rt.alloc(), ENTERED, check_entering)
+}
+
+// The last of a number of entries, the copied flag that it gets, and the entry then.
+#[derive(Clone, Copy, Debug)]
+struct Flagged {
+    cluster_bits: u32,
+    entries: usize,
+    number: u64,
+    is_copied: bool,
+    after: u64,
+}
+
+const FLAGGED: &[Flagged] = rows! { Flagged:
+    { cluster_bits: 9, entries: 64, number: 0x400, is_copied: true, after: COPIED + 0x400 },
+    { cluster_bits: 9, entries: 64, number: COPIED + 0x400, is_copied: true, after: COPIED + 0x400 },
+    { cluster_bits: 9, entries: 64, number: COPIED + 0x400, is_copied: false, after: 0x400 },
+    { cluster_bits: 9, entries: 1, number: FURTHEST, is_copied: true, after: COPIED + FURTHEST },
+    { cluster_bits: 9, entries: 1, number: COPIED + FURTHEST, is_copied: false, after: FURTHEST },
+    { cluster_bits: 16, entries: 2048, number: 0x3_0000, is_copied: true, after: COPIED + 0x3_0000 },
+    { cluster_bits: 21, entries: 4194304, number: NUMBER, is_copied: false, after: 0x20_0000 },
+    // an entry that names no table
+    { cluster_bits: 9, entries: 64, number: 0, is_copied: true, after: COPIED },
+    { cluster_bits: 9, entries: 64, number: COPIED, is_copied: false, after: 0 },
+};
+
+// The last cluster of all images, where clusters have 512 bytes.
+const FURTHEST: u64 = 0xff_ffff_ffff_fe00;
+
+// Sets the flag of the last entry, and fails unless all else stays.
+fn check_flagged(alloc: Global, row: Flagged) -> Result<(), Fail> {
+    let last = row.entries.saturating_sub(1);
+    let state = loaded(row.entries, last, row.number);
+    let mut table: L1Table = table_with(alloc, disk_of(row.cluster_bits), state)?;
+    let past = set_l1_copied(&mut table, row.entries, row.is_copied);
+    let answer = set_l1_copied(&mut table, last, row.is_copied);
+    same((past, answer), (Err(NOT_MADE), Ok(())), row)?;
+    let after = loaded(row.entries, last, row.after);
+    check_table(&table, after.placed(Some(2), true), row)
+}
+
+#[test]
+fn an_l1_entry_gets_or_loses_the_copied_flag_alone(rt: HostRuntime) -> Result<(), Fail> {
+    each(rt.alloc(), FLAGGED, check_flagged)
 }

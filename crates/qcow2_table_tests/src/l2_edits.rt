@@ -7,7 +7,7 @@ use crate::l2_mapping::Reads::Compressed;
 use crate::l2_mapping::{Reads, mapping_of};
 use crate::pending_clusters::clusters;
 use qcow2_base::{Fault, GuestCluster, HostCluster};
-use qcow2_calls::{discard_cluster, map_cluster, zero_cluster};
+use qcow2_calls::{NOT_MADE, discard_cluster, map_cluster, set_l2_copied, zero_cluster};
 use qcow2_metadata::{CompressedClusterReadGuard, L2Mapping, L2Table, Table};
 use qcow2_testing::{each, fits, holds, rows, same};
 use std::alloc::Global;
@@ -159,4 +159,55 @@ fn check_edited(alloc: Global, row: Edited) -> Result<(), Fail> {
 #[test]
 fn an_edit_leaves_its_entry_and_hands_back_what_it_drops(rt: HostRuntime) -> Result<(), Fail> {
     each(rt.alloc(), EDITED, check_edited)
+}
+
+// An entry, the copied flag that it gets, and the entry then, or that it can't have the flag.
+#[derive(Clone, Copy, Debug)]
+struct Flagged {
+    disk: Disk,
+    number: u64,
+    is_copied: bool,
+    after: Option<u64>,
+}
+
+const FLAGGED: &[Flagged] = rows! { Flagged:
+    { disk: DISK, number: 0xa00, is_copied: true, after: Some(DATA_5) },
+    { disk: DISK, number: DATA_5, is_copied: true, after: Some(DATA_5) },
+    { disk: DISK, number: DATA_5, is_copied: false, after: Some(0xa00) },
+    // zeros in a cluster, and an entry that names none
+    { disk: DISK, number: 0xa01, is_copied: true, after: Some(DATA_5 + 1) },
+    { disk: DISK, number: DATA_5 + 1, is_copied: false, after: Some(0xa01) },
+    { disk: DISK, number: 0, is_copied: true, after: Some(COPIED) },
+    { disk: DISK, number: COPIED, is_copied: false, after: Some(0) },
+    { disk: Disk { cluster_bits: 16, external: false }, number: 0xff_ffff_ffff_0000,
+        is_copied: true, after: Some(0x80ff_ffff_ffff_0000) },
+    { disk: Disk { cluster_bits: 21, external: false }, number: COPIED + 0x20_0001,
+        is_copied: false, after: Some(0x20_0001) },
+    // in an external data file: cluster 5, and cluster 0, which the flag alone names
+    { disk: EXTERNAL, number: 0xa00, is_copied: true, after: Some(DATA_5) },
+    { disk: EXTERNAL, number: COPIED, is_copied: false, after: Some(0) },
+    // compressed data
+    { disk: DISK, number: 0x60ff_ffff_ffff_ffff, is_copied: false, after: Some(0x60ff_ffff_ffff_ffff) },
+    { disk: DISK, number: 0x60ff_ffff_ffff_ffff, is_copied: true, after: None },
+    { disk: Disk { cluster_bits: 10, external: false }, number: IN_THREE, is_copied: true, after: None },
+};
+
+// Sets the flag of the entry, and fails unless all else stays.
+fn check_flagged(alloc: Global, row: Flagged) -> Result<(), Fail> {
+    let entries = l2_entries(row.disk.cluster_bits);
+    let mut table = table_with(alloc, row.disk, loaded(entries, 63, row.number))?;
+    let answer = set_l2_copied(&mut table, 63, row.is_copied);
+    let expected = if row.after.is_some() {
+        Ok(())
+    } else {
+        Err(NOT_MADE)
+    };
+    same(answer, expected, row)?;
+    let state = loaded(entries, 63, row.after.unwrap_or(row.number));
+    check_table(&table, state.placed(Some(2), row.after.is_some()), row)
+}
+
+#[test]
+fn an_l2_entry_gets_or_loses_the_copied_flag_alone(rt: HostRuntime) -> Result<(), Fail> {
+    each(rt.alloc(), FLAGGED, check_flagged)
 }

@@ -4,11 +4,13 @@ use crate::blocks::{counter, load, new_cleared, place, told};
 use crate::fixtures::{DISK, NUMBER, loaded, table_with};
 use crate::pending_clusters::{Entered, check_entered, pending_of};
 use qcow2_base::{Fault, HostCluster, HostOffset, MemStorage};
-use qcow2_calls::{decrement, enter_refblock, increment, write_block, write_block_if_modified};
+use qcow2_calls::{
+    decrement, enter_refblock, increment, set_counter, write_block, write_block_if_modified,
+};
 use qcow2_metadata::{RefBlock, RefTable};
 use qcow2_testing::{
-    FailingStorage, each, filled_image, part_of, put_bytes, recorded, rows, same, same_bytes,
-    same_image,
+    FailingStorage, each, filled_image, image_with as numbers_image, part_of, put_bytes, recorded,
+    rows, same, same_bytes, same_image,
 };
 use std::alloc::Global;
 use std::test::Fail;
@@ -32,9 +34,12 @@ enum Tally {
     Full,
     Down(u64),
     Empty,
+    // a counter in the place of this one
+    Put(u64, u64),
+    TooGreat(u64),
 }
 
-use Tally::{Down, Empty, Full, Up};
+use Tally::{Down, Empty, Full, Put, TooGreat, Up};
 
 // A counter, the place of its bytes and how many, the number that they are, its steps, and the number then.
 #[derive(Clone, Copy, Debug)]
@@ -72,6 +77,18 @@ const STEPPED: &[Stepped] = rows! { Stepped:
     { order: 6, index: 63, place: 504, len: 8, before: LESS, steps: &[Up(LESS), Full, Down(u64::MAX)],
         after: LESS },
     { order: 6, index: 1, place: 8, len: 8, before: 0, steps: &[Empty, Up(0)], after: 1 },
+    { order: 0, index: 9, place: 1, len: 1, before: 0, steps: &[TooGreat(2), Put(1, 0), TooGreat(u64::MAX)],
+        after: 2 },
+    { order: 1, index: 2, place: 0, len: 1, before: 0xff, steps: &[TooGreat(4), Put(0, 3)], after: 0xcf },
+    { order: 2, index: 3, place: 1, len: 1, before: 0x21, steps: &[Put(15, 2), TooGreat(16)], after: 0xf1 },
+    { order: 3, index: 511, place: 511, len: 1, before: 7, steps: &[TooGreat(256), Put(255, 7)], after: 255 },
+    { order: 4, index: 255, place: 510, len: 2, before: 256, steps: &[Put(0, 256), Put(65535, 0)],
+        after: 65535 },
+    { order: 4, index: 0, place: 0, len: 2, before: 1, steps: &[TooGreat(65536)], after: 1 },
+    { order: 4, index: 0, place: 0, len: 2, before: 1, steps: &[Put(1, 1)], after: 1 },
+    { order: 5, index: 1, place: 4, len: 4, before: 0, steps: &[TooGreat(1 << 32), Put(0x0102_0304, 0)],
+        after: 0x0102_0304 },
+    { order: 6, index: 63, place: 504, len: 8, before: 1, steps: &[Put(u64::MAX, 1), Full], after: u64::MAX },
 };
 
 // One less than the most references.
@@ -79,18 +96,16 @@ const LESS: u64 = u64::MAX - 1;
 
 // Makes the step, which sets the flag if it isn't refused.
 fn check_answer(block: &mut RefBlock, index: usize, tally: Tally) -> Result<(), Fail> {
-    let (is_up, answer) = match tally {
-        Up(before) => (true, Ok(before)),
-        Full => (true, Err(Fault::CounterRange)),
-        Down(before) => (false, Ok(before)),
-        Empty => (false, Err(Fault::CounterRange)),
+    let was_modified = block.is_modified();
+    let (found, answer) = match tally {
+        Up(before) => (increment(block, index), Ok(before)),
+        Full => (increment(block, index), Err(Fault::CounterRange)),
+        Down(before) => (decrement(block, index), Ok(before)),
+        Empty => (decrement(block, index), Err(Fault::CounterRange)),
+        Put(counter, before) => (set_counter(block, index, counter), Ok(before)),
+        TooGreat(counter) => (set_counter(block, index, counter), Err(Fault::CounterRange)),
     };
-    let modified = block.is_modified() || answer.is_ok();
-    let found = if is_up {
-        increment(block, index)
-    } else {
-        decrement(block, index)
-    };
+    let modified = was_modified || answer.is_ok();
     same((found, block.is_modified()), (answer, modified), tally)
 }
 
@@ -114,6 +129,40 @@ fn check_stepped(alloc: Global, row: Stepped) -> Result<(), Fail> {
 #[test]
 fn steps_change_one_counter_and_say_what_it_was(rt: HostRuntime) -> Result<(), Fail> {
     each(rt.alloc(), STEPPED, check_stepped)
+}
+
+// A step of the last counter of a block of 2 MiB, and the last eight bytes before it and after it.
+#[derive(Clone, Copy, Debug)]
+struct Last {
+    order: u32,
+    index: usize,
+    before: u64,
+    step: Tally,
+    after: u64,
+}
+
+const LAST: &[Last] = rows! { Last:
+    { order: 0, index: 16777215, before: 0, step: Put(1, 0), after: 0x80 },
+    { order: 4, index: 1048575, before: 0x1_0007, step: Put(65535, 7), after: 0x1_ffff },
+    { order: 6, index: 262143, before: 1, step: Put(u64::MAX, 1), after: u64::MAX },
+};
+
+// An image of 2 MiB that is zero but for the last eight bytes.
+fn image_of_last(alloc: Global, last: u64) -> Result<MemStorage, Fault> {
+    numbers_image(alloc, 2097152, &[(2097144, last)])
+}
+
+fn check_last(alloc: Global, row: Last) -> Result<(), Fail> {
+    let mut image = image_of_last(alloc, row.before)?;
+    let mut block = load(alloc, &mut image, (21, row.order), 0)?;
+    check_answer(&mut block, row.index, row.step)?;
+    same(write_block(&mut block, &mut image), Ok(()), row)?;
+    same_image(&image, image_of_last(alloc, row.after), row)
+}
+
+#[test]
+fn the_last_counter_of_the_largest_block_is_put_in_its_place(rt: HostRuntime) -> Result<(), Fail> {
+    each(rt.alloc(), LAST, check_last)
 }
 
 // An image of `len` bytes, of which byte i is `i mod 251`.

@@ -42,6 +42,11 @@ host_offset external v = if is_allocated external v then Some (record { 0 = offs
 abbrev pub has_host_cluster : Geometry → ℕ → Bool
 has_host_cluster g v = not (is_compressed v) && is_allocated g.external_data_file v
 
+-- whether an entry has only its copied flag to say whether it refers to a cluster: a standard one with offset 0, where guest
+-- data lies in an external data file
+abbrev pub refers_by_flag : Bool → ℕ → Bool
+refers_by_flag external v = external && (not (is_compressed v) && (offset_field v == 0))
+
 -- the entry with the zero flag
 abbrev pub with_zero_flag : ℕ → ℕ
 with_zero_flag v = v - v % 2 + 1
@@ -49,8 +54,7 @@ with_zero_flag v = v - v % 2 + 1
 -- an entry where a second table has it too: the copied flag is clear. It stays where it says that offset 0 is that of
 -- a cluster, in an external data file
 abbrev pub entry_in_copy : Bool → ℕ → ℕ
-entry_in_copy external v =
-    if external && (not (is_compressed v) && (offset_field v == 0)) then v else v % 2 ^ 63
+entry_in_copy external v = if refers_by_flag external v then v else v % 2 ^ 63
 
 -- where a compressed entry's data begins: the bits below bit 70 - cb
 abbrev pub compressed_offset : ℕ → ℕ → ℕ

@@ -10,7 +10,7 @@ use Rattle.qcow2_metadata.specs.Header.{Geometry}
 use Rattle.qcow2_metadata.specs.declared.entries.l2_mapping.L2Mapping.{L2Mapping}
 use Rattle.qcow2_metadata.specs.declared.entries.l2_mapping.L2Mapping.TheVariants.{DataFile, Backing, Zero, Compressed}
 use Rattle.qcow2_metadata.specs.Entries.L2Entry.{compressed_length, compressed_offset, host_offset, is_allocated, is_compressed, is_zero}
-use Rattle.qcow2_metadata.specs.Entries.{is_copied, offset_field}
+use Rattle.qcow2_metadata.specs.Entries.{copied_bit, is_copied, offset_field}
 
 -- what a guest cluster reads as
 pub data Mapping : Type 0 where
@@ -63,11 +63,6 @@ FitsEntry cb (Backing backing_offset) = ⊤
 FitsEntry cb (Zero (Some host_cluster) copied) = ⊤
 FitsEntry cb (Zero None copied) = copied ≡ false
 FitsEntry cb (Compressed host_offset length) = (host_offset.0 < 2 ^ (70 - cb)) × (non_zero_u64_get length < 2 ^ cb)
-
--- bit 63 of an entry that is copied
-abbrev pub copied_bit : Bool → ℕ
-copied_bit true = 2 ^ 63
-copied_bit false = 0
 
 -- how many sectors of 512 bytes that many bytes from an offset on have beyond the first
 abbrev pub sectors_beyond : ℕ → ℕ → ℕ

@@ -1,12 +1,13 @@
 -- What does a load of a header return, and what does it write where the image is to be written?
 use Rattle.std.specs.Prelude.{◌≡◌, ◌⊎◌, ℕ, ◌==◌, ◌&&◌, Bool, true, false, not, IsTrue, List, [], length, Some, IfErr, IfOk, IsOkAnd, OnOk, Result, Ok, Err}
+use Rattle.std.specs.List.{filter}
 use Rattle.qcow2_base.specs.Storage.{Holds, OnImage, OnImages, OnlyReads, OnlyWrites, StorageState}
 use Rattle.qcow2_base.specs.declared.fault.Fault.{Fault}
-use Rattle.qcow2_base.specs.declared.fault.Fault.TheVariants.{HeaderTooLong}
-use Rattle.qcow2_metadata.specs.Results.{Answers, IsFromOutside, and_then}
+use Rattle.qcow2_base.specs.declared.fault.Fault.TheVariants.{HeaderTooLong, NameTooLong}
+use Rattle.qcow2_metadata.specs.Results.{Answers, IsFromOutside, RefusesFirst, and_then}
 use Rattle.qcow2_metadata.specs.Header.{HeaderRecord}
 use Rattle.qcow2_metadata.specs.Header.Grammar.{IsHeaderFault, header_of}
-use Rattle.qcow2_metadata.specs.Header.Text.{IsSettled, IsWrittenHeader, chosen_text, header_after_write}
+use Rattle.qcow2_metadata.specs.Header.Text.{IsSettled, IsWrittenHeader, chosen_text, header_after_write, is_other, is_short}
 
 -- the header with no autoclear feature
 abbrev pub without_autoclear : HeaderRecord → HeaderRecord
@@ -31,6 +32,36 @@ opened_text writable (Ok header) = elim (is_rewritten writable header) [
   | false ↦ []
 ]
 
+-- a header says of an image what another says, but for autoclear features, names of features, and the places and the padding
+-- of its own text
+pub record SaysSame (old new : HeaderRecord) : Type 0 where
+  pub v2 : new.v2 ≡ record old.v2 {
+    backing_file_offset = new.v2.backing_file_offset;
+    backing_file_size = new.v2.backing_file_size;
+  }
+  pub base : new.base ≡ record old.base {
+    autoclear_features = new.base.autoclear_features;
+    header_length = new.base.header_length;
+  }
+  pub backing_filename : new.backing_filename ≡ old.backing_filename
+  pub extensions : filter is_other new.extensions ≡ filter is_other old.extensions
+
+-- why a header can't be made one whose image may be written: it has no room, or its backing file's name is too long, which no
+-- header has that was loaded; or a fault came from outside
+abbrev pub IsWritableFault : HeaderRecord → Fault → Type 0
+IsWritableFault header fault = (fault ≡ HeaderTooLong)
+    ⊎ ((fault ≡ NameTooLong) × (is_short header.backing_filename ≡ false)) ⊎ IsFromOutside fault
+
+-- a header was made one whose image may be written, which ended in this answer: it is placed without autoclear features, where
+-- it had any, and no byte past it changes. The header that is returned then is written and settled, as after any write
+pub record BecomesWritable (header : HeaderRecord) (answer : Result HeaderRecord Fault) (old new : StorageState) : Type 0 where
+  pub exact : RefusesFirst (λ header. header) answer (header_after_load true (Ok header))
+  pub faults : IfErr answer (IsWritableFault header)
+  pub placed : OnImages old new (λ _ after. OnOk answer (Holds after 0 (opened_text true (Ok header))))
+  pub written : IsTrue (is_rewritten true header) → OnImages old new (λ _ after. IfOk answer (IsWrittenHeader after))
+  pub settled : IsTrue (is_rewritten true header) → IfOk answer IsSettled
+  pub storage : OnlyWrites answer (Some 0) (length (opened_text true (Ok header))) old new
+
 -- a load had to write: the header that it read is one that is rewritten
 abbrev pub HadToWrite : Bool → StorageState → Type 0
 HadToWrite writable old =
@@ -47,8 +78,9 @@ pub record Opens (writable : Bool) (answer : Result HeaderRecord Fault) (old new
   pub settled : HadToWrite writable old → IfOk answer IsSettled
 
 -- a load of an image's header ended in this answer: the header that the bytes have by the grammar, opened, or the fault
--- of the first condition that they fail
+-- of the first condition that they fail. Its backing file's name is one that can be written
 pub record Loads (writable : Bool) (answer : Result HeaderRecord Fault) (old new : StorageState) : Type 0 where
   pub exact : OnImage old (λ bytes. Answers (λ header. header) answer (header_after_load writable (header_of bytes)))
   pub faults : IfErr answer (λ fault. (IsHeaderFault fault ⊎ ((writable ≡ true) × (fault ≡ HeaderTooLong))) ⊎ IsFromOutside fault)
+  pub short : IfOk answer (λ header. is_short header.backing_filename ≡ true)
   pub storage : Opens writable answer old new

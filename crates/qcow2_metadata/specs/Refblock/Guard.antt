@@ -1,5 +1,5 @@
 -- What may be changed of a refcount block, and what does a step of a counter do?
-use Rattle.std.specs.Prelude.{◌≡◌, ◌==◌, MatchOption, Result, Ok, Err, ℕ, ◌+◌, ◌-◌, if◌then◌else◌, List, slice_index, slice_set, Option, Some, None}
+use Rattle.std.specs.Prelude.{◌≡◌, ◌==◌, nat_le, MatchOption, Result, Ok, Err, ℕ, ◌+◌, ◌-◌, if◌then◌else◌, List, slice_index, slice_set, Option, Some, None}
 use Rattle.std.specs.Borrow.{MutBor}
 use Rattle.qcow2_metadata.specs.Placed.{with_number}
 use Rattle.qcow2_metadata.specs.Refblock.{BlockState, greatest_counter}
@@ -35,9 +35,17 @@ abbrev pub after_change : List ℕ → ℕ → Option ℕ → List ℕ
 after_change counters index None = counters
 after_change counters index (Some counter) = slice_set counters index counter
 
--- a change of the counter at an index, which returned the number before it, or was refused and changed nothing
-pub record Steps (change : CounterChange) (index : ℕ) (answer : Result ℕ Fault) (old new : BlockState) : Type 0 where
-  pub answers : MatchOption (counter_after old.geometry.refcount_order change (slice_index old.numbers index))
-      (answer ≡ Err CounterRange) (λ counter. answer ≡ Ok (slice_index old.numbers index))
-  pub steps : MatchOption (counter_after old.geometry.refcount_order change (slice_index old.numbers index))
-      (new ≡ old) (λ counter. new ≡ with_number old index counter)
+-- this number as a counter, where one of the order holds it
+abbrev pub as_counter : ℕ → ℕ → Option ℕ
+as_counter order number = if nat_le number (greatest_counter order) then Some number else None
+
+-- a change of the counter at an index to this one, which returned the number before it. Or there is none to change it to:
+-- it was refused and changed nothing
+pub record Changes (index : ℕ) (after : Option ℕ) (answer : Result ℕ Fault) (old new : BlockState) : Type 0 where
+  pub answers : MatchOption after (answer ≡ Err CounterRange) (λ _. answer ≡ Ok (slice_index old.numbers index))
+  pub block : MatchOption after (new ≡ old) (λ counter. new ≡ with_number old index counter)
+
+-- a step of the counter at an index
+abbrev pub Steps : CounterChange → ℕ → Result ℕ Fault → BlockState → BlockState → Type 0
+Steps change index answer old new =
+    Changes index (counter_after old.geometry.refcount_order change (slice_index old.numbers index)) answer old new

@@ -1,10 +1,10 @@
 //! Entries of L1 tables.
 
-ghost use Rattle.std.specs.Prelude.{◌≡◌, ◌+◌, ◌*◌, ◌^◌, ◌<◌, None};
+ghost use Rattle.std.specs.Prelude.{◌≡◌, ℕ, ◌+◌, ◌*◌, ◌^◌, ◌<◌, None};
 ghost use Rattle.qcow2_base.specs.Format.{max_file_length};
 ghost use Rattle.qcow2_base.specs.Types.{IsClusterBits};
 
-use super::TableEntry;
+use super::{TableEntry, copied_bit};
 use crate::Header;
 use qcow2_base::{Fault, HostCluster, HostOffset, field};
 use std::marker::Model;
@@ -29,7 +29,7 @@ impl Model for L1Entry {
 }
 
 impl L1Entry {
-    ghost use Rattle.qcow2_metadata.specs.Entries.{is_copied, offset_field, offset_unless_zero};
+    ghost use Rattle.qcow2_metadata.specs.Entries.{is_copied, offset_field, offset_unless_zero, with_copied};
     ghost use Rattle.qcow2_metadata.specs.Entries.L1Entry.{l1_fault, l1_reserved_bits};
 
     /// The entry 0: there is no L2 table.
@@ -64,6 +64,20 @@ impl L1Entry {
         ensures { result ≡ is_copied self.now }
     {
         field(self.value, 63, 1) == 1
+    }
+
+    /// The entry with bit 63 set or clear. All else of it stays.
+    #[inline]
+    #[must_use]
+    #[tactic(auto, using(crate::proofs::CopiedLemmas::flags))]
+    pub fn with_copied(self, is_copied: bool) -> L1Entry
+        ensures number { result ≡ with_copied is_copied self }
+        ensures lawful { (cluster_bits : ℕ) →
+            l1_fault cluster_bits self ≡ None → l1_fault cluster_bits result ≡ None }
+    {
+        L1Entry {
+            value: field(self.value, 0, 63) + copied_bit(is_copied),
+        }
     }
 
     /// The reserved bits that are set, at their places.

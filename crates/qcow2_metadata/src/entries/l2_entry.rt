@@ -1,13 +1,13 @@
 //! The entries of L2 tables: where the data of a guest cluster lies, or that it reads as zeros.
 
-ghost use Rattle.std.specs.Prelude.{◌≡◌, ℕ, ◌+◌, ◌*◌, ◌%◌, ◌^◌, ◌<◌, ◌≤◌, false, is_some, Some, None, option_map, IfSome, IfNone, IfOk, IsOkAnd};
+ghost use Rattle.std.specs.Prelude.{◌≡◌, ℕ, ◌+◌, ◌*◌, ◌%◌, ◌^◌, ◌<◌, ◌≤◌, true, false, is_some, Some, None, option_map, IfSome, IfNone, IfOk, IsOkAnd};
 ghost use Rattle.std.specs.Int.NonZero.{non_zero_u64_get};
 ghost use Rattle.qcow2_base.specs.Format.{max_file_length};
 ghost use Rattle.qcow2_base.specs.Types.{IsClusterBits};
 ghost use Rattle.qcow2_base.specs.declared.types.HostCluster.{HostCluster as Cluster};
 ghost use Rattle.qcow2_metadata.specs.Header.{geometry};
 
-use super::{L2Mapping, TableEntry};
+use super::{L2Mapping, TableEntry, copied_bit};
 use crate::Header;
 use qcow2_base::{
     ClusterCount, Fault, GuestCluster, HostCluster, HostOffset, MAX_FILE_LENGTH, field,
@@ -42,7 +42,7 @@ impl Model for L2Entry {
 impl L2Entry {
     ghost use Rattle.qcow2_metadata.specs.Entries.L2Entry.{IsAllocation, byte_range, compressed_length, compressed_offset, has_host_cluster, host_offset, is_compressed, is_zero, l2_fault, l2_reserved_bits, entry_in_copy, with_zero_flag};
     ghost use Rattle.qcow2_metadata.specs.Entries.L2Mapping.{IsPlaced, host_cluster, mapping, meaning};
-    ghost use Rattle.qcow2_metadata.specs.Entries.{is_copied};
+    ghost use Rattle.qcow2_metadata.specs.Entries.{is_copied, with_copied};
 
     /// The entry 0: the guest cluster has no data here.
     pub(crate) const UNALLOCATED: L2Entry = L2Entry { value: 0 };
@@ -80,7 +80,7 @@ impl L2Entry {
     /// reference, and a compressed one stays as it is.
     #[inline]
     #[must_use]
-    #[tactic(auto, using(crate::proofs::L2TableLemmas::lawful_without_copied))]
+    #[tactic(auto, using(crate::proofs::CopiedLemmas::lawful_without_copied))]
     pub fn without_copied(self) -> L2Entry
         ensures number { result ≡ self % 2 ^ 63 }
         ensures lawful { (cluster_bits : ℕ) →
@@ -88,6 +88,21 @@ impl L2Entry {
     {
         L2Entry {
             value: field(self.value, 0, 63),
+        }
+    }
+
+    /// The entry with bit 63 set or clear. All else of it stays. A compressed entry can't have it set.
+    #[inline]
+    #[must_use]
+    #[tactic(auto, using(crate::proofs::CopiedLemmas::flags))]
+    pub fn with_copied(self, is_copied: bool) -> L2Entry
+        requires standard { is_copied ≡ true → is_compressed self ≡ false }
+        ensures number { result ≡ with_copied is_copied self }
+        ensures lawful { (cluster_bits : ℕ) →
+            l2_fault cluster_bits self ≡ None → l2_fault cluster_bits result ≡ None }
+    {
+        L2Entry {
+            value: self.without_copied().value + copied_bit(is_copied),
         }
     }
 

@@ -6,7 +6,7 @@ ghost use Rattle.qcow2_metadata.specs.Header.{geometry};
 ghost use Rattle.qcow2_metadata.specs.Entries.L2Entry.{l2_fault};
 ghost use Rattle.qcow2_metadata.specs.Entries.L2Mapping as spec;
 
-use super::L2Entry;
+use super::{L2Entry, copied_bit};
 use qcow2_base::{HostCluster, HostOffset};
 use std::num::NonZero;
 
@@ -122,13 +122,6 @@ impl L2Entry {
         };
         L2Entry { value }
     }
-}
-
-#[inline]
-fn copied_bit(copied: bool) -> u64
-    ensures { result ≡ spec.copied_bit copied }
-{
-    if copied { 1 << 63 } else { 0 }
 }
 
 #[inline]

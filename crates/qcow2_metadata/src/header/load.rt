@@ -37,7 +37,7 @@ impl Header {
         if !writable {
             return Ok(header);
         }
-        header.prepared(image)
+        header.into_writable(image)
     }
 }
 

@@ -1,11 +1,11 @@
 //! Writing a header to the start of an image.
 
-ghost use Rattle.std.specs.Prelude.{◌≡◌, IfOk, IsTrue, OnErr, OnOk, Ok, Some, true, length};
-ghost use Rattle.qcow2_base.specs.Storage.{Holds, OnImages, OnlyWrites};
+ghost use Rattle.std.specs.Prelude.{◌≡◌, OnErr, OnOk, Ok, Some, length};
+ghost use Rattle.qcow2_base.specs.Storage.{OnImages, OnlyWrites};
 ghost use Rattle.qcow2_metadata.specs.Results.{RefusesFirst};
 ghost use Rattle.qcow2_metadata.specs.Header.{IsValidHeader};
-ghost use Rattle.qcow2_metadata.specs.Header.Open.{is_rewritten, header_after_load, opened_text, without_autoclear};
-ghost use Rattle.qcow2_metadata.specs.Header.Text.{IsChosen, IsLayout, IsSettled, IsWrittenHeader, header_to_write, chosen_text, header_after_write, header_with_places};
+ghost use Rattle.qcow2_metadata.specs.Header.Open.{BecomesWritable, without_autoclear};
+ghost use Rattle.qcow2_metadata.specs.Header.Text.{IsChosen, IsLayout, IsWrittenHeader, header_to_write, chosen_text, header_after_write, header_with_places};
 
 use super::Header;
 use super::text::Layout;
@@ -63,16 +63,18 @@ impl Header {
         }
     }
 
-    // The header for who means to write to the image, in which no autoclear feature is left.
-    pub(super) fn prepared<S: Storage>(mut self, image: &mut S) -> Result<Header, Fault>
-        ensures exact { RefusesFirst (λ header. header) result (header_after_load true (Ok self)) }
-        ensures placed { OnOk result (OnImages (S.state image.old) (S.state image.new) (λ _ after.
-            Holds after 0 (opened_text true (Ok self)))) }
-        ensures written { IsTrue (is_rewritten true self) → OnImages (S.state image.old)
-            (S.state image.new) (λ _ after. IfOk result (IsWrittenHeader after)) }
-        ensures settled { IsTrue (is_rewritten true self) → IfOk result IsSettled }
-        ensures storage { OnlyWrites result (Some 0) (length (opened_text true (Ok self)))
-            (S.state image.old) (S.state image.new) }
+    /// The header of an image that is now to be written, as a load for writing returns it. Who means to write
+    /// to an image must know each autoclear feature that its header names, and none is known here.
+    ///
+    /// A header without any is returned as it is, and the storage isn't called. Else it is written without
+    /// any, as `write` writes it, and what was written is returned. A header that has no room in the first
+    /// cluster then is refused by fault 24, and one whose backing file's name has more than 1023 bytes by 25,
+    /// as none is that was loaded. Only then it takes memory for the text and calls the storage. After any
+    /// fault but the storage's no byte of the image changed. After that one any bytes may be where the text
+    /// goes.
+    pub fn into_writable<S: Storage>(mut self, image: &mut S) -> Result<Header, Fault>
+        ensures idle { self.base.autoclear_features ≡ 0 → (result ≡ Ok self) × (image.new ≡ image.old) }
+        ensures writable { BecomesWritable self result (S.state image.old) (S.state image.new) }
     {
         if self.base.autoclear_features == 0 {
             return Ok(self);

@@ -1,9 +1,10 @@
 //! L1 tables: where the L2 tables lie.
 
-ghost use Rattle.std.specs.Prelude.{◌≡◌, ◌+◌, ◌*◌, ◌^◌, ◌<◌, length, true, Ok, Err, IfSome, MatchOption};
+ghost use Rattle.std.specs.Prelude.{◌≡◌, ◌+◌, ◌*◌, ◌^◌, ◌<◌, length, true, Ok, Err, IfSome, MatchOption, slice_index};
 ghost use Rattle.std.proofs.Common.{lit≤};
 ghost use Rattle.qcow2_base.specs.Format.{most_l1_entries};
 ghost use Rattle.qcow2_base.specs.declared.fault.Fault.TheVariants.{NotPlaced};
+ghost use Rattle.qcow2_metadata.specs.Entries.{with_copied};
 ghost use Rattle.qcow2_metadata.specs.Entries.PendingClusters.{IsOneCluster};
 ghost use Rattle.qcow2_metadata.specs.Placed.{with_number};
 ghost use Rattle.qcow2_metadata.specs.Table.{IsReferable};
@@ -58,6 +59,17 @@ impl EntryTable<L1Entry> {
             return Err(Fault::CannotGrow);
         }
         self.grown(entries, header)
+    }
+
+    /// Says of the entry at an index whether its L2 table has just one reference: bit 63 is then set or
+    /// clear. All else of the entry stays, also where it names no table. The table then counts as modified.
+    pub fn set_copied(&mut self, index: usize, is_copied: bool)
+        requires { index < length self.old.numbers }
+        ensures { self.new ≡ with_number self.old index
+            (with_copied is_copied (slice_index self.old.numbers index)) }
+    {
+        let entry = self.entry_within(index).with_copied(is_copied);
+        self.replace_entry(index, entry);
     }
 
     /// Enters an L2 table, which thereby has its one reference, and spends the pending value for its

@@ -1,8 +1,9 @@
 //! Guards of L2 tables: permission to change one, and to read compressed data that one refers to.
 
-ghost use Rattle.std.specs.Prelude.{◌≡◌, ◌*◌, ◌^◌, ◌<◌, IfOk, IfSome, IsOkAnd, length, option_map, slice_index, true};
+ghost use Rattle.std.specs.Prelude.{◌≡◌, ◌*◌, ◌^◌, ◌<◌, IfOk, IfSome, IsOkAnd, length, option_map, slice_index, true, false};
 ghost use Rattle.qcow2_metadata.specs.Table.L2Guards.{MakesEdit, is_mappable, to_data, to_zeros};
-ghost use Rattle.qcow2_metadata.specs.Entries.L2Entry.{IsAllocation};
+ghost use Rattle.qcow2_metadata.specs.Entries.{with_copied};
+ghost use Rattle.qcow2_metadata.specs.Entries.L2Entry.{IsAllocation, is_compressed};
 ghost use Rattle.qcow2_metadata.specs.Entries.PendingClusters.{IsOneCluster};
 ghost use Rattle.qcow2_metadata.specs.Entries.L2Mapping.{IsPlaced, meaning};
 ghost use Rattle.qcow2_metadata.specs.Placed.{with_number};
@@ -123,6 +124,21 @@ impl L2TableWriteGuard<'_> {
     {
         let before = self.table.replace_entry(index, AtomicL2Entry::cleared());
         self.allocation_of(before.get())
+    }
+
+    /// Says of the entry at an index whether its host cluster has just one reference: bit 63 is then set or
+    /// clear, and all else of the entry stays. The table then counts as modified. A compressed entry can't
+    /// have bit 63 set. In an external data file offset 0 is that of a cluster only where it is set.
+    pub fn set_copied(&mut self, index: usize, is_copied: bool)
+        requires index { index < length (guarded_table self.old).numbers }
+        requires standard { is_copied ≡ true →
+            is_compressed (slice_index (guarded_table self.old).numbers index) ≡ false }
+        ensures same_table { IsSameTable self.old self.new }
+        ensures edit { let table = guarded_table self.old in guarded_table self.new
+            ≡ with_number table index (with_copied is_copied (slice_index table.numbers index)) }
+    {
+        let entry = self.table.entry_within(index).with_copied(is_copied);
+        self.table.replace_entry(index, AtomicL2Entry::new(entry));
     }
 
     fn allocation_of(&self, entry: L2Entry) -> Option<ClustersToFreeEntry>

@@ -1,6 +1,7 @@
 use Rattle.std.proofs.Common.{rules, inl, inr, arith}
 use Rattle.std.proofs.lemmas.Result.{err_from_is_err_and}
 use Rattle.qcow2_metadata.proofs.OpenLemmas.{answers-first, opened-faults, opened_fault}
+use Rattle.qcow2_metadata.proofs.WritableLemmas.{writable-short}
 use Rattle.qcow2_metadata.proofs.header.Header.load.Goals as goal
 use Rattle.std.proofs.lemmas.Bool.Decides.{nat_tests}
 
@@ -16,8 +17,9 @@ returns-in_err-header g c =
         | inl grammar ↦ inl (inl grammar)
         | inr outside ↦ inr outside
       ];
+      short = tt;
       storage = search rules;
     })
 
 pub returns : goal.returns
-returns g c = grind (arith, nat_tests, answers-first, opened-faults)
+returns g c = grind (arith, nat_tests, answers-first, opened-faults, writable-short)
