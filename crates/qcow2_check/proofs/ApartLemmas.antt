@@ -18,7 +18,7 @@ use Rattle.qcow2_check.specs.declared.tally.UseKind.{UseKind}
 use Rattle.qcow2_check.specs.declared.tally.UseKind.TheVariants.{Fixed, Guest, L2Table}
 
 -- uses of a cluster in one list and in another
-kind-append : (kind : UseKind) (one other : List ClusterUse) (c : ℕ)
+pub kind-append : (kind : UseKind) (one other : List ClusterUse) (c : ℕ)
     → uses_of_kind kind (one ++ other) c ≡ uses_of_kind kind one c + uses_of_kind kind other c
 kind-append kind one other c = sum_by-append _ one other
 
@@ -45,7 +45,7 @@ entries-used g (v ∷ vs) (suc k) cluster image names =
     omega (arith, kind-append L2Table (l1_entry_uses g image v) (flat_map (l1_entry_uses g image) vs) cluster.0, entries-used g vs k cluster image names)
 
 -- an image uses the clusters that its tables' L1 entries name, as L2 tables
-named-used : (tables : ImageTables) (image : Image) (k : ℕ) (cluster : HostCluster)
+pub named-used : (tables : ImageTables) (image : Image) (k : ℕ) (cluster : HostCluster)
     → named_cluster tables.header.v2.cluster_bits (slice_index tables.l1 k) ≡ Some cluster
     → 0 < uses_of_kind L2Table (image_uses tables image) cluster.0
 named-used tables image k cluster names =
@@ -60,7 +60,7 @@ named-used tables image k cluster names =
     )
 
 -- and those of its header
-header-used : (tables : ImageTables) (image : Image) (c : ℕ)
+pub header-used : (tables : ImageTables) (image : Image) (c : ℕ)
     → 0 < uses_of_kind Fixed (header_uses tables.header) c → 0 < uses_of_kind Fixed (image_uses tables image) c
 header-used tables image c used =
     let blocks = flat_map (block_uses tables.header.v2.cluster_bits) tables.reftable in
@@ -78,7 +78,7 @@ pub l1-used : (header : HeaderRecord) (c : ℕ) → (l1_cluster header).0 ≤ c
 l1-used header c from before = grind (arith, nat_tests, kind-cons, from, before)
 
 -- a cluster that an L1 entry names lies below the greatest end
-named-below : (cb v : ℕ) (cluster : HostCluster) → named_cluster cb v ≡ Some cluster → cluster.0 < max_file_length
+pub named-below : (cb v : ℕ) (cluster : HostCluster) → named_cluster cb v ≡ Some cluster → cluster.0 < max_file_length
 named-below cb v cluster names = grind (arith, nat_tests, names, div-le_self)
 
 -- where nothing is found of an image, no cluster of its header and its L1 table is one that an L1 entry names

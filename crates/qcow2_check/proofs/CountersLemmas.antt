@@ -1,7 +1,8 @@
-use Rattle.std.proofs.Common.{◌≡◌, ◌↔◌, ℕ, zero, suc, ◌+◌, ◌-◌, ◌%◌, ◌*◌, ◌/◌, ◌^◌, ◌<◌, ◌≤◌, List, [], ◌∷◌, length, slice_index, take, Option, None, Some, refl, ◌∙◌, div-add-mod', arith}
+use Rattle.std.proofs.Common.{◌≡◌, ◌↔◌, ℕ, zero, suc, ◌+◌, ◌-◌, ◌%◌, ◌*◌, ◌/◌, ◌^◌, ◌<◌, ◌≤◌, List, [], ◌∷◌, length, slice_index, take, min, Option, None, Some, IsSomeAnd, inl, inr, refl, sym, ap, ◌∙◌, pow-add, div-add-mod', arith}
 use Rattle.std.proofs.lemmas.Bool.Decides.{nat_tests}
-use Rattle.std.proofs.lemmas.Nat.{pow_pos}
-use Rattle.std.proofs.Math.Nat.{div-lt_iff_lt-mul}
+use Rattle.std.proofs.lemmas.Nat.{div-mul-add, mod_below, mul-le, pow_pos}
+use Rattle.std.proofs.lemmas.Bool.{cases_lt}
+use Rattle.std.proofs.Math.Nat.{div-lt_iff_lt-mul, mod-le, mul-div_cancel}
 use Rattle.qcow2_metadata.proofs.EntriesLemmas.{div_rises}
 use Rattle.std.proofs.lemmas.List.{get_or_past}
 use Rattle.qcow2_metadata.proofs.TableLemmas.{first_fault-append}
@@ -100,3 +101,70 @@ pub kept_counter : (header : HeaderRecord) (reftable : List ℕ) (image : Image)
 kept_counter header reftable image block b c named place kept =
     let numbers : block.numbers ≡ numbers_at (block_layout (block_geometry_of header)) b image = rw named at kept in
     grind (arith, place, numbers)
+
+-- and of one that comes after it in that block
+kept_counter_after : (header : HeaderRecord) (reftable : List ℕ) (image : Image) (block : BlockState) (b : HostCluster) (c k : ℕ) → block.cluster ≡ Some b
+    → block_of_cluster header reftable c ≡ Some b → IsKeptBlockOf header image (Some block)
+    → c % counters_each header + k < counters_each header
+    → counter_of header reftable image (c + k) ≡ slice_index block.numbers (c % counters_each header + k)
+kept_counter_after header reftable image block b c k named place kept within =
+    let n = counters_each header in
+    let low : c % n ≤ c = mod-le c n in
+    let before : c + k < c - c % n + n = omega (arith, low, within) in
+    let after : c ≤ c + k = omega arith in
+    let same : block_of_cluster header reftable (c + k) ≡ Some b = same_block header reftable c (c + k) after before ∙ place in
+    let parts : c % n + (c + k - c) ≡ (c + k) % n = same_remainder n c (c + k) (pow_pos _) after before in
+    let index : (c + k) % n ≡ c % n + k = omega (arith, parts) in
+    kept_counter header reftable image block b (c + k) named same kept ∙ rw index refl
+
+-- several clusters that the kept block counts, where all these counters are 1
+pub kept_ones : (header : HeaderRecord) (reftable : List ℕ) (image : Image) (kept : Option BlockState) (block : BlockState) (c count : ℕ)
+    → kept ≡ Some block → IsSomeAnd block.cluster (λ place. block_of_cluster header reftable c ≡ Some place)
+    → IsKeptBlockOf header image kept → c % counters_each header + count ≤ counters_each header
+    → ((k : ℕ) → k < count → slice_index block.numbers (c % counters_each header + k) ≡ 1)
+    → (k : ℕ) → k < count → counter_of header reftable image (c + k) ≡ 1
+kept_ones header reftable image kept block c count is names same within ones k below = by_place block.cluster refl
+  where
+    by_place : (place : Option HostCluster) → block.cluster ≡ place → counter_of header reftable image (c + k) ≡ 1
+    by_place None none =
+        let never : IsSomeAnd {T = HostCluster} None (λ place. block_of_cluster header reftable c ≡ Some place) = rw none at names in
+        absurd never
+    by_place (Some b) some =
+        let named : block_of_cluster header reftable c ≡ Some b = rw some at names in
+        kept_counter_after header reftable image block b c k some named (rw is at same) (omega (arith, within, below)) ∙ ones k below
+
+-- clusters from the start of those that one block counts have the same block
+quotient_before : (n cluster c : ℕ) → 0 < n → cluster - cluster % n ≤ c → c ≤ cluster → c / n ≡ cluster / n
+quotient_before n cluster c some from to =
+    let q = cluster / n in
+    let parts : q * n + cluster % n ≡ cluster = div-add-mod' cluster n in
+    let below : cluster % n < n = mod_below cluster n some in
+    let sum : c ≡ q * n + (c - q * n) = omega (arith, parts, from) in
+    ap (λ x. x / n) sum ∙ div-mul-add q n (c - q * n) (omega (arith, parts, below, from, to))
+
+pub block_before : (header : HeaderRecord) (reftable : List ℕ) (cluster c : ℕ) → cluster - cluster % counters_each header ≤ c → c ≤ cluster
+    → block_of_cluster header reftable c ≡ block_of_cluster header reftable cluster
+block_before header reftable cluster c from to =
+    let same : c / counters_each header ≡ cluster / counters_each header = quotient_before (counters_each header) cluster c (pow_pos _) from to in
+    rw same refl
+
+-- a power of two times its part of the greatest end is that end
+whole_end : (k : ℕ) → k ≤ 56 → 2 ^ 56 / 2 ^ k * 2 ^ k ≡ 2 ^ 56
+whole_end k low =
+    let sum : 56 - k + k ≡ 56 = omega (arith, low) in
+    let parts : 2 ^ (56 - k) * 2 ^ k ≡ 2 ^ 56 = sym (pow-add 2 (56 - k) k) ∙ ap (λ n. 2 ^ n) sum in
+    ap (λ n. n / 2 ^ k * 2 ^ k) (sym parts) ∙ ap (λ n. n * 2 ^ k) (mul-div_cancel (2 ^ (56 - k)) (pow_pos k)) ∙ parts
+
+-- what comes after the clusters that a block counts is counted by later blocks
+pub after_end : (k index c : ℕ) → k ≤ 56 → min (index + 1) (2 ^ 56 / 2 ^ k) * 2 ^ k ≤ c → c < 2 ^ 56 → index < c / 2 ^ k
+after_end k index c low past below = elim (cases_lt (2 ^ 56 / 2 ^ k) (index + 1)) [
+  | inl less ↦ absurd (let end = whole_end k low in grind (arith, nat_tests, past, below, less, end))
+  | inr more ↦
+      let ends : (index + 1) * 2 ^ k ≤ c = grind (arith, nat_tests, past, more) in
+      grind (arith, nat_tests, ends, div-lt_iff_lt-mul, pow_pos)
+]
+
+pub end_fits : (k index : ℕ) → k ≤ 56 → min (index + 1) (2 ^ 56 / 2 ^ k) * 2 ^ k ≤ 2 ^ 56
+end_fits k index low =
+    let most : min (index + 1) (2 ^ 56 / 2 ^ k) ≤ 2 ^ 56 / 2 ^ k = omega arith in
+    rw (whole_end k low) at (mul-le _ (2 ^ k) _ (2 ^ k) most (omega arith))

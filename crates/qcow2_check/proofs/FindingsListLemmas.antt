@@ -8,18 +8,18 @@ use Rattle.qcow2_check.specs.Uses.{ImageTables}
 use Rattle.qcow2_check.specs.declared.findings.Finding.{Finding}
 
 -- the findings from a cluster that nothing is wrong with are those from the next on
-pass-one : (tables : ImageTables) (image : Image) (from count : ℕ) → is_wrong (finding_at tables image from) ≡ false
+pub pass-one : (tables : ImageTables) (image : Image) (from count : ℕ) → is_wrong (finding_at tables image from) ≡ false
     → findings_from tables image from (suc count) ≡ findings_from tables image (from + 1) count
 unfolding findings_from
 pass-one tables image from count right = rw right refl
 
 -- those from a cluster that something is wrong with begin with it
-take-one : (tables : ImageTables) (image : Image) (from count : ℕ) → is_wrong (finding_at tables image from) ≡ true
+pub take-one : (tables : ImageTables) (image : Image) (from count : ℕ) → is_wrong (finding_at tables image from) ≡ true
     → findings_from tables image from (suc count) ≡ finding_at tables image from ∷ findings_from tables image (from + 1) count
 unfolding findings_from
 take-one tables image from count wrong = rw wrong refl
 
-no-more : (tables : ImageTables) (image : Image) (from : ℕ) → findings_from tables image from zero ≡ []
+pub no-more : (tables : ImageTables) (image : Image) (from : ℕ) → findings_from tables image from zero ≡ []
 unfolding findings_from
 no-more tables image from = refl
 

@@ -1,5 +1,7 @@
+use Rattle.std.proofs.lemmas.Bool.{cases_lt}
 use Rattle.std.proofs.lemmas.Bool.Decides.{nat_tests}
-use Rattle.std.proofs.Common.{◌≡◌, ℕ, zero, suc, Bool, true, false, None, ap, drop, add-zero, drop-cons, refl, ◌∙◌, ◌++◌, option_to_list, ◌+◌, ◌-◌, ◌*◌, ◌^◌, ◌<◌, ◌≤◌, List, [], ◌∷◌, length, slice_index, Some, Ok, Err, IsTrue, arith}
+use Rattle.std.specs.Prelude.{◌&&◌, ◌==◌}
+use Rattle.std.proofs.Common.{◌≡◌, ℕ, zero, suc, Bool, true, false, None, ap, drop, add-zero, drop-cons, refl, ◌∙◌, ◌++◌, option_to_list, ◌+◌, ◌-◌, ◌*◌, ◌/◌, ◌^◌, ◌<◌, ◌≤◌, List, [], ◌∷◌, length, slice_index, Some, Ok, Err, IsTrue, sym, inl, inr, arith}
 use Rattle.std.proofs.Math.Pow.{pow_mono}
 use Rattle.std.proofs.lemmas.Nat.{mul-add-lt, mul-lt}
 use Rattle.qcow2_base.specs.Storage.{Image, OnImage, StorageState}
@@ -9,7 +11,9 @@ use Rattle.qcow2_metadata.specs.Header.{Geometry, HeaderRecord, geometry_of}
 use Rattle.qcow2_metadata.specs.Results.{Answers}
 use Rattle.qcow2_metadata.specs.Table.{IsContentFault, TableState, l2_entries, loaded_l2_table}
 use Rattle.qcow2_check.specs.Findings.{IsLaterFault}
-use Rattle.qcow2_check.specs.Flags.{l2_flag, l2_flags, l2_flags_from}
+use Rattle.qcow2_check.specs.Counters.{CountersState, IsKeptBlockOf, IsSameButBlock, counter_of}
+use Rattle.qcow2_check.specs.Flags.{HasNoFlag, flagged_cluster, l2_flag, l2_flags, l2_flags_from}
+use Rattle.qcow2_metadata.specs.Entries.{is_copied, offset_field}
 use Rattle.qcow2_check.specs.NamedTables.{named_cluster}
 use Rattle.qcow2_check.specs.Uses.{all_load, l1_entry_loads}
 
@@ -62,13 +66,59 @@ no_flag header reftable image guest = by_file (geometry_of header).external_data
     by_file true is = grind (arith, nat_tests, is)
     by_file false is = grind (arith, nat_tests, is)
 
--- and so have several
-pub no_flags : (header : HeaderRecord) (reftable : List ℕ) (image : Image) (index : ℕ) (numbers : List ℕ) (i k : ℕ) → i + k ≤ length numbers
-    → ((j : ℕ) → j < k → slice_index numbers (i + j) ≡ 0)
-    → l2_flags_from header reftable image index numbers i ≡ l2_flags_from header reftable image index numbers (i + k)
-no_flags header reftable image index numbers i zero within zeros = rw (add-zero i) refl
-no_flags header reftable image index numbers i (suc k) within zeros =
+-- an entry 0 has none in whatever image
+pub nothing_has_no_flag : (counters : CountersState) → HasNoFlag counters 0
+nothing_has_no_flag counters = λ image guest kept. no_flag counters.header counters.reftable image guest
+
+-- a standard entry has none whose cluster has the counter 1, if it says so
+pub sole_is_right : (counters : CountersState) (v : ℕ) → (geometry_of counters.header).external_data_file ≡ false → is_copied v ≡ true
+    → ((image : Image) → IsKeptBlockOf counters.header image counters.block
+    → counter_of counters.header counters.reftable image (offset_field v / 2 ^ counters.header.v2.cluster_bits) ≡ 1)
+    → HasNoFlag counters v
+sole_is_right counters v inside copied sole = λ image guest kept. grind (arith, nat_tests, inside, copied, sole image kept)
+
+-- an entry without a cluster has none either
+pub other_is_right : (counters : CountersState) (v : ℕ) → flagged_cluster (geometry_of counters.header) v ≡ None → HasNoFlag counters v
+other_is_right counters v none = λ image guest kept. grind (arith, nat_tests, none)
+
+-- where several entries have none, the same are left after them
+no_flags : (counters : CountersState) (image : Image) (index : ℕ) (numbers : List ℕ) (i k : ℕ) → i + k ≤ length numbers
+    → IsKeptBlockOf counters.header image counters.block
+    → ((j : ℕ) → j < k → HasNoFlag counters (slice_index numbers (i + j)))
+    → l2_flags_from counters.header counters.reftable image index numbers i
+    ≡ l2_flags_from counters.header counters.reftable image index numbers (i + k)
+no_flags counters image index numbers i zero within kept none = rw (add-zero i) refl
+no_flags counters image index numbers i (suc k) within kept none =
+    let guest = index * l2_entries counters.header.v2.cluster_bits + (i + k) in
     let sum : i + suc k ≡ i + k + 1 = omega arith in
-    let last : slice_index numbers (i + k) ≡ 0 = zeros k (omega arith) in
-    no_flags header reftable image index numbers i k (omega (arith, within)) (λ j below. zeros j (omega (arith, below)))
-    ∙ flags_here header reftable image index numbers (i + k) (omega (arith, within)) ∙ rw (last, sum, no_flag header reftable image (index * l2_entries header.v2.cluster_bits + (i + k))) refl
+    let last : l2_flag counters.header counters.reftable image guest (slice_index numbers (i + k)) ≡ None = none k (omega arith) image guest kept in
+    no_flags counters image index numbers i k (omega (arith, within)) kept (λ j below. none j (omega (arith, below)))
+    ∙ flags_here counters.header counters.reftable image index numbers (i + k) (omega (arith, within)) ∙ rw (last, sum) refl
+
+-- the same of a reader whose counters are those of an image
+pub group_has_no_flags : (state : StorageState) (old counters : CountersState) (index : ℕ) (numbers : List ℕ) (i k : ℕ)
+    → IsSameButBlock state old counters → i + k ≤ length numbers
+    → ((j : ℕ) → j < k → HasNoFlag counters (slice_index numbers (i + j)))
+    → OnImage state (λ bytes. l2_flags_from old.header old.reftable bytes index numbers i
+    ≡ l2_flags_from old.header old.reftable bytes index numbers (i + k))
+group_has_no_flags state old counters index numbers i k reader within none = λ told.
+    let header : counters.header ≡ old.header = ap (λ c. c.header) reader.same in
+    let reftable : counters.reftable ≡ old.reftable = ap (λ c. c.reftable) reader.same in
+    rw (← header, ← reftable) (no_flags counters state.byte_at index numbers i k within (reader.kept told) none)
+
+-- the entry of a table after some that are copied ones of clusters that follow one another, if it is the next of them
+pub copied_more : (numbers : List ℕ) (first cb start k cluster : ℕ) (before copied : Bool)
+    → (IsTrue before → (j : ℕ) → j < k → (is_copied (slice_index numbers (first + j)) ≡ true) × (offset_field (slice_index numbers (first + j)) / 2 ^ cb ≡ start + j))
+    → copied ≡ is_copied (slice_index numbers (first + k)) → cluster ≡ offset_field (slice_index numbers (first + k)) / 2 ^ cb
+    → IsTrue (before && (copied && (cluster == start + k)))
+    → (j : ℕ) → j < k + 1 → (is_copied (slice_index numbers (first + j)) ≡ true) × (offset_field (slice_index numbers (first + j)) / 2 ^ cb ≡ start + j)
+copied_more numbers first cb start k cluster before copied so_far is at all j below =
+    let one : before ≡ true = grind (arith, nat_tests, all) in
+    let two : copied ≡ true = grind (arith, nat_tests, all) in
+    let three : cluster ≡ start + k = grind (arith, nat_tests, all) in
+    elim (cases_lt j k) [
+      | inl sooner ↦ so_far one j sooner
+      | inr later ↦
+          let same : j ≡ k = omega (arith, below, later) in
+          rw same (sym is ∙ two, sym at ∙ three)
+    ]

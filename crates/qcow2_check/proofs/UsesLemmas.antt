@@ -1,10 +1,14 @@
-use Rattle.std.proofs.Common.{◌≡◌, ℕ, true, false, zero, suc, ◌+◌, ◌-◌, ◌*◌, ◌/◌, ◌%◌, ◌^◌, ◌<◌, ◌≤◌, List, [], ◌∷◌, ◌++◌, flat_map, take, length, get_or, slice_index, Some, None, Result, Ok, Err, OnOk, add-zero, div-add-mod', ap, refl, arith}
+use Rattle.std.proofs.Common.{◌≡◌, ℕ, true, false, zero, suc, ◌+◌, ◌-◌, ◌*◌, ◌/◌, ◌%◌, ◌^◌, ◌<◌, ◌≤◌, List, [], ◌∷◌, ◌++◌, flat_map, take, length, get_or, slice_index, Some, None, Result, Ok, Err, OnOk, add-zero, div-add-mod', ap, refl, ◌∙◌, le_refl, arith, Bool, IsTrue, Option, IfSome}
 use Rattle.std.proofs.lemmas.List.{append-nil}
 use Rattle.std.proofs.lemmas.Bool.Decides.{nat_tests}
-use Rattle.std.proofs.lemmas.Nat.{div-mul-add, pow_pos}
-use Rattle.qcow2_base.specs.declared.types.HostOffset.{HostOffset}
+use Rattle.std.proofs.lemmas.Nat.{div-mul-add, mod-pow-add, pow-add, pow_pos}
+use Rattle.std.proofs.Math.Nat.{div-div-eq-div-mul, mod-eq_of_lt}
 use Rattle.qcow2_metadata.specs.Entries.{offset_field}
-use Rattle.qcow2_metadata.specs.Entries.L2Entry.{host_offset, is_compressed, l2_fault}
+use Rattle.qcow2_base.specs.Bits.{field}
+use Rattle.qcow2_base.specs.Format.{max_file_length}
+use Rattle.qcow2_metadata.specs.Entries.L2Entry.{allocation, compressed_length, compressed_offset, is_compressed, l2_fault}
+use Rattle.qcow2_metadata.specs.declared.entries.ClustersToFreeEntry.{ClustersToFreeEntry}
+use Rattle.std.specs.Prelude.{is_some}
 use native.Mathlib.Numerals.{unary_clauses}
 use Rattle.std.proofs.Math.Seq.{take-suc}
 use Rattle.std.proofs.lemmas.Grind.{flat_map-append}
@@ -120,14 +124,75 @@ one_cluster cb offset whole =
 standard_aligned : (cb v : ℕ) → is_compressed v ≡ false → l2_fault cb v ≡ None → offset_field v % 2 ^ cb ≡ 0
 standard_aligned cb v standard valid = grind (arith, nat_tests, standard, valid)
 
--- a standard entry uses the cluster that it refers to, or none
-pub standard_uses : (cb v : ℕ) (offset : HostOffset) → is_compressed v ≡ false → l2_fault cb v ≡ None → host_offset false v ≡ Some offset
-    → entry_uses (geometry cb false) v ≡ used_clusters Guest (record { 0 = offset.0 / 2 ^ cb }) 1 ∷ []
-standard_uses cb v offset standard valid refers =
-    grind (arith, nat_tests, standard, refers, one_cluster cb (offset_field v) (standard_aligned cb v standard valid))
+-- a byte of a sector of 512 bytes, in clusters
+sector_cluster : (cb sector byte : ℕ) → 9 ≤ cb → byte < 512 → (512 * sector + byte) / 2 ^ cb ≡ sector / 2 ^ (cb - 9)
+sector_cluster cb sector byte low within =
+    let size : 2 ^ cb ≡ 512 * 2 ^ (cb - 9) = ap (λ n. 2 ^ n) (omega (arith, low)) ∙ pow-add 2 9 (cb - 9) in
+    let whole : (512 * sector + byte) / 512 ≡ sector = omega (arith, within) in
+    rw (size, ← div-div-eq-div-mul (512 * sector + byte) 512 (2 ^ (cb - 9)), whole) refl
 
-pub standard_without : (cb v : ℕ) → is_compressed v ≡ false → host_offset false v ≡ None → entry_uses (geometry cb false) v ≡ []
-standard_without cb v standard refers = grind (arith, nat_tests, standard, refers)
+-- a compressed entry's offset, by the sector that it is in
+compressed_sector : (cb v : ℕ) → cb ≤ 21 → is_compressed v ≡ true → l2_fault cb v ≡ None
+    → compressed_offset cb v ≡ 512 * field v 9 (70 - cb - 9) + v % 512
+compressed_sector cb v high compressed valid =
+    let bits : 70 - cb ≡ 70 - cb - 9 + 9 = omega (arith, high) in
+    let parts : v % 2 ^ (70 - cb - 9 + 9) ≡ field v 9 (70 - cb - 9) * 2 ^ 9 + v % 2 ^ 9 = mod-pow-add v (70 - cb - 9) 9 in
+    let low : v % 2 ^ (70 - cb) ≡ field v 9 (70 - cb - 9) * 512 + v % 512 = ap (λ n. v % 2 ^ n) bits ∙ parts in
+    let below : v % 2 ^ (70 - cb) < max_file_length = grind (arith, nat_tests, compressed, valid) in
+    let same : compressed_offset cb v ≡ v % 2 ^ (70 - cb) = mod-eq_of_lt below in
+    omega (arith, same, low)
+
+-- the clusters that a compressed entry refers to
+pub compressed_ends : (cb v : ℕ) (clusters : ClustersToFreeEntry) → 9 ≤ cb → cb ≤ 21 → is_compressed v ≡ true → l2_fault cb v ≡ None
+    → allocation (geometry cb false) v ≡ Some clusters
+    → (clusters.first.0 ≡ field v 9 (70 - cb - 9) / 2 ^ (cb - 9))
+    × (clusters.count.0 ≡ (field v 9 (70 - cb - 9) + field v (70 - cb) (cb - 8)) / 2 ^ (cb - 9) - field v 9 (70 - cb - 9) / 2 ^ (cb - 9) + 1)
+compressed_ends cb v clusters low high compressed valid refers =
+    let sector = field v 9 (70 - cb - 9) in
+    let more = field v (70 - cb) (cb - 8) in
+    let offset = compressed_sector cb v high compressed valid in
+    let within : v % 512 < 512 = omega arith in
+    let byte : compressed_offset cb v % 512 ≡ v % 512 = omega (arith, offset) in
+    let end : compressed_offset cb v + compressed_length cb v - 1 ≡ 512 * (sector + more) + 511 = omega (arith, offset, byte, within) in
+    let first : compressed_offset cb v / 2 ^ cb ≡ sector / 2 ^ (cb - 9) = rw offset (sector_cluster cb sector (v % 512) low within) in
+    let last : (compressed_offset cb v + compressed_length cb v - 1) / 2 ^ cb ≡ (sector + more) / 2 ^ (cb - 9) = rw end (sector_cluster cb (sector + more) 511 low (omega arith)) in
+    grind (arith, nat_tests, compressed, refers, first, last)
+
+-- the cluster that a standard entry refers to
+pub standard_ends : (cb v : ℕ) (clusters : ClustersToFreeEntry) → 9 ≤ cb → is_compressed v ≡ false → l2_fault cb v ≡ None
+    → allocation (geometry cb false) v ≡ Some clusters
+    → (clusters.first.0 ≡ field v 9 47 / 2 ^ (cb - 9)) × (clusters.count.0 ≡ 1)
+standard_ends cb v clusters low standard valid refers =
+    let sum : offset_field v ≡ 512 * field v 9 47 + 0 = omega arith in
+    let first : offset_field v / 2 ^ cb ≡ field v 9 47 / 2 ^ (cb - 9) = rw sum (sector_cluster cb (field v 9 47) 0 low (omega arith)) in
+    let last = one_cluster cb (offset_field v) (standard_aligned cb v standard valid) in
+    grind (arith, nat_tests, standard, refers, first, last)
+
+-- an entry that refers to one cluster uses that
+single_use : (cb v first : ℕ) (clusters : ClustersToFreeEntry) → allocation (geometry cb false) v ≡ Some clusters → clusters.first.0 ≡ first → clusters.count.0 ≡ 1
+    → entry_uses (geometry cb false) v ≡ used_clusters Guest (record { 0 = first }) 1 ∷ []
+single_use cb v first clusters refers at one = grind (arith, nat_tests, refers, at, one)
+
+-- one that refers to none uses none
+no_use : (cb v : ℕ) → is_some (allocation (geometry cb false) v) ≡ false → entry_uses (geometry cb false) v ≡ []
+no_use cb v none = grind (arith, nat_tests, none)
+
+-- so a use of its one cluster is counted, if it refers to any
+pub single_counted : (cb v first last : ℕ) (used : Bool) (old new : TallyState) → first ≡ last → used ≡ is_some (allocation (geometry cb false) v)
+    → IfSome (allocation (geometry cb false) v) (λ clusters. (clusters.first.0 ≡ first) × (clusters.count.0 ≡ last - first + 1))
+    → (IsTrue used → CountsMore (used_clusters Guest (record { 0 = first }) 1 ∷ []) old new) → (used ≡ false → new ≡ old)
+    → CountsMore (entry_uses (geometry cb false) v) old new
+single_counted cb v first last used old new single refers bounds counts same = by_clusters (allocation (geometry cb false) v) refl
+  where
+    by_clusters : (found : Option ClustersToFreeEntry) → allocation (geometry cb false) v ≡ found → CountsMore (entry_uses (geometry cb false) v) old new
+    by_clusters None none =
+        let unused : used ≡ false = refers ∙ rw none refl in
+        rw (no_use cb v (rw none refl), same unused) (record { first = refl; end = le_refl old.end; cells = λ c from before. refl })
+    by_clusters (Some clusters) some =
+        let ends : (clusters.first.0 ≡ first) × (clusters.count.0 ≡ last - first + 1) = rw some at bounds in
+        let one : clusters.count.0 ≡ 1 = omega (arith, ends.1, single) in
+        let is_used : used ≡ true = refers ∙ rw some refl in
+        rw (single_use cb v first clusters some ends.0 one) (counts is_used)
 
 -- the entry 0 uses none
 pub unallocated_uses : (g : Geometry) → g.external_data_file ≡ false → entry_uses g 0 ≡ []

@@ -54,6 +54,11 @@ l2_flag header reftable image guest v = elim (flagged_cluster (geometry_of heade
       (data_counter header reftable image cluster) (is_copied v)
 ]
 
+-- an L2 entry has no wrong flag in an image that counters are of, of whatever guest cluster it is
+abbrev pub HasNoFlag : CountersState → ℕ → Type 0
+HasNoFlag counters v = (image : Image) (guest : ℕ) → IsKeptBlockOf counters.header image counters.block →
+    l2_flag counters.header counters.reftable image guest v ≡ None
+
 -- the wrong flags of L2 entries, from a guest cluster on
 abbrev pub l2_flags : HeaderRecord → List ℕ → Image → ℕ → List ℕ → List WrongFlag
 l2_flags header reftable image guest [] = []

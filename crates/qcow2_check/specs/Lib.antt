@@ -1,7 +1,10 @@
 pub mod Consistency
 pub mod Counters
+pub mod EntryCounts
 pub mod Findings
 pub mod Flags
+pub mod ImageEnd
 pub mod NamedTables
+pub mod Repair
 pub mod Tally
 pub mod Uses

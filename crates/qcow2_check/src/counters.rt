@@ -1,13 +1,14 @@
 //! What an image's own counters say of its clusters.
 
-ghost use Rattle.std.specs.Prelude.{◌≡◌, Ok, Some, None, IfOk, IfSome, IsOkUnless, IsSomeAnd, MatchResult, slice_index};
+ghost use Rattle.std.specs.Prelude.{◌≡◌, ℕ, ◌+◌, ◌/◌, ◌<◌, ◌≤◌, Ok, Some, None, IfOk, IfSome, IsOkUnless, IsSomeAnd, IsTrue, MatchResult, length, slice_index};
+ghost use Rattle.qcow2_base.specs.Format.{max_file_length, most_entries_in_memory};
 ghost use Rattle.qcow2_base.specs.Storage.{OnImage};
 ghost use Rattle.qcow2_base.specs.declared.fault.Fault.TheVariants.{TablePlace};
 ghost use Rattle.qcow2_metadata.specs.Header.{geometry_of};
 ghost use Rattle.qcow2_metadata.specs.Placed.{RefusesPlace, numbers_at, place_fault};
 ghost use Rattle.qcow2_metadata.specs.Refblock.{block_geometry_of, block_layout};
 ghost use Rattle.qcow2_metadata.specs.Results.{Reads};
-ghost use Rattle.qcow2_check.specs.Counters.{IsKeptBlockOf, IsReftableFault, IsSameButBlock, block_place_fault, blocks_fault, numbers_of_kept};
+ghost use Rattle.qcow2_check.specs.Counters.{IsKeptBlockOf, IsReftableFault, block_of_cluster, IsSameButBlock, block_place_fault, blocks_fault, counters_each, numbers_of_kept};
 ghost use Rattle.qcow2_check.specs.NamedTables.{reftable_cluster, reftable_layout};
 
 use crate::named_tables::{load_reftable, named_block};
@@ -23,13 +24,16 @@ pub struct Counters<'a> {
     header: &'a Header,
     reftable: RefTable,
     block: Option<RefBlock>,
+    // The index of the refcount table entry that names the block.
+    kept_index: usize,
 }
 
 impl<'a> Model for Counters<'a> {
-    ghost use Rattle.std.specs.Prelude.{◌≡◌, None, IfSome};
+    ghost use Rattle.std.specs.Prelude.{◌≡◌, None, Some, IfSome, IsSomeAnd, slice_index};
     ghost use Rattle.qcow2_metadata.specs.Header.{geometry_of};
     ghost use Rattle.qcow2_metadata.specs.Refblock.{block_geometry_of};
     ghost use Rattle.qcow2_check.specs.Counters.{CountersState, blocks_fault};
+    ghost use Rattle.qcow2_check.specs.NamedTables.{named_block};
 
     ghost Value = { CountersState };
 
@@ -41,7 +45,9 @@ impl<'a> Model for Counters<'a> {
 
     ghost invariant = { λ c. (c.reftable.geometry ≡ geometry_of c.header.now)
         × (blocks_fault c.header.now c.reftable.numbers ≡ None)
-        × IfSome c.block (λ block. block.geometry ≡ block_geometry_of c.header.now) };
+        × IfSome c.block (λ block. (block.geometry ≡ block_geometry_of c.header.now)
+        × IsSomeAnd block.cluster (λ place. named_block c.header.now.v2.cluster_bits
+        (slice_index c.reftable.numbers c.kept_index) ≡ Some place)) };
 }
 
 // Why the block that a refcount table entry names can't lie there.
@@ -107,9 +113,52 @@ fn keep_block<S: Storage>(
     Ok(())
 }
 
+// Whether that many counters of a block from an index on are all 1. Looks at each, so that several are
+// compared at once.
+#[inline(always)]
+fn are_one(block: &RefBlock, index: usize, count: usize) -> bool
+    requires { index + count ≤ length block.now.numbers }
+    ensures { IsTrue result → (k : ℕ) → k < count → slice_index block.now.numbers (index + k) ≡ 1 }
+{
+    prove!(index <= block.entries());
+    let mut are_one = true;
+    for k in 0..count {
+        are_one &= block.get(index + k) == 1;
+    }
+    are_one
+}
+
+// Where the clusters end that the block of a refcount table entry counts, by the greatest end.
+#[tactic(auto, using(crate::proofs::CountersLemmas::after_end, crate::proofs::CountersLemmas::end_fits))]
+fn end_of_block(header: &Header, index: usize) -> u64
+    requires { index < most_entries_in_memory }
+    ensures after { (c : ℕ) → result ≤ c → c < max_file_length → index < c / counters_each header.now }
+    ensures fits { result ≤ max_file_length }
+{
+    let blocks = MAX_FILE_LENGTH >> header.rb_bits();
+    (index as u64 + 1).min(blocks) << header.rb_bits()
+}
+
+/// Where the clusters end that blocks count which a refcount table names.
+pub(crate) fn counted_end(header: &Header, reftable: &RefTable) -> u64
+    requires { reftable.now.geometry ≡ geometry_of header.now }
+    ensures none { (c : ℕ) → result ≤ c → c < max_file_length →
+        block_of_cluster header.now reftable.now.numbers c ≡ None }
+    ensures fits { result ≤ max_file_length }
+{
+    let mut end = 0;
+    for index in 0..reftable.entries() {
+        if named_block(reftable, index).is_some() {
+            end = end_of_block(header, index);
+        }
+    }
+    end
+}
+
 impl<'a> Counters<'a> {
-    ghost use Rattle.std.specs.Prelude.{◌≡◌, ℕ, ◌<◌, ◌≤◌, None, Some, IfOk, IfSome, IsSomeAnd, is_some};
+    ghost use Rattle.std.specs.Prelude.{◌≡◌, ℕ, ◌+◌, ◌<◌, ◌≤◌, None, Some, IfOk, IfSome, IsSomeAnd, IsTrue, is_some};
     ghost use Rattle.qcow2_base.specs.Format.{max_file_length};
+    ghost use Rattle.qcow2_base.specs.Storage.{Image};
     ghost use Rattle.qcow2_check.specs.Counters.{block_of_cluster, blocks_fault, counter_of, placed_reftable};
 
     /// A reader of the counters of an image with this header. Reads the refcount table, and returns its fault
@@ -134,6 +183,7 @@ impl<'a> Counters<'a> {
             header,
             reftable,
             block: None,
+            kept_index: 0,
         })
     }
 
@@ -158,8 +208,37 @@ impl<'a> Counters<'a> {
             block.now.geometry ≡ block_geometry_of self.now.header) }
     {
         let block = self.block.as_ref()?;
-        let place = self.block_of(cluster)?;
-        (block.get_cluster() == Some(place)).then_some(block)
+        (cluster.rt_index(self.header.rb_bits()) == self.kept_index).then_some(block)
+    }
+
+    /// Whether the counter of a cluster is in the block that is kept, and 1. Reads a counter there in any
+    /// case, and has no branch that depends on the cluster.
+    #[inline(always)]
+    #[tactic(auto, using(crate::proofs::CountersLemmas::kept_counter))]
+    pub(crate) fn is_kept_sole(&self, cluster: HostCluster) -> bool
+        ensures { IsTrue result → (image : Image) → IsKeptBlockOf self.now.header image self.now.block →
+            counter_of self.now.header self.now.reftable image cluster.0 ≡ 1 }
+    {
+        let Some(block) = &self.block else {
+            return false;
+        };
+        let (table_index, index) = cluster.rt_rb_indices(self.header.rb_bits());
+        prove!(index < block.entries());
+        (table_index == self.kept_index) & (block.get(index) == 1)
+    }
+
+    /// Whether the counters of that many clusters from one on are all in the block that is kept, and 1.
+    #[inline(always)]
+    pub(crate) fn are_kept_sole(&self, first: HostCluster, count: usize) -> bool
+        ensures { IsTrue result → (image : Image) → IsKeptBlockOf self.now.header image self.now.block →
+            (k : ℕ) → k < count → counter_of self.now.header self.now.reftable image (first.0 + k) ≡ 1 }
+    {
+        let Some(block) = self.kept_for(first) else {
+            return false;
+        };
+        let index = first.rb_index(self.header.rb_bits());
+        prove!(index < block.entries());
+        block.entries() - index >= count && are_one(block, index, count)
     }
 
     /// Whether the refcount table names a block for a cluster.
@@ -186,15 +265,31 @@ impl<'a> Counters<'a> {
         cluster.0 - index as u64 + self.header.rb_entries() as u64
     }
 
-    /// How many clusters the blocks count, up to the last of the refcount table.
-    pub(crate) fn counted(&self) -> u64 {
-        let mut counted = 0;
-        for index in 0..self.reftable.entries() {
-            if named_block(&self.reftable, index).is_some() {
-                counted = (index as u64 + 1) << self.header.rb_bits();
-            }
-        }
-        counted
+    /// The first of the clusters that have their counters in one block with this one's, if there is one.
+    #[tactic(auto, using(crate::proofs::CountersLemmas::block_before))]
+    pub(crate) fn block_start(&self, cluster: HostCluster) -> u64
+        ensures before { result ≤ cluster.0 }
+        ensures same { (c : ℕ) → result ≤ c → c ≤ cluster.0 →
+            block_of_cluster self.now.header self.now.reftable c
+            ≡ block_of_cluster self.now.header self.now.reftable cluster.0 }
+    {
+        cluster.0 - cluster.rb_index(self.header.rb_bits()) as u64
+    }
+
+    /// The header of the image.
+    #[inline]
+    pub(crate) fn header(&self) -> &'a Header
+        ensures { result.now ≡ self.now.header }
+    {
+        self.header
+    }
+
+    /// Where the clusters end that blocks count.
+    pub(crate) fn counted(&self) -> u64
+        ensures { (c : ℕ) → result ≤ c → c < max_file_length →
+            block_of_cluster self.now.header self.now.reftable c ≡ None }
+    {
+        counted_end(self.header, &self.reftable)
     }
 
     /// The refcount table.
@@ -205,6 +300,15 @@ impl<'a> Counters<'a> {
         ensures placed { blocks_fault self.now.header self.now.reftable ≡ None }
     {
         &self.reftable
+    }
+
+    /// The refcount table, without its reader. The memory of the block is given back.
+    pub(crate) fn into_reftable(self) -> RefTable
+        ensures numbers { result.numbers ≡ self.entry.reftable }
+        ensures geometry { result.geometry ≡ geometry_of self.entry.header }
+        ensures placed { blocks_fault self.entry.header self.entry.reftable ≡ None }
+    {
+        self.reftable
     }
 
     /// The counter of a cluster, which is 0 where the refcount table names no block for it or ends before it.
@@ -241,8 +345,9 @@ impl<'a> Counters<'a> {
         };
         let alloc = self.reftable.allocator();
         keep_block(&mut self.block, image, self.header, alloc, place)?;
+        let (table_index, index) = cluster.rt_rb_indices(self.header.rb_bits());
+        self.kept_index = table_index;
         let block = self.block.as_ref().unwrap();
-        let index = cluster.rb_index(self.header.rb_bits());
         prove!(index < block.entries());
         Ok(block.get(index))
     }

@@ -14,49 +14,14 @@ use crate::counters::Counters;
 use crate::flags::Flags;
 use crate::named_tables::load_l1_table;
 use crate::tally::{Tally, count_of, is_shared};
-use crate::uses::{count_image, most_uses};
+use crate::windows::{Windows, count_window};
 use qcow2_base::{Fault, HostCluster, MAX_FILE_LENGTH, Storage};
 use qcow2_metadata::{Header, L1Table, RefBlock, RefTable, Table};
 use std::alloc::Global;
 use std::marker::Model;
 
-// The fewest cells that lie one after another.
-const FEW_CELLS: usize = 4096;
-
-// How many bytes they take at most. Narrow ones are enough for 1 TiB in clusters of 64 KiB, and its tables.
-const MOST_BYTES: usize = 68 << 20;
-
 // How many clusters are compared together.
 const TOGETHER: usize = 64;
-
-// How many other cells there are at most.
-const MOST_SPARSE: usize = 1 << 20;
-
-// How many uses of a cluster fit no narrow cell.
-const MANY_USES: u64 = 1 << 29;
-
-// Clusters whose uses are counted at once: `dense` of them from the first on, whose cells lie one after
-// another, and at most `most` others. The cells are wide or narrow.
-#[derive(Clone, Copy)]
-struct Window {
-    first: u64,
-    dense: usize,
-    most: usize,
-    is_wide: bool,
-}
-
-// How many cells lie one after another in a window, by how many clusters from it on the blocks count.
-fn dense_cells(counted: u64, is_wide: bool) -> usize
-    ensures some { 0 < result }
-    ensures few { result ≤ 2 ^ 25 }
-{
-    let most = if is_wide {
-        MOST_BYTES / 8
-    } else {
-        MOST_BYTES / 4
-    };
-    counted.clamp(FEW_CELLS as u64, most as u64) as usize
-}
 
 /// What is wrong with a cluster.
 #[derive(Clone, Copy, Debug, PartialEq, Eq)]
@@ -90,11 +55,7 @@ pub struct Findings<'a> {
     counters: Counters<'a>,
     tally: Option<Tally>,
     position: u64,
-    // How many clusters the refcount blocks count, up to the last.
-    counted: u64,
-    is_wide: bool,
-    // Whether some cells didn't lie one after another for a window of few clusters that have uses.
-    is_sparse: bool,
+    windows: Windows,
 }
 
 impl<'a> Model for Findings<'a> {
@@ -119,38 +80,6 @@ impl<'a> Model for Findings<'a> {
         × (f.position ≤ max_file_length)
         × IfSome f.tally (λ tally. (tally.first ≤ f.position) × (f.position ≤ tally.end)
         × (tally.end ≤ max_file_length)) };
-}
-
-// Counts all uses of clusters from one on, in a new tally.
-#[tactic(auto, using(crate::proofs::FindingsLemmas::counts_all))]
-fn count_window<S: Storage>(
-    image: &mut S,
-    header: &Header,
-    l1_table: &L1Table,
-    reftable: &RefTable,
-    window: Window,
-) -> Result<Tally, Fault>
-    requires l1_table { l1_table.now.geometry ≡ geometry_of header.now }
-    requires reftable { reftable.now.geometry ≡ geometry_of header.now }
-    requires some { 0 < window.dense }
-    requires fits { window.first + window.dense ≤ max_file_length }
-    ensures reads { Reads (λ _. tt) result (all_load (geometry_of header.now) l1_table.now.numbers)
-        IsEntryFault (S.state image.old) (S.state image.new) }
-    ensures counted { IfOk result (λ tally. OnImage (S.state image.old) (λ bytes. CountsAll
-        (image_tables header.now l1_table.now.numbers reftable.now.numbers) bytes tally)) }
-    ensures first { IfOk result (λ tally. (tally.first ≡ window.first) × (window.first < tally.end)
-        × (tally.end ≤ max_file_length)) }
-{
-    let Window {
-        first,
-        dense,
-        most,
-        is_wide,
-    } = window;
-    let mut tally = Tally::new(l1_table.allocator(), first, dense, most, is_wide)?;
-    count_image(&mut tally, image, header, l1_table, reftable)?;
-    prove!(first < tally.end());
-    Ok(tally)
 }
 
 // The counters of a block from an index on.
@@ -216,10 +145,10 @@ fn is_right(counter: u64, cell: u64) -> bool
 }
 
 impl<'a> Findings<'a> {
-    ghost use Rattle.std.specs.Prelude.{◌≡◌, ◌<◌, ◌≤◌, Ok, Err, None, IfErr, IfOk, IfSome, IsSome, IsSomeAnd, IsTrue, OnOk, ◌+◌, ◌↔◌};
+    ghost use Rattle.std.specs.Prelude.{◌≡◌, ◌<◌, ◌≤◌, Ok, Err, None, IfErr, IfOk, IfSome, IsSome, IsSomeAnd, IsTrue, OnOk, is_some, ◌+◌, ◌↔◌};
     ghost use Rattle.qcow2_base.specs.Format.{max_file_length};
     ghost use Rattle.qcow2_base.specs.Storage.{Image, OnImage, OnlyReads};
-    ghost use Rattle.qcow2_check.specs.Counters.{counter_of};
+    ghost use Rattle.qcow2_check.specs.Counters.{block_of_cluster, blocks_fault, counter_of};
     ghost use Rattle.qcow2_base.specs.declared.fault.Fault.TheVariants.{Uncounted};
     ghost use Rattle.qcow2_metadata.specs.Header.{uncounted_part};
     ghost use Rattle.qcow2_check.specs.Findings.{AreRight, GoesPast, IsCheckFault, IsFindingsOf, IsLaterFault, MovesFindings, PassesFinding, TakesFinding, checked_tables, finding_at, findings_left, is_wrong, tables_of};
@@ -249,24 +178,15 @@ impl<'a> Findings<'a> {
         let l1_table = load_l1_table(alloc, image, header)?;
         let counters = Counters::new(alloc, image, header)?;
         let reftable = counters.reftable();
-        let counted = counters.counted();
-        let is_wide = most_uses(header, &l1_table, reftable) >= MANY_USES;
-        let window = Window {
-            first: 0,
-            dense: dense_cells(counted, is_wide),
-            most: 0,
-            is_wide,
-        };
-        let tally = count_window(image, header, &l1_table, reftable, window)?;
+        let windows = Windows::new(header, &l1_table, reftable);
+        let tally = count_window(image, header, &l1_table, reftable, windows.at(0))?;
         Ok(Findings {
             header,
             l1_table,
             counters,
             tally: Some(tally),
             position: 0,
-            counted,
-            is_wide,
-            is_sparse: false,
+            windows,
         })
     }
 
@@ -307,6 +227,33 @@ impl<'a> Findings<'a> {
         ensures reader { (image : Image) → IsFindingsOf image self.entry → IsFlagsOf image result }
     {
         Flags::new(self.header, self.l1_table, self.counters)
+    }
+
+    /// The L1 table and the refcount table of the same image. All other memory is given back.
+    pub(crate) fn into_tables(self) -> (L1Table, RefTable)
+        ensures numbers { (result.0.numbers ≡ self.entry.l1)
+            × (result.1.numbers ≡ self.entry.counters.reftable) }
+        ensures geometry { (result.0.geometry ≡ geometry_of self.entry.header)
+            × (result.1.geometry ≡ geometry_of self.entry.header) }
+        ensures placed { blocks_fault self.entry.header self.entry.counters.reftable ≡ None }
+    {
+        (self.l1_table, self.counters.into_reftable())
+    }
+
+    /// The header of the image.
+    #[inline]
+    pub(crate) fn header(&self) -> &Header
+        ensures { result.now ≡ self.now.header }
+    {
+        self.header
+    }
+
+    /// Whether the refcount table names a block for a cluster.
+    pub(crate) fn has_block(&self, cluster: HostCluster) -> bool
+        ensures { let reader = self.now in
+            result ≡ is_some (block_of_cluster reader.header reader.counters.reftable cluster.0) }
+    {
+        self.counters.has_block(cluster)
     }
 
     // What is found at a cluster that is counted.
@@ -400,28 +347,6 @@ impl<'a> Findings<'a> {
         self.pass_counted(image)
     }
 
-    // The window that begins with the reader's cluster.
-    fn next_window(&self) -> Window
-        requires { self.now.position < max_file_length }
-        ensures first { result.first ≡ self.now.position }
-        ensures some { 0 < result.dense }
-        ensures fits { self.now.position + result.dense ≤ max_file_length }
-    {
-        let left = MAX_FILE_LENGTH - self.position;
-        let (dense, most) = if self.is_sparse {
-            (FEW_CELLS, MOST_SPARSE)
-        } else {
-            let counted = self.counted.saturating_sub(self.position);
-            (dense_cells(counted, self.is_wide), 0)
-        };
-        Window {
-            first: self.position,
-            dense: left.min(dense as u64) as usize,
-            most,
-            is_wide: self.is_wide,
-        }
-    }
-
     // Whether the uses of the reader's cluster are counted.
     fn is_counted(&self) -> bool
         ensures { IsTrue result ↔ IsSomeAnd self.now.tally (λ tally. self.now.position < tally.end) }
@@ -446,11 +371,11 @@ impl<'a> Findings<'a> {
             return Ok(());
         }
         if let Some(tally) = &self.tally {
-            self.is_sparse |= tally.used() < MOST_SPARSE;
+            self.windows.note(tally);
         }
         // Its memory is given back before the next window takes as much.
         self.tally = None;
-        let window = self.next_window();
+        let window = self.windows.at(self.position);
         let reftable = self.counters.reftable();
         let tally = count_window(image, self.header, &self.l1_table, reftable, window)?;
         self.tally = Some(tally);

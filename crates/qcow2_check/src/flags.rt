@@ -1,20 +1,21 @@
 //! Entries whose copied flag isn't what the counter of their cluster says.
 
-ghost use Rattle.std.specs.Prelude.{◌≡◌, ℕ, ◌+◌, ◌*◌, ◌<◌, ◌≤◌, false, IsTrue, IfErr, IfOk, IfSome, Ok, length, slice_index};
+ghost use Rattle.std.specs.Prelude.{◌≡◌, ℕ, ◌+◌, ◌*◌, ◌/◌, ◌^◌, ◌<◌, ◌≤◌, false, true, IsTrue, IfErr, IfOk, IfSome, Ok, length, slice_index};
 ghost use Rattle.qcow2_base.specs.Format.{most_l1_entries};
 ghost use Rattle.qcow2_base.specs.Storage.{OnImage, OnlyReads};
 ghost use Rattle.qcow2_base.specs.Types.{IsClusterBits};
+ghost use Rattle.qcow2_metadata.specs.Entries.{is_copied, offset_field};
 ghost use Rattle.qcow2_metadata.specs.Header.{geometry, geometry_of};
 ghost use Rattle.qcow2_metadata.specs.Results.{IsFromOutside, Reads};
 ghost use Rattle.qcow2_metadata.specs.Table.{l2_entries};
 ghost use Rattle.qcow2_check.specs.Counters.{IsKeptBlockOf, IsSameButBlock};
-ghost use Rattle.qcow2_check.specs.Flags.{TakesFlag, data_counter, flagged_cluster, l2_flag, l2_flags_from, wrong_flag};
+ghost use Rattle.qcow2_check.specs.Flags.{HasNoFlag, TakesFlag, data_counter, flagged_cluster, l2_flag, l2_flags_from, wrong_flag};
 
 use crate::counters::Counters;
 use crate::named_tables::{load_l2_table, named_cluster};
-use crate::uses::{TOGETHER, are_unallocated};
-use qcow2_base::{Fault, GuestCluster, GuestOffset, HostCluster, Storage};
-use qcow2_metadata::{Header, L1Table, L2Entry, L2Table, Table};
+use crate::uses::{TOGETHER, are_unallocated, entry_at};
+use qcow2_base::{Fault, GuestCluster, GuestOffset, HostCluster, HostOffset, Storage, field};
+use qcow2_metadata::{Header, L1Table, L2Entry, L2Table, Table, TableEntry};
 use std::marker::Model;
 
 /// Which entry a copied flag is in.
@@ -101,9 +102,9 @@ fn wrong_flag(
     })
 }
 
-// The cluster that an L2 entry with a flag names, if it names one.
+/// The cluster that an L2 entry with a flag names, if it names one.
 #[inline]
-fn flagged_cluster(
+pub(crate) fn flagged_cluster(
     entry: L2Entry,
     cluster_bits: u32,
     external_data_file: bool,
@@ -173,19 +174,109 @@ fn entry_flag<S: Storage>(
     Ok(wrong_flag(place, cluster, counter, entry.is_copied()))
 }
 
-// Whether a group of entries that are looked at together begins at an index, and all of them are the entry 0.
-#[inline]
-fn starts_unallocated(table: &L2Table, index: usize) -> bool
-    requires { index < length table.now.numbers }
-    ensures { IsTrue result → (index + 16 ≤ length table.now.numbers)
-        × ((k : ℕ) → k < 16 → slice_index table.now.numbers (index + k) ≡ 0) }
+// The cluster at the offset of a standard entry.
+#[inline(always)]
+fn cluster_at(entry: L2Entry, cluster_bits: u32) -> HostCluster
+    requires { IsClusterBits cluster_bits }
+    ensures cluster { result.0 ≡ offset_field entry / 2 ^ cluster_bits }
+    ensures fits { result.0 < 2 ^ 56 }
 {
-    index % TOGETHER == 0 && table.entries() - index >= TOGETHER && are_unallocated(table, index)
+    HostOffset(field(entry.to_plain(), 9, 47) * 512).cluster(cluster_bits)
+}
+
+// Whether the flag of an entry is right by the block that is kept, or the entry has none.
+#[inline(always)]
+#[tactic(auto, using(crate::proofs::FlagsLemmas::sole_is_right, crate::proofs::FlagsLemmas::other_is_right))]
+fn is_right(counters: &Counters<'_>, entry: L2Entry, cluster_bits: u32) -> bool
+    requires bits { IsClusterBits cluster_bits }
+    requires same { cluster_bits ≡ counters.now.header.v2.cluster_bits }
+    ensures { IsTrue result → (geometry_of counters.now.header).external_data_file ≡ false →
+        HasNoFlag counters.now entry }
+{
+    let has_none = entry.is_compressed() | (field(entry.to_plain(), 9, 47) == 0);
+    let is_sole = counters.is_kept_sole(cluster_at(entry, cluster_bits));
+    has_none | (entry.is_copied() & is_sole)
+}
+
+// Whether this holds of the entries from an index on, as many as are looked at together. Looks at each, since
+// which of them have a flag can't be guessed.
+#[inline(always)]
+fn are_right(counters: &Counters<'_>, table: &L2Table, first: usize) -> bool
+    requires table { table.now.geometry ≡ geometry_of counters.now.header }
+    requires group { first + 16 ≤ length table.now.numbers }
+    ensures { IsTrue result → (geometry_of counters.now.header).external_data_file ≡ false →
+        (k : ℕ) → k < 16 → HasNoFlag counters.now (slice_index table.now.numbers (first + k)) }
+{
+    prove!(first < table.entries());
+    let cluster_bits = table.cluster_bits();
+    let mut right = true;
+    for k in 0..TOGETHER {
+        right &= is_right(counters, entry_at(table, first + k), cluster_bits);
+    }
+    right
+}
+
+// Whether the entries from an index on, as many as are looked at together, are copied ones with the offsets
+// of clusters that follow one another, from this cluster on.
+#[inline(always)]
+fn are_copied_from(table: &L2Table, first: usize, start: HostCluster) -> bool
+    requires group { first + 16 ≤ length table.now.numbers }
+    requires start { start.0 < 2 ^ 56 }
+    ensures { IsTrue result → (k : ℕ) → k < 16 → let v = slice_index table.now.numbers (first + k) in
+        (is_copied v ≡ true) × (offset_field v / 2 ^ table.now.geometry.cluster_bits ≡ start.0 + k) }
+{
+    prove!(first < table.entries());
+    let cluster_bits = table.cluster_bits();
+    let mut in_a_row = true;
+    for k in 0..TOGETHER {
+        let entry = entry_at(table, first + k);
+        let is_next = cluster_at(entry, cluster_bits).0 == start.0 + k as u64;
+        in_a_row &= entry.is_copied() & is_next;
+    }
+    in_a_row
+}
+
+// The same as `are_right`, where the entries are data in a row.
+#[inline(always)]
+#[tactic(auto, using(crate::proofs::FlagsLemmas::sole_is_right))]
+fn are_right_in_a_row(counters: &Counters<'_>, table: &L2Table, first: usize) -> bool
+    requires table { table.now.geometry ≡ geometry_of counters.now.header }
+    requires group { first + 16 ≤ length table.now.numbers }
+    ensures { IsTrue result → (geometry_of counters.now.header).external_data_file ≡ false →
+        (k : ℕ) → k < 16 → HasNoFlag counters.now (slice_index table.now.numbers (first + k)) }
+{
+    prove!(first < table.entries());
+    let cluster_bits = table.cluster_bits();
+    let start = cluster_at(entry_at(table, first), cluster_bits);
+    let last = cluster_at(entry_at(table, first + 15), cluster_bits);
+    // Mostly the last of them shows whether they are.
+    last.0 == start.0 + 15
+        && are_copied_from(table, first, start)
+        && counters.are_kept_sole(start, TOGETHER)
+}
+
+// Whether a group of entries that are looked at together begins at an index, and no flag of theirs is wrong.
+// Perhaps not where counters of theirs aren't in the block that is kept.
+#[inline]
+#[tactic(auto, using(crate::proofs::FlagsLemmas::nothing_has_no_flag))]
+fn starts_right(counters: &Counters<'_>, table: &L2Table, index: usize) -> bool
+    requires table { table.now.geometry ≡ geometry_of counters.now.header }
+    requires index { index < length table.now.numbers }
+    ensures { IsTrue result → (index + 16 ≤ length table.now.numbers)
+        × ((k : ℕ) → k < 16 → HasNoFlag counters.now (slice_index table.now.numbers (index + k))) }
+{
+    if index % TOGETHER != 0 || table.entries() - index < TOGETHER {
+        return false;
+    }
+    if are_unallocated(table, index) {
+        return true;
+    }
+    !table.external_data_file()
+        && (are_right_in_a_row(counters, table, index) || are_right(counters, table, index))
 }
 
 // The next wrong flag in the L2 table of an L1 entry, from the entry at a position on. The position comes to
 // be that of the entry after it, or the table's end.
-#[tactic(auto, using(crate::proofs::FlagsLemmas::no_flags))]
 fn next_in_table<S: Storage>(
     counters: &mut Counters<'_>,
     image: &mut S,
@@ -209,7 +300,7 @@ fn next_in_table<S: Storage>(
 {
     let entries = table.entries();
     while *position < entries {
-        if starts_unallocated(table, *position) {
+        if starts_right(counters, table, *position) {
             *position += TOGETHER;
         } else {
             let found = entry_flag(counters, image, table, l1_index, *position)?;
@@ -273,6 +364,13 @@ impl<'a> Flags<'a> {
             }
         }
         Ok(None)
+    }
+
+    /// The reader's counters. The memory of its tables is given back.
+    pub fn into_counters(self) -> Counters<'a>
+        ensures { result ≡ self.entry.counters }
+    {
+        self.counters
     }
 
     // Goes on to the table of the reader's L1 entry, or within it.

@@ -43,8 +43,18 @@ impl UseKind {
 fn with_use(cell: u64, kind: UseKind) -> Option<u64>
     ensures { IfSome result (λ more. more ≡ with_use kind cell) }
 {
+    with_use_if(cell, kind, true)
+}
+
+// The same if the cluster is used, and else the cell as it is. Has no branch.
+#[inline(always)]
+fn with_use_if(cell: u64, kind: UseKind, is_used: bool) -> Option<u64>
+    ensures used { IfSome result (λ more. IsTrue is_used → more ≡ with_use kind cell) }
+    ensures unused { IfSome result (λ more. is_used ≡ false → more ≡ cell) }
+{
     let mark = kind.mark();
-    cell.checked_add(if cell / mark % 2 == 1 { 8 } else { 8 + mark })
+    let more = if cell / mark % 2 == 1 { 8 } else { 8 + mark };
+    cell.checked_add(if is_used { more } else { 0 })
 }
 
 /// How many uses each cluster of a part of an image has. Clauses see it as cells, which count them.
@@ -182,17 +192,25 @@ impl Tally {
         }
     }
 
-    /// Counts a use of a cluster as `add` does, unless its cell is none of the dense ones or would count too
-    /// many. Returns whether the use is counted; else nothing changes.
+    /// Counts a use of a cluster as `add` does if the cluster is used, unless its cell is none of the dense
+    /// ones or would count too many. Returns whether all is done; else nothing changes. Has no branch that
+    /// depends on whether the cluster is used.
     #[inline(always)]
-    pub(crate) fn try_add(&mut self, cluster: u64, kind: UseKind) -> bool
-        ensures counted { IsTrue result → CountsMore
+    pub(crate) fn try_add_if(&mut self, cluster: u64, kind: UseKind, is_used: bool) -> bool
+        ensures counted { IsTrue result → IsTrue is_used → CountsMore
             (used_clusters kind (record { 0 = cluster }) 1 ∷ []) self.old self.new }
+        ensures unused { is_used ≡ false → self.new ≡ self.old }
         ensures same { result ≡ false → self.new ≡ self.old }
         ensures within { result ≡ false → (self.old.first ≤ cluster) × (cluster < self.old.end) }
     {
-        cluster < self.first
-            || self.dense.add((cluster - self.first) as usize, kind)
+        let index = if is_used {
+            cluster.wrapping_sub(self.first)
+        } else {
+            0
+        };
+        self.dense.add_if(index as usize, kind, is_used)
+            || !is_used
+            || cluster < self.first
             || cluster >= self.end
     }
 
@@ -203,7 +221,7 @@ impl Tally {
         ensures counted { OnOk result (CountsMore
             (used_clusters kind (record { 0 = cluster }) 1 ∷ []) self.old self.new) }
     {
-        if self.try_add(cluster, kind) {
+        if self.try_add_if(cluster, kind, true) {
             return Ok(());
         }
         if cluster - self.first < self.dense.len() as u64 {

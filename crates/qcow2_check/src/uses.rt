@@ -1,6 +1,6 @@
 //! Counting what an image uses.
 
-ghost use Rattle.std.specs.Prelude.{◌≡◌, ℕ, ◌+◌, ◌*◌, ◌^◌, ◌<◌, ◌≤◌, [], ◌∷◌, ◌++◌, false, IsOkUnless, IsTrue, None, Ok, OnOk, Some, flat_map, length, option_map, option_to_list, slice_index};
+ghost use Rattle.std.specs.Prelude.{◌≡◌, ℕ, ◌+◌, ◌-◌, ◌*◌, ◌^◌, ◌<◌, ◌≤◌, [], ◌∷◌, ◌++◌, false, is_some, IfSome, IsOkUnless, IsTrue, None, Ok, OnOk, Some, flat_map, length, option_map, option_to_list, slice_index};
 ghost use Rattle.qcow2_base.specs.Storage.{OnImage};
 ghost use Rattle.qcow2_base.specs.declared.fault.Fault.TheVariants.{NoMemory};
 ghost use Rattle.qcow2_metadata.specs.Entries.L2Entry.{allocation, l2_fault};
@@ -14,7 +14,7 @@ ghost use Rattle.qcow2_check.specs.Uses.{all_load, block_uses, entry_uses, heade
 
 use crate::named_tables::{load_l2_table, named_block, named_cluster};
 use crate::tally::{Tally, UseKind};
-use qcow2_base::{ClusterCount, Fault, HostCluster, Storage};
+use qcow2_base::{ClusterCount, Fault, HostCluster, Storage, field};
 use qcow2_metadata::{Header, L1Table, L2Entry, L2Table, RefTable, Table, TableEntry};
 use std::alloc::Global;
 
@@ -55,24 +55,62 @@ fn count_entry(tally: &mut Tally, entry: L2Entry, cluster_bits: u32) -> Result<(
     }
 }
 
-// The same, unless the entry is compressed or its use can't be counted by `try_add`. Returns whether it is
-// counted; else nothing changes.
+// Whether an L2 entry refers to a cluster. Has no branch, since which entries do can't be guessed.
 #[inline(always)]
-#[tactic(auto, using(crate::proofs::UsesLemmas::standard_uses, crate::proofs::UsesLemmas::standard_without))]
-fn count_standard(tally: &mut Tally, entry: L2Entry, cluster_bits: u32) -> bool
+fn refers(entry: L2Entry) -> bool
+    ensures { (cb : ℕ) → result ≡ is_some (allocation (geometry cb false) entry) }
+{
+    entry.is_compressed() | (field(entry.to_plain(), 9, 47) != 0)
+}
+
+// The first and the last cluster that an L2 entry refers to, if it refers to any. Has no branch either.
+#[inline(always)]
+#[tactic(auto, using(crate::proofs::UsesLemmas::compressed_ends, crate::proofs::UsesLemmas::standard_ends))]
+fn cluster_bounds(entry: L2Entry, cluster_bits: u32) -> (u64, u64)
+    requires bits { IsClusterBits cluster_bits }
+    requires valid { l2_fault cluster_bits entry ≡ None }
+    ensures { IfSome (allocation (geometry cluster_bits false) entry) (λ clusters.
+        (clusters.first.0 ≡ result.0) × (clusters.count.0 ≡ result.1 - result.0 + 1)) }
+{
+    let number = entry.to_plain();
+    let offset_bits = 70 - cluster_bits;
+    let standard = field(number, 9, 47);
+    let compressed = field(number, 9, offset_bits - 9);
+    let more = field(number, offset_bits, cluster_bits - 8);
+    // In sectors of 512 bytes.
+    let (first, last) = if entry.is_compressed() {
+        (compressed, compressed + more)
+    } else {
+        (standard, standard)
+    };
+    (first >> (cluster_bits - 9), last >> (cluster_bits - 9))
+}
+
+// Counts the cluster that an L2 entry refers to, unless it refers to several or its use can't be counted by
+// `try_add_if`. Returns whether it is counted; else nothing changes.
+#[inline(always)]
+fn count_single(tally: &mut Tally, entry: L2Entry, cluster_bits: u32) -> bool
     requires bits { IsClusterBits cluster_bits }
     requires valid { l2_fault cluster_bits entry ≡ None }
     ensures counted { IsTrue result → CountsMore (entry_uses (geometry cluster_bits false) entry)
         tally.old tally.new }
     ensures same { result ≡ false → tally.new ≡ tally.old }
 {
-    if entry.is_compressed() {
+    let (first, last) = cluster_bounds(entry, cluster_bits);
+    if first != last {
         return false;
     }
-    match entry.cluster_offset(false) {
-        Some(offset) => tally.try_add(offset.cluster(cluster_bits).0, UseKind::Guest),
-        None => true,
-    }
+    tally.try_add_if(first, UseKind::Guest, refers(entry))
+}
+
+/// The entry at an index of a table that has it. So the built program tests no index here.
+#[inline(always)]
+pub(crate) fn entry_at(table: &L2Table, index: usize) -> L2Entry
+    requires { index < length table.now.numbers }
+    ensures number { result ≡ slice_index table.now.numbers index }
+    ensures valid { l2_fault table.now.geometry.cluster_bits result ≡ None }
+{
+    table.get_ref(index).unwrap().get()
 }
 
 /// Whether the entries from an index on, as many as are looked at together, are all the entry 0.
@@ -84,7 +122,7 @@ pub(crate) fn are_unallocated(table: &L2Table, first: usize) -> bool
     prove!(first < table.entries());
     let mut unallocated = true;
     for k in 0..TOGETHER {
-        unallocated &= table.get(first + k).to_plain() == 0;
+        unallocated &= entry_at(table, first + k).to_plain() == 0;
     }
     unallocated
 }
@@ -105,8 +143,8 @@ fn count_entries(tally: &mut Tally, table: &L2Table) -> Result<(), Fault>
         if index % TOGETHER == 0 && entries - index >= TOGETHER && are_unallocated(table, index) {
             index += TOGETHER;
         } else {
-            let entry = table.get(index);
-            if !count_standard(tally, entry, cluster_bits) {
+            let entry = entry_at(table, index);
+            if !count_single(tally, entry, cluster_bits) {
                 count_entry(tally, entry, cluster_bits)?;
             }
             index += 1;

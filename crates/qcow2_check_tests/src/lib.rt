@@ -13,4 +13,6 @@ mod flags;
 #[cfg(test)]
 mod refused_calls;
 #[cfg(test)]
+mod repair;
+#[cfg(test)]
 mod sample_image;

@@ -1,7 +1,7 @@
 //! A small image that is consistent, changes of it, and the calls that are tested, without their clauses.
 
 use qcow2_base::{Fault, HostCluster, MemStorage, Storage};
-use qcow2_check::{Counters, Finding, Findings, WrongFlag, is_consistent};
+use qcow2_check::{Counters, Finding, Findings, WrongFlag, is_consistent, repair_image};
 use qcow2_metadata::Header;
 use qcow2_testing::{image_with, put};
 use std::alloc::Global;
@@ -101,4 +101,11 @@ pub(crate) fn counters_of<S: Storage>(
 pub(crate) fn is_image_consistent<S: Storage>(alloc: Global, image: &mut S) -> Result<bool, Fault> {
     let header = Header::load(alloc, image, false)?;
     is_consistent(alloc, image, &header)
+}
+
+/// Repairs an image.
+pub(crate) fn repaired<S: Storage>(alloc: Global, image: &mut S) -> Result<(), Fault> {
+    let header = Header::load(alloc, image, false)?;
+    repair_image(alloc, image, header)?;
+    Ok(())
 }

@@ -4,7 +4,7 @@ ghost use Rattle.std.specs.Prelude.{◌≡◌, ◌↔◌, ℕ, ◌+◌, ◌<◌,
 ghost use Rattle.qcow2_check.specs.Tally.{IsPlain, with_use};
 ghost use Rattle.qcow2_check.specs.Tally.Cells.{kept_cells};
 
-use super::{UseKind, with_use};
+use super::{UseKind, with_use_if};
 use std::alloc::{AllocError, Global};
 
 // Whether a cell counts as many uses as the counter says, all of them by guest data.
@@ -79,12 +79,14 @@ impl Cells {
         }
     }
 
-    // Counts a use in a cell. Returns whether there is the cell and its number fits; else nothing changes.
+    // Counts a use in a cell if the cluster is used. Returns whether there is the cell and its number fits;
+    // else nothing changes.
     #[inline(always)]
-    pub(super) fn add(&mut self, index: usize, kind: UseKind) -> bool
-        ensures counted { IsTrue result → (index < length (kept_cells self.old))
+    pub(super) fn add_if(&mut self, index: usize, kind: UseKind, is_used: bool) -> bool
+        ensures counted { IsTrue result → IsTrue is_used → (index < length (kept_cells self.old))
             × (kept_cells self.new ≡ slice_set (kept_cells self.old) index
             (with_use kind (slice_index (kept_cells self.old) index))) }
+        ensures unused { is_used ≡ false → kept_cells self.new ≡ kept_cells self.old }
         ensures same { result ≡ false → kept_cells self.new ≡ kept_cells self.old }
         ensures count { length (kept_cells self.new) ≡ length (kept_cells self.old) }
     {
@@ -93,14 +95,14 @@ impl Cells {
         }
         match self {
             Cells::Narrow(list) => {
-                let more = with_use(u64::from(list[index]), kind);
+                let more = with_use_if(u64::from(list[index]), kind, is_used);
                 let Some(Ok(cell)) = more.map(u32::try_from) else {
                     return false;
                 };
                 list[index] = cell;
             }
             Cells::Wide(list) => {
-                let Some(cell) = with_use(list[index], kind) else {
+                let Some(cell) = with_use_if(list[index], kind, is_used) else {
                     return false;
                 };
                 list[index] = cell;

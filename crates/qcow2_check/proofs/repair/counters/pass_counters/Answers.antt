@@ -1,0 +1,13 @@
+use Rattle.std.proofs.Common.{◌/◌, ◌+◌, rules}
+use Rattle.std.proofs.lemmas.Result.{err_from_is_err_and}
+use Rattle.qcow2_check.proofs.RepairCountersLemmas.{passes-next}
+use Rattle.qcow2_check.specs.Tally.{cell_at}
+use Rattle.qcow2_check.proofs.repair.counters.pass_counters.Goals as goal
+
+pub loop-index-preserved : goal.loop-index-preserved
+loop-index-preserved c = record {
+  counters = passes-next c.args.pass (λ k. cell_at c.args.tally.now (c.args.part.first + k) / 8) c.args.part.from c.loop-index.index
+      c.args.block.now.numbers c.loop-index.block.numbers c.pass_counter.new.block.numbers (search rules) (search rules) c.loop-index.invariant.counters (search rules);
+  same = search rules;
+  modified = search rules;
+}

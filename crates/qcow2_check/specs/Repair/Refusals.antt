@@ -1,0 +1,41 @@
+-- Which findings does a repair refuse, and what are the tables of an image that none of them is refused of?
+use Rattle.std.specs.Prelude.{◌≡◌, ◌⊎◌, ℕ, ◌&&◌, nat_lt, if◌then◌else◌, is_some, List, [], ◌∷◌, Option, Some, None, Result, Ok}
+use Rattle.std.specs.Option.{option_or}
+use Rattle.qcow2_base.specs.Storage.{Image}
+use Rattle.qcow2_base.specs.declared.fault.Fault.{Fault}
+use Rattle.qcow2_base.specs.declared.fault.Fault.TheVariants.{CounterRange, Overlap}
+use Rattle.qcow2_metadata.specs.Header.{HeaderRecord}
+use Rattle.qcow2_metadata.specs.Refblock.{greatest_counter}
+use Rattle.qcow2_metadata.specs.Results.{and_then, unless_refused}
+use Rattle.qcow2_metadata.specs.Table.{IsEntryFault}
+use Rattle.qcow2_check.specs.Counters.{block_of_cluster}
+use Rattle.qcow2_check.specs.Findings.{IsCheckFault, checked_tables, image_findings}
+use Rattle.qcow2_check.specs.Uses.{ImageTables}
+use Rattle.qcow2_check.specs.declared.findings.Finding.{Finding}
+
+-- why what is found at a cluster can't be repaired: its uses exclude each other, or a block counts it and no counter there
+-- holds that many
+abbrev pub refusal_of : HeaderRecord → List ℕ → Finding → Option Fault
+refusal_of header reftable finding =
+    let is_counted = is_some (block_of_cluster header reftable finding.cluster.0) in
+    let is_past = nat_lt (greatest_counter header.base.refcount_order) finding.uses in
+    if finding.shared then Some Overlap else if is_counted && is_past then Some CounterRange else None
+
+-- why findings can't be repaired, by the first that can't
+abbrev pub findings_refusal : HeaderRecord → List ℕ → List Finding → Option Fault
+findings_refusal header reftable [] = None
+findings_refusal header reftable (finding ∷ findings) =
+    option_or (refusal_of header reftable finding) (findings_refusal header reftable findings)
+
+-- the tables of an image with this header that can be repaired, or the first fault: that of a check, or of a finding
+abbrev pub repairable_tables : HeaderRecord → Image → Result ImageTables Fault
+repairable_tables header image = and_then (checked_tables header image) (λ tables.
+    unless_refused (findings_refusal header tables.reftable (image_findings tables image)) (Ok tables))
+
+-- the faults of findings that are looked at: a table's entry is refused, or a finding is
+abbrev pub IsFindingRefusal : Fault → Type 0
+IsFindingRefusal fault = IsEntryFault fault ⊎ (fault ≡ Overlap) ⊎ (fault ≡ CounterRange)
+
+-- the refusals of a repair before it writes
+abbrev pub IsRepairRefusal : HeaderRecord → Fault → Type 0
+IsRepairRefusal header fault = IsCheckFault header fault ⊎ (fault ≡ Overlap) ⊎ (fault ≡ CounterRange)

@@ -1,0 +1,133 @@
+//! Which clusters' uses are counted at once.
+
+ghost use Rattle.std.specs.Prelude.{◌≡◌, ◌+◌, ◌^◌, ◌<◌, ◌≤◌, IfOk};
+ghost use Rattle.qcow2_base.specs.Format.{max_file_length};
+ghost use Rattle.qcow2_base.specs.Storage.{OnImage};
+ghost use Rattle.qcow2_metadata.specs.Header.{geometry_of};
+ghost use Rattle.qcow2_metadata.specs.Results.{Reads};
+ghost use Rattle.qcow2_metadata.specs.Table.{IsEntryFault};
+ghost use Rattle.qcow2_check.specs.Findings.{CountsAll};
+ghost use Rattle.qcow2_check.specs.Uses.{all_load, image_tables};
+
+use crate::counters::counted_end;
+use crate::tally::Tally;
+use crate::uses::{count_image, most_uses};
+use qcow2_base::{Fault, MAX_FILE_LENGTH, Storage};
+use qcow2_metadata::{Header, L1Table, RefTable, Table};
+
+// The fewest cells that lie one after another.
+const FEW_CELLS: usize = 4096;
+
+// How many bytes they take at most. Narrow ones are enough for 1 TiB in clusters of 64 KiB, and its tables.
+const MOST_BYTES: usize = 68 << 20;
+
+// How many other cells there are at most.
+const MOST_SPARSE: usize = 1 << 20;
+
+// How many uses of a cluster fit no narrow cell.
+const MANY_USES: u64 = 1 << 29;
+
+/// Clusters whose uses are counted at once: `dense` of them from the first on, whose cells lie one after
+/// another, and at most `most` others. The cells are wide or narrow.
+#[derive(Clone, Copy)]
+pub(crate) struct Window {
+    first: u64,
+    dense: usize,
+    most: usize,
+    is_wide: bool,
+}
+
+// How many cells lie one after another in a window, by how many clusters from it on the blocks count.
+fn dense_cells(counted: u64, is_wide: bool) -> usize
+    ensures some { 0 < result }
+    ensures few { result ≤ 2 ^ 25 }
+{
+    let most = if is_wide {
+        MOST_BYTES / 8
+    } else {
+        MOST_BYTES / 4
+    };
+    counted.clamp(FEW_CELLS as u64, most as u64) as usize
+}
+
+/// How the windows of an image are chosen, one after another.
+#[derive(Clone, Copy)]
+pub(crate) struct Windows {
+    // The end of the clusters that the refcount blocks count.
+    counted: u64,
+    is_wide: bool,
+    // Whether some cells didn't lie one after another for a window of few clusters that have uses.
+    is_sparse: bool,
+}
+
+impl Windows {
+    /// The windows of an image with these tables.
+    pub(crate) fn new(header: &Header, l1_table: &L1Table, reftable: &RefTable) -> Windows
+        requires { reftable.now.geometry ≡ geometry_of header.now }
+    {
+        Windows {
+            counted: counted_end(header, reftable),
+            is_wide: most_uses(header, l1_table, reftable) >= MANY_USES,
+            is_sparse: false,
+        }
+    }
+
+    /// The window that begins with a cluster.
+    pub(crate) fn at(&self, first: u64) -> Window
+        requires { first < max_file_length }
+        ensures first { result.first ≡ first }
+        ensures some { 0 < result.dense }
+        ensures fits { first + result.dense ≤ max_file_length }
+    {
+        let left = MAX_FILE_LENGTH - first;
+        let (dense, most) = if self.is_sparse {
+            (FEW_CELLS, MOST_SPARSE)
+        } else {
+            let counted = self.counted.saturating_sub(first);
+            (dense_cells(counted, self.is_wide), 0)
+        };
+        Window {
+            first,
+            dense: left.min(dense as u64) as usize,
+            most,
+            is_wide: self.is_wide,
+        }
+    }
+
+    /// Notes how many clusters of a window have a use, by which the next are chosen.
+    pub(crate) fn note(&mut self, tally: &Tally) {
+        self.is_sparse |= tally.used() < MOST_SPARSE;
+    }
+}
+
+/// Counts all uses of clusters from one on, in a new tally.
+#[tactic(auto, using(crate::proofs::FindingsLemmas::counts_all))]
+pub(crate) fn count_window<S: Storage>(
+    image: &mut S,
+    header: &Header,
+    l1_table: &L1Table,
+    reftable: &RefTable,
+    window: Window,
+) -> Result<Tally, Fault>
+    requires l1_table { l1_table.now.geometry ≡ geometry_of header.now }
+    requires reftable { reftable.now.geometry ≡ geometry_of header.now }
+    requires some { 0 < window.dense }
+    requires fits { window.first + window.dense ≤ max_file_length }
+    ensures reads { Reads (λ _. tt) result (all_load (geometry_of header.now) l1_table.now.numbers)
+        IsEntryFault (S.state image.old) (S.state image.new) }
+    ensures counted { IfOk result (λ tally. OnImage (S.state image.old) (λ bytes. CountsAll
+        (image_tables header.now l1_table.now.numbers reftable.now.numbers) bytes tally)) }
+    ensures first { IfOk result (λ tally. (tally.first ≡ window.first) × (window.first < tally.end)
+        × (tally.end ≤ max_file_length)) }
+{
+    let Window {
+        first,
+        dense,
+        most,
+        is_wide,
+    } = window;
+    let mut tally = Tally::new(l1_table.allocator(), first, dense, most, is_wide)?;
+    count_image(&mut tally, image, header, l1_table, reftable)?;
+    prove!(first < tally.end());
+    Ok(tally)
+}
