@@ -14,7 +14,7 @@ use Rattle.qcow2_check.specs.Findings.{AreRight, uses_of_kind}
 use Rattle.qcow2_check.specs.NamedTables.{l1_cluster, l1_layout, named_cluster}
 use Rattle.qcow2_check.specs.Uses.{ImageTables, header_uses}
 use Rattle.qcow2_check.specs.declared.tally.UseKind.TheVariants.{Fixed}
-use Rattle.qcow2_session.proofs.WholeImageLemmas.{full_cluster}
+use Rattle.qcow2_metadata.proofs.TableLemmas.{full_cluster}
 use Rattle.qcow2_session.specs.WholeImage.{HasTableApart, IsWithin, ShareNoByte, first_cluster_bytes, l2_bytes, table_bytes}
 
 -- the cluster is none of those that an image has for its header and its L1 table

@@ -1,4 +1,5 @@
 mod WholeImageExamples
+pub mod AccountLemmas
 pub mod ApartLemmas
 pub mod ChangingLemmas
 pub mod CheckLemmas

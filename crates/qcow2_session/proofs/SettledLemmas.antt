@@ -52,7 +52,7 @@ set-moves change index v a below moved = grind (arith, nat_tests, moved, get_or-
 pub step-moves : (change : CounterChange) (index before : ℕ) (answer : Result ℕ Fault) (a b : BlockState) → index < length a.numbers
     → Steps change index answer a b → answer ≡ Ok before → ChangesBlock change (λ i. one_if (i == index)) a b
 step-moves change index before answer a b below steps is =
-    grind (arith, nat_tests, steps.answers, steps.steps, λ (counter : ℕ) (after : counter_after a.geometry.refcount_order change (slice_index a.numbers index) ≡ Some counter). set-moves change index counter a below after)
+    grind (arith, nat_tests, steps.answers, steps.block, λ (counter : ℕ) (after : counter_after a.geometry.refcount_order change (slice_index a.numbers index) ≡ Some counter). set-moves change index counter a below after)
 
 -- a step range as far as the next index
 pub range-next : (change : CounterChange) (start at before : ℕ) (answer : Result ℕ Fault) (a b c : BlockState) → start ≤ at → at < length a.numbers
@@ -71,7 +71,7 @@ pub range-stops : (change : CounterChange) (start at : ℕ) (fault : Fault) (ans
     → ChangesCounters change (λ i. one_if (is_between start at i)) a b → Steps change at answer b c → answer ≡ Err fault
     → ChangesCounters change (λ i. one_if (is_between start at i)) a c × (counter_after a.geometry.refcount_order change (slice_index a.numbers at) ≡ None)
 range-stops change start at fault answer a b c below moves steps is =
-    grind (arith, nat_tests, steps.answers, steps.steps, order-kept)
+    grind (arith, nat_tests, steps.answers, steps.block, order-kept)
 
 -- gains are counted by clusters or by their numbers
 times-gained : (gained : List HostCluster) (first index : ℕ) → times_counted range_of_one gained first index ≡ times_gained (cluster_numbers gained) (first + index)

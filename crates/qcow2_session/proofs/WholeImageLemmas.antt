@@ -24,7 +24,7 @@ use Rattle.qcow2_session.specs.Edits.{cluster_numbers}
 use Rattle.qcow2_session.specs.declared.edits.Outcome.{Outcome}
 use Rattle.qcow2_metadata.proofs.LawsLemmas.{header_of-same}
 use Rattle.qcow2_metadata.proofs.GrammarLemmas.{header_of-is, holds-v2_at}
-use Rattle.qcow2_metadata.proofs.TableLemmas.{table_numbers_same}
+use Rattle.qcow2_metadata.proofs.TableLemmas.{full_cluster, table_numbers_same}
 
 -- two images agree but in the L2 table at a cluster
 abbrev pub SameOutsideTable : Geometry → HostCluster → Image → Image → Type 0
@@ -54,12 +54,6 @@ header-kept header old new is kept =
     ap (λ (v2 : V2Header). 2 ^ v2.cluster_bits) (holds-v2_at old header.v2 lawful.v2) in
     let least : 2 ^ 9 ≤ 2 ^ header.v2.cluster_bits = pow-le-pow_right (lit< tt) lawful.cluster_bits.0 in
     header_of-same old new (λ o below. kept o (omega arith, omega (arith, below, size, least)))
-
--- that many entries are the bytes of a cluster
-pub full_cluster : (cb : ℕ) → 9 ≤ cb → 8 * l2_entries cb ≡ 2 ^ cb
-full_cluster cb least =
-    let three : 3 + (cb - 3) ≡ cb = omega (arith, least) in
-    sym (pow-add 2 3 (cb - 3)) ∙ ap (λ k. 2 ^ k) three
 
 -- what shares no byte with the table that is changed is kept
 kept : (header : HeaderRecord) (cluster : HostCluster) (old new : Image) → ChangesL2Table header cluster old new

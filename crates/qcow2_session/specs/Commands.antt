@@ -17,7 +17,7 @@ pub mod Verdict
 pub mod Words
 use Rattle.std.specs.Prelude.{if◌then◌else◌, ◌∷◌, Option, None, bytes_eq, codes}
 use Rattle.qcow2_session.specs.Commands.At.{at_command, at_facts}
-use Rattle.qcow2_session.specs.Commands.Check.{check_facts}
+use Rattle.qcow2_session.specs.Commands.Check.{check_command, check_facts}
 use Rattle.qcow2_session.specs.Commands.Count.{count_command, count_facts}
 use Rattle.qcow2_session.specs.Commands.Edit.{edit_command, edit_facts}
 use Rattle.qcow2_session.specs.Commands.Facts.{CommandFacts}
@@ -29,14 +29,14 @@ use Rattle.qcow2_session.specs.Commands.Words.{Word, WordList, command_alone}
 use Rattle.qcow2_session.specs.declared.commands.Command.{Command}
 use Rattle.qcow2_session.specs.declared.commands.Command.TheVariants as command
 
--- the command that a name and the words after the image's name ask for, if they ask for one
-abbrev pub command_by_name : Word → WordList → Option Command
-command_by_name name arguments =
+-- the command that a name, the image's name and the words after it ask for, if they ask for one
+abbrev pub command_by_name : Word → Word → WordList → Option Command
+command_by_name name image arguments =
     if bytes_eq name (codes "info") then command_alone command.Info arguments
     else if bytes_eq name (codes "list") then command_alone command.List arguments
     else if bytes_eq name (codes "map") then map_command arguments
     else if bytes_eq name (codes "at") then at_command arguments
-    else if bytes_eq name (codes "check") then command_alone command.Check arguments
+    else if bytes_eq name (codes "check") then check_command image arguments
     else if bytes_eq name (codes "edit") then edit_command arguments
     else if bytes_eq name (codes "count") then count_command arguments
     else if bytes_eq name (codes "l2") then l2_command arguments else None
@@ -44,7 +44,7 @@ command_by_name name arguments =
 -- the command that a line of words asks for, if it asks for one: its first word is the command's name, its second that
 -- of the image
 abbrev pub command_of : WordList → Option Command
-command_of (name ∷ image ∷ arguments) = command_by_name name arguments
+command_of (name ∷ image ∷ arguments) = command_by_name name image arguments
 command_of _ = None
 
 -- the facts of a command
@@ -53,7 +53,7 @@ facts_of command.Info = info_facts
 facts_of command.List = list_facts
 facts_of (command.Map format) = map_facts format
 facts_of (command.At guest_offset) = at_facts guest_offset.0
-facts_of command.Check = check_facts
+facts_of (command.Check form) = check_facts form
 facts_of (command.Edit l1_index edits) = edit_facts l1_index edits
 facts_of (command.Count cluster steps) = count_facts cluster steps
 facts_of (command.L2 cluster_bits cluster) = l2_facts cluster_bits cluster

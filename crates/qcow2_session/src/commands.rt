@@ -23,7 +23,7 @@ mod verdict;
 mod words;
 
 pub use at::print_mapping_at;
-pub use check::check_image;
+pub use check::{CheckForm, check_image, check_image_in_json};
 pub use count::count_references;
 pub use edit::edit_entries;
 pub use info::print_info;
@@ -33,8 +33,8 @@ pub use map::{ExtentFormat, print_extents};
 pub use report::report_fault;
 pub use running::{run, run_words};
 pub use verdict::Verdict;
-pub use words::Changes;
 use words::alone;
+pub use words::{Changes, FileName};
 
 /// What a line of words asks for, of the image that it names.
 #[derive(Drop)]
@@ -51,8 +51,10 @@ pub enum Command {
     At {
         guest_offset: GuestOffset,
     },
-    /// `check IMAGE`: whether counters and flags are what the tables say.
-    Check,
+    /// `check IMAGE`, or `check IMAGE json`: whether counters and flags are what the tables say.
+    Check {
+        form: CheckForm,
+    },
     /// `edit IMAGE L1INDEX EDIT..`: edits of the L2 table of an L1 entry.
     Edit {
         l1_index: usize,
@@ -71,21 +73,22 @@ pub enum Command {
 }
 
 impl Command {
-    /// The command that a name and the words after the image's name ask for, if they ask for one. Fails
+    /// The command that a name, the image's name and the words after it ask for, if they ask for one. Fails
     /// only where memory for such a command runs out.
     pub fn parse(
         alloc: Global,
         name: &str,
+        image: &str,
         arguments: &[String],
     ) -> Option<Result<Command, AllocError>>
-        ensures { Parses result (spec.command_by_name name.now (map string_bytes arguments.now)) }
+        ensures { Parses result (spec.command_by_name name.now image.now (map string_bytes arguments.now)) }
     {
         match name {
             "info" => alone(Command::Info, arguments),
             "list" => alone(Command::List, arguments),
             "map" => map::parse(arguments),
             "at" => at::parse(arguments),
-            "check" => alone(Command::Check, arguments),
+            "check" => check::parse(alloc, image, arguments),
             "edit" => edit::parse(alloc, arguments),
             "count" => count::parse(alloc, arguments),
             "l2" => l2::parse(arguments),

@@ -13,7 +13,9 @@ mod lookups;
 mod settled;
 mod steps;
 
-pub use commands::{Changes, ClusterBits, Command, Verdict, report_fault, run, run_words};
+pub use commands::{
+    Changes, CheckForm, ClusterBits, Command, FileName, Verdict, report_fault, run, run_words,
+};
 pub use edits::{Edit, Outcome, edit_table, edits_fit};
 pub use extents::{Content, Extent, Extents};
 pub use images::{edit_image, step_image};

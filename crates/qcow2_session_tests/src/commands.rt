@@ -1,6 +1,7 @@
 //! The command `l2`: the lines of a table, and its faults.
 
 pub(crate) mod check;
+pub(crate) mod check_json;
 pub(crate) mod in_memory;
 pub(crate) mod run;
 pub(crate) mod whole_images;

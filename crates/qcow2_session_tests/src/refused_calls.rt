@@ -2,6 +2,7 @@
 //! after each byte: what they return, and what they leave.
 
 use crate::commands::check::{ALL_KINDS, ALL_LINES, LATE_LINES, LATE_TABLES};
+use crate::commands::check_json::{ALL_OBJECT, LATE_OBJECT};
 use crate::commands::in_memory::{EXTENTS, JSON, run_command};
 use crate::commands::whole_images::INFO;
 use crate::failing_output::{FailingOutput, Failure};
@@ -74,6 +75,11 @@ const ROWS: &[Row] = rows! {
         printed: ALL_LINES, ..ROW },
     Row { call: Line("check IMAGE"), before: LATE_TABLES, calls: 2 + 2 + 2 + 1 + 2, after: LATE_TABLES,
         printed: LATE_LINES, ..ROW },
+    // and then the L1 table and each L2 table for entries
+    Row { call: Line("check IMAGE json"), before: ALL_KINDS, calls: 2 + 2 + 1 + 1 + 1 + 2, after: ALL_KINDS,
+        printed: ALL_OBJECT, ..ROW },
+    Row { call: Line("check IMAGE json"), before: LATE_TABLES, calls: 2 + 2 + 2 + 1 + 2 + 3,
+        after: LATE_TABLES, printed: LATE_OBJECT, ..ROW },
     Row { call: Line("l2 IMAGE 9 2"), calls: 1, printed: "3 data 0xa00 copied\n", ..ROW },
     Row { call: Line("edit IMAGE 0 map:3:6 keep:4"), calls: 2 + 1 + 1 + 1, after: MAPPED_TO_6,
         printed: "freed 5 1\ngained 6\n", ..ROW },

@@ -19,7 +19,7 @@ fn command_of(alloc: Global, line: &str) -> Result<Command, Fault> {
     let [name, arguments @ ..] = words.as_slice() else {
         return Err(Fault::WrongLength);
     };
-    match parse_command(alloc, name.as_str(), arguments) {
+    match parse_command(alloc, name.as_str(), "IMAGE", arguments) {
         Some(command) => Ok(command?),
         None => Err(Fault::WrongLength),
     }

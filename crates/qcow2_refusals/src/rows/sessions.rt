@@ -23,6 +23,7 @@ pub(crate) const RUNS: &[Run] = rows! {
     Run { call: Command("map"), reports: EXTENTS, ..OF_A_DISK },
     Run { call: Command("map json"), reports: JSON, ..OF_A_DISK },
     Run { call: Command("check"), before: COUNTED, after: COUNTED, reports: CHECKED, ..OF_A_DISK },
+    Run { call: Command("check json"), before: COUNTED, after: COUNTED, reports: OBJECT, ..OF_A_DISK },
     Run { call: Command("l2 9 2"), reports: "3 data 0xa00 copied\n", ..OF_A_DISK },
     Run { call: Command("edit 0 map:3:5 map:3:6 discard:3"), after: &[(1048, 0)],
         reports: "freed 5 1\nfreed 6 1\ngained 6\n", ..OF_A_DISK },
@@ -55,6 +56,10 @@ const COUNTED: Numbers = &[
 // The data has one reference, by an entry with the copied flag.
 const CHECKED: &str = "leaked 5 1 2 1\nleaked 7 1 1 0\nfalse 0x600 5 2\n\
     leaked 2 missing 0 shared 0 false 1 late 0\n";
+
+const OBJECT: &str = "{\n    \"image-end-offset\": 4096,\n    \"total-clusters\": 64,\n    \
+    \"corruptions\": 1,\n    \"check-errors\": 0,\n    \"leaks\": 2,\n    \"allocated-clusters\": 1,\n    \
+    \"filename\": \"IMAGE\",\n    \"format\": \"qcow2\"\n}\n";
 
 const DATA: &str = "DataFile { host_cluster: HostCluster(5), copied: true }";
 

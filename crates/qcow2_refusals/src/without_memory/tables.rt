@@ -8,7 +8,8 @@ use crate::runs::{Kind, PlacedCall};
 use qcow2_base::{ClusterCount, Fault, GuestCluster, HostCluster, HostOffset, MemStorage};
 use qcow2_calls::{
     discard_cluster, edits_fit, enter_l2_table, enter_refblock, header_of, least_spare,
-    map_cluster, set_block_cluster, set_cluster, set_l1_table, set_reftable, settle, zero_cluster,
+    map_cluster, set_block_cluster, set_cluster, set_l1_copied, set_l1_table, set_l2_copied,
+    set_reftable, settle, zero_cluster,
 };
 use qcow2_metadata::{
     ClustersToFreeEntry, Header, L1Table, L2Table, RefBlock, RefTable, Table, TableEntry,
@@ -102,6 +103,8 @@ fn enter_in_l1_table(
     let placed = set_cluster(l2_table, TABLES).is_ok();
     let answer = enter_l2_table(l1_table, index, l2_table, Some(only(TABLES)));
     checks.expect(placed && answer.is_ok());
+    checks.expect(set_l1_copied(l1_table, index, false).is_ok());
+    checks.expect(set_l1_copied(l1_table, index, true).is_ok());
 }
 
 fn enter_in_reftable(
@@ -136,11 +139,12 @@ fn look_up(table: &mut L2Table, checks: &mut Checks) {
     checks.expect(matches!(guard.compressed_read_guard(guest_cluster), Ok(Some(_))));
 }
 
-// An entry of 0 is mapped, kept as zeros, and discarded.
+// An entry of 0 is mapped, loses the copied flag, is kept as zeros, and discarded.
 fn change(table: &mut L2Table, index: usize, checks: &mut Checks) {
     let cluster = HostCluster(8);
     checks.expect(edits_fit(table, &[Edit::Discard { index }]).is_ok());
     checks.expect(map_cluster(table, index, cluster, None) == Ok(None));
+    checks.expect(set_l2_copied(table, index, false).is_ok());
     checks.expect(zero_cluster(table, index, true) == Ok(None));
     checks.expect(discard_cluster(table, index) == Ok(Some(only(cluster))));
 }
@@ -153,7 +157,7 @@ fn only(first: HostCluster) -> ClustersToFreeEntry {
     }
 }
 
-// A counter of 0 is counted up and down.
+// A counter of 0 is counted up and down, and put in the place of itself.
 fn count(block: &mut RefBlock, index: usize, checks: &mut Checks) {
     checks.expect(block.get_cluster() == Some(TABLES) && block.get_offset().is_some());
     block.clear_modified();
@@ -167,6 +171,7 @@ fn count(block: &mut RefBlock, index: usize, checks: &mut Checks) {
     let mut guard = block.lock_write();
     checks.expect(guard.increment(index).is_ok() && !guard.is_zero(index));
     checks.expect(guard.decrement(index).is_ok() && guard.is_zero(index));
+    checks.expect(guard.set(index, 0) == Ok(0));
 }
 
 // Which calls write what: each of these is made.

@@ -1,8 +1,10 @@
 -- What does the command `check` print, and what is its verdict?
+pub mod Account
+pub mod Json
 pub mod Lines
 pub mod Runs
 pub mod Totals
-use Rattle.std.specs.Prelude.{◌≡◌, ◌⊎◌, false, true, ℕ, List, [], ◌++◌, flat_map, None, Result, Ok, Err, IfErr, IfOk, IsErrOf, IsOkAnd, OnOk}
+use Rattle.std.specs.Prelude.{◌≡◌, ◌⊎◌, Bool, false, true, ℕ, if◌then◌else◌, List, [], ◌∷◌, ◌++◌, flat_map, Option, Some, None, Result, Ok, Err, IfErr, IfOk, IsErrOf, IsOkAnd, OnOk, bytes_eq, codes}
 use Rattle.qcow2_base.specs.Storage.{Image, OnImage, ReadsFor}
 use Rattle.qcow2_base.specs.declared.fault.Fault.{Fault}
 use Rattle.qcow2_base.specs.declared.fault.Fault.TheVariants.{Storage}
@@ -11,11 +13,17 @@ use Rattle.qcow2_check.specs.Flags.{image_flags}
 use Rattle.qcow2_check.specs.Uses.{ImageTables}
 use Rattle.qcow2_metadata.specs.Header.{HeaderRecord}
 use Rattle.qcow2_metadata.specs.Results.{IsFromOutside, result_map}
+use Rattle.qcow2_session.specs.Commands.Check.Json.{checked_object}
 use Rattle.qcow2_session.specs.Commands.Check.Lines.{flag_line, run_lines, totals_line}
 use Rattle.qcow2_session.specs.Commands.Check.Runs.{runs_of}
-use Rattle.qcow2_session.specs.Commands.Check.Totals.{run_totals, verdict_of, with_flags}
+use Rattle.qcow2_session.specs.Commands.Check.Totals.{totals_on, verdict_of}
 use Rattle.qcow2_session.specs.Commands.Facts.{CommandFacts}
-use Rattle.qcow2_session.specs.Commands.Printing.{OutputGets, OutputGetsPart, Run}
+use Rattle.qcow2_session.specs.Commands.Printing.{OutputGets, OutputGetsPart, Prints, Run}
+use Rattle.qcow2_session.specs.Commands.Words.{Word, WordList}
+use Rattle.qcow2_session.specs.declared.commands.Command.{Command}
+use Rattle.qcow2_session.specs.declared.commands.Command.TheVariants as command
+use Rattle.qcow2_session.specs.declared.commands.check.CheckForm.{CheckForm}
+use Rattle.qcow2_session.specs.declared.commands.check.CheckForm.TheVariants as form
 use Rattle.qcow2_session.specs.declared.commands.verdict.Verdict.{Verdict}
 
 -- what a check comes to: its lines, and the verdict
@@ -28,7 +36,7 @@ abbrev pub report_on : ImageTables → Image → Report
 report_on tables image =
     let runs = runs_of (image_findings tables image) in
     let flags = image_flags tables image in
-    let totals = with_flags (run_totals runs) flags in
+    let totals = totals_on tables image in
     record {
       lines = flat_map run_lines runs ++ flat_map flag_line flags ++ totals_line totals;
       verdict = verdict_of totals;
@@ -56,14 +64,38 @@ pub record PrintsReport {O : Type 0} (run : Run Verdict O) (report : Image → R
   pub refused : IfErr run.answer (λ fault. OnImage run.old (λ bytes. ((report bytes ≡ Err fault) × OutputGets run [])
       ⊎ (IsFromOutside fault × OutputGetsPart run (lines_of (report bytes)))))
 
--- the facts of the command `check`, which may run out of memory after it has printed
-abbrev pub check_facts : CommandFacts
-check_facts = record {
+-- the verdict of a run is that of the report
+abbrev pub HasVerdict : {O : Type 0} → Run Verdict O → (Image → Result Report Fault) → Type 0
+HasVerdict run report = IfOk run.answer (λ verdict. OnImage run.old (λ bytes.
+    IsOkAnd (report bytes) (λ found. found.verdict ≡ verdict)))
+
+-- the command `check` that the name of its image and the words after it ask for
+abbrev pub check_command : Word → WordList → Option Command
+check_command image [] = Some (command.Check form.Text)
+check_command image (word ∷ []) =
+    if bytes_eq word (codes "json") then Some (command.Check (form.Json image)) else None
+check_command image _ = None
+
+-- how a check of an image with this header ends, by its form: it prints the report, and may run out of memory after a part of
+-- it; or it prints the object in JSON at the end
+abbrev pub EndsCheck : {O : Type 0} → CheckForm → HeaderRecord → Run Verdict O → Type 0
+EndsCheck form.Text header run =
+    PrintsReport run (checked_report header) × ReadsFor (IsErrOf run.answer Storage) run.old run.new
+EndsCheck (form.Json file_name) header run =
+    Prints run (checked_object file_name header) × HasVerdict run (checked_report header)
+
+-- whether a form of a check prints before some faults
+abbrev pub prints_early : CheckForm → Bool
+prints_early form.Text = true
+prints_early (form.Json file_name) = false
+
+-- the facts of the command `check`
+abbrev pub check_facts : CheckForm → CommandFacts
+check_facts how = record {
   changes_image = false;
-  prints_before_faults = true;
+  prints_before_faults = prints_early how;
   has_verdict = true;
   cluster_bits = None;
   place_fault = None;
-  Ends = λ header run.
-      PrintsReport run (checked_report header) × ReadsFor (IsErrOf run.answer Storage) run.old run.new;
+  Ends = λ header run. EndsCheck how header run;
 }

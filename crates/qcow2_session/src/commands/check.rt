@@ -1,29 +1,46 @@
 //! The command `check`: whether an image's counters and flags are what its tables say.
 
-ghost use Rattle.std.specs.Prelude.{◌≡◌, IfOk, IsErrOf, flat_map};
+ghost use Rattle.std.specs.Prelude.{◌≡◌, IfOk, IsErrOf, false, flat_map, map, string_bytes};
 ghost use Rattle.qcow2_base.specs.Storage.{OnImage, ReadsFor};
 ghost use Rattle.qcow2_base.specs.declared.fault.Fault.TheVariants.{Storage as StorageFailed};
 ghost use Rattle.qcow2_check.specs.Findings.{IsFindingsOf, MovesFindings, tables_of};
 ghost use Rattle.qcow2_check.specs.Flags.{IsFlagsOf, flags_left};
-ghost use Rattle.qcow2_session.specs.Commands.Check.{PrintsLines, PrintsReport, checked_report, report_on};
+ghost use Rattle.qcow2_session.specs.Commands.Check.{EndsCheck, HasVerdict, PrintsLines, PrintsReport, check_command, checked_report, prints_early, report_on};
+ghost use Rattle.qcow2_session.specs.Commands.Check.Json.{checked_object};
 ghost use Rattle.qcow2_session.specs.Commands.Check.Lines.{flag_line, run_lines, totals_line};
 ghost use Rattle.qcow2_session.specs.Commands.Check.Runs.{runs_left};
 ghost use Rattle.qcow2_session.specs.Commands.Check.Totals.{run_totals, verdict_of, with_flags};
-ghost use Rattle.qcow2_session.specs.Commands.Printing.{PrintsText, run_over};
+ghost use Rattle.qcow2_session.specs.Commands.Printing.{Prints, PrintsLast, PrintsText, run_over};
+ghost use Rattle.qcow2_session.specs.Commands.Words.{Parses};
 
+use super::Command;
+use super::words::FileName;
 use crate::Verdict;
-use crate::lines::{ToLine, print};
+use crate::lines::{Output, ToLine, print};
+use account::take_account;
+use json::print_object;
 use qcow2_base::{Fault, Storage};
 use qcow2_check::{Findings, Flags};
 use qcow2_metadata::Header;
 use runs::FindingRuns;
-use std::alloc::Global;
+use std::alloc::{AllocError, Global};
 use std::io::Write;
 use totals::Totals;
 
+mod account;
+mod json;
 mod lines;
 mod runs;
 mod totals;
+
+/// How a check is printed.
+#[derive(Drop)]
+pub enum CheckForm {
+    /// A line for each thing that is wrong, for people.
+    Text,
+    /// One object of numbers in JSON, as `qemu-img check --output=json` prints it.
+    Json { file_name: FileName },
+}
 
 /// Prints what is wrong with the counters and flags of an image with this header, and returns what is to be
 /// thought of it. First come the clusters whose counter isn't their number of uses, or whose uses exclude
@@ -44,6 +61,76 @@ pub fn check_image<S: Storage, O: Write>(
 {
     let findings = Findings::new(alloc, image, header)?;
     print_report(findings, image, out)
+}
+
+/// Prints what a check finds of an image with this header as one object in JSON, with the name of its file,
+/// and returns what is to be thought of it. Numbers that are 0 are left out, but for that of errors.
+///
+/// Returns the fault of `Findings::new`, or 34 or 35, before anything is printed. A failed write to `out` is
+/// the storage fault. Changes no byte of the image.
+pub fn check_image_in_json<S: Storage, O: Write>(
+    alloc: Global,
+    image: &mut S,
+    header: &Header,
+    file_name: &str,
+    out: &mut O,
+) -> Result<Verdict, Fault>
+    ensures prints { Prints (run_over S.state O.contents result image.old image.new out.old out.new)
+        (checked_object file_name.now header.now) }
+    ensures verdict { HasVerdict (run_over S.state O.contents result image.old image.new out.old out.new)
+        (checked_report header.now) }
+    ensures last { PrintsLast (run_over S.state O.contents result image.old image.new out.old out.new) }
+    ensures unchanged { (S.state image.new).byte_at ≡ (S.state image.old).byte_at }
+{
+    let account = take_account(alloc, image, header)?;
+    let mut out = Output::new(out);
+    print_object(file_name, &account, &mut out);
+    out.result()?;
+    Ok(account.totals.verdict())
+}
+
+/// Checks an image with this header, in a form, and returns what is to be thought of it.
+pub(super) fn check_in_form<S: Storage, O: Write>(
+    alloc: Global,
+    image: &mut S,
+    header: &Header,
+    form: &CheckForm,
+    out: &mut O,
+) -> Result<Verdict, Fault>
+    ensures ends { EndsCheck form.now header.now
+        (run_over S.state O.contents result image.old image.new out.old out.new) }
+    ensures last { prints_early form.now ≡ false →
+        PrintsLast (run_over S.state O.contents result image.old image.new out.old out.new) }
+    ensures unchanged { (S.state image.new).byte_at ≡ (S.state image.old).byte_at }
+{
+    match form {
+        CheckForm::Text => check_image(alloc, image, header, out),
+        CheckForm::Json { file_name } => {
+            check_image_in_json(alloc, image, header, file_name.as_str(), out)
+        }
+    }
+}
+
+/// What the name of an image and the words after it ask for with the command `check`.
+pub(super) fn parse(
+    alloc: Global,
+    image: &str,
+    arguments: &[String],
+) -> Option<Result<Command, AllocError>>
+    ensures { Parses result (check_command image.now (map string_bytes arguments.now)) }
+{
+    match arguments {
+        [] => Some(Ok(Command::Check {
+            form: CheckForm::Text,
+        })),
+        [word] if word.as_str() == "json" => match FileName::new(alloc, image) {
+            Ok(file_name) => Some(Ok(Command::Check {
+                form: CheckForm::Json { file_name },
+            })),
+            Err(error) => Some(Err(error)),
+        },
+        _ => None,
+    }
 }
 
 // Prints the report on the image that a reader is at the begin of, and returns its verdict.

@@ -12,7 +12,7 @@ ghost use Rattle.qcow2_session.specs.declared.commands.verdict.Verdict.TheVarian
 
 use super::Command;
 use super::at::print_mapping_at;
-use super::check::check_image;
+use super::check::check_in_form;
 use super::count::count_references;
 use super::edit::edit_entries;
 use super::info::print_info;
@@ -57,7 +57,7 @@ pub fn run_words<R: Files + AllocGlobal, O: Write, E: Write>(
     let [name, image, arguments @ ..] = words else {
         return refuse_words(err);
     };
-    match Command::parse(rt.alloc(), name.as_str(), arguments) {
+    match Command::parse(rt.alloc(), name.as_str(), image.as_str(), arguments) {
         Some(Ok(command)) => status_of(run_on_file(rt, image.as_str(), &command, out), err),
         Some(Err(error)) => report_fault(Fault::from(error), err),
         None => refuse_words(err),
@@ -154,7 +154,7 @@ pub fn run<S: Storage, O: Write>(
         Command::At { guest_offset } => {
             fine(print_mapping_at(alloc, image, &header, *guest_offset, out))
         }
-        Command::Check => check_image(alloc, image, &header, out),
+        Command::Check { form } => check_in_form(alloc, image, &header, form, out),
         Command::Edit { l1_index, edits } => {
             fine(edit_entries(alloc, image, &header, *l1_index, edits.as_slice(), out))
         }

@@ -1,6 +1,6 @@
 //! The words of a command line that several commands read.
 
-ghost use Rattle.std.specs.Prelude.{◌≡◌, ℕ, List, Option, map, option_map, string_bytes};
+ghost use Rattle.std.specs.Prelude.{◌≡◌, ℕ, IfOk, List, Option, map, option_map, string_bytes};
 ghost use Rattle.qcow2_session.specs.Commands.Words as spec;
 ghost use Rattle.qcow2_session.specs.Commands.Words.{Parses};
 
@@ -20,6 +20,37 @@ impl<T> Model for Changes<T> {
     ghost Value = { List T };
 
     ghost view = { λ changes. changes.list.items };
+}
+
+/// The name of an image's file, as its word on the command line. Contracts see the bytes of its text.
+#[derive(Drop)]
+pub struct FileName {
+    text: String,
+}
+
+impl Model for FileName {
+    ghost use Rattle.std.specs.Prelude.{ℕ, List, string_bytes};
+
+    ghost Value = { List ℕ };
+
+    ghost view = { λ name. string_bytes name.text };
+}
+
+impl FileName {
+    /// The name that a word is. Fails only where memory for it runs out.
+    pub fn new(alloc: Global, word: &str) -> Result<FileName, AllocError>
+        ensures { IfOk result (λ name. name ≡ word.now) }
+    {
+        let text = String::from_str(alloc, word)?;
+        Ok(FileName { text })
+    }
+
+    /// Its text.
+    pub fn as_str(&self) -> &str
+        ensures { result.now ≡ self.now }
+    {
+        self.text.as_str()
+    }
 }
 
 // A change that a word can say.

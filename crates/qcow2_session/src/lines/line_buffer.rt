@@ -1,6 +1,6 @@
 //! A line in the making. It is put together in place, from its end to its start, and takes no memory.
 
-ghost use Rattle.std.specs.Prelude.{◌≡◌, ◌+◌, ◌≤◌, ◌++◌, [], false, drop, length};
+ghost use Rattle.std.specs.Prelude.{◌≡◌, ◌+◌, ◌<◌, ◌≤◌, ◌∷◌, ◌++◌, [], false, drop, length};
 ghost use Rattle.std.specs.Fmt.{decimal, digits};
 ghost use Rattle.qcow2_session.specs.Lines.{offset_text};
 
@@ -65,6 +65,17 @@ impl LineBuffer {
     {
         let start = self.start - text.len();
         self.bytes[start..self.start].copy_from_slice(text.as_bytes());
+        self.start = start;
+    }
+
+    /// Puts a byte in front.
+    #[inline]
+    pub(crate) fn prepend_byte(&mut self, byte: u8)
+        requires { length self.old < 256 }
+        ensures { self.new ≡ byte ∷ self.old }
+    {
+        let start = self.start - 1;
+        self.bytes[start] = byte;
         self.start = start;
     }
 

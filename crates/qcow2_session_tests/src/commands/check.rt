@@ -293,5 +293,7 @@ fn check_refused(alloc: Global, row: Refused) -> Result<(), Fail> {
     let mut image = sample_image(alloc, 9, row.before)?;
     let mut out = FailingOutput::new(alloc, Failure::Never);
     let answer = run_command(alloc, &mut image, "check IMAGE", &mut out)?;
+    same((answer, out.bytes()), (Some(Err(row.fault)), &[]), row.name)?;
+    let answer = run_command(alloc, &mut image, "check IMAGE json", &mut out)?;
     same((answer, out.bytes()), (Some(Err(row.fault)), &[]), row.name)
 }

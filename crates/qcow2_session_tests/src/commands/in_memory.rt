@@ -65,6 +65,8 @@ const ROWS: &[Row] = rows! {
     Row { line: "map IMAGE json", before: &[(1528, 2)], answer: Some(Err(Fault::EntryReserved)), printed: "[",
         after: &[(1528, 2)], ..ROW },
     Row { line: "map IMAGE yaml", answer: None, ..ROW },
+    Row { line: "check IMAGE yaml", answer: None, ..ROW },
+    Row { line: "check IMAGE json json", answer: None, ..ROW },
     Row { line: "edit IMAGE 0 map:3", answer: None, ..ROW },
 };
 
@@ -89,13 +91,15 @@ pub(crate) fn run_command<S: Storage>(
     line: &str,
     out: &mut FailingOutput,
 ) -> Result<Answer, Fail> {
-    let words = words_of(alloc, line, "")?;
-    let [name, _, arguments @ ..] = words.as_slice() else {
+    let words = words_of(alloc, line, "IMAGE")?;
+    let [name, path, arguments @ ..] = words.as_slice() else {
         return Ok(None);
     };
-    Ok(match parse_command(alloc, name.as_str(), arguments) {
-        Some(Ok(command)) => Some(run(alloc, image, &command, out)),
-        Some(Err(error)) => Some(Err(Fault::from(error))),
-        None => None,
-    })
+    Ok(
+        match parse_command(alloc, name.as_str(), path.as_str(), arguments) {
+            Some(Ok(command)) => Some(run(alloc, image, &command, out)),
+            Some(Err(error)) => Some(Err(Fault::from(error))),
+            None => None,
+        },
+    )
 }

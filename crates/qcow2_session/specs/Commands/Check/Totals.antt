@@ -1,9 +1,14 @@
 -- How many clusters and flags of each kind does a check find, and what is its verdict?
 use Rattle.std.specs.Prelude.{ℕ, Bool, not, ◌&&◌, ◌==◌, ◌+◌, nat_lt, if◌then◌else◌, List}
 use Rattle.std.specs.List.{sum_by}
+use Rattle.qcow2_base.specs.Storage.{Image}
+use Rattle.qcow2_check.specs.Findings.{image_findings}
+use Rattle.qcow2_check.specs.Flags.{image_flags}
+use Rattle.qcow2_check.specs.Uses.{ImageTables}
 use Rattle.qcow2_check.specs.declared.findings.Finding.{Finding}
 use Rattle.qcow2_check.specs.declared.flags.WrongFlag.{WrongFlag}
 use Rattle.qcow2_metadata.specs.Table.L2Guards.{one_if}
+use Rattle.qcow2_session.specs.Commands.Check.Runs.{runs_of}
 use Rattle.qcow2_session.specs.declared.commands.check.runs.FindingRun.{FindingRun}
 use Rattle.qcow2_session.specs.declared.commands.check.totals.Totals.{Totals}
 use Rattle.qcow2_session.specs.declared.commands.verdict.Verdict.{Verdict}
@@ -41,6 +46,10 @@ with_flags totals flags = record totals {
   false_flags = totals.false_flags + sum_by (λ (flag : WrongFlag). one_if flag.is_set) flags;
   late_flags = totals.late_flags + sum_by (λ (flag : WrongFlag). one_if (not flag.is_set)) flags;
 }
+
+-- the totals of an image with these tables
+abbrev pub totals_on : ImageTables → Image → Totals
+totals_on tables image = with_flags (run_totals (runs_of (image_findings tables image))) (image_flags tables image)
 
 -- totals with those of one run more
 abbrev pub with_run : Totals → FindingRun → Totals

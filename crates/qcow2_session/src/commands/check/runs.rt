@@ -19,7 +19,7 @@ pub struct FindingRun {
 
 impl FindingRun {
     // The run of one finding.
-    fn new(first: Finding) -> FindingRun
+    pub(super) fn new(first: Finding) -> FindingRun
         ensures { result ≡ single first }
     {
         FindingRun { first, count: 1 }

@@ -2,6 +2,7 @@
 
 ghost use Rattle.std.specs.Prelude.{◌≡◌, ◌+◌, IfOk, IsOkUnless, codes};
 ghost use Rattle.qcow2_base.specs.declared.fault.Fault.TheVariants.{NoMemory};
+ghost use Rattle.qcow2_session.specs.Commands.Check.Account.{corruptions_of};
 ghost use Rattle.qcow2_session.specs.Commands.Check.Totals.{harms_nobody, verdict_of, with_flag, with_run};
 ghost use Rattle.qcow2_session.specs.Commands.Check.Lines.{counts_line, totals_line};
 
@@ -66,6 +67,14 @@ impl Totals {
             late_flags: sum(self.late_flags, u64::from(!flag.is_set))?,
             ..self
         })
+    }
+
+    /// How many of these QEMU counts as corruptions.
+    pub(super) fn corruptions(&self) -> Result<u64, Fault>
+        ensures fault { IsOkUnless result NoMemory }
+        ensures sum { IfOk result (λ sum. sum ≡ corruptions_of self.now) }
+    {
+        sum(sum(self.missing, self.false_flags)?, self.late_flags)
     }
 
     // Whether nothing was found that may destroy data.

@@ -33,7 +33,11 @@ returns-in-At-clause-at_once g c = λ silent.
 
 pub returns-in-Check-clause-runs : goal.returns-in-Check-clause-runs
 returns-in-Check-clause-runs g c = runs-with (facts_of c.args.command.now) c.in_ok-header.header _ _ c.in_ok-header.ensures
-    (rw c.in-Check.is (c.check_image.ensures.prints, c.check_image.ensures.storage))
+    (rw c.in-Check.is c.check_in_form.ensures.ends)
+
+pub returns-in-Check-clause-at_once : goal.returns-in-Check-clause-at_once
+returns-in-Check-clause-at_once g c = λ silent.
+    last-with (facts_of c.args.command.now) c.in_ok-header.header _ _ c.in_ok-header.ensures (c.check_in_form.ensures.last (rw c.in-Check.is at silent))
 
 pub returns-in-Edit-clause-runs : goal.returns-in-Edit-clause-runs
 returns-in-Edit-clause-runs g c = runs-with (facts_of c.args.command.now) c.in_ok-header.header _ _ c.in_ok-header.ensures

@@ -1,0 +1,154 @@
+//! What a check finds of an image, in numbers.
+
+ghost use Rattle.std.specs.Prelude.{◌≡◌, ◌+◌, ◌≤◌, nat_lt, if◌then◌else◌, IfErr, IfOk, IsOkUnless};
+ghost use Rattle.qcow2_base.specs.Storage.{OnImage, OnlyReads};
+ghost use Rattle.qcow2_base.specs.declared.fault.Fault.TheVariants.{NoMemory};
+ghost use Rattle.qcow2_check.specs.Findings.{IsFindingsOf, IsLaterFault, MovesFindings, image_findings, tables_of};
+ghost use Rattle.qcow2_check.specs.Flags.{IsFlagsOf, MovesFlags, flags_left};
+ghost use Rattle.qcow2_check.specs.ImageEnd.{findings_end, image_end, most_clusters};
+ghost use Rattle.qcow2_metadata.specs.Results.{Answers, IsFromOutside};
+ghost use Rattle.qcow2_session.specs.Commands.Check.Account.{checked_account};
+ghost use Rattle.qcow2_session.specs.Commands.Check.Runs.{runs_of, single};
+ghost use Rattle.qcow2_session.specs.Commands.Check.Totals.{run_totals, totals_on, with_flags, with_run};
+
+use super::runs::FindingRun;
+use super::totals::Totals;
+use qcow2_base::{ClusterCount, Fault, Storage};
+use qcow2_check::{
+    EntryCounts, Finding, Findings, Flags, count_entries, end_of_image, most_clusters,
+};
+use qcow2_metadata::Header;
+use std::alloc::Global;
+
+/// What a check finds of an image, in numbers.
+#[derive(Clone, Copy)]
+pub(super) struct Account {
+    pub(super) totals: Totals,
+    /// How many of these QEMU counts as corruptions.
+    pub(super) corruptions: u64,
+    /// Where the image ends, in bytes.
+    pub(super) image_end: u64,
+    /// How many clusters the guest's disk has.
+    pub(super) guest_clusters: u64,
+    pub(super) entries: EntryCounts,
+}
+
+// What is found of some clusters: how many of each kind, and the number after the last below a limit.
+#[derive(Clone, Copy)]
+struct Found {
+    totals: Totals,
+    end: u64,
+}
+
+impl Found {
+    // This, and one finding more.
+    fn with_finding(self, finding: &Finding, limit: u64) -> Result<Found, Fault>
+        ensures fault { IsOkUnless result NoMemory }
+        ensures totals { IfOk result (λ found. found.totals ≡ with_run self.totals (single finding.now)) }
+        ensures end { IfOk result (λ found. found.end
+            ≡ (if nat_lt finding.now.cluster.0 limit then finding.now.cluster.0 + 1 else self.end)) }
+    {
+        let cluster = finding.cluster.0;
+        Ok(Found {
+            totals: self.totals.with_run(&FindingRun::new(*finding))?,
+            end: if cluster < limit {
+                cluster + 1
+            } else {
+                self.end
+            },
+        })
+    }
+}
+
+// Counts the findings of the image that a reader is at the begin of.
+fn count_findings<S: Storage>(
+    findings: &mut Findings<'_>,
+    image: &mut S,
+    limit: u64,
+) -> Result<Found, Fault>
+    requires reader { OnImage (S.state image.old) (λ bytes. IsFindingsOf bytes findings.old) }
+    requires begun { findings.old.position ≡ 0 }
+    requires limit { limit ≡ most_clusters findings.old.header }
+    ensures found { IfOk result (λ found. (found.end ≤ limit) × OnImage (S.state image.old) (λ bytes.
+        let tables = tables_of findings.old in
+        (found.totals ≡ run_totals (runs_of (image_findings tables bytes)))
+        × (found.end ≡ findings_end tables bytes))) }
+    ensures reader { MovesFindings (S.state image.old) findings.old findings.new }
+    ensures fault { IfErr result (IsLaterFault (S.state image.old)) }
+    ensures storage { OnlyReads result (S.state image.old) (S.state image.new) }
+{
+    let mut found = Found {
+        totals: Totals::new(),
+        end: 0,
+    };
+    while let Some(finding) = findings.next(image)? {
+        found = found.with_finding(&finding, limit)?;
+    }
+    Ok(found)
+}
+
+// Counts the wrong flags that a reader comes to yet, and returns totals with theirs.
+fn count_flags<S: Storage>(
+    flags: &mut Flags<'_>,
+    image: &mut S,
+    totals: Totals,
+) -> Result<Totals, Fault>
+    requires { OnImage (S.state image.old) (λ bytes. IsFlagsOf bytes flags.old) }
+    ensures totals { IfOk result (λ new. OnImage (S.state image.old) (λ bytes.
+        new ≡ with_flags totals (flags_left flags.old bytes))) }
+    ensures reader { MovesFlags (S.state image.old) flags.old flags.new }
+    ensures fault { IfErr result (IsLaterFault (S.state image.old)) }
+    ensures storage { OnlyReads result (S.state image.old) (S.state image.new) }
+{
+    let mut totals = totals;
+    while let Some(flag) = flags.next(image)? {
+        totals = totals.with_flag(&flag)?;
+    }
+    Ok(totals)
+}
+
+// The totals of the image that a reader of findings is at the begin of, and where it ends.
+fn totals_and_end<S: Storage>(
+    findings: Findings<'_>,
+    image: &mut S,
+    header: &Header,
+) -> Result<(Totals, u64), Fault>
+    requires reader { OnImage (S.state image.old) (λ bytes. IsFindingsOf bytes findings) }
+    requires begun { findings.position ≡ 0 }
+    requires header { findings.header ≡ header.now }
+    ensures found { IfOk result (λ found. OnImage (S.state image.old) (λ bytes.
+        let tables = tables_of findings.entry in
+        (found.0 ≡ totals_on tables bytes) × (found.1 ≡ image_end tables bytes))) }
+    ensures fault { IfErr result (λ fault. OnImage (S.state image.old) (λ _. IsFromOutside fault)) }
+    ensures storage { OnlyReads result (S.state image.old) (S.state image.new) }
+{
+    let mut findings = findings;
+    let found = count_findings(&mut findings, image, most_clusters(header))?;
+    let mut flags = findings.into_flags();
+    let totals = count_flags(&mut flags, image, found.totals)?;
+    let mut counters = flags.into_counters();
+    let end = end_of_image(&mut counters, image, found.end)?;
+    Ok((totals, end))
+}
+
+/// Takes the account of an image with this header.
+pub(super) fn take_account<S: Storage>(
+    alloc: Global,
+    image: &mut S,
+    header: &Header,
+) -> Result<Account, Fault>
+    ensures exact { OnImage (S.state image.old) (λ bytes.
+        Answers (λ account. account) result (checked_account header.now bytes)) }
+    ensures storage { OnlyReads result (S.state image.old) (S.state image.new) }
+{
+    let findings = Findings::new(alloc, image, header)?;
+    let (totals, image_end) = totals_and_end(findings, image, header)?;
+    let entries = count_entries(alloc, image, header)?;
+    Ok(Account {
+        totals,
+        corruptions: totals.corruptions()?,
+        image_end,
+        guest_clusters: ClusterCount::from_byte_size(header.size(), header.cluster_bits()).0,
+        entries,
+    })
+}
