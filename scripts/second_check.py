@@ -4,6 +4,7 @@ Nothing here is shared with the program: tables and counters are dictionaries of
 features that the program knows, and their L1 tables and refcount tables end at or below 2^56.
 """
 
+import json
 import re
 import struct
 from array import array
@@ -55,7 +56,7 @@ class Tables:
 
     def read_header(self):
         header = self.bytes_at(0, 104)
-        version, self.cluster_bits = struct.unpack_from(">I12xI", header, 4)
+        version, self.cluster_bits, self.size = struct.unpack_from(">I12xIQ", header, 4)
         self.l1_entries, self.l1_start, self.reftable_start = struct.unpack_from(">IQQ", header, 36)
         self.reftable_clusters, snapshots = struct.unpack_from(">II", header, 56)
         self.is_external = version > 2 and header[79] & 4 != 0
@@ -187,14 +188,52 @@ class Check:
         if not self.totals:
             return "consistent\n"
         last = " ".join(f"{kind} {self.totals[kind]}" for kind in KINDS)
-        return f"{self.text}{last}\nstatus {4 if HARMFUL & self.totals.keys() else 3}\n"
+        return f"{self.text}{last}\n{self.status()}"
+
+    def status(self):
+        if not self.totals:
+            return ""
+        return f"status {4 if HARMFUL & self.totals.keys() else 3}\n"
+
+    def object(self, name):
+        """What it prints of an image whose file has this name with the word json, and then its status."""
+        tables, totals = self.tables, self.totals
+        last = max(c for c in self.uses.keys() | tables.counters.keys() if c < GREATEST_END // tables.cluster)
+        counts = self.entry_counts()
+        members = {
+            "image-end-offset": (last + 1) * tables.cluster,
+            "compressed-clusters": counts["compressed"],
+            "total-clusters": -(-tables.size // tables.cluster),
+            "corruptions": totals["missing"] + totals["false"] + totals["late"],
+            "check-errors": 0,
+            "leaks": totals["leaked"],
+            "allocated-clusters": counts["allocated"],
+            "filename": name,
+            "format": "qcow2",
+            "fragmented-clusters": counts["fragmented"],
+        }
+        told = {name: value for name, value in members.items() if value or name == "check-errors"}
+        return json_text(told) + self.status()
+
+    def entry_counts(self):
+        """How many entries are allocated, compressed and fragmented, in all tables as often as they are named."""
+        counts = Counter()
+        for l1_entry in self.tables.l1:
+            if l1_entry.length:
+                entries = [entry for entry in self.tables.l2[l1_entry.start] if entry.length]
+                standard = [entry.start for entry in entries if not entry.bits & COMPRESSED]
+                breaks = sum(after != before + self.tables.cluster for before, after in zip(standard, standard[1:]))
+                compressed = len(entries) - len(standard)
+                counts.update(allocated=len(entries), compressed=compressed, fragmented=compressed + breaks)
+        return counts
 
     def differences(self):
         """Why `qemu-img check` counts otherwise: rows of the table in docs/DIFFERENCES.md, by what is in the image."""
         tables = self.tables
         length = -(-tables.length // 512) * 512
         end = max(-(-length // tables.cluster), max(self.uses) + 1)
-        compressed = (entry.bits & COMPRESSED for table in tables.l2.values() for entry in table)
+        entries = [entry for table in tables.l2.values() for entry in table]
+        compressed = (entry.bits & COMPRESSED for entry in entries)
         cases = {
             "past the end": any(start + span - length >= tables.cluster for start, span in self.spans),
             "counters past the end": any(cluster >= end for cluster in tables.counters),
@@ -202,14 +241,30 @@ class Check:
             "uses of a block": any(self.uses[start // tables.cluster] > 1 for start in tables.blocks.values()),
             "only copied": any(not entry.length for entry in tables.l1),
             "compressed data outside": tables.is_external and any(compressed),
+            "zeros of the first cluster": tables.is_external and any(entry.bits == COPIED | 1 for entry in entries),
         }
         return [name for name, holds in cases.items() if holds]
 
 
-def printed_by_check(path):
-    """What `qmeta check` must print of an image, with its status, and why `qemu-img check` counts otherwise."""
+def json_text(members):
+    """An object as QEMU prints it: characters other than printable ASCII are escaped, in capital letters."""
+    text = json.dumps(members, indent=4)
+    return re.sub(r"\\u([0-9a-f]{4})", lambda found: "\\u" + found[1].upper(), text).replace("\x7f", "\\u007F") + "\n"
+
+
+class Expected(NamedTuple):
+    """What `qmeta check` must print of an image, for people and in JSON, and why `qemu-img check` counts otherwise."""
+
+    text: str
+    json: str
+    differences: list
+
+
+def printed_by_check(path, name):
+    """What `qmeta check` must print of an image, whose file is given by this name."""
     try:
         check = Check(path)
     except Refused as refused:
-        return f"qmeta: fault {refused}\nstatus 1\n", ["refused"]
-    return check.printed(), check.differences()
+        fault = f"qmeta: fault {refused}\nstatus 1\n"
+        return Expected(fault, fault, ["refused"])
+    return Expected(check.printed(), check.object(name), check.differences())
