@@ -2,9 +2,9 @@
 pub mod Counters
 pub mod Flags
 pub mod Refusals
-use Rattle.std.specs.Prelude.{◌≡◌, ◌≢◌, ◌⊎◌, ◌↔◌, ℕ, true, false, ◌^◌, ◌<◌, ◌≤◌, List, Option, None, Result, Ok, IsErrOf, IsOk, IsSome}
+use Rattle.std.specs.Prelude.{◌≡◌, ◌≢◌, ◌⊎◌, ◌↔◌, ℕ, true, false, ◌^◌, ◌<◌, ◌≤◌, List, Option, None, Result, Ok, Err, IfErr, IsErrOf, IsOk, IsSome, MatchResult}
 use Rattle.qcow2_base.specs.Format.{max_file_length}
-use Rattle.qcow2_base.specs.Storage.{Holds, Image, OnImage, SameDevice, SameOutside, StorageState}
+use Rattle.qcow2_base.specs.Storage.{Holds, Image, OnImage, OnImages, SameDevice, SameOutside, StorageState}
 use Rattle.qcow2_base.specs.Types.{IsClusterBits}
 use Rattle.qcow2_base.specs.declared.fault.Fault.{Fault}
 use Rattle.qcow2_base.specs.declared.fault.Fault.TheVariants.{CounterRange, Storage}
@@ -107,3 +107,13 @@ BreaksOffAt header old new = (new ≡ old)
     ⊎ (IsOk (repairable_tables header old) × SameOutside 0 (2 ^ header.v2.cluster_bits) old new)
     ⊎ ((written : HeaderRecord) × (tables : ImageTables) × (mid : Image) × (repairable_tables header old ≡ Ok tables)
     × MakesWritable header written old mid × BreaksOffRepair written tables.reftable mid new)
+
+-- a repair of an image with this header ended in this answer. After a fault that isn't from outside no byte changed: the image
+-- can't be repaired, or its header has no room
+pub record RepairsImage (header : HeaderRecord) (answer : Result HeaderRecord Fault) (old new : StorageState) : Type 0 where
+  pub repairs : OnImages old new (λ before after. MatchResult answer
+      (λ written. IsRepaired header written before after)
+      (λ _. BreaksOffAt header before after))
+  pub refused : IfErr answer (λ fault. OnImages old new (λ before after. IsFromOutside fault ⊎ ((after ≡ before)
+      × ((repairable_tables header before ≡ Err fault) ⊎ (header_after_load true (Ok header) ≡ Err fault)))))
+  pub storage : ReportsFailures answer old new

@@ -8,7 +8,7 @@ ghost use Rattle.qcow2_metadata.specs.Placed.{place_fault};
 ghost use Rattle.qcow2_metadata.specs.Results.{IsFromOutside};
 ghost use Rattle.qcow2_check.specs.Counters.{blocks_fault};
 ghost use Rattle.qcow2_check.specs.NamedTables.{l1_cluster, l1_layout, loaded_l1_table};
-ghost use Rattle.qcow2_check.specs.Repair.{BreaksOffAt, BreaksOffCounters, BreaksOffRepair, IsRepaired, IsRepairFault, IsRepairable, Lowers, Raises, Repairs, ReportsFailures, tables_in};
+ghost use Rattle.qcow2_check.specs.Repair.{BreaksOffCounters, BreaksOffRepair, IsRepairFault, IsRepairable, Lowers, Raises, Repairs, RepairsImage, ReportsFailures, tables_in};
 ghost use Rattle.qcow2_check.specs.Repair.Flags.{IsL1TableOf, l1_in};
 ghost use Rattle.qcow2_check.specs.Repair.Refusals.{repairable_tables};
 
@@ -66,13 +66,7 @@ pub fn repair_image<S: Storage>(
     image: &mut S,
     header: Header,
 ) -> Result<Header, Fault>
-    ensures repairs { OnImages (S.state image.old) (S.state image.new) (λ before after.
-        MatchResult result (λ written. IsRepaired header written before after)
-        (λ _. BreaksOffAt header before after)) }
-    ensures refused { IfErr result (λ fault. OnImages (S.state image.old) (S.state image.new) (λ before after.
-        IsFromOutside fault ⊎ ((after ≡ before) × ((repairable_tables header before ≡ Err fault)
-        ⊎ (header_after_load true (Ok header) ≡ Err fault))))) }
-    ensures storage { ReportsFailures result (S.state image.old) (S.state image.new) }
+    ensures { RepairsImage header result (S.state image.old) (S.state image.new) }
 {
     let (_, reftable) = repairable_tables(alloc, image, &header)?;
     let header = header.into_writable(image)?;

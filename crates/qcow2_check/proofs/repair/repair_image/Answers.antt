@@ -42,60 +42,61 @@ repair_written-requires-clause-repairable g c = λ told.
     (c.in_ok-reftable.ensures.repairable start) l1 (rw bytes at (c.in_ok-header.ensures.writable.storage.others known)) (text-fits c.args.header) in
     rw both.1 both.0
 
-pub returns-in_err-header-clause-repairs : goal.returns-in_err-header-clause-repairs
-returns-in_err-header-clause-repairs g c = λ told.
+pub returns-in_err-header : goal.returns-in_err-header
+returns-in_err-header g c =
     let exit = err_from_is_err_and c.from_residual-in_err-header.result c.from_residual-in_err-header.ensures.1 in
     let before = (g.S.Storage.state c.args.image.now).byte_at in
     let bytes : (g.S.Storage.state c.repairable_tables.new.image).byte_at ≡ before = search rules in
-    let known : IsTrue (g.S.Storage.state c.repairable_tables.new.image).tells = search rules in
-    let found : IsOk (repairable_tables c.args.header before) = rw (c.in_ok-reftable.ensures.reads.exact told) refl in
-    rw exit.1 (inr (inl (found, wider c.args.header before _ (rw bytes at (c.in_err-header.ensures.writable.storage.others known)))))
+    let known : (g.S.Storage.state c.repairable_tables.new.image).tells ≡ (g.S.Storage.state c.args.image.now).tells = search rules in
+    record {
+      repairs = λ told.
+          let found : IsOk (repairable_tables c.args.header before) = rw (c.in_ok-reftable.ensures.reads.exact told) refl in
+          rw exit.1 (inr (inl (found, wider c.args.header before _ (rw bytes at (c.in_err-header.ensures.writable.storage.others (rw known told))))));
+      refused = search rules;
+      storage = search rules;
+    }
 
-pub returns-in_err-repair_written-clause-repairs : goal.returns-in_err-repair_written-clause-repairs
-returns-in_err-repair_written-clause-repairs g c = λ told.
+pub returns-in_err-repair_written : goal.returns-in_err-repair_written
+returns-in_err-repair_written g c =
     let exit = err_from_is_err_and c.from_residual-in_err-repair_written.result c.from_residual-in_err-repair_written.ensures.1 in
     let before = (g.S.Storage.state c.args.image.now).byte_at in
     let mid = (g.S.Storage.state c.into_writable.new.image).byte_at in
     let bytes : (g.S.Storage.state c.repairable_tables.new.image).byte_at ≡ before = search rules in
-    let known : IsTrue (g.S.Storage.state c.repairable_tables.new.image).tells = search rules in
-    let later : IsTrue (g.S.Storage.state c.into_writable.new.image).tells = search rules in
+    let known : (g.S.Storage.state c.repairable_tables.new.image).tells ≡ (g.S.Storage.state c.args.image.now).tells = search rules in
+    let later : (g.S.Storage.state c.into_writable.new.image).tells ≡ (g.S.Storage.state c.args.image.now).tells = search rules in
     let tables : ImageTables = image_tables c.args.header c.in_ok-reftable.field-0-0.numbers c.in_ok-reftable.reftable.numbers in
-    let says : SaysSame c.args.header c.in_ok-header.header = writable-same c.args.header c.in_ok-header.header c.in_ok-header.ensures.writable.exact in
-    let makes : MakesWritable c.args.header c.in_ok-header.header before mid =
     record {
-      becomes = c.in_ok-header.ensures.writable.exact;
-      text = c.in_ok-header.ensures.writable.placed known;
-      others = wider c.args.header before mid (rw bytes at (c.in_ok-header.ensures.writable.storage.others known));
-    } in
-    rw exit.1 (inr (inr (c.in_ok-header.header, tables, mid, c.in_ok-reftable.ensures.reads.exact told, makes, c.in_err-repair_written.ensures.repairs later)))
+      repairs = λ told.
+          let makes : MakesWritable c.args.header c.in_ok-header.header before mid =
+          record {
+            becomes = c.in_ok-header.ensures.writable.exact;
+            text = c.in_ok-header.ensures.writable.placed (rw known told);
+            others = wider c.args.header before mid (rw bytes at (c.in_ok-header.ensures.writable.storage.others (rw known told)));
+          } in
+          rw exit.1 (inr (inr (c.in_ok-header.header, tables, mid, c.in_ok-reftable.ensures.reads.exact told, makes, c.in_err-repair_written.ensures.repairs (rw later told))));
+      refused = rw (exit.1, exit.2) (λ told. inl (c.in_err-repair_written.ensures.fault (rw later told)));
+      storage = rw (exit.1, exit.2) (reports-later c.in_ok-reftable.field-0-0 c.in_ok-header.header c.args.header c.in_err-repair_written.field-0.0 (Some 0) (length (opened_text true (Ok c.args.header)))
+          (g.S.Storage.state c.args.image.now) (g.S.Storage.state c.repairable_tables.new.image) (g.S.Storage.state c.into_writable.new.image)
+          (g.S.Storage.state c.repair_written.new.image) (search rules) (search rules) (search rules));
+    }
 
-pub returns-clause-repairs : goal.returns-clause-repairs
-returns-clause-repairs g c = λ told.
+pub returns : goal.returns
+returns g c =
     let before = (g.S.Storage.state c.args.image.now).byte_at in
     let mid = (g.S.Storage.state c.into_writable.new.image).byte_at in
     let bytes : (g.S.Storage.state c.repairable_tables.new.image).byte_at ≡ before = search rules in
-    let known : IsTrue (g.S.Storage.state c.repairable_tables.new.image).tells = search rules in
-    let later : IsTrue (g.S.Storage.state c.into_writable.new.image).tells = search rules in
+    let known : (g.S.Storage.state c.repairable_tables.new.image).tells ≡ (g.S.Storage.state c.args.image.now).tells = search rules in
+    let later : (g.S.Storage.state c.into_writable.new.image).tells ≡ (g.S.Storage.state c.args.image.now).tells = search rules in
     let tables : ImageTables = image_tables c.args.header c.in_ok-reftable.field-0-0.numbers c.in_ok-reftable.reftable.numbers in
-    let says : SaysSame c.args.header c.in_ok-header.header = writable-same c.args.header c.in_ok-header.header c.in_ok-header.ensures.writable.exact in
-    let makes : MakesWritable c.args.header c.in_ok-header.header before mid =
     record {
-      becomes = c.in_ok-header.ensures.writable.exact;
-      text = c.in_ok-header.ensures.writable.placed known;
-      others = wider c.args.header before mid (rw bytes at (c.in_ok-header.ensures.writable.storage.others known));
-    } in
-    (tables, mid, c.in_ok-reftable.ensures.reads.exact told, makes, c.in_ok-repair_written.ensures.repairs later)
-
-pub returns-in_err-repair_written-clause-refused : goal.returns-in_err-repair_written-clause-refused
-returns-in_err-repair_written-clause-refused g c =
-    let exit = err_from_is_err_and c.from_residual-in_err-repair_written.result c.from_residual-in_err-repair_written.ensures.1 in
-    rw (exit.1, exit.2) (λ told.
-    let later : IsTrue (g.S.Storage.state c.into_writable.new.image).tells = search rules in
-    inl (c.in_err-repair_written.ensures.fault later))
-
-pub returns-in_err-repair_written-clause-storage : goal.returns-in_err-repair_written-clause-storage
-returns-in_err-repair_written-clause-storage g c =
-    let exit = err_from_is_err_and c.from_residual-in_err-repair_written.result c.from_residual-in_err-repair_written.ensures.1 in
-    rw (exit.1, exit.2) (reports-later c.in_ok-reftable.field-0-0 c.in_ok-header.header c.args.header c.in_err-repair_written.field-0.0 (Some 0) (length (opened_text true (Ok c.args.header)))
-    (g.S.Storage.state c.args.image.now) (g.S.Storage.state c.repairable_tables.new.image) (g.S.Storage.state c.into_writable.new.image)
-    (g.S.Storage.state c.repair_written.new.image) (search rules) (search rules) (search rules))
+      repairs = λ told.
+          let makes : MakesWritable c.args.header c.in_ok-header.header before mid =
+          record {
+            becomes = c.in_ok-header.ensures.writable.exact;
+            text = c.in_ok-header.ensures.writable.placed (rw known told);
+            others = wider c.args.header before mid (rw bytes at (c.in_ok-header.ensures.writable.storage.others (rw known told)));
+          } in
+          (tables, mid, c.in_ok-reftable.ensures.reads.exact told, makes, c.in_ok-repair_written.ensures.repairs (rw later told));
+      refused = search rules;
+      storage = search rules;
+    }
