@@ -1,11 +1,12 @@
-use Rattle.std.proofs.Common.{◌≡◌, ℕ, ◌+◌, ◌-◌, ◌&&◌, ◌∷◌, ◌++◌, [], List, length, map, nat_le, nat_lt, slice_index, false, true, Result, Ok, refl}
+use Rattle.std.proofs.Common.{◌≡◌, ℕ, ◌∷◌, ◌++◌, [], List, map, false, true, Result, Ok, refl}
 use Rattle.std.specs.Prelude.{⊤}
-use Rattle.qcow2_base.specs.Storage.{Image, be}
+use Rattle.qcow2_base.specs.Storage.{be}
 use Rattle.qcow2_base.specs.declared.fault.Fault.{Fault}
 use Rattle.qcow2_metadata.specs.Entries.L2Mapping.{Mapping, backing, data_file}
 use Rattle.qcow2_metadata.specs.Header.{geometry}
 use Rattle.qcow2_metadata.specs.Header.Chain.{extensions_at}
 use Rattle.qcow2_metadata.specs.Header.Grammar.{header_of}
+use Rattle.qcow2_check.proofs.SampleImage.{Part, byte, entry, laid, sample}
 use Rattle.qcow2_session.specs.Lookups.{image_mapping}
 use Rattle.qcow2_session.specs.WholeImage.{image_references}
 
@@ -13,31 +14,6 @@ use Rattle.qcow2_session.specs.WholeImage.{image_references}
 unfoldable computing : ⊤
 unfolding header_of extensions_at be
 computing = tt
-
--- bytes at a place
-abbrev Part : Type 0
-Part = ℕ × List ℕ
-
--- the image that has these parts, an earlier one over a later one, and is 0 elsewhere
-abbrev laid : List Part → Image
-laid [] offset = 0
-laid (part ∷ parts) offset = elim (nat_le part.0 offset && nat_lt offset (part.0 + length part.1)) [
-  | true ↦ slice_index part.1 (offset - part.0)
-  | false ↦ laid parts offset
-]
-
-abbrev byte : ℕ → ℕ → List Part
-byte place value = (place, value ∷ []) ∷ []
-
--- an entry's number at a place: its first byte, and its last two
-abbrev entry : ℕ → ℕ → ℕ → ℕ → List Part
-entry place first seventh eighth = (place, first ∷ 0 ∷ 0 ∷ 0 ∷ 0 ∷ 0 ∷ seventh ∷ eighth ∷ []) ∷ []
-
--- a disk of 32768 bytes in clusters of 512, an L1 table of one entry at 512, and its L2 table at 1024. That has the data
--- of guest cluster 3, at 2560
-abbrev sample : List Part
-sample = byte 30 0x80 ++ byte 39 1 ++ byte 46 2 ++ entry 512 0x80 4 0 ++ entry 1048 0x80 0x0a 0
-    ++ (0, 0x51 ∷ 0x46 ∷ 0x49 ∷ 0xfb ∷ 0 ∷ 0 ∷ 0 ∷ 3 ∷ []) ∷ byte 23 9 ++ byte 99 4 ++ byte 103 104
 
 -- references to clusters 5, 6 and 7 in the whole image. A second L2 table at 2048 maps its first cluster to cluster 7.
 -- The first one's entry 3 is mapped to cluster 6, where it was mapped to cluster 5

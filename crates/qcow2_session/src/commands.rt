@@ -23,7 +23,7 @@ mod verdict;
 mod words;
 
 pub use at::print_mapping_at;
-pub use check::{CheckForm, check_image, check_image_in_json};
+pub use check::{CheckForm, check_image, check_image_in_json, repair_and_check_image};
 pub use count::count_references;
 pub use edit::edit_entries;
 pub use info::print_info;
@@ -51,7 +51,8 @@ pub enum Command {
     At {
         guest_offset: GuestOffset,
     },
-    /// `check IMAGE`, or `check IMAGE json`: whether counters and flags are what the tables say.
+    /// `check IMAGE`, or `check IMAGE json`: whether counters and flags are what the tables say. `check IMAGE
+    /// repair`: the same after they were made right.
     Check {
         form: CheckForm,
     },
@@ -99,6 +100,21 @@ impl Command {
     /// Whether the command may change its image.
     pub fn changes_image(&self) -> bool
         ensures { result ≡ (spec.facts_of self.now).changes_image }
+    {
+        matches!(
+            self,
+            Command::Edit { .. }
+                | Command::Count { .. }
+                | Command::Check {
+                    form: CheckForm::Repair
+                }
+        )
+    }
+
+    // Whether the command loads its header as one who writes to the image. A repair writes to it only after
+    // it has found that it can repair it.
+    fn loads_to_write(&self) -> bool
+        ensures { result ≡ (spec.facts_of self.now).loads_to_write }
     {
         matches!(self, Command::Edit { .. } | Command::Count { .. })
     }

@@ -22,7 +22,9 @@ pub use images::{edit_image, step_image};
 use l2_tables::L2Tables;
 use lookups::lookup_with_header;
 pub use lookups::{lookup, lookup_image};
-pub use qcow2_check::{Counters, Finding, Findings, FlagPlace, Flags, WrongFlag, is_consistent};
+pub use qcow2_check::{
+    Counters, Finding, Findings, FlagPlace, Flags, WrongFlag, is_consistent, repair_image,
+};
 use qcow2_check::{load_l1_table, load_l2_table, named_cluster};
 pub use settled::{edit_settled, settle};
 pub use steps::{Step, StepReply, step_block};

@@ -2,6 +2,7 @@
 
 pub(crate) mod check;
 pub(crate) mod check_json;
+mod check_repair;
 pub(crate) mod in_memory;
 pub(crate) mod run;
 pub(crate) mod whole_images;

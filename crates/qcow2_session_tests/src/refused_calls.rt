@@ -6,7 +6,7 @@ use crate::commands::check_json::{ALL_OBJECT, LATE_OBJECT};
 use crate::commands::in_memory::{EXTENTS, JSON, run_command};
 use crate::commands::whole_images::INFO;
 use crate::failing_output::{FailingOutput, Failure};
-use crate::sample_image::{COPIED, Numbers, sample_image};
+use crate::sample_image::{COPIED, Numbers, counted, sample_image};
 use crate::tables::map;
 use Call::{EditImage, Line, LoadHeader, LookUp, LookUpImage, StepImage};
 use qcow2_base::{Fault, GuestOffset, HostCluster, MemStorage, Storage};
@@ -80,6 +80,10 @@ const ROWS: &[Row] = rows! {
         printed: ALL_OBJECT, ..ROW },
     Row { call: Line("check IMAGE json"), before: LATE_TABLES, calls: 2 + 2 + 2 + 1 + 2 + 3,
         after: LATE_TABLES, printed: LATE_OBJECT, ..ROW },
+    // what a check reads before the flags, and the L1 table; for each of four passes the L2 table for uses, and
+    // that or the block again, with a write of the block, and then one of the L1 table and one of the L2 table
+    Row { call: Line("check IMAGE repair"), before: TO_REPAIR, calls: 2 + 4 + 1 + 2 + 2 + 3 + 4 + 5,
+        after: REPAIRED, printed: "consistent\n", again: "consistent\n", ..ROW },
     Row { call: Line("l2 IMAGE 9 2"), calls: 1, printed: "3 data 0xa00 copied\n", ..ROW },
     Row { call: Line("edit IMAGE 0 map:3:6 keep:4"), calls: 2 + 1 + 1 + 1, after: MAPPED_TO_6,
         printed: "freed 5 1\ngained 6\n", ..ROW },
@@ -115,6 +119,11 @@ const STEPPED: Numbers<'static> = rows! { (0x2000, 1 << 48), (0x2ff8, 1) };
 // A disk of two L2 tables, of which the second has data in cluster 6.
 const TWO_TABLES: Numbers<'static> =
     rows! { (24, 65536), (32, 2), (520, COPIED + 0x600), (1560, 0xc00) };
+
+// A leaked cluster, and late flags of the table and of its data.
+const TO_REPAIR: Numbers<'static> = counted! { (512, 0x400), (1048, 0xa00), (2064, 1) };
+
+const REPAIRED: Numbers<'static> = counted! { (2552, 0) };
 
 const MAPPED_TO_6: Numbers<'static> = rows! { (1048, COPIED + 0xc00), (1056, 1) };
 

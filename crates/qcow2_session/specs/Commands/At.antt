@@ -26,6 +26,7 @@ line_at header offset image = result_map (λ found. mapping_text header.v2.clust
 abbrev pub at_facts : ℕ → CommandFacts
 at_facts offset = record {
   changes_image = false;
+  loads_to_write = false;
   prints_before_faults = false;
   has_verdict = false;
   cluster_bits = None;

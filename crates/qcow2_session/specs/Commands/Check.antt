@@ -4,12 +4,13 @@ pub mod Json
 pub mod Lines
 pub mod Runs
 pub mod Totals
-use Rattle.std.specs.Prelude.{◌≡◌, ◌⊎◌, Bool, false, true, ℕ, if◌then◌else◌, List, [], ◌∷◌, ◌++◌, flat_map, Option, Some, None, Result, Ok, Err, IfErr, IfOk, IsErrOf, IsOkAnd, OnOk, bytes_eq, codes}
-use Rattle.qcow2_base.specs.Storage.{Image, OnImage, ReadsFor}
+use Rattle.std.specs.Prelude.{◌≡◌, ◌⊎◌, Bool, false, true, ℕ, if◌then◌else◌, List, [], ◌∷◌, ◌++◌, flat_map, Option, Some, None, Result, Ok, Err, IfErr, IfOk, IsErrOf, IsOkAnd, MatchResult, OnOk, bytes_eq, codes}
+use Rattle.qcow2_base.specs.Storage.{Image, OnImage, ReadsFor, StorageState}
 use Rattle.qcow2_base.specs.declared.fault.Fault.{Fault}
 use Rattle.qcow2_base.specs.declared.fault.Fault.TheVariants.{Storage}
 use Rattle.qcow2_check.specs.Findings.{checked_tables, image_findings}
 use Rattle.qcow2_check.specs.Flags.{image_flags}
+use Rattle.qcow2_check.specs.Repair.{RepairsImage}
 use Rattle.qcow2_check.specs.Uses.{ImageTables}
 use Rattle.qcow2_metadata.specs.Header.{HeaderRecord}
 use Rattle.qcow2_metadata.specs.Results.{IsFromOutside, result_map}
@@ -73,26 +74,47 @@ HasVerdict run report = IfOk run.answer (λ verdict. OnImage run.old (λ bytes.
 abbrev pub check_command : Word → WordList → Option Command
 check_command image [] = Some (command.Check form.Text)
 check_command image (word ∷ []) =
-    if bytes_eq word (codes "json") then Some (command.Check (form.Json image)) else None
+    if bytes_eq word (codes "json") then Some (command.Check (form.Json image))
+    else if bytes_eq word (codes "repair") then Some (command.Check form.Repair) else None
 check_command image _ = None
 
--- how a check of an image with this header ends, by its form: it prints the report, and may run out of memory after a part of
--- it; or it prints the object in JSON at the end
+-- a run checks an image with this header: it prints the report, and may run out of memory after a part of it. It only reads
+abbrev pub Checks : {O : Type 0} → HeaderRecord → Run Verdict O → Type 0
+Checks header run = PrintsReport run (checked_report header) × ReadsFor (IsErrOf run.answer Storage) run.old run.new
+
+-- a run repairs an image with this header, and then checks what that left, with the header that it has then; or the repair was
+-- refused, before anything was printed
+abbrev pub RepairsAndChecks : {O : Type 0} → HeaderRecord → Run Verdict O → Type 0
+RepairsAndChecks header run = (repaired : Result HeaderRecord Fault) × (left : StorageState)
+    × RepairsImage header repaired run.old left × MatchResult repaired
+    (λ written. Checks written (record run { old = left }))
+    (λ fault. (run.answer ≡ Err fault) × (run.new ≡ left) × (run.after ≡ run.before))
+
+-- how a check of an image with this header ends, by its form: it prints the report, or the object in JSON at the end, or it
+-- repairs the image and prints the report on what is left
 abbrev pub EndsCheck : {O : Type 0} → CheckForm → HeaderRecord → Run Verdict O → Type 0
-EndsCheck form.Text header run =
-    PrintsReport run (checked_report header) × ReadsFor (IsErrOf run.answer Storage) run.old run.new
+EndsCheck form.Text header run = Checks header run
 EndsCheck (form.Json file_name) header run =
     Prints run (checked_object file_name header) × HasVerdict run (checked_report header)
+EndsCheck form.Repair header run = RepairsAndChecks header run
 
--- whether a form of a check prints before some faults
+-- whether a form of a check repairs the image
+abbrev pub repairs : CheckForm → Bool
+repairs form.Text = false
+repairs (form.Json file_name) = false
+repairs form.Repair = true
+
+-- whether it prints before some faults
 abbrev pub prints_early : CheckForm → Bool
 prints_early form.Text = true
 prints_early (form.Json file_name) = false
+prints_early form.Repair = true
 
 -- the facts of the command `check`
 abbrev pub check_facts : CheckForm → CommandFacts
 check_facts how = record {
-  changes_image = false;
+  changes_image = repairs how;
+  loads_to_write = false;
   prints_before_faults = prints_early how;
   has_verdict = true;
   cluster_bits = None;

@@ -54,6 +54,7 @@ end_of_steps cluster steps header image = result_map (λ (left : StepsEnd). reco
 abbrev pub count_facts : HostCluster → List Step → CommandFacts
 count_facts cluster steps = record {
   changes_image = true;
+  loads_to_write = true;
   prints_before_faults = false;
   has_verdict = false;
   cluster_bits = None;

@@ -79,6 +79,7 @@ end_of_edits l1_index edits header image = and_then (table_cluster header l1_ind
 abbrev pub edit_facts : ℕ → List Edit → CommandFacts
 edit_facts l1_index edits = record {
   changes_image = true;
+  loads_to_write = true;
   prints_before_faults = false;
   has_verdict = false;
   cluster_bits = None;

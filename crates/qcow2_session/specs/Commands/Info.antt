@@ -41,6 +41,7 @@ info_lines header = size_lines header ++ place_lines header ++ name_line (codes 
 abbrev pub info_facts : CommandFacts
 info_facts = record {
   changes_image = false;
+  loads_to_write = false;
   prints_before_faults = false;
   has_verdict = false;
   cluster_bits = None;

@@ -37,6 +37,7 @@ lines_of_l2_table g cluster image = result_map (table_lines Index g 0) (loaded_l
 abbrev pub l2_facts : ℕ → HostCluster → CommandFacts
 l2_facts cb cluster = record {
   changes_image = false;
+  loads_to_write = false;
   prints_before_faults = false;
   has_verdict = false;
   cluster_bits = Some cb;

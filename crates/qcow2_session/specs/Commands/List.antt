@@ -62,6 +62,7 @@ pub record PrintsList {A O : Type 0} (run : Run A O) (tables : Image → Result 
 abbrev pub list_facts : CommandFacts
 list_facts = record {
   changes_image = false;
+  loads_to_write = false;
   prints_before_faults = true;
   has_verdict = false;
   cluster_bits = None;

@@ -126,6 +126,7 @@ pub record PrintsExtents {A O : Type 0} (run : Run A O) (format : ExtentFormat) 
 abbrev pub map_facts : ExtentFormat → CommandFacts
 map_facts format = record {
   changes_image = false;
+  loads_to_write = false;
   prints_before_faults = true;
   has_verdict = false;
   cluster_bits = None;

@@ -20,7 +20,7 @@ abbrev pub FindsHeader : CommandFacts → Result HeaderRecord Fault → StorageS
 FindsHeader facts found old new = by_words facts.cluster_bits
   where
     by_words : Option ℕ → Type 0
-    by_words None = Loads facts.changes_image found old new
+    by_words None = Loads facts.loads_to_write found old new
     by_words (Some cb) = IsNewHeader cb found × (new ≡ old)
 
 -- a run of a command: its header is found first, whose fault is the answer before anything is printed, and then the

@@ -5,7 +5,7 @@ ghost use Rattle.qcow2_base.specs.Storage.{OnImage, ReadsFor};
 ghost use Rattle.qcow2_base.specs.declared.fault.Fault.TheVariants.{Storage as StorageFailed};
 ghost use Rattle.qcow2_check.specs.Findings.{IsFindingsOf, MovesFindings, tables_of};
 ghost use Rattle.qcow2_check.specs.Flags.{IsFlagsOf, flags_left};
-ghost use Rattle.qcow2_session.specs.Commands.Check.{EndsCheck, HasVerdict, PrintsLines, PrintsReport, check_command, checked_report, prints_early, report_on};
+ghost use Rattle.qcow2_session.specs.Commands.Check.{EndsCheck, HasVerdict, PrintsLines, PrintsReport, RepairsAndChecks, check_command, checked_report, prints_early, repairs, report_on};
 ghost use Rattle.qcow2_session.specs.Commands.Check.Json.{checked_object};
 ghost use Rattle.qcow2_session.specs.Commands.Check.Lines.{flag_line, run_lines, totals_line};
 ghost use Rattle.qcow2_session.specs.Commands.Check.Runs.{runs_left};
@@ -20,7 +20,7 @@ use crate::lines::{Output, ToLine, print};
 use account::take_account;
 use json::print_object;
 use qcow2_base::{Fault, Storage};
-use qcow2_check::{Findings, Flags};
+use qcow2_check::{Findings, Flags, repair_image};
 use qcow2_metadata::Header;
 use runs::FindingRuns;
 use std::alloc::{AllocError, Global};
@@ -33,13 +33,15 @@ mod lines;
 mod runs;
 mod totals;
 
-/// How a check is printed.
+/// What a check prints, and whether it repairs the image first.
 #[derive(Drop)]
 pub enum CheckForm {
     /// A line for each thing that is wrong, for people.
     Text,
     /// One object of numbers in JSON, as `qemu-img check --output=json` prints it.
     Json { file_name: FileName },
+    /// Counters and flags are made right, and then what is left is printed in lines.
+    Repair,
 }
 
 /// Prints what is wrong with the counters and flags of an image with this header, and returns what is to be
@@ -89,25 +91,45 @@ pub fn check_image_in_json<S: Storage, O: Write>(
     Ok(account.totals.verdict())
 }
 
+/// Makes the counters and flags of an image with this header right, as `repair_image` does, and then prints
+/// what `check_image` finds in what is left, and returns its verdict.
+///
+/// Returns the fault of `repair_image` before any line; what that leaves is said there. Then comes a fault
+/// of `check_image`, which is 34 or 35 and leaves the image repaired.
+pub fn repair_and_check_image<S: Storage, O: Write>(
+    alloc: Global,
+    image: &mut S,
+    header: Header,
+    out: &mut O,
+) -> Result<Verdict, Fault>
+    ensures { RepairsAndChecks header
+        (run_over S.state O.contents result image.old image.new out.old out.new) }
+{
+    let header = repair_image(alloc, image, header)?;
+    check_image(alloc, image, &header, out)
+}
+
 /// Checks an image with this header, in a form, and returns what is to be thought of it.
 pub(super) fn check_in_form<S: Storage, O: Write>(
     alloc: Global,
     image: &mut S,
-    header: &Header,
+    header: Header,
     form: &CheckForm,
     out: &mut O,
 ) -> Result<Verdict, Fault>
-    ensures ends { EndsCheck form.now header.now
+    ensures ends { EndsCheck form.now header
         (run_over S.state O.contents result image.old image.new out.old out.new) }
     ensures last { prints_early form.now ≡ false →
         PrintsLast (run_over S.state O.contents result image.old image.new out.old out.new) }
-    ensures unchanged { (S.state image.new).byte_at ≡ (S.state image.old).byte_at }
+    ensures unchanged { repairs form.now ≡ false →
+        (S.state image.new).byte_at ≡ (S.state image.old).byte_at }
 {
     match form {
-        CheckForm::Text => check_image(alloc, image, header, out),
+        CheckForm::Text => check_image(alloc, image, &header, out),
         CheckForm::Json { file_name } => {
-            check_image_in_json(alloc, image, header, file_name.as_str(), out)
+            check_image_in_json(alloc, image, &header, file_name.as_str(), out)
         }
+        CheckForm::Repair => repair_and_check_image(alloc, image, header, out),
     }
 }
 
@@ -129,6 +151,9 @@ pub(super) fn parse(
             })),
             Err(error) => Some(Err(error)),
         },
+        [word] if word.as_str() == "repair" => Some(Ok(Command::Check {
+            form: CheckForm::Repair,
+        })),
         _ => None,
     }
 }

@@ -125,7 +125,8 @@ fn after_flush(ran: Result<Verdict, Fault>, flushed: io::Result<()>) -> Result<V
 }
 
 /// Runs a command over an image, and prints to `out` what it finds. The image's header is loaded first,
-/// by who writes to the image for `edit` and `count`; `l2` doesn't look at it.
+/// by who writes to the image for `edit` and `count`; `l2` doesn't look at it. `check IMAGE repair` loads it
+/// as one who reads, and makes it one for writing where the image can be repaired.
 ///
 /// Returns the fault of the header, or what the command's own function returns: `Fine` where that returns no
 /// verdict.
@@ -154,7 +155,7 @@ pub fn run<S: Storage, O: Write>(
         Command::At { guest_offset } => {
             fine(print_mapping_at(alloc, image, &header, *guest_offset, out))
         }
-        Command::Check { form } => check_in_form(alloc, image, &header, form, out),
+        Command::Check { form } => check_in_form(alloc, image, header, form, out),
         Command::Edit { l1_index, edits } => {
             fine(edit_entries(alloc, image, &header, *l1_index, edits.as_slice(), out))
         }
@@ -176,12 +177,12 @@ fn fine(ran: Result<(), Fault>) -> Result<Verdict, Fault>
 }
 
 // The header that a command works with: a new one of the cluster bits that its words say, or else that of the
-// image, loaded for writing where the command may change the image.
+// image.
 fn find_header<S: Storage>(alloc: Global, image: &mut S, command: &Command) -> Result<Header, Fault>
     ensures { FindsHeader (facts_of command.now) result (S.state image.old) (S.state image.new) }
 {
     match command {
         Command::L2 { cluster_bits, .. } => new_header(alloc, cluster_bits.get()),
-        _ => Header::load(alloc, image, command.changes_image()),
+        _ => Header::load(alloc, image, command.loads_to_write()),
     }
 }

@@ -144,8 +144,8 @@ const CHECKED: &[Checked] = rows! { Checked:
 const BLOCK_TWICE: &str = "missing 4 1 1 2\nshared 4 1 1 2\nleaked 256 6 1 0\n\
     leaked 6 missing 1 shared 1 false 0 late 0\n";
 
-// Counters of 64 bits.
-const LARGE_COUNTERS: Numbers<'static> = counted! {
+/// Counters of 64 bits, of which one is the greatest number.
+pub(crate) const LARGE_COUNTERS: Numbers<'static> = counted! {
     (96, 0x0000_0006_0000_0068), (COUNTERS, 1), (COUNTERS + 8, 1), (COUNTERS + 16, 1), (COUNTERS + 24, 1),
     (COUNTERS + 32, 1), (COUNTERS + 40, 1), (COUNTERS + 48, u64::MAX),
 };
@@ -216,8 +216,8 @@ fn run_over(before: Numbers<'static>, ended: Ended<'static>) -> Run<'static> {
     }
 }
 
-// What a check ends with.
-fn ended_by(verdict: Verdict, text: &str) -> Ended<'_> {
+/// What a check ends with.
+pub(crate) fn ended_by(verdict: Verdict, text: &str) -> Ended<'_> {
     match verdict {
         Verdict::Fine => Done(text),
         Verdict::Harmless => Harmless(text),
@@ -295,5 +295,8 @@ fn check_refused(alloc: Global, row: Refused) -> Result<(), Fail> {
     let answer = run_command(alloc, &mut image, "check IMAGE", &mut out)?;
     same((answer, out.bytes()), (Some(Err(row.fault)), &[]), row.name)?;
     let answer = run_command(alloc, &mut image, "check IMAGE json", &mut out)?;
-    same((answer, out.bytes()), (Some(Err(row.fault)), &[]), row.name)
+    same((answer, out.bytes()), (Some(Err(row.fault)), &[]), row.name)?;
+    let answer = run_command(alloc, &mut image, "check IMAGE repair", &mut out)?;
+    same((answer, out.bytes()), (Some(Err(row.fault)), &[]), row.name)?;
+    check_sample(alloc, image.bytes(), (9, row.before), row.name)
 }

@@ -102,6 +102,7 @@ const LOOKS: &[(&str, Ended<'static>)] = rows! {
     ("map no-such-folder/image", NO_FILE),
     ("map / json", NO_FILE),
     ("check no-such-folder/image", NO_FILE),
+    ("check no-such-folder/image repair", NO_FILE),
     ("edit no-such-folder/image 0 zero:3", NO_FILE),
     // whole images
     ("info IMAGE", Done(INFO)),
@@ -246,7 +247,9 @@ fn sample_file<'a>(
 
 // How a run that ends so opens its image: a line that is no command opens none.
 fn opens_of(line: &str, ended: Ended<'_>) -> Opens {
-    let changes = line.starts_with("edit ") || line.starts_with("count ");
+    let changes = line.starts_with("edit ")
+        || line.starts_with("count ")
+        || line.ends_with(" repair");
     let is_command = !matches!(ended, NoCommand(_));
     Opens {
         reading: u64::from(is_command && !changes),
