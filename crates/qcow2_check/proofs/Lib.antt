@@ -1,3 +1,4 @@
+mod FindingsExamples
 pub mod ApartLemmas
 pub mod CountersLemmas
 pub mod EntryCountsLemmas
@@ -7,12 +8,13 @@ pub mod FlagsLemmas
 pub mod ImageEndLemmas
 pub mod NamedTablesLemmas
 pub mod RepairCountersLemmas
+pub mod RepairFlagWindowsLemmas
 pub mod RepairFlagsLemmas
 pub mod RepairHeaderLemmas
 pub mod RepairLemmas
 pub mod RepairOrderLemmas
 pub mod RepairPassesLemmas
 pub mod RepairRefusalsLemmas
-pub mod RepairFlagWindowsLemmas
+pub mod SampleImage
 pub mod TallyLemmas
 pub mod UsesLemmas
