@@ -45,7 +45,7 @@ pub kind-cons : (kind : UseKind) (used : ClusterUse) (uses : List ClusterUse) (c
     ≡ one_if (mark_of used.kind == mark_of kind && is_among used.clusters c) + uses_of_kind kind uses c
 kind-cons kind used uses c = sum_by-cons _ used uses
 
-all-cons : (used : ClusterUse) (uses : List ClusterUse) (c : ℕ) → uses_of (used ∷ uses) c ≡ one_if (is_among used.clusters c) + uses_of uses c
+pub all-cons : (used : ClusterUse) (uses : List ClusterUse) (c : ℕ) → uses_of (used ∷ uses) c ≡ one_if (is_among used.clusters c) + uses_of uses c
 all-cons used uses c = sum_by-cons _ used uses
 
 -- and so does one that more uses are counted in

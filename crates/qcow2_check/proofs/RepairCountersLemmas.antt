@@ -27,7 +27,7 @@ use Rattle.qcow2_check.specs.declared.repair.counters.CounterPass.{CounterPass}
 use Rattle.qcow2_check.specs.declared.repair.counters.CounterPass.TheVariants.{Fall, Rise}
 
 -- the counters of a block stay where the bytes of its cluster do
-block-same : (tables : ImageTables) (start : Image) (block : HostCluster) (old new : Image) → IsRepairable tables start
+pub block-same : (tables : ImageTables) (start : Image) (block : HostCluster) (old new : Image) → IsRepairable tables start
     → ((o : ℕ) → o / 2 ^ tables.header.v2.cluster_bits ≡ block.0 → new o ≡ old o) → block_counters tables block new ≡ block_counters tables block old
 block-same tables start block old new is same =
     let cb = tables.header.v2.cluster_bits in
@@ -246,7 +246,7 @@ pub place_of_named : (header : HeaderRecord) (reftable : List ℕ) (i c : ℕ) (
 place_of_named header reftable i c block placed at names =
     place_of_block header reftable c block placed (rw at at names)
 
-below-end : (tables : ImageTables) (block : HostCluster) → place_fault (block_layout (block_geometry_of tables.header)) block ≡ None → block.0 < max_file_length
+pub below-end : (tables : ImageTables) (block : HostCluster) → place_fault (block_layout (block_geometry_of tables.header)) block ≡ None → block.0 < max_file_length
 below-end tables block fits =
     let w = 2 ^ tables.header.v2.cluster_bits in
     let some : 0 < w = pow_pos _ in

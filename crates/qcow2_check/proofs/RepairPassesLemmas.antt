@@ -25,7 +25,7 @@ use Rattle.qcow2_check.specs.Uses.{ImageTables, all_load, entry_uses, image_tabl
 use Rattle.qcow2_check.specs.declared.tally.UseKind.TheVariants.{L2Table}
 
 -- an L2 entry uses the same clusters after a pass
-entry-uses-passed : (pass : FlagPassState) (v : ℕ) → IsClusterBits pass.header.v2.cluster_bits
+pub entry-uses-passed : (pass : FlagPassState) (v : ℕ) → IsClusterBits pass.header.v2.cluster_bits
     → entry_uses (geometry_of pass.header) (passed_l2 pass v) ≡ entry_uses (geometry_of pass.header) v
 entry-uses-passed pass v bits = elim (cases_Bool (geometry_of pass.header).external_data_file) [
   | inl external ↦ grind (arith, external)
@@ -46,7 +46,7 @@ flat_map-by : (f h : ℕ → List ClusterUse) (turn : ℕ → ℕ) (vs : List �
 flat_map-by f h turn [] same = refl
 flat_map-by f h turn (v ∷ vs) same = rw (same 0, flat_map-by f h turn vs (λ k. same (suc k))) refl
 
-uses-by : (g : Geometry) (one other : ℕ) (old new : Image) (found : Option HostCluster) → named_cluster g.cluster_bits one ≡ found → named_cluster g.cluster_bits other ≡ found
+pub uses-by : (g : Geometry) (one other : ℕ) (old new : Image) (found : Option HostCluster) → named_cluster g.cluster_bits one ≡ found → named_cluster g.cluster_bits other ≡ found
     → ((table : HostCluster) → found ≡ Some table → l1_entry_uses g new one ≡ l1_entry_uses g old other) → l1_entry_uses g new one ≡ l1_entry_uses g old other
 uses-by g one other old new None names names' same = rw (l1_entry_uses, names, names') refl
 uses-by g one other old new (Some table) names names' same = same table refl
@@ -110,12 +110,12 @@ repairable-after tables flag uses start new by =
     }
 
 -- no flag is due to an entry whose cluster has no block
-due-unblocked : (header : HeaderRecord) (reftable : List ℕ) (flag : Bool) (uses : ℕ → Option ℕ) (cluster : HostCluster) → block_of_cluster header reftable cluster.0 ≡ None
+pub due-unblocked : (header : HeaderRecord) (reftable : List ℕ) (flag : Bool) (uses : ℕ → Option ℕ) (cluster : HostCluster) → block_of_cluster header reftable cluster.0 ≡ None
     → due_flag (pass_of header reftable flag uses) cluster ≡ None
 due-unblocked header reftable flag uses cluster none = grind (arith, none)
 
 -- the cluster that an L2 entry names is the same after a pass, but in an external data file
-flagged-passed : (pass : FlagPassState) (v : ℕ) → (geometry_of pass.header).external_data_file ≡ false
+pub flagged-passed : (pass : FlagPassState) (v : ℕ) → (geometry_of pass.header).external_data_file ≡ false
     → flagged_cluster (geometry_of pass.header) (passed_l2 pass v) ≡ flagged_cluster (geometry_of pass.header) v
 flagged-passed pass v inside = elim (passed_cases pass.flag (l2_due pass v) v) [
   | inl same ↦ ap (flagged_cluster (geometry_of pass.header)) same
@@ -140,7 +140,7 @@ due-joined header reftable flag uses mid end cluster low = elim (cases_lt cluste
   )
 ]
 
-l1-due-by : (header : HeaderRecord) (reftable : List ℕ) (flag : Bool) (uses : ℕ → Option ℕ) (v : ℕ) (found : Option HostCluster) → named_cluster header.v2.cluster_bits v ≡ found
+pub l1-due-by : (header : HeaderRecord) (reftable : List ℕ) (flag : Bool) (uses : ℕ → Option ℕ) (v : ℕ) (found : Option HostCluster) → named_cluster header.v2.cluster_bits v ≡ found
     → l1_due (pass_of header reftable flag uses) v ≡ elim found [ None ↦ None | Some cluster ↦ due_flag (pass_of header reftable flag uses) cluster ]
 l1-due-by header reftable flag uses v None names = grind (arith, names)
 l1-due-by header reftable flag uses v (Some cluster) names = grind (arith, names)
@@ -174,7 +174,7 @@ l1-joined header reftable flag uses mid end v low = by_name (named_cluster heade
           | inr later ↦ ap (λ due. with_due flag due (passed_l1 one v)) (b ∙ later.1) ∙ ap (with_due flag (due_flag all cluster)) (ap (λ due. with_due flag due v) (a ∙ later.0)) ∙ sym (ap (λ due. with_due flag due v) c)
         ]
 
-l2-due-by : (header : HeaderRecord) (reftable : List ℕ) (flag : Bool) (uses : ℕ → Option ℕ) (v : ℕ) (found : Option HostCluster) → (geometry_of header).external_data_file ≡ false
+pub l2-due-by : (header : HeaderRecord) (reftable : List ℕ) (flag : Bool) (uses : ℕ → Option ℕ) (v : ℕ) (found : Option HostCluster) → (geometry_of header).external_data_file ≡ false
     → flagged_cluster (geometry_of header) v ≡ found
     → l2_due (pass_of header reftable flag uses) v ≡ elim found [ None ↦ None | Some cluster ↦ due_flag (pass_of header reftable flag uses) cluster ]
 l2-due-by header reftable flag uses v None inside names = grind (arith, inside, names)
@@ -238,7 +238,7 @@ l2-joined header reftable flag uses mid end v low = elim (cases_Bool (geometry_o
     two = pass_of header reftable flag (uses_between uses mid end)
 
 -- where no block counts clusters from one on, the uses before it are enough
-flagged-below : (g : Geometry) (v : ℕ) (cluster : HostCluster) → flagged_cluster g v ≡ Some cluster → cluster.0 < max_file_length
+pub flagged-below : (g : Geometry) (v : ℕ) (cluster : HostCluster) → flagged_cluster g v ≡ Some cluster → cluster.0 < max_file_length
 flagged-below g v cluster names = grind (arith, nat_tests, names, div-le_self)
 
 due-finished : (header : HeaderRecord) (reftable : List ℕ) (flag : Bool) (uses : ℕ → ℕ) (end : ℕ) (cluster : HostCluster)
@@ -292,7 +292,7 @@ after-names : (tables : ImageTables) (flag : Bool) (uses : ℕ → Option ℕ) (
 after-names tables flag uses start new by table names =
     subst (λ l1. NamesTable tables.header l1 table) (sym by.passes.l1_table) (names-to (pass_of tables.header tables.reftable flag uses) (l1_in tables.header start) table names)
 
-before-names : (tables : ImageTables) (flag : Bool) (uses : ℕ → Option ℕ) (start new : Image) → PassedBy tables flag uses start new → (table : HostCluster)
+pub before-names : (tables : ImageTables) (flag : Bool) (uses : ℕ → Option ℕ) (start new : Image) → PassedBy tables flag uses start new → (table : HostCluster)
     → NamesTable tables.header (l1_in tables.header new) table → NamesTable tables.header (l1_in tables.header start) table
 before-names tables flag uses start new by table names =
     names-from (pass_of tables.header tables.reftable flag uses) (l1_in tables.header start) table (subst (λ l1. NamesTable tables.header l1 table) by.passes.l1_table names)

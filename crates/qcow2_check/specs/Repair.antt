@@ -1,6 +1,7 @@
 -- Which images can be repaired, and what does a repair change of their counters and flags?
 pub mod Counters
 pub mod Flags
+pub mod Left
 pub mod Refusals
 use Rattle.std.specs.Prelude.{◌≡◌, ◌≢◌, ◌⊎◌, ◌↔◌, ℕ, true, false, ◌^◌, ◌<◌, ◌≤◌, List, Option, None, Result, Ok, Err, IfErr, IsErrOf, IsOk, IsSome, MatchResult}
 use Rattle.qcow2_base.specs.Format.{max_file_length}

@@ -1,11 +1,17 @@
 //! Laws: facts about the definitions that contracts name. Each is a function that does nothing. Its
 //! contract is the law, and its name says it.
 
-ghost use Rattle.std.specs.Prelude.{◌≡◌, ◌↔◌, ℕ, ◌<◌, ◌≤◌, []};
+ghost use Rattle.std.specs.Prelude.{◌≡◌, ◌↔◌, ℕ, ◌<◌, ◌≤◌, [], List, Ok};
 ghost use Rattle.qcow2_base.specs.Format.{max_file_length};
-ghost use Rattle.qcow2_base.specs.Storage.{Image};
+ghost use Rattle.qcow2_base.specs.Storage.{Image, IsBytes};
+ghost use Rattle.qcow2_base.specs.declared.types.HostCluster.{HostCluster};
+ghost use Rattle.qcow2_metadata.specs.Header.{HeaderRecord, IsValidHeader};
+ghost use Rattle.qcow2_check.specs.Consistency.{IsConsistent};
 ghost use Rattle.qcow2_check.specs.Counters.{counter_of};
 ghost use Rattle.qcow2_check.specs.Findings.{AreRight, image_findings, uses_of_kind};
+ghost use Rattle.qcow2_check.specs.Repair.{BreaksOffRepair, IsRepairable, MakesWritable, Repairs, tables_in};
+ghost use Rattle.qcow2_check.specs.Repair.Left.{CountsUsed, HasTrueFlags, IsCovered, IsRightWhereCounted, KeepsCover, KeepsCoverBeside, SparesCluster};
+ghost use Rattle.qcow2_check.specs.Repair.Refusals.{repairable_tables};
 ghost use Rattle.qcow2_check.specs.Uses.{ImageTables, image_uses, uses_of};
 ghost use Rattle.qcow2_check.specs.declared.tally.UseKind.TheVariants.{Fixed, Guest, L2Table};
 
@@ -37,4 +43,74 @@ pub fn guest_data_lies_in_no_table_where_nothing_is_found()
     ensures { (tables : ImageTables) (image : Image) → AreRight tables image 0 max_file_length →
         (c : ℕ) → c < max_file_length → let uses = image_uses tables image in
         0 < uses_of_kind Guest uses c → uses_of uses c ≡ uses_of_kind Guest uses c }
+{}
+
+/// An image that `repair_image` doesn't refuse can be repaired, once its header is one whose image may be
+/// written. So the laws below hold of what that call does then.
+pub fn what_is_not_refused_can_be_repaired()
+    ensures { (header written : HeaderRecord) (tables : ImageTables) (old mid : Image) →
+        IsValidHeader header → IsBytes old → repairable_tables header old ≡ Ok tables →
+        MakesWritable header written old mid → IsRepairable (tables_in written tables.reftable mid) mid }
+{}
+
+/// A repair changes no use of a cluster: the image uses the same clusters as before, each as often and in the
+/// same ways.
+pub fn a_repair_keeps_uses()
+    ensures { (header : HeaderRecord) (reftable : List ℕ) (old new : Image) →
+        IsRepairable (tables_in header reftable old) old → Repairs header reftable old new →
+        image_uses (tables_in header reftable new) new ≡ image_uses (tables_in header reftable old) old }
+{}
+
+/// After a repair the counter of each cluster that a block counts is the number of its uses. All that is
+/// found then are clusters that are used and that no block counts: their counters are 0, and their uses don't
+/// exclude each other. Each flag that is wrong then is set for such a cluster. None is of guest data in an
+/// external data file.
+pub fn a_repaired_image_is_right_where_blocks_count()
+    ensures { (header : HeaderRecord) (reftable : List ℕ) (old new : Image) →
+        IsRepairable (tables_in header reftable old) old → Repairs header reftable old new →
+        IsRightWhereCounted (tables_in header reftable new) new }
+{}
+
+/// Where a block counts each cluster that an image uses, the image is consistent after a repair: nothing is
+/// found of it, and no flag is wrong.
+pub fn a_repaired_image_is_consistent_where_blocks_count_all_uses()
+    ensures { (header : HeaderRecord) (reftable : List ℕ) (old new : Image) →
+        IsRepairable (tables_in header reftable old) old → Repairs header reftable old new →
+        CountsUsed (tables_in header reftable old) old → IsConsistent (tables_in header reftable new) new }
+{}
+
+/// No step of a repair takes the cover of a cluster: where a cluster's counter was at least the number of its
+/// uses, it is so after false flags are cleared, after counters rose, after they fell, and at the end.
+pub fn a_repair_takes_no_cover()
+    ensures { (header : HeaderRecord) (reftable : List ℕ) (old new : Image)
+        (repair : Repairs header reftable old new) → IsRepairable (tables_in header reftable old) old →
+        let keeps = KeepsCover header reftable old in
+        keeps repair.cleared × keeps repair.raised × keeps repair.lowered × keeps new }
+{}
+
+/// Where a repair broke off, and the image uses the same clusters as before, there is one block at most whose
+/// clusters lost their cover: that whose write failed.
+pub fn a_repair_that_breaks_off_uncovers_one_block_at_most()
+    ensures { (header : HeaderRecord) (reftable : List ℕ) (old new : Image) →
+        IsRepairable (tables_in header reftable old) old → BreaksOffRepair header reftable old new →
+        image_uses (tables_in header reftable new) new ≡ image_uses (tables_in header reftable old) old →
+        (block : HostCluster) × KeepsCoverBeside header reftable block old new }
+{}
+
+/// A repair that broke off takes no cover of a cluster that it spared. So it did if the write that failed was
+/// cut between the entries of a table, where each is the old one or that of the step. If that write was of a
+/// block, it did if the cluster's counter is the old one or that of the step, as all are in other blocks.
+pub fn a_repair_that_breaks_off_covers_what_it_spares()
+    ensures { (header : HeaderRecord) (reftable : List ℕ) (old new : Image) (c : ℕ) → c < max_file_length →
+        IsRepairable (tables_in header reftable old) old → SparesCluster header reftable c old new →
+        IsCovered header reftable c old → IsCovered header reftable c new }
+{}
+
+/// Once false flags are cleared, no step of a repair leaves a flag that says wrongly that its cluster has one
+/// use, if a block counts that cluster.
+pub fn no_step_of_a_repair_makes_a_flag_false()
+    ensures { (header : HeaderRecord) (reftable : List ℕ) (old new : Image)
+        (repair : Repairs header reftable old new) → IsRepairable (tables_in header reftable old) old →
+        let is_true = λ (image : Image). HasTrueFlags (tables_in header reftable image) image in
+        is_true repair.cleared × is_true repair.raised × is_true repair.lowered × is_true new }
 {}

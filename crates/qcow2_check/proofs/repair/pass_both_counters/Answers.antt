@@ -29,7 +29,7 @@ returns-in_err-pass_all_counters-2-clause-counters g c = λ told.
     let known : IsTrue (g.S.Storage.state c.pass_all_counters.new.image).tells = search rules in
     let is : IsRepairable tables before = rw (c.requires.l1_table.numbers told) (c.requires.repairable told) in
     let raised = c.in_ok-pass_all_counters.ensures.passed told in
-    let l1 : c.args.l1_table.now.numbers ≡ l1_in header mid = c.requires.l1_table.numbers told ∙ sym (l1-stays tables before mid is c.requires.placed raised.others) in
+    let l1 : c.args.l1_table.now.numbers ≡ l1_in header mid = c.requires.l1_table.numbers told ∙ sym (l1-stays tables before mid is raised.others) in
     rw exit.1 (inr (mid, rw (c.requires.l1_table.numbers told) at raised, rw l1 at (c.in_err-pass_all_counters-2.ensures.passed known)))
 
 pub returns-clause-counters : goal.returns-clause-counters
@@ -41,7 +41,7 @@ returns-clause-counters g c = λ told.
     let known : IsTrue (g.S.Storage.state c.pass_all_counters.new.image).tells = search rules in
     let is : IsRepairable tables before = rw (c.requires.l1_table.numbers told) (c.requires.repairable told) in
     let raised = c.in_ok-pass_all_counters.ensures.passed told in
-    let l1 : c.args.l1_table.now.numbers ≡ l1_in header mid = c.requires.l1_table.numbers told ∙ sym (l1-stays tables before mid is c.requires.placed raised.others) in
+    let l1 : c.args.l1_table.now.numbers ≡ l1_in header mid = c.requires.l1_table.numbers told ∙ sym (l1-stays tables before mid is raised.others) in
     (mid, rw (c.requires.l1_table.numbers told) at raised, rw l1 at (c.in_ok-pass_all_counters-2.ensures.passed known))
 
 pub returns-clause-l1_table : goal.returns-clause-l1_table
@@ -58,7 +58,7 @@ returns-clause-l1_table g c = record {
       let raised = c.in_ok-pass_all_counters.ensures.passed start in
       let lowered = c.in_ok-pass_all_counters-2.ensures.passed known in
       let still = repairable-stays tables before mid is raised.others in
-      c.requires.l1_table.numbers start ∙ sym (l1-stays tables mid after still c.requires.placed lowered.others ∙ l1-stays tables before mid is c.requires.placed raised.others);
+      c.requires.l1_table.numbers start ∙ sym (l1-stays tables mid after still lowered.others ∙ l1-stays tables before mid is raised.others);
   count = search rules;
   cluster = search rules;
   unmodified = search rules;
@@ -80,5 +80,5 @@ returns-clause-repairable g c = λ told.
     let still = repairable-stays tables before mid is raised.others in
     let end = repairable-stays tables mid after still lowered.others in
     let l1 : c.args.l1_table.now.numbers ≡ l1_in header after =
-    c.requires.l1_table.numbers start ∙ sym (l1-stays tables mid after still c.requires.placed lowered.others ∙ l1-stays tables before mid is c.requires.placed raised.others) in
+    c.requires.l1_table.numbers start ∙ sym (l1-stays tables mid after still lowered.others ∙ l1-stays tables before mid is raised.others) in
     rw l1 at end
