@@ -1,4 +1,4 @@
-use Rattle.std.proofs.Common.{◌≡◌, ◌≢◌, ◌⊎◌, ℕ, false, true, ◌+◌, ◌-◌, ◌*◌, ◌/◌, ◌%◌, ◌^◌, ◌<◌, ◌≤◌, List, length, slice_index, slice_set, Option, Some, None, IsSome, ap, refl, subst, sym, ◌∙◌, inl, inr, mod-lt, div-add-mod', arith}
+use Rattle.std.proofs.Common.{◌≡◌, ◌≢◌, ◌⊎◌, ℕ, ◌+◌, ◌-◌, ◌*◌, ◌/◌, ◌%◌, ◌^◌, ◌<◌, ◌≤◌, List, length, slice_index, slice_set, Option, Some, None, ap, refl, subst, sym, ◌∙◌, inl, inr, mod-lt, div-add-mod', arith}
 use Rattle.std.proofs.lemmas.Bool.{cases_eq, cases_lt}
 use Rattle.std.proofs.lemmas.Bool.Decides.{nat_tests}
 use Rattle.std.proofs.lemmas.Grind.{get_or-set_at}
@@ -11,9 +11,9 @@ use Rattle.qcow2_base.specs.declared.types.HostCluster.{HostCluster}
 use Rattle.qcow2_metadata.proofs.PackingLemmas.{counters_at-length, counters_at-same}
 use Rattle.qcow2_metadata.proofs.RefblockLemmas.{block_bytes}
 use Rattle.qcow2_metadata.specs.Header.{HeaderRecord}
-use Rattle.qcow2_metadata.specs.Placed.{numbers_at, place_fault}
+use Rattle.qcow2_metadata.specs.Placed.{place_fault}
 use Rattle.qcow2_metadata.specs.Refblock.{block_entries, block_geometry_of, block_layout, greatest_counter}
-use Rattle.qcow2_check.proofs.CountersLemmas.{place_of_block, same_block, same_remainder}
+use Rattle.qcow2_check.proofs.CountersLemmas.{place_of_block, same_block}
 use Rattle.qcow2_check.proofs.FindingsLemmas.{cell_counts}
 use Rattle.qcow2_check.proofs.RepairLemmas.{one-block, other-cluster, uses-stay}
 use Rattle.qcow2_check.specs.Counters.{block_of_cluster, blocks_fault, counters_each}

@@ -1,35 +1,32 @@
-use Rattle.std.proofs.Common.{◌≡◌, ◌≢◌, ◌⊎◌, ℕ, Bool, true, false, zero, suc, ◌+◌, ◌-◌, ◌*◌, ◌/◌, ◌^◌, ◌<◌, ◌≤◌, List, [], ◌∷◌, flat_map, map, length, slice_index, Option, Some, None, option_map, Result, Ok, ap, refl, sym, subst, ◌∙◌, inl, inr, add-zero, arith}
+use Rattle.std.proofs.Common.{◌≡◌, ◌⊎◌, ℕ, Bool, false, zero, suc, ◌+◌, ◌*◌, ◌/◌, ◌^◌, ◌<◌, ◌≤◌, List, [], ◌∷◌, map, slice_index, Option, Some, None, Ok, ap, refl, sym, subst, ◌∙◌, inl, inr, add-zero, arith}
 use Rattle.std.proofs.lemmas.Bool.{cases_Bool, cases_lt}
 use Rattle.std.proofs.lemmas.Bool.Decides.{nat_tests}
 use Rattle.std.proofs.lemmas.Grind.{div_ceil_times}
-use Rattle.std.proofs.lemmas.List.{get_or-map, length-map}
+use Rattle.std.proofs.lemmas.List.{length-map}
 use Rattle.std.proofs.lemmas.Nat.{div-mul-add, pow_pos}
-use Rattle.std.proofs.Math.Nat.{div-lt_iff_lt-mul, lt_of_mul-lt-mul_right}
+use Rattle.std.proofs.Math.Nat.{div-lt_iff_lt-mul}
 use Rattle.std.specs.Int.{div_ceil}
-use Rattle.qcow2_base.specs.Format.{max_file_length}
 use Rattle.qcow2_base.specs.Storage.{Image, SameOutside}
 use Rattle.qcow2_base.specs.declared.types.HostCluster.{HostCluster}
-use Rattle.qcow2_metadata.proofs.CopiedLemmas.{allocation-with_copied, is_copied-with_copied, offset_field-with_copied, with_copied-fits}
+use Rattle.qcow2_metadata.proofs.CopiedLemmas.{offset_field-with_copied}
 use Rattle.qcow2_metadata.proofs.EntriesLemmas.{div_rises}
 use Rattle.qcow2_metadata.proofs.TableLemmas.{table_numbers_same}
-use Rattle.qcow2_metadata.specs.Entries.{with_copied}
 use Rattle.qcow2_metadata.specs.Header.{Geometry, HeaderRecord, geometry_of}
 use Rattle.qcow2_metadata.specs.Placed.{offset_of}
 use Rattle.qcow2_metadata.specs.Results.{result_map}
-use Rattle.qcow2_metadata.specs.Table.{l2_layout, loaded_l2_table}
+use Rattle.qcow2_metadata.specs.Table.{loaded_l2_table}
 use Rattle.qcow2_check.proofs.ApartLemmas.{header-used, l1-used, named-below, named-used}
 use Rattle.qcow2_check.proofs.FindingsLemmas.{cell_counts, excludes, uses_by_kind}
-use Rattle.qcow2_check.proofs.RepairFlagsLemmas.{has_flag, passed_cases, table-valid, twice-passed}
+use Rattle.qcow2_check.proofs.RepairFlagsLemmas.{passed_cases}
 use Rattle.qcow2_check.proofs.RepairLemmas.{table-same}
-use Rattle.qcow2_check.specs.Counters.{block_of_cluster, blocks_fault}
-use Rattle.qcow2_check.specs.Findings.{CountsAll, is_shared, uses_of_kind}
+use Rattle.qcow2_check.specs.Counters.{block_of_cluster}
+use Rattle.qcow2_check.specs.Findings.{CountsAll, is_shared}
 use Rattle.qcow2_check.specs.Flags.{flagged_cluster}
 use Rattle.qcow2_check.specs.NamedTables.{l1_cluster, l1_layout, named_cluster}
 use Rattle.qcow2_check.specs.Repair.{IsRepairable}
-use Rattle.qcow2_check.specs.Repair.Flags.{BreaksOffFlags, BreaksOffL2, FlagPassState, IsBetween, IsOutsideL2Tables, IsOutsideTables, NamesTable, PassesFlags, PassesL2, TallyPass, due_flag, l1_due, l1_in, l2_due, l2_in, pass_all, pass_between, pass_by, passed_l1, passed_l2, tally_uses, uses_between, with_due}
-use Rattle.qcow2_check.specs.Tally.{TallyState, cell_at, used_clusters}
-use Rattle.qcow2_check.specs.Uses.{ImageTables, all_load, entry_uses, image_tables, image_uses, l1_entry_loads, l1_entry_uses, uses_of}
-use Rattle.qcow2_check.specs.declared.tally.UseKind.TheVariants.{Fixed, L2Table}
+use Rattle.qcow2_check.specs.Repair.Flags.{BreaksOffFlags, BreaksOffL2, FlagPassState, IsBetween, IsOutsideL2Tables, IsOutsideTables, NamesTable, PassesFlags, PassesL2, due_flag, l1_due, l1_in, l2_due, l2_in, pass_all, pass_between, passed_l1, passed_l2, tally_uses, uses_between, with_due}
+use Rattle.qcow2_check.specs.Tally.{TallyState, cell_at}
+use Rattle.qcow2_check.specs.Uses.{ImageTables, all_load, image_uses, l1_entry_loads, uses_of}
 
 -- a pass by these uses
 abbrev pub pass_of : HeaderRecord → List ℕ → Bool → (ℕ → Option ℕ) → FlagPassState

@@ -5,7 +5,6 @@ use Rattle.std.proofs.lemmas.Grind.{div_ceil_times}
 use Rattle.std.proofs.lemmas.Nat.{pow_pos}
 use Rattle.std.proofs.Math.Nat.{div-eq_of_lt, le-div_iff_mul-le}
 use Rattle.std.specs.Int.{div_ceil}
-use Rattle.qcow2_base.specs.Format.{max_file_length}
 use Rattle.qcow2_base.specs.Storage.{Image, OnlyReads, OnlyWrites, SameOutside, StorageState}
 use Rattle.qcow2_base.specs.declared.fault.Fault.{Fault}
 use Rattle.qcow2_base.specs.declared.types.HostCluster.{HostCluster}
@@ -25,7 +24,7 @@ use Rattle.qcow2_check.specs.Repair.{IsRepairable, ReportsFailures}
 use Rattle.qcow2_check.specs.Repair.Refusals.{repairable_tables}
 use Rattle.qcow2_check.specs.Repair.Flags.{NamesTable, l1_in, l2_in}
 use Rattle.qcow2_check.specs.Tally.{used_clusters}
-use Rattle.qcow2_check.specs.Uses.{ImageTables, block_uses, entry_uses, header_uses, image_tables, image_uses, l1_entry_loads, l1_entry_uses, uses_of}
+use Rattle.qcow2_check.specs.Uses.{ImageTables, block_uses, entry_uses, header_uses, image_tables, image_uses, l1_entry_uses}
 use Rattle.qcow2_check.specs.declared.tally.UseKind.TheVariants.{Fixed, L2Table}
 
 -- a header's text is written only where it fits the first cluster

@@ -1,16 +1,15 @@
-use Rattle.std.proofs.Common.{◌≡◌, ◌≢◌, ℕ, zero, suc, false, ◌+◌, ◌*◌, ◌/◌, ◌^◌, ◌<◌, ◌≤◌, List, [], ◌∷◌, ◌++◌, flat_map, slice_index, Option, Some, None, Result, Ok, ap, refl, sym, ◌∙◌, inl, inr, ◌-◌, arith}
+use Rattle.std.proofs.Common.{◌≡◌, ◌≢◌, ℕ, zero, suc, false, ◌+◌, ◌*◌, ◌/◌, ◌^◌, ◌<◌, ◌≤◌, List, [], ◌∷◌, ◌++◌, flat_map, slice_index, Option, Some, None, Ok, ap, refl, sym, ◌∙◌, inl, inr, ◌-◌, arith}
 use Rattle.std.proofs.lemmas.Bool.Decides.{nat_tests}
 use Rattle.std.proofs.lemmas.Bool.{cases_lt}
 use Rattle.std.proofs.lemmas.Nat.{div-mul-add}
 use Rattle.std.proofs.Math.Nat.{div-le_self}
 use Rattle.qcow2_base.specs.Format.{max_file_length}
 use Rattle.qcow2_base.specs.Storage.{Image, SameOutside}
-use Rattle.qcow2_base.specs.declared.fault.Fault.{Fault}
 use Rattle.qcow2_base.specs.declared.types.HostCluster.{HostCluster}
 use Rattle.qcow2_metadata.proofs.TableLemmas.{full_cluster, table_numbers_same}
 use Rattle.qcow2_metadata.specs.Header.{Geometry, geometry_of}
 use Rattle.qcow2_metadata.specs.Placed.{numbers_at}
-use Rattle.qcow2_metadata.specs.Results.{and_then, result_map}
+use Rattle.qcow2_metadata.specs.Results.{result_map}
 use Rattle.qcow2_metadata.specs.Table.{l2_entries, l2_layout, loaded_l2_table}
 use Rattle.qcow2_check.proofs.ApartLemmas.{kind-append, named-below, named-used}
 use Rattle.qcow2_check.proofs.FindingsLemmas.{excludes, kind-cons, uses_by_kind}
@@ -19,7 +18,7 @@ use Rattle.qcow2_check.specs.NamedTables.{named_block, named_cluster}
 use Rattle.qcow2_check.specs.Repair.{IsRepairable}
 use Rattle.qcow2_check.specs.Repair.Counters.{IsOutsideBlocks}
 use Rattle.qcow2_check.specs.Tally.{ClusterUse, used_clusters}
-use Rattle.qcow2_check.specs.Uses.{ImageTables, all_load, block_uses, entry_uses, header_uses, image_uses, l1_entry_loads, l1_entry_uses, uses_of}
+use Rattle.qcow2_check.specs.Uses.{ImageTables, all_load, block_uses, entry_uses, header_uses, image_uses, l1_entry_loads, l1_entry_uses}
 use Rattle.qcow2_check.specs.declared.tally.UseKind.TheVariants.{Fixed, L2Table}
 
 -- the same lists one after another

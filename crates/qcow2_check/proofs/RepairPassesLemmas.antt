@@ -1,4 +1,4 @@
-use Rattle.std.proofs.Common.{◌≡◌, ◌≢◌, ◌⊎◌, ℕ, Bool, true, false, zero, suc, ◌+◌, ◌-◌, ◌*◌, ◌/◌, ◌^◌, ◌<◌, ◌≤◌, List, [], ◌∷◌, ◌++◌, flat_map, map, length, slice_index, Option, Some, None, option_map, Result, Ok, ap, refl, sym, subst, ◌∙◌, inl, inr, arith}
+use Rattle.std.proofs.Common.{◌≡◌, ◌⊎◌, ℕ, Bool, true, false, suc, ◌<◌, ◌≤◌, List, [], ◌∷◌, flat_map, map, slice_index, Option, Some, None, Ok, ap, refl, sym, subst, ◌∙◌, inl, inr, arith}
 use Rattle.std.proofs.lemmas.Bool.{cases_Bool, cases_lt}
 use Rattle.std.proofs.lemmas.Bool.Decides.{nat_tests}
 use Rattle.std.proofs.Math.Nat.{div-le_self}
@@ -14,7 +14,7 @@ use Rattle.qcow2_metadata.specs.Table.{loaded_l2_table}
 use Rattle.qcow2_check.proofs.ApartLemmas.{named-below}
 use Rattle.qcow2_check.proofs.RepairFlagsLemmas.{has_flag, passed_cases, table-valid, twice-passed}
 use Rattle.qcow2_check.proofs.RepairLemmas.{entry-loads}
-use Rattle.qcow2_check.proofs.RepairFlagWindowsLemmas.{IsPart, all-load-map, between-map, due-none, due-same, each-map, l1-part, l2-part, loads-by, map-same, named-passed, names-from, names-same, names-to, pass_of}
+use Rattle.qcow2_check.proofs.RepairFlagWindowsLemmas.{IsPart, all-load-map, between-map, due-none, due-same, l1-part, l2-part, loads-by, map-same, named-passed, names-from, names-same, names-to, pass_of}
 use Rattle.qcow2_check.specs.Counters.{block_of_cluster}
 use Rattle.qcow2_check.specs.Flags.{flagged_cluster}
 use Rattle.qcow2_check.specs.NamedTables.{named_cluster}

@@ -1,5 +1,5 @@
 -- When is an image consistent?
-use Rattle.std.specs.Prelude.{◌≡◌, Bool, true, false, List, []}
+use Rattle.std.specs.Prelude.{◌≡◌, Bool, true, false, []}
 use Rattle.qcow2_base.specs.Storage.{Image}
 use Rattle.qcow2_check.specs.Findings.{image_findings}
 use Rattle.qcow2_check.specs.Flags.{image_flags}

@@ -1,5 +1,5 @@
 -- What does a pass of a repair over counters change?
-use Rattle.std.specs.Prelude.{◌≡◌, ◌≢◌, ◌⊎◌, ℕ, ◌&&◌, ◌+◌, ◌/◌, ◌^◌, ◌<◌, ◌≤◌, max, min, nat_le, nat_lt, if◌then◌else◌, List, length, slice_index, Some, IsSome}
+use Rattle.std.specs.Prelude.{◌≡◌, ◌≢◌, ◌⊎◌, ℕ, ◌&&◌, ◌/◌, ◌^◌, ◌<◌, ◌≤◌, max, min, nat_le, nat_lt, if◌then◌else◌, List, length, slice_index, Some, IsSome}
 use Rattle.qcow2_base.specs.Format.{max_file_length}
 use Rattle.qcow2_base.specs.Storage.{Image}
 use Rattle.qcow2_base.specs.declared.fault.Fault.{Fault}

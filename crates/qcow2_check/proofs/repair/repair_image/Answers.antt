@@ -1,10 +1,9 @@
 use Rattle.std.proofs.Common.{◌≡◌, IsTrue, IsOk, Ok, Some, length, true, refl, sym, ◌∙◌, inl, inr, rules}
 use Rattle.std.proofs.lemmas.Result.{err_from_is_err_and}
-use Rattle.qcow2_base.specs.Storage.{SameOutside}
 use Rattle.qcow2_metadata.proofs.WritableLemmas.{writable-same}
 use Rattle.qcow2_metadata.specs.Header.Open.{SaysSame, opened_text}
 use Rattle.qcow2_check.proofs.RepairHeaderLemmas.{blocks-said, geometry-said, loads-written, repairable-l1, repairable-written, reports-later, text-fits, wider}
-use Rattle.qcow2_check.specs.Repair.{IsRepairable, MakesWritable, tables_in}
+use Rattle.qcow2_check.specs.Repair.{MakesWritable}
 use Rattle.qcow2_check.specs.Repair.Refusals.{repairable_tables}
 use Rattle.qcow2_check.specs.Uses.{ImageTables, image_tables}
 use Rattle.qcow2_check.proofs.repair.repair_image.Goals as goal

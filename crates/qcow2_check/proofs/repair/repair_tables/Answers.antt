@@ -1,8 +1,7 @@
-use Rattle.std.proofs.Common.{◌≡◌, IsTrue, Some, false, inl, inr, refl, sym, rules}
-use Rattle.std.proofs.lemmas.Result.{err_from_is_err_and}
+use Rattle.std.proofs.Common.{IsTrue, Some, false, refl, rules}
 use Rattle.qcow2_check.proofs.RepairPassesLemmas.{PassedBy, repairable-after}
-use Rattle.qcow2_check.specs.Repair.{IsRepairable, tables_in}
-use Rattle.qcow2_check.specs.Uses.{ImageTables, image_tables, image_uses, uses_of}
+use Rattle.qcow2_check.specs.Repair.{tables_in}
+use Rattle.qcow2_check.specs.Uses.{ImageTables, image_uses, uses_of}
 use Rattle.qcow2_check.proofs.repair.repair_tables.Goals as goal
 
 pub pass_both_counters-requires-clause-repairable : goal.pass_both_counters-requires-clause-repairable

@@ -1,8 +1,4 @@
-use Rattle.std.proofs.Common.{◌≡◌, IsTrue, None, inl, rules}
-use Rattle.std.proofs.lemmas.Result.{err_from_is_err_and}
-use Rattle.qcow2_check.proofs.RepairFlagWindowsLemmas.{flags-unchanged}
-use Rattle.qcow2_check.specs.Repair.{tables_in}
-use Rattle.qcow2_check.specs.Repair.Flags.{pass_all}
+use Rattle.std.proofs.Common.{◌≡◌, IsTrue, rules}
 use Rattle.qcow2_check.proofs.repair.repair_written.Goals as goal
 
 pub returns-clause-repairs : goal.returns-clause-repairs

@@ -1,4 +1,4 @@
-use Rattle.std.proofs.Common.{◌≡◌, IsTrue, arith, rules}
+use Rattle.std.proofs.Common.{IsTrue, arith, rules}
 use Rattle.std.proofs.lemmas.Result.{err_from_is_err_and}
 use Rattle.qcow2_check.proofs.RepairCountersLemmas.{between-more, breaks-later}
 use Rattle.qcow2_check.proofs.RepairLemmas.{repairable-stays}

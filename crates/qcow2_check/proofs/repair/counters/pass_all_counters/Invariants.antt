@@ -1,4 +1,4 @@
-use Rattle.std.proofs.Common.{◌≡◌, ◌≤◌, ◌-◌, Ok, IfSome}
+use Rattle.std.proofs.Common.{◌≤◌, ◌-◌, Ok, IfSome}
 use Rattle.qcow2_base.specs.Format.{max_file_length}
 use Rattle.qcow2_base.specs.Storage.{OnImage, OnImages}
 use Rattle.qcow2_check.specs.Findings.{CountsAll}

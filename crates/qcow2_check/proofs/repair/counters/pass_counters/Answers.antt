@@ -1,5 +1,4 @@
 use Rattle.std.proofs.Common.{◌/◌, ◌+◌, rules}
-use Rattle.std.proofs.lemmas.Result.{err_from_is_err_and}
 use Rattle.qcow2_check.proofs.RepairCountersLemmas.{passes-next}
 use Rattle.qcow2_check.specs.Tally.{cell_at}
 use Rattle.qcow2_check.proofs.repair.counters.pass_counters.Goals as goal

@@ -1,4 +1,4 @@
-use Rattle.std.proofs.Common.{◌≡◌, ◌⊎◌, ◌+◌, ◌/◌, ◌≤◌, true}
+use Rattle.std.proofs.Common.{◌≡◌, ◌⊎◌, ◌+◌, ◌/◌, true}
 use Rattle.qcow2_check.specs.Repair.Counters.{PassesBlock}
 use Rattle.qcow2_check.specs.Tally.{cell_at}
 use Rattle.qcow2_check.proofs.repair.counters.pass_counters.Given as goal

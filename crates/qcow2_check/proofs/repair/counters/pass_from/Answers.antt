@@ -1,11 +1,8 @@
-use Rattle.std.proofs.Common.{◌≡◌, ◌+◌, ◌-◌, ◌*◌, ◌/◌, ◌%◌, ◌^◌, ◌<◌, ◌≤◌, IsTrue, Some, inl, inr, arith, rules}
+use Rattle.std.proofs.Common.{◌≡◌, IsTrue, Some, inl, inr, arith, rules}
 use Rattle.std.proofs.lemmas.Result.{err_from_is_err_and}
-use Rattle.qcow2_base.specs.Storage.{SameOutside}
 use Rattle.qcow2_check.proofs.RepairCountersLemmas.{breaks-here, changes-block, none-passed, others-stay, part-from, past-never}
 use Rattle.qcow2_check.proofs.RepairLemmas.{uses-stay}
-use Rattle.qcow2_check.specs.Counters.{counters_each}
 use Rattle.qcow2_check.specs.Findings.{CountsAll}
-use Rattle.qcow2_check.specs.NamedTables.{named_block}
 use Rattle.qcow2_check.proofs.repair.counters.pass_from.Goals as goal
 
 pub returns-in_default-clause-passed : goal.returns-in_default-clause-passed

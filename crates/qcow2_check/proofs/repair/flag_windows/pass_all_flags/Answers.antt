@@ -1,4 +1,4 @@
-use Rattle.std.proofs.Common.{◌≡◌, IsTrue, rules, sym}
+use Rattle.std.proofs.Common.{IsTrue, rules}
 use Rattle.std.proofs.lemmas.Result.{err_from_is_err_and}
 use Rattle.qcow2_check.proofs.RepairPassesLemmas.{PassedBy, breaks-joined, passes-finished, passes-joined, repairable-after}
 use Rattle.qcow2_check.specs.Repair.Flags.{uses_between}

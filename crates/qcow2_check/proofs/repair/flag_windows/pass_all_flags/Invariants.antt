@@ -1,7 +1,6 @@
 use Rattle.std.proofs.Common.{◌≤◌, ◌-◌, Ok}
 use Rattle.qcow2_base.specs.Format.{max_file_length}
 use Rattle.qcow2_base.specs.Storage.{OnImages}
-use Rattle.qcow2_check.proofs.RepairPassesLemmas.{repairable-after}
 use Rattle.qcow2_check.specs.Repair.{ReportsFailures}
 use Rattle.qcow2_check.specs.Repair.Flags.{IsL1TableOf, PassesFlags, pass_between}
 use Rattle.qcow2_check.specs.Uses.{image_tables}

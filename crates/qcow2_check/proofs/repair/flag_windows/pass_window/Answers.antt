@@ -1,8 +1,7 @@
 use Rattle.std.proofs.Common.{◌≡◌, IsTrue, None, Some, map, sym, ◌∙◌, rules}
 use Rattle.std.proofs.lemmas.Result.{err_from_is_err_and}
 use Rattle.qcow2_check.proofs.RepairFlagWindowsLemmas.{PassesWindow, l1-after, loads-after-l1, tally_pass, window-passed, window-torn-l1, window-torn-l2}
-use Rattle.qcow2_check.specs.Findings.{CountsAll}
-use Rattle.qcow2_check.specs.Repair.Flags.{l1_in, passed_l1}
+use Rattle.qcow2_check.specs.Repair.Flags.{passed_l1}
 use Rattle.qcow2_check.specs.Uses.{ImageTables, image_tables}
 use Rattle.qcow2_check.proofs.repair.flag_windows.pass_window.Goals as goal
 

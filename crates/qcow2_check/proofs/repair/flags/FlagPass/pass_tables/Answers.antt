@@ -1,7 +1,6 @@
-use Rattle.std.proofs.Common.{◌≡◌, ◌≤◌, IsTrue, None, Some, slice_index, rules}
+use Rattle.std.proofs.Common.{IsTrue, rules}
 use Rattle.std.proofs.lemmas.Result.{err_from_is_err_and}
 use Rattle.qcow2_check.proofs.RepairFlagsLemmas.{ChangesTable, some-loads, some-next, some-skip, some-torn}
-use Rattle.qcow2_check.specs.NamedTables.{named_cluster}
 use Rattle.qcow2_check.specs.Repair.Flags.{pass_by}
 use Rattle.qcow2_check.proofs.repair.flags.FlagPass.pass_tables.Goals.{in-Some+in_ok-pass_table, in_default}
 use Rattle.qcow2_check.proofs.repair.flags.FlagPass.pass_tables.Goals as goal
