@@ -6,7 +6,7 @@ use Rattle.qcow2_base.specs.declared.fault.Fault.TheVariants.{Uncounted}
 use Rattle.qcow2_metadata.proofs.WritableLemmas.{writable-same}
 use Rattle.qcow2_metadata.specs.Header.{HeaderRecord, IsValidHeader, geometry_of, uncounted_part}
 use Rattle.qcow2_metadata.specs.Results.{and_then, result_map, unless_refused}
-use Rattle.qcow2_check.proofs.RepairHeaderLemmas.{repairable-l1, repairable-written}
+use Rattle.qcow2_check.proofs.RepairHeaderLemmas.{repairable-l1, repairable-written, text-fits}
 use Rattle.qcow2_check.proofs.RepairRefusalsLemmas.{repairable-unless_refused}
 use Rattle.qcow2_check.specs.Counters.{blocks_fault, placed_reftable}
 use Rattle.qcow2_check.specs.Findings.{checked_tables, image_findings}
@@ -82,6 +82,6 @@ pub repairable-found-written : (header written : HeaderRecord) (tables : ImageTa
 repairable-found-written header written tables old mid valid bytes is makes =
     let here = found-repairable header old tables valid.cluster_bits valid.refcount_order bytes is in
     let says = writable-same header written makes.becomes in
-    let both = repairable-written header written tables.l1 tables.reftable (2 ^ header.v2.cluster_bits) old mid says here
-    (repairable-l1 header tables old is).1 makes.others (omega arith) in
+    let both = repairable-written header written tables.l1 tables.reftable _ old mid says here
+    (repairable-l1 header tables old is).1 makes.others (text-fits header) in
     rw both.1 both.0

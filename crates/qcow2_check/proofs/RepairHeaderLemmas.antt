@@ -204,14 +204,6 @@ loads-written header written tables len before mid says found is outside fits =
     rw kept l1.0 in
     subst (λ v2. loaded_l1_table (record written { v2 = v2 }) mid ≡ Ok (l1_in (record written { v2 = v2 }) mid)) (sym says.v2) here
 
--- what is the same outside a header's text is so outside the first cluster
-pub wider : (header : HeaderRecord) (before after : Image) → SameOutside 0 (length (opened_text true (Ok header))) before after
-    → SameOutside 0 (2 ^ header.v2.cluster_bits) before after
-wider header before after outside = record {
-  before = λ o less. outside.before o less;
-  after = λ o more. outside.after o (omega (arith, more, text-fits header));
-}
-
 -- a fault after calls that read and calls that write
 pub reports-later : {A B C : Type 0} (x : A) (y : B) (z : C) (fault : Fault) (place : Option ℕ) (len : ℕ) (a b c d : StorageState)
     → OnlyReads (Ok x) a b → OnlyWrites (Ok y) place len b c → ReportsFailures {T = Unit {0}} (Err fault) c d → ReportsFailures {T = C} (Err fault) a d

@@ -3,7 +3,7 @@ pub mod Counters
 pub mod Flags
 pub mod Left
 pub mod Refusals
-use Rattle.std.specs.Prelude.{◌≡◌, ◌≢◌, ◌⊎◌, ◌↔◌, ℕ, true, false, ◌^◌, ◌<◌, ◌≤◌, List, Option, None, Result, Ok, Err, IfErr, IsErrOf, IsOk, IsSome, MatchResult}
+use Rattle.std.specs.Prelude.{◌≡◌, ◌≢◌, ◌⊎◌, ◌↔◌, ℕ, true, false, ◌<◌, ◌≤◌, List, length, Option, None, Result, Ok, Err, IfErr, IsErrOf, IsOk, IsSome, MatchResult}
 use Rattle.qcow2_base.specs.Format.{max_file_length}
 use Rattle.qcow2_base.specs.Storage.{Holds, Image, OnImage, OnImages, SameDevice, SameOutside, StorageState}
 use Rattle.qcow2_base.specs.Types.{IsClusterBits}
@@ -91,21 +91,21 @@ BreaksOffRepair header reftable old new =
     × ((torn : Option HostCluster) × BreaksOffFlags (pass_all (tables_in header reftable lowered) lowered true) torn lowered new))
 
 -- a header was made one whose image may be written, as a load for writing makes it: its text was placed, where it had to be, and no
--- byte past the first cluster changed
+-- byte past it changed
 pub record MakesWritable (header written : HeaderRecord) (old new : Image) : Type 0 where
   pub becomes : header_after_load true (Ok header) ≡ Ok written
   pub text : Holds new 0 (opened_text true (Ok header))
-  pub others : SameOutside 0 (2 ^ header.v2.cluster_bits) old new
+  pub others : SameOutside 0 (length (opened_text true (Ok header))) old new
 
 -- a repair of an image with this header that was done, in which the header became this
 abbrev pub IsRepaired : HeaderRecord → HeaderRecord → Image → Image → Type 0
 IsRepaired header written old new = (tables : ImageTables) × (mid : Image) × (repairable_tables header old ≡ Ok tables)
     × MakesWritable header written old mid × Repairs written tables.reftable mid new
 
--- one that broke off: before a byte changed, while the header was written, or in a pass
+-- one that broke off: before a byte changed, while the header's text was written, or in a pass
 abbrev pub BreaksOffAt : HeaderRecord → Image → Image → Type 0
 BreaksOffAt header old new = (new ≡ old)
-    ⊎ (IsOk (repairable_tables header old) × SameOutside 0 (2 ^ header.v2.cluster_bits) old new)
+    ⊎ (IsOk (repairable_tables header old) × SameOutside 0 (length (opened_text true (Ok header))) old new)
     ⊎ ((written : HeaderRecord) × (tables : ImageTables) × (mid : Image) × (repairable_tables header old ≡ Ok tables)
     × MakesWritable header written old mid × BreaksOffRepair written tables.reftable mid new)
 

@@ -2,7 +2,7 @@ use Rattle.std.proofs.Common.{◌≡◌, IsTrue, IsOk, Ok, Some, length, true, r
 use Rattle.std.proofs.lemmas.Result.{err_from_is_err_and}
 use Rattle.qcow2_metadata.proofs.WritableLemmas.{writable-same}
 use Rattle.qcow2_metadata.specs.Header.Open.{SaysSame, opened_text}
-use Rattle.qcow2_check.proofs.RepairHeaderLemmas.{blocks-said, geometry-said, loads-written, repairable-l1, repairable-written, reports-later, text-fits, wider}
+use Rattle.qcow2_check.proofs.RepairHeaderLemmas.{blocks-said, geometry-said, loads-written, repairable-l1, repairable-written, reports-later, text-fits}
 use Rattle.qcow2_check.specs.Repair.{MakesWritable}
 use Rattle.qcow2_check.specs.Repair.Refusals.{repairable_tables}
 use Rattle.qcow2_check.specs.Uses.{ImageTables, image_tables}
@@ -50,7 +50,7 @@ returns-in_err-header g c =
     record {
       repairs = λ told.
           let found : IsOk (repairable_tables c.args.header before) = rw (c.in_ok-reftable.ensures.reads.exact told) refl in
-          rw exit.1 (inr (inl (found, wider c.args.header before _ (rw bytes at (c.in_err-header.ensures.writable.storage.others (rw known told))))));
+          rw exit.1 (inr (inl (found, rw bytes at (c.in_err-header.ensures.writable.storage.others (rw known told)))));
       refused = search rules;
       storage = search rules;
     }
@@ -70,7 +70,7 @@ returns-in_err-repair_written g c =
           record {
             becomes = c.in_ok-header.ensures.writable.exact;
             text = c.in_ok-header.ensures.writable.placed (rw known told);
-            others = wider c.args.header before mid (rw bytes at (c.in_ok-header.ensures.writable.storage.others (rw known told)));
+            others = rw bytes at (c.in_ok-header.ensures.writable.storage.others (rw known told));
           } in
           rw exit.1 (inr (inr (c.in_ok-header.header, tables, mid, c.in_ok-reftable.ensures.reads.exact told, makes, c.in_err-repair_written.ensures.repairs (rw later told))));
       refused = rw (exit.1, exit.2) (λ told. inl (c.in_err-repair_written.ensures.fault (rw later told)));
@@ -93,7 +93,7 @@ returns g c =
           record {
             becomes = c.in_ok-header.ensures.writable.exact;
             text = c.in_ok-header.ensures.writable.placed (rw known told);
-            others = wider c.args.header before mid (rw bytes at (c.in_ok-header.ensures.writable.storage.others (rw known told)));
+            others = rw bytes at (c.in_ok-header.ensures.writable.storage.others (rw known told));
           } in
           (tables, mid, c.in_ok-reftable.ensures.reads.exact told, makes, c.in_ok-repair_written.ensures.repairs (rw later told));
       refused = search rules;

@@ -59,13 +59,13 @@ returns-in-Count-clause-at_once g c = λ silent.
     last-with (facts_of c.args.command.now) c.in_ok-header.header _ _ c.in_ok-header.ensures
     (rw c.fine-in-Count.ensures.answer (fine-PrintsLast c.count_references.result _ _ _ _ _ c.count_references.ensures.last))
 
-pub returns-clause-runs : goal.returns-clause-runs
-returns-clause-runs g c =
+pub returns-in-L2-clause-runs : goal.returns-in-L2-clause-runs
+returns-in-L2-clause-runs g c =
     let found = rw c.in-L2.is at c.in_ok-header.ensures in
     runs-with (facts_of c.args.command.now) c.in_ok-header.header _ _ c.in_ok-header.ensures
     (rw (c.in-L2.is, ← found.0, c.fine-in-L2.ensures.answer) (fine-Prints c.print_l2_table.result _ _ _ _ _ _ c.print_l2_table.ensures.prints))
 
-pub returns-clause-at_once : goal.returns-clause-at_once
-returns-clause-at_once g c = λ silent.
+pub returns-in-L2-clause-at_once : goal.returns-in-L2-clause-at_once
+returns-in-L2-clause-at_once g c = λ silent.
     last-with (facts_of c.args.command.now) c.in_ok-header.header _ _ c.in_ok-header.ensures
     (rw c.fine-in-L2.ensures.answer (fine-PrintsLast c.print_l2_table.result _ _ _ _ _ c.print_l2_table.ensures.last))
