@@ -1,4 +1,4 @@
-use Rattle.std.proofs.Common.{◌≡◌, ℕ, ◌^◌, ◌≤◌, List, Option, Some, None, option_map, Result, Ok, Err, refl, sym, subst, arith}
+use Rattle.std.proofs.Common.{◌≡◌, ℕ, ◌^◌, ◌≤◌, List, Option, Some, None, option_map, Result, Ok, Err, refl, sym, subst, ◌∙◌, arith}
 use Rattle.qcow2_base.specs.Storage.{Image, IsBytes}
 use Rattle.qcow2_base.specs.Types.{IsClusterBits}
 use Rattle.qcow2_base.specs.declared.fault.Fault.{Fault}
@@ -6,14 +6,14 @@ use Rattle.qcow2_base.specs.declared.fault.Fault.TheVariants.{Uncounted}
 use Rattle.qcow2_metadata.proofs.WritableLemmas.{writable-same}
 use Rattle.qcow2_metadata.specs.Header.{HeaderRecord, IsValidHeader, geometry_of, uncounted_part}
 use Rattle.qcow2_metadata.specs.Results.{and_then, result_map, unless_refused}
-use Rattle.qcow2_check.proofs.RepairHeaderLemmas.{repairable-l1, repairable-written, text-fits}
+use Rattle.qcow2_check.proofs.RepairHeaderLemmas.{kept-written, repairable-l1, repairable-written, text-fits}
 use Rattle.qcow2_check.proofs.RepairRefusalsLemmas.{repairable-unless_refused}
-use Rattle.qcow2_check.specs.Counters.{blocks_fault, placed_reftable}
+use Rattle.qcow2_check.specs.Counters.{blocks_fault, counter_of, placed_reftable}
 use Rattle.qcow2_check.specs.Findings.{checked_tables, image_findings}
 use Rattle.qcow2_check.specs.NamedTables.{loaded_l1_table, loaded_reftable}
 use Rattle.qcow2_check.specs.Repair.{IsRepairable, MakesWritable, tables_in}
 use Rattle.qcow2_check.specs.Repair.Refusals.{findings_refusal, repairable_tables}
-use Rattle.qcow2_check.specs.Uses.{ImageTables, all_load, image_tables}
+use Rattle.qcow2_check.specs.Uses.{ImageTables, all_load, image_tables, image_uses}
 
 -- where a chain of steps isn't refused, none of them is
 then-parts : {A B : Type 0} (answer : Result A Fault) (next : A → Result B Fault) (value : B) → and_then answer next ≡ Ok value
@@ -85,3 +85,23 @@ repairable-found-written header written tables old mid valid bytes is makes =
     let both = repairable-written header written tables.l1 tables.reftable _ old mid says here
     (repairable-l1 header tables old is).1 makes.others (text-fits header) in
     rw both.1 both.0
+
+header-found : (header : HeaderRecord) (image : Image) (tables : ImageTables) → repairable_tables header image ≡ Ok tables → tables.header ≡ header
+header-found header image tables is =
+    let found = then-parts (checked_tables header image) (λ tables. unless_refused (findings_refusal header tables.reftable (image_findings tables image)) (Ok tables)) tables is in
+    let fine = fine-parts (findings_refusal header found.0.reftable (image_findings found.0 image)) (Ok found.0) tables found.2 in
+    subst (λ tables. tables.header ≡ header) (ok-same found.0 tables fine.1) (checked-parts header image found.0 found.1).same
+
+-- uses and counters are the same then
+pub kept-found-written : (header written : HeaderRecord) (tables : ImageTables) (old mid : Image) → IsValidHeader header → IsBytes old
+    → repairable_tables header old ≡ Ok tables → MakesWritable header written old mid
+    → (image_uses (tables_in written tables.reftable mid) mid ≡ image_uses tables old)
+    × ((c : ℕ) → counter_of written tables.reftable mid c ≡ counter_of header tables.reftable old c)
+kept-found-written header written tables old mid valid bytes is makes =
+    let here = found-repairable header old tables valid.cluster_bits valid.refcount_order bytes is in
+    let says = writable-same header written makes.becomes in
+    let kept = kept-written header written tables.l1 tables.reftable _ old mid says here
+    (repairable-l1 header tables old is).1 makes.others (text-fits header) in
+    let own : image_uses (image_tables header tables.l1 tables.reftable) old ≡ image_uses tables old
+    = subst (λ other. image_uses (image_tables other tables.l1 tables.reftable) old ≡ image_uses tables old) (header-found header old tables is) refl in
+    (kept.0 ∙ own, kept.1)

@@ -15,12 +15,14 @@ use Rattle.qcow2_metadata.specs.Header.Open.{SaysSame, is_rewritten, opened_text
 use Rattle.qcow2_metadata.specs.Header.Text.{chosen_text, header_after_write, header_text, header_to_write}
 use Rattle.qcow2_check.proofs.ApartLemmas.{first-used, header-used, kind-append, l1-first-used, named-below, named-used}
 use Rattle.qcow2_check.proofs.FindingsLemmas.{excludes, uses_by_kind}
-use Rattle.qcow2_check.proofs.RepairLemmas.{all-load-same, flat_map-same, table-same}
+use Rattle.qcow2_check.proofs.RepairCountersLemmas.{block-same}
+use Rattle.qcow2_check.proofs.RepairOrderLemmas.{fixed-both}
+use Rattle.qcow2_check.proofs.RepairLemmas.{all-load-same, blocks-used, flat_map-same, table-same}
 use Rattle.qcow2_check.proofs.RepairFlagWindowsLemmas.{loads-by}
 use Rattle.qcow2_check.specs.Findings.{is_shared, uses_of_kind}
-use Rattle.qcow2_check.specs.NamedTables.{l1_cluster, loaded_l1_table, named_cluster}
-use Rattle.qcow2_check.specs.Counters.{blocks_fault}
-use Rattle.qcow2_check.specs.Repair.{IsRepairable, ReportsFailures}
+use Rattle.qcow2_check.specs.NamedTables.{l1_cluster, loaded_l1_table, named_block, named_cluster}
+use Rattle.qcow2_check.specs.Counters.{block_of_cluster, blocks_fault, counter_of}
+use Rattle.qcow2_check.specs.Repair.{IsRepairable, ReportsFailures, tables_in}
 use Rattle.qcow2_check.specs.Repair.Refusals.{repairable_tables}
 use Rattle.qcow2_check.specs.Repair.Flags.{NamesTable, l1_in, l2_in}
 use Rattle.qcow2_check.specs.Tally.{used_clusters}
@@ -119,15 +121,23 @@ uses-by tables old new v None names same = rw (names, l1_entry_uses) refl
 uses-by tables old new v (Some table) names same =
     rw (names, l1_entry_uses) (ap (λ numbers. used_clusters L2Table table 1 ∷ flat_map (entry_uses (geometry_of tables.header)) numbers) (same table refl))
 
--- an image can be repaired as before where its L2 tables stay
+-- an image uses the same clusters where its L2 tables stay
+uses-kept : (tables : ImageTables) (old new : Image)
+    → ((table : HostCluster) → NamesTable tables.header tables.l1 table → l2_in tables.header table new ≡ l2_in tables.header table old)
+    → image_uses tables new ≡ image_uses tables old
+uses-kept tables old new stays =
+    let g = geometry_of tables.header in
+    let last : flat_map (l1_entry_uses g new) tables.l1 ≡ flat_map (l1_entry_uses g old) tables.l1 = flat_map-same _ _ tables.l1
+    (λ k. uses-by tables old new _ (named_cluster g.cluster_bits (slice_index tables.l1 k)) refl (λ table names. stays table (k, names))) in
+    rw last refl
+
+-- and can be repaired as before
 repairable-by : (tables : ImageTables) (old new : Image) → IsRepairable tables old
     → ((table : HostCluster) → NamesTable tables.header tables.l1 table → l2_in tables.header table new ≡ l2_in tables.header table old)
     → IsRepairable tables new
 repairable-by tables old new is stays =
     let g = geometry_of tables.header in
-    let last : flat_map (l1_entry_uses g new) tables.l1 ≡ flat_map (l1_entry_uses g old) tables.l1 = flat_map-same _ _ tables.l1
-    (λ k. uses-by tables old new _ (named_cluster g.cluster_bits (slice_index tables.l1 k)) refl (λ table names. stays table (k, names))) in
-    let same : image_uses tables new ≡ image_uses tables old = rw last refl in
+    let same : image_uses tables new ≡ image_uses tables old = uses-kept tables old new stays in
     record {
       bits = is.bits;
       orders = is.orders;
@@ -170,6 +180,55 @@ repairable-written header written l1 reftable len before mid says is numbers out
       repairable-said header written l1 reftable mid says
           (repairable-by tables before mid is (λ table names. l2-past-first tables before mid len table is outside fits names)),
       l1-said header written mid says ∙ l1-stays tables before mid len is outside fits ∙ sym numbers,
+    )
+
+-- an image uses the same clusters by a header that says the same, and has the same counters
+uses-said : (header written : HeaderRecord) (l1 reftable : List ℕ) (image : Image) → SaysSame header written
+    → image_uses (image_tables written l1 reftable) image ≡ image_uses (image_tables header l1 reftable) image
+uses-said header written l1 reftable image says =
+    subst (λ base. image_uses (image_tables (record written { base = base }) l1 reftable) image ≡ image_uses (image_tables header l1 reftable) image) (sym says.base)
+    (subst (λ v2. image_uses (image_tables (record written { v2 = v2; base = record header.base { autoclear_features = written.base.autoclear_features; header_length = written.base.header_length } }) l1 reftable) image ≡ image_uses (image_tables header l1 reftable) image) (sym says.v2) refl)
+
+counter-said : (header written : HeaderRecord) (reftable : List ℕ) (image : Image) (c : ℕ) → SaysSame header written
+    → counter_of written reftable image c ≡ counter_of header reftable image c
+counter-said header written reftable image c says =
+    subst (λ base. counter_of (record written { base = base }) reftable image c ≡ counter_of header reftable image c) (sym says.base)
+    (subst (λ v2. counter_of (record written { v2 = v2; base = record header.base { autoclear_features = written.base.autoclear_features; header_length = written.base.header_length } }) reftable image c ≡ counter_of header reftable image c) (sym says.v2) refl)
+
+-- no block begins with the first cluster, where no uses exclude each other
+block-past-first : (tables : ImageTables) (image : Image) (i : ℕ) (block : HostCluster) → IsRepairable tables image
+    → named_block tables.header.v2.cluster_bits (slice_index tables.reftable i) ≡ Some block → block.0 ≢ 0
+block-past-first tables image i block is names first =
+    let uses = image_uses tables image in
+    let apart : is_shared uses 0 ≡ false = is.apart 0 (omega arith) in
+    let one = first-used tables.header in
+    let other = rw first at (blocks-used tables.header.v2.cluster_bits tables.reftable i block names) in
+    omega (arith, one, other, fixed-both tables image 0, (excludes uses 0 apart).0 (omega (arith, one, fixed-both tables image 0)), uses_by_kind uses 0)
+
+-- so each counter stays where only bytes of the first cluster change
+counter-past-first : (tables : ImageTables) (old new : Image) (len c : ℕ) → IsRepairable tables old → SameOutside 0 len old new
+    → len ≤ 2 ^ tables.header.v2.cluster_bits → counter_of tables.header tables.reftable new c ≡ counter_of tables.header tables.reftable old c
+counter-past-first tables old new len c is outside fits = by_block (block_of_cluster tables.header tables.reftable c) refl
+  where
+    by_block : (found : Option HostCluster) → block_of_cluster tables.header tables.reftable c ≡ found
+        → counter_of tables.header tables.reftable new c ≡ counter_of tables.header tables.reftable old c
+    by_block None none = grind (arith, none)
+    by_block (Some block) there =
+        let kept = block-same tables old block old new is (λ o here. past-first (2 ^ tables.header.v2.cluster_bits) len o old new fits outside
+        (λ first. block-past-first tables old _ block is there (sym here ∙ first))) in
+        grind (arith, there, kept)
+
+-- uses and counters stay after a header is written that says the same
+pub kept-written : (header written : HeaderRecord) (l1 reftable : List ℕ) (len : ℕ) (before mid : Image) → SaysSame header written
+    → IsRepairable (image_tables header l1 reftable) before → l1 ≡ l1_in header before → SameOutside 0 len before mid → len ≤ 2 ^ header.v2.cluster_bits
+    → (image_uses (tables_in written reftable mid) mid ≡ image_uses (image_tables header l1 reftable) before)
+    × ((c : ℕ) → counter_of written reftable mid c ≡ counter_of header reftable before c)
+kept-written header written l1 reftable len before mid says is numbers outside fits =
+    let tables = image_tables header l1 reftable in
+    let now : l1_in written mid ≡ l1 = (repairable-written header written l1 reftable len before mid says is numbers outside fits).1 in (
+      ap (λ numbers. image_uses (image_tables written numbers reftable) mid) now ∙ uses-said header written l1 reftable mid says
+          ∙ uses-kept tables before mid (λ table names. l2-past-first tables before mid len table is outside fits names),
+      λ c. counter-said header written reftable mid c says ∙ counter-past-first tables before mid len c is outside fits,
     )
 
 -- a header that says the same has the same geometry, and the same blocks can lie where they say

@@ -24,7 +24,7 @@ use Rattle.qcow2_check.specs.Uses.{ImageTables, block_uses, header_uses, image_u
 use Rattle.qcow2_check.specs.declared.tally.UseKind.TheVariants.{Fixed}
 
 -- an image has the fixed uses of its header, and those of its refcount table
-fixed-both : (tables : ImageTables) (image : Image) (c : ℕ)
+pub fixed-both : (tables : ImageTables) (image : Image) (c : ℕ)
     → uses_of_kind Fixed (header_uses tables.header) c + uses_of_kind Fixed (flat_map (block_uses tables.header.v2.cluster_bits) tables.reftable) c
     ≤ uses_of_kind Fixed (image_uses tables image) c
 fixed-both tables image c =

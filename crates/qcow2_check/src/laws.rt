@@ -53,6 +53,16 @@ pub fn what_is_not_refused_can_be_repaired()
         MakesWritable header written old mid → IsRepairable (tables_in written tables.reftable mid) mid }
 {}
 
+/// Where `repair_image` makes a header one whose image may be written, no use of a cluster changes, and no
+/// counter. So what the laws below say of uses and counters before a repair holds of the image as it was.
+pub fn a_header_made_writable_keeps_uses_and_counters()
+    ensures { (header written : HeaderRecord) (tables : ImageTables) (old mid : Image) →
+        IsValidHeader header → IsBytes old → repairable_tables header old ≡ Ok tables →
+        MakesWritable header written old mid →
+        (image_uses (tables_in written tables.reftable mid) mid ≡ image_uses tables old)
+        × ((c : ℕ) → counter_of written tables.reftable mid c ≡ counter_of header tables.reftable old c) }
+{}
+
 /// A repair changes no use of a cluster: the image uses the same clusters as before, each as often and in the
 /// same ways.
 pub fn a_repair_keeps_uses()
