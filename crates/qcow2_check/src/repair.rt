@@ -131,7 +131,6 @@ fn pass_both_counters<S: Storage>(
 ) -> Result<(), Fault>
     requires reftable { (reftable.now.geometry ≡ geometry_of header.now)
         × (blocks_fault header.now reftable.now.numbers ≡ None) }
-    requires placed { place_fault (l1_layout header.now) (l1_cluster header.now) ≡ None }
     requires l1_table { IsL1TableOf header.now (S.state image.old) l1_table.now }
     requires repairable { OnImage (S.state image.old) (λ bytes.
         IsRepairable (tables_in header.now reftable.now.numbers bytes) bytes) }
