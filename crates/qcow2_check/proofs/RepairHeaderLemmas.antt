@@ -1,4 +1,4 @@
-use Rattle.std.proofs.Common.{◌≡◌, ◌≢◌, ℕ, Bool, true, false, ◌+◌, ◌*◌, ◌/◌, ◌^◌, ◌<◌, ◌≤◌, List, [], ◌∷◌, ◌++◌, flat_map, length, slice_index, Option, Some, None, Result, Ok, Err, ap, refl, sym, subst, ◌∙◌, inl, inr, arith}
+use Rattle.std.proofs.Common.{◌≡◌, ◌≢◌, ◌⊎◌, ℕ, Bool, true, false, ◌+◌, ◌*◌, ◌/◌, ◌^◌, ◌<◌, ◌≤◌, List, [], ◌∷◌, ◌++◌, flat_map, length, slice_index, Option, Some, None, Result, Ok, Err, ap, refl, sym, subst, ◌∙◌, inl, inr, arith}
 use Rattle.std.proofs.lemmas.Bool.{cases_lt}
 use Rattle.std.proofs.lemmas.Bool.Decides.{nat_tests}
 use Rattle.std.proofs.lemmas.Grind.{div_ceil_times}
@@ -11,7 +11,9 @@ use Rattle.qcow2_base.specs.declared.types.HostCluster.{HostCluster}
 use Rattle.qcow2_metadata.proofs.TableLemmas.{table_numbers_same}
 use Rattle.qcow2_metadata.proofs.WriteLemmas.{header_text-placed}
 use Rattle.qcow2_metadata.specs.Header.{HeaderRecord, geometry_of}
-use Rattle.qcow2_metadata.specs.Header.Open.{SaysSame, is_rewritten, opened_text, without_autoclear}
+use Rattle.qcow2_metadata.specs.Header.Open.{IsWritableFault, SaysSame, is_rewritten, opened_text, without_autoclear}
+use Rattle.qcow2_metadata.specs.Results.{IsFromOutside}
+use Rattle.qcow2_metadata.specs.Table.{IsTableFault}
 use Rattle.qcow2_metadata.specs.Header.Text.{chosen_text, header_after_write, header_text, header_to_write}
 use Rattle.qcow2_check.proofs.ApartLemmas.{first-used, header-used, kind-append, l1-first-used, named-below, named-used}
 use Rattle.qcow2_check.proofs.FindingsLemmas.{excludes, uses_by_kind}
@@ -20,10 +22,10 @@ use Rattle.qcow2_check.proofs.RepairOrderLemmas.{fixed-both}
 use Rattle.qcow2_check.proofs.RepairLemmas.{all-load-same, blocks-used, flat_map-same, table-same}
 use Rattle.qcow2_check.proofs.RepairFlagWindowsLemmas.{loads-by}
 use Rattle.qcow2_check.specs.Findings.{is_shared, uses_of_kind}
-use Rattle.qcow2_check.specs.NamedTables.{l1_cluster, loaded_l1_table, named_block, named_cluster}
+use Rattle.qcow2_check.specs.NamedTables.{l1_cluster, l1_layout, loaded_l1_table, named_block, named_cluster}
 use Rattle.qcow2_check.specs.Counters.{block_of_cluster, blocks_fault, counter_of}
-use Rattle.qcow2_check.specs.Repair.{IsRepairable, ReportsFailures, tables_in}
-use Rattle.qcow2_check.specs.Repair.Refusals.{repairable_tables}
+use Rattle.qcow2_check.specs.Repair.{IsPassFault, IsRepairable, ReportsFailures, tables_in}
+use Rattle.qcow2_check.specs.Repair.Refusals.{IsRepairRefusal, repairable_tables}
 use Rattle.qcow2_check.specs.Repair.Flags.{NamesTable, l1_in, l2_in}
 use Rattle.qcow2_check.specs.Tally.{used_clusters}
 use Rattle.qcow2_check.specs.Uses.{ImageTables, block_uses, entry_uses, header_uses, image_tables, image_uses, l1_entry_uses}
@@ -170,6 +172,25 @@ repairable-said header written l1 reftable image says is =
 l1-said : (header written : HeaderRecord) (image : Image) → SaysSame header written → l1_in written image ≡ l1_in header image
 l1-said header written image says =
     subst (λ part. l1_in (record written { v2 = part }) image ≡ l1_in header image) (sym says.v2) refl
+
+-- and so are the faults of that
+pub l1-fault-said : (header written : HeaderRecord) (fault : Fault) → SaysSame header written → IsTableFault (l1_layout written) (l1_cluster written) fault
+    → IsTableFault (l1_layout header) (l1_cluster header) fault
+l1-fault-said header written fault says = subst (λ part. IsTableFault (l1_layout (record written { v2 = part })) (l1_cluster (record written { v2 = part })) fault
+    → IsTableFault (l1_layout header) (l1_cluster header) fault) (sym says.v2) (λ is. is)
+
+-- a fault before the header is written
+pub found-fault : (header : HeaderRecord) (fault : Fault) → IsRepairRefusal header fault ⊎ IsFromOutside fault
+    → IsRepairRefusal header fault ⊎ IsWritableFault header fault
+found-fault header fault (inl refusal) = inl refusal
+found-fault header fault (inr outside) = inr (inr (inr outside))
+
+-- a fault of the passes is one of the image with the header before
+pub pass-fault-said : (header written : HeaderRecord) (fault : Fault) → SaysSame header written → IsPassFault written fault
+    → IsRepairRefusal header fault ⊎ IsWritableFault header fault
+pass-fault-said header written fault says (inl table) = inl (inl (inr (inl (l1-fault-said header written fault says table))))
+pass-fault-said header written fault says (inr (inl range)) = inl (inr (inr range))
+pass-fault-said header written fault says (inr (inr outside)) = inr (inr (inr outside))
 
 -- an image can be repaired as before after its header is written, which says the same
 pub repairable-written : (header written : HeaderRecord) (l1 reftable : List ℕ) (len : ℕ) (before mid : Image) → SaysSame header written

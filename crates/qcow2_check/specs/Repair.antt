@@ -11,15 +11,16 @@ use Rattle.qcow2_base.specs.declared.fault.Fault.{Fault}
 use Rattle.qcow2_base.specs.declared.fault.Fault.TheVariants.{CounterRange, Storage}
 use Rattle.qcow2_base.specs.declared.types.HostCluster.{HostCluster}
 use Rattle.qcow2_metadata.specs.Header.{HeaderRecord, geometry_of}
-use Rattle.qcow2_metadata.specs.Header.Open.{header_after_load, opened_text}
+use Rattle.qcow2_metadata.specs.Header.Open.{IsWritableFault, header_after_load, opened_text}
 use Rattle.qcow2_metadata.specs.Refblock.{greatest_counter}
 use Rattle.qcow2_metadata.specs.Results.{IsFromOutside}
-use Rattle.qcow2_metadata.specs.Table.{IsContentFault}
+use Rattle.qcow2_metadata.specs.Table.{IsContentFault, IsTableFault}
 use Rattle.qcow2_check.specs.Counters.{block_of_cluster, blocks_fault}
 use Rattle.qcow2_check.specs.Findings.{is_shared}
+use Rattle.qcow2_check.specs.NamedTables.{l1_cluster, l1_layout}
 use Rattle.qcow2_check.specs.Repair.Counters.{BreaksOff, PassesCounters}
 use Rattle.qcow2_check.specs.Repair.Flags.{BreaksOffFlags, PassesFlags, l1_in, pass_all}
-use Rattle.qcow2_check.specs.Repair.Refusals.{repairable_tables}
+use Rattle.qcow2_check.specs.Repair.Refusals.{IsRepairRefusal, repairable_tables}
 use Rattle.qcow2_check.specs.Uses.{ImageTables, all_load, image_tables, image_uses, uses_of}
 use Rattle.qcow2_check.specs.declared.repair.counters.CounterPass.TheVariants.{Fall, Rise}
 
@@ -109,6 +110,11 @@ BreaksOffAt header old new = (new ≡ old)
     ⊎ ((written : HeaderRecord) × (tables : ImageTables) × (mid : Image) × (repairable_tables header old ≡ Ok tables)
     × MakesWritable header written old mid × BreaksOffRepair written tables.reftable mid new)
 
+-- the faults of its passes, whatever is known of the image's bytes
+abbrev pub IsPassFault : HeaderRecord → Fault → Type 0
+IsPassFault header fault =
+    IsTableFault (l1_layout header) (l1_cluster header) fault ⊎ (fault ≡ CounterRange) ⊎ IsFromOutside fault
+
 -- a repair of an image with this header ended in this answer. After a fault that isn't from outside no byte changed: the image
 -- can't be repaired, or its header has no room
 pub record RepairsImage (header : HeaderRecord) (answer : Result HeaderRecord Fault) (old new : StorageState) : Type 0 where
@@ -117,4 +123,5 @@ pub record RepairsImage (header : HeaderRecord) (answer : Result HeaderRecord Fa
       (λ _. BreaksOffAt header before after))
   pub refused : IfErr answer (λ fault. OnImages old new (λ before after. IsFromOutside fault ⊎ ((after ≡ before)
       × ((repairable_tables header before ≡ Err fault) ⊎ (header_after_load true (Ok header) ≡ Err fault)))))
+  pub faults : IfErr answer (λ fault. IsRepairRefusal header fault ⊎ IsWritableFault header fault)
   pub storage : ReportsFailures answer old new

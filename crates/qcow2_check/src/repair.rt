@@ -8,7 +8,7 @@ ghost use Rattle.qcow2_metadata.specs.Placed.{place_fault};
 ghost use Rattle.qcow2_metadata.specs.Results.{IsFromOutside};
 ghost use Rattle.qcow2_check.specs.Counters.{blocks_fault};
 ghost use Rattle.qcow2_check.specs.NamedTables.{l1_cluster, l1_layout, loaded_l1_table};
-ghost use Rattle.qcow2_check.specs.Repair.{BreaksOffCounters, BreaksOffRepair, IsRepairFault, IsRepairable, Lowers, Raises, Repairs, RepairsImage, ReportsFailures, tables_in};
+ghost use Rattle.qcow2_check.specs.Repair.{BreaksOffCounters, BreaksOffRepair, IsPassFault, IsRepairFault, IsRepairable, Lowers, Raises, Repairs, RepairsImage, ReportsFailures, tables_in};
 ghost use Rattle.qcow2_check.specs.Repair.Flags.{IsL1TableOf, l1_in};
 ghost use Rattle.qcow2_check.specs.Repair.Refusals.{repairable_tables};
 
@@ -90,7 +90,8 @@ fn repair_written<S: Storage>(
     ensures repairs { OnImages (S.state image.old) (S.state image.new) (λ before after. MatchResult result
         (λ _. Repairs header.now reftable.now.numbers before after)
         (λ _. BreaksOffRepair header.now reftable.now.numbers before after)) }
-    ensures fault { IfErr result (λ fault. OnImage (S.state image.old) (λ _. IsFromOutside fault)) }
+    ensures fault { IfErr result (λ fault. IsPassFault header.now fault
+        × OnImage (S.state image.old) (λ _. IsFromOutside fault)) }
     ensures storage { ReportsFailures result (S.state image.old) (S.state image.new) }
 {
     let mut l1_table = load_l1_table(alloc, image, header)?;

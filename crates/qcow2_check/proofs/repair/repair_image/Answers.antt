@@ -2,7 +2,7 @@ use Rattle.std.proofs.Common.{◌≡◌, IsTrue, IsOk, Ok, Some, length, true, r
 use Rattle.std.proofs.lemmas.Result.{err_from_is_err_and}
 use Rattle.qcow2_metadata.proofs.WritableLemmas.{writable-same}
 use Rattle.qcow2_metadata.specs.Header.Open.{SaysSame, opened_text}
-use Rattle.qcow2_check.proofs.RepairHeaderLemmas.{blocks-said, geometry-said, loads-written, repairable-l1, repairable-written, reports-later, text-fits}
+use Rattle.qcow2_check.proofs.RepairHeaderLemmas.{blocks-said, found-fault, geometry-said, loads-written, pass-fault-said, repairable-l1, repairable-written, reports-later, text-fits}
 use Rattle.qcow2_check.specs.Repair.{MakesWritable}
 use Rattle.qcow2_check.specs.Repair.Refusals.{repairable_tables}
 use Rattle.qcow2_check.specs.Uses.{ImageTables, image_tables}
@@ -41,6 +41,16 @@ repair_written-requires-clause-repairable g c = λ told.
     (c.in_ok-reftable.ensures.repairable start) l1 (rw bytes at (c.in_ok-header.ensures.writable.storage.others known)) (text-fits c.args.header) in
     rw both.1 both.0
 
+pub returns-in_err-reftable : goal.returns-in_err-reftable
+returns-in_err-reftable g c =
+    let exit = err_from_is_err_and c.from_residual.result c.from_residual.ensures.1 in
+    record {
+      repairs = search rules;
+      refused = search rules;
+      faults = rw (exit.1, exit.2) (found-fault c.args.header _ c.in_err-reftable.ensures.reads.faults);
+      storage = search rules;
+    }
+
 pub returns-in_err-header : goal.returns-in_err-header
 returns-in_err-header g c =
     let exit = err_from_is_err_and c.from_residual-in_err-header.result c.from_residual-in_err-header.ensures.1 in
@@ -52,6 +62,7 @@ returns-in_err-header g c =
           let found : IsOk (repairable_tables c.args.header before) = rw (c.in_ok-reftable.ensures.reads.exact told) refl in
           rw exit.1 (inr (inl (found, rw bytes at (c.in_err-header.ensures.writable.storage.others (rw known told)))));
       refused = search rules;
+      faults = search rules;
       storage = search rules;
     }
 
@@ -73,7 +84,9 @@ returns-in_err-repair_written g c =
             others = rw bytes at (c.in_ok-header.ensures.writable.storage.others (rw known told));
           } in
           rw exit.1 (inr (inr (c.in_ok-header.header, tables, mid, c.in_ok-reftable.ensures.reads.exact told, makes, c.in_err-repair_written.ensures.repairs (rw later told))));
-      refused = rw (exit.1, exit.2) (λ told. inl (c.in_err-repair_written.ensures.fault (rw later told)));
+      refused = rw (exit.1, exit.2) (λ told. inl (c.in_err-repair_written.ensures.fault.1 (rw later told)));
+      faults = rw (exit.1, exit.2) (pass-fault-said c.args.header c.in_ok-header.header _ (writable-same c.args.header c.in_ok-header.header c.in_ok-header.ensures.writable.exact)
+          c.in_err-repair_written.ensures.fault.0);
       storage = rw (exit.1, exit.2) (reports-later c.in_ok-reftable.field-0-0 c.in_ok-header.header c.args.header c.in_err-repair_written.field-0.0 (Some 0) (length (opened_text true (Ok c.args.header)))
           (g.S.Storage.state c.args.image.now) (g.S.Storage.state c.repairable_tables.new.image) (g.S.Storage.state c.into_writable.new.image)
           (g.S.Storage.state c.repair_written.new.image) (search rules) (search rules) (search rules));
@@ -97,5 +110,6 @@ returns g c =
           } in
           (tables, mid, c.in_ok-reftable.ensures.reads.exact told, makes, c.in_ok-repair_written.ensures.repairs (rw later told));
       refused = search rules;
+      faults = search rules;
       storage = search rules;
     }
