@@ -87,7 +87,8 @@ pub(crate) struct Run {
     /// The bits of the storage's alignment, which a file doesn't have.
     pub(crate) align_bits: u32,
     pub(crate) before: Numbers,
-    /// The numbers of the image after a command has loaded its header, if it rewrites that.
+    /// The numbers of the image after a command has loaded its header, if it rewrites that, or has repaired
+    /// it.
     pub(crate) opened: Numbers,
     pub(crate) after: Numbers,
     /// Those that it changes of what it is made on, at their places among what `Held::show` shows.
@@ -103,7 +104,7 @@ impl Run {
         Ok(image.with_align(1 << self.align_bits.min(30)))
     }
 
-    /// The image after a command has loaded its header, which it may have rewritten.
+    /// The image after a command has loaded its header, which it may have rewritten, or has repaired it.
     pub(crate) fn opened(&self, alloc: Global) -> Result<MemStorage, Fault> {
         self.image_with(alloc, self.before, self.opened)
     }

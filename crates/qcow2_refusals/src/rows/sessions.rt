@@ -24,6 +24,9 @@ pub(crate) const RUNS: &[Run] = rows! {
     Run { call: Command("map json"), reports: JSON, ..OF_A_DISK },
     Run { call: Command("check"), before: COUNTED, after: COUNTED, reports: CHECKED, ..OF_A_DISK },
     Run { call: Command("check json"), before: COUNTED, after: COUNTED, reports: OBJECT, ..OF_A_DISK },
+    // refused after its one write, it leaves the image repaired
+    Run { call: Command("check repair"), before: COUNTED, opened: REPAIRED, after: REPAIRED,
+        reports: "consistent\n", ..OF_A_DISK },
     Run { call: Command("l2 9 2"), reports: "3 data 0xa00 copied\n", ..OF_A_DISK },
     Run { call: Command("edit 0 map:3:5 map:3:6 discard:3"), after: &[(1048, 0)],
         reports: "freed 5 1\nfreed 6 1\ngained 6\n", ..OF_A_DISK },
@@ -51,6 +54,17 @@ const COUNTED: Numbers = &[
     (0x600, 0x800),
     (0x800, 0x0001_0001_0001_0001),
     (0x808, 0x0001_0002_0000_0001),
+    (0x9f8, 0),
+];
+
+// The same where each counter is its cluster's uses.
+const REPAIRED: Numbers = &[
+    (48, 0x600),
+    (56, 1 << 32),
+    (0x600, 0x800),
+    (0x800, 0x0001_0001_0001_0001),
+    (0x808, 0x0001_0001_0000_0000),
+    (0x9f8, 0),
 ];
 
 // The data has one reference, by an entry with the copied flag.
