@@ -60,8 +60,10 @@ class Tables:
         self.l1_entries, self.l1_start, self.reftable_start = struct.unpack_from(">IQQ", header, 36)
         self.reftable_clusters, snapshots = struct.unpack_from(">II", header, 56)
         self.is_external = version > 2 and header[79] & 4 != 0
+        self.has_autoclear = version > 2 and any(header[88:96])
         self.order = header[99] if version > 2 else 4
         self.cluster = 1 << self.cluster_bits
+        self.counters_each = self.cluster * 8 >> self.order
         if snapshots:
             raise Refused(37)
 
@@ -104,7 +106,7 @@ class Tables:
         width = 1 << self.order
         counters = Counter()
         for index, start in self.blocks.items():
-            first = index * (self.cluster * 8 // width)
+            first = index * self.counters_each
             for found in re.finditer(rb"[^\0]", self.bytes_at(start, self.cluster)):
                 place, byte = found.start(), found[0][0]
                 if width < 8:
@@ -114,6 +116,10 @@ class Tables:
                     cluster, further = divmod(place, width // 8)
                     counters[first + cluster] += byte << width - 8 - 8 * further
         return {cluster: counter for cluster, counter in counters.items() if counter}
+
+    def block_of(self, cluster):
+        """Where the block begins that counts a cluster, if one does."""
+        return self.blocks.get(cluster // self.counters_each)
 
 
 class Check:
@@ -245,6 +251,59 @@ class Check:
         }
         return [name for name, holds in cases.items() if holds]
 
+    # What a repair makes of it
+
+    def refusal(self):
+        """The fault that a repair ends in, if it does: that of the first cluster that it can't make right."""
+        greatest = (1 << (1 << self.tables.order)) - 1
+        for cluster in sorted(self.uses):
+            _, uses, shared = self.finding(cluster)
+            if shared or uses > greatest and self.tables.block_of(cluster) is not None:
+                return 38 if shared else 30
+        return None
+
+    def repaired(self, before):
+        """The bytes of the image after a repair, by those before it. They reach to its last table or block."""
+        tables = self.tables
+        ends = [start + tables.cluster for start in [*tables.l2, *tables.blocks.values()]]
+        stored = bytearray(before).ljust(max([*ends, 0]), b"\0")
+        for cluster in self.uses.keys() | tables.counters.keys():
+            block = tables.block_of(cluster)
+            if block is not None:
+                self.put_counter(stored, block, cluster)
+        for entry in tables.l1:
+            if entry.length:
+                self.put_flag(stored, tables.l1_start, entry, False)
+                for guest in tables.l2[entry.start]:
+                    if guest.length and not guest.bits & COMPRESSED:
+                        self.put_flag(stored, entry.start, guest, tables.is_external)
+        return stored
+
+    def put_counter(self, stored, block, cluster):
+        """Makes the counter of a cluster, in its block, the number of its uses."""
+        width = 1 << self.tables.order
+        place = cluster % self.tables.counters_each * width
+        first, last = block + place // 8, block + (place + width - 1) // 8
+        shift = place % 8
+        others = int.from_bytes(stored[first : last + 1], "big") & ~((1 << width) - 1 << shift)
+        stored[first : last + 1] = (others | self.uses[cluster] << shift).to_bytes(last + 1 - first, "big")
+
+    def put_flag(self, stored, table, entry, is_outside):
+        """Makes an entry's flag right: set where its cluster has one use, or lies in an external data file."""
+        cluster = entry.start // self.tables.cluster
+        if is_outside or self.tables.block_of(cluster) is not None:
+            is_set = is_outside or self.uses[cluster] == 1
+            bits = entry.bits & ~COPIED | is_set * COPIED
+            stored[table + 8 * entry.index : table + 8 * entry.index + 8] = bits.to_bytes(8, "big")
+
+    def clusters_told(self):
+        """The clusters of the lines that the program prints of it, but for the last."""
+        for words in map(str.split, self.text.splitlines()):
+            if words[0] in ("false", "late"):
+                yield int(words[-2])
+            else:
+                yield from range(int(words[1]), int(words[1]) + int(words[2]))
+
 
 def json_text(members):
     """An object as QEMU prints it: characters other than printable ASCII are escaped, in capital letters."""
@@ -268,3 +327,32 @@ def printed_by_check(path, name):
         fault = f"qmeta: fault {refused}\nstatus 1\n"
         return Expected(fault, fault, ["refused"])
     return Expected(check.printed(), check.object(name), check.differences())
+
+
+class Repair(NamedTuple):
+    """What a repair must make of an image: the fault that it ends in, or the bytes that it leaves, from a place on."""
+
+    fault: int
+    bytes: bytes
+    first: int = 0
+
+
+def repair_of(path, before):
+    """What `qmeta check IMAGE repair` must make of an image, which has these bytes.
+
+    The first cluster isn't looked at where the header has autoclear features, since it is written anew.
+    """
+    try:
+        check = Check(path)
+    except Refused as refused:
+        return Repair(refused.args[0], before)
+    fault = check.refusal()
+    if fault:
+        return Repair(fault, before)
+    return Repair(None, check.repaired(before), check.tables.cluster if check.tables.has_autoclear else 0)
+
+
+def uncounted_is_left(path):
+    """Whether all that is wrong with an image is of clusters that no block counts."""
+    check = Check(path)
+    return all(check.tables.block_of(cluster) is None for cluster in check.clusters_told())
