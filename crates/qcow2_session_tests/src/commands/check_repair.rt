@@ -8,8 +8,8 @@ use qcow2_session::Verdict;
 use qcow2_testing::rows;
 use std::test::Fail;
 
-// What an image is, by changes of the sample image, and what it is after a repair. Then what is thought of it,
-// and all that is printed.
+// What an image is, by changes of the sample image, and what it is after a repair. Then what is thought of
+// it, and all that is printed.
 #[derive(Clone, Copy)]
 struct Repaired {
     name: &'static str,
