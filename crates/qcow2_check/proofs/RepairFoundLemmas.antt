@@ -1,4 +1,4 @@
-use Rattle.std.proofs.Common.{◌≡◌, ℕ, ◌^◌, ◌≤◌, List, Option, Some, None, option_map, Result, Ok, Err, refl, sym, subst, ◌∙◌, arith}
+use Rattle.std.proofs.Common.{◌≡◌, ℕ, ◌≤◌, List, Option, Some, None, option_map, Result, Ok, Err, refl, sym, subst, ◌∙◌, arith}
 use Rattle.qcow2_base.specs.Storage.{Image, IsBytes}
 use Rattle.qcow2_base.specs.Types.{IsClusterBits}
 use Rattle.qcow2_base.specs.declared.fault.Fault.{Fault}

@@ -1,5 +1,4 @@
 use Rattle.std.proofs.lemmas.Result.{err_from_is_err_and}
-use Rattle.std.proofs.Common.{rules}
 use Rattle.qcow2_check.specs.Findings.{tables_of}
 use Rattle.qcow2_session.proofs.CheckLemmas.{report-found, report-refused}
 use Rattle.qcow2_session.proofs.commands.check.check_image.Goals as goal

@@ -1,8 +1,8 @@
-use Rattle.std.proofs.Common.{◌≡◌, ◌∷◌, ◌++◌, [], Ok, Err, Some, inl, inr, refl, ap, rules, arith, ◌∙◌}
+use Rattle.std.proofs.Common.{◌∷◌, ◌++◌, [], Ok, inl, inr, ap, rules, ◌∙◌}
 use Rattle.std.proofs.lemmas.Result.{err_from_is_err_and}
 use Rattle.qcow2_check.proofs.FindingsLemmas.{reads_twice}
 use Rattle.qcow2_check.specs.Flags.{TakesFlag, flags_left}
-use Rattle.qcow2_session.proofs.CheckLemmas.{items-more, known-before, lines-all, lines-ended, lines-failed, lines-more, totals-flag}
+use Rattle.qcow2_session.proofs.CheckLemmas.{items-more, known-before, lines-ended, lines-failed, lines-more, totals-flag}
 use Rattle.qcow2_session.specs.Commands.Check.Lines.{flag_line}
 use Rattle.qcow2_session.specs.Commands.Check.Totals.{with_flag}
 use Rattle.qcow2_session.proofs.commands.check.print_flags.Goals as goal

@@ -1,4 +1,4 @@
-use Rattle.std.proofs.Common.{◌≡◌, ◌++◌, ℕ, List, Ok, flat_map}
+use Rattle.std.proofs.Common.{◌≡◌, ◌++◌, List, Ok, flat_map}
 use Rattle.std.specs.Io.KnownBytes.{Appends}
 use Rattle.qcow2_base.specs.Storage.{OnImage, OnlyReads}
 use Rattle.qcow2_check.specs.Flags.{IsFlagsOf, MovesFlags, flags_left, flag_steps}

@@ -1,7 +1,7 @@
-use Rattle.std.proofs.Common.{◌≡◌, ◌∷◌, ◌++◌, [], Ok, Err, Some, inl, inr, refl, ap, rules, arith, ◌∙◌}
+use Rattle.std.proofs.Common.{◌∷◌, ◌++◌, [], Ok, inl, inr, ap, rules, ◌∙◌}
 use Rattle.std.proofs.lemmas.Result.{err_from_is_err_and}
 use Rattle.qcow2_check.proofs.FindingsLemmas.{moves_twice, reads_twice}
-use Rattle.qcow2_session.proofs.CheckLemmas.{items-more, known-before, lines-all, lines-ended, lines-failed, lines-more, totals-run}
+use Rattle.qcow2_session.proofs.CheckLemmas.{items-more, known-before, lines-ended, lines-failed, lines-more, totals-run}
 use Rattle.qcow2_session.specs.Commands.Check.Lines.{run_lines}
 use Rattle.qcow2_session.specs.Commands.Check.Runs.{TakesFirst, runs_left}
 use Rattle.qcow2_session.specs.Commands.Check.Totals.{with_run}

@@ -1,4 +1,4 @@
-use Rattle.std.proofs.Common.{◌≡◌, [], ◌∷◌, ◌++◌, Ok, refl, sym, ap, rules, arith, ◌∙◌}
+use Rattle.std.proofs.Common.{◌≡◌, [], ◌∷◌, Ok, refl, ap, rules, arith, ◌∙◌}
 use Rattle.qcow2_check.proofs.FindingsLemmas.{moves_twice, reads_twice}
 use Rattle.qcow2_check.proofs.FindingsListLemmas.{none-at-end, takes-later}
 use Rattle.qcow2_check.specs.Findings.{TakesFinding, findings_left}
