@@ -7,9 +7,9 @@ mod tables;
 
 use qcow2_base::{Fault, FileStorage, MemStorage, Storage};
 
-/// How many things one turn looks at: 3 of a storage, one of a file, 13 of headers, and 50 of tables and
+/// How many things one turn looks at: 3 of a storage, one of a file, 13 of headers, and 54 of tables and
 /// blocks. Each is as it must be. A call that is left out is one less.
-pub(crate) const OF_A_TURN: u64 = 3 + 1 + 13 + 50;
+pub(crate) const OF_A_TURN: u64 = 3 + 1 + 13 + 54;
 
 /// How many things were as they must be. Each call is asked for its answer, so that none is left out of the
 /// program.
