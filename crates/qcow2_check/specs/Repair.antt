@@ -52,7 +52,7 @@ IsRepairFault image fault = (IsContentFault fault ⊎ (fault ≡ CounterRange)) 
 abbrev pub tables_in : HeaderRecord → List ℕ → Image → ImageTables
 tables_in header reftable image = image_tables header (l1_in header image) reftable
 
--- the flags of an image that are set wrongly are cleared, or those that are late are set
+-- the flags of clusters that don't have one use are cleared, or those of clusters that have one are set
 abbrev pub Clears : HeaderRecord → List ℕ → Image → Image → Type 0
 Clears header reftable old new = PassesFlags (pass_all (tables_in header reftable old) old false) old new
 

@@ -90,7 +90,7 @@ pub fn a_repaired_image_is_consistent_where_blocks_count_all_uses()
 {}
 
 /// No step of a repair takes the cover of a cluster: where a cluster's counter was at least the number of its
-/// uses, it is so after false flags are cleared, after counters rose, after they fell, and at the end.
+/// uses, it is so after flags are cleared, after counters rose, after they fell, and at the end.
 pub fn a_repair_takes_no_cover()
     ensures { (header : HeaderRecord) (reftable : List ℕ) (old new : Image)
         (repair : Repairs header reftable old new) → IsRepairable (tables_in header reftable old) old →
@@ -99,7 +99,7 @@ pub fn a_repair_takes_no_cover()
 {}
 
 /// Where a repair broke off, and the image uses the same clusters as before, there is one block at most whose
-/// clusters lost their cover: that whose write failed.
+/// clusters lost their cover.
 pub fn a_repair_that_breaks_off_uncovers_one_block_at_most()
     ensures { (header : HeaderRecord) (reftable : List ℕ) (old new : Image) →
         IsRepairable (tables_in header reftable old) old → BreaksOffRepair header reftable old new →
@@ -116,8 +116,8 @@ pub fn a_repair_that_breaks_off_covers_what_it_spares()
         IsCovered header reftable c old → IsCovered header reftable c new }
 {}
 
-/// Once false flags are cleared, no step of a repair leaves a flag that says wrongly that its cluster has one
-/// use, if a block counts that cluster.
+/// Once the first step has cleared flags, no step of a repair leaves a flag that says wrongly that its
+/// cluster has one use, if a block counts that cluster.
 pub fn no_step_of_a_repair_makes_a_flag_false()
     ensures { (header : HeaderRecord) (reftable : List ℕ) (old new : Image)
         (repair : Repairs header reftable old new) → IsRepairable (tables_in header reftable old) old →

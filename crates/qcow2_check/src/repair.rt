@@ -54,13 +54,15 @@ impl<'a> Model for Tables<'a> {
 /// is 1. Flags of clusters that no block counts stay, but that in an external data file all are set.
 ///
 /// Returns the header as it is then: autoclear features are cleared first, as by `Header::into_writable`.
-/// Then false flags are cleared, counters rise, counters fall, and late flags are set, with nothing of a step
-/// written before all of the one before. Nothing else changes.
+/// Then flags are cleared of clusters that haven't one use, counters rise, counters fall, and flags are set
+/// of clusters that have one. Nothing of a step is written before all of the one before. Nothing else
+/// changes.
 ///
 /// Returns the fault of `Findings::new`, or of the first cluster that can't be repaired: 38 where its uses
 /// exclude each other, 30 where its counter can't hold their number. Then comes 24, where the header has no
-/// room. No byte has changed then. Where the storage fails or memory runs out, a part of the steps may be
-/// done, and any numbers may be in the table or the block whose write failed.
+/// room, or 25 for a name that no loaded header has. No byte has changed then. Where the storage fails or
+/// memory runs out, a part of the steps may be done. Any bytes may be in the header's text then, or in one
+/// table or block.
 pub fn repair_image<S: Storage>(
     alloc: Global,
     image: &mut S,

@@ -95,7 +95,7 @@ pub fn check_image_in_json<S: Storage, O: Write>(
 /// what `check_image` finds in what is left, and returns its verdict.
 ///
 /// Returns the fault of `repair_image` before any line; what that leaves is said there. Then comes a fault
-/// of `check_image`, which is 34 or 35 and leaves the image repaired.
+/// of `check_image`, which leaves the image repaired.
 pub fn repair_and_check_image<S: Storage, O: Write>(
     alloc: Global,
     image: &mut S,
