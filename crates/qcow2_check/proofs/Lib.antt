@@ -9,7 +9,6 @@ pub mod FlagsLemmas
 pub mod ImageEndLemmas
 pub mod NamedTablesLemmas
 pub mod RepairCountersLemmas
-pub mod RepairCoverLemmas
 pub mod RepairFlagWindowsLemmas
 pub mod RepairFlagsLemmas
 pub mod RepairFoundLemmas
@@ -20,6 +19,7 @@ pub mod RepairOrderLemmas
 pub mod RepairPassesLemmas
 pub mod RepairRefusalsLemmas
 pub mod RepairStagesLemmas
+pub mod RepairTooLowLemmas
 pub mod RepairTrueFlagsLemmas
 pub mod SampleImage
 pub mod TallyLemmas

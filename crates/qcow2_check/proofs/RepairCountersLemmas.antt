@@ -7,6 +7,7 @@ use Rattle.std.proofs.lemmas.Nat.{div-mul-add, mul-le, pow_pos}
 use Rattle.qcow2_base.specs.Format.{max_file_length}
 use Rattle.qcow2_base.specs.Storage.{Image, SameOutside}
 use Rattle.qcow2_base.specs.declared.fault.Fault.{Fault}
+use Rattle.qcow2_base.specs.declared.fault.Fault.TheVariants.{Storage}
 use Rattle.qcow2_base.specs.declared.types.HostCluster.{HostCluster}
 use Rattle.qcow2_metadata.proofs.PackingLemmas.{counters_at-length, counters_at-same}
 use Rattle.qcow2_metadata.proofs.RefblockLemmas.{block_bytes}
@@ -20,7 +21,7 @@ use Rattle.qcow2_check.specs.Counters.{block_of_cluster, blocks_fault, counters_
 use Rattle.qcow2_check.specs.Findings.{CountsAll}
 use Rattle.qcow2_check.specs.NamedTables.{named_block}
 use Rattle.qcow2_check.specs.Repair.{IsRepairable}
-use Rattle.qcow2_check.specs.Repair.Counters.{BreaksOff, IsOutsideBlocks, IsPastCounters, PassesBetween, PassesBlock, PassesCounters, block_counters, counter_in, counter_towards, passed_counter}
+use Rattle.qcow2_check.specs.Repair.Counters.{BreaksOff, IsEitherCounter, IsOutsideBlocks, IsPastCounters, PassesBetween, PassesBlock, PassesCounters, PassesSomeCounters, block_counters, counter_in, counter_towards, passed_counter}
 use Rattle.qcow2_check.specs.Tally.{TallyState, cell_at}
 use Rattle.qcow2_check.specs.Uses.{ImageTables, image_uses}
 use Rattle.qcow2_check.specs.declared.repair.counters.CounterPass.{CounterPass}
@@ -172,19 +173,22 @@ towards-twice Rise uses counter = grind (arith, nat_tests)
 towards-twice Fall uses counter = grind (arith, nat_tests)
 
 -- a pass that broke off after another over the clusters before
-pub breaks-later : (tables : ImageTables) (pass : CounterPass) (mid : ℕ) (torn : HostCluster) (a b c : Image) → IsRepairable tables a
-    → PassesBetween tables pass 0 mid a b → BreaksOff tables pass torn b c → BreaksOff tables pass torn a c
-breaks-later tables pass mid torn a b c is one other = record {
-  counters = λ k elsewhere. breaks-at k (other.counters k elsewhere);
-  others = λ o outside. other.others o outside ∙ one.others o outside;
-}
+pub breaks-later : (tables : ImageTables) (pass : CounterPass) (mid : ℕ) (fault : Fault) (a b c : Image) → IsRepairable tables a
+    → PassesBetween tables pass 0 mid a b → BreaksOff tables pass fault b c → BreaksOff tables pass fault a c
+breaks-later tables pass mid fault a b c is one other = (
+  other.0,
+  record {
+    counters = λ k. by_block k (block_of_cluster tables.header tables.reftable k) refl (cases_lt k mid) (other.1.counters k);
+    others = λ o outside. other.1.others o outside ∙ one.others o outside;
+  },
+  other.2,
+)
   where
     uses : image_uses tables b ≡ image_uses tables a
     uses = uses-stay tables a b is one.others
 
     by_block : (k : ℕ) (found : Option HostCluster) → block_of_cluster tables.header tables.reftable k ≡ found → (k < mid) ⊎ (mid ≤ k)
-        → (counter_in tables c k ≡ counter_in tables b k) ⊎ (counter_in tables c k ≡ passed_counter tables pass b k)
-        → (counter_in tables c k ≡ counter_in tables a k) ⊎ (counter_in tables c k ≡ passed_counter tables pass a k)
+        → IsEitherCounter tables pass k b other.0 → IsEitherCounter tables pass k a other.0
     by_block k None none cases here = inl (grind (arith, none))
     by_block k (Some block) there (inr more) (inl same) = inl (same ∙ one.after k more)
     by_block k (Some block) there (inr more) (inr passed) = inr (passed ∙ passed-again tables pass 0 mid a b is one k (one.after k more))
@@ -193,21 +197,19 @@ breaks-later tables pass mid torn a b c is one other = record {
         let before = one.passed k (omega arith) less (grind (arith, there)) in
         inr (passed ∙ rw (uses, before) (towards-twice pass _ _))
 
-    breaks-at : (k : ℕ) → (counter_in tables c k ≡ counter_in tables b k) ⊎ (counter_in tables c k ≡ passed_counter tables pass b k)
-        → (counter_in tables c k ≡ counter_in tables a k) ⊎ (counter_in tables c k ≡ passed_counter tables pass a k)
-    breaks-at k here = by_block k (block_of_cluster tables.header tables.reftable k) refl (cases_lt k mid) here
+-- a pass of which nothing is done
+counters-unchanged : (tables : ImageTables) (pass : CounterPass) (image : Image) → PassesSomeCounters tables pass image image
+counters-unchanged tables pass image = record { counters = λ c. inl refl; others = λ o outside. refl }
 
 -- a pass that broke off before it changed a byte
-pub breaks-first : (tables : ImageTables) (pass : CounterPass) (torn : HostCluster) (old new : Image) → new ≡ old → BreaksOff tables pass torn old new
-breaks-first tables pass torn old new same = rw same (record { counters = λ c elsewhere. inl refl; others = λ o outside. refl })
+pub breaks-first : (tables : ImageTables) (pass : CounterPass) (fault : Fault) (old new : Image) → new ≡ old → BreaksOff tables pass fault old new
+breaks-first tables pass fault old new same = (old, counters-unchanged tables pass old, record { whole = λ other. same; torn = inl same })
 
 -- a pass whose write of a block failed
-pub breaks-here : (tables : ImageTables) (pass : CounterPass) (i : ℕ) (block : HostCluster) (old new : Image) → ChangesBlock tables i block old new
-    → BreaksOff tables pass block old new
-breaks-here tables pass i block old new change = record {
-  counters = λ c elsewhere. inl (counter-elsewhere tables i block old new c change (λ here. elsewhere (rw here change.names)));
-  others = others-stay tables i block old new change;
-}
+pub breaks-here : (tables : ImageTables) (pass : CounterPass) (i : ℕ) (block : HostCluster) (fault : Fault) (old new : Image) → ChangesBlock tables i block old new
+    → (fault ≢ Storage → new ≡ old) → BreaksOff tables pass fault old new
+breaks-here tables pass i block fault old new change whole =
+    (old, counters-unchanged tables pass old, record { whole = whole; torn = inr (i, block, change.names, change.outside) })
 
 -- past the clusters that blocks count there is none to pass over
 pub all-between : (tables : ImageTables) (pass : CounterPass) (end : ℕ) (old new : Image) → end ≤ max_file_length

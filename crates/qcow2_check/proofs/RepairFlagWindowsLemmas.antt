@@ -1,4 +1,4 @@
-use Rattle.std.proofs.Common.{◌≡◌, ◌⊎◌, ℕ, Bool, false, zero, suc, ◌+◌, ◌*◌, ◌/◌, ◌^◌, ◌<◌, ◌≤◌, List, [], ◌∷◌, map, slice_index, Option, Some, None, Ok, ap, refl, sym, subst, ◌∙◌, inl, inr, add-zero, arith}
+use Rattle.std.proofs.Common.{◌≡◌, ◌≢◌, ◌⊎◌, ℕ, Bool, false, zero, suc, ◌+◌, ◌*◌, ◌/◌, ◌^◌, ◌<◌, ◌≤◌, List, [], ◌∷◌, map, slice_index, Option, Some, None, Ok, ap, refl, sym, subst, ◌∙◌, inl, inr, add-zero, arith}
 use Rattle.std.proofs.lemmas.Bool.{cases_Bool, cases_lt}
 use Rattle.std.proofs.lemmas.Bool.Decides.{nat_tests}
 use Rattle.std.proofs.lemmas.Grind.{div_ceil_times}
@@ -7,6 +7,8 @@ use Rattle.std.proofs.lemmas.Nat.{div-mul-add, pow_pos}
 use Rattle.std.proofs.Math.Nat.{div-lt_iff_lt-mul}
 use Rattle.std.specs.Int.{div_ceil}
 use Rattle.qcow2_base.specs.Storage.{Image, SameOutside}
+use Rattle.qcow2_base.specs.declared.fault.Fault.{Fault}
+use Rattle.qcow2_base.specs.declared.fault.Fault.TheVariants.{Storage}
 use Rattle.qcow2_base.specs.declared.types.HostCluster.{HostCluster}
 use Rattle.qcow2_metadata.proofs.CopiedLemmas.{offset_field-with_copied}
 use Rattle.qcow2_metadata.proofs.EntriesLemmas.{div_rises}
@@ -24,7 +26,7 @@ use Rattle.qcow2_check.specs.Findings.{CountsAll, is_shared}
 use Rattle.qcow2_check.specs.Flags.{flagged_cluster}
 use Rattle.qcow2_check.specs.NamedTables.{l1_cluster, l1_layout, named_cluster}
 use Rattle.qcow2_check.specs.Repair.{IsRepairable}
-use Rattle.qcow2_check.specs.Repair.Flags.{BreaksOffFlags, BreaksOffL2, FlagPassState, IsBetween, IsOutsideL2Tables, IsOutsideTables, NamesTable, PassesFlags, PassesL2, due_flag, l1_due, l1_in, l2_due, l2_in, pass_all, pass_between, passed_l1, passed_l2, tally_uses, uses_between, with_due}
+use Rattle.qcow2_check.specs.Repair.Flags.{BreaksOffFlags, BreaksOffL2, FlagPassState, IsBetween, IsOutsideL2Tables, IsOutsideTables, NamesTable, PassesFlags, PassesL2, PassesSomeFlags, TearsL2, TearsTable, due_flag, l1_due, l1_in, l2_due, l2_in, pass_all, pass_between, passed_l1, passed_l2, tally_uses, uses_between, with_due}
 use Rattle.qcow2_check.specs.Tally.{TallyState, cell_at}
 use Rattle.qcow2_check.specs.Uses.{ImageTables, all_load, image_uses, l1_entry_loads, uses_of}
 
@@ -283,37 +285,41 @@ tally-part tables image tally counts c = elim (cases_lt c tally.first) [
   ]
 ]
 
--- a pass that changed nothing
-pub flags-unchanged : (pass : FlagPassState) (start new : Image) → new ≡ start → BreaksOffFlags pass None start new
-flags-unchanged pass start new same = rw same (record {
-  l1_table = λ never. absurd (never refl);
-  l2_tables = λ table names differs. between-self (passed_l2 pass) (l2_in pass.header table start);
+-- a pass of which nothing is done
+none-passed : (pass : FlagPassState) (image : Image) → PassesSomeFlags pass image image
+none-passed pass image = record {
+  l1_table = between-self (passed_l1 pass) (l1_in pass.header image);
+  l2_tables = λ table names. between-self (passed_l2 pass) (l2_in pass.header table image);
   others = λ o outside. refl;
-})
+}
+
+-- a pass that changed nothing
+pub flags-unchanged : (pass : FlagPassState) (fault : Fault) (start new : Image) → new ≡ start → BreaksOffFlags pass fault start new
+flags-unchanged pass fault start new same = (start, none-passed pass start, record { whole = λ other. same; torn = inl same })
 
 -- a window whose write of the L1 table failed
-pub window-torn-l1 : (tables : ImageTables) (flag : Bool) (tally : TallyState) (start mid : Image) → PassesWindow tables flag tally start mid
-    → BreaksOffFlags (pass_all tables start flag) None start mid
-window-torn-l1 tables flag tally start mid window = record {
-  l1_table = λ never. absurd (never refl);
-  l2_tables = λ table names differs.
-      rw (l2-kept tables start mid table window.is (rw window.l1 at names) window.outside) (between-self _ (l2_in tables.header table start));
-  others = λ o outside. outside-kept tables start mid o (rw window.l1 at outside) window.outside;
-}
+pub window-torn-l1 : (tables : ImageTables) (flag : Bool) (tally : TallyState) (fault : Fault) (start mid : Image) → PassesWindow tables flag tally start mid
+    → (fault ≢ Storage → mid ≡ start) → BreaksOffFlags (pass_all tables start flag) fault start mid
+window-torn-l1 tables flag tally fault start mid window whole =
+    (start, none-passed (pass_all tables start flag) start, record { whole = whole; torn = inr (inl window.outside) })
 
 -- and one whose write of an L2 table failed
-pub window-torn-l2 : (tables : ImageTables) (flag : Bool) (tally : TallyState) (torn : HostCluster) (start mid new : Image) → PassesWindow tables flag tally start mid
+pub window-torn-l2 : (tables : ImageTables) (flag : Bool) (tally : TallyState) (fault : Fault) (start mid new : Image) → PassesWindow tables flag tally start mid
     → l1_in tables.header mid ≡ map (passed_l1 (tally_pass tables flag tally)) tables.l1
-    → BreaksOffL2 (tally_pass tables flag tally) (map (passed_l1 (tally_pass tables flag tally)) tables.l1) torn mid new
-    → BreaksOffFlags (pass_all tables start flag) (Some torn) start new
-window-torn-l2 tables flag tally torn start mid new window numbers breaks = record {
-  l1_table = λ some. subst (λ vs. IsBetween (passed_l1 all) (l1_in tables.header start) vs) (sym l1_now)
-      (rw window.l1 (between-map (passed_l1 pass) (passed_l1 all) tables.l1 (l1-part tables.header tables.reftable flag _ _ part)));
-  l2_tables = λ table names differs. l2_between table (rw window.l1 at names) (breaks.tables table (names-to pass tables.l1 table (rw window.l1 at names)) (λ same. differs (ap Some (sym same))));
-  others = λ o outside.
-      let out = rw window.l1 at outside in
-      breaks.others o (λ table names. out.l2_tables table (names-from pass tables.l1 table names)) ∙ outside-kept tables start mid o out window.outside;
-}
+    → BreaksOffL2 (tally_pass tables flag tally) (map (passed_l1 (tally_pass tables flag tally)) tables.l1) fault mid new
+    → BreaksOffFlags (pass_all tables start flag) fault start new
+window-torn-l2 tables flag tally fault start mid new window numbers breaks = (
+  last,
+  record {
+    l1_table = subst (λ vs. IsBetween (passed_l1 all) (l1_in tables.header start) vs) (sym l1_now)
+        (rw window.l1 (between-map (passed_l1 pass) (passed_l1 all) tables.l1 (l1-part tables.header tables.reftable flag _ _ part)));
+    l2_tables = λ table names. l2_between table (rw window.l1 at names) (breaks.1.tables table (names-to pass tables.l1 table (rw window.l1 at names)));
+    others = λ o outside.
+        let out = rw window.l1 at outside in
+        breaks.1.others o (λ table names. out.l2_tables table (names-from pass tables.l1 table names)) ∙ outside-kept tables start mid o out window.outside;
+  },
+  record { whole = breaks.2.whole; torn = torn breaks.2.torn },
+)
   where
     pass : FlagPassState
     pass = tally_pass tables flag tally
@@ -321,18 +327,25 @@ window-torn-l2 tables flag tally torn start mid new window numbers breaks = reco
     all : FlagPassState
     all = pass_all tables start flag
 
+    last : Image
+    last = breaks.0
+
     part : IsPart (tally_uses tally) (λ c. Some (uses_of (image_uses tables start) c))
     part = tally-part tables start tally window.counts
 
-    l1_now : l1_in tables.header new ≡ map (passed_l1 pass) tables.l1
-    l1_now = l1-kept tables start mid new window.is (λ o outside. breaks.others o (λ table names. outside table (names-from pass tables.l1 table names))) ∙ numbers
+    l1_now : l1_in tables.header last ≡ map (passed_l1 pass) tables.l1
+    l1_now = l1-kept tables start mid last window.is (λ o outside. breaks.1.others o (λ table names. outside table (names-from pass tables.l1 table names))) ∙ numbers
 
     l2_between : (table : HostCluster) → NamesTable tables.header tables.l1 table
-        → (l2_in tables.header table new ≡ l2_in tables.header table mid) ⊎ (l2_in tables.header table new ≡ map (passed_l2 pass) (l2_in tables.header table mid))
-        → IsBetween (passed_l2 all) (l2_in tables.header table start) (l2_in tables.header table new)
+        → (l2_in tables.header table last ≡ l2_in tables.header table mid) ⊎ (l2_in tables.header table last ≡ map (passed_l2 pass) (l2_in tables.header table mid))
+        → IsBetween (passed_l2 all) (l2_in tables.header table start) (l2_in tables.header table last)
     l2_between table names (inl same) = rw (same, l2-kept tables start mid table window.is names window.outside) (between-self _ (l2_in tables.header table start))
     l2_between table names (inr passed) = rw (passed, l2-kept tables start mid table window.is names window.outside)
         (between-map (passed_l2 pass) (passed_l2 all) (l2_in tables.header table start) (l2-part tables.header tables.reftable flag _ _ part))
+
+    torn : (new ≡ last) ⊎ TearsL2 tables.header (map (passed_l1 pass) tables.l1) last new → (new ≡ last) ⊎ TearsTable tables.header (l1_in tables.header start) last new
+    torn (inl same) = inl same
+    torn (inr tears) = inr (inr (tears.0, rw window.l1 (names-from pass tables.l1 tears.0 tears.1), tears.2))
 
 -- the L1 table stays while L2 tables are passed
 pub l1-after : (tables : ImageTables) (flag : Bool) (tally : TallyState) (start mid new : Image) → IsRepairable tables start

@@ -5,6 +5,8 @@ use Rattle.std.proofs.lemmas.Grind.{get_or-set_at}
 use Rattle.std.proofs.lemmas.Option.{none-some}
 use Rattle.std.proofs.lemmas.Nat.{pow_pos}
 use Rattle.qcow2_base.specs.Storage.{Image, SameOutside}
+use Rattle.qcow2_base.specs.declared.fault.Fault.{Fault}
+use Rattle.qcow2_base.specs.declared.fault.Fault.TheVariants.{Storage}
 use Rattle.qcow2_base.specs.declared.types.HostCluster.{HostCluster}
 use Rattle.std.proofs.lemmas.List.{ext_get_or, get_or-map, get_or_past, get_or-set_other, length-map, length-set, set-get_or}
 use Rattle.qcow2_metadata.proofs.CopiedLemmas.{is_copied-with_copied, l2_fault-with_copied, with_copied-fits, with_copied-same}
@@ -152,7 +154,7 @@ pub record ChangesTable (header : HeaderRecord) (l1 : List ℕ) (index : ℕ) (t
   pub names : named_cluster header.v2.cluster_bits (slice_index l1 index) ≡ Some table
   pub outside : SameOutside (offset_of (l2_layout (geometry_of header)) table) (l2_layout (geometry_of header)).byte_count old new
 
-outside-stays : (header : HeaderRecord) (l1 : List ℕ) (index : ℕ) (table : HostCluster) (old new : Image) → ChangesTable header l1 index table old new
+pub outside-stays : (header : HeaderRecord) (l1 : List ℕ) (index : ℕ) (table : HostCluster) (old new : Image) → ChangesTable header l1 index table old new
     → (o : ℕ) → IsOutsideL2Tables header l1 o → new o ≡ old o
 outside-stays header l1 index table old new change o outside =
     let w = 2 ^ header.v2.cluster_bits in
@@ -207,12 +209,13 @@ some-all pass l1 index old new end so_far = record {
     past-none table names = grind (arith, nat_tests, names)
 
 -- the write of a table failed
-pub some-torn : (pass : FlagPassState) (l1 : List ℕ) (index : ℕ) (table : HostCluster) (old mid new : Image) → ChangesTable pass.header l1 index table mid new
-    → PassesSome pass l1 index old mid → BreaksOffL2 pass l1 table old new
-some-torn pass l1 index table old mid new change so_far = record {
-  tables = λ other names differs. rw (other-table pass.header table other mid new change.least (λ same. differs (same-cluster other table same)) change.outside) (so_far.between other names);
-  others = λ o outside. outside-stays pass.header l1 index table mid new change o outside ∙ so_far.others o outside;
-}
+pub some-torn : (pass : FlagPassState) (l1 : List ℕ) (index : ℕ) (table : HostCluster) (fault : Fault) (old mid new : Image) → ChangesTable pass.header l1 index table mid new
+    → (fault ≢ Storage → new ≡ mid) → PassesSome pass l1 index old mid → BreaksOffL2 pass l1 fault old new
+some-torn pass l1 index table fault old mid new change whole so_far = (
+  mid,
+  record { tables = so_far.between; others = so_far.others },
+  record { whole = whole; torn = inr (table, (index, change.names), change.outside) },
+)
 
 -- a table that L1 entries name loads, also after a pass
 pub some-loads : (pass : FlagPassState) (l1 : List ℕ) (index : ℕ) (table : HostCluster) (old new : Image) → all_load (geometry_of pass.header) l1 old ≡ Ok tt

@@ -1,4 +1,4 @@
-use Rattle.std.proofs.Common.{◌≡◌, ◌≢◌, ◌⊎◌, ℕ, Bool, true, false, ◌+◌, ◌*◌, ◌/◌, ◌^◌, ◌<◌, ◌≤◌, List, [], ◌∷◌, ◌++◌, flat_map, length, slice_index, Option, Some, None, Result, Ok, Err, ap, refl, sym, subst, ◌∙◌, inl, inr, arith}
+use Rattle.std.proofs.Common.{◌≡◌, ◌≢◌, ◌⊎◌, ℕ, Bool, IsTrue, true, false, ◌+◌, ◌*◌, ◌/◌, ◌^◌, ◌<◌, ◌≤◌, List, [], ◌∷◌, ◌++◌, flat_map, length, slice_index, Option, Some, None, Result, Ok, Err, ap, refl, sym, subst, ◌∙◌, inl, inr, arith}
 use Rattle.std.proofs.lemmas.Bool.{cases_lt}
 use Rattle.std.proofs.lemmas.Bool.Decides.{nat_tests}
 use Rattle.std.proofs.lemmas.Grind.{div_ceil_times}
@@ -11,7 +11,7 @@ use Rattle.qcow2_base.specs.declared.types.HostCluster.{HostCluster}
 use Rattle.qcow2_metadata.proofs.TableLemmas.{table_numbers_same}
 use Rattle.qcow2_metadata.proofs.WriteLemmas.{header_text-placed}
 use Rattle.qcow2_metadata.specs.Header.{HeaderRecord, geometry_of}
-use Rattle.qcow2_metadata.specs.Header.Open.{IsWritableFault, SaysSame, is_rewritten, opened_text, without_autoclear}
+use Rattle.qcow2_metadata.specs.Header.Open.{BecomesWritable, IsWritableFault, SaysSame, is_rewritten, opened_text, without_autoclear}
 use Rattle.qcow2_metadata.specs.Results.{IsFromOutside}
 use Rattle.qcow2_metadata.specs.Table.{IsTableFault}
 use Rattle.qcow2_metadata.specs.Header.Text.{chosen_text, header_after_write, header_text, header_to_write}
@@ -24,7 +24,7 @@ use Rattle.qcow2_check.proofs.RepairFlagWindowsLemmas.{loads-by}
 use Rattle.qcow2_check.specs.Findings.{is_shared, uses_of_kind}
 use Rattle.qcow2_check.specs.NamedTables.{l1_cluster, l1_layout, loaded_l1_table, named_block, named_cluster}
 use Rattle.qcow2_check.specs.Counters.{block_of_cluster, blocks_fault, counter_of}
-use Rattle.qcow2_check.specs.Repair.{IsPassFault, IsRepairable, ReportsFailures, tables_in}
+use Rattle.qcow2_check.specs.Repair.{IsPassFault, IsRepairable, MakesWritable, ReportsFailures, tables_in}
 use Rattle.qcow2_check.specs.Repair.Refusals.{IsRepairRefusal, repairable_tables}
 use Rattle.qcow2_check.specs.Repair.Flags.{NamesTable, l1_in, l2_in}
 use Rattle.qcow2_check.specs.Tally.{used_clusters}
@@ -289,3 +289,9 @@ pub reports-later : {A B C : Type 0} (x : A) (y : B) (z : C) (fault : Fault) (pl
     → OnlyReads (Ok x) a b → OnlyWrites (Ok y) place len b c → ReportsFailures {T = Unit {0}} (Err fault) c d → ReportsFailures {T = C} (Err fault) a d
 reports-later x y z fault place len a b c d reads writes reports =
     record { failed = grind (arith, nat_tests, reads.told, writes.told, reports.failed); device = grind (arith, reads.device, writes.device, reports.device) }
+
+-- where a header became one whose image may be written, and the bytes are known, that is what was done to these
+pub makes-writable : (header written : HeaderRecord) (old new : StorageState) → BecomesWritable header (Ok written) old new → IsTrue old.tells
+    → MakesWritable header written old.byte_at new.byte_at
+makes-writable header written old new becomes told =
+    record { becomes = becomes.exact; text = becomes.placed told; others = becomes.storage.others told }

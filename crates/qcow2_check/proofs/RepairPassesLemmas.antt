@@ -5,6 +5,7 @@ use Rattle.std.proofs.Math.Nat.{div-le_self}
 use Rattle.qcow2_base.specs.Format.{max_file_length}
 use Rattle.qcow2_base.specs.Types.{IsClusterBits}
 use Rattle.qcow2_base.specs.Storage.{Image}
+use Rattle.qcow2_base.specs.declared.fault.Fault.{Fault}
 use Rattle.qcow2_base.specs.declared.types.HostCluster.{HostCluster}
 use Rattle.qcow2_metadata.proofs.CopiedLemmas.{allocation-with_copied, host_offset-with_copied, is_compressed-with_copied, is_copied-with_copied, with_copied-fits}
 use Rattle.qcow2_metadata.specs.Entries.{with_copied}
@@ -19,7 +20,7 @@ use Rattle.qcow2_check.specs.Counters.{block_of_cluster}
 use Rattle.qcow2_check.specs.Flags.{flagged_cluster}
 use Rattle.qcow2_check.specs.NamedTables.{named_cluster}
 use Rattle.qcow2_check.specs.Repair.{IsRepairable}
-use Rattle.qcow2_check.specs.Repair.Flags.{BreaksOffFlags, FlagPassState, IsBetween, IsOutsideTables, NamesTable, PassesFlags, due_flag, l1_due, l1_in, l2_due, l2_in, pass_all, pass_between, passed_l1, passed_l2, uses_between, with_due}
+use Rattle.qcow2_check.specs.Repair.Flags.{BreaksOffFlags, FlagPassState, IsBetween, IsOutsideTables, NamesTable, PassesFlags, TearsTable, due_flag, l1_due, l1_in, l2_due, l2_in, pass_all, pass_between, passed_l1, passed_l2, uses_between, with_due}
 use Rattle.qcow2_check.specs.Tally.{ClusterUse, used_clusters}
 use Rattle.qcow2_check.specs.Uses.{ImageTables, all_load, entry_uses, image_tables, image_uses, l1_entry_loads, l1_entry_uses, uses_of}
 use Rattle.qcow2_check.specs.declared.tally.UseKind.TheVariants.{L2Table}
@@ -347,14 +348,18 @@ before-part uses mid c = elim (cases_lt c mid) [
 ]
 
 -- a pass that broke off after another
-pub breaks-joined : (tables : ImageTables) (flag : Bool) (mid : ℕ) (torn : Option HostCluster) (a b c : Image)
+pub breaks-joined : (tables : ImageTables) (flag : Bool) (mid : ℕ) (fault : Fault) (a b c : Image)
     → PassedBy tables flag (uses_between (λ k. uses_of (image_uses tables a) k) 0 mid) a b
-    → BreaksOffFlags (pass_all (tables_after tables b) b flag) torn b c → BreaksOffFlags (pass_all tables a flag) torn a c
-breaks-joined tables flag mid torn a b c by breaks = record {
-  l1_table = λ some. between-joined (passed_l1 all) _ _ _ (l1-twice all) l1_before (two.l1_table some);
-  l2_tables = λ table names differs. between-joined (passed_l2 all) _ _ _ (twice-passed all) (l2_before table names) (two.l2_tables table (after-names tables flag _ a b by table names) differs);
-  others = λ o outside. two.others o (outside-after tables flag _ a b by o outside) ∙ by.passes.others o outside;
-}
+    → BreaksOffFlags (pass_all (tables_after tables b) b flag) fault b c → BreaksOffFlags (pass_all tables a flag) fault a c
+breaks-joined tables flag mid fault a b c by breaks = (
+  two.0,
+  record {
+    l1_table = between-joined (passed_l1 all) _ _ _ (l1-twice all) l1_before two.1.l1_table;
+    l2_tables = λ table names. between-joined (passed_l2 all) _ _ _ (twice-passed all) (l2_before table names) (two.1.l2_tables table (after-names tables flag _ a b by table names));
+    others = λ o outside. two.1.others o (outside-after tables flag _ a b by o outside) ∙ by.passes.others o outside;
+  },
+  record { whole = two.2.whole; torn = torn two.2.torn },
+)
   where
     uses : ℕ → ℕ
     uses = λ k. uses_of (image_uses tables a) k
@@ -362,11 +367,16 @@ breaks-joined tables flag mid torn a b c by breaks = record {
     all : FlagPassState
     all = pass_of tables.header tables.reftable flag (λ k. Some (uses k))
 
-    two : BreaksOffFlags all torn b c
-    two = subst (λ us. BreaksOffFlags (pass_of tables.header tables.reftable flag (λ k. Some (uses_of us k))) torn b c) (uses-after tables flag _ a b by) breaks
+    two : BreaksOffFlags all fault b c
+    two = subst (λ us. BreaksOffFlags (pass_of tables.header tables.reftable flag (λ k. Some (uses_of us k))) fault b c) (uses-after tables flag _ a b by) breaks
 
     l1_before : IsBetween (passed_l1 all) (l1_in tables.header a) (l1_in tables.header b)
     l1_before = rw by.passes.l1_table (between-map _ _ (l1_in tables.header a) (l1-part tables.header tables.reftable flag _ _ (before-part uses mid)))
 
     l2_before : (table : HostCluster) → NamesTable tables.header (l1_in tables.header a) table → IsBetween (passed_l2 all) (l2_in tables.header table a) (l2_in tables.header table b)
     l2_before table names = rw (by.passes.l2_tables table names) (between-map _ _ (l2_in tables.header table a) (l2-part tables.header tables.reftable flag _ _ (before-part uses mid)))
+
+    torn : (c ≡ two.0) ⊎ TearsTable tables.header (l1_in tables.header b) two.0 c → (c ≡ two.0) ⊎ TearsTable tables.header (l1_in tables.header a) two.0 c
+    torn (inl same) = inl same
+    torn (inr (inl l1)) = inr (inl l1)
+    torn (inr (inr l2)) = inr (inr (l2.0, before-names tables flag _ a b by l2.0 l2.1, l2.2))

@@ -3,13 +3,13 @@ pub mod Counters
 pub mod Flags
 pub mod Left
 pub mod Refusals
-use Rattle.std.specs.Prelude.{◌≡◌, ◌≢◌, ◌⊎◌, ◌↔◌, ℕ, true, false, ◌<◌, ◌≤◌, List, length, Option, None, Result, Ok, Err, IfErr, IsErrOf, IsOk, IsSome, MatchResult}
+pub mod Torn
+use Rattle.std.specs.Prelude.{◌≡◌, ◌≢◌, ◌⊎◌, ◌↔◌, ℕ, true, false, ◌<◌, ◌≤◌, List, length, None, Result, Ok, Err, IfErr, IsErrOf, IsOk, IsSome, MatchResult}
 use Rattle.qcow2_base.specs.Format.{max_file_length}
 use Rattle.qcow2_base.specs.Storage.{Holds, Image, OnImage, OnImages, SameDevice, SameOutside, StorageState}
 use Rattle.qcow2_base.specs.Types.{IsClusterBits}
 use Rattle.qcow2_base.specs.declared.fault.Fault.{Fault}
 use Rattle.qcow2_base.specs.declared.fault.Fault.TheVariants.{CounterRange, Storage}
-use Rattle.qcow2_base.specs.declared.types.HostCluster.{HostCluster}
 use Rattle.qcow2_metadata.specs.Header.{HeaderRecord, geometry_of}
 use Rattle.qcow2_metadata.specs.Header.Open.{IsWritableFault, header_after_load, opened_text}
 use Rattle.qcow2_metadata.specs.Refblock.{greatest_counter}
@@ -21,6 +21,7 @@ use Rattle.qcow2_check.specs.NamedTables.{l1_cluster, l1_layout}
 use Rattle.qcow2_check.specs.Repair.Counters.{BreaksOff, PassesCounters}
 use Rattle.qcow2_check.specs.Repair.Flags.{BreaksOffFlags, PassesFlags, l1_in, pass_all}
 use Rattle.qcow2_check.specs.Repair.Refusals.{IsRepairRefusal, repairable_tables}
+use Rattle.qcow2_check.specs.Repair.Torn.{TearsAtMost}
 use Rattle.qcow2_check.specs.Uses.{ImageTables, all_load, image_tables, image_uses, uses_of}
 use Rattle.qcow2_check.specs.declared.repair.counters.CounterPass.TheVariants.{Fall, Rise}
 
@@ -76,20 +77,19 @@ pub record Repairs (header : HeaderRecord) (reftable : List ℕ) (old new : Imag
   pub lowers : Lowers header reftable raised lowered
   pub sets : Sets header reftable lowered new
 
--- counters rise and then fall, and one of both passes ended before its time
-abbrev pub BreaksOffCounters : HeaderRecord → List ℕ → Image → Image → Type 0
-BreaksOffCounters header reftable old new =
-    ((torn : HostCluster) × BreaksOff (tables_in header reftable old) Rise torn old new)
-    ⊎ ((raised : Image) × Raises header reftable old raised × ((torn : HostCluster) × BreaksOff (tables_in header reftable raised) Fall torn raised new))
+-- counters rise and then fall, and one of both passes ended in this fault before its time
+abbrev pub BreaksOffCounters : HeaderRecord → List ℕ → Fault → Image → Image → Type 0
+BreaksOffCounters header reftable fault old new =
+    BreaksOff (tables_in header reftable old) Rise fault old new
+    ⊎ ((raised : Image) × Raises header reftable old raised × BreaksOff (tables_in header reftable raised) Fall fault raised new)
 
--- a repair that ended before its time: in one of its passes, with all before it done
-abbrev pub BreaksOffRepair : HeaderRecord → List ℕ → Image → Image → Type 0
-BreaksOffRepair header reftable old new =
-    ((torn : Option HostCluster) × BreaksOffFlags (pass_all (tables_in header reftable old) old false) torn old new)
-    ⊎ ((cleared : Image) × Clears header reftable old cleared × BreaksOffCounters header reftable cleared new)
+-- a repair that ended in this fault before its time: in one of its passes, with all before it done
+abbrev pub BreaksOffRepair : HeaderRecord → List ℕ → Fault → Image → Image → Type 0
+BreaksOffRepair header reftable fault old new =
+    BreaksOffFlags (pass_all (tables_in header reftable old) old false) fault old new
+    ⊎ ((cleared : Image) × Clears header reftable old cleared × BreaksOffCounters header reftable fault cleared new)
     ⊎ ((cleared : Image) × (raised : Image) × (lowered : Image) × Clears header reftable old cleared × Raises header reftable cleared raised
-    × Lowers header reftable raised lowered
-    × ((torn : Option HostCluster) × BreaksOffFlags (pass_all (tables_in header reftable lowered) lowered true) torn lowered new))
+    × Lowers header reftable raised lowered × BreaksOffFlags (pass_all (tables_in header reftable lowered) lowered true) fault lowered new)
 
 -- a header was made one whose image may be written, as a load for writing makes it: its text was placed, where it had to be, and no
 -- byte past it changed
@@ -103,12 +103,15 @@ abbrev pub IsRepaired : HeaderRecord → HeaderRecord → Image → Image → Ty
 IsRepaired header written old new = (tables : ImageTables) × (mid : Image) × (repairable_tables header old ≡ Ok tables)
     × MakesWritable header written old mid × Repairs written tables.reftable mid new
 
--- one that broke off: before a byte changed, while the header's text was written, or in a pass
-abbrev pub BreaksOffAt : HeaderRecord → Image → Image → Type 0
-BreaksOffAt header old new = (new ≡ old)
-    ⊎ (IsOk (repairable_tables header old) × SameOutside 0 (length (opened_text true (Ok header))) old new)
+-- the write of the header's text was torn, of an image that can be repaired
+abbrev pub TearsText : HeaderRecord → Image → Image → Type 0
+TearsText header old new = IsOk (repairable_tables header old) × SameOutside 0 (length (opened_text true (Ok header))) old new
+
+-- a repair that broke off in this fault: before its passes, or in one of them
+abbrev pub BreaksOffAt : HeaderRecord → Fault → Image → Image → Type 0
+BreaksOffAt header fault old new = TearsAtMost fault (TearsText header) old new
     ⊎ ((written : HeaderRecord) × (tables : ImageTables) × (mid : Image) × (repairable_tables header old ≡ Ok tables)
-    × MakesWritable header written old mid × BreaksOffRepair written tables.reftable mid new)
+    × MakesWritable header written old mid × BreaksOffRepair written tables.reftable fault mid new)
 
 -- the faults of its passes, whatever is known of the image's bytes
 abbrev pub IsPassFault : HeaderRecord → Fault → Type 0
@@ -120,7 +123,7 @@ IsPassFault header fault =
 pub record RepairsImage (header : HeaderRecord) (answer : Result HeaderRecord Fault) (old new : StorageState) : Type 0 where
   pub repairs : OnImages old new (λ before after. MatchResult answer
       (λ written. IsRepaired header written before after)
-      (λ _. BreaksOffAt header before after))
+      (λ fault. BreaksOffAt header fault before after))
   pub refused : IfErr answer (λ fault. OnImages old new (λ before after. IsFromOutside fault ⊎ ((after ≡ before)
       × ((repairable_tables header before ≡ Err fault) ⊎ (header_after_load true (Ok header) ≡ Err fault)))))
   pub faults : IfErr answer (λ fault. IsRepairRefusal header fault ⊎ IsWritableFault header fault)

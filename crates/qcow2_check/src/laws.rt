@@ -1,16 +1,18 @@
 //! Laws: facts about the definitions that contracts name. Each is a function that does nothing. Its
 //! contract is the law, and its name says it.
 
-ghost use Rattle.std.specs.Prelude.{◌≡◌, ◌↔◌, ℕ, ◌<◌, ◌≤◌, [], List, Ok};
+ghost use Rattle.std.specs.Prelude.{◌≡◌, ◌≢◌, ◌↔◌, ℕ, ◌<◌, ◌≤◌, [], List, Ok};
 ghost use Rattle.qcow2_base.specs.Format.{max_file_length};
 ghost use Rattle.qcow2_base.specs.Storage.{Image, IsBytes};
+ghost use Rattle.qcow2_base.specs.declared.fault.Fault.{Fault};
+ghost use Rattle.qcow2_base.specs.declared.fault.Fault.TheVariants.{Storage};
 ghost use Rattle.qcow2_base.specs.declared.types.HostCluster.{HostCluster};
 ghost use Rattle.qcow2_metadata.specs.Header.{HeaderRecord, IsValidHeader};
 ghost use Rattle.qcow2_check.specs.Consistency.{IsConsistent};
 ghost use Rattle.qcow2_check.specs.Counters.{counter_of};
 ghost use Rattle.qcow2_check.specs.Findings.{AreRight, image_findings, uses_of_kind};
 ghost use Rattle.qcow2_check.specs.Repair.{BreaksOffRepair, IsRepairable, MakesWritable, Repairs, tables_in};
-ghost use Rattle.qcow2_check.specs.Repair.Left.{CountsUsed, HasTrueFlags, IsCovered, IsRightWhereCounted, KeepsCover, KeepsCoverBeside, SparesCluster};
+ghost use Rattle.qcow2_check.specs.Repair.Left.{CountsUsed, HasTrueFlags, IsHighEnough, IsRightWhereCounted, LeavesWhole, MakesNoneTooLow, MakesNoneTooLowBeside};
 ghost use Rattle.qcow2_check.specs.Repair.Refusals.{repairable_tables};
 ghost use Rattle.qcow2_check.specs.Uses.{ImageTables, image_uses, uses_of};
 ghost use Rattle.qcow2_check.specs.declared.tally.UseKind.TheVariants.{Fixed, Guest, L2Table};
@@ -89,31 +91,38 @@ pub fn a_repaired_image_is_consistent_where_blocks_count_all_uses()
         CountsUsed (tables_in header reftable old) old → IsConsistent (tables_in header reftable new) new }
 {}
 
-/// No step of a repair takes the cover of a cluster: where a cluster's counter was at least the number of its
-/// uses, it is so after flags are cleared, after counters rose, after they fell, and at the end.
-pub fn a_repair_takes_no_cover()
+/// No step of a repair makes a counter too low: one that was at least the number of its cluster's uses is so
+/// after flags are cleared, after counters rose, after they fell, and at the end.
+pub fn no_step_of_a_repair_makes_a_counter_too_low()
     ensures { (header : HeaderRecord) (reftable : List ℕ) (old new : Image)
         (repair : Repairs header reftable old new) → IsRepairable (tables_in header reftable old) old →
-        let keeps = KeepsCover header reftable old in
-        keeps repair.cleared × keeps repair.raised × keeps repair.lowered × keeps new }
+        let makes_none = MakesNoneTooLow header reftable old in
+        makes_none repair.cleared × makes_none repair.raised × makes_none repair.lowered × makes_none new }
 {}
 
-/// Where a repair broke off, and the image uses the same clusters as before, there is one block at most whose
-/// clusters lost their cover.
-pub fn a_repair_that_breaks_off_uncovers_one_block_at_most()
-    ensures { (header : HeaderRecord) (reftable : List ℕ) (old new : Image) →
-        IsRepairable (tables_in header reftable old) old → BreaksOffRepair header reftable old new →
+/// Nor does a repair that broke off, but where the storage failed: so it is where memory ran out.
+pub fn a_repair_that_breaks_off_makes_no_counter_too_low_unless_the_storage_fails()
+    ensures { (header : HeaderRecord) (reftable : List ℕ) (fault : Fault) (old new : Image) →
+        IsRepairable (tables_in header reftable old) old → BreaksOffRepair header reftable fault old new →
+        fault ≢ Storage → MakesNoneTooLow header reftable old new }
+{}
+
+/// Where a repair broke off, whatever the fault, and the image uses the same clusters as before, counters of
+/// one block at most are too low now: of that whose write was torn.
+pub fn a_torn_write_of_a_repair_makes_counters_of_one_block_too_low_at_most()
+    ensures { (header : HeaderRecord) (reftable : List ℕ) (fault : Fault) (old new : Image) →
+        IsRepairable (tables_in header reftable old) old → BreaksOffRepair header reftable fault old new →
         image_uses (tables_in header reftable new) new ≡ image_uses (tables_in header reftable old) old →
-        (block : HostCluster) × KeepsCoverBeside header reftable block old new }
+        (block : HostCluster) × MakesNoneTooLowBeside header reftable block old new }
 {}
 
-/// A repair that broke off takes no cover of a cluster that it spared. So it did if the write that failed was
-/// cut between the entries of a table, where each is the old one or that of the step. If that write was of a
-/// block, it did if the cluster's counter is the old one or that of the step, as all are in other blocks.
-pub fn a_repair_that_breaks_off_covers_what_it_spares()
+/// A part of a repair makes no counter too low that it left whole. A torn write may be in that part, if it
+/// was torn between the entries of a table, so that each is the old one or that of the step. So may one of a
+/// block, if the counter is the old one or that of the step.
+pub fn a_part_of_a_repair_makes_no_counter_too_low_that_it_leaves_whole()
     ensures { (header : HeaderRecord) (reftable : List ℕ) (old new : Image) (c : ℕ) → c < max_file_length →
-        IsRepairable (tables_in header reftable old) old → SparesCluster header reftable c old new →
-        IsCovered header reftable c old → IsCovered header reftable c new }
+        IsRepairable (tables_in header reftable old) old → LeavesWhole header reftable c old new →
+        IsHighEnough header reftable c old → IsHighEnough header reftable c new }
 {}
 
 /// Once the first step has cleared flags, no step of a repair leaves a flag that says wrongly that its

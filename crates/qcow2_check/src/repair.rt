@@ -60,9 +60,9 @@ impl<'a> Model for Tables<'a> {
 ///
 /// Returns the fault of `Findings::new`, or of the first cluster that can't be repaired: 38 where its uses
 /// exclude each other, 30 where its counter can't hold their number. Then comes 24, where the header has no
-/// room, or 25 for a name that no loaded header has. No byte has changed then. Where the storage fails or
-/// memory runs out, a part of the steps may be done. Any bytes may be in the header's text then, or in one
-/// table or block.
+/// room, or 25 for a name that no loaded header has. No byte has changed then. Where memory runs out, a part
+/// of the steps may be done, and each counter and each entry is the old one or that of its step. Where the
+/// storage fails, any bytes may be in the header's text besides, or in one table or block.
 pub fn repair_image<S: Storage>(
     alloc: Global,
     image: &mut S,
@@ -91,7 +91,7 @@ fn repair_written<S: Storage>(
         IsRepairable (tables_in header.now reftable.now.numbers bytes) bytes) }
     ensures repairs { OnImages (S.state image.old) (S.state image.new) (λ before after. MatchResult result
         (λ _. Repairs header.now reftable.now.numbers before after)
-        (λ _. BreaksOffRepair header.now reftable.now.numbers before after)) }
+        (λ fault. BreaksOffRepair header.now reftable.now.numbers fault before after)) }
     ensures fault { IfErr result (λ fault. IsPassFault header.now fault
         × OnImage (S.state image.old) (λ _. IsFromOutside fault)) }
     ensures storage { ReportsFailures result (S.state image.old) (S.state image.new) }
@@ -115,7 +115,7 @@ fn repair_tables<S: Storage>(
         IsRepairable (tables_in header.now reftable.now.numbers bytes) bytes) }
     ensures repairs { OnImages (S.state image.old) (S.state image.new) (λ before after. MatchResult result
         (λ _. Repairs header.now reftable.now.numbers before after)
-        (λ _. BreaksOffRepair header.now reftable.now.numbers before after)) }
+        (λ fault. BreaksOffRepair header.now reftable.now.numbers fault before after)) }
     ensures fault { IfErr result (IsRepairFault (S.state image.old)) }
     ensures storage { ReportsFailures result (S.state image.old) (S.state image.new) }
 {
@@ -140,7 +140,7 @@ fn pass_both_counters<S: Storage>(
     ensures counters { OnImages (S.state image.old) (S.state image.new) (λ before after. MatchResult result
         (λ _. (mid : Image) × Raises header.now reftable.now.numbers before mid
         × Lowers header.now reftable.now.numbers mid after)
-        (λ _. BreaksOffCounters header.now reftable.now.numbers before after)) }
+        (λ fault. BreaksOffCounters header.now reftable.now.numbers fault before after)) }
     ensures l1_table { IfOk result (λ _. IsL1TableOf header.now (S.state image.new) l1_table.now) }
     ensures repairable { OnOk result (OnImage (S.state image.new) (λ bytes.
         IsRepairable (tables_in header.now reftable.now.numbers bytes) bytes)) }

@@ -1,7 +1,7 @@
 -- What does a pass of a repair over counters change?
-use Rattle.std.specs.Prelude.{◌≡◌, ◌≢◌, ◌⊎◌, ℕ, ◌&&◌, ◌/◌, ◌^◌, ◌<◌, ◌≤◌, max, min, nat_le, nat_lt, if◌then◌else◌, List, length, slice_index, Some, IsSome}
+use Rattle.std.specs.Prelude.{◌≡◌, ◌≢◌, ◌⊎◌, ℕ, ◌&&◌, ◌*◌, ◌/◌, ◌^◌, ◌<◌, ◌≤◌, max, min, nat_le, nat_lt, if◌then◌else◌, List, length, slice_index, Some, IsSome}
 use Rattle.qcow2_base.specs.Format.{max_file_length}
-use Rattle.qcow2_base.specs.Storage.{Image}
+use Rattle.qcow2_base.specs.Storage.{Image, SameOutside}
 use Rattle.qcow2_base.specs.declared.fault.Fault.{Fault}
 use Rattle.qcow2_base.specs.declared.fault.Fault.TheVariants.{CounterRange}
 use Rattle.qcow2_base.specs.declared.types.HostCluster.{HostCluster}
@@ -9,6 +9,7 @@ use Rattle.qcow2_metadata.specs.Placed.{numbers_at}
 use Rattle.qcow2_metadata.specs.Refblock.{block_geometry_of, block_layout, greatest_counter}
 use Rattle.qcow2_check.specs.Counters.{block_of_cluster, counter_of}
 use Rattle.qcow2_check.specs.NamedTables.{named_block}
+use Rattle.qcow2_check.specs.Repair.Torn.{TearsAtMost}
 use Rattle.qcow2_check.specs.Uses.{ImageTables, image_uses, uses_of}
 use Rattle.qcow2_check.specs.declared.repair.counters.CounterPass.{CounterPass}
 use Rattle.qcow2_check.specs.declared.repair.counters.CounterPass.TheVariants.{Fall, Rise}
@@ -60,9 +61,22 @@ pub record PassesBetween (tables : ImageTables) (pass : CounterPass) (from to : 
 abbrev pub PassesCounters : ImageTables → CounterPass → Image → Image → Type 0
 PassesCounters tables pass old new = PassesBetween tables pass 0 max_file_length old new
 
--- a pass over counters that ended before its time: each counter is the old one or that after the pass, but in one block, whose
--- write may have failed. No byte outside the refcount blocks changes
-pub record BreaksOff (tables : ImageTables) (pass : CounterPass) (torn : HostCluster) (old new : Image) : Type 0 where
-  pub counters : (c : ℕ) → block_of_cluster tables.header tables.reftable c ≢ Some torn →
-      (counter_in tables new c ≡ counter_in tables old c) ⊎ (counter_in tables new c ≡ passed_counter tables pass old c)
+-- the counter of cluster c is the old one or that after a pass
+abbrev pub IsEitherCounter : ImageTables → CounterPass → ℕ → Image → Image → Type 0
+IsEitherCounter tables pass c old new = (counter_in tables new c ≡ counter_in tables old c)
+    ⊎ (counter_in tables new c ≡ passed_counter tables pass old c)
+
+-- a part of a pass over counters: each is the old one or that after the pass, and no byte outside the refcount blocks changes
+pub record PassesSomeCounters (tables : ImageTables) (pass : CounterPass) (old new : Image) : Type 0 where
+  pub counters : (c : ℕ) → IsEitherCounter tables pass c old new
   pub others : (o : ℕ) → IsOutsideBlocks tables o → new o ≡ old o
+
+-- a write of a refcount block was torn: no byte outside this block changed
+abbrev pub TearsBlock : ImageTables → Image → Image → Type 0
+TearsBlock tables old new = let cb = tables.header.v2.cluster_bits in (i : ℕ) × (block : HostCluster)
+    × (named_block cb (slice_index tables.reftable i) ≡ Some block) × SameOutside (block.0 * 2 ^ cb) (2 ^ cb) old new
+
+-- a pass over counters ended in this fault before its time: a part of it was done, and after that one write was torn at most
+abbrev pub BreaksOff : ImageTables → CounterPass → Fault → Image → Image → Type 0
+BreaksOff tables pass fault old new =
+    (mid : Image) × PassesSomeCounters tables pass old mid × TearsAtMost fault (TearsBlock tables) mid new

@@ -1,6 +1,7 @@
 -- What does a pass of a repair over copied flags change?
 use Rattle.std.specs.Prelude.{◌≡◌, ◌≢◌, ◌⊎◌, ℕ, Bool, true, false, not, ◌==◌, ◌&&◌, ◌+◌, ◌/◌, ◌^◌, ◌<◌, ◌≤◌, nat_le, nat_lt, if◌then◌else◌, List, map, length, slice_index, Option, Some, None, option_map}
-use Rattle.qcow2_base.specs.Storage.{Image, OnImage, StorageState}
+use Rattle.qcow2_base.specs.Storage.{Image, OnImage, SameOutside, StorageState}
+use Rattle.qcow2_base.specs.declared.fault.Fault.{Fault}
 use Rattle.qcow2_base.specs.declared.types.HostCluster.{HostCluster}
 use Rattle.qcow2_metadata.specs.Entries.{with_copied}
 use Rattle.qcow2_metadata.specs.Header.{HeaderRecord, geometry_of}
@@ -9,6 +10,7 @@ use Rattle.qcow2_metadata.specs.Table.{TableState, l2_layout}
 use Rattle.qcow2_check.specs.Counters.{block_of_cluster}
 use Rattle.qcow2_check.specs.Flags.{flagged_cluster}
 use Rattle.qcow2_check.specs.NamedTables.{l1_cluster, l1_layout, named_cluster}
+use Rattle.qcow2_check.specs.Repair.Torn.{TearsAtMost}
 use Rattle.qcow2_check.specs.Tally.{TallyState, cell_at}
 use Rattle.qcow2_check.specs.Uses.{ImageTables, image_uses, uses_of}
 
@@ -95,13 +97,23 @@ pub record PassesL2 (pass : FlagPassState) (l1 : List ℕ) (old new : Image) : T
       l2_in pass.header table new ≡ map (passed_l2 pass) (l2_in pass.header table old)
   pub others : (o : ℕ) → IsOutsideL2Tables pass.header l1 o → new o ≡ old o
 
--- a pass over the flags of the L2 tables that ended before its time: each table is the old one or that after the pass, but one,
--- whose write may have failed
-pub record BreaksOffL2 (pass : FlagPassState) (l1 : List ℕ) (torn : HostCluster) (old new : Image) : Type 0 where
-  pub tables : (table : HostCluster) → NamesTable pass.header l1 table → table ≢ torn →
+-- a part of it: each table is the old one or that after the pass
+pub record PassesSomeL2 (pass : FlagPassState) (l1 : List ℕ) (old new : Image) : Type 0 where
+  pub tables : (table : HostCluster) → NamesTable pass.header l1 table →
       (l2_in pass.header table new ≡ l2_in pass.header table old)
       ⊎ (l2_in pass.header table new ≡ map (passed_l2 pass) (l2_in pass.header table old))
   pub others : (o : ℕ) → IsOutsideL2Tables pass.header l1 o → new o ≡ old o
+
+-- a write of an L2 table that an L1 table names was torn: no byte outside it changed
+abbrev pub TearsL2 : HeaderRecord → List ℕ → Image → Image → Type 0
+TearsL2 header l1 old new = let layout = l2_layout (geometry_of header) in (table : HostCluster) × NamesTable header l1 table
+    × SameOutside (offset_of layout table) layout.byte_count old new
+
+-- a pass over the flags of the L2 tables ended in this fault before its time: a part of it was done, and after that one write was
+-- torn at most
+abbrev pub BreaksOffL2 : FlagPassState → List ℕ → Fault → Image → Image → Type 0
+BreaksOffL2 pass l1 fault old new =
+    (mid : Image) × PassesSomeL2 pass l1 old mid × TearsAtMost fault (TearsL2 pass.header l1) mid new
 
 -- each number of a table is the old one, or what a pass makes of that
 pub record IsBetween (passed : ℕ → ℕ) (old new : List ℕ) : Type 0 where
@@ -115,13 +127,22 @@ pub record PassesFlags (pass : FlagPassState) (old new : Image) : Type 0 where
       l2_in pass.header table new ≡ map (passed_l2 pass) (l2_in pass.header table old)
   pub others : (o : ℕ) → IsOutsideTables pass.header (l1_in pass.header old) o → new o ≡ old o
 
--- a pass over all flags that ended before its time: each entry is the old one or that after the pass, but those of one table, whose
--- write may have failed. That is the L2 table of a cluster, or else the L1 table
-pub record BreaksOffFlags (pass : FlagPassState) (torn : Option HostCluster) (old new : Image) : Type 0 where
-  pub l1_table : torn ≢ None → IsBetween (passed_l1 pass) (l1_in pass.header old) (l1_in pass.header new)
-  pub l2_tables : (table : HostCluster) → NamesTable pass.header (l1_in pass.header old) table → torn ≢ Some table →
+-- a part of a pass over all flags: each entry is the old one or that after the pass
+pub record PassesSomeFlags (pass : FlagPassState) (old new : Image) : Type 0 where
+  pub l1_table : IsBetween (passed_l1 pass) (l1_in pass.header old) (l1_in pass.header new)
+  pub l2_tables : (table : HostCluster) → NamesTable pass.header (l1_in pass.header old) table →
       IsBetween (passed_l2 pass) (l2_in pass.header table old) (l2_in pass.header table new)
   pub others : (o : ℕ) → IsOutsideTables pass.header (l1_in pass.header old) o → new o ≡ old o
+
+-- a write of the L1 table was torn, or of an L2 table that it names
+abbrev pub TearsTable : HeaderRecord → List ℕ → Image → Image → Type 0
+TearsTable header l1 old new = let layout = l1_layout header in
+    SameOutside (offset_of layout (l1_cluster header)) layout.byte_count old new ⊎ TearsL2 header l1 old new
+
+-- a pass over all flags ended in this fault before its time: a part of it was done, and after that one write was torn at most
+abbrev pub BreaksOffFlags : FlagPassState → Fault → Image → Image → Type 0
+BreaksOffFlags pass fault old new = (mid : Image) × PassesSomeFlags pass old mid
+    × TearsAtMost fault (TearsTable pass.header (l1_in pass.header old)) mid new
 
 -- the uses of the clusters from one to before another alone
 abbrev pub uses_between : (ℕ → ℕ) → ℕ → ℕ → ℕ → Option ℕ

@@ -1,5 +1,5 @@
 -- What does a repair leave wrong, and what stays right while it lasts?
-use Rattle.std.specs.Prelude.{◌≡◌, ◌≢◌, ◌⊎◌, ℕ, true, false, ◌<◌, ◌≤◌, List, slice_index, Option, Some, None, IsSome}
+use Rattle.std.specs.Prelude.{◌≡◌, ◌≢◌, ◌⊎◌, ℕ, true, false, ◌<◌, ◌≤◌, List, slice_index, Some, None, IsSome}
 use Rattle.std.specs.List.{All}
 use Rattle.qcow2_base.specs.Format.{max_file_length}
 use Rattle.qcow2_base.specs.Storage.{Image}
@@ -11,8 +11,8 @@ use Rattle.qcow2_check.specs.Findings.{image_findings}
 use Rattle.qcow2_check.specs.Flags.{flagged_cluster, image_flags}
 use Rattle.qcow2_check.specs.NamedTables.{named_cluster}
 use Rattle.qcow2_check.specs.Repair.{Clears, Lowers, Raises, image_uses_of, tables_in}
-use Rattle.qcow2_check.specs.Repair.Counters.{BreaksOff, counter_in, passed_counter}
-use Rattle.qcow2_check.specs.Repair.Flags.{BreaksOffFlags, FlagPassState, IsBetween, NamesTable, l1_in, l2_in, pass_all, passed_l1, passed_l2}
+use Rattle.qcow2_check.specs.Repair.Counters.{IsEitherCounter, IsOutsideBlocks, counter_in}
+use Rattle.qcow2_check.specs.Repair.Flags.{NamesTable, PassesSomeFlags, l2_in, pass_all}
 use Rattle.qcow2_check.specs.Uses.{ImageTables}
 use Rattle.qcow2_check.specs.declared.findings.Finding.{Finding}
 use Rattle.qcow2_check.specs.declared.flags.WrongFlag.{WrongFlag}
@@ -61,46 +61,35 @@ pub record HasTrueFlags (tables : ImageTables) (image : Image) : Type 0 where
       let v = slice_index (l2_in tables.header table image) k in let g = geometry_of tables.header in
       g.external_data_file ≡ false → flagged_cluster g v ≡ Some cluster → IsTrueFlag tables image cluster v
 
--- cluster c is covered: its counter is at least the number of its uses
-abbrev pub IsCovered : HeaderRecord → List ℕ → ℕ → Image → Type 0
-IsCovered header reftable c image = let tables = tables_in header reftable image in
+-- the counter of cluster c is at least the number of its uses
+abbrev pub IsHighEnough : HeaderRecord → List ℕ → ℕ → Image → Type 0
+IsHighEnough header reftable c image = let tables = tables_in header reftable image in
     image_uses_of tables image c ≤ counter_in tables image c
 
--- each cluster that was covered is so still
-abbrev pub KeepsCover : HeaderRecord → List ℕ → Image → Image → Type 0
-KeepsCover header reftable old new = (c : ℕ) → c < max_file_length → IsCovered header reftable c old →
-    IsCovered header reftable c new
+-- no counter that was high enough is too low
+abbrev pub MakesNoneTooLow : HeaderRecord → List ℕ → Image → Image → Type 0
+MakesNoneTooLow header reftable old new = (c : ℕ) → c < max_file_length → IsHighEnough header reftable c old →
+    IsHighEnough header reftable c new
 
--- so is each but those that one block counts
-abbrev pub KeepsCoverBeside : HeaderRecord → List ℕ → HostCluster → Image → Image → Type 0
-KeepsCoverBeside header reftable block old new = (c : ℕ) → c < max_file_length →
-    block_of_cluster header reftable c ≢ Some block → IsCovered header reftable c old → IsCovered header reftable c new
+-- none is, but of clusters that one block counts
+abbrev pub MakesNoneTooLowBeside : HeaderRecord → List ℕ → HostCluster → Image → Image → Type 0
+MakesNoneTooLowBeside header reftable block old new = (c : ℕ) → c < max_file_length →
+    block_of_cluster header reftable c ≢ Some block → IsHighEnough header reftable c old → IsHighEnough header reftable c new
 
--- the counter of cluster c is the old one or that after a pass
-abbrev pub IsEitherCounter : ImageTables → CounterPass → ℕ → Image → Image → Type 0
-IsEitherCounter tables pass c old new = (counter_in tables new c ≡ counter_in tables old c)
-    ⊎ (counter_in tables new c ≡ passed_counter tables pass old c)
+-- a part of a pass over counters left the counter of cluster c whole: it is the old one or that after the pass. No byte outside
+-- the refcount blocks changed
+abbrev pub LeavesCounterWhole : ImageTables → CounterPass → ℕ → Image → Image → Type 0
+LeavesCounterWhole tables pass c old new = IsEitherCounter tables pass c old new
+    × ((o : ℕ) → IsOutsideBlocks tables o → new o ≡ old o)
 
--- a pass over counters ended before its time, and left cluster c one of these counters, also where the write of its block failed
-abbrev pub SparesCounter : ImageTables → CounterPass → ℕ → Image → Image → Type 0
-SparesCounter tables pass c old new = (torn : HostCluster) × BreaksOff tables pass torn old new
-    × (block_of_cluster tables.header tables.reftable c ≡ Some torn → IsEitherCounter tables pass c old new)
-
--- a pass over flags ended before its time, and left each entry the old one or that after the pass, also where the write of its
--- table failed
-pub record SparesEntries (pass : FlagPassState) (old new : Image) : Type 0 where
-  pub torn : Option HostCluster
-  pub breaks : BreaksOffFlags pass torn old new
-  pub l1_table : torn ≡ None → IsBetween (passed_l1 pass) (l1_in pass.header old) (l1_in pass.header new)
-  pub l2_table : (table : HostCluster) → NamesTable pass.header (l1_in pass.header old) table → torn ≡ Some table →
-      IsBetween (passed_l2 pass) (l2_in pass.header table old) (l2_in pass.header table new)
-
--- a repair ended before its time, and a write that failed was cut between entries, or spared the counter of cluster c
-abbrev pub SparesCluster : HeaderRecord → List ℕ → ℕ → Image → Image → Type 0
-SparesCluster header reftable c old new =
-    SparesEntries (pass_all (tables_in header reftable old) old false) old new
-    ⊎ ((cleared : Image) × Clears header reftable old cleared × SparesCounter (tables_in header reftable cleared) Rise c cleared new)
+-- a part of a repair left the counter of cluster c and all entries of tables whole: each is the old one or that after the step
+abbrev pub LeavesWhole : HeaderRecord → List ℕ → ℕ → Image → Image → Type 0
+LeavesWhole header reftable c old new =
+    PassesSomeFlags (pass_all (tables_in header reftable old) old false) old new
+    ⊎ ((cleared : Image) × Clears header reftable old cleared
+    × LeavesCounterWhole (tables_in header reftable cleared) Rise c cleared new)
     ⊎ ((cleared : Image) × (raised : Image) × Clears header reftable old cleared × Raises header reftable cleared raised
-    × SparesCounter (tables_in header reftable raised) Fall c raised new)
+    × LeavesCounterWhole (tables_in header reftable raised) Fall c raised new)
     ⊎ ((cleared : Image) × (raised : Image) × (lowered : Image) × Clears header reftable old cleared × Raises header reftable cleared raised
-    × Lowers header reftable raised lowered × SparesEntries (pass_all (tables_in header reftable lowered) lowered true) lowered new)
+    × Lowers header reftable raised lowered
+    × PassesSomeFlags (pass_all (tables_in header reftable lowered) lowered true) lowered new)

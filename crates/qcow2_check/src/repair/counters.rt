@@ -184,7 +184,7 @@ fn pass_from<S: Storage>(
     ensures passed { OnImages (S.state image.old) (S.state image.new) (λ before after.
         MatchResult result
         (λ end. PassesBetween tables.now pass cluster end before after)
-        (λ _. (torn : HostCluster) × BreaksOff tables.now pass torn before after)) }
+        (λ fault. BreaksOff tables.now pass fault before after)) }
     ensures further { IfOk result (λ end. (cluster < end) × (end ≤ max_file_length)) }
     ensures kept { OnImages (S.state image.old) (S.state image.new) (λ _ after.
         OnOk result (IfSome kept.new (CountsAll tables.now after))) }
@@ -219,7 +219,7 @@ pub(crate) fn pass_all_counters<S: Storage>(
     ensures passed { OnImages (S.state image.old) (S.state image.new) (λ before after.
         MatchResult result
         (λ _. PassesCounters tables.now pass before after)
-        (λ _. (torn : HostCluster) × BreaksOff tables.now pass torn before after)) }
+        (λ fault. BreaksOff tables.now pass fault before after)) }
     ensures fault { IfErr result (IsRepairFault (S.state image.old)) }
     ensures storage { ReportsFailures result (S.state image.old) (S.state image.new) }
 {

@@ -3,7 +3,6 @@
 ghost use Rattle.std.specs.Prelude.{◌≡◌, ◌<◌, ◌≤◌, IfErr, IfOk, IsOkUnless, MatchResult, None, OnOk, Option, Some, false, length};
 ghost use Rattle.qcow2_base.specs.Format.{max_file_length};
 ghost use Rattle.qcow2_base.specs.Storage.{OnImage, OnImages, OnlyWrites};
-ghost use Rattle.qcow2_base.specs.declared.types.HostCluster.{HostCluster as Cluster};
 ghost use Rattle.qcow2_base.specs.declared.fault.Fault.TheVariants.{Storage as StorageFailed};
 ghost use Rattle.qcow2_metadata.specs.Header.{geometry_of};
 ghost use Rattle.qcow2_metadata.specs.Placed.{offset_of, place_fault};
@@ -66,7 +65,7 @@ fn pass_window<S: Storage>(
     ensures passed { let tables = image_tables header.now l1_table.old.numbers reftable.now.numbers in
         OnImages (S.state image.old) (S.state image.new) (λ before after. MatchResult result
         (λ end. PassesFlags (pass_between tables before flag first end) before after)
-        (λ _. (torn : Option Cluster) × BreaksOffFlags (pass_all tables before flag) torn before after)) }
+        (λ fault. BreaksOffFlags (pass_all tables before flag) fault before after)) }
     ensures further { IfOk result (λ end. (first < end) × (end ≤ max_file_length)) }
     ensures l1_table { OnOk result (IsL1TableOf header.now (S.state image.new) l1_table.new) }
     ensures fault { IfErr result (IsLaterFault (S.state image.old)) }
@@ -104,7 +103,7 @@ pub(super) fn pass_all_flags<S: Storage>(
     ensures passed { let tables = image_tables header.now l1_table.old.numbers reftable.now.numbers in
         OnImages (S.state image.old) (S.state image.new) (λ before after. MatchResult result
         (λ _. PassesFlags (pass_all tables before flag) before after)
-        (λ _. (torn : Option Cluster) × BreaksOffFlags (pass_all tables before flag) torn before after)) }
+        (λ fault. BreaksOffFlags (pass_all tables before flag) fault before after)) }
     ensures l1_table { OnOk result (IsL1TableOf header.now (S.state image.new) l1_table.new) }
     ensures fault { IfErr result (IsLaterFault (S.state image.old)) }
     ensures storage { ReportsFailures result (S.state image.old) (S.state image.new) }

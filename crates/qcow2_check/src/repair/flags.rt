@@ -3,7 +3,6 @@
 
 ghost use Rattle.std.specs.Prelude.{◌≡◌, ℕ, ◌⊎◌, ◌<◌, IfErr, MatchResult, Ok, OnOk, Some, length, map, slice_index, slice_set, true};
 ghost use Rattle.qcow2_base.specs.Storage.{OnImage, OnImages, OnlyWrites};
-ghost use Rattle.qcow2_base.specs.declared.types.HostCluster.{HostCluster as Cluster};
 ghost use Rattle.qcow2_metadata.specs.Header.{geometry_of};
 ghost use Rattle.qcow2_metadata.specs.Placed.{offset_of};
 ghost use Rattle.qcow2_metadata.specs.Table.{l2_layout, loaded_l2_table};
@@ -178,7 +177,7 @@ impl FlagPass<'_> {
             all_load (geometry_of self.now.header) l1_table.now.numbers bytes ≡ Ok tt) }
         ensures passed { OnImages (S.state image.old) (S.state image.new) (λ before after. MatchResult result
             (λ _. PassesL2 (pass_by self.now) l1_table.now.numbers before after)
-            (λ _. (torn : Cluster) × BreaksOffL2 (pass_by self.now) l1_table.now.numbers torn before after)) }
+            (λ fault. BreaksOffL2 (pass_by self.now) l1_table.now.numbers fault before after)) }
         ensures fault { IfErr result (IsLaterFault (S.state image.old)) }
         ensures storage { ReportsFailures result (S.state image.old) (S.state image.new) }
     {

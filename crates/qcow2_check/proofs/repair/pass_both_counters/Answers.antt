@@ -17,7 +17,7 @@ pass_all_counters-requires-2 g c = λ told.
 pub returns-in_err-pass_all_counters-clause-counters : goal.returns-in_err-pass_all_counters-clause-counters
 returns-in_err-pass_all_counters-clause-counters g c = λ told.
     let exit = err_from_is_err_and c.from_residual.result c.from_residual.ensures.1 in
-    rw exit.1 (inl (rw (c.requires.l1_table.numbers told) at (c.in_err-pass_all_counters.ensures.passed told)))
+    rw (exit.1, exit.2) (inl (rw (c.requires.l1_table.numbers told) at (c.in_err-pass_all_counters.ensures.passed told)))
 
 pub returns-in_err-pass_all_counters-2-clause-counters : goal.returns-in_err-pass_all_counters-2-clause-counters
 returns-in_err-pass_all_counters-2-clause-counters g c = λ told.
@@ -30,7 +30,7 @@ returns-in_err-pass_all_counters-2-clause-counters g c = λ told.
     let is : IsRepairable tables before = rw (c.requires.l1_table.numbers told) (c.requires.repairable told) in
     let raised = c.in_ok-pass_all_counters.ensures.passed told in
     let l1 : c.args.l1_table.now.numbers ≡ l1_in header mid = c.requires.l1_table.numbers told ∙ sym (l1-stays tables before mid is raised.others) in
-    rw exit.1 (inr (mid, rw (c.requires.l1_table.numbers told) at raised, rw l1 at (c.in_err-pass_all_counters-2.ensures.passed known)))
+    rw (exit.1, exit.2) (inr (mid, rw (c.requires.l1_table.numbers told) at raised, rw l1 at (c.in_err-pass_all_counters-2.ensures.passed known)))
 
 pub returns-clause-counters : goal.returns-clause-counters
 returns-clause-counters g c = λ told.

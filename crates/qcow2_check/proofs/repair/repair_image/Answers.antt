@@ -2,7 +2,7 @@ use Rattle.std.proofs.Common.{◌≡◌, IsTrue, IsOk, Ok, Some, length, true, r
 use Rattle.std.proofs.lemmas.Result.{err_from_is_err_and}
 use Rattle.qcow2_metadata.proofs.WritableLemmas.{writable-same}
 use Rattle.qcow2_metadata.specs.Header.Open.{SaysSame, opened_text}
-use Rattle.qcow2_check.proofs.RepairHeaderLemmas.{blocks-said, found-fault, geometry-said, loads-written, pass-fault-said, repairable-l1, repairable-written, reports-later, text-fits}
+use Rattle.qcow2_check.proofs.RepairHeaderLemmas.{blocks-said, found-fault, geometry-said, loads-written, makes-writable, pass-fault-said, repairable-l1, repairable-written, reports-later, text-fits}
 use Rattle.qcow2_check.specs.Repair.{MakesWritable}
 use Rattle.qcow2_check.specs.Repair.Refusals.{repairable_tables}
 use Rattle.qcow2_check.specs.Uses.{ImageTables, image_tables}
@@ -60,7 +60,8 @@ returns-in_err-header g c =
     record {
       repairs = λ told.
           let found : IsOk (repairable_tables c.args.header before) = rw (c.in_ok-reftable.ensures.reads.exact told) refl in
-          rw exit.1 (inr (inl (found, rw bytes at (c.in_err-header.ensures.writable.storage.others (rw known told)))));
+          let outside = rw bytes at (c.in_err-header.ensures.writable.storage.others (rw known told)) in
+          rw (exit.1, exit.2) (inl (record { whole = rw bytes at c.in_err-header.ensures.writable.storage.refused; torn = inr (found, outside) }));
       refused = search rules;
       faults = search rules;
       storage = search rules;
@@ -78,12 +79,8 @@ returns-in_err-repair_written g c =
     record {
       repairs = λ told.
           let makes : MakesWritable c.args.header c.in_ok-header.header before mid =
-          record {
-            becomes = c.in_ok-header.ensures.writable.exact;
-            text = c.in_ok-header.ensures.writable.placed (rw known told);
-            others = rw bytes at (c.in_ok-header.ensures.writable.storage.others (rw known told));
-          } in
-          rw exit.1 (inr (inr (c.in_ok-header.header, tables, mid, c.in_ok-reftable.ensures.reads.exact told, makes, c.in_err-repair_written.ensures.repairs (rw later told))));
+          rw bytes at (makes-writable c.args.header c.in_ok-header.header _ _ c.in_ok-header.ensures.writable (rw known told)) in
+          rw (exit.1, exit.2) (inr (c.in_ok-header.header, tables, mid, c.in_ok-reftable.ensures.reads.exact told, makes, c.in_err-repair_written.ensures.repairs (rw later told)));
       refused = rw (exit.1, exit.2) (λ told. inl (c.in_err-repair_written.ensures.fault.1 (rw later told)));
       faults = rw (exit.1, exit.2) (pass-fault-said c.args.header c.in_ok-header.header _ (writable-same c.args.header c.in_ok-header.header c.in_ok-header.ensures.writable.exact)
           c.in_err-repair_written.ensures.fault.0);
@@ -103,11 +100,7 @@ returns g c =
     record {
       repairs = λ told.
           let makes : MakesWritable c.args.header c.in_ok-header.header before mid =
-          record {
-            becomes = c.in_ok-header.ensures.writable.exact;
-            text = c.in_ok-header.ensures.writable.placed (rw known told);
-            others = rw bytes at (c.in_ok-header.ensures.writable.storage.others (rw known told));
-          } in
+          rw bytes at (makes-writable c.args.header c.in_ok-header.header _ _ c.in_ok-header.ensures.writable (rw known told)) in
           (tables, mid, c.in_ok-reftable.ensures.reads.exact told, makes, c.in_ok-repair_written.ensures.repairs (rw later told));
       refused = search rules;
       faults = search rules;

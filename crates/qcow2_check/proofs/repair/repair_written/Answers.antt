@@ -1,5 +1,12 @@
-use Rattle.std.proofs.Common.{◌≡◌, IsTrue, rules}
+use Rattle.std.proofs.Common.{◌≡◌, IsTrue, inl, rules}
+use Rattle.std.proofs.lemmas.Result.{err_from_is_err_and}
+use Rattle.qcow2_check.proofs.RepairFlagWindowsLemmas.{flags-unchanged}
 use Rattle.qcow2_check.proofs.repair.repair_written.Goals as goal
+
+pub returns-in_err-l1_table-clause-repairs : goal.returns-in_err-l1_table-clause-repairs
+returns-in_err-l1_table-clause-repairs g c = λ told.
+    let exit = err_from_is_err_and c.from_residual.result c.from_residual.ensures.1 in
+    rw exit.1 (inl (flags-unchanged _ _ (g.S.Storage.state c.args.image.now).byte_at (g.S.Storage.state c.load_l1_table.new.image).byte_at (search rules)))
 
 pub returns-clause-repairs : goal.returns-clause-repairs
 returns-clause-repairs g c = λ told.

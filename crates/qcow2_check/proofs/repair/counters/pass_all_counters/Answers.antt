@@ -9,11 +9,8 @@ returns-in_err-cluster-clause-passed g c = λ told.
     let exit = err_from_is_err_and c.from_residual.result c.from_residual.ensures.1 in
     let known : IsTrue (g.S.Storage.state c.loop-cluster.image).tells = search rules in
     let broken = c.in_err-cluster.ensures.passed known in
-    rw exit.1 (
-      broken.0,
-      breaks-later c.args.tables.now c.args.pass c.loop-cluster.cluster broken.0 (g.S.Storage.state c.args.image.now).byte_at
-          (g.S.Storage.state c.loop-cluster.image).byte_at (g.S.Storage.state c.pass_from.new.image).byte_at (c.requires told) (c.loop-cluster.invariant.passed told) broken.1,
-    )
+    rw (exit.1, exit.2) (breaks-later c.args.tables.now c.args.pass c.loop-cluster.cluster c.in_err-cluster.field-0.0 (g.S.Storage.state c.args.image.now).byte_at
+    (g.S.Storage.state c.loop-cluster.image).byte_at (g.S.Storage.state c.pass_from.new.image).byte_at (c.requires told) (c.loop-cluster.invariant.passed told) broken)
 
 pub loop-cluster-preserved : goal.loop-cluster-preserved
 loop-cluster-preserved g c = record {

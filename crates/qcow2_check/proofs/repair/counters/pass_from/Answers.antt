@@ -1,6 +1,6 @@
 use Rattle.std.proofs.Common.{◌≡◌, IsTrue, Some, inl, inr, arith, rules}
 use Rattle.std.proofs.lemmas.Result.{err_from_is_err_and}
-use Rattle.qcow2_check.proofs.RepairCountersLemmas.{breaks-here, changes-block, none-passed, others-stay, part-from, past-never}
+use Rattle.qcow2_check.proofs.RepairCountersLemmas.{breaks-first, breaks-here, changes-block, none-passed, others-stay, part-from, past-never}
 use Rattle.qcow2_check.proofs.RepairLemmas.{uses-stay}
 use Rattle.qcow2_check.specs.Findings.{CountsAll}
 use Rattle.qcow2_check.proofs.repair.counters.pass_from.Goals as goal
@@ -37,6 +37,12 @@ returns-clause-kept g c = λ told.
     let uses = uses-stay tables before after (c.requires.repairable told) (others-stay tables c.rt_rb_indices-table_index.result.0 c.in-Some.place before after change) in
     grind (arith, uses, bytes, c.in_ok-keep_tally.ensures.counted told)
 
+pub returns-in_err-keep_tally-clause-passed : goal.returns-in_err-keep_tally-clause-passed
+returns-in_err-keep_tally-clause-passed g c = λ told.
+    let exit = err_from_is_err_and c.from_residual.result c.from_residual.ensures.1 in
+    rw (exit.1, exit.2) (breaks-first c.args.tables.now c.args.pass c.in_err-keep_tally.field-0.0 (g.S.Storage.state c.args.image.now).byte_at
+    (g.S.Storage.state c.keep_tally.new.image).byte_at (search rules))
+
 pub returns-in_err-pass_block-clause-passed : goal.returns-in_err-pass_block-clause-passed
 returns-in_err-pass_block-clause-passed g c = λ told.
     let exit = err_from_is_err_and c.from_residual-in_err-pass_block.result c.from_residual-in_err-pass_block.ensures.1 in
@@ -47,7 +53,8 @@ returns-in_err-pass_block-clause-passed g c = λ told.
     let known : IsTrue (g.S.Storage.state c.keep_tally.new.image).tells = search rules in
     let outside = rw bytes at (c.in_err-pass_block.ensures.storage.others known) in
     let change = changes-block tables c.rt_rb_indices-table_index.result.0 c.args.cluster c.in-Some.place before after (c.requires.repairable told) (search rules) (search rules) (search rules) in
-    rw exit.1 (c.in-Some.place, breaks-here tables c.args.pass c.rt_rb_indices-table_index.result.0 c.in-Some.place before after change)
+    let whole = rw bytes at c.in_err-pass_block.ensures.storage.refused in
+    rw (exit.1, exit.2) (breaks-here tables c.args.pass c.rt_rb_indices-table_index.result.0 c.in-Some.place c.in_err-pass_block.field-0.0 before after change whole)
 
 pub returns-in_err-pass_block-clause-fault : goal.returns-in_err-pass_block-clause-fault
 returns-in_err-pass_block-clause-fault g c =

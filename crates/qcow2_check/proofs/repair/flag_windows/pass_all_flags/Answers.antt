@@ -23,11 +23,8 @@ returns-in_err-first-2-clause-passed g c = λ told.
     (g.S.Storage.state c.args.image.now).byte_at (g.S.Storage.state c.loop-first.image).byte_at =
     record { is = c.requires.repairable told; l1 = c.requires.l1_table.numbers told; passes = c.loop-first.invariant.passed told } in
     let broken = rw (c.loop-first.invariant.l1_table.numbers known) at (c.in_err-first-2.ensures.passed known) in
-    rw exit.1 (
-      broken.0,
-      breaks-joined tables c.args.flag c.loop-first.first broken.0 (g.S.Storage.state c.args.image.now).byte_at (g.S.Storage.state c.loop-first.image).byte_at
-          (g.S.Storage.state c.pass_window-in-loop-first.new.image).byte_at by broken.1,
-    )
+    rw (exit.1, exit.2) (breaks-joined tables c.args.flag c.loop-first.first c.in_err-first-2.field-0.0 (g.S.Storage.state c.args.image.now).byte_at (g.S.Storage.state c.loop-first.image).byte_at
+    (g.S.Storage.state c.pass_window-in-loop-first.new.image).byte_at by broken)
 
 pub loop-first-preserved : goal.loop-first-preserved
 loop-first-preserved g c = record {

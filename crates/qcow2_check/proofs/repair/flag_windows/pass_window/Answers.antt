@@ -1,4 +1,4 @@
-use Rattle.std.proofs.Common.{◌≡◌, IsTrue, None, Some, map, sym, ◌∙◌, rules}
+use Rattle.std.proofs.Common.{◌≡◌, IsTrue, map, sym, ◌∙◌, rules}
 use Rattle.std.proofs.lemmas.Result.{err_from_is_err_and}
 use Rattle.qcow2_check.proofs.RepairFlagWindowsLemmas.{PassesWindow, l1-after, loads-after-l1, tally_pass, window-passed, window-torn-l1, window-torn-l2}
 use Rattle.qcow2_check.specs.Repair.Flags.{passed_l1}
@@ -18,7 +18,8 @@ returns-in_err-write_l1_table-clause-passed g c = λ told.
       l1 = sym (c.requires.l1_table.numbers told);
       outside = rw bytes at (c.in_err-write_l1_table.ensures.storage.others known);
     } in
-    rw exit.1 (None, window-torn-l1 tables c.args.flag c.in_ok-tally.tally (g.S.Storage.state c.args.image.now).byte_at (g.S.Storage.state c.write_l1_table.new.image).byte_at window)
+    let whole = rw bytes at c.in_err-write_l1_table.ensures.storage.refused in
+    rw (exit.1, exit.2) (window-torn-l1 tables c.args.flag c.in_ok-tally.tally c.in_err-write_l1_table.field-0.0 (g.S.Storage.state c.args.image.now).byte_at (g.S.Storage.state c.write_l1_table.new.image).byte_at window whole)
 
 pub pass_tables-requires-clause-loads : goal.pass_tables-requires-clause-loads
 pass_tables-requires-clause-loads g c = λ told.
@@ -47,11 +48,8 @@ returns-in_err-pass_tables-clause-passed g c = λ told.
     } in
     let numbers : c.write_l1_table.new.l1_table.numbers ≡ map (passed_l1 (tally_pass tables c.args.flag c.in_ok-tally.tally)) c.args.l1_table.now.numbers = search rules in
     let broken = rw numbers at (c.in_err-pass_tables.ensures.passed later) in
-    rw exit.1 (
-      Some broken.0,
-      window-torn-l2 tables c.args.flag c.in_ok-tally.tally broken.0 (g.S.Storage.state c.args.image.now).byte_at (g.S.Storage.state c.write_l1_table.new.image).byte_at
-          (g.S.Storage.state c.pass_tables.new.image).byte_at window (sym (c.in_ok-write_l1_table.ensures.written.numbers later) ∙ numbers) broken.1,
-    )
+    rw (exit.1, exit.2) (window-torn-l2 tables c.args.flag c.in_ok-tally.tally c.in_err-pass_tables.field-0.0 (g.S.Storage.state c.args.image.now).byte_at (g.S.Storage.state c.write_l1_table.new.image).byte_at
+    (g.S.Storage.state c.pass_tables.new.image).byte_at window (sym (c.in_ok-write_l1_table.ensures.written.numbers later) ∙ numbers) broken)
 
 pub returns-clause-passed : goal.returns-clause-passed
 returns-clause-passed g c = λ told.

@@ -18,11 +18,8 @@ returns-in_err-pass_table-clause-passed g c = λ told.
     let change : ChangesTable c.args.self.now.header c.args.l1_table.now.numbers c.loop-index.index c.in-Some.cluster
     (g.S.Storage.state c.loop-index.image).byte_at (g.S.Storage.state c.pass_table.new.image).byte_at =
     record { least = search rules; names = search rules; outside = c.in_err-pass_table.ensures.storage.others known } in
-    rw exit.1 (
-      c.in-Some.cluster,
-      some-torn (pass_by c.args.self.now) c.args.l1_table.now.numbers c.loop-index.index c.in-Some.cluster (g.S.Storage.state c.args.image.now).byte_at
-          (g.S.Storage.state c.loop-index.image).byte_at (g.S.Storage.state c.pass_table.new.image).byte_at change (c.loop-index.invariant.passed told),
-    )
+    rw (exit.1, exit.2) (some-torn (pass_by c.args.self.now) c.args.l1_table.now.numbers c.loop-index.index c.in-Some.cluster c.in_err-pass_table.field-0.0 (g.S.Storage.state c.args.image.now).byte_at
+    (g.S.Storage.state c.loop-index.image).byte_at (g.S.Storage.state c.pass_table.new.image).byte_at change c.in_err-pass_table.ensures.storage.refused (c.loop-index.invariant.passed told))
 
 pub loop-index-preserved : goal.loop-index-preserved
 loop-index-preserved g c = elim c.match-named_cluster.branch [
