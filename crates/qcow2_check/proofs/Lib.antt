@@ -8,6 +8,7 @@ pub mod FlaggedLemmas
 pub mod FlagsLemmas
 pub mod ImageEndLemmas
 pub mod NamedTablesLemmas
+pub mod RepairCheckableLemmas
 pub mod RepairCountersLemmas
 pub mod RepairFlagWindowsLemmas
 pub mod RepairFlagsLemmas

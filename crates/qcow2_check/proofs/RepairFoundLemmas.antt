@@ -21,12 +21,12 @@ then-parts : {A B : Type 0} (answer : Result A Fault) (next : A → Result B Fau
 then-parts (Ok a) next value is = (a, refl, is)
 then-parts (Err fault) next value is = absurd (grind (arith, is))
 
-fine-parts : {T : Type 0} (refusal : Option Fault) (answer : Result T Fault) (value : T) → unless_refused refusal answer ≡ Ok value
+pub fine-parts : {T : Type 0} (refusal : Option Fault) (answer : Result T Fault) (value : T) → unless_refused refusal answer ≡ Ok value
     → (refusal ≡ None) × (answer ≡ Ok value)
 fine-parts None answer value is = (refl, is)
 fine-parts (Some fault) answer value is = absurd (grind (arith, is))
 
-ok-same : {T : Type 0} (x y : T) → (let one : Result T Fault = Ok x in one ≡ Ok y) → x ≡ y
+pub ok-same : {T : Type 0} (x y : T) → (let one : Result T Fault = Ok x in one ≡ Ok y) → x ≡ y
 ok-same x y same = grind (arith, same)
 
 map-parts : {A B : Type 0} (f : A → B) (answer : Result A Fault) (value : B) → result_map f answer ≡ Ok value
@@ -35,17 +35,21 @@ map-parts f (Ok a) value is = (a, refl, ok-same (f a) value is)
 map-parts f (Err fault) value is = absurd (grind (arith, is))
 
 -- the refcount table of an image whose blocks can lie where it says
-placed-parts : (header : HeaderRecord) (image : Image) (reftable : List ℕ) → placed_reftable header image ≡ Ok reftable → blocks_fault header reftable ≡ None
+placed-parts : (header : HeaderRecord) (image : Image) (reftable : List ℕ) → placed_reftable header image ≡ Ok reftable
+    → (loaded_reftable header image ≡ Ok reftable) × (blocks_fault header reftable ≡ None)
 placed-parts header image reftable is =
     let loaded = then-parts (loaded_reftable header image) (λ numbers. unless_refused (blocks_fault header numbers) (Ok numbers)) reftable is in
     let fine = fine-parts (blocks_fault header loaded.0) (Ok loaded.0) reftable loaded.2 in
-    subst (λ numbers. blocks_fault header numbers ≡ None) (ok-same loaded.0 reftable fine.1) fine.0
+    subst (λ numbers. (loaded_reftable header image ≡ Ok numbers) × (blocks_fault header numbers ≡ None)) (ok-same loaded.0 reftable fine.1) (loaded.1, fine.0)
 
--- the tables of an image that can be checked are of its header, their blocks can lie where they say, and all L2 tables load
-record AreChecked (header : HeaderRecord) (image : Image) (tables : ImageTables) : Type 0 where
-  same : tables.header ≡ header
-  placed : blocks_fault tables.header tables.reftable ≡ None
-  loads : all_load (geometry_of tables.header) tables.l1 image ≡ Ok (tt {0})
+-- the tables of an image that can be checked: they load, their blocks can lie where they say, and all L2 tables load
+pub record AreChecked (header : HeaderRecord) (image : Image) (tables : ImageTables) : Type 0 where
+  pub same : tables.header ≡ header
+  pub counted : option_map Uncounted (uncounted_part header) ≡ None
+  pub l1 : loaded_l1_table header image ≡ Ok tables.l1
+  pub reftable : loaded_reftable header image ≡ Ok tables.reftable
+  pub placed : blocks_fault tables.header tables.reftable ≡ None
+  pub loads : all_load (geometry_of tables.header) tables.l1 image ≡ Ok (tt {0})
 
 checked-parts : (header : HeaderRecord) (image : Image) (tables : ImageTables) → checked_tables header image ≡ Ok tables → AreChecked header image tables
 checked-parts header image tables is =
@@ -55,10 +59,19 @@ checked-parts header image tables is =
     let l1 = then-parts (loaded_l1_table header image) rest tables counted.1 in
     let reftable = then-parts (placed_reftable header image) (λ reftable. result_map (λ _. image_tables header l1.0 reftable) (all_load (geometry_of header) l1.0 image)) tables l1.2 in
     let loads = map-parts (λ _. image_tables header l1.0 reftable.0) (all_load (geometry_of header) l1.0 image) tables reftable.2 in
-    subst (AreChecked header image) loads.2 (record { same = refl; placed = placed-parts header image reftable.0 reftable.1; loads = loads.1 })
+    let placed = placed-parts header image reftable.0 reftable.1 in
+    subst (AreChecked header image) loads.2
+    (record { same = refl; counted = counted.0; l1 = l1.1; reftable = placed.0; placed = placed.1; loads = loads.1 })
+
+-- and so are those of one that isn't refused
+pub checked-found : (header : HeaderRecord) (image : Image) (tables : ImageTables) → repairable_tables header image ≡ Ok tables → AreChecked header image tables
+checked-found header image tables is =
+    let found = then-parts (checked_tables header image) (λ tables. unless_refused (findings_refusal header tables.reftable (image_findings tables image)) (Ok tables)) tables is in
+    let fine = fine-parts (findings_refusal header found.0.reftable (image_findings found.0 image)) (Ok found.0) tables found.2 in
+    subst (AreChecked header image) (ok-same found.0 tables fine.1) (checked-parts header image found.0 found.1)
 
 -- so an image that isn't refused can be repaired
-found-repairable : (header : HeaderRecord) (image : Image) (tables : ImageTables) → IsClusterBits header.v2.cluster_bits → header.base.refcount_order ≤ 6
+pub found-repairable : (header : HeaderRecord) (image : Image) (tables : ImageTables) → IsClusterBits header.v2.cluster_bits → header.base.refcount_order ≤ 6
     → IsBytes image → repairable_tables header image ≡ Ok tables → IsRepairable (image_tables header tables.l1 tables.reftable) image
 found-repairable header image tables bits orders bytes is =
     let found = then-parts (checked_tables header image) (λ tables. unless_refused (findings_refusal header tables.reftable (image_findings tables image)) (Ok tables)) tables is in
@@ -86,12 +99,6 @@ repairable-found-written header written tables old mid valid bytes is makes =
     (repairable-l1 header tables old is).1 makes.others (text-fits header) in
     rw both.1 both.0
 
-header-found : (header : HeaderRecord) (image : Image) (tables : ImageTables) → repairable_tables header image ≡ Ok tables → tables.header ≡ header
-header-found header image tables is =
-    let found = then-parts (checked_tables header image) (λ tables. unless_refused (findings_refusal header tables.reftable (image_findings tables image)) (Ok tables)) tables is in
-    let fine = fine-parts (findings_refusal header found.0.reftable (image_findings found.0 image)) (Ok found.0) tables found.2 in
-    subst (λ tables. tables.header ≡ header) (ok-same found.0 tables fine.1) (checked-parts header image found.0 found.1).same
-
 -- uses and counters are the same then
 pub kept-found-written : (header written : HeaderRecord) (tables : ImageTables) (old mid : Image) → IsValidHeader header → IsBytes old
     → repairable_tables header old ≡ Ok tables → MakesWritable header written old mid
@@ -103,5 +110,5 @@ kept-found-written header written tables old mid valid bytes is makes =
     let kept = kept-written header written tables.l1 tables.reftable _ old mid says here
     (repairable-l1 header tables old is).1 makes.others (text-fits header) in
     let own : image_uses (image_tables header tables.l1 tables.reftable) old ≡ image_uses tables old
-    = subst (λ other. image_uses (image_tables other tables.l1 tables.reftable) old ≡ image_uses tables old) (header-found header old tables is) refl in
+    = subst (λ other. image_uses (image_tables other tables.l1 tables.reftable) old ≡ image_uses tables old) (checked-found header old tables is).same refl in
     (kept.0 ∙ own, kept.1)

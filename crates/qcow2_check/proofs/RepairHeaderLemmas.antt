@@ -55,7 +55,7 @@ text-fits header = by_autoclear (is_rewritten true header) refl
         subst (λ text. length text ≤ 2 ^ header.v2.cluster_bits) (sym none) (omega arith)
 
 -- bytes in other clusters than the first stay where only those of a part of it change
-past-first : (w len o : ℕ) (old new : Image) → len ≤ w → SameOutside 0 len old new → o / w ≢ 0 → new o ≡ old o
+pub past-first : (w len o : ℕ) (old new : Image) → len ≤ w → SameOutside 0 len old new → o / w ≢ 0 → new o ≡ old o
 past-first w len o old new fits outside past = elim (cases_lt o w) [
   | inl within ↦ absurd (past (div-eq_of_lt within))
   | inr more ↦ outside.after o (omega (arith, more, fits))

@@ -34,7 +34,7 @@ fixed-both tables image c =
     omega (arith, kind-append Fixed first (blocks ++ last) c, kind-append Fixed blocks last c)
 
 -- a block that a refcount table entry names lies below the greatest end
-named-block-below : (tables : ImageTables) (i : ℕ) (block : HostCluster) → blocks_fault tables.header tables.reftable ≡ None
+pub named-block-below : (tables : ImageTables) (i : ℕ) (block : HostCluster) → blocks_fault tables.header tables.reftable ≡ None
     → named_block tables.header.v2.cluster_bits (slice_index tables.reftable i) ≡ Some block → block.0 < max_file_length
 named-block-below tables i block placed names =
     let first : i ≡ i * counters_each tables.header / counters_each tables.header = sym (mul-div_cancel i (pow_pos _)) in

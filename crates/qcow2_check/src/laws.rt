@@ -10,7 +10,7 @@ ghost use Rattle.qcow2_base.specs.declared.types.HostCluster.{HostCluster};
 ghost use Rattle.qcow2_metadata.specs.Header.{HeaderRecord, IsValidHeader};
 ghost use Rattle.qcow2_check.specs.Consistency.{IsConsistent};
 ghost use Rattle.qcow2_check.specs.Counters.{counter_of};
-ghost use Rattle.qcow2_check.specs.Findings.{AreRight, image_findings, uses_of_kind};
+ghost use Rattle.qcow2_check.specs.Findings.{AreRight, checked_tables, image_findings, uses_of_kind};
 ghost use Rattle.qcow2_check.specs.Repair.{BreaksOffRepair, IsRepairable, MakesWritable, Repairs, tables_in};
 ghost use Rattle.qcow2_check.specs.Repair.Left.{CountsUsed, HasTrueFlags, IsHighEnough, IsRightWhereCounted, LeavesWhole, MakesNoneTooLow, MakesNoneTooLowBeside};
 ghost use Rattle.qcow2_check.specs.Repair.Refusals.{repairable_tables};
@@ -89,6 +89,16 @@ pub fn a_repaired_image_is_consistent_where_blocks_count_all_uses()
     ensures { (header : HeaderRecord) (reftable : List ℕ) (old new : Image) →
         IsRepairable (tables_in header reftable old) old → Repairs header reftable old new →
         CountsUsed (tables_in header reftable old) old → IsConsistent (tables_in header reftable new) new }
+{}
+
+/// A repaired image can be checked: its L1 table, its refcount table and its L2 tables load, and its blocks
+/// can lie where they are named. The tables are those that the laws beside this one speak of. So a check
+/// after a repair fails only where the storage does, or where memory runs out.
+pub fn a_repaired_image_can_be_checked()
+    ensures { (header written : HeaderRecord) (tables : ImageTables) (old mid new : Image) →
+        IsValidHeader header → IsBytes old → repairable_tables header old ≡ Ok tables →
+        MakesWritable header written old mid → Repairs written tables.reftable mid new →
+        checked_tables written new ≡ Ok (tables_in written tables.reftable new) }
 {}
 
 /// No step of a repair makes a counter too low: one that was at least the number of its cluster's uses is so
