@@ -1,20 +1,22 @@
 use Rattle.std.proofs.lemmas.Bool.Decides.{nat_tests}
 use Rattle.std.proofs.Common.{◌≡◌, ◌⊎◌, ℕ, ◌+◌, not, List, [], ◌∷◌, ◌++◌, flat_map, length, take_all, None, Some, Result, Ok, Err, IsTrue, inl, inr, refl, sym, ap, subst, ◌∙◌, append-nil, append_assoc, arith}
 use Rattle.std.specs.List.{sum_by}
-use Rattle.std.specs.Result.{IfOk, IsErrOf}
+use Rattle.std.specs.Result.{IfErr, IfOk, IsErrOf}
 use Rattle.std.specs.Io.KnownBytes.{Appends}
 use Rattle.std.proofs.KnownBytes.{Appends-nil, Appends-trans}
 use Rattle.std.proofs.lemmas.Grind.{flat_map-append}
 use Rattle.std.proofs.lemmas.List.Sums.{sum_by_push}
-use Rattle.qcow2_base.specs.Storage.{Image, OnImage, ReadsFor, StorageState}
+use Rattle.qcow2_base.specs.Storage.{Image, IsBytes, OnImage, ReadsFor, StorageState}
 use Rattle.qcow2_base.specs.declared.fault.Fault.{Fault}
 use Rattle.qcow2_base.specs.declared.fault.Fault.TheVariants.{NoMemory, Storage}
+use Rattle.qcow2_check.proofs.RepairCheckableLemmas.{checkable-repaired}
+use Rattle.qcow2_check.specs.Repair.{IsRepaired, RepairsImage}
 use Rattle.qcow2_check.specs.Findings.{FindingsState, checked_tables, image_findings, tables_of}
 use Rattle.qcow2_check.specs.Uses.{ImageTables}
 use Rattle.qcow2_check.specs.declared.flags.WrongFlag.{WrongFlag}
 use Rattle.qcow2_metadata.specs.Table.L2Guards.{one_if}
 use Rattle.qcow2_session.proofs.OutputLemmas.{part-after, part-of_more, part_taken}
-use Rattle.qcow2_metadata.specs.Header.{HeaderRecord}
+use Rattle.qcow2_metadata.specs.Header.{HeaderRecord, IsValidHeader}
 use Rattle.qcow2_metadata.specs.Results.{IsFromOutside, result_map}
 use Rattle.qcow2_session.proofs.PrintingLemmas.{run_between}
 use Rattle.qcow2_session.specs.Commands.Check.{PrintsLines, PrintsReport, checked_report, lines_of, report_on}
@@ -177,3 +179,16 @@ report-found (Err fault) header tables contents old mid new a b tells bytes is p
   refused = λ told. inr (rw (is told)
       (known-before (λ image. IsFromOutside fault × AppendsPart (contents a) (contents b) (report_on tables image).lines) old mid tells bytes prints.part told));
 }
+
+-- a repaired image can be checked, so a check of it ends in no fault but one from outside
+pub repaired-outside : {O : Type 0} (header written : HeaderRecord) (answer : Result Verdict Fault) (contents : O → OutputBytes) (old left new : StorageState) (a b : O)
+    → IsValidHeader header → IsBytes old.byte_at → RepairsImage header (Ok written) old left
+    → PrintsReport (run_between contents answer left new a b) (checked_report written) → IfErr answer (λ fault. OnImage old (λ _. IsFromOutside fault))
+repaired-outside header written (Ok verdict) contents old left new a b valid bytes repairs prints = tt
+repaired-outside header written (Err fault) contents old left new a b valid bytes repairs prints = λ told.
+    let is : IsRepaired header written old.byte_at left.byte_at = repairs.repairs told in
+    let found = checkable-repaired header written is.0 old.byte_at is.1 left.byte_at valid bytes is.2 is.3 is.4 in
+    elim (prints.refused (rw repairs.storage.device.tells told)) [
+      | inl meant ↦ absurd (grind (arith, found, meant.0))
+      | inr outside ↦ outside.0
+    ]

@@ -82,12 +82,12 @@ check_command image _ = None
 abbrev pub Checks : {O : Type 0} → HeaderRecord → Run Verdict O → Type 0
 Checks header run = PrintsReport run (checked_report header) × ReadsFor (IsErrOf run.answer Storage) run.old run.new
 
--- a run repairs an image with this header, and then checks what that left, with the header that it has then; or the repair was
--- refused, before anything was printed
+-- a run repairs an image with this header, and then checks what that left, with the header that it has then. That can be
+-- checked, so a fault then is from outside. Or the repair was refused, before anything was printed
 abbrev pub RepairsAndChecks : {O : Type 0} → HeaderRecord → Run Verdict O → Type 0
 RepairsAndChecks header run = (repaired : Result HeaderRecord Fault) × (left : StorageState)
     × RepairsImage header repaired run.old left × MatchResult repaired
-    (λ written. Checks written (record run { old = left }))
+    (λ written. Checks written (record run { old = left }) × IfErr run.answer (λ fault. OnImage run.old (λ _. IsFromOutside fault)))
     (λ fault. (run.answer ≡ Err fault) × (run.new ≡ left) × (run.after ≡ run.before))
 
 -- how a check of an image with this header ends, by its form: it prints the report, or the object in JSON at the end, or it

@@ -22,6 +22,7 @@ use json::print_object;
 use qcow2_base::{Fault, Storage};
 use qcow2_check::{Findings, Flags, repair_image};
 use qcow2_metadata::Header;
+use qcow2_metadata::laws::every_header_is_valid;
 use runs::FindingRuns;
 use std::alloc::{AllocError, Global};
 use std::io::Write;
@@ -94,8 +95,8 @@ pub fn check_image_in_json<S: Storage, O: Write>(
 /// Makes the counters and flags of an image with this header right, as `repair_image` does, and then prints
 /// what `check_image` finds in what is left, and returns its verdict.
 ///
-/// Returns the fault of `repair_image` before any line; what that leaves is said there. Then comes a fault
-/// of `check_image`, which leaves the image repaired.
+/// Returns the fault of `repair_image` before any line; what that leaves is said there. A repaired image can
+/// be checked, so a fault after that is 34 or 35, and leaves the image repaired.
 pub fn repair_and_check_image<S: Storage, O: Write>(
     alloc: Global,
     image: &mut S,
@@ -105,6 +106,8 @@ pub fn repair_and_check_image<S: Storage, O: Write>(
     ensures { RepairsAndChecks header
         (run_over S.state O.contents result image.old image.new out.old out.new) }
 {
+    // That a repaired image can be checked is known of valid headers.
+    every_header_is_valid(&header);
     let header = repair_image(alloc, image, header)?;
     check_image(alloc, image, &header, out)
 }
