@@ -66,6 +66,12 @@ pub record WritesBytes {T E : Type 0} (answer : Result T E) (offset : ℕ) (byte
   pub failures : CountsFailure answer old new
   pub device : SameDevice old new
 
+-- a call that ended in this answer and changes no byte
+pub record Syncs {T E : Type 0} (answer : Result T E) (old new : StorageState) : Type 0 where
+  pub unchanged : new.byte_at ≡ old.byte_at
+  pub failures : CountsFailure answer old new
+  pub device : SameDevice old new
+
 -- calls that ended in this answer and only read: the storage fault is returned exactly where one of
 -- them failed, and nothing but the count of failures may differ
 pub record OnlyReads {T : Type 0} (answer : Result T Fault) (old new : StorageState) : Type 0 where

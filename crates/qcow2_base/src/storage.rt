@@ -3,7 +3,7 @@
 
 ghost use Rattle.std.specs.Prelude.{◌≡◌, ℕ, ◌+◌, ◌^◌, ◌<◌, ◌≤◌, length};
 ghost use Rattle.qcow2_base.specs.Format.{max_file_length};
-ghost use Rattle.qcow2_base.specs.Storage.{StorageState, ReadsBytes, WritesBytes, IsPowerOfTwo, Ends};
+ghost use Rattle.qcow2_base.specs.Storage.{StorageState, ReadsBytes, Syncs, WritesBytes, IsPowerOfTwo, Ends};
 ghost use Rattle.qcow2_base.specs.declared.fault.Fault.TheVariants.{Storage as storage_fault};
 
 mod file;
@@ -62,6 +62,15 @@ pub trait Storage {
     fn write(&mut self, buf: &[u8], offset: u64) -> Result<(), StorageFault>
         requires { offset + length buf.now ≤ max_file_length }
         ensures { WritesBytes result offset buf.now (state self.old) (state self.new) };
+
+    /// Waits until all that was written before is on the device, so that it outlives a crash of the machine.
+    /// Changes no byte. After a failure nothing is known of what is on the device. This body is for storages
+    /// that have no device: it does nothing.
+    fn sync(&mut self) -> Result<(), StorageFault>
+        ensures { Syncs result (state self.old) (state self.new) }
+    {
+        Ok(())
+    }
 
     ghost mem_align_is_power: { (s : Self) → IsPowerOfTwo (state s).mem_align };
 

@@ -4,7 +4,7 @@ mod files;
 mod large_files;
 
 use qcow2_base::{MemStorage, Storage, StorageFault};
-use qcow2_testing::{each, holds, printed, rows, same, same_bytes};
+use qcow2_testing::{FailingStorage, each, holds, printed, rows, same, same_bytes};
 use std::alloc::Global;
 use std::fmt::Debug;
 use std::test::Fail;
@@ -128,6 +128,20 @@ fn check_written(alloc: Global, row: Written) -> Result<(), Fail> {
 #[test]
 fn a_write_replaces_its_range_and_lengthens_with_zeros(rt: HostRuntime) -> Result<(), Fail> {
     each(rt.alloc(), WRITES, check_written)
+}
+
+// What a storage in memory, and one that passes calls on to it and fails at the second, return of a sync, and how
+// often they have failed then.
+#[test]
+fn a_sync_changes_nothing_and_a_failed_one_is_counted(rt: HostRuntime) -> Result<(), Fail> {
+    let mut storage = FailingStorage::new(rt.alloc(), memory(rt.alloc(), &[1, 2, 3])?);
+    storage.plan = Some(1);
+    let answers = (storage.sync(), storage.sync(), storage.sync());
+    same(answers, (Ok(()), Err(StorageFault), Ok(())), "three calls")?;
+    same(storage.failures, 1, "failures")?;
+    same(storage.inner.sync(), Ok(()), "in memory")?;
+    same_bytes(storage.inner.bytes(), &[1, 2, 3], "after all")?;
+    check_failures(rt.alloc(), &storage.inner, 0)
 }
 
 // No memory has room for an image that ends at 2^56.

@@ -1,7 +1,7 @@
 //! A storage that fails at a planned call, to show what a caller does then.
 
 ghost use Rattle.std.specs.Prelude.{◌≡◌, ◌+◌, ◌^◌, ◌%◌, ◌≤◌, [], ◌∷◌, ◌++◌, false, length, None, Some, IsTrue, IsErr};
-ghost use Rattle.qcow2_base.specs.Storage.{ReadsBytes, WritesBytes};
+ghost use Rattle.qcow2_base.specs.Storage.{ReadsBytes, Syncs, WritesBytes};
 ghost use Rattle.qcow2_testing.specs.Failing.{seen_as, plan_after, FollowsPlan};
 
 use qcow2_base::{Storage, StorageFault};
@@ -12,6 +12,7 @@ use std::alloc::Global;
 pub enum StorageCall {
     Read { offset: u64, len: usize },
     Write { offset: u64, len: usize },
+    Sync,
 }
 
 /// A storage that passes its calls on to another and records them. Where a test plans it, one call
@@ -123,6 +124,18 @@ impl<S: Storage> Storage for FailingStorage<S> {
         let len = buf.len();
         if self.admits(StorageCall::Write { offset, len })
             && let Ok(()) = self.inner.write(buf, offset)
+        {
+            return Ok(());
+        }
+        self.fail()
+    }
+
+    fn sync(&mut self) -> Result<(), StorageFault>
+        ensures bytes { Syncs result (seen_as S.state self.old) (seen_as S.state self.new) }
+        ensures plan { FollowsPlan result StorageCall.Sync self.old self.new }
+    {
+        if self.admits(StorageCall::Sync)
+            && let Ok(()) = self.inner.sync()
         {
             return Ok(());
         }

@@ -151,6 +151,7 @@ impl<F: OpenFile> OpenFile for FaultyFile<F> {
     }
 
     fn sync_data(&self) -> io::Result<()> {
+        self.turn()?;
         self.file.sync_data()
     }
 }

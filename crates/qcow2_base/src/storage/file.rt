@@ -66,7 +66,7 @@ fn refuse_directory(metadata: &Metadata) -> io::Result<()>
     Ok(())
 }
 
-impl<F: Read + Write + Seek> Storage for FileStorage<F> {
+impl<F: Read + Write + Seek + OpenFile> Storage for FileStorage<F> {
     ghost state = { file_state };
 
     fn mem_align(&self) -> usize {
@@ -95,6 +95,11 @@ impl<F: Read + Write + Seek> Storage for FileStorage<F> {
         ensures empty { length buf.now ≡ 0 → IsOk result × (self.new ≡ self.old) }
     {
         count(write_at(&mut self.file, buf, offset), &mut self.failures)
+    }
+
+    /// Asks the file for it. A file system may hold back what a file says of itself, such as its times.
+    fn sync(&mut self) -> Result<(), StorageFault> {
+        count(self.file.sync_data(), &mut self.failures)
     }
 
     ghost mem_align_is_power = { λ _. (0, refl) };

@@ -4,7 +4,7 @@ use super::{
     LIMIT, WRITES, Written, check_bytes, check_failed_read, check_failed_write, check_failures,
     check_read, read, write,
 };
-use qcow2_base::{Fault, FileStorage, StorageFault};
+use qcow2_base::{Fault, FileStorage, Storage, StorageFault};
 use qcow2_testing::{
     FaultyFile, FaultyFiles, file_holds, holds, rows, same, temporary_file, temporary_path,
 };
@@ -212,4 +212,16 @@ fn a_file_that_ends_before_its_length_is_no_zeros(rt: HostRuntime) -> Result<(),
         check_early_end(&rt, file.path.as_str(), end)?;
     }
     Ok(())
+}
+
+// A file that is opened is asked for its metadata, and then, by a sync, to pass its bytes on to the device.
+#[test]
+fn a_sync_fails_where_that_of_the_file_does(rt: HostRuntime) -> Result<(), Fail> {
+    let file = temporary_file(&rt, "sync", &[1, 2, 3])?;
+    let mut storage = faulty(&rt, file.path.as_str(), (Some(1), 2, u64::MAX))?;
+    same(storage.sync(), Err(StorageFault), "planned to fail")?;
+    check_failures(rt.alloc(), &storage, 1)?;
+    same(storage.sync(), Ok(()), "again")?;
+    check_failures(rt.alloc(), &storage, 1)?;
+    file_holds(&rt, file.path.as_str(), &[1, 2, 3], "after both")
 }
