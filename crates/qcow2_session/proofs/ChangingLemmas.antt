@@ -5,13 +5,13 @@ use Rattle.std.proofs.lemmas.Result.{on_ok_weaker}
 use Rattle.qcow2_base.specs.Storage.{Image, SameOutside, StorageState}
 use Rattle.qcow2_base.specs.declared.fault.Fault.{Fault}
 use Rattle.qcow2_base.specs.declared.fault.Fault.TheVariants.{NoMemory, Storage}
+use Rattle.qcow2_edits.specs.Edits.{are_some}
+use Rattle.qcow2_edits.specs.declared.edits.Edit.{Edit}
 use Rattle.qcow2_metadata.specs.Results.{result_map}
 use Rattle.qcow2_session.proofs.PrintingLemmas.{read_fault-of, refused-as, run_between}
 use Rattle.qcow2_session.specs.Commands.Changing.{ChangeEnd, PrintsChange}
 use Rattle.qcow2_metadata.specs.Placed.{IsTorn, Layout, loaded_numbers, offset_of}
 use Rattle.qcow2_session.specs.Commands.Printing.{OutputBytes, PrintsText}
-use Rattle.qcow2_session.specs.Edits.{are_some}
-use Rattle.qcow2_session.specs.declared.edits.Edit.{Edit}
 
 -- there is no edit where not some are there
 none-of : (edits : List Edit) → are_some edits ≡ false → edits ≡ []

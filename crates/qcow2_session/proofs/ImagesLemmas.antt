@@ -5,6 +5,11 @@ use Rattle.qcow2_base.specs.Storage.{Image, StorageState}
 use Rattle.qcow2_base.specs.declared.fault.Fault.{Fault}
 use Rattle.qcow2_base.specs.declared.fault.Fault.TheVariants.{BadEdit, BadStep}
 use Rattle.qcow2_base.specs.declared.types.HostCluster.{HostCluster}
+use Rattle.qcow2_edits.specs.Edits.{Balances, edits_or_refusal, table_edit}
+use Rattle.qcow2_edits.specs.Steps.{first_unfit_step, steps_or_refusal}
+use Rattle.qcow2_edits.specs.declared.edits.Edit.{Edit}
+use Rattle.qcow2_edits.specs.declared.edits.Outcome.{Outcome}
+use Rattle.qcow2_edits.specs.declared.steps.Step.{Step}
 use Rattle.qcow2_metadata.specs.Results.{unless_refused}
 use Rattle.qcow2_metadata.specs.Header.{Geometry, HeaderRecord, geometry_of}
 use Rattle.qcow2_metadata.specs.Placed.{Layout, Placed, Writes, numbers_at}
@@ -12,12 +17,7 @@ use Rattle.qcow2_session.proofs.WholeImageLemmas.{SameOutsideTable, keeps-image-
 use Rattle.qcow2_metadata.specs.Refblock.{BlockState, block_entries}
 use Rattle.qcow2_metadata.specs.Table.L2Guards.{fits_table}
 use Rattle.qcow2_metadata.specs.Table.{TableState, l2_entries, l2_layout, loaded_l2_table}
-use Rattle.qcow2_session.specs.Edits.{Balances, edits_or_refusal, table_edit}
 use Rattle.qcow2_session.specs.Images.{IsOfCluster, KeepsReferences, WritesBack, table_in}
-use Rattle.qcow2_session.specs.Steps.{first_unfit_step, steps_or_refusal}
-use Rattle.qcow2_session.specs.declared.edits.Edit.{Edit}
-use Rattle.qcow2_session.specs.declared.edits.Outcome.{Outcome}
-use Rattle.qcow2_session.specs.declared.steps.Step.{Step}
 
 pub writes_back : {G T : Type 0} (layout : Layout) (place : HostCluster) (held : Placed G) (answer : Result T Fault) (old new : StorageState)
     → IsOfCluster layout place old held

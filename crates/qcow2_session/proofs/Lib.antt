@@ -5,7 +5,6 @@ pub mod ChangingLemmas
 pub mod CheckLemmas
 pub mod CommandsLemmas
 pub mod ConsistentLemmas
-pub mod EditsLemmas
 pub mod ExtentsLemmas
 pub mod HexLemmas
 pub mod ImagesLemmas
@@ -18,9 +17,7 @@ pub mod PrintingLemmas
 pub mod ReportLemmas
 pub mod RunningLemmas
 pub mod RunsLemmas
-pub mod SettledLemmas
 pub mod SoundLemmas
-pub mod StepsLemmas
 pub mod VerdictLemmas
 pub mod WholeImageLemmas
 pub mod WordsLemmas

@@ -10,6 +10,8 @@ use Rattle.qcow2_base.specs.Storage.{Image, SameOutside, be}
 use Rattle.qcow2_base.specs.declared.fault.Fault.{Fault}
 use Rattle.qcow2_base.specs.declared.on_disk_struct.v2_header.V2Header.{V2Header}
 use Rattle.qcow2_base.specs.declared.types.HostCluster.{HostCluster}
+use Rattle.qcow2_edits.specs.Edits.{cluster_numbers}
+use Rattle.qcow2_edits.specs.declared.edits.Outcome.{Outcome}
 use Rattle.qcow2_session.specs.WholeImage.{AreApart, BalancesImage, ChangesOwnLookups, HasTableApart, IsSoundImage, IsWithin, KeepsImageSound, ShareNoByte, first_cluster_bytes, l2_bytes, l2_cluster_in, l2_clusters, table_bytes, bytes_of_tables}
 use Rattle.qcow2_metadata.specs.Table.L2Guards.{handed_back, references, times_gained}
 use Rattle.qcow2_metadata.specs.Entries.L2Entry.{ByteRange}
@@ -20,8 +22,6 @@ use Rattle.qcow2_check.specs.NamedTables.{l1_cluster, loaded_l1_table}
 use Rattle.qcow2_session.specs.Lookups.{image_mapping, l2_cluster, mapping_by}
 use Rattle.qcow2_metadata.specs.Table.{Kind, l1_kind, l2_entries, l2_kind, l2_layout, loaded_l2_table, table_layout, table_numbers}
 use Rattle.qcow2_metadata.specs.Placed.{numbers_at, offset_of}
-use Rattle.qcow2_session.specs.Edits.{cluster_numbers}
-use Rattle.qcow2_session.specs.declared.edits.Outcome.{Outcome}
 use Rattle.qcow2_metadata.proofs.LawsLemmas.{header_of-same}
 use Rattle.qcow2_metadata.proofs.GrammarLemmas.{header_of-is, holds-v2_at}
 use Rattle.qcow2_metadata.proofs.TableLemmas.{full_cluster, table_numbers_same}

@@ -5,6 +5,11 @@ use Rattle.qcow2_base.specs.Storage.{Image, OnImage, OnImages, OnlyWrites, Stora
 use Rattle.qcow2_base.specs.declared.fault.Fault.{Fault}
 use Rattle.qcow2_base.specs.declared.fault.Fault.TheVariants.{BadEdit, BadStep, Storage}
 use Rattle.qcow2_base.specs.declared.types.HostCluster.{HostCluster}
+use Rattle.qcow2_edits.specs.Edits.{Balances, edits_or_refusal, table_edit}
+use Rattle.qcow2_edits.specs.Steps.{StepsEnd, first_unfit_step, steps_or_refusal}
+use Rattle.qcow2_edits.specs.declared.edits.Edit.{Edit}
+use Rattle.qcow2_edits.specs.declared.edits.Outcome.{Outcome}
+use Rattle.qcow2_edits.specs.declared.steps.Step.{Step}
 use Rattle.qcow2_metadata.specs.Results.{and_then, result_map}
 use Rattle.qcow2_metadata.specs.Table.L2Guards.{RunEnd, fits_table}
 use Rattle.qcow2_metadata.specs.Header.{HeaderRecord, geometry_of}
@@ -12,12 +17,7 @@ use Rattle.qcow2_metadata.specs.Placed.{IsTorn, Layout, Placed, RefusesPlace, lo
 use Rattle.qcow2_metadata.specs.Refblock.{BlockState, IsBlockFault, block_entries, block_geometry_of, block_layout, loaded_block}
 use Rattle.qcow2_metadata.specs.Table.{IsTableFault, TableState, l2_entries, l2_layout, loaded_l2_table}
 use Rattle.qcow2_session.specs.WholeImage.{ChangesOwnLookups, HasTableApart, KeepsImageSound}
-use Rattle.qcow2_session.specs.Edits.{Balances, edits_or_refusal, table_edit}
-use Rattle.qcow2_session.specs.Steps.{StepsEnd, first_unfit_step, steps_or_refusal}
 use Rattle.qcow2_metadata.specs.declared.entries.ClustersToFreeEntry.{ClustersToFreeEntry}
-use Rattle.qcow2_session.specs.declared.edits.Edit.{Edit}
-use Rattle.qcow2_session.specs.declared.edits.Outcome.{Outcome}
-use Rattle.qcow2_session.specs.declared.steps.Step.{Step}
 
 -- a table or a block of these numbers, as it is loaded from a cluster
 abbrev pub loaded_from : {G : Type 0} → G → HostCluster → List ℕ → Placed G

@@ -4,14 +4,14 @@ use Rattle.std.specs.List.{filter_map, sum_by}
 use Rattle.qcow2_base.specs.Storage.{Image}
 use Rattle.qcow2_base.specs.declared.fault.Fault.{Fault}
 use Rattle.qcow2_base.specs.declared.types.HostCluster.{HostCluster}
+use Rattle.qcow2_edits.specs.Edits.{cluster_numbers}
+use Rattle.qcow2_edits.specs.declared.edits.Outcome.{Outcome}
 use Rattle.qcow2_metadata.specs.Results.{and_then}
 use Rattle.qcow2_metadata.specs.Table.L2Guards.{handed_back, references, times_gained}
 use Rattle.qcow2_metadata.specs.Entries.L2Entry.{ByteRange}
 use Rattle.qcow2_metadata.specs.Entries.L2Mapping.{Mapping}
 use Rattle.qcow2_metadata.specs.Header.{Geometry, HeaderRecord, geometry_of}
 use Rattle.qcow2_metadata.specs.Header.Grammar.{header_of}
-use Rattle.qcow2_session.specs.Edits.{cluster_numbers}
-use Rattle.qcow2_session.specs.declared.edits.Outcome.{Outcome}
 use Rattle.qcow2_check.specs.NamedTables.{l1_cluster, l1_layout, loaded_l1_table, named_cluster}
 use Rattle.qcow2_session.specs.Lookups.{image_mapping, l2_cluster, mapping_by}
 use Rattle.qcow2_metadata.specs.Table.{l2_layout}

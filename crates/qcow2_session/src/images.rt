@@ -2,13 +2,13 @@
 
 ghost use Rattle.std.specs.Prelude.{◌≡◌, ◌⊎◌, [], IfErr, IfOk, false, length};
 ghost use Rattle.qcow2_base.specs.Storage.{OnImage, OnImages};
+ghost use Rattle.qcow2_edits.specs.Edits.{cluster_numbers};
+ghost use Rattle.qcow2_edits.specs.Steps.{Counts, are_some_done};
 ghost use Rattle.qcow2_metadata.specs.Header.{geometry_of};
 ghost use Rattle.qcow2_metadata.specs.Refblock.{block_geometry_of, block_layout};
 ghost use Rattle.qcow2_metadata.specs.Results.{Answers, IsFromOutside, result_map};
 ghost use Rattle.qcow2_metadata.specs.Table.{l2_entries, l2_layout};
-ghost use Rattle.qcow2_session.specs.Edits.{cluster_numbers};
 ghost use Rattle.qcow2_session.specs.Images.{ChangesImage, IsEditsFault, IsOfCluster, IsStepsFault, WritesBack, KeepsReferences, block_in, edits_end, references_of, steps_end};
-ghost use Rattle.qcow2_session.specs.Steps.{Counts, are_some_done};
 
 use crate::{Edit, Outcome, Step, StepReply, edit_table, load_l2_table, step_block};
 use qcow2_base::{Fault, HostCluster, Storage};

@@ -3,20 +3,16 @@
 #![tactic(auto)]
 
 pub mod commands;
-mod edits;
 mod extents;
 mod images;
 mod l2_tables;
 pub mod laws;
 mod lines;
 mod lookups;
-mod settled;
-mod steps;
 
 pub use commands::{
     Changes, CheckForm, ClusterBits, Command, FileName, Verdict, report_fault, run, run_words,
 };
-pub use edits::{Edit, Outcome, edit_table, edits_fit};
 pub use extents::{Content, Extent, Extents};
 pub use images::{edit_image, step_image};
 use l2_tables::L2Tables;
@@ -26,5 +22,6 @@ pub use qcow2_check::{
     Counters, Finding, Findings, FlagPlace, Flags, WrongFlag, is_consistent, repair_image,
 };
 use qcow2_check::{load_l1_table, load_l2_table, named_cluster};
-pub use settled::{edit_settled, settle};
-pub use steps::{Step, StepReply, step_block};
+pub use qcow2_edits::{
+    Edit, Outcome, Step, StepReply, edit_settled, edit_table, edits_fit, settle, step_block,
+};

@@ -4,20 +4,20 @@ use Rattle.std.specs.Fmt.{decimal}
 use Rattle.qcow2_base.specs.Storage.{Image}
 use Rattle.qcow2_base.specs.declared.fault.Fault.{Fault}
 use Rattle.qcow2_base.specs.declared.types.HostCluster.{HostCluster}
+use Rattle.qcow2_edits.specs.Steps.{StepsEnd, are_some_done}
+use Rattle.qcow2_edits.specs.declared.steps.Step.{Step}
+use Rattle.qcow2_edits.specs.declared.steps.StepReply.{StepReply}
+use Rattle.qcow2_edits.specs.declared.steps.StepReply.TheVariants.{Done, Refused}
+use Rattle.qcow2_edits.specs.declared.steps.Step.TheVariants.{Dec, Inc}
 use Rattle.qcow2_metadata.specs.Results.{result_map}
 use Rattle.qcow2_metadata.specs.Header.{HeaderRecord}
 use Rattle.qcow2_metadata.specs.Refblock.{block_geometry_of, block_layout}
 use Rattle.qcow2_session.specs.Commands.Changing.{ChangeEnd, PrintsChange}
 use Rattle.qcow2_session.specs.Commands.Facts.{CommandFacts}
 use Rattle.qcow2_session.specs.Images.{steps_end}
-use Rattle.qcow2_session.specs.Steps.{StepsEnd, are_some_done}
-use Rattle.qcow2_session.specs.declared.steps.Step.{Step}
-use Rattle.qcow2_session.specs.declared.steps.StepReply.{StepReply}
-use Rattle.qcow2_session.specs.declared.steps.StepReply.TheVariants.{Done, Refused}
 use Rattle.qcow2_session.specs.Commands.Words.{WordList, all_values, pair_by, parts_of, word_number}
 use Rattle.qcow2_session.specs.declared.commands.Command.{Command}
 use Rattle.qcow2_session.specs.declared.commands.Command.TheVariants as command
-use Rattle.qcow2_session.specs.declared.steps.Step.TheVariants.{Dec, Inc}
 
 -- the step that a word says, if it says one
 abbrev pub step_of : List ℕ → Option Step

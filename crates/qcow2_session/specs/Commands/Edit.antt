@@ -5,21 +5,21 @@ use Rattle.qcow2_base.specs.Storage.{Image}
 use Rattle.qcow2_base.specs.declared.fault.Fault.{Fault}
 use Rattle.qcow2_base.specs.declared.fault.Fault.TheVariants.{NotPlaced}
 use Rattle.qcow2_base.specs.declared.types.HostCluster.{HostCluster}
+use Rattle.qcow2_edits.specs.Edits.{are_some}
+use Rattle.qcow2_edits.specs.declared.edits.Edit.{Edit}
+use Rattle.qcow2_edits.specs.declared.edits.Edit.TheVariants.{Discard, Map, Zero}
 use Rattle.qcow2_metadata.specs.Results.{and_then, result_map}
 use Rattle.qcow2_metadata.specs.declared.entries.ClustersToFreeEntry.{ClustersToFreeEntry}
 use Rattle.qcow2_metadata.specs.Table.L2Guards.{RunEnd}
 use Rattle.qcow2_metadata.specs.Header.{HeaderRecord, geometry_of}
 use Rattle.qcow2_session.specs.Commands.Changing.{ChangeEnd, PrintsChange}
 use Rattle.qcow2_session.specs.Commands.Facts.{CommandFacts}
-use Rattle.qcow2_session.specs.Edits.{are_some}
 use Rattle.qcow2_session.specs.Images.{edits_end}
 use Rattle.qcow2_metadata.specs.Table.{l2_layout}
 use Rattle.qcow2_check.specs.NamedTables.{loaded_l1_table, named_cluster}
-use Rattle.qcow2_session.specs.declared.edits.Edit.{Edit}
 use Rattle.qcow2_session.specs.Commands.Words.{WordList, all_values, pair_by, parts_of, word_number}
 use Rattle.qcow2_session.specs.declared.commands.Command.{Command}
 use Rattle.qcow2_session.specs.declared.commands.Command.TheVariants as command
-use Rattle.qcow2_session.specs.declared.edits.Edit.TheVariants.{Discard, Map, Zero}
 
 -- an edit that maps, where pair_by of its numbers are there
 abbrev pub map_edit_of : Option (List ℕ × List ℕ) → Option Edit

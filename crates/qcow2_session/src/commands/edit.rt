@@ -2,6 +2,7 @@
 
 ghost use Rattle.std.specs.Prelude.{◌≡◌, ◌++◌, flat_map, map, string_bytes};
 ghost use Rattle.qcow2_base.specs.Storage.{OnImage, OnlyReads};
+ghost use Rattle.qcow2_edits.specs.Edits.{cluster_numbers};
 ghost use Rattle.qcow2_metadata.specs.Header.{geometry_of};
 ghost use Rattle.qcow2_metadata.specs.Results.{Answers};
 ghost use Rattle.qcow2_metadata.specs.Table.{l2_layout};
@@ -9,7 +10,6 @@ ghost use Rattle.qcow2_session.specs.Commands.Changing.{PrintsChange};
 ghost use Rattle.qcow2_session.specs.Commands.Edit.{edit_of, edit_command, end_of_edits, freed_line, gained_line, map_edit_of, table_cluster};
 ghost use Rattle.qcow2_session.specs.Commands.Printing.{PrintsLast, PrintsText, run_over};
 ghost use Rattle.qcow2_session.specs.Commands.Words.{Parses, parts_of};
-ghost use Rattle.qcow2_session.specs.Edits.{cluster_numbers};
 
 use super::Command;
 use super::words::{Changes, FromWord, number, parts};

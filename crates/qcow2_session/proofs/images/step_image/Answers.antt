@@ -1,6 +1,6 @@
 use Rattle.std.proofs.Common.{sym, rules}
+use Rattle.qcow2_edits.proofs.StepsLemmas.{block-idle, counts-same}
 use Rattle.qcow2_session.specs.Images.{block_in}
-use Rattle.qcow2_session.proofs.StepsLemmas.{block-idle, counts-same}
 use Rattle.qcow2_session.proofs.images.step_image.Goals as goal
 
 pub write_block_back-requires : goal.write_block_back-requires

@@ -1,0 +1,3 @@
+pub mod EditsLemmas
+pub mod SettledLemmas
+pub mod StepsLemmas

@@ -1,0 +1,11 @@
+//! Lists of edits of an L2 table and of steps of a refcount block, and counters that follow edits.
+#![tactic(auto)]
+
+mod edits;
+pub mod laws;
+mod settled;
+mod steps;
+
+pub use edits::{Edit, Outcome, edit_table, edits_fit};
+pub use settled::{edit_settled, settle};
+pub use steps::{Step, StepReply, step_block};
