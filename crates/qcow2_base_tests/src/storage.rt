@@ -130,8 +130,7 @@ fn a_write_replaces_its_range_and_lengthens_with_zeros(rt: HostRuntime) -> Resul
     each(rt.alloc(), WRITES, check_written)
 }
 
-// What a storage in memory, and one that passes calls on to it and fails at the second, return of a sync, and how
-// often they have failed then.
+// A storage in memory, and one that passes calls on to it and fails at the second.
 #[test]
 fn a_sync_changes_nothing_and_a_failed_one_is_counted(rt: HostRuntime) -> Result<(), Fail> {
     let mut storage = FailingStorage::new(rt.alloc(), memory(rt.alloc(), &[1, 2, 3])?);
