@@ -101,7 +101,6 @@ impl Windows {
 }
 
 /// Counts all uses of clusters from one on, in a new tally.
-#[tactic(auto, using(crate::proofs::FindingsLemmas::counts_all))]
 pub(crate) fn count_window<S: Storage>(
     image: &mut S,
     header: &Header,
