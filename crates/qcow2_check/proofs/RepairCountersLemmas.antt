@@ -225,6 +225,21 @@ all-between tables pass end old new below none so_far = record {
   others = so_far.others;
 }
 
+-- a pass that was done
+pub counters-done : (tables : ImageTables) (pass : CounterPass) (fault : Fault) (old new last : Image) → PassesCounters tables pass old new → last ≡ new
+    → BreaksOff tables pass fault old last
+counters-done tables pass fault old new last passes same = (
+  new,
+  record { counters = λ c. by_block c (block_of_cluster tables.header tables.reftable c) refl (cases_lt c max_file_length); others = passes.others },
+  record { whole = λ other. same; torn = inl same },
+)
+  where
+    by_block : (c : ℕ) (found : Option HostCluster) → block_of_cluster tables.header tables.reftable c ≡ found → (c < max_file_length) ⊎ (max_file_length ≤ c)
+        → IsEitherCounter tables pass c old new
+    by_block c found there (inr past) = inl (passes.after c past)
+    by_block c None none (inl below) = inl (grind (arith, none))
+    by_block c (Some block) there (inl below) = inr (passes.passed c (omega arith) below (grind (arith, there)))
+
 -- no counter of a block is passed yet
 pub passes-none : (pass : CounterPass) (uses : ℕ → ℕ) (from : ℕ) (numbers : List ℕ) → PassesBlock pass uses from from numbers numbers
 passes-none pass uses from numbers = record { count = refl; each = λ k below. grind (arith, nat_tests) }

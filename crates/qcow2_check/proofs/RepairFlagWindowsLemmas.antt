@@ -297,6 +297,18 @@ none-passed pass image = record {
 pub flags-unchanged : (pass : FlagPassState) (fault : Fault) (start new : Image) → new ≡ start → BreaksOffFlags pass fault start new
 flags-unchanged pass fault start new same = (start, none-passed pass start, record { whole = λ other. same; torn = inl same })
 
+-- one that was done
+pub flags-done : (pass : FlagPassState) (fault : Fault) (start new last : Image) → PassesFlags pass start new → last ≡ new → BreaksOffFlags pass fault start last
+flags-done pass fault start new last passes same = (
+  new,
+  record {
+    l1_table = rw passes.l1_table (between-map (passed_l1 pass) (passed_l1 pass) (l1_in pass.header start) (λ v. inr refl));
+    l2_tables = λ table names. rw (passes.l2_tables table names) (between-map (passed_l2 pass) (passed_l2 pass) (l2_in pass.header table start) (λ v. inr refl));
+    others = passes.others;
+  },
+  record { whole = λ other. same; torn = inl same },
+)
+
 -- a window whose write of the L1 table failed
 pub window-torn-l1 : (tables : ImageTables) (flag : Bool) (tally : TallyState) (fault : Fault) (start mid : Image) → PassesWindow tables flag tally start mid
     → (fault ≢ Storage → mid ≡ start) → BreaksOffFlags (pass_all tables start flag) fault start mid

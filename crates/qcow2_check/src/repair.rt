@@ -55,8 +55,8 @@ impl<'a> Model for Tables<'a> {
 ///
 /// Returns the header as it is then: autoclear features are cleared first, as by `Header::into_writable`.
 /// Then flags are cleared of clusters that haven't one use, counters rise, counters fall, and flags are set
-/// of clusters that have one. Nothing of a step is written before all of the one before. Nothing else
-/// changes.
+/// of clusters that have one. Nothing of a step is written before all of the one before is on the device, as
+/// `Storage::sync` has it there. Nothing else changes.
 ///
 /// Returns the fault of `Findings::new`, or of the first cluster that can't be repaired: 38 where its uses
 /// exclude each other, 30 where its counter can't hold their number. Then comes 24, where the header has no
@@ -76,7 +76,7 @@ pub fn repair_image<S: Storage>(
     Ok(header)
 }
 
-// Makes counters and flags of an image right whose header is writable.
+// Makes counters and flags of an image right whose header is writable, once that is on the device.
 fn repair_written<S: Storage>(
     alloc: Global,
     image: &mut S,
@@ -96,6 +96,7 @@ fn repair_written<S: Storage>(
         × OnImage (S.state image.old) (λ _. IsFromOutside fault)) }
     ensures storage { ReportsFailures result (S.state image.old) (S.state image.new) }
 {
+    image.sync()?;
     let mut l1_table = load_l1_table(alloc, image, header)?;
     repair_tables(image, header, &mut l1_table, reftable)
 }

@@ -209,7 +209,7 @@ fn pass_from<S: Storage>(
     Ok(end)
 }
 
-/// Passes over all counters of an image with these tables.
+/// Passes over all counters of an image with these tables, and waits until they are on the device.
 pub(crate) fn pass_all_counters<S: Storage>(
     image: &mut S,
     tables: &Tables<'_>,
@@ -230,5 +230,6 @@ pub(crate) fn pass_all_counters<S: Storage>(
     while cluster < end {
         cluster = pass_from(image, tables, &mut kept, &mut windows, cluster, pass)?;
     }
+    image.sync()?;
     Ok(())
 }

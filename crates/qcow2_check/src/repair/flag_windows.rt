@@ -85,8 +85,9 @@ fn pass_window<S: Storage>(
     Ok(tally.end())
 }
 
-/// Passes over all flags of an image with these tables, and keeps the L1 table as the image has it. There is
-/// a window in any case, since flags in an external data file depend on no counter.
+/// Passes over all flags of an image with these tables, and keeps the L1 table as the image has it. Waits
+/// until they are on the device. There is a window in any case, since flags in an external data file depend
+/// on no counter.
 pub(super) fn pass_all_flags<S: Storage>(
     image: &mut S,
     header: &Header,
@@ -114,5 +115,6 @@ pub(super) fn pass_all_flags<S: Storage>(
     while first < end {
         first = pass_window(image, header, l1_table, reftable, &mut windows, first, flag)?;
     }
+    image.sync()?;
     Ok(())
 }

@@ -1,6 +1,6 @@
 use Rattle.std.proofs.Common.{IsTrue, arith, rules}
 use Rattle.std.proofs.lemmas.Result.{err_from_is_err_and}
-use Rattle.qcow2_check.proofs.RepairCountersLemmas.{between-more, breaks-later}
+use Rattle.qcow2_check.proofs.RepairCountersLemmas.{all-between, between-more, breaks-later, counters-done}
 use Rattle.qcow2_check.proofs.RepairLemmas.{repairable-stays}
 use Rattle.qcow2_check.proofs.repair.counters.pass_all_counters.Goals as goal
 
@@ -27,3 +27,11 @@ loop-cluster-preserved g c = record {
   within = search rules;
   storage = search rules;
 }
+
+pub returns-in_err-sync-clause-passed : goal.returns-in_err-sync-clause-passed
+returns-in_err-sync-clause-passed g c = λ told.
+    let exit = err_from_is_err_and c.from_residual-in_err-sync.result c.from_residual-in_err-sync.ensures.1 in
+    let passes = all-between c.args.tables.now c.args.pass c.loop-cluster.cluster (g.S.Storage.state c.args.image.now).byte_at (g.S.Storage.state c.loop-cluster.image).byte_at
+    (search rules) (search rules) (c.loop-cluster.invariant.passed told) in
+    rw exit.1 (counters-done c.args.tables.now c.args.pass _ (g.S.Storage.state c.args.image.now).byte_at (g.S.Storage.state c.loop-cluster.image).byte_at
+    (g.S.Storage.state c.sync.new.self).byte_at passes (search rules))

@@ -1,5 +1,6 @@
-use Rattle.std.proofs.Common.{IsTrue, rules}
+use Rattle.std.proofs.Common.{◌≡◌, IsTrue, rules}
 use Rattle.std.proofs.lemmas.Result.{err_from_is_err_and}
+use Rattle.qcow2_check.proofs.RepairFlagWindowsLemmas.{flags-done}
 use Rattle.qcow2_check.proofs.RepairPassesLemmas.{PassedBy, breaks-joined, passes-finished, passes-joined, repairable-after}
 use Rattle.qcow2_check.specs.Repair.Flags.{uses_between}
 use Rattle.qcow2_check.specs.Uses.{ImageTables, image_tables, image_uses, uses_of}
@@ -45,5 +46,15 @@ loop-first-preserved g c = record {
 pub returns-clause-passed : goal.returns-clause-passed
 returns-clause-passed g c = λ told.
     let tables : ImageTables = image_tables c.args.header.now c.args.l1_table.now.numbers c.args.reftable.now.numbers in
-    passes-finished tables c.args.flag c.loop-first.first (g.S.Storage.state c.args.image.now).byte_at (g.S.Storage.state c.loop-first.image).byte_at
-    (search rules) (c.loop-first.invariant.passed told)
+    let same : (g.S.Storage.state c.sync.new.self).byte_at ≡ (g.S.Storage.state c.loop-first.image).byte_at = search rules in
+    rw same (passes-finished tables c.args.flag c.loop-first.first (g.S.Storage.state c.args.image.now).byte_at (g.S.Storage.state c.loop-first.image).byte_at
+    (search rules) (c.loop-first.invariant.passed told))
+
+pub returns-in_err-sync-clause-passed : goal.returns-in_err-sync-clause-passed
+returns-in_err-sync-clause-passed g c = λ told.
+    let exit = err_from_is_err_and c.from_residual-in_err-sync.result c.from_residual-in_err-sync.ensures.1 in
+    let tables : ImageTables = image_tables c.args.header.now c.args.l1_table.now.numbers c.args.reftable.now.numbers in
+    let passes = passes-finished tables c.args.flag c.loop-first.first (g.S.Storage.state c.args.image.now).byte_at (g.S.Storage.state c.loop-first.image).byte_at
+    (search rules) (c.loop-first.invariant.passed told) in
+    rw exit.1 (flags-done _ _ (g.S.Storage.state c.args.image.now).byte_at (g.S.Storage.state c.loop-first.image).byte_at
+    (g.S.Storage.state c.sync.new.self).byte_at passes (search rules))
