@@ -8,7 +8,8 @@ use Rattle.qcow2_base.specs.declared.fault.Fault.TheVariants.{NoMemory, Storage}
 use Rattle.qcow2_edits.specs.Edits.{are_some}
 use Rattle.qcow2_edits.specs.declared.edits.Edit.{Edit}
 use Rattle.qcow2_metadata.specs.Results.{result_map}
-use Rattle.qcow2_session.proofs.PrintingLemmas.{read_fault-of, refused-as, run_between}
+use Rattle.qcow2_image.proofs.LookupsLemmas.{refused-as}
+use Rattle.qcow2_session.proofs.PrintingLemmas.{read_fault-of, run_between}
 use Rattle.qcow2_session.specs.Commands.Changing.{ChangeEnd, PrintsChange}
 use Rattle.qcow2_metadata.specs.Placed.{IsTorn, Layout, loaded_numbers, offset_of}
 use Rattle.qcow2_session.specs.Commands.Printing.{OutputBytes, PrintsText}

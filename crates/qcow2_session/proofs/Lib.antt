@@ -1,23 +1,15 @@
-mod WholeImageExamples
 pub mod AccountLemmas
-pub mod ApartLemmas
 pub mod ChangingLemmas
 pub mod CheckLemmas
 pub mod CommandsLemmas
 pub mod ConsistentLemmas
-pub mod ExtentsLemmas
 pub mod HexLemmas
-pub mod ImagesLemmas
-pub mod L2TablesLemmas
 pub mod ListingLemmas
-pub mod LookupsLemmas
 pub mod MapLemmas
 pub mod OutputLemmas
 pub mod PrintingLemmas
 pub mod ReportLemmas
 pub mod RunningLemmas
 pub mod RunsLemmas
-pub mod SoundLemmas
 pub mod VerdictLemmas
-pub mod WholeImageLemmas
 pub mod WordsLemmas

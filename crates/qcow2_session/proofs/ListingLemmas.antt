@@ -16,7 +16,7 @@ use Rattle.qcow2_session.proofs.PrintingLemmas.{prints_no-more, read_fault-of, r
 use Rattle.qcow2_session.specs.Commands.Printing.{OutputBytes, OutputGets, PrintsText, Run}
 use Rattle.qcow2_session.specs.Commands.Entries.{entry_line, entry_lines, table_lines}
 use Rattle.qcow2_session.specs.Commands.List.{PrintsList, PrintsTables, PrintsTablesBefore, TableTexts, texts_left, texts_of}
-use Rattle.qcow2_session.specs.L2Tables.{NamedTables, RefusesTable, WalkState, tables_left}
+use Rattle.qcow2_image.specs.L2Tables.{NamedTables, RefusesTable, WalkState, tables_left}
 use Rattle.qcow2_session.specs.declared.commands.entries.Label.TheVariants.{Offset}
 
 -- the lines of one more entry

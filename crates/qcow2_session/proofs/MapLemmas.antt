@@ -9,9 +9,9 @@ use Rattle.qcow2_session.proofs.OutputLemmas.{part-after, part-of_more}
 use Rattle.qcow2_session.proofs.PrintingLemmas.{run_between}
 use Rattle.qcow2_session.specs.Commands.Map.{Disk, PrintsExtents, closing, extent_text, extents_text, opening}
 use Rattle.qcow2_session.specs.Commands.Printing.{AppendsPart, OutputBytes, PrintsText}
-use Rattle.qcow2_session.specs.Extents.{AreExtents}
+use Rattle.qcow2_image.specs.Extents.{AreExtents}
 use Rattle.qcow2_session.specs.declared.commands.map.ExtentFormat.{ExtentFormat}
-use Rattle.qcow2_session.specs.declared.extents.Extent.{Extent}
+use Rattle.qcow2_image.specs.declared.extents.Extent.{Extent}
 
 -- the text of extents, and of one more
 pub extents_text-more : (format : ExtentFormat) (extents : List Extent) (extent : Extent)

@@ -9,6 +9,7 @@ use Rattle.std.proofs.lemmas.List.Folds.{flat_map-map}
 use Rattle.qcow2_base.specs.Storage.{Image, OnlyReads, SameDevice, StorageState}
 use Rattle.qcow2_base.specs.declared.fault.Fault.{Fault}
 use Rattle.qcow2_base.specs.declared.fault.Fault.TheVariants.{NoMemory, Storage}
+use Rattle.qcow2_image.proofs.LookupsLemmas.{refused-as}
 use Rattle.qcow2_metadata.specs.Results.{result_map}
 use Rattle.qcow2_session.proofs.OutputLemmas.{part-after, part-of_more}
 use Rattle.qcow2_session.specs.Lines.Output.{Gets}
@@ -23,10 +24,6 @@ then_prints (Err fault) a b c lines more before after = record { fault = after.f
 -- a print that failed, of lines that more would have followed
 pub prints_no-more : {T U : Type 0} (fault : Fault) (a b : Option (List ℕ)) (lines more : List ℕ) → PrintsText {T = U} (Err fault) a b lines → PrintsText {T = T} (Err fault) a b (lines ++ more)
 prints_no-more fault a b lines more failed = record { fault = failed.fault; text = tt; part = part-of_more a b lines more failed.part }
-
--- why a call is refused, where one reason leads to another
-pub refused-as : {P Q : Type 0} (fault : Fault) → (P → Q) → (fault ≡ Storage) ⊎ (fault ≡ NoMemory) ⊎ P → (fault ≡ Storage) ⊎ (fault ≡ NoMemory) ⊎ Q
-refused-as fault leads why = grind (arith, leads)
 
 -- the fault that is meant, memory that ran out, or a failed call of the image
 pub read_fault-of : {V A O : Type 0} (fault : Fault) (meant : Result V Fault) (run : Run A O)

@@ -1,54 +1,24 @@
 //! Laws: facts about the definitions that contracts name. Each is a function that does nothing. Its
 //! contract is the law, and its name says it.
 
-ghost use Rattle.std.specs.Prelude.{◌≡◌, ℕ, List, Ok, Some, map, slice_get, slice_index};
+ghost use Rattle.std.specs.Prelude.{◌≡◌};
 ghost use Rattle.qcow2_base.specs.Format.{max_file_length};
 ghost use Rattle.qcow2_base.specs.Storage.{Image};
-ghost use Rattle.qcow2_base.specs.declared.types.HostCluster.{HostCluster};
-ghost use Rattle.qcow2_check.specs.Findings.{AreRight, checked_tables};
-ghost use Rattle.qcow2_check.specs.NamedTables.{named_cluster};
+ghost use Rattle.qcow2_check.specs.Findings.{AreRight};
 ghost use Rattle.qcow2_check.specs.Uses.{ImageTables};
-ghost use Rattle.qcow2_metadata.specs.Header.{HeaderRecord, geometry_of};
-ghost use Rattle.qcow2_metadata.specs.Header.Grammar.{header_of};
 ghost use Rattle.qcow2_session.specs.Commands.Check.{report_on};
-ghost use Rattle.qcow2_session.specs.Extents.{AreExtents, Contents};
-ghost use Rattle.qcow2_session.specs.WholeImage.{HasTableApart, IsSoundImage, l2_clusters};
 ghost use Rattle.qcow2_session.specs.declared.commands.verdict.Verdict.TheVariants.{Fine};
-ghost use Rattle.qcow2_session.specs.declared.extents.Extent.{Extent};
 
 pub use qcow2_edits::laws::{
     a_settled_block_counts_the_outcome, counters_follow_references, covered_references_stay_covered,
 };
-
-/// A disk has one map: extents that follow one another from offset 0 to its size are determined by what its
-/// bytes read as.
-pub fn a_disk_has_one_map()
-    ensures { (contents : Contents) (size : ℕ) (one other : List Extent) →
-        AreExtents contents size 0 one size → AreExtents contents size 0 other size → one ≡ other }
-{}
+pub use qcow2_image::laws::{
+    a_disk_has_one_map, an_image_is_sound_where_nothing_is_found,
+    an_l2_table_lies_apart_where_nothing_is_found,
+};
 
 /// Where a check finds an image consistent, nothing is wrong with any of its clusters.
 pub fn all_is_right_where_the_verdict_is_fine()
     ensures { (tables : ImageTables) (image : Image) → (report_on tables image).verdict ≡ Fine →
         AreRight tables image 0 max_file_length }
-{}
-
-/// Where nothing is found of an image, an L2 table that an L1 entry names lies apart from the first cluster
-/// and the L1 table.
-pub fn an_l2_table_lies_apart_where_nothing_is_found()
-    ensures { (tables : ImageTables) (image : Image) (k : ℕ) (cluster : HostCluster) →
-        header_of image ≡ Ok tables.header → AreRight tables image 0 max_file_length →
-        named_cluster tables.header.v2.cluster_bits (slice_index tables.l1 k) ≡ Some cluster →
-        HasTableApart (geometry_of tables.header) cluster tables.header image }
-{}
-
-/// An image that can be checked, and of which nothing is found, is sound, if no two L1 entries name one L2
-/// table.
-pub fn an_image_is_sound_where_nothing_is_found()
-    ensures { (tables : ImageTables) (image : Image) →
-        header_of image ≡ Ok tables.header → checked_tables tables.header image ≡ Ok tables →
-        AreRight tables image 0 max_file_length →
-        ((i j : ℕ) (table : HostCluster) → let named = l2_clusters tables.header.v2.cluster_bits tables.l1 in
-        slice_get named i ≡ Some table → slice_get named j ≡ Some table → i ≡ j) →
-        IsSoundImage image tables.header tables.l1 }
 {}

@@ -1,23 +1,14 @@
-//! Whole lists of changes to the tables and blocks of a qcow2 image, and counters that follow them. Also what
-//! a guest offset and the whole disk read as, and the commands of `qmeta`.
+//! The commands of `qmeta`. Passes on what a tool on qcow2 images needs besides the metadata itself:
+//! findings and repairs, lists of changes, lookups and extents.
 #![tactic(auto)]
 
 pub mod commands;
-mod extents;
-mod images;
-mod l2_tables;
 pub mod laws;
 mod lines;
-mod lookups;
 
 pub use commands::{
     Changes, CheckForm, ClusterBits, Command, FileName, Verdict, report_fault, run, run_words,
 };
-pub use extents::{Content, Extent, Extents};
-pub use images::{edit_image, step_image};
-use l2_tables::L2Tables;
-use lookups::lookup_with_header;
-pub use lookups::{lookup, lookup_image};
 pub use qcow2_check::{
     Counters, Finding, Findings, FlagPlace, Flags, WrongFlag, is_consistent, repair_image,
 };
@@ -25,3 +16,5 @@ use qcow2_check::{load_l1_table, load_l2_table, named_cluster};
 pub use qcow2_edits::{
     Edit, Outcome, Step, StepReply, edit_settled, edit_table, edits_fit, settle, step_block,
 };
+pub use qcow2_image::{Content, Extent, Extents, edit_image, lookup, lookup_image, step_image};
+use qcow2_image::{L2Tables, lookup_with_header};

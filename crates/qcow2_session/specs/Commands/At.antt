@@ -5,7 +5,7 @@ use Rattle.qcow2_base.specs.declared.fault.Fault.{Fault}
 use Rattle.qcow2_metadata.specs.Results.{result_map}
 use Rattle.qcow2_metadata.specs.Header.{HeaderRecord}
 use Rattle.qcow2_session.specs.Lines.{mapping_text}
-use Rattle.qcow2_session.specs.Lookups.{mapping_in}
+use Rattle.qcow2_image.specs.Lookups.{mapping_in}
 use Rattle.qcow2_session.specs.Commands.Facts.{CommandFacts}
 use Rattle.qcow2_session.specs.Commands.Printing.{Prints}
 use Rattle.qcow2_session.specs.Commands.Words.{WordList, word_number}

@@ -14,7 +14,7 @@ use Rattle.qcow2_metadata.specs.Header.{HeaderRecord}
 use Rattle.qcow2_metadata.specs.Refblock.{block_geometry_of, block_layout}
 use Rattle.qcow2_session.specs.Commands.Changing.{ChangeEnd, PrintsChange}
 use Rattle.qcow2_session.specs.Commands.Facts.{CommandFacts}
-use Rattle.qcow2_session.specs.Images.{steps_end}
+use Rattle.qcow2_image.specs.Images.{steps_end}
 use Rattle.qcow2_session.specs.Commands.Words.{WordList, all_values, pair_by, parts_of, word_number}
 use Rattle.qcow2_session.specs.declared.commands.Command.{Command}
 use Rattle.qcow2_session.specs.declared.commands.Command.TheVariants as command

@@ -14,7 +14,7 @@ use Rattle.qcow2_metadata.specs.Table.L2Guards.{RunEnd}
 use Rattle.qcow2_metadata.specs.Header.{HeaderRecord, geometry_of}
 use Rattle.qcow2_session.specs.Commands.Changing.{ChangeEnd, PrintsChange}
 use Rattle.qcow2_session.specs.Commands.Facts.{CommandFacts}
-use Rattle.qcow2_session.specs.Images.{edits_end}
+use Rattle.qcow2_image.specs.Images.{edits_end}
 use Rattle.qcow2_metadata.specs.Table.{l2_layout}
 use Rattle.qcow2_check.specs.NamedTables.{loaded_l1_table, named_cluster}
 use Rattle.qcow2_session.specs.Commands.Words.{WordList, all_values, pair_by, parts_of, word_number}

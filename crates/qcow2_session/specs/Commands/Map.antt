@@ -6,7 +6,7 @@ use Rattle.qcow2_base.specs.declared.fault.Fault.{Fault}
 use Rattle.qcow2_base.specs.declared.fault.Fault.TheVariants.{Storage}
 use Rattle.qcow2_metadata.specs.Header.{HeaderRecord, geometry_of}
 use Rattle.qcow2_metadata.specs.Results.{result_map}
-use Rattle.qcow2_session.specs.Extents.{AreExtents, AreExtentsBefore, Contents, ExtentsState, contents_for, contents_of}
+use Rattle.qcow2_image.specs.Extents.{AreExtents, AreExtentsBefore, Contents, ExtentsState, contents_for, contents_of}
 use Rattle.qcow2_check.specs.NamedTables.{loaded_l1_table}
 use Rattle.qcow2_session.specs.Commands.Facts.{CommandFacts}
 use Rattle.qcow2_session.specs.Commands.Printing.{IsOutputFault, IsReadFault, OutputGets, OutputGetsPart, Run}
@@ -14,9 +14,9 @@ use Rattle.qcow2_session.specs.Commands.Words.{WordList}
 use Rattle.qcow2_session.specs.Lines.{offset_text}
 use Rattle.qcow2_session.specs.declared.commands.map.ExtentFormat.{ExtentFormat}
 use Rattle.qcow2_session.specs.declared.commands.map.ExtentFormat.TheVariants.{Json, Lines}
-use Rattle.qcow2_session.specs.declared.extents.Content.{Content}
-use Rattle.qcow2_session.specs.declared.extents.Content.TheVariants.{Absent, AllocatedZeros, Compressed, Data, Zeros}
-use Rattle.qcow2_session.specs.declared.extents.Extent.{Extent}
+use Rattle.qcow2_image.specs.declared.extents.Content.{Content}
+use Rattle.qcow2_image.specs.declared.extents.Content.TheVariants.{Absent, AllocatedZeros, Compressed, Data, Zeros}
+use Rattle.qcow2_image.specs.declared.extents.Extent.{Extent}
 use Rattle.qcow2_session.specs.declared.commands.Command.{Command}
 use Rattle.qcow2_session.specs.declared.commands.Command.TheVariants as command
 

@@ -3,7 +3,7 @@
 ghost use Rattle.std.specs.Prelude.{◌≡◌, ◌+◌, ◌≤◌, ◌++◌, IsErrOf, length, map, string_bytes};
 ghost use Rattle.qcow2_base.specs.Storage.{OnImage, ReadsFor};
 ghost use Rattle.qcow2_base.specs.declared.fault.Fault.TheVariants.{Storage as StorageFailed};
-ghost use Rattle.qcow2_session.specs.Extents.{IsReaderOf};
+ghost use Rattle.qcow2_image.specs.Extents.{IsReaderOf};
 ghost use Rattle.qcow2_session.specs.Commands.Map.{PrintsExtents, PrintsRest, closing, content_text, disk_of, extent_line, extent_text, map_command, json_content, json_row, opening};
 ghost use Rattle.qcow2_session.specs.Commands.Printing.{PrintsText, run_over};
 ghost use Rattle.qcow2_session.specs.Commands.Words.{Parses};

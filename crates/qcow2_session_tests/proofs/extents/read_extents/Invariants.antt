@@ -1,5 +1,5 @@
 use Rattle.std.proofs.Common.{◌+◌, ◌-◌, ◌≤◌, IsTrue, vec_len}
-use Rattle.qcow2_session.specs.Extents.{IsReaderOf}
+use Rattle.qcow2_image.specs.Extents.{IsReaderOf}
 use Rattle.qcow2_session_tests.proofs.extents.read_extents.Given as goal
 
 -- the reader is one of the image, and is no further than the disk's end

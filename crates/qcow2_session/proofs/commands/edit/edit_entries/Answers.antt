@@ -2,13 +2,14 @@ use Rattle.std.proofs.Common.{◌++◌, arith, flat_map, refl, ◌∙◌}
 use Rattle.std.proofs.lemmas.Result.{err_from_is_err_and}
 use Rattle.qcow2_edits.specs.Edits.{are_some}
 use Rattle.qcow2_session.proofs.ChangingLemmas.{change-printed, change-refused, change-unplaced, idle-edits, loads-part, of-any, part-follows, part-refused}
-use Rattle.qcow2_session.proofs.PrintingLemmas.{last-printed, last-unprinted, refused-as}
+use Rattle.qcow2_image.proofs.LookupsLemmas.{refused-as}
+use Rattle.qcow2_session.proofs.PrintingLemmas.{last-printed, last-unprinted}
 use Rattle.qcow2_session.specs.Commands.Edit.{end_of_edits, freed_line, gained_line}
 use Rattle.qcow2_metadata.specs.Header.{geometry_of}
 use Rattle.qcow2_metadata.specs.Table.{l2_layout}
 use Rattle.qcow2_metadata.specs.Table.L2Guards.{RunEnd}
 use Rattle.qcow2_session.specs.Commands.Changing.{ChangeEnd}
-use Rattle.qcow2_session.specs.Images.{edits_end}
+use Rattle.qcow2_image.specs.Images.{edits_end}
 use Rattle.qcow2_session.proofs.commands.edit.edit_entries.Goals as goal
 
 pub returns-in_err-cluster-clause-edits : goal.returns-in_err-cluster-clause-edits

@@ -1,7 +1,7 @@
 use Rattle.std.proofs.Common.{◌≡◌, Ok, refl, rules, arith}
 use Rattle.std.proofs.lemmas.Result.{err_from_is_err_and}
 use Rattle.qcow2_session.proofs.ListingLemmas.{PrintsList-none, PrintsList-tables}
-use Rattle.qcow2_session.proofs.LookupsLemmas.{reads-then_for}
+use Rattle.qcow2_image.proofs.LookupsLemmas.{reads-then_for}
 use Rattle.qcow2_session.specs.Commands.List.{texts_of_tables, texts_left}
 use Rattle.qcow2_check.specs.NamedTables.{loaded_l1_table}
 use Rattle.qcow2_session.proofs.commands.list.list_tables.Goals as goal

@@ -4,7 +4,7 @@ use Rattle.qcow2_metadata.specs.Header.{geometry_of}
 use Rattle.qcow2_session.proofs.ListingLemmas.{ended-at, ended-printing, tables-known, tables-printed, texts-more}
 use Rattle.qcow2_session.specs.Commands.Entries.{table_lines}
 use Rattle.qcow2_session.specs.Commands.List.{texts_left}
-use Rattle.qcow2_session.specs.L2Tables.{WalkState}
+use Rattle.qcow2_image.specs.L2Tables.{WalkState}
 use Rattle.qcow2_session.specs.declared.commands.entries.Label.TheVariants.{Offset}
 use Rattle.qcow2_session.proofs.commands.list.print_tables.Goals as goal
 

@@ -3,8 +3,8 @@ use Rattle.std.proofs.KnownBytes.{Appends-trans}
 use Rattle.std.proofs.lemmas.Result.{err_from_is_err_and}
 use Rattle.qcow2_session.proofs.MapLemmas.{extents_text-more}
 use Rattle.qcow2_session.proofs.OutputLemmas.{part-after}
-use Rattle.qcow2_session.specs.Extents.{ExtentsState, IsExtent, RefusesExtent, contents_for}
-use Rattle.qcow2_session.proofs.ExtentsLemmas.{extents_more}
+use Rattle.qcow2_image.specs.Extents.{ExtentsState, IsExtent, RefusesExtent, contents_for}
+use Rattle.qcow2_image.proofs.ExtentsLemmas.{extents_more}
 use Rattle.qcow2_session.proofs.commands.map.print_all.Goals as goal
 
 pub returns-in_err-extent-clause-prints : goal.returns-in_err-extent-clause-prints

@@ -2,8 +2,8 @@ use Rattle.std.proofs.Common.{◌≡◌, ◌-◌, IsTrue, List}
 use Rattle.std.specs.Io.KnownBytes.{Appends}
 use Rattle.qcow2_base.specs.Storage.{ReadsFor}
 use Rattle.qcow2_session.specs.Commands.Map.{extents_text}
-use Rattle.qcow2_session.specs.Extents.{AreExtents, IsReaderOf, contents_for}
-use Rattle.qcow2_session.specs.declared.extents.Extent.{Extent}
+use Rattle.qcow2_image.specs.Extents.{AreExtents, IsReaderOf, contents_for}
+use Rattle.qcow2_image.specs.declared.extents.Extent.{Extent}
 use Rattle.qcow2_session.proofs.commands.map.print_all.Given as goal
 
 -- the extents before the reader's offset are printed, and no call of the image has failed

@@ -1,13 +1,13 @@
 use Rattle.std.proofs.Common.{[], inl, inr, refl, ◌∙◌, arith}
 use Rattle.std.proofs.KnownBytes.{Appends-trans}
 use Rattle.std.proofs.lemmas.Result.{err_from_is_err_and}
-use Rattle.qcow2_session.proofs.LookupsLemmas.{reads-then_for}
+use Rattle.qcow2_image.proofs.LookupsLemmas.{reads-then_for}
 use Rattle.qcow2_session.proofs.MapLemmas.{map-closed, opening-part}
 use Rattle.qcow2_session.proofs.OutputLemmas.{part-of_more}
 use Rattle.qcow2_session.proofs.PrintingLemmas.{reads-calm}
 use Rattle.qcow2_metadata.specs.Header.{geometry_of}
 use Rattle.qcow2_session.specs.Commands.Map.{Disk, disk_of, extents_text, opening}
-use Rattle.qcow2_session.specs.Extents.{contents_of}
+use Rattle.qcow2_image.specs.Extents.{contents_of}
 use Rattle.qcow2_session.proofs.commands.map.print_extents.Goals as goal
 
 pub returns-in_err-print_text-clause-prints : goal.returns-in_err-print_text-clause-prints

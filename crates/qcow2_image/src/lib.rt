@@ -1,0 +1,13 @@
+//! A whole image: what a guest offset and its disk read as, and lists of changes of its tables and blocks.
+#![tactic(auto)]
+
+mod extents;
+mod images;
+mod l2_tables;
+pub mod laws;
+mod lookups;
+
+pub use extents::{Content, Extent, Extents};
+pub use images::{edit_image, step_image};
+pub use l2_tables::L2Tables;
+pub use lookups::{lookup, lookup_image, lookup_with_header};

@@ -1,5 +1,0 @@
-use Rattle.qcow2_session.proofs.SoundLemmas.{sound-where-right}
-use Rattle.qcow2_session.proofs.laws.an_image_is_sound_where_nothing_is_found.Goals as goal
-
-pub returns : goal.returns
-returns c = sound-where-right
