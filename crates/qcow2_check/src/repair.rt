@@ -55,8 +55,8 @@ impl<'a> Model for Tables<'a> {
 ///
 /// Returns the header as it is then: autoclear features are cleared first, as by `Header::into_writable`.
 /// Then flags are cleared of clusters that haven't one use, counters rise, counters fall, and flags are set
-/// of clusters that have one. Nothing of a step is written before all of the one before is on the device, as
-/// `Storage::sync` has it there. Nothing else changes.
+/// of clusters that have one. Nothing of a step is written before `Storage::sync` has put all of the one
+/// before on the device. Nothing else changes.
 ///
 /// Returns the fault of `Findings::new`, or of the first cluster that can't be repaired: 38 where its uses
 /// exclude each other, 30 where its counter can't hold their number. Then comes 24, where the header has no
