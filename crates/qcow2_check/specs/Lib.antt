@@ -5,6 +5,5 @@ pub mod Findings
 pub mod Flags
 pub mod ImageEnd
 pub mod NamedTables
-pub mod Repair
 pub mod Tally
 pub mod Uses

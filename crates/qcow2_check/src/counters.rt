@@ -140,7 +140,7 @@ fn end_of_block(header: &Header, index: usize) -> u64
 }
 
 /// Where the clusters end that blocks count which a refcount table names.
-pub(crate) fn counted_end(header: &Header, reftable: &RefTable) -> u64
+pub fn counted_end(header: &Header, reftable: &RefTable) -> u64
     requires { reftable.now.geometry ≡ geometry_of header.now }
     ensures none { (c : ℕ) → result ≤ c → c < max_file_length →
         block_of_cluster header.now reftable.now.numbers c ≡ None }

@@ -14,7 +14,7 @@ use crate::counters::Counters;
 use crate::flags::Flags;
 use crate::named_tables::load_l1_table;
 use crate::tally::{Tally, count_of, is_shared};
-use crate::windows::{Windows, count_window};
+use crate::windows::Windows;
 use qcow2_base::{Fault, HostCluster, MAX_FILE_LENGTH, Storage};
 use qcow2_metadata::{Header, L1Table, RefBlock, RefTable, Table};
 use std::alloc::Global;
@@ -178,8 +178,8 @@ impl<'a> Findings<'a> {
         let l1_table = load_l1_table(alloc, image, header)?;
         let counters = Counters::new(alloc, image, header)?;
         let reftable = counters.reftable();
-        let windows = Windows::new(header, &l1_table, reftable);
-        let tally = count_window(image, header, &l1_table, reftable, windows.at(0))?;
+        let mut windows = Windows::new(header, &l1_table, reftable);
+        let tally = windows.count(image, header, &l1_table, reftable, 0)?;
         Ok(Findings {
             header,
             l1_table,
@@ -230,7 +230,7 @@ impl<'a> Findings<'a> {
     }
 
     /// The L1 table and the refcount table of the same image. All other memory is given back.
-    pub(crate) fn into_tables(self) -> (L1Table, RefTable)
+    pub fn into_tables(self) -> (L1Table, RefTable)
         ensures numbers { (result.0.numbers ≡ self.entry.l1)
             × (result.1.numbers ≡ self.entry.counters.reftable) }
         ensures geometry { (result.0.geometry ≡ geometry_of self.entry.header)
@@ -242,14 +242,14 @@ impl<'a> Findings<'a> {
 
     /// The header of the image.
     #[inline]
-    pub(crate) fn header(&self) -> &Header
+    pub fn header(&self) -> &Header
         ensures { result.now ≡ self.now.header }
     {
         self.header
     }
 
     /// Whether the refcount table names a block for a cluster.
-    pub(crate) fn has_block(&self, cluster: HostCluster) -> bool
+    pub fn has_block(&self, cluster: HostCluster) -> bool
         ensures { let reader = self.now in
             result ≡ is_some (block_of_cluster reader.header reader.counters.reftable cluster.0) }
     {
@@ -370,14 +370,16 @@ impl<'a> Findings<'a> {
         if self.is_counted() {
             return Ok(());
         }
-        if let Some(tally) = &self.tally {
-            self.windows.note(tally);
-        }
         // Its memory is given back before the next window takes as much.
         self.tally = None;
-        let window = self.windows.at(self.position);
         let reftable = self.counters.reftable();
-        let tally = count_window(image, self.header, &self.l1_table, reftable, window)?;
+        let tally = self.windows.count(
+            image,
+            self.header,
+            &self.l1_table,
+            reftable,
+            self.position,
+        )?;
         self.tally = Some(tally);
         Ok(())
     }

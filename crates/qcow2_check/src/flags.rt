@@ -104,7 +104,7 @@ fn wrong_flag(
 
 /// The cluster that an L2 entry with a flag names, if it names one.
 #[inline]
-pub(crate) fn flagged_cluster(
+pub fn flagged_cluster(
     entry: L2Entry,
     cluster_bits: u32,
     external_data_file: bool,

@@ -59,7 +59,7 @@ fn with_use_if(cell: u64, kind: UseKind, is_used: bool) -> Option<u64>
 
 /// How many uses each cluster of a part of an image has. Clauses see it as cells, which count them.
 #[derive(Drop)]
-pub(crate) struct Tally {
+pub struct Tally {
     first: u64,
     end: u64,
     dense: Cells,
@@ -121,7 +121,7 @@ impl Tally {
 
     /// The first cluster that it counts.
     #[inline]
-    pub(crate) fn first(&self) -> u64
+    pub fn first(&self) -> u64
         ensures { result ≡ self.now.first }
     {
         self.first
@@ -129,7 +129,7 @@ impl Tally {
 
     /// The cluster that it ends before.
     #[inline]
-    pub(crate) fn end(&self) -> u64
+    pub fn end(&self) -> u64
         ensures value { result ≡ self.now.end }
         ensures some { self.now.first < result }
         ensures fits { result ≤ max_file_length }
@@ -144,7 +144,7 @@ impl Tally {
 
     /// The cell of a cluster.
     #[inline]
-    pub(crate) fn cell(&self, cluster: u64) -> u64
+    pub fn cell(&self, cluster: u64) -> u64
         requires { self.now.first ≤ cluster }
         ensures { result ≡ cell_at self.now cluster }
     {
@@ -264,7 +264,7 @@ pub(crate) fn is_shared(cell: u64) -> bool
 
 /// How many uses a cell counts.
 #[inline]
-pub(crate) fn count_of(cell: u64) -> u64
+pub fn count_of(cell: u64) -> u64
     ensures { result ≡ cell / 8 }
 {
     cell / 8

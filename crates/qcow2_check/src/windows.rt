@@ -27,10 +27,10 @@ const MOST_SPARSE: usize = 1 << 20;
 // How many uses of a cluster fit no narrow cell.
 const MANY_USES: u64 = 1 << 29;
 
-/// Clusters whose uses are counted at once: `dense` of them from the first on, whose cells lie one after
-/// another, and at most `most` others. The cells are wide or narrow.
+// Clusters whose uses are counted at once: `dense` of them from the first on, whose cells lie one after
+// another, and at most `most` others. The cells are wide or narrow.
 #[derive(Clone, Copy)]
-pub(crate) struct Window {
+struct Window {
     first: u64,
     dense: usize,
     most: usize,
@@ -50,9 +50,10 @@ fn dense_cells(counted: u64, is_wide: bool) -> usize
     counted.clamp(FEW_CELLS as u64, most as u64) as usize
 }
 
-/// How the windows of an image are chosen, one after another.
+/// The windows of an image: clusters whose uses are counted at once, in memory of a bounded size. How many
+/// there are is chosen for one window after another.
 #[derive(Clone, Copy)]
-pub(crate) struct Windows {
+pub struct Windows {
     // The end of the clusters that the refcount blocks count.
     counted: u64,
     is_wide: bool,
@@ -62,7 +63,7 @@ pub(crate) struct Windows {
 
 impl Windows {
     /// The windows of an image with these tables.
-    pub(crate) fn new(header: &Header, l1_table: &L1Table, reftable: &RefTable) -> Windows
+    pub fn new(header: &Header, l1_table: &L1Table, reftable: &RefTable) -> Windows
         requires { reftable.now.geometry ≡ geometry_of header.now }
     {
         Windows {
@@ -72,8 +73,8 @@ impl Windows {
         }
     }
 
-    /// The window that begins with a cluster.
-    pub(crate) fn at(&self, first: u64) -> Window
+    // The window that begins with a cluster.
+    fn at(&self, first: u64) -> Window
         requires { first < max_file_length }
         ensures first { result.first ≡ first }
         ensures some { 0 < result.dense }
@@ -94,39 +95,38 @@ impl Windows {
         }
     }
 
-    /// Notes how many clusters of a window have a use, by which the next are chosen.
-    pub(crate) fn note(&mut self, tally: &Tally) {
+    /// Counts all uses of clusters from one on, in a new tally, as many clusters at once as fit. The next
+    /// windows are chosen by how many of them have a use.
+    ///
+    /// Fails where an L2 table does, by the fault of its load, and where memory runs out. Changes no byte.
+    pub fn count<S: Storage>(
+        &mut self,
+        image: &mut S,
+        header: &Header,
+        l1_table: &L1Table,
+        reftable: &RefTable,
+        first: u64,
+    ) -> Result<Tally, Fault>
+        requires first { first < max_file_length }
+        requires l1_table { l1_table.now.geometry ≡ geometry_of header.now }
+        requires reftable { reftable.now.geometry ≡ geometry_of header.now }
+        ensures reads { Reads (λ _. tt) result (all_load (geometry_of header.now) l1_table.now.numbers)
+            IsEntryFault (S.state image.old) (S.state image.new) }
+        ensures counted { IfOk result (λ tally. OnImage (S.state image.old) (λ bytes. CountsAll
+            (image_tables header.now l1_table.now.numbers reftable.now.numbers) bytes tally)) }
+        ensures first { IfOk result (λ tally. (tally.first ≡ first) × (first < tally.end)
+            × (tally.end ≤ max_file_length)) }
+    {
+        let Window {
+            first,
+            dense,
+            most,
+            is_wide,
+        } = self.at(first);
+        let mut tally = Tally::new(l1_table.allocator(), first, dense, most, is_wide)?;
+        count_image(&mut tally, image, header, l1_table, reftable)?;
+        prove!(first < tally.end());
         self.is_sparse |= tally.used() < MOST_SPARSE;
+        Ok(tally)
     }
-}
-
-/// Counts all uses of clusters from one on, in a new tally.
-pub(crate) fn count_window<S: Storage>(
-    image: &mut S,
-    header: &Header,
-    l1_table: &L1Table,
-    reftable: &RefTable,
-    window: Window,
-) -> Result<Tally, Fault>
-    requires l1_table { l1_table.now.geometry ≡ geometry_of header.now }
-    requires reftable { reftable.now.geometry ≡ geometry_of header.now }
-    requires some { 0 < window.dense }
-    requires fits { window.first + window.dense ≤ max_file_length }
-    ensures reads { Reads (λ _. tt) result (all_load (geometry_of header.now) l1_table.now.numbers)
-        IsEntryFault (S.state image.old) (S.state image.new) }
-    ensures counted { IfOk result (λ tally. OnImage (S.state image.old) (λ bytes. CountsAll
-        (image_tables header.now l1_table.now.numbers reftable.now.numbers) bytes tally)) }
-    ensures first { IfOk result (λ tally. (tally.first ≡ window.first) × (window.first < tally.end)
-        × (tally.end ≤ max_file_length)) }
-{
-    let Window {
-        first,
-        dense,
-        most,
-        is_wide,
-    } = window;
-    let mut tally = Tally::new(l1_table.allocator(), first, dense, most, is_wide)?;
-    count_image(&mut tally, image, header, l1_table, reftable)?;
-    prove!(first < tally.end());
-    Ok(tally)
 }

@@ -9,12 +9,12 @@ use Rattle.std.proofs.lemmas.List.Sums.{sum_by_push}
 use Rattle.qcow2_base.specs.Storage.{Image, IsBytes, OnImage, ReadsFor, StorageState}
 use Rattle.qcow2_base.specs.declared.fault.Fault.{Fault}
 use Rattle.qcow2_base.specs.declared.fault.Fault.TheVariants.{NoMemory, Storage}
-use Rattle.qcow2_check.proofs.RepairCheckableLemmas.{checkable-repaired}
-use Rattle.qcow2_check.specs.Repair.{IsRepaired, RepairsImage}
 use Rattle.qcow2_check.specs.Findings.{FindingsState, checked_tables, image_findings, tables_of}
 use Rattle.qcow2_check.specs.Uses.{ImageTables}
 use Rattle.qcow2_check.specs.declared.flags.WrongFlag.{WrongFlag}
 use Rattle.qcow2_metadata.specs.Table.L2Guards.{one_if}
+use Rattle.qcow2_repair.proofs.CheckableLemmas.{checkable-repaired}
+use Rattle.qcow2_repair.specs.Repair.{IsRepaired, RepairsImage}
 use Rattle.qcow2_session.proofs.OutputLemmas.{part-after, part-of_more, part_taken}
 use Rattle.qcow2_metadata.specs.Header.{HeaderRecord, IsValidHeader}
 use Rattle.qcow2_metadata.specs.Results.{IsFromOutside, result_map}

@@ -10,10 +10,10 @@ use Rattle.qcow2_base.specs.declared.fault.Fault.{Fault}
 use Rattle.qcow2_base.specs.declared.fault.Fault.TheVariants.{Storage}
 use Rattle.qcow2_check.specs.Findings.{checked_tables, image_findings}
 use Rattle.qcow2_check.specs.Flags.{image_flags}
-use Rattle.qcow2_check.specs.Repair.{RepairsImage}
 use Rattle.qcow2_check.specs.Uses.{ImageTables}
 use Rattle.qcow2_metadata.specs.Header.{HeaderRecord}
 use Rattle.qcow2_metadata.specs.Results.{IsFromOutside, result_map}
+use Rattle.qcow2_repair.specs.Repair.{RepairsImage}
 use Rattle.qcow2_session.specs.Commands.Check.Json.{checked_object}
 use Rattle.qcow2_session.specs.Commands.Check.Lines.{flag_line, run_lines, totals_line}
 use Rattle.qcow2_session.specs.Commands.Check.Runs.{runs_of}

@@ -8,7 +8,7 @@ pub returns-in_err-tally-clause-reads : goal.returns-in_err-tally-clause-reads
 returns-in_err-tally-clause-reads g c =
     let exit = err_from_is_err_and c.from_residual-in_err-tally.result c.from_residual-in_err-tally.ensures.1 in
     rw (exit.1, exit.2) (refused_tables tables_of c.args.header.now c.in_ok-l1_table.l1_table.numbers c.in_ok-counters.counters.reftable c.in_err-tally.field-0.0
-    (g.S.Storage.state c.args.image.now) (g.S.Storage.state c.load_l1_table.new.image) (g.S.Storage.state c.new.new.image) (g.S.Storage.state c.count_window.new.image)
+    (g.S.Storage.state c.args.image.now) (g.S.Storage.state c.load_l1_table.new.image) (g.S.Storage.state c.new.new.image) (g.S.Storage.state c.count.new.image)
     (search rules) (search rules) (search rules) (search rules) (search rules) (search rules))
 
 pub returns-clause-reader : goal.returns-clause-reader

@@ -1,5 +1,0 @@
-use Rattle.qcow2_check.proofs.RepairTooLowLemmas.{enough-whole}
-use Rattle.qcow2_check.proofs.laws.a_part_of_a_repair_makes_no_counter_too_low_that_it_leaves_whole.Goals as goal
-
-pub returns : goal.returns
-returns w = enough-whole

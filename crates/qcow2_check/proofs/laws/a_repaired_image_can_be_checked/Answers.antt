@@ -1,5 +1,0 @@
-use Rattle.qcow2_check.proofs.RepairCheckableLemmas.{checkable-repaired}
-use Rattle.qcow2_check.proofs.laws.a_repaired_image_can_be_checked.Goals as goal
-
-pub returns : goal.returns
-returns w = checkable-repaired

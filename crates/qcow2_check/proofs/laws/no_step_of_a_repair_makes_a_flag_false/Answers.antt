@@ -1,5 +1,0 @@
-use Rattle.qcow2_check.proofs.RepairTrueFlagsLemmas.{true-repaired}
-use Rattle.qcow2_check.proofs.laws.no_step_of_a_repair_makes_a_flag_false.Goals as goal
-
-pub returns : goal.returns
-returns w = true-repaired

@@ -1,0 +1,15 @@
+pub mod CheckableLemmas
+pub mod CountersLemmas
+pub mod FlagWindowsLemmas
+pub mod FlaggedLemmas
+pub mod FlagsLemmas
+pub mod FoundLemmas
+pub mod HeaderLemmas
+pub mod LeftLemmas
+pub mod OrderLemmas
+pub mod PassesLemmas
+pub mod RefusalsLemmas
+pub mod RepairLemmas
+pub mod StagesLemmas
+pub mod TooLowLemmas
+pub mod TrueFlagsLemmas

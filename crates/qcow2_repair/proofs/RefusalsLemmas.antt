@@ -1,0 +1,184 @@
+use Rattle.std.proofs.Common.{◌≡◌, ◌⊎◌, ℕ, zero, suc, false, true, ◌+◌, ◌-◌, ◌*◌, ◌/◌, ◌%◌, ◌^◌, ◌<◌, ◌≤◌, List, slice_index, Option, Some, None, IsSome, Ok, Err, refl, subst, inl, inr, arith}
+use Rattle.std.proofs.lemmas.Bool.{cases_lt}
+use Rattle.std.proofs.lemmas.Bool.Decides.{nat_tests}
+use Rattle.std.proofs.lemmas.List.{get_or_past}
+use Rattle.std.proofs.lemmas.List.Elements.{All-get_or}
+use Rattle.std.proofs.lemmas.Nat.{pow_pos}
+use Rattle.qcow2_base.specs.Format.{max_file_length}
+use Rattle.qcow2_base.specs.Storage.{Image, IsBytes, OnImage, OnlyReads, StorageState}
+use Rattle.qcow2_base.specs.Types.{IsClusterBits}
+use Rattle.qcow2_base.specs.declared.fault.Fault.{Fault}
+use Rattle.qcow2_base.specs.declared.types.HostCluster.{HostCluster}
+use Rattle.qcow2_metadata.proofs.PackingLemmas.{counters_at-small}
+use Rattle.qcow2_metadata.specs.Header.{HeaderRecord, geometry_of}
+use Rattle.qcow2_metadata.specs.Placed.{numbers_at}
+use Rattle.qcow2_metadata.specs.Refblock.{block_geometry_of, block_layout, greatest_counter}
+use Rattle.qcow2_metadata.specs.Refblock.Counters.{AreCounters}
+use Rattle.qcow2_metadata.specs.Refblock.Packing.{width}
+use Rattle.qcow2_metadata.specs.Results.{Reads, unless_refused}
+use Rattle.qcow2_check.proofs.FindingsListLemmas.{pass-one, take-one}
+use Rattle.qcow2_check.specs.Counters.{block_of_cluster, blocks_fault, counter_of, counters_each}
+use Rattle.qcow2_check.specs.Findings.{FindingsState, IsFindingsOf, checked_tables, finding_at, findings_from, findings_left, image_findings, is_shared, is_wrong, tables_of}
+use Rattle.qcow2_check.specs.Uses.{ImageTables, all_load, image_tables, image_uses}
+use Rattle.qcow2_check.specs.declared.findings.Finding.{Finding}
+use Rattle.qcow2_repair.specs.Repair.{IsRepairable, image_uses_of}
+use Rattle.qcow2_repair.specs.Refusals.{IsFindingRefusal, IsRepairRefusal, findings_refusal, refusal_of, repairable_tables}
+
+-- a fact of each refcount order
+order-cases : (P : ℕ → Type 0) → P 0 → P 1 → P 2 → P 3 → P 4 → P 5 → P 6 → (order : ℕ) → order ≤ 6 → P order
+order-cases P a b c d e f g order low = grind (arith)
+
+-- the greatest counter is the greatest number, shifted
+pub greatest_shifted : (order : ℕ) → order ≤ 6
+    → (0 < 2 ^ order) × (2 ^ order ≤ 64) × ((2 ^ 64 - 1) / 2 ^ (64 - 1 * 2 ^ order % 2 ^ 32) ≡ greatest_counter order)
+greatest_shifted = order-cases (λ order. (0 < 2 ^ order) × (2 ^ order ≤ 64) × ((2 ^ 64 - 1) / 2 ^ (64 - 1 * 2 ^ order % 2 ^ 32) ≡ greatest_counter order))
+    (omega arith, omega arith, refl) (omega arith, omega arith, refl) (omega arith, omega arith, refl) (omega arith, omega arith, refl)
+    (omega arith, omega arith, refl) (omega arith, omega arith, refl) (omega arith, omega arith, refl)
+
+-- a counter is never greater than that
+counter-small : (order : ℕ) (counters : List ℕ) (i : ℕ) → AreCounters order counters → slice_index counters i < 2 ^ width order
+counter-small order counters i small = grind (arith, get_or_past, pow_pos, All-get_or)
+
+counter-fits : (header : HeaderRecord) (reftable : List ℕ) (image : Image) (c : ℕ) → header.base.refcount_order ≤ 6 → IsBytes image
+    → counter_of header reftable image c ≤ greatest_counter header.base.refcount_order
+counter-fits header reftable image c orders bytes = by_block (block_of_cluster header reftable c) refl
+  where
+    order : ℕ
+    order = header.base.refcount_order
+
+    by_block : (found : Option HostCluster) → block_of_cluster header reftable c ≡ found → counter_of header reftable image c ≤ greatest_counter order
+    by_block None names = rw (names, counter_of) (omega arith)
+    by_block (Some block) names = rw (names, counter_of) (let small = counter-small order (numbers_at (block_layout (block_geometry_of header)) block image) (c % counters_each header) (counters_at-small order image _ _ orders bytes) in omega (arith, small))
+
+-- where no finding is refused, nothing is wrong with a cluster, or what is found at it isn't refused
+none-refused : (tables : ImageTables) (image : Image) (from count c : ℕ) → from ≤ c → c < from + count
+    → findings_refusal tables.header tables.reftable (findings_from tables image from count) ≡ None
+    → (is_wrong (finding_at tables image c) ≡ false) ⊎ (refusal_of tables.header tables.reftable (finding_at tables image c) ≡ None)
+none-refused tables image from zero c after before none = absurd (omega (arith, after, before))
+none-refused tables image from (suc count) c after before none =
+    with_next (none-refused tables image (from + 1) count c)
+  where
+    header : HeaderRecord
+    header = tables.header
+
+    Fine : Type 0
+    Fine = (is_wrong (finding_at tables image c) ≡ false) ⊎ (refusal_of tables.header tables.reftable (finding_at tables image c) ≡ None)
+
+    with_next : (from + 1 ≤ c → c < from + 1 + count → findings_refusal tables.header tables.reftable (findings_from tables image (from + 1) count) ≡ None → Fine) → Fine
+    with_next next = elim (is_wrong (finding_at tables image from)) as (λ test. is_wrong (finding_at tables image from) ≡ test → Fine) [
+      | true ↦ λ wrong.
+          let both = rw (take-one tables image from count wrong) at none in
+          elim (cases_lt from c) [
+            | inl later ↦ next (omega (arith, later)) (omega (arith, before)) (grind (arith, both))
+            | inr here ↦
+                let same : from ≡ c = omega (arith, after, here) in
+                let fine : refusal_of tables.header tables.reftable (finding_at tables image from) ≡ None = grind (arith, both) in
+                inr (rw same at fine)
+          ]
+      | false ↦ λ right. elim (cases_lt from c) [
+        | inl later ↦ next (omega (arith, later)) (omega (arith, before)) (rw (pass-one tables image from count right) at none)
+        | inr here ↦
+            let same : from ≡ c = omega (arith, after, here) in
+            inl (rw same at right)
+      ]
+    ] refl
+
+wrong-parts : (finding : Finding) → is_wrong finding ≡ false → (finding.counter ≡ finding.uses) × (finding.shared ≡ false)
+wrong-parts finding right = grind (arith, nat_tests, right)
+
+fine-shared : (header : HeaderRecord) (reftable : List ℕ) (finding : Finding) → refusal_of header reftable finding ≡ None → finding.shared ≡ false
+fine-shared header reftable finding fine = grind (arith, nat_tests, fine)
+
+fine-fits : (header : HeaderRecord) (reftable : List ℕ) (finding : Finding) → IsSome (block_of_cluster header reftable finding.cluster.0)
+    → refusal_of header reftable finding ≡ None → finding.uses ≤ greatest_counter header.base.refcount_order
+fine-fits header reftable finding some fine = grind (arith, nat_tests, fine, some)
+
+-- no uses exclude each other where nothing is wrong or what is found isn't refused
+right-apart : (tables : ImageTables) (image : Image) (c : ℕ)
+    → (is_wrong (finding_at tables image c) ≡ false) ⊎ (refusal_of tables.header tables.reftable (finding_at tables image c) ≡ None)
+    → is_shared (image_uses tables image) c ≡ false
+right-apart tables image c (inl right) = (wrong-parts (finding_at tables image c) right).1
+right-apart tables image c (inr fine) = fine-shared tables.header tables.reftable (finding_at tables image c) fine
+
+-- and a counter can hold them
+right-fits : (tables : ImageTables) (image : Image) (c : ℕ) → tables.header.base.refcount_order ≤ 6 → IsBytes image
+    → IsSome (block_of_cluster tables.header tables.reftable c)
+    → (is_wrong (finding_at tables image c) ≡ false) ⊎ (refusal_of tables.header tables.reftable (finding_at tables image c) ≡ None)
+    → image_uses_of tables image c ≤ greatest_counter tables.header.base.refcount_order
+right-fits tables image c orders bytes some (inl right) =
+    subst (λ n. n ≤ greatest_counter tables.header.base.refcount_order) (wrong-parts (finding_at tables image c) right).0
+    (counter-fits tables.header tables.reftable image c orders bytes)
+right-fits tables image c orders bytes some (inr fine) =
+    fine-fits tables.header tables.reftable (finding_at tables image c) some fine
+
+-- an image whose tables load, and none of whose findings is refused, can be repaired
+pub repairable-unless_refused : (tables : ImageTables) (image : Image) → IsClusterBits tables.header.v2.cluster_bits → tables.header.base.refcount_order ≤ 6
+    → blocks_fault tables.header tables.reftable ≡ None → all_load (geometry_of tables.header) tables.l1 image ≡ Ok tt → IsBytes image
+    → findings_refusal tables.header tables.reftable (image_findings tables image) ≡ None → IsRepairable tables image
+repairable-unless_refused tables image bits orders placed loads bytes none = record {
+  bits = bits;
+  orders = orders;
+  placed = placed;
+  loads = loads;
+  apart = λ c below. right-apart tables image c (none-refused tables image 0 max_file_length c (omega arith) (omega (arith, below)) none);
+  fits = λ c below some. right-fits tables image c orders bytes some (none-refused tables image 0 max_file_length c (omega arith) (omega (arith, below)) none);
+}
+
+-- what is refused, and what isn't, whatever comes else
+not-refused : {T : Type 0} (refusal : Option Fault) (value answer : T) → unless_refused refusal (Ok value) ≡ Ok answer → refusal ≡ None
+not-refused None value answer is = refl
+not-refused (Some fault) value answer is = grind (arith, is)
+
+still-refused : {A B : Type 0} (refusal : Option Fault) (a : A) (b : B) (fault : Fault) → unless_refused refusal (Ok a) ≡ Err fault
+    → unless_refused refusal (Ok b) ≡ Err fault
+still-refused None a b fault is = grind (arith, is)
+still-refused (Some refused) a b fault is = grind (arith, is)
+
+-- the findings that a reader at the begin comes to are all of the image
+all-left : (reader : FindingsState) (image : Image) → reader.position ≡ 0 → findings_left reader image ≡ image_findings (tables_of reader) image
+all-left reader image begun = rw begun refl
+
+-- the tables that a reader has, where none of the findings that it came to was refused
+pub repairable-found : {T : Type 0} (header : HeaderRecord) (reader : FindingsState) (l1 reftable : List ℕ) (value : T) (old now : StorageState)
+    → IsClusterBits header.v2.cluster_bits → header.base.refcount_order ≤ 6 → reader.header ≡ header → reader.position ≡ 0
+    → l1 ≡ reader.l1 → reftable ≡ reader.counters.reftable → blocks_fault reader.header reader.counters.reftable ≡ None → IsBytes old.byte_at
+    → OnlyReads (Ok value) old now → OnImage old (λ bytes. IsFindingsOf bytes reader)
+    → OnImage now (λ bytes. unless_refused (findings_refusal reader.header reader.counters.reftable (findings_left reader bytes)) (Ok (tt {0})) ≡ Ok (tt {0}))
+    → OnImage old (IsRepairable (image_tables header l1 reftable))
+repairable-found header reader l1 reftable value old now bits orders is begun l1_is reftable_is placed bytes reads kept fine = λ told.
+    let fine_now = fine (rw reads.device.tells told) in
+    let fine_old = rw reads.bytes at fine_now in
+    let none = rw (all-left reader old.byte_at begun) at (not-refused _ _ _ fine_old) in
+    rw (l1_is, reftable_is, ← is) (repairable-unless_refused (tables_of reader) old.byte_at (rw (← is) at bits) (rw (← is) at orders) placed (kept told).loads bytes none)
+
+only-reads : {A B T : Type 0} (value : A) (fault : Fault) (a b c : StorageState) → OnlyReads (Ok value) a b → OnlyReads {T = B} (Err fault) b c → OnlyReads {T = T} (Err fault) a c
+only-reads value fault a b c one other = grind (arith, nat_tests, one, other)
+
+-- a fault after a reader's begin is that of the tables of an image that can't be repaired
+pub refused-reads : {A T : Type 0} (view : T → ImageTables) (header : HeaderRecord) (reader : FindingsState) (value : A) (fault : Fault) (old now later : StorageState)
+    → reader.header ≡ header → reader.position ≡ 0 → OnImage old (λ bytes. checked_tables header bytes ≡ Ok (tables_of reader)) → OnlyReads (Ok value) old now
+    → Reads {T = Unit {0}} (λ done. done) (Err fault) (λ bytes. unless_refused (findings_refusal reader.header reader.counters.reftable (findings_left reader bytes)) (Ok (tt {0})))
+    IsFindingRefusal now later
+    → Reads {T = T} view (Err fault) (repairable_tables header) (IsRepairRefusal header) old later
+refused-reads view header reader value fault old now later is begun checked one reads = record {
+  exact = λ told. elim (reads.exact (rw one.device.tells told)) [
+    | inl failed ↦ inl failed
+    | inr rest ↦ elim rest [
+      | inl memory ↦ inr (inl memory)
+      | inr refused ↦
+          let refused_old = rw one.bytes at refused in
+          let all = rw (all-left reader old.byte_at begun) at refused_old in
+          let here : checked_tables reader.header old.byte_at ≡ Ok (tables_of reader) = rw (← is) at (checked told) in
+          let whole : repairable_tables reader.header old.byte_at ≡ Err fault = rw here (still-refused _ _ _ _ all) in
+          inr (inr (rw is at whole))
+    ]
+  ];
+  faults = elim reads.faults [
+    | inl refusal ↦ elim refusal [
+      | inl entry ↦ inl (inl (inr (inl (inr entry))))
+      | inr other ↦ inl (inr other)
+    ]
+    | inr outside ↦ inr outside
+  ];
+  storage = only-reads _ _ old now later one reads.storage;
+}

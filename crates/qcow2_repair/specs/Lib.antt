@@ -1,0 +1,6 @@
+pub mod Counters
+pub mod Flags
+pub mod Left
+pub mod Refusals
+pub mod Repair
+pub mod Torn

@@ -1,0 +1,231 @@
+//! A pass of a repair over counters: those that are less than the uses of their clusters rise, or those that
+//! are greater fall.
+
+ghost use Rattle.std.specs.Prelude.{◌≡◌, ℕ, ◌⊎◌, ◌+◌, ◌/◌, ◌^◌, ◌<◌, ◌≤◌, IfErr, IfOk, IfSome, IsSomeAnd, MatchResult, None, OnOk, Some, length, slice_index, slice_set, true};
+ghost use Rattle.qcow2_base.specs.Format.{max_file_length};
+ghost use Rattle.qcow2_base.specs.Storage.{OnImage, OnImages, OnlyReads, OnlyWrites};
+ghost use Rattle.qcow2_base.specs.declared.fault.Fault.TheVariants.{CounterRange};
+ghost use Rattle.qcow2_metadata.specs.Placed.{offset_of, place_fault};
+ghost use Rattle.qcow2_metadata.specs.Refblock.{block_entries, block_geometry_of, block_layout, greatest_counter};
+ghost use Rattle.qcow2_metadata.specs.Results.{IsFromOutside};
+ghost use Rattle.qcow2_check.specs.Findings.{CountsAll, IsLaterFault};
+ghost use Rattle.qcow2_check.specs.Tally.{cell_at};
+ghost use Rattle.qcow2_repair.specs.Repair.{IsRepairFault, IsRepairable, ReportsFailures};
+ghost use Rattle.qcow2_repair.specs.Counters.{BreaksOff, IsPastCounters, PassesBetween, PassesBlock, PassesCounters, block_counters, counter_towards};
+
+use crate::tables::Tables;
+use qcow2_base::{Fault, HostCluster, MAX_FILE_LENGTH, Storage};
+use qcow2_check::named_block;
+use qcow2_check::parts::{Tally, Windows, count_of, counted_end};
+use qcow2_metadata::{RefBlock, Table};
+
+/// Which counters a pass changes.
+#[derive(Clone, Copy)]
+pub(crate) enum CounterPass {
+    /// Those that are less than the uses of their clusters.
+    Rise,
+    /// Those that are greater.
+    Fall,
+}
+
+impl CounterPass {
+    // A counter after the pass, by the uses of its cluster.
+    #[inline]
+    fn counter(self, uses: u64, counter: u64) -> u64
+        ensures { result ≡ counter_towards self uses counter }
+    {
+        match self {
+            CounterPass::Rise => counter.max(uses),
+            CounterPass::Fall => counter.min(uses),
+        }
+    }
+}
+
+/// Counters of a block, from an index to before another. The block's first is that of cluster `first`.
+#[derive(Clone, Copy)]
+struct BlockPart {
+    first: u64,
+    from: usize,
+    to: usize,
+}
+
+// Passes over the counter at an index of a block, by the uses of its cluster. Refuses uses that a counter
+// can't hold, and changes nothing then.
+fn pass_counter(
+    block: &mut RefBlock,
+    index: usize,
+    uses: u64,
+    pass: CounterPass,
+) -> Result<(), Fault>
+    requires { index < length block.old.numbers }
+    ensures fault { IfErr result (λ fault. (fault ≡ CounterRange)
+        × (greatest_counter block.old.geometry.refcount_order < uses)) }
+    ensures numbers { OnOk result (block.new.numbers ≡ slice_set block.old.numbers index
+        (counter_towards pass uses (slice_index block.old.numbers index))) }
+    ensures same { block.new
+        ≡ record block.old { numbers = block.new.numbers; modified = block.new.modified } }
+    ensures modified { (block.new ≡ block.old) ⊎ (block.new.modified ≡ true) }
+{
+    let before = block.get(index);
+    let after = pass.counter(uses, before);
+    if after != before {
+        block.lock_write().set(index, after)?;
+    }
+    Ok(())
+}
+
+// Passes over counters of a block, by the uses that a tally has counted. Refuses uses that a counter can't
+// hold.
+fn pass_counters(
+    block: &mut RefBlock,
+    tally: &Tally,
+    part: BlockPart,
+    pass: CounterPass,
+) -> Result<(), Fault>
+    requires tally { tally.now.first ≤ part.first + part.from }
+    requires within { (part.from ≤ part.to) × (part.to ≤ length block.old.numbers) }
+    requires fits { part.first + part.to < 2 ^ 64 }
+    ensures fault { IfErr result (IsPastCounters block.old.geometry.refcount_order
+        (λ k. cell_at tally.now (part.first + k) / 8) part.from part.to) }
+    ensures counters { OnOk result (PassesBlock pass (λ k. cell_at tally.now (part.first + k) / 8)
+        part.from part.to block.old.numbers block.new.numbers) }
+    ensures same { block.new
+        ≡ record block.old { numbers = block.new.numbers; modified = block.new.modified } }
+    ensures modified { (block.new ≡ block.old) ⊎ (block.new.modified ≡ true) }
+{
+    for index in part.from..part.to {
+        let uses = count_of(tally.cell(part.first + index as u64));
+        pass_counter(block, index, uses, pass)?;
+    }
+    Ok(())
+}
+
+// Passes over counters of the block that begins with a cluster of an image with this header.
+fn pass_block<S: Storage>(
+    image: &mut S,
+    tables: &Tables<'_>,
+    cluster: HostCluster,
+    tally: &Tally,
+    part: BlockPart,
+    pass: CounterPass,
+) -> Result<(), Fault>
+    requires place { place_fault (block_layout (block_geometry_of tables.now.header)) cluster ≡ None }
+    requires tally { tally.now.first ≤ part.first + part.from }
+    requires within { let header = tables.now.header in (part.from ≤ part.to)
+        × (part.to ≤ block_entries header.v2.cluster_bits header.base.refcount_order) }
+    requires fits { part.first + part.to < 2 ^ 64 }
+    ensures counters { OnOk result (OnImages (S.state image.old) (S.state image.new) (λ before after.
+        PassesBlock pass (λ k. cell_at tally.now (part.first + k) / 8) part.from part.to
+        (block_counters tables.now cluster before) (block_counters tables.now cluster after))) }
+    ensures fault { IfErr result (λ fault. IsFromOutside fault
+        ⊎ IsPastCounters tables.now.header.base.refcount_order
+        (λ k. cell_at tally.now (part.first + k) / 8) part.from part.to fault) }
+    ensures storage { let layout = block_layout (block_geometry_of tables.now.header) in
+        OnlyWrites result (Some (offset_of layout cluster)) layout.byte_count
+        (S.state image.old) (S.state image.new) }
+{
+    let mut block = RefBlock::load(tables.l1_table.allocator(), image, tables.header, cluster)?;
+    pass_counters(&mut block, tally, part, pass)?;
+    block.write_if_modified(image, cluster)
+}
+
+// Counts the uses of a cluster and of those after it, unless a tally that is kept has.
+fn keep_tally<S: Storage>(
+    kept: &mut Option<Tally>,
+    image: &mut S,
+    tables: &Tables<'_>,
+    windows: &mut Windows,
+    cluster: u64,
+) -> Result<(), Fault>
+    requires cluster { cluster < max_file_length }
+    requires loads { OnImage (S.state image.old) (IsRepairable tables.now) }
+    requires kept { OnImage (S.state image.old) (λ bytes. IfSome kept.old (CountsAll tables.now bytes)) }
+    ensures fault { IfErr result (IsLaterFault (S.state image.old)) }
+    ensures storage { OnlyReads result (S.state image.old) (S.state image.new) }
+    ensures counted { OnImage (S.state image.old) (λ bytes. IfSome kept.new (CountsAll tables.now bytes)) }
+    ensures window { OnOk result (IsSomeAnd kept.new (λ tally.
+        (tally.first ≤ cluster) × (cluster < tally.end) × (tally.end ≤ max_file_length))) }
+{
+    if let Some(tally) = kept {
+        if tally.first() <= cluster && cluster < tally.end() {
+            return Ok(());
+        }
+    }
+    // Its memory is given back before the next window takes as much.
+    *kept = None;
+    *kept = Some(windows.count(
+        image,
+        tables.header,
+        tables.l1_table,
+        tables.reftable,
+        cluster,
+    )?);
+    Ok(())
+}
+
+// Passes over counters of the block of a cluster, from this one's on. Returns the cluster after the last of
+// them.
+#[tactic(auto, using(crate::proofs::CountersLemmas::place_of_named))]
+fn pass_from<S: Storage>(
+    image: &mut S,
+    tables: &Tables<'_>,
+    kept: &mut Option<Tally>,
+    windows: &mut Windows,
+    cluster: u64,
+    pass: CounterPass,
+) -> Result<u64, Fault>
+    requires cluster { cluster < max_file_length }
+    requires repairable { OnImage (S.state image.old) (IsRepairable tables.now) }
+    requires kept { OnImage (S.state image.old) (λ bytes. IfSome kept.old (CountsAll tables.now bytes)) }
+    ensures passed { OnImages (S.state image.old) (S.state image.new) (λ before after.
+        MatchResult result
+        (λ end. PassesBetween tables.now pass cluster end before after)
+        (λ fault. BreaksOff tables.now pass fault before after)) }
+    ensures further { IfOk result (λ end. (cluster < end) × (end ≤ max_file_length)) }
+    ensures kept { OnImages (S.state image.old) (S.state image.new) (λ _ after.
+        OnOk result (IfSome kept.new (CountsAll tables.now after))) }
+    ensures fault { IfErr result (IsRepairFault (S.state image.old)) }
+    ensures storage { ReportsFailures result (S.state image.old) (S.state image.new) }
+{
+    let (table_index, index) = HostCluster(cluster).rt_rb_indices(tables.header.rb_bits());
+    let first = cluster - index as u64;
+    let block_end = first + tables.header.rb_entries() as u64;
+    let Some(place) = named_block(tables.reftable, table_index) else {
+        return Ok(block_end.min(MAX_FILE_LENGTH));
+    };
+    keep_tally(kept, image, tables, windows, cluster)?;
+    let tally = kept.as_ref().unwrap();
+    let end = tally.end().min(block_end);
+    let part = BlockPart {
+        first,
+        from: index,
+        to: (end - first) as usize,
+    };
+    pass_block(image, tables, place, tally, part, pass)?;
+    Ok(end)
+}
+
+/// Passes over all counters of an image with these tables, and waits until they are on the device.
+pub(crate) fn pass_all_counters<S: Storage>(
+    image: &mut S,
+    tables: &Tables<'_>,
+    pass: CounterPass,
+) -> Result<(), Fault>
+    requires { OnImage (S.state image.old) (IsRepairable tables.now) }
+    ensures passed { OnImages (S.state image.old) (S.state image.new) (λ before after.
+        MatchResult result
+        (λ _. PassesCounters tables.now pass before after)
+        (λ fault. BreaksOff tables.now pass fault before after)) }
+    ensures fault { IfErr result (IsRepairFault (S.state image.old)) }
+    ensures storage { ReportsFailures result (S.state image.old) (S.state image.new) }
+{
+    let mut windows = Windows::new(tables.header, tables.l1_table, tables.reftable);
+    let end = counted_end(tables.header, tables.reftable);
+    let mut kept = None;
+    let mut cluster = 0;
+    while cluster < end {
+        cluster = pass_from(image, tables, &mut kept, &mut windows, cluster, pass)?;
+    }
+    image.sync()?;
+    Ok(())
+}

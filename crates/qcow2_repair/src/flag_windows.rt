@@ -1,0 +1,118 @@
+//! A pass of a repair over all copied flags of an image, by windows of the clusters whose uses are counted.
+
+ghost use Rattle.std.specs.Prelude.{◌≡◌, ◌<◌, ◌≤◌, IfErr, IfOk, IsOkUnless, MatchResult, None, OnOk, Option, Some, false, length};
+ghost use Rattle.qcow2_base.specs.Format.{max_file_length};
+ghost use Rattle.qcow2_base.specs.Storage.{OnImage, OnImages, OnlyWrites};
+ghost use Rattle.qcow2_base.specs.declared.fault.Fault.TheVariants.{Storage as StorageFailed};
+ghost use Rattle.qcow2_metadata.specs.Header.{geometry_of};
+ghost use Rattle.qcow2_metadata.specs.Placed.{offset_of, place_fault};
+ghost use Rattle.qcow2_check.specs.Counters.{blocks_fault};
+ghost use Rattle.qcow2_check.specs.Findings.{IsLaterFault};
+ghost use Rattle.qcow2_check.specs.NamedTables.{l1_cluster, l1_layout};
+ghost use Rattle.qcow2_check.specs.Uses.{image_tables};
+ghost use Rattle.qcow2_repair.specs.Repair.{IsRepairable, ReportsFailures};
+ghost use Rattle.qcow2_repair.specs.Flags.{BreaksOffFlags, IsL1TableOf, PassesFlags, l1_in, pass_all, pass_between};
+
+use crate::flags::FlagPass;
+use qcow2_base::{Fault, Storage};
+use qcow2_check::parts::{Windows, counted_end};
+use qcow2_metadata::{Header, L1Table, RefTable, Table};
+
+// Writes the L1 table of an image with this header, if it is modified.
+fn write_l1_table<S: Storage>(
+    image: &mut S,
+    header: &Header,
+    l1_table: &mut L1Table,
+) -> Result<(), Fault>
+    requires geometry { l1_table.old.geometry ≡ geometry_of header.now }
+    requires place { (l1_table.old.cluster ≡ Some (l1_cluster header.now))
+        × (length l1_table.old.numbers ≡ header.now.v2.l1_size) }
+    requires placed { place_fault (l1_layout header.now) (l1_cluster header.now) ≡ None }
+    requires unmodified { l1_table.old.modified ≡ false → OnImage (S.state image.old) (λ bytes.
+        l1_table.old.numbers ≡ l1_in header.now bytes) }
+    ensures written { OnOk result (IsL1TableOf header.now (S.state image.new) l1_table.new) }
+    ensures same { l1_table.new ≡ record l1_table.old { modified = l1_table.new.modified } }
+    ensures fault { IsOkUnless result StorageFailed }
+    ensures storage { let layout = l1_layout header.now in OnlyWrites result
+        (Some (offset_of layout (l1_cluster header.now))) layout.byte_count
+        (S.state image.old) (S.state image.new) }
+{
+    if l1_table.is_modified() {
+        l1_table.write(image)?;
+    }
+    Ok(())
+}
+
+// Passes over the flags of entries whose clusters a window has, from this cluster on. Returns the end of the
+// window.
+fn pass_window<S: Storage>(
+    image: &mut S,
+    header: &Header,
+    l1_table: &mut L1Table,
+    reftable: &RefTable,
+    windows: &mut Windows,
+    first: u64,
+    flag: bool,
+) -> Result<u64, Fault>
+    requires first { first < max_file_length }
+    requires reftable { (reftable.now.geometry ≡ geometry_of header.now)
+        × (blocks_fault header.now reftable.now.numbers ≡ None) }
+    requires placed { place_fault (l1_layout header.now) (l1_cluster header.now) ≡ None }
+    requires l1_table { IsL1TableOf header.now (S.state image.old) l1_table.old }
+    requires repairable { OnImage (S.state image.old)
+        (IsRepairable (image_tables header.now l1_table.old.numbers reftable.now.numbers)) }
+    ensures passed { let tables = image_tables header.now l1_table.old.numbers reftable.now.numbers in
+        OnImages (S.state image.old) (S.state image.new) (λ before after. MatchResult result
+        (λ end. PassesFlags (pass_between tables before flag first end) before after)
+        (λ fault. BreaksOffFlags (pass_all tables before flag) fault before after)) }
+    ensures further { IfOk result (λ end. (first < end) × (end ≤ max_file_length)) }
+    ensures l1_table { OnOk result (IsL1TableOf header.now (S.state image.new) l1_table.new) }
+    ensures fault { IfErr result (IsLaterFault (S.state image.old)) }
+    ensures storage { ReportsFailures result (S.state image.old) (S.state image.new) }
+{
+    let tally = windows.count(image, header, l1_table, reftable, first)?;
+    let pass = FlagPass {
+        header,
+        reftable,
+        tally: &tally,
+        flag,
+    };
+    pass.pass_l1(l1_table);
+    write_l1_table(image, header, l1_table)?;
+    pass.pass_tables(image, l1_table)?;
+    Ok(tally.end())
+}
+
+/// Passes over all flags of an image with these tables, and keeps the L1 table as the image has it. Waits
+/// until they are on the device. There is a window in any case, since flags in an external data file depend
+/// on no counter.
+pub(crate) fn pass_all_flags<S: Storage>(
+    image: &mut S,
+    header: &Header,
+    l1_table: &mut L1Table,
+    reftable: &RefTable,
+    flag: bool,
+) -> Result<(), Fault>
+    requires reftable { (reftable.now.geometry ≡ geometry_of header.now)
+        × (blocks_fault header.now reftable.now.numbers ≡ None) }
+    requires placed { place_fault (l1_layout header.now) (l1_cluster header.now) ≡ None }
+    requires l1_table { IsL1TableOf header.now (S.state image.old) l1_table.old }
+    requires repairable { OnImage (S.state image.old)
+        (IsRepairable (image_tables header.now l1_table.old.numbers reftable.now.numbers)) }
+    ensures passed { let tables = image_tables header.now l1_table.old.numbers reftable.now.numbers in
+        OnImages (S.state image.old) (S.state image.new) (λ before after. MatchResult result
+        (λ _. PassesFlags (pass_all tables before flag) before after)
+        (λ fault. BreaksOffFlags (pass_all tables before flag) fault before after)) }
+    ensures l1_table { OnOk result (IsL1TableOf header.now (S.state image.new) l1_table.new) }
+    ensures fault { IfErr result (IsLaterFault (S.state image.old)) }
+    ensures storage { ReportsFailures result (S.state image.old) (S.state image.new) }
+{
+    let mut windows = Windows::new(header, l1_table, reftable);
+    let end = counted_end(header, reftable);
+    let mut first = pass_window(image, header, l1_table, reftable, &mut windows, 0, flag)?;
+    while first < end {
+        first = pass_window(image, header, l1_table, reftable, &mut windows, first, flag)?;
+    }
+    image.sync()?;
+    Ok(())
+}

@@ -1,0 +1,190 @@
+//! A pass of a repair over copied flags: it clears those that are set wrongly, or sets those that are late,
+//! by the uses of the clusters that entries name.
+
+ghost use Rattle.std.specs.Prelude.{◌≡◌, ℕ, ◌⊎◌, ◌<◌, IfErr, MatchResult, Ok, OnOk, Some, length, map, slice_index, slice_set, true};
+ghost use Rattle.qcow2_base.specs.Storage.{OnImage, OnImages, OnlyWrites};
+ghost use Rattle.qcow2_metadata.specs.Header.{geometry_of};
+ghost use Rattle.qcow2_metadata.specs.Placed.{offset_of};
+ghost use Rattle.qcow2_metadata.specs.Table.{l2_layout, loaded_l2_table};
+ghost use Rattle.qcow2_check.specs.Findings.{IsLaterFault};
+ghost use Rattle.qcow2_check.specs.NamedTables.{IsInImage};
+ghost use Rattle.qcow2_check.specs.Uses.{all_load};
+ghost use Rattle.qcow2_repair.specs.Repair.{ReportsFailures};
+ghost use Rattle.qcow2_repair.specs.Flags.{BreaksOffL2, PassesL2, due_flag, l1_due, l2_due, l2_in, pass_by, passed_l1, passed_l2};
+
+use qcow2_base::{Fault, HostCluster, Storage};
+use qcow2_check::parts::{Tally, count_of, flagged_cluster};
+use qcow2_check::{load_l2_table, named_block, named_cluster};
+use qcow2_metadata::{Header, L1Table, L2Entry, L2Table, RefTable, Table, TableEntry};
+use std::alloc::Global;
+use std::marker::Model;
+
+/// A pass over flags, by the clusters that blocks count and by the uses that a tally has counted. It gives
+/// this flag to the entries that it is due to.
+#[derive(Drop)]
+pub(crate) struct FlagPass<'a> {
+    pub(crate) header: &'a Header,
+    pub(crate) reftable: &'a RefTable,
+    pub(crate) tally: &'a Tally,
+    pub(crate) flag: bool,
+}
+
+impl<'a> Model for FlagPass<'a> {
+    ghost use Rattle.std.specs.Prelude.{◌≡◌};
+    ghost use Rattle.qcow2_metadata.specs.Header.{geometry_of};
+    ghost use Rattle.qcow2_repair.specs.Flags.{TallyPass};
+
+    ghost Value = { TallyPass };
+
+    ghost view = { λ p. record {
+      header = p.header.now;
+      reftable = p.reftable.now.numbers;
+      tally = p.tally.now;
+      flag = p.flag;
+    } };
+
+    ghost invariant = { λ p. p.reftable.now.geometry ≡ geometry_of p.header.now };
+}
+
+impl FlagPass<'_> {
+    // The flag that is due to an entry which names a cluster, if one is.
+    fn due_flag(&self, cluster: HostCluster) -> Option<bool>
+        ensures { result ≡ due_flag (pass_by self.now) cluster }
+    {
+        named_block(self.reftable, cluster.rt_index(self.header.rb_bits()))?;
+        if cluster.0 < self.tally.first() || cluster.0 >= self.tally.end() {
+            return None;
+        }
+        Some(count_of(self.tally.cell(cluster.0)) == 1)
+    }
+
+    // The flag that is due to the L1 entry at an index.
+    fn l1_due(&self, l1_table: &L1Table, index: usize) -> Option<bool>
+        requires { l1_table.now.geometry ≡ geometry_of self.now.header }
+        ensures { result ≡ l1_due (pass_by self.now) (slice_index l1_table.now.numbers index) }
+    {
+        self.due_flag(named_cluster(l1_table, index)?)
+    }
+
+    // The flag that is due to an L2 entry.
+    fn l2_due(&self, entry: L2Entry) -> Option<bool>
+        ensures { result ≡ l2_due (pass_by self.now) entry }
+    {
+        let external = self.header.external_data_file();
+        let cluster = flagged_cluster(entry, self.header.cluster_bits(), external)?;
+        if external {
+            return Some(true);
+        }
+        self.due_flag(cluster)
+    }
+
+    // Passes over the flag of the L1 entry at an index.
+    #[tactic(auto, using(crate::proofs::FlagsLemmas::one_entry))]
+    fn pass_l1_entry(&self, l1_table: &mut L1Table, index: usize)
+        requires geometry { l1_table.old.geometry ≡ geometry_of self.now.header }
+        requires index { index < length l1_table.old.numbers }
+        ensures numbers { l1_table.new.numbers ≡ slice_set l1_table.old.numbers index
+            (passed_l1 (pass_by self.now) (slice_index l1_table.old.numbers index)) }
+        ensures same { l1_table.new
+            ≡ record l1_table.old { numbers = l1_table.new.numbers; modified = l1_table.new.modified } }
+        ensures modified { (l1_table.new ≡ l1_table.old) ⊎ (l1_table.new.modified ≡ true) }
+    {
+        let entry = l1_table.get(index);
+        // It fits 64 bits, since it is read as a number of these.
+        let _ = entry.to_plain();
+        if self.l1_due(l1_table, index) == Some(self.flag) && entry.is_copied() != self.flag {
+            l1_table.set_copied(index, self.flag);
+        }
+    }
+
+    // Passes over the flags of an L1 table.
+    #[tactic(auto, using(crate::proofs::FlagsLemmas::all_entries))]
+    pub(crate) fn pass_l1(&self, l1_table: &mut L1Table)
+        requires { l1_table.old.geometry ≡ geometry_of self.now.header }
+        ensures numbers { l1_table.new.numbers ≡ map (passed_l1 (pass_by self.now)) l1_table.old.numbers }
+        ensures same { l1_table.new
+            ≡ record l1_table.old { numbers = l1_table.new.numbers; modified = l1_table.new.modified } }
+        ensures modified { (l1_table.new ≡ l1_table.old) ⊎ (l1_table.new.modified ≡ true) }
+    {
+        for index in 0..l1_table.entries() {
+            self.pass_l1_entry(l1_table, index);
+        }
+    }
+
+    // Passes over the flag of the L2 entry at an index.
+    #[tactic(auto, using(crate::proofs::FlagsLemmas::one_entry))]
+    fn pass_l2_entry(&self, table: &mut L2Table, index: usize)
+        requires geometry { table.old.geometry ≡ geometry_of self.now.header }
+        requires index { index < length table.old.numbers }
+        ensures numbers { table.new.numbers ≡ slice_set table.old.numbers index
+            (passed_l2 (pass_by self.now) (slice_index table.old.numbers index)) }
+        ensures same { table.new
+            ≡ record table.old { numbers = table.new.numbers; modified = table.new.modified } }
+        ensures modified { (table.new ≡ table.old) ⊎ (table.new.modified ≡ true) }
+    {
+        let entry = table.get(index);
+        if self.l2_due(entry) == Some(self.flag) && entry.is_copied() != self.flag {
+            table.lock_write().set_copied(index, self.flag);
+        }
+    }
+
+    // Passes over the flags of an L2 table.
+    #[tactic(auto, using(crate::proofs::FlagsLemmas::all_entries))]
+    fn pass_l2(&self, table: &mut L2Table)
+        requires { table.old.geometry ≡ geometry_of self.now.header }
+        ensures numbers { table.new.numbers ≡ map (passed_l2 (pass_by self.now)) table.old.numbers }
+        ensures same { table.new
+            ≡ record table.old { numbers = table.new.numbers; modified = table.new.modified } }
+        ensures modified { (table.new ≡ table.old) ⊎ (table.new.modified ≡ true) }
+    {
+        for index in 0..table.entries() {
+            self.pass_l2_entry(table, index);
+        }
+    }
+
+    // Passes over the flags of the L2 table that begins with a cluster of the image.
+    fn pass_table<S: Storage>(
+        &self,
+        image: &mut S,
+        alloc: Global,
+        cluster: HostCluster,
+    ) -> Result<(), Fault>
+        requires place { IsInImage self.now.header.v2.cluster_bits cluster }
+        requires loads { OnImage (S.state image.old) (λ bytes.
+            loaded_l2_table (geometry_of self.now.header) cluster bytes
+            ≡ Ok (l2_in self.now.header cluster bytes)) }
+        ensures numbers { OnOk result (OnImages (S.state image.old) (S.state image.new) (λ before after.
+            l2_in self.now.header cluster after
+            ≡ map (passed_l2 (pass_by self.now)) (l2_in self.now.header cluster before))) }
+        ensures fault { IfErr result (IsLaterFault (S.state image.old)) }
+        ensures storage { let layout = l2_layout (geometry_of self.now.header) in OnlyWrites result
+            (Some (offset_of layout cluster)) layout.byte_count (S.state image.old) (S.state image.new) }
+    {
+        let mut table = load_l2_table(alloc, image, self.header, cluster)?;
+        self.pass_l2(&mut table);
+        table.write_if_modified(image, cluster)
+    }
+
+    /// Passes over the flags of all L2 tables that an L1 table names.
+    pub(crate) fn pass_tables<S: Storage>(
+        &self,
+        image: &mut S,
+        l1_table: &L1Table,
+    ) -> Result<(), Fault>
+        requires geometry { l1_table.now.geometry ≡ geometry_of self.now.header }
+        requires loads { OnImage (S.state image.old) (λ bytes.
+            all_load (geometry_of self.now.header) l1_table.now.numbers bytes ≡ Ok tt) }
+        ensures passed { OnImages (S.state image.old) (S.state image.new) (λ before after. MatchResult result
+            (λ _. PassesL2 (pass_by self.now) l1_table.now.numbers before after)
+            (λ fault. BreaksOffL2 (pass_by self.now) l1_table.now.numbers fault before after)) }
+        ensures fault { IfErr result (IsLaterFault (S.state image.old)) }
+        ensures storage { ReportsFailures result (S.state image.old) (S.state image.new) }
+    {
+        for index in 0..l1_table.entries() {
+            if let Some(cluster) = named_cluster(l1_table, index) {
+                self.pass_table(image, l1_table.allocator(), cluster)?;
+            }
+        }
+        Ok(())
+    }
+}

@@ -1,0 +1,12 @@
+//! Making what an image says of its own clusters right: the counters of clusters, and the copied flags.
+#![tactic(auto)]
+
+mod counters;
+mod flag_windows;
+mod flags;
+pub mod laws;
+mod refusals;
+mod repair;
+mod tables;
+
+pub use repair::repair_image;

@@ -1,0 +1,85 @@
+//! What a repair refuses before it writes: uses of a cluster that exclude each other, and more uses than a
+//! counter holds.
+
+ghost use Rattle.std.specs.Prelude.{◌≡◌, ◌⊎◌, ◌≤◌, IfErr, IfOk, MatchResult, None, Ok, Some};
+ghost use Rattle.qcow2_base.specs.Storage.{OnImage};
+ghost use Rattle.qcow2_base.specs.declared.fault.Fault.TheVariants.{CounterRange, Overlap};
+ghost use Rattle.qcow2_metadata.specs.Header.{geometry_of};
+ghost use Rattle.qcow2_metadata.specs.Refblock.{greatest_counter};
+ghost use Rattle.qcow2_metadata.specs.Results.{Reads, unless_refused};
+ghost use Rattle.qcow2_check.specs.Counters.{blocks_fault};
+ghost use Rattle.qcow2_check.specs.Findings.{IsFindingsOf, MovesFindings, findings_left};
+ghost use Rattle.qcow2_check.specs.Uses.{image_tables};
+ghost use Rattle.qcow2_repair.specs.Repair.{IsRepairable};
+ghost use Rattle.qcow2_repair.specs.Refusals.{IsFindingRefusal, IsRepairRefusal, findings_refusal, refusal_of, repairable_tables};
+
+use qcow2_base::{Fault, Storage};
+use qcow2_check::{Finding, Findings};
+use qcow2_metadata::{Header, L1Table, RefTable};
+use std::alloc::Global;
+
+// The greatest number that a counter of a refcount order holds.
+#[tactic(auto, using(crate::proofs::RefusalsLemmas::greatest_shifted))]
+fn greatest_counter(refcount_order: u32) -> u64
+    requires { refcount_order ≤ 6 }
+    ensures { result ≡ greatest_counter refcount_order }
+{
+    let width = 1u32 << refcount_order;
+    u64::MAX >> (64 - width)
+}
+
+// Refuses what is found at a cluster, where no counter can make it right.
+fn check_finding(findings: &Findings<'_>, finding: &Finding) -> Result<(), Fault>
+    ensures refusal { let reader = findings.now in
+        let refusal = refusal_of reader.header reader.counters.reftable finding.now in
+        MatchResult result (λ done. refusal ≡ None) (λ fault. refusal ≡ Some fault) }
+    ensures fault { IfErr result (λ fault. (fault ≡ Overlap) ⊎ (fault ≡ CounterRange)) }
+{
+    if finding.shared {
+        return Err(Fault::Overlap);
+    }
+    let greatest = greatest_counter(findings.header().refcount_order());
+    if findings.has_block(finding.cluster) && finding.uses > greatest {
+        return Err(Fault::CounterRange);
+    }
+    Ok(())
+}
+
+// Refuses the first that can't be made right of the findings that a reader comes to yet.
+fn check_findings<S: Storage>(findings: &mut Findings<'_>, image: &mut S) -> Result<(), Fault>
+    requires { OnImage (S.state image.old) (λ bytes. IsFindingsOf bytes findings.old) }
+    ensures reads { let reader = findings.old in
+        Reads (λ done. done) result (λ bytes. unless_refused
+        (findings_refusal reader.header reader.counters.reftable (findings_left reader bytes)) (Ok tt))
+        IsFindingRefusal (S.state image.old) (S.state image.new) }
+    ensures reader { MovesFindings (S.state image.old) findings.old findings.new }
+{
+    while let Some(finding) = findings.next(image)? {
+        check_finding(findings, &finding)?;
+    }
+    Ok(())
+}
+
+/// The L1 table and the refcount table of an image with this header that can be repaired.
+///
+/// Returns the fault of `Findings::new`, or that of the first cluster that can't be repaired: 38 where its
+/// uses exclude each other, 30 where its counter can't hold their number. Changes no byte.
+pub(crate) fn repairable_tables<S: Storage>(
+    alloc: Global,
+    image: &mut S,
+    header: &Header,
+) -> Result<(L1Table, RefTable), Fault>
+    ensures reads { Reads (λ found. image_tables header.now found.0.numbers found.1.numbers) result
+        (repairable_tables header.now) (IsRepairRefusal header.now) (S.state image.old) (S.state image.new) }
+    ensures tables { IfOk result (λ found. (found.0.geometry ≡ geometry_of header.now)
+        × (found.1.geometry ≡ geometry_of header.now)
+        × (blocks_fault header.now found.1.numbers ≡ None)) }
+    ensures repairable { IfOk result (λ found. OnImage (S.state image.old)
+        (IsRepairable (image_tables header.now found.0.numbers found.1.numbers))) }
+{
+    prove!(header.cluster_bits() <= 21);
+    prove!(header.refcount_order() <= 6);
+    let mut findings = Findings::new(alloc, image, header)?;
+    check_findings(&mut findings, image)?;
+    Ok(findings.into_tables())
+}

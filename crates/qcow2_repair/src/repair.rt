@@ -1,0 +1,131 @@
+//! Making an image's counters and copied flags right.
+
+ghost use Rattle.std.specs.Prelude.{◌≡◌, ◌⊎◌, Err, IfErr, IfOk, MatchResult, None, Ok, OnOk, true};
+ghost use Rattle.qcow2_base.specs.Storage.{Image, OnImage, OnImages};
+ghost use Rattle.qcow2_metadata.specs.Header.{geometry_of};
+ghost use Rattle.qcow2_metadata.specs.Header.Open.{header_after_load};
+ghost use Rattle.qcow2_metadata.specs.Placed.{place_fault};
+ghost use Rattle.qcow2_metadata.specs.Results.{IsFromOutside};
+ghost use Rattle.qcow2_check.specs.Counters.{blocks_fault};
+ghost use Rattle.qcow2_check.specs.NamedTables.{l1_cluster, l1_layout, loaded_l1_table};
+ghost use Rattle.qcow2_repair.specs.Repair.{BreaksOffCounters, BreaksOffRepair, IsPassFault, IsRepairFault, IsRepairable, Lowers, Raises, Repairs, RepairsImage, ReportsFailures, tables_in};
+ghost use Rattle.qcow2_repair.specs.Flags.{IsL1TableOf, l1_in};
+ghost use Rattle.qcow2_repair.specs.Refusals.{repairable_tables};
+
+use crate::counters::{CounterPass, pass_all_counters};
+use crate::flag_windows::pass_all_flags;
+use crate::refusals::repairable_tables;
+use crate::tables::Tables;
+use qcow2_base::{Fault, Storage};
+use qcow2_check::load_l1_table;
+use qcow2_metadata::{Header, L1Table, RefTable};
+use std::alloc::Global;
+
+/// Makes the counters and the copied flags of an image with this header right, where that needs no new
+/// refcount block. Each counter becomes the number of its cluster's uses, and each flag says whether that
+/// is 1. Flags of clusters that no block counts stay, but that in an external data file all are set.
+///
+/// Returns the header as it is then: autoclear features are cleared first, as by `Header::into_writable`.
+/// Then flags are cleared of clusters that haven't one use, counters rise, counters fall, and flags are set
+/// of clusters that have one. Nothing of a step is written before `Storage::sync` has put all of the one
+/// before on the device. Nothing else changes.
+///
+/// Returns the fault of `Findings::new`, or of the first cluster that can't be repaired: 38 where its uses
+/// exclude each other, 30 where its counter can't hold their number. Then comes 24, where the header has no
+/// room, or 25 for a name that no loaded header has. No byte has changed then. Where memory runs out, a part
+/// of the steps may be done, and each counter and each entry is the old one or that of its step. Where the
+/// storage fails, any bytes may be in the header's text besides, or in one table or block.
+pub fn repair_image<S: Storage>(
+    alloc: Global,
+    image: &mut S,
+    header: Header,
+) -> Result<Header, Fault>
+    ensures { RepairsImage header result (S.state image.old) (S.state image.new) }
+{
+    let (_, reftable) = repairable_tables(alloc, image, &header)?;
+    let header = header.into_writable(image)?;
+    repair_written(alloc, image, &header, &reftable)?;
+    Ok(header)
+}
+
+// Makes counters and flags of an image right whose header is writable, once that is on the device.
+fn repair_written<S: Storage>(
+    alloc: Global,
+    image: &mut S,
+    header: &Header,
+    reftable: &RefTable,
+) -> Result<(), Fault>
+    requires reftable { (reftable.now.geometry ≡ geometry_of header.now)
+        × (blocks_fault header.now reftable.now.numbers ≡ None) }
+    requires loads { OnImage (S.state image.old) (λ bytes.
+        loaded_l1_table header.now bytes ≡ Ok (l1_in header.now bytes)) }
+    requires repairable { OnImage (S.state image.old) (λ bytes.
+        IsRepairable (tables_in header.now reftable.now.numbers bytes) bytes) }
+    ensures repairs { OnImages (S.state image.old) (S.state image.new) (λ before after. MatchResult result
+        (λ _. Repairs header.now reftable.now.numbers before after)
+        (λ fault. BreaksOffRepair header.now reftable.now.numbers fault before after)) }
+    ensures fault { IfErr result (λ fault. IsPassFault header.now fault
+        × OnImage (S.state image.old) (λ _. IsFromOutside fault)) }
+    ensures storage { ReportsFailures result (S.state image.old) (S.state image.new) }
+{
+    image.sync()?;
+    let mut l1_table = load_l1_table(alloc, image, header)?;
+    repair_tables(image, header, &mut l1_table, reftable)
+}
+
+// Makes counters and flags of an image with these tables right, in four passes.
+fn repair_tables<S: Storage>(
+    image: &mut S,
+    header: &Header,
+    l1_table: &mut L1Table,
+    reftable: &RefTable,
+) -> Result<(), Fault>
+    requires reftable { (reftable.now.geometry ≡ geometry_of header.now)
+        × (blocks_fault header.now reftable.now.numbers ≡ None) }
+    requires placed { place_fault (l1_layout header.now) (l1_cluster header.now) ≡ None }
+    requires l1_table { IsL1TableOf header.now (S.state image.old) l1_table.old }
+    requires repairable { OnImage (S.state image.old) (λ bytes.
+        IsRepairable (tables_in header.now reftable.now.numbers bytes) bytes) }
+    ensures repairs { OnImages (S.state image.old) (S.state image.new) (λ before after. MatchResult result
+        (λ _. Repairs header.now reftable.now.numbers before after)
+        (λ fault. BreaksOffRepair header.now reftable.now.numbers fault before after)) }
+    ensures fault { IfErr result (IsRepairFault (S.state image.old)) }
+    ensures storage { ReportsFailures result (S.state image.old) (S.state image.new) }
+{
+    pass_all_flags(image, header, l1_table, reftable, false)?;
+    pass_both_counters(image, header, l1_table, reftable)?;
+    pass_all_flags(image, header, l1_table, reftable, true)?;
+    Ok(())
+}
+
+// Raises the counters of an image with these tables, and then lowers them.
+fn pass_both_counters<S: Storage>(
+    image: &mut S,
+    header: &Header,
+    l1_table: &L1Table,
+    reftable: &RefTable,
+) -> Result<(), Fault>
+    requires reftable { (reftable.now.geometry ≡ geometry_of header.now)
+        × (blocks_fault header.now reftable.now.numbers ≡ None) }
+    requires l1_table { IsL1TableOf header.now (S.state image.old) l1_table.now }
+    requires repairable { OnImage (S.state image.old) (λ bytes.
+        IsRepairable (tables_in header.now reftable.now.numbers bytes) bytes) }
+    ensures counters { OnImages (S.state image.old) (S.state image.new) (λ before after. MatchResult result
+        (λ _. (mid : Image) × Raises header.now reftable.now.numbers before mid
+        × Lowers header.now reftable.now.numbers mid after)
+        (λ fault. BreaksOffCounters header.now reftable.now.numbers fault before after)) }
+    ensures l1_table { IfOk result (λ _. IsL1TableOf header.now (S.state image.new) l1_table.now) }
+    ensures repairable { OnOk result (OnImage (S.state image.new) (λ bytes.
+        IsRepairable (tables_in header.now reftable.now.numbers bytes) bytes)) }
+    ensures fault { IfErr result (IsRepairFault (S.state image.old)) }
+    ensures storage { ReportsFailures result (S.state image.old) (S.state image.new) }
+{
+    let tables = Tables {
+        header,
+        l1_table,
+        reftable,
+    };
+    pass_all_counters(image, &tables, CounterPass::Rise)?;
+    pass_all_counters(image, &tables, CounterPass::Fall)?;
+    Ok(())
+}
