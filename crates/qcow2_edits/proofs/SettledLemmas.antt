@@ -85,7 +85,7 @@ times-gained (cluster ∷ gained) first index = grind (
 )
 
 -- a test for an index of a list passes exactly where it does at one
-any-index : (test : ℕ → Bool) (n : ℕ) → (list_any test (range_with_len 0 n) ≡ true) ↔ ((i : ℕ) × (i < n) × (test i ≡ true))
+pub any-index : (test : ℕ → Bool) (n : ℕ) → (list_any test (range_with_len 0 n) ≡ true) ↔ ((i : ℕ) × (i < n) × (test i ≡ true))
 any-index test n = (
   λ some. grind (arith, Any-from_list_any test (range_with_len 0 n) some, get_or-range_with_len, length-range_with_len),
   λ one. list_any_at test (range_with_len 0 n) one.0 0 (grind (arith, length-range_with_len)) (grind (arith, get_or-range_with_len)),

@@ -1,0 +1,200 @@
+use Rattle.std.proofs.Common.{◌≡◌, ◌⊎◌, ℕ, ◌+◌, ◌*◌, ◌/◌, ◌%◌, ◌^◌, ◌<◌, ◌≤◌, length, slice_index, Option, Some, None, Result, Ok, Err, Bool, true, false, if◌then◌else◌, ap, refl, subst, ◌∙◌, inl, inr, OnOk, IfErr, mod-lt, div-add-mod', arith}
+use Rattle.std.proofs.lemmas.Bool.{cases_Bool, cases_lt}
+use Rattle.std.proofs.lemmas.Grind.{same_number_lists}
+use Rattle.std.proofs.lemmas.Bool.Decides.{nat_tests}
+use Rattle.std.specs.List.{list_any, range_with_len}
+use Rattle.std.proofs.lemmas.List.{get_or_past}
+use Rattle.std.proofs.lemmas.Nat.{div-mul-add, pow_pos}
+use Rattle.qcow2_base.specs.Storage.{Image}
+use Rattle.qcow2_base.specs.Types.{IsClusterBits}
+use Rattle.qcow2_base.specs.declared.fault.Fault.{Fault}
+use Rattle.qcow2_base.specs.declared.fault.Fault.TheVariants.{CounterRange, ExternalData}
+use Rattle.qcow2_base.specs.declared.types.HostCluster.{HostCluster}
+use Rattle.qcow2_edits.proofs.SettledLemmas.{any-index, settled-counts}
+use Rattle.qcow2_edits.specs.Edits.{cluster_numbers}
+use Rattle.qcow2_edits.specs.Settled.{block_or_refusal, cannot_settle, first_counted}
+use Rattle.qcow2_edits.specs.declared.edits.Outcome.{Outcome}
+use Rattle.qcow2_metadata.proofs.PackingLemmas.{counters_at-length, counters_at-same}
+use Rattle.qcow2_metadata.proofs.RefblockLemmas.{block_bytes}
+use Rattle.qcow2_metadata.specs.Results.{result_map}
+use Rattle.qcow2_metadata.specs.Refblock.{BlockState, block_entries, block_geometry_of, block_layout}
+use Rattle.qcow2_check.proofs.CountersLemmas.{place_of_block}
+use Rattle.qcow2_check.specs.Counters.{block_of_cluster, blocks_fault, counters_each}
+use Rattle.qcow2_metadata.specs.Placed.{place_fault}
+use Rattle.qcow2_check.specs.NamedTables.{named_block}
+use Rattle.qcow2_apply.proofs.PassesLemmas.{AreOfClusters}
+use Rattle.qcow2_apply.specs.Blocks.{BlockFollows, BlockIsStuck, CounterTablesState, Follows, FollowsChanges, HasCounter, IsBlockOf, IsByBlocks, IsStuckAt, NamesBlock, SomeIsStuck, StopsFollowing, blocks, counter_at, counters_at}
+use Rattle.qcow2_apply.specs.Changes.{IsOutcomeOf}
+use Rattle.qcow2_apply.specs.declared.changes.Changes.{Changes}
+use Rattle.qcow2_apply.specs.Passes.{BreaksOff, Passes, PassesBefore}
+
+-- the counters of a block are those of its cluster's bytes
+pub are-of-clusters : (tables : CounterTablesState) → IsClusterBits tables.header.v2.cluster_bits → tables.header.base.refcount_order ≤ 6
+    → AreOfClusters (blocks tables)
+are-of-clusters tables bits orders cluster old new same =
+    let cb = tables.header.v2.cluster_bits in
+    let order = tables.header.base.refcount_order in
+    counters_at-same order (block_entries cb order) (2 ^ cb) new old _ _ orders (block_bytes cb order bits orders)
+    (λ k below. same _ (div-mul-add cluster.0 (2 ^ cb) k below))
+
+-- the counter of a cluster of a block
+counter-here : (tables : CounterTablesState) (block : HostCluster) (image : Image) (c : ℕ) → NamesBlock tables (c / counters_each tables.header) block
+    → counter_at tables image c ≡ slice_index (counters_at tables block image) (c % counters_each tables.header)
+counter-here tables block image c names = grind (arith, names)
+
+-- each cluster that has a counter has a block
+block-of : (tables : CounterTablesState) (c : ℕ) → HasCounter tables c → (block : HostCluster) × NamesBlock tables (c / counters_each tables.header) block
+block-of tables c has = by_block (block_of_cluster tables.header tables.reftable c) refl
+  where
+    by_block : (found : Option HostCluster) → block_of_cluster tables.header tables.reftable c ≡ found → (block : HostCluster) × NamesBlock tables (c / counters_each tables.header) block
+    by_block None none = absurd (grind (arith, none, has))
+    by_block (Some block) some = (block, some)
+
+-- where the counters of its block followed changes, that of a cluster did
+cluster-follows : (tables : CounterTablesState) (changes : Changes) (block : HostCluster) (old new : Image) (c : ℕ)
+    → NamesBlock tables (c / counters_each tables.header) block
+    → BlockFollows tables changes (c / counters_each tables.header) (counters_at tables block old) (counters_at tables block new)
+    → Follows changes c (counter_at tables old c) (counter_at tables new c)
+cluster-follows tables changes block old new c names follows =
+    let n = counters_each tables.header in
+    let small : c % n < n = mod-lt c (pow_pos _) in
+    let whole : c / n * n + c % n ≡ c = div-add-mod' c n in
+    let full : length (counters_at tables block old) ≡ n = counters_at-length tables.header.base.refcount_order old _ _ in
+    let each = follows.each (c % n) (omega (arith, full, small)) in
+    rw (counter-here tables block old c names, counter-here tables block new c names) (rw whole at each)
+
+-- a pass over all blocks is one over all counters
+pub counters-follow : (tables : CounterTablesState) (changes : Changes) (old new : Image)
+    → Passes (blocks tables) (BlockFollows tables changes) old new → FollowsChanges tables changes old new
+counters-follow tables changes old new passes = record {
+  followed = λ c has. let found = block-of tables c has in
+      cluster-follows tables changes found.0 old new c found.1 (passes.changed _ found.0 found.1);
+  others = passes.others;
+}
+
+pub counters-stop : (tables : CounterTablesState) (changes : Changes) (fault : Fault) (old new : Image)
+    → BreaksOff (blocks tables) (BlockFollows tables changes) fault old new → StopsFollowing tables changes fault old new
+counters-stop tables changes fault old new breaks = (
+  breaks.0,
+  record {
+    counters = λ c has. let found = block-of tables c has in elim (breaks.1.each _ found.0 found.1) [
+      | inl same ↦ inl (rw (counter-here tables found.0 old c found.1, counter-here tables found.0 breaks.0 c found.1, same) refl)
+      | inr follows ↦ inr (cluster-follows tables changes found.0 old breaks.0 c found.1 follows)
+    ];
+    others = breaks.1.others;
+  },
+  breaks.2,
+)
+
+-- where some counter of a block can't follow, some counter of the image can't
+pub block-stuck : (tables : CounterTablesState) (changes : Changes) (i : ℕ) (block : HostCluster) (image : Image) → NamesBlock tables i block
+    → BlockIsStuck tables changes i (counters_at tables block image) → SomeIsStuck tables changes image
+block-stuck tables changes i block image names stuck =
+    let n = counters_each tables.header in
+    let k = stuck.0 in
+    let full : length (counters_at tables block image) ≡ n = counters_at-length tables.header.base.refcount_order image _ _ in
+    let below : k < n = omega (arith, full, stuck.1) in
+    let here : (i * n + k) / n ≡ i = div-mul-add i n k below in
+    let whole : (i * n + k) / n * n + (i * n + k) % n ≡ i * n + k = div-add-mod' (i * n + k) n in
+    let rest : (i * n + k) % n ≡ k = omega (arith, rw here at whole) in
+    let found : NamesBlock tables ((i * n + k) / n) block = ap (λ j. named_block tables.header.v2.cluster_bits (slice_index tables.reftable j)) here ∙ names in
+    (i * n + k, grind (arith, found), rw (counter-here tables block image (i * n + k) found, rest) stuck.2)
+
+-- a block whose clusters neither gained nor lost a reference follows as it is
+pub idle-follows : (tables : CounterTablesState) (changes : Changes) (i : ℕ) (block : HostCluster) (image : Image)
+    → IsByBlocks tables changes → IsOutcomeOf changes i None → BlockFollows tables changes i (counters_at tables block image) (counters_at tables block image)
+idle-follows tables changes i block image by none = record {
+  count = refl;
+  each = λ k below.
+      let n = counters_each tables.header in
+      let full : length (counters_at tables block image) ≡ n = counters_at-length tables.header.base.refcount_order image _ _ in
+      let here : (i * n + k) / 2 ^ changes.rb_bits ≡ i = rw by (div-mul-add i n k (omega (arith, full, below))) in
+      let nothing = none (i * n + k) here in
+      grind (arith, nothing);
+}
+
+-- past the refcount table's end no block is named
+pub names-below : (tables : CounterTablesState) (i : ℕ) (block : HostCluster) → NamesBlock tables i block → i < length tables.reftable
+names-below tables i block names = elim (cases_lt i (length tables.reftable)) [
+  | inl below ↦ below
+  | inr past ↦ absurd (let none = get_or_past tables.reftable i 0 past in grind (arith, names, none))
+]
+
+-- a cluster of the block at an index
+of-block : (tables : CounterTablesState) (changes : Changes) (i k : ℕ) → IsByBlocks tables changes → k < counters_each tables.header
+    → (i * counters_each tables.header + k) / 2 ^ changes.rb_bits ≡ i
+of-block tables changes i k by below = rw by (div-mul-add i (counters_each tables.header) k below)
+
+-- a block that was settled followed the changes
+pub follows : (tables : CounterTablesState) (changes : Changes) (i : ℕ) (outcome : Outcome) (old new : BlockState)
+    → IsByBlocks tables changes → IsOutcomeOf changes i (Some outcome) → IsBlockOf tables old
+    → block_or_refusal old (first_counted old i) outcome.freed.items (cluster_numbers outcome.gained.items) ≡ Ok new
+    → BlockFollows tables changes i old.numbers new.numbers
+follows tables changes i outcome old new by is block settled =
+    let settles = settled-counts (first_counted old i) outcome old new settled in
+    record {
+      count = settles.entries;
+      each = λ k below.
+          let counts = is (i * counters_each tables.header + k) (of-block tables changes i k by (omega (arith, below, block.count))) in
+          grind (arith, counts, settles.counters k below, block.geometry);
+    }
+
+-- one that wasn't couldn't
+pub stuck : (tables : CounterTablesState) (changes : Changes) (i : ℕ) (outcome : Outcome) (old : BlockState) (fault : Fault)
+    → IsByBlocks tables changes → IsOutcomeOf changes i (Some outcome) → IsBlockOf tables old
+    → block_or_refusal old (first_counted old i) outcome.freed.items (cluster_numbers outcome.gained.items) ≡ Err fault
+    → (fault ≡ CounterRange) × BlockIsStuck tables changes i old.numbers
+stuck tables changes i outcome old fault by is block refused =
+    let first = first_counted old i in
+    let freed = outcome.freed.items in
+    let gains = cluster_numbers outcome.gained.items in
+    let short = any-index (cannot_settle old first freed gains) (length old.numbers) in
+    elim (cases_Bool (list_any (cannot_settle old first freed gains) (range_with_len 0 (length old.numbers)))) [
+      | inl some ↦
+          let one = short.0 some in
+          let counts = is (i * counters_each tables.header + one.0) (of-block tables changes i one.0 by (omega (arith, one.1, block.count))) in
+          (grind (arith, refused, some), (one.0, one.1, grind (arith, nat_tests, one.2, counts, block.geometry)))
+      | inr none ↦ absurd (grind (arith, refused, none))
+    ]
+
+-- one that doesn't count as modified has the same counters
+pub flags : (first : ℕ) (outcome : Outcome) (old new : BlockState)
+    → block_or_refusal old first outcome.freed.items (cluster_numbers outcome.gained.items) ≡ Ok new
+    → (new ≡ old) ⊎ (new.modified ≡ true)
+flags first outcome old new settled =
+    let settles = settled-counts first outcome old new settled in
+    elim (cases_Bool new.modified) [
+      | inl is ↦ inr is
+      | inr not ↦
+          let numbers : new.numbers ≡ old.numbers = same_number_lists new.numbers old.numbers settles.entries (λ k below.
+          grind (arith, nat_tests, settles.counters k (omega (arith, below, settles.entries)), settles.flag.1, not)) in
+          inl (grind (arith, nat_tests, numbers, settles.others, settles.flag.1, not))
+    ]
+
+-- what came of a call whose answer is that of a definition, without an external data file
+pub by-answer : {P : Type 0} {Q : Fault → Type 0} (external : Bool) (answer : Result (Unit {0}) Fault) (new : BlockState) (meaning : Result BlockState Fault)
+    → external ≡ false → result_map (λ done. new) answer ≡ (if external then Err ExternalData else meaning)
+    → (meaning ≡ Ok new → P) → ((fault : Fault) → meaning ≡ Err fault → Q fault) → OnOk answer P × IfErr answer Q
+by-answer external (Ok done) new meaning inside is ok err = (ok (grind (arith, inside, is)), tt)
+by-answer external (Err fault) new meaning inside is ok err = (tt, err fault (grind (arith, inside, is)))
+
+-- what it left of a block, which stays after a refusal
+pub modified-by : (external : Bool) (answer : Result (Unit {0}) Fault) (old new : BlockState) (meaning : Result BlockState Fault)
+    → external ≡ false → result_map (λ done. new) answer ≡ (if external then Err ExternalData else meaning)
+    → IfErr answer (λ fault. new ≡ old) → (meaning ≡ Ok new → (new ≡ old) ⊎ (new.modified ≡ true)) → (new ≡ old) ⊎ (new.modified ≡ true)
+modified-by external (Ok done) old new meaning inside is same flags = flags (grind (arith, inside, is))
+modified-by external (Err fault) old new meaning inside is same flags = inl same
+
+-- the place of a block that the refcount table names
+pub place-at : (tables : CounterTablesState) (i : ℕ) (block : HostCluster) → blocks_fault tables.header tables.reftable ≡ None → NamesBlock tables i block
+    → place_fault (block_layout (block_geometry_of tables.header)) block ≡ None
+place-at tables i block placed names = let n = counters_each tables.header in
+    place_of_block tables.header tables.reftable (i * n + 0) block placed
+    (ap (λ j. named_block tables.header.v2.cluster_bits (slice_index tables.reftable j)) (div-mul-add i n 0 (pow_pos _)) ∙ names)
+
+-- a counter that can't follow before others have
+pub stuck-before : (tables : CounterTablesState) (changes : Changes) (i : ℕ) (a b : Image)
+    → PassesBefore (blocks tables) (BlockFollows tables changes) i a b → IsStuckAt tables changes i b → SomeIsStuck tables changes a
+stuck-before tables changes i a b before stuck =
+    let same : counters_at tables stuck.0 b ≡ counters_at tables stuck.0 a = before.after i stuck.0 (omega arith) stuck.1 in
+    block-stuck tables changes i stuck.0 a stuck.1 (subst (λ numbers. BlockIsStuck tables changes i numbers) same stuck.2)

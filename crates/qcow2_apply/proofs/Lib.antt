@@ -1,0 +1,5 @@
+pub mod BlocksLemmas
+pub mod ChangesLemmas
+pub mod GuestEditsLemmas
+pub mod PassesLemmas
+pub mod TablesLemmas

@@ -1,0 +1,97 @@
+-- What is left of an image's counters that follow changes?
+use Rattle.std.specs.Prelude.{◌≡◌, ◌⊎◌, ℕ, ◌+◌, ◌*◌, ◌^◌, ◌<◌, List, length, slice_index, Some, IsSome}
+use Rattle.qcow2_base.specs.Storage.{Image}
+use Rattle.qcow2_base.specs.declared.fault.Fault.{Fault}
+use Rattle.qcow2_base.specs.declared.types.HostCluster.{HostCluster}
+use Rattle.qcow2_metadata.specs.Header.{HeaderRecord}
+use Rattle.qcow2_metadata.specs.Placed.{numbers_at}
+use Rattle.qcow2_metadata.specs.Refblock.{BlockState, block_geometry_of, block_layout, greatest_counter}
+use Rattle.qcow2_check.specs.Counters.{block_of_cluster, counter_of, counters_each}
+use Rattle.qcow2_check.specs.NamedTables.{named_block}
+use Rattle.qcow2_check.specs.Repair.Torn.{TearsAtMost}
+use Rattle.qcow2_apply.specs.Changes.{gained, lost}
+use Rattle.qcow2_apply.specs.declared.changes.Changes.{Changes}
+use Rattle.qcow2_apply.specs.Passes.{IsOutside, Places, TearsOne}
+
+-- an image's header and refcount table
+pub record CounterTablesState : Type 0 where
+  pub header : HeaderRecord
+  pub reftable : List ℕ
+
+-- the block that the refcount table entry at an index names begins with this cluster
+abbrev pub NamesBlock : CounterTablesState → ℕ → HostCluster → Type 0
+NamesBlock tables index block = named_block tables.header.v2.cluster_bits (slice_index tables.reftable index) ≡ Some block
+
+-- the counters of the block that begins with a cluster
+abbrev pub counters_at : CounterTablesState → HostCluster → Image → List ℕ
+counters_at tables block image = numbers_at (block_layout (block_geometry_of tables.header)) block image
+
+-- the counter of cluster c
+abbrev pub counter_at : CounterTablesState → Image → ℕ → ℕ
+counter_at tables image c = counter_of tables.header tables.reftable image c
+
+-- a block counts cluster c
+abbrev pub HasCounter : CounterTablesState → ℕ → Type 0
+HasCounter tables c = IsSome (block_of_cluster tables.header tables.reftable c)
+
+-- a counter followed the changes of cluster c: what it is, with what the cluster lost, is what it was, with what that gained
+abbrev pub Follows : Changes → ℕ → ℕ → ℕ → Type 0
+Follows changes c old new = new + lost changes c ≡ old + gained changes c
+
+-- the counters of the block at an index of the refcount table followed changes
+pub record BlockFollows (tables : CounterTablesState) (changes : Changes) (index : ℕ) (old new : List ℕ) : Type 0 where
+  pub count : length new ≡ length old
+  pub each : (k : ℕ) → k < length old →
+      Follows changes (index * counters_each tables.header + k) (slice_index old k) (slice_index new k)
+
+-- a counter can't follow the changes of cluster c: what the cluster gained is too much for it, or what it lost is more than that
+abbrev pub IsStuck : CounterTablesState → Changes → ℕ → ℕ → Type 0
+IsStuck tables changes c counter = (greatest_counter tables.header.base.refcount_order < counter + gained changes c)
+    ⊎ (counter + gained changes c < lost changes c)
+
+-- some counter of the block at an index can't
+abbrev pub BlockIsStuck : CounterTablesState → Changes → ℕ → List ℕ → Type 0
+BlockIsStuck tables changes index numbers = (k : ℕ) × (k < length numbers)
+    × IsStuck tables changes (index * counters_each tables.header + k) (slice_index numbers k)
+
+-- the block at an index has such a counter
+abbrev pub IsStuckAt : CounterTablesState → Changes → ℕ → Image → Type 0
+IsStuckAt tables changes index image = (block : HostCluster) × NamesBlock tables index block
+    × BlockIsStuck tables changes index (counters_at tables block image)
+
+-- some counter of an image can't
+abbrev pub SomeIsStuck : CounterTablesState → Changes → Image → Type 0
+SomeIsStuck tables changes image = (c : ℕ) × HasCounter tables c × IsStuck tables changes c (counter_at tables image c)
+
+-- the refcount blocks
+abbrev pub blocks : CounterTablesState → Places
+blocks tables = record {
+  cluster_bits = tables.header.v2.cluster_bits;
+  place = λ index. named_block tables.header.v2.cluster_bits (slice_index tables.reftable index);
+  numbers = counters_at tables;
+}
+
+-- all counters followed changes, and no byte outside the blocks changed
+pub record FollowsChanges (tables : CounterTablesState) (changes : Changes) (old new : Image) : Type 0 where
+  pub followed : (c : ℕ) → HasCounter tables c → Follows changes c (counter_at tables old c) (counter_at tables new c)
+  pub others : (o : ℕ) → IsOutside (blocks tables) o → new o ≡ old o
+
+-- some did: each counter is as it was, or followed
+pub record FollowsSome (tables : CounterTablesState) (changes : Changes) (old new : Image) : Type 0 where
+  pub counters : (c : ℕ) → HasCounter tables c → (counter_at tables new c ≡ counter_at tables old c)
+      ⊎ Follows changes c (counter_at tables old c) (counter_at tables new c)
+  pub others : (o : ℕ) → IsOutside (blocks tables) o → new o ≡ old o
+
+-- it ended in this fault before all had: some counters followed, and after that one write was torn at most
+abbrev pub StopsFollowing : CounterTablesState → Changes → Fault → Image → Image → Type 0
+StopsFollowing tables changes fault old new =
+    (mid : Image) × FollowsSome tables changes old mid × TearsAtMost fault (TearsOne (blocks tables)) mid new
+
+-- changes are by blocks of as many counters as the image's
+abbrev pub IsByBlocks : CounterTablesState → Changes → Type 0
+IsByBlocks tables changes = 2 ^ changes.rb_bits ≡ counters_each tables.header
+
+-- a block in memory has as many counters as the image's
+pub record IsBlockOf (tables : CounterTablesState) (block : BlockState) : Type 0 where
+  pub geometry : block.geometry ≡ block_geometry_of tables.header
+  pub count : length block.numbers ≡ counters_each tables.header

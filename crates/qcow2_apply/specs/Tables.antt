@@ -1,0 +1,65 @@
+-- What is left of an image's L2 tables, and of references, by edits of its disk?
+use Rattle.std.specs.Prelude.{◌≡◌, ◌≢◌, ℕ, List, [], length, map, slice_index, Some, None, Err, true, false}
+use Rattle.std.specs.List.{All}
+use Rattle.qcow2_base.specs.Storage.{Image}
+use Rattle.qcow2_base.specs.declared.fault.Fault.{Fault}
+use Rattle.qcow2_base.specs.declared.types.HostCluster.{HostCluster}
+use Rattle.qcow2_edits.specs.Edits.{cluster_numbers, table_edit}
+use Rattle.qcow2_edits.specs.declared.edits.Edit.{Edit}
+use Rattle.qcow2_edits.specs.declared.edits.Outcome.{Outcome}
+use Rattle.qcow2_metadata.specs.Header.{HeaderRecord, geometry_of}
+use Rattle.qcow2_metadata.specs.Placed.{numbers_at, place_fault}
+use Rattle.qcow2_metadata.specs.Table.{TableState, l2_entries, l2_layout, loaded_l2_table}
+use Rattle.qcow2_metadata.specs.Table.L2Guards.{RunEnd, fits_table, run_of}
+use Rattle.qcow2_check.specs.NamedTables.{named_cluster}
+use Rattle.qcow2_apply.specs.GuestEdits.{edits_in, guest_edit_fits}
+use Rattle.qcow2_apply.specs.Passes.{Places}
+use Rattle.qcow2_apply.specs.declared.guest_edits.GuestEdit.{GuestEdit}
+
+-- the L2 tables that an L1 table names
+abbrev pub l2_tables : HeaderRecord → List ℕ → Places
+l2_tables header l1 = record {
+  cluster_bits = header.v2.cluster_bits;
+  place = λ index. named_cluster header.v2.cluster_bits (slice_index l1 index);
+  numbers = λ table image. numbers_at (l2_layout (geometry_of header)) table image;
+}
+
+-- all edits can be made of a disk of this header
+abbrev pub AllFit : HeaderRecord → List GuestEdit → Type 0
+AllFit header edits = All (λ edit. guest_edit_fits header edit ≡ true) edits
+
+-- what edits of a table leave of its numbers and of references
+abbrev pub run_in : HeaderRecord → List Edit → List ℕ → RunEnd
+run_in header edits numbers = run_of (geometry_of header) (map table_edit edits) numbers
+
+-- edits of a table with these numbers left this table, which has them still unless it counts as modified, and came to this outcome
+pub record MakesRun (header : HeaderRecord) (edits : List Edit) (before : List ℕ) (table : TableState) (outcome : Outcome) : Type 0 where
+  pub numbers : table.numbers ≡ (run_in header edits before).numbers
+  pub freed : outcome.freed.items ≡ (run_in header edits before).freed
+  pub gained : cluster_numbers outcome.gained.items ≡ (run_in header edits before).gained
+  pub idle : table.modified ≡ false → table.numbers ≡ before
+
+-- the edits of a disk were made of the L2 table of the L1 entry at an index
+abbrev pub IsEdited : HeaderRecord → List GuestEdit → ℕ → List ℕ → List ℕ → Type 0
+IsEdited header edits index old new = new ≡ (run_in header (edits_in header.v2.cluster_bits index edits) old).numbers
+
+-- the L2 table of the L1 entry at an index, which edits of a disk change, can't be loaded, by this fault
+abbrev pub FailsAt : HeaderRecord → List ℕ → List GuestEdit → ℕ → Fault → Image → Type 0
+FailsAt header l1 edits index fault image = (cluster : HostCluster)
+    × (named_cluster header.v2.cluster_bits (slice_index l1 index) ≡ Some cluster) × (edits_in header.v2.cluster_bits index edits ≢ [])
+    × (loaded_l2_table (geometry_of header) cluster image ≡ Err fault)
+
+-- some such table can't
+abbrev pub SomeFails : HeaderRecord → List ℕ → List GuestEdit → Fault → Image → Type 0
+SomeFails header l1 edits fault image = (index : ℕ) × FailsAt header l1 edits index fault image
+
+-- all edits can be made of an L2 table of an image with this header
+abbrev pub AreMade : HeaderRecord → List Edit → Type 0
+AreMade header edits = All (λ edit. fits_table (geometry_of header) (l2_entries header.v2.cluster_bits) (table_edit edit) ≡ true) edits
+
+-- a table in memory is that of a cluster of an image with this header
+pub record IsTableOf (header : HeaderRecord) (begin : HostCluster) (table : TableState) : Type 0 where
+  pub count : length table.numbers ≡ l2_entries header.v2.cluster_bits
+  pub cluster : table.cluster ≡ Some begin
+  pub geometry : table.geometry ≡ geometry_of header
+  pub placed : place_fault (l2_layout (geometry_of header)) begin ≡ None

@@ -1,0 +1,156 @@
+//! Counters in an image that follow changes.
+
+ghost use Rattle.std.specs.Prelude.{◌≡◌, ◌⊎◌, ◌+◌, ◌<◌, false, IfErr, IfOk, MatchResult, None, OnOk, Some, slice_index, true};
+ghost use Rattle.qcow2_base.specs.Storage.{OnImage, OnImages, OnlyReads, OnlyWrites};
+ghost use Rattle.qcow2_base.specs.declared.fault.Fault.TheVariants.{CounterRange};
+ghost use Rattle.qcow2_metadata.specs.Header.{geometry_of, uses_external_data};
+ghost use Rattle.qcow2_metadata.specs.Placed.{offset_of, place_fault};
+ghost use Rattle.qcow2_metadata.specs.Refblock.{block_geometry_of, block_layout};
+ghost use Rattle.qcow2_metadata.specs.Results.{IsFromOutside};
+ghost use Rattle.qcow2_check.specs.Counters.{blocks_fault};
+ghost use Rattle.qcow2_check.specs.Repair.{ReportsFailures};
+ghost use Rattle.qcow2_check.specs.Repair.Torn.{TearsAtMost};
+ghost use Rattle.qcow2_apply.specs.Blocks.{BlockFollows, BlockIsStuck, FollowsChanges, IsBlockOf, IsByBlocks, IsStuckAt, SomeIsStuck, StopsFollowing, blocks, counters_at};
+ghost use Rattle.qcow2_apply.specs.Changes.{IsOutcomeOf};
+ghost use Rattle.qcow2_apply.specs.Passes.{AreApart, StepsAt, TearsOne};
+
+use crate::changes::Changes;
+use qcow2_base::{Fault, HostCluster, Storage};
+use qcow2_check::named_block;
+use qcow2_edits::{Outcome, settle};
+use qcow2_metadata::{Header, RefBlock, RefTable, Table};
+use std::alloc::Global;
+use std::marker::Model;
+
+/// The tables of an image that say where its counters are. Clauses see them as what they say.
+#[derive(Drop)]
+pub struct CounterTables<'a> {
+    pub header: &'a Header,
+    pub reftable: &'a RefTable,
+}
+
+impl<'a> Model for CounterTables<'a> {
+    ghost use Rattle.std.specs.Prelude.{◌≡◌, None};
+    ghost use Rattle.qcow2_metadata.specs.Header.{geometry_of};
+    ghost use Rattle.qcow2_check.specs.Counters.{blocks_fault};
+    ghost use Rattle.qcow2_apply.specs.Blocks.{CounterTablesState};
+
+    ghost Value = { CounterTablesState };
+
+    ghost view = { λ t. record { header = t.header.now; reftable = t.reftable.now.numbers } };
+
+    ghost invariant = { λ t. (t.reftable.now.geometry ≡ geometry_of t.header.now)
+        × (blocks_fault t.header.now t.reftable.now.numbers ≡ None) };
+}
+
+// Lets the counters of a block follow what their clusters gained and lost. The index is the block's in the
+// refcount table.
+fn follow(
+    block: &mut RefBlock,
+    tables: &CounterTables<'_>,
+    index: usize,
+    changes: &Changes,
+    outcome: &Outcome,
+) -> Result<(), Fault>
+    requires data { uses_external_data tables.now.header ≡ false }
+    requires block { IsBlockOf tables.now block.old }
+    requires bits { IsByBlocks tables.now changes.now }
+    requires outcome { IsOutcomeOf changes.now index (Some outcome.now) }
+    ensures followed { OnOk result
+        (BlockFollows tables.now changes.now index block.old.numbers block.new.numbers) }
+    ensures fault { IfErr result (λ fault. (fault ≡ CounterRange)
+        × BlockIsStuck tables.now changes.now index block.old.numbers) }
+    ensures same { block.new
+        ≡ record block.old { numbers = block.new.numbers; modified = block.new.modified } }
+    ensures modified { (block.new ≡ block.old) ⊎ (block.new.modified ≡ true) }
+{
+    settle(block, tables.header, index, outcome)
+}
+
+// Lets the counters of the block that begins with a cluster follow what their clusters gained and lost.
+fn follow_block<S: Storage>(
+    alloc: Global,
+    image: &mut S,
+    tables: &CounterTables<'_>,
+    cluster: HostCluster,
+    index: usize,
+    changes: &Changes,
+    outcome: &Outcome,
+) -> Result<(), Fault>
+    requires data { uses_external_data tables.now.header ≡ false }
+    requires place { place_fault (block_layout (block_geometry_of tables.now.header)) cluster ≡ None }
+    requires bits { IsByBlocks tables.now changes.now }
+    requires outcome { IsOutcomeOf changes.now index (Some outcome.now) }
+    ensures followed { OnOk result (OnImages (S.state image.old) (S.state image.new) (λ before after.
+        BlockFollows tables.now changes.now index (counters_at tables.now cluster before)
+        (counters_at tables.now cluster after))) }
+    ensures fault { IfErr result (λ fault. IsFromOutside fault ⊎ ((fault ≡ CounterRange)
+        × OnImage (S.state image.old) (λ bytes.
+        BlockIsStuck tables.now changes.now index (counters_at tables.now cluster bytes)))) }
+    ensures storage { let layout = block_layout (block_geometry_of tables.now.header) in
+        OnlyWrites result (Some (offset_of layout cluster)) layout.byte_count
+        (S.state image.old) (S.state image.new) }
+{
+    let mut block = RefBlock::load(alloc, image, tables.header, cluster)?;
+    follow(&mut block, tables, index, changes, outcome)?;
+    block.write_if_modified(image, cluster)
+}
+
+// The same of the block at an index of the refcount table, if its clusters gained or lost something. Where
+// there is no block, nothing is done.
+fn follow_at<S: Storage>(
+    alloc: Global,
+    image: &mut S,
+    tables: &CounterTables<'_>,
+    index: usize,
+    changes: &Changes,
+) -> Result<(), Fault>
+    requires data { uses_external_data tables.now.header ≡ false }
+    requires bits { IsByBlocks tables.now changes.now }
+    ensures followed { AreApart (blocks tables.now) →
+        OnImages (S.state image.old) (S.state image.new) (λ before after. MatchResult result
+        (λ _. StepsAt (blocks tables.now) (BlockFollows tables.now changes.now) index before after)
+        (λ fault. TearsAtMost fault (TearsOne (blocks tables.now)) before after)) }
+    ensures fault { IfErr result (λ fault. IsFromOutside fault ⊎ ((fault ≡ CounterRange)
+        × OnImage (S.state image.old) (IsStuckAt tables.now changes.now index))) }
+    ensures storage { ReportsFailures result (S.state image.old) (S.state image.new) }
+{
+    prove!(tables.header.cluster_bits() <= 21);
+    prove!(tables.header.refcount_order() <= 6);
+    let Some(outcome) = changes.outcome_of(index) else {
+        return Ok(());
+    };
+    let Some(cluster) = named_block(tables.reftable, index) else {
+        return Ok(());
+    };
+    follow_block(alloc, image, tables, cluster, index, changes, outcome)
+}
+
+/// Lets all counters of an image follow what their clusters gained and lost, and waits until they are on the
+/// device. Each refcount block is written once at most. Clusters that no block counts are passed over.
+///
+/// Returns 30 where a counter can't follow. After a fault some blocks may have followed; where the storage
+/// failed, any bytes may be in one more.
+pub fn follow_changes<S: Storage>(
+    alloc: Global,
+    image: &mut S,
+    tables: &CounterTables<'_>,
+    changes: &Changes,
+) -> Result<(), Fault>
+    requires data { uses_external_data tables.now.header ≡ false }
+    requires bits { IsByBlocks tables.now changes.now }
+    ensures followed { AreApart (blocks tables.now) →
+        OnImages (S.state image.old) (S.state image.new) (λ before after. MatchResult result
+        (λ _. FollowsChanges tables.now changes.now before after)
+        (λ fault. StopsFollowing tables.now changes.now fault before after)) }
+    ensures fault { IfErr result (λ fault. IsFromOutside fault ⊎ ((fault ≡ CounterRange)
+        × (AreApart (blocks tables.now) →
+        OnImage (S.state image.old) (SomeIsStuck tables.now changes.now)))) }
+    ensures storage { ReportsFailures result (S.state image.old) (S.state image.new) }
+{
+    for index in 0..tables.reftable.entries() {
+        follow_at(alloc, image, tables, index, changes)?;
+    }
+    image.sync()?;
+    Ok(())
+}

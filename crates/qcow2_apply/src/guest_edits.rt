@@ -1,0 +1,184 @@
+//! Edits of a guest's disk by its offsets, and the edits of the entries of L2 tables that they are.
+
+ghost use Rattle.std.specs.Prelude.{◌≡◌, ◌*◌, ◌+◌, ◌^◌, ◌<◌, ◌≤◌, ◌++◌, IfOk, OnOk, map, not};
+ghost use Rattle.std.specs.List.{flat_map, position, range_with_len};
+ghost use Rattle.qcow2_metadata.specs.Table.{l2_entries};
+ghost use Rattle.qcow2_base.specs.Types.{IsClusterBits};
+ghost use Rattle.qcow2_apply.specs.GuestEdits.{cluster_end, edit_at, edits_by, edits_in, first_cluster, guest_edit_fits, guest_length, guest_offset, is_mappable_by, table_end, table_start};
+
+use qcow2_base::{GuestCluster, GuestOffset, HostCluster, MAX_OFFSET};
+use qcow2_edits::Edit;
+use qcow2_metadata::Header;
+use std::alloc::{AllocError, Global};
+
+/// A change of what a range of a guest's disk reads as. Offsets and lengths are in bytes, and multiples of
+/// the cluster size.
+#[derive(Clone, Copy, Debug, PartialEq, Eq)]
+pub enum GuestEdit {
+    /// One guest cluster reads as data in a host cluster.
+    Map {
+        offset: GuestOffset,
+        host_cluster: HostCluster,
+    },
+    /// A range reads as zeros. With `keep_allocation` an entry keeps its host cluster, but compressed data is
+    /// given up all the same.
+    Zero {
+        offset: GuestOffset,
+        length: u64,
+        keep_allocation: bool,
+    },
+    /// A range has no data.
+    Discard {
+        offset: GuestOffset,
+        length: u64,
+    },
+}
+
+impl GuestEdit {
+    /// Where the range begins.
+    #[inline]
+    pub fn offset(&self) -> GuestOffset
+        ensures { result ≡ guest_offset self.now }
+    {
+        match *self {
+            GuestEdit::Map { offset, .. }
+            | GuestEdit::Zero { offset, .. }
+            | GuestEdit::Discard { offset, .. } => offset,
+        }
+    }
+
+    /// How many bytes it has: one cluster, where it is mapped.
+    #[inline]
+    pub fn length(&self, cluster_bits: u32) -> u64
+        requires { IsClusterBits cluster_bits }
+        ensures { result ≡ guest_length cluster_bits self.now }
+    {
+        match *self {
+            GuestEdit::Map { .. } => 1 << cluster_bits,
+            GuestEdit::Zero { length, .. } | GuestEdit::Discard { length, .. } => length,
+        }
+    }
+
+    // The edit of the entry at an index of an L2 table.
+    #[inline]
+    fn at(&self, index: usize) -> Edit
+        ensures { result ≡ edit_at self.now index }
+    {
+        match *self {
+            GuestEdit::Map { host_cluster, .. } => Edit::Map {
+                index,
+                host_cluster,
+            },
+            GuestEdit::Zero {
+                keep_allocation,
+                ..
+            } => Edit::Zero {
+                index,
+                keep_allocation,
+            },
+            GuestEdit::Discard { .. } => Edit::Discard { index },
+        }
+    }
+
+    // Whether the host cluster that it maps to, if it does, can be that of an entry.
+    fn is_mappable(&self, header: &Header) -> bool
+        ensures { result ≡ is_mappable_by header.now self.now }
+    {
+        match *self {
+            GuestEdit::Map { host_cluster, .. } => {
+                let greatest = MAX_OFFSET.cluster(header.cluster_bits());
+                host_cluster.0 <= greatest.0 && (header.external_data_file() || host_cluster.0 != 0)
+            }
+            GuestEdit::Zero { .. } | GuestEdit::Discard { .. } => true,
+        }
+    }
+
+    // The first guest cluster, and the one after the last.
+    #[tactic(auto, using(crate::proofs::GuestEditsLemmas::sum_fits))]
+    fn clusters(&self, cluster_bits: u32) -> (u64, u64)
+        requires { IsClusterBits cluster_bits }
+        ensures first { result.0 ≡ first_cluster cluster_bits self.now }
+        ensures end { result.1 ≡ cluster_end cluster_bits self.now }
+    {
+        let first = self.offset().cluster(cluster_bits).0;
+        let length = GuestOffset(self.length(cluster_bits));
+        (first, first + length.cluster(cluster_bits).0)
+    }
+
+    /// Whether the edit can be made of a disk of this header: its range begins and ends with clusters, has
+    /// at least one, and no more than the disk. A mapped host cluster isn't the header's, and an entry can
+    /// refer to it.
+    pub fn fits(&self, header: &Header) -> bool
+        ensures { result ≡ guest_edit_fits header.now self.now }
+    {
+        let cluster_bits = header.cluster_bits();
+        let length = GuestOffset(self.length(cluster_bits));
+        let (first, end) = self.clusters(cluster_bits);
+        self.offset().in_cluster_offset(cluster_bits) == 0
+            && length.in_cluster_offset(cluster_bits) == 0
+            && first < end
+            && end <= header.size().div_ceil(1 << cluster_bits)
+            && self.is_mappable(header)
+    }
+
+    // The guest clusters of the range that the L2 table of an L1 entry has: the first, and the one after the
+    // last.
+    fn clusters_in(&self, cluster_bits: u32, l1_index: usize) -> (u64, u64)
+        requires bits { IsClusterBits cluster_bits }
+        requires index { l1_index < 2 ^ 32 }
+        ensures start { result.0 ≡ table_start cluster_bits l1_index self.now }
+        ensures end { result.1 ≡ table_end cluster_bits l1_index self.now }
+    {
+        let (first, end) = self.clusters(cluster_bits);
+        let of_table = GuestCluster::from_l1_l2_indices(l1_index, 0, cluster_bits).0;
+        let entries = 1u64 << (cluster_bits - 3);
+        (first.max(of_table), end.min(of_table + entries))
+    }
+
+    // Appends the edits of the L2 table of an L1 entry that this one is.
+    fn push_edits(
+        &self,
+        edits: &mut Vec<Edit>,
+        cluster_bits: u32,
+        l1_index: usize,
+    ) -> Result<(), AllocError>
+        requires bits { IsClusterBits cluster_bits }
+        requires index { l1_index < 2 ^ 32 }
+        ensures { OnOk result (edits.new.items ≡ edits.old.items ++ edits_by cluster_bits l1_index self.now) }
+    {
+        let (start, end) = self.clusters_in(cluster_bits, l1_index);
+        for cluster in start..end {
+            edits.push(self.at(GuestCluster(cluster).l2_index(cluster_bits)))?;
+        }
+        Ok(())
+    }
+}
+
+/// The position of the first edit that can't be made of a disk of this header, if there is one.
+pub fn first_unfit(header: &Header, edits: &[GuestEdit]) -> Option<usize>
+    ensures { result ≡ position (λ edit. not (guest_edit_fits header.now edit)) edits.now }
+{
+    edits.iter().position(
+        |edit: &GuestEdit| -> bool
+            ensures { result ≡ not (guest_edit_fits header.entry.now edit.now) }
+        { !edit.fits(header) },
+    )
+}
+
+/// The edits of the L2 table of an L1 entry that edits of a disk are, in their order.
+pub fn edits_in(
+    alloc: Global,
+    edits: &[GuestEdit],
+    cluster_bits: u32,
+    l1_index: usize,
+) -> Result<Vec<Edit>, AllocError>
+    requires bits { IsClusterBits cluster_bits }
+    requires index { l1_index < 2 ^ 32 }
+    ensures { IfOk result (λ list. list.items ≡ edits_in cluster_bits l1_index edits.now) }
+{
+    let mut list = Vec::new(alloc);
+    for edit in edits {
+        edit.push_edits(&mut list, cluster_bits, l1_index)?;
+    }
+    Ok(list)
+}

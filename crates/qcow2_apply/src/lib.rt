@@ -1,0 +1,12 @@
+//! Edits of guest ranges of an image, over any number of its tables, with its counters.
+#![tactic(auto)]
+
+mod blocks;
+mod changes;
+mod guest_edits;
+mod tables;
+
+pub use blocks::{CounterTables, follow_changes};
+pub use changes::Changes;
+pub use guest_edits::{GuestEdit, edits_in, first_unfit};
+pub use tables::edit_tables;
