@@ -5,8 +5,8 @@ use Rattle.qcow2_base.specs.Storage.{Image, SameOutside}
 use Rattle.qcow2_base.specs.declared.fault.Fault.{Fault}
 use Rattle.qcow2_base.specs.declared.fault.Fault.TheVariants.{Storage}
 use Rattle.qcow2_base.specs.declared.types.HostCluster.{HostCluster}
-use Rattle.qcow2_check.proofs.RepairLemmas.{other-cluster}
-use Rattle.qcow2_check.specs.Repair.Torn.{TearsAtMost}
+use Rattle.qcow2_check.proofs.ClustersLemmas.{other-cluster}
+use Rattle.qcow2_check.specs.Failures.{TearsAtMost}
 use Rattle.qcow2_apply.specs.Passes.{AreApart, BreaksOff, Passes, PassesBefore, Places, StepsAt, TearsOne}
 
 -- numbers are those of the bytes of their cluster alone

@@ -8,7 +8,7 @@ use Rattle.qcow2_metadata.specs.Placed.{numbers_at}
 use Rattle.qcow2_metadata.specs.Refblock.{BlockState, block_geometry_of, block_layout, greatest_counter}
 use Rattle.qcow2_check.specs.Counters.{block_of_cluster, counter_of, counters_each}
 use Rattle.qcow2_check.specs.NamedTables.{named_block}
-use Rattle.qcow2_check.specs.Repair.Torn.{TearsAtMost}
+use Rattle.qcow2_check.specs.Failures.{TearsAtMost}
 use Rattle.qcow2_apply.specs.Changes.{gained, lost}
 use Rattle.qcow2_apply.specs.declared.changes.Changes.{Changes}
 use Rattle.qcow2_apply.specs.Passes.{IsOutside, Places, TearsOne}

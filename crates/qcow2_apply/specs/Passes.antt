@@ -3,7 +3,7 @@ use Rattle.std.specs.Prelude.{◌≡◌, ◌≢◌, ◌⊎◌, ℕ, ◌*◌, ◌
 use Rattle.qcow2_base.specs.Storage.{Image, SameOutside}
 use Rattle.qcow2_base.specs.declared.fault.Fault.{Fault}
 use Rattle.qcow2_base.specs.declared.types.HostCluster.{HostCluster}
-use Rattle.qcow2_check.specs.Repair.Torn.{TearsAtMost}
+use Rattle.qcow2_check.specs.Failures.{TearsAtMost}
 
 -- tables or blocks that entries at indices name: the cluster of each, if there is one, and the numbers that are read there
 pub record Places : Type 0 where

@@ -1,5 +1,6 @@
 mod FindingsExamples
 pub mod ApartLemmas
+pub mod ClustersLemmas
 pub mod CountersLemmas
 pub mod EntryCountsLemmas
 pub mod FindingsLemmas

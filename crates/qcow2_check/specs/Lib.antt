@@ -1,6 +1,7 @@
 pub mod Consistency
 pub mod Counters
 pub mod EntryCounts
+pub mod Failures
 pub mod Findings
 pub mod Flags
 pub mod ImageEnd

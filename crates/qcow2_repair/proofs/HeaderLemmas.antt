@@ -25,9 +25,11 @@ use Rattle.qcow2_check.specs.Uses.{ImageTables, block_uses, entry_uses, header_u
 use Rattle.qcow2_check.specs.declared.tally.UseKind.TheVariants.{Fixed, L2Table}
 use Rattle.qcow2_repair.proofs.CountersLemmas.{block-same}
 use Rattle.qcow2_repair.proofs.OrderLemmas.{fixed-both}
-use Rattle.qcow2_repair.proofs.RepairLemmas.{all-load-same, blocks-used, flat_map-same, table-same}
+use Rattle.qcow2_repair.proofs.RepairLemmas.{all-load-same, blocks-used, flat_map-same}
+use Rattle.qcow2_check.proofs.ClustersLemmas.{table-same}
 use Rattle.qcow2_repair.proofs.FlagWindowsLemmas.{loads-by}
-use Rattle.qcow2_repair.specs.Repair.{IsPassFault, IsRepairable, MakesWritable, ReportsFailures, tables_in}
+use Rattle.qcow2_repair.specs.Repair.{IsPassFault, IsRepairable, MakesWritable, tables_in}
+use Rattle.qcow2_check.specs.Failures.{ReportsFailures}
 use Rattle.qcow2_repair.specs.Refusals.{IsRepairRefusal, repairable_tables}
 use Rattle.qcow2_repair.specs.Flags.{NamesTable, l1_in, l2_in}
 

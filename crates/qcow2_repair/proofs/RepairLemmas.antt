@@ -1,16 +1,14 @@
-use Rattle.std.proofs.Common.{◌≡◌, ◌≢◌, ℕ, zero, suc, false, ◌+◌, ◌*◌, ◌/◌, ◌^◌, ◌<◌, ◌≤◌, List, [], ◌∷◌, ◌++◌, flat_map, slice_index, Option, Some, None, Ok, ap, refl, sym, ◌∙◌, inl, inr, ◌-◌, arith}
+use Rattle.std.proofs.Common.{◌≡◌, ◌≢◌, ℕ, zero, suc, false, ◌^◌, ◌<◌, ◌≤◌, List, [], ◌∷◌, ◌++◌, flat_map, slice_index, Option, Some, None, Ok, ap, refl, sym, ◌∙◌, arith}
 use Rattle.std.proofs.lemmas.Bool.Decides.{nat_tests}
-use Rattle.std.proofs.lemmas.Bool.{cases_lt}
-use Rattle.std.proofs.lemmas.Nat.{div-mul-add}
 use Rattle.std.proofs.Math.Nat.{div-le_self}
 use Rattle.qcow2_base.specs.Format.{max_file_length}
-use Rattle.qcow2_base.specs.Storage.{Image, SameOutside}
+use Rattle.qcow2_base.specs.Storage.{Image}
 use Rattle.qcow2_base.specs.declared.types.HostCluster.{HostCluster}
-use Rattle.qcow2_metadata.proofs.TableLemmas.{full_cluster, table_numbers_same}
 use Rattle.qcow2_metadata.specs.Header.{Geometry, geometry_of}
 use Rattle.qcow2_metadata.specs.Placed.{numbers_at}
 use Rattle.qcow2_metadata.specs.Results.{result_map}
-use Rattle.qcow2_metadata.specs.Table.{l2_entries, l2_layout, loaded_l2_table}
+use Rattle.qcow2_metadata.specs.Table.{l2_layout, loaded_l2_table}
+use Rattle.qcow2_check.proofs.ClustersLemmas.{table-same}
 use Rattle.qcow2_check.proofs.ApartLemmas.{kind-append, named-below, named-used}
 use Rattle.qcow2_check.proofs.FindingsLemmas.{excludes, kind-cons, uses_by_kind}
 use Rattle.qcow2_check.specs.Findings.{is_shared, uses_of_kind}
@@ -61,12 +59,6 @@ fixed-more tables image c =
 -- a block lies below the greatest end
 block-below : (cb v : ℕ) (block : HostCluster) → v < 2 ^ 64 → named_block cb v ≡ Some block → block.0 < 2 ^ 64
 block-below cb v block fits names = grind (arith, nat_tests, names, div-le_self)
-
--- the numbers of an L2 table stay where the bytes of its cluster do
-pub table-same : (g : Geometry) (table : HostCluster) (old new : Image) → 9 ≤ g.cluster_bits
-    → ((o : ℕ) → o / 2 ^ g.cluster_bits ≡ table.0 → new o ≡ old o) → numbers_at (l2_layout g) table new ≡ numbers_at (l2_layout g) table old
-table-same g table old new least same = table_numbers_same new old _ _ (l2_entries g.cluster_bits)
-    (λ k below. same _ (div-mul-add table.0 (2 ^ g.cluster_bits) k (omega (arith, below, full_cluster g.cluster_bits least))))
 
 -- no block is an L2 table, and no two refcount table entries name one block, where no uses exclude each other
 pub block-no-table : (tables : ImageTables) (image : Image) (i k : ℕ) (block table : HostCluster) → IsRepairable tables image
@@ -144,16 +136,6 @@ repairable-stays tables old new is others =
       apart = rw same is.apart;
       fits = rw same is.fits;
     }
-
--- a byte in another cluster stays where only those of one cluster change
-pub other-cluster : (w block o : ℕ) (old new : Image) → 0 < w → SameOutside (block * w) w old new → o / w ≢ block → new o ≡ old o
-other-cluster w block o old new some outside differs = elim (cases_lt o (block * w)) [
-  | inl below ↦ outside.before o below
-  | inr above ↦ elim (cases_lt o (block * w + w)) [
-    | inl within ↦ absurd (differs (let parts : o ≡ block * w + (o - block * w) = omega (arith, above) in rw parts (div-mul-add block w (o - block * w) (omega (arith, within, above)))))
-    | inr past ↦ outside.after o past
-  ]
-]
 
 -- each table loads where all do
 pub entry-loads : (g : Geometry) (l1 : List ℕ) (k : ℕ) (image : Image) → all_load g l1 image ≡ Ok tt → l1_entry_loads g image (slice_index l1 k) ≡ Ok tt

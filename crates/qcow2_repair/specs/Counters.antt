@@ -10,7 +10,7 @@ use Rattle.qcow2_metadata.specs.Refblock.{block_geometry_of, block_layout, great
 use Rattle.qcow2_check.specs.Counters.{block_of_cluster, counter_of}
 use Rattle.qcow2_check.specs.NamedTables.{named_block}
 use Rattle.qcow2_check.specs.Uses.{ImageTables, image_uses, uses_of}
-use Rattle.qcow2_repair.specs.Torn.{TearsAtMost}
+use Rattle.qcow2_check.specs.Failures.{TearsAtMost}
 use Rattle.qcow2_repair.specs.declared.counters.CounterPass.{CounterPass}
 use Rattle.qcow2_repair.specs.declared.counters.CounterPass.TheVariants.{Fall, Rise}
 

@@ -12,7 +12,7 @@ use Rattle.qcow2_check.specs.Flags.{flagged_cluster}
 use Rattle.qcow2_check.specs.NamedTables.{l1_cluster, l1_layout, named_cluster}
 use Rattle.qcow2_check.specs.Tally.{TallyState, cell_at}
 use Rattle.qcow2_check.specs.Uses.{ImageTables, image_uses, uses_of}
-use Rattle.qcow2_repair.specs.Torn.{TearsAtMost}
+use Rattle.qcow2_check.specs.Failures.{TearsAtMost}
 
 -- a pass over flags: the image's header and refcount table, the uses of clusters as far as they are known, and the flag that the
 -- pass gives to entries that it is due to

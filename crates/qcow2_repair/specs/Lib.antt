@@ -3,4 +3,3 @@ pub mod Flags
 pub mod Left
 pub mod Refusals
 pub mod Repair
-pub mod Torn

@@ -1,10 +1,10 @@
 -- Which images can be repaired, and what does a repair change of their counters and flags?
-use Rattle.std.specs.Prelude.{◌≡◌, ◌≢◌, ◌⊎◌, ◌↔◌, ℕ, true, false, ◌<◌, ◌≤◌, List, length, None, Result, Ok, Err, IfErr, IsErrOf, IsOk, IsSome, MatchResult}
+use Rattle.std.specs.Prelude.{◌≡◌, ◌⊎◌, ℕ, true, false, ◌<◌, ◌≤◌, List, length, None, Result, Ok, Err, IfErr, IsOk, IsSome, MatchResult}
 use Rattle.qcow2_base.specs.Format.{max_file_length}
-use Rattle.qcow2_base.specs.Storage.{Holds, Image, OnImage, OnImages, SameDevice, SameOutside, StorageState}
+use Rattle.qcow2_base.specs.Storage.{Holds, Image, OnImage, OnImages, SameOutside, StorageState}
 use Rattle.qcow2_base.specs.Types.{IsClusterBits}
 use Rattle.qcow2_base.specs.declared.fault.Fault.{Fault}
-use Rattle.qcow2_base.specs.declared.fault.Fault.TheVariants.{CounterRange, Storage}
+use Rattle.qcow2_base.specs.declared.fault.Fault.TheVariants.{CounterRange}
 use Rattle.qcow2_metadata.specs.Header.{HeaderRecord, geometry_of}
 use Rattle.qcow2_metadata.specs.Header.Open.{IsWritableFault, header_after_load, opened_text}
 use Rattle.qcow2_metadata.specs.Refblock.{greatest_counter}
@@ -17,7 +17,7 @@ use Rattle.qcow2_check.specs.Uses.{ImageTables, all_load, image_tables, image_us
 use Rattle.qcow2_repair.specs.Counters.{BreaksOff, PassesCounters}
 use Rattle.qcow2_repair.specs.Flags.{BreaksOffFlags, PassesFlags, l1_in, pass_all}
 use Rattle.qcow2_repair.specs.Refusals.{IsRepairRefusal, repairable_tables}
-use Rattle.qcow2_repair.specs.Torn.{TearsAtMost}
+use Rattle.qcow2_check.specs.Failures.{ReportsFailures, TearsAtMost}
 use Rattle.qcow2_repair.specs.declared.counters.CounterPass.TheVariants.{Fall, Rise}
 
 -- the uses of cluster c in an image with these tables
@@ -34,11 +34,6 @@ pub record IsRepairable (tables : ImageTables) (image : Image) : Type 0 where
   pub apart : (c : ℕ) → c < max_file_length → is_shared (image_uses tables image) c ≡ false
   pub fits : (c : ℕ) → c < max_file_length → IsSome (block_of_cluster tables.header tables.reftable c) →
       image_uses_of tables image c ≤ greatest_counter tables.header.base.refcount_order
-
--- calls that read and write ended in this answer: the storage fault is returned exactly where one of them failed
-pub record ReportsFailures {T : Type 0} (answer : Result T Fault) (old new : StorageState) : Type 0 where
-  pub failed : IsErrOf answer Storage ↔ (new.failures ≢ old.failures)
-  pub device : SameDevice old new
 
 -- a fault of a pass over an image that can be repaired: it is from outside where the image's bytes are known
 abbrev pub IsRepairFault : StorageState → Fault → Type 0

@@ -10,7 +10,8 @@ ghost use Rattle.qcow2_metadata.specs.Refblock.{block_entries, block_geometry_of
 ghost use Rattle.qcow2_metadata.specs.Results.{IsFromOutside};
 ghost use Rattle.qcow2_check.specs.Findings.{CountsAll, IsLaterFault};
 ghost use Rattle.qcow2_check.specs.Tally.{cell_at};
-ghost use Rattle.qcow2_repair.specs.Repair.{IsRepairFault, IsRepairable, ReportsFailures};
+ghost use Rattle.qcow2_repair.specs.Repair.{IsRepairFault, IsRepairable};
+ghost use Rattle.qcow2_check.specs.Failures.{ReportsFailures};
 ghost use Rattle.qcow2_repair.specs.Counters.{BreaksOff, IsPastCounters, PassesBetween, PassesBlock, PassesCounters, block_counters, counter_towards};
 
 use crate::tables::Tables;

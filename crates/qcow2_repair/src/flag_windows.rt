@@ -10,7 +10,8 @@ ghost use Rattle.qcow2_check.specs.Counters.{blocks_fault};
 ghost use Rattle.qcow2_check.specs.Findings.{IsLaterFault};
 ghost use Rattle.qcow2_check.specs.NamedTables.{l1_cluster, l1_layout};
 ghost use Rattle.qcow2_check.specs.Uses.{image_tables};
-ghost use Rattle.qcow2_repair.specs.Repair.{IsRepairable, ReportsFailures};
+ghost use Rattle.qcow2_repair.specs.Repair.{IsRepairable};
+ghost use Rattle.qcow2_check.specs.Failures.{ReportsFailures};
 ghost use Rattle.qcow2_repair.specs.Flags.{BreaksOffFlags, IsL1TableOf, PassesFlags, l1_in, pass_all, pass_between};
 
 use crate::flags::FlagPass;

@@ -9,7 +9,7 @@ ghost use Rattle.qcow2_metadata.specs.Table.{l2_layout, loaded_l2_table};
 ghost use Rattle.qcow2_check.specs.Findings.{IsLaterFault};
 ghost use Rattle.qcow2_check.specs.NamedTables.{IsInImage};
 ghost use Rattle.qcow2_check.specs.Uses.{all_load};
-ghost use Rattle.qcow2_repair.specs.Repair.{ReportsFailures};
+ghost use Rattle.qcow2_check.specs.Failures.{ReportsFailures};
 ghost use Rattle.qcow2_repair.specs.Flags.{BreaksOffL2, PassesL2, due_flag, l1_due, l2_due, l2_in, pass_by, passed_l1, passed_l2};
 
 use qcow2_base::{Fault, HostCluster, Storage};

@@ -8,7 +8,8 @@ ghost use Rattle.qcow2_metadata.specs.Placed.{place_fault};
 ghost use Rattle.qcow2_metadata.specs.Results.{IsFromOutside};
 ghost use Rattle.qcow2_check.specs.Counters.{blocks_fault};
 ghost use Rattle.qcow2_check.specs.NamedTables.{l1_cluster, l1_layout, loaded_l1_table};
-ghost use Rattle.qcow2_repair.specs.Repair.{BreaksOffCounters, BreaksOffRepair, IsPassFault, IsRepairFault, IsRepairable, Lowers, Raises, Repairs, RepairsImage, ReportsFailures, tables_in};
+ghost use Rattle.qcow2_repair.specs.Repair.{BreaksOffCounters, BreaksOffRepair, IsPassFault, IsRepairFault, IsRepairable, Lowers, Raises, Repairs, RepairsImage, tables_in};
+ghost use Rattle.qcow2_check.specs.Failures.{ReportsFailures};
 ghost use Rattle.qcow2_repair.specs.Flags.{IsL1TableOf, l1_in};
 ghost use Rattle.qcow2_repair.specs.Refusals.{repairable_tables};
 

@@ -1,6 +1,6 @@
 use Rattle.std.proofs.Common.{Ok}
 use Rattle.qcow2_base.specs.Storage.{OnImages}
-use Rattle.qcow2_check.specs.Repair.{ReportsFailures}
+use Rattle.qcow2_check.specs.Failures.{ReportsFailures}
 use Rattle.qcow2_apply.specs.Blocks.{BlockFollows, blocks}
 use Rattle.qcow2_apply.specs.Passes.{AreApart, PassesBefore}
 use Rattle.qcow2_apply.proofs.blocks.follow_changes.Given as goal

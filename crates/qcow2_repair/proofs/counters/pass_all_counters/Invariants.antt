@@ -2,7 +2,8 @@ use Rattle.std.proofs.Common.{◌≤◌, ◌-◌, Ok, IfSome}
 use Rattle.qcow2_base.specs.Format.{max_file_length}
 use Rattle.qcow2_base.specs.Storage.{OnImage, OnImages}
 use Rattle.qcow2_check.specs.Findings.{CountsAll}
-use Rattle.qcow2_repair.specs.Repair.{IsRepairable, ReportsFailures}
+use Rattle.qcow2_repair.specs.Repair.{IsRepairable}
+use Rattle.qcow2_check.specs.Failures.{ReportsFailures}
 use Rattle.qcow2_repair.specs.Counters.{PassesBetween}
 use Rattle.qcow2_repair.proofs.counters.pass_all_counters.Given as goal
 

@@ -2,7 +2,7 @@ use Rattle.std.proofs.Common.{◌≤◌, ◌-◌, Ok}
 use Rattle.qcow2_base.specs.Format.{max_file_length}
 use Rattle.qcow2_base.specs.Storage.{OnImages}
 use Rattle.qcow2_check.specs.Uses.{image_tables}
-use Rattle.qcow2_repair.specs.Repair.{ReportsFailures}
+use Rattle.qcow2_check.specs.Failures.{ReportsFailures}
 use Rattle.qcow2_repair.specs.Flags.{IsL1TableOf, PassesFlags, pass_between}
 use Rattle.qcow2_repair.proofs.flag_windows.pass_all_flags.Given as goal
 

@@ -1,7 +1,7 @@
 use Rattle.std.proofs.Common.{Ok}
 use Rattle.qcow2_base.specs.Storage.{OnImages}
 use Rattle.qcow2_repair.proofs.FlagsLemmas.{PassesSome}
-use Rattle.qcow2_repair.specs.Repair.{ReportsFailures}
+use Rattle.qcow2_check.specs.Failures.{ReportsFailures}
 use Rattle.qcow2_repair.specs.Flags.{pass_by}
 use Rattle.qcow2_repair.proofs.flags.FlagPass.pass_tables.Given as goal
 
