@@ -31,6 +31,7 @@ fn counters_end<S: Storage>(
     ensures reads { Reads (λ end. end) result
         (λ bytes. Ok (end_of (is_counted counters.old.header counters.old.reftable bytes) limit))
         (λ _. ⊥) (S.state image.old) (S.state image.new) }
+    ensures reader { IsSameButBlock (S.state image.old) counters.old counters.new }
 {
     let mut end = counters.counted().min(limit);
     while end > 0 {
@@ -64,6 +65,7 @@ pub fn end_of_image<S: Storage>(
         → (tables.reftable ≡ counters.old.reftable)
         → OnImage (S.state image.old) (λ bytes. (found_end ≡ findings_end tables bytes)
         → IfOk result (λ end. end ≡ image_end tables bytes)) }
+    ensures reader { IsSameButBlock (S.state image.old) counters.old counters.new }
     ensures fault { IfErr result IsFromOutside }
     ensures storage { OnlyReads result (S.state image.old) (S.state image.new) }
 {
