@@ -1,12 +1,13 @@
-use Rattle.std.proofs.Common.{◌≡◌, ◌↔◌, ℕ, zero, suc, ◌+◌, ◌-◌, ◌%◌, ◌*◌, ◌/◌, ◌^◌, ◌<◌, ◌≤◌, List, [], ◌∷◌, length, slice_index, take, min, Option, None, Some, IsSomeAnd, inl, inr, refl, sym, ap, ◌∙◌, pow-add, div-add-mod', arith}
+use Rattle.std.proofs.Common.{◌≡◌, ◌↔◌, ℕ, zero, suc, ◌+◌, ◌-◌, ◌%◌, ◌*◌, ◌/◌, ◌^◌, ◌<◌, ◌≤◌, List, [], ◌∷◌, length, slice_index, take, Option, None, Some, IsSome, IsSomeAnd, inl, inr, refl, sym, ap, ◌∙◌, pow-add, div-add-mod', arith}
 use Rattle.std.proofs.lemmas.Bool.Decides.{nat_tests}
-use Rattle.std.proofs.lemmas.Nat.{div-mul-add, mod_below, mul-le, pow_pos}
+use Rattle.std.proofs.lemmas.Nat.{div-mul-add, mod_below, pow_pos}
 use Rattle.std.proofs.lemmas.Bool.{cases_lt}
-use Rattle.std.proofs.Math.Nat.{div-lt_iff_lt-mul, mod-le, mul-div_cancel}
+use Rattle.std.proofs.Math.Nat.{add-mul, div-lt_iff_lt-mul, le-div_iff_mul-le, mod-le, mul-div_cancel, one-mul}
 use Rattle.qcow2_metadata.proofs.EntriesLemmas.{div_rises}
 use Rattle.std.proofs.lemmas.List.{get_or_past}
 use Rattle.qcow2_metadata.proofs.TableLemmas.{first_fault-append}
 use Rattle.qcow2_check.proofs.UsesLemmas.{take_more}
+use Rattle.qcow2_base.specs.Format.{max_file_length}
 use Rattle.qcow2_base.specs.declared.fault.Fault.{Fault}
 use Rattle.qcow2_base.specs.declared.fault.Fault.TheVariants.{TablePlace}
 use Rattle.qcow2_base.specs.declared.types.HostCluster.{HostCluster}
@@ -155,16 +156,53 @@ whole_end k low =
     let parts : 2 ^ (56 - k) * 2 ^ k ≡ 2 ^ 56 = sym (pow-add 2 (56 - k) k) ∙ ap (λ n. 2 ^ n) sum in
     ap (λ n. n / 2 ^ k * 2 ^ k) (sym parts) ∙ ap (λ n. n * 2 ^ k) (mul-div_cancel (2 ^ (56 - k)) (pow_pos k)) ∙ parts
 
--- what comes after the clusters that a block counts is counted by later blocks
-pub after_end : (k index c : ℕ) → k ≤ 56 → min (index + 1) (2 ^ 56 / 2 ^ k) * 2 ^ k ≤ c → c < 2 ^ 56 → index < c / 2 ^ k
-after_end k index c low past below = elim (cases_lt (2 ^ 56 / 2 ^ k) (index + 1)) [
-  | inl less ↦ absurd (let end = whole_end k low in grind (arith, nat_tests, past, below, less, end))
-  | inr more ↦
-      let ends : (index + 1) * 2 ^ k ≤ c = grind (arith, nat_tests, past, more) in
-      grind (arith, nat_tests, ends, div-lt_iff_lt-mul, pow_pos)
-]
+-- clusters up to the greatest end are those of the blocks before the one that would end past it
+pub within_blocks : (k c : ℕ) → k ≤ 56 → c < 2 ^ 56 → c / 2 ^ k < 2 ^ 56 / 2 ^ k
+within_blocks k c low below = (div-lt_iff_lt-mul (pow_pos k)).1 (rw (whole_end k low) below)
 
-pub end_fits : (k index : ℕ) → k ≤ 56 → min (index + 1) (2 ^ 56 / 2 ^ k) * 2 ^ k ≤ 2 ^ 56
-end_fits k index low =
-    let most : min (index + 1) (2 ^ 56 / 2 ^ k) ≤ 2 ^ 56 / 2 ^ k = omega arith in
-    rw (whole_end k low) at (mul-le _ (2 ^ k) _ (2 ^ k) most (omega arith))
+-- what comes after the clusters that a block counts is counted by later blocks
+pub after_end : (k index c : ℕ) → (index + 1) * 2 ^ k ≤ c → index < c / 2 ^ k
+after_end k index c past = let next : index + 1 ≤ c / 2 ^ k = (le-div_iff_mul-le (pow_pos k)).1 past in omega (arith, next)
+
+-- and the last of them is the one before
+pub last_before_end : (k index : ℕ) → ((index + 1) * 2 ^ k - 1) / 2 ^ k ≡ index
+last_before_end k index =
+    let some : 0 < 2 ^ k = pow_pos k in
+    let more : (index + 1) * 2 ^ k ≡ index * 2 ^ k + 2 ^ k = add-mul index 1 (2 ^ k) ∙ ap (λ n. index * 2 ^ k + n) (one-mul (2 ^ k)) in
+    let sum : (index + 1) * 2 ^ k - 1 ≡ index * 2 ^ k + (2 ^ k - 1) = omega (arith, more, some) in
+    ap (λ n. n / 2 ^ k) sum ∙ div-mul-add index (2 ^ k) (2 ^ k - 1) (omega (arith, some))
+
+-- they end by the greatest end
+pub end_fits : (k index : ℕ) → index < 2 ^ 56 / 2 ^ k → (index + 1) * 2 ^ k ≤ 2 ^ 56
+end_fits k index below = (le-div_iff_mul-le (pow_pos k)).0 (omega (arith, below))
+
+-- an end is after the last cluster that a block counts which one of the entries before an index names
+pub record EndsBlocks (header : HeaderRecord) (reftable : List ℕ) (index end : ℕ) : Type 0 where
+  pub none : (c : ℕ) → end ≤ c → c / counters_each header < index → block_of_cluster header reftable c ≡ None
+  pub last : 0 < end → IsSome (block_of_cluster header reftable (end - 1))
+  pub fits : end ≤ max_file_length
+
+-- the next entry names a block, or doesn't
+pub ends_after : (header : HeaderRecord) (reftable : List ℕ) (index end : ℕ) → index < 2 ^ 56 / counters_each header
+    → IsSome (named_block header.v2.cluster_bits (slice_index reftable index)) → end ≡ (index + 1) * counters_each header
+    → EndsBlocks header reftable (index + 1) end
+ends_after header reftable index end below named is =
+    let k = header.v2.cluster_bits + 3 - header.base.refcount_order in
+    record {
+      none = λ c past less. absurd (omega (arith, after_end k index c (rw is at past), less));
+      last = λ some. rw (is, last_before_end k index) named;
+      fits = rw is (end_fits k index below);
+    }
+
+pub ends_before : (header : HeaderRecord) (reftable : List ℕ) (index end : ℕ) → EndsBlocks header reftable index end
+    → named_block header.v2.cluster_bits (slice_index reftable index) ≡ None → EndsBlocks header reftable (index + 1) end
+ends_before header reftable index end before none = record {
+  none = λ c past below. elim (cases_lt (c / counters_each header) index) [
+    | inl less ↦ before.none c past less
+    | inr more ↦ let same : c / counters_each header ≡ index = omega (arith, more, below) in rw same none
+  ];
+  last = before.last;
+  fits = before.fits;
+}
+
+pub ruleset ends_of_blocks = (ends, within_blocks)

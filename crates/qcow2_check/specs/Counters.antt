@@ -1,5 +1,6 @@
 -- What does an image's own counter say of a cluster?
-use Rattle.std.specs.Prelude.{◌≡◌, ◌⊎◌, ℕ, ◌/◌, ◌%◌, List, [], slice_index, Option, Some, None, Result, Ok, IfSome}
+use Rattle.std.specs.Prelude.{◌≡◌, ◌⊎◌, ℕ, ◌-◌, ◌/◌, ◌%◌, ◌<◌, ◌≤◌, List, [], slice_index, Option, Some, None, Result, Ok, IfSome, IsSome}
+use Rattle.qcow2_base.specs.Format.{max_file_length}
 use Rattle.qcow2_base.specs.Storage.{Image, OnImage, StorageState}
 use Rattle.qcow2_base.specs.declared.fault.Fault.{Fault}
 use Rattle.qcow2_base.specs.declared.fault.Fault.TheVariants.{TablePlace}
@@ -19,6 +20,12 @@ counters_each header = block_entries header.v2.cluster_bits header.base.refcount
 abbrev pub block_of_cluster : HeaderRecord → List ℕ → ℕ → Option HostCluster
 block_of_cluster header reftable c =
     named_block header.v2.cluster_bits (slice_index reftable (c / counters_each header))
+
+-- a number is the one after the last cluster that has a block, or 0 where none has
+pub record IsCountedEnd (header : HeaderRecord) (reftable : List ℕ) (end : ℕ) : Type 0 where
+  pub fits : end ≤ max_file_length
+  pub last : 0 < end → IsSome (block_of_cluster header reftable (end - 1))
+  pub none : (c : ℕ) → end ≤ c → c < max_file_length → block_of_cluster header reftable c ≡ None
 
 -- the counter of cluster c, which is 0 where it has no block
 abbrev pub counter_of : HeaderRecord → List ℕ → Image → ℕ → ℕ

@@ -1,14 +1,13 @@
 //! What an image's own counters say of its clusters.
 
-ghost use Rattle.std.specs.Prelude.{◌≡◌, ℕ, ◌+◌, ◌/◌, ◌<◌, ◌≤◌, Ok, Some, None, IfOk, IfSome, IsOkUnless, IsSomeAnd, IsTrue, MatchResult, length, slice_index};
-ghost use Rattle.qcow2_base.specs.Format.{max_file_length, most_entries_in_memory};
+ghost use Rattle.std.specs.Prelude.{◌≡◌, ◌↔◌, ℕ, ◌+◌, ◌<◌, ◌≤◌, Ok, Some, None, IfOk, IfSome, IsOkUnless, IsSomeAnd, IsTrue, MatchResult, length, slice_index};
 ghost use Rattle.qcow2_base.specs.Storage.{OnImage};
 ghost use Rattle.qcow2_base.specs.declared.fault.Fault.TheVariants.{TablePlace};
 ghost use Rattle.qcow2_metadata.specs.Header.{geometry_of};
 ghost use Rattle.qcow2_metadata.specs.Placed.{RefusesPlace, numbers_at, place_fault};
 ghost use Rattle.qcow2_metadata.specs.Refblock.{block_geometry_of, block_layout};
 ghost use Rattle.qcow2_metadata.specs.Results.{Reads};
-ghost use Rattle.qcow2_check.specs.Counters.{IsKeptBlockOf, IsReftableFault, block_of_cluster, IsSameButBlock, block_place_fault, blocks_fault, counters_each, numbers_of_kept};
+ghost use Rattle.qcow2_check.specs.Counters.{IsCountedEnd, IsKeptBlockOf, IsReftableFault, IsSameButBlock, block_of_cluster, block_place_fault, blocks_fault, numbers_of_kept};
 ghost use Rattle.qcow2_check.specs.NamedTables.{reftable_cluster, reftable_layout};
 
 use crate::named_tables::{load_reftable, named_block};
@@ -118,7 +117,7 @@ fn keep_block<S: Storage>(
 #[inline(always)]
 fn are_one(block: &RefBlock, index: usize, count: usize) -> bool
     requires { index + count ≤ length block.now.numbers }
-    ensures { IsTrue result → (k : ℕ) → k < count → slice_index block.now.numbers (index + k) ≡ 1 }
+    ensures { IsTrue result ↔ ((k : ℕ) → k < count → slice_index block.now.numbers (index + k) ≡ 1) }
 {
     prove!(index <= block.entries());
     let mut are_one = true;
@@ -128,38 +127,28 @@ fn are_one(block: &RefBlock, index: usize, count: usize) -> bool
     are_one
 }
 
-// Where the clusters end that the block of a refcount table entry counts, by the greatest end.
-#[tactic(auto, using(crate::proofs::CountersLemmas::after_end, crate::proofs::CountersLemmas::end_fits))]
-fn end_of_block(header: &Header, index: usize) -> u64
-    requires { index < most_entries_in_memory }
-    ensures after { (c : ℕ) → result ≤ c → c < max_file_length → index < c / counters_each header.now }
-    ensures fits { result ≤ max_file_length }
-{
-    let blocks = MAX_FILE_LENGTH >> header.rb_bits();
-    (index as u64 + 1).min(blocks) << header.rb_bits()
-}
-
-/// Where the clusters end that blocks count which a refcount table names.
+/// Where the clusters end that blocks count which a refcount table names: the number after the last of them,
+/// or 0 where there is none.
+#[tactic(auto, using(crate::proofs::CountersLemmas::ends_of_blocks))]
 pub fn counted_end(header: &Header, reftable: &RefTable) -> u64
     requires { reftable.now.geometry ≡ geometry_of header.now }
-    ensures none { (c : ℕ) → result ≤ c → c < max_file_length →
-        block_of_cluster header.now reftable.now.numbers c ≡ None }
-    ensures fits { result ≤ max_file_length }
+    ensures { IsCountedEnd header.now reftable.now.numbers result }
 {
+    let blocks = MAX_FILE_LENGTH >> header.rb_bits();
     let mut end = 0;
-    for index in 0..reftable.entries() {
+    for index in 0..reftable.entries().min(blocks as usize) {
         if named_block(reftable, index).is_some() {
-            end = end_of_block(header, index);
+            end = (index as u64 + 1) << header.rb_bits();
         }
     }
     end
 }
 
 impl<'a> Counters<'a> {
-    ghost use Rattle.std.specs.Prelude.{◌≡◌, ℕ, ◌+◌, ◌<◌, ◌≤◌, None, Some, IfOk, IfSome, IsSomeAnd, IsTrue, is_some};
+    ghost use Rattle.std.specs.Prelude.{◌≡◌, ℕ, ◌+◌, ◌-◌, ◌%◌, ◌<◌, ◌≤◌, None, Some, IfOk, IfSome, IsSomeAnd, IsTrue, is_some};
     ghost use Rattle.qcow2_base.specs.Format.{max_file_length};
     ghost use Rattle.qcow2_base.specs.Storage.{Image};
-    ghost use Rattle.qcow2_check.specs.Counters.{block_of_cluster, blocks_fault, counter_of, placed_reftable};
+    ghost use Rattle.qcow2_check.specs.Counters.{IsCountedEnd, block_of_cluster, blocks_fault, counter_of, counters_each, placed_reftable};
 
     /// A reader of the counters of an image with this header. Reads the refcount table, and returns its fault
     /// where it is refused, and then 21 where a block that it names would end past 2^56. Changes no byte.
@@ -255,6 +244,8 @@ impl<'a> Counters<'a> {
         requires fits { cluster.0 < max_file_length }
         requires none { block_of_cluster self.now.header self.now.reftable cluster.0 ≡ None }
         ensures after { cluster.0 < result }
+        ensures whole { let each = counters_each self.now.header in
+            cluster.0 - cluster.0 % each + each ≤ result }
         ensures none { (c : ℕ) → cluster.0 ≤ c → c < result →
             block_of_cluster self.now.header self.now.reftable c ≡ None }
     {
@@ -268,6 +259,7 @@ impl<'a> Counters<'a> {
     /// The first of the clusters that have their counters in one block with this one's, if there is one.
     #[tactic(auto, using(crate::proofs::CountersLemmas::block_before))]
     pub(crate) fn block_start(&self, cluster: HostCluster) -> u64
+        ensures start { result + cluster.0 % counters_each self.now.header ≡ cluster.0 }
         ensures before { result ≤ cluster.0 }
         ensures same { (c : ℕ) → result ≤ c → c ≤ cluster.0 →
             block_of_cluster self.now.header self.now.reftable c
@@ -284,10 +276,9 @@ impl<'a> Counters<'a> {
         self.header
     }
 
-    /// Where the clusters end that blocks count.
+    /// Where the clusters end that blocks count: the number after the last of them, or 0 where there is none.
     pub(crate) fn counted(&self) -> u64
-        ensures { (c : ℕ) → result ≤ c → c < max_file_length →
-            block_of_cluster self.now.header self.now.reftable c ≡ None }
+        ensures { IsCountedEnd self.now.header self.now.reftable result }
     {
         counted_end(self.header, &self.reftable)
     }

@@ -15,4 +15,4 @@ returns-then-entries-index c = λ sole image kept.
     let inside : first % counters_each header < counters_each header = mod-lt first (pow_pos _) in
     let within : first % counters_each header + c.args.count ≤ counters_each header = omega (arith, index, all, inside, c.if-entries-index.true) in
     kept_ones header c.args.self.now.reftable image c.args.self.now.block block first c.args.count c.in-Some.ensures.kept c.in-Some.ensures.place kept
-    within (λ k below. rw (← index) (c.are_one.ensures sole k below))
+    within (λ k below. rw (← index) (c.are_one.ensures.0 sole k below))
