@@ -8,3 +8,4 @@ pub mod ImageEnd
 pub mod NamedTables
 pub mod Tally
 pub mod Uses
+pub mod Windows

@@ -1,13 +1,15 @@
 //! Which clusters' uses are counted at once.
 
-ghost use Rattle.std.specs.Prelude.{◌≡◌, ◌+◌, ◌^◌, ◌<◌, ◌≤◌, IfOk};
+ghost use Rattle.std.specs.Prelude.{◌≡◌, ◌+◌, ◌*◌, ◌<◌, ◌≤◌, IfOk, false};
 ghost use Rattle.qcow2_base.specs.Format.{max_file_length};
 ghost use Rattle.qcow2_base.specs.Storage.{OnImage};
 ghost use Rattle.qcow2_metadata.specs.Header.{geometry_of};
 ghost use Rattle.qcow2_metadata.specs.Results.{Reads};
 ghost use Rattle.qcow2_metadata.specs.Table.{IsEntryFault};
+ghost use Rattle.qcow2_check.specs.Counters.{IsCountedEnd};
 ghost use Rattle.qcow2_check.specs.Findings.{CountsAll};
 ghost use Rattle.qcow2_check.specs.Uses.{all_load, image_tables};
+ghost use Rattle.qcow2_check.specs.Windows.{IsWindow, cell_bytes, most_cell_bytes};
 
 use crate::counters::counted_end;
 use crate::tally::Tally;
@@ -40,7 +42,8 @@ struct Window {
 // How many cells lie one after another in a window, by how many clusters from it on the blocks count.
 fn dense_cells(counted: u64, is_wide: bool) -> usize
     ensures some { 0 < result }
-    ensures few { result ≤ 2 ^ 25 }
+    ensures bytes { result * cell_bytes is_wide ≤ most_cell_bytes }
+    ensures all { counted * cell_bytes is_wide ≤ most_cell_bytes → counted ≤ result }
 {
     let most = if is_wide {
         MOST_BYTES / 8
@@ -65,6 +68,8 @@ impl Windows {
     /// The windows of an image with these tables.
     pub fn new(header: &Header, l1_table: &L1Table, reftable: &RefTable) -> Windows
         requires { reftable.now.geometry ≡ geometry_of header.now }
+        ensures counted { IsCountedEnd header.now reftable.now.numbers result.counted }
+        ensures is_sparse { result.is_sparse ≡ false }
     {
         Windows {
             counted: counted_end(header, reftable),
@@ -76,9 +81,7 @@ impl Windows {
     // The window that begins with a cluster.
     fn at(&self, first: u64) -> Window
         requires { first < max_file_length }
-        ensures first { result.first ≡ first }
-        ensures some { 0 < result.dense }
-        ensures fits { first + result.dense ≤ max_file_length }
+        ensures { IsWindow self.now first result }
     {
         let left = MAX_FILE_LENGTH - first;
         let (dense, most) = if self.is_sparse {
@@ -116,6 +119,7 @@ impl Windows {
             (image_tables header.now l1_table.now.numbers reftable.now.numbers) bytes tally)) }
         ensures first { IfOk result (λ tally. (tally.first ≡ first) × (first < tally.end)
             × (tally.end ≤ max_file_length)) }
+        ensures same { self.new ≡ record self.old { is_sparse = self.new.is_sparse } }
     {
         let Window {
             first,
