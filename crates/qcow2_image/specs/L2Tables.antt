@@ -1,5 +1,5 @@
 -- Which L2 tables do an image's L1 entries name, one after another?
-use Rattle.std.specs.Prelude.{◌≡◌, ◌⊎◌, ℕ, ◌+◌, ◌<◌, ◌≤◌, List, [], ◌∷◌, ◌++◌, drop, length, Option, Some, None, option_map, option_to_list, Result, Ok, Err, IfErr, IfOk, MatchOption}
+use Rattle.std.specs.Prelude.{◌≡◌, ◌⊎◌, ℕ, ◌+◌, ◌<◌, ◌≤◌, List, [], ◌∷◌, ◌++◌, drop, false, length, slice_index, Option, Some, None, option_map, option_to_list, Result, Ok, Err, IfErr, IfOk, MatchOption}
 use Rattle.qcow2_base.specs.Format.{most_l1_entries}
 use Rattle.qcow2_base.specs.Storage.{Image}
 use Rattle.qcow2_base.specs.declared.fault.Fault.{Fault}
@@ -29,11 +29,14 @@ pub record WalkState : Type 0 where
 abbrev pub tables_left : WalkState → Image → NamedTables
 tables_left walk image = named_tables (geometry_of walk.header) walk.index (drop walk.index walk.l1) image
 
--- a table is one of a walk, with the index of its L1 entry
-pub record IsTableOf (header : HeaderRecord) (found : ℕ × TableState) : Type 0 where
+-- a table is one of a walk, with the index of its L1 entry: it begins with the cluster that the entry names, and wasn't
+-- changed since it was loaded
+pub record IsTableOf (walk : WalkState) (found : ℕ × TableState) : Type 0 where
   pub index : found.0 < most_l1_entries
-  pub geometry : found.1.geometry ≡ geometry_of header
-  pub entries : length found.1.numbers ≡ l2_entries header.v2.cluster_bits
+  pub cluster : found.1.cluster ≡ named_cluster walk.header.v2.cluster_bits (slice_index walk.l1 found.0)
+  pub unmodified : found.1.modified ≡ false
+  pub geometry : found.1.geometry ≡ geometry_of walk.header
+  pub entries : length found.1.numbers ≡ l2_entries walk.header.v2.cluster_bits
 
 -- there is a table, and the first one can't be loaded, for this fault
 abbrev pub RefusesTable : NamedTables → Fault → Type 0
@@ -46,9 +49,9 @@ TellsTable before after (Ok None) = before ≡ []
 TellsTable before after (Ok (Some found)) = before ≡ (found.0, Ok found.1.numbers) ∷ after
 TellsTable before after (Err fault) = RefusesTable before fault
 
--- how far a walk goes by an answer: past the table that it finds. At the end and after a fault it is where it was
+-- how far a walk goes by an answer: just past the table that it finds. At the end and after a fault it is where it was
 pub record GoesOn (answer : Result (Option (ℕ × TableState)) Fault) (old new : WalkState) : Type 0 where
   pub same : new ≡ record old { index = new.index }
   pub within : new.index ≤ length old.l1
-  pub further : IfOk answer (λ next. MatchOption next (new ≡ old) (λ found. old.index < new.index))
+  pub further : IfOk answer (λ next. MatchOption next (new ≡ old) (λ found. (old.index ≤ found.0) × (new.index ≡ found.0 + 1)))
   pub stays : IfErr answer (λ fault. new ≡ old)

@@ -65,7 +65,7 @@ impl<'a> L2Tables<'a> {
     pub fn next<S: Storage>(&mut self, image: &mut S) -> Result<Option<(usize, L2Table)>, Fault>
         ensures told { OnImage (S.state image.old) (λ bytes.
             TellsTable (tables_left self.old bytes) (tables_left self.new bytes) result) }
-        ensures table { IfOk result (λ found. IfSome found (IsTableOf self.old.header)) }
+        ensures table { IfOk result (λ found. IfSome found (IsTableOf self.old)) }
         ensures walk { GoesOn result self.old self.new }
         ensures storage { OnlyReads result (S.state image.old) (S.state image.new) }
     {
