@@ -1,9 +1,9 @@
-use Rattle.std.proofs.Common.{◌≡◌, ◌⊎◌, ◌↔◌, ℕ, true, false, Option, ◌+◌, ◌-◌, ◌*◌, ◌/◌, ◌%◌, ◌^◌, ◌<◌, ◌≤◌, min, List, [], ◌∷◌, ◌++◌, length, get_or, Some, None, Result, Ok, Err, IsOkAnd, MatchResult, refl, ap, sym, ◌∙◌, inl, inr, arith}
+use Rattle.std.proofs.Common.{◌≡◌, ◌⊎◌, ◌↔◌, ℕ, true, false, Option, ◌+◌, ◌-◌, ◌*◌, ◌/◌, ◌%◌, ◌^◌, ◌<◌, ◌≤◌, min, List, [], ◌∷◌, ◌++◌, length, get_or, Some, None, Result, Ok, Err, IsOkAnd, IsSome, MatchResult, refl, ap, sym, ◌∙◌, inl, inr, arith}
 use Rattle.std.proofs.lemmas.Bool.{cases_lt}
 use Rattle.std.proofs.lemmas.Bool.Decides.{nat_tests}
 use Rattle.std.proofs.lemmas.List.{get_or_past}
 use Rattle.std.proofs.lemmas.Nat.{div-add-mod', div-mul-add, mod-mul-add, mul-le, pow_pos, pow-add}
-use Rattle.std.proofs.Math.Nat.{div-lt_iff_lt-mul, mod-eq_of_lt, mod-lt, mul_assoc}
+use Rattle.std.proofs.Math.Nat.{div-lt_iff_lt-mul, mod-eq_of_lt, mod-lt, mul-div_cancel, mul_assoc}
 use Rattle.std.proofs.Math.Pow.{pow_mono}
 use Rattle.std.specs.Option.{is_some}
 use Rattle.qcow2_base.specs.Storage.{Image, OnlyReads, StorageState}
@@ -61,6 +61,14 @@ pub no_table_after : (cb : ℕ) (l1 : List ℕ) (from to : ℕ) → l2_cluster c
     → ((k : ℕ) → from / 2 ^ cb / l2_entries cb + 1 ≤ k → named_cluster cb (get_or l1 k 0) ≡ None)
     → HasNoTable cb l1 from to
 no_table_after cb l1 from to here none = grind (arith, nat_tests, div_rises, pow_pos)
+
+-- the first byte after them has one
+pub table_at_end : (cb : ℕ) (l1 : List ℕ) (next end : ℕ) → 9 ≤ cb → end ≡ next * 2 ^ (2 * cb - 3) → IsSome (named_cluster cb (get_or l1 next 0))
+    → IsSome (l2_cluster cb l1 (end / 2 ^ cb))
+table_at_end cb l1 next end low is named =
+    let first : end / 2 ^ cb ≡ next * l2_entries cb = ap (λ x. x / 2 ^ cb) (is ∙ tables_size cb next low) ∙ mul-div_cancel (next * l2_entries cb) (pow_pos cb) in
+    let index : end / 2 ^ cb / l2_entries cb ≡ next = ap (λ x. x / l2_entries cb) first ∙ mul-div_cancel next (pow_pos (cb - 3)) in
+    rw index named
 
 -- what clusters read as goes on byte by byte
 data_moves : (cb k before cluster d e n : ℕ) → cluster ≡ before + k → k * 2 ^ cb + e ≡ d + n → cluster * 2 ^ cb + e ≡ before * 2 ^ cb + d + n

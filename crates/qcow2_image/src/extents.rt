@@ -1,6 +1,6 @@
 //! What a whole disk reads as, in extents: parts of it that read as one, as long as they go.
 
-ghost use Rattle.std.specs.Prelude.{◌≡◌, ◌⊎◌, ◌+◌, ◌-◌, ◌*◌, ◌/◌, ◌^◌, ◌<◌, ◌≤◌, ◌↔◌, None, Some, Ok, Err, IfErr, IfOk, IfSome, IsOkAnd, IsSomeAnd, IsTrue, MatchResult};
+ghost use Rattle.std.specs.Prelude.{◌≡◌, ◌⊎◌, ◌+◌, ◌-◌, ◌*◌, ◌/◌, ◌^◌, ◌<◌, ◌≤◌, ◌↔◌, None, Some, Ok, Err, IfErr, IfOk, IfSome, IsOkAnd, IsSome, IsSomeAnd, IsTrue, MatchResult};
 ghost use Rattle.qcow2_base.specs.Storage.{OnImage, OnlyReads};
 ghost use Rattle.qcow2_base.specs.declared.fault.Fault.TheVariants.{NoMemory, Storage as StorageFailed};
 ghost use Rattle.qcow2_metadata.specs.Results.{Reads, result_map};
@@ -92,7 +92,7 @@ impl Content {
     }
 }
 
-// Up to where no L2 table is for the bytes from an offset on, or the disk's size.
+// The next offset after this one that has an L2 table, or the disk's size.
 fn gap_end(l1_table: &L1Table, from: u64, size: u64) -> u64
     requires within { from < size }
     requires none { let cb = l1_table.now.geometry.cluster_bits in
@@ -100,6 +100,8 @@ fn gap_end(l1_table: &L1Table, from: u64, size: u64) -> u64
     ensures some { from < result }
     ensures within { result ≤ size }
     ensures none { HasNoTable l1_table.now.geometry.cluster_bits l1_table.now.numbers from result }
+    ensures ends { result < size → let cb = l1_table.now.geometry.cluster_bits in
+        IsSome (l2_cluster cb l1_table.now.numbers (result / 2 ^ cb)) }
 {
     let cluster_bits = l1_table.cluster_bits();
     let index = GuestOffset(from).l1_index(cluster_bits);
