@@ -51,8 +51,8 @@ fn counters_end<S: Storage>(
 /// that can end by 2^56. The number after the last of these of which something is found must be
 /// `found_end`.
 ///
-/// Fails where the storage does or memory runs out. The image must be the one that the reader of counters was
-/// made for, unchanged since. Changes no byte.
+/// Fails where the storage does or memory runs out, and can be called again then. The image must be the one
+/// that the reader of counters was made for, unchanged since. Changes no byte.
 pub fn end_of_image<S: Storage>(
     counters: &mut Counters<'_>,
     image: &mut S,
