@@ -1,5 +1,6 @@
 //! Storages in memory, and what the tests of all storages share.
 
+mod buffered;
 mod files;
 mod large_files;
 

@@ -22,6 +22,7 @@ use super::map::print_extents;
 use super::report::{refuse_words, report_fault};
 use super::verdict::Verdict;
 use qcow2_base::{Fault, FileStorage, Storage};
+use qcow2_buffered::BufferedStorage;
 use qcow2_metadata::Header;
 use std::alloc::Global;
 use std::io;
@@ -76,7 +77,8 @@ fn status_of<E: Write>(ran: Result<Verdict, Fault>, err: &mut E) -> u8
     }
 }
 
-// Opens the image of a file, for writing where the command may change it, and runs the command over it.
+// Opens the image of a file, for writing where the command may change it, and runs the command over it. One
+// that reads all tables reads them in pages as long as a cluster.
 fn run_on_file<R: Files + AllocGlobal, O: Write>(
     rt: &R,
     path: &str,
@@ -89,8 +91,21 @@ fn run_on_file<R: Files + AllocGlobal, O: Write>(
         fault ≢ StorageFailed → Keeps (O.contents out.old) (O.contents out.new)) }
     ensures verdict { (facts_of command.now).has_verdict ≡ false → IfOk result (λ verdict. verdict ≡ Fine) }
 {
-    let mut image = FileStorage::open(rt, path, command.changes_image())?;
+    let mut file = FileStorage::open(rt, path, command.changes_image())?;
+    if !reads_all_tables(command) {
+        return run_and_flush(rt.alloc(), &mut file, command, out);
+    }
+    let header = Header::load(rt.alloc(), &mut file, false)?;
+    let mut image = BufferedStorage::new(rt.alloc(), file, header.cluster_size())?;
     run_and_flush(rt.alloc(), &mut image, command, out)
+}
+
+// Whether a command reads all tables of its image.
+fn reads_all_tables(command: &Command) -> bool {
+    matches!(
+        command,
+        Command::List | Command::Map { .. } | Command::Check { .. }
+    )
 }
 
 // Runs a command over an image, and flushes what it printed, also before a fault.

@@ -1,0 +1,114 @@
+//! Storages that are read in pages: which calls reach the storage below.
+
+use super::{LIMIT, READS as SMALL_READS, check_bytes, memory, read, write};
+use qcow2_base::{MemStorage, Storage, StorageFault};
+use qcow2_buffered::BufferedStorage;
+use qcow2_testing::{FailingStorage, StorageCall, each, filled_image, rows, same};
+use std::alloc::Global;
+use std::test::Fail;
+
+type Buffered = BufferedStorage<FailingStorage<MemStorage>>;
+
+// An image of 0xa5 whose calls are recorded, with a plan for the one that fails, below pages for clusters of
+// a size.
+fn buffered(alloc: Global, cluster_size: usize, plan: Option<u64>) -> Result<Buffered, Fail> {
+    let mut inner = FailingStorage::new(alloc, filled_image(alloc, 20000)?);
+    inner.plan = plan;
+    Ok(BufferedStorage::new(alloc, inner, cluster_size)?)
+}
+
+// Where a read begins, and how many bytes it has.
+type Part = (u64, usize);
+
+// That these reads reached the storage below, and nothing else.
+fn check_reads(alloc: Global, storage: &Buffered, reads: &[Part]) -> Result<(), Fail> {
+    let mut calls = Vec::new(alloc);
+    for read in reads {
+        let (offset, len) = *read;
+        calls.push(StorageCall::Read { offset, len })?;
+    }
+    same(storage.inner().calls.as_slice(), calls.as_slice(), "calls")
+}
+
+// The size of a cluster, what is read, and what of that reaches the storage below.
+#[derive(Clone, Copy, Debug)]
+struct InPages {
+    cluster_size: usize,
+    reads: &'static [Part],
+    below: &'static [Part],
+}
+
+const READS: &[InPages] = rows! { InPages:
+    // small clusters, which lie in one page
+    { cluster_size: 512, reads: &[(512, 512), (1024, 512), (4096, 8)], below: &[(0, 4096), (4096, 4096)] },
+    // pieces of a table, in clusters of 64 KiB and in larger ones
+    { cluster_size: 65536, reads: &[(65536, 4096), (69632, 4096), (73728, 8)], below: &[(65536, 65536)] },
+    { cluster_size: 2097152, reads: &[(0, 4096), (4096, 4096)], below: &[(0, 65536)] },
+    // what reaches from one page into the next, or is longer than one
+    { cluster_size: 512, reads: &[(4090, 16), (4090, 6)], below: &[(4090, 16), (0, 4096)] },
+    { cluster_size: 512, reads: &[(4096, 4097)], below: &[(4096, 4097)] },
+    // the last page that there can be
+    { cluster_size: 65536, reads: &[(LIMIT - 8, 8), (LIMIT - 4096, 4096)], below: &[(LIMIT - 65536, 65536)] },
+    // a fifth page takes the place of the one that was read least lately
+    { cluster_size: 4096,
+        reads: &[(0, 8), (4096, 8), (8192, 8), (12288, 8), (8, 8), (20480, 8), (16, 8), (4104, 8)],
+        below: &[(0, 4096), (4096, 4096), (8192, 4096), (12288, 4096), (20480, 4096), (4096, 4096)] },
+};
+
+fn check_in_pages(alloc: Global, row: InPages) -> Result<(), Fail> {
+    let mut storage = buffered(alloc, row.cluster_size, None)?;
+    for part in row.reads {
+        let (offset, len) = *part;
+        let mut found = vec![in alloc; 1; len]?;
+        same(
+            read(&mut storage, found.as_mut_slice(), offset),
+            Ok(()),
+            row,
+        )?;
+    }
+    check_reads(alloc, &storage, row.below)
+}
+
+#[test]
+fn pages_are_read_once_while_they_are_kept(rt: HostRuntime) -> Result<(), Fail> {
+    each(rt.alloc(), READS, check_in_pages)
+}
+
+#[test]
+fn a_read_through_pages_gives_the_bytes(rt: HostRuntime) -> Result<(), Fail> {
+    let inner = memory(rt.alloc(), &[1, 2, 3, 4, 5])?;
+    let mut storage = BufferedStorage::new(rt.alloc(), inner, 512)?;
+    same((storage.mem_align(), storage.req_align()), (1, 1), "new")?;
+    for (offset, bytes) in SMALL_READS {
+        check_bytes(rt.alloc(), &mut storage, *offset, bytes)?;
+    }
+    Ok(())
+}
+
+#[test]
+fn a_page_that_cannot_be_read_fails_the_read_and_is_not_kept(rt: HostRuntime) -> Result<(), Fail> {
+    let mut storage = buffered(rt.alloc(), 512, Some(0))?;
+    same(
+        read(&mut storage, &mut [0; 4], 8),
+        Err(StorageFault),
+        "failed",
+    )?;
+    check_bytes(rt.alloc(), &mut storage, 8, &[0xa5; 4])?;
+    check_reads(rt.alloc(), &storage, &[(0, 4096), (0, 4096)])
+}
+
+#[test]
+fn no_page_is_kept_after_a_write(rt: HostRuntime) -> Result<(), Fail> {
+    let mut storage = buffered(rt.alloc(), 512, Some(2))?;
+    check_bytes(rt.alloc(), &mut storage, 0, &[0xa5; 4])?;
+    same(write(&mut storage, &[7, 8], 1), Ok(()), "written")?;
+    same(write(&mut storage, &[9], 2), Err(StorageFault), "failed")?;
+    check_bytes(rt.alloc(), &mut storage, 0, &[0xa5, 7, 8, 0xa5])
+}
+
+#[test]
+fn a_sync_through_pages_is_passed_on(rt: HostRuntime) -> Result<(), Fail> {
+    let mut storage = buffered(rt.alloc(), 512, Some(1))?;
+    let answers = (storage.sync(), storage.sync(), storage.sync());
+    same(answers, (Ok(()), Err(StorageFault), Ok(())), "three calls")
+}
