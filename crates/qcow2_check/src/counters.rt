@@ -11,6 +11,7 @@ ghost use Rattle.qcow2_check.specs.Counters.{IsCountedEnd, IsKeptBlockOf, IsReft
 ghost use Rattle.qcow2_check.specs.NamedTables.{reftable_cluster, reftable_layout};
 
 use crate::named_tables::{load_reftable, named_block};
+use crate::uses::TOGETHER;
 use qcow2_base::{Fault, HostCluster, MAX_FILE_LENGTH, Storage};
 use qcow2_metadata::{Header, RefBlock, RefTable, Table};
 use std::alloc::Global;
@@ -145,7 +146,7 @@ pub fn counted_end(header: &Header, reftable: &RefTable) -> u64
 }
 
 impl<'a> Counters<'a> {
-    ghost use Rattle.std.specs.Prelude.{◌≡◌, ℕ, ◌+◌, ◌-◌, ◌%◌, ◌<◌, ◌≤◌, None, Some, IfOk, IfSome, IsSomeAnd, IsTrue, is_some};
+    ghost use Rattle.std.specs.Prelude.{◌≡◌, ℕ, ◌+◌, ◌-◌, ◌%◌, ◌<◌, ◌≤◌, None, Some, IfOk, IfSome, IsSomeAnd, IsTrue, is_some, slice_index};
     ghost use Rattle.qcow2_base.specs.Format.{max_file_length};
     ghost use Rattle.qcow2_base.specs.Storage.{Image};
     ghost use Rattle.qcow2_check.specs.Counters.{IsCountedEnd, block_of_cluster, blocks_fault, counter_of, counters_each, placed_reftable};
@@ -200,20 +201,38 @@ impl<'a> Counters<'a> {
         (cluster.rt_index(self.header.rb_bits()) == self.kept_index).then_some(block)
     }
 
-    /// Whether the counter of a cluster is in the block that is kept, and 1. Reads a counter there in any
-    /// case, and has no branch that depends on the cluster.
+    /// The counters that the kept block has at the indices of clusters, which are theirs if it is their block.
+    /// If none is kept they are 0. Nothing else is done in the loop, so that their width is looked at once.
+    #[inline(always)]
+    pub(crate) fn kept_at(&self, clusters: &[u64; TOGETHER]) -> [u64; TOGETHER]
+        ensures { IfSome self.now.block (λ block. (k : ℕ) → k < 16 → slice_index result k
+            ≡ slice_index block.numbers (slice_index clusters.now k % counters_each self.now.header)) }
+    {
+        let mut counters = [0; TOGETHER];
+        let Some(block) = &self.block else {
+            return counters;
+        };
+        let rb_bits = self.header.rb_bits();
+        for k in 0..TOGETHER {
+            let index = HostCluster(clusters[k]).rb_index(rb_bits);
+            prove!(index < block.entries());
+            counters[k] = block.get(index);
+        }
+        counters
+    }
+
+    /// Whether the counter of a cluster is in the block that is kept, and 1, by what `kept_at` returned for
+    /// the cluster. Has no branch that depends on it.
     #[inline(always)]
     #[tactic(auto, using(crate::proofs::CountersLemmas::kept_counter))]
-    pub(crate) fn is_kept_sole(&self, cluster: HostCluster) -> bool
+    pub(crate) fn is_kept_sole(&self, cluster: HostCluster, kept: u64) -> bool
+        requires { IfSome self.now.block (λ block.
+            kept ≡ slice_index block.numbers (cluster.0 % counters_each self.now.header)) }
         ensures { IsTrue result → (image : Image) → IsKeptBlockOf self.now.header image self.now.block →
             counter_of self.now.header self.now.reftable image cluster.0 ≡ 1 }
     {
-        let Some(block) = &self.block else {
-            return false;
-        };
-        let (table_index, index) = cluster.rt_rb_indices(self.header.rb_bits());
-        prove!(index < block.entries());
-        (table_index == self.kept_index) & (block.get(index) == 1)
+        let table_index = cluster.rt_index(self.header.rb_bits());
+        self.block.is_some() & (table_index == self.kept_index) & (kept == 1)
     }
 
     /// Whether the counters of that many clusters from one on are all in the block that is kept, and 1.

@@ -1,6 +1,6 @@
 //! Entries whose copied flag isn't what the counter of their cluster says.
 
-ghost use Rattle.std.specs.Prelude.{◌≡◌, ℕ, ◌+◌, ◌*◌, ◌/◌, ◌^◌, ◌<◌, ◌≤◌, false, true, IsTrue, IfErr, IfOk, IfSome, Ok, length, slice_index};
+ghost use Rattle.std.specs.Prelude.{◌≡◌, ℕ, ◌%◌, ◌+◌, ◌*◌, ◌/◌, ◌^◌, ◌<◌, ◌≤◌, false, true, IsTrue, IfErr, IfOk, IfSome, Ok, length, slice_index};
 ghost use Rattle.qcow2_base.specs.Format.{most_l1_entries};
 ghost use Rattle.qcow2_base.specs.Storage.{OnImage, OnlyReads};
 ghost use Rattle.qcow2_base.specs.Types.{IsClusterBits};
@@ -8,7 +8,7 @@ ghost use Rattle.qcow2_metadata.specs.Entries.{is_copied, offset_field};
 ghost use Rattle.qcow2_metadata.specs.Header.{geometry, geometry_of};
 ghost use Rattle.qcow2_metadata.specs.Results.{IsFromOutside, Reads};
 ghost use Rattle.qcow2_metadata.specs.Table.{l2_entries};
-ghost use Rattle.qcow2_check.specs.Counters.{IsKeptBlockOf, IsSameButBlock};
+ghost use Rattle.qcow2_check.specs.Counters.{IsKeptBlockOf, IsSameButBlock, counters_each};
 ghost use Rattle.qcow2_check.specs.Flags.{HasNoFlag, TakesFlag, data_counter, flagged_cluster, l2_flag, l2_flags_from, wrong_flag};
 
 use crate::counters::Counters;
@@ -184,17 +184,37 @@ fn cluster_at(entry: L2Entry, cluster_bits: u32) -> HostCluster
     HostOffset(field(entry.to_plain(), 9, 47) * 512).cluster(cluster_bits)
 }
 
-// Whether the flag of an entry is right by the block that is kept, or the entry has none.
+// The clusters at the offsets of the entries from an index on, as many as are looked at together, as if all
+// were standard ones.
+#[inline(always)]
+fn clusters_at(table: &L2Table, first: usize) -> [u64; TOGETHER]
+    requires { first + 16 ≤ length table.now.numbers }
+    ensures { (k : ℕ) → k < 16 → slice_index result k
+        ≡ offset_field (slice_index table.now.numbers (first + k)) / 2 ^ table.now.geometry.cluster_bits }
+{
+    prove!(first < table.entries());
+    let cluster_bits = table.cluster_bits();
+    let mut clusters = [0; TOGETHER];
+    for k in 0..TOGETHER {
+        clusters[k] = cluster_at(entry_at(table, first + k), cluster_bits).0;
+    }
+    clusters
+}
+
+// Whether the flag of an entry is right by the block that is kept, or the entry has none. The counter is the
+// one that the block has at the index of the entry's cluster.
 #[inline(always)]
 #[tactic(auto, using(crate::proofs::FlagsLemmas::sole_is_right, crate::proofs::FlagsLemmas::other_is_right))]
-fn is_right(counters: &Counters<'_>, entry: L2Entry, cluster_bits: u32) -> bool
+fn is_right(counters: &Counters<'_>, entry: L2Entry, cluster_bits: u32, kept: u64) -> bool
     requires bits { IsClusterBits cluster_bits }
     requires same { cluster_bits ≡ counters.now.header.v2.cluster_bits }
+    requires kept { IfSome counters.now.block (λ block. kept ≡ slice_index block.numbers
+        (offset_field entry / 2 ^ cluster_bits % counters_each counters.now.header)) }
     ensures { IsTrue result → (geometry_of counters.now.header).external_data_file ≡ false →
         HasNoFlag counters.now entry }
 {
     let has_none = entry.is_compressed() | (field(entry.to_plain(), 9, 47) == 0);
-    let is_sole = counters.is_kept_sole(cluster_at(entry, cluster_bits));
+    let is_sole = counters.is_kept_sole(cluster_at(entry, cluster_bits), kept);
     has_none | (entry.is_copied() & is_sole)
 }
 
@@ -209,9 +229,10 @@ fn are_right(counters: &Counters<'_>, table: &L2Table, first: usize) -> bool
 {
     prove!(first < table.entries());
     let cluster_bits = table.cluster_bits();
+    let kept = counters.kept_at(&clusters_at(table, first));
     let mut right = true;
     for k in 0..TOGETHER {
-        right &= is_right(counters, entry_at(table, first + k), cluster_bits);
+        right &= is_right(counters, entry_at(table, first + k), cluster_bits, kept[k]);
     }
     right
 }

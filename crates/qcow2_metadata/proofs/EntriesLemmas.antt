@@ -1,4 +1,4 @@
-use Rattle.std.proofs.Common.{◌≡◌, ℕ, Bool, true, false, not, IsTrue, ◌&&◌, ◌||◌, nat_eq, nat_lt, if◌then◌else◌, ◌+◌, ◌-◌, ◌*◌, ◌/◌, ◌%◌, ◌^◌, ◌<◌, ◌≤◌, ◌↔◌, Option, Some, None, option_map, unwrap_or, refl, sym, ◌∙◌, inl, inr, subst, add-zero, arith}
+use Rattle.std.proofs.Common.{◌≡◌, ℕ, Bool, false, not, IsTrue, ◌&&◌, ◌||◌, nat_eq, nat_lt, if◌then◌else◌, ◌+◌, ◌-◌, ◌*◌, ◌/◌, ◌%◌, ◌^◌, ◌<◌, ◌≤◌, ◌↔◌, Option, Some, None, option_map, unwrap_or, refl, sym, ◌∙◌, inl, inr, subst, add-zero, arith}
 use Rattle.std.proofs.lemmas.Bool.{cases_lt}
 use Rattle.std.proofs.lemmas.Nat.{mod_below, pow_pos, pow-add, mod-pow-add}
 use Rattle.std.proofs.Math.Nat.{mul_assoc, mul-mod_left, le-div_iff_mul-le, div-mul-le_self, mul-div_cancel, zero-mod, add-mul-div_right}
@@ -140,8 +140,9 @@ same_test cb v low high = grind (arith, nat_tests, high_bits_clear)
 pub lawful_by_kind : (clear compressed low aligned : Bool) → IsTrue (clear && (if compressed then low else aligned)) ↔ (entry_fault (not clear || (compressed && not low)) (not compressed && not aligned) ≡ None)
 lawful_by_kind clear compressed low aligned = grind arith
 
-by_cases : (test offset low aligned : Bool) → (test ≡ true → offset ≡ low) → (test ≡ false → offset ≡ aligned) → offset ≡ (if test then low else aligned)
-by_cases test offset low aligned first second = grind arith
+by_kind : (compressed low aligned : Bool) → ((compressed && low) || (not compressed && aligned)) ≡ (if compressed then low else aligned)
+by_kind compressed low aligned = grind arith
 
-pub l2_is_lawful : (cb v : ℕ) (offset : Bool) → 9 ≤ cb → cb ≤ 21 → (is_compressed v ≡ true → offset ≡ nat_eq (v / 2 ^ 56 * 2 ^ 56 % 2 ^ (70 - cb)) 0) → (is_compressed v ≡ false → offset ≡ nat_eq (offset_field v % 2 ^ cb) 0) → IsTrue (nat_eq (l2_reserved_bits v) 0 && offset) ↔ (l2_fault cb v ≡ None)
-l2_is_lawful cb v offset low high compressed standard = grind (arith, nat_tests, by_cases, same_test, lawful_by_kind)
+pub l2_is_lawful : (cb v : ℕ) (offset low aligned : Bool) → 9 ≤ cb → cb ≤ 21 → offset ≡ ((is_compressed v && low) || (not (is_compressed v) && aligned)) → low ≡ nat_eq (v / 2 ^ 56 * 2 ^ 56 % 2 ^ (70 - cb)) 0 → aligned ≡ nat_eq (offset_field v % 2 ^ cb) 0 → IsTrue (nat_eq (l2_reserved_bits v) 0 && offset) ↔ (l2_fault cb v ≡ None)
+l2_is_lawful cb v offset low aligned least most is compressed standard =
+    rw (is, by_kind (is_compressed v) low aligned) (grind (arith, nat_tests, compressed, standard, same_test, lawful_by_kind))

@@ -297,12 +297,11 @@ impl TableEntry for L2Entry {
     fn is_lawful(value: u64, header: &Header) -> bool {
         let cluster_bits = header.cluster_bits();
         let entry = L2Entry { value };
-        let offset_is_lawful = if entry.is_compressed() {
-            // The bits of the offset from 56 on, which a valid one doesn't have.
-            (value >> 56 << 56) % (1 << (70 - cluster_bits)) == 0
-        } else {
-            HostOffset(field(value, 9, 47) * 512).in_cluster_offset(cluster_bits) == 0
-        };
+        // The bits of a compressed offset from 56 on, which a valid one doesn't have.
+        let compressed = (value >> 56 << 56) % (1 << (70 - cluster_bits)) == 0;
+        let standard = HostOffset(field(value, 9, 47) * 512).in_cluster_offset(cluster_bits) == 0;
+        let is_compressed = entry.is_compressed();
+        let offset_is_lawful = (is_compressed & compressed) | (!is_compressed & standard);
         (entry.reserved_bits() == 0) & offset_is_lawful
     }
 
