@@ -23,10 +23,10 @@ use Rattle.qcow2_check.specs.Counters.{block_of_cluster, blocks_fault, counters_
 use Rattle.qcow2_metadata.specs.Placed.{place_fault}
 use Rattle.qcow2_check.specs.NamedTables.{named_block}
 use Rattle.qcow2_apply.proofs.PassesLemmas.{AreOfClusters}
-use Rattle.qcow2_apply.specs.Blocks.{BlockFollows, BlockIsStuck, CounterTablesState, Follows, FollowsChanges, HasCounter, IsBlockOf, IsByBlocks, IsStuckAt, NamesBlock, SomeIsStuck, StopsFollowing, blocks, counter_at, counters_at}
+use Rattle.qcow2_apply.specs.Blocks.{BlockFollows, BlockIsStuck, CounterTablesState, Follows, FollowsChanges, HasCounter, IsBlockOf, IsByBlocks, IsStuckAt, NamesBlock, SomeIsStuck, StopsFollowing, blocks, counter_of_cluster, block_numbers}
 use Rattle.qcow2_apply.specs.Changes.{IsOutcomeOf}
 use Rattle.qcow2_apply.specs.declared.changes.Changes.{Changes}
-use Rattle.qcow2_apply.specs.Passes.{BreaksOff, Passes, PassesBefore}
+use Rattle.qcow2_apply.specs.Passes.{PassBreaksOff, Passes, PassesBefore}
 
 -- the counters of a block are those of its cluster's bytes
 pub are-of-clusters : (tables : CounterTablesState) → IsClusterBits tables.header.v2.cluster_bits → tables.header.base.refcount_order ≤ 6
@@ -39,7 +39,7 @@ are-of-clusters tables bits orders cluster old new same =
 
 -- the counter of a cluster of a block
 counter-here : (tables : CounterTablesState) (block : HostCluster) (image : Image) (c : ℕ) → NamesBlock tables (c / counters_each tables.header) block
-    → counter_at tables image c ≡ slice_index (counters_at tables block image) (c % counters_each tables.header)
+    → counter_of_cluster tables image c ≡ slice_index (block_numbers tables block image) (c % counters_each tables.header)
 counter-here tables block image c names = grind (arith, names)
 
 -- each cluster that has a counter has a block
@@ -53,13 +53,13 @@ block-of tables c has = by_block (block_of_cluster tables.header tables.reftable
 -- where the counters of its block followed changes, that of a cluster did
 cluster-follows : (tables : CounterTablesState) (changes : Changes) (block : HostCluster) (old new : Image) (c : ℕ)
     → NamesBlock tables (c / counters_each tables.header) block
-    → BlockFollows tables changes (c / counters_each tables.header) (counters_at tables block old) (counters_at tables block new)
-    → Follows changes c (counter_at tables old c) (counter_at tables new c)
+    → BlockFollows tables changes (c / counters_each tables.header) (block_numbers tables block old) (block_numbers tables block new)
+    → Follows changes c (counter_of_cluster tables old c) (counter_of_cluster tables new c)
 cluster-follows tables changes block old new c names follows =
     let n = counters_each tables.header in
     let small : c % n < n = mod-lt c (pow_pos _) in
     let whole : c / n * n + c % n ≡ c = div-add-mod' c n in
-    let full : length (counters_at tables block old) ≡ n = counters_at-length tables.header.base.refcount_order old _ _ in
+    let full : length (block_numbers tables block old) ≡ n = counters_at-length tables.header.base.refcount_order old _ _ in
     let each = follows.each (c % n) (omega (arith, full, small)) in
     rw (counter-here tables block old c names, counter-here tables block new c names) (rw whole at each)
 
@@ -73,7 +73,7 @@ counters-follow tables changes old new passes = record {
 }
 
 pub counters-stop : (tables : CounterTablesState) (changes : Changes) (fault : Fault) (old new : Image)
-    → BreaksOff (blocks tables) (BlockFollows tables changes) fault old new → StopsFollowing tables changes fault old new
+    → PassBreaksOff (blocks tables) (BlockFollows tables changes) fault old new → StopsFollowing tables changes fault old new
 counters-stop tables changes fault old new breaks = (
   breaks.0,
   record {
@@ -88,11 +88,11 @@ counters-stop tables changes fault old new breaks = (
 
 -- where some counter of a block can't follow, some counter of the image can't
 pub block-stuck : (tables : CounterTablesState) (changes : Changes) (i : ℕ) (block : HostCluster) (image : Image) → NamesBlock tables i block
-    → BlockIsStuck tables changes i (counters_at tables block image) → SomeIsStuck tables changes image
+    → BlockIsStuck tables changes i (block_numbers tables block image) → SomeIsStuck tables changes image
 block-stuck tables changes i block image names stuck =
     let n = counters_each tables.header in
     let k = stuck.0 in
-    let full : length (counters_at tables block image) ≡ n = counters_at-length tables.header.base.refcount_order image _ _ in
+    let full : length (block_numbers tables block image) ≡ n = counters_at-length tables.header.base.refcount_order image _ _ in
     let below : k < n = omega (arith, full, stuck.1) in
     let here : (i * n + k) / n ≡ i = div-mul-add i n k below in
     let whole : (i * n + k) / n * n + (i * n + k) % n ≡ i * n + k = div-add-mod' (i * n + k) n in
@@ -102,12 +102,12 @@ block-stuck tables changes i block image names stuck =
 
 -- a block whose clusters neither gained nor lost a reference follows as it is
 pub idle-follows : (tables : CounterTablesState) (changes : Changes) (i : ℕ) (block : HostCluster) (image : Image)
-    → IsByBlocks tables changes → IsOutcomeOf changes i None → BlockFollows tables changes i (counters_at tables block image) (counters_at tables block image)
+    → IsByBlocks tables changes → IsOutcomeOf changes i None → BlockFollows tables changes i (block_numbers tables block image) (block_numbers tables block image)
 idle-follows tables changes i block image by none = record {
   count = refl;
   each = λ k below.
       let n = counters_each tables.header in
-      let full : length (counters_at tables block image) ≡ n = counters_at-length tables.header.base.refcount_order image _ _ in
+      let full : length (block_numbers tables block image) ≡ n = counters_at-length tables.header.base.refcount_order image _ _ in
       let here : (i * n + k) / 2 ^ changes.rb_bits ≡ i = rw by (div-mul-add i n k (omega (arith, full, below))) in
       let nothing = none (i * n + k) here in
       grind (arith, nothing);
@@ -196,5 +196,5 @@ place-at tables i block placed names = let n = counters_each tables.header in
 pub stuck-before : (tables : CounterTablesState) (changes : Changes) (i : ℕ) (a b : Image)
     → PassesBefore (blocks tables) (BlockFollows tables changes) i a b → IsStuckAt tables changes i b → SomeIsStuck tables changes a
 stuck-before tables changes i a b before stuck =
-    let same : counters_at tables stuck.0 b ≡ counters_at tables stuck.0 a = before.after i stuck.0 (omega arith) stuck.1 in
+    let same : block_numbers tables stuck.0 b ≡ block_numbers tables stuck.0 a = before.after i stuck.0 (omega arith) stuck.1 in
     block-stuck tables changes i stuck.0 a stuck.1 (subst (λ numbers. BlockIsStuck tables changes i numbers) same stuck.2)

@@ -7,7 +7,7 @@ use Rattle.qcow2_base.specs.declared.fault.Fault.TheVariants.{Storage}
 use Rattle.qcow2_base.specs.declared.types.HostCluster.{HostCluster}
 use Rattle.qcow2_check.proofs.ClustersLemmas.{other-cluster}
 use Rattle.qcow2_check.specs.Failures.{TearsAtMost}
-use Rattle.qcow2_apply.specs.Passes.{AreApart, BreaksOff, Passes, PassesBefore, Places, StepsAt, TearsOne}
+use Rattle.qcow2_apply.specs.Passes.{ArePlacesApart, PassBreaksOff, Passes, PassesBefore, Places, StepsAt, TearsOne}
 
 -- numbers are those of the bytes of their cluster alone
 abbrev pub AreOfClusters : Places → Type 0
@@ -16,7 +16,7 @@ AreOfClusters places = (cluster : HostCluster) (old new : Image) → ((o : ℕ) 
 
 -- only one of them changes
 pub record ChangesOne (places : Places) (index : ℕ) (cluster : HostCluster) (old new : Image) : Type 0 where
-  pub apart : AreApart places
+  pub apart : ArePlacesApart places
   pub names : places.place index ≡ Some cluster
   pub outside : SameOutside (cluster.0 * 2 ^ places.cluster_bits) (2 ^ places.cluster_bits) old new
 
@@ -80,7 +80,7 @@ steps-next places Step index a b c before at = record {
 
 -- a step fails after those before it
 pub breaks-later : (places : Places) (Step : ℕ → List ℕ → List ℕ → Type 0) (index : ℕ) (fault : Fault) (a b c : Image)
-    → PassesBefore places Step index a b → TearsAtMost fault (TearsOne places) b c → BreaksOff places Step fault a c
+    → PassesBefore places Step index a b → TearsAtMost fault (TearsOne places) b c → PassBreaksOff places Step fault a c
 breaks-later places Step index fault a b c before tears = (
   b,
   record {
@@ -103,7 +103,7 @@ passes-all places Step index a b c same all before = subst (λ image. Passes pla
 
 -- what came of a call that changes the table or block at an index, and no other byte
 pub step-answer : {T : Type 0} (places : Places) (Step : ℕ → List ℕ → List ℕ → Type 0) (index : ℕ) (cluster : HostCluster) (answer : Result T Fault) (old new : Image)
-    → AreOfClusters places → AreApart places → places.place index ≡ Some cluster
+    → AreOfClusters places → ArePlacesApart places → places.place index ≡ Some cluster
     → SameOutside (cluster.0 * 2 ^ places.cluster_bits) (2 ^ places.cluster_bits) old new → IfErr answer (λ fault. fault ≢ Storage → new ≡ old)
     → OnOk answer (Step index (places.numbers cluster old) (places.numbers cluster new))
     → MatchResult answer (λ _. StepsAt places Step index old new) (λ fault. TearsAtMost fault (TearsOne places) old new)

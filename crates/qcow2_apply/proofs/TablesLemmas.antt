@@ -21,7 +21,7 @@ use Rattle.qcow2_metadata.specs.Table.L2Guards.{fits_table}
 use Rattle.qcow2_apply.specs.GuestEdits.{edit_at, edits_by, edits_in, guest_edit_fits}
 use Rattle.qcow2_check.proofs.ClustersLemmas.{table-same}
 use Rattle.qcow2_apply.proofs.PassesLemmas.{AreOfClusters}
-use Rattle.qcow2_apply.specs.Tables.{AllFit, AreMade, FailsAt, IsEdited, IsTableOf, SomeFails, l2_tables}
+use Rattle.qcow2_apply.specs.Tables.{AllFit, AreMade, FailsAt, IsEdited, IsHeldTable, SomeFails, l2_tables}
 use Rattle.qcow2_apply.specs.Passes.{PassesBefore}
 use Rattle.qcow2_apply.specs.declared.guest_edits.GuestEdit.{GuestEdit}
 use Rattle.qcow2_apply.specs.declared.guest_edits.GuestEdit.TheVariants.{Discard, Map, Zero}
@@ -58,10 +58,11 @@ edits-made-by header index edit fits = All-map (λ made. fits_table (geometry_of
 -- and those of edits that all fit
 pub edits-made : (header : HeaderRecord) (index : ℕ) (edits : List GuestEdit) → AllFit header edits → AreMade header (edits_in header.v2.cluster_bits index edits)
 edits-made header index [] fit = λ k d below. absurd (omega (arith, below))
-edits-made header index (edit ∷ edits) fit = All-append (λ made. fits_table (geometry_of header) (l2_entries header.v2.cluster_bits) (table_edit made) ≡ true)
+edits-made header index (edit ∷ edits) fit =
+    let fits : guest_edit_fits header edit ≡ true = grind (arith, fit) in
+    All-append (λ made. fits_table (geometry_of header) (l2_entries header.v2.cluster_bits) (table_edit made) ≡ true)
     (edits_by header.v2.cluster_bits index edit) (edits_in header.v2.cluster_bits index edits)
-    (edits-made-by header index edit (fit 0 edit (omega arith)))
-    (edits-made header index edits (λ k d below. fit (suc k) d (omega (arith, below))))
+    (edits-made-by header index edit fits) (edits-made header index edits (grind (arith, fit, fits)))
 
 -- the numbers of an L2 table are those of its cluster's bytes
 pub are-of-clusters : (header : HeaderRecord) (l1 : List ℕ) → IsClusterBits header.v2.cluster_bits → AreOfClusters (l2_tables header l1)
@@ -86,7 +87,7 @@ outside-fault state Q (Err fault) is = (inr is, λ told. inl is)
 
 -- a write of a table that is one of a cluster fails only from outside
 pub write-outside : {T : Type 0} (header : HeaderRecord) (begin : HostCluster) (held : TableState) (answer : Result T Fault) (old new : StorageState)
-    → IsTableOf header begin held → (held.modified ≡ false → IsOk answer)
+    → IsHeldTable header begin held → (held.modified ≡ false → IsOk answer)
     → (held.modified ≡ true → Writes (layout_of_table l2_kind held) held.numbers held.cluster answer old new) → IfErr answer IsFromOutside
 write-outside header begin held answer old new of idle wrote = elim (cases_Bool held.modified) [
   | inl is ↦

@@ -9,7 +9,7 @@ use Rattle.qcow2_metadata.specs.Refblock.{BlockState, block_geometry_of, block_l
 use Rattle.qcow2_check.specs.Counters.{block_of_cluster, counter_of, counters_each}
 use Rattle.qcow2_check.specs.NamedTables.{named_block}
 use Rattle.qcow2_check.specs.Failures.{TearsAtMost}
-use Rattle.qcow2_apply.specs.Changes.{gained, lost}
+use Rattle.qcow2_apply.specs.Changes.{gains_of, losses_of}
 use Rattle.qcow2_apply.specs.declared.changes.Changes.{Changes}
 use Rattle.qcow2_apply.specs.Passes.{IsOutside, Places, TearsOne}
 
@@ -23,12 +23,12 @@ abbrev pub NamesBlock : CounterTablesState → ℕ → HostCluster → Type 0
 NamesBlock tables index block = named_block tables.header.v2.cluster_bits (slice_index tables.reftable index) ≡ Some block
 
 -- the counters of the block that begins with a cluster
-abbrev pub counters_at : CounterTablesState → HostCluster → Image → List ℕ
-counters_at tables block image = numbers_at (block_layout (block_geometry_of tables.header)) block image
+abbrev pub block_numbers : CounterTablesState → HostCluster → Image → List ℕ
+block_numbers tables block image = numbers_at (block_layout (block_geometry_of tables.header)) block image
 
 -- the counter of cluster c
-abbrev pub counter_at : CounterTablesState → Image → ℕ → ℕ
-counter_at tables image c = counter_of tables.header tables.reftable image c
+abbrev pub counter_of_cluster : CounterTablesState → Image → ℕ → ℕ
+counter_of_cluster tables image c = counter_of tables.header tables.reftable image c
 
 -- a block counts cluster c
 abbrev pub HasCounter : CounterTablesState → ℕ → Type 0
@@ -36,7 +36,7 @@ HasCounter tables c = IsSome (block_of_cluster tables.header tables.reftable c)
 
 -- a counter followed the changes of cluster c: what it is, with what the cluster lost, is what it was, with what that gained
 abbrev pub Follows : Changes → ℕ → ℕ → ℕ → Type 0
-Follows changes c old new = new + lost changes c ≡ old + gained changes c
+Follows changes c old new = new + losses_of changes c ≡ old + gains_of changes c
 
 -- the counters of the block at an index of the refcount table followed changes
 pub record BlockFollows (tables : CounterTablesState) (changes : Changes) (index : ℕ) (old new : List ℕ) : Type 0 where
@@ -46,8 +46,8 @@ pub record BlockFollows (tables : CounterTablesState) (changes : Changes) (index
 
 -- a counter can't follow the changes of cluster c: what the cluster gained is too much for it, or what it lost is more than that
 abbrev pub IsStuck : CounterTablesState → Changes → ℕ → ℕ → Type 0
-IsStuck tables changes c counter = (greatest_counter tables.header.base.refcount_order < counter + gained changes c)
-    ⊎ (counter + gained changes c < lost changes c)
+IsStuck tables changes c counter = (greatest_counter tables.header.base.refcount_order < counter + gains_of changes c)
+    ⊎ (counter + gains_of changes c < losses_of changes c)
 
 -- some counter of the block at an index can't
 abbrev pub BlockIsStuck : CounterTablesState → Changes → ℕ → List ℕ → Type 0
@@ -57,29 +57,29 @@ BlockIsStuck tables changes index numbers = (k : ℕ) × (k < length numbers)
 -- the block at an index has such a counter
 abbrev pub IsStuckAt : CounterTablesState → Changes → ℕ → Image → Type 0
 IsStuckAt tables changes index image = (block : HostCluster) × NamesBlock tables index block
-    × BlockIsStuck tables changes index (counters_at tables block image)
+    × BlockIsStuck tables changes index (block_numbers tables block image)
 
 -- some counter of an image can't
 abbrev pub SomeIsStuck : CounterTablesState → Changes → Image → Type 0
-SomeIsStuck tables changes image = (c : ℕ) × HasCounter tables c × IsStuck tables changes c (counter_at tables image c)
+SomeIsStuck tables changes image = (c : ℕ) × HasCounter tables c × IsStuck tables changes c (counter_of_cluster tables image c)
 
 -- the refcount blocks
 abbrev pub blocks : CounterTablesState → Places
 blocks tables = record {
   cluster_bits = tables.header.v2.cluster_bits;
   place = λ index. named_block tables.header.v2.cluster_bits (slice_index tables.reftable index);
-  numbers = counters_at tables;
+  numbers = block_numbers tables;
 }
 
 -- all counters followed changes, and no byte outside the blocks changed
 pub record FollowsChanges (tables : CounterTablesState) (changes : Changes) (old new : Image) : Type 0 where
-  pub followed : (c : ℕ) → HasCounter tables c → Follows changes c (counter_at tables old c) (counter_at tables new c)
+  pub followed : (c : ℕ) → HasCounter tables c → Follows changes c (counter_of_cluster tables old c) (counter_of_cluster tables new c)
   pub others : (o : ℕ) → IsOutside (blocks tables) o → new o ≡ old o
 
 -- some did: each counter is as it was, or followed
 pub record FollowsSome (tables : CounterTablesState) (changes : Changes) (old new : Image) : Type 0 where
-  pub counters : (c : ℕ) → HasCounter tables c → (counter_at tables new c ≡ counter_at tables old c)
-      ⊎ Follows changes c (counter_at tables old c) (counter_at tables new c)
+  pub counters : (c : ℕ) → HasCounter tables c → (counter_of_cluster tables new c ≡ counter_of_cluster tables old c)
+      ⊎ Follows changes c (counter_of_cluster tables old c) (counter_of_cluster tables new c)
   pub others : (o : ℕ) → IsOutside (blocks tables) o → new o ≡ old o
 
 -- it ended in this fault before all had: some counters followed, and after that one write was torn at most

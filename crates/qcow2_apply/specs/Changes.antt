@@ -18,24 +18,22 @@ lost_by None c = 0
 lost_by (Some outcome) c = handed_back outcome.freed.items c
 
 -- how often a cluster gains a reference by changes
-abbrev pub gained : Changes → ℕ → ℕ
-gained changes c = gained_by (get nat_cmp changes.blocks (c / 2 ^ changes.rb_bits)) c
+abbrev pub gains_of : Changes → ℕ → ℕ
+gains_of changes c = gained_by (get nat_cmp changes.blocks (c / 2 ^ changes.rb_bits)) c
 
 -- how often it loses one
-abbrev pub lost : Changes → ℕ → ℕ
-lost changes c = lost_by (get nat_cmp changes.blocks (c / 2 ^ changes.rb_bits)) c
+abbrev pub losses_of : Changes → ℕ → ℕ
+losses_of changes c = lost_by (get nat_cmp changes.blocks (c / 2 ^ changes.rb_bits)) c
 
 -- clusters gained and lost more references
 pub record AddsChanges (gains losses : ℕ → ℕ) (old new : Changes) : Type 0 where
   pub bits : new.rb_bits ≡ old.rb_bits
-  pub gained_is : (c : ℕ) → gained new c ≡ gained old c + gains c
-  pub lost_is : (c : ℕ) → lost new c ≡ lost old c + losses c
+  pub gained_is : (c : ℕ) → gains_of new c ≡ gains_of old c + gains c
+  pub lost_is : (c : ℕ) → losses_of new c ≡ losses_of old c + losses c
 
 -- no cluster gained or lost a reference
-pub record HasNone (rb_bits : ℕ) (changes : Changes) : Type 0 where
-  pub bits : changes.rb_bits ≡ rb_bits
-  pub gained_is : (c : ℕ) → gained changes c ≡ 0
-  pub lost_is : (c : ℕ) → lost changes c ≡ 0
+abbrev pub HasNone : Changes → Type 0
+HasNone changes = (c : ℕ) → (gains_of changes c ≡ 0) × (losses_of changes c ≡ 0)
 
 -- the block at an index of the refcount table counts cluster c
 abbrev pub IsOfBlock : Changes → ℕ → ℕ → Type 0
@@ -44,13 +42,13 @@ IsOfBlock changes index c = c / 2 ^ changes.rb_bits ≡ index
 -- the clusters of the block at an index gained and lost references by this outcome, or none
 abbrev pub IsOutcomeOf : Changes → ℕ → Option Outcome → Type 0
 IsOutcomeOf changes index outcome = (c : ℕ) → IsOfBlock changes index c →
-    (gained changes c ≡ gained_by outcome c) × (lost changes c ≡ lost_by outcome c)
+    (gains_of changes c ≡ gained_by outcome c) × (losses_of changes c ≡ lost_by outcome c)
 
 -- all other clusters gained and lost what they did
 pub record KeepsOthers (index : ℕ) (old new : Changes) : Type 0 where
   pub bits : new.rb_bits ≡ old.rb_bits
-  pub gained_is : (c : ℕ) → (IsOfBlock old index c → ⊥) → gained new c ≡ gained old c
-  pub lost_is : (c : ℕ) → (IsOfBlock old index c → ⊥) → lost new c ≡ lost old c
+  pub gained_is : (c : ℕ) → (IsOfBlock old index c → ⊥) → gains_of new c ≡ gains_of old c
+  pub lost_is : (c : ℕ) → (IsOfBlock old index c → ⊥) → losses_of new c ≡ losses_of old c
 
 -- the outcome of a block was taken out, or put in
 pub record TakesOutcome (index : ℕ) (outcome : Outcome) (old new : Changes) : Type 0 where

@@ -1,7 +1,7 @@
 -- Which edits of L2 tables is an edit of a guest's disk?
-use Rattle.std.specs.Prelude.{ℕ, Bool, true, ◌+◌, ◌-◌, ◌*◌, ◌/◌, ◌%◌, ◌^◌, ◌==◌, ◌&&◌, nat_lt, nat_le, max, min, List, map, flat_map}
+use Rattle.std.specs.Prelude.{ℕ, Bool, true, not, Option, ◌+◌, ◌-◌, ◌*◌, ◌/◌, ◌%◌, ◌^◌, ◌==◌, ◌&&◌, nat_lt, nat_le, max, min, List, map, flat_map}
 use Rattle.std.specs.Int.{div_ceil}
-use Rattle.std.specs.List.{range_with_len}
+use Rattle.std.specs.List.{position, range_with_len}
 use Rattle.qcow2_base.specs.declared.types.GuestOffset.{GuestOffset}
 use Rattle.qcow2_edits.specs.declared.edits.Edit.{Edit}
 use Rattle.qcow2_edits.specs.declared.edits.Edit.TheVariants as entry
@@ -43,6 +43,10 @@ abbrev pub guest_edit_fits : HeaderRecord → GuestEdit → Bool
 guest_edit_fits header edit = let cb = header.v2.cluster_bits in
     (guest_offset edit).0 % 2 ^ cb == 0 && guest_length cb edit % 2 ^ cb == 0 && nat_lt (first_cluster cb edit) (cluster_end cb edit)
     && nat_le (cluster_end cb edit) (div_ceil header.v2.size (2 ^ cb)) && is_mappable_by header edit
+
+-- the position of the first edit that can't be made of a disk of this header, if there is one
+abbrev pub first_unfit_of : HeaderRecord → List GuestEdit → Option ℕ
+first_unfit_of header edits = position (λ edit. not (guest_edit_fits header edit)) edits
 
 -- the edit of the entry at an index of an L2 table
 abbrev pub edit_at : GuestEdit → ℕ → Edit

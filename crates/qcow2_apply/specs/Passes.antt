@@ -12,8 +12,8 @@ pub record Places : Type 0 where
   pub numbers : HostCluster → Image → List ℕ
 
 -- no two entries name one of them
-abbrev pub AreApart : Places → Type 0
-AreApart places = (i j : ℕ) (cluster : HostCluster) → places.place i ≡ Some cluster → places.place j ≡ Some cluster → i ≡ j
+abbrev pub ArePlacesApart : Places → Type 0
+ArePlacesApart places = (i j : ℕ) (cluster : HostCluster) → places.place i ≡ Some cluster → places.place j ≡ Some cluster → i ≡ j
 
 -- the byte at an offset is in none of them
 abbrev pub IsOutside : Places → ℕ → Type 0
@@ -48,5 +48,5 @@ TearsOne places old new = let size = 2 ^ places.cluster_bits in
     (i : ℕ) × (cluster : HostCluster) × (places.place i ≡ Some cluster) × SameOutside (cluster.0 * size) size old new
 
 -- a pass ended in this fault before its time: a part of it was done, and after that one write was torn at most
-abbrev pub BreaksOff : Places → (ℕ → List ℕ → List ℕ → Type 0) → Fault → Image → Image → Type 0
-BreaksOff places Step fault old new = (mid : Image) × PassesSome places Step old mid × TearsAtMost fault (TearsOne places) mid new
+abbrev pub PassBreaksOff : Places → (ℕ → List ℕ → List ℕ → Type 0) → Fault → Image → Image → Type 0
+PassBreaksOff places Step fault old new = (mid : Image) × PassesSome places Step old mid × TearsAtMost fault (TearsOne places) mid new

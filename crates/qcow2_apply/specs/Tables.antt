@@ -12,7 +12,7 @@ use Rattle.qcow2_metadata.specs.Placed.{numbers_at, place_fault}
 use Rattle.qcow2_metadata.specs.Table.{TableState, l2_entries, l2_layout, loaded_l2_table}
 use Rattle.qcow2_metadata.specs.Table.L2Guards.{RunEnd, fits_table, run_of}
 use Rattle.qcow2_check.specs.NamedTables.{named_cluster}
-use Rattle.qcow2_apply.specs.GuestEdits.{edits_in, guest_edit_fits}
+use Rattle.qcow2_apply.specs.GuestEdits.{edits_in, first_unfit_of}
 use Rattle.qcow2_apply.specs.Passes.{Places}
 use Rattle.qcow2_apply.specs.declared.guest_edits.GuestEdit.{GuestEdit}
 
@@ -26,7 +26,7 @@ l2_tables header l1 = record {
 
 -- all edits can be made of a disk of this header
 abbrev pub AllFit : HeaderRecord → List GuestEdit → Type 0
-AllFit header edits = All (λ edit. guest_edit_fits header edit ≡ true) edits
+AllFit header edits = first_unfit_of header edits ≡ None
 
 -- what edits of a table leave of its numbers and of references
 abbrev pub run_in : HeaderRecord → List Edit → List ℕ → RunEnd
@@ -58,7 +58,7 @@ abbrev pub AreMade : HeaderRecord → List Edit → Type 0
 AreMade header edits = All (λ edit. fits_table (geometry_of header) (l2_entries header.v2.cluster_bits) (table_edit edit) ≡ true) edits
 
 -- a table in memory is that of a cluster of an image with this header
-pub record IsTableOf (header : HeaderRecord) (begin : HostCluster) (table : TableState) : Type 0 where
+pub record IsHeldTable (header : HeaderRecord) (begin : HostCluster) (table : TableState) : Type 0 where
   pub count : length table.numbers ≡ l2_entries header.v2.cluster_bits
   pub cluster : table.cluster ≡ Some begin
   pub geometry : table.geometry ≡ geometry_of header

@@ -9,9 +9,9 @@ ghost use Rattle.qcow2_metadata.specs.Refblock.{block_geometry_of, block_layout}
 ghost use Rattle.qcow2_metadata.specs.Results.{IsFromOutside};
 ghost use Rattle.qcow2_check.specs.Counters.{blocks_fault};
 ghost use Rattle.qcow2_check.specs.Failures.{ReportsFailures, TearsAtMost};
-ghost use Rattle.qcow2_apply.specs.Blocks.{BlockFollows, BlockIsStuck, FollowsChanges, IsBlockOf, IsByBlocks, IsStuckAt, SomeIsStuck, StopsFollowing, blocks, counters_at};
+ghost use Rattle.qcow2_apply.specs.Blocks.{BlockFollows, BlockIsStuck, FollowsChanges, IsBlockOf, IsByBlocks, IsStuckAt, SomeIsStuck, StopsFollowing, blocks, block_numbers};
 ghost use Rattle.qcow2_apply.specs.Changes.{IsOutcomeOf};
-ghost use Rattle.qcow2_apply.specs.Passes.{AreApart, StepsAt, TearsOne};
+ghost use Rattle.qcow2_apply.specs.Passes.{ArePlacesApart, StepsAt, TearsOne};
 
 use crate::changes::Changes;
 use qcow2_base::{Fault, HostCluster, Storage};
@@ -81,11 +81,11 @@ fn follow_block<S: Storage>(
     requires bits { IsByBlocks tables.now changes.now }
     requires outcome { IsOutcomeOf changes.now index (Some outcome.now) }
     ensures followed { OnOk result (OnImages (S.state image.old) (S.state image.new) (λ before after.
-        BlockFollows tables.now changes.now index (counters_at tables.now cluster before)
-        (counters_at tables.now cluster after))) }
+        BlockFollows tables.now changes.now index (block_numbers tables.now cluster before)
+        (block_numbers tables.now cluster after))) }
     ensures fault { IfErr result (λ fault. IsFromOutside fault ⊎ ((fault ≡ CounterRange)
         × OnImage (S.state image.old) (λ bytes.
-        BlockIsStuck tables.now changes.now index (counters_at tables.now cluster bytes)))) }
+        BlockIsStuck tables.now changes.now index (block_numbers tables.now cluster bytes)))) }
     ensures storage { let layout = block_layout (block_geometry_of tables.now.header) in
         OnlyWrites result (Some (offset_of layout cluster)) layout.byte_count
         (S.state image.old) (S.state image.new) }
@@ -106,7 +106,7 @@ fn follow_at<S: Storage>(
 ) -> Result<(), Fault>
     requires data { uses_external_data tables.now.header ≡ false }
     requires bits { IsByBlocks tables.now changes.now }
-    ensures followed { AreApart (blocks tables.now) →
+    ensures followed { ArePlacesApart (blocks tables.now) →
         OnImages (S.state image.old) (S.state image.new) (λ before after. MatchResult result
         (λ _. StepsAt (blocks tables.now) (BlockFollows tables.now changes.now) index before after)
         (λ fault. TearsAtMost fault (TearsOne (blocks tables.now)) before after)) }
@@ -138,12 +138,12 @@ pub fn follow_changes<S: Storage>(
 ) -> Result<(), Fault>
     requires data { uses_external_data tables.now.header ≡ false }
     requires bits { IsByBlocks tables.now changes.now }
-    ensures followed { AreApart (blocks tables.now) →
+    ensures followed { ArePlacesApart (blocks tables.now) →
         OnImages (S.state image.old) (S.state image.new) (λ before after. MatchResult result
         (λ _. FollowsChanges tables.now changes.now before after)
         (λ fault. StopsFollowing tables.now changes.now fault before after)) }
     ensures fault { IfErr result (λ fault. IsFromOutside fault ⊎ ((fault ≡ CounterRange)
-        × (AreApart (blocks tables.now) →
+        × (ArePlacesApart (blocks tables.now) →
         OnImage (S.state image.old) (SomeIsStuck tables.now changes.now)))) }
     ensures storage { ReportsFailures result (S.state image.old) (S.state image.new) }
 {

@@ -4,7 +4,7 @@ ghost use Rattle.std.specs.Prelude.{◌≡◌, ◌*◌, ◌+◌, ◌^◌, ◌<�
 ghost use Rattle.std.specs.List.{flat_map, position, range_with_len};
 ghost use Rattle.qcow2_metadata.specs.Table.{l2_entries};
 ghost use Rattle.qcow2_base.specs.Types.{IsClusterBits};
-ghost use Rattle.qcow2_apply.specs.GuestEdits.{cluster_end, edit_at, edits_by, edits_in, first_cluster, guest_edit_fits, guest_length, guest_offset, is_mappable_by, table_end, table_start};
+ghost use Rattle.qcow2_apply.specs.GuestEdits.{cluster_end, edit_at, edits_by, edits_in, first_cluster, first_unfit_of, guest_edit_fits, guest_length, guest_offset, is_mappable_by, table_end, table_start};
 
 use qcow2_base::{GuestCluster, GuestOffset, HostCluster, MAX_OFFSET};
 use qcow2_edits::Edit;
@@ -156,7 +156,7 @@ impl GuestEdit {
 
 /// The position of the first edit that can't be made of a disk of this header, if there is one.
 pub fn first_unfit(header: &Header, edits: &[GuestEdit]) -> Option<usize>
-    ensures { result ≡ position (λ edit. not (guest_edit_fits header.now edit)) edits.now }
+    ensures { result ≡ first_unfit_of header.now edits.now }
 {
     edits.iter().position(
         |edit: &GuestEdit| -> bool

@@ -10,8 +10,8 @@ ghost use Rattle.qcow2_metadata.specs.Table.{IsContentFault, l2_layout, loaded_l
 ghost use Rattle.qcow2_check.specs.NamedTables.{IsInImage};
 ghost use Rattle.qcow2_check.specs.Failures.{ReportsFailures, TearsAtMost};
 ghost use Rattle.qcow2_apply.specs.GuestEdits.{edits_in};
-ghost use Rattle.qcow2_apply.specs.Passes.{AreApart, BreaksOff, Passes, StepsAt, TearsOne};
-ghost use Rattle.qcow2_apply.specs.Tables.{AllFit, AreMade, FailsAt, IsEdited, IsTableOf, MakesRun, SomeFails, l2_tables, run_in};
+ghost use Rattle.qcow2_apply.specs.Passes.{ArePlacesApart, PassBreaksOff, Passes, StepsAt, TearsOne};
+ghost use Rattle.qcow2_apply.specs.Tables.{AllFit, AreMade, FailsAt, IsEdited, IsHeldTable, MakesRun, SomeFails, l2_tables, run_in};
 
 use crate::guest_edits::{GuestEdit, edits_in};
 use qcow2_base::{Fault, HostCluster, Storage};
@@ -33,7 +33,7 @@ pub(crate) fn load_edited<S: Storage>(
     ensures edited { IfOk result (λ done. OnImage (S.state image.old) (λ bytes.
         MakesRun header.now edits.now (numbers_at (l2_layout (geometry_of header.now)) cluster bytes)
         done.0 done.1)) }
-    ensures table { IfOk result (λ done. IsTableOf header.now cluster done.0) }
+    ensures table { IfOk result (λ done. IsHeldTable header.now cluster done.0) }
     ensures fault { IfErr result (λ fault. IsContentFault fault × OnImage (S.state image.old) (λ bytes.
         IsFromOutside fault ⊎ (loaded_l2_table (geometry_of header.now) cluster bytes ≡ Err fault))) }
     ensures storage { OnlyReads result (S.state image.old) (S.state image.new) }
@@ -65,8 +65,8 @@ fn edit_loaded<S: Storage>(
     table.write_if_modified(image, cluster)
 }
 
-// Makes those of the L2 table of the L1 entry at an index that edits of the disk are. Where there is no table,
-// nothing is done.
+// Makes edits of the disk in the L2 table of the L1 entry at an index. Where there is no table, nothing is
+// done.
 fn edit_at<S: Storage>(
     image: &mut S,
     header: &Header,
@@ -77,7 +77,7 @@ fn edit_at<S: Storage>(
     requires index { index < 2 ^ 32 }
     requires geometry { l1_table.now.geometry ≡ geometry_of header.now }
     requires fit { AllFit header.now edits.now }
-    ensures edited { let tables = l2_tables header.now l1_table.now.numbers in AreApart tables →
+    ensures edited { let tables = l2_tables header.now l1_table.now.numbers in ArePlacesApart tables →
         OnImages (S.state image.old) (S.state image.new) (λ before after. MatchResult result
         (λ _. StepsAt tables (IsEdited header.now edits.now) index before after)
         (λ fault. TearsAtMost fault (TearsOne tables) before after)) }
@@ -96,8 +96,8 @@ fn edit_at<S: Storage>(
     edit_loaded(alloc, image, header, cluster, of_table.as_slice())
 }
 
-/// Makes edits of the disk in all L2 tables of an image, and waits until they are on the device. Each table is
-/// written once at most. Guest clusters without a table are passed over.
+/// Makes edits of the disk in all L2 tables of an image, and waits until they are on the device. Each table
+/// is written once at most. Guest clusters without a table are passed over.
 ///
 /// Returns the fault of the first table that can't be loaded. After a fault some tables may be edited; where
 /// the storage failed, any bytes may be in one more.
@@ -110,12 +110,12 @@ pub fn edit_tables<S: Storage>(
     requires geometry { l1_table.now.geometry ≡ geometry_of header.now }
     requires count { length l1_table.now.numbers ≡ header.now.v2.l1_size }
     requires fit { AllFit header.now edits.now }
-    ensures edited { let tables = l2_tables header.now l1_table.now.numbers in AreApart tables →
+    ensures edited { let tables = l2_tables header.now l1_table.now.numbers in ArePlacesApart tables →
         OnImages (S.state image.old) (S.state image.new) (λ before after. MatchResult result
         (λ _. Passes tables (IsEdited header.now edits.now) before after)
-        (λ fault. BreaksOff tables (IsEdited header.now edits.now) fault before after)) }
+        (λ fault. PassBreaksOff tables (IsEdited header.now edits.now) fault before after)) }
     ensures fault { IfErr result (λ fault. IsContentFault fault
-        × (AreApart (l2_tables header.now l1_table.now.numbers) → OnImage (S.state image.old) (λ bytes.
+        × (ArePlacesApart (l2_tables header.now l1_table.now.numbers) → OnImage (S.state image.old) (λ bytes.
         IsFromOutside fault ⊎ SomeFails header.now l1_table.now.numbers edits.now fault bytes))) }
     ensures storage { ReportsFailures result (S.state image.old) (S.state image.new) }
 {

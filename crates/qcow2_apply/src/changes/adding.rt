@@ -12,7 +12,7 @@ ghost use Rattle.qcow2_apply.specs.Changes.{AddsChanges, HasNone, IsOutcomeOf, P
 use super::Changes;
 use qcow2_base::{ClusterCount, Fault, HostCluster};
 use qcow2_edits::Outcome;
-use qcow2_metadata::ClustersToFreeEntry;
+use qcow2_metadata::{ClustersToFreeEntry, Header};
 use std::alloc::{AllocError, Global};
 use std::collections::BTreeMap;
 
@@ -38,14 +38,15 @@ fn push_clusters(
 
 impl Changes {
     ghost use Rattle.std.specs.Prelude.{◌≡◌, ℕ, ◌+◌, ◌==◌, ◌/◌, ◌^◌, Option, Some, None, IfSome, OnOk};
+    ghost use Rattle.qcow2_check.specs.Counters.{counters_each};
 
-    /// No changes, of an image whose refcount blocks have `2 ^ rb_bits` counters.
-    pub fn new(alloc: Global, rb_bits: u32) -> Changes
-        requires { IsRefblockBits rb_bits }
-        ensures { HasNone rb_bits result }
+    /// No changes, of an image with this header.
+    pub fn new(alloc: Global, header: &Header) -> Changes
+        ensures bits { 2 ^ result.rb_bits ≡ counters_each header.now }
+        ensures none { HasNone result }
     {
         Changes {
-            rb_bits,
+            rb_bits: header.rb_bits(),
             blocks: BTreeMap::new(alloc),
         }
     }
@@ -149,8 +150,8 @@ impl Changes {
         Ok(())
     }
 
-    /// Counts what clusters gained and lost by edits of a table. Fails where memory runs out, and with fault 30
-    /// for a cluster that no refcount table can count. After a fault the changes are incomplete.
+    /// Counts what clusters gained and lost by edits of a table. Fails where memory runs out, and with fault
+    /// 30 for a cluster that no refcount table can count. After a fault the changes are incomplete.
     pub fn add(&mut self, alloc: Global, outcome: &Outcome) -> Result<(), Fault>
         ensures { OnOk result (AddsChanges (times_gained (cluster_numbers outcome.now.gained.items))
             (handed_back outcome.now.freed.items) self.old self.new) }

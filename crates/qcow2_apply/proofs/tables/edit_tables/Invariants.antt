@@ -1,14 +1,14 @@
 use Rattle.std.proofs.Common.{Ok}
 use Rattle.qcow2_base.specs.Storage.{OnImages}
 use Rattle.qcow2_check.specs.Failures.{ReportsFailures}
-use Rattle.qcow2_apply.specs.Passes.{AreApart, PassesBefore}
+use Rattle.qcow2_apply.specs.Passes.{ArePlacesApart, PassesBefore}
 use Rattle.qcow2_apply.specs.Tables.{IsEdited, l2_tables}
 use Rattle.qcow2_apply.proofs.tables.edit_tables.Given as goal
 
 -- the tables before this one are edited
 abbrev pub invariant-loop-index : goal.invariant-loop-index
 invariant-loop-index g l = record {
-  passed : AreApart (l2_tables l.header l.l1_table.numbers) → OnImages (g.S.Storage.state l.fn.image) (g.S.Storage.state l.image)
+  passed : ArePlacesApart (l2_tables l.header l.l1_table.numbers) → OnImages (g.S.Storage.state l.fn.image) (g.S.Storage.state l.image)
       (λ before after. PassesBefore (l2_tables l.header l.l1_table.numbers) (IsEdited l.header l.edits) l.index before after);
   storage : ReportsFailures (Ok l.index) (g.S.Storage.state l.fn.image) (g.S.Storage.state l.image);
 }

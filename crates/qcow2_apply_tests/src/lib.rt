@@ -1,0 +1,12 @@
+//! Tests of edits of guest ranges: which entries they are, counters that follow them, and tables that they
+//! change.
+#![tactic(auto)]
+
+#[cfg(test)]
+mod counters;
+#[cfg(test)]
+mod guest_edits;
+#[cfg(test)]
+mod small_image;
+#[cfg(test)]
+mod tables;

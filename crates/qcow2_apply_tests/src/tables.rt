@@ -1,0 +1,98 @@
+//! L2 tables of an image that edits of its disk change.
+
+use crate::small_image::{COPIED, L1_TABLE, L2_TABLE, Numbers, OTHER_TABLE, small_image};
+use qcow2_apply::{GuestEdit, edit_tables, first_unfit};
+use qcow2_base::{Fault, GuestOffset, HostCluster, Storage};
+use qcow2_check::load_l1_table;
+use qcow2_metadata::Header;
+use qcow2_testing::{each, recorded, rows, same, same_image};
+use std::alloc::Global;
+use std::test::Fail;
+
+// Changes of the image, edits of its disk, and how it has changed by both, or the fault.
+#[derive(Clone, Copy)]
+struct Edited<'a> {
+    name: &'a str,
+    before: Numbers<'a>,
+    edits: &'a [GuestEdit],
+    changes: Numbers<'a>,
+    fault: Option<Fault>,
+}
+
+const fn discard(offset: u64, length: u64) -> GuestEdit {
+    GuestEdit::Discard {
+        offset: GuestOffset(offset),
+        length,
+    }
+}
+
+const MAPS: &[GuestEdit] = &[
+    GuestEdit::Map {
+        offset: GuestOffset(0),
+        host_cluster: HostCluster(9),
+    },
+    GuestEdit::Map {
+        offset: GuestOffset(65024),
+        host_cluster: HostCluster(10),
+    },
+];
+
+const ZEROS: &[GuestEdit] = &[GuestEdit::Zero {
+    offset: GuestOffset(3 * 512),
+    length: 512,
+    keep_allocation: true,
+}];
+
+const EDITED: &[Edited<'static>] = rows! { Edited:
+    { name: "no edits", before: &[], edits: &[], changes: &[], fault: None },
+    { name: "a discarded cluster", before: &[], edits: &[discard(3 * 512, 512)],
+        changes: &[(L2_TABLE + 24, 0)], fault: None },
+    { name: "the whole disk", before: &[], edits: &[discard(0, 65536)],
+        changes: &[(L2_TABLE + 24, 0), (OTHER_TABLE, 0)], fault: None },
+    { name: "a map in each table", before: &[], edits: MAPS,
+        changes: &[(L2_TABLE, COPIED | 9 << 9), (OTHER_TABLE + 504, COPIED | 10 << 9)], fault: None },
+    { name: "zeros that keep their cluster", before: &[], edits: ZEROS,
+        changes: &[(L2_TABLE + 24, COPIED | 2561)], fault: None },
+    { name: "no table", before: &[(L1_TABLE, 0)], edits: &[discard(0, 65536)],
+        changes: &[(L1_TABLE, 0), (OTHER_TABLE, 0)], fault: None },
+    { name: "a table that can't be loaded", before: &[(L2_TABLE, 2)], edits: &[discard(0, 65536)],
+        changes: &[(L2_TABLE, 2)], fault: Some(Fault::EntryReserved) },
+    { name: "one that isn't edited", before: &[(L2_TABLE, 2)], edits: &[discard(32768, 512)],
+        changes: &[(L2_TABLE, 2), (OTHER_TABLE, 0)], fault: None },
+};
+
+// Makes edits in the tables of an image.
+fn edit<S: Storage>(alloc: Global, image: &mut S, edits: &[GuestEdit]) -> Result<(), Fault> {
+    let header = Header::load(alloc, image, false)?;
+    if let Some(position) = first_unfit(&header, edits) {
+        return Err(Fault::BadEdit(position));
+    }
+    let l1_table = load_l1_table(alloc, image, &header)?;
+    edit_tables(image, &header, &l1_table, edits)
+}
+
+fn check_edited(alloc: Global, row: Edited<'_>) -> Result<(), Fail> {
+    let mut image = small_image(alloc, row.before)?;
+    same(edit(alloc, &mut image, row.edits).err(), row.fault, row.name)?;
+    same_image(&image, small_image(alloc, row.changes), row.name)
+}
+
+#[test]
+fn edits_of_a_disk_change_its_tables(rt: HostRuntime) -> Result<(), Fail> {
+    each(rt.alloc(), EDITED, check_edited)
+}
+
+#[test]
+fn each_refused_call_is_the_storage_fault(rt: HostRuntime) -> Result<(), Fail> {
+    let alloc = rt.alloc();
+    for refused in 0..64 {
+        let mut image = recorded(alloc, small_image(alloc, &[])?);
+        image.plan = Some(refused);
+        let found = edit(alloc, &mut image, MAPS);
+        if image.plan.is_some() {
+            return same(found, Ok(()), refused);
+        }
+        same(found, Err(Fault::Storage), refused)?;
+    }
+    Err(Fail::new("edits make ever more calls"))
+}
