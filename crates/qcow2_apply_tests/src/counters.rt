@@ -10,8 +10,8 @@ use qcow2_testing::{each, recorded, rows, same, same_image};
 use std::alloc::Global;
 use std::test::Fail;
 
-// Clusters that gained a reference, runs of clusters that lost one by their first and their number, and how the
-// image has changed then, or the fault, with which it hasn't.
+// Clusters that gained a reference, runs of clusters that lost one by their first and their number, and how
+// the image has changed then, or the fault, with which it hasn't.
 #[derive(Clone, Copy)]
 struct Followed<'a> {
     name: &'a str,

@@ -22,8 +22,8 @@ pub(crate) const OTHER_TABLE: u64 = 3072;
 pub(crate) const OTHER_BLOCK: u64 = 3584;
 
 // Clusters of 512 bytes: an L1 table of two entries in cluster 1, the refcount table in cluster 2, blocks of
-// 256 counters of 16 bits in clusters 3 and 7, L2 tables of 64 entries in clusters 4 and 6. Guest cluster 3 is
-// the data in cluster 5, and guest cluster 64 that in cluster 256. The counter of this one is 2, those of
+// 256 counters of 16 bits in clusters 3 and 7, L2 tables of 64 entries in clusters 4 and 6. Guest cluster 3
+// is the data in cluster 5, and guest cluster 64 that in cluster 256. The counter of this one is 2, those of
 // clusters 0 to 7 are 1.
 const SMALL: Numbers<'static> = &[
     (0, 0x5146_49fb_0000_0003),
