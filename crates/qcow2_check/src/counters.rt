@@ -201,8 +201,9 @@ impl<'a> Counters<'a> {
         (cluster.rt_index(self.header.rb_bits()) == self.kept_index).then_some(block)
     }
 
-    /// The counters that the kept block has at the indices of clusters. They are theirs if it is their block.
-    /// If none is kept they are 0. Nothing else is done in the loop, so that their width is looked at once.
+    /// The counters that the kept block has at the indices of clusters, which are theirs if it is their
+    /// block. If none is kept they are 0. Nothing else is done in the loop, so that their width is looked at
+    /// once.
     #[inline(always)]
     pub(crate) fn kept_at(&self, clusters: &[u64; TOGETHER]) -> [u64; TOGETHER]
         ensures { IfSome self.now.block (λ block. (k : ℕ) → k < 16 → slice_index result k
