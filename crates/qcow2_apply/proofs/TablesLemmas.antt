@@ -55,14 +55,22 @@ edits-made-by : (header : HeaderRecord) (index : ℕ) (edit : GuestEdit) → gue
 edits-made-by header index edit fits = All-map (λ made. fits_table (geometry_of header) (l2_entries header.v2.cluster_bits) (table_edit made) ≡ true) _ _
     (λ k d below. edit-made header edit _ fits)
 
+-- where each of a list passes a test, its first does and the others do
+unfit-none : {A : Type 0} (test : A → Bool) (item : A) (items : List A) → position (λ other. not (test other)) (item ∷ items) ≡ None
+    → (test item ≡ true) × (position (λ other. not (test other)) items ≡ None)
+unfit-none test item items none = elim (cases_Bool (test item)) [
+  | inl passes ↦ (passes, grind (arith, passes, none))
+  | inr fails ↦ absurd (grind (arith, fails, none))
+]
+
 -- and those of edits that all fit
 pub edits-made : (header : HeaderRecord) (index : ℕ) (edits : List GuestEdit) → AllFit header edits → AreMade header (edits_in header.v2.cluster_bits index edits)
 edits-made header index [] fit = λ k d below. absurd (omega (arith, below))
 edits-made header index (edit ∷ edits) fit =
-    let fits : guest_edit_fits header edit ≡ true = grind (arith, fit) in
+    let all = unfit-none (guest_edit_fits header) edit edits fit in
     All-append (λ made. fits_table (geometry_of header) (l2_entries header.v2.cluster_bits) (table_edit made) ≡ true)
     (edits_by header.v2.cluster_bits index edit) (edits_in header.v2.cluster_bits index edits)
-    (edits-made-by header index edit fits) (edits-made header index edits (grind (arith, fit, fits)))
+    (edits-made-by header index edit all.0) (edits-made header index edits all.1)
 
 -- the numbers of an L2 table are those of its cluster's bytes
 pub are-of-clusters : (header : HeaderRecord) (l1 : List ℕ) → IsClusterBits header.v2.cluster_bits → AreOfClusters (l2_tables header l1)
