@@ -4,7 +4,7 @@ use qcow2_base::{Fault, HostCluster, MemStorage, Storage};
 use qcow2_check::{Counters, Finding, Findings, WrongFlag, is_consistent};
 use qcow2_metadata::Header;
 use qcow2_repair::repair_image;
-use qcow2_testing::{image_with, put};
+use qcow2_testing::{image_with, put_all};
 use std::alloc::Global;
 
 /// Numbers of eight bytes, and where each stands in an image.
@@ -46,15 +46,18 @@ const SAMPLE: Numbers<'static> = &[
 /// The sample image with these changes, which may lengthen it.
 pub(crate) fn sample_image(alloc: Global, changes: Numbers<'_>) -> Result<MemStorage, Fault> {
     let mut image = image_with(alloc, 3072, SAMPLE)?;
-    for (place, number) in changes {
-        put(&mut image, *place, *number)?;
-    }
+    put_all(&mut image, changes)?;
     Ok(image)
+}
+
+// The header of an image.
+fn header_of<S: Storage>(alloc: Global, image: &mut S) -> Result<Header, Fault> {
+    Header::load(alloc, image, false)
 }
 
 /// All findings of an image, in order, the first hundred of them at most.
 pub(crate) fn findings_of<S: Storage>(alloc: Global, image: &mut S) -> Result<Vec<Finding>, Fault> {
-    let header = Header::load(alloc, image, false)?;
+    let header = header_of(alloc, image)?;
     let mut findings = Findings::new(alloc, image, &header)?;
     let mut found = Vec::new(alloc);
     for _ in 0..100 {
@@ -69,7 +72,7 @@ pub(crate) fn findings_of<S: Storage>(alloc: Global, image: &mut S) -> Result<Ve
 /// All wrong flags of an image, in order, the first hundred of them at most. Where a read is refused, the
 /// reader is called again.
 pub(crate) fn flags_of<S: Storage>(alloc: Global, image: &mut S) -> Result<Vec<WrongFlag>, Fault> {
-    let header = Header::load(alloc, image, false)?;
+    let header = header_of(alloc, image)?;
     let mut flags = Findings::new(alloc, image, &header)?.into_flags();
     let mut found = Vec::new(alloc);
     for _ in 0..100 {
@@ -89,7 +92,7 @@ pub(crate) fn counters_of<S: Storage>(
     image: &mut S,
     clusters: &[u64],
 ) -> Result<Vec<u64>, Fault> {
-    let header = Header::load(alloc, image, false)?;
+    let header = header_of(alloc, image)?;
     let mut counters = Counters::new(alloc, image, &header)?;
     let mut found = Vec::new(alloc);
     for cluster in clusters {
@@ -100,13 +103,13 @@ pub(crate) fn counters_of<S: Storage>(
 
 /// Whether an image is consistent.
 pub(crate) fn is_image_consistent<S: Storage>(alloc: Global, image: &mut S) -> Result<bool, Fault> {
-    let header = Header::load(alloc, image, false)?;
+    let header = header_of(alloc, image)?;
     is_consistent(alloc, image, &header)
 }
 
 /// Repairs an image.
 pub(crate) fn repaired<S: Storage>(alloc: Global, image: &mut S) -> Result<(), Fault> {
-    let header = Header::load(alloc, image, false)?;
+    let header = header_of(alloc, image)?;
     repair_image(alloc, image, header)?;
     Ok(())
 }

@@ -14,10 +14,16 @@ pub fn filled_image(alloc: Global, len: usize) -> Result<MemStorage, Fault> {
 /// An image of `len` bytes that are zero but for these numbers at these places.
 pub fn image_with(alloc: Global, len: usize, numbers: &[(u64, u64)]) -> Result<MemStorage, Fault> {
     let mut image = MemStorage::new(vec![in alloc; 0; len]?);
-    for (place, number) in numbers {
-        put(&mut image, *place, *number)?;
-    }
+    put_all(&mut image, numbers)?;
     Ok(image)
+}
+
+/// Puts numbers of eight bytes into the image, each at its place. The image grows where it is too short.
+pub fn put_all<S: Storage>(image: &mut S, numbers: &[(u64, u64)]) -> Result<(), Fault> {
+    for (place, number) in numbers {
+        put(image, *place, *number)?;
+    }
+    Ok(())
 }
 
 /// Puts a number of eight bytes into the image, which grows where it is too short.

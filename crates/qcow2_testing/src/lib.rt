@@ -16,5 +16,5 @@ pub use conditions::{fits, is_cluster_bits};
 pub use failing::{FailingStorage, StorageCall, take_turn};
 pub use faults::{FAULTS, ReportedFault};
 pub use faulty_files::{FaultyFile, FaultyFiles, Opens};
-pub use images::{filled_image, image_with, put, put_bytes, recorded, same_image};
+pub use images::{filled_image, image_with, put, put_all, put_bytes, recorded, same_image};
 pub use temporary_files::{TemporaryFile, file_holds, temporary_file, temporary_path};
