@@ -41,11 +41,7 @@ const FOLLOWED: &[Followed<'static>] = rows! { Followed:
 };
 
 // What clusters gained and lost.
-fn outcome_of(
-    alloc: Global,
-    gained: &[u64],
-    lost: &[(u64, u64)],
-) -> Result<Outcome, Fault> {
+fn outcome_of(alloc: Global, gained: &[u64], lost: &[(u64, u64)]) -> Result<Outcome, Fault> {
     let mut outcome = Outcome {
         gained: Vec::new(alloc),
         freed: Vec::new(alloc),
@@ -81,7 +77,11 @@ fn follow<S: Storage>(alloc: Global, image: &mut S, outcome: &Outcome) -> Result
 fn check_followed(alloc: Global, row: Followed<'_>) -> Result<(), Fail> {
     let outcome = outcome_of(alloc, row.gained, row.lost)?;
     let mut image = small_image(alloc, &[])?;
-    same(follow(alloc, &mut image, &outcome).err(), row.fault, row.name)?;
+    same(
+        follow(alloc, &mut image, &outcome).err(),
+        row.fault,
+        row.name,
+    )?;
     same_image(&image, small_image(alloc, row.changes), row.name)
 }
 

@@ -5,7 +5,7 @@ use qcow2_apply::{GuestEdit, edits_in, first_unfit};
 use qcow2_base::{GuestOffset, HostCluster};
 use qcow2_edits::Edit;
 use qcow2_metadata::Header;
-use qcow2_testing::{each, rows, same};
+use qcow2_testing::{each, row_error, rows, same};
 use std::alloc::Global;
 use std::test::Fail;
 
@@ -49,6 +49,9 @@ const IN_TABLES: &[InTable<'static>] = rows! { InTable:
 };
 
 fn check_in_table(alloc: Global, row: InTable<'_>) -> Result<(), Fail> {
+    if row.l1_index >= 1 << 32 {
+        return Err(row_error(row.name));
+    }
     let found = edits_in(alloc, &[row.edit], 9, row.l1_index)?;
     same(found.as_slice(), row.edits, row.name)
 }
@@ -72,53 +75,70 @@ fn edits_of_a_table_keep_their_order(rt: HostRuntime) -> Result<(), Fail> {
     same(found.as_slice(), &expected, "three edits")
 }
 
-// An edit of a disk of 128 clusters of 512 bytes, and whether it can be made.
+// A range of a disk of 128 clusters of 512 bytes, and whether it can be discarded.
 #[derive(Clone, Copy)]
-struct Fits<'a> {
+struct Range<'a> {
     name: &'a str,
-    edit: GuestEdit,
+    offset: u64,
+    length: u64,
     fits: bool,
 }
 
-const fn discard(offset: u64, length: u64) -> GuestEdit {
-    GuestEdit::Discard {
-        offset: GuestOffset(offset),
-        length,
-    }
-}
-
-const fn map(offset: u64, host_cluster: u64) -> GuestEdit {
-    GuestEdit::Map {
-        offset: GuestOffset(offset),
-        host_cluster: HostCluster(host_cluster),
-    }
-}
-
-const FITS: &[Fits<'static>] = rows! { Fits:
-    { name: "the whole disk", edit: discard(0, 65536), fits: true },
-    { name: "past its end", edit: discard(512, 65536), fits: false },
-    { name: "its last cluster", edit: map(65024, 9), fits: true },
-    { name: "the one after it", edit: map(65536, 9), fits: false },
-    { name: "an offset within a cluster", edit: discard(256, 512), fits: false },
-    { name: "a length that isn't one of clusters", edit: discard(0, 513), fits: false },
-    { name: "no length", edit: discard(0, 0), fits: false },
-    { name: "the greatest offset and length", edit: discard(u64::MAX - 511, u64::MAX - 511), fits: false },
-    { name: "the header's cluster", edit: map(0, 0), fits: false },
-    { name: "the last host cluster of an entry", edit: map(0, (1 << 47) - 1), fits: true },
-    { name: "a host cluster that no entry can name", edit: map(0, 1 << 47), fits: false },
+const RANGES: &[Range<'static>] = rows! { Range:
+    { name: "the whole disk", offset: 0, length: 65536, fits: true },
+    { name: "past its end", offset: 512, length: 65536, fits: false },
+    { name: "an offset within a cluster", offset: 256, length: 512, fits: false },
+    { name: "a length that isn't one of clusters", offset: 0, length: 513, fits: false },
+    { name: "no length", offset: 0, length: 0, fits: false },
+    { name: "the greatest offset and length", offset: u64::MAX - 511, length: u64::MAX - 511, fits: false },
 };
 
-fn check_fits(alloc: Global, row: Fits<'_>) -> Result<(), Fail> {
+// An offset of this disk, and whether it can be mapped to a host cluster.
+#[derive(Clone, Copy)]
+struct Mapping<'a> {
+    name: &'a str,
+    offset: u64,
+    host_cluster: u64,
+    fits: bool,
+}
+
+const MAPPINGS: &[Mapping<'static>] = rows! { Mapping:
+    { name: "the last guest cluster", offset: 65024, host_cluster: 9, fits: true },
+    { name: "the one after it", offset: 65536, host_cluster: 9, fits: false },
+    { name: "the header's cluster", offset: 0, host_cluster: 0, fits: false },
+    { name: "the last host cluster of an entry", offset: 0, host_cluster: (1 << 47) - 1, fits: true },
+    { name: "a host cluster that no entry can name", offset: 0, host_cluster: 1 << 47, fits: false },
+};
+
+// Whether the second of two edits is the first that doesn't fit, or both fit.
+fn check_fits(alloc: Global, edit: GuestEdit, fits: bool, name: &str) -> Result<(), Fail> {
     let header = Header::load(alloc, &mut small_image(alloc, &[])?, false)?;
-    let expected = if row.fits { None } else { Some(1) };
-    same(
-        first_unfit(&header, &[discard(0, 512), row.edit]),
-        expected,
-        row.name,
-    )
+    let expected = if fits { None } else { Some(1) };
+    same(first_unfit(&header, &[KEPT, edit]), expected, name)
+}
+
+fn check_range(alloc: Global, row: Range<'_>) -> Result<(), Fail> {
+    let edit = GuestEdit::Discard {
+        offset: GuestOffset(row.offset),
+        length: row.length,
+    };
+    check_fits(alloc, edit, row.fits, row.name)
+}
+
+fn check_mapping(alloc: Global, row: Mapping<'_>) -> Result<(), Fail> {
+    let edit = GuestEdit::Map {
+        offset: GuestOffset(row.offset),
+        host_cluster: HostCluster(row.host_cluster),
+    };
+    check_fits(alloc, edit, row.fits, row.name)
 }
 
 #[test]
-fn edits_fit_whole_clusters_of_the_disk(rt: HostRuntime) -> Result<(), Fail> {
-    each(rt.alloc(), FITS, check_fits)
+fn ranges_are_of_whole_clusters_of_the_disk(rt: HostRuntime) -> Result<(), Fail> {
+    each(rt.alloc(), RANGES, check_range)
+}
+
+#[test]
+fn entries_can_name_mapped_clusters(rt: HostRuntime) -> Result<(), Fail> {
+    each(rt.alloc(), MAPPINGS, check_mapping)
 }

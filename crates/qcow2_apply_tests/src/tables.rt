@@ -19,12 +19,20 @@ struct Edited<'a> {
     fault: Option<Fault>,
 }
 
-const fn discard(offset: u64, length: u64) -> GuestEdit {
-    GuestEdit::Discard {
-        offset: GuestOffset(offset),
-        length,
-    }
-}
+const ONE_CLUSTER: &[GuestEdit] = &[GuestEdit::Discard {
+    offset: GuestOffset(3 * 512),
+    length: 512,
+}];
+
+const WHOLE_DISK: &[GuestEdit] = &[GuestEdit::Discard {
+    offset: GuestOffset(0),
+    length: 65536,
+}];
+
+const OTHER_CLUSTER: &[GuestEdit] = &[GuestEdit::Discard {
+    offset: GuestOffset(32768),
+    length: 512,
+}];
 
 const MAPS: &[GuestEdit] = &[
     GuestEdit::Map {
@@ -45,19 +53,19 @@ const ZEROS: &[GuestEdit] = &[GuestEdit::Zero {
 
 const EDITED: &[Edited<'static>] = rows! { Edited:
     { name: "no edits", before: &[], edits: &[], changes: &[], fault: None },
-    { name: "a discarded cluster", before: &[], edits: &[discard(3 * 512, 512)],
+    { name: "a discarded cluster", before: &[], edits: ONE_CLUSTER,
         changes: &[(L2_TABLE + 24, 0)], fault: None },
-    { name: "the whole disk", before: &[], edits: &[discard(0, 65536)],
+    { name: "the whole disk", before: &[], edits: WHOLE_DISK,
         changes: &[(L2_TABLE + 24, 0), (OTHER_TABLE, 0)], fault: None },
     { name: "a map in each table", before: &[], edits: MAPS,
         changes: &[(L2_TABLE, COPIED | 9 << 9), (OTHER_TABLE + 504, COPIED | 10 << 9)], fault: None },
     { name: "zeros that keep their cluster", before: &[], edits: ZEROS,
         changes: &[(L2_TABLE + 24, COPIED | 2561)], fault: None },
-    { name: "no table", before: &[(L1_TABLE, 0)], edits: &[discard(0, 65536)],
+    { name: "no table", before: &[(L1_TABLE, 0)], edits: WHOLE_DISK,
         changes: &[(L1_TABLE, 0), (OTHER_TABLE, 0)], fault: None },
-    { name: "a table that can't be loaded", before: &[(L2_TABLE, 2)], edits: &[discard(0, 65536)],
+    { name: "a table that can't be loaded", before: &[(L2_TABLE, 2)], edits: WHOLE_DISK,
         changes: &[(L2_TABLE, 2)], fault: Some(Fault::EntryReserved) },
-    { name: "one that isn't edited", before: &[(L2_TABLE, 2)], edits: &[discard(32768, 512)],
+    { name: "one that isn't edited", before: &[(L2_TABLE, 2)], edits: OTHER_CLUSTER,
         changes: &[(L2_TABLE, 2), (OTHER_TABLE, 0)], fault: None },
 };
 
@@ -73,7 +81,11 @@ fn edit<S: Storage>(alloc: Global, image: &mut S, edits: &[GuestEdit]) -> Result
 
 fn check_edited(alloc: Global, row: Edited<'_>) -> Result<(), Fail> {
     let mut image = small_image(alloc, row.before)?;
-    same(edit(alloc, &mut image, row.edits).err(), row.fault, row.name)?;
+    same(
+        edit(alloc, &mut image, row.edits).err(),
+        row.fault,
+        row.name,
+    )?;
     same_image(&image, small_image(alloc, row.changes), row.name)
 }
 

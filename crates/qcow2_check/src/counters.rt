@@ -314,7 +314,7 @@ impl<'a> Counters<'a> {
     }
 
     /// The refcount table, without its reader. The memory of the block is given back.
-    pub(crate) fn into_reftable(self) -> RefTable
+    pub fn into_reftable(self) -> RefTable
         ensures numbers { result.numbers ≡ self.entry.reftable }
         ensures geometry { result.geometry ≡ geometry_of self.entry.header }
         ensures placed { blocks_fault self.entry.header self.entry.reftable ≡ None }
