@@ -7,7 +7,7 @@ use Rattle.qcow2_base.specs.declared.fault.Fault.TheVariants.{Storage}
 use Rattle.qcow2_base.specs.declared.types.HostCluster.{HostCluster}
 use Rattle.qcow2_check.proofs.ClustersLemmas.{other-cluster}
 use Rattle.qcow2_check.specs.Failures.{TearsAtMost}
-use Rattle.qcow2_apply.specs.Passes.{ArePlacesApart, PassBreaksOff, Passes, PassesBefore, Places, StepsAt, TearsOne}
+use Rattle.qcow2_apply.specs.Passes.{KeepsOutside, ArePlacesApart, PassBreaksOff, Passes, PassesBefore, Places, StepsAt, TearsOne}
 
 -- numbers are those of the bytes of their cluster alone
 abbrev pub AreOfClusters : Places → Type 0
@@ -111,3 +111,13 @@ step-answer places Step index cluster (Ok value) old new local apart names outsi
     one-steps places Step index cluster old new local (record { apart = apart; names = names; outside = outside }) step
 step-answer places Step index cluster (Err fault) old new local apart names outside whole step =
     one-tears places index cluster fault old new names outside whole
+
+-- no byte outside them changes where one is written
+pub one-keeps : (places : Places) (index : ℕ) (cluster : HostCluster) (old new : Image) → places.place index ≡ Some cluster
+    → SameOutside (cluster.0 * 2 ^ places.cluster_bits) (2 ^ places.cluster_bits) old new → KeepsOutside places old new
+one-keeps places index cluster old new names outside o apart =
+    other-cluster (2 ^ places.cluster_bits) cluster.0 o old new (pow_pos _) outside (apart index cluster names)
+
+-- nor where two calls change none
+pub keeps-twice : (places : Places) (a b c : Image) → KeepsOutside places a b → KeepsOutside places b c → KeepsOutside places a c
+keeps-twice places a b c one other o outside = other o outside ∙ one o outside

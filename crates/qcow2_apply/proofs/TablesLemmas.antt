@@ -1,5 +1,5 @@
-use Rattle.std.proofs.Common.{◌≡◌, ◌⊎◌, ℕ, suc, ◌*◌, ◌%◌, ◌^◌, ◌<◌, Bool, true, false, not, List, [], ◌∷◌, length, Some, None, Result, Ok, Err, IfErr, IsOk, inl, inr, refl, subst, sym, mod-lt, arith}
-use Rattle.std.proofs.lemmas.Bool.{cases_Bool, cases_lt}
+use Rattle.std.proofs.Common.{◌≡◌, ◌+◌, ◌⊎◌, ℕ, suc, ◌*◌, ◌%◌, ◌^◌, ◌<◌, Bool, true, false, not, List, [], ◌∷◌, length, Some, None, Result, Ok, Err, IfErr, IsOk, inl, inr, refl, subst, sym, mod-lt, arith}
+use Rattle.std.proofs.lemmas.Bool.{cases_Bool, cases_eq, cases_lt}
 use Rattle.std.proofs.lemmas.Bool.Decides.{nat_tests}
 use Rattle.std.proofs.lemmas.List.{get_or_past}
 use Rattle.std.proofs.lemmas.Nat.{pow_pos}
@@ -21,7 +21,7 @@ use Rattle.qcow2_metadata.specs.Table.L2Guards.{fits_table}
 use Rattle.qcow2_apply.specs.GuestEdits.{edit_at, edits_by, edits_in, guest_edit_fits}
 use Rattle.qcow2_check.proofs.ClustersLemmas.{table-same}
 use Rattle.qcow2_apply.proofs.PassesLemmas.{AreOfClusters}
-use Rattle.qcow2_apply.specs.Tables.{AllFit, AreMade, FailsAt, IsEdited, IsHeldTable, SomeFails, l2_tables}
+use Rattle.qcow2_apply.specs.Tables.{AllFit, AreMade, FailsAt, IsEdited, FirstFails, IsHeldTable, NoneFailsBefore, l2_tables}
 use Rattle.qcow2_apply.specs.Passes.{PassesBefore}
 use Rattle.qcow2_apply.specs.declared.guest_edits.GuestEdit.{GuestEdit}
 use Rattle.qcow2_apply.specs.declared.guest_edits.GuestEdit.TheVariants.{Discard, Map, Zero}
@@ -114,11 +114,33 @@ named-below header l1 i table names = elim (cases_lt i (length l1)) [
   | inr past ↦ absurd (let none = get_or_past l1 i 0 past in grind (arith, names, none))
 ]
 
--- a table that can't be loaded after others were edited can't be before
-pub fails-before : (header : HeaderRecord) (l1 : List ℕ) (edits : List GuestEdit) (i : ℕ) (fault : Fault) (a b : Image)
-    → PassesBefore (l2_tables header l1) (IsEdited header edits) i a b → FailsAt header l1 edits i fault b → SomeFails header l1 edits fault a
-fails-before header l1 edits i fault a b before fails =
+-- a table that no step has come to can be loaded as before
+fails-same : (header : HeaderRecord) (l1 : List ℕ) (edits : List GuestEdit) (i : ℕ) (fault : Fault) (a b : Image)
+    → PassesBefore (l2_tables header l1) (IsEdited header edits) i a b → FailsAt header l1 edits i fault b → FailsAt header l1 edits i fault a
+fails-same header l1 edits i fault a b before fails =
     let g = geometry_of header in
     let same : numbers_at (l2_layout g) fails.0 b ≡ numbers_at (l2_layout g) fails.0 a = before.after i fails.0 (omega arith) fails.1 in
     let loads : loaded_l2_table g fails.0 b ≡ loaded_l2_table g fails.0 a = rw same refl in
-    (i, (fails.0, fails.1, fails.2, rw loads at fails.3))
+    (fails.0, fails.1, fails.2, rw loads at fails.3)
+
+fails-later : (header : HeaderRecord) (l1 : List ℕ) (edits : List GuestEdit) (i : ℕ) (fault : Fault) (a b : Image)
+    → PassesBefore (l2_tables header l1) (IsEdited header edits) i a b → FailsAt header l1 edits i fault a → FailsAt header l1 edits i fault b
+fails-later header l1 edits i fault a b before fails =
+    let g = geometry_of header in
+    let same : numbers_at (l2_layout g) fails.0 a ≡ numbers_at (l2_layout g) fails.0 b = sym (before.after i fails.0 (omega arith) fails.1) in
+    let loads : loaded_l2_table g fails.0 a ≡ loaded_l2_table g fails.0 b = rw same refl in
+    (fails.0, fails.1, fails.2, rw loads at fails.3)
+
+-- so the first that can't be loaded is the first before all steps
+pub fails-first : (header : HeaderRecord) (l1 : List ℕ) (edits : List GuestEdit) (i : ℕ) (fault : Fault) (a b : Image)
+    → PassesBefore (l2_tables header l1) (IsEdited header edits) i a b → NoneFailsBefore header l1 edits i a → FailsAt header l1 edits i fault b
+    → FirstFails header l1 edits fault a
+fails-first header l1 edits i fault a b before none fails = (i, fails-same header l1 edits i fault a b before fails, none)
+
+pub none-fails-next : (header : HeaderRecord) (l1 : List ℕ) (edits : List GuestEdit) (i : ℕ) (a b : Image)
+    → PassesBefore (l2_tables header l1) (IsEdited header edits) i a b → NoneFailsBefore header l1 edits i a
+    → ((fault : Fault) → FailsAt header l1 edits i fault b → ⊥) → NoneFailsBefore header l1 edits (i + 1) a
+none-fails-next header l1 edits i a b before none loads j fault below fails = elim (cases_eq j i) [
+  | inl here ↦ loads fault (fails-later header l1 edits i fault a b before (subst (λ k. FailsAt header l1 edits k fault a) here fails))
+  | inr differs ↦ none j fault (omega (arith, below, differs)) fails
+]

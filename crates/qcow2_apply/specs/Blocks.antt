@@ -44,7 +44,8 @@ pub record BlockFollows (tables : CounterTablesState) (changes : Changes) (index
   pub each : (k : ℕ) → k < length old →
       Follows changes (index * counters_each tables.header + k) (slice_index old k) (slice_index new k)
 
--- a counter can't follow the changes of cluster c: what the cluster gained is too much for it, or what it lost is more than that
+-- a counter can't follow the changes of cluster c, all gains before the losses: those are too much for it, or these are more than
+-- both
 abbrev pub IsStuck : CounterTablesState → Changes → ℕ → ℕ → Type 0
 IsStuck tables changes c counter = (greatest_counter tables.header.base.refcount_order < counter + gains_of changes c)
     ⊎ (counter + gains_of changes c < losses_of changes c)

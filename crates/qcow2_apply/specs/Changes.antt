@@ -1,10 +1,12 @@
 -- How often does each cluster gain and lose a reference?
-use Rattle.std.specs.Prelude.{◌≡◌, ℕ, ◌+◌, ◌/◌, ◌^◌, Option, Some, None}
+use Rattle.std.specs.Prelude.{◌≡◌, ℕ, ◌+◌, ◌/◌, ◌^◌, ◌≤◌, List, Option, Some, None}
 use Rattle.std.specs.BTreeMap.{get}
 use Rattle.std.specs.Ordering.{nat_cmp}
 use Rattle.qcow2_edits.specs.Edits.{cluster_numbers}
 use Rattle.qcow2_edits.specs.declared.edits.Outcome.{Outcome}
+use Rattle.std.specs.List.{Any}
 use Rattle.qcow2_metadata.specs.Table.L2Guards.{handed_back, times_gained}
+use Rattle.qcow2_metadata.specs.declared.entries.ClustersToFreeEntry.{ClustersToFreeEntry}
 use Rattle.qcow2_apply.specs.declared.changes.Changes.{Changes}
 
 -- how often cluster c gains a reference by an outcome, if there is one
@@ -58,3 +60,11 @@ pub record TakesOutcome (index : ℕ) (outcome : Outcome) (old new : Changes) : 
 pub record PutsOutcome (index : ℕ) (outcome : Outcome) (old new : Changes) : Type 0 where
   pub put : IsOutcomeOf new index (Some outcome)
   pub others : KeepsOthers index old new
+
+-- clusters end where 64 bits don't count them
+abbrev pub EndsLate : ClustersToFreeEntry → Type 0
+EndsLate clusters = 2 ^ 64 ≤ clusters.first.0 + clusters.count.0
+
+-- some of a list do
+abbrev pub SomeEndsLate : List ClustersToFreeEntry → Type 0
+SomeEndsLate list = Any EndsLate list

@@ -19,6 +19,10 @@ ArePlacesApart places = (i j : ℕ) (cluster : HostCluster) → places.place i �
 abbrev pub IsOutside : Places → ℕ → Type 0
 IsOutside places o = (i : ℕ) (cluster : HostCluster) → places.place i ≡ Some cluster → o / 2 ^ places.cluster_bits ≢ cluster.0
 
+-- no byte outside them changed
+abbrev pub KeepsOutside : Places → Image → Image → Type 0
+KeepsOutside places old new = (o : ℕ) → IsOutside places o → new o ≡ old o
+
 -- a step of a pass changes the numbers of the table at an index; those of all others stay, and all other bytes
 pub record StepsAt (places : Places) (Step : ℕ → List ℕ → List ℕ → Type 0) (index : ℕ) (old new : Image) : Type 0 where
   pub changed : (cluster : HostCluster) → places.place index ≡ Some cluster → Step index (places.numbers cluster old) (places.numbers cluster new)

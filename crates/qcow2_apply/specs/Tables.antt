@@ -1,5 +1,5 @@
 -- What is left of an image's L2 tables, and of references, by edits of its disk?
-use Rattle.std.specs.Prelude.{◌≡◌, ◌≢◌, ℕ, List, [], length, map, slice_index, Some, None, Err, true, false}
+use Rattle.std.specs.Prelude.{◌≡◌, ◌≢◌, ℕ, List, [], length, map, slice_index, Some, None, Ok, Err, ◌<◌, true, false}
 use Rattle.std.specs.List.{All}
 use Rattle.qcow2_base.specs.Storage.{Image}
 use Rattle.qcow2_base.specs.declared.fault.Fault.{Fault}
@@ -49,9 +49,13 @@ FailsAt header l1 edits index fault image = (cluster : HostCluster)
     × (named_cluster header.v2.cluster_bits (slice_index l1 index) ≡ Some cluster) × (edits_in header.v2.cluster_bits index edits ≢ [])
     × (loaded_l2_table (geometry_of header) cluster image ≡ Err fault)
 
--- some such table can't
-abbrev pub SomeFails : HeaderRecord → List ℕ → List GuestEdit → Fault → Image → Type 0
-SomeFails header l1 edits fault image = (index : ℕ) × FailsAt header l1 edits index fault image
+-- no such table before an index fails
+abbrev pub NoneFailsBefore : HeaderRecord → List ℕ → List GuestEdit → ℕ → Image → Type 0
+NoneFailsBefore header l1 edits index image = (i : ℕ) (fault : Fault) → i < index → FailsAt header l1 edits i fault image → ⊥
+
+-- the first such table that can't be loaded fails by this fault
+abbrev pub FirstFails : HeaderRecord → List ℕ → List GuestEdit → Fault → Image → Type 0
+FirstFails header l1 edits fault image = (index : ℕ) × FailsAt header l1 edits index fault image × NoneFailsBefore header l1 edits index image
 
 -- all edits can be made of an L2 table of an image with this header
 abbrev pub AreMade : HeaderRecord → List Edit → Type 0
@@ -63,3 +67,8 @@ pub record IsHeldTable (header : HeaderRecord) (begin : HostCluster) (table : Ta
   pub cluster : table.cluster ≡ Some begin
   pub geometry : table.geometry ≡ geometry_of header
   pub placed : place_fault (l2_layout (geometry_of header)) begin ≡ None
+
+-- edits were made of the L2 table that begins with a cluster, which could be loaded
+pub record EditsTable (header : HeaderRecord) (edits : List Edit) (begin : HostCluster) (old new : Image) : Type 0 where
+  pub loads : loaded_l2_table (geometry_of header) begin old ≡ Ok (numbers_at (l2_layout (geometry_of header)) begin old)
+  pub numbers : numbers_at (l2_layout (geometry_of header)) begin new ≡ (run_in header edits (numbers_at (l2_layout (geometry_of header)) begin old)).numbers

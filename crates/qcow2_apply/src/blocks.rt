@@ -11,7 +11,7 @@ ghost use Rattle.qcow2_check.specs.Counters.{blocks_fault};
 ghost use Rattle.qcow2_check.specs.Failures.{ReportsFailures, TearsAtMost};
 ghost use Rattle.qcow2_apply.specs.Blocks.{BlockFollows, BlockIsStuck, FollowsChanges, IsBlockOf, IsByBlocks, IsStuckAt, SomeIsStuck, StopsFollowing, blocks, block_numbers};
 ghost use Rattle.qcow2_apply.specs.Changes.{IsOutcomeOf};
-ghost use Rattle.qcow2_apply.specs.Passes.{ArePlacesApart, StepsAt, TearsOne};
+ghost use Rattle.qcow2_apply.specs.Passes.{ArePlacesApart, KeepsOutside, StepsAt, TearsOne};
 
 use crate::changes::Changes;
 use qcow2_base::{Fault, HostCluster, Storage};
@@ -110,6 +110,7 @@ fn follow_at<S: Storage>(
         OnImages (S.state image.old) (S.state image.new) (λ before after. MatchResult result
         (λ _. StepsAt (blocks tables.now) (BlockFollows tables.now changes.now) index before after)
         (λ fault. TearsAtMost fault (TearsOne (blocks tables.now)) before after)) }
+    ensures others { OnImages (S.state image.old) (S.state image.new) (KeepsOutside (blocks tables.now)) }
     ensures fault { IfErr result (λ fault. IsFromOutside fault ⊎ ((fault ≡ CounterRange)
         × OnImage (S.state image.old) (IsStuckAt tables.now changes.now index))) }
     ensures storage { ReportsFailures result (S.state image.old) (S.state image.new) }
@@ -128,8 +129,9 @@ fn follow_at<S: Storage>(
 /// Lets all counters of an image follow what their clusters gained and lost, and waits until they are on the
 /// device. Each refcount block is written once at most. Clusters that no block counts are passed over.
 ///
-/// Returns 30 where a counter can't follow. After a fault some blocks may have followed; where the storage
-/// failed, any bytes may be in one more.
+/// All that a cluster gained is counted before what it lost. Returns 30 where a counter can't count both so.
+/// After a fault some counters may have followed, so the call must not be made again; where the storage
+/// failed, any bytes may be in one block besides.
 pub fn follow_changes<S: Storage>(
     alloc: Global,
     image: &mut S,
@@ -142,6 +144,7 @@ pub fn follow_changes<S: Storage>(
         OnImages (S.state image.old) (S.state image.new) (λ before after. MatchResult result
         (λ _. FollowsChanges tables.now changes.now before after)
         (λ fault. StopsFollowing tables.now changes.now fault before after)) }
+    ensures others { OnImages (S.state image.old) (S.state image.new) (KeepsOutside (blocks tables.now)) }
     ensures fault { IfErr result (λ fault. IsFromOutside fault ⊎ ((fault ≡ CounterRange)
         × (ArePlacesApart (blocks tables.now) →
         OnImage (S.state image.old) (SomeIsStuck tables.now changes.now)))) }

@@ -1,6 +1,7 @@
 //! L2 tables of an image that edits of its disk change.
 
-ghost use Rattle.std.specs.Prelude.{◌≡◌, ◌≢◌, ◌⊎◌, ◌<◌, ◌^◌, [], Err, IfErr, IfOk, MatchResult, None, OnOk, length, map, slice_index};
+ghost use Rattle.std.specs.Prelude.{◌≡◌, ◌⊎◌, ◌<◌, ◌^◌, Err, IfErr, IfOk, MatchResult, Ok, OnOk, length};
+ghost use Rattle.qcow2_base.specs.declared.fault.Fault.{Fault as AnyFault};
 ghost use Rattle.qcow2_base.specs.Storage.{OnImage, OnImages, OnlyReads, OnlyWrites};
 ghost use Rattle.qcow2_edits.specs.Edits.{table_edit};
 ghost use Rattle.qcow2_metadata.specs.Header.{geometry_of};
@@ -10,8 +11,8 @@ ghost use Rattle.qcow2_metadata.specs.Table.{IsContentFault, l2_layout, loaded_l
 ghost use Rattle.qcow2_check.specs.NamedTables.{IsInImage};
 ghost use Rattle.qcow2_check.specs.Failures.{ReportsFailures, TearsAtMost};
 ghost use Rattle.qcow2_apply.specs.GuestEdits.{edits_in};
-ghost use Rattle.qcow2_apply.specs.Passes.{ArePlacesApart, PassBreaksOff, Passes, StepsAt, TearsOne};
-ghost use Rattle.qcow2_apply.specs.Tables.{AllFit, AreMade, FailsAt, IsEdited, IsHeldTable, MakesRun, SomeFails, l2_tables, run_in};
+ghost use Rattle.qcow2_apply.specs.Passes.{ArePlacesApart, KeepsOutside, PassBreaksOff, Passes, StepsAt, TearsOne};
+ghost use Rattle.qcow2_apply.specs.Tables.{AllFit, AreMade, EditsTable, FailsAt, FirstFails, IsEdited, IsHeldTable, MakesRun, NoneFailsBefore, l2_tables};
 
 use crate::guest_edits::{GuestEdit, edits_in};
 use qcow2_base::{Fault, HostCluster, Storage};
@@ -31,8 +32,9 @@ pub(crate) fn load_edited<S: Storage>(
     requires place { IsInImage header.now.v2.cluster_bits cluster }
     requires fit { AreMade header.now edits.now }
     ensures edited { IfOk result (λ done. OnImage (S.state image.old) (λ bytes.
-        MakesRun header.now edits.now (numbers_at (l2_layout (geometry_of header.now)) cluster bytes)
-        done.0 done.1)) }
+        let numbers = numbers_at (l2_layout (geometry_of header.now)) cluster bytes in
+        (loaded_l2_table (geometry_of header.now) cluster bytes ≡ Ok numbers)
+        × MakesRun header.now edits.now numbers done.0 done.1)) }
     ensures table { IfOk result (λ done. IsHeldTable header.now cluster done.0) }
     ensures fault { IfErr result (λ fault. IsContentFault fault × OnImage (S.state image.old) (λ bytes.
         IsFromOutside fault ⊎ (loaded_l2_table (geometry_of header.now) cluster bytes ≡ Err fault))) }
@@ -53,9 +55,8 @@ fn edit_loaded<S: Storage>(
 ) -> Result<(), Fault>
     requires place { IsInImage header.now.v2.cluster_bits cluster }
     requires fit { AreMade header.now edits.now }
-    ensures edited { OnOk result (OnImages (S.state image.old) (S.state image.new) (λ before after.
-        let layout = l2_layout (geometry_of header.now) in numbers_at layout cluster after
-        ≡ (run_in header.now edits.now (numbers_at layout cluster before)).numbers)) }
+    ensures edited { OnOk result (OnImages (S.state image.old) (S.state image.new)
+        (EditsTable header.now edits.now cluster)) }
     ensures fault { IfErr result (λ fault. IsContentFault fault × OnImage (S.state image.old) (λ bytes.
         IsFromOutside fault ⊎ (loaded_l2_table (geometry_of header.now) cluster bytes ≡ Err fault))) }
     ensures storage { let layout = l2_layout (geometry_of header.now) in OnlyWrites result
@@ -81,6 +82,10 @@ fn edit_at<S: Storage>(
         OnImages (S.state image.old) (S.state image.new) (λ before after. MatchResult result
         (λ _. StepsAt tables (IsEdited header.now edits.now) index before after)
         (λ fault. TearsAtMost fault (TearsOne tables) before after)) }
+    ensures loaded { OnOk result (OnImage (S.state image.old) (λ bytes. (fault : AnyFault) →
+        FailsAt header.now l1_table.now.numbers edits.now index fault bytes → ⊥)) }
+    ensures others { OnImages (S.state image.old) (S.state image.new)
+        (KeepsOutside (l2_tables header.now l1_table.now.numbers)) }
     ensures fault { IfErr result (λ fault. IsContentFault fault × OnImage (S.state image.old) (λ bytes.
         IsFromOutside fault ⊎ FailsAt header.now l1_table.now.numbers edits.now index fault bytes)) }
     ensures storage { ReportsFailures result (S.state image.old) (S.state image.new) }
@@ -99,8 +104,9 @@ fn edit_at<S: Storage>(
 /// Makes edits of the disk in all L2 tables of an image, and waits until they are on the device. Each table
 /// is written once at most. Guest clusters without a table are passed over.
 ///
-/// Returns the fault of the first table that can't be loaded. After a fault some tables may be edited; where
-/// the storage failed, any bytes may be in one more.
+/// Returns the fault of the first table that can't be loaded. After a fault those before it may be edited, so
+/// the call must not be made again; where the storage failed, any bytes may be in one more. Takes time by
+/// the number of tables times that of edits.
 pub fn edit_tables<S: Storage>(
     image: &mut S,
     header: &Header,
@@ -114,9 +120,14 @@ pub fn edit_tables<S: Storage>(
         OnImages (S.state image.old) (S.state image.new) (λ before after. MatchResult result
         (λ _. Passes tables (IsEdited header.now edits.now) before after)
         (λ fault. PassBreaksOff tables (IsEdited header.now edits.now) fault before after)) }
+    ensures loaded { OnOk result (ArePlacesApart (l2_tables header.now l1_table.now.numbers) →
+        OnImage (S.state image.old) (NoneFailsBefore header.now l1_table.now.numbers edits.now
+        header.now.v2.l1_size)) }
+    ensures others { OnImages (S.state image.old) (S.state image.new)
+        (KeepsOutside (l2_tables header.now l1_table.now.numbers)) }
     ensures fault { IfErr result (λ fault. IsContentFault fault
         × (ArePlacesApart (l2_tables header.now l1_table.now.numbers) → OnImage (S.state image.old) (λ bytes.
-        IsFromOutside fault ⊎ SomeFails header.now l1_table.now.numbers edits.now fault bytes))) }
+        IsFromOutside fault ⊎ FirstFails header.now l1_table.now.numbers edits.now fault bytes))) }
     ensures storage { ReportsFailures result (S.state image.old) (S.state image.new) }
 {
     for index in 0..header.l1_table_entries() {

@@ -6,12 +6,12 @@ use qcow2_base::{ClusterCount, Fault, HostCluster, Storage};
 use qcow2_check::Counters;
 use qcow2_edits::Outcome;
 use qcow2_metadata::{ClustersToFreeEntry, Header};
-use qcow2_testing::{each, recorded, rows, same, same_image};
+use qcow2_testing::{StorageCall, each, recorded, rows, same, same_image};
 use std::alloc::Global;
 use std::test::Fail;
 
-// Clusters that gained a reference, runs of clusters that lost one by their first and their number, and how
-// the image has changed then, or the fault, with which it hasn't.
+// Clusters that gained a reference, runs of clusters that lost one by their first and their number, how the
+// image has changed then, and the fault, if there is one.
 #[derive(Clone, Copy)]
 struct Followed<'a> {
     name: &'a str,
@@ -37,6 +37,8 @@ const FOLLOWED: &[Followed<'static>] = rows! { Followed:
     { name: "gained and lost", gained: &[9], lost: &[(9, 1)], changes: &[], fault: None },
     { name: "one that no block counts", gained: &[512], lost: &[(513, 1)], changes: &[], fault: None },
     { name: "more losses than references", gained: &[], lost: &[(5, 1), (5, 1)], changes: &[],
+        fault: Some(Fault::CounterRange) },
+    { name: "so in the second block", gained: &[8], lost: &[(256, 3)], changes: &[(BLOCK + 16, 1 << 48)],
         fault: Some(Fault::CounterRange) },
 };
 
@@ -99,7 +101,12 @@ fn each_refused_call_is_the_storage_fault(rt: HostRuntime) -> Result<(), Fail> {
         image.plan = Some(refused);
         let found = follow(alloc, &mut image, &outcome);
         if image.plan.is_some() {
-            return same(found, Ok(()), refused);
+            same(found, Ok(()), refused)?;
+            return same(
+                image.calls.last().copied(),
+                Some(StorageCall::Sync),
+                refused,
+            );
         }
         same(found, Err(Fault::Storage), refused)?;
     }

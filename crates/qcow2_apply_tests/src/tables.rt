@@ -5,11 +5,11 @@ use qcow2_apply::{GuestEdit, edit_tables, first_unfit};
 use qcow2_base::{Fault, GuestOffset, HostCluster, Storage};
 use qcow2_check::load_l1_table;
 use qcow2_metadata::Header;
-use qcow2_testing::{each, recorded, rows, same, same_image};
+use qcow2_testing::{StorageCall, each, recorded, rows, same, same_image};
 use std::alloc::Global;
 use std::test::Fail;
 
-// Changes of the image, edits of its disk, and how it has changed by both, or the fault.
+// Changes of the image, edits of its disk, how it has changed by both, and the fault, if there is one.
 #[derive(Clone, Copy)]
 struct Edited<'a> {
     name: &'a str,
@@ -102,7 +102,12 @@ fn each_refused_call_is_the_storage_fault(rt: HostRuntime) -> Result<(), Fail> {
         image.plan = Some(refused);
         let found = edit(alloc, &mut image, MAPS);
         if image.plan.is_some() {
-            return same(found, Ok(()), refused);
+            same(found, Ok(()), refused)?;
+            return same(
+                image.calls.last().copied(),
+                Some(StorageCall::Sync),
+                refused,
+            );
         }
         same(found, Err(Fault::Storage), refused)?;
     }

@@ -1,13 +1,14 @@
 //! How changes of counters are added, and found by their block.
 
-ghost use Rattle.std.specs.Prelude.{◌≡◌, ℕ, ◌+◌, ◌*◌, ◌/◌, ◌^◌, ◌<◌, ◌≤◌, ◌==◌, IfOk, IfSome, MatchOption, OnOk, length, slice_index, take};
+ghost use Rattle.std.specs.Prelude.{◌≡◌, ℕ, ◌+◌, ◌*◌, ◌/◌, ◌^◌, ◌<◌, ◌≤◌, ◌==◌, IfOk, IfSome, IsOkUnless, MatchOption, OnOk, length, slice_index, take};
 ghost use Rattle.std.specs.List.{sum_by};
 ghost use Rattle.qcow2_base.specs.Types.{IsRefblockBits};
+ghost use Rattle.qcow2_base.specs.declared.fault.Fault.TheVariants.{NoMemory};
 ghost use Rattle.qcow2_edits.specs.Edits.{cluster_numbers};
 ghost use Rattle.qcow2_metadata.specs.Entries.{is_among};
 ghost use Rattle.qcow2_metadata.specs.Table.L2Guards.{handed_back, one_if, times_gained};
 ghost use Rattle.qcow2_edits.specs.Settled.{is_between};
-ghost use Rattle.qcow2_apply.specs.Changes.{AddsChanges, HasNone, IsOutcomeOf, PutsOutcome, TakesOutcome};
+ghost use Rattle.qcow2_apply.specs.Changes.{AddsChanges, EndsLate, HasNone, IsOutcomeOf, PutsOutcome, SomeEndsLate, TakesOutcome};
 
 use super::Changes;
 use qcow2_base::{ClusterCount, Fault, HostCluster};
@@ -21,8 +22,9 @@ fn push_clusters(
     list: &mut Vec<ClustersToFreeEntry>,
     clusters: ClustersToFreeEntry,
 ) -> Result<(), Fault>
-    ensures { OnOk result ((c : ℕ) → handed_back list.new.items c
+    ensures pushed { OnOk result ((c : ℕ) → handed_back list.new.items c
         ≡ handed_back list.old.items c + one_if (is_among clusters c)) }
+    ensures fault { IsOkUnless result NoMemory }
 {
     if let Some(last) = list.last_mut() {
         if last.first.0.checked_add(last.count.0) == Some(clusters.first.0) {
@@ -37,7 +39,8 @@ fn push_clusters(
 }
 
 impl Changes {
-    ghost use Rattle.std.specs.Prelude.{◌≡◌, ℕ, ◌+◌, ◌==◌, ◌/◌, ◌^◌, Option, Some, None, IfSome, OnOk};
+    ghost use Rattle.std.specs.Prelude.{◌≡◌, ℕ, ◌+◌, ◌==◌, ◌/◌, ◌^◌, ◌⊎◌, Option, Some, None, IfErr, IfSome, IsOkUnless, OnOk};
+    ghost use Rattle.qcow2_base.specs.declared.fault.Fault.TheVariants.{CounterRange, NoMemory};
     ghost use Rattle.qcow2_check.specs.Counters.{counters_each};
 
     /// No changes, of an image with this header.
@@ -75,6 +78,7 @@ impl Changes {
     // Puts an outcome in for a block that has none.
     fn put_outcome(&mut self, index: usize, outcome: Outcome) -> Result<(), Fault>
         ensures put { OnOk result (PutsOutcome index outcome self.old self.new) }
+        ensures fault { IsOkUnless result NoMemory }
     {
         self.blocks.insert(index, outcome)?;
         Ok(())
@@ -82,7 +86,9 @@ impl Changes {
 
     // Counts a reference that a cluster gained. After a fault the changes of its block are lost.
     fn add_gained(&mut self, alloc: Global, cluster: HostCluster) -> Result<(), Fault>
-        ensures { OnOk result (AddsChanges (λ c. one_if (cluster.0 == c)) (λ c. 0) self.old self.new) }
+        ensures added { OnOk result
+            (AddsChanges (λ c. one_if (cluster.0 == c)) (λ c. 0) self.old self.new) }
+        ensures fault { IsOkUnless result NoMemory }
     {
         let index = cluster.rt_index(self.rb_bits);
         let mut outcome = self.take_outcome(alloc, index);
@@ -98,6 +104,7 @@ impl Changes {
         ensures further { IfOk result (λ next. (first < next) × (next ≤ end)) }
         ensures added { IfOk result (λ next.
             AddsChanges (λ c. 0) (λ c. one_if (is_between first next c)) self.old self.new) }
+        ensures fault { IsOkUnless result NoMemory }
     {
         let (index, rb_index) = HostCluster(first).rt_rb_indices(self.rb_bits);
         let count = (end - first).min((1 << self.rb_bits) - rb_index as u64);
@@ -115,8 +122,10 @@ impl Changes {
 
     // Counts a reference that each of some clusters lost.
     fn add_lost(&mut self, alloc: Global, clusters: ClustersToFreeEntry) -> Result<(), Fault>
-        ensures { OnOk result
+        ensures added { OnOk result
             (AddsChanges (λ c. 0) (λ c. one_if (is_among clusters c)) self.old self.new) }
+        ensures fault { IfErr result (λ fault. (fault ≡ NoMemory)
+            ⊎ ((fault ≡ CounterRange) × EndsLate clusters)) }
     {
         // No refcount table counts a cluster so far on.
         let Some(end) = clusters.first.0.checked_add(clusters.count.0) else {
@@ -131,8 +140,9 @@ impl Changes {
 
     // Counts what clusters gained.
     fn add_all_gained(&mut self, alloc: Global, clusters: &[HostCluster]) -> Result<(), Fault>
-        ensures { OnOk result
+        ensures added { OnOk result
             (AddsChanges (times_gained (cluster_numbers clusters.now)) (λ c. 0) self.old self.new) }
+        ensures fault { IsOkUnless result NoMemory }
     {
         for cluster in clusters {
             self.add_gained(alloc, *cluster)?;
@@ -142,7 +152,9 @@ impl Changes {
 
     // Counts what clusters lost.
     fn add_all_lost(&mut self, alloc: Global, list: &[ClustersToFreeEntry]) -> Result<(), Fault>
-        ensures { OnOk result (AddsChanges (λ c. 0) (handed_back list.now) self.old self.new) }
+        ensures added { OnOk result (AddsChanges (λ c. 0) (handed_back list.now) self.old self.new) }
+        ensures fault { IfErr result (λ fault. (fault ≡ NoMemory)
+            ⊎ ((fault ≡ CounterRange) × SomeEndsLate list.now)) }
     {
         for clusters in list {
             self.add_lost(alloc, *clusters)?;
@@ -151,10 +163,13 @@ impl Changes {
     }
 
     /// Counts what clusters gained and lost by edits of a table. Fails where memory runs out, and with fault
-    /// 30 for a cluster that no refcount table can count. After a fault the changes are incomplete.
+    /// 30 for lost clusters that end past 2^64, which no refcount table counts. After a fault the changes are
+    /// incomplete, and the call must not be made again.
     pub fn add(&mut self, alloc: Global, outcome: &Outcome) -> Result<(), Fault>
-        ensures { OnOk result (AddsChanges (times_gained (cluster_numbers outcome.now.gained.items))
+        ensures added { OnOk result (AddsChanges (times_gained (cluster_numbers outcome.now.gained.items))
             (handed_back outcome.now.freed.items) self.old self.new) }
+        ensures fault { IfErr result (λ fault. (fault ≡ NoMemory)
+            ⊎ ((fault ≡ CounterRange) × SomeEndsLate outcome.now.freed.items)) }
     {
         self.add_all_gained(alloc, outcome.gained.as_slice())?;
         self.add_all_lost(alloc, outcome.freed.as_slice())

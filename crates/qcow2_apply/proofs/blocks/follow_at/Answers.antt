@@ -1,6 +1,6 @@
 use Rattle.std.proofs.Common.{refl, rules, arith}
 use Rattle.qcow2_apply.proofs.BlocksLemmas.{are-of-clusters, idle-follows, place-at}
-use Rattle.qcow2_apply.proofs.PassesLemmas.{none-steps, step-answer}
+use Rattle.qcow2_apply.proofs.PassesLemmas.{none-steps, one-keeps, step-answer}
 use Rattle.qcow2_apply.specs.Blocks.{BlockFollows, NamesBlock, blocks}
 use Rattle.qcow2_apply.proofs.blocks.follow_at.Goals as goal
 
@@ -25,3 +25,11 @@ returns-clause-followed g c = λ apart told.
 pub returns-clause-fault : goal.returns-clause-fault
 returns-clause-fault g c = let named : NamesBlock c.args.tables.now c.args.index c.in-Some-named_block.cluster = search rules in
     grind (arith, named, c.follow_block.ensures.fault)
+
+pub returns-clause-others : goal.returns-clause-others
+returns-clause-others g c = λ told.
+    let tables = c.args.tables.now in
+    let before = (g.S.Storage.state c.args.image.now).byte_at in
+    let after = (g.S.Storage.state c.follow_block.new.image).byte_at in
+    let outside = c.follow_block.ensures.storage.others told in
+    one-keeps (blocks tables) c.args.index c.in-Some-named_block.cluster before after (search rules) (search rules)

@@ -1,13 +1,14 @@
-use Rattle.std.proofs.Common.{◌≡◌, ◌≤◌, IsTrue, length, inl, inr, arith, rules}
+use Rattle.std.proofs.Common.{◌≡◌, ◌≤◌, IsTrue, length, refl, inl, inr, arith, rules}
 use Rattle.std.proofs.lemmas.Result.{err_from_is_err_and}
 use Rattle.qcow2_apply.proofs.BlocksLemmas.{counters-follow, counters-stop, names-below, stuck-before}
-use Rattle.qcow2_apply.proofs.PassesLemmas.{begins, breaks-later, none-tears, passes-all, steps-next}
+use Rattle.qcow2_apply.proofs.PassesLemmas.{begins, breaks-later, keeps-twice, none-tears, passes-all, steps-next}
 use Rattle.qcow2_apply.specs.Blocks.{BlockFollows, blocks}
 use Rattle.qcow2_apply.proofs.blocks.follow_changes.Goals as goal
 
 pub loop-index-init : goal.loop-index-init
 loop-index-init g c = record {
   passed = λ apart told. begins (blocks c.args.tables.now) (BlockFollows c.args.tables.now c.args.changes.now) (g.S.Storage.state c.args.image.now).byte_at;
+  others = λ told o outside. refl;
   storage = search rules;
 }
 
@@ -17,6 +18,10 @@ loop-index-preserved g c = record {
       let known : IsTrue (g.S.Storage.state c.loop-index.image).tells = search rules in
       steps-next (blocks c.args.tables.now) (BlockFollows c.args.tables.now c.args.changes.now) c.loop-index.index (g.S.Storage.state c.args.image.now).byte_at
       (g.S.Storage.state c.loop-index.image).byte_at (g.S.Storage.state c.follow_at.new.image).byte_at (c.loop-index.invariant.passed apart told) (c.in_ok-follow_at.ensures.followed apart known);
+  others = λ told.
+      let known : IsTrue (g.S.Storage.state c.loop-index.image).tells = search rules in
+      keeps-twice (blocks c.args.tables.now) (g.S.Storage.state c.args.image.now).byte_at (g.S.Storage.state c.loop-index.image).byte_at
+      (g.S.Storage.state c.follow_at.new.image).byte_at (c.loop-index.invariant.others told) (c.in_ok-follow_at.ensures.others known);
   storage = search rules;
 }
 
@@ -62,3 +67,17 @@ returns-clause-followed g c = λ apart told.
     (g.S.Storage.state c.loop-index.image).byte_at (g.S.Storage.state c.sync.new.self).byte_at (search rules)
     (λ i block names. omega (arith, names-below c.args.tables.now i block names, count)) (c.loop-index.invariant.passed apart told) in
     counters-follow c.args.tables.now c.args.changes.now _ _ passed
+
+pub returns-in_err-follow_at-clause-others : goal.returns-in_err-follow_at-clause-others
+returns-in_err-follow_at-clause-others g c = λ told.
+    let known : IsTrue (g.S.Storage.state c.loop-index.image).tells = search rules in
+    keeps-twice (blocks c.args.tables.now) (g.S.Storage.state c.args.image.now).byte_at (g.S.Storage.state c.loop-index.image).byte_at
+    (g.S.Storage.state c.follow_at.new.image).byte_at (c.loop-index.invariant.others told) (c.in_err-follow_at.ensures.others known)
+
+pub returns-in_err-sync-clause-others : goal.returns-in_err-sync-clause-others
+returns-in_err-sync-clause-others g c = λ told. let same : (g.S.Storage.state c.sync.new.self).byte_at ≡ (g.S.Storage.state c.loop-index.image).byte_at = search rules in
+    rw same (c.loop-index.invariant.others told)
+
+pub returns-clause-others : goal.returns-clause-others
+returns-clause-others g c = λ told. let same : (g.S.Storage.state c.sync.new.self).byte_at ≡ (g.S.Storage.state c.loop-index.image).byte_at = search rules in
+    rw same (c.loop-index.invariant.others told)

@@ -2,7 +2,7 @@ use Rattle.std.proofs.Common.{Ok}
 use Rattle.qcow2_base.specs.Storage.{OnImages}
 use Rattle.qcow2_check.specs.Failures.{ReportsFailures}
 use Rattle.qcow2_apply.specs.Blocks.{BlockFollows, blocks}
-use Rattle.qcow2_apply.specs.Passes.{ArePlacesApart, PassesBefore}
+use Rattle.qcow2_apply.specs.Passes.{ArePlacesApart, KeepsOutside, PassesBefore}
 use Rattle.qcow2_apply.proofs.blocks.follow_changes.Given as goal
 
 -- the blocks before this one followed
@@ -10,5 +10,6 @@ abbrev pub invariant-loop-index : goal.invariant-loop-index
 invariant-loop-index g l = record {
   passed : ArePlacesApart (blocks l.tables) → OnImages (g.S.Storage.state l.fn.image) (g.S.Storage.state l.image)
       (λ before after. PassesBefore (blocks l.tables) (BlockFollows l.tables l.changes) l.index before after);
+  others : OnImages (g.S.Storage.state l.fn.image) (g.S.Storage.state l.image) (KeepsOutside (blocks l.tables));
   storage : ReportsFailures (Ok l.index) (g.S.Storage.state l.fn.image) (g.S.Storage.state l.image);
 }

@@ -1,13 +1,15 @@
-use Rattle.std.proofs.Common.{◌≤◌, IsTrue, length, inl, inr, arith, rules}
+use Rattle.std.proofs.Common.{◌≡◌, ◌≤◌, IsTrue, length, refl, inl, inr, arith, rules}
 use Rattle.std.proofs.lemmas.Result.{err_from_is_err_and}
-use Rattle.qcow2_apply.proofs.PassesLemmas.{begins, breaks-later, none-tears, passes-all, steps-next}
-use Rattle.qcow2_apply.proofs.TablesLemmas.{fails-before, named-below}
+use Rattle.qcow2_apply.proofs.PassesLemmas.{begins, breaks-later, keeps-twice, none-tears, passes-all, steps-next}
+use Rattle.qcow2_apply.proofs.TablesLemmas.{fails-first, named-below, none-fails-next}
 use Rattle.qcow2_apply.specs.Tables.{IsEdited, l2_tables}
 use Rattle.qcow2_apply.proofs.tables.edit_tables.Goals as goal
 
 pub loop-index-init : goal.loop-index-init
 loop-index-init g c = record {
   passed = λ apart told. begins (l2_tables c.args.header.now c.args.l1_table.now.numbers) (IsEdited c.args.header.now c.args.edits.now) (g.S.Storage.state c.args.image.now).byte_at;
+  loaded = λ apart told i fault below fails. absurd (omega (arith, below));
+  others = λ told o outside. refl;
   storage = search rules;
 }
 
@@ -17,6 +19,14 @@ loop-index-preserved g c = record {
       let known : IsTrue (g.S.Storage.state c.loop-index.image).tells = search rules in
       steps-next (l2_tables c.args.header.now c.args.l1_table.now.numbers) (IsEdited c.args.header.now c.args.edits.now) c.loop-index.index (g.S.Storage.state c.args.image.now).byte_at
       (g.S.Storage.state c.loop-index.image).byte_at (g.S.Storage.state c.edit_at.new.image).byte_at (c.loop-index.invariant.passed apart told) (c.in_ok-edit_at.ensures.edited apart known);
+  loaded = λ apart told.
+      let known : IsTrue (g.S.Storage.state c.loop-index.image).tells = search rules in
+      none-fails-next c.args.header.now c.args.l1_table.now.numbers c.args.edits.now c.loop-index.index (g.S.Storage.state c.args.image.now).byte_at
+      (g.S.Storage.state c.loop-index.image).byte_at (c.loop-index.invariant.passed apart told) (c.loop-index.invariant.loaded apart told) (c.in_ok-edit_at.ensures.loaded known);
+  others = λ told.
+      let known : IsTrue (g.S.Storage.state c.loop-index.image).tells = search rules in
+      keeps-twice (l2_tables c.args.header.now c.args.l1_table.now.numbers) (g.S.Storage.state c.args.image.now).byte_at (g.S.Storage.state c.loop-index.image).byte_at
+      (g.S.Storage.state c.edit_at.new.image).byte_at (c.loop-index.invariant.others told) (c.in_ok-edit_at.ensures.others known);
   storage = search rules;
 }
 
@@ -37,8 +47,8 @@ returns-in_err-edit_at-clause-fault g c =
           let known : IsTrue (g.S.Storage.state c.loop-index.image).tells = search rules in
           elim (c.in_err-edit_at.ensures.fault.1 known) [
             | inl outside ↦ inl outside
-            | inr fails ↦ inr (fails-before c.args.header.now c.args.l1_table.now.numbers c.args.edits.now c.loop-index.index c.in_err-edit_at.field-0.0 (g.S.Storage.state c.args.image.now).byte_at
-                (g.S.Storage.state c.loop-index.image).byte_at (c.loop-index.invariant.passed apart told) fails)
+            | inr fails ↦ inr (fails-first c.args.header.now c.args.l1_table.now.numbers c.args.edits.now c.loop-index.index c.in_err-edit_at.field-0.0 (g.S.Storage.state c.args.image.now).byte_at
+                (g.S.Storage.state c.loop-index.image).byte_at (c.loop-index.invariant.passed apart told) (c.loop-index.invariant.loaded apart told) fails)
           ],
     )
 
@@ -61,3 +71,20 @@ returns-clause-edited g c = λ apart told.
     passes-all (l2_tables header l1) (IsEdited header c.args.edits.now) c.loop-index.index (g.S.Storage.state c.args.image.now).byte_at
     (g.S.Storage.state c.loop-index.image).byte_at (g.S.Storage.state c.sync.new.self).byte_at (search rules)
     (λ i table names. omega (arith, named-below header l1 i table names, count)) (c.loop-index.invariant.passed apart told)
+
+pub returns-in_err-edit_at-clause-others : goal.returns-in_err-edit_at-clause-others
+returns-in_err-edit_at-clause-others g c = λ told.
+    let known : IsTrue (g.S.Storage.state c.loop-index.image).tells = search rules in
+    keeps-twice (l2_tables c.args.header.now c.args.l1_table.now.numbers) (g.S.Storage.state c.args.image.now).byte_at (g.S.Storage.state c.loop-index.image).byte_at
+    (g.S.Storage.state c.edit_at.new.image).byte_at (c.loop-index.invariant.others told) (c.in_err-edit_at.ensures.others known)
+
+pub returns-in_err-sync-clause-others : goal.returns-in_err-sync-clause-others
+returns-in_err-sync-clause-others g c = λ told. let same : (g.S.Storage.state c.sync.new.self).byte_at ≡ (g.S.Storage.state c.loop-index.image).byte_at = search rules in
+    rw same (c.loop-index.invariant.others told)
+
+pub returns-clause-others : goal.returns-clause-others
+returns-clause-others g c = λ told. let same : (g.S.Storage.state c.sync.new.self).byte_at ≡ (g.S.Storage.state c.loop-index.image).byte_at = search rules in
+    rw same (c.loop-index.invariant.others told)
+
+pub returns-clause-loaded : goal.returns-clause-loaded
+returns-clause-loaded g c = λ apart told i fault below fails. c.loop-index.invariant.loaded apart told i fault (omega (arith, below, c.loop-index-test.false)) fails

@@ -17,6 +17,6 @@ loop-first-preserved c = record {
   end = inl (search rules);
 }
 
-pub returns : goal.returns
-returns c = all-added c.args.clusters c.loop-first.first c.in-Some.end c.args.self.now c.loop-first.self (search rules) (omega (arith, c.loop-first-test.false))
+pub returns-clause-added : goal.returns-clause-added
+returns-clause-added c = all-added c.args.clusters c.loop-first.first c.in-Some.end c.args.self.now c.loop-first.self (search rules) (omega (arith, c.loop-first-test.false))
     c.loop-first.invariant.end c.loop-first.invariant.added
