@@ -15,13 +15,13 @@ use std::alloc::{AllocError, Global};
 /// the cluster size.
 #[derive(Clone, Copy, Debug, PartialEq, Eq)]
 pub enum GuestEdit {
-    /// One guest cluster reads as data in a host cluster.
+    /// One guest cluster reads as data in a host cluster that has no other reference.
     Map {
         offset: GuestOffset,
         host_cluster: HostCluster,
     },
-    /// A range reads as zeros. With `keep_allocation` an entry keeps its host cluster, but compressed data is
-    /// given up all the same.
+    /// A range reads as zeros, as entries of version 3 can say. With `keep_allocation` an entry keeps its
+    /// host cluster, but compressed data is given up all the same.
     Zero {
         offset: GuestOffset,
         length: u64,

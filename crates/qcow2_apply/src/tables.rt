@@ -22,7 +22,7 @@ use qcow2_metadata::{Header, L1Table, L2Table, Table};
 use std::alloc::Global;
 
 // Loads the L2 table that begins with a cluster, and makes edits of it, which fit. The table isn't written.
-pub(crate) fn load_edited<S: Storage>(
+fn load_edited<S: Storage>(
     alloc: Global,
     image: &mut S,
     header: &Header,

@@ -60,7 +60,7 @@ pub struct Windows {
     // The end of the clusters that the refcount blocks count.
     counted: u64,
     is_wide: bool,
-    // Whether some cells didn't lie one after another for a window of few clusters that have uses.
+    // Whether a window so far had few clusters that have uses, so that the next are mostly a map of these.
     is_sparse: bool,
 }
 
