@@ -1,7 +1,7 @@
 -- Which number, kind and words has each fault?
 use Rattle.std.specs.Prelude.{ℕ, List, codes}
 use Rattle.qcow2_base.specs.declared.fault.Fault.{Fault}
-use Rattle.qcow2_base.specs.declared.fault.Fault.TheVariants.{NotQcow2, Version, ClusterSize, HeaderShort, HeaderBig, L1Unaligned, ReftableUnaligned, RefcountWidth, BackingNameLong, BackingNamePlace, BackingNameText, ExtensionsExceed, ExtensionText, FeatureNameCut, FormatConflict, DataFileConflict, Incompatible, EntryReserved, EntryUnaligned, TableTooBig, TablePlace, NoOffset, NotPlaced, HeaderTooLong, NameTooLong, FieldChanged, VersionNeeded, CannotGrow, TooMany, CounterRange, WrongLength, BadEdit, BadStep, Storage, NoMemory, ExternalData, Uncounted, Overlap}
+use Rattle.qcow2_base.specs.declared.fault.Fault.TheVariants.{NotQcow2, Version, ClusterSize, HeaderShort, HeaderBig, L1Unaligned, ReftableUnaligned, RefcountWidth, BackingNameLong, BackingNamePlace, BackingNameText, ExtensionsExceed, ExtensionText, FeatureNameCut, FormatConflict, DataFileConflict, Incompatible, EntryReserved, EntryUnaligned, TableTooBig, TablePlace, NoOffset, NotPlaced, HeaderTooLong, NameTooLong, FieldChanged, VersionNeeded, CannotGrow, TooMany, CounterRange, WrongLength, BadEdit, BadStep, Storage, NoMemory, ExternalData, Uncounted, Overlap, InUse, Shared}
 use Rattle.qcow2_base.specs.declared.fault.Field.{Field}
 use Rattle.qcow2_base.specs.declared.fault.Field.TheVariants as field
 use Rattle.qcow2_base.specs.declared.fault.FaultKind.{FaultKind}
@@ -49,6 +49,8 @@ fault_number NoMemory = 35
 fault_number ExternalData = 36
 fault_number (Uncounted part) = 37
 fault_number Overlap = 38
+fault_number InUse = 39
+fault_number (Shared position) = 40
 
 -- the kind of a fault
 abbrev pub fault_kind : Fault → FaultKind
@@ -63,9 +65,11 @@ fault_kind NoOffset = kind.Other
 fault_kind HeaderTooLong = kind.Other
 fault_kind (FieldChanged field) = kind.Other
 fault_kind CannotGrow = kind.Other
+fault_kind (Shared position) = kind.Other
 fault_kind VersionNeeded = kind.Unsupported
 fault_kind (Uncounted part) = kind.Unsupported
 fault_kind Storage = kind.Storage
+fault_kind InUse = kind.Storage
 fault_kind NoMemory = kind.NoMemory
 fault_kind _ = kind.InvalidData
 

@@ -162,6 +162,10 @@ pub enum Fault {
     Uncounted(UncountedPart),
     #[error("the uses of a cluster must not exclude each other, nobody knows which of them to believe")]
     Overlap,
+    #[error("an image that is written must be used by nobody else, it is in use")]
+    InUse,
+    #[error("an L2 table that is edited must have no other reference, that of edit {0} may have one")]
+    Shared(usize),
 }
 
 /// What sort of fault it is, for a caller that treats faults by their sort.
@@ -175,7 +179,7 @@ pub enum FaultKind {
     Other,
     /// The image's version has no room for what was asked, or the image has a part that isn't read here.
     Unsupported,
-    /// The storage failed.
+    /// The storage failed, or somebody else uses the image.
     Storage,
     /// Memory ran out.
     NoMemory,
@@ -184,7 +188,7 @@ pub enum FaultKind {
 impl Fault {
     ghost use Rattle.qcow2_base.specs.Fault.{fault_number, fault_kind};
 
-    /// The fault's fixed number, from 1 to 38, which `qmeta` prints.
+    /// The fault's fixed number, from 1 to 40, which `qmeta` prints.
     pub fn number(&self) -> u32
         ensures { result ≡ fault_number self.now }
     {
@@ -227,6 +231,8 @@ impl Fault {
             Fault::ExternalData => 36,
             Fault::Uncounted(_) => 37,
             Fault::Overlap => 38,
+            Fault::InUse => 39,
+            Fault::Shared(_) => 40,
         }
     }
 
@@ -245,9 +251,10 @@ impl Fault {
             | Fault::NoOffset
             | Fault::HeaderTooLong
             | Fault::FieldChanged(_)
-            | Fault::CannotGrow => FaultKind::Other,
+            | Fault::CannotGrow
+            | Fault::Shared(_) => FaultKind::Other,
             Fault::VersionNeeded | Fault::Uncounted(_) => FaultKind::Unsupported,
-            Fault::Storage => FaultKind::Storage,
+            Fault::Storage | Fault::InUse => FaultKind::Storage,
             Fault::NoMemory => FaultKind::NoMemory,
             _ => FaultKind::InvalidData,
         }

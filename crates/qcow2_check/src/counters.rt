@@ -251,7 +251,7 @@ impl<'a> Counters<'a> {
     }
 
     /// Whether the refcount table names a block for a cluster.
-    pub(crate) fn has_block(&self, cluster: HostCluster) -> bool
+    pub fn has_block(&self, cluster: HostCluster) -> bool
         ensures { result ≡ is_some (block_of_cluster self.now.header self.now.reftable cluster.0) }
     {
         self.block_of(cluster).is_some()

@@ -77,4 +77,9 @@ pub const FAULTS: &[ReportedFault] = faults! {
         "all that refers to clusters must be read, the image has an encryption header",
     Fault::Overlap => 38 InvalidData
         "the uses of a cluster must not exclude each other, nobody knows which of them to believe",
+    Fault::InUse => 39 Storage "an image that is written must be used by nobody else, it is in use",
+    Fault::Shared(0) => 40 Other
+        "an L2 table that is edited must have no other reference, that of edit 0 may have one",
+    Fault::Shared(5_000_000_003) => 40 Other
+        "an L2 table that is edited must have no other reference, that of edit 5000000003 may have one",
 };

@@ -1,8 +1,10 @@
-//! The fields of a header that change while an image is used: the size of the guest's disk, and where its
-//! L1 table and its refcount table lie. Each can be written by itself.
+//! The fields of a header that change while an image is used: the size of the guest's disk, where its
+//! L1 table and its refcount table lie, and its autoclear features. Each can be written by itself.
 
-ghost use Rattle.std.specs.Prelude.{◌≡◌, ◌*◌, ◌^◌, ◌≤◌, length, Ok, Err, IfSome, MatchOption, OnErr, OnOk};
-ghost use Rattle.qcow2_metadata.specs.Header.Pointers.{WritesPart, pointer_fault, table_clusters};
+ghost use Rattle.std.specs.Prelude.{◌≡◌, ◌*◌, ◌^◌, ◌≤◌, length, Ok, Err, IfSome, MatchOption, MatchResult, OnErr, OnOk};
+ghost use Rattle.qcow2_base.specs.OnDiskStruct.{v2_header};
+ghost use Rattle.qcow2_metadata.specs.Header.Open.{without_autoclear};
+ghost use Rattle.qcow2_metadata.specs.Header.Pointers.{WritesPart, cleared_fields, pointer_fault, table_clusters};
 
 use super::Header;
 use crate::entries::refuse;
@@ -93,7 +95,7 @@ impl Header {
     /// Writes the size of the guest's disk to the image: the 8 bytes at 24, in one call of the storage. Takes
     /// no memory. Returns fault 34 alone, and then any bytes may be in that range; no other byte changes.
     pub fn write_size<S: Storage>(&self, image: &mut S) -> Result<(), Fault>
-        ensures { WritesPart result self.now.v2 24 32 (S.state image.old) (S.state image.new) }
+        ensures { WritesPart result (v2_header self.now.v2) 24 32 (S.state image.old) (S.state image.new) }
     {
         write_part(&self.v2, image, 24, 32)
     }
@@ -102,7 +104,7 @@ impl Header {
     /// of the storage. Takes no memory. Returns fault 34 alone, and then any bytes may be in that range;
     /// no other byte changes.
     pub fn write_l1_table_pointer<S: Storage>(&self, image: &mut S) -> Result<(), Fault>
-        ensures { WritesPart result self.now.v2 36 48 (S.state image.old) (S.state image.new) }
+        ensures { WritesPart result (v2_header self.now.v2) 36 48 (S.state image.old) (S.state image.new) }
     {
         write_part(&self.v2, image, 36, 48)
     }
@@ -111,9 +113,30 @@ impl Header {
     /// call of the storage. Takes no memory. Returns fault 34 alone, and then any bytes may be in that
     /// range; no other byte changes.
     pub fn write_reftable_pointer<S: Storage>(&self, image: &mut S) -> Result<(), Fault>
-        ensures { WritesPart result self.now.v2 48 60 (S.state image.old) (S.state image.new) }
+        ensures { WritesPart result (v2_header self.now.v2) 48 60 (S.state image.old) (S.state image.new) }
     {
         write_part(&self.v2, image, 48, 60)
+    }
+
+    /// Clears all autoclear features, in the header and in the image. Who means to write to an image must know
+    /// each that its header names, and none is known here. Writes the 8 bytes at 88, in one call of the
+    /// storage, so that no other field can be torn. `into_writable` writes the header whole.
+    ///
+    /// A header without any stays as it is, and the storage isn't called. Takes no memory. Returns fault 34
+    /// alone, and then the header is as before and any bytes may be in that range; no other byte changes.
+    pub fn clear_autoclear<S: Storage>(&mut self, image: &mut S) -> Result<(), Fault>
+        ensures header { MatchResult result (λ _. self.new ≡ without_autoclear self.old)
+            (λ _. self.new ≡ self.old) }
+        ensures idle { self.old.base.autoclear_features ≡ 0 → (result ≡ Ok tt) × (image.new ≡ image.old) }
+        ensures written { WritesPart result (cleared_fields self.old) 88 96
+            (S.state image.old) (S.state image.new) }
+    {
+        if self.base.autoclear_features == 0 {
+            return Ok(());
+        }
+        image.write(&[0; 8], 88)?;
+        self.clear_autoclear_features();
+        Ok(())
     }
 }
 
@@ -126,7 +149,7 @@ fn write_part<S: Storage>(
 ) -> Result<(), Fault>
     requires order { first ≤ end }
     requires within { end ≤ 72 }
-    ensures { WritesPart result v2.now first end (S.state image.old) (S.state image.new) }
+    ensures { WritesPart result (v2_header v2.now) first end (S.state image.old) (S.state image.new) }
 {
     let mut bytes = [0u8; V2Header::ON_DISK_SIZE];
     write_be(&mut bytes, 0, v2);

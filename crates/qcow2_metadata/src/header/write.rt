@@ -84,7 +84,7 @@ impl Header {
         Ok(self)
     }
 
-    fn clear_autoclear_features(&mut self)
+    pub(super) fn clear_autoclear_features(&mut self)
         ensures cleared { self.new ≡ without_autoclear self.old }
         ensures valid { IsValidHeader self.new }
     {
