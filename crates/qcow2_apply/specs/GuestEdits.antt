@@ -1,5 +1,5 @@
 -- Which edits of L2 tables is an edit of a guest's disk?
-use Rattle.std.specs.Prelude.{ℕ, Bool, true, not, Option, ◌+◌, ◌-◌, ◌*◌, ◌/◌, ◌%◌, ◌^◌, ◌==◌, ◌&&◌, nat_lt, nat_le, max, min, List, map, flat_map}
+use Rattle.std.specs.Prelude.{ℕ, Bool, true, false, not, Option, ◌+◌, ◌-◌, ◌*◌, ◌/◌, ◌%◌, ◌^◌, ◌==◌, ◌&&◌, nat_lt, nat_le, max, min, List, map, flat_map}
 use Rattle.std.specs.Int.{div_ceil}
 use Rattle.std.specs.List.{position, range_with_len}
 use Rattle.qcow2_base.specs.declared.types.GuestOffset.{GuestOffset}
@@ -22,6 +22,18 @@ abbrev pub guest_length : ℕ → GuestEdit → ℕ
 guest_length cb (Map offset host_cluster) = 2 ^ cb
 guest_length cb (Zero offset length keep_allocation) = length
 guest_length cb (Discard offset length) = length
+
+-- whether an edit of the disk makes zeros
+abbrev pub is_zeros : GuestEdit → Bool
+is_zeros (Map offset host_cluster) = false
+is_zeros (Zero offset length keep_allocation) = true
+is_zeros (Discard offset length) = false
+
+-- whether it takes data away, for which a table needn't be there
+abbrev pub is_discard : GuestEdit → Bool
+is_discard (Map offset host_cluster) = false
+is_discard (Zero offset length keep_allocation) = false
+is_discard (Discard offset length) = true
 
 -- the first guest cluster of an edit
 abbrev pub first_cluster : ℕ → GuestEdit → ℕ
@@ -70,3 +82,11 @@ edits_by cb l1_index edit =
 -- the edits of this table that edits of the disk are, in their order
 abbrev pub edits_in : ℕ → ℕ → List GuestEdit → List Edit
 edits_in cb l1_index edits = flat_map (edits_by cb l1_index) edits
+
+-- whether an edit has guest clusters of the L2 table of the L1 entry at an index
+abbrev pub has_clusters_in : ℕ → ℕ → GuestEdit → Bool
+has_clusters_in cb l1_index edit = nat_lt (table_start cb l1_index edit) (table_end cb l1_index edit)
+
+-- whether it has some after those of that many L2 tables
+abbrev pub ends_after : ℕ → ℕ → GuestEdit → Bool
+ends_after cb tables edit = nat_lt (tables * l2_entries cb) (cluster_end cb edit)

@@ -1,5 +1,10 @@
+pub mod Apply
 pub mod Blocks
 pub mod Changes
 pub mod GuestEdits
+pub mod MappedClusters
 pub mod Passes
+pub mod Plan
+pub mod PlannedChanges
+pub mod PlannedTables
 pub mod Tables

@@ -42,9 +42,9 @@ impl<'a> Model for CounterTables<'a> {
         × (blocks_fault t.header.now t.reftable.now.numbers ≡ None) };
 }
 
-// Lets the counters of a block follow what their clusters gained and lost. The index is the block's in the
-// refcount table.
-fn follow(
+/// Lets the counters of a block follow what their clusters gained and lost. The index is the block's in the
+/// refcount table.
+pub(crate) fn follow(
     block: &mut RefBlock,
     tables: &CounterTables<'_>,
     index: usize,

@@ -4,7 +4,7 @@ ghost use Rattle.std.specs.Prelude.{◌≡◌, ◌*◌, ◌+◌, ◌^◌, ◌<�
 ghost use Rattle.std.specs.List.{flat_map, position, range_with_len};
 ghost use Rattle.qcow2_metadata.specs.Table.{l2_entries};
 ghost use Rattle.qcow2_base.specs.Types.{IsClusterBits};
-ghost use Rattle.qcow2_apply.specs.GuestEdits.{cluster_end, edit_at, edits_by, edits_in, first_cluster, first_unfit_of, guest_edit_fits, guest_length, guest_offset, is_mappable_by, table_end, table_start};
+ghost use Rattle.qcow2_apply.specs.GuestEdits.{cluster_end, edit_at, edits_by, edits_in, ends_after, first_cluster, first_unfit_of, guest_edit_fits, guest_length, guest_offset, has_clusters_in, is_discard, is_mappable_by, is_zeros, table_end, table_start};
 
 use qcow2_base::{GuestCluster, GuestOffset, HostCluster, MAX_OFFSET};
 use qcow2_edits::Edit;
@@ -56,6 +56,28 @@ impl GuestEdit {
         match *self {
             GuestEdit::Map { .. } => 1 << cluster_bits,
             GuestEdit::Zero { length, .. } | GuestEdit::Discard { length, .. } => length,
+        }
+    }
+
+    /// Whether it makes zeros.
+    #[inline]
+    pub(crate) fn is_zeros(&self) -> bool
+        ensures { result ≡ is_zeros self.now }
+    {
+        match *self {
+            GuestEdit::Zero { .. } => true,
+            GuestEdit::Map { .. } | GuestEdit::Discard { .. } => false,
+        }
+    }
+
+    /// Whether it takes data away, for which an L2 table needn't be there.
+    #[inline]
+    pub(crate) fn is_discard(&self) -> bool
+        ensures { result ≡ is_discard self.now }
+    {
+        match *self {
+            GuestEdit::Discard { .. } => true,
+            GuestEdit::Map { .. } | GuestEdit::Zero { .. } => false,
         }
     }
 
@@ -133,6 +155,22 @@ impl GuestEdit {
         let of_table = GuestCluster::from_l1_l2_indices(l1_index, 0, cluster_bits).0;
         let entries = 1u64 << (cluster_bits - 3);
         (first.max(of_table), end.min(of_table + entries))
+    }
+
+    /// Whether it has guest clusters of the L2 table of an L1 entry of a disk of this header.
+    pub(crate) fn has_clusters_in(&self, header: &Header, l1_index: u32) -> bool
+        ensures { result ≡ has_clusters_in header.now.v2.cluster_bits l1_index self.now }
+    {
+        let (start, end) = self.clusters_in(header.cluster_bits(), l1_index as usize);
+        start < end
+    }
+
+    /// Whether it has guest clusters after those of all L1 entries of a disk of this header.
+    pub(crate) fn ends_after(&self, header: &Header) -> bool
+        ensures { result ≡ ends_after header.now.v2.cluster_bits header.now.v2.l1_size self.now }
+    {
+        let (_, end) = self.clusters(header.cluster_bits());
+        (header.l1_table_entries() as u64) << (header.cluster_bits() - 3) < end
     }
 
     // Appends the edits of the L2 table of an L1 entry that this one is.

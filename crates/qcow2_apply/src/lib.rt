@@ -1,9 +1,14 @@
 //! Edits of guest ranges of an image, over any number of its tables, with its counters.
 #![tactic(auto)]
 
+mod apply;
 mod blocks;
 mod changes;
 mod guest_edits;
+mod mapped_clusters;
+mod plan;
+mod planned_changes;
+mod planned_tables;
 mod tables;
 
 pub use blocks::{CounterTables, follow_changes};

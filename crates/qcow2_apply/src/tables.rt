@@ -21,8 +21,8 @@ use qcow2_edits::{Edit, Outcome, edit_table};
 use qcow2_metadata::{Header, L1Table, L2Table, Table};
 use std::alloc::Global;
 
-// Loads the L2 table that begins with a cluster, and makes edits of it, which fit. The table isn't written.
-fn load_edited<S: Storage>(
+/// Loads the L2 table that begins with a cluster, and makes edits of it, which fit. The table isn't written.
+pub(crate) fn load_edited<S: Storage>(
     alloc: Global,
     image: &mut S,
     header: &Header,

@@ -13,9 +13,13 @@ use Rattle.qcow2_base.specs.declared.fault.Fault.TheVariants.{TablePlace}
 use Rattle.qcow2_base.specs.declared.types.HostCluster.{HostCluster}
 use Rattle.qcow2_check.specs.NamedTables.{named_block}
 use Rattle.qcow2_metadata.specs.Header.{HeaderRecord}
-use Rattle.qcow2_base.specs.Storage.{Image}
+use Rattle.qcow2_base.specs.Storage.{Image, IsBytes}
+use Rattle.std.proofs.lemmas.List.Elements.{All-get_or}
+use Rattle.qcow2_metadata.proofs.PackingLemmas.{counters_at-small}
+use Rattle.qcow2_metadata.specs.Refblock.Counters.{AreCounters}
+use Rattle.qcow2_metadata.specs.Refblock.Packing.{width}
 use Rattle.qcow2_metadata.specs.Placed.{numbers_at, place_fault}
-use Rattle.qcow2_metadata.specs.Refblock.{BlockState, block_geometry_of, block_layout}
+use Rattle.qcow2_metadata.specs.Refblock.{BlockState, block_geometry_of, block_layout, greatest_counter}
 use Rattle.qcow2_metadata.specs.Table.{first_fault}
 use Rattle.qcow2_check.specs.Counters.{IsKeptBlockOf, block_place_fault, blocks_fault, block_of_cluster, counter_of, counters_each}
 
@@ -206,3 +210,18 @@ ends_before header reftable index end before none = record {
 }
 
 pub ruleset ends_of_blocks = (ends, within_blocks)
+
+-- a counter is never greater than the greatest that its width allows
+counter-small : (order : ℕ) (counters : List ℕ) (i : ℕ) → AreCounters order counters → slice_index counters i < 2 ^ width order
+counter-small order counters i small = grind (arith, get_or_past, pow_pos, All-get_or)
+
+pub counter-fits : (header : HeaderRecord) (reftable : List ℕ) (image : Image) (c : ℕ) → header.base.refcount_order ≤ 6 → IsBytes image
+    → counter_of header reftable image c ≤ greatest_counter header.base.refcount_order
+counter-fits header reftable image c orders bytes = by_block (block_of_cluster header reftable c) refl
+  where
+    order : ℕ
+    order = header.base.refcount_order
+
+    by_block : (found : Option HostCluster) → block_of_cluster header reftable c ≡ found → counter_of header reftable image c ≤ greatest_counter order
+    by_block None names = rw (names, counter_of) (omega arith)
+    by_block (Some block) names = rw (names, counter_of) (let small = counter-small order (numbers_at (block_layout (block_geometry_of header)) block image) (c % counters_each header) (counters_at-small order image _ _ orders bytes) in omega (arith, small))

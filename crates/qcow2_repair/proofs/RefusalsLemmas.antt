@@ -16,6 +16,7 @@ use Rattle.qcow2_metadata.specs.Refblock.{block_geometry_of, block_layout, great
 use Rattle.qcow2_metadata.specs.Refblock.Counters.{AreCounters}
 use Rattle.qcow2_metadata.specs.Refblock.Packing.{width}
 use Rattle.qcow2_metadata.specs.Results.{Reads, unless_refused}
+use Rattle.qcow2_check.proofs.CountersLemmas.{counter-fits}
 use Rattle.qcow2_check.proofs.FindingsListLemmas.{pass-one, take-one}
 use Rattle.qcow2_check.specs.Counters.{block_of_cluster, blocks_fault, counter_of, counters_each}
 use Rattle.qcow2_check.specs.Findings.{FindingsState, IsFindingsOf, checked_tables, finding_at, findings_from, findings_left, image_findings, is_shared, is_wrong, tables_of}
@@ -34,21 +35,6 @@ pub greatest_shifted : (order : ℕ) → order ≤ 6
 greatest_shifted = order-cases (λ order. (0 < 2 ^ order) × (2 ^ order ≤ 64) × ((2 ^ 64 - 1) / 2 ^ (64 - 1 * 2 ^ order % 2 ^ 32) ≡ greatest_counter order))
     (omega arith, omega arith, refl) (omega arith, omega arith, refl) (omega arith, omega arith, refl) (omega arith, omega arith, refl)
     (omega arith, omega arith, refl) (omega arith, omega arith, refl) (omega arith, omega arith, refl)
-
--- a counter is never greater than that
-counter-small : (order : ℕ) (counters : List ℕ) (i : ℕ) → AreCounters order counters → slice_index counters i < 2 ^ width order
-counter-small order counters i small = grind (arith, get_or_past, pow_pos, All-get_or)
-
-counter-fits : (header : HeaderRecord) (reftable : List ℕ) (image : Image) (c : ℕ) → header.base.refcount_order ≤ 6 → IsBytes image
-    → counter_of header reftable image c ≤ greatest_counter header.base.refcount_order
-counter-fits header reftable image c orders bytes = by_block (block_of_cluster header reftable c) refl
-  where
-    order : ℕ
-    order = header.base.refcount_order
-
-    by_block : (found : Option HostCluster) → block_of_cluster header reftable c ≡ found → counter_of header reftable image c ≤ greatest_counter order
-    by_block None names = rw (names, counter_of) (omega arith)
-    by_block (Some block) names = rw (names, counter_of) (let small = counter-small order (numbers_at (block_layout (block_geometry_of header)) block image) (c % counters_each header) (counters_at-small order image _ _ orders bytes) in omega (arith, small))
 
 -- where no finding is refused, nothing is wrong with a cluster, or what is found at it isn't refused
 none-refused : (tables : ImageTables) (image : Image) (from count c : ℕ) → from ≤ c → c < from + count

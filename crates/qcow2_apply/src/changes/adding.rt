@@ -138,8 +138,8 @@ impl Changes {
         Ok(())
     }
 
-    // Counts what clusters gained.
-    fn add_all_gained(&mut self, alloc: Global, clusters: &[HostCluster]) -> Result<(), Fault>
+    /// Counts what clusters gained. Fails where memory runs out. After a fault the changes are incomplete.
+    pub fn add_all_gained(&mut self, alloc: Global, clusters: &[HostCluster]) -> Result<(), Fault>
         ensures added { OnOk result
             (AddsChanges (times_gained (cluster_numbers clusters.now)) (λ c. 0) self.old self.new) }
         ensures fault { IsOkUnless result NoMemory }
@@ -150,8 +150,9 @@ impl Changes {
         Ok(())
     }
 
-    // Counts what clusters lost.
-    fn add_all_lost(&mut self, alloc: Global, list: &[ClustersToFreeEntry]) -> Result<(), Fault>
+    /// Counts what clusters lost. Fails where memory runs out, and with fault 30 for lost clusters that end
+    /// past 2^64, which no refcount table counts. After a fault the changes are incomplete.
+    pub fn add_all_lost(&mut self, alloc: Global, list: &[ClustersToFreeEntry]) -> Result<(), Fault>
         ensures added { OnOk result (AddsChanges (λ c. 0) (handed_back list.now) self.old self.new) }
         ensures fault { IfErr result (λ fault. (fault ≡ NoMemory)
             ⊎ ((fault ≡ CounterRange) × SomeEndsLate list.now)) }
@@ -160,18 +161,5 @@ impl Changes {
             self.add_lost(alloc, *clusters)?;
         }
         Ok(())
-    }
-
-    /// Counts what clusters gained and lost by edits of a table. Fails where memory runs out, and with fault
-    /// 30 for lost clusters that end past 2^64, which no refcount table counts. After a fault the changes are
-    /// incomplete, and the call must not be made again.
-    pub fn add(&mut self, alloc: Global, outcome: &Outcome) -> Result<(), Fault>
-        ensures added { OnOk result (AddsChanges (times_gained (cluster_numbers outcome.now.gained.items))
-            (handed_back outcome.now.freed.items) self.old self.new) }
-        ensures fault { IfErr result (λ fault. (fault ≡ NoMemory)
-            ⊎ ((fault ≡ CounterRange) × SomeEndsLate outcome.now.freed.items)) }
-    {
-        self.add_all_gained(alloc, outcome.gained.as_slice())?;
-        self.add_all_lost(alloc, outcome.freed.as_slice())
     }
 }

@@ -1,0 +1,98 @@
+//! What edits of a disk will do to an image, looked at before anything is written.
+
+ghost use Rattle.qcow2_apply.specs.Plan.{edits_refusal, RefusesEdits, IsPlanOf, IsPlanFor};
+ghost use Rattle.std.specs.Prelude.{◌≡◌, ◌⊎◌, ◌<◌, ◌&&◌, Err, IfErr, IfOk, Ok};
+ghost use Rattle.std.specs.List.{list_any};
+ghost use Rattle.qcow2_base.specs.Storage.{OnImage, OnlyReads};
+ghost use Rattle.qcow2_metadata.specs.Results.{IsFromOutside, unless_refused};
+ghost use Rattle.std.specs.Prelude.{◌/◌, Some};
+ghost use Rattle.std.specs.List.{position};
+ghost use Rattle.qcow2_apply.specs.GuestEdits.{is_zeros};
+
+use crate::guest_edits::{GuestEdit, first_unfit};
+use crate::mapped_clusters::MappedClusters;
+use crate::tables::load_edited;
+use qcow2_base::{Fault, Storage};
+use crate::blocks::{CounterTables};
+use crate::changes::Changes;
+use qcow2_check::{Counters, load_l1_table};
+use qcow2_edits::Outcome;
+use qcow2_metadata::{Header, L1Table, RefTable};
+use std::alloc::Global;
+use crate::planned_changes::PlannedChanges;
+use crate::planned_tables::{Sources, plan_tables};
+
+// Refuses edits that can't be made of any disk of this header.
+fn check_edits(header: &Header, edits: &[GuestEdit]) -> Result<(), Fault>
+    ensures { result ≡ unless_refused (edits_refusal header.now edits.now) (Ok tt) }
+{
+    if header.external_data_file() {
+        return Err(Fault::ExternalData);
+    }
+    if let Some(position) = first_unfit(header, edits) {
+        return Err(Fault::BadEdit(position));
+    }
+    if header.version() == 2 && has_zeros(edits) {
+        return Err(Fault::VersionNeeded);
+    }
+    Ok(())
+}
+
+// Whether an edit makes zeros.
+fn has_zeros(edits: &[GuestEdit]) -> bool
+    ensures { result ≡ list_any is_zeros edits.now }
+{
+    edits.iter().any(
+        |edit: &GuestEdit| -> bool
+            ensures { result ≡ is_zeros edit.now }
+        { edit.is_zeros() },
+    )
+}
+
+/// What edits of a disk will do to an image: the tables that they are made by, and what clusters gain and
+/// lose. Nothing of it is done yet.
+#[derive(Drop)]
+pub struct Plan {
+    pub l1_table: L1Table,
+    pub reftable: RefTable,
+    pub gains: Changes,
+    pub losses: Changes,
+}
+
+impl Plan {
+    /// Looks at all that edits of a disk need and do, and refuses them where something can't be. Changes no
+    /// byte.
+    pub fn new<S: Storage>(
+        alloc: Global,
+        image: &mut S,
+        header: &Header,
+        edits: &[GuestEdit],
+    ) -> Result<Plan, Fault>
+        ensures planned { IfOk result (λ plan. OnImage (S.state image.old) (λ bytes.
+            IsPlanOf header.now edits.now bytes plan)) }
+        ensures plan { IfOk result (IsPlanFor header.now edits.now) }
+        ensures refused { IfErr result (λ fault. OnImage (S.state image.old) (λ bytes.
+            IsFromOutside fault ⊎ RefusesEdits header.now edits.now bytes fault)) }
+        ensures storage { OnlyReads result (S.state image.old) (S.state image.new) }
+    {
+        check_edits(header, edits)?;
+        let l1_table = load_l1_table(alloc, image, header)?;
+        let mut counters = Counters::new(alloc, image, header)?;
+        let sources = Sources {
+            header,
+            l1_table: &l1_table,
+            edits,
+            mapped: MappedClusters::of(alloc, edits)?,
+        };
+        let mut planned = PlannedChanges::new(alloc, header);
+        plan_tables(image, &sources, &mut counters, &mut planned)?;
+        let reftable = counters.into_reftable();
+        planned.check(alloc, image, &CounterTables { header, reftable: &reftable })?;
+        Ok(Plan {
+            l1_table,
+            reftable,
+            gains: planned.gains,
+            losses: planned.losses,
+        })
+    }
+}

@@ -1,0 +1,274 @@
+//! Edits of the L2 tables of an image, looked at table by table before anything is written.
+
+ghost use Rattle.qcow2_apply.specs.PlannedChanges.{StaySorted};
+ghost use Rattle.qcow2_apply.specs.PlannedTables.{is_table_needed, are_more_needed, tables_refusal, AddsTable, IsPlanned, planning_tables, AreSources, alone_fault, mapping_fault, mapping_fault_in, mappings_fault, named_table_refusal, table_refusal};
+ghost use Rattle.std.specs.Prelude.{◌≡◌, ◌<◌, ◌&&◌, Err, Ok, OnOk, length, not};
+ghost use Rattle.std.specs.List.{list_any};
+ghost use Rattle.qcow2_base.specs.Storage.{OnImage, OnlyReads};
+ghost use Rattle.qcow2_metadata.specs.Results.{Answers, unless_refused};
+ghost use Rattle.qcow2_check.specs.Counters.{IsKeptBlockOf, IsSameButBlock};
+ghost use Rattle.std.specs.Prelude.{◌/◌, Some, slice_index, true};
+ghost use Rattle.std.specs.List.{position};
+ghost use Rattle.qcow2_check.specs.NamedTables.{IsInImage, named_cluster};
+ghost use Rattle.qcow2_apply.specs.Changes.{HasNone};
+ghost use Rattle.qcow2_apply.specs.GuestEdits.{ends_after, has_clusters_in, is_discard};
+
+use crate::guest_edits::{GuestEdit, edits_in};
+use crate::mapped_clusters::MappedClusters;
+use crate::tables::load_edited;
+use qcow2_base::{Fault, HostCluster, Storage};
+use qcow2_check::{Counters, named_cluster};
+use qcow2_metadata::{Header, L1Table, Table};
+use crate::planned_changes::PlannedChanges;
+
+// Whether an edit has clusters of the table of an L1 entry.
+fn are_some_in(edits: &[GuestEdit], header: &Header, index: u32) -> bool
+    ensures { result ≡ list_any (has_clusters_in header.now.v2.cluster_bits index) edits.now }
+{
+    edits.iter().any(
+        |edit: &GuestEdit| -> bool
+            ensures { result ≡ has_clusters_in header.entry.now.v2.cluster_bits index edit.now }
+        { edit.has_clusters_in(header, index) },
+    )
+}
+
+// Whether an edit but for discards has clusters of the table of an L1 entry.
+fn is_table_needed(edits: &[GuestEdit], header: &Header, index: u32) -> bool
+    ensures { result ≡ is_table_needed header.now.v2.cluster_bits edits.now index }
+{
+    edits.iter().any(
+        |edit: &GuestEdit| -> bool
+            ensures { result ≡ (has_clusters_in header.entry.now.v2.cluster_bits index edit.now
+                && not (is_discard edit.now)) }
+        { edit.has_clusters_in(header, index) && !edit.is_discard() },
+    )
+}
+
+// Whether an edit but for discards has clusters past those of the last L1 entry.
+fn are_more_needed(edits: &[GuestEdit], header: &Header) -> bool
+    ensures { let entries = header.now.v2.l1_size in
+        result ≡ are_more_needed header.now.v2.cluster_bits edits.now entries }
+{
+    edits.iter().any(
+        |edit: &GuestEdit| -> bool
+            ensures { result ≡ (ends_after header.entry.now.v2.cluster_bits header.entry.now.v2.l1_size edit.now
+                && not (is_discard edit.now)) }
+        { edit.ends_after(header) && !edit.is_discard() },
+    )
+}
+
+// The position of the first edit that has clusters of the table of an L1 entry.
+fn first_in(edits: &[GuestEdit], header: &Header, index: u32) -> Option<usize>
+    ensures { result ≡ position (has_clusters_in header.now.v2.cluster_bits index) edits.now }
+{
+    edits.iter().position(
+        |edit: &GuestEdit| -> bool
+            ensures { result ≡ has_clusters_in header.entry.now.v2.cluster_bits index edit.now }
+        { edit.has_clusters_in(header, index) },
+    )
+}
+
+/// What edits of a disk are planned by.
+#[derive(Drop)]
+pub(crate) struct Sources<'a> {
+    pub(crate) header: &'a Header,
+    pub(crate) l1_table: &'a L1Table,
+    pub(crate) edits: &'a [GuestEdit],
+    pub(crate) mapped: MappedClusters,
+}
+
+// Refuses the edit at a position where it maps a host cluster that isn't free, or that another edit maps.
+fn check_mapping<S: Storage>(
+    image: &mut S,
+    sources: &Sources<'_>,
+    counters: &mut Counters<'_>,
+    position: usize,
+    edit: GuestEdit,
+) -> Result<(), Fault>
+    requires sources { AreSources sources.now counters.old }
+    requires kept { OnImage (S.state image.old) (λ bytes.
+        IsKeptBlockOf counters.old.header bytes counters.old.block) }
+    ensures exact { OnImage (S.state image.old) (λ bytes. Answers (λ done. done) result (unless_refused
+        (mapping_fault (planning_tables sources.now counters.old) sources.now.edits.now bytes position edit) (Ok tt))) }
+    ensures reader { IsSameButBlock (S.state image.old) counters.old counters.new }
+    ensures storage { OnlyReads result (S.state image.old) (S.state image.new) }
+{
+    let GuestEdit::Map { host_cluster, .. } = edit else {
+        return Ok(());
+    };
+    if !counters.has_block(host_cluster) {
+        return Err(Fault::NotPlaced);
+    }
+    let counter = counters.get(image, host_cluster)?;
+    if counter != 0 || !sources.mapped.is_sole(host_cluster) {
+        return Err(Fault::BadEdit(position));
+    }
+    Ok(())
+}
+
+// The same of the edit at a position, where it has clusters of the table of the L1 entry at an index.
+fn check_mapping_in<S: Storage>(
+    image: &mut S,
+    sources: &Sources<'_>,
+    counters: &mut Counters<'_>,
+    index: u32,
+    position: usize,
+) -> Result<(), Fault>
+    requires sources { AreSources sources.now counters.old }
+    requires position { position < length sources.now.edits.now }
+    requires kept { OnImage (S.state image.old) (λ bytes.
+        IsKeptBlockOf counters.old.header bytes counters.old.block) }
+    ensures exact { OnImage (S.state image.old) (λ bytes. Answers (λ done. done) result (unless_refused
+        (mapping_fault_in (planning_tables sources.now counters.old) sources.now.edits.now bytes index position)
+        (Ok tt))) }
+    ensures reader { IsSameButBlock (S.state image.old) counters.old counters.new }
+    ensures storage { OnlyReads result (S.state image.old) (S.state image.new) }
+{
+    let edit = sources.edits[position];
+    if !edit.has_clusters_in(sources.header, index) {
+        return Ok(());
+    }
+    check_mapping(image, sources, counters, position, edit)
+}
+
+// Refuses the first edit of the table of the L1 entry at an index that maps what it can't.
+fn check_mappings<S: Storage>(
+    image: &mut S,
+    sources: &Sources<'_>,
+    counters: &mut Counters<'_>,
+    index: u32,
+) -> Result<(), Fault>
+    requires sources { AreSources sources.now counters.old }
+    requires kept { OnImage (S.state image.old) (λ bytes.
+        IsKeptBlockOf counters.old.header bytes counters.old.block) }
+    ensures exact { OnImage (S.state image.old) (λ bytes. Answers (λ done. done) result (unless_refused
+        (mappings_fault (planning_tables sources.now counters.old) sources.now.edits.now bytes index) (Ok tt))) }
+    ensures reader { IsSameButBlock (S.state image.old) counters.old counters.new }
+    ensures storage { OnlyReads result (S.state image.old) (S.state image.new) }
+{
+    for position in 0..sources.edits.len() {
+        check_mapping_in(image, sources, counters, index, position)?;
+    }
+    Ok(())
+}
+
+// Refuses edits of the table that begins with a cluster, where something else refers to it.
+fn check_alone<S: Storage>(
+    image: &mut S,
+    sources: &Sources<'_>,
+    counters: &mut Counters<'_>,
+    index: u32,
+    table: HostCluster,
+) -> Result<(), Fault>
+    requires sources { AreSources sources.now counters.old }
+    requires kept { OnImage (S.state image.old) (λ bytes.
+        IsKeptBlockOf counters.old.header bytes counters.old.block) }
+    ensures exact { OnImage (S.state image.old) (λ bytes. Answers (λ done. done) result (unless_refused
+        (alone_fault (planning_tables sources.now counters.old) sources.now.edits.now bytes index table) (Ok tt))) }
+    ensures reader { IsSameButBlock (S.state image.old) counters.old counters.new }
+    ensures storage { OnlyReads result (S.state image.old) (S.state image.new) }
+{
+    let is_sole = counters.get(image, table)? == 1;
+    if is_sole && sources.l1_table.get(index as usize).is_copied() {
+        return Ok(());
+    }
+    match first_in(sources.edits, sources.header, index) {
+        Some(position) => Err(Fault::Shared(position)),
+        None => Ok(()),
+    }
+}
+
+// Adds what edits of the table that begins with a cluster do, which the L1 entry at an index names. Refuses
+// them where something else refers to the table, where it can't be loaded, and where they map what they
+// can't.
+fn plan_named_table<S: Storage>(
+    image: &mut S,
+    sources: &Sources<'_>,
+    counters: &mut Counters<'_>,
+    planned: &mut PlannedChanges,
+    index: u32,
+    table: HostCluster,
+) -> Result<(), Fault>
+    requires sources { AreSources sources.now counters.old }
+    requires table { named_cluster sources.now.header.now.v2.cluster_bits
+        (slice_index sources.now.l1_table.now.numbers index) ≡ Some table }
+    requires place { IsInImage sources.now.header.now.v2.cluster_bits table }
+    requires kept { OnImage (S.state image.old) (λ bytes.
+        IsKeptBlockOf counters.old.header bytes counters.old.block) }
+    ensures exact { OnImage (S.state image.old) (λ bytes. Answers (λ done. done) result (unless_refused
+        (named_table_refusal (planning_tables sources.now counters.old) sources.now.edits.now bytes index table)
+        (Ok tt))) }
+    ensures planned { OnOk result (OnImage (S.state image.old) (λ bytes. AddsTable
+        (planning_tables sources.now counters.old) sources.now.edits.now bytes index planned.old planned.new)) }
+    ensures sorted { OnOk result (StaySorted planned.old planned.new) }
+    ensures reader { IsSameButBlock (S.state image.old) counters.old counters.new }
+    ensures storage { OnlyReads result (S.state image.old) (S.state image.new) }
+{
+    let alloc = sources.l1_table.allocator();
+    let header = sources.header;
+    check_alone(image, sources, counters, index, table)?;
+    let edits = edits_in(alloc, sources.edits, header.cluster_bits(), index as usize)?;
+    let (_, outcome) = load_edited(alloc, image, header, table, edits.as_slice())?;
+    check_mappings(image, sources, counters, index)?;
+    planned.add(alloc, counters, &outcome)
+}
+
+// Adds what edits of the table of the L1 entry at an index do.
+fn plan_table<S: Storage>(
+    image: &mut S,
+    sources: &Sources<'_>,
+    counters: &mut Counters<'_>,
+    planned: &mut PlannedChanges,
+    index: u32,
+) -> Result<(), Fault>
+    requires sources { AreSources sources.now counters.old }
+    requires kept { OnImage (S.state image.old) (λ bytes.
+        IsKeptBlockOf counters.old.header bytes counters.old.block) }
+    ensures exact { OnImage (S.state image.old) (λ bytes. Answers (λ done. done) result (unless_refused
+        (table_refusal (planning_tables sources.now counters.old) sources.now.edits.now bytes index)
+        (Ok tt))) }
+    ensures planned { OnOk result (OnImage (S.state image.old) (λ bytes. AddsTable
+        (planning_tables sources.now counters.old) sources.now.edits.now bytes index planned.old planned.new)) }
+    ensures sorted { OnOk result (StaySorted planned.old planned.new) }
+    ensures reader { IsSameButBlock (S.state image.old) counters.old counters.new }
+    ensures storage { OnlyReads result (S.state image.old) (S.state image.new) }
+{
+    if !are_some_in(sources.edits, sources.header, index) {
+        return Ok(());
+    }
+    match named_cluster(sources.l1_table, index as usize) {
+        Some(table) => plan_named_table(image, sources, counters, planned, index, table),
+        None if is_table_needed(sources.edits, sources.header, index) => Err(Fault::NotPlaced),
+        None => Ok(()),
+    }
+}
+
+/// Adds what edits of all tables do, and refuses those past the last L1 entry.
+pub(crate) fn plan_tables<S: Storage>(
+    image: &mut S,
+    sources: &Sources<'_>,
+    counters: &mut Counters<'_>,
+    planned: &mut PlannedChanges,
+) -> Result<(), Fault>
+    requires sources { AreSources sources.now counters.old }
+    requires none { HasNone planned.old.gains × HasNone planned.old.losses × (planned.old.are_counted ≡ true) }
+    requires kept { OnImage (S.state image.old) (λ bytes.
+        IsKeptBlockOf counters.old.header bytes counters.old.block) }
+    ensures exact { OnImage (S.state image.old) (λ bytes. Answers (λ done. done) result (unless_refused
+        (tables_refusal (planning_tables sources.now counters.old) sources.now.edits.now bytes) (Ok tt))) }
+    ensures planned { OnOk result (OnImage (S.state image.old) (λ bytes. IsPlanned
+        (planning_tables sources.now counters.old) sources.now.edits.now bytes sources.now.header.now.v2.l1_size
+        planned.new)) }
+    ensures sorted { OnOk result (StaySorted planned.old planned.new) }
+    ensures reader { IsSameButBlock (S.state image.old) counters.old counters.new }
+    ensures storage { OnlyReads result (S.state image.old) (S.state image.new) }
+{
+    let header = sources.header;
+    for index in 0..header.l1_table_entries() as u32 {
+        plan_table(image, sources, counters, planned, index)?;
+    }
+    if are_more_needed(sources.edits, header) {
+        return Err(Fault::NotPlaced);
+    }
+    Ok(())
+}
