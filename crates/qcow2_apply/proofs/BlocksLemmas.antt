@@ -38,12 +38,12 @@ are-of-clusters tables bits orders cluster old new same =
     (λ k below. same _ (div-mul-add cluster.0 (2 ^ cb) k below))
 
 -- the counter of a cluster of a block
-counter-here : (tables : CounterTablesState) (block : HostCluster) (image : Image) (c : ℕ) → NamesBlock tables (c / counters_each tables.header) block
+pub counter-here : (tables : CounterTablesState) (block : HostCluster) (image : Image) (c : ℕ) → NamesBlock tables (c / counters_each tables.header) block
     → counter_of_cluster tables image c ≡ slice_index (block_numbers tables block image) (c % counters_each tables.header)
 counter-here tables block image c names = grind (arith, names)
 
 -- each cluster that has a counter has a block
-block-of : (tables : CounterTablesState) (c : ℕ) → HasCounter tables c → (block : HostCluster) × NamesBlock tables (c / counters_each tables.header) block
+pub block-of : (tables : CounterTablesState) (c : ℕ) → HasCounter tables c → (block : HostCluster) × NamesBlock tables (c / counters_each tables.header) block
 block-of tables c has = by_block (block_of_cluster tables.header tables.reftable c) refl
   where
     by_block : (found : Option HostCluster) → block_of_cluster tables.header tables.reftable c ≡ found → (block : HostCluster) × NamesBlock tables (c / counters_each tables.header) block

@@ -3,3 +3,5 @@ pub mod ChangesLemmas
 pub mod GuestEditsLemmas
 pub mod PassesLemmas
 pub mod TablesLemmas
+pub mod PlannedTablesLemmas
+pub mod ApplyLemmas

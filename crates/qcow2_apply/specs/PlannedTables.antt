@@ -98,19 +98,21 @@ run_at tables edits image index = let cb = tables.header.v2.cluster_bits in
     option_map (λ table. run_in tables.header (edits_in cb index edits) (numbers_at (l2_layout (geometry_of tables.header)) table image))
     (named_cluster cb (slice_index tables.l1 index))
 
--- how often cluster c gains a reference by edits of that table
-abbrev pub gained_at : ImageTables → List GuestEdit → Image → ℕ → ℕ → ℕ
-gained_at tables edits image c index = elim (run_at tables edits image index) [
-  | None ↦ 0
-  | Some run ↦ times_gained run.gained c
-]
+-- how often cluster c gains a reference by that, and how often it loses one
+abbrev pub run_gains : Option RunEnd → ℕ → ℕ
+run_gains None c = 0
+run_gains (Some run) c = times_gained run.gained c
 
--- how often it loses one
+abbrev pub run_losses : Option RunEnd → ℕ → ℕ
+run_losses None c = 0
+run_losses (Some run) c = handed_back run.freed c
+
+-- the same of the table of the L1 entry at an index
+abbrev pub gained_at : ImageTables → List GuestEdit → Image → ℕ → ℕ → ℕ
+gained_at tables edits image c index = run_gains (run_at tables edits image index) c
+
 abbrev pub lost_at : ImageTables → List GuestEdit → Image → ℕ → ℕ → ℕ
-lost_at tables edits image c index = elim (run_at tables edits image index) [
-  | None ↦ 0
-  | Some run ↦ handed_back run.freed c
-]
+lost_at tables edits image c index = run_losses (run_at tables edits image index) c
 
 -- how often cluster c gains a reference by edits of the L2 tables before an index, and how often it loses one
 abbrev pub gained_before : ImageTables → List GuestEdit → Image → ℕ → ℕ → ℕ

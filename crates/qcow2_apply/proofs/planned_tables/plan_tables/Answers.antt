@@ -1,71 +1,119 @@
-use Rattle.std.proofs.Common.{rules, ◌≡◌, ◌<◌, ◌&&◌, Err, Ok, OnOk, length, not, ◌/◌, Some, slice_index, true, ℕ, ◌+◌, ◌-◌, ◌*◌, ◌≤◌, ◌%◌, Bool, false, nat_eq, nat_lt, List, [], ◌∷◌, ◌++◌, slice_index_or, slice_set, bit_and, bit_or, Fits, w8, w32, w64, Bor, MutBor}
-use Rattle.qcow2_apply.specs.PlannedChanges.{StaySorted}
-use Rattle.qcow2_apply.specs.PlannedTables.{is_table_needed, are_more_needed, tables_refusal, AddsTable, IsPlanned, planning_tables, AreSources, alone_fault, mapping_fault, mapping_fault_in, mappings_fault, named_table_refusal, table_refusal}
-use Rattle.std.specs.List.{list_any, position}
-use Rattle.qcow2_base.specs.Storage.{OnImage, OnlyReads}
-use Rattle.qcow2_metadata.specs.Results.{Answers, unless_refused}
-use Rattle.qcow2_check.specs.Counters.{IsKeptBlockOf, IsSameButBlock}
-use Rattle.qcow2_check.specs.NamedTables.{IsInImage, named_cluster}
-use Rattle.qcow2_apply.specs.Changes.{HasNone}
-use Rattle.qcow2_apply.specs.GuestEdits.{ends_after, has_clusters_in, is_discard}
+use Rattle.std.proofs.Common.{◌≡◌, IsTrue, Some, None, Ok, true, false, if◌then◌else◌, length, ap, refl, subst, inr, arith, rules}
+use Rattle.std.specs.List.{range_with_len}
+use Rattle.qcow2_base.specs.declared.fault.Fault.TheVariants.{NotPlaced}
+use Rattle.qcow2_metadata.specs.Results.{unless_refused}
+use Rattle.qcow2_metadata.specs.Table.{first_fault}
+use Rattle.std.proofs.lemmas.Result.{err_from_is_err_and}
+use Rattle.qcow2_apply.proofs.PlannedTablesLemmas.{all-allowed, first-refused, more-refused, none-refused-next, planned-next, planned-none, same-adds, same-refusal, same-sources}
+use Rattle.qcow2_apply.specs.PlannedTables.{IsPlanned, are_more_needed, planning_tables, table_refusal}
 use Rattle.qcow2_apply.proofs.planned_tables.plan_tables.Goals as goal
 
--- src/planned_tables.rt:267:5
 pub loop-index-init : goal.loop-index-init
-loop-index-init g c = ?
+loop-index-init g c = record {
+  none = λ told. refl;
+  planned = λ told. planned-none (planning_tables c.args.sources.now c.args.counters.now) c.args.sources.now.edits.now (g.S.Storage.state c.args.image.now).byte_at
+      c.args.planned.now c.requires.none.0 c.requires.none.1 c.requires.none.2;
+  sorted = λ each sorted. sorted;
+  within = omega arith;
+  reader = record { same = refl; kept = c.requires.kept };
+  storage = search rules;
+}
 
--- src/planned_tables.rt:268:9
 pub plan_table-requires-clause-sources : goal.plan_table-requires-clause-sources
-plan_table-requires-clause-sources g c = ?
+plan_table-requires-clause-sources g c = same-sources c.args.sources.now (g.S.Storage.state c.args.image.now) c.args.counters.now c.loop-index.counters
+    c.loop-index.invariant.reader c.requires.sources
 
--- src/planned_tables.rt:268:9
 pub plan_table-requires-clause-kept : goal.plan_table-requires-clause-kept
-plan_table-requires-clause-kept g c = ?
+plan_table-requires-clause-kept g c = λ told.
+    let known : IsTrue (g.S.Storage.state c.args.image.now).tells = search rules in
+    let bytes : (g.S.Storage.state c.loop-index.image).byte_at ≡ (g.S.Storage.state c.args.image.now).byte_at = c.loop-index.invariant.storage.bytes in
+    rw bytes (c.loop-index.invariant.reader.kept known)
 
--- src/planned_tables.rt:268:9
 pub returns-in_err-plan_table-clause-exact : goal.returns-in_err-plan_table-clause-exact
-returns-in_err-plan_table-clause-exact g c = ?
+returns-in_err-plan_table-clause-exact g c = λ told.
+    let exit = err_from_is_err_and c.from_residual.result c.from_residual.ensures.1 in
+    let so_far = c.loop-index.invariant in
+    let known : IsTrue (g.S.Storage.state c.loop-index.image).tells = search rules in
+    let bytes : (g.S.Storage.state c.loop-index.image).byte_at ≡ (g.S.Storage.state c.args.image.now).byte_at = so_far.storage.bytes in
+    let refusal = table_refusal (planning_tables c.args.sources.now c.args.counters.now) c.args.sources.now.edits.now (g.S.Storage.state c.args.image.now).byte_at in
+    let l1 = c.args.sources.now.l1_table.now.numbers in
+    let more = if are_more_needed c.args.sources.now.header.now.v2.cluster_bits c.args.sources.now.edits.now (length l1) then Some NotPlaced else None in
+    rw (exit.1, exit.2) (more-refused (first_fault refusal (range_with_len 0 (length l1))) more c.in_err-plan_table.field-0.0
+    (first-refused refusal c.loop-index.index (length l1) _ c.in_err-plan_table.field-0.0 (omega (arith, c.loop-index-test.true, c.requires.sources.count))
+    (so_far.none told) (same-refusal c.args.sources.now (g.S.Storage.state c.args.image.now) c.args.counters.now c.loop-index.counters
+    (g.S.Storage.state c.args.image.now).byte_at (g.S.Storage.state c.loop-index.image).byte_at c.loop-index.index so_far.reader bytes)
+    (c.in_err-plan_table.ensures.exact known)))
 
--- src/planned_tables.rt:268:9
 pub returns-in_err-plan_table-clause-reader : goal.returns-in_err-plan_table-clause-reader
-returns-in_err-plan_table-clause-reader g c = ?
+returns-in_err-plan_table-clause-reader g c = search rules
 
--- src/planned_tables.rt:268:9
 pub returns-in_err-plan_table-clause-storage : goal.returns-in_err-plan_table-clause-storage
-returns-in_err-plan_table-clause-storage g c = ?
+returns-in_err-plan_table-clause-storage g c = search rules
 
--- src/planned_tables.rt:267:5
 pub loop-index-preserved : goal.loop-index-preserved
-loop-index-preserved g c = ?
+loop-index-preserved g c =
+    let so_far = c.loop-index.invariant in
+    let bytes : (g.S.Storage.state c.loop-index.image).byte_at ≡ (g.S.Storage.state c.args.image.now).byte_at = so_far.storage.bytes in
+    record {
+      none = λ told.
+          let known : IsTrue (g.S.Storage.state c.loop-index.image).tells = search rules in
+          none-refused-next (table_refusal (planning_tables c.args.sources.now c.args.counters.now) c.args.sources.now.edits.now
+          (g.S.Storage.state c.args.image.now).byte_at) c.loop-index.index _ (so_far.none told)
+          (same-refusal c.args.sources.now (g.S.Storage.state c.args.image.now) c.args.counters.now c.loop-index.counters
+          (g.S.Storage.state c.args.image.now).byte_at (g.S.Storage.state c.loop-index.image).byte_at c.loop-index.index so_far.reader bytes)
+          (c.in_ok-plan_table.ensures.exact known);
+      planned = λ told.
+          let known : IsTrue (g.S.Storage.state c.loop-index.image).tells = search rules in
+          planned-next (planning_tables c.args.sources.now c.args.counters.now) c.args.sources.now.edits.now (g.S.Storage.state c.args.image.now).byte_at
+          c.loop-index.index c.loop-index.planned c.plan_table.new.planned (so_far.planned told)
+          (same-adds c.args.sources.now (g.S.Storage.state c.args.image.now) c.args.counters.now c.loop-index.counters (g.S.Storage.state c.args.image.now).byte_at
+          (g.S.Storage.state c.loop-index.image).byte_at c.loop-index.index c.loop-index.planned c.plan_table.new.planned so_far.reader bytes
+          (c.in_ok-plan_table.ensures.planned known));
+      sorted = λ each sorted. c.in_ok-plan_table.ensures.sorted each (so_far.sorted each sorted);
+      within = omega (arith, c.loop-index-test.true);
+      reader = search rules;
+      storage = search rules;
+    }
 
--- src/planned_tables.rt:271:9
 pub returns-then-are_more_needed-clause-exact : goal.returns-then-are_more_needed-clause-exact
-returns-then-are_more_needed-clause-exact g c = ?
+returns-then-are_more_needed-clause-exact g c = λ told.
+    let l1 = c.args.sources.now.l1_table.now.numbers in
+    let end : length l1 ≡ c.loop-index.index = omega (arith, c.loop-index.invariant.within, c.loop-index-test.false, c.requires.sources.count) in
+    let cb = c.args.sources.now.header.now.v2.cluster_bits in
+    let needed : are_more_needed cb c.args.sources.now.edits.now (length l1) ≡ true = rw c.requires.sources.count (search rules) in
+    inr (inr (ap (λ found. unless_refused found (Ok (tt {0})))
+    (all-allowed (table_refusal (planning_tables c.args.sources.now c.args.counters.now) c.args.sources.now.edits.now (g.S.Storage.state c.args.image.now).byte_at)
+    c.loop-index.index (length l1) (if are_more_needed cb c.args.sources.now.edits.now (length l1) then Some NotPlaced else None) (Some NotPlaced)
+    (c.loop-index.invariant.none told) end (rw needed refl))))
 
--- src/planned_tables.rt:271:9
 pub returns-then-are_more_needed-clause-reader : goal.returns-then-are_more_needed-clause-reader
-returns-then-are_more_needed-clause-reader g c = ?
+returns-then-are_more_needed-clause-reader g c = c.loop-index.invariant.reader
 
--- src/planned_tables.rt:271:9
 pub returns-then-are_more_needed-clause-storage : goal.returns-then-are_more_needed-clause-storage
-returns-then-are_more_needed-clause-storage g c = ?
+returns-then-are_more_needed-clause-storage g c = search rules
 
--- src/planned_tables.rt:247:1
 pub returns-clause-exact : goal.returns-clause-exact
-returns-clause-exact g c = ?
+returns-clause-exact g c = λ told.
+    let l1 = c.args.sources.now.l1_table.now.numbers in
+    let end : length l1 ≡ c.loop-index.index = omega (arith, c.loop-index.invariant.within, c.loop-index-test.false, c.requires.sources.count) in
+    let cb = c.args.sources.now.header.now.v2.cluster_bits in
+    let enough : are_more_needed cb c.args.sources.now.edits.now (length l1) ≡ false = rw c.requires.sources.count (search rules) in
+    ap (λ found. unless_refused found (Ok (tt {0})))
+    (all-allowed (table_refusal (planning_tables c.args.sources.now c.args.counters.now) c.args.sources.now.edits.now (g.S.Storage.state c.args.image.now).byte_at)
+    c.loop-index.index (length l1) (if are_more_needed cb c.args.sources.now.edits.now (length l1) then Some NotPlaced else None) None
+    (c.loop-index.invariant.none told) end (rw enough refl))
 
--- src/planned_tables.rt:247:1
 pub returns-clause-planned : goal.returns-clause-planned
-returns-clause-planned g c = ?
+returns-clause-planned g c = λ told.
+    let end : c.loop-index.index ≡ c.args.sources.now.header.now.v2.l1_size = omega (arith, c.loop-index.invariant.within, c.loop-index-test.false) in
+    subst (λ index. IsPlanned (planning_tables c.args.sources.now c.args.counters.now) c.args.sources.now.edits.now
+    (g.S.Storage.state c.args.image.now).byte_at index c.loop-index.planned) end (c.loop-index.invariant.planned told)
 
--- src/planned_tables.rt:247:1
 pub returns-clause-sorted : goal.returns-clause-sorted
-returns-clause-sorted g c = ?
+returns-clause-sorted g c = c.loop-index.invariant.sorted
 
--- src/planned_tables.rt:247:1
 pub returns-clause-reader : goal.returns-clause-reader
-returns-clause-reader g c = ?
+returns-clause-reader g c = c.loop-index.invariant.reader
 
--- src/planned_tables.rt:247:1
 pub returns-clause-storage : goal.returns-clause-storage
-returns-clause-storage g c = ?
+returns-clause-storage g c = search rules

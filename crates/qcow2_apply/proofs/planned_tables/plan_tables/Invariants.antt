@@ -1,14 +1,22 @@
-use Rattle.std.proofs.Common.{◌≡◌, ◌<◌, ◌&&◌, Err, Ok, OnOk, length, not, ◌/◌, Some, slice_index, true, ℕ, ◌+◌, ◌-◌, ◌*◌, ◌≤◌}
-use Rattle.qcow2_apply.specs.PlannedChanges.{StaySorted}
-use Rattle.qcow2_apply.specs.PlannedTables.{is_table_needed, are_more_needed, tables_refusal, AddsTable, IsPlanned, planning_tables, AreSources, alone_fault, mapping_fault, mapping_fault_in, mappings_fault, named_table_refusal, table_refusal}
-use Rattle.std.specs.List.{list_any, position}
+use Rattle.std.proofs.Common.{◌≡◌, ◌≤◌, None, Ok}
+use Rattle.std.specs.List.{range_with_len}
 use Rattle.qcow2_base.specs.Storage.{OnImage, OnlyReads}
-use Rattle.qcow2_metadata.specs.Results.{Answers, unless_refused}
-use Rattle.qcow2_check.specs.Counters.{IsKeptBlockOf, IsSameButBlock}
-use Rattle.qcow2_check.specs.NamedTables.{IsInImage, named_cluster}
-use Rattle.qcow2_apply.specs.Changes.{HasNone}
-use Rattle.qcow2_apply.specs.GuestEdits.{ends_after, has_clusters_in, is_discard}
+use Rattle.qcow2_check.specs.Counters.{IsSameButBlock}
+use Rattle.qcow2_metadata.specs.Table.{first_fault}
+use Rattle.qcow2_apply.specs.PlannedChanges.{StaySorted}
+use Rattle.qcow2_apply.specs.PlannedTables.{IsPlanned, planning_tables, table_refusal}
 use Rattle.qcow2_apply.proofs.planned_tables.plan_tables.Given as goal
 
+-- what edits do of the tables before this one is planned
 abbrev pub invariant-loop-index : goal.invariant-loop-index
-invariant-loop-index g l = ?
+invariant-loop-index g l =
+    let old = g.S.Storage.state l.fn.image in
+    let tables = planning_tables l.sources l.fn.counters in
+    record {
+      none : OnImage old (λ bytes. first_fault (table_refusal tables l.sources.edits.now bytes) (range_with_len 0 l.index) ≡ None);
+      planned : OnImage old (λ bytes. IsPlanned tables l.sources.edits.now bytes l.index l.planned);
+      sorted : StaySorted l.fn.planned l.planned;
+      within : l.index ≤ l.sources.header.now.v2.l1_size;
+      reader : IsSameButBlock old l.fn.counters l.counters;
+      storage : OnlyReads (Ok l.index) old (g.S.Storage.state l.image);
+    }
