@@ -1,4 +1,4 @@
-use Rattle.std.proofs.Common.{◌≡◌, ◌⊎◌, ℕ, ◌+◌, ◌*◌, ◌/◌, ◌%◌, ◌^◌, ◌<◌, ◌≤◌, length, slice_index, Option, Some, None, Result, Ok, Err, Bool, true, false, if◌then◌else◌, ap, refl, subst, ◌∙◌, inl, inr, OnOk, IfErr, mod-lt, div-add-mod', arith}
+use Rattle.std.proofs.Common.{◌≡◌, ◌⊎◌, ℕ, ◌+◌, ◌*◌, ◌/◌, ◌%◌, ◌^◌, ◌<◌, ◌≤◌, List, length, slice_index, Option, Some, None, Result, Ok, Err, Bool, true, false, if◌then◌else◌, ap, refl, subst, ◌∙◌, inl, inr, OnOk, IfErr, mod-lt, div-add-mod', arith}
 use Rattle.std.proofs.lemmas.Bool.{cases_Bool, cases_lt}
 use Rattle.std.proofs.lemmas.Grind.{same_number_lists}
 use Rattle.std.proofs.lemmas.Bool.Decides.{nat_tests}
@@ -86,32 +86,43 @@ counters-stop tables changes fault old new breaks = (
   breaks.2,
 )
 
--- where some counter of a block can't follow, some counter of the image can't
-pub block-stuck : (tables : CounterTablesState) (changes : Changes) (i : ℕ) (block : HostCluster) (image : Image) → NamesBlock tables i block
-    → BlockIsStuck tables changes i (block_numbers tables block image) → SomeIsStuck tables changes image
-block-stuck tables changes i block image names stuck =
+-- the counter of a cluster of the block at an index
+pub counter-at : (tables : CounterTablesState) (i k : ℕ) (block : HostCluster) (image : Image) → NamesBlock tables i block → k < counters_each tables.header
+    → HasCounter tables (i * counters_each tables.header + k)
+    × (counter_of_cluster tables image (i * counters_each tables.header + k) ≡ slice_index (block_numbers tables block image) k)
+counter-at tables i k block image names below =
     let n = counters_each tables.header in
-    let k = stuck.0 in
-    let full : length (block_numbers tables block image) ≡ n = counters_at-length tables.header.base.refcount_order image _ _ in
-    let below : k < n = omega (arith, full, stuck.1) in
     let here : (i * n + k) / n ≡ i = div-mul-add i n k below in
     let whole : (i * n + k) / n * n + (i * n + k) % n ≡ i * n + k = div-add-mod' (i * n + k) n in
     let rest : (i * n + k) % n ≡ k = omega (arith, rw here at whole) in
     let found : NamesBlock tables ((i * n + k) / n) block = ap (λ j. named_block tables.header.v2.cluster_bits (slice_index tables.reftable j)) here ∙ names in
-    (i * n + k, grind (arith, found), rw (counter-here tables block image (i * n + k) found, rest) stuck.2)
+    (grind (arith, found), rw (counter-here tables block image (i * n + k) found, rest) refl)
 
--- a block whose clusters neither gained nor lost a reference follows as it is
-pub idle-follows : (tables : CounterTablesState) (changes : Changes) (i : ℕ) (block : HostCluster) (image : Image)
-    → IsByBlocks tables changes → IsOutcomeOf changes i None → BlockFollows tables changes i (block_numbers tables block image) (block_numbers tables block image)
-idle-follows tables changes i block image by none = record {
+-- where some counter of a block can't follow, some counter of the image can't
+pub block-stuck : (tables : CounterTablesState) (changes : Changes) (i : ℕ) (block : HostCluster) (image : Image) → NamesBlock tables i block
+    → BlockIsStuck tables changes i (block_numbers tables block image) → SomeIsStuck tables changes image
+block-stuck tables changes i block image names stuck =
+    let full : length (block_numbers tables block image) ≡ counters_each tables.header = counters_at-length tables.header.base.refcount_order image _ _ in
+    let counter = counter-at tables i stuck.0 block image names (omega (arith, full, stuck.1)) in
+    (i * counters_each tables.header + stuck.0, counter.0, rw counter.1 stuck.2)
+
+-- counters whose clusters neither gained nor lost a reference follow as they are
+pub idle-counters : (tables : CounterTablesState) (changes : Changes) (i : ℕ) (numbers : List ℕ) → IsByBlocks tables changes → IsOutcomeOf changes i None
+    → length numbers ≡ counters_each tables.header → BlockFollows tables changes i numbers numbers
+idle-counters tables changes i numbers by none full = record {
   count = refl;
   each = λ k below.
       let n = counters_each tables.header in
-      let full : length (block_numbers tables block image) ≡ n = counters_at-length tables.header.base.refcount_order image _ _ in
       let here : (i * n + k) / 2 ^ changes.rb_bits ≡ i = rw by (div-mul-add i n k (omega (arith, full, below))) in
       let nothing = none (i * n + k) here in
       grind (arith, nothing);
 }
+
+-- and so does a block in an image
+pub idle-follows : (tables : CounterTablesState) (changes : Changes) (i : ℕ) (block : HostCluster) (image : Image)
+    → IsByBlocks tables changes → IsOutcomeOf changes i None → BlockFollows tables changes i (block_numbers tables block image) (block_numbers tables block image)
+idle-follows tables changes i block image by none =
+    idle-counters tables changes i (block_numbers tables block image) by none (counters_at-length tables.header.base.refcount_order image _ _)
 
 -- past the refcount table's end no block is named
 pub names-below : (tables : CounterTablesState) (i : ℕ) (block : HostCluster) → NamesBlock tables i block → i < length tables.reftable

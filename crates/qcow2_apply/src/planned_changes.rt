@@ -1,11 +1,10 @@
 //! What edits do to counters, before anything is written.
 
 ghost use Rattle.qcow2_apply.specs.PlannedChanges.{IsUncounted, IsCounted, AreSorted, StaySorted, AddsOutcome, CannotCount};
-ghost use Rattle.std.specs.Prelude.{◌≡◌, ◌⊎◌, ℕ, ◌<◌, ◌&&◌, Err, IfErr, Ok, OnOk};
+ghost use Rattle.std.specs.Prelude.{◌≡◌, ◌⊎◌, ℕ, ◌/◌, ◌<◌, false, true, IfErr, IsOkUnless, OnOk};
 ghost use Rattle.qcow2_base.specs.Storage.{OnImage, OnlyReads};
 ghost use Rattle.qcow2_metadata.specs.Header.{uses_external_data};
 ghost use Rattle.qcow2_metadata.specs.Results.{IsFromOutside};
-ghost use Rattle.std.specs.Prelude.{◌/◌, IsOkUnless, Some, false, true};
 ghost use Rattle.std.specs.List.{All};
 ghost use Rattle.qcow2_base.specs.declared.fault.Fault.TheVariants.{CounterRange, NoMemory};
 ghost use Rattle.qcow2_metadata.specs.Entries.{is_among};
@@ -13,11 +12,9 @@ ghost use Rattle.qcow2_metadata.specs.Table.L2Guards.{handed_back};
 ghost use Rattle.qcow2_check.specs.Counters.{counters_each};
 ghost use Rattle.qcow2_apply.specs.Changes.{HasNone};
 
-use crate::mapped_clusters::MappedClusters;
-use crate::tables::load_edited;
-use qcow2_base::{Fault, HostCluster, Storage};
 use crate::blocks::{CounterTables, follow};
 use crate::changes::Changes;
+use qcow2_base::{Fault, HostCluster, Storage};
 use qcow2_check::{Counters, named_block};
 use qcow2_edits::Outcome;
 use qcow2_metadata::{ClustersToFreeEntry, Header, RefBlock, Table};
@@ -110,9 +107,11 @@ fn check_block<S: Storage>(
     requires data { uses_external_data tables.now.header ≡ false }
     requires sorted { AreSorted (counters_each tables.now.header) gains.now losses.now }
     ensures counts { OnOk result (OnImage (S.state image.old) (λ bytes. (c : ℕ) →
-        c / counters_each tables.now.header ≡ index → CannotCount tables.now gains.now losses.now bytes c → ⊥)) }
+        c / counters_each tables.now.header ≡ index →
+        CannotCount tables.now gains.now losses.now bytes c → ⊥)) }
     ensures fault { IfErr result (λ fault. IsFromOutside fault ⊎ ((fault ≡ CounterRange)
-        × OnImage (S.state image.old) (λ bytes. (c : ℕ) × CannotCount tables.now gains.now losses.now bytes c))) }
+        × OnImage (S.state image.old) (λ bytes.
+        (c : ℕ) × CannotCount tables.now gains.now losses.now bytes c))) }
     ensures storage { OnlyReads result (S.state image.old) (S.state image.new) }
 {
     let (gained, lost) = (gains.outcome_of(index), losses.outcome_of(index));
@@ -126,6 +125,7 @@ fn check_block<S: Storage>(
     if let Some(outcome) = gained {
         follow(&mut block, tables, index, gains, outcome)?;
     }
+    prove!(block.entries() > 0);
     if let Some(outcome) = lost {
         follow(&mut block, tables, index, losses, outcome)?;
     }
@@ -145,7 +145,8 @@ fn check_counters<S: Storage>(
     ensures counts { OnOk result (OnImage (S.state image.old) (λ bytes. (c : ℕ) →
         CannotCount tables.now gains.now losses.now bytes c → ⊥)) }
     ensures fault { IfErr result (λ fault. IsFromOutside fault ⊎ ((fault ≡ CounterRange)
-        × OnImage (S.state image.old) (λ bytes. (c : ℕ) × CannotCount tables.now gains.now losses.now bytes c))) }
+        × OnImage (S.state image.old) (λ bytes.
+        (c : ℕ) × CannotCount tables.now gains.now losses.now bytes c))) }
     ensures storage { OnlyReads result (S.state image.old) (S.state image.new) }
 {
     for index in 0..tables.reftable.entries() {
@@ -155,7 +156,8 @@ fn check_counters<S: Storage>(
 }
 
 impl PlannedChanges {
-    /// Refuses changes that the counters can't count: one can't, or a cluster that loses a reference has none.
+    /// Refuses changes that the counters can't count: one can't, or a cluster that loses a reference has
+    /// none.
     pub(crate) fn check<S: Storage>(
         &self,
         alloc: Global,
