@@ -1,6 +1,7 @@
 pub mod BlocksLemmas
 pub mod ChangesLemmas
 pub mod GuestEditsLemmas
+pub mod MappedClustersLemmas
 pub mod PassesLemmas
 pub mod PlannedChangesLemmas
 pub mod TablesLemmas

@@ -1,11 +1,11 @@
 //! Which host clusters edits of a disk map, and which of these once.
 
-ghost use Rattle.std.specs.Prelude.{◌≡◌, ℕ, ◌==◌, [], IfOk, OnOk, take};
+ghost use Rattle.std.specs.Prelude.{◌≡◌, ℕ, ◌==◌, IfOk, OnOk};
 ghost use Rattle.qcow2_apply.specs.MappedClusters.{CountsMapping, HoldsMappings, mark_of_times, mapping_mark};
 
 use crate::guest_edits::GuestEdit;
 use qcow2_base::HostCluster;
-use std::alloc::{AllocError, AllocFailed, Global};
+use std::alloc::{AllocFailed, Global};
 use std::collections::BTreeMap;
 
 /// The host clusters that edits map, and of each whether one edit does.
