@@ -18,7 +18,7 @@ use Rattle.qcow2_apply.proofs.BlocksLemmas.{block-of, counter-here}
 use Rattle.qcow2_apply.proofs.PlannedTablesLemmas.{no-edits-in, none-refused-at}
 use Rattle.qcow2_apply.proofs.TablesLemmas as of-tables
 use Rattle.qcow2_apply.proofs.TablesLemmas.{named-below}
-use Rattle.qcow2_apply.specs.Apply.{Applies, AreAllApart, BreaksOffApplying, IsElsewhere, blocks_of, tables_of}
+use Rattle.qcow2_apply.specs.Apply.{Applies, AreAllApart, BreaksOffApplying, IsElsewhere, refblocks_of, l2_tables_of}
 use Rattle.qcow2_apply.specs.Blocks.{CounterTablesState, Follows, FollowsChanges, HasCounter, IsStuck, SomeIsStuck, StopsFollowing, blocks, counter_of_cluster}
 use Rattle.qcow2_apply.specs.Changes.{gains_of, losses_of}
 use Rattle.qcow2_apply.specs.GuestEdits.{edits_in, has_clusters_in}
@@ -74,14 +74,14 @@ losses-count tables gains losses old gained edited orders bytes sorted count fol
 
 -- a pass over tables keeps counters
 pub counters-stay : (tables : ImageTables) (edits : List GuestEdit) (old new : Image) → IsClusterBits tables.header.v2.cluster_bits → tables.header.base.refcount_order ≤ 6
-    → AreAllApart tables → Passes (tables_of tables) (IsEdited tables.header edits) old new → (c : ℕ) → HasCounter (counter_tables tables) c
+    → AreAllApart tables → Passes (l2_tables_of tables) (IsEdited tables.header edits) old new → (c : ℕ) → HasCounter (counter_tables tables) c
     → counter_of_cluster (counter_tables tables) new c ≡ counter_of_cluster (counter_tables tables) old c
 counters-stay tables edits old new bits orders apart passes c has =
     let state = counter_tables tables in
     let found = block-of state c has in
     let same = of-blocks.are-of-clusters state bits orders found.0 old new
     (λ o here. passes.others o (λ i table names at. apart.both_apart i (c / counters_each tables.header) found.0
-    (subst (λ cluster. (tables_of tables).place i ≡ Some cluster) (grind (arith, here, at)) names) found.1)) in
+    (subst (λ cluster. (l2_tables_of tables).place i ≡ Some cluster) (grind (arith, here, at)) names) found.1)) in
     counter-here state found.0 new c found.1 ∙ ap (λ (numbers : List ℕ). slice_index numbers (c % counters_each tables.header)) same ∙ sym (counter-here state found.0 old c found.1)
 
 -- a table that edits change and that can be loaded can be loaded when counters have followed
@@ -92,7 +92,7 @@ tables-load header edits tables gains fault old gained bits apart none follows (
     let g = geometry_of tables.header in
     let same : numbers_at (l2_layout g) table gained ≡ numbers_at (l2_layout g) table old = of-tables.are-of-clusters tables.header tables.l1 bits table old gained
     (λ o here. follows.others o (λ j block named at. apart.both_apart i j table names
-    (subst (λ cluster. (blocks_of tables).place j ≡ Some cluster) (grind (arith, here, at)) named))) in
+    (subst (λ cluster. (refblocks_of tables).place j ≡ Some cluster) (grind (arith, here, at)) named))) in
     let loads : loaded_l2_table g table old ≡ loaded_l2_table g table gained = rw same refl in
     let refusal : table_refusal tables edits old i ≡ None = none-refused-at (table_refusal tables edits old) (length tables.l1) i _ none (named-below tables.header tables.l1 i table names) in
     elim (cases_Bool (list_any (has_clusters_in tables.header.v2.cluster_bits i) edits)) [
@@ -102,7 +102,7 @@ tables-load header edits tables gains fault old gained bits apart none follows (
 
 -- how the last part ends is how all do
 pub ends-applying : (tables : ImageTables) (edits : List GuestEdit) (gains losses : Changes) (answer : Result (Unit {0}) Fault) (old gained edited new : Image)
-    → FollowsChanges (counter_tables tables) gains old gained → Passes (tables_of tables) (IsEdited tables.header edits) gained edited
+    → FollowsChanges (counter_tables tables) gains old gained → Passes (l2_tables_of tables) (IsEdited tables.header edits) gained edited
     → MatchResult answer (λ _. FollowsChanges (counter_tables tables) losses edited new) (λ fault. StopsFollowing (counter_tables tables) losses fault edited new)
     → MatchResult answer (λ _. Applies tables edits gains losses old new) (λ fault. BreaksOffApplying tables edits gains losses fault old new)
 ends-applying tables edits gains losses (Ok done) old gained edited new first second third = record {

@@ -16,7 +16,7 @@ use Rattle.qcow2_metadata.specs.Refblock.{BlockGeometry, BlockState, IsValidBloc
 use Rattle.qcow2_metadata.specs.declared.entries.ClustersToFreeEntry.{ClustersToFreeEntry}
 use Rattle.qcow2_apply.proofs.BlocksLemmas.{block-of, counter-at, names-below}
 use Rattle.qcow2_apply.specs.Blocks.{BlockFollows, BlockIsStuck, CounterTablesState, NamesBlock, block_numbers}
-use Rattle.qcow2_apply.specs.PlannedChanges.{AreSorted, CannotCount, IsCounted, IsUncounted}
+use Rattle.qcow2_apply.specs.PlannedChanges.{AreSorted, CannotCount, HaveCounters, IsUncounted}
 use Rattle.qcow2_apply.specs.declared.changes.Changes.{Changes}
 
 -- clusters that end past 2^64 have a last number that 64 bits don't count
@@ -36,7 +36,7 @@ next-counted header reftable first cluster each here c from before = elim (cases
 -- and all do
 pub all-counted : (header : HeaderRecord) (reftable : List ℕ) (clusters : ClustersToFreeEntry) (cluster end : ℕ) → end ≡ clusters.first.0 + clusters.count.0
     → end < 2 ^ 64 → end ≤ cluster → (cluster ≤ end) ⊎ (cluster ≡ clusters.first.0)
-    → ((c : ℕ) → clusters.first.0 ≤ c → c < cluster → IsSome (block_of_cluster header reftable c)) → IsCounted header reftable clusters
+    → ((c : ℕ) → clusters.first.0 ≤ c → c < cluster → IsSome (block_of_cluster header reftable c)) → HaveCounters header reftable clusters
 all-counted header reftable clusters cluster end is fits past within each = record {
   each = λ c among. let bounds : (clusters.first.0 ≤ c) × (c < clusters.first.0 + clusters.count.0) = grind (arith, nat_tests, among) in
       each c bounds.0 (omega (arith, bounds.1, is, past));

@@ -18,7 +18,7 @@ use Rattle.qcow2_check.specs.NamedTables.{named_cluster}
 use Rattle.qcow2_check.specs.Uses.{ImageTables, image_tables}
 use Rattle.qcow2_apply.specs.Changes.{HasNone}
 use Rattle.qcow2_apply.specs.GuestEdits.{edits_by, edits_in, has_clusters_in, table_end, table_start}
-use Rattle.qcow2_apply.specs.PlannedChanges.{AddsOutcome, IsCounted}
+use Rattle.qcow2_apply.specs.PlannedChanges.{AddsOutcome, HaveCounters}
 use Rattle.qcow2_apply.specs.PlannedTables.{AddsTable, AreSources, IsPlanned, gained_at, lost_at, mapping_fault_in, planning_tables, run_at, run_gains, run_losses, table_refusal}
 use Rattle.qcow2_apply.specs.Tables.{MakesRun, run_in}
 use Rattle.qcow2_apply.specs.declared.guest_edits.GuestEdit.{GuestEdit}
@@ -179,7 +179,7 @@ adds-none tables edits image index planned nothing = record {
     none = none-at tables edits image index nothing
 
 -- a cluster that is handed back is one of a list of which each has a counter
-counted-in : (header : HeaderRecord) (reftable : List ℕ) (list : List ClustersToFreeEntry) (c : ℕ) → All (IsCounted header reftable) list
+counted-in : (header : HeaderRecord) (reftable : List ℕ) (list : List ClustersToFreeEntry) (c : ℕ) → All (HaveCounters header reftable) list
     → 0 < handed_back list c → IsSome (block_of_cluster header reftable c)
 counted-in header reftable [] c all some = absurd (omega (arith, some))
 counted-in header reftable (clusters ∷ list) c all some = elim (cases_Bool (is_among clusters c)) [

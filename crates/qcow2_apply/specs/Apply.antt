@@ -1,34 +1,39 @@
 -- What do edits of a disk leave of an image, with its tables and counters, and what is left where they break off?
-use Rattle.std.specs.Prelude.{◌≡◌, ◌≢◌, ℕ, List, Some}
+use Rattle.std.specs.Prelude.{◌≡◌, ◌≢◌, ◌⊎◌, ◌<◌, ℕ, List, Some, Result, IfErr, IsErr, MatchResult}
 use Rattle.qcow2_base.specs.Storage.{Image, SameOutside}
 use Rattle.qcow2_base.specs.declared.fault.Fault.{Fault}
 use Rattle.qcow2_base.specs.declared.types.HostCluster.{HostCluster}
 use Rattle.qcow2_check.specs.Failures.{TearsAtMost}
-use Rattle.qcow2_check.specs.Uses.{ImageTables}
+use Rattle.qcow2_check.specs.Uses.{ImageTables, image_tables}
 use Rattle.qcow2_metadata.specs.Header.{HeaderRecord}
 use Rattle.qcow2_apply.specs.Blocks.{CounterTablesState, FollowsChanges, StopsFollowing, blocks}
 use Rattle.qcow2_apply.specs.Passes.{ArePlacesApart, IsOutside, PassBreaksOff, Passes, Places}
-use Rattle.qcow2_apply.specs.Plan.{counter_tables}
+use Rattle.qcow2_metadata.specs.Results.{IsFromOutside}
+use Rattle.qcow2_apply.specs.Plan.{IsPlanOf, RefusesEdits}
+use Rattle.qcow2_apply.specs.PlannedTables.{counter_tables}
+use Rattle.qcow2_apply.specs.declared.plan.Plan.{Plan}
 use Rattle.qcow2_apply.specs.Tables.{IsEdited, l2_tables}
 use Rattle.qcow2_apply.specs.declared.changes.Changes.{Changes}
 use Rattle.qcow2_apply.specs.declared.guest_edits.GuestEdit.{GuestEdit}
 
 -- the L2 tables and the refcount blocks of an image with these tables
-abbrev pub tables_of : ImageTables → Places
-tables_of tables = l2_tables tables.header tables.l1
+abbrev pub l2_tables_of : ImageTables → Places
+l2_tables_of tables = l2_tables tables.header tables.l1
 
-abbrev pub blocks_of : ImageTables → Places
-blocks_of tables = blocks (counter_tables tables)
+abbrev pub refblocks_of : ImageTables → Places
+refblocks_of tables = blocks (counter_tables tables)
 
--- no cluster is that of two L2 tables, of two refcount blocks, or of one of both
+-- no cluster is that of two L2 tables, of two refcount blocks, or of one of both, and none is the header's
 pub record AreAllApart (tables : ImageTables) : Type 0 where
-  pub tables_apart : ArePlacesApart (tables_of tables)
-  pub blocks_apart : ArePlacesApart (blocks_of tables)
-  pub both_apart : (i j : ℕ) (cluster : HostCluster) → (tables_of tables).place i ≡ Some cluster → (blocks_of tables).place j ≢ Some cluster
+  pub tables_apart : ArePlacesApart (l2_tables_of tables)
+  pub blocks_apart : ArePlacesApart (refblocks_of tables)
+  pub tables_after : (i : ℕ) (cluster : HostCluster) → (l2_tables_of tables).place i ≡ Some cluster → 0 < cluster.0
+  pub blocks_after : (i : ℕ) (cluster : HostCluster) → (refblocks_of tables).place i ≡ Some cluster → 0 < cluster.0
+  pub both_apart : (i j : ℕ) (cluster : HostCluster) → (l2_tables_of tables).place i ≡ Some cluster → (refblocks_of tables).place j ≢ Some cluster
 
 -- the byte at an offset is in no L2 table and in no refcount block
 abbrev pub IsElsewhere : ImageTables → ℕ → Type 0
-IsElsewhere tables o = IsOutside (tables_of tables) o × IsOutside (blocks_of tables) o
+IsElsewhere tables o = IsOutside (l2_tables_of tables) o × IsOutside (refblocks_of tables) o
 
 -- edits of a disk were made: counters followed what clusters gain, then the tables were edited, then counters followed what
 -- clusters lose
@@ -36,15 +41,36 @@ pub record Applies (tables : ImageTables) (edits : List GuestEdit) (gains losses
   pub gained : Image
   pub edited : Image
   pub gains_counted : FollowsChanges (counter_tables tables) gains old gained
-  pub tables_edited : Passes (tables_of tables) (IsEdited tables.header edits) gained edited
+  pub tables_edited : Passes (l2_tables_of tables) (IsEdited tables.header edits) gained edited
   pub losses_counted : FollowsChanges (counter_tables tables) losses edited new
 
 -- this ended in a fault before its time, in one of the three parts, with those before it done
 pub data BreaksOffApplying (tables : ImageTables) (edits : List GuestEdit) (gains losses : Changes) (fault : Fault) (old new : Image) : Type 0 where
   InGains : StopsFollowing (counter_tables tables) gains fault old new → BreaksOffApplying tables edits gains losses fault old new
   InTables : (gained : Image) → FollowsChanges (counter_tables tables) gains old gained
-      → PassBreaksOff (tables_of tables) (IsEdited tables.header edits) fault gained new
+      → PassBreaksOff (l2_tables_of tables) (IsEdited tables.header edits) fault gained new
       → BreaksOffApplying tables edits gains losses fault old new
   InLosses : (gained edited : Image) → FollowsChanges (counter_tables tables) gains old gained
-      → Passes (tables_of tables) (IsEdited tables.header edits) gained edited
+      → Passes (l2_tables_of tables) (IsEdited tables.header edits) gained edited
       → StopsFollowing (counter_tables tables) losses fault edited new → BreaksOffApplying tables edits gains losses fault old new
+
+-- the tables that a plan was made by
+abbrev pub plan_tables : HeaderRecord → Plan → ImageTables
+plan_tables header plan = image_tables header plan.l1_table.numbers plan.reftable.numbers
+
+-- edits of a disk were made by a plan, which ended in this answer: autoclear features are cleared by their field alone, then the
+-- edits are made. Where tables and blocks are apart, only the storage and memory can end this before its time
+pub record FollowsPlan (header : HeaderRecord) (edits : List GuestEdit) (plan : Plan) (answer : Result (Unit {0}) Fault) (old new : Image) : Type 0 where
+  pub cleared : Image
+  pub clears : SameOutside 88 8 old cleared
+  pub idle : header.base.autoclear_features ≡ 0 → cleared ≡ old
+  pub ends : AreAllApart (plan_tables header plan) → MatchResult answer
+      (λ _. Applies (plan_tables header plan) edits plan.gains plan.losses cleared new)
+      (λ fault. BreaksOffApplying (plan_tables header plan) edits plan.gains plan.losses fault cleared new)
+  pub others : (o : ℕ) → IsElsewhere (plan_tables header plan) o → new o ≡ cleared o
+  pub faults : AreAllApart (plan_tables header plan) → IfErr answer IsFromOutside
+
+-- edits of a disk ended in this answer: they were refused, and no byte changed, or they were planned and made
+pub data EditsDisk (header : HeaderRecord) (edits : List GuestEdit) (answer : Result (Unit {0}) Fault) (old new : Image) : Type 0 where
+  Refuses : IfErr answer (λ fault. IsFromOutside fault ⊎ RefusesEdits header edits old fault) → IsErr answer → new ≡ old → EditsDisk header edits answer old new
+  Makes : (plan : Plan) → IsPlanOf header edits old plan → FollowsPlan header edits plan answer old new → EditsDisk header edits answer old new

@@ -21,7 +21,7 @@ abbrev pub IsUncounted : HeaderRecord → List ℕ → ℕ → Type 0
 IsUncounted header reftable c = (block_of_cluster header reftable c ≡ None) ⊎ (2 ^ 64 ≤ c + 1)
 
 -- each of some clusters has a counter, and a number of 64 bits
-pub record IsCounted (header : HeaderRecord) (reftable : List ℕ) (clusters : ClustersToFreeEntry) : Type 0 where
+pub record HaveCounters (header : HeaderRecord) (reftable : List ℕ) (clusters : ClustersToFreeEntry) : Type 0 where
   pub each : (c : ℕ) → is_among clusters c ≡ true → IsSome (block_of_cluster header reftable c)
   pub end : clusters.first.0 + clusters.count.0 < 2 ^ 64
 
@@ -45,7 +45,7 @@ pub record AddsOutcome (header : HeaderRecord) (reftable : List ℕ) (outcome : 
   pub counted : new.are_counted ≡ true → old.are_counted ≡ true
   pub gains : new.are_counted ≡ true → AddsChanges (times_gained (cluster_numbers outcome.gained.items)) (λ c. 0) old.gains new.gains
   pub losses : new.are_counted ≡ true → AddsChanges (λ c. 0) (handed_back outcome.freed.items) old.losses new.losses
-  pub counters : new.are_counted ≡ true → All (IsCounted header reftable) outcome.freed.items
+  pub counters : new.are_counted ≡ true → All (HaveCounters header reftable) outcome.freed.items
   pub uncounted : new.are_counted ≡ false →
       (old.are_counted ≡ false) ⊎ SomeIsUncounted header reftable (handed_back outcome.freed.items)
 

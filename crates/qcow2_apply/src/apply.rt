@@ -1,12 +1,12 @@
 //! Edits of a disk, with the counters of the clusters that gain and lose references by them.
 
-ghost use Rattle.std.specs.Prelude.{◌≡◌, ◌⊎◌, IfErr, MatchResult, OnOk};
-ghost use Rattle.qcow2_base.specs.Storage.{OnImage, OnImages};
+ghost use Rattle.std.specs.Prelude.{◌≡◌, ◌⊎◌, ℕ, IfErr, MatchResult, OnOk};
+ghost use Rattle.qcow2_base.specs.Storage.{Image, OnImage, OnImages, SameOutside};
 ghost use Rattle.qcow2_metadata.specs.Header.Open.{without_autoclear};
 ghost use Rattle.qcow2_metadata.specs.Results.{IsFromOutside};
 ghost use Rattle.qcow2_check.specs.Failures.{ReportsFailures};
 ghost use Rattle.qcow2_check.specs.Uses.{image_tables};
-ghost use Rattle.qcow2_apply.specs.Apply.{Applies, AreAllApart, BreaksOffApplying, IsElsewhere};
+ghost use Rattle.qcow2_apply.specs.Apply.{Applies, AreAllApart, BreaksOffApplying, EditsDisk, IsElsewhere};
 ghost use Rattle.qcow2_apply.specs.Plan.{IsPlanFor, IsPlanOf};
 
 use crate::blocks::{CounterTables, follow_changes};
@@ -36,8 +36,8 @@ impl Plan {
             (o : ℕ) → IsElsewhere (image_tables header.now self.now.l1_table.numbers self.now.reftable.numbers) o →
             after o ≡ before o) }
         ensures fault { AreAllApart (image_tables header.now self.now.l1_table.numbers self.now.reftable.numbers) →
-            IfErr result (λ fault. OnImage (S.state image.old) (λ bytes.
-            IsPlanOf header.now edits.now bytes self.now → IsFromOutside fault)) }
+            IfErr result (λ fault. OnImage (S.state image.old) (λ bytes. (first : Image) →
+            IsPlanOf header.now edits.now first self.now → SameOutside 88 8 first bytes → IsFromOutside fault)) }
         ensures storage { ReportsFailures result (S.state image.old) (S.state image.new) }
     {
         let tables = CounterTables {
@@ -48,4 +48,35 @@ impl Plan {
         edit_tables(image, header, &self.l1_table, edits)?;
         follow_changes(alloc, image, &tables, &self.losses)
     }
+}
+
+/// Makes edits of a disk in an image with this header, and lets the counters of the image's clusters follow.
+///
+/// All is looked at first, and refused where something can't be: by 36 with an external data file; by 32 and
+/// the position of the first edit that doesn't fit the disk; by 27 for zeros in version 2; by the faults of
+/// the L1 table and of the refcount table. Then by table, in their order: by 23 where there is none, but for
+/// discards; by 40 and the position of the first of its edits where something else refers to it; by those of
+/// its load; for a mapped cluster by 23 where it has no counter, and by 32 where that isn't 0 or another edit
+/// maps it. Last by 30 where a counter can't follow.
+///
+/// Then autoclear features are cleared, in the header too. What clusters gain is counted before tables are
+/// edited, and what they lose after that, each on the device before the next begins. So where no cluster is
+/// that of two tables or blocks, counters are at no time less than uses where they weren't before. After 34
+/// or 35 a part of this may be done, and after 34 any bytes may be in one table or block. So the call must
+/// not be made again: check the image, and repair it. After any other fault no byte has changed.
+pub fn apply_edits<S: Storage>(
+    alloc: Global,
+    image: &mut S,
+    header: &mut Header,
+    edits: &[GuestEdit],
+) -> Result<(), Fault>
+    ensures header { (header.new ≡ without_autoclear header.old) ⊎ (IfErr result (λ _. header.new ≡ header.old)) }
+    ensures edited { OnImages (S.state image.old) (S.state image.new)
+        (EditsDisk header.old edits.now result) }
+    ensures storage { ReportsFailures result (S.state image.old) (S.state image.new) }
+{
+    let plan = Plan::new(alloc, image, header, edits)?;
+    header.clear_autoclear(image)?;
+    image.sync()?;
+    plan.make(alloc, image, header, edits)
 }

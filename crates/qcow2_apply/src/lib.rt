@@ -11,7 +11,9 @@ mod planned_changes;
 mod planned_tables;
 mod tables;
 
+pub use apply::apply_edits;
 pub use blocks::{CounterTables, follow_changes};
 pub use changes::Changes;
 pub use guest_edits::{GuestEdit, edits_in, first_unfit};
+pub use plan::Plan;
 pub use tables::edit_tables;

@@ -1,6 +1,6 @@
 //! What edits do to counters, before anything is written.
 
-ghost use Rattle.qcow2_apply.specs.PlannedChanges.{IsUncounted, IsCounted, AreSorted, StaySorted, AddsOutcome, CannotCount};
+ghost use Rattle.qcow2_apply.specs.PlannedChanges.{IsUncounted, HaveCounters, AreSorted, StaySorted, AddsOutcome, CannotCount};
 ghost use Rattle.std.specs.Prelude.{◌≡◌, ◌⊎◌, ℕ, ◌/◌, ◌<◌, false, true, IfErr, IsOkUnless, OnOk};
 ghost use Rattle.qcow2_base.specs.Storage.{OnImage, OnlyReads};
 ghost use Rattle.qcow2_metadata.specs.Header.{uses_external_data};
@@ -22,7 +22,7 @@ use std::alloc::Global;
 
 // Whether all of some clusters have counters.
 fn are_counted(counters: &Counters<'_>, clusters: ClustersToFreeEntry) -> bool
-    ensures counted { result ≡ true → IsCounted counters.now.header counters.now.reftable clusters }
+    ensures counted { result ≡ true → HaveCounters counters.now.header counters.now.reftable clusters }
     ensures uncounted { result ≡ false →
         (c : ℕ) × (is_among clusters c ≡ true) × IsUncounted counters.now.header counters.now.reftable c }
 {
@@ -39,7 +39,7 @@ fn are_counted(counters: &Counters<'_>, clusters: ClustersToFreeEntry) -> bool
 
 // Whether all clusters of a list have counters.
 fn are_all_counted(counters: &Counters<'_>, list: &[ClustersToFreeEntry]) -> bool
-    ensures counted { result ≡ true → All (IsCounted counters.now.header counters.now.reftable) list.now }
+    ensures counted { result ≡ true → All (HaveCounters counters.now.header counters.now.reftable) list.now }
     ensures uncounted { result ≡ false →
         (c : ℕ) × (0 < handed_back list.now c) × IsUncounted counters.now.header counters.now.reftable c }
 {
