@@ -1,31 +1,36 @@
-use Rattle.std.proofs.Common.{◌≡◌, ◌≢◌, ◌⊎◌, ℕ, suc, ◌+◌, ◌-◌, ◌/◌, ◌%◌, ◌^◌, ◌<◌, ◌≤◌, List, [], ◌∷◌, length, slice_index, Option, None, Some, Result, Ok, Err, OnOk, IfErr, MatchResult, ap, refl, subst, sym, ◌∙◌, inl, inr, arith}
-use Rattle.std.proofs.lemmas.Bool.{cases_Bool}
+use Rattle.std.proofs.Common.{◌≡◌, ◌≢◌, ◌⊎◌, ℕ, lit<, suc, ◌+◌, ◌-◌, ◌/◌, ◌%◌, ◌^◌, ◌<◌, ◌≤◌, List, [], ◌∷◌, length, slice_index, Option, None, Some, Result, Ok, Err, OnOk, IfErr, MatchResult, ap, refl, subst, sym, ◌∙◌, inl, inr, arith}
+use Rattle.std.proofs.lemmas.Bool.{cases_Bool, cases_lt}
+use Rattle.std.proofs.Math.Nat.{div-lt_iff_lt-mul, pow-le-pow_right}
+use Rattle.std.proofs.lemmas.Nat.{pow_pos}
+use Rattle.std.specs.Option.{option_or}
 use Rattle.std.specs.List.{list_any, range_with_len}
-use Rattle.qcow2_base.specs.Storage.{Image, IsBytes}
+use Rattle.qcow2_base.specs.Storage.{Image, IsBytes, SameOutside}
 use Rattle.qcow2_base.specs.Types.{IsClusterBits}
 use Rattle.qcow2_base.specs.declared.fault.Fault.{Fault}
 use Rattle.qcow2_base.specs.declared.types.HostCluster.{HostCluster}
 use Rattle.qcow2_metadata.specs.Header.{HeaderRecord, geometry_of}
 use Rattle.qcow2_metadata.specs.Placed.{numbers_at}
-use Rattle.qcow2_metadata.specs.Results.{and_then, unless_refused}
+use Rattle.qcow2_metadata.specs.Results.{IsFromOutside, and_then, unless_refused}
 use Rattle.qcow2_metadata.specs.Table.{l2_layout, loaded_l2_table}
 use Rattle.qcow2_check.proofs.CountersLemmas.{counter-fits}
 use Rattle.qcow2_check.specs.Counters.{counters_each, placed_reftable}
-use Rattle.qcow2_check.specs.NamedTables.{loaded_l1_table}
+use Rattle.qcow2_check.specs.NamedTables.{loaded_l1_table, named_cluster}
 use Rattle.qcow2_check.specs.Uses.{ImageTables, image_tables}
 use Rattle.qcow2_apply.proofs.BlocksLemmas as of-blocks
 use Rattle.qcow2_apply.proofs.BlocksLemmas.{block-of, counter-here}
 use Rattle.qcow2_apply.proofs.PlannedTablesLemmas.{no-edits-in, none-refused-at}
 use Rattle.qcow2_apply.proofs.TablesLemmas as of-tables
 use Rattle.qcow2_apply.proofs.TablesLemmas.{named-below}
-use Rattle.qcow2_apply.specs.Apply.{Applies, AreAllApart, BreaksOffApplying, IsElsewhere, refblocks_of, l2_tables_of}
+use Rattle.qcow2_apply.specs.Apply.{Applies, AreAllApart, BreaksOffApplying, CanBeMade, FollowsPlan, InGains, InLosses, plan_tables, refblocks_of, l2_tables_of}
 use Rattle.qcow2_apply.specs.Blocks.{CounterTablesState, Follows, FollowsChanges, HasCounter, IsStuck, SomeIsStuck, StopsFollowing, blocks, counter_of_cluster}
 use Rattle.qcow2_apply.specs.Changes.{gains_of, losses_of}
 use Rattle.qcow2_apply.specs.GuestEdits.{edits_in, has_clusters_in}
 use Rattle.qcow2_apply.specs.Passes.{IsOutside, KeepsOutside, PassBreaksOff, Passes}
-use Rattle.qcow2_apply.specs.Plan.{IsPlanOf, edits_refusal, planned_tables}
+use Rattle.qcow2_apply.specs.Plan.{IsPlanFor, IsPlanOf, edits_refusal, planned_tables}
+use Rattle.qcow2_apply.specs.declared.plan.Plan.{Plan}
+use Rattle.qcow2_metadata.specs.Header.Open.{without_autoclear}
 use Rattle.qcow2_apply.specs.PlannedChanges.{AreSorted, CannotCount}
-use Rattle.qcow2_apply.specs.PlannedTables.{counter_tables, named_table_refusal, table_refusal, tables_refusal}
+use Rattle.qcow2_apply.specs.PlannedTables.{alone_fault, counter_tables, load_fault, mappings_fault, table_refusal, tables_refusal}
 use Rattle.qcow2_apply.specs.Tables.{FirstFails, IsEdited, l2_tables}
 use Rattle.qcow2_apply.specs.declared.changes.Changes.{Changes}
 use Rattle.qcow2_apply.specs.declared.guest_edits.GuestEdit.{GuestEdit}
@@ -55,6 +60,24 @@ are-planned header edits image tables is = by_edits (edits_refusal header edits)
     by_edits None none = by_l1 (loaded_l1_table header image) (rw none at is)
     by_edits (Some fault) some = absurd (let never = rw some at is in grind (arith, never))
 
+same-cluster : (a b : HostCluster) → a.0 ≡ b.0 → a ≡ b
+same-cluster a b same = grind (arith, same)
+
+-- a table that can't be loaded is refused
+never-refused : (tables : ImageTables) (edits : List GuestEdit) (image : Image) (i : ℕ) (table : HostCluster) (fault : Fault)
+    → list_any (has_clusters_in tables.header.v2.cluster_bits i) edits ≡ true
+    → named_cluster tables.header.v2.cluster_bits (slice_index tables.l1 i) ≡ Some table
+    → loaded_l2_table (geometry_of tables.header) table image ≡ Err fault → table_refusal tables edits image i ≡ None → ⊥
+never-refused tables edits image i table fault has names fails none =
+    let load : load_fault tables.header image table ≡ Some fault = rw fails refl in
+    let named = rw (has, names) at none in
+    by_parts (alone_fault tables edits image i table) (load_fault tables.header image table) (mappings_fault tables edits image i) named load
+  where
+    by_parts : (alone load maps : Option Fault) → option_or alone (option_or load maps) ≡ None → load ≡ Some fault → ⊥
+    by_parts None None maps is some = grind (arith, some)
+    by_parts None (Some found) maps is some = grind (arith, is)
+    by_parts (Some found) load maps is some = grind (arith, is)
+
 -- counters can count what is gained
 pub gains-count : (tables : CounterTablesState) (gains losses : Changes) (image : Image) → tables.header.base.refcount_order ≤ 6 → IsBytes image
     → AreSorted (counters_each tables.header) gains losses → ((c : ℕ) → CannotCount tables gains losses image c → ⊥) → SomeIsStuck tables gains image → ⊥
@@ -81,22 +104,60 @@ counters-stay tables edits old new bits orders apart passes c has =
     let found = block-of state c has in
     let same = of-blocks.are-of-clusters state bits orders found.0 old new
     (λ o here. passes.others o (λ i table names at. apart.both_apart i (c / counters_each tables.header) found.0
-    (subst (λ cluster. (l2_tables_of tables).place i ≡ Some cluster) (grind (arith, here, at)) names) found.1)) in
+    (subst (λ cluster. (l2_tables_of tables).place i ≡ Some cluster) (same-cluster table found.0 (sym at ∙ here)) names) found.1)) in
     counter-here state found.0 new c found.1 ∙ ap (λ (numbers : List ℕ). slice_index numbers (c % counters_each tables.header)) same ∙ sym (counter-here state found.0 old c found.1)
 
--- a table that edits change and that can be loaded can be loaded when counters have followed
-pub tables-load : (header : HeaderRecord) (edits : List GuestEdit) (tables : ImageTables) (gains : Changes) (fault : Fault) (old gained : Image)
-    → IsClusterBits tables.header.v2.cluster_bits → AreAllApart tables → tables_refusal tables edits old ≡ None
+-- a byte of a cluster that isn't the header's is after the header's field of autoclear features
+after-field : (cb o cluster : ℕ) → IsClusterBits cb → o / 2 ^ cb ≡ cluster → 0 < cluster → 88 + 8 ≤ o
+after-field cb o cluster bits here some = elim (cases_lt o 96) [
+  | inl before ↦
+      let size : 2 ^ 9 ≤ 2 ^ cb = pow-le-pow_right (lit< tt) bits.0 in
+      let low : o / 2 ^ cb < 1 = (div-lt_iff_lt-mul (pow_pos cb)).1 (omega (arith, before, size)) in
+      absurd (omega (arith, low, here, some))
+  | inr after ↦ after
+]
+
+-- a block is the same whatever that field is
+pub counters-cleared : (tables : ImageTables) (first bytes : Image) → IsClusterBits tables.header.v2.cluster_bits → tables.header.base.refcount_order ≤ 6
+    → AreAllApart tables → SameOutside 88 8 first bytes → (c : ℕ) → HasCounter (counter_tables tables) c
+    → counter_of_cluster (counter_tables tables) bytes c ≡ counter_of_cluster (counter_tables tables) first c
+counters-cleared tables first bytes bits orders apart same c has =
+    let state = counter_tables tables in
+    let found = block-of state c has in
+    let some = apart.blocks_after (c / counters_each tables.header) found.0 found.1 in
+    let numbers = of-blocks.are-of-clusters state bits orders found.0 first bytes
+    (λ o here. same.after o (after-field tables.header.v2.cluster_bits o found.0.0 bits here some)) in
+    counter-here state found.0 bytes c found.1 ∙ ap (λ (list : List ℕ). slice_index list (c % counters_each tables.header)) numbers
+    ∙ sym (counter-here state found.0 first c found.1)
+
+-- so what counters can count then they can count now
+pub count-cleared : (tables : CounterTablesState) (gains losses : Changes) (first bytes : Image)
+    → ((c : ℕ) → HasCounter tables c → counter_of_cluster tables bytes c ≡ counter_of_cluster tables first c)
+    → ((c : ℕ) → CannotCount tables gains losses first c → ⊥) → (c : ℕ) → CannotCount tables gains losses bytes c → ⊥
+count-cleared tables gains losses first bytes same count c cannot = elim cannot.1 [
+  | inl past ↦ count c (cannot.0, inl (past.0, omega (arith, past.1, same c cannot.0)))
+  | inr less ↦ count c (cannot.0, inr (omega (arith, less, same c cannot.0)))
+]
+
+-- a table that edits change and that could be loaded at first can be loaded when counters have followed
+pub tables-load : (edits : List GuestEdit) (tables : ImageTables) (gains : Changes) (fault : Fault) (first old gained : Image)
+    → IsClusterBits tables.header.v2.cluster_bits → AreAllApart tables → tables_refusal tables edits first ≡ None → SameOutside 88 8 first old
     → FollowsChanges (counter_tables tables) gains old gained → FirstFails tables.header tables.l1 edits fault gained → ⊥
-tables-load header edits tables gains fault old gained bits apart none follows (i, (table, names, some, fails), before) =
+tables-load edits tables gains fault first old gained bits apart none cleared follows (i, (table, names, some, fails), before) =
     let g = geometry_of tables.header in
-    let same : numbers_at (l2_layout g) table gained ≡ numbers_at (l2_layout g) table old = of-tables.are-of-clusters tables.header tables.l1 bits table old gained
+    let counted : numbers_at (l2_layout g) table gained ≡ numbers_at (l2_layout g) table old =
+    of-tables.are-of-clusters tables.header tables.l1 bits table old gained
     (λ o here. follows.others o (λ j block named at. apart.both_apart i j table names
-    (subst (λ cluster. (refblocks_of tables).place j ≡ Some cluster) (grind (arith, here, at)) named))) in
-    let loads : loaded_l2_table g table old ≡ loaded_l2_table g table gained = rw same refl in
-    let refusal : table_refusal tables edits old i ≡ None = none-refused-at (table_refusal tables edits old) (length tables.l1) i _ none (named-below tables.header tables.l1 i table names) in
+    (subst (λ cluster. (refblocks_of tables).place j ≡ Some cluster) (same-cluster block table (sym at ∙ here)) named))) in
+    let same : numbers_at (l2_layout g) table old ≡ numbers_at (l2_layout g) table first =
+    of-tables.are-of-clusters tables.header tables.l1 bits table first old
+    (λ o here. cleared.after o (after-field tables.header.v2.cluster_bits o table.0 bits here (apart.tables_after i table names))) in
+    let numbers = counted ∙ same in
+    let loads : loaded_l2_table g table first ≡ loaded_l2_table g table gained = rw numbers refl in
+    let refusal : table_refusal tables edits first i ≡ None =
+    none-refused-at (table_refusal tables edits first) (length tables.l1) i _ none (named-below tables.header tables.l1 i table names) in
     elim (cases_Bool (list_any (has_clusters_in tables.header.v2.cluster_bits i) edits)) [
-      | inl has ↦ (let never = rw (has, names, loads ∙ fails) at refusal in grind (arith, never))
+      | inl has ↦ never-refused tables edits first i table fault has names (loads ∙ fails) refusal
       | inr has ↦ some (no-edits-in tables.header.v2.cluster_bits i edits has)
     ]
 
@@ -112,4 +173,45 @@ ends-applying tables edits gains losses (Ok done) old gained edited new first se
   tables_edited = second;
   losses_counted = third;
 }
-ends-applying tables edits gains losses (Err fault) old gained edited new first second third = BreaksOffApplying.InLosses gained edited first second third
+ends-applying tables edits gains losses (Err fault) old gained edited new first second third = InLosses gained edited first second third
+
+-- nothing had followed
+stopped-at-once : (tables : CounterTablesState) (changes : Changes) (fault : Fault) (image : Image) → StopsFollowing tables changes fault image image
+stopped-at-once tables changes fault image = (
+  image,
+  record { counters = λ c has. inl refl; others = λ o outside. refl },
+  record { whole = λ other. refl; torn = inl refl },
+)
+
+-- edits that were planned ended before the first was made
+pub cut-short : (header : HeaderRecord) (edits : List GuestEdit) (plan : Plan) (fault : Fault) (old new : Image) → SameOutside 88 8 old new
+    → (header.base.autoclear_features ≡ 0 → new ≡ old) → IsFromOutside fault → FollowsPlan header edits plan (Err fault) old new
+cut-short header edits plan fault old new clears idle outside = record {
+  cleared = new;
+  clears = clears;
+  idle = idle;
+  ends = λ apart. InGains (stopped-at-once (counter_tables (plan_tables header plan)) plan.gains fault new);
+  others = λ o elsewhere. refl;
+  faults = λ apart. outside;
+}
+
+-- what a plan is for stays without autoclear features
+pub plan-for-cleared : (header : HeaderRecord) (edits : List GuestEdit) (plan : Plan) → IsPlanFor header edits plan
+    → IsPlanFor (without_autoclear header) edits plan
+plan-for-cleared header edits plan for = record {
+  no_data_file = for.no_data_file;
+  fit = for.fit;
+  l1_table = for.l1_table;
+  l1_count = for.l1_count;
+  reftable = for.reftable;
+  blocks = for.blocks;
+  changes = for.changes;
+}
+
+-- edits that are planned can be made
+pub can-be-made : (header : HeaderRecord) (edits : List GuestEdit) (plan : Plan) (image : Image) → IsPlanOf header edits image plan
+    → CanBeMade (plan_tables header plan) edits plan.gains plan.losses image
+can-be-made header edits plan image of = record {
+  tables_allow = are-planned header edits image (image_tables header plan.l1_table.numbers plan.reftable.numbers) of.tables;
+  counters_count = of.count;
+}

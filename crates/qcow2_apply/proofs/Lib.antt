@@ -7,3 +7,4 @@ pub mod PlannedChangesLemmas
 pub mod TablesLemmas
 pub mod PlannedTablesLemmas
 pub mod ApplyLemmas
+pub mod PlanLemmas

@@ -40,9 +40,11 @@ same-tables sources image old new same =
 pub same-sources : (sources : Sources) (image : StorageState) (old new : CountersState) → IsSameButBlock image old new → AreSources sources old
     → AreSources sources new
 same-sources sources image old new same of = record {
-  header = ap (λ (counters : CountersState). counters.header) same.same ∙ of.header;
-  geometry = of.geometry;
-  count = of.count;
+  tables = record {
+      reader = ap (λ (counters : CountersState). counters.header) same.same ∙ of.tables.reader;
+      geometry = of.tables.geometry;
+      count = of.tables.count;
+  };
   no_data_file = of.no_data_file;
   fit = of.fit;
   mapped = of.mapped;
@@ -83,11 +85,11 @@ range-from a (suc n) m =
 range-split : (n m : ℕ) → range_with_len 0 (n + m) ≡ range_with_len 0 n ++ range_with_len n m
 range-split n m = let same : 0 + n ≡ n = omega arith in range-from 0 n m ∙ ap (λ b. range_with_len 0 n ++ range_with_len b m) same
 
-unless-none : (fault : Option Fault) → unless_refused fault (Ok (tt {0})) ≡ Ok tt → fault ≡ None
+pub unless-none : (fault : Option Fault) → unless_refused fault (Ok (tt {0})) ≡ Ok tt → fault ≡ None
 unless-none None is = refl
 unless-none (Some fault) is = absurd (grind (arith, is))
 
-unless-some : (found : Option Fault) (fault : Fault) → unless_refused found (Ok (tt {0})) ≡ Err fault → found ≡ Some fault
+pub unless-some : (found : Option Fault) (fault : Fault) → unless_refused found (Ok (tt {0})) ≡ Err fault → found ≡ Some fault
 unless-some None fault is = absurd (grind (arith, is))
 unless-some (Some found) fault is = grind (arith, is)
 
@@ -291,7 +293,7 @@ pub adds-by-sources : (sources : Sources) (first next : StorageState) (a b d : C
     → AddsOutcome sources.header.now a.reftable outcome old new
 adds-by-sources sources first next a b d outcome old new of same more added =
     let header : d.header ≡ sources.header.now = ap (λ (counters : CountersState). counters.header) more.same
-    ∙ ap (λ (counters : CountersState). counters.header) same.same ∙ of.header in
+    ∙ ap (λ (counters : CountersState). counters.header) same.same ∙ of.tables.reader in
     let reftable : d.reftable ≡ a.reftable = ap (λ (counters : CountersState). counters.reftable) more.same
     ∙ ap (λ (counters : CountersState). counters.reftable) same.same in
     subst (λ h. AddsOutcome h a.reftable outcome old new) header (subst (λ r. AddsOutcome d.header r outcome old new) reftable added)

@@ -1,5 +1,5 @@
 -- What do edits of a disk leave of an image, with its tables and counters, and what is left where they break off?
-use Rattle.std.specs.Prelude.{◌≡◌, ◌≢◌, ◌⊎◌, ◌<◌, ℕ, List, Some, Result, IfErr, IsErr, MatchResult}
+use Rattle.std.specs.Prelude.{◌≡◌, ◌≢◌, ◌⊎◌, ◌<◌, ℕ, List, Some, None, Result, IfErr, IsErr, MatchResult}
 use Rattle.qcow2_base.specs.Storage.{Image, SameOutside}
 use Rattle.qcow2_base.specs.declared.fault.Fault.{Fault}
 use Rattle.qcow2_base.specs.declared.types.HostCluster.{HostCluster}
@@ -10,7 +10,9 @@ use Rattle.qcow2_apply.specs.Blocks.{CounterTablesState, FollowsChanges, StopsFo
 use Rattle.qcow2_apply.specs.Passes.{ArePlacesApart, IsOutside, PassBreaksOff, Passes, Places}
 use Rattle.qcow2_metadata.specs.Results.{IsFromOutside}
 use Rattle.qcow2_apply.specs.Plan.{IsPlanOf, RefusesEdits}
-use Rattle.qcow2_apply.specs.PlannedTables.{counter_tables}
+use Rattle.qcow2_metadata.specs.Header.Open.{without_autoclear}
+use Rattle.qcow2_apply.specs.PlannedChanges.{CannotCount}
+use Rattle.qcow2_apply.specs.PlannedTables.{counter_tables, tables_refusal}
 use Rattle.qcow2_apply.specs.declared.plan.Plan.{Plan}
 use Rattle.qcow2_apply.specs.Tables.{IsEdited, l2_tables}
 use Rattle.qcow2_apply.specs.declared.changes.Changes.{Changes}
@@ -54,9 +56,14 @@ pub data BreaksOffApplying (tables : ImageTables) (edits : List GuestEdit) (gain
       → Passes (l2_tables_of tables) (IsEdited tables.header edits) gained edited
       → StopsFollowing (counter_tables tables) losses fault edited new → BreaksOffApplying tables edits gains losses fault old new
 
--- the tables that a plan was made by
+-- edits can be made of all tables, and counters can count what they do
+pub record CanBeMade (tables : ImageTables) (edits : List GuestEdit) (gains losses : Changes) (image : Image) : Type 0 where
+  pub tables_allow : tables_refusal tables edits image ≡ None
+  pub counters_count : (c : ℕ) → CannotCount (counter_tables tables) gains losses image c → ⊥
+
+-- the tables that edits are made by: those of a plan, with the header as it is left
 abbrev pub plan_tables : HeaderRecord → Plan → ImageTables
-plan_tables header plan = image_tables header plan.l1_table.numbers plan.reftable.numbers
+plan_tables header plan = image_tables (without_autoclear header) plan.l1_table.numbers plan.reftable.numbers
 
 -- edits of a disk were made by a plan, which ended in this answer: autoclear features are cleared by their field alone, then the
 -- edits are made. Where tables and blocks are apart, only the storage and memory can end this before its time

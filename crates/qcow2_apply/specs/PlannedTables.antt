@@ -10,7 +10,7 @@ use Rattle.qcow2_base.specs.declared.types.HostCluster.{HostCluster}
 use Rattle.qcow2_metadata.specs.Entries.{is_copied}
 use Rattle.qcow2_metadata.specs.Header.{HeaderRecord, geometry_of, uses_external_data}
 use Rattle.qcow2_metadata.specs.Placed.{numbers_at}
-use Rattle.qcow2_metadata.specs.Table.{first_fault, l2_layout, loaded_l2_table}
+use Rattle.qcow2_metadata.specs.Table.{TableState, first_fault, l2_layout, loaded_l2_table}
 use Rattle.qcow2_metadata.specs.Table.L2Guards.{RunEnd, handed_back, times_gained}
 use Rattle.qcow2_check.specs.Counters.{CountersState, block_of_cluster, counter_of}
 use Rattle.qcow2_check.specs.NamedTables.{named_cluster}
@@ -151,11 +151,15 @@ pub record IsPlanned (tables : ImageTables) (edits : List GuestEdit) (image : Im
 abbrev pub planning_tables : Sources → CountersState → ImageTables
 planning_tables sources counters = image_tables sources.header.now sources.l1_table.now.numbers counters.reftable
 
+-- an L1 table and a reader of counters are those of an image with this header
+pub record AreReadBy (header : HeaderRecord) (l1_table : TableState) (counters : CountersState) : Type 0 where
+  pub reader : counters.header ≡ header
+  pub geometry : l1_table.geometry ≡ geometry_of header
+  pub count : length l1_table.numbers ≡ header.v2.l1_size
+
 -- edits are planned by the tables of one image, all fit it, and their mappings are known
 pub record AreSources (sources : Sources) (counters : CountersState) : Type 0 where
-  pub header : counters.header ≡ sources.header.now
-  pub geometry : sources.l1_table.now.geometry ≡ geometry_of sources.header.now
-  pub count : length sources.l1_table.now.numbers ≡ sources.header.now.v2.l1_size
+  pub tables : AreReadBy sources.header.now sources.l1_table.now counters
   pub no_data_file : uses_external_data sources.header.now ≡ false
   pub fit : AllFit sources.header.now sources.edits.now
   pub mapped : HoldsMappings sources.edits.now sources.mapped

@@ -6,8 +6,8 @@ ghost use Rattle.qcow2_metadata.specs.Header.Open.{without_autoclear};
 ghost use Rattle.qcow2_metadata.specs.Results.{IsFromOutside};
 ghost use Rattle.qcow2_check.specs.Failures.{ReportsFailures};
 ghost use Rattle.qcow2_check.specs.Uses.{image_tables};
-ghost use Rattle.qcow2_apply.specs.Apply.{Applies, AreAllApart, BreaksOffApplying, EditsDisk, IsElsewhere};
-ghost use Rattle.qcow2_apply.specs.Plan.{IsPlanFor, IsPlanOf};
+ghost use Rattle.qcow2_apply.specs.Apply.{Applies, AreAllApart, BreaksOffApplying, CanBeMade, EditsDisk, IsElsewhere};
+ghost use Rattle.qcow2_apply.specs.Plan.{IsPlanFor};
 
 use crate::blocks::{CounterTables, follow_changes};
 use crate::guest_edits::GuestEdit;
@@ -35,9 +35,10 @@ impl Plan {
         ensures others { OnImages (S.state image.old) (S.state image.new) (λ before after.
             (o : ℕ) → IsElsewhere (image_tables header.now self.now.l1_table.numbers self.now.reftable.numbers) o →
             after o ≡ before o) }
-        ensures fault { AreAllApart (image_tables header.now self.now.l1_table.numbers self.now.reftable.numbers) →
-            IfErr result (λ fault. OnImage (S.state image.old) (λ bytes. (first : Image) →
-            IsPlanOf header.now edits.now first self.now → SameOutside 88 8 first bytes → IsFromOutside fault)) }
+        ensures fault { let tables = image_tables header.now self.now.l1_table.numbers self.now.reftable.numbers in
+            AreAllApart tables → IfErr result (λ fault. OnImage (S.state image.old) (λ bytes. (first : Image) →
+            CanBeMade tables edits.now self.now.gains self.now.losses first → SameOutside 88 8 first bytes →
+            IsFromOutside fault)) }
         ensures storage { ReportsFailures result (S.state image.old) (S.state image.new) }
     {
         let tables = CounterTables {

@@ -20,7 +20,7 @@ use qcow2_edits::Outcome;
 use qcow2_metadata::{Header, L1Table, RefTable};
 use std::alloc::Global;
 use crate::planned_changes::PlannedChanges;
-use crate::planned_tables::{Sources, plan_tables};
+use crate::planned_tables::plan_by_tables;
 
 // Refuses edits that can't be made of any disk of this header.
 fn check_edits(header: &Header, edits: &[GuestEdit]) -> Result<(), Fault>
@@ -78,14 +78,7 @@ impl Plan {
         check_edits(header, edits)?;
         let l1_table = load_l1_table(alloc, image, header)?;
         let mut counters = Counters::new(alloc, image, header)?;
-        let sources = Sources {
-            header,
-            l1_table: &l1_table,
-            edits,
-            mapped: MappedClusters::of(alloc, edits)?,
-        };
-        let mut planned = PlannedChanges::new(alloc, header);
-        plan_tables(image, &sources, &mut counters, &mut planned)?;
+        let planned = plan_by_tables(image, header, &l1_table, &mut counters, edits)?;
         let reftable = counters.into_reftable();
         planned.check(alloc, image, &CounterTables { header, reftable: &reftable })?;
         Ok(Plan {

@@ -2,7 +2,13 @@
 
 ghost use Rattle.qcow2_apply.specs.PlannedChanges.{StaySorted};
 ghost use Rattle.qcow2_apply.specs.PlannedTables.{is_table_needed, are_more_needed, tables_refusal, AddsTable, IsPlanned, planning_tables, AreSources, alone_fault, mapping_fault, mapping_fault_in, mappings_fault, named_table_refusal, table_refusal};
-ghost use Rattle.std.specs.Prelude.{◌≡◌, ◌<◌, ◌&&◌, Err, Ok, OnOk, length, not};
+ghost use Rattle.std.specs.Prelude.{◌≡◌, ◌<◌, ◌&&◌, Err, IfOk, Ok, OnOk, false, length, not};
+ghost use Rattle.qcow2_check.specs.Counters.{counters_each};
+ghost use Rattle.qcow2_check.specs.Uses.{image_tables};
+ghost use Rattle.qcow2_metadata.specs.Header.{uses_external_data};
+ghost use Rattle.qcow2_apply.specs.PlannedChanges.{AreSorted};
+ghost use Rattle.qcow2_apply.specs.PlannedTables.{AreReadBy};
+ghost use Rattle.qcow2_apply.specs.Tables.{AllFit};
 ghost use Rattle.std.specs.List.{list_any};
 ghost use Rattle.qcow2_base.specs.Storage.{OnImage, OnlyReads};
 ghost use Rattle.qcow2_metadata.specs.Results.{Answers, unless_refused};
@@ -68,13 +74,13 @@ fn first_in(edits: &[GuestEdit], header: &Header, index: u32) -> Option<usize>
     )
 }
 
-/// What edits of a disk are planned by.
+// What edits of a disk are planned by.
 #[derive(Drop)]
-pub(crate) struct Sources<'a> {
-    pub(crate) header: &'a Header,
-    pub(crate) l1_table: &'a L1Table,
-    pub(crate) edits: &'a [GuestEdit],
-    pub(crate) mapped: MappedClusters,
+struct Sources<'a> {
+    header: &'a Header,
+    l1_table: &'a L1Table,
+    edits: &'a [GuestEdit],
+    mapped: MappedClusters,
 }
 
 // Refuses the edit at a position where it maps a host cluster that isn't free, or that another edit maps.
@@ -243,8 +249,8 @@ fn plan_table<S: Storage>(
     }
 }
 
-/// Adds what edits of all tables do, and refuses those past the last L1 entry.
-pub(crate) fn plan_tables<S: Storage>(
+// Adds what edits of all tables do, and refuses those past the last L1 entry.
+fn plan_tables<S: Storage>(
     image: &mut S,
     sources: &Sources<'_>,
     counters: &mut Counters<'_>,
@@ -271,4 +277,41 @@ pub(crate) fn plan_tables<S: Storage>(
         return Err(Fault::NotPlaced);
     }
     Ok(())
+}
+
+/// What edits of a disk do, which fit it, by the tables of an image. Refuses them where they can't be made of
+/// a table.
+pub(crate) fn plan_by_tables<S: Storage>(
+    image: &mut S,
+    header: &Header,
+    l1_table: &L1Table,
+    counters: &mut Counters<'_>,
+    edits: &[GuestEdit],
+) -> Result<PlannedChanges, Fault>
+    requires tables { AreReadBy header.now l1_table.now counters.old }
+    requires data { uses_external_data header.now ≡ false }
+    requires fit { AllFit header.now edits.now }
+    requires kept { OnImage (S.state image.old) (λ bytes.
+        IsKeptBlockOf counters.old.header bytes counters.old.block) }
+    ensures exact { OnImage (S.state image.old) (λ bytes. Answers (λ planned. tt {0}) result (unless_refused
+        (tables_refusal (image_tables header.now l1_table.now.numbers counters.old.reftable) edits.now bytes)
+        (Ok tt))) }
+    ensures planned { IfOk result (λ planned. OnImage (S.state image.old) (λ bytes. IsPlanned
+        (image_tables header.now l1_table.now.numbers counters.old.reftable) edits.now bytes
+        header.now.v2.l1_size planned)) }
+    ensures sorted { IfOk result (λ planned.
+        AreSorted (counters_each header.now) planned.gains planned.losses) }
+    ensures reader { IsSameButBlock (S.state image.old) counters.old counters.new }
+    ensures storage { OnlyReads result (S.state image.old) (S.state image.new) }
+{
+    let alloc = l1_table.allocator();
+    let sources = Sources {
+        header,
+        l1_table,
+        edits,
+        mapped: MappedClusters::of(alloc, edits)?,
+    };
+    let mut planned = PlannedChanges::new(alloc, header);
+    plan_tables(image, &sources, counters, &mut planned)?;
+    Ok(planned)
 }

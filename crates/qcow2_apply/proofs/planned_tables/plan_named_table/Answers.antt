@@ -29,7 +29,7 @@ returns-in_err-check_mappings-clause-storage g c =
     let before = g.S.Storage.state c.args.image.now in
     let loaded = g.S.Storage.state c.load_edited.new.image in
     let read = reads_twice (tt {0}) c.in_ok-outcome.outcome (tt {0}) before (g.S.Storage.state c.check_alone.new.image) loaded (search rules) (search rules) in
-    rw (exit.1, exit.2) (reads-then (tt {0}) c.in_err-check_mappings.field-0.0 before loaded (g.S.Storage.state c.check_mappings.new.image) read (search rules))
+    rw (exit.1, exit.2) (reads-then {U = Unit {0}} (tt {0}) c.in_err-check_mappings.field-0.0 before loaded (g.S.Storage.state c.check_mappings.new.image) read (search rules))
 
 pub returns-clause-planned : goal.returns-clause-planned
 returns-clause-planned g c =

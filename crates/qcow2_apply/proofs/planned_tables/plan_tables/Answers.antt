@@ -39,7 +39,7 @@ returns-in_err-plan_table-clause-exact g c = λ told.
     let l1 = c.args.sources.now.l1_table.now.numbers in
     let more = if are_more_needed c.args.sources.now.header.now.v2.cluster_bits c.args.sources.now.edits.now (length l1) then Some NotPlaced else None in
     rw (exit.1, exit.2) (more-refused (first_fault refusal (range_with_len 0 (length l1))) more c.in_err-plan_table.field-0.0
-    (first-refused refusal c.loop-index.index (length l1) _ c.in_err-plan_table.field-0.0 (omega (arith, c.loop-index-test.true, c.requires.sources.count))
+    (first-refused refusal c.loop-index.index (length l1) _ c.in_err-plan_table.field-0.0 (omega (arith, c.loop-index-test.true, c.requires.sources.tables.count))
     (so_far.none told) (same-refusal c.args.sources.now (g.S.Storage.state c.args.image.now) c.args.counters.now c.loop-index.counters
     (g.S.Storage.state c.args.image.now).byte_at (g.S.Storage.state c.loop-index.image).byte_at c.loop-index.index so_far.reader bytes)
     (c.in_err-plan_table.ensures.exact known)))
@@ -78,9 +78,9 @@ loop-index-preserved g c =
 pub returns-then-are_more_needed-clause-exact : goal.returns-then-are_more_needed-clause-exact
 returns-then-are_more_needed-clause-exact g c = λ told.
     let l1 = c.args.sources.now.l1_table.now.numbers in
-    let end : length l1 ≡ c.loop-index.index = omega (arith, c.loop-index.invariant.within, c.loop-index-test.false, c.requires.sources.count) in
+    let end : length l1 ≡ c.loop-index.index = omega (arith, c.loop-index.invariant.within, c.loop-index-test.false, c.requires.sources.tables.count) in
     let cb = c.args.sources.now.header.now.v2.cluster_bits in
-    let needed : are_more_needed cb c.args.sources.now.edits.now (length l1) ≡ true = rw c.requires.sources.count (search rules) in
+    let needed : are_more_needed cb c.args.sources.now.edits.now (length l1) ≡ true = rw c.requires.sources.tables.count (search rules) in
     inr (inr (ap (λ found. unless_refused found (Ok (tt {0})))
     (all-allowed (table_refusal (planning_tables c.args.sources.now c.args.counters.now) c.args.sources.now.edits.now (g.S.Storage.state c.args.image.now).byte_at)
     c.loop-index.index (length l1) (if are_more_needed cb c.args.sources.now.edits.now (length l1) then Some NotPlaced else None) (Some NotPlaced)
@@ -95,9 +95,9 @@ returns-then-are_more_needed-clause-storage g c = search rules
 pub returns-clause-exact : goal.returns-clause-exact
 returns-clause-exact g c = λ told.
     let l1 = c.args.sources.now.l1_table.now.numbers in
-    let end : length l1 ≡ c.loop-index.index = omega (arith, c.loop-index.invariant.within, c.loop-index-test.false, c.requires.sources.count) in
+    let end : length l1 ≡ c.loop-index.index = omega (arith, c.loop-index.invariant.within, c.loop-index-test.false, c.requires.sources.tables.count) in
     let cb = c.args.sources.now.header.now.v2.cluster_bits in
-    let enough : are_more_needed cb c.args.sources.now.edits.now (length l1) ≡ false = rw c.requires.sources.count (search rules) in
+    let enough : are_more_needed cb c.args.sources.now.edits.now (length l1) ≡ false = rw c.requires.sources.tables.count (search rules) in
     ap (λ found. unless_refused found (Ok (tt {0})))
     (all-allowed (table_refusal (planning_tables c.args.sources.now c.args.counters.now) c.args.sources.now.edits.now (g.S.Storage.state c.args.image.now).byte_at)
     c.loop-index.index (length l1) (if are_more_needed cb c.args.sources.now.edits.now (length l1) then Some NotPlaced else None) None
