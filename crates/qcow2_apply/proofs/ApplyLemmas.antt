@@ -1,12 +1,13 @@
-use Rattle.std.proofs.Common.{◌≡◌, ◌≢◌, ◌⊎◌, ℕ, lit<, suc, ◌+◌, ◌-◌, ◌/◌, ◌%◌, ◌^◌, ◌<◌, ◌≤◌, List, [], ◌∷◌, length, slice_index, Option, None, Some, Result, Ok, Err, OnOk, IfErr, MatchResult, ap, refl, subst, sym, ◌∙◌, inl, inr, arith}
+use Rattle.std.proofs.Common.{IsTrue, true, ◌≡◌, ◌≢◌, ◌↔◌, IsErrOf, ◌⊎◌, ℕ, lit<, ◌+◌, ◌/◌, ◌%◌, ◌^◌, ◌<◌, ◌≤◌, List, length, slice_index, Option, None, Some, Result, Ok, Err, IfErr, MatchResult, ap, refl, subst, sym, ◌∙◌, inl, inr, arith}
 use Rattle.std.proofs.lemmas.Bool.{cases_Bool, cases_lt}
 use Rattle.std.proofs.Math.Nat.{div-lt_iff_lt-mul, pow-le-pow_right}
 use Rattle.std.proofs.lemmas.Nat.{pow_pos}
 use Rattle.std.specs.Option.{option_or}
-use Rattle.std.specs.List.{list_any, range_with_len}
-use Rattle.qcow2_base.specs.Storage.{Image, IsBytes, SameOutside}
+use Rattle.std.specs.List.{list_any}
+use Rattle.qcow2_base.specs.Storage.{Image, IsBytes, OnImage, OnImages, SameDevice, SameOutside, StorageState}
 use Rattle.qcow2_base.specs.Types.{IsClusterBits}
 use Rattle.qcow2_base.specs.declared.fault.Fault.{Fault}
+use Rattle.qcow2_base.specs.declared.fault.Fault.TheVariants.{CounterRange, Storage}
 use Rattle.qcow2_base.specs.declared.types.HostCluster.{HostCluster}
 use Rattle.qcow2_metadata.specs.Header.{HeaderRecord, geometry_of}
 use Rattle.qcow2_metadata.specs.Placed.{numbers_at}
@@ -15,23 +16,23 @@ use Rattle.qcow2_metadata.specs.Table.{l2_layout, loaded_l2_table}
 use Rattle.qcow2_check.proofs.CountersLemmas.{counter-fits}
 use Rattle.qcow2_check.specs.Counters.{counters_each, placed_reftable}
 use Rattle.qcow2_check.specs.NamedTables.{loaded_l1_table, named_cluster}
+use Rattle.qcow2_check.specs.Failures.{ReportsFailures}
 use Rattle.qcow2_check.specs.Uses.{ImageTables, image_tables}
 use Rattle.qcow2_apply.proofs.BlocksLemmas as of-blocks
 use Rattle.qcow2_apply.proofs.BlocksLemmas.{block-of, counter-here}
 use Rattle.qcow2_apply.proofs.PlannedTablesLemmas.{no-edits-in, none-refused-at}
 use Rattle.qcow2_apply.proofs.TablesLemmas as of-tables
 use Rattle.qcow2_apply.proofs.TablesLemmas.{named-below}
-use Rattle.qcow2_apply.specs.Apply.{Applies, AreAllApart, BreaksOffApplying, CanBeMade, FollowsPlan, InGains, InLosses, plan_tables, refblocks_of, l2_tables_of}
-use Rattle.qcow2_apply.specs.Blocks.{CounterTablesState, Follows, FollowsChanges, HasCounter, IsStuck, SomeIsStuck, StopsFollowing, blocks, counter_of_cluster}
-use Rattle.qcow2_apply.specs.Changes.{gains_of, losses_of}
-use Rattle.qcow2_apply.specs.GuestEdits.{edits_in, has_clusters_in}
-use Rattle.qcow2_apply.specs.Passes.{IsOutside, KeepsOutside, PassBreaksOff, Passes}
-use Rattle.qcow2_apply.specs.Plan.{IsPlanFor, IsPlanOf, edits_refusal, planned_tables}
+use Rattle.qcow2_apply.specs.Apply.{IsElsewhere, Applies, AreAllApart, BreaksOffApplying, CanBeMade, FollowsPlan, InGains, InLosses, InTables, plan_tables, refblocks_of, l2_tables_of}
+use Rattle.qcow2_apply.specs.Blocks.{CounterTablesState, FollowsChanges, HasCounter, SomeIsStuck, StopsFollowing, counter_of_cluster}
+use Rattle.qcow2_apply.specs.GuestEdits.{has_clusters_in}
+use Rattle.qcow2_apply.specs.Passes.{PassBreaksOff, Passes}
+use Rattle.qcow2_apply.specs.Plan.{IsPlanOf, edits_refusal, planned_tables}
 use Rattle.qcow2_apply.specs.declared.plan.Plan.{Plan}
 use Rattle.qcow2_metadata.specs.Header.Open.{without_autoclear}
 use Rattle.qcow2_apply.specs.PlannedChanges.{AreSorted, CannotCount}
 use Rattle.qcow2_apply.specs.PlannedTables.{alone_fault, counter_tables, load_fault, mappings_fault, table_refusal, tables_refusal}
-use Rattle.qcow2_apply.specs.Tables.{FirstFails, IsEdited, l2_tables}
+use Rattle.qcow2_apply.specs.Tables.{FirstFails, IsEdited}
 use Rattle.qcow2_apply.specs.declared.changes.Changes.{Changes}
 use Rattle.qcow2_apply.specs.declared.guest_edits.GuestEdit.{GuestEdit}
 
@@ -43,19 +44,22 @@ are-planned header edits image tables is = by_edits (edits_refusal header edits)
         → unless_refused found (Ok (image_tables header l1 reftable)) ≡ Ok tables → tables_refusal tables edits image ≡ None
     by_tables l1 reftable None none same = subst (λ t. tables_refusal t edits image ≡ None) (the_same _ _ same) none
       where
-        the_same : (a b : ImageTables) → Ok a ≡ Ok {E = Fault} b → a ≡ b
+        the_same : (a b : ImageTables) → (let one : Result ImageTables Fault = Ok a in let other : Result ImageTables Fault = Ok b in one ≡ other) → a ≡ b
         the_same a b same = grind (arith, same)
     by_tables l1 reftable (Some fault) none same = absurd (grind (arith, same))
+
     by_reftable : (l1 : List ℕ) (found : Result (List ℕ) Fault)
         → and_then found (λ reftable. unless_refused (tables_refusal (image_tables header l1 reftable) edits image) (Ok (image_tables header l1 reftable))) ≡ Ok tables
         → tables_refusal tables edits image ≡ None
     by_reftable l1 (Ok reftable) same = by_tables l1 reftable (tables_refusal (image_tables header l1 reftable) edits image) refl same
     by_reftable l1 (Err fault) same = absurd (grind (arith, same))
+
     by_l1 : (found : Result (List ℕ) Fault) → and_then found (λ l1. and_then (placed_reftable header image) (λ reftable.
         unless_refused (tables_refusal (image_tables header l1 reftable) edits image) (Ok (image_tables header l1 reftable)))) ≡ Ok tables
         → tables_refusal tables edits image ≡ None
     by_l1 (Ok l1) same = by_reftable l1 (placed_reftable header image) same
     by_l1 (Err fault) same = absurd (grind (arith, same))
+
     by_edits : (found : Option Fault) → edits_refusal header edits ≡ found → tables_refusal tables edits image ≡ None
     by_edits None none = by_l1 (loaded_l1_table header image) (rw none at is)
     by_edits (Some fault) some = absurd (let never = rw some at is in grind (arith, never))
@@ -69,7 +73,7 @@ never-refused : (tables : ImageTables) (edits : List GuestEdit) (image : Image) 
     → named_cluster tables.header.v2.cluster_bits (slice_index tables.l1 i) ≡ Some table
     → loaded_l2_table (geometry_of tables.header) table image ≡ Err fault → table_refusal tables edits image i ≡ None → ⊥
 never-refused tables edits image i table fault has names fails none =
-    let load : load_fault tables.header image table ≡ Some fault = rw fails refl in
+    let load : load_fault tables.header image table ≡ Some fault = rw (fails, load_fault) refl in
     let named = rw (has, names) at none in
     by_parts (alone_fault tables edits image i table) (load_fault tables.header image table) (mappings_fault tables edits image i) named load
   where
@@ -195,23 +199,77 @@ cut-short header edits plan fault old new clears idle outside = record {
   faults = λ apart. outside;
 }
 
--- what a plan is for stays without autoclear features
-pub plan-for-cleared : (header : HeaderRecord) (edits : List GuestEdit) (plan : Plan) → IsPlanFor header edits plan
-    → IsPlanFor (without_autoclear header) edits plan
-plan-for-cleared header edits plan for = record {
-  no_data_file = for.no_data_file;
-  fit = for.fit;
-  l1_table = for.l1_table;
-  l1_count = for.l1_count;
-  reftable = for.reftable;
-  blocks = for.blocks;
-  changes = for.changes;
-}
-
 -- edits that are planned can be made
 pub can-be-made : (header : HeaderRecord) (edits : List GuestEdit) (plan : Plan) (image : Image) → IsPlanOf header edits image plan
     → CanBeMade (plan_tables header plan) edits plan.gains plan.losses image
 can-be-made header edits plan image of = record {
   tables_allow = are-planned header edits image (image_tables header plan.l1_table.numbers plan.reftable.numbers) of.tables;
   counters_count = of.count;
+}
+
+-- the edits of tables broke off
+pub breaks-in-tables : (tables : ImageTables) (edits : List GuestEdit) (gains losses : Changes) (fault : Fault) (old gained new : Image)
+    → FollowsChanges (counter_tables tables) gains old gained → PassBreaksOff (l2_tables_of tables) (IsEdited tables.header edits) fault gained new
+    → BreaksOffApplying tables edits gains losses fault old new
+breaks-in-tables tables edits gains losses fault old gained new first second = InTables gained first second
+
+-- a fault that counters can't be the reason of comes from outside
+pub from-outside : (answer : Result (Unit {0}) Fault) (before edited : StorageState) (Stuck Can : Image → Type 0)
+    → edited.tells ≡ before.tells
+    → (IsTrue before.tells → Stuck edited.byte_at → (first : Image) → Can first → SameOutside 88 8 first before.byte_at → ⊥)
+    → IfErr answer (λ fault. IsFromOutside fault ⊎ ((fault ≡ CounterRange) × OnImage edited Stuck))
+    → IfErr answer (λ fault. OnImage before (λ bytes. (first : Image) → Can first → SameOutside 88 8 first bytes → IsFromOutside fault))
+from-outside (Ok done) before edited Stuck Can tells never faults = tt
+from-outside (Err fault) before edited Stuck Can tells never (inl outside) = λ told first can same. outside
+from-outside (Err fault) before edited Stuck Can tells never (inr (range, stuck)) = λ told first can same.
+    let known : IsTrue edited.tells = rw tells told in absurd (never told (stuck known) first can same)
+
+-- counters are stuck where blocks are apart
+pub stuck-where-apart : (answer : Result (Unit {0}) Fault) (edited : StorageState) (Stuck : Image → Type 0) (Apart : Type 0) → Apart
+    → IfErr answer (λ fault. IsFromOutside fault ⊎ ((fault ≡ CounterRange) × (Apart → OnImage edited Stuck)))
+    → IfErr answer (λ fault. IsFromOutside fault ⊎ ((fault ≡ CounterRange) × OnImage edited Stuck))
+stuck-where-apart (Ok done) edited Stuck Apart apart faults = tt
+stuck-where-apart (Err fault) edited Stuck Apart apart (inl outside) = inl outside
+stuck-where-apart (Err fault) edited Stuck Apart apart (inr (range, stuck)) = inr (range, stuck apart)
+
+-- edits that are planned were made
+pub follows-plan : (header left : HeaderRecord) (edits : List GuestEdit) (plan : Plan) (answer : Result (Unit {0}) Fault) (before cleared after : StorageState)
+    → left ≡ without_autoclear header → IsTrue cleared.tells → SameOutside 88 8 before.byte_at cleared.byte_at
+    → (header.base.autoclear_features ≡ 0 → cleared.byte_at ≡ before.byte_at) → IsPlanOf header edits before.byte_at plan
+    → (let tables = image_tables left plan.l1_table.numbers plan.reftable.numbers in AreAllApart tables → OnImages cleared after (λ old new. MatchResult answer
+    (λ _. Applies tables edits plan.gains plan.losses old new) (λ fault. BreaksOffApplying tables edits plan.gains plan.losses fault old new)))
+    → (let tables = image_tables left plan.l1_table.numbers plan.reftable.numbers in
+    OnImages cleared after (λ old new. (o : ℕ) → IsElsewhere tables o → new o ≡ old o))
+    → (let tables = image_tables left plan.l1_table.numbers plan.reftable.numbers in AreAllApart tables → IfErr answer (λ fault. OnImage cleared (λ bytes.
+    (first : Image) → CanBeMade tables edits plan.gains plan.losses first → SameOutside 88 8 first bytes → IsFromOutside fault)))
+    → FollowsPlan header edits plan answer before.byte_at after.byte_at
+follows-plan header left edits plan answer before cleared after is told clears idle planned applied others faults =
+    let tables = λ (header : HeaderRecord). image_tables header plan.l1_table.numbers plan.reftable.numbers in
+    record {
+      cleared = cleared.byte_at;
+      clears = clears;
+      idle = idle;
+      ends = λ apart. subst (λ header. AreAllApart (tables header) → OnImages cleared after (λ old new. MatchResult answer
+          (λ _. Applies (tables header) edits plan.gains plan.losses old new)
+          (λ fault. BreaksOffApplying (tables header) edits plan.gains plan.losses fault old new))) is applied apart told;
+      others = subst (λ header. OnImages cleared after (λ old new. (o : ℕ) → IsElsewhere (tables header) o → new o ≡ old o)) is others told;
+      faults = λ apart. by_answer answer (subst (λ header. AreAllApart (tables header) → IfErr answer (λ fault. OnImage cleared (λ bytes.
+          (first : Image) → CanBeMade (tables header) edits plan.gains plan.losses first → SameOutside 88 8 first bytes → IsFromOutside fault))) is faults apart);
+    }
+  where
+    by_answer : (answer : Result (Unit {0}) Fault) → IfErr answer (λ fault. OnImage cleared (λ bytes. (first : Image)
+        → CanBeMade (plan_tables header plan) edits plan.gains plan.losses first → SameOutside 88 8 first bytes → IsFromOutside fault)) → IfErr answer IsFromOutside
+    by_answer (Ok done) fact = tt
+    by_answer (Err fault) fact = fact told before.byte_at (can-be-made header edits plan before.byte_at planned) clears
+
+-- calls that fail after others that didn't
+pub reports-then : {T : Type 0} (answer : Result T Fault) (a b d : StorageState) → b.failures ≡ a.failures → SameDevice a b → ReportsFailures answer b d
+    → ReportsFailures answer a d
+reports-then answer a b d same device other = record {
+  failed = subst (λ count. IsErrOf answer Storage ↔ (d.failures ≢ count)) same other.failed;
+  device = record {
+    tells = other.device.tells ∙ device.tells;
+    mem_align = other.device.mem_align ∙ device.mem_align;
+    req_align = other.device.req_align ∙ device.req_align;
+  };
 }

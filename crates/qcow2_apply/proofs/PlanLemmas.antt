@@ -1,4 +1,4 @@
-use Rattle.std.proofs.Common.{IsTrue, ◌≡◌, ◌⊎◌, ℕ, true, false, ◌<◌, List, length, IsSome, None, Some, Result, Ok, Err, ap, refl, subst, sym, ◌∙◌, inl, inr, arith}
+use Rattle.std.proofs.Common.{IsTrue, ◌≡◌, ◌⊎◌, ℕ, true, false, ◌<◌, List, length, IsSome, Ok, Err, ap, subst, sym, ◌∙◌, inl, inr}
 use Rattle.qcow2_base.specs.Storage.{Image, OnImage, StorageState}
 use Rattle.qcow2_base.specs.declared.fault.Fault.{Fault}
 use Rattle.qcow2_base.specs.declared.fault.Fault.TheVariants.{CounterRange, NoMemory, Storage}
@@ -9,12 +9,10 @@ use Rattle.qcow2_check.specs.Counters.{block_of_cluster, placed_reftable}
 use Rattle.qcow2_check.specs.NamedTables.{loaded_l1_table}
 use Rattle.qcow2_check.specs.Uses.{image_tables}
 use Rattle.qcow2_apply.proofs.PlannedTablesLemmas.{unless-none, unless-some}
-use Rattle.qcow2_apply.specs.Blocks.{CounterTablesState}
 use Rattle.qcow2_apply.specs.Plan.{ByCounters, ByTables, Counter, IsPlanOf, NoCounter, RefusesEdits, edits_refusal, planned_tables}
 use Rattle.qcow2_apply.specs.PlannedChanges.{CannotCount, SomeIsUncounted}
 use Rattle.qcow2_apply.specs.PlannedTables.{ComesTo, IsPlanned, lost_before, tables_refusal}
 use Rattle.qcow2_apply.specs.declared.guest_edits.GuestEdit.{GuestEdit}
-use Rattle.qcow2_apply.specs.declared.plan.Plan.{Plan}
 use Rattle.qcow2_apply.specs.declared.planned_changes.PlannedChanges.{PlannedChanges}
 
 -- what was read before edits of tables were looked at

@@ -1,4 +1,4 @@
-use Rattle.std.proofs.Common.{◌≡◌, ◌⊎◌, ℕ, zero, suc, Bool, true, false, ◌+◌, ◌-◌, ◌<◌, List, [], ◌∷◌, ◌++◌, length, slice_index, IsSome, Option, None, Some, Result, Ok, Err, OnOk, option_map, ap, refl, subst, sym, ◌∙◌, inl, inr, arith}
+use Rattle.std.proofs.Common.{◌≡◌, ◌⊎◌, ℕ, zero, suc, true, false, ◌+◌, ◌-◌, ◌<◌, List, [], ◌∷◌, ◌++◌, slice_index, IsSome, Option, None, Some, Result, Ok, Err, OnOk, option_map, ap, refl, subst, sym, ◌∙◌, inl, inr, arith}
 use Rattle.std.proofs.lemmas.Bool.{cases_Bool, cases_lt}
 use Rattle.std.proofs.lemmas.Bool.Decides.{nat_tests}
 use Rattle.std.proofs.lemmas.List.Sums.{sum_by-append}
@@ -41,9 +41,9 @@ pub same-sources : (sources : Sources) (image : StorageState) (old new : Counter
     → AreSources sources new
 same-sources sources image old new same of = record {
   tables = record {
-      reader = ap (λ (counters : CountersState). counters.header) same.same ∙ of.tables.reader;
-      geometry = of.tables.geometry;
-      count = of.tables.count;
+    reader = ap (λ (counters : CountersState). counters.header) same.same ∙ of.tables.reader;
+    geometry = of.tables.geometry;
+    count = of.tables.count;
   };
   no_data_file = of.no_data_file;
   fit = of.fit;
@@ -198,14 +198,14 @@ pub adds-run : (tables : ImageTables) (edits : List GuestEdit) (image : Image) (
 adds-run tables edits image index table outcome old new named is added = record {
   counted = added.counted;
   gains = λ counted. let more = added.gains counted in record {
-      bits = more.bits;
-      gained_is = λ c. more.gained_is c ∙ rw (gained c) refl;
-      lost_is = more.lost_is;
+    bits = more.bits;
+    gained_is = λ c. more.gained_is c ∙ rw (gained c) refl;
+    lost_is = more.lost_is;
   };
   losses = λ counted. let more = added.losses counted in record {
-      bits = more.bits;
-      gained_is = more.gained_is;
-      lost_is = λ c. more.lost_is c ∙ rw (lost c) refl;
+    bits = more.bits;
+    gained_is = more.gained_is;
+    lost_is = λ c. more.lost_is c ∙ rw (lost c) refl;
   };
   counters = λ counted c some. counted-in tables.header tables.reftable outcome.freed.items c (added.counters counted) (rw (lost c) at some);
   uncounted = λ uncounted. elim (added.uncounted uncounted) [
@@ -216,6 +216,7 @@ adds-run tables edits image index table outcome old new named is added = record 
   where
     gained : (c : ℕ) → gained_at tables edits image c index ≡ times_gained (cluster_numbers outcome.gained.items) c
     gained c = ap (λ end. run_gains end c) (run-at tables edits image index (Some table) named) ∙ ap (λ list. times_gained list c) (sym is.1)
+
     lost : (c : ℕ) → lost_at tables edits image c index ≡ handed_back outcome.freed.items c
     lost c = ap (λ end. run_losses end c) (run-at tables edits image index (Some table) named) ∙ ap (λ list. handed_back list c) (sym is.0)
 
@@ -237,8 +238,8 @@ pub planned-next : (tables : ImageTables) (edits : List GuestEdit) (image : Imag
     → IsPlanned tables edits image index old → AddsTable tables edits image index old new → IsPlanned tables edits image (index + 1) new
 planned-next tables edits image index old new before adds = record {
   counted = λ is. let sums = before.counted (adds.counted is) in record {
-      gained_is = λ c. grind (arith, (adds.gains is).gained_is c, sums.gained_is c, sum-next (gained_at tables edits image c) index);
-      lost_is = λ c. grind (arith, (adds.losses is).lost_is c, sums.lost_is c, sum-next (lost_at tables edits image c) index);
+    gained_is = λ c. grind (arith, (adds.gains is).gained_is c, sums.gained_is c, sum-next (gained_at tables edits image c) index);
+    lost_is = λ c. grind (arith, (adds.losses is).lost_is c, sums.lost_is c, sum-next (lost_at tables edits image c) index);
   };
   counters = λ is c some. elim (cases_lt 0 (lost_at tables edits image c index)) [
     | inl here ↦ adds.counters is c here
@@ -315,8 +316,8 @@ reads-then x fault a b d one other = record {
   told = grind (arith, one.told, other.told);
   bytes = other.bytes ∙ one.bytes;
   device = record {
-      tells = other.device.tells ∙ one.device.tells;
-      mem_align = other.device.mem_align ∙ one.device.mem_align;
-      req_align = other.device.req_align ∙ one.device.req_align;
+    tells = other.device.tells ∙ one.device.tells;
+    mem_align = other.device.mem_align ∙ one.device.mem_align;
+    req_align = other.device.req_align ∙ one.device.req_align;
   };
 }

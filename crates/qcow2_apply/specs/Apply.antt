@@ -3,10 +3,9 @@ use Rattle.std.specs.Prelude.{◌≡◌, ◌≢◌, ◌⊎◌, ◌<◌, ℕ, Lis
 use Rattle.qcow2_base.specs.Storage.{Image, SameOutside}
 use Rattle.qcow2_base.specs.declared.fault.Fault.{Fault}
 use Rattle.qcow2_base.specs.declared.types.HostCluster.{HostCluster}
-use Rattle.qcow2_check.specs.Failures.{TearsAtMost}
 use Rattle.qcow2_check.specs.Uses.{ImageTables, image_tables}
 use Rattle.qcow2_metadata.specs.Header.{HeaderRecord}
-use Rattle.qcow2_apply.specs.Blocks.{CounterTablesState, FollowsChanges, StopsFollowing, blocks}
+use Rattle.qcow2_apply.specs.Blocks.{FollowsChanges, StopsFollowing, blocks}
 use Rattle.qcow2_apply.specs.Passes.{ArePlacesApart, IsOutside, PassBreaksOff, Passes, Places}
 use Rattle.qcow2_metadata.specs.Results.{IsFromOutside}
 use Rattle.qcow2_apply.specs.Plan.{IsPlanOf, RefusesEdits}

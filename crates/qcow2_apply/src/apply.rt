@@ -41,6 +41,8 @@ impl Plan {
             IsFromOutside fault)) }
         ensures storage { ReportsFailures result (S.state image.old) (S.state image.new) }
     {
+        prove!(header.cluster_bits() <= 21);
+        prove!(header.refcount_order() <= 6);
         let tables = CounterTables {
             header,
             reftable: &self.reftable,

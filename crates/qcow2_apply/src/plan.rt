@@ -9,18 +9,18 @@ ghost use Rattle.std.specs.Prelude.{◌/◌, Some};
 ghost use Rattle.std.specs.List.{position};
 ghost use Rattle.qcow2_apply.specs.GuestEdits.{is_zeros};
 
+use crate::blocks::CounterTables;
+use crate::changes::Changes;
 use crate::guest_edits::{GuestEdit, first_unfit};
 use crate::mapped_clusters::MappedClusters;
+use crate::planned_changes::PlannedChanges;
+use crate::planned_tables::plan_by_tables;
 use crate::tables::load_edited;
 use qcow2_base::{Fault, Storage};
-use crate::blocks::{CounterTables};
-use crate::changes::Changes;
 use qcow2_check::{Counters, load_l1_table};
 use qcow2_edits::Outcome;
 use qcow2_metadata::{Header, L1Table, RefTable};
 use std::alloc::Global;
-use crate::planned_changes::PlannedChanges;
-use crate::planned_tables::plan_by_tables;
 
 // Refuses edits that can't be made of any disk of this header.
 fn check_edits(header: &Header, edits: &[GuestEdit]) -> Result<(), Fault>
@@ -80,7 +80,14 @@ impl Plan {
         let mut counters = Counters::new(alloc, image, header)?;
         let planned = plan_by_tables(image, header, &l1_table, &mut counters, edits)?;
         let reftable = counters.into_reftable();
-        planned.check(alloc, image, &CounterTables { header, reftable: &reftable })?;
+        planned.check(
+            alloc,
+            image,
+            &CounterTables {
+                header,
+                reftable: &reftable,
+            },
+        )?;
         Ok(Plan {
             l1_table,
             reftable,

@@ -21,11 +21,11 @@ ghost use Rattle.qcow2_apply.specs.GuestEdits.{ends_after, has_clusters_in, is_d
 
 use crate::guest_edits::{GuestEdit, edits_in};
 use crate::mapped_clusters::MappedClusters;
+use crate::planned_changes::PlannedChanges;
 use crate::tables::load_edited;
 use qcow2_base::{Fault, HostCluster, Storage};
 use qcow2_check::{Counters, named_cluster};
 use qcow2_metadata::{Header, L1Table, Table};
-use crate::planned_changes::PlannedChanges;
 
 // Whether an edit has clusters of the table of an L1 entry.
 fn are_some_in(edits: &[GuestEdit], header: &Header, index: u32) -> bool

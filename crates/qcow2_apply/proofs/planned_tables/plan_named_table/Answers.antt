@@ -1,4 +1,4 @@
-use Rattle.std.proofs.Common.{◌≡◌, IsTrue, arith, subst, rules}
+use Rattle.std.proofs.Common.{◌≡◌, IsTrue, subst, rules}
 use Rattle.std.proofs.lemmas.Result.{err_from_is_err_and}
 use Rattle.std.specs.Option.{option_or}
 use Rattle.qcow2_apply.proofs.PlannedTablesLemmas.{adds-by-sources, adds-run, more-refused, on-ok, reads-then, run-of-edits}

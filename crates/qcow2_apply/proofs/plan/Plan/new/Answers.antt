@@ -1,7 +1,7 @@
 use Rattle.std.proofs.Common.{◌≡◌, ◌⊎◌, ℕ, IsTrue, Ok, Err, length, subst, rules}
 use Rattle.std.proofs.lemmas.Result.{err_from_is_err_and}
-use Rattle.qcow2_base.specs.declared.fault.Fault.TheVariants.{CounterRange, NoMemory, Storage}
-use Rattle.qcow2_metadata.specs.Results.{IsFromOutside, unless_refused}
+use Rattle.qcow2_base.specs.declared.fault.Fault.TheVariants.{NoMemory, Storage}
+use Rattle.qcow2_metadata.specs.Results.{unless_refused}
 use Rattle.qcow2_check.proofs.FindingsLemmas.{reads_twice}
 use Rattle.qcow2_check.specs.Counters.{placed_reftable}
 use Rattle.qcow2_check.specs.Uses.{image_tables}
