@@ -26,7 +26,8 @@ use Rattle.qcow2_apply.proofs.TablesLemmas.{named-below}
 use Rattle.qcow2_apply.specs.Apply.{IsElsewhere, Applies, AreAllApart, BreaksOffApplying, CanBeMade, FollowsPlan, InGains, InLosses, InTables, plan_tables, refblocks_of, l2_tables_of}
 use Rattle.qcow2_apply.specs.Blocks.{CounterTablesState, FollowsChanges, HasCounter, SomeIsStuck, StopsFollowing, counter_of_cluster}
 use Rattle.qcow2_apply.specs.GuestEdits.{has_clusters_in}
-use Rattle.qcow2_apply.specs.Passes.{PassBreaksOff, Passes}
+use Rattle.qcow2_apply.specs.Changes.{gains_of, losses_of}
+use Rattle.qcow2_apply.specs.Passes.{IsOutside, PassBreaksOff, Passes}
 use Rattle.qcow2_apply.specs.Plan.{IsPlanOf, edits_refusal, planned_tables}
 use Rattle.qcow2_apply.specs.declared.plan.Plan.{Plan}
 use Rattle.qcow2_metadata.specs.Header.Open.{without_autoclear}
@@ -273,3 +274,43 @@ reports-then answer a b d same device other = record {
     req_align = other.device.req_align ∙ device.req_align;
   };
 }
+
+-- a table is the same where only blocks changed
+table-outside-blocks : (tables : ImageTables) (old new : Image) (i : ℕ) (table : HostCluster) → IsClusterBits tables.header.v2.cluster_bits → AreAllApart tables
+    → ((o : ℕ) → IsOutside (refblocks_of tables) o → new o ≡ old o) → (l2_tables_of tables).place i ≡ Some table
+    → numbers_at (l2_layout (geometry_of tables.header)) table new ≡ numbers_at (l2_layout (geometry_of tables.header)) table old
+table-outside-blocks tables old new i table bits apart others names = of-tables.are-of-clusters tables.header tables.l1 bits table old new
+    (λ o here. others o (λ j block named at. apart.both_apart i j table names
+    (subst (λ cluster. (refblocks_of tables).place j ≡ Some cluster) (same-cluster block table (sym at ∙ here)) named)))
+
+-- and whatever the header's field of autoclear features is
+table-cleared : (tables : ImageTables) (old new : Image) (i : ℕ) (table : HostCluster) → IsClusterBits tables.header.v2.cluster_bits → AreAllApart tables
+    → SameOutside 88 8 old new → (l2_tables_of tables).place i ≡ Some table
+    → numbers_at (l2_layout (geometry_of tables.header)) table new ≡ numbers_at (l2_layout (geometry_of tables.header)) table old
+table-cleared tables old new i table bits apart cleared names = of-tables.are-of-clusters tables.header tables.l1 bits table old new
+    (λ o here. cleared.after o (after-field tables.header.v2.cluster_bits o table.0 bits here (apart.tables_after i table names)))
+
+-- each table has what its edits leave of it
+pub table-left : (tables : ImageTables) (edits : List GuestEdit) (gains losses : Changes) (old cleared new : Image) (i : ℕ) (table : HostCluster)
+    → IsClusterBits tables.header.v2.cluster_bits → AreAllApart tables → SameOutside 88 8 old cleared → Applies tables edits gains losses cleared new
+    → (l2_tables_of tables).place i ≡ Some table → IsEdited tables.header edits i (numbers_at (l2_layout (geometry_of tables.header)) table old)
+    (numbers_at (l2_layout (geometry_of tables.header)) table new)
+table-left tables edits gains losses old cleared new i table bits apart clears applied names =
+    let first = table-cleared tables old cleared i table bits apart clears names in
+    let second = table-outside-blocks tables cleared applied.gained i table bits apart applied.gains_counted.others names in
+    let third = table-outside-blocks tables applied.edited new i table bits apart applied.losses_counted.others names in
+    let edited = applied.tables_edited.changed i table names in
+    subst (λ before. IsEdited tables.header edits i before (numbers_at (l2_layout (geometry_of tables.header)) table new)) (second ∙ first)
+    (third ∙ edited)
+
+-- at each cluster that has a counter, that and what the cluster loses are the counter before and what it gains
+pub counter-left : (tables : ImageTables) (edits : List GuestEdit) (gains losses : Changes) (old cleared new : Image) (c : ℕ)
+    → IsClusterBits tables.header.v2.cluster_bits → tables.header.base.refcount_order ≤ 6 → AreAllApart tables → SameOutside 88 8 old cleared
+    → AreSorted (counters_each tables.header) gains losses → Applies tables edits gains losses cleared new → HasCounter (counter_tables tables) c
+    → counter_of_cluster (counter_tables tables) new c + losses_of losses c ≡ counter_of_cluster (counter_tables tables) old c + gains_of gains c
+counter-left tables edits gains losses old cleared new c bits orders apart clears sorted applied has =
+    let first = counters-cleared tables old cleared bits orders apart clears c has in
+    let gained = applied.gains_counted.followed c has in
+    let same = counters-stay tables edits applied.gained applied.edited bits orders apart applied.tables_edited c has in
+    let lost = applied.losses_counted.followed c has in
+    omega (arith, first, gained, same, lost, sorted.no_loss c, sorted.no_gain c)

@@ -1,10 +1,11 @@
+pub mod ApplyLemmas
 pub mod BlocksLemmas
+pub mod BooksLemmas
 pub mod ChangesLemmas
 pub mod GuestEditsLemmas
 pub mod MappedClustersLemmas
 pub mod PassesLemmas
-pub mod PlannedChangesLemmas
-pub mod TablesLemmas
-pub mod PlannedTablesLemmas
-pub mod ApplyLemmas
 pub mod PlanLemmas
+pub mod PlannedChangesLemmas
+pub mod PlannedTablesLemmas
+pub mod TablesLemmas

@@ -136,7 +136,7 @@ no-edits-in cb index (edit ∷ edits) none = elim (cases_Bool (has_clusters_in c
 ]
 
 -- what edits leave of a table, by the cluster that the L1 entry names
-run-at : (tables : ImageTables) (edits : List GuestEdit) (image : Image) (index : ℕ) (found : Option HostCluster)
+pub run-at : (tables : ImageTables) (edits : List GuestEdit) (image : Image) (index : ℕ) (found : Option HostCluster)
     → named_cluster tables.header.v2.cluster_bits (slice_index tables.l1 index) ≡ found
     → run_at tables edits image index ≡ option_map (λ table. run_in tables.header (edits_in tables.header.v2.cluster_bits index edits)
     (numbers_at (l2_layout (geometry_of tables.header)) table image)) found
@@ -144,7 +144,7 @@ run-at tables edits image index found is = ap (option_map (λ table. run_in tabl
     (numbers_at (l2_layout (geometry_of tables.header)) table image))) is
 
 -- what edits do of a table that isn't there, and of one that they have no clusters of
-none-there : (tables : ImageTables) (edits : List GuestEdit) (image : Image) (index c : ℕ)
+pub none-there : (tables : ImageTables) (edits : List GuestEdit) (image : Image) (index c : ℕ)
     → named_cluster tables.header.v2.cluster_bits (slice_index tables.l1 index) ≡ None
     → (gained_at tables edits image c index ≡ 0) × (lost_at tables edits image c index ≡ 0)
 none-there tables edits image index c missing =

@@ -8,7 +8,7 @@ use Rattle.qcow2_metadata.specs.Header.{HeaderRecord}
 use Rattle.qcow2_apply.specs.Blocks.{FollowsChanges, StopsFollowing, blocks}
 use Rattle.qcow2_apply.specs.Passes.{ArePlacesApart, IsOutside, PassBreaksOff, Passes, Places}
 use Rattle.qcow2_metadata.specs.Results.{IsFromOutside}
-use Rattle.qcow2_apply.specs.Plan.{IsPlanOf, RefusesEdits}
+use Rattle.qcow2_apply.specs.Plan.{IsPlanFor, IsPlanOf, RefusesEdits}
 use Rattle.qcow2_metadata.specs.Header.Open.{without_autoclear}
 use Rattle.qcow2_apply.specs.PlannedChanges.{CannotCount}
 use Rattle.qcow2_apply.specs.PlannedTables.{counter_tables, tables_refusal}
@@ -79,4 +79,5 @@ pub record FollowsPlan (header : HeaderRecord) (edits : List GuestEdit) (plan : 
 -- edits of a disk ended in this answer: they were refused, and no byte changed, or they were planned and made
 pub data EditsDisk (header : HeaderRecord) (edits : List GuestEdit) (answer : Result (Unit {0}) Fault) (old new : Image) : Type 0 where
   Refuses : IfErr answer (λ fault. IsFromOutside fault ⊎ RefusesEdits header edits old fault) → IsErr answer → new ≡ old → EditsDisk header edits answer old new
-  Makes : (plan : Plan) → IsPlanOf header edits old plan → FollowsPlan header edits plan answer old new → EditsDisk header edits answer old new
+  Makes : (plan : Plan) → IsPlanFor header edits plan → IsPlanOf header edits old plan → FollowsPlan header edits plan answer old new
+      → EditsDisk header edits answer old new

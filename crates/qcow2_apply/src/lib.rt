@@ -5,6 +5,7 @@ mod apply;
 mod blocks;
 mod changes;
 mod guest_edits;
+pub mod laws;
 mod mapped_clusters;
 mod plan;
 mod planned_changes;

@@ -22,7 +22,7 @@ returns-in_err-clear_autoclear-clause-edited g c =
     let known : IsTrue planned.tells = search rules in
     let same : planned.byte_at ≡ before.byte_at = search rules in
     let clears = subst (λ bytes. SameOutside 88 8 bytes cleared.byte_at) same (c.clear_autoclear.ensures.written.storage.others known) in
-    Makes c.in_ok-plan.plan (c.in_ok-plan.ensures.planned told)
+    Makes c.in_ok-plan.plan c.in_ok-plan.ensures.plan (c.in_ok-plan.ensures.planned told)
     (cut-short c.args.header.now c.args.edits.now c.in_ok-plan.plan c.in_err-clear_autoclear.field-0.0 before.byte_at cleared.byte_at clears
     (λ none. ap (λ s. (g.S.Storage.state s).byte_at) (c.clear_autoclear.ensures.idle none).1 ∙ same) (inr c.in_err-clear_autoclear.ensures.written.faults)))
 
@@ -38,7 +38,7 @@ returns-in_err-sync-clause-edited g c =
     let same : planned.byte_at ≡ before.byte_at = search rules in
     let last : synced.byte_at ≡ cleared.byte_at = search rules in
     let clears = subst (λ bytes. SameOutside 88 8 bytes cleared.byte_at) same (c.clear_autoclear.ensures.written.storage.others known) in
-    Makes c.in_ok-plan.plan (c.in_ok-plan.ensures.planned told)
+    Makes c.in_ok-plan.plan c.in_ok-plan.ensures.plan (c.in_ok-plan.ensures.planned told)
     (cut-short c.args.header.now c.args.edits.now c.in_ok-plan.plan exit.0 before.byte_at synced.byte_at (rw last clears)
     (λ none. last ∙ ap (λ s. (g.S.Storage.state s).byte_at) (c.clear_autoclear.ensures.idle none).1 ∙ same) (inr exit.2)))
 
@@ -53,7 +53,7 @@ returns-clause-edited g c = λ told.
     let same : planned.byte_at ≡ before.byte_at = search rules in
     let last : synced.byte_at ≡ cleared.byte_at = search rules in
     let clears = subst (λ bytes. SameOutside 88 8 bytes cleared.byte_at) same (c.clear_autoclear.ensures.written.storage.others known) in
-    Makes c.in_ok-plan.plan (c.in_ok-plan.ensures.planned told)
+    Makes c.in_ok-plan.plan c.in_ok-plan.ensures.plan (c.in_ok-plan.ensures.planned told)
     (follows-plan c.args.header.now c.clear_autoclear.new.self c.args.edits.now c.in_ok-plan.plan c.make.result before synced (g.S.Storage.state c.make.new.image)
     c.in_ok-clear_autoclear.ensures.header at_end (rw last clears)
     (λ none. last ∙ ap (λ s. (g.S.Storage.state s).byte_at) (c.clear_autoclear.ensures.idle none).1 ∙ same) (c.in_ok-plan.ensures.planned told)

@@ -1,0 +1,26 @@
+//! Laws: facts about the definitions that contracts name. Each is a function that does nothing. Its
+//! contract is the law, and its name says it.
+
+ghost use Rattle.std.specs.Prelude.{◌≡◌, ℕ, ◌+◌, List, Ok};
+ghost use Rattle.qcow2_base.specs.Storage.{Image};
+ghost use Rattle.qcow2_metadata.specs.Header.{HeaderRecord, IsValidHeader};
+ghost use Rattle.qcow2_check.specs.Uses.{image_uses, uses_of};
+ghost use Rattle.qcow2_apply.specs.Apply.{AreAllApart, FollowsPlan, plan_tables};
+ghost use Rattle.qcow2_apply.specs.Blocks.{HasCounter, counter_of_cluster};
+ghost use Rattle.qcow2_apply.specs.Plan.{IsPlanFor, IsPlanOf};
+ghost use Rattle.qcow2_apply.specs.PlannedTables.{counter_tables};
+ghost use Rattle.qcow2_apply.specs.declared.guest_edits.GuestEdit.{GuestEdit};
+ghost use Rattle.qcow2_apply.specs.declared.plan.Plan.{Plan};
+
+/// Where edits of a disk were made in an image whose tables and blocks are apart, at each cluster that has a
+/// counter, this and the uses before are together as many as the counter before and the uses after. So a
+/// counter that was right is right, and one that was at least the uses is so still.
+pub fn counters_follow_uses_of_clusters()
+    ensures { (header : HeaderRecord) (edits : List GuestEdit) (plan : Plan) (old new : Image) →
+        IsValidHeader header → IsPlanFor header edits plan → IsPlanOf header edits old plan →
+        FollowsPlan header edits plan (Ok tt) old new → AreAllApart (plan_tables header plan) →
+        let tables = plan_tables header plan in
+        (c : ℕ) → HasCounter (counter_tables tables) c →
+        counter_of_cluster (counter_tables tables) new c + uses_of (image_uses tables old) c
+        ≡ counter_of_cluster (counter_tables tables) old c + uses_of (image_uses tables new) c }
+{}
