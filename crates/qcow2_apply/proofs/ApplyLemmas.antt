@@ -101,14 +101,14 @@ losses-count tables gains losses old gained edited orders bytes sorted count fol
 ]
 
 -- a pass over tables keeps counters
-pub counters-stay : (tables : ImageTables) (edits : List GuestEdit) (old new : Image) → IsClusterBits tables.header.v2.cluster_bits → tables.header.base.refcount_order ≤ 6
-    → AreAllApart tables → Passes (l2_tables_of tables) (IsEdited tables.header edits) old new → (c : ℕ) → HasCounter (counter_tables tables) c
+pub counters-stay : (tables : ImageTables) (old new : Image) → IsClusterBits tables.header.v2.cluster_bits → tables.header.base.refcount_order ≤ 6
+    → AreAllApart tables → ((o : ℕ) → IsOutside (l2_tables_of tables) o → new o ≡ old o) → (c : ℕ) → HasCounter (counter_tables tables) c
     → counter_of_cluster (counter_tables tables) new c ≡ counter_of_cluster (counter_tables tables) old c
-counters-stay tables edits old new bits orders apart passes c has =
+counters-stay tables old new bits orders apart others c has =
     let state = counter_tables tables in
     let found = block-of state c has in
     let same = of-blocks.are-of-clusters state bits orders found.0 old new
-    (λ o here. passes.others o (λ i table names at. apart.both_apart i (c / counters_each tables.header) found.0
+    (λ o here. others o (λ i table names at. apart.both_apart i (c / counters_each tables.header) found.0
     (subst (λ cluster. (l2_tables_of tables).place i ≡ Some cluster) (same-cluster table found.0 (sym at ∙ here)) names) found.1)) in
     counter-here state found.0 new c found.1 ∙ ap (λ (numbers : List ℕ). slice_index numbers (c % counters_each tables.header)) same ∙ sym (counter-here state found.0 old c found.1)
 
@@ -276,7 +276,7 @@ reports-then answer a b d same device other = record {
 }
 
 -- a table is the same where only blocks changed
-table-outside-blocks : (tables : ImageTables) (old new : Image) (i : ℕ) (table : HostCluster) → IsClusterBits tables.header.v2.cluster_bits → AreAllApart tables
+pub table-outside-blocks : (tables : ImageTables) (old new : Image) (i : ℕ) (table : HostCluster) → IsClusterBits tables.header.v2.cluster_bits → AreAllApart tables
     → ((o : ℕ) → IsOutside (refblocks_of tables) o → new o ≡ old o) → (l2_tables_of tables).place i ≡ Some table
     → numbers_at (l2_layout (geometry_of tables.header)) table new ≡ numbers_at (l2_layout (geometry_of tables.header)) table old
 table-outside-blocks tables old new i table bits apart others names = of-tables.are-of-clusters tables.header tables.l1 bits table old new
@@ -284,7 +284,7 @@ table-outside-blocks tables old new i table bits apart others names = of-tables.
     (subst (λ cluster. (refblocks_of tables).place j ≡ Some cluster) (same-cluster block table (sym at ∙ here)) named)))
 
 -- and whatever the header's field of autoclear features is
-table-cleared : (tables : ImageTables) (old new : Image) (i : ℕ) (table : HostCluster) → IsClusterBits tables.header.v2.cluster_bits → AreAllApart tables
+pub table-cleared : (tables : ImageTables) (old new : Image) (i : ℕ) (table : HostCluster) → IsClusterBits tables.header.v2.cluster_bits → AreAllApart tables
     → SameOutside 88 8 old new → (l2_tables_of tables).place i ≡ Some table
     → numbers_at (l2_layout (geometry_of tables.header)) table new ≡ numbers_at (l2_layout (geometry_of tables.header)) table old
 table-cleared tables old new i table bits apart cleared names = of-tables.are-of-clusters tables.header tables.l1 bits table old new
@@ -311,6 +311,6 @@ pub counter-left : (tables : ImageTables) (edits : List GuestEdit) (gains losses
 counter-left tables edits gains losses old cleared new c bits orders apart clears sorted applied has =
     let first = counters-cleared tables old cleared bits orders apart clears c has in
     let gained = applied.gains_counted.followed c has in
-    let same = counters-stay tables edits applied.gained applied.edited bits orders apart applied.tables_edited c has in
+    let same = counters-stay tables applied.gained applied.edited bits orders apart applied.tables_edited.others c has in
     let lost = applied.losses_counted.followed c has in
     omega (arith, first, gained, same, lost, sorted.no_loss c, sorted.no_gain c)

@@ -1,4 +1,4 @@
-use Rattle.std.proofs.Common.{◌≡◌, ◌≢◌, ℕ, zero, suc, Bool, true, false, ◌+◌, ◌/◌, ◌^◌, ◌<◌, List, [], ◌∷◌, ◌++◌, length, map, slice_index, Option, None, Some, Ok, option_to_list, option_map, if◌then◌else◌, unwrap_or, ap, refl, subst, sym, ◌∙◌, inl, inr, arith}
+use Rattle.std.proofs.Common.{◌≡◌, ◌≢◌, ℕ, zero, suc, Bool, true, false, ◌+◌, ◌/◌, ◌^◌, ◌<◌, ◌≤◌, ◌⊎◌, List, [], ◌∷◌, ◌++◌, length, map, slice_index, Option, None, Some, Ok, option_to_list, option_map, if◌then◌else◌, unwrap_or, ap, refl, subst, sym, ◌∙◌, inl, inr, arith}
 use Rattle.std.proofs.lemmas.List.Sums.{sum_by-append}
 use Rattle.std.specs.List.{All, flat_map, list_all, range_with_len, sum_by}
 use Rattle.qcow2_base.specs.Storage.{Image}
@@ -22,13 +22,13 @@ use Rattle.qcow2_check.specs.declared.tally.UseKind.TheVariants.{Guest, L2Table}
 use Rattle.qcow2_apply.proofs.PlannedTablesLemmas.{none-there, run-at}
 use Rattle.qcow2_apply.proofs.TablesLemmas.{edits-made}
 use Rattle.qcow2_apply.proofs.ApplyLemmas.{counter-left, table-left}
-use Rattle.qcow2_apply.specs.Apply.{AreAllApart, FollowsPlan, plan_tables}
+use Rattle.qcow2_apply.specs.Apply.{AreAllApart, FollowsPlan, l2_tables_of, plan_tables}
 use Rattle.qcow2_apply.specs.Blocks.{HasCounter, counter_of_cluster}
 use Rattle.qcow2_apply.specs.GuestEdits.{edits_in}
 use Rattle.qcow2_apply.specs.Plan.{IsPlanFor, IsPlanOf}
 use Rattle.qcow2_apply.specs.declared.plan.Plan.{Plan}
 use Rattle.qcow2_apply.specs.PlannedTables.{counter_tables, gained_at, gained_before, lost_at, lost_before, run_gains, run_losses}
-use Rattle.qcow2_apply.specs.Tables.{AllFit, AreMade, run_in}
+use Rattle.qcow2_apply.specs.Tables.{AllFit, AreMade, IsEdited, run_in}
 use Rattle.qcow2_apply.specs.declared.guest_edits.GuestEdit.{GuestEdit}
 
 -- the uses of a cluster by two lists
@@ -184,3 +184,90 @@ books header edits plan old new c valid for of follows apart has =
     let gained = of.changes.gained_is c in
     let lost = of.changes.lost_is c in
     omega (arith, counter, uses, gained, lost)
+
+-- a table that has its numbers, or those that edits leave
+abbrev pub HasOldOrNew : ImageTables → List GuestEdit → Image → Image → Type 0
+HasOldOrNew tables edits old new = (i : ℕ) (table : HostCluster) → (l2_tables_of tables).place i ≡ Some table →
+    (numbers_at (l2_layout (geometry_of tables.header)) table new ≡ numbers_at (l2_layout (geometry_of tables.header)) table old)
+    ⊎ IsEdited tables.header edits i (numbers_at (l2_layout (geometry_of tables.header)) table old) (numbers_at (l2_layout (geometry_of tables.header)) table new)
+
+-- uses by the same numbers are the same
+same-uses : (g : Geometry) (old new : Image) (v : ℕ)
+    → ((table : HostCluster) → named_cluster g.cluster_bits v ≡ Some table → numbers_at (l2_layout g) table new ≡ numbers_at (l2_layout g) table old)
+    → l1_entry_uses g new v ≡ l1_entry_uses g old v
+same-uses g old new v same = by_table (named_cluster g.cluster_bits v) refl
+  where
+    by_table : (found : Option HostCluster) → named_cluster g.cluster_bits v ≡ found → l1_entry_uses g new v ≡ l1_entry_uses g old v
+    by_table None is = l1-entry-is g new v None is ∙ sym (l1-entry-is g old v None is)
+    by_table (Some table) is = l1-entry-is g new v (Some table) is
+        ∙ ap (λ numbers. used_clusters L2Table table 1 ∷ flat_map (entry_uses g) numbers) (same table is) ∙ sym (l1-entry-is g old v (Some table) is)
+
+-- an L1 entry uses a cluster at most as often as before and as edits give
+entry-at-most : (tables : ImageTables) (edits : List GuestEdit) (old new : Image) (c i : ℕ) → IsClusterBits tables.header.v2.cluster_bits
+    → uses_external_data tables.header ≡ false → AllFit tables.header edits → HasOldOrNew tables edits old new
+    → uses_of (l1_entry_uses (geometry_of tables.header) new (slice_index tables.l1 i)) c
+    ≤ uses_of (l1_entry_uses (geometry_of tables.header) old (slice_index tables.l1 i)) c + gained_at tables edits old c i
+entry-at-most tables edits old new c i bits own fit either = by_table (named_cluster tables.header.v2.cluster_bits (slice_index tables.l1 i)) refl
+  where
+    g : Geometry
+    g = geometry_of tables.header
+
+    At : Type 0
+    At = uses_of (l1_entry_uses g new (slice_index tables.l1 i)) c ≤ uses_of (l1_entry_uses g old (slice_index tables.l1 i)) c + gained_at tables edits old c i
+
+    by_table : (found : Option HostCluster) → named_cluster tables.header.v2.cluster_bits (slice_index tables.l1 i) ≡ found → At
+    by_table None is =
+        let same = same-uses g old new (slice_index tables.l1 i) (λ table names. absurd (grind (arith, is, names))) in
+        omega (arith, ap (λ uses. uses_of uses c) same)
+    by_table (Some table) is = elim (either i table is) [
+      | inl kept ↦
+          let same = same-uses g old new (slice_index tables.l1 i) (λ other names.
+          subst (λ t. numbers_at (l2_layout g) t new ≡ numbers_at (l2_layout g) t old) (the-same table other (sym is ∙ names)) kept) in
+          omega (arith, ap (λ uses. uses_of uses c) same)
+      | inr edited ↦
+          let balance = entry-balances tables edits old new c i bits own fit (λ other names.
+          subst (λ t. IsEdited tables.header edits i (numbers_at (l2_layout g) t old) (numbers_at (l2_layout g) t new)) (the-same table other (sym is ∙ names)) edited) in
+          omega (arith, balance)
+    ]
+      where
+        the-same : (a b : HostCluster) → Some a ≡ Some b → a ≡ b
+        the-same a b same = grind (arith, same)
+
+-- sums that are at most others, item by item
+sums-at-most : (a b d : ℕ → ℕ) (items : List ℕ) → ((i : ℕ) → a i ≤ b i + d i) → sum_by a items ≤ sum_by b items + sum_by d items
+sums-at-most a b d [] each = omega arith
+sums-at-most a b d (i ∷ items) each = omega (arith, each i, sums-at-most a b d items each, sum-cons a i items, sum-cons b i items, sum-cons d i items)
+
+-- an image uses a cluster at most as often as before and as edits give, whichever tables they were made of
+pub uses-at-most : (tables : ImageTables) (edits : List GuestEdit) (old new : Image) (c : ℕ) → IsClusterBits tables.header.v2.cluster_bits
+    → uses_external_data tables.header ≡ false → AllFit tables.header edits → HasOldOrNew tables edits old new
+    → uses_of (image_uses tables new) c ≤ uses_of (image_uses tables old) c + gained_before tables edits old (length tables.l1) c
+uses-at-most tables edits old new c bits own fit either =
+    let g = geometry_of tables.header in
+    let fixed = header_uses tables.header in
+    let blocks = flat_map (block_uses tables.header.v2.cluster_bits) tables.reftable in
+    let after = uses-append fixed (blocks ++ flat_map (l1_entry_uses g new) tables.l1) c in
+    let after' = uses-append blocks (flat_map (l1_entry_uses g new) tables.l1) c in
+    let before = uses-append fixed (blocks ++ flat_map (l1_entry_uses g old) tables.l1) c in
+    let before' = uses-append blocks (flat_map (l1_entry_uses g old) tables.l1) c in
+    let sums = sums-at-most (λ i. uses_of (l1_entry_uses g new (slice_index tables.l1 i)) c) (λ i. uses_of (l1_entry_uses g old (slice_index tables.l1 i)) c)
+    (gained_at tables edits old c) (range_with_len 0 (length tables.l1)) (λ i. entry-at-most tables edits old new c i bits own fit either) in
+    omega (arith, after, after', before, before', list-uses (l1_entry_uses g new) tables.l1 c, list-uses (l1_entry_uses g old) tables.l1 c, sums)
+
+-- and just as often where no table changed
+pub uses-same : (tables : ImageTables) (old new : Image) (c : ℕ)
+    → ((i : ℕ) (table : HostCluster) → (l2_tables_of tables).place i ≡ Some table →
+    numbers_at (l2_layout (geometry_of tables.header)) table new ≡ numbers_at (l2_layout (geometry_of tables.header)) table old)
+    → uses_of (image_uses tables new) c ≡ uses_of (image_uses tables old) c
+uses-same tables old new c same =
+    let g = geometry_of tables.header in
+    let fixed = header_uses tables.header in
+    let blocks = flat_map (block_uses tables.header.v2.cluster_bits) tables.reftable in
+    let after = uses-append fixed (blocks ++ flat_map (l1_entry_uses g new) tables.l1) c in
+    let after' = uses-append blocks (flat_map (l1_entry_uses g new) tables.l1) c in
+    let before = uses-append fixed (blocks ++ flat_map (l1_entry_uses g old) tables.l1) c in
+    let before' = uses-append blocks (flat_map (l1_entry_uses g old) tables.l1) c in
+    let sums = sums-balance (λ i. uses_of (l1_entry_uses g new (slice_index tables.l1 i)) c) (λ _. 0)
+    (λ i. uses_of (l1_entry_uses g old (slice_index tables.l1 i)) c) (λ _. 0) (range_with_len 0 (length tables.l1))
+    (λ i. ap (λ uses. uses_of uses c + 0) (same-uses g old new (slice_index tables.l1 i) (same i))) in
+    omega (arith, after, after', before, before', list-uses (l1_entry_uses g new) tables.l1 c, list-uses (l1_entry_uses g old) tables.l1 c, sums)

@@ -1,6 +1,7 @@
 pub mod ApplyLemmas
 pub mod BlocksLemmas
 pub mod BooksLemmas
+pub mod BrokenLemmas
 pub mod ChangesLemmas
 pub mod GuestEditsLemmas
 pub mod MappedClustersLemmas

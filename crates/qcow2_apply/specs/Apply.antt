@@ -1,12 +1,12 @@
 -- What do edits of a disk leave of an image, with its tables and counters, and what is left where they break off?
-use Rattle.std.specs.Prelude.{◌≡◌, ◌≢◌, ◌⊎◌, ◌<◌, ℕ, List, Some, None, Result, IfErr, IsErr, MatchResult}
+use Rattle.std.specs.Prelude.{◌≡◌, ◌≢◌, ◌⊎◌, ◌<◌, ◌≤◌, ℕ, List, Some, None, Result, IfErr, IsErr, MatchResult}
 use Rattle.qcow2_base.specs.Storage.{Image, SameOutside}
 use Rattle.qcow2_base.specs.declared.fault.Fault.{Fault}
 use Rattle.qcow2_base.specs.declared.types.HostCluster.{HostCluster}
-use Rattle.qcow2_check.specs.Uses.{ImageTables, image_tables}
+use Rattle.qcow2_check.specs.Uses.{ImageTables, image_tables, image_uses, uses_of}
 use Rattle.qcow2_metadata.specs.Header.{HeaderRecord}
-use Rattle.qcow2_apply.specs.Blocks.{FollowsChanges, StopsFollowing, blocks}
-use Rattle.qcow2_apply.specs.Passes.{ArePlacesApart, IsOutside, PassBreaksOff, Passes, Places}
+use Rattle.qcow2_apply.specs.Blocks.{FollowsChanges, HasCounter, StopsFollowing, blocks, counter_of_cluster}
+use Rattle.qcow2_apply.specs.Passes.{ArePlacesApart, IsOutside, PassBreaksOff, Passes, Places, TearsOne}
 use Rattle.qcow2_metadata.specs.Results.{IsFromOutside}
 use Rattle.qcow2_apply.specs.Plan.{IsPlanFor, IsPlanOf, RefusesEdits}
 use Rattle.qcow2_metadata.specs.Header.Open.{without_autoclear}
@@ -81,3 +81,15 @@ pub data EditsDisk (header : HeaderRecord) (edits : List GuestEdit) (answer : Re
   Refuses : IfErr answer (λ fault. IsFromOutside fault ⊎ RefusesEdits header edits old fault) → IsErr answer → new ≡ old → EditsDisk header edits answer old new
   Makes : (plan : Plan) → IsPlanFor header edits plan → IsPlanOf header edits old plan → FollowsPlan header edits plan answer old new
       → EditsDisk header edits answer old new
+
+-- one write was torn, of a table or of a block
+abbrev pub TearsTableOrBlock : ImageTables → Image → Image → Type 0
+TearsTableOrBlock tables old new = TearsOne (l2_tables_of tables) old new ⊎ TearsOne (refblocks_of tables) old new
+
+-- the counter of cluster c is at least its uses
+abbrev pub IsCovered : ImageTables → Image → ℕ → Type 0
+IsCovered tables image c = uses_of (image_uses tables image) c ≤ counter_of_cluster (counter_tables tables) image c
+
+-- counters that were at least the uses are so
+abbrev pub StayCovered : ImageTables → Image → Image → Type 0
+StayCovered tables old new = (c : ℕ) → HasCounter (counter_tables tables) c → IsCovered tables old c → IsCovered tables new c

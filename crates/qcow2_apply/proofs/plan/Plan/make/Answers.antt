@@ -80,5 +80,5 @@ returns-clause-fault g c = λ apart.
     losses-count state plan.gains plan.losses before.byte_at counted.byte_at edited.byte_at orders (g.met.S.Storage.byte_fits c.edit_tables.new.image)
     c.requires.plan.changes (count-cleared state plan.gains plan.losses first before.byte_at (counters-cleared tables first before.byte_at bits orders apart cleared)
     can.counters_count) (c.in_ok-follow_changes.ensures.followed apart.blocks_apart told)
-    (counters-stay tables c.args.edits.now counted.byte_at edited.byte_at bits orders apart (c.in_ok-edit_tables.ensures.edited apart.tables_apart listed)) stuck)
+    (counters-stay tables counted.byte_at edited.byte_at bits orders apart (c.in_ok-edit_tables.ensures.edited apart.tables_apart listed).others) stuck)
     (stuck-where-apart c.follow_changes-2.result edited (SomeIsStuck state plan.losses) (ArePlacesApart (blocks state)) apart.blocks_apart c.follow_changes-2.ensures.fault)
