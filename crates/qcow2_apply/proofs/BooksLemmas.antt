@@ -88,7 +88,7 @@ table-balances header edits numbers c bits full made =
 
 -- the uses by an L1 entry, by the cluster that it names
 l1-entry-is : (g : Geometry) (image : Image) (v : ℕ) (found : Option HostCluster) → named_cluster g.cluster_bits v ≡ found
-    → l1_entry_uses g image v ≡ elim found [ | None ↦ [] | Some cluster ↦ table_uses g cluster image ]
+    → l1_entry_uses g image v ≡ elim found [ None ↦ [] | Some cluster ↦ table_uses g cluster image ]
 l1-entry-is g image v found is = rw (is, l1_entry_uses) refl
 
 -- the same of the uses by an L1 entry
@@ -134,8 +134,13 @@ sums-balance a b d e (i ∷ items) each =
 sum-shift : (f : ℕ → ℕ) (from n : ℕ) → sum_by f (range_with_len (from + 1) n) ≡ sum_by (λ i. f (suc i)) (range_with_len from n)
 sum-shift f from zero = refl
 sum-shift f from (suc n) = let same : from + 1 ≡ suc from = omega arith in
-    omega (arith, ap f same, sum-shift f (from + 1) n, sum-cons f (from + 1) (range_with_len (from + 1 + 1) n),
-    sum-cons (λ i. f (suc i)) from (range_with_len (from + 1) n))
+    omega (
+      arith,
+      ap f same,
+      sum-shift f (from + 1) n,
+      sum-cons f (from + 1) (range_with_len (from + 1 + 1) n),
+      sum-cons (λ i. f (suc i)) from (range_with_len (from + 1) n),
+    )
 
 -- what a list uses is summed over its indices
 list-uses : (uses : ℕ → List ClusterUse) (items : List ℕ) (c : ℕ)
@@ -143,8 +148,12 @@ list-uses : (uses : ℕ → List ClusterUse) (items : List ℕ) (c : ℕ)
 list-uses uses [] c = refl
 list-uses uses (v ∷ items) c =
     uses-append (uses v) (flat_map uses items) c
-    ∙ omega (arith, list-uses uses items c, sum-shift (λ i. uses_of (uses (slice_index (v ∷ items) i)) c) 0 (length items),
-    sum-cons (λ i. uses_of (uses (slice_index (v ∷ items) i)) c) 0 (range_with_len 1 (length items)))
+    ∙ omega (
+      arith,
+      list-uses uses items c,
+      sum-shift (λ i. uses_of (uses (slice_index (v ∷ items) i)) c) 0 (length items),
+      sum-cons (λ i. uses_of (uses (slice_index (v ∷ items) i)) c) 0 (range_with_len 1 (length items)),
+    )
 
 -- at each cluster, the uses after edits and what these take away are the uses before and what they give
 pub uses-balance : (tables : ImageTables) (edits : List GuestEdit) (old new : Image) (c : ℕ) → IsClusterBits tables.header.v2.cluster_bits

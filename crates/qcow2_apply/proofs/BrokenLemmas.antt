@@ -20,11 +20,11 @@ use Rattle.qcow2_apply.specs.declared.plan.Plan.{Plan}
 -- a write that was torn is one of a table or of a block
 tears-block : (tables : ImageTables) (fault : Fault) (old new : Image) → TearsAtMost fault (TearsOne (refblocks_of tables)) old new
     → TearsAtMost fault (TearsTableOrBlock tables) old new
-tears-block tables fault old new tears = record { whole = tears.whole; torn = elim tears.torn [ | inl same ↦ inl same | inr torn ↦ inr (inr torn) ] }
+tears-block tables fault old new tears = record { whole = tears.whole; torn = elim tears.torn [ inl same ↦ inl same | inr torn ↦ inr (inr torn) ] }
 
 tears-table : (tables : ImageTables) (fault : Fault) (old new : Image) → TearsAtMost fault (TearsOne (l2_tables_of tables)) old new
     → TearsAtMost fault (TearsTableOrBlock tables) old new
-tears-table tables fault old new tears = record { whole = tears.whole; torn = elim tears.torn [ | inl same ↦ inl same | inr torn ↦ inr (inl torn) ] }
+tears-table tables fault old new tears = record { whole = tears.whole; torn = elim tears.torn [ inl same ↦ inl same | inr torn ↦ inr (inl torn) ] }
 
 -- where edits of a disk broke off, but for a torn write counters that were at least the uses are so
 pub stay-covered : (header : HeaderRecord) (edits : List GuestEdit) (plan : Plan) (fault : Fault) (old new : Image) → IsValidHeader header
