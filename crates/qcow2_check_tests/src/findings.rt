@@ -45,6 +45,9 @@ const FOUND: &[Found<'static>] = rows! { Found:
         changes: &[(NEXT_ENTRY, 2560), (BLOCK + 8, 0x0001_0002_0000_0000)], findings: &[] },
     { name: "an L2 table that two entries name", changes: &[(NEXT_TABLE, L2_TABLE)],
         findings: found! { 4 counter 1 uses 2 shared false, 5 counter 1 uses 2 shared false } },
+};
+
+const SHARED: &[Found<'static>] = rows! { Found:
     // clusters whose uses exclude each other, whatever the counter says
     { name: "data in the L1 table", changes: &[(NEXT_ENTRY, 512), (BLOCK, 0x0001_0002_0001_0001)],
         findings: found! { 1 counter 2 uses 2 shared true } },
@@ -67,6 +70,9 @@ const FOUND: &[Found<'static>] = rows! { Found:
         findings: found! { 0 counter 0 uses 1 shared false, 1 counter 0 uses 1 shared false,
             2 counter 0 uses 1 shared false, 4 counter 0 uses 1 shared false,
             5 counter 0 uses 1 shared false } },
+};
+
+const REFERRED: &[Found<'static>] = rows! { Found:
     // compressed data of one sector, and of two that begin one byte after cluster 6 does
     { name: "compressed data", changes: &[(NEXT_ENTRY, 1 << 62 | 3072)],
         findings: found! { 6 counter 0 uses 1 shared false } },
@@ -101,6 +107,16 @@ fn check_found(alloc: Global, row: Found<'_>) -> Result<(), Fail> {
 #[test]
 fn findings_are_the_clusters_whose_counter_or_uses_are_wrong(rt: HostRuntime) -> Result<(), Fail> {
     each(rt.alloc(), FOUND, check_found)
+}
+
+#[test]
+fn a_cluster_whose_uses_exclude_each_other_is_found(rt: HostRuntime) -> Result<(), Fail> {
+    each(rt.alloc(), SHARED, check_found)
+}
+
+#[test]
+fn all_clusters_are_found_that_entries_refer_to(rt: HostRuntime) -> Result<(), Fail> {
+    each(rt.alloc(), REFERRED, check_found)
 }
 
 #[derive(Clone, Copy)]

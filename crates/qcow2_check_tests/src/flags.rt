@@ -66,6 +66,9 @@ const WRONG: &[Wrong<'static>] = rows! { Wrong:
     { name: "a table with two references",
         changes: &[(L1_TABLE, L2_TABLE), (COUNTERS, 0x0002_0001_0000_0000)], flags: &[] },
     { name: "no table, with the flag", changes: &[(NEXT_TABLE, COPIED)], flags: &[] },
+};
+
+const WRONG_OF_DATA: &[Wrong<'static>] = rows! { Wrong:
     // a standard L2 entry
     { name: "data that says it has one reference of none", changes: &[(COUNTERS, 0x0001_0000_0000_0000)],
         flags: wrong! { offset 1536 cluster 5 set true counter Some(0) } },
@@ -96,6 +99,9 @@ const WRONG: &[Wrong<'static>] = rows! { Wrong:
     { name: "compressed data with one reference",
         changes: &[(NEXT_ENTRY, 1 << 62 | 3072), (COUNTERS, 0x0001_0001_0001_0000)], flags: &[] },
     { name: "no data, with the flag", changes: &[(NEXT_ENTRY, COPIED)], flags: &[] },
+};
+
+const WRONG_OF_SOME: &[Wrong<'static>] = rows! { Wrong:
     // an external data file, where each cluster of data has one reference, that at offset 0 too
     { name: "data in another file", changes: &[EXTERNAL, (COUNTERS, 0x0001_0000_0000_0000)], flags: &[] },
     { name: "data in another file without the flag", changes: &[EXTERNAL, (DATA_ENTRY, 2560)],
@@ -136,4 +142,16 @@ fn wrong_flags_are_those_that_the_counter_of_the_cluster_denies(
     rt: HostRuntime,
 ) -> Result<(), Fail> {
     each(rt.alloc(), WRONG, check_wrong)
+}
+
+#[test]
+fn wrong_flags_of_data_are_told_by_their_offset(rt: HostRuntime) -> Result<(), Fail> {
+    each(rt.alloc(), WRONG_OF_DATA, check_wrong)
+}
+
+#[test]
+fn wrong_flags_are_told_in_their_order_and_beside_another_file(
+    rt: HostRuntime,
+) -> Result<(), Fail> {
+    each(rt.alloc(), WRONG_OF_SOME, check_wrong)
 }

@@ -58,7 +58,15 @@ fn header_of<S: Storage>(alloc: Global, image: &mut S) -> Result<Header, Fault> 
 /// All findings of an image, in order, the first hundred of them at most.
 pub(crate) fn findings_of<S: Storage>(alloc: Global, image: &mut S) -> Result<Vec<Finding>, Fault> {
     let header = header_of(alloc, image)?;
-    let mut findings = Findings::new(alloc, image, &header)?;
+    read_findings(alloc, image, &header)
+}
+
+fn read_findings<S: Storage>(
+    alloc: Global,
+    image: &mut S,
+    header: &Header,
+) -> Result<Vec<Finding>, Fault> {
+    let mut findings = Findings::new(alloc, image, header)?;
     let mut found = Vec::new(alloc);
     for _ in 0..100 {
         let Some(finding) = findings.next(image)? else {
@@ -73,7 +81,15 @@ pub(crate) fn findings_of<S: Storage>(alloc: Global, image: &mut S) -> Result<Ve
 /// reader is called again.
 pub(crate) fn flags_of<S: Storage>(alloc: Global, image: &mut S) -> Result<Vec<WrongFlag>, Fault> {
     let header = header_of(alloc, image)?;
-    let mut flags = Findings::new(alloc, image, &header)?.into_flags();
+    read_flags(alloc, image, &header)
+}
+
+fn read_flags<S: Storage>(
+    alloc: Global,
+    image: &mut S,
+    header: &Header,
+) -> Result<Vec<WrongFlag>, Fault> {
+    let mut flags = Findings::new(alloc, image, header)?.into_flags();
     let mut found = Vec::new(alloc);
     for _ in 0..100 {
         match flags.next(image) {
@@ -93,7 +109,16 @@ pub(crate) fn counters_of<S: Storage>(
     clusters: &[u64],
 ) -> Result<Vec<u64>, Fault> {
     let header = header_of(alloc, image)?;
-    let mut counters = Counters::new(alloc, image, &header)?;
+    read_counters(alloc, image, &header, clusters)
+}
+
+fn read_counters<S: Storage>(
+    alloc: Global,
+    image: &mut S,
+    header: &Header,
+    clusters: &[u64],
+) -> Result<Vec<u64>, Fault> {
+    let mut counters = Counters::new(alloc, image, header)?;
     let mut found = Vec::new(alloc);
     for cluster in clusters {
         found.push(counters.get(image, HostCluster(*cluster))?)?;
