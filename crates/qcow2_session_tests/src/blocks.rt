@@ -20,16 +20,24 @@ const CLUSTER: HostCluster = HostCluster(0);
 /// guest data may be external. These counters are counted up then.
 pub(crate) fn block_of(
     alloc: Global,
-    (bits, order, external): (u32, u32, bool),
+    image: (u32, u32, bool),
     (bytes, counters): (&[u8], Counters<'_>),
     modified: bool,
 ) -> Result<RefBlock, Fault> {
-    let header = header_of(alloc, bits, order, external)?;
-    let mut image = MemStorage::new(Vec::from_slice(alloc, bytes)?);
-    let mut block = load_block(alloc, &mut image, &header, CLUSTER)?;
+    let mut block = loaded(alloc, image, bytes)?;
     count_up(&mut block, counters)?;
     flag(&mut block, modified);
     Ok(block)
+}
+
+fn loaded(
+    alloc: Global,
+    (bits, order, external): (u32, u32, bool),
+    bytes: &[u8],
+) -> Result<RefBlock, Fault> {
+    let header = header_of(alloc, bits, order, external)?;
+    let mut image = MemStorage::new(Vec::from_slice(alloc, bytes)?);
+    load_block(alloc, &mut image, &header, CLUSTER)
 }
 
 // Sets or clears the flag.

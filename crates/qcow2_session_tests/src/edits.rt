@@ -56,6 +56,9 @@ const ROWS: &[Row<'static>] = rows! {
         expected: Ok(outcome!([0], [])), after: (3, &[COPIED + 1]), ..ROW },
     Row { name: "no cluster 0 in the image", before: (3, &[COPIED]), edits: &[KEEP, TO_5],
         expected: Ok(outcome!([5], [])), ..ROW },
+};
+
+const OF_COMPRESSED: &[Row<'static>] = rows! {
     // compressed data in its own cluster, and in three clusters, which zeros can't keep
     Row { name: "its own", cluster_bits: 16, before: (3, &[0x4040_0000_0001_0010]), edits: &[TO_1],
         after: (3, &[COPIED + 0x1_0000]), ..ROW },
@@ -73,6 +76,9 @@ const ROWS: &[Row<'static>] = rows! {
         before: (0, &[0x7000_0000_0000_0600, 0x4000_0000_0000_0900, COPIED + 0x1400, 0x1800, 0x1801, 0]),
         edits: MIXED, expected: Ok(outcome!([8, 4, 9, 2], [(1, 3), (2, 1), (6, 1), (4, 1), (8, 1)])),
         after: (0, &[0, COPIED + 0x800, COPIED + 0x1400, 0x1801, 0, COPIED + 0x2400]), ..ROW },
+};
+
+const AT_ENDS: &[Row<'static>] = rows! {
     // the last index and the greatest cluster
     Row { name: "the last entry of a table of 512 bytes", before: CLEARED,
         edits: &[map!(63, 0x7fff_ffff_ffff)], expected: Ok(outcome!([0x7fff_ffff_ffff], [])),
@@ -110,8 +116,18 @@ fn check_both(alloc: Global, row: Row<'_>) -> Result<(), Fail> {
 }
 
 #[test]
-fn edits_are_made_one_after_the_other_or_change_nothing(rt: HostRuntime) -> Result<(), Fail> {
+fn edits_are_made_one_after_the_other(rt: HostRuntime) -> Result<(), Fail> {
     each(rt.alloc(), ROWS, check_both)
+}
+
+#[test]
+fn edits_hand_all_clusters_of_compressed_data_back(rt: HostRuntime) -> Result<(), Fail> {
+    each(rt.alloc(), OF_COMPRESSED, check_both)
+}
+
+#[test]
+fn edits_at_the_ends_are_made_and_past_them_change_nothing(rt: HostRuntime) -> Result<(), Fail> {
+    each(rt.alloc(), AT_ENDS, check_both)
 }
 
 // Makes the edits of a row, of a table with this flag.

@@ -4,7 +4,7 @@ use qcow2_base::{ClusterCount, Fault, GuestOffset, HostCluster, MemStorage};
 use qcow2_example::discard;
 use qcow2_metadata::ClustersToFreeEntry;
 use qcow2_session::Outcome;
-use qcow2_testing::{file_holds, image_with, same, temporary_file};
+use qcow2_testing::{TemporaryFile, file_holds, image_with, same, temporary_file};
 use std::alloc::Global;
 use std::test::Fail;
 
@@ -76,15 +76,24 @@ fn check_discard(
     offset: GuestOffset,
     (before, after): (&Image, &Image),
 ) -> Result<Result<Option<Outcome>, Fault>, Fail> {
-    let file = temporary_file(rt, name, image_of(rt.alloc(), before)?.bytes())?;
+    let file = file_of(rt, name, before)?;
     let found = discard(rt, file.path.as_str(), offset);
-    file_holds(
-        rt,
-        file.path.as_str(),
-        image_of(rt.alloc(), after)?.bytes(),
-        name,
-    )?;
+    check_file(rt, file.path.as_str(), after, name)?;
     Ok(found)
+}
+
+fn file_of<'a>(
+    rt: &'a HostRuntime,
+    name: &str,
+    image: &Image,
+) -> Result<TemporaryFile<'a, HostRuntime>, Fail> {
+    let image = image_of(rt.alloc(), image)?;
+    temporary_file(rt, name, image.bytes())
+}
+
+fn check_file(rt: &HostRuntime, path: &str, image: &Image, name: &str) -> Result<(), Fail> {
+    let image = image_of(rt.alloc(), image)?;
+    file_holds(rt, path, image.bytes(), name)
 }
 
 #[test]

@@ -139,19 +139,27 @@ fn make(
     image: &mut FailingStorage<MemStorage>,
     out: &mut FailingOutput,
 ) -> Result<Result<(), Fault>, Fail> {
+    let Line(line) = row.call else {
+        return Ok(make_call(alloc, row, image));
+    };
+    match run_command(alloc, image, line, out)? {
+        Some(answer) => Ok(answer.map(|_| ())),
+        None => Err(row_error(line)),
+    }
+}
+
+// The same of a call that is no line.
+fn make_call(alloc: Global, row: Row, image: &mut FailingStorage<MemStorage>) -> Result<(), Fault> {
     let header = header_of(alloc, row.cluster_bits, 4, false)?;
     let cluster = HostCluster(2);
-    Ok(match row.call {
+    match row.call {
         LoadHeader => load_header(alloc, image, true).map(|_| ()),
         EditImage(edits) => edit_image(alloc, image, &header, cluster, edits).map(|_| ()),
         StepImage(steps) => step_image(alloc, image, &header, cluster, steps).map(|_| ()),
         LookUp(offset) => look_up(alloc, image, offset),
         LookUpImage(offset) => lookup_image(alloc, image, offset).map(|_| ()),
-        Line(line) => match run_command(alloc, image, line, out)? {
-            Some(answer) => answer.map(|_| ()),
-            None => return Err(row_error(line)),
-        },
-    })
+        Line(_) => Err(Fault::WrongLength),
+    }
 }
 
 // Looks an offset up by the header and the L1 table of the sample image.
@@ -185,7 +193,11 @@ fn image_with_writes(alloc: Global, row: Row, calls: &[StorageCall]) -> Result<M
 fn a_refused_call_of_the_storage_leaves_what_was_written_before_it(
     rt: HostRuntime,
 ) -> Result<(), Fail> {
-    each(rt.alloc(), ROWS, check_calls)
+    each(rt.alloc(), all_rows(), check_calls)
+}
+
+fn all_rows() -> &'static [Row] {
+    ROWS
 }
 
 fn check_calls(alloc: Global, row: Row) -> Result<(), Fail> {
@@ -252,7 +264,7 @@ fn check_after(
 fn a_refused_write_of_the_output_comes_after_a_beginning_of_the_text(
     rt: HostRuntime,
 ) -> Result<(), Fail> {
-    each(rt.alloc(), ROWS, check_writes)
+    each(rt.alloc(), all_rows(), check_writes)
 }
 
 fn check_writes(alloc: Global, row: Row) -> Result<(), Fail> {

@@ -1,7 +1,7 @@
 //! A small image, and changes of it.
 
 use qcow2_base::{Fault, MemStorage};
-use qcow2_testing::{image_with, put, same_bytes};
+use qcow2_testing::{image_with, put_all, same_bytes};
 use std::alloc::Global;
 use std::test::Fail;
 
@@ -31,9 +31,7 @@ pub(crate) fn sample_image(
         (size << 1 | 24, COPIED | size << 2 | size),
     ];
     let mut image = image_with(alloc, (size << 1 | size) as usize, &sample)?;
-    for (place, number) in changes {
-        put(&mut image, *place, *number)?;
-    }
+    put_all(&mut image, changes)?;
     Ok(image)
 }
 

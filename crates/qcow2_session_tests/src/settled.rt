@@ -3,12 +3,13 @@
 use crate::blocks::{Counters, block_of, check_counters};
 use crate::sample_image::sample_image;
 use crate::tables::{
-    DATA_5, GONE, KEEP, PAST, References, TO_5, TO_6, check_outcome, check_table, outcome,
+    DATA_5, Entries, GONE, KEEP, PAST, References, TO_5, TO_6, check_outcome, check_table, outcome,
     table_with,
 };
 use End::{Counted, Refused, Unchanged};
 use qcow2_base::{Fault, HostCluster, MemStorage};
 use qcow2_calls::{edit_image, edit_settled, header_of, load_block, settle, write_block};
+use qcow2_metadata::{Header, L2Table, RefBlock};
 use qcow2_session::{Edit, Outcome};
 use qcow2_testing::{each, put_bytes, rows, same, same_bytes};
 use std::alloc::{AllocError, Global};
@@ -79,11 +80,20 @@ const ROWS: &[Row<'static>] = rows! {
         references: outcome!([], [(63, 2)]), end: Counted, after: &[], ..ROW },
     Row { name: "one bit, gained before it is lost", refcount_order: 0, references: outcome!([5], [(5, 1)]),
         end: OUT_OF_RANGE, ..ROW },
+    Row { name: "no cluster", references: outcome!([], [(5, 0)]), ..ROW },
+    Row { name: "an external data file", external: true, references: outcome!([5], [(6, 1)]), end: EXTERNAL,
+        ..ROW },
+    // what was counted up or down before a refusal is put back
+    Row { name: "200 counted down before one that can't be", before: FIRST_200,
+        references: outcome!([0, 1, 2], [(0, 200), (255, 1)]), end: OUT_OF_RANGE, after: FIRST_200, ..ROW },
     // a cluster that gains or loses more than one reference
     Row { name: "gained twice, lost once", refcount_order: 1, references: outcome!([5, 5], [(5, 1)]),
         end: Counted, after: &[(5, 1, 2)], ..ROW },
     Row { name: "lost twice", before: &[(5, 2, 1)], references: outcome!([], [(5, 2), (5, 1)]),
         end: OUT_OF_RANGE, after: &[(5, 2, 1)], ..ROW },
+};
+
+const AT_BORDERS: &[Row<'static>] = rows! {
     // ranges that begin before the block, and that end before it and begin after it
     Row { name: "from before the block on", refcount_order: 6, rt_index: 1, before: ONES,
         references: outcome!([], [(60, 8)]), end: Counted, after: &[(4, 60, 1)], ..ROW },
@@ -101,12 +111,6 @@ const ROWS: &[Row<'static>] = rows! {
         references: outcome!([], [(MAX, 3)]), end: Counted, after: &[(2, 62, 1)], ..ROW },
     Row { name: "64 before 2^64", refcount_order: 6, rt_index: AT_2_TO_THE_64 - 1, before: ONES,
         references: outcome!([], [(MAX, 3)]), end: Counted, after: &[(0, 63, 1)], ..ROW },
-    Row { name: "no cluster", references: outcome!([], [(5, 0)]), ..ROW },
-    // what was counted up or down before a refusal is put back
-    Row { name: "200 counted down before one that can't be", before: FIRST_200,
-        references: outcome!([0, 1, 2], [(0, 200), (255, 1)]), end: OUT_OF_RANGE, after: FIRST_200, ..ROW },
-    Row { name: "an external data file", external: true, references: outcome!([5], [(6, 1)]), end: EXTERNAL,
-        ..ROW },
 };
 
 const FIRST_200: Counters<'static> = &[(0, 200, 1)];
@@ -128,6 +132,11 @@ fn check_both(alloc: Global, row: Row<'_>) -> Result<(), Fail> {
 #[test]
 fn counters_follow_what_clusters_gained_and_lost(rt: HostRuntime) -> Result<(), Fail> {
     each(rt.alloc(), ROWS, check_both)
+}
+
+#[test]
+fn counters_follow_the_clusters_of_their_block_alone(rt: HostRuntime) -> Result<(), Fail> {
+    each(rt.alloc(), AT_BORDERS, check_both)
 }
 
 #[test]
@@ -281,23 +290,23 @@ fn check_settled_edits(
     let image = (9, row.refcount_order, row.external);
     let mut table = table_with(alloc, (9, row.external), (3, &[row.entry]), table_modified)?;
     let mut block = block_of(alloc, image, (&[], row.before), block_modified)?;
-    let header = header_of(alloc, 9, row.refcount_order, row.external)?;
-    let Settled {
-        rt_index,
-        edits,
-        ..
-    } = row;
-    let answer = edit_settled(alloc, &mut table, &mut block, &header, rt_index, edits);
+    let answer = edit_both(alloc, &mut table, &mut block, row);
     check_outcome(answer, row.expected, row.name)?;
-    let is_edited = row.expected.is_ok() && !edits.is_empty();
-    check_table(
-        &table,
-        (3, &[row.entry_after]),
-        table_modified || is_edited,
-        row.name,
-    )?;
+    let is_edited = row.expected.is_ok() && !row.edits.is_empty();
+    let entries: Entries<'_> = (3, &[row.entry_after]);
+    check_table(&table, entries, table_modified || is_edited, row.name)?;
     let block_modified = block_modified || row.counts_some;
     check_counters(&block, row.after, block_modified, row.name)
+}
+
+fn edit_both(
+    alloc: Global,
+    table: &mut L2Table,
+    block: &mut RefBlock,
+    row: Settled,
+) -> Result<Outcome, Fault> {
+    let header = header_of(alloc, 9, row.refcount_order, row.external)?;
+    edit_settled(alloc, table, block, &header, row.rt_index, row.edits)
 }
 
 // The sample image with a refcount block at cluster 3, in which cluster 5 has a reference.
@@ -312,8 +321,17 @@ fn image_with_block(alloc: Global) -> Result<MemStorage, Fail> {
 fn edit_and_settle(alloc: Global, image: &mut MemStorage, edits: &[Edit]) -> Result<(), Fault> {
     let header = header_of(alloc, 9, 4, false)?;
     let outcome = edit_image(alloc, image, &header, HostCluster(2), edits)?;
-    let mut block = load_block(alloc, image, &header, HostCluster(3))?;
-    settle(&mut block, &header, 0, &outcome)?;
+    settle_in(alloc, image, &header, &outcome)
+}
+
+fn settle_in(
+    alloc: Global,
+    image: &mut MemStorage,
+    header: &Header,
+    outcome: &Outcome,
+) -> Result<(), Fault> {
+    let mut block = load_block(alloc, image, header, HostCluster(3))?;
+    settle(&mut block, header, 0, outcome)?;
     write_block(&mut block, image)
 }
 

@@ -5,7 +5,7 @@ use super::run::Ended::{self, Done, Failed, Harmful, Harmless};
 use super::whole_images::{RUN, Run, check_run};
 use crate::failing_output::{FailingOutput, Failure};
 use crate::sample_image::{COPIED, Numbers, check_sample, counted, sample_image};
-use qcow2_base::{Fault, UncountedPart};
+use qcow2_base::{Fault, MemStorage, UncountedPart};
 use qcow2_calls::{check_image, load_header};
 use qcow2_session::Verdict;
 use qcow2_testing::{each, rows, same};
@@ -55,7 +55,7 @@ const DATA: (u64, u64) = (DATA_ENTRY, 0xa00);
 // The greatest offset of a cluster.
 const LAST: u64 = (1 << 56) - 512;
 
-const CHECKED: &[Checked] = rows! { Checked:
+const COUNTED: &[Checked] = rows! { Checked:
     { name: "a consistent image", before: counted! {}, verdict: Verdict::Fine, text: "consistent\n" },
     // counters that are too great
     { name: "a leaked cluster", before: counted! { (COUNTERS_8, 0x0000_0007_0000_0000) },
@@ -92,6 +92,9 @@ const CHECKED: &[Checked] = rows! { Checked:
         verdict: Verdict::Harmful,
         text: "missing 140737488355327 1 0 1\nfalse 0x800 140737488355327 0\n\
             leaked 0 missing 1 shared 0 false 1 late 0\n" },
+};
+
+const USED_AND_FLAGGED: &[Checked] = rows! { Checked:
     // uses that exclude each other
     { name: "data in the L1 table",
         before: counted! { (NEXT_ENTRY, 0x200), (COUNTERS, 0x0001_0002_0001_0001) },
@@ -180,27 +183,50 @@ pub(crate) const ALL_LINES: &str =
 
 #[test]
 fn a_check_prints_what_is_wrong_and_changes_nothing(rt: HostRuntime) -> Result<(), Fail> {
-    each(rt.alloc(), CHECKED, check_checked)
+    each(rt.alloc(), counted_rows(), check_checked)?;
+    each(rt.alloc(), used_and_flagged_rows(), check_checked)
+}
+
+fn counted_rows() -> &'static [Checked] {
+    COUNTED
+}
+
+fn used_and_flagged_rows() -> &'static [Checked] {
+    USED_AND_FLAGGED
 }
 
 fn check_checked(alloc: Global, row: Checked) -> Result<(), Fail> {
     let mut image = sample_image(alloc, 9, row.before)?;
-    let header = load_header(alloc, &mut image, false)?;
-    let mut out = FailingOutput::new(alloc, Failure::Never);
-    let verdict = check_image(alloc, &mut image, &header, &mut out);
-    let found = (verdict, std::str::from_utf8(out.bytes())?);
-    same(found, (Ok(row.verdict), row.text), row.name)?;
+    check_lines(alloc, &mut image, row)?;
     check_sample(alloc, image.bytes(), (9, row.before), row.name)
+}
+
+fn check_lines(alloc: Global, image: &mut MemStorage, row: Checked) -> Result<(), Fail> {
+    let mut out = FailingOutput::new(alloc, Failure::Never);
+    let verdict = verdict_of(alloc, image, &mut out);
+    let found = (verdict, std::str::from_utf8(out.bytes())?);
+    same(found, (Ok(row.verdict), row.text), row.name)
+}
+
+fn verdict_of(
+    alloc: Global,
+    image: &mut MemStorage,
+    out: &mut FailingOutput,
+) -> Result<Verdict, Fault> {
+    let header = load_header(alloc, image, false)?;
+    check_image(alloc, image, &header, out)
 }
 
 #[test]
 fn the_program_ends_with_the_status_of_the_verdict(rt: HostRuntime) -> Result<(), Fail> {
-    for row in CHECKED {
-        check_run(
-            &rt,
-            "checked",
-            &run_over(row.before, ended_by(row.verdict, row.text)),
-        )?;
+    check_statuses(&rt, counted_rows())?;
+    check_statuses(&rt, used_and_flagged_rows())
+}
+
+fn check_statuses(rt: &HostRuntime, rows: &[Checked]) -> Result<(), Fail> {
+    for row in rows {
+        let run = run_over(row.before, ended_by(row.verdict, row.text));
+        check_run(rt, "checked", &run)?;
     }
     Ok(())
 }
@@ -278,25 +304,39 @@ const NO_PLACE: &str = "qmeta: fault 21\n";
 
 #[test]
 fn an_image_that_cannot_be_checked_is_refused_before_any_line(rt: HostRuntime) -> Result<(), Fail> {
-    each(rt.alloc(), REFUSED, check_refused)?;
-    for row in REFUSED {
-        check_run(
-            &rt,
-            "unchecked",
-            &run_over(row.before, Failed("", row.reported)),
-        )?;
+    each(rt.alloc(), refused_rows(), check_refused)?;
+    for row in refused_rows() {
+        check_unchecked(&rt, *row)?;
     }
     Ok(())
 }
 
+fn refused_rows() -> &'static [Refused] {
+    REFUSED
+}
+
+fn check_unchecked(rt: &HostRuntime, row: Refused) -> Result<(), Fail> {
+    let run = run_over(row.before, Failed("", row.reported));
+    check_run(rt, "unchecked", &run)
+}
+
 fn check_refused(alloc: Global, row: Refused) -> Result<(), Fail> {
     let mut image = sample_image(alloc, 9, row.before)?;
-    let mut out = FailingOutput::new(alloc, Failure::Never);
-    let answer = run_command(alloc, &mut image, "check IMAGE", &mut out)?;
-    same((answer, out.bytes()), (Some(Err(row.fault)), &[]), row.name)?;
-    let answer = run_command(alloc, &mut image, "check IMAGE json", &mut out)?;
-    same((answer, out.bytes()), (Some(Err(row.fault)), &[]), row.name)?;
-    let answer = run_command(alloc, &mut image, "check IMAGE repair", &mut out)?;
-    same((answer, out.bytes()), (Some(Err(row.fault)), &[]), row.name)?;
+    for line in ["check IMAGE", "check IMAGE json", "check IMAGE repair"] {
+        check_refused_line(alloc, &mut image, line, row)?;
+    }
     check_sample(alloc, image.bytes(), (9, row.before), row.name)
+}
+
+// Fails unless the line is refused, and prints nothing.
+fn check_refused_line(
+    alloc: Global,
+    image: &mut MemStorage,
+    line: &str,
+    row: Refused,
+) -> Result<(), Fail> {
+    let mut out = FailingOutput::new(alloc, Failure::Never);
+    let answer = run_command(alloc, image, line, &mut out)?;
+    let place = (row.name, line);
+    same((answer, out.bytes()), (Some(Err(row.fault)), &[]), place)
 }

@@ -3,6 +3,7 @@
 use super::check::{ALL_KINDS, LATE_TABLES};
 use crate::failing_output::{FailingOutput, Failure};
 use crate::sample_image::{COPIED, Numbers, check_sample, counted, sample_image};
+use qcow2_base::{Fault, MemStorage};
 use qcow2_calls::{check_image_in_json, load_header};
 use qcow2_session::Verdict;
 use qcow2_testing::{each, rows, same};
@@ -74,7 +75,7 @@ const END_OF_6: &str = "\"image-end-offset\": 3584";
 
 const END_OF_7: &str = "\"image-end-offset\": 4096";
 
-const ROWS: &[Row] = rows! {
+const SIZES: &[Row] = rows! {
     Row { name: "a consistent image", members: &[END_OF_5, CLUSTERS, NO_ERRORS, ONE, DISK, FORMAT], ..ROW },
     // where the image ends
     Row { name: "a leaked cluster is the last", before: counted! { (COUNTERS_4 + 8, 1) },
@@ -102,7 +103,9 @@ const ROWS: &[Row] = rows! {
         members: &[END_OF_5, "\"total-clusters\": 65", NO_ERRORS, ONE, DISK, FORMAT], ..ROW },
     Row { name: "a disk of size 0", before: counted! { (24, 0) },
         members: &[END_OF_5, NO_ERRORS, ONE, DISK, FORMAT], ..ROW },
-    // entries
+};
+
+const ENTRIES: &[Row] = rows! {
     Row { name: "data in a row", before: counted! { (NEXT_ENTRY, COPIED + 0xc00), TO_6 },
         members: &[END_OF_6, CLUSTERS, NO_ERRORS, TWO, DISK, FORMAT], ..ROW },
     Row { name: "data in a row after a gap", before: counted! { (THIRD_ENTRY, COPIED + 0xc00), TO_6 },
@@ -134,7 +137,9 @@ const ROWS: &[Row] = rows! {
         before: counted! { (NEXT_ENTRY, 0x200), (COUNTERS, 0x0001_0002_0001_0001) },
         verdict: Verdict::Harmful,
         members: &[END_OF_5, CLUSTERS, NO_ERRORS, TWO, DISK, FORMAT, ONE_APART], ..ROW },
-    // names of files
+};
+
+const FILE_NAMES: &[Row] = rows! {
     Row { name: "no name", file_name: "",
         members: &[END_OF_5, CLUSTERS, NO_ERRORS, ONE, "\"filename\": \"\"", FORMAT], ..ROW },
     Row { name: "printable ASCII", file_name: " !#[]^`~/",
@@ -171,19 +176,42 @@ pub(crate) const LATE_OBJECT: &str =
     \"filename\": \"IMAGE\",\n    \"format\": \"qcow2\"\n}\n";
 
 #[test]
+fn a_check_in_json_tells_the_sizes_of_image_and_disk(rt: HostRuntime) -> Result<(), Fail> {
+    each(rt.alloc(), SIZES, check_row)
+}
+
+#[test]
 fn a_check_in_json_counts_what_it_finds(rt: HostRuntime) -> Result<(), Fail> {
-    each(rt.alloc(), ROWS, check_row)
+    each(rt.alloc(), ENTRIES, check_row)
+}
+
+#[test]
+fn a_check_in_json_names_the_file_by_a_string(rt: HostRuntime) -> Result<(), Fail> {
+    each(rt.alloc(), FILE_NAMES, check_row)
 }
 
 fn check_row(alloc: Global, row: Row) -> Result<(), Fail> {
     let mut image = sample_image(alloc, 9, row.before)?;
-    let header = load_header(alloc, &mut image, false)?;
+    check_object(alloc, &mut image, row)?;
+    check_sample(alloc, image.bytes(), (9, row.before), row.name)
+}
+
+fn check_object(alloc: Global, image: &mut MemStorage, row: Row) -> Result<(), Fail> {
     let mut out = FailingOutput::new(alloc, Failure::Never);
-    let verdict = check_image_in_json(alloc, &mut image, &header, row.file_name, &mut out);
+    let verdict = verdict_of(alloc, image, row.file_name, &mut out);
     let expected = object_of(alloc, row.members)?;
     let found = (verdict, std::str::from_utf8(out.bytes())?);
-    same(found, (Ok(row.verdict), expected.as_str()), row.name)?;
-    check_sample(alloc, image.bytes(), (9, row.before), row.name)
+    same(found, (Ok(row.verdict), expected.as_str()), row.name)
+}
+
+fn verdict_of(
+    alloc: Global,
+    image: &mut MemStorage,
+    file_name: &str,
+    out: &mut FailingOutput,
+) -> Result<Verdict, Fault> {
+    let header = load_header(alloc, image, false)?;
+    check_image_in_json(alloc, image, &header, file_name, out)
 }
 
 // The object of these members.

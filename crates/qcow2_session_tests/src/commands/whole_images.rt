@@ -160,6 +160,9 @@ const ROWS: &[Run<'static>] = rows! {
     Run { line: "edit IMAGE 0", before: AUTOCLEAR, ended: SILENT, ..RUN },
     Run { line: "edit IMAGE 0 zero:64", before: AUTOCLEAR, ended: BAD_EDIT, ..RUN },
     Run { line: "count IMAGE 3", before: AUTOCLEAR, ended: SILENT, ..RUN },
+};
+
+const OTHERS: &[Run<'static>] = rows! {
     // a header alone, and one with names
     Run { line: "list IMAGE", before: HEADER_ALONE, ended: SILENT, after: HEADER_ALONE, ..RUN },
     Run { line: "at IMAGE 0", before: HEADER_ALONE, ended: Done(BACKING), after: HEADER_ALONE, ..RUN },
@@ -172,6 +175,9 @@ const ROWS: &[Run<'static>] = rows! {
     Run { line: "list IMAGE", before: &[(512, COPIED)], ended: SILENT, after: &[(512, COPIED)], ..RUN },
     Run { line: "edit IMAGE 0 zero:3", before: &[(512, COPIED)], ended: Failed("", "qmeta: fault 23\n"),
         after: &[(512, COPIED)], ..RUN },
+};
+
+const DAMAGED: &[Run<'static>] = rows! {
     // a damaged part is its fault where a command reads it
     Run { line: "list IMAGE", before: &[(0, 0)], ended: Failed("", "qmeta: fault 1\n"), after: &[(0, 0)],
         ..RUN },
@@ -212,8 +218,22 @@ fn each_command_says_what_the_image_means(rt: HostRuntime) -> Result<(), Fail> {
 
 #[test]
 fn edits_and_steps_change_just_their_table_or_block(rt: HostRuntime) -> Result<(), Fail> {
-    for run in ROWS {
-        check_run(&rt, "changes", run)?;
+    check_runs(&rt, "changes", ROWS)
+}
+
+#[test]
+fn commands_go_by_the_header_and_the_tables_of_an_image(rt: HostRuntime) -> Result<(), Fail> {
+    check_runs(&rt, "others", OTHERS)
+}
+
+#[test]
+fn a_damaged_image_is_refused_and_stays_as_it_is(rt: HostRuntime) -> Result<(), Fail> {
+    check_runs(&rt, "damaged", DAMAGED)
+}
+
+fn check_runs(rt: &HostRuntime, name: &str, runs: &[Run<'_>]) -> Result<(), Fail> {
+    for run in runs {
+        check_run(rt, name, run)?;
     }
     Ok(())
 }
@@ -310,10 +330,7 @@ const COUNTED: Numbers<'static> = &[(1536, 1 << 48), (2040, 0)];
 
 #[test]
 fn failing_outputs_are_told_and_keep_what_they_took(rt: HostRuntime) -> Result<(), Fail> {
-    for run in FAILING {
-        check_run(&rt, "failing", run)?;
-    }
-    Ok(())
+    check_runs(&rt, "failing", FAILING)
 }
 
 // Commands one after the other over a sample image whose second L1 entry names an L2 table past its end.
