@@ -87,9 +87,13 @@ pub(crate) fn again<T: Drop, E: Drop, F: Fn() -> Result<T, E>>(call: F) -> Resul
     }
 }
 
+fn begun(alloc: Global, run: &Run) -> Result<Attempt, Fault> {
+    again(|| begin(alloc, run))
+}
+
 fn over_memory(alloc: Global, run: &Run) -> Result<(), Wrong> {
     let mut image = again(|| run.before(alloc))?;
-    let mut attempt = again(|| begin(alloc, run))?;
+    let mut attempt = begun(alloc, run)?;
     make_in_memory(run, &mut attempt, &mut image)
 }
 
@@ -104,7 +108,7 @@ fn make_in_memory(run: &Run, attempt: &mut Attempt, image: &mut MemStorage) -> R
 }
 
 fn over_file(rt: &HostRuntime, path: &str, run: &Run) -> Result<(), Wrong> {
-    let mut attempt = again(|| begin(rt.alloc(), run))?;
+    let mut attempt = begun(rt.alloc(), run)?;
     make_in_file(rt, path, run, &mut attempt)
 }
 

@@ -1,7 +1,7 @@
 //! What a run is: a call of the library, what it begins with, and what must stand after it.
 
 use qcow2_base::{Fault, MemStorage};
-use qcow2_testing::put;
+use qcow2_testing::put_all;
 use std::alloc::Global;
 
 /// A call, and what it is made on.
@@ -121,8 +121,8 @@ impl Run {
         then: Numbers,
     ) -> Result<MemStorage, Fault> {
         let mut image = image_of(alloc, self.image.unwrap_or(EMPTY))?;
-        put_numbers(&mut image, first)?;
-        put_numbers(&mut image, then)?;
+        put_all(&mut image, first)?;
+        put_all(&mut image, then)?;
         Ok(image)
     }
 
@@ -149,13 +149,6 @@ pub(crate) fn image_of(alloc: Global, image: Image) -> Result<MemStorage, Fault>
         }
     }
     let mut bytes = MemStorage::new(bytes);
-    put_numbers(&mut bytes, image.numbers)?;
+    put_all(&mut bytes, image.numbers)?;
     Ok(bytes)
-}
-
-fn put_numbers(image: &mut MemStorage, numbers: Numbers) -> Result<(), Fault> {
-    for (place, number) in numbers {
-        put(image, *place, *number)?;
-    }
-    Ok(())
 }

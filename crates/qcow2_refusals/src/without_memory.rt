@@ -5,7 +5,9 @@
 mod headers;
 mod tables;
 
+use headers::Headers;
 use qcow2_base::{Fault, FileStorage, MemStorage, Storage};
+use tables::Tables;
 
 /// How many things one turn looks at: 3 of a storage, one of a file, 13 of headers, and 54 of tables and
 /// blocks. Each is as it must be. A call that is left out is one less.
@@ -25,17 +27,24 @@ impl Checks {
 
 /// Makes each call this many times. What they work on is made before the first turn.
 pub(crate) fn make_calls(rt: &HostRuntime, turns: u64) -> Result<Checks, Fault> {
-    let alloc = rt.alloc();
+    let mut headers = headers::begin(rt.alloc())?;
+    let mut tables = tables::begin(rt.alloc())?;
+    Ok(make_turns(rt, turns, &mut headers, &mut tables))
+}
+
+fn make_turns(rt: &HostRuntime, turns: u64, headers: &mut Headers, tables: &mut Tables) -> Checks {
     let mut checks = Checks(0);
-    let mut headers = headers::begin(alloc)?;
-    let mut tables = tables::begin(alloc)?;
     for turn in 0..turns {
-        read(MemStorage::new(Vec::new(alloc)), 9, &mut checks);
-        checks.expect(FileStorage::open(rt, "/dev/null", false).is_ok());
-        headers::make(turn, &mut headers, &mut checks);
-        tables::make(turn, &mut tables, &mut checks);
+        make_storage_calls(rt, &mut checks);
+        headers::make(turn, headers, &mut checks);
+        tables::make(turn, tables, &mut checks);
     }
-    Ok(checks)
+    checks
+}
+
+fn make_storage_calls(rt: &HostRuntime, checks: &mut Checks) {
+    read(MemStorage::new(Vec::new(rt.alloc())), 9, checks);
+    checks.expect(FileStorage::open(rt, "/dev/null", false).is_ok());
 }
 
 // Calls of a storage in memory of no byte, which a read finds zero.

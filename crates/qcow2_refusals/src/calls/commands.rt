@@ -28,5 +28,10 @@ fn command_of(alloc: Global, line: &str) -> Result<Command, Fault> {
 /// Runs the command of these words, which name no image.
 pub(super) fn make<S: Storage>(line: &str, held: &mut Held, image: &mut S) -> Result<(), Fault> {
     let command = command_of(held.alloc, line)?;
-    run(held.alloc, image, &command, &mut held.out).map(|_| ())
+    run_command(&command, held, image)
+}
+
+fn run_command<S: Storage>(command: &Command, held: &mut Held, image: &mut S) -> Result<(), Fault> {
+    run(held.alloc, image, command, &mut held.out)?;
+    Ok(())
 }

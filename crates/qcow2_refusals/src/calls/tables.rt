@@ -4,10 +4,11 @@ use crate::held::{BLOCK, Held, TABLES};
 use crate::runs::{Kind, PlacedCall};
 use qcow2_base::{Fault, Storage};
 use qcow2_calls::{
-    load_block, load_table, write_block, write_block_if_modified, write_entry,
+    LoadedTable, load_block, load_table, write_block, write_block_if_modified, write_entry,
     write_l2_table_if_modified, write_table,
 };
-use qcow2_metadata::{L2Table, RefBlock, Table};
+use qcow2_metadata::{Header, L2Table, RefBlock, Table};
+use std::alloc::Global;
 
 /// Makes a call of a table of this kind, or of the block.
 pub(crate) fn make<S: Storage>(
@@ -29,13 +30,31 @@ pub(crate) fn make<S: Storage>(
 
 fn load<S: Storage>(kind: Kind, held: &mut Held, image: &mut S) -> Result<(), Fault> {
     let (alloc, header) = (held.alloc, &held.header);
-    let entries = header.l2_entries();
     match kind {
-        Kind::L1Table => held.l1_table = load_table(alloc, image, header, TABLES, entries)?,
-        Kind::L2Table => held.l2_table = load_table(alloc, image, header, TABLES, entries)?,
-        Kind::Reftable => held.reftable = load_table(alloc, image, header, TABLES, entries)?,
-        Kind::Block => held.block = load_block(alloc, image, header, BLOCK)?,
+        Kind::L1Table => load_anew(alloc, &mut held.l1_table, image, header),
+        Kind::L2Table => load_anew(alloc, &mut held.l2_table, image, header),
+        Kind::Reftable => load_anew(alloc, &mut held.reftable, image, header),
+        Kind::Block => load_block_anew(alloc, &mut held.block, image, header),
     }
+}
+
+fn load_anew<T: LoadedTable, S: Storage>(
+    alloc: Global,
+    table: &mut T,
+    image: &mut S,
+    header: &Header,
+) -> Result<(), Fault> {
+    *table = load_table(alloc, image, header, TABLES, header.l2_entries())?;
+    Ok(())
+}
+
+fn load_block_anew<S: Storage>(
+    alloc: Global,
+    block: &mut RefBlock,
+    image: &mut S,
+    header: &Header,
+) -> Result<(), Fault> {
+    *block = load_block(alloc, image, header, BLOCK)?;
     Ok(())
 }
 

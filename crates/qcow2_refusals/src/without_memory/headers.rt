@@ -7,6 +7,7 @@ use qcow2_calls::{
     header_of, update_header, write_l1_table_pointer, write_reftable_pointer, write_size,
 };
 use qcow2_metadata::{FeatureType, Header, L1Entry, L2Entry, RefTableEntry, TableEntry};
+use qcow2_testing::image_with;
 use std::alloc::Global;
 
 /// A new header, that of a disk, another like it, and an image that holds a header's bytes.
@@ -19,16 +20,22 @@ pub(super) struct Headers {
 }
 
 pub(super) fn begin(alloc: Global) -> Result<Headers, Fault> {
-    let image = MemStorage::new(vec![in alloc; 0; 512]?);
+    let (disk, other) = disk_headers(alloc)?;
     let first = header_of(alloc, 9, 4, false)?;
-    let disk = disk_header(alloc, 32768)?;
-    let other = disk_header(alloc, 32768)?;
+    let image = image_with(alloc, 512, &[])?;
     Ok(Headers {
         first,
         disk,
         other,
         image,
     })
+}
+
+// The header of the disk, twice.
+fn disk_headers(alloc: Global) -> Result<(Header, Header), Fault> {
+    let disk = disk_header(alloc, 32768)?;
+    let other = disk_header(alloc, 32768)?;
+    Ok((disk, other))
 }
 
 pub(super) fn make(turn: u64, headers: &mut Headers, checks: &mut Checks) {

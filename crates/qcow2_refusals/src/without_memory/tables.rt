@@ -71,6 +71,7 @@ fn make_in_memory(held: &mut Held, index: usize, checks: &mut Checks) {
     look_at(&mut held.l1_table, index, 0x8000_0000_0000_0200, checks);
     look_at(&mut held.l2_table, index, 0, checks);
     look_at(&mut held.reftable, index, 0x200, checks);
+    look_at_block(&mut held.block, checks);
     count(&mut held.block, index, checks);
     make_new(held.l1_table.allocator(), &held.header, index, checks);
 }
@@ -157,13 +158,17 @@ fn only(first: HostCluster) -> ClustersToFreeEntry {
     }
 }
 
-// A counter of 0 is counted up and down, and put in the place of itself.
-fn count(block: &mut RefBlock, index: usize, checks: &mut Checks) {
+// A block in the cluster of the tables.
+fn look_at_block(block: &mut RefBlock, checks: &mut Checks) {
     checks.expect(block.get_cluster() == Some(TABLES) && block.get_offset().is_some());
     block.clear_modified();
     checks.expect(!block.is_modified());
     block.set_modified();
     checks.expect(block.is_modified() && block.cluster_bits() == 9);
+}
+
+// A counter of 0 is counted up and down, and put in the place of itself.
+fn count(block: &mut RefBlock, index: usize, checks: &mut Checks) {
     if index >= block.entries() {
         return;
     }
