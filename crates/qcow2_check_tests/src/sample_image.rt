@@ -58,48 +58,52 @@ fn header_of<S: Storage>(alloc: Global, image: &mut S) -> Result<Header, Fault> 
 /// All findings of an image, in order, the first hundred of them at most.
 pub(crate) fn findings_of<S: Storage>(alloc: Global, image: &mut S) -> Result<Vec<Finding>, Fault> {
     let header = header_of(alloc, image)?;
-    read_findings(alloc, image, &header)
+    let mut found = Vec::new(alloc);
+    read_findings(alloc, image, &header, &mut found)?;
+    Ok(found)
 }
 
 fn read_findings<S: Storage>(
     alloc: Global,
     image: &mut S,
     header: &Header,
-) -> Result<Vec<Finding>, Fault> {
+    found: &mut Vec<Finding>,
+) -> Result<(), Fault> {
     let mut findings = Findings::new(alloc, image, header)?;
-    let mut found = Vec::new(alloc);
     for _ in 0..100 {
         let Some(finding) = findings.next(image)? else {
-            return Ok(found);
+            return Ok(());
         };
         found.push(finding)?;
     }
-    Ok(found)
+    Ok(())
 }
 
 /// All wrong flags of an image, in order, the first hundred of them at most. Where a read is refused, the
 /// reader is called again.
 pub(crate) fn flags_of<S: Storage>(alloc: Global, image: &mut S) -> Result<Vec<WrongFlag>, Fault> {
     let header = header_of(alloc, image)?;
-    read_flags(alloc, image, &header)
+    let mut found = Vec::new(alloc);
+    read_flags(alloc, image, &header, &mut found)?;
+    Ok(found)
 }
 
 fn read_flags<S: Storage>(
     alloc: Global,
     image: &mut S,
     header: &Header,
-) -> Result<Vec<WrongFlag>, Fault> {
+    found: &mut Vec<WrongFlag>,
+) -> Result<(), Fault> {
     let mut flags = Findings::new(alloc, image, header)?.into_flags();
-    let mut found = Vec::new(alloc);
     for _ in 0..100 {
         match flags.next(image) {
             Ok(Some(flag)) => found.push(flag)?,
-            Ok(None) => return Ok(found),
+            Ok(None) => return Ok(()),
             Err(Fault::Storage) => {}
             Err(fault) => return Err(fault),
         }
     }
-    Ok(found)
+    Ok(())
 }
 
 /// The counters of these clusters.
@@ -109,7 +113,9 @@ pub(crate) fn counters_of<S: Storage>(
     clusters: &[u64],
 ) -> Result<Vec<u64>, Fault> {
     let header = header_of(alloc, image)?;
-    read_counters(alloc, image, &header, clusters)
+    let mut found = Vec::new(alloc);
+    read_counters(alloc, image, &header, clusters, &mut found)?;
+    Ok(found)
 }
 
 fn read_counters<S: Storage>(
@@ -117,13 +123,13 @@ fn read_counters<S: Storage>(
     image: &mut S,
     header: &Header,
     clusters: &[u64],
-) -> Result<Vec<u64>, Fault> {
+    found: &mut Vec<u64>,
+) -> Result<(), Fault> {
     let mut counters = Counters::new(alloc, image, header)?;
-    let mut found = Vec::new(alloc);
     for cluster in clusters {
         found.push(counters.get(image, HostCluster(*cluster))?)?;
     }
-    Ok(found)
+    Ok(())
 }
 
 /// Whether an image is consistent.
