@@ -60,9 +60,13 @@ pub record CanBeMade (tables : ImageTables) (edits : List GuestEdit) (gains loss
   pub tables_allow : tables_refusal tables edits image ≡ None
   pub counters_count : (c : ℕ) → CannotCount (counter_tables tables) gains losses image c → ⊥
 
--- the tables that edits are made by: those of a plan, with the header as it is left
+-- the tables of a plan, in an image with this header
+abbrev pub tables_by : HeaderRecord → Plan → ImageTables
+tables_by header plan = image_tables header plan.l1_table.numbers plan.reftable.numbers
+
+-- those that edits are made by: with the header as it is left
 abbrev pub plan_tables : HeaderRecord → Plan → ImageTables
-plan_tables header plan = image_tables (without_autoclear header) plan.l1_table.numbers plan.reftable.numbers
+plan_tables header plan = tables_by (without_autoclear header) plan
 
 -- edits of a disk were made by a plan, which ended in this answer: autoclear features are cleared by their field alone, then the
 -- edits are made. Where tables and blocks are apart, only the storage and memory can end this before its time

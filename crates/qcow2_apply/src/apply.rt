@@ -5,8 +5,7 @@ ghost use Rattle.qcow2_base.specs.Storage.{Image, OnImage, OnImages, SameOutside
 ghost use Rattle.qcow2_metadata.specs.Header.Open.{without_autoclear};
 ghost use Rattle.qcow2_metadata.specs.Results.{IsFromOutside};
 ghost use Rattle.qcow2_check.specs.Failures.{ReportsFailures};
-ghost use Rattle.qcow2_check.specs.Uses.{image_tables};
-ghost use Rattle.qcow2_apply.specs.Apply.{Applies, AreAllApart, BreaksOffApplying, CanBeMade, EditsDisk, IsElsewhere};
+ghost use Rattle.qcow2_apply.specs.Apply.{Applies, AreAllApart, BreaksOffApplying, CanBeMade, EditsDisk, IsElsewhere, tables_by};
 ghost use Rattle.qcow2_apply.specs.Plan.{IsPlanFor};
 
 use crate::blocks::{CounterTables, follow_changes};
@@ -28,15 +27,14 @@ impl Plan {
         edits: &[GuestEdit],
     ) -> Result<(), Fault>
         requires plan { IsPlanFor header.now edits.now self.now }
-        ensures applied { let tables = image_tables header.now self.now.l1_table.numbers self.now.reftable.numbers in
-            AreAllApart tables → OnImages (S.state image.old) (S.state image.new) (λ before after. MatchResult result
+        ensures applied { let tables = tables_by header.now self.now in AreAllApart tables →
+            OnImages (S.state image.old) (S.state image.new) (λ before after. MatchResult result
             (λ _. Applies tables edits.now self.now.gains self.now.losses before after)
             (λ fault. BreaksOffApplying tables edits.now self.now.gains self.now.losses fault before after)) }
         ensures others { OnImages (S.state image.old) (S.state image.new) (λ before after.
-            (o : ℕ) → IsElsewhere (image_tables header.now self.now.l1_table.numbers self.now.reftable.numbers) o →
-            after o ≡ before o) }
-        ensures fault { let tables = image_tables header.now self.now.l1_table.numbers self.now.reftable.numbers in
-            AreAllApart tables → IfErr result (λ fault. OnImage (S.state image.old) (λ bytes. (first : Image) →
+            (o : ℕ) → IsElsewhere (tables_by header.now self.now) o → after o ≡ before o) }
+        ensures fault { let tables = tables_by header.now self.now in AreAllApart tables →
+            IfErr result (λ fault. OnImage (S.state image.old) (λ bytes. (first : Image) →
             CanBeMade tables edits.now self.now.gains self.now.losses first → SameOutside 88 8 first bytes →
             IsFromOutside fault)) }
         ensures storage { ReportsFailures result (S.state image.old) (S.state image.new) }
@@ -73,7 +71,8 @@ pub fn apply_edits<S: Storage>(
     header: &mut Header,
     edits: &[GuestEdit],
 ) -> Result<(), Fault>
-    ensures header { (header.new ≡ without_autoclear header.old) ⊎ (IfErr result (λ _. header.new ≡ header.old)) }
+    ensures header { (header.new ≡ without_autoclear header.old)
+        ⊎ IfErr result (λ _. header.new ≡ header.old) }
     ensures edited { OnImages (S.state image.old) (S.state image.new)
         (EditsDisk header.old edits.now result) }
     ensures storage { ReportsFailures result (S.state image.old) (S.state image.new) }

@@ -4,8 +4,8 @@
 ghost use Rattle.std.specs.Prelude.{◌≡◌, ℕ, ◌+◌, List, Err, Ok};
 ghost use Rattle.qcow2_base.specs.Storage.{Image};
 ghost use Rattle.qcow2_base.specs.declared.fault.Fault.{Fault};
-ghost use Rattle.qcow2_check.specs.Failures.{TearsAtMost};
 ghost use Rattle.qcow2_metadata.specs.Header.{HeaderRecord, IsValidHeader};
+ghost use Rattle.qcow2_check.specs.Failures.{TearsAtMost};
 ghost use Rattle.qcow2_check.specs.Uses.{image_uses, uses_of};
 ghost use Rattle.qcow2_apply.specs.Apply.{AreAllApart, FollowsPlan, StayCovered, TearsTableOrBlock, plan_tables};
 ghost use Rattle.qcow2_apply.specs.Blocks.{HasCounter, counter_of_cluster};
@@ -31,9 +31,10 @@ pub fn counters_follow_uses_of_clusters()
 /// were at least the uses of their clusters are so, but for one write of a table or block that may be torn,
 /// and that only where the storage failed. So at most leaks are left.
 pub fn edits_that_break_off_make_no_counter_too_low()
-    ensures { (header : HeaderRecord) (edits : List GuestEdit) (plan : Plan) (fault : Fault) (old new : Image) →
-        IsValidHeader header → IsPlanFor header edits plan → IsPlanOf header edits old plan →
-        FollowsPlan header edits plan (Err fault) old new → AreAllApart (plan_tables header plan) →
+    ensures { (header : HeaderRecord) (edits : List GuestEdit) (plan : Plan) (fault : Fault)
+        (old new : Image) → IsValidHeader header → IsPlanFor header edits plan →
+        IsPlanOf header edits old plan → FollowsPlan header edits plan (Err fault) old new →
+        AreAllApart (plan_tables header plan) →
         (mid : Image) × TearsAtMost fault (TearsTableOrBlock (plan_tables header plan)) mid new
         × StayCovered (plan_tables header plan) old mid }
 {}

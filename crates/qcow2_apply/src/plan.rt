@@ -1,13 +1,11 @@
 //! What edits of a disk will do to an image, looked at before anything is written.
 
-ghost use Rattle.qcow2_apply.specs.Plan.{edits_refusal, RefusesEdits, IsPlanOf, IsPlanFor};
-ghost use Rattle.std.specs.Prelude.{◌≡◌, ◌⊎◌, ◌<◌, ◌&&◌, Err, IfErr, IfOk, Ok};
-ghost use Rattle.std.specs.List.{list_any};
+ghost use Rattle.std.specs.Prelude.{◌≡◌, ◌⊎◌, ◌<◌, ◌&&◌, Err, IfErr, IfOk, Ok, ◌/◌, Some};
+ghost use Rattle.std.specs.List.{list_any, position};
 ghost use Rattle.qcow2_base.specs.Storage.{OnImage, OnlyReads};
 ghost use Rattle.qcow2_metadata.specs.Results.{IsFromOutside, unless_refused};
-ghost use Rattle.std.specs.Prelude.{◌/◌, Some};
-ghost use Rattle.std.specs.List.{position};
 ghost use Rattle.qcow2_apply.specs.GuestEdits.{is_zeros};
+ghost use Rattle.qcow2_apply.specs.Plan.{edits_refusal, RefusesEdits, IsPlanOf, IsPlanFor};
 
 use crate::blocks::CounterTables;
 use crate::changes::Changes;

@@ -1,16 +1,16 @@
 //! What edits do to counters, before anything is written.
 
-ghost use Rattle.qcow2_apply.specs.PlannedChanges.{IsUncounted, HaveCounters, AreSorted, StaySorted, AddsOutcome, CannotCount};
 ghost use Rattle.std.specs.Prelude.{◌≡◌, ◌⊎◌, ℕ, ◌/◌, ◌<◌, false, true, IfErr, IsOkUnless, OnOk};
-ghost use Rattle.qcow2_base.specs.Storage.{OnImage, OnlyReads};
-ghost use Rattle.qcow2_metadata.specs.Header.{uses_external_data};
-ghost use Rattle.qcow2_metadata.specs.Results.{IsFromOutside};
 ghost use Rattle.std.specs.List.{All};
+ghost use Rattle.qcow2_base.specs.Storage.{OnImage, OnlyReads};
 ghost use Rattle.qcow2_base.specs.declared.fault.Fault.TheVariants.{CounterRange, NoMemory};
 ghost use Rattle.qcow2_metadata.specs.Entries.{is_among};
+ghost use Rattle.qcow2_metadata.specs.Header.{uses_external_data};
+ghost use Rattle.qcow2_metadata.specs.Results.{IsFromOutside};
 ghost use Rattle.qcow2_metadata.specs.Table.L2Guards.{handed_back};
 ghost use Rattle.qcow2_check.specs.Counters.{counters_each};
 ghost use Rattle.qcow2_apply.specs.Changes.{HasNone};
+ghost use Rattle.qcow2_apply.specs.PlannedChanges.{IsUncounted, HaveCounters, AreSorted, StaySorted, AddsOutcome, CannotCount};
 
 use crate::blocks::{CounterTables, follow};
 use crate::changes::Changes;

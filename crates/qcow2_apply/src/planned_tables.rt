@@ -1,23 +1,18 @@
 //! Edits of the L2 tables of an image, looked at table by table before anything is written.
 
-ghost use Rattle.qcow2_apply.specs.PlannedChanges.{StaySorted};
-ghost use Rattle.qcow2_apply.specs.PlannedTables.{is_table_needed, are_more_needed, tables_refusal, AddsTable, IsPlanned, planning_tables, AreSources, alone_fault, mapping_fault, mapping_fault_in, mappings_fault, named_table_refusal, table_refusal};
-ghost use Rattle.std.specs.Prelude.{◌≡◌, ◌<◌, ◌&&◌, Err, IfOk, Ok, OnOk, false, length, not};
-ghost use Rattle.qcow2_check.specs.Counters.{counters_each};
-ghost use Rattle.qcow2_check.specs.Uses.{image_tables};
-ghost use Rattle.qcow2_metadata.specs.Header.{uses_external_data};
-ghost use Rattle.qcow2_apply.specs.PlannedChanges.{AreSorted};
-ghost use Rattle.qcow2_apply.specs.PlannedTables.{AreReadBy};
-ghost use Rattle.qcow2_apply.specs.Tables.{AllFit};
-ghost use Rattle.std.specs.List.{list_any};
+ghost use Rattle.std.specs.Prelude.{◌≡◌, ◌<◌, ◌&&◌, Err, IfOk, Ok, OnOk, false, length, not, ◌/◌, Some, slice_index, true};
+ghost use Rattle.std.specs.List.{list_any, position};
 ghost use Rattle.qcow2_base.specs.Storage.{OnImage, OnlyReads};
+ghost use Rattle.qcow2_metadata.specs.Header.{uses_external_data};
 ghost use Rattle.qcow2_metadata.specs.Results.{Answers, unless_refused};
-ghost use Rattle.qcow2_check.specs.Counters.{IsKeptBlockOf, IsSameButBlock};
-ghost use Rattle.std.specs.Prelude.{◌/◌, Some, slice_index, true};
-ghost use Rattle.std.specs.List.{position};
+ghost use Rattle.qcow2_check.specs.Counters.{counters_each, IsKeptBlockOf, IsSameButBlock};
 ghost use Rattle.qcow2_check.specs.NamedTables.{IsInImage, named_cluster};
+ghost use Rattle.qcow2_check.specs.Uses.{image_tables};
 ghost use Rattle.qcow2_apply.specs.Changes.{HasNone};
 ghost use Rattle.qcow2_apply.specs.GuestEdits.{ends_after, has_clusters_in, is_discard};
+ghost use Rattle.qcow2_apply.specs.PlannedChanges.{StaySorted, AreSorted};
+ghost use Rattle.qcow2_apply.specs.PlannedTables.{is_table_needed, are_more_needed, tables_refusal, AddsTable, IsPlanned, planning_tables, AreSources, alone_fault, mapping_fault, mapping_fault_in, mappings_fault, named_table_refusal, table_refusal, AreReadBy};
+ghost use Rattle.qcow2_apply.specs.Tables.{AllFit};
 
 use crate::guest_edits::{GuestEdit, edits_in};
 use crate::mapped_clusters::MappedClusters;
@@ -57,7 +52,8 @@ fn are_more_needed(edits: &[GuestEdit], header: &Header) -> bool
 {
     edits.iter().any(
         |edit: &GuestEdit| -> bool
-            ensures { result ≡ (ends_after header.entry.now.v2.cluster_bits header.entry.now.v2.l1_size edit.now
+            ensures { let entries = header.entry.now.v2.l1_size in
+                result ≡ (ends_after header.entry.now.v2.cluster_bits entries edit.now
                 && not (is_discard edit.now)) }
         { edit.ends_after(header) && !edit.is_discard() },
     )
@@ -95,7 +91,8 @@ fn check_mapping<S: Storage>(
     requires kept { OnImage (S.state image.old) (λ bytes.
         IsKeptBlockOf counters.old.header bytes counters.old.block) }
     ensures exact { OnImage (S.state image.old) (λ bytes. Answers (λ done. done) result (unless_refused
-        (mapping_fault (planning_tables sources.now counters.old) sources.now.edits.now bytes position edit) (Ok tt))) }
+        (mapping_fault (planning_tables sources.now counters.old) sources.now.edits.now bytes position edit)
+        (Ok tt))) }
     ensures reader { IsSameButBlock (S.state image.old) counters.old counters.new }
     ensures storage { OnlyReads result (S.state image.old) (S.state image.new) }
 {
@@ -125,8 +122,8 @@ fn check_mapping_in<S: Storage>(
     requires kept { OnImage (S.state image.old) (λ bytes.
         IsKeptBlockOf counters.old.header bytes counters.old.block) }
     ensures exact { OnImage (S.state image.old) (λ bytes. Answers (λ done. done) result (unless_refused
-        (mapping_fault_in (planning_tables sources.now counters.old) sources.now.edits.now bytes index position)
-        (Ok tt))) }
+        (mapping_fault_in (planning_tables sources.now counters.old) sources.now.edits.now bytes index
+        position) (Ok tt))) }
     ensures reader { IsSameButBlock (S.state image.old) counters.old counters.new }
     ensures storage { OnlyReads result (S.state image.old) (S.state image.new) }
 {
@@ -148,7 +145,8 @@ fn check_mappings<S: Storage>(
     requires kept { OnImage (S.state image.old) (λ bytes.
         IsKeptBlockOf counters.old.header bytes counters.old.block) }
     ensures exact { OnImage (S.state image.old) (λ bytes. Answers (λ done. done) result (unless_refused
-        (mappings_fault (planning_tables sources.now counters.old) sources.now.edits.now bytes index) (Ok tt))) }
+        (mappings_fault (planning_tables sources.now counters.old) sources.now.edits.now bytes index)
+        (Ok tt))) }
     ensures reader { IsSameButBlock (S.state image.old) counters.old counters.new }
     ensures storage { OnlyReads result (S.state image.old) (S.state image.new) }
 {
@@ -170,7 +168,8 @@ fn check_alone<S: Storage>(
     requires kept { OnImage (S.state image.old) (λ bytes.
         IsKeptBlockOf counters.old.header bytes counters.old.block) }
     ensures exact { OnImage (S.state image.old) (λ bytes. Answers (λ done. done) result (unless_refused
-        (alone_fault (planning_tables sources.now counters.old) sources.now.edits.now bytes index table) (Ok tt))) }
+        (alone_fault (planning_tables sources.now counters.old) sources.now.edits.now bytes index table)
+        (Ok tt))) }
     ensures reader { IsSameButBlock (S.state image.old) counters.old counters.new }
     ensures storage { OnlyReads result (S.state image.old) (S.state image.new) }
 {
@@ -202,10 +201,11 @@ fn plan_named_table<S: Storage>(
     requires kept { OnImage (S.state image.old) (λ bytes.
         IsKeptBlockOf counters.old.header bytes counters.old.block) }
     ensures exact { OnImage (S.state image.old) (λ bytes. Answers (λ done. done) result (unless_refused
-        (named_table_refusal (planning_tables sources.now counters.old) sources.now.edits.now bytes index table)
-        (Ok tt))) }
+        (named_table_refusal (planning_tables sources.now counters.old) sources.now.edits.now bytes index
+        table) (Ok tt))) }
     ensures planned { OnOk result (OnImage (S.state image.old) (λ bytes. AddsTable
-        (planning_tables sources.now counters.old) sources.now.edits.now bytes index planned.old planned.new)) }
+        (planning_tables sources.now counters.old) sources.now.edits.now bytes index planned.old
+        planned.new)) }
     ensures sorted { OnOk result (StaySorted planned.old planned.new) }
     ensures reader { IsSameButBlock (S.state image.old) counters.old counters.new }
     ensures storage { OnlyReads result (S.state image.old) (S.state image.new) }
@@ -234,7 +234,8 @@ fn plan_table<S: Storage>(
         (table_refusal (planning_tables sources.now counters.old) sources.now.edits.now bytes index)
         (Ok tt))) }
     ensures planned { OnOk result (OnImage (S.state image.old) (λ bytes. AddsTable
-        (planning_tables sources.now counters.old) sources.now.edits.now bytes index planned.old planned.new)) }
+        (planning_tables sources.now counters.old) sources.now.edits.now bytes index planned.old
+        planned.new)) }
     ensures sorted { OnOk result (StaySorted planned.old planned.new) }
     ensures reader { IsSameButBlock (S.state image.old) counters.old counters.new }
     ensures storage { OnlyReads result (S.state image.old) (S.state image.new) }
@@ -257,14 +258,15 @@ fn plan_tables<S: Storage>(
     planned: &mut PlannedChanges,
 ) -> Result<(), Fault>
     requires sources { AreSources sources.now counters.old }
-    requires none { HasNone planned.old.gains × HasNone planned.old.losses × (planned.old.are_counted ≡ true) }
+    requires none { HasNone planned.old.gains × HasNone planned.old.losses
+        × (planned.old.are_counted ≡ true) }
     requires kept { OnImage (S.state image.old) (λ bytes.
         IsKeptBlockOf counters.old.header bytes counters.old.block) }
     ensures exact { OnImage (S.state image.old) (λ bytes. Answers (λ done. done) result (unless_refused
         (tables_refusal (planning_tables sources.now counters.old) sources.now.edits.now bytes) (Ok tt))) }
     ensures planned { OnOk result (OnImage (S.state image.old) (λ bytes. IsPlanned
-        (planning_tables sources.now counters.old) sources.now.edits.now bytes sources.now.header.now.v2.l1_size
-        planned.new)) }
+        (planning_tables sources.now counters.old) sources.now.edits.now bytes
+        sources.now.header.now.v2.l1_size planned.new)) }
     ensures sorted { OnOk result (StaySorted planned.old planned.new) }
     ensures reader { IsSameButBlock (S.state image.old) counters.old counters.new }
     ensures storage { OnlyReads result (S.state image.old) (S.state image.new) }

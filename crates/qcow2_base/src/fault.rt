@@ -1,6 +1,6 @@
 //! Why a call refuses: one fault for each rule of the format or of a call, with a number and a kind.
 
-ghost use Rattle.std.specs.Prelude.{◌≡◌, Some};
+ghost use Rattle.std.specs.Prelude.{◌≡◌, ◌<◌, Some};
 ghost use Rattle.qcow2_base.specs.declared.fault.Fault.TheVariants.{NoMemory};
 
 use std::alloc::{AllocError, AllocFailed};
@@ -216,6 +216,16 @@ impl Fault {
             Fault::TablePlace => 21,
             Fault::NoOffset => 22,
             Fault::NotPlaced => 23,
+            _ => self.later_number(),
+        }
+    }
+
+    // The number of a fault from 24 on.
+    fn later_number(&self) -> u32
+        requires { 23 < fault_number self.now }
+        ensures { result ≡ fault_number self.now }
+    {
+        match self {
             Fault::HeaderTooLong => 24,
             Fault::NameTooLong => 25,
             Fault::FieldChanged(_) => 26,
@@ -233,6 +243,7 @@ impl Fault {
             Fault::Overlap => 38,
             Fault::InUse => 39,
             Fault::Shared(_) => 40,
+            _ => 0,
         }
     }
 

@@ -118,8 +118,8 @@ impl Header {
         write_part(&self.v2, image, 48, 60)
     }
 
-    /// Clears all autoclear features, in the header and in the image. Who means to write to an image must know
-    /// each that its header names, and none is known here. Writes the 8 bytes at 88, in one call of the
+    /// Clears all autoclear features, in the header and in the image. Who means to write to an image must
+    /// know each that its header names, and none is known here. Writes the 8 bytes at 88, in one call of the
     /// storage, so that no other field can be torn. `into_writable` writes the header whole.
     ///
     /// A header without any stays as it is, and the storage isn't called. Takes no memory. Returns fault 34
