@@ -10,13 +10,9 @@ ghost use Rattle.qcow2_apply.specs.Plan.{edits_refusal, RefusesEdits, IsPlanOf, 
 use crate::blocks::CounterTables;
 use crate::changes::Changes;
 use crate::guest_edits::{GuestEdit, first_unfit};
-use crate::mapped_clusters::MappedClusters;
-use crate::planned_changes::PlannedChanges;
 use crate::planned_tables::plan_by_tables;
-use crate::tables::load_edited;
 use qcow2_base::{Fault, Storage};
 use qcow2_check::{Counters, load_l1_table};
-use qcow2_edits::Outcome;
 use qcow2_metadata::{Header, L1Table, RefTable};
 use std::alloc::Global;
 
