@@ -1,5 +1,5 @@
-use Rattle.std.proofs.Common.{◌≡◌, ◌≢◌, ◌⊎◌, ℕ, ◌+◌, ◌<◌, ◌≤◌, List, length, Some, Err, refl, subst, sym, ◌∙◌, inl, inr, arith}
-use Rattle.qcow2_base.specs.Storage.{Image, SameOutside}
+use Rattle.std.proofs.Common.{ℕ, List, Err, subst, ◌∙◌, inl, inr, arith}
+use Rattle.qcow2_base.specs.Storage.{Image}
 use Rattle.qcow2_base.specs.declared.fault.Fault.{Fault}
 use Rattle.qcow2_base.specs.declared.types.HostCluster.{HostCluster}
 use Rattle.qcow2_metadata.specs.Header.{HeaderRecord, IsValidHeader, geometry_of}
@@ -12,7 +12,6 @@ use Rattle.qcow2_apply.proofs.BooksLemmas.{uses-at-most, uses-balance, uses-same
 use Rattle.qcow2_apply.specs.Apply.{AreAllApart, BreaksOffApplying, FollowsPlan, InGains, InLosses, InTables, StayCovered, TearsTableOrBlock, l2_tables_of, plan_tables, refblocks_of}
 use Rattle.qcow2_apply.specs.Passes.{TearsOne}
 use Rattle.qcow2_apply.specs.Plan.{IsPlanFor, IsPlanOf}
-use Rattle.qcow2_apply.specs.PlannedTables.{counter_tables}
 use Rattle.qcow2_apply.specs.Tables.{IsEdited}
 use Rattle.qcow2_apply.specs.declared.guest_edits.GuestEdit.{GuestEdit}
 use Rattle.qcow2_apply.specs.declared.plan.Plan.{Plan}
