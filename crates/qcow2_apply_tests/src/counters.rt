@@ -72,7 +72,8 @@ fn follow<S: Storage>(alloc: Global, image: &mut S, outcome: &Outcome) -> Result
         reftable: &reftable,
     };
     let mut changes = Changes::new(alloc, &header);
-    changes.add(alloc, outcome)?;
+    changes.add_all_gained(alloc, outcome.gained.as_slice())?;
+    changes.add_all_lost(alloc, outcome.freed.as_slice())?;
     follow_changes(alloc, image, &tables, &changes)
 }
 
