@@ -7,6 +7,8 @@ mod counters;
 #[cfg(test)]
 mod guest_edits;
 #[cfg(test)]
+mod plan;
+#[cfg(test)]
 mod refusals;
 #[cfg(test)]
 mod small_image;
