@@ -11,6 +11,8 @@ mod plan;
 #[cfg(test)]
 mod refusals;
 #[cfg(test)]
+mod refused_calls;
+#[cfg(test)]
 mod small_image;
 #[cfg(test)]
 mod tables;
