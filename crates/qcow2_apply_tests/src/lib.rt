@@ -3,6 +3,8 @@
 #![tactic(auto)]
 
 #[cfg(test)]
+mod apply;
+#[cfg(test)]
 mod counters;
 #[cfg(test)]
 mod guest_edits;
@@ -12,6 +14,8 @@ mod plan;
 mod refusals;
 #[cfg(test)]
 mod refused_calls;
+#[cfg(test)]
+mod sized_image;
 #[cfg(test)]
 mod small_image;
 #[cfg(test)]
