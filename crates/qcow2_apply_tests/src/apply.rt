@@ -1,12 +1,12 @@
 //! What edits of a disk leave of images.
 
 use crate::sized_image::{
-    Content, Guest, LARGE, NARROW, Shape, WIDE, guest_cluster, host_cluster, sized_image,
+    Content, Guest, LARGE, LARGEST, NARROW, Shape, WIDE, guest_cluster, host_cluster, sized_image,
 };
 use crate::small_image::{apply, header_of, is_image_consistent};
 use qcow2_apply::GuestEdit;
 use qcow2_base::{Fault, GuestOffset, HostCluster, MemStorage};
-use qcow2_testing::{each, rows, same, same_image};
+use qcow2_testing::{each, put, rows, same, same_image};
 use std::alloc::Global;
 use std::test::Fail;
 
@@ -200,13 +200,25 @@ fn edit(alloc: Global, image: &mut MemStorage, edits: &[GuestEdit]) -> Result<()
     apply(alloc, image, &mut header, edits)
 }
 
+// Makes the edits of a row in its image, and compares all bytes.
+fn check_edited(
+    alloc: Global,
+    image: &mut MemStorage,
+    shape: Shape<'_>,
+    row: Applied<'_>,
+) -> Result<(), Fail> {
+    let name = (row.name, shape.name);
+    let edits = edits_of(alloc, shape, row.edits)?;
+    same(edit(alloc, image, edits.as_slice()), Ok(()), name)?;
+    same_image(image, sized_image(alloc, shape, row.after), name)
+}
+
+// The same of an image that is consistent before.
 fn check_shape(alloc: Global, shape: Shape<'_>, row: Applied<'_>) -> Result<(), Fail> {
     let name = (row.name, shape.name);
     let mut image = sized_image(alloc, shape, row.before)?;
     same(is_image_consistent(alloc, &mut image), Ok(true), name)?;
-    let edits = edits_of(alloc, shape, row.edits)?;
-    same(edit(alloc, &mut image, edits.as_slice()), Ok(()), name)?;
-    same_image(&image, sized_image(alloc, shape, row.after), name)?;
+    check_edited(alloc, &mut image, shape, row)?;
     same(
         is_image_consistent(alloc, &mut image),
         Ok(row.consistent),
@@ -242,6 +254,33 @@ fn so_with_counters_of_one_bit(rt: HostRuntime) -> Result<(), Fail> {
 #[test]
 fn so_with_larger_clusters(rt: HostRuntime) -> Result<(), Fail> {
     check_shapes(rt.alloc(), LARGE, IN_LARGE)
+}
+
+// Whether the largest image is consistent would take too long.
+#[test]
+fn so_with_the_largest_clusters(rt: HostRuntime) -> Result<(), Fail> {
+    let alloc = rt.alloc();
+    let mut image = sized_image(alloc, LARGEST, IN_LARGE.before)?;
+    check_edited(alloc, &mut image, LARGEST, IN_LARGE)
+}
+
+// An image of larger clusters with an offset of 512 in a table.
+fn unaligned_image(alloc: Global, shape: Shape<'_>) -> Result<MemStorage, Fault> {
+    let mut image = sized_image(alloc, shape, PLAIN)?;
+    put(&mut image, shape.cluster_size.wrapping_mul(4), 512)?;
+    Ok(image)
+}
+
+#[test]
+fn an_entry_whose_offset_is_not_of_a_cluster_refuses_edits(rt: HostRuntime) -> Result<(), Fail> {
+    let alloc = rt.alloc();
+    for shape in LARGE {
+        let mut image = unaligned_image(alloc, *shape)?;
+        let found = edit(alloc, &mut image, &[edit_of(*shape, Change::DiscardAll)]);
+        same(found, Err(Fault::EntryUnaligned), shape.name)?;
+        same_image(&image, unaligned_image(alloc, *shape), shape.name)?;
+    }
+    Ok(())
 }
 
 #[test]

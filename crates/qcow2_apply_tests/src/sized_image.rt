@@ -44,6 +44,16 @@ pub(crate) const LARGE: &[Shape<'static>] = rows! { Shape:
         counters: 32768 },
 };
 
+/// The largest clusters.
+pub(crate) const LARGEST: Shape<'static> = Shape {
+    name: "2 MiB, 64 bits",
+    cluster_bits: 21,
+    cluster_size: 2097152,
+    entries: 262144,
+    refcount_order: 6,
+    counters: 262144,
+};
+
 /// What a guest cluster is. Host clusters are named by their index among six: clusters 7 to 9, and the first
 /// three that the second block counts.
 #[derive(Clone, Copy)]
