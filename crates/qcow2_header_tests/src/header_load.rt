@@ -25,6 +25,13 @@ const LOADED: &[Loaded] = rows! {
     ("refcount_order=0x1000004", Err(Fault::RefcountWidth)),
     ("refcount_order=0x10004", Err(Fault::RefcountWidth)),
     ("refcount_order=260", Err(Fault::RefcountWidth)),
+    // incompatible features but an external data file are reported
+    ("incompatible_features=1", Err(Fault::Incompatible(1))),
+    ("incompatible_features=2", Err(Fault::Incompatible(2))),
+    ("incompatible_features=6", Err(Fault::Incompatible(2))),
+    ("incompatible_features=0x18", Err(Fault::Incompatible(24))),
+    ("incompatible_features=0x8000000000000004", Err(Fault::Incompatible(0x8000_0000_0000_0000))),
+    ("incompatible_features=0xffffffffffffffff", Err(Fault::Incompatible(0xffff_ffff_ffff_fffb))),
     // where the magic, the version or the cluster size is bad, all fields after it may be bad too
     ("0=ff*104", Err(Fault::NotQcow2)), ("4=ff*100", Err(Fault::Version)),
     ("8=ff*96", Err(Fault::ClusterSize)),
@@ -51,6 +58,9 @@ const LOADED: &[Loaded] = rows! {
     // data that ends within the cluster, though its padding doesn't
     ("header_length=105, 111=018f", Ok(NO_NAMES)),
     ("header_length=105, 105=e2792aca 0000018f ff", Err(Fault::ExtensionText)),
+};
+
+const OF_EXTENSIONS: &[Loaded] = rows! {
     // names in extensions
     ("104=format 05:qcow2", Ok(Names { format: Some("qcow2"), ..NO_NAMES })),
     ("104=data 08:data.raw, incompatible_features=4",
@@ -79,6 +89,9 @@ const LOADED: &[Loaded] = rows! {
     ("104=0000000700000000*50", Ok(NO_NAMES)), ("104=0000000700000000*51", Err(Fault::ExtensionsExceed)),
     ("cluster_bits=21, 104=0000000700000000*262000, 2096104=format 03:raw",
         Ok(Names { format: Some("raw"), ..NO_NAMES })),
+};
+
+const OF_BACKING_FILES: &[Loaded] = rows! {
     // a backing file's name lies anywhere in the first cluster
     ("backing_file_offset=504, backing_file_size=8",
         Ok(Names { backing: Some("\0\0\0\0\0\0\0\0"), ..NO_NAMES })),
@@ -101,13 +114,6 @@ const LOADED: &[Loaded] = rows! {
     ("cluster_bits=11, backing_file_offset=1024, backing_file_size=1023, 2046=ff",
         Err(Fault::BackingNameText)),
     ("cluster_bits=11, backing_file_offset=1024, backing_file_size=1024", Err(Fault::BackingNameLong)),
-    // incompatible features but an external data file are reported
-    ("incompatible_features=1", Err(Fault::Incompatible(1))),
-    ("incompatible_features=2", Err(Fault::Incompatible(2))),
-    ("incompatible_features=6", Err(Fault::Incompatible(2))),
-    ("incompatible_features=0x18", Err(Fault::Incompatible(24))),
-    ("incompatible_features=0x8000000000000004", Err(Fault::Incompatible(0x8000_0000_0000_0000))),
-    ("incompatible_features=0xffffffffffffffff", Err(Fault::Incompatible(0xffff_ffff_ffff_fffb))),
 };
 
 fn check_loaded(alloc: Global, (changes, expected): Loaded) -> Result<(), Fail> {
@@ -116,8 +122,18 @@ fn check_loaded(alloc: Global, (changes, expected): Loaded) -> Result<(), Fail> 
 }
 
 #[test]
-fn a_load_returns_the_names_of_a_valid_header_or_a_fault(rt: HostRuntime) -> Result<(), Fail> {
+fn a_load_returns_a_valid_header_or_a_fault(rt: HostRuntime) -> Result<(), Fail> {
     each(rt.alloc(), LOADED, check_loaded)
+}
+
+#[test]
+fn a_load_returns_the_names_of_extensions_or_a_fault(rt: HostRuntime) -> Result<(), Fail> {
+    each(rt.alloc(), OF_EXTENSIONS, check_loaded)
+}
+
+#[test]
+fn a_load_returns_the_name_of_the_backing_file_or_a_fault(rt: HostRuntime) -> Result<(), Fail> {
+    each(rt.alloc(), OF_BACKING_FILES, check_loaded)
 }
 
 // Changes to the least header that break one condition each, and the fault. Faults are in the order in which
