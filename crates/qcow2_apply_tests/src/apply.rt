@@ -24,37 +24,37 @@ enum Change {
 #[derive(Clone, Copy)]
 struct Applied<'a> {
     name: &'a str,
-    before: Content,
+    before: Content<'a>,
     edits: &'a [Change],
-    after: Content,
+    after: Content<'a>,
     consistent: bool,
 }
 
 // Content in two lines.
 macro_rules! content {
     ([$($guest:ident$(($host:literal))?),*], $counters:expr) => {
-        Content { guests: [$(Guest::$guest$(($host))?),*], counters: $counters }
+        Content { guests: &[$(Guest::$guest$(($host))?),*], counters: $counters }
     };
 }
 
 // Content without compressed data, and with it.
-const PLAIN: Content = content!(
+const PLAIN: Content<'static> = content!(
     [Nothing, Data(0), Data(3), Data(1), Data(4), Zeros],
     [1, 1, 0, 1, 1, 0]
 );
 
-const COMPRESSED: Content = content!(
+const COMPRESSED: Content<'static> = content!(
     [Over(0), First(0), Later(0), First(0), Data(4), Later(3)],
     [4, 1, 0, 1, 1, 0]
 );
 
 // Content with data of two guest clusters.
-const SHARED: Content = content!(
+const SHARED: Content<'static> = content!(
     [Shared(0), Nothing, Nothing, Shared(0), Nothing, Nothing],
     [2, 0, 0, 0, 0, 0]
 );
 
-const EMPTY: Content = content!(
+const EMPTY: Content<'static> = content!(
     [Nothing, Nothing, Nothing, Nothing, Nothing, Nothing],
     [0, 0, 0, 0, 0, 0]
 );
@@ -233,22 +233,22 @@ fn check_shapes(alloc: Global, shapes: &[Shape<'_>], row: Applied<'_>) -> Result
     Ok(())
 }
 
+fn check_wide(alloc: Global, row: Applied<'_>) -> Result<(), Fail> {
+    check_shapes(alloc, WIDE, row)
+}
+
+fn check_narrow(alloc: Global, row: Applied<'_>) -> Result<(), Fail> {
+    check_shape(alloc, NARROW, row)
+}
+
 #[test]
 fn edits_leave_tables_and_counters_as_they_say(rt: HostRuntime) -> Result<(), Fail> {
-    each(
-        rt.alloc(),
-        APPLIED,
-        |alloc, row| check_shapes(alloc, WIDE, row),
-    )
+    each(rt.alloc(), APPLIED, check_wide)
 }
 
 #[test]
 fn so_with_counters_of_one_bit(rt: HostRuntime) -> Result<(), Fail> {
-    each(
-        rt.alloc(),
-        APPLIED,
-        |alloc, row| check_shape(alloc, NARROW, row),
-    )
+    each(rt.alloc(), APPLIED, check_narrow)
 }
 
 #[test]
@@ -285,9 +285,5 @@ fn an_entry_whose_offset_is_not_of_a_cluster_refuses_edits(rt: HostRuntime) -> R
 
 #[test]
 fn clusters_that_lose_one_reference_keep_their_others(rt: HostRuntime) -> Result<(), Fail> {
-    each(
-        rt.alloc(),
-        COUNTED,
-        |alloc, row| check_shapes(alloc, WIDE, row),
-    )
+    each(rt.alloc(), COUNTED, check_wide)
 }

@@ -6,7 +6,7 @@ use crate::small_image::{
     map, small_image, zeros,
 };
 use qcow2_apply::GuestEdit;
-use qcow2_base::{Fault, GuestOffset, HostCluster, MemStorage};
+use qcow2_base::{Fault, GuestOffset, HostCluster, MemStorage, Storage};
 use qcow2_check::{Finding, Findings};
 use qcow2_metadata::Header;
 use qcow2_testing::{StorageCall, each, printed, put_all, recorded, rows, same, same_image};
@@ -118,7 +118,7 @@ fn gains_come_before_tables_and_losses_after_them(rt: HostRuntime) -> Result<(),
 }
 
 // The first cluster of an image that has more uses than its counter says, if there is one.
-fn first_undercounted(alloc: Global, image: &mut MemStorage) -> Result<Option<Finding>, Fault> {
+fn first_undercounted<S: Storage>(alloc: Global, image: &mut S) -> Result<Option<Finding>, Fault> {
     let header = header_of(alloc, image)?;
     let mut findings = Findings::new(alloc, image, &header)?;
     for _ in 0..100 {

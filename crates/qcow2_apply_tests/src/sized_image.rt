@@ -11,7 +11,7 @@ use std::alloc::Global;
 #[derive(Clone, Copy)]
 pub(crate) struct Shape<'a> {
     pub(crate) name: &'a str,
-    pub(crate) cluster_bits: u64,
+    pub(crate) cluster_bits: u32,
     pub(crate) cluster_size: u64,
     pub(crate) entries: u64,
     pub(crate) refcount_order: u64,
@@ -80,8 +80,8 @@ pub(crate) enum Guest {
 /// table, the first two of the second one and the last of the disk; and the counters of the six host
 /// clusters.
 #[derive(Clone, Copy)]
-pub(crate) struct Content {
-    pub(crate) guests: [Guest; 6],
+pub(crate) struct Content<'a> {
+    pub(crate) guests: &'a [Guest],
     pub(crate) counters: [u8; 6],
 }
 
@@ -120,7 +120,7 @@ fn number_of(shape: Shape<'_>, guest: Guest) -> u64 {
         Guest::Later(index) => 1 << 62 | offset(index) | 16,
         Guest::Over(index) => {
             let start = offset(index).wrapping_add(size).wrapping_sub(16);
-            1 << 62 | 1u64.wrapping_shl(70u32.wrapping_sub(shape.cluster_bits as u32)) | start
+            1 << 62 | 1u64.wrapping_shl(70u32.wrapping_sub(shape.cluster_bits)) | start
         }
     }
 }
@@ -184,7 +184,7 @@ fn empty_image(alloc: Global, shape: Shape<'_>) -> Result<MemStorage, Fault> {
     let disk = shape.entries.wrapping_mul(2).wrapping_mul(size);
     let numbers = [
         (0, 0x5146_49fb_0000_0003),
-        (16, shape.cluster_bits),
+        (16, shape.cluster_bits as u64),
         (24, disk),
         (32, 2),
         (40, place(1)),
@@ -203,7 +203,7 @@ fn empty_image(alloc: Global, shape: Shape<'_>) -> Result<MemStorage, Fault> {
 pub(crate) fn sized_image(
     alloc: Global,
     shape: Shape<'_>,
-    content: Content,
+    content: Content<'_>,
 ) -> Result<MemStorage, Fault> {
     let mut image = empty_image(alloc, shape)?;
     for cluster in 0..7 {
@@ -213,9 +213,16 @@ pub(crate) fn sized_image(
     Ok(image)
 }
 
-fn put_content(image: &mut MemStorage, shape: Shape<'_>, content: Content) -> Result<(), Fault> {
+fn put_content(
+    image: &mut MemStorage,
+    shape: Shape<'_>,
+    content: Content<'_>,
+) -> Result<(), Fault> {
     for index in 0..6usize {
-        put_guest(image, shape, index as u64, content.guests[index])?;
+        let Some(guest) = content.guests.get(index) else {
+            return Err(Fault::WrongLength);
+        };
+        put_guest(image, shape, index as u64, *guest)?;
         let cluster = host_cluster(shape, index as u64);
         put_counter(image, shape, cluster, content.counters[index])?;
     }

@@ -1,0 +1,7 @@
+use Rattle.qcow2_base.specs.Storage.{OnImage}
+use Rattle.qcow2_check.specs.Findings.{IsFindingsOf}
+use Rattle.qcow2_apply_tests.proofs.refused_calls.first_undercounted.Given as goal
+
+-- the reader reads the same image
+abbrev pub invariant-loop : goal.invariant-loop
+invariant-loop g l = OnImage (g.S.Storage.state l.image) (λ bytes. IsFindingsOf bytes l.findings)
