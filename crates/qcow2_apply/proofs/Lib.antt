@@ -2,6 +2,7 @@ pub mod ApplyLemmas
 pub mod BlocksLemmas
 pub mod BooksLemmas
 pub mod BrokenLemmas
+pub mod ChangedClustersLemmas
 pub mod ChangesLemmas
 pub mod GuestEditsLemmas
 pub mod MappedClustersLemmas

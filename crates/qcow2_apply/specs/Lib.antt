@@ -1,5 +1,6 @@
 pub mod Apply
 pub mod Blocks
+pub mod ChangedClusters
 pub mod Changes
 pub mod GuestEdits
 pub mod MappedClusters

@@ -66,6 +66,28 @@ pub(crate) fn follow(
     settle(block, tables.header, index, outcome)
 }
 
+/// The same by what changes have for the block, if they have something.
+pub(crate) fn follow_if_changed(
+    block: &mut RefBlock,
+    tables: &CounterTables<'_>,
+    index: usize,
+    changes: &Changes,
+) -> Result<(), Fault>
+    requires data { uses_external_data tables.now.header ≡ false }
+    requires block { IsBlockOf tables.now block.old }
+    requires bits { IsByBlocks tables.now changes.now }
+    ensures followed { OnOk result
+        (BlockFollows tables.now changes.now index block.old.numbers block.new.numbers) }
+    ensures fault { IfErr result (λ fault. fault ≡ CounterRange) }
+    ensures same { block.new
+        ≡ record block.old { numbers = block.new.numbers; modified = block.new.modified } }
+{
+    match changes.outcome_of(index) {
+        Some(outcome) => follow(block, tables, index, changes, outcome),
+        None => Ok(()),
+    }
+}
+
 // Lets the counters of the block that begins with a cluster follow what their clusters gained and lost.
 fn follow_block<S: Storage>(
     alloc: Global,

@@ -7,6 +7,8 @@ use std::collections::BTreeMap;
 
 mod adding;
 
+pub(crate) use adding::push_clusters;
+
 /// What clusters of an image gain and lose, by the index of the refcount block that counts them. Clauses see
 /// how often each cluster gains and loses a reference.
 #[derive(Drop)]

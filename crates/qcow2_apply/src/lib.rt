@@ -3,6 +3,7 @@
 
 mod apply;
 mod blocks;
+mod changed_clusters;
 mod changes;
 mod guest_edits;
 pub mod laws;
@@ -14,6 +15,7 @@ mod tables;
 
 pub use apply::apply_edits;
 pub use blocks::{CounterTables, follow_changes};
+pub use changed_clusters::{ChangedClusters, KeptCluster};
 pub use changes::Changes;
 pub use guest_edits::{GuestEdit, edits_in, first_unfit};
 pub use plan::Plan;

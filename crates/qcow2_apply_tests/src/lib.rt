@@ -5,6 +5,8 @@
 #[cfg(test)]
 mod apply;
 #[cfg(test)]
+mod changed_clusters;
+#[cfg(test)]
 mod counters;
 #[cfg(test)]
 mod guest_edits;

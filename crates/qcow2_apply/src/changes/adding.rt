@@ -17,8 +17,8 @@ use qcow2_metadata::{ClustersToFreeEntry, Header};
 use std::alloc::{AllocError, Global};
 use std::collections::BTreeMap;
 
-// Appends clusters that lost a reference to others: to the last of these, where they follow them.
-fn push_clusters(
+/// Appends clusters that lost a reference to others: to the last of these, where they follow them.
+pub(crate) fn push_clusters(
     list: &mut Vec<ClustersToFreeEntry>,
     clusters: ClustersToFreeEntry,
 ) -> Result<(), Fault>

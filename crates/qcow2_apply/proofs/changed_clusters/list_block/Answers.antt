@@ -1,0 +1,25 @@
+use Rattle.std.proofs.Common.{◌≡◌, ◌+◌, length, slice_index, subst, arith, rules}
+use Rattle.qcow2_apply.proofs.ChangedClustersLemmas.{lists-by, lists-next, lists-none}
+use Rattle.qcow2_apply.specs.ChangedClusters.{ListsCounters}
+use Rattle.qcow2_apply.proofs.changed_clusters.list_block.Goals as goal
+
+pub loop-k-init : goal.loop-k-init
+loop-k-init c = record {
+  listed = lists-none c.args.first c.args.before.now.numbers c.args.risen.now.numbers c.args.after.now.numbers c.args.clusters.now;
+  within = omega arith;
+}
+
+pub loop-k-preserved : goal.loop-k-preserved
+loop-k-preserved c = record {
+  listed = lists-next c.args.first c.loop-k.k c.args.before.now.numbers c.args.risen.now.numbers c.args.after.now.numbers c.args.clusters.now c.loop-k.clusters
+      c.list_cluster.new.clusters c.loop-k.invariant.listed
+      (lists-by (c.args.first + c.loop-k.k) c.get.result c.get-in-loop-k.result c.get-in-loop-k-2.result (c.args.first + c.loop-k.k) (slice_index c.args.before.now.numbers c.loop-k.k) (slice_index c.args.risen.now.numbers c.loop-k.k)
+      (slice_index c.args.after.now.numbers c.loop-k.k) c.loop-k.clusters c.list_cluster.new.clusters (search rules) (search rules) (search rules) (search rules) c.in_ok-list_cluster.ensures.listed);
+  within = omega (arith, c.loop-k-test.true);
+}
+
+pub returns-clause-listed : goal.returns-clause-listed
+returns-clause-listed c =
+    let end : c.loop-k.k ≡ length c.args.before.now.numbers = omega (arith, c.loop-k.invariant.within, c.loop-k-test.false) in
+    subst (λ k. ListsCounters c.args.first k c.args.before.now.numbers c.args.risen.now.numbers c.args.after.now.numbers c.args.clusters.now c.loop-k.clusters) end
+    c.loop-k.invariant.listed

@@ -1,0 +1,215 @@
+//! What becomes of the clusters that edits of a disk give references, or take them from.
+
+ghost use Rattle.std.specs.Prelude.{◌≡◌, ℕ, ◌+◌, ◌*◌, ◌^◌, ◌≤◌, ◌<◌, IfErr, IfOk, IsOkUnless, None, OnOk, false, length};
+ghost use Rattle.qcow2_base.specs.Storage.{OnImage, OnlyReads};
+ghost use Rattle.qcow2_metadata.specs.Header.{uses_external_data};
+ghost use Rattle.qcow2_metadata.specs.Placed.{place_fault};
+ghost use Rattle.qcow2_metadata.specs.Refblock.{block_geometry_of, block_layout};
+ghost use Rattle.qcow2_base.specs.Format.{max_file_length};
+ghost use Rattle.qcow2_check.specs.Counters.{counters_each};
+ghost use Rattle.qcow2_apply.specs.PlannedChanges.{AreSorted};
+ghost use Rattle.qcow2_apply.specs.Blocks.{BlockFollows, IsBlockOf, IsByBlocks, block_numbers};
+ghost use Rattle.qcow2_base.specs.declared.fault.Fault.TheVariants.{NoMemory};
+ghost use Rattle.qcow2_apply.specs.ChangedClusters.{HaveSameCount, IsListFault, ListsBlock, ListsChanges, ListsCounter, ListsCounters};
+
+use crate::blocks::{CounterTables, follow_if_changed};
+use crate::changes::{Changes, push_clusters};
+use crate::plan::Plan;
+use qcow2_base::{ClusterCount, Fault, HostCluster, MAX_FILE_LENGTH, Storage};
+use qcow2_check::named_block;
+use qcow2_metadata::{ClustersToFreeEntry, Header, RefBlock, Table};
+use std::alloc::Global;
+
+/// A cluster that loses a reference and has others, and its counter then.
+#[derive(Clone, Copy, Debug, PartialEq, Eq)]
+pub struct KeptCluster {
+    pub cluster: HostCluster,
+    pub counter: u64,
+}
+
+/// What becomes of clusters by edits of a disk, each list in the order of clusters.
+#[derive(Debug, Drop)]
+pub struct ChangedClusters {
+    /// Those that lose a reference and have none then.
+    pub freed: Vec<ClustersToFreeEntry>,
+    /// Those that lose one and have others.
+    pub kept: Vec<KeptCluster>,
+    /// Those that gain one.
+    pub gained: Vec<HostCluster>,
+}
+
+// Lists a cluster by its counter: before, with what it gains, and without what it loses.
+fn list_cluster(
+    clusters: &mut ChangedClusters,
+    cluster: HostCluster,
+    before: u64,
+    risen: u64,
+    after: u64,
+) -> Result<(), Fault>
+    ensures listed { OnOk result (ListsCounter cluster.0 before risen after clusters.old clusters.new) }
+    ensures fault { IsOkUnless result NoMemory }
+{
+    if risen != before {
+        clusters.gained.push(cluster)?;
+    }
+    if after == risen {
+        return Ok(());
+    }
+    if after != 0 {
+        clusters.kept.push(KeptCluster {
+            cluster,
+            counter: after,
+        })?;
+        return Ok(());
+    }
+    push_clusters(
+        &mut clusters.freed,
+        ClustersToFreeEntry {
+            first: cluster,
+            count: ClusterCount(1),
+        },
+    )
+}
+
+// Lists the clusters of a block from its first one on, by their counters.
+fn list_block(
+    clusters: &mut ChangedClusters,
+    first: u64,
+    before: &RefBlock,
+    risen: &RefBlock,
+    after: &RefBlock,
+) -> Result<(), Fault>
+    requires count { HaveSameCount before.now.numbers risen.now.numbers after.now.numbers }
+    requires fits { first + length before.now.numbers < 2 ^ 64 }
+    ensures listed { OnOk result (ListsCounters first (length before.now.numbers)
+        before.now.numbers risen.now.numbers after.now.numbers clusters.old clusters.new) }
+    ensures fault { IsOkUnless result NoMemory }
+{
+    for k in 0..before.entries() {
+        let cluster = HostCluster(first + k as u64);
+        prove!(k < risen.entries());
+        prove!(k < after.entries());
+        list_cluster(clusters, cluster, before.get(k), risen.get(k), after.get(k))?;
+    }
+    Ok(())
+}
+
+// Loads the block that begins with a cluster, and lets its counters follow changes in memory.
+fn load_followed<S: Storage>(
+    alloc: Global,
+    image: &mut S,
+    tables: &CounterTables<'_>,
+    place: HostCluster,
+    index: usize,
+    changes: &Changes,
+) -> Result<RefBlock, Fault>
+    requires data { uses_external_data tables.now.header ≡ false }
+    requires place { place_fault (block_layout (block_geometry_of tables.now.header)) place ≡ None }
+    requires bits { IsByBlocks tables.now changes.now }
+    ensures followed { IfOk result (λ block. OnImage (S.state image.old) (λ bytes.
+        BlockFollows tables.now changes.now index (block_numbers tables.now place bytes) block.numbers)) }
+    ensures block { IfOk result (IsBlockOf tables.now) }
+    ensures fault { IfErr result IsListFault }
+    ensures storage { OnlyReads result (S.state image.old) (S.state image.new) }
+{
+    let mut block = RefBlock::load(alloc, image, tables.header, place)?;
+    follow_if_changed(&mut block, tables, index, changes)?;
+    Ok(block)
+}
+
+// Lists the clusters whose counters are in the block at an index of the refcount table.
+fn list_at<S: Storage>(
+    alloc: Global,
+    image: &mut S,
+    tables: &CounterTables<'_>,
+    gains: &Changes,
+    losses: &Changes,
+    index: usize,
+    clusters: &mut ChangedClusters,
+) -> Result<(), Fault>
+    requires data { uses_external_data tables.now.header ≡ false }
+    requires sorted { AreSorted (counters_each tables.now.header) gains.now losses.now }
+    requires index { (index + 1) * counters_each tables.now.header ≤ max_file_length }
+    ensures listed { OnOk result (OnImage (S.state image.old) (λ bytes.
+        ListsBlock tables.now gains.now losses.now index bytes clusters.old clusters.new)) }
+    ensures fault { IfErr result IsListFault }
+    ensures storage { OnlyReads result (S.state image.old) (S.state image.new) }
+{
+    if gains.outcome_of(index).is_none() && losses.outcome_of(index).is_none() {
+        return Ok(());
+    }
+    let Some(place) = named_block(tables.reftable, index) else {
+        return Ok(());
+    };
+    let before = RefBlock::load(alloc, image, tables.header, place)?;
+    let risen = load_followed(alloc, image, tables, place, index, gains)?;
+    let mut after = load_followed(alloc, image, tables, place, index, gains)?;
+    follow_if_changed(&mut after, tables, index, losses)?;
+    let first = index as u64 * tables.header.rb_entries() as u64;
+    list_block(clusters, first, &before, &risen, &after)
+}
+
+// Lists all clusters whose counters follow changes.
+fn list_changed<S: Storage>(
+    alloc: Global,
+    image: &mut S,
+    tables: &CounterTables<'_>,
+    gains: &Changes,
+    losses: &Changes,
+) -> Result<ChangedClusters, Fault>
+    requires data { uses_external_data tables.now.header ≡ false }
+    requires sorted { AreSorted (counters_each tables.now.header) gains.now losses.now }
+    ensures listed { IfOk result (λ clusters. OnImage (S.state image.old) (λ bytes.
+        ListsChanges tables.now gains.now losses.now bytes clusters)) }
+    ensures fault { IfErr result IsListFault }
+    ensures storage { OnlyReads result (S.state image.old) (S.state image.new) }
+{
+    let mut clusters = ChangedClusters {
+        freed: Vec::new(alloc),
+        kept: Vec::new(alloc),
+        gained: Vec::new(alloc),
+    };
+    prove!(tables.header.cluster_bits() <= 21);
+    let blocks = MAX_FILE_LENGTH / tables.header.rb_entries() as u64;
+    for index in 0..tables.reftable.entries().min(blocks as usize) {
+        list_at(alloc, image, tables, gains, losses, index, &mut clusters)?;
+    }
+    Ok(clusters)
+}
+
+impl Plan {
+    ghost use Rattle.std.specs.Prelude.{◌≡◌, ◌<◌, IfErr, IfOk, None, false};
+    ghost use Rattle.qcow2_base.specs.Storage.{OnImage, OnlyReads};
+    ghost use Rattle.qcow2_metadata.specs.Header.{geometry_of, uses_external_data};
+    ghost use Rattle.qcow2_check.specs.Counters.{blocks_fault, counters_each};
+    ghost use Rattle.qcow2_apply.specs.PlannedChanges.{AreSorted};
+    ghost use Rattle.qcow2_apply.specs.ChangedClusters.{IsListFault, ListsChanges};
+    ghost use Rattle.qcow2_apply.specs.PlannedTables.{counter_tables};
+    ghost use Rattle.qcow2_apply.specs.Apply.{tables_by};
+
+    /// What will become of the clusters that the planned edits give references, or take them from: which are
+    /// free then, which have others, and which gain one. Clusters without a counter are passed over. The
+    /// image is as it was when the plan was made. Reads the refcount blocks of these clusters, and changes
+    /// no byte.
+    pub fn changed_clusters<S: Storage>(
+        &self,
+        alloc: Global,
+        image: &mut S,
+        header: &Header,
+    ) -> Result<ChangedClusters, Fault>
+        requires data { uses_external_data header.now ≡ false }
+        requires geometry { self.now.reftable.geometry ≡ geometry_of header.now }
+        requires blocks { blocks_fault header.now self.now.reftable.numbers ≡ None }
+        requires sorted { AreSorted (counters_each header.now) self.now.gains self.now.losses }
+        ensures listed { IfOk result (λ clusters. OnImage (S.state image.old) (λ bytes. ListsChanges
+            (counter_tables (tables_by header.now self.now)) self.now.gains self.now.losses bytes clusters)) }
+        ensures fault { IfErr result IsListFault }
+        ensures storage { OnlyReads result (S.state image.old) (S.state image.new) }
+    {
+        let tables = CounterTables {
+            header,
+            reftable: &self.reftable,
+        };
+        list_changed(alloc, image, &tables, &self.gains, &self.losses)
+    }
+}
