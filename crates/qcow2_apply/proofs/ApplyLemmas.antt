@@ -1,10 +1,11 @@
-use Rattle.std.proofs.Common.{IsTrue, true, ◌≡◌, ◌≢◌, ◌↔◌, IsErrOf, ◌⊎◌, ℕ, lit<, ◌+◌, ◌/◌, ◌%◌, ◌^◌, ◌<◌, ◌≤◌, List, length, slice_index, Option, None, Some, Result, Ok, Err, IfErr, MatchResult, ap, refl, subst, sym, ◌∙◌, inl, inr, arith}
+use Rattle.std.proofs.Common.{IsTrue, true, false, Bool, ◌==◌, if◌then◌else◌, ◌∷◌, [], ◌≡◌, ◌≢◌, ◌↔◌, IsErrOf, ◌⊎◌, ℕ, lit<, ◌+◌, ◌/◌, ◌%◌, ◌^◌, ◌<◌, ◌≤◌, List, length, slice_index, Option, None, Some, Result, Ok, Err, IfErr, MatchResult, ap, refl, subst, sym, ◌∙◌, inl, inr, arith}
 use Rattle.std.proofs.lemmas.Bool.{cases_Bool, cases_lt}
+use Rattle.std.proofs.lemmas.Bool.Decides.{nat_tests}
 use Rattle.std.proofs.Math.Nat.{div-lt_iff_lt-mul, pow-le-pow_right}
 use Rattle.std.proofs.lemmas.Nat.{pow_pos}
 use Rattle.std.specs.Option.{option_or}
 use Rattle.std.specs.List.{list_any}
-use Rattle.qcow2_base.specs.Storage.{Image, IsBytes, OnImage, OnImages, SameDevice, SameOutside, StorageState}
+use Rattle.qcow2_base.specs.Storage.{be, Image, IsBytes, OnImage, OnImages, SameDevice, SameOutside, StorageState}
 use Rattle.qcow2_base.specs.Types.{IsClusterBits}
 use Rattle.qcow2_base.specs.declared.fault.Fault.{Fault}
 use Rattle.qcow2_base.specs.declared.fault.Fault.TheVariants.{CounterRange, Storage}
@@ -30,6 +31,8 @@ use Rattle.qcow2_apply.specs.Changes.{gains_of, losses_of}
 use Rattle.qcow2_apply.specs.Passes.{IsOutside, PassBreaksOff, Passes}
 use Rattle.qcow2_apply.specs.Plan.{IsPlanOf, edits_refusal, planned_tables}
 use Rattle.qcow2_apply.specs.declared.plan.Plan.{Plan}
+use Rattle.qcow2_base.specs.OnDiskStruct.{big}
+use Rattle.qcow2_metadata.specs.Header.Pointers.{HoldsBetween, cleared_fields}
 use Rattle.qcow2_metadata.specs.Header.Open.{without_autoclear}
 use Rattle.qcow2_apply.specs.PlannedChanges.{AreSorted, CannotCount}
 use Rattle.qcow2_apply.specs.PlannedTables.{alone_fault, counter_tables, load_fault, mappings_fault, table_refusal, tables_refusal}
@@ -195,6 +198,7 @@ cut-short header edits plan fault old new clears idle outside = record {
   cleared = new;
   clears = clears;
   idle = idle;
+  wiped = λ some ok. absurd (grind (arith, ok));
   ends = λ apart. InGains (stopped-at-once (counter_tables (plan_tables header plan)) plan.gains fault new);
   others = λ o elsewhere. refl;
   faults = λ apart. outside;
@@ -236,7 +240,8 @@ stuck-where-apart (Err fault) edited Stuck Apart apart (inr (range, stuck)) = in
 -- edits that are planned were made
 pub follows-plan : (header left : HeaderRecord) (edits : List GuestEdit) (plan : Plan) (answer : Result (Unit {0}) Fault) (before cleared after : StorageState)
     → left ≡ without_autoclear header → IsTrue cleared.tells → SameOutside 88 8 before.byte_at cleared.byte_at
-    → (header.base.autoclear_features ≡ 0 → cleared.byte_at ≡ before.byte_at) → IsPlanOf header edits before.byte_at plan
+    → (header.base.autoclear_features ≡ 0 → cleared.byte_at ≡ before.byte_at)
+    → (header.base.autoclear_features ≢ 0 → be cleared.byte_at 88 8 ≡ 0) → IsPlanOf header edits before.byte_at plan
     → (let tables = image_tables left plan.l1_table.numbers plan.reftable.numbers in AreAllApart tables → OnImages cleared after (λ old new. MatchResult answer
     (λ _. Applies tables edits plan.gains plan.losses old new) (λ fault. BreaksOffApplying tables edits plan.gains plan.losses fault old new)))
     → (let tables = image_tables left plan.l1_table.numbers plan.reftable.numbers in
@@ -244,12 +249,13 @@ pub follows-plan : (header left : HeaderRecord) (edits : List GuestEdit) (plan :
     → (let tables = image_tables left plan.l1_table.numbers plan.reftable.numbers in AreAllApart tables → IfErr answer (λ fault. OnImage cleared (λ bytes.
     (first : Image) → CanBeMade tables edits plan.gains plan.losses first → SameOutside 88 8 first bytes → IsFromOutside fault)))
     → FollowsPlan header edits plan answer before.byte_at after.byte_at
-follows-plan header left edits plan answer before cleared after is told clears idle planned applied others faults =
+follows-plan header left edits plan answer before cleared after is told clears idle wiped planned applied others faults =
     let tables = λ (header : HeaderRecord). image_tables header plan.l1_table.numbers plan.reftable.numbers in
     record {
       cleared = cleared.byte_at;
       clears = clears;
       idle = idle;
+      wiped = λ some ok. wiped some;
       ends = λ apart. subst (λ header. AreAllApart (tables header) → OnImages cleared after (λ old new. MatchResult answer
           (λ _. Applies (tables header) edits plan.gains plan.losses old new)
           (λ fault. BreaksOffApplying (tables header) edits plan.gains plan.losses fault old new))) is applied apart told;
@@ -314,3 +320,11 @@ counter-left tables edits gains losses old cleared new c bits orders apart clear
     let same = counters-stay tables applied.gained applied.edited bits orders apart applied.tables_edited.others c has in
     let lost = applied.losses_counted.followed c has in
     omega (arith, first, gained, same, lost, sorted.no_loss c, sorted.no_gain c)
+
+-- where the field of autoclear features was written, it is 0
+pub field-wiped : (header : HeaderRecord) (image : Image) → HoldsBetween image 88 96 (cleared_fields header) → header.base.autoclear_features ≢ 0 → be image 88 8 ≡ 0
+field-wiped header image held some = by_test (header.base.autoclear_features == 0) refl held
+  where
+    by_test : (none : Bool) → (header.base.autoclear_features == 0) ≡ none → HoldsBetween image 88 96 (if none then [] else (big 88 8 0 ∷ [])) → be image 88 8 ≡ 0
+    by_test true is held = absurd (grind (arith, nat_tests, is, some))
+    by_test false is held = held.0 (omega arith) (omega arith)

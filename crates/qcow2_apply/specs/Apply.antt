@@ -1,6 +1,6 @@
 -- What do edits of a disk leave of an image, with its tables and counters, and what is left where they break off?
-use Rattle.std.specs.Prelude.{◌≡◌, ◌≢◌, ◌⊎◌, ◌<◌, ◌≤◌, ℕ, List, Some, None, Result, IfErr, IsErr, MatchResult}
-use Rattle.qcow2_base.specs.Storage.{Image, SameOutside}
+use Rattle.std.specs.Prelude.{◌≡◌, ◌≢◌, ◌⊎◌, ◌<◌, ◌≤◌, ◌+◌, ℕ, List, Some, None, Result, IfErr, IsErr, IsOk, MatchResult}
+use Rattle.qcow2_base.specs.Storage.{Image, SameOutside, be}
 use Rattle.qcow2_base.specs.declared.fault.Fault.{Fault}
 use Rattle.qcow2_base.specs.declared.types.HostCluster.{HostCluster}
 use Rattle.qcow2_check.specs.Uses.{ImageTables, image_tables, image_uses, uses_of}
@@ -74,26 +74,26 @@ pub record FollowsPlan (header : HeaderRecord) (edits : List GuestEdit) (plan : 
   pub cleared : Image
   pub clears : SameOutside 88 8 old cleared
   pub idle : header.base.autoclear_features ≡ 0 → cleared ≡ old
+  pub wiped : header.base.autoclear_features ≢ 0 → IsOk answer → be cleared 88 8 ≡ 0
   pub ends : AreAllApart (plan_tables header plan) → MatchResult answer
       (λ _. Applies (plan_tables header plan) edits plan.gains plan.losses cleared new)
       (λ fault. BreaksOffApplying (plan_tables header plan) edits plan.gains plan.losses fault cleared new)
   pub others : (o : ℕ) → IsElsewhere (plan_tables header plan) o → new o ≡ cleared o
   pub faults : AreAllApart (plan_tables header plan) → IfErr answer IsFromOutside
 
--- edits of a disk ended in this answer: they were refused, and no byte changed, or they were planned and made
-pub data EditsDisk (header : HeaderRecord) (edits : List GuestEdit) (answer : Result (Unit {0}) Fault) (old new : Image) : Type 0 where
-  Refuses : IfErr answer (λ fault. IsFromOutside fault ⊎ RefusesEdits header edits old fault) → IsErr answer → new ≡ old → EditsDisk header edits answer old new
+-- edits of a disk ended in this answer, and left this header: they were refused, and nothing changed, or they were planned and made
+pub data EditsDisk (header left : HeaderRecord) (edits : List GuestEdit) (answer : Result (Unit {0}) Fault) (old new : Image) : Type 0 where
+  Refuses : IfErr answer (λ fault. IsFromOutside fault ⊎ RefusesEdits header edits old fault) → IsErr answer → left ≡ header → new ≡ old
+      → EditsDisk header left edits answer old new
   Makes : (plan : Plan) → IsPlanFor header edits plan → IsPlanOf header edits old plan → FollowsPlan header edits plan answer old new
-      → EditsDisk header edits answer old new
+      → EditsDisk header left edits answer old new
 
 -- one write was torn, of a table or of a block
 abbrev pub TearsTableOrBlock : ImageTables → Image → Image → Type 0
 TearsTableOrBlock tables old new = TearsOne (l2_tables_of tables) old new ⊎ TearsOne (refblocks_of tables) old new
 
--- the counter of cluster c is at least its uses
-abbrev pub IsCovered : ImageTables → Image → ℕ → Type 0
-IsCovered tables image c = uses_of (image_uses tables image) c ≤ counter_of_cluster (counter_tables tables) image c
-
--- counters that were at least the uses are so
-abbrev pub StayCovered : ImageTables → Image → Image → Type 0
-StayCovered tables old new = (c : ℕ) → HasCounter (counter_tables tables) c → IsCovered tables old c → IsCovered tables new c
+-- counters keep at least their distance from the uses: what was counted besides these, as references of snapshots, is so still
+abbrev pub KeepDistance : ImageTables → Image → Image → Type 0
+KeepDistance tables old new = (c : ℕ) → HasCounter (counter_tables tables) c →
+    counter_of_cluster (counter_tables tables) old c + uses_of (image_uses tables new) c
+    ≤ counter_of_cluster (counter_tables tables) new c + uses_of (image_uses tables old) c

@@ -90,7 +90,7 @@ pub record HasListed (tables : CounterTablesState) (gains losses : Changes) (end
   pub gained_is : (c : ℕ) → times_gained (cluster_numbers clusters.gained.items) c
       ≡ one_if ((nat_lt (c / counters_each tables.header) end && has_counter tables c) && gains_some tables gains image c)
 
--- all clusters are, that are below the greatest length of a file
+-- all clusters below 2^56 are
 pub record ListsChanges (tables : CounterTablesState) (gains losses : Changes) (image : Image) (clusters : ChangedClusters) : Type 0 where
   pub freed_is : (c : ℕ) → c < max_file_length → handed_back clusters.freed.items c ≡ one_if (has_counter tables c && becomes_free tables gains losses image c)
   pub kept_is : (n c : ℕ) → c < max_file_length → times_kept clusters.kept.items n c ≡ one_if (has_counter tables c && stays_at tables gains losses image n c)

@@ -16,7 +16,7 @@ use Rattle.qcow2_metadata.specs.Entries.{is_among}
 use Rattle.qcow2_metadata.specs.declared.entries.ClustersToFreeEntry.{ClustersToFreeEntry}
 use Rattle.std.specs.List.{All}
 
--- cluster c has no counter, or is none that 64 bits number
+-- cluster c has no counter, or is as far on as 64 bits go
 abbrev pub IsUncounted : HeaderRecord → List ℕ → ℕ → Type 0
 IsUncounted header reftable c = (block_of_cluster header reftable c ≡ None) ⊎ (2 ^ 64 ≤ c + 1)
 

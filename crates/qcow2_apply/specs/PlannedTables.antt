@@ -86,7 +86,7 @@ table_refusal tables edits image index = let cb = tables.header.v2.cluster_bits 
     ]
     else None
 
--- why they can't be made of all, by the first in the order of the L1 table
+-- why they can't be made of all: by the first table in the order of the L1 table, and then since there are more than it has
 abbrev pub tables_refusal : ImageTables → List GuestEdit → Image → Option Fault
 tables_refusal tables edits image = option_or
     (first_fault (table_refusal tables edits image) (range_with_len 0 (length tables.l1)))

@@ -7,7 +7,7 @@ ghost use Rattle.qcow2_base.specs.declared.fault.Fault.{Fault};
 ghost use Rattle.qcow2_metadata.specs.Header.{HeaderRecord, IsValidHeader};
 ghost use Rattle.qcow2_check.specs.Failures.{TearsAtMost};
 ghost use Rattle.qcow2_check.specs.Uses.{image_uses, uses_of};
-ghost use Rattle.qcow2_apply.specs.Apply.{AreAllApart, FollowsPlan, StayCovered, TearsTableOrBlock, plan_tables};
+ghost use Rattle.qcow2_apply.specs.Apply.{AreAllApart, FollowsPlan, KeepDistance, TearsTableOrBlock, plan_tables};
 ghost use Rattle.qcow2_apply.specs.Blocks.{HasCounter, counter_of_cluster};
 ghost use Rattle.qcow2_apply.specs.Plan.{IsPlanFor, IsPlanOf};
 ghost use Rattle.qcow2_apply.specs.PlannedTables.{counter_tables};
@@ -27,14 +27,15 @@ pub fn counters_follow_uses_of_clusters()
         ≡ counter_of_cluster (counter_tables tables) old c + uses_of (image_uses tables new) c }
 {}
 
-/// Where edits of a disk broke off by a fault, in an image whose tables and blocks are apart, counters that
-/// were at least the uses of their clusters are so, but for one write of a table or block that may be torn,
-/// and that only where the storage failed. So at most leaks are left.
+/// Where edits of a disk broke off by a fault, in an image whose tables and blocks are apart, each counter is at
+/// least as far above the uses of its cluster as before, but for one write of a table or block that may be
+/// torn, and that only where the storage failed. So a counter that was at least the uses is so still, and one
+/// that counts references of a snapshot besides still does.
 pub fn edits_that_break_off_make_no_counter_too_low()
     ensures { (header : HeaderRecord) (edits : List GuestEdit) (plan : Plan) (fault : Fault)
         (old new : Image) → IsValidHeader header → IsPlanFor header edits plan →
         IsPlanOf header edits old plan → FollowsPlan header edits plan (Err fault) old new →
         AreAllApart (plan_tables header plan) →
         (mid : Image) × TearsAtMost fault (TearsTableOrBlock (plan_tables header plan)) mid new
-        × StayCovered (plan_tables header plan) old mid }
+        × KeepDistance (plan_tables header plan) old mid }
 {}

@@ -2,7 +2,7 @@ use Rattle.std.proofs.Common.{◌≡◌, ◌∙◌, IsTrue, ap, inr, refl, subst
 use Rattle.std.proofs.lemmas.Bool.Decides.{nat_tests}
 use Rattle.std.proofs.lemmas.Result.{err_from_is_err_and}
 use Rattle.qcow2_base.specs.Storage.{SameDevice, SameOutside}
-use Rattle.qcow2_apply.proofs.ApplyLemmas.{cut-short, follows-plan, reports-then}
+use Rattle.qcow2_apply.proofs.ApplyLemmas.{cut-short, field-wiped, follows-plan, reports-then}
 use Rattle.qcow2_apply.specs.Apply.{Makes, Refuses}
 use Rattle.qcow2_apply.proofs.apply.apply_edits.Goals as goal
 
@@ -10,7 +10,7 @@ pub returns-in_err-plan-clause-edited : goal.returns-in_err-plan-clause-edited
 returns-in_err-plan-clause-edited g c =
     let exit = err_from_is_err_and c.from_residual.result c.from_residual.ensures.1 in
     let same : (g.S.Storage.state c.new.new.image).byte_at ≡ (g.S.Storage.state c.args.image.now).byte_at = search rules in
-    rw (exit.1, exit.2) (λ told. Refuses (c.in_err-plan.ensures.refused told) refl same)
+    rw (exit.1, exit.2) (λ told. Refuses (c.in_err-plan.ensures.refused told) refl refl same)
 
 pub returns-in_err-clear_autoclear-clause-edited : goal.returns-in_err-clear_autoclear-clause-edited
 returns-in_err-clear_autoclear-clause-edited g c =
@@ -56,7 +56,8 @@ returns-clause-edited g c = λ told.
     Makes c.in_ok-plan.plan c.in_ok-plan.ensures.plan (c.in_ok-plan.ensures.planned told)
     (follows-plan c.args.header.now c.clear_autoclear.new.self c.args.edits.now c.in_ok-plan.plan c.make.result before synced (g.S.Storage.state c.make.new.image)
     c.in_ok-clear_autoclear.ensures.header at_end (rw last clears)
-    (λ none. last ∙ ap (λ s. (g.S.Storage.state s).byte_at) (c.clear_autoclear.ensures.idle none).1 ∙ same) (c.in_ok-plan.ensures.planned told)
+    (λ none. last ∙ ap (λ s. (g.S.Storage.state s).byte_at) (c.clear_autoclear.ensures.idle none).1 ∙ same)
+    (λ some. rw last (field-wiped c.args.header.now cleared.byte_at (c.in_ok-clear_autoclear.ensures.written.written known) some)) (c.in_ok-plan.ensures.planned told)
     c.make.ensures.applied c.make.ensures.others c.make.ensures.fault)
 
 pub returns-clause-storage : goal.returns-clause-storage
