@@ -53,20 +53,20 @@ impl Plan {
 
 /// Makes edits of a disk in an image with this header, and lets the counters of the image's clusters follow.
 ///
-/// All is looked at first, and refused where something can't be: by 36 with an external data file; by 32 and
-/// the position of the first edit that doesn't fit the disk; by 27 for zeros in version 2; by the faults of
-/// the L1 table and of the refcount table. Then by table, in their order: by 23 where there is none, but for
-/// discards; by 40 and the position of the first of its edits where its counter isn't 1 or its L1 entry isn't copied; by those of
-/// its load; for a mapped cluster by 23 where it has no counter, and by 32 where that isn't 0 or another edit
-/// maps it. After all tables by 23 where edits but discards go past the last L1 entry, and last by 30 where a
-/// counter can't follow.
+/// All is looked at first, and refused where something can't be: by 36 with an external data file; by 32
+/// and the position of the first edit that doesn't fit the disk; by 27 for zeros in version 2; by the
+/// faults of the L1 table and of the refcount table. Then by table, in their order: by 23 where there is
+/// none, but for discards; by 40 and the position of the first of its edits where its counter isn't 1 or
+/// its L1 entry isn't copied; by those of its load; for a mapped cluster by 23 where it has no counter, and
+/// by 32 where that isn't 0 or another edit maps it. After all tables by 23 where edits but discards go
+/// past the last L1 entry, and last by 30 where a counter can't follow.
 ///
 /// Then autoclear features are cleared, in the header too. What clusters gain is counted before tables are
 /// edited, and what they lose after that, each on the device before the next begins. So where no cluster is
-/// that of two tables or blocks, or the header's, what is left by a fault has no counter that is less than its
-/// uses where it wasn't before, but for what a torn write leaves. After 34 or 35 a part of this may be done,
-/// and after 34 any bytes may be in one table or block. So the call must not be made again: check the image,
-/// and repair it. In such an image no byte has changed after any other fault.
+/// that of two tables or blocks, or the header's, what is left by a fault has no counter that is less than
+/// its uses where it wasn't before, but for what a torn write leaves. After 34 or 35 a part of this may be
+/// done, and after 34 any bytes may be in one table or block. So the call must not be made again: check the
+/// image, and repair it. In such an image no byte has changed after any other fault.
 pub fn apply_edits<S: Storage>(
     alloc: Global,
     image: &mut S,

@@ -27,10 +27,10 @@ pub fn counters_follow_uses_of_clusters()
         ≡ counter_of_cluster (counter_tables tables) old c + uses_of (image_uses tables new) c }
 {}
 
-/// Where edits of a disk broke off by a fault, in an image whose tables and blocks are apart, each counter is at
-/// least as far above the uses of its cluster as before, but for one write of a table or block that may be
-/// torn, and that only where the storage failed. So a counter that was at least the uses is so still, and one
-/// that counts references of a snapshot besides still does.
+/// Where edits of a disk broke off by a fault, in an image whose tables and blocks are apart, each counter
+/// is at least as far above the uses of its cluster as before, but for one write of a table or block that
+/// may be torn, and that only where the storage failed. So a counter that was at least the uses is so
+/// still, and one that counts references of a snapshot besides still does.
 pub fn edits_that_break_off_make_no_counter_too_low()
     ensures { (header : HeaderRecord) (edits : List GuestEdit) (plan : Plan) (fault : Fault)
         (old new : Image) → IsValidHeader header → IsPlanFor header edits plan →
