@@ -1,3 +1,4 @@
+pub mod ApartLemmas
 pub mod ApplyLemmas
 pub mod BlocksLemmas
 pub mod BooksLemmas

@@ -1,14 +1,18 @@
 //! Laws: facts about the definitions that contracts name. Each is a function that does nothing. Its
 //! contract is the law, and its name says it.
 
-ghost use Rattle.std.specs.Prelude.{◌≡◌, ℕ, ◌+◌, List, Err, Ok};
+ghost use Rattle.std.specs.Prelude.{◌≡◌, ℕ, ◌+◌, List, None, Err, Ok};
+ghost use Rattle.qcow2_base.specs.Format.{max_file_length};
 ghost use Rattle.qcow2_base.specs.Storage.{Image};
 ghost use Rattle.qcow2_base.specs.declared.fault.Fault.{Fault};
 ghost use Rattle.qcow2_metadata.specs.Header.{HeaderRecord, IsValidHeader};
+ghost use Rattle.qcow2_check.specs.Counters.{blocks_fault};
 ghost use Rattle.qcow2_check.specs.Failures.{TearsAtMost};
-ghost use Rattle.qcow2_check.specs.Uses.{image_uses, uses_of};
-ghost use Rattle.qcow2_apply.specs.Apply.{AreAllApart, FollowsPlan, KeepDistance, TearsTableOrBlock, plan_tables};
+ghost use Rattle.qcow2_check.specs.Findings.{AreRight};
+ghost use Rattle.qcow2_check.specs.Uses.{ImageTables, image_uses, uses_of};
+ghost use Rattle.qcow2_apply.specs.Apply.{AreAllApart, FollowsPlan, KeepDistance, TearsTableOrBlock, l2_tables_of, plan_tables};
 ghost use Rattle.qcow2_apply.specs.Blocks.{HasCounter, counter_of_cluster};
+ghost use Rattle.qcow2_apply.specs.Passes.{ArePlacesApart};
 ghost use Rattle.qcow2_apply.specs.Plan.{IsPlanFor, IsPlanOf};
 ghost use Rattle.qcow2_apply.specs.PlannedTables.{counter_tables};
 ghost use Rattle.qcow2_apply.specs.declared.guest_edits.GuestEdit.{GuestEdit};
@@ -38,4 +42,12 @@ pub fn edits_that_break_off_make_no_counter_too_low()
         AreAllApart (plan_tables header plan) →
         (mid : Image) × TearsAtMost fault (TearsTableOrBlock (plan_tables header plan)) mid new
         × KeepDistance (plan_tables header plan) old mid }
+{}
+
+/// Where nothing is found of an image, and no two L1 entries name one L2 table, its tables and blocks are
+/// apart, as the other laws ask.
+pub fn tables_and_blocks_are_apart_where_nothing_is_found()
+    ensures { (tables : ImageTables) (image : Image) → AreRight tables image 0 max_file_length →
+        blocks_fault tables.header tables.reftable ≡ None → ArePlacesApart (l2_tables_of tables) →
+        AreAllApart tables }
 {}
