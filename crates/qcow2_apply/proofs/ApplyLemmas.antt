@@ -269,6 +269,13 @@ follows-plan header left edits plan answer before cleared after is told clears i
     by_answer (Ok done) fact = tt
     by_answer (Err fault) fact = fact told before.byte_at (can-be-made header edits plan before.byte_at planned) clears
 
+-- what says of an answer says of one with another value, or of the same fault without it
+pub reports-value : {T U : Type 0} (value : T) (other : U) (a b : StorageState) → ReportsFailures (Ok value) a b → ReportsFailures (Ok other) a b
+reports-value value other a b reports = record { failed = grind (arith, reports.failed); device = reports.device }
+
+pub reports-fault : {T U : Type 0} (fault : Fault) (a b : StorageState) → ReportsFailures {T = T} (Err fault) a b → ReportsFailures {T = U} (Err fault) a b
+reports-fault fault a b reports = record { failed = grind (arith, reports.failed); device = reports.device }
+
 -- calls that fail after others that didn't
 pub reports-then : {T : Type 0} (answer : Result T Fault) (a b d : StorageState) → b.failures ≡ a.failures → SameDevice a b → ReportsFailures answer b d
     → ReportsFailures answer a d

@@ -9,9 +9,11 @@ use Rattle.qcow2_check.specs.Counters.{block_of_cluster, placed_reftable}
 use Rattle.qcow2_check.specs.NamedTables.{loaded_l1_table}
 use Rattle.qcow2_check.specs.Uses.{image_tables}
 use Rattle.qcow2_apply.proofs.PlannedTablesLemmas.{unless-none, unless-some}
+use Rattle.qcow2_apply.specs.ChangedClusters.{ListsChanges}
 use Rattle.qcow2_apply.specs.Plan.{ByCounters, ByTables, Counter, IsPlanOf, NoCounter, RefusesEdits, edits_refusal, planned_tables}
 use Rattle.qcow2_apply.specs.PlannedChanges.{CannotCount, SomeIsUncounted}
 use Rattle.qcow2_apply.specs.PlannedTables.{ComesTo, IsPlanned, lost_before, tables_refusal}
+use Rattle.qcow2_apply.specs.declared.changed_clusters.ChangedClusters.{ChangedClusters}
 use Rattle.qcow2_apply.specs.declared.guest_edits.GuestEdit.{GuestEdit}
 use Rattle.qcow2_apply.specs.declared.planned_changes.PlannedChanges.{PlannedChanges}
 
@@ -73,8 +75,9 @@ pub is-plan : (header : HeaderRecord) (edits : List GuestEdit) (image : Image) (
     → table.numbers ≡ reftable → planned_tables header edits image ≡ Ok (image_tables header l1_table.numbers reftable) → length l1_table.numbers ≡ end
     → IsPlanned (image_tables header l1_table.numbers reftable) edits image end planned → planned.are_counted ≡ true
     → ((c : ℕ) → CannotCount (record { header = header; reftable = table.numbers }) planned.gains planned.losses image c → ⊥)
-    → IsPlanOf header edits image (record { l1_table = l1_table; reftable = table; gains = planned.gains; losses = planned.losses })
-is-plan header edits image l1_table table reftable end planned same is count plans counted counts =
+    → (clusters : ChangedClusters) → ListsChanges (record { header = header; reftable = table.numbers }) planned.gains planned.losses image clusters
+    → IsPlanOf header edits image (record { l1_table = l1_table; reftable = table; gains = planned.gains; losses = planned.losses; clusters = clusters })
+is-plan header edits image l1_table table reftable end planned same is count plans counted counts clusters lists =
     let numbers = sym same in
     let tables = image_tables header l1_table.numbers reftable in
     let comes : ComesTo tables edits image (length l1_table.numbers) planned.gains planned.losses =
@@ -85,6 +88,7 @@ is-plan header edits image l1_table table reftable end planned same is count pla
       counters = λ c some. subst (λ r. IsSome (block_of_cluster header r c)) numbers
           (plans.counters counted c (subst (λ n. 0 < n) (comes.lost_is c ∙ ap (λ n. lost_before tables edits image n c) count) some));
       count = counts;
+      listed = lists;
     }
 
 -- counters that can't count are those of the image, by the refcount table that was read

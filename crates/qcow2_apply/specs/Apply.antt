@@ -1,5 +1,5 @@
 -- What do edits of a disk leave of an image, with its tables and counters, and what is left where they break off?
-use Rattle.std.specs.Prelude.{◌≡◌, ◌≢◌, ◌⊎◌, ◌<◌, ◌≤◌, ◌+◌, ℕ, List, Some, None, Result, IfErr, IsErr, IsOk, MatchResult}
+use Rattle.std.specs.Prelude.{◌≡◌, ◌≢◌, ◌⊎◌, ◌<◌, ◌≤◌, ◌+◌, ℕ, List, Some, None, Result, IfErr, IfOk, IsErr, IsOk, MatchResult}
 use Rattle.qcow2_base.specs.Storage.{Image, SameOutside, be}
 use Rattle.qcow2_base.specs.declared.fault.Fault.{Fault}
 use Rattle.qcow2_base.specs.declared.types.HostCluster.{HostCluster}
@@ -7,13 +7,14 @@ use Rattle.qcow2_check.specs.Uses.{ImageTables, image_tables, image_uses, uses_o
 use Rattle.qcow2_metadata.specs.Header.{HeaderRecord}
 use Rattle.qcow2_apply.specs.Blocks.{FollowsChanges, HasCounter, StopsFollowing, blocks, counter_of_cluster}
 use Rattle.qcow2_apply.specs.Passes.{ArePlacesApart, IsOutside, PassBreaksOff, Passes, Places, TearsOne}
-use Rattle.qcow2_metadata.specs.Results.{IsFromOutside}
+use Rattle.qcow2_metadata.specs.Results.{IsFromOutside, result_map}
 use Rattle.qcow2_apply.specs.Plan.{IsPlanFor, IsPlanOf, RefusesEdits}
 use Rattle.qcow2_metadata.specs.Header.Open.{without_autoclear}
 use Rattle.qcow2_apply.specs.PlannedChanges.{CannotCount}
 use Rattle.qcow2_apply.specs.PlannedTables.{counter_tables, tables_refusal}
 use Rattle.qcow2_apply.specs.declared.plan.Plan.{Plan}
 use Rattle.qcow2_apply.specs.Tables.{IsEdited, l2_tables}
+use Rattle.qcow2_apply.specs.declared.changed_clusters.ChangedClusters.{ChangedClusters}
 use Rattle.qcow2_apply.specs.declared.changes.Changes.{Changes}
 use Rattle.qcow2_apply.specs.declared.guest_edits.GuestEdit.{GuestEdit}
 
@@ -81,11 +82,13 @@ pub record FollowsPlan (header : HeaderRecord) (edits : List GuestEdit) (plan : 
   pub others : (o : ℕ) → IsElsewhere (plan_tables header plan) o → new o ≡ cleared o
   pub faults : AreAllApart (plan_tables header plan) → IfErr answer IsFromOutside
 
--- edits of a disk ended in this answer, and left this header: they were refused, and nothing changed, or they were planned and made
-pub data EditsDisk (header left : HeaderRecord) (edits : List GuestEdit) (answer : Result (Unit {0}) Fault) (old new : Image) : Type 0 where
+-- edits of a disk ended in this answer, and left this header: they were refused, and nothing changed, or they were planned and made,
+-- and what becomes of clusters is what the plan says
+pub data EditsDisk (header left : HeaderRecord) (edits : List GuestEdit) (answer : Result ChangedClusters Fault) (old new : Image) : Type 0 where
   Refuses : IfErr answer (λ fault. IsFromOutside fault ⊎ RefusesEdits header edits old fault) → IsErr answer → left ≡ header → new ≡ old
       → EditsDisk header left edits answer old new
-  Makes : (plan : Plan) → IsPlanFor header edits plan → IsPlanOf header edits old plan → FollowsPlan header edits plan answer old new
+  Makes : (plan : Plan) → IsPlanFor header edits plan → IsPlanOf header edits old plan
+      → FollowsPlan header edits plan (result_map (λ _. tt) answer) old new → IfOk answer (λ clusters. clusters ≡ plan.clusters)
       → EditsDisk header left edits answer old new
 
 -- one write was torn, of a table or of a block

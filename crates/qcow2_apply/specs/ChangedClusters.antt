@@ -1,13 +1,10 @@
 -- What becomes of the clusters that edits of a disk give references, or take them from?
-use Rattle.std.specs.Prelude.{◌≡◌, ◌⊎◌, ◌/◌, ◌<◌, nat_lt, is_some, ℕ, Bool, not, ◌&&◌, ◌==◌, ◌+◌, ◌-◌, List, length, slice_index}
+use Rattle.std.specs.Prelude.{◌≡◌, ◌/◌, ◌<◌, nat_lt, is_some, ℕ, Bool, not, ◌&&◌, ◌==◌, ◌+◌, ◌-◌, List, length, slice_index}
 use Rattle.std.specs.List.{sum_by}
 use Rattle.qcow2_base.specs.Format.{max_file_length}
 use Rattle.qcow2_base.specs.Storage.{Image}
-use Rattle.qcow2_base.specs.declared.fault.Fault.{Fault}
-use Rattle.qcow2_base.specs.declared.fault.Fault.TheVariants.{CounterRange}
 use Rattle.qcow2_edits.specs.Edits.{cluster_numbers}
 use Rattle.qcow2_edits.specs.Settled.{is_between}
-use Rattle.qcow2_metadata.specs.Results.{IsFromOutside}
 use Rattle.qcow2_metadata.specs.Table.L2Guards.{handed_back, one_if, times_gained}
 use Rattle.qcow2_check.specs.Counters.{block_of_cluster, counters_each}
 use Rattle.qcow2_apply.specs.Blocks.{CounterTablesState, counter_of_cluster}
@@ -48,10 +45,6 @@ ListsCounters first count before risen after = ListsMore
 -- lists of as many counters
 abbrev pub HaveSameCount : List ℕ → List ℕ → List ℕ → Type 0
 HaveSameCount before risen after = (length risen ≡ length before) × (length after ≡ length before)
-
--- why clusters can't be listed: a counter can't follow, or a fault came from outside
-abbrev pub IsListFault : Fault → Type 0
-IsListFault fault = (fault ≡ CounterRange) ⊎ IsFromOutside fault
 
 -- the counter of cluster c when it has followed what the cluster gains, and then what it loses
 abbrev pub risen_counter : CounterTablesState → Changes → Image → ℕ → ℕ

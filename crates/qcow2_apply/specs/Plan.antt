@@ -12,6 +12,7 @@ use Rattle.qcow2_metadata.specs.Results.{and_then, unless_refused}
 use Rattle.qcow2_check.specs.Counters.{block_of_cluster, blocks_fault, counters_each, placed_reftable}
 use Rattle.qcow2_check.specs.NamedTables.{loaded_l1_table}
 use Rattle.qcow2_check.specs.Uses.{ImageTables, image_tables}
+use Rattle.qcow2_apply.specs.ChangedClusters.{ListsChanges}
 use Rattle.qcow2_apply.specs.Changes.{losses_of}
 use Rattle.qcow2_apply.specs.GuestEdits.{first_unfit_of, is_zeros}
 use Rattle.qcow2_apply.specs.Tables.{AllFit}
@@ -45,14 +46,15 @@ pub data RefusesEdits (header : HeaderRecord) (edits : List GuestEdit) (image : 
   ByCounters : (tables : ImageTables) → planned_tables header edits image ≡ Ok tables → fault ≡ CounterRange
       → SomeCannotCount tables edits image → RefusesEdits header edits image fault
 
--- all that edits of a disk do to an image is known, and can be done: its tables and all changes of its counters, which these
--- can count
+-- all that edits of a disk do to an image is known, and can be done: its tables, all changes of its counters, which these
+-- can count, and what becomes of clusters
 pub record IsPlanOf (header : HeaderRecord) (edits : List GuestEdit) (image : Image) (plan : Plan) : Type 0 where
   pub tables : planned_tables header edits image ≡ Ok (image_tables header plan.l1_table.numbers plan.reftable.numbers)
   pub changes : ComesTo (image_tables header plan.l1_table.numbers plan.reftable.numbers) edits image (length plan.l1_table.numbers)
       plan.gains plan.losses
   pub counters : (c : ℕ) → 0 < losses_of plan.losses c → IsSome (block_of_cluster header plan.reftable.numbers c)
   pub count : (c : ℕ) → CannotCount (record { header = header; reftable = plan.reftable.numbers }) plan.gains plan.losses image c → ⊥
+  pub listed : ListsChanges (record { header = header; reftable = plan.reftable.numbers }) plan.gains plan.losses image plan.clusters
 
 -- a plan is one of an image with this header
 pub record IsPlanFor (header : HeaderRecord) (edits : List GuestEdit) (plan : Plan) : Type 0 where

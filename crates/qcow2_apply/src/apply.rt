@@ -9,6 +9,7 @@ ghost use Rattle.qcow2_apply.specs.Apply.{Applies, AreAllApart, BreaksOffApplyin
 ghost use Rattle.qcow2_apply.specs.Plan.{IsPlanFor};
 
 use crate::blocks::{CounterTables, follow_changes};
+use crate::changed_clusters::ChangedClusters;
 use crate::guest_edits::GuestEdit;
 use crate::plan::Plan;
 use crate::tables::edit_tables;
@@ -52,6 +53,7 @@ impl Plan {
 }
 
 /// Makes edits of a disk in an image with this header, and lets the counters of the image's clusters follow.
+/// Returns what becomes of clusters by them.
 ///
 /// All is looked at first, and refused where something can't be: by 36 with an external data file; by 32
 /// and the position of the first edit that doesn't fit the disk; by 27 for zeros in version 2; by the
@@ -72,7 +74,7 @@ pub fn apply_edits<S: Storage>(
     image: &mut S,
     header: &mut Header,
     edits: &[GuestEdit],
-) -> Result<(), Fault>
+) -> Result<ChangedClusters, Fault>
     ensures header { (header.new ≡ without_autoclear header.old)
         ⊎ IfErr result (λ _. header.new ≡ header.old) }
     ensures edited { OnImages (S.state image.old) (S.state image.new)
@@ -82,5 +84,6 @@ pub fn apply_edits<S: Storage>(
     let plan = Plan::new(alloc, image, header, edits)?;
     header.clear_autoclear(image)?;
     image.sync()?;
-    plan.make(alloc, image, header, edits)
+    plan.make(alloc, image, header, edits)?;
+    Ok(plan.clusters)
 }

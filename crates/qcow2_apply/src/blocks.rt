@@ -78,7 +78,8 @@ pub(crate) fn follow_if_changed(
     requires bits { IsByBlocks tables.now changes.now }
     ensures followed { OnOk result
         (BlockFollows tables.now changes.now index block.old.numbers block.new.numbers) }
-    ensures fault { IfErr result (λ fault. fault ≡ CounterRange) }
+    ensures fault { IfErr result (λ fault. (fault ≡ CounterRange)
+        × BlockIsStuck tables.now changes.now index block.old.numbers) }
     ensures same { block.new
         ≡ record block.old { numbers = block.new.numbers; modified = block.new.modified } }
 {

@@ -1,20 +1,20 @@
 //! What becomes of the clusters that edits of a disk give references, or take them from.
 
-ghost use Rattle.std.specs.Prelude.{◌≡◌, ℕ, ◌+◌, ◌*◌, ◌^◌, ◌≤◌, ◌<◌, IfErr, IfOk, IsOkUnless, None, OnOk, false, length};
+ghost use Rattle.std.specs.Prelude.{◌≡◌, ◌⊎◌, ℕ, ◌+◌, ◌*◌, ◌^◌, ◌≤◌, ◌<◌, IfErr, IfOk, IsOkUnless, None, OnOk, false, length};
 ghost use Rattle.qcow2_base.specs.Storage.{OnImage, OnlyReads};
 ghost use Rattle.qcow2_metadata.specs.Header.{uses_external_data};
 ghost use Rattle.qcow2_metadata.specs.Placed.{place_fault};
 ghost use Rattle.qcow2_metadata.specs.Refblock.{block_geometry_of, block_layout};
 ghost use Rattle.qcow2_base.specs.Format.{max_file_length};
 ghost use Rattle.qcow2_check.specs.Counters.{counters_each};
-ghost use Rattle.qcow2_apply.specs.PlannedChanges.{AreSorted};
-ghost use Rattle.qcow2_apply.specs.Blocks.{BlockFollows, IsBlockOf, IsByBlocks, block_numbers};
-ghost use Rattle.qcow2_base.specs.declared.fault.Fault.TheVariants.{NoMemory};
-ghost use Rattle.qcow2_apply.specs.ChangedClusters.{HaveSameCount, IsListFault, ListsBlock, ListsChanges, ListsCounter, ListsCounters};
+ghost use Rattle.qcow2_metadata.specs.Results.{IsFromOutside};
+ghost use Rattle.qcow2_apply.specs.PlannedChanges.{AreSorted, CannotCount};
+ghost use Rattle.qcow2_apply.specs.Blocks.{BlockFollows, BlockIsStuck, IsBlockOf, IsByBlocks, block_numbers};
+ghost use Rattle.qcow2_base.specs.declared.fault.Fault.TheVariants.{CounterRange, NoMemory};
+ghost use Rattle.qcow2_apply.specs.ChangedClusters.{HaveSameCount, ListsBlock, ListsChanges, ListsCounter, ListsCounters};
 
 use crate::blocks::{CounterTables, follow_if_changed};
 use crate::changes::{Changes, push_clusters};
-use crate::plan::Plan;
 use qcow2_base::{ClusterCount, Fault, HostCluster, MAX_FILE_LENGTH, Storage};
 use qcow2_check::named_block;
 use qcow2_metadata::{ClustersToFreeEntry, Header, RefBlock, Table};
@@ -109,7 +109,9 @@ fn load_followed<S: Storage>(
     ensures followed { IfOk result (λ block. OnImage (S.state image.old) (λ bytes.
         BlockFollows tables.now changes.now index (block_numbers tables.now place bytes) block.numbers)) }
     ensures block { IfOk result (IsBlockOf tables.now) }
-    ensures fault { IfErr result IsListFault }
+    ensures fault { IfErr result (λ fault. IsFromOutside fault ⊎ ((fault ≡ CounterRange)
+        × OnImage (S.state image.old) (λ bytes.
+        BlockIsStuck tables.now changes.now index (block_numbers tables.now place bytes)))) }
     ensures storage { OnlyReads result (S.state image.old) (S.state image.new) }
 {
     let mut block = RefBlock::load(alloc, image, tables.header, place)?;
@@ -132,7 +134,9 @@ fn list_at<S: Storage>(
     requires index { (index + 1) * counters_each tables.now.header ≤ max_file_length }
     ensures listed { OnOk result (OnImage (S.state image.old) (λ bytes.
         ListsBlock tables.now gains.now losses.now index bytes clusters.old clusters.new)) }
-    ensures fault { IfErr result IsListFault }
+    ensures fault { IfErr result (λ fault. IsFromOutside fault ⊎ ((fault ≡ CounterRange)
+        × OnImage (S.state image.old) (λ bytes.
+        (c : ℕ) × CannotCount tables.now gains.now losses.now bytes c))) }
     ensures storage { OnlyReads result (S.state image.old) (S.state image.new) }
 {
     if gains.outcome_of(index).is_none() && losses.outcome_of(index).is_none() {
@@ -144,13 +148,14 @@ fn list_at<S: Storage>(
     let before = RefBlock::load(alloc, image, tables.header, place)?;
     let risen = load_followed(alloc, image, tables, place, index, gains)?;
     let mut after = load_followed(alloc, image, tables, place, index, gains)?;
+    prove!(after.entries() > 0);
     follow_if_changed(&mut after, tables, index, losses)?;
     let first = index as u64 * tables.header.rb_entries() as u64;
     list_block(clusters, first, &before, &risen, &after)
 }
 
-// Lists all clusters whose counters follow changes.
-fn list_changed<S: Storage>(
+/// What becomes of all clusters whose counters follow changes. Returns 30 where one can't.
+pub(crate) fn list_changed<S: Storage>(
     alloc: Global,
     image: &mut S,
     tables: &CounterTables<'_>,
@@ -161,7 +166,9 @@ fn list_changed<S: Storage>(
     requires sorted { AreSorted (counters_each tables.now.header) gains.now losses.now }
     ensures listed { IfOk result (λ clusters. OnImage (S.state image.old) (λ bytes.
         ListsChanges tables.now gains.now losses.now bytes clusters)) }
-    ensures fault { IfErr result IsListFault }
+    ensures fault { IfErr result (λ fault. IsFromOutside fault ⊎ ((fault ≡ CounterRange)
+        × OnImage (S.state image.old) (λ bytes.
+        (c : ℕ) × CannotCount tables.now gains.now losses.now bytes c))) }
     ensures storage { OnlyReads result (S.state image.old) (S.state image.new) }
 {
     let mut clusters = ChangedClusters {
@@ -175,41 +182,4 @@ fn list_changed<S: Storage>(
         list_at(alloc, image, tables, gains, losses, index, &mut clusters)?;
     }
     Ok(clusters)
-}
-
-impl Plan {
-    ghost use Rattle.std.specs.Prelude.{◌≡◌, ◌<◌, IfErr, IfOk, None, false};
-    ghost use Rattle.qcow2_base.specs.Storage.{OnImage, OnlyReads};
-    ghost use Rattle.qcow2_metadata.specs.Header.{geometry_of, uses_external_data};
-    ghost use Rattle.qcow2_check.specs.Counters.{blocks_fault, counters_each};
-    ghost use Rattle.qcow2_apply.specs.PlannedChanges.{AreSorted};
-    ghost use Rattle.qcow2_apply.specs.ChangedClusters.{IsListFault, ListsChanges};
-    ghost use Rattle.qcow2_apply.specs.PlannedTables.{counter_tables};
-    ghost use Rattle.qcow2_apply.specs.Apply.{tables_by};
-
-    /// What will become of the clusters that the planned edits give references, or take them from: which are
-    /// free then, which have others, and which gain one. Clusters without a counter are passed over. The
-    /// image is as it was when the plan was made. Reads the refcount blocks of these clusters, and changes
-    /// no byte.
-    pub fn changed_clusters<S: Storage>(
-        &self,
-        alloc: Global,
-        image: &mut S,
-        header: &Header,
-    ) -> Result<ChangedClusters, Fault>
-        requires data { uses_external_data header.now ≡ false }
-        requires geometry { self.now.reftable.geometry ≡ geometry_of header.now }
-        requires blocks { blocks_fault header.now self.now.reftable.numbers ≡ None }
-        requires sorted { AreSorted (counters_each header.now) self.now.gains self.now.losses }
-        ensures listed { IfOk result (λ clusters. OnImage (S.state image.old) (λ bytes. ListsChanges
-            (counter_tables (tables_by header.now self.now)) self.now.gains self.now.losses bytes clusters)) }
-        ensures fault { IfErr result IsListFault }
-        ensures storage { OnlyReads result (S.state image.old) (S.state image.new) }
-    {
-        let tables = CounterTables {
-            header,
-            reftable: &self.reftable,
-        };
-        list_changed(alloc, image, &tables, &self.gains, &self.losses)
-    }
 }

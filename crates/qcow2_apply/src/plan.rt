@@ -8,6 +8,7 @@ ghost use Rattle.qcow2_apply.specs.GuestEdits.{is_zeros};
 ghost use Rattle.qcow2_apply.specs.Plan.{edits_refusal, RefusesEdits, IsPlanOf, IsPlanFor};
 
 use crate::blocks::CounterTables;
+use crate::changed_clusters::ChangedClusters;
 use crate::changes::Changes;
 use crate::guest_edits::{GuestEdit, first_unfit};
 use crate::planned_tables::plan_by_tables;
@@ -43,14 +44,15 @@ fn has_zeros(edits: &[GuestEdit]) -> bool
     )
 }
 
-/// What edits of a disk will do to an image: the tables that they are made by, and what clusters gain and
-/// lose. Nothing of it is done yet.
+/// What edits of a disk will do to an image: the tables that they are made by, what clusters gain and lose,
+/// and what becomes of these. Nothing of it is done yet.
 #[derive(Drop)]
 pub struct Plan {
     pub l1_table: L1Table,
     pub reftable: RefTable,
     pub gains: Changes,
     pub losses: Changes,
+    pub clusters: ChangedClusters,
 }
 
 impl Plan {
@@ -74,19 +76,17 @@ impl Plan {
         let mut counters = Counters::new(alloc, image, header)?;
         let planned = plan_by_tables(image, header, &l1_table, &mut counters, edits)?;
         let reftable = counters.into_reftable();
-        planned.check(
-            alloc,
-            image,
-            &CounterTables {
-                header,
-                reftable: &reftable,
-            },
-        )?;
+        let tables = CounterTables {
+            header,
+            reftable: &reftable,
+        };
+        let clusters = planned.changed_clusters(alloc, image, &tables)?;
         Ok(Plan {
             l1_table,
             reftable,
             gains: planned.gains,
             losses: planned.losses,
+            clusters,
         })
     }
 }

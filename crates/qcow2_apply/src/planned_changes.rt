@@ -1,6 +1,6 @@
 //! What edits do to counters, before anything is written.
 
-ghost use Rattle.std.specs.Prelude.{◌≡◌, ◌⊎◌, ℕ, ◌/◌, ◌<◌, false, true, IfErr, IsOkUnless, OnOk};
+ghost use Rattle.std.specs.Prelude.{◌≡◌, ◌⊎◌, ℕ, ◌/◌, ◌<◌, false, true, IfErr, IfOk, IsOkUnless, OnOk};
 ghost use Rattle.std.specs.List.{All};
 ghost use Rattle.qcow2_base.specs.Storage.{OnImage, OnlyReads};
 ghost use Rattle.qcow2_base.specs.declared.fault.Fault.TheVariants.{CounterRange, NoMemory};
@@ -10,9 +10,11 @@ ghost use Rattle.qcow2_metadata.specs.Results.{IsFromOutside};
 ghost use Rattle.qcow2_metadata.specs.Table.L2Guards.{handed_back};
 ghost use Rattle.qcow2_check.specs.Counters.{counters_each};
 ghost use Rattle.qcow2_apply.specs.Changes.{HasNone};
+ghost use Rattle.qcow2_apply.specs.ChangedClusters.{ListsChanges};
 ghost use Rattle.qcow2_apply.specs.PlannedChanges.{IsUncounted, HaveCounters, AreSorted, StaySorted, AddsOutcome, CannotCount};
 
 use crate::blocks::{CounterTables, follow};
+use crate::changed_clusters::{ChangedClusters, list_changed};
 use crate::changes::Changes;
 use qcow2_base::{Fault, HostCluster, Storage};
 use qcow2_check::{Counters, named_block};
@@ -156,19 +158,20 @@ fn check_counters<S: Storage>(
 }
 
 impl PlannedChanges {
-    /// Refuses changes that the counters can't count: one can't, or a cluster that loses a reference has
-    /// none.
-    pub(crate) fn check<S: Storage>(
+    /// What becomes of the clusters that the changes are of. Refuses changes that the counters can't count:
+    /// one can't, or a cluster that loses a reference has none.
+    pub(crate) fn changed_clusters<S: Storage>(
         &self,
         alloc: Global,
         image: &mut S,
         tables: &CounterTables<'_>,
-    ) -> Result<(), Fault>
+    ) -> Result<ChangedClusters, Fault>
         requires data { uses_external_data tables.now.header ≡ false }
         requires sorted { AreSorted (counters_each tables.now.header) self.now.gains self.now.losses }
-        ensures counted { OnOk result (self.now.are_counted ≡ true) }
-        ensures counts { OnOk result (OnImage (S.state image.old) (λ bytes. (c : ℕ) →
-            CannotCount tables.now self.now.gains self.now.losses bytes c → ⊥)) }
+        ensures counts { OnOk result ((self.now.are_counted ≡ true) × OnImage (S.state image.old) (λ bytes.
+            (c : ℕ) → CannotCount tables.now self.now.gains self.now.losses bytes c → ⊥)) }
+        ensures listed { IfOk result (λ clusters. OnImage (S.state image.old) (λ bytes.
+            ListsChanges tables.now self.now.gains self.now.losses bytes clusters)) }
         ensures fault { IfErr result (λ fault. IsFromOutside fault ⊎ ((fault ≡ CounterRange)
             × ((self.now.are_counted ≡ false) ⊎ ((self.now.are_counted ≡ true)
             × OnImage (S.state image.old) (λ bytes.
@@ -178,6 +181,7 @@ impl PlannedChanges {
         if !self.are_counted {
             return Err(Fault::CounterRange);
         }
-        check_counters(alloc, image, tables, &self.gains, &self.losses)
+        check_counters(alloc, image, tables, &self.gains, &self.losses)?;
+        list_changed(alloc, image, tables, &self.gains, &self.losses)
     }
 }

@@ -1,9 +1,9 @@
-//! What becomes of the clusters that planned edits of a disk give references, or take them from.
+//! What becomes of the clusters that edits of a disk give references, or take them from.
 
 use crate::small_image::{
     BLOCK, COPIED, Numbers, OTHER_BLOCK, OTHER_TABLE, discard, header_of, map, small_image,
 };
-use qcow2_apply::{ChangedClusters, GuestEdit, KeptCluster, Plan};
+use qcow2_apply::{ChangedClusters, GuestEdit, KeptCluster, Plan, apply_edits};
 use qcow2_base::{ClusterCount, Fault, GuestOffset, HostCluster, MemStorage, Storage};
 use qcow2_metadata::{ClustersToFreeEntry, Header};
 use qcow2_testing::{each, recorded, same, same_image};
@@ -79,29 +79,39 @@ const CHANGED: &[Changed<'static>] = &[
     },
 ];
 
-fn changed_by<S: Storage>(
+fn planned_by<S: Storage>(
     alloc: Global,
     image: &mut S,
     header: &Header,
     edits: &[GuestEdit],
 ) -> Result<ChangedClusters, Fault> {
     let plan = Plan::new(alloc, image, header, edits)?;
-    plan.changed_clusters(alloc, image, header)
+    Ok(plan.clusters)
 }
 
-fn check_changed(alloc: Global, row: Changed<'_>) -> Result<(), Fail> {
-    let mut image: MemStorage = small_image(alloc, row.before)?;
-    let header = header_of(alloc, &mut image)?;
-    let found = changed_by(alloc, &mut image, &header, row.edits)?;
+fn check_lists(found: &ChangedClusters, row: Changed<'_>) -> Result<(), Fail> {
     same(found.freed.as_slice(), row.freed, row.name)?;
     same(found.kept.as_slice(), row.kept, row.name)?;
-    same(found.gained.as_slice(), row.gained, row.name)?;
+    same(found.gained.as_slice(), row.gained, row.name)
+}
+
+fn check_planned(alloc: Global, row: Changed<'_>) -> Result<(), Fail> {
+    let mut image: MemStorage = small_image(alloc, row.before)?;
+    let header = header_of(alloc, &mut image)?;
+    check_lists(&planned_by(alloc, &mut image, &header, row.edits)?, row)?;
     same_image(&image, small_image(alloc, row.before), row.name)
+}
+
+fn check_made(alloc: Global, row: Changed<'_>) -> Result<(), Fail> {
+    let mut image: MemStorage = small_image(alloc, row.before)?;
+    let mut header = header_of(alloc, &mut image)?;
+    check_lists(&apply_edits(alloc, &mut image, &mut header, row.edits)?, row)
 }
 
 #[test]
 fn clusters_are_listed_by_what_becomes_of_them(rt: HostRuntime) -> Result<(), Fail> {
-    each(rt.alloc(), CHANGED, check_changed)
+    each(rt.alloc(), CHANGED, check_planned)?;
+    each(rt.alloc(), CHANGED, check_made)
 }
 
 #[test]
@@ -112,7 +122,7 @@ fn each_refused_read_of_a_list_is_the_storage_fault(rt: HostRuntime) -> Result<(
     let header = header_of(alloc, &mut image.inner)?;
     for passes in 0..128 {
         image.plan = Some(passes);
-        let found = changed_by(alloc, &mut image, &header, &edits);
+        let found = planned_by(alloc, &mut image, &header, &edits);
         if image.plan.is_some() {
             return same(found.err(), None, passes);
         }

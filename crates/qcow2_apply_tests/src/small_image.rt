@@ -100,7 +100,8 @@ pub(crate) fn apply<S: Storage>(
     header: &mut Header,
     edits: &[GuestEdit],
 ) -> Result<(), Fault> {
-    apply_edits(alloc, image, header, edits)
+    apply_edits(alloc, image, header, edits)?;
+    Ok(())
 }
 
 /// Whether an image is consistent.

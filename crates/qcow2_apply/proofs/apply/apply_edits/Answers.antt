@@ -1,8 +1,8 @@
-use Rattle.std.proofs.Common.{◌≡◌, ◌∙◌, IsTrue, ap, inr, refl, subst, arith, rules}
+use Rattle.std.proofs.Common.{◌≡◌, ◌∙◌, IsTrue, Ok, Err, ap, inr, refl, subst, arith, rules}
 use Rattle.std.proofs.lemmas.Bool.Decides.{nat_tests}
 use Rattle.std.proofs.lemmas.Result.{err_from_is_err_and}
 use Rattle.qcow2_base.specs.Storage.{SameDevice, SameOutside}
-use Rattle.qcow2_apply.proofs.ApplyLemmas.{cut-short, field-wiped, follows-plan, reports-then}
+use Rattle.qcow2_apply.proofs.ApplyLemmas.{cut-short, field-wiped, follows-plan, reports-fault, reports-then, reports-value}
 use Rattle.qcow2_apply.specs.Apply.{Makes, Refuses}
 use Rattle.qcow2_apply.proofs.apply.apply_edits.Goals as goal
 
@@ -24,7 +24,7 @@ returns-in_err-clear_autoclear-clause-edited g c =
     let clears = subst (λ bytes. SameOutside 88 8 bytes cleared.byte_at) same (c.clear_autoclear.ensures.written.storage.others known) in
     Makes c.in_ok-plan.plan c.in_ok-plan.ensures.plan (c.in_ok-plan.ensures.planned told)
     (cut-short c.args.header.now c.args.edits.now c.in_ok-plan.plan c.in_err-clear_autoclear.field-0.0 before.byte_at cleared.byte_at clears
-    (λ none. ap (λ s. (g.S.Storage.state s).byte_at) (c.clear_autoclear.ensures.idle none).1 ∙ same) (inr c.in_err-clear_autoclear.ensures.written.faults)))
+    (λ none. ap (λ s. (g.S.Storage.state s).byte_at) (c.clear_autoclear.ensures.idle none).1 ∙ same) (inr c.in_err-clear_autoclear.ensures.written.faults)) tt)
 
 pub returns-in_err-sync-clause-edited : goal.returns-in_err-sync-clause-edited
 returns-in_err-sync-clause-edited g c =
@@ -40,7 +40,27 @@ returns-in_err-sync-clause-edited g c =
     let clears = subst (λ bytes. SameOutside 88 8 bytes cleared.byte_at) same (c.clear_autoclear.ensures.written.storage.others known) in
     Makes c.in_ok-plan.plan c.in_ok-plan.ensures.plan (c.in_ok-plan.ensures.planned told)
     (cut-short c.args.header.now c.args.edits.now c.in_ok-plan.plan exit.0 before.byte_at synced.byte_at (rw last clears)
-    (λ none. last ∙ ap (λ s. (g.S.Storage.state s).byte_at) (c.clear_autoclear.ensures.idle none).1 ∙ same) (inr exit.2)))
+    (λ none. last ∙ ap (λ s. (g.S.Storage.state s).byte_at) (c.clear_autoclear.ensures.idle none).1 ∙ same) (inr exit.2)) tt)
+
+pub returns-in_err-make-clause-edited : goal.returns-in_err-make-clause-edited
+returns-in_err-make-clause-edited g c =
+    let exit = err_from_is_err_and c.from_residual-in_err-make.result c.from_residual-in_err-make.ensures.1 in
+    rw (exit.1, exit.2) (λ told.
+    let before = g.S.Storage.state c.args.image.now in
+    let planned = g.S.Storage.state c.new.new.image in
+    let cleared = g.S.Storage.state c.clear_autoclear.new.image in
+    let synced = g.S.Storage.state c.sync.new.self in
+    let known : IsTrue planned.tells = search rules in
+    let at_end : IsTrue synced.tells = search rules in
+    let same : planned.byte_at ≡ before.byte_at = search rules in
+    let last : synced.byte_at ≡ cleared.byte_at = search rules in
+    let clears = subst (λ bytes. SameOutside 88 8 bytes cleared.byte_at) same (c.clear_autoclear.ensures.written.storage.others known) in
+    Makes c.in_ok-plan.plan c.in_ok-plan.ensures.plan (c.in_ok-plan.ensures.planned told)
+    (follows-plan c.args.header.now c.clear_autoclear.new.self c.args.edits.now c.in_ok-plan.plan (Err c.in_err-make.field-0.0) before synced (g.S.Storage.state c.make.new.image)
+    c.in_ok-clear_autoclear.ensures.header at_end (rw last clears)
+    (λ none. last ∙ ap (λ s. (g.S.Storage.state s).byte_at) (c.clear_autoclear.ensures.idle none).1 ∙ same)
+    (λ some. rw last (field-wiped c.args.header.now cleared.byte_at (c.in_ok-clear_autoclear.ensures.written.written known) some)) (c.in_ok-plan.ensures.planned told)
+    c.in_err-make.ensures.applied c.in_err-make.ensures.others c.in_err-make.ensures.fault) tt)
 
 pub returns-clause-edited : goal.returns-clause-edited
 returns-clause-edited g c = λ told.
@@ -54,11 +74,27 @@ returns-clause-edited g c = λ told.
     let last : synced.byte_at ≡ cleared.byte_at = search rules in
     let clears = subst (λ bytes. SameOutside 88 8 bytes cleared.byte_at) same (c.clear_autoclear.ensures.written.storage.others known) in
     Makes c.in_ok-plan.plan c.in_ok-plan.ensures.plan (c.in_ok-plan.ensures.planned told)
-    (follows-plan c.args.header.now c.clear_autoclear.new.self c.args.edits.now c.in_ok-plan.plan c.make.result before synced (g.S.Storage.state c.make.new.image)
+    (follows-plan c.args.header.now c.clear_autoclear.new.self c.args.edits.now c.in_ok-plan.plan (Ok tt) before synced (g.S.Storage.state c.make.new.image)
     c.in_ok-clear_autoclear.ensures.header at_end (rw last clears)
     (λ none. last ∙ ap (λ s. (g.S.Storage.state s).byte_at) (c.clear_autoclear.ensures.idle none).1 ∙ same)
     (λ some. rw last (field-wiped c.args.header.now cleared.byte_at (c.in_ok-clear_autoclear.ensures.written.written known) some)) (c.in_ok-plan.ensures.planned told)
-    c.make.ensures.applied c.make.ensures.others c.make.ensures.fault)
+    c.in_ok-make.ensures.applied c.in_ok-make.ensures.others c.in_ok-make.ensures.fault) refl
+
+pub returns-in_err-make-clause-storage : goal.returns-in_err-make-clause-storage
+returns-in_err-make-clause-storage g c =
+    let exit = err_from_is_err_and c.from_residual-in_err-make.result c.from_residual-in_err-make.ensures.1 in
+    rw (exit.1, exit.2) (
+    let before = g.S.Storage.state c.args.image.now in
+    let synced = g.S.Storage.state c.sync.new.self in
+    let device : SameDevice before synced = search rules in
+    let planned = g.S.Storage.state c.new.new.image in
+    let cleared = g.S.Storage.state c.clear_autoclear.new.image in
+    let first : planned.failures ≡ before.failures = grind (arith, nat_tests, c.in_ok-plan.ensures.storage) in
+    let second : cleared.failures ≡ planned.failures = grind (arith, nat_tests, c.in_ok-clear_autoclear.ensures.written.storage) in
+    let third : synced.failures ≡ cleared.failures = grind (arith, nat_tests, c.in_ok-sync.ensures) in
+    let failures : synced.failures ≡ before.failures = third ∙ second ∙ first in
+    reports-fault c.in_err-make.field-0.0 before (g.S.Storage.state c.make.new.image)
+    (reports-then (Err c.in_err-make.field-0.0) before synced (g.S.Storage.state c.make.new.image) failures device c.in_err-make.ensures.storage))
 
 pub returns-clause-storage : goal.returns-clause-storage
 returns-clause-storage g c =
@@ -71,4 +107,5 @@ returns-clause-storage g c =
     let second : cleared.failures ≡ planned.failures = grind (arith, nat_tests, c.in_ok-clear_autoclear.ensures.written.storage) in
     let third : synced.failures ≡ cleared.failures = grind (arith, nat_tests, c.in_ok-sync.ensures) in
     let failures : synced.failures ≡ before.failures = third ∙ second ∙ first in
-    reports-then c.make.result before synced (g.S.Storage.state c.make.new.image) failures device c.make.ensures.storage
+    reports-value (tt {0}) c.in_ok-plan.plan.clusters before (g.S.Storage.state c.make.new.image)
+    (reports-then (Ok tt) before synced (g.S.Storage.state c.make.new.image) failures device c.in_ok-make.ensures.storage)

@@ -2,10 +2,11 @@ use Rattle.std.proofs.Common.{◌≡◌, ◌*◌, ap, IsTrue, length, subst, ari
 use Rattle.std.proofs.lemmas.Result.{err_from_is_err_and}
 use Rattle.qcow2_apply.proofs.BlocksLemmas.{place-at}
 use Rattle.qcow2_apply.proofs.ChangedClustersLemmas.{lists-block}
+use Rattle.qcow2_apply.proofs.PlannedChangesLemmas.{block-fits, gains-stuck, losses-stuck}
 use Rattle.qcow2_apply.proofs.PlannedTablesLemmas.{on-ok}
 use Rattle.qcow2_check.specs.Counters.{counters_each}
 use Rattle.qcow2_apply.specs.ChangedClusters.{ListsCounters}
-use Rattle.qcow2_apply.specs.Blocks.{BlockFollows, block_numbers}
+use Rattle.qcow2_apply.specs.Blocks.{BlockFollows, BlockIsStuck, block_numbers}
 use Rattle.qcow2_apply.proofs.changed_clusters.list_at.Goals as goal
 
 pub returns-in_err-before-clause-fault : goal.returns-in_err-before-clause-fault
@@ -14,8 +15,65 @@ returns-in_err-before-clause-fault g c =
     let place = place-at c.args.tables.now c.args.index c.in-Some.place (search rules) (search rules) in
     rw (exit.1, exit.2) (elim c.in_err-before.ensures.reads.faults [
       | inl refused ↦ absurd (grind (arith, place, refused))
-      | inr outside ↦ inr outside
+      | inr outside ↦ inl outside
     ])
+
+pub returns-in_err-risen-clause-fault : goal.returns-in_err-risen-clause-fault
+returns-in_err-risen-clause-fault g c =
+    let exit = err_from_is_err_and c.from_residual-in_err-risen.result c.from_residual-in_err-risen.ensures.1 in
+    rw (exit.1, exit.2) (elim c.in_err-risen.ensures.fault [
+      | inl outside ↦ inl outside
+      | inr stuck ↦ inr (
+        stuck.0,
+        λ told.
+            let before = (g.S.Storage.state c.args.image.now).byte_at in
+            let once = g.S.Storage.state c.load.new.image in
+            let known : IsTrue once.tells = search rules in
+            let first : once.byte_at ≡ before = search rules in
+            gains-stuck c.args.tables.now c.args.gains.now c.args.losses.now c.args.index c.in-Some.place before
+            c.requires.sorted (search rules) (search rules) (g.met.S.Storage.byte_fits c.args.image.now)
+            (subst (λ bytes. BlockIsStuck c.args.tables.now c.args.gains.now c.args.index (block_numbers c.args.tables.now c.in-Some.place bytes)) first
+            (stuck.1 known)),
+      )
+    ])
+
+pub returns-in_err-after-clause-fault : goal.returns-in_err-after-clause-fault
+returns-in_err-after-clause-fault g c =
+    let exit = err_from_is_err_and c.from_residual-in_err-after.result c.from_residual-in_err-after.ensures.1 in
+    rw (exit.1, exit.2) (elim c.in_err-after.ensures.fault [
+      | inl outside ↦ inl outside
+      | inr stuck ↦ inr (
+        stuck.0,
+        λ told.
+            let before = (g.S.Storage.state c.args.image.now).byte_at in
+            let twice = g.S.Storage.state c.load_followed.new.image in
+            let known : IsTrue twice.tells = search rules in
+            let second : twice.byte_at ≡ before = search rules in
+            gains-stuck c.args.tables.now c.args.gains.now c.args.losses.now c.args.index c.in-Some.place before
+            c.requires.sorted (search rules) (search rules) (g.met.S.Storage.byte_fits c.args.image.now)
+            (subst (λ bytes. BlockIsStuck c.args.tables.now c.args.gains.now c.args.index (block_numbers c.args.tables.now c.in-Some.place bytes)) second
+            (stuck.1 known)),
+      )
+    ])
+
+pub returns-in_err-follow_if_changed-clause-fault : goal.returns-in_err-follow_if_changed-clause-fault
+returns-in_err-follow_if_changed-clause-fault g c =
+    let exit = err_from_is_err_and c.from_residual-in_err-follow_if_changed.result c.from_residual-in_err-follow_if_changed.ensures.1 in
+    let stuck = c.in_err-follow_if_changed.ensures.fault in
+    rw (exit.1, exit.2) (inr (
+      stuck.0,
+      λ told.
+          let before = (g.S.Storage.state c.args.image.now).byte_at in
+          let twice = g.S.Storage.state c.load_followed.new.image in
+          let known : IsTrue twice.tells = search rules in
+          let second : twice.byte_at ≡ before = search rules in
+          losses-stuck c.args.tables.now c.args.gains.now c.args.losses.now c.args.index c.in-Some.place before
+          c.in_ok-after.after.numbers c.requires.sorted (search rules)
+          (subst (λ bytes. BlockFollows c.args.tables.now c.args.gains.now c.args.index (block_numbers c.args.tables.now c.in-Some.place bytes) c.in_ok-after.after.numbers)
+          second (c.in_ok-after.ensures.followed known))
+          (λ k. block-fits c.args.tables.now c.in_ok-after.after k (search rules) c.entries.ensures.valid)
+          stuck.1,
+    ))
 
 pub returns-clause-listed : goal.returns-clause-listed
 returns-clause-listed g c = on-ok c.list_block.result _ _ (λ lists told.

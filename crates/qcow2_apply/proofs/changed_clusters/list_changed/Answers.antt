@@ -1,4 +1,5 @@
-use Rattle.std.proofs.Common.{◌≡◌, ◌/◌, IsTrue, ap, subst, rules}
+use Rattle.std.proofs.Common.{◌≡◌, ◌/◌, IsTrue, ap, inl, inr, subst, rules}
+use Rattle.std.proofs.lemmas.Result.{err_from_is_err_and}
 use Rattle.qcow2_apply.proofs.ChangedClustersLemmas.{listed-all, listed-next, listed-none, none-after}
 use Rattle.qcow2_base.specs.Format.{max_file_length}
 use Rattle.qcow2_apply.specs.ChangedClusters.{ListsBlock}
@@ -9,6 +10,20 @@ loop-index-init g c = record {
   listed = λ told. listed-none c.args.tables.now c.args.gains.now c.args.losses.now (g.S.Storage.state c.args.image.now).byte_at _ (search rules) (search rules) (search rules);
   storage = search rules;
 }
+
+pub returns-in_err-list_at-clause-fault : goal.returns-in_err-list_at-clause-fault
+returns-in_err-list_at-clause-fault g c =
+    let exit = err_from_is_err_and c.from_residual.result c.from_residual.ensures.1 in
+    rw (exit.1, exit.2) (elim c.in_err-list_at.ensures.fault [
+      | inl outside ↦ inl outside
+      | inr cannot ↦ inr (
+        cannot.0,
+        λ told.
+            let known : IsTrue (g.S.Storage.state c.loop-index.image).tells = search rules in
+            let same : (g.S.Storage.state c.loop-index.image).byte_at ≡ (g.S.Storage.state c.args.image.now).byte_at = search rules in
+            rw same at (cannot.1 known),
+      )
+    ])
 
 pub returns-in_err-list_at-clause-storage : goal.returns-in_err-list_at-clause-storage
 returns-in_err-list_at-clause-storage g c = search rules
