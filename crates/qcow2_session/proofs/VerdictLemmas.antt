@@ -1,15 +1,20 @@
-use Rattle.std.proofs.Common.{ℕ, List, Result, Ok, Err, inl, inr, refl}
+use Rattle.std.proofs.Common.{ℕ, List, Result, Ok, Err, ap, inl, inr, refl}
 use Rattle.std.specs.Result.{IsErrOf, IsOkAnd}
 use Rattle.qcow2_base.specs.Storage.{Image, ReadsFor, StorageState}
 use Rattle.qcow2_base.specs.declared.fault.Fault.{Fault}
 use Rattle.qcow2_base.specs.declared.fault.Fault.TheVariants.{Storage}
+use Rattle.qcow2_metadata.specs.Header.{HeaderRecord}
 use Rattle.qcow2_metadata.specs.Placed.{Layout}
+use Rattle.qcow2_apply.specs.declared.changed_clusters.ChangedClusters.{ChangedClusters}
 use Rattle.qcow2_session.proofs.PrintingLemmas.{run_between}
+use Rattle.qcow2_session.specs.Commands.Apply.{EndsApply, PrintsClusters}
 use Rattle.qcow2_session.specs.Commands.Changing.{ChangeEnd, PrintsChange}
 use Rattle.qcow2_session.specs.Commands.List.{PrintsList, PrintsTablesBefore, TableTexts}
 use Rattle.qcow2_session.specs.Commands.Map.{Disk, PrintsExtents}
 use Rattle.qcow2_session.specs.Commands.Printing.{OutputBytes, Prints, PrintsLast, PrintsText}
 use Rattle.qcow2_session.specs.Commands.Verdict.{fine_unless_failed}
+use Rattle.qcow2_session.specs.declared.commands.apply.ApplyForm.{ApplyForm}
+use Rattle.qcow2_session.specs.declared.commands.apply.DiskEdit.{DiskEdit}
 use Rattle.qcow2_session.specs.declared.commands.map.ExtentFormat.{ExtentFormat}
 
 -- What holds of a run holds of it with a verdict too, that all is fine unless it failed.
@@ -95,3 +100,15 @@ fine-PrintsExtents (Err fault) format disk contents old new a b prints = record 
 -- a failed call of the image is the storage fault
 pub fine-ReadsFor : (ran : Result (Unit {0}) Fault) (old new : StorageState) → ReadsFor (IsErrOf ran Storage) old new → ReadsFor (IsErrOf (fine_unless_failed ran) Storage) old new
 fine-ReadsFor ran old new reads = record { failed = λ moved. fine-IsErrOf ran Storage (reads.failed moved); bytes = reads.bytes; device = reads.device }
+
+-- what becomes of clusters was printed
+fine-PrintsClusters : {O : Type 0} (done : Result ChangedClusters Fault) (ran : Result (Unit {0}) Fault) (contents : O → OutputBytes) (old new : StorageState) (a b : O)
+    → PrintsClusters done (run_between contents ran old new a b) → PrintsClusters done (run_between contents (fine_unless_failed ran) old new a b)
+fine-PrintsClusters (Ok clusters) ran contents old new a b prints = fine-PrintsText ran _ _ _ prints
+fine-PrintsClusters (Err fault) ran contents old new a b refused = (ap fine_unless_failed refused.0, refused.1)
+
+-- edits of a disk were made or planned
+pub fine-EndsApply : {O : Type 0} (ran : Result (Unit {0}) Fault) (form : ApplyForm) (edits : List DiskEdit) (header : HeaderRecord) (contents : O → OutputBytes) (old new : StorageState) (a b : O)
+    → EndsApply form edits header (run_between contents ran old new a b) → EndsApply form edits header (run_between contents (fine_unless_failed ran) old new a b)
+fine-EndsApply ran form edits header contents old new a b (inl out) = inl (ap fine_unless_failed out.0, out.1, out.2)
+fine-EndsApply ran form edits header contents old new a b (inr (done, ends, prints)) = inr (done, ends, fine-PrintsClusters done ran contents old new a b prints)

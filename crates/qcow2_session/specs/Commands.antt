@@ -1,4 +1,5 @@
 -- Which commands are there, what asks for each, and what are its facts?
+pub mod Apply
 pub mod At
 pub mod Changing
 pub mod Check
@@ -16,6 +17,7 @@ pub mod Running
 pub mod Verdict
 pub mod Words
 use Rattle.std.specs.Prelude.{if◌then◌else◌, ◌∷◌, Option, None, bytes_eq, codes}
+use Rattle.qcow2_session.specs.Commands.Apply.{apply_command, apply_facts}
 use Rattle.qcow2_session.specs.Commands.At.{at_command, at_facts}
 use Rattle.qcow2_session.specs.Commands.Check.{check_command, check_facts}
 use Rattle.qcow2_session.specs.Commands.Count.{count_command, count_facts}
@@ -39,6 +41,7 @@ command_by_name name image arguments =
     else if bytes_eq name (codes "check") then check_command image arguments
     else if bytes_eq name (codes "edit") then edit_command arguments
     else if bytes_eq name (codes "count") then count_command arguments
+    else if bytes_eq name (codes "apply") then apply_command arguments
     else if bytes_eq name (codes "l2") then l2_command arguments else None
 
 -- the command that a line of words asks for, if it asks for one: its first word is the command's name, its second that
@@ -54,6 +57,7 @@ facts_of command.List = list_facts
 facts_of (command.Map format) = map_facts format
 facts_of (command.At guest_offset) = at_facts guest_offset.0
 facts_of (command.Check form) = check_facts form
+facts_of (command.Apply form edits) = apply_facts form edits
 facts_of (command.Edit l1_index edits) = edit_facts l1_index edits
 facts_of (command.Count cluster steps) = count_facts cluster steps
 facts_of (command.L2 cluster_bits cluster) = l2_facts cluster_bits cluster

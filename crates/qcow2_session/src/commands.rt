@@ -8,6 +8,7 @@ use crate::{Edit, Step};
 use qcow2_base::{GuestOffset, HostCluster};
 use std::alloc::{AllocError, Global};
 
+mod apply;
 mod at;
 mod check;
 mod count;
@@ -22,6 +23,7 @@ mod running;
 mod verdict;
 mod words;
 
+pub use apply::{ApplyForm, DiskEdit, edit_disk};
 pub use at::print_mapping_at;
 pub use check::{CheckForm, check_image, check_image_in_json, repair_and_check_image};
 pub use count::count_references;
@@ -55,6 +57,12 @@ pub enum Command {
     /// repair`: the same after they were made right.
     Check {
         form: CheckForm,
+    },
+    /// `apply IMAGE EDIT..`: edits of the guest's disk, with the counters of clusters. `apply IMAGE plan
+    /// EDIT..`: what becomes of clusters by them.
+    Apply {
+        form: ApplyForm,
+        edits: Changes<DiskEdit>,
     },
     /// `edit IMAGE L1INDEX EDIT..`: edits of the L2 table of an L1 entry.
     Edit {
@@ -90,6 +98,7 @@ impl Command {
             "map" => map::parse(arguments),
             "at" => at::parse(arguments),
             "check" => check::parse(alloc, image, arguments),
+            "apply" => apply::parse(alloc, arguments),
             "edit" => edit::parse(alloc, arguments),
             "count" => count::parse(alloc, arguments),
             "l2" => l2::parse(arguments),
@@ -107,6 +116,10 @@ impl Command {
                 | Command::Count { .. }
                 | Command::Check {
                     form: CheckForm::Repair
+                }
+                | Command::Apply {
+                    form: ApplyForm::Make,
+                    ..
                 }
         )
     }

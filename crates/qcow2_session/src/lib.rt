@@ -7,8 +7,10 @@ pub mod laws;
 mod lines;
 
 pub use commands::{
-    Changes, CheckForm, ClusterBits, Command, FileName, Verdict, report_fault, run, run_words,
+    ApplyForm, Changes, CheckForm, ClusterBits, Command, DiskEdit, FileName, Verdict, report_fault,
+    run, run_words,
 };
+pub use qcow2_apply::{ChangedClusters, GuestEdit, KeptCluster, Plan, apply_edits};
 pub use qcow2_check::{Counters, Finding, Findings, FlagPlace, Flags, WrongFlag, is_consistent};
 use qcow2_check::{load_l1_table, load_l2_table, named_cluster};
 pub use qcow2_edits::{

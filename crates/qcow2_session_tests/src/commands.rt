@@ -1,5 +1,6 @@
 //! The command `l2`: the lines of a table, and its faults.
 
+mod apply;
 pub(crate) mod check;
 pub(crate) mod check_json;
 mod check_repair;

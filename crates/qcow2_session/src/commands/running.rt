@@ -11,6 +11,7 @@ ghost use Rattle.qcow2_session.specs.Commands.Verdict.{fine_unless_failed, statu
 ghost use Rattle.qcow2_session.specs.declared.commands.verdict.Verdict.TheVariants.{Fine};
 
 use super::Command;
+use super::apply::{edit_disk, first_unfit_in_file};
 use super::at::print_mapping_at;
 use super::check::check_in_form;
 use super::count::count_references;
@@ -25,9 +26,9 @@ use qcow2_base::{Fault, FileStorage, Storage};
 use qcow2_buffered::BufferedStorage;
 use qcow2_metadata::Header;
 use std::alloc::Global;
-use std::io;
 use std::io::Write;
 use std::rt::Files;
+use std::{fs, io};
 
 /// Runs a command line, the words after the program's name, and returns the program's status: 0 for
 /// success, 1 for a fault and 2 for words that are no command. 3 and 4 are those of `Verdict::status`, for
@@ -92,12 +93,37 @@ fn run_on_file<R: Files + AllocGlobal, O: Write>(
     ensures verdict { (facts_of command.now).has_verdict ≡ false → IfOk result (λ verdict. verdict ≡ Fine) }
 {
     let mut file = FileStorage::open(rt, path, command.changes_image())?;
+    refuse_far_clusters(rt, path, &mut file, command)?;
     if !reads_all_tables(command) {
         return run_and_flush(rt.alloc(), &mut file, command, out);
     }
     let header = Header::load(rt.alloc(), &mut file, false)?;
     let mut image = BufferedStorage::new(rt.alloc(), file, header.cluster_size())?;
     run_and_flush(rt.alloc(), &mut image, command, out)
+}
+
+// Refuses edits of a disk that map clusters past the end of the image's file, by 32 and the position of the
+// first that does, or that doesn't fit the disk. What isn't a regular file has no end that is known.
+fn refuse_far_clusters<R: Files + AllocGlobal>(
+    rt: &R,
+    path: &str,
+    file: &mut FileStorage<R::File>,
+    command: &Command,
+) -> Result<(), Fault> {
+    let Command::Apply { edits, .. } = command else {
+        return Ok(());
+    };
+    let header = Header::load(rt.alloc(), file, false)?;
+    let Ok(metadata) = fs::metadata(rt, path) else {
+        return Err(Fault::Storage);
+    };
+    if header.external_data_file() || !metadata.is_file() {
+        return Ok(());
+    }
+    match first_unfit_in_file(&header, edits.as_slice(), metadata.len()) {
+        Some(position) => Err(Fault::BadEdit(position)),
+        None => Ok(()),
+    }
 }
 
 // Whether a command reads all tables of its image.
@@ -171,6 +197,9 @@ pub fn run<S: Storage, O: Write>(
             fine(print_mapping_at(alloc, image, &header, *guest_offset, out))
         }
         Command::Check { form } => check_in_form(alloc, image, header, form, out),
+        Command::Apply { form, edits } => {
+            fine(edit_disk(alloc, image, header, *form, edits.as_slice(), out))
+        }
         Command::Edit { l1_index, edits } => {
             fine(edit_entries(alloc, image, &header, *l1_index, edits.as_slice(), out))
         }

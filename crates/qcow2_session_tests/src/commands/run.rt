@@ -98,6 +98,14 @@ const NO_COMMANDS: &[&str] = rows! {
     "check", "check IMAGE ", "check IMAGE x", "check IMAGE 0", "check IMAGE Repair",
     "edit IMAGE", "edit IMAGE map:3:5", "edit IMAGE 0 map:3", "edit IMAGE 0 map:3:5:1", "edit IMAGE 0 map::5",
     "edit IMAGE 0 zero:3:1", "edit IMAGE 0 keep", "edit IMAGE 0 Discard:3", "edit IMAGE 0 discard:3 inc:3",
+    // edits of a disk: none, and words that say none
+    "apply", "apply IMAGE", "apply IMAGE plan", "apply IMAGE plan plan", "apply IMAGE discard:0 plan",
+    "apply IMAGE plan:0", "apply IMAGE discard", "apply IMAGE discard:", "apply IMAGE discard:0:",
+    "apply IMAGE discard:0:512:1", "apply IMAGE zero:0", "apply IMAGE keep:0", "apply IMAGE map:0",
+    "apply IMAGE map:0:5:1", "apply IMAGE map::5", "apply IMAGE Discard:0", "apply IMAGE discard:0 inc:3",
+    "apply IMAGE discard:+0", "apply IMAGE discard:x0", "apply IMAGE discard:0x", "apply IMAGE discard:0X0",
+    "apply IMAGE discard:0xg", "apply IMAGE discard:0x+1", "apply IMAGE discard:0x00000000000000000",
+    "apply IMAGE discard:0x0x0", "apply IMAGE discard:600h", "apply IMAGE discard:18446744073709551616",
     "count IMAGE", "count IMAGE 3 inc:", "count IMAGE 3 add:0", "count IMAGE 3 inc:+1",
     "count IMAGE 3 inc:0:1", "count IMAGE 3 inc:0 discard:0",
 };

@@ -104,6 +104,8 @@ const LOOKS: &[(&str, Ended<'static>)] = rows! {
     ("check no-such-folder/image", NO_FILE),
     ("check no-such-folder/image repair", NO_FILE),
     ("edit no-such-folder/image 0 zero:3", NO_FILE),
+    ("apply no-such-folder/image discard:0", NO_FILE),
+    ("apply no-such-folder/image plan discard:0", NO_FILE),
     // whole images
     ("info IMAGE", Done(INFO)),
     ("list IMAGE", Done(LIST)),
@@ -231,7 +233,7 @@ fn a_damaged_image_is_refused_and_stays_as_it_is(rt: HostRuntime) -> Result<(), 
     check_runs(&rt, "damaged", DAMAGED)
 }
 
-fn check_runs(rt: &HostRuntime, name: &str, runs: &[Run<'_>]) -> Result<(), Fail> {
+pub(crate) fn check_runs(rt: &HostRuntime, name: &str, runs: &[Run<'_>]) -> Result<(), Fail> {
     for run in runs {
         check_run(rt, name, run)?;
     }
@@ -269,7 +271,8 @@ fn sample_file<'a>(
 fn opens_of(line: &str, ended: Ended<'_>) -> Opens {
     let changes = line.starts_with("edit ")
         || line.starts_with("count ")
-        || line.ends_with(" repair");
+        || line.ends_with(" repair")
+        || line.starts_with("apply ") && !line.contains(" plan ");
     let is_command = !matches!(ended, NoCommand(_));
     Opens {
         reading: u64::from(is_command && !changes),

@@ -1,6 +1,6 @@
 use Rattle.std.proofs.Common.{refl}
 use Rattle.qcow2_session.proofs.RunningLemmas.{last-with, runs-with}
-use Rattle.qcow2_session.proofs.VerdictLemmas.{fine-Prints, fine-PrintsChange, fine-PrintsExtents, fine-PrintsLast, fine-PrintsList, fine-PrintsText, fine-ReadsFor}
+use Rattle.qcow2_session.proofs.VerdictLemmas.{fine-EndsApply, fine-Prints, fine-PrintsChange, fine-PrintsExtents, fine-PrintsLast, fine-PrintsList, fine-PrintsText, fine-ReadsFor}
 use Rattle.qcow2_session.specs.Commands.{facts_of}
 use Rattle.qcow2_session.proofs.commands.running.run.Goals as goal
 
@@ -39,10 +39,19 @@ pub returns-in-Check-clause-at_once : goal.returns-in-Check-clause-at_once
 returns-in-Check-clause-at_once g c = λ silent.
     last-with (facts_of c.args.command.now) c.in_ok-header.header _ _ c.in_ok-header.ensures (c.check_in_form.ensures.last (rw c.in-Check.is at silent))
 
+pub returns-in-Apply-clause-runs : goal.returns-in-Apply-clause-runs
+returns-in-Apply-clause-runs g c = runs-with (facts_of c.args.command.now) c.in_ok-header.header _ _ c.in_ok-header.ensures
+    (rw (c.in-Apply.is, c.fine-in-Apply.ensures.answer) (fine-EndsApply c.edit_disk.result _ _ _ g.O.Write.contents _ _ _ _ (rw c.as_slice.ensures at c.edit_disk.ensures.ends)))
+
+pub returns-in-Apply-clause-at_once : goal.returns-in-Apply-clause-at_once
+returns-in-Apply-clause-at_once g c = λ silent.
+    last-with (facts_of c.args.command.now) c.in_ok-header.header _ _ c.in_ok-header.ensures
+    (rw c.fine-in-Apply.ensures.answer (fine-PrintsLast c.edit_disk.result _ _ _ _ _ c.edit_disk.ensures.last))
+
 pub returns-in-Edit-clause-runs : goal.returns-in-Edit-clause-runs
 returns-in-Edit-clause-runs g c = runs-with (facts_of c.args.command.now) c.in_ok-header.header _ _ c.in_ok-header.ensures
     (rw (c.in-Edit.is, c.fine-in-Edit.ensures.answer)
-    (fine-PrintsChange c.edit_entries.result _ _ _ _ _ _ _ (rw c.as_slice.ensures at c.edit_entries.ensures.edits)))
+    (fine-PrintsChange c.edit_entries.result _ _ _ _ _ _ _ (rw c.as_slice-in-Edit.ensures at c.edit_entries.ensures.edits)))
 
 pub returns-in-Edit-clause-at_once : goal.returns-in-Edit-clause-at_once
 returns-in-Edit-clause-at_once g c = λ silent.

@@ -1,0 +1,313 @@
+//! The command `apply`: edits of ranges of the guest's disk, with the counters of clusters.
+
+ghost use Rattle.std.specs.Prelude.{◌≡◌, IfOk, false, map, not, string_bytes};
+ghost use Rattle.qcow2_base.specs.Storage.{OnImage, OnImages, OnlyReads};
+ghost use Rattle.qcow2_metadata.specs.Header.{HeaderRecord};
+ghost use Rattle.qcow2_check.specs.Failures.{ReportsFailures};
+ghost use Rattle.qcow2_apply.specs.Apply.{EditsDisk};
+ghost use Rattle.qcow2_session.specs.Commands.Apply as spec;
+ghost use Rattle.qcow2_session.specs.Commands.Apply.{EndsApply, EndsEdits, PlansEdits, makes_edits};
+ghost use Rattle.qcow2_session.specs.Commands.Printing.{PrintsLast, PrintsText, run_over};
+ghost use Rattle.qcow2_session.specs.Commands.Words.{Parses};
+
+use super::Command;
+use super::words::{Changes, FromWord, number, parts};
+use crate::lines::{LineBuffer, ToLine, print_lines};
+use qcow2_apply::{ChangedClusters, GuestEdit, KeptCluster, Plan, apply_edits};
+use qcow2_base::{Fault, GuestOffset, HostCluster, Storage};
+use qcow2_metadata::Header;
+use std::alloc::{AllocError, Global};
+use std::io::Write;
+
+/// Whether edits of a disk are made, or only planned.
+#[derive(Clone, Copy, Debug, PartialEq, Eq)]
+pub enum ApplyForm {
+    /// They are made.
+    Make,
+    /// What they would do is looked at, and nothing is written.
+    Plan,
+}
+
+/// An edit of a disk, as a word says it. Offsets and lengths are in bytes.
+#[derive(Clone, Copy, Debug, PartialEq, Eq)]
+pub enum DiskEdit {
+    /// One whose range the word says.
+    Range(GuestEdit),
+    /// One cluster has no data.
+    DiscardCluster { offset: GuestOffset },
+}
+
+impl DiskEdit {
+    /// The edit that it is of a disk with clusters of this size.
+    pub fn guest_edit(&self, cluster_size: usize) -> GuestEdit
+        ensures { result ≡ spec.guest_edit cluster_size self.now }
+    {
+        match *self {
+            DiskEdit::Range(edit) => edit,
+            DiskEdit::DiscardCluster { offset } => GuestEdit::Discard {
+                offset,
+                length: cluster_size as u64,
+            },
+        }
+    }
+
+    // Whether it fits the disk of an image with this header, and a cluster that it maps is in the image's
+    // file of this length.
+    fn fits_file(&self, header: &Header, file_length: u64) -> bool
+        ensures { result ≡ spec.fits_file file_length header.now self.now }
+    {
+        let edit = self.guest_edit(header.cluster_size());
+        if !edit.fits(header) {
+            return false;
+        }
+        match edit {
+            GuestEdit::Map { host_cluster, .. } => {
+                host_cluster.0 < file_length.div_ceil(1 << header.cluster_bits())
+            }
+            GuestEdit::Zero { .. } | GuestEdit::Discard { .. } => true,
+        }
+    }
+}
+
+/// Makes edits of the disk of an image with this header, or plans them, and prints what becomes of clusters:
+/// those that are free then, those that lost a reference and have others, and those that gained one.
+///
+/// Returns the faults of `apply_edits`. All but 34 and 35 come before a byte changes, where no cluster is that
+/// of two tables or blocks, or the header's. They come before any line. A failed write to `out` is the storage
+/// fault: the edits are made by then.
+pub fn edit_disk<S: Storage, O: Write>(
+    alloc: Global,
+    image: &mut S,
+    header: Header,
+    form: ApplyForm,
+    edits: &[DiskEdit],
+    out: &mut O,
+) -> Result<(), Fault>
+    ensures ends { EndsApply form edits.now header
+        (run_over S.state O.contents result image.old image.new out.old out.new) }
+    ensures last { PrintsLast (run_over S.state O.contents result image.old image.new out.old out.new) }
+    ensures unchanged { makes_edits form ≡ false → (S.state image.new).byte_at ≡ (S.state image.old).byte_at }
+{
+    let edits = guest_edits(alloc, &header, edits)?;
+    let clusters = changed_clusters(alloc, image, header, form, edits.as_slice())?;
+    print_clusters(&clusters, out)
+}
+
+// What becomes of clusters by edits of a disk, which are made or planned.
+fn changed_clusters<S: Storage>(
+    alloc: Global,
+    image: &mut S,
+    header: Header,
+    form: ApplyForm,
+    edits: &[GuestEdit],
+) -> Result<ChangedClusters, Fault>
+    ensures edits { EndsEdits form header edits.now result (S.state image.old) (S.state image.new) }
+    ensures storage { ReportsFailures result (S.state image.old) (S.state image.new) }
+    ensures unchanged { makes_edits form ≡ false →
+        (S.state image.new).byte_at ≡ (S.state image.old).byte_at }
+{
+    match form {
+        ApplyForm::Make => made_clusters(alloc, image, header, edits),
+        ApplyForm::Plan => planned_clusters(alloc, image, &header, edits),
+    }
+}
+
+// The same where they are made.
+fn made_clusters<S: Storage>(
+    alloc: Global,
+    image: &mut S,
+    header: Header,
+    edits: &[GuestEdit],
+) -> Result<ChangedClusters, Fault>
+    ensures edits { (left : HeaderRecord) × OnImages (S.state image.old) (S.state image.new)
+        (EditsDisk header left edits.now result) }
+    ensures storage { ReportsFailures result (S.state image.old) (S.state image.new) }
+{
+    let mut header = header;
+    apply_edits(alloc, image, &mut header, edits)
+}
+
+// The same where they are planned.
+fn planned_clusters<S: Storage>(
+    alloc: Global,
+    image: &mut S,
+    header: &Header,
+    edits: &[GuestEdit],
+) -> Result<ChangedClusters, Fault>
+    ensures edits { OnImage (S.state image.old) (PlansEdits header.now edits.now result) }
+    ensures storage { OnlyReads result (S.state image.old) (S.state image.new) }
+{
+    let plan = Plan::new(alloc, image, header, edits)?;
+    Ok(plan.clusters)
+}
+
+/// The position of the first edit that doesn't fit the disk of an image with this header, or maps a cluster
+/// that the image's file of this length doesn't have, if there is one.
+pub(super) fn first_unfit_in_file(
+    header: &Header,
+    edits: &[DiskEdit],
+    file_length: u64,
+) -> Option<usize>
+    ensures { result ≡ spec.first_unfit_in_file file_length header.now edits.now }
+{
+    edits.iter().position(
+        |edit: &DiskEdit| -> bool
+            ensures { result ≡ not (spec.fits_file file_length header.entry.now edit.now) }
+        { !edit.fits_file(header, file_length) },
+    )
+}
+
+// The edits that some are of a disk of this header.
+fn guest_edits(
+    alloc: Global,
+    header: &Header,
+    edits: &[DiskEdit],
+) -> Result<Vec<GuestEdit>, AllocError>
+    ensures { IfOk result (λ list. list.items ≡ spec.guest_edits header.now edits.now) }
+{
+    let cluster_size = header.cluster_size();
+    edits
+        .iter()
+        .map(
+            |edit: &DiskEdit| -> GuestEdit
+                ensures { result ≡ spec.guest_edit cluster_size edit.now }
+            { edit.guest_edit(cluster_size) },
+        )
+        .collect(alloc)
+}
+
+// Prints what becomes of clusters.
+fn print_clusters<O: Write>(clusters: &ChangedClusters, out: &mut O) -> Result<(), Fault>
+    ensures { PrintsText result (O.contents out.old) (O.contents out.new) (spec.lines_of clusters.now) }
+{
+    print_lines(clusters.freed.as_slice(), out)?;
+    print_lines(clusters.kept.as_slice(), out)?;
+    print_lines(clusters.gained.as_slice(), out)
+}
+
+/// A cluster that lost a reference and has others.
+impl ToLine for KeptCluster {
+    ghost line = { spec.kept_line };
+
+    fn to_line(&self) -> LineBuffer {
+        let mut line = LineBuffer::new();
+        line.prepend("\n");
+        line.prepend_decimal(self.counter);
+        line.prepend(" ");
+        line.prepend_decimal(self.cluster.0);
+        line.prepend("kept ");
+        line
+    }
+}
+
+/// What the words of the command `apply` ask for.
+pub(super) fn parse(alloc: Global, arguments: &[String]) -> Option<Result<Command, AllocError>>
+    ensures { Parses result (spec.apply_command (map string_bytes arguments.now)) }
+{
+    match arguments {
+        [word, edits @ ..] if word.as_str() == "plan" => {
+            parse_edits(alloc, ApplyForm::Plan, edits)
+        }
+        _ => parse_edits(alloc, ApplyForm::Make, arguments),
+    }
+}
+
+// The command whose edits are these words, of which there is one at least.
+fn parse_edits(
+    alloc: Global,
+    form: ApplyForm,
+    words: &[String],
+) -> Option<Result<Command, AllocError>>
+    ensures { Parses result (spec.edits_command form (map string_bytes words.now)) }
+{
+    if words.is_empty() {
+        return None;
+    }
+    match Changes::parse(alloc, words)? {
+        Ok(edits) => Some(Ok(Command::Apply { form, edits })),
+        Err(error) => Some(Err(error)),
+    }
+}
+
+impl FromWord for DiskEdit {
+    ghost from_word = { spec.disk_edit_of };
+
+    fn from_word(word: &str) -> Option<DiskEdit> {
+        let (name, numbers) = parts(word)?;
+        match name {
+            "map" => map_of(numbers),
+            "zero" => zero_of(numbers, false),
+            "keep" => zero_of(numbers, true),
+            "discard" => discard_of(numbers),
+            _ => None,
+        }
+    }
+}
+
+// The two numbers of a word, if they are these: before its colon, and after it.
+fn two_numbers(numbers: &str) -> Option<(u64, u64)>
+    ensures { result ≡ spec.two_numbers numbers.now }
+{
+    let (first, second) = parts(numbers)?;
+    Some((any_number(first)?, any_number(second)?))
+}
+
+// The edit that maps an offset to a cluster.
+fn map_of(numbers: &str) -> Option<DiskEdit>
+    ensures { result ≡ spec.map_of numbers.now }
+{
+    let (offset, cluster) = two_numbers(numbers)?;
+    Some(DiskEdit::Range(GuestEdit::Map {
+        offset: GuestOffset(offset),
+        host_cluster: HostCluster(cluster),
+    }))
+}
+
+// The edit that makes zeros from an offset on.
+fn zero_of(numbers: &str, keep_allocation: bool) -> Option<DiskEdit>
+    ensures { result ≡ spec.zero_of keep_allocation numbers.now }
+{
+    let (offset, length) = two_numbers(numbers)?;
+    Some(DiskEdit::Range(GuestEdit::Zero {
+        offset: GuestOffset(offset),
+        length,
+        keep_allocation,
+    }))
+}
+
+// The edit that takes data away from an offset on: of one cluster, where no length is said.
+fn discard_of(numbers: &str) -> Option<DiskEdit>
+    ensures { result ≡ spec.discard_of numbers.now }
+{
+    if parts(numbers).is_none() {
+        let offset = GuestOffset(any_number(numbers)?);
+        return Some(DiskEdit::DiscardCluster { offset });
+    }
+    let (offset, length) = two_numbers(numbers)?;
+    Some(DiskEdit::Range(GuestEdit::Discard {
+        offset: GuestOffset(offset),
+        length,
+    }))
+}
+
+// The number that a word says, by decimal digits, or by hexadecimal ones after `0x`.
+fn any_number(word: &str) -> Option<u64>
+    ensures { result ≡ spec.any_number word.now }
+{
+    match word.strip_prefix("0x") {
+        Some(digits) => hexadecimal(digits),
+        None => number(word),
+    }
+}
+
+// The number that 1 to 16 hexadecimal digits say. There is no sign.
+#[tactic(auto, using(crate::proofs::CommandsLemmas::hexadecimal_of_parsed))]
+fn hexadecimal(digits: &str) -> Option<u64>
+    ensures { result ≡ spec.hexadecimal digits.now }
+{
+    // `from_str_radix` takes a plus in front.
+    if digits.len() > 16 || digits.starts_with('+') {
+        return None;
+    }
+    u64::from_str_radix(digits, 16).ok()
+}

@@ -1,0 +1,121 @@
+//! The command `apply`: what it prints and leaves, and what it refuses.
+
+use super::run::Ended::{self, Done, Failed};
+use super::whole_images::{RUN, Run, check_runs};
+use crate::failing_output::Failure::{Flush, WriteAfter};
+use crate::sample_image::{COPIED, Numbers, counted};
+use qcow2_testing::rows;
+use std::test::Fail;
+
+// The sample image with counters, and a seventh cluster, 6, which is free.
+const BOOKS: Numbers<'static> = counted! { (0xdf8, 0) };
+
+// The same where guest cluster 3 has no data, and cluster 5 is free.
+const DISCARDED: Numbers<'static> = counted! { (0xdf8, 0), (0x418, 0), (0x808, 0x0001_0000_0000_0000) };
+
+const ZEROED: Numbers<'static> = counted! { (0xdf8, 0), (0x418, 1), (0x808, 0x0001_0000_0000_0000) };
+
+const KEPT: Numbers<'static> = counted! { (0xdf8, 0), (0x418, COPIED + 0xa01) };
+
+// Guest cluster 0 is the data in cluster 6.
+const MAPPED: Numbers<'static> = counted! {
+    (0xdf8, 0), (0x400, COPIED + 0xc00), (0x808, 0x0001_0001_0001_0000)
+};
+
+const MAPPED_AND_DISCARDED: Numbers<'static> = counted! {
+    (0xdf8, 0), (0x400, COPIED + 0xc00), (0x418, 0), (0x808, 0x0001_0000_0001_0000)
+};
+
+// The counter of cluster 5 is 2, and 1 once a reference is gone.
+const TWICE: Numbers<'static> = counted! { (0x808, 0x0001_0002_0000_0000) };
+
+const ONCE: Numbers<'static> = counted! { (0x418, 0), (0x9f8, 0) };
+
+const UNCOUNTED: Numbers<'static> = counted! { (0x808, 0x0001_0000_0000_0000) };
+
+const AUTOCLEAR: Numbers<'static> = counted! { (0xdf8, 0), (88, 1) };
+
+const NOT_COPIED: Numbers<'static> = counted! { (0x200, 0x400) };
+
+const NO_TABLE: Numbers<'static> = counted! { (0x200, 0) };
+
+const BAD_ENTRY: Numbers<'static> = counted! { (0x5f8, 2) };
+
+const EXTERNAL: Numbers<'static> = counted! { (72, 4) };
+
+const FREED: &str = "freed 5 1\n";
+
+const MADE: &[Run<'static>] = rows! {
+    Run { line: "apply IMAGE discard:0x600", before: BOOKS, ended: Done(FREED), after: DISCARDED, ..RUN },
+    Run { line: "apply IMAGE discard:1536:512", before: BOOKS, ended: Done(FREED), after: DISCARDED, ..RUN },
+    Run { line: "apply IMAGE discard:0:0x8000", before: BOOKS, ended: Done(FREED), after: DISCARDED, ..RUN },
+    Run { line: "apply IMAGE zero:0x600:0x200", before: BOOKS, ended: Done(FREED), after: ZEROED, ..RUN },
+    Run { line: "apply IMAGE keep:1536:0x200", before: BOOKS, ended: Done(""), after: KEPT, ..RUN },
+    Run { line: "apply IMAGE map:0:6", before: BOOKS, ended: Done("gained 6\n"), after: MAPPED, ..RUN },
+    Run { line: "apply IMAGE map:0x0:0x6 discard:0x600", before: BOOKS, ended: Done("freed 5 1\ngained 6\n"),
+        after: MAPPED_AND_DISCARDED, ..RUN },
+    Run { line: "apply IMAGE discard:0x600", before: TWICE, ended: Done("kept 5 1\n"), after: ONCE, ..RUN },
+    Run { line: "apply IMAGE discard:0", before: BOOKS, ended: Done(""), after: BOOKS, ..RUN },
+    Run { line: "apply IMAGE discard:0x0000000000000600", before: AUTOCLEAR, ended: Done(FREED),
+        after: DISCARDED, ..RUN },
+    Run { line: "apply IMAGE discard:0x600", before: BOOKS, out: WriteAfter(5), ended: Failed("freed", STORAGE),
+        after: DISCARDED, ..RUN },
+    Run { line: "apply IMAGE discard:0x600", before: BOOKS, out: Flush, ended: Failed("", STORAGE),
+        after: DISCARDED, ..RUN },
+};
+
+const STORAGE: &str = "qmeta: fault 34\n";
+
+const PLANNED: &[Run<'static>] = rows! {
+    Run { line: "apply IMAGE plan discard:0x600", before: BOOKS, ended: Done(FREED), after: BOOKS, ..RUN },
+    Run { line: "apply IMAGE plan map:0:6 discard:1536", before: AUTOCLEAR,
+        ended: Done("freed 5 1\ngained 6\n"), after: AUTOCLEAR, ..RUN },
+    Run { line: "apply IMAGE plan keep:0x600:512", before: BOOKS, ended: Done(""), after: BOOKS, ..RUN },
+    Run { line: "apply IMAGE plan discard:0x600", before: BOOKS, out: WriteAfter(5),
+        ended: Failed("freed", STORAGE), after: BOOKS, ..RUN },
+    Run { line: "apply IMAGE plan zero:0:512", before: NO_TABLE, ended: NOT_PLACED, after: NO_TABLE, ..RUN },
+};
+
+const BAD_EDIT: Ended<'static> = Failed("", "qmeta: fault 32\n");
+
+const NOT_PLACED: Ended<'static> = Failed("", "qmeta: fault 23\n");
+
+const REFUSED: &[Run<'static>] = rows! {
+    // edits that don't fit, and clusters that aren't free, or are past the file's end
+    Run { line: "apply IMAGE discard:0:0", before: BOOKS, ended: BAD_EDIT, after: BOOKS, ..RUN },
+    Run { line: "apply IMAGE discard:1:512", before: BOOKS, ended: BAD_EDIT, after: BOOKS, ..RUN },
+    Run { line: "apply IMAGE discard:0:511", before: BOOKS, ended: BAD_EDIT, after: BOOKS, ..RUN },
+    Run { line: "apply IMAGE discard:0x8000", before: BOOKS, ended: BAD_EDIT, after: BOOKS, ..RUN },
+    Run { line: "apply IMAGE map:0:5", before: BOOKS, ended: BAD_EDIT, after: BOOKS, ..RUN },
+    Run { line: "apply IMAGE map:0:7", before: BOOKS, ended: BAD_EDIT, after: BOOKS, ..RUN },
+    Run { line: "apply IMAGE plan map:0:7", before: BOOKS, ended: BAD_EDIT, after: BOOKS, ..RUN },
+    // a table that isn't there, belongs to a snapshot too, or is damaged
+    Run { line: "apply IMAGE zero:0:512", before: NO_TABLE, ended: NOT_PLACED, after: NO_TABLE, ..RUN },
+    Run { line: "apply IMAGE discard:0", before: NO_TABLE, ended: Done(""), after: NO_TABLE, ..RUN },
+    Run { line: "apply IMAGE discard:0x600", before: NOT_COPIED, ended: Failed("", "qmeta: fault 40\n"),
+        after: NOT_COPIED, ..RUN },
+    Run { line: "apply IMAGE discard:0x600", before: BAD_ENTRY, ended: Failed("", "qmeta: fault 18\n"),
+        after: BAD_ENTRY, ..RUN },
+    // a counter that is too small already, an external data file, and no header
+    Run { line: "apply IMAGE discard:0x600", before: UNCOUNTED, ended: Failed("", "qmeta: fault 30\n"),
+        after: UNCOUNTED, ..RUN },
+    Run { line: "apply IMAGE map:0:99", before: EXTERNAL, ended: Failed("", "qmeta: fault 36\n"),
+        after: EXTERNAL, ..RUN },
+    Run { line: "apply IMAGE discard:0", before: &[(0, 0)], ended: Failed("", "qmeta: fault 1\n"),
+        after: &[(0, 0)], ..RUN },
+};
+
+#[test]
+fn edits_of_a_disk_change_tables_and_counters(rt: HostRuntime) -> Result<(), Fail> {
+    check_runs(&rt, "applied", MADE)
+}
+
+#[test]
+fn planned_edits_of_a_disk_change_nothing(rt: HostRuntime) -> Result<(), Fail> {
+    check_runs(&rt, "planned", PLANNED)
+}
+
+#[test]
+fn edits_of_a_disk_that_are_refused_change_nothing(rt: HostRuntime) -> Result<(), Fail> {
+    check_runs(&rt, "refused", REFUSED)
+}
