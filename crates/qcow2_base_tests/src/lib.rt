@@ -1,8 +1,10 @@
-//! Tests of faults, storages, conversions and layouts.
+//! Tests of faults, storages, locks, conversions and layouts.
 #![tactic(auto)]
 
 #[cfg(test)]
 mod fault;
+#[cfg(test)]
+mod locks;
 #[cfg(test)]
 mod on_disk_struct;
 #[cfg(test)]

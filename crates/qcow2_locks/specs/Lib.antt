@@ -1,0 +1,2 @@
+pub mod FileLock
+pub mod HeldImage
