@@ -2,6 +2,8 @@
 #![tactic(auto)]
 
 use qcow2_base::Fault;
+use qcow2_locks::{HeldImage, hold_alone};
+use qcow2_session::Command;
 use std::fs::File;
 use std::io;
 use std::io::{BufWriter, ErrorKind, Write};
@@ -17,12 +19,13 @@ fn main(rt: HostRuntime) -> ExitCode {
 }
 
 // Runs the words of the command line, and returns the status. The storage fault, with no image opened,
-// where the standard descriptors can't be taken.
+// where the standard descriptors can't be taken. An image that is changed is held until the end.
 fn run<E: Write>(rt: &HostRuntime, err: &mut E) -> Result<u8, Fault> {
     let Ok(_taken) = take_standard_descriptors(rt) else {
         return Err(Fault::Storage);
     };
     let words = words_of(rt)?;
+    let _held = hold_image(rt, words.as_slice())?;
     let Ok(mut out) = BufWriter::new(rt.alloc(), rt.stdout()) else {
         return Err(Fault::NoMemory);
     };
@@ -46,5 +49,17 @@ fn words_of(rt: &HostRuntime) -> Result<Vec<String>, Fault> {
         Ok(arguments) => Ok(arguments.skip(1).collect(rt.alloc())?),
         Err(error) if error.kind() == ErrorKind::OutOfMemory => Err(Fault::NoMemory),
         Err(_) => Ok(Vec::new(rt.alloc())),
+    }
+}
+
+// Holds the image where the words ask for a command that changes it. Other words are looked at later.
+fn hold_image(rt: &HostRuntime, words: &[String]) -> Result<Option<HeldImage>, Fault> {
+    let [name, image, arguments @ ..] = words else {
+        return Ok(None);
+    };
+    match Command::parse(rt.alloc(), name.as_str(), image.as_str(), arguments) {
+        Some(Ok(command)) if command.changes_image() => Ok(Some(hold_alone(rt, image.as_str())?)),
+        Some(Err(error)) => Err(Fault::from(error)),
+        _ => Ok(None),
     }
 }
