@@ -3,8 +3,7 @@
 ghost use Rattle.std.specs.Prelude.{◌≡◌, ◌↔◌, IsTrue};
 ghost use Rattle.qcow2_locks.specs.FileLock.{BarsWriting, HasByte};
 
-/// A file, by what a list of locks has for it: the two parts of its device's number, and its number on that
-/// device.
+/// A file, as a list of locks names it: both parts of its device's number, and the file's number there.
 #[derive(Clone, Copy, Debug, PartialEq, Eq)]
 pub struct FileId {
     pub major: u64,
@@ -54,9 +53,9 @@ pub struct FileLock {
 }
 
 impl FileLock {
-    /// The lock of a line of `/proc/locks`, as `1: OFDLCK ADVISORY  READ -1 fe:00:1097734 100 101`. `->` after
-    /// the number says that somebody waits for it. Nothing for a lock of another kind, such as a lease, and
-    /// for other text.
+    /// The lock of a line of `/proc/locks`, as `1: OFDLCK ADVISORY  READ -1 fe:00:1097734 100 101`. One that
+    /// is waited for has `->` after the number. Nothing for a lock of another kind, such as a lease, and for
+    /// other text.
     pub fn parse(line: &str) -> Option<FileLock> {
         let mut words = line.split_whitespace().skip(1);
         let mut word = words.next()?;

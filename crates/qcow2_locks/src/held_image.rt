@@ -22,8 +22,8 @@ pub struct HeldImage {
 ///
 /// Fault 39 where somebody holds it already, or has it open as QEMU's programs do: to write to it, or to read
 /// it and let nobody write. Fault 34 where the file can't be opened for both, or a call of the system fails.
-/// It goes on where the system has no lock for the file, or no list of locks. Who opens the image later isn't
-/// kept away, but by this call.
+/// It goes on where the file system has no such locks, and where the system has no list of them. Only this
+/// call keeps away who opens the image later.
 pub fn hold_alone<R: Files<File = File> + AllocGlobal>(
     rt: &R,
     path: &str,
@@ -82,8 +82,7 @@ fn text_of<R: Files + AllocGlobal>(rt: &R, path: &str) -> Result<String, Fault>
     }
 }
 
-// The text of a file. The buffer asks for more than a page at a time, of which the system makes no two parts
-// between which a list could change.
+// The text of a file. It is asked for in more than a page at once, since a list can change between two reads.
 fn read_all<F: Read + Drop>(alloc: Global, file: F) -> io::Result<String> {
     io::read_to_string(alloc, BufReader::new(alloc, file)?)
 }
