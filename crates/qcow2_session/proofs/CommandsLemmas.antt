@@ -45,7 +45,7 @@ own-refused ran answer refused own = grind (arith, refused, own)
 -- a table's lines so far, and that of the next entry
 pub ruleset table_printed = (guest_offset_fits, table_lines-more)
 
--- the bytes of hexadecimal digits, told by the spec and by std
+-- the bytes of hexadecimal digits, in the words of a test and of std
 all-digits : (word : List ℕ) → list_all (λ b. nat_lt (digit_value b) 16) word ≡ true → AllDigits 16 word
 all-digits [] each = tt
 all-digits (c ∷ cs) each =

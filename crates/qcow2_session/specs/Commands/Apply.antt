@@ -114,8 +114,8 @@ abbrev pub kept_line : KeptCluster → List ℕ
 kept_line kept = codes "kept " ++ decimal kept.cluster.0 ++ codes " " ++ decimal kept.counter ++ codes "\n"
 
 -- the lines of what becomes of clusters: those that are free, those that lost a reference and have others, and those that gained one
-abbrev pub lines_of : ChangedClusters → List ℕ
-lines_of clusters = flat_map freed_line clusters.freed.items
+abbrev pub changed_lines : ChangedClusters → List ℕ
+changed_lines clusters = flat_map freed_line clusters.freed.items
     ++ (flat_map kept_line clusters.kept.items ++ flat_map gained_line (cluster_numbers clusters.gained.items))
 
 -- whether a form makes the edits
@@ -126,7 +126,7 @@ makes_edits Plan = false
 -- what edits came to was printed: what becomes of clusters, or nothing, and the fault is the run's
 abbrev pub PrintsClusters : {A O : Type 0} → Result ChangedClusters Fault → Run A O → Type 0
 PrintsClusters done run = MatchResult done
-    (λ clusters. PrintsText run.answer (run.contents run.before) (run.contents run.after) (lines_of clusters))
+    (λ clusters. PrintsText run.answer (run.contents run.before) (run.contents run.after) (changed_lines clusters))
     (λ fault. (run.answer ≡ Err fault) × (run.after ≡ run.before))
 
 -- memory for the edits ran out, before anything was done

@@ -72,9 +72,9 @@ impl DiskEdit {
 /// Makes edits of the disk of an image with this header, or plans them, and prints what becomes of clusters:
 /// those that are free then, those that lost a reference and have others, and those that gained one.
 ///
-/// Returns the faults of `apply_edits`. All but 34 and 35 come before a byte changes, where no cluster is that
-/// of two tables or blocks, or the header's. They come before any line. A failed write to `out` is the storage
-/// fault: the edits are made by then.
+/// Returns the faults of `apply_edits`, before any line. All but 34 and 35 come before a byte changes, where
+/// no cluster is that of two tables or blocks, or the header's. A failed write to `out` is the storage fault:
+/// the edits are made by then.
 pub fn edit_disk<S: Storage, O: Write>(
     alloc: Global,
     image: &mut S,
@@ -178,7 +178,7 @@ fn guest_edits(
 
 // Prints what becomes of clusters.
 fn print_clusters<O: Write>(clusters: &ChangedClusters, out: &mut O) -> Result<(), Fault>
-    ensures { PrintsText result (O.contents out.old) (O.contents out.new) (spec.lines_of clusters.now) }
+    ensures { PrintsText result (O.contents out.old) (O.contents out.new) (spec.changed_lines clusters.now) }
 {
     print_lines(clusters.freed.as_slice(), out)?;
     print_lines(clusters.kept.as_slice(), out)?;

@@ -58,8 +58,8 @@ const MADE: &[Run<'static>] = rows! {
     Run { line: "apply IMAGE discard:0", before: BOOKS, ended: Done(""), after: BOOKS, ..RUN },
     Run { line: "apply IMAGE discard:0x0000000000000600", before: AUTOCLEAR, ended: Done(FREED),
         after: DISCARDED, ..RUN },
-    Run { line: "apply IMAGE discard:0x600", before: BOOKS, out: WriteAfter(5), ended: Failed("freed", STORAGE),
-        after: DISCARDED, ..RUN },
+    Run { line: "apply IMAGE discard:0x600", before: BOOKS, out: WriteAfter(5),
+        ended: Failed("freed", STORAGE), after: DISCARDED, ..RUN },
     Run { line: "apply IMAGE discard:0x600", before: BOOKS, out: Flush, ended: Failed("", STORAGE),
         after: DISCARDED, ..RUN },
 };
