@@ -72,7 +72,7 @@ same-cluster : (a b : HostCluster) → a.0 ≡ b.0 → a ≡ b
 same-cluster a b same = grind (arith, same)
 
 -- a table that can't be loaded is refused
-never-refused : (tables : ImageTables) (edits : List GuestEdit) (image : Image) (i : ℕ) (table : HostCluster) (fault : Fault)
+pub never-refused : (tables : ImageTables) (edits : List GuestEdit) (image : Image) (i : ℕ) (table : HostCluster) (fault : Fault)
     → list_any (has_clusters_in tables.header.v2.cluster_bits i) edits ≡ true
     → named_cluster tables.header.v2.cluster_bits (slice_index tables.l1 i) ≡ Some table
     → loaded_l2_table (geometry_of tables.header) table image ≡ Err fault → table_refusal tables edits image i ≡ None → ⊥

@@ -3,6 +3,10 @@ pub mod ChangingLemmas
 pub mod CheckLemmas
 pub mod CommandsLemmas
 pub mod ConsistentLemmas
+pub mod EditedDiskLemmas
+pub mod EditedEntryLemmas
+pub mod EditedReadsLemmas
+pub mod EditedTableLemmas
 pub mod HexLemmas
 pub mod ListingLemmas
 pub mod MapLemmas

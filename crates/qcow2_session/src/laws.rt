@@ -1,12 +1,21 @@
 //! Laws: facts about the definitions that contracts name. Each is a function that does nothing. Its
 //! contract is the law, and its name says it.
 
-ghost use Rattle.std.specs.Prelude.{◌≡◌};
+ghost use Rattle.std.specs.Prelude.{◌≡◌, ℕ, ◌/◌, ◌^◌, List, ◌∷◌, ◌++◌, true, false, Ok};
+ghost use Rattle.std.specs.List.{All, list_any};
 ghost use Rattle.qcow2_base.specs.Format.{max_file_length};
 ghost use Rattle.qcow2_base.specs.Storage.{Image};
+ghost use Rattle.qcow2_metadata.specs.Entries.L2Mapping.{Mapping};
+ghost use Rattle.qcow2_metadata.specs.Header.{HeaderRecord, IsValidHeader, geometry_of};
 ghost use Rattle.qcow2_check.specs.Findings.{AreRight};
 ghost use Rattle.qcow2_check.specs.Uses.{ImageTables};
+ghost use Rattle.qcow2_apply.specs.Apply.{AreAllApart, FollowsPlan, plan_tables};
+ghost use Rattle.qcow2_apply.specs.Plan.{IsPlanFor, IsPlanOf};
+ghost use Rattle.qcow2_apply.specs.declared.guest_edits.GuestEdit.{GuestEdit};
+ghost use Rattle.qcow2_apply.specs.declared.plan.Plan.{Plan};
+ghost use Rattle.qcow2_image.specs.Lookups.{guest_mapping};
 ghost use Rattle.qcow2_session.specs.Commands.Check.{report_on};
+ghost use Rattle.qcow2_session.specs.EditedDisk.{covers, mapping_after, mapping_left};
 ghost use Rattle.qcow2_session.specs.declared.commands.verdict.Verdict.TheVariants.{Fine};
 
 pub use qcow2_edits::laws::{
@@ -21,4 +30,39 @@ pub use qcow2_image::laws::{
 pub fn all_is_right_where_the_verdict_is_fine()
     ensures { (tables : ImageTables) (image : Image) → (report_on tables image).verdict ≡ Fine →
         AreRight tables image 0 max_file_length }
+{}
+
+/// Where edits of a disk were made in an image whose tables and blocks are apart, each guest offset that no
+/// edit's range has reads as before, by the same L1 table. What couldn't be loaded is refused as before.
+pub fn what_no_edit_covers_reads_as_before()
+    ensures { (header : HeaderRecord) (edits : List GuestEdit) (plan : Plan) (old new : Image) →
+        IsValidHeader header → IsPlanFor header edits plan → IsPlanOf header edits old plan →
+        FollowsPlan header edits plan (Ok tt) old new → AreAllApart (plan_tables header plan) →
+        (offset : ℕ) → All (λ edit. covers header.v2.cluster_bits offset edit ≡ false) edits →
+        guest_mapping (geometry_of header) plan.l1_table.numbers offset new
+        ≡ guest_mapping (geometry_of header) plan.l1_table.numbers offset old }
+{}
+
+/// And each guest offset that some edit's range has reads as the edits leave it, one after the other, by
+/// what it read as before, which is known.
+pub fn what_edits_cover_reads_as_they_leave_it()
+    ensures { (header : HeaderRecord) (edits : List GuestEdit) (plan : Plan) (old new : Image) →
+        IsValidHeader header → IsPlanFor header edits plan → IsPlanOf header edits old plan →
+        FollowsPlan header edits plan (Ok tt) old new → AreAllApart (plan_tables header plan) →
+        (offset : ℕ) → list_any (covers header.v2.cluster_bits offset) edits ≡ true →
+        (before : Mapping)
+        × (guest_mapping (geometry_of header) plan.l1_table.numbers offset old ≡ Ok before)
+        × (guest_mapping (geometry_of header) plan.l1_table.numbers offset new
+        ≡ Ok (mapping_left header.v2.cluster_bits offset edits before)) }
+{}
+
+/// Of edits whose ranges have a guest offset the last decides what it reads as: data in its host cluster,
+/// the backing file, zeros, or zeros that keep the cluster that the edits before it left there.
+pub fn the_last_edit_that_covers_an_offset_decides()
+    ensures { (cluster_bits offset : ℕ) (before later : List GuestEdit) (edit : GuestEdit) (first : Mapping) →
+        covers cluster_bits offset edit ≡ true →
+        All (λ other. covers cluster_bits offset other ≡ false) later →
+        mapping_left cluster_bits offset (before ++ edit ∷ later) first
+        ≡ mapping_after cluster_bits (offset / 2 ^ cluster_bits) edit
+        (mapping_left cluster_bits offset before first) }
 {}
