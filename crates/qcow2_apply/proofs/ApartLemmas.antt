@@ -67,6 +67,16 @@ block-below tables i block placed names =
     let end : block.0 * size + size ≤ max_file_length = grind (arith, nat_tests, place) in
     omega (arith, product, end, some)
 
+-- where nothing is found, no cluster of the header, the L1 table or the refcount table is a block's
+pub block-apart : (tables : ImageTables) (image : Image) (i : ℕ) (block : HostCluster) → AreRight tables image 0 max_file_length
+    → blocks_fault tables.header tables.reftable ≡ None → (refblocks_of tables).place i ≡ Some block
+    → uses_of_kind Fixed (header_uses tables.header) block.0 ≡ 0
+block-apart tables image i block right placed names = omega (
+  arith,
+  once-used tables.header.v2.cluster_bits tables.reftable i block names,
+  fixed-once tables image block.0 right (block-below tables i block placed names),
+)
+
 -- so tables and blocks are apart
 pub all-apart : (tables : ImageTables) (image : Image) → AreRight tables image 0 max_file_length → blocks_fault tables.header tables.reftable ≡ None
     → ArePlacesApart (l2_tables_of tables) → AreAllApart tables

@@ -116,7 +116,7 @@ counters-stay tables old new bits orders apart others c has =
     counter-here state found.0 new c found.1 ∙ ap (λ (numbers : List ℕ). slice_index numbers (c % counters_each tables.header)) same ∙ sym (counter-here state found.0 old c found.1)
 
 -- a byte of a cluster that isn't the header's is after the header's field of autoclear features
-after-field : (cb o cluster : ℕ) → IsClusterBits cb → o / 2 ^ cb ≡ cluster → 0 < cluster → 88 + 8 ≤ o
+pub after-field : (cb o cluster : ℕ) → IsClusterBits cb → o / 2 ^ cb ≡ cluster → 0 < cluster → 88 + 8 ≤ o
 after-field cb o cluster bits here some = elim (cases_lt o 96) [
   | inl before ↦
       let size : 2 ^ 9 ≤ 2 ^ cb = pow-le-pow_right (lit< tt) bits.0 in

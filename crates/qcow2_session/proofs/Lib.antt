@@ -5,6 +5,7 @@ pub mod CommandsLemmas
 pub mod ConsistentLemmas
 pub mod EditedDiskLemmas
 pub mod EditedEntryLemmas
+pub mod EditedImageLemmas
 pub mod EditedReadsLemmas
 pub mod EditedTableLemmas
 pub mod HexLemmas

@@ -7,13 +7,15 @@ ghost use Rattle.qcow2_base.specs.Format.{max_file_length};
 ghost use Rattle.qcow2_base.specs.Storage.{Image};
 ghost use Rattle.qcow2_metadata.specs.Entries.L2Mapping.{Mapping};
 ghost use Rattle.qcow2_metadata.specs.Header.{HeaderRecord, IsValidHeader, geometry_of};
+ghost use Rattle.qcow2_metadata.specs.Results.{result_map};
 ghost use Rattle.qcow2_check.specs.Findings.{AreRight};
 ghost use Rattle.qcow2_check.specs.Uses.{ImageTables};
-ghost use Rattle.qcow2_apply.specs.Apply.{AreAllApart, FollowsPlan, plan_tables};
+ghost use Rattle.qcow2_apply.specs.Apply.{AreAllApart, FollowsPlan, l2_tables_of, plan_tables, tables_by};
+ghost use Rattle.qcow2_apply.specs.Passes.{ArePlacesApart};
 ghost use Rattle.qcow2_apply.specs.Plan.{IsPlanFor, IsPlanOf};
 ghost use Rattle.qcow2_apply.specs.declared.guest_edits.GuestEdit.{GuestEdit};
 ghost use Rattle.qcow2_apply.specs.declared.plan.Plan.{Plan};
-ghost use Rattle.qcow2_image.specs.Lookups.{guest_mapping};
+ghost use Rattle.qcow2_image.specs.Lookups.{guest_mapping, mapping_in};
 ghost use Rattle.qcow2_session.specs.Commands.Check.{report_on};
 ghost use Rattle.qcow2_session.specs.EditedDisk.{covers, mapping_after, mapping_left};
 ghost use Rattle.qcow2_session.specs.declared.commands.verdict.Verdict.TheVariants.{Fine};
@@ -54,6 +56,19 @@ pub fn what_edits_cover_reads_as_they_leave_it()
         × (guest_mapping (geometry_of header) plan.l1_table.numbers offset old ≡ Ok before)
         × (guest_mapping (geometry_of header) plan.l1_table.numbers offset new
         ≡ Ok (mapping_left header.v2.cluster_bits offset edits before)) }
+{}
+
+/// Where nothing is found of an image, and no two L1 entries name one L2 table, edits of its disk leave what
+/// each guest offset reads as, by the image's own L1 table: as before, or as the edits of it leave that. What
+/// couldn't be read is refused as before.
+pub fn a_consistent_disk_reads_as_edits_leave_it()
+    ensures { (header : HeaderRecord) (edits : List GuestEdit) (plan : Plan) (old new : Image) →
+        IsValidHeader header → IsPlanFor header edits plan → IsPlanOf header edits old plan →
+        FollowsPlan header edits plan (Ok tt) old new →
+        AreRight (tables_by header plan) old 0 max_file_length →
+        ArePlacesApart (l2_tables_of (tables_by header plan)) → (offset : ℕ) →
+        mapping_in header offset new
+        ≡ result_map (mapping_left header.v2.cluster_bits offset edits) (mapping_in header offset old) }
 {}
 
 /// Of edits whose ranges have a guest offset the last decides what it reads as: data in its host cluster,
