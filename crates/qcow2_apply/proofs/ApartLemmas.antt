@@ -1,4 +1,4 @@
-use Rattle.std.proofs.Common.{◌≡◌, ◌≢◌, ◌⊎◌, ℕ, zero, suc, false, ◌+◌, ◌*◌, ◌^◌, ◌<◌, ◌≤◌, List, [], ◌∷◌, ◌++◌, flat_map, slice_index, Option, None, Some, option_map, option_to_list, ap, subst, inl, inr, ◌∙◌, arith}
+use Rattle.std.proofs.Common.{◌≡◌, ◌⊎◌, ℕ, zero, suc, false, ◌+◌, ◌*◌, ◌^◌, ◌<◌, ◌≤◌, List, [], ◌∷◌, ◌++◌, flat_map, slice_index, None, Some, option_map, option_to_list, ap, subst, inl, inr, ◌∙◌, arith}
 use Rattle.std.proofs.lemmas.Bool.{cases_eq, cases_lt}
 use Rattle.std.proofs.lemmas.Bool.Decides.{nat_tests}
 use Rattle.std.proofs.lemmas.Nat.{mul-le, pow_pos}
@@ -6,13 +6,13 @@ use Rattle.qcow2_base.specs.Format.{max_file_length}
 use Rattle.qcow2_base.specs.Storage.{Image}
 use Rattle.qcow2_base.specs.declared.types.HostCluster.{HostCluster}
 use Rattle.qcow2_metadata.specs.Header.{geometry_of}
-use Rattle.qcow2_check.proofs.ApartLemmas.{first-used, header-used, kind-append, named-below, named-used}
+use Rattle.qcow2_check.proofs.ApartLemmas.{first-used, kind-append, named-below, named-used}
 use Rattle.qcow2_check.proofs.FindingsLemmas.{excludes, kind-cons, uses_by_kind}
 use Rattle.qcow2_check.specs.Counters.{blocks_fault}
 use Rattle.qcow2_check.specs.Findings.{AreRight, is_shared, uses_of_kind}
-use Rattle.qcow2_check.specs.NamedTables.{named_block, named_cluster}
+use Rattle.qcow2_check.specs.NamedTables.{named_block}
 use Rattle.qcow2_check.specs.Tally.{used_clusters}
-use Rattle.qcow2_check.specs.Uses.{ImageTables, block_uses, header_uses, image_uses, l1_entry_uses, uses_of}
+use Rattle.qcow2_check.specs.Uses.{ImageTables, block_uses, header_uses, image_uses, l1_entry_uses}
 use Rattle.qcow2_check.specs.declared.tally.UseKind.TheVariants.{Fixed, L2Table}
 use Rattle.qcow2_apply.proofs.BlocksLemmas.{place-at}
 use Rattle.qcow2_apply.specs.Apply.{AreAllApart, l2_tables_of, refblocks_of}

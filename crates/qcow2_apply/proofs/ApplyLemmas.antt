@@ -40,32 +40,38 @@ use Rattle.qcow2_apply.specs.Tables.{FirstFails, IsEdited}
 use Rattle.qcow2_apply.specs.declared.changes.Changes.{Changes}
 use Rattle.qcow2_apply.specs.declared.guest_edits.GuestEdit.{GuestEdit}
 
-are-planned : (header : HeaderRecord) (edits : List GuestEdit) (image : Image) (tables : ImageTables) → planned_tables header edits image ≡ Ok tables
-    → tables_refusal tables edits image ≡ None
+-- the L1 table of tables that edits are made by is the image's, and none of them is refused
+pub are-planned : (header : HeaderRecord) (edits : List GuestEdit) (image : Image) (tables : ImageTables) → planned_tables header edits image ≡ Ok tables
+    → (loaded_l1_table header image ≡ Ok tables.l1) × (tables_refusal tables edits image ≡ None)
 are-planned header edits image tables is = by_edits (edits_refusal header edits) refl
   where
-    by_tables : (l1 reftable : List ℕ) (found : Option Fault) → tables_refusal (image_tables header l1 reftable) edits image ≡ found
-        → unless_refused found (Ok (image_tables header l1 reftable)) ≡ Ok tables → tables_refusal tables edits image ≡ None
-    by_tables l1 reftable None none same = subst (λ t. tables_refusal t edits image ≡ None) (the_same _ _ same) none
+    Planned : ImageTables → Type 0
+    Planned tables = (loaded_l1_table header image ≡ Ok tables.l1) × (tables_refusal tables edits image ≡ None)
+
+    by_tables : (l1 reftable : List ℕ) (found : Option Fault) → loaded_l1_table header image ≡ Ok l1
+        → tables_refusal (image_tables header l1 reftable) edits image ≡ found
+        → unless_refused found (Ok (image_tables header l1 reftable)) ≡ Ok tables → Planned tables
+    by_tables l1 reftable None loads none same = subst Planned (the_same _ _ same) (loads, none)
       where
         the_same : (a b : ImageTables) → (let one : Result ImageTables Fault = Ok a in let other : Result ImageTables Fault = Ok b in one ≡ other) → a ≡ b
         the_same a b same = grind (arith, same)
-    by_tables l1 reftable (Some fault) none same = absurd (grind (arith, same))
+    by_tables l1 reftable (Some fault) loads none same = absurd (grind (arith, same))
 
-    by_reftable : (l1 : List ℕ) (found : Result (List ℕ) Fault)
+    by_reftable : (l1 : List ℕ) (found : Result (List ℕ) Fault) → loaded_l1_table header image ≡ Ok l1
         → and_then found (λ reftable. unless_refused (tables_refusal (image_tables header l1 reftable) edits image) (Ok (image_tables header l1 reftable))) ≡ Ok tables
-        → tables_refusal tables edits image ≡ None
-    by_reftable l1 (Ok reftable) same = by_tables l1 reftable (tables_refusal (image_tables header l1 reftable) edits image) refl same
-    by_reftable l1 (Err fault) same = absurd (grind (arith, same))
+        → Planned tables
+    by_reftable l1 (Ok reftable) loads same = by_tables l1 reftable (tables_refusal (image_tables header l1 reftable) edits image) loads refl same
+    by_reftable l1 (Err fault) loads same = absurd (grind (arith, same))
 
-    by_l1 : (found : Result (List ℕ) Fault) → and_then found (λ l1. and_then (placed_reftable header image) (λ reftable.
+    by_l1 : (found : Result (List ℕ) Fault) → loaded_l1_table header image ≡ found
+        → and_then found (λ l1. and_then (placed_reftable header image) (λ reftable.
         unless_refused (tables_refusal (image_tables header l1 reftable) edits image) (Ok (image_tables header l1 reftable)))) ≡ Ok tables
-        → tables_refusal tables edits image ≡ None
-    by_l1 (Ok l1) same = by_reftable l1 (placed_reftable header image) same
-    by_l1 (Err fault) same = absurd (grind (arith, same))
+        → Planned tables
+    by_l1 (Ok l1) loads same = by_reftable l1 (placed_reftable header image) loads same
+    by_l1 (Err fault) loads same = absurd (grind (arith, same))
 
-    by_edits : (found : Option Fault) → edits_refusal header edits ≡ found → tables_refusal tables edits image ≡ None
-    by_edits None none = by_l1 (loaded_l1_table header image) (rw none at is)
+    by_edits : (found : Option Fault) → edits_refusal header edits ≡ found → Planned tables
+    by_edits None none = by_l1 (loaded_l1_table header image) refl (rw none at is)
     by_edits (Some fault) some = absurd (let never = rw some at is in grind (arith, never))
 
 same-cluster : (a b : HostCluster) → a.0 ≡ b.0 → a ≡ b
@@ -208,7 +214,7 @@ cut-short header edits plan fault old new clears idle outside = record {
 pub can-be-made : (header : HeaderRecord) (edits : List GuestEdit) (plan : Plan) (image : Image) → IsPlanOf header edits image plan
     → CanBeMade (plan_tables header plan) edits plan.gains plan.losses image
 can-be-made header edits plan image of = record {
-  tables_allow = are-planned header edits image (image_tables header plan.l1_table.numbers plan.reftable.numbers) of.tables;
+  tables_allow = (are-planned header edits image (image_tables header plan.l1_table.numbers plan.reftable.numbers) of.tables).1;
   counters_count = of.count;
 }
 

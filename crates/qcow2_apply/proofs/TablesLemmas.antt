@@ -56,7 +56,7 @@ edits-made-by header index edit fits = All-map (λ made. fits_table (geometry_of
     (λ k d below. edit-made header edit _ fits)
 
 -- where each of a list passes a test, its first does and the others do
-unfit-none : {A : Type 0} (test : A → Bool) (item : A) (items : List A) → position (λ other. not (test other)) (item ∷ items) ≡ None
+pub unfit-none : {A : Type 0} (test : A → Bool) (item : A) (items : List A) → position (λ other. not (test other)) (item ∷ items) ≡ None
     → (test item ≡ true) × (position (λ other. not (test other)) items ≡ None)
 unfit-none test item items none = elim (cases_Bool (test item)) [
   | inl passes ↦ (passes, grind (arith, passes, none))

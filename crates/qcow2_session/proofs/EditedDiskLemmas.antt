@@ -1,4 +1,4 @@
-use Rattle.std.proofs.Common.{◌≡◌, ℕ, Bool, true, false, not, ◌+◌, ◌*◌, ◌/◌, ◌%◌, ◌^◌, ◌<◌, ◌≤◌, ◌&&◌, nat_le, nat_lt, if◌then◌else◌, List, [], ◌∷◌, ◌++◌, map, length, slice_index, None, position, inl, inr, ◌⊎◌, refl, ap, sym, ◌∙◌, arith}
+use Rattle.std.proofs.Common.{◌≡◌, ℕ, true, false, ◌+◌, ◌*◌, ◌/◌, ◌%◌, ◌^◌, ◌<◌, ◌≤◌, ◌&&◌, nat_le, nat_lt, if◌then◌else◌, List, [], ◌∷◌, ◌++◌, map, length, slice_index, inl, inr, ◌⊎◌, refl, ap, sym, ◌∙◌, arith}
 use Rattle.std.proofs.Math.Nat.{div-lt_iff_lt-mul}
 use Rattle.std.proofs.lemmas.Bool.{cases_Bool, cases_lt}
 use Rattle.std.proofs.lemmas.Bool.Decides.{nat_tests}
@@ -10,6 +10,7 @@ use Rattle.qcow2_metadata.specs.Header.{HeaderRecord, geometry_of}
 use Rattle.qcow2_metadata.specs.Table.{l2_entries}
 use Rattle.qcow2_metadata.specs.Table.L2Guards.{run_of}
 use Rattle.qcow2_edits.specs.Edits.{table_edit}
+use Rattle.qcow2_apply.proofs.TablesLemmas.{unfit-none}
 use Rattle.qcow2_apply.specs.GuestEdits.{cluster_end, edits_by, edits_in, first_cluster, guest_edit_fits, guest_length, guest_offset, is_mappable_by, table_end, table_start}
 use Rattle.qcow2_apply.specs.Tables.{AllFit, run_in}
 use Rattle.qcow2_apply.specs.declared.guest_edits.GuestEdit.{GuestEdit}
@@ -45,17 +46,10 @@ covers-cluster header edit o fits =
     let cb = header.v2.cluster_bits in
     covered (2 ^ cb) (guest_offset edit).0 (guest_length cb edit) o (pow_pos cb) (grind (arith, nat_tests, fits)) (grind (arith, nat_tests, fits))
 
--- where each of a list passes a test, its first does and the others do
-passes-first : {A : Type 0} (test : A → Bool) (item : A) (items : List A) → position (λ other. not (test other)) (item ∷ items) ≡ None
-    → (test item ≡ true) × (position (λ other. not (test other)) items ≡ None)
-passes-first test item items none = elim (cases_Bool (test item)) [
-  | inl passes ↦ (passes, grind (arith, passes, none))
-  | inr fails ↦ absurd (grind (arith, fails, none))
-]
-
+-- of edits that all fit the first does and the others do
 pub fit-first : (header : HeaderRecord) (edit : GuestEdit) (edits : List GuestEdit) → AllFit header (edit ∷ edits)
     → (guest_edit_fits header edit ≡ true) × AllFit header edits
-fit-first header edit edits fit = passes-first (guest_edit_fits header) edit edits fit
+fit-first header edit edits fit = unfit-none (guest_edit_fits header) edit edits fit
 
 -- a guest cluster that an edit has is one of the edit's in its table
 pub in-edit : (header : HeaderRecord) (edit : GuestEdit) (o : ℕ) → guest_edit_fits header edit ≡ true → covers header.v2.cluster_bits o edit ≡ true

@@ -1,4 +1,4 @@
-use Rattle.std.proofs.Common.{◌≡◌, ℕ, ◌+◌, ◌*◌, ◌/◌, ◌^◌, ◌<◌, ◌≤◌, List, Option, Some, None, Result, Ok, Err, refl, ap, sym, subst, ◌∙◌, inl, inr, arith}
+use Rattle.std.proofs.Common.{◌≡◌, ℕ, ◌+◌, ◌*◌, ◌/◌, ◌^◌, ◌<◌, ◌≤◌, List, None, Ok, refl, ap, sym, subst, ◌∙◌, inl, inr, arith}
 use Rattle.std.proofs.Math.Nat.{div-lt_iff_lt-mul}
 use Rattle.std.proofs.lemmas.Bool.{cases_lt}
 use Rattle.std.proofs.lemmas.Grind.{div_ceil_times}
@@ -6,58 +6,26 @@ use Rattle.std.proofs.lemmas.Nat.{pow_pos}
 use Rattle.std.specs.Int.{div_ceil}
 use Rattle.qcow2_base.specs.Format.{max_file_length}
 use Rattle.qcow2_base.specs.Storage.{Image}
-use Rattle.qcow2_base.specs.declared.fault.Fault.{Fault}
 use Rattle.qcow2_metadata.proofs.TableLemmas.{table_numbers_same}
 use Rattle.qcow2_metadata.specs.Header.{HeaderRecord, IsValidHeader, geometry_of}
 use Rattle.qcow2_metadata.specs.Placed.{numbers_at, place_fault}
 use Rattle.qcow2_metadata.specs.Results.{and_then, result_map, unless_refused}
 use Rattle.qcow2_check.proofs.ApartLemmas.{header-once, l1-first-used, l1-used, named-apart}
-use Rattle.qcow2_check.specs.Counters.{blocks_fault, placed_reftable}
+use Rattle.qcow2_check.specs.Counters.{blocks_fault}
 use Rattle.qcow2_check.specs.Findings.{AreRight, uses_of_kind}
 use Rattle.qcow2_check.specs.NamedTables.{l1_cluster, l1_layout, loaded_l1_table}
-use Rattle.qcow2_check.specs.Uses.{ImageTables, header_uses, image_tables}
+use Rattle.qcow2_check.specs.Uses.{ImageTables, header_uses}
 use Rattle.qcow2_check.specs.declared.tally.UseKind.TheVariants.{Fixed}
 use Rattle.qcow2_image.specs.Lookups.{guest_mapping, mapping_in}
 use Rattle.qcow2_apply.proofs.ApartLemmas.{all-apart, block-apart}
-use Rattle.qcow2_apply.proofs.ApplyLemmas.{after-field}
+use Rattle.qcow2_apply.proofs.ApplyLemmas.{after-field, are-planned}
 use Rattle.qcow2_apply.specs.Apply.{FollowsPlan, IsElsewhere, l2_tables_of, plan_tables, tables_by}
 use Rattle.qcow2_apply.specs.Passes.{ArePlacesApart}
-use Rattle.qcow2_apply.specs.Plan.{IsPlanFor, IsPlanOf, edits_refusal, planned_tables}
-use Rattle.qcow2_apply.specs.PlannedTables.{tables_refusal}
+use Rattle.qcow2_apply.specs.Plan.{IsPlanFor, IsPlanOf}
 use Rattle.qcow2_apply.specs.declared.guest_edits.GuestEdit.{GuestEdit}
 use Rattle.qcow2_apply.specs.declared.plan.Plan.{Plan}
 use Rattle.qcow2_session.proofs.EditedReadsLemmas.{reads-as-left}
 use Rattle.qcow2_session.specs.EditedDisk.{mapping_left}
-
--- the L1 table of a plan is that of the image
-l1-planned : (header : HeaderRecord) (edits : List GuestEdit) (image : Image) (tables : ImageTables) → planned_tables header edits image ≡ Ok tables
-    → loaded_l1_table header image ≡ Ok tables.l1
-l1-planned header edits image tables is = by_edits (edits_refusal header edits) refl
-  where
-    by_tables : (l1 reftable : List ℕ) (found : Option Fault) → loaded_l1_table header image ≡ Ok l1
-        → unless_refused found (Ok (image_tables header l1 reftable)) ≡ Ok tables → loaded_l1_table header image ≡ Ok tables.l1
-    by_tables l1 reftable None loads same = loads ∙ ap Ok (the_same _ _ same)
-      where
-        the_same : (a b : ImageTables) → (let one : Result ImageTables Fault = Ok a in let other : Result ImageTables Fault = Ok b in one ≡ other) → a.l1 ≡ b.l1
-        the_same a b same = grind (arith, same)
-    by_tables l1 reftable (Some fault) loads same = absurd (grind (arith, same))
-
-    by_reftable : (l1 : List ℕ) (found : Result (List ℕ) Fault) → loaded_l1_table header image ≡ Ok l1
-        → and_then found (λ reftable. unless_refused (tables_refusal (image_tables header l1 reftable) edits image) (Ok (image_tables header l1 reftable))) ≡ Ok tables
-        → loaded_l1_table header image ≡ Ok tables.l1
-    by_reftable l1 (Ok reftable) loads same = by_tables l1 reftable (tables_refusal (image_tables header l1 reftable) edits image) loads same
-    by_reftable l1 (Err fault) loads same = absurd (grind (arith, same))
-
-    by_l1 : (found : Result (List ℕ) Fault) → loaded_l1_table header image ≡ found
-        → and_then found (λ l1. and_then (placed_reftable header image) (λ reftable.
-        unless_refused (tables_refusal (image_tables header l1 reftable) edits image) (Ok (image_tables header l1 reftable)))) ≡ Ok tables
-        → loaded_l1_table header image ≡ Ok tables.l1
-    by_l1 (Ok l1) loads same = by_reftable l1 (placed_reftable header image) loads same
-    by_l1 (Err fault) loads same = absurd (grind (arith, same))
-
-    by_edits : (found : Option Fault) → edits_refusal header edits ≡ found → loaded_l1_table header image ≡ Ok tables.l1
-    by_edits None none = by_l1 (loaded_l1_table header image) refl (rw none at is)
-    by_edits (Some fault) some = absurd (let never = rw some at is in grind (arith, never))
 
 -- the cluster of a byte of a range that begins with a cluster
 in-range : (size first count k : ℕ) → 0 < size → k < count → (first ≤ (first * size + k) / size) × ((first * size + k) / size < first + div_ceil count size)
@@ -126,7 +94,7 @@ pub image-reads-as-left : (header : HeaderRecord) (edits : List GuestEdit) (plan
 image-reads-as-left header edits plan old new valid for of follows right apart o =
     let g = geometry_of header in
     let l1 = plan.l1_table.numbers in
-    let before : loaded_l1_table header old ≡ Ok l1 = l1-planned header edits old (tables_by header plan) of.tables in
+    let before : loaded_l1_table header old ≡ Ok l1 = (are-planned header edits old (tables_by header plan) of.tables).0 in
     let after : loaded_l1_table header new ≡ Ok l1 = l1-stays header edits plan old new valid for follows right ∙ before in
     let all = all-apart (plan_tables header plan) old right for.blocks apart in
     ap (λ loaded. and_then loaded (λ l1. guest_mapping g l1 o new)) after
