@@ -1,3 +1,4 @@
+mod EditedDiskExamples
 pub mod AccountLemmas
 pub mod ChangingLemmas
 pub mod CheckLemmas
