@@ -46,7 +46,7 @@ numbers-kept kind cb n cluster old new kept = table_numbers_same new old (cluste
     (λ k below. kept (cluster.0 * 2 ^ cb + k) (omega arith, omega (arith, below)))
 
 -- and the same header
-header-kept : (header : HeaderRecord) (old new : Image) → header_of old ≡ Ok header
+pub header-kept : (header : HeaderRecord) (old new : Image) → header_of old ≡ Ok header
     → Keeps (first_cluster_bytes header) old new → header_of new ≡ header_of old
 header-kept header old new is kept =
     let lawful = header_of-is old header is in

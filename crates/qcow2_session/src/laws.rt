@@ -7,6 +7,7 @@ ghost use Rattle.qcow2_base.specs.Format.{max_file_length};
 ghost use Rattle.qcow2_base.specs.Storage.{Image};
 ghost use Rattle.qcow2_metadata.specs.Entries.L2Mapping.{Mapping};
 ghost use Rattle.qcow2_metadata.specs.Header.{HeaderRecord, IsValidHeader, geometry_of};
+ghost use Rattle.qcow2_metadata.specs.Header.Grammar.{header_of};
 ghost use Rattle.qcow2_metadata.specs.Results.{result_map};
 ghost use Rattle.qcow2_check.specs.Findings.{AreRight};
 ghost use Rattle.qcow2_check.specs.Uses.{ImageTables};
@@ -15,7 +16,7 @@ ghost use Rattle.qcow2_apply.specs.Passes.{ArePlacesApart};
 ghost use Rattle.qcow2_apply.specs.Plan.{IsPlanFor, IsPlanOf};
 ghost use Rattle.qcow2_apply.specs.declared.guest_edits.GuestEdit.{GuestEdit};
 ghost use Rattle.qcow2_apply.specs.declared.plan.Plan.{Plan};
-ghost use Rattle.qcow2_image.specs.Lookups.{guest_mapping, mapping_in};
+ghost use Rattle.qcow2_image.specs.Lookups.{guest_mapping, image_mapping, mapping_in};
 ghost use Rattle.qcow2_session.specs.Commands.Check.{report_on};
 ghost use Rattle.qcow2_session.specs.EditedDisk.{covers, mapping_after, mapping_left};
 ghost use Rattle.qcow2_session.specs.declared.commands.verdict.Verdict.TheVariants.{Fine};
@@ -69,6 +70,18 @@ pub fn a_consistent_disk_reads_as_edits_leave_it()
         ArePlacesApart (l2_tables_of (tables_by header plan)) → (offset : ℕ) →
         mapping_in header offset new
         ≡ result_map (mapping_left header.v2.cluster_bits offset edits) (mapping_in header offset old) }
+{}
+
+/// And where the header has no autoclear features, all of that holds by the image's bytes alone.
+pub fn a_consistent_image_reads_as_edits_leave_it()
+    ensures { (header : HeaderRecord) (edits : List GuestEdit) (plan : Plan) (old new : Image) →
+        header_of old ≡ Ok header → header.base.autoclear_features ≡ 0 → IsValidHeader header →
+        IsPlanFor header edits plan → IsPlanOf header edits old plan →
+        FollowsPlan header edits plan (Ok tt) old new →
+        AreRight (tables_by header plan) old 0 max_file_length →
+        ArePlacesApart (l2_tables_of (tables_by header plan)) → (offset : ℕ) →
+        image_mapping offset new
+        ≡ result_map (mapping_left header.v2.cluster_bits offset edits) (image_mapping offset old) }
 {}
 
 /// Of edits whose ranges have a guest offset the last decides what it reads as: data in its host cluster,
