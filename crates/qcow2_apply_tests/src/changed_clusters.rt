@@ -105,7 +105,10 @@ fn check_planned(alloc: Global, row: Changed<'_>) -> Result<(), Fail> {
 fn check_made(alloc: Global, row: Changed<'_>) -> Result<(), Fail> {
     let mut image: MemStorage = small_image(alloc, row.before)?;
     let mut header = header_of(alloc, &mut image)?;
-    check_lists(&apply_edits(alloc, &mut image, &mut header, row.edits)?, row)
+    check_lists(
+        &apply_edits(alloc, &mut image, &mut header, row.edits)?,
+        row,
+    )
 }
 
 #[test]

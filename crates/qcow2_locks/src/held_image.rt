@@ -22,8 +22,8 @@ pub struct HeldImage {
 ///
 /// Fault 39 where somebody holds it already, or has it open as QEMU's programs do: to write to it, or to read
 /// it and let nobody write. Fault 34 where the file can't be opened for both, or a call of the system fails.
-/// It goes on where the file system has no such locks, and where the system has no list of them. Only this
-/// call keeps away who opens the image later.
+/// It goes on where the file system has no such locks, and where the system has no list of them. Who opens
+/// the image later is kept away only where they make this call too.
 pub fn hold_alone<R: Files<File = File> + AllocGlobal>(
     rt: &R,
     path: &str,

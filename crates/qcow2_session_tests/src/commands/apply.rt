@@ -11,9 +11,11 @@ use std::test::Fail;
 const BOOKS: Numbers<'static> = counted! { (0xdf8, 0) };
 
 // The same where guest cluster 3 has no data, and cluster 5 is free.
-const DISCARDED: Numbers<'static> = counted! { (0xdf8, 0), (0x418, 0), (0x808, 0x0001_0000_0000_0000) };
+const DISCARDED: Numbers<'static> =
+    counted! { (0xdf8, 0), (0x418, 0), (0x808, 0x0001_0000_0000_0000) };
 
-const ZEROED: Numbers<'static> = counted! { (0xdf8, 0), (0x418, 1), (0x808, 0x0001_0000_0000_0000) };
+const ZEROED: Numbers<'static> =
+    counted! { (0xdf8, 0), (0x418, 1), (0x808, 0x0001_0000_0000_0000) };
 
 const KEPT: Numbers<'static> = counted! { (0xdf8, 0), (0x418, COPIED + 0xa01) };
 
