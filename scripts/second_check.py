@@ -36,12 +36,14 @@ class Entry(NamedTuple):
 
 
 class Tables:
-    """The tables of an image, as its bytes say."""
+    """The tables of an image, as its bytes say. Those of snapshots aren't looked at."""
 
-    def __init__(self, path):
+    def __init__(self, path, has_snapshots=False):
         with open(path, "rb") as self.file:
             self.length = self.file.seek(0, 2)
             self.read_header()
+            if self.snapshots and not has_snapshots:
+                raise Refused(37)
             self.l1 = self.entries_at(self.l1_start, self.l1_entries, self.l1_entry)
             blocks = self.entries_at(self.reftable_start, self.reftable_clusters * self.cluster // 8, self.block_entry)
             self.blocks = {entry.index: entry.start for entry in blocks}
@@ -56,16 +58,14 @@ class Tables:
 
     def read_header(self):
         header = self.bytes_at(0, 104)
-        version, self.cluster_bits, self.size = struct.unpack_from(">I12xIQ", header, 4)
+        self.version, self.cluster_bits, self.size = struct.unpack_from(">I12xIQ", header, 4)
         self.l1_entries, self.l1_start, self.reftable_start = struct.unpack_from(">IQQ", header, 36)
-        self.reftable_clusters, snapshots = struct.unpack_from(">II", header, 56)
-        self.is_external = version > 2 and header[79] & 4 != 0
-        self.has_autoclear = version > 2 and any(header[88:96])
-        self.order = header[99] if version > 2 else 4
+        self.reftable_clusters, self.snapshots = struct.unpack_from(">II", header, 56)
+        self.is_external = self.version > 2 and header[79] & 4 != 0
+        self.has_autoclear = self.version > 2 and any(header[88:96])
+        self.order = header[99] if self.version > 2 else 4
         self.cluster = 1 << self.cluster_bits
         self.counters_each = self.cluster * 8 >> self.order
-        if snapshots:
-            raise Refused(37)
 
     def entries_at(self, start, count, read):
         numbers = array("Q", self.bytes_at(start, 8 * count))
