@@ -17,6 +17,9 @@ COPIED, COMPRESSED = 1 << 63, 1 << 62
 OFFSET = (1 << 56) - 512
 GREATEST_END = 1 << 56
 
+# How many entries of a table are looked at at once.
+PIECE = 512
+
 # The kinds of lines, in the order of the last one, and those that may destroy data.
 KINDS = ("leaked", "missing", "shared", "false", "late")
 HARMFUL = {"missing", "shared", "false"}
@@ -68,9 +71,14 @@ class Tables:
         self.counters_each = self.cluster * 8 >> self.order
 
     def entries_at(self, start, count, read):
-        numbers = array("Q", self.bytes_at(start, 8 * count))
-        numbers.byteswap()
-        return [read(index, number) for index, number in enumerate(numbers) if number]
+        """The entries of a table that aren't 0. Pieces of zeros are passed over at once."""
+        stored, entries = self.bytes_at(start, 8 * count), []
+        for first in range(0, count, PIECE):
+            numbers = array("Q", stored[8 * first : 8 * (first + PIECE)])
+            if numbers.tobytes() != bytes(8 * len(numbers)):
+                numbers.byteswap()
+                entries += [read(first + index, number) for index, number in enumerate(numbers) if number]
+        return entries
 
     def entry(self, index, bits, reserved, start):
         """An entry that refers to a cluster, unless its offset is 0."""
