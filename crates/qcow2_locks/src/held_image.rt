@@ -22,8 +22,8 @@ pub struct HeldImage {
 ///
 /// Fault 39 where somebody holds it already, or has it open as QEMU's programs do: to write to it, or to read
 /// it and let nobody write. Fault 34 where the file can't be opened for both, or a call of the system fails.
-/// It goes on where the file system has no such locks, and where the system has no list of them. Who opens
-/// the image later is kept away only where they make this call too.
+/// It goes on where the file system has no such locks, and where the system has no list of them, or none that
+/// may be read. Who opens the image later is kept away only where they make this call too.
 pub fn hold_alone<R: Files<File = File> + AllocGlobal>(
     rt: &R,
     path: &str,
@@ -68,17 +68,21 @@ fn refuse_barred<R: Files + AllocGlobal>(rt: &R, file: &File) -> Result<(), Faul
     Ok(())
 }
 
-// What a file of the system says, or no text where it can't be opened.
+// What a file of the system says, or no text where there is none, or none that may be read.
 fn text_of<R: Files + AllocGlobal>(rt: &R, path: &str) -> Result<String, Fault>
     ensures faults { IfErr result IsHoldFault }
 {
-    let Ok(file) = File::open(rt, path) else {
-        return Ok(String::new(rt.alloc()));
+    let read = match File::open(rt, path) {
+        Ok(file) => read_all(rt.alloc(), file),
+        Err(error) => Err(error),
     };
-    match read_all(rt.alloc(), file) {
+    match read {
         Ok(text) => Ok(text),
-        Err(error) if error.kind() == ErrorKind::OutOfMemory => Err(Fault::NoMemory),
-        Err(_) => Err(Fault::Storage),
+        Err(error) => match error.kind() {
+            ErrorKind::NotFound | ErrorKind::PermissionDenied => Ok(String::new(rt.alloc())),
+            ErrorKind::OutOfMemory => Err(Fault::NoMemory),
+            _ => Err(Fault::Storage),
+        },
     }
 }
 
