@@ -3,7 +3,8 @@ pub mod Alignment
 pub mod File
 pub mod Growth
 pub mod Memory
-use Rattle.std.specs.Prelude.{◌≡◌, ◌≢◌, ℕ, zero, suc, ◌+◌, ◌*◌, ◌^◌, ◌%◌, ◌<◌, ◌≤◌, ◌↔◌, Bool, IsTrue, List, Option, Some, IfSome, Result, MatchResult, OnOk, IfErr, IsErrOf, length, drop, slice_index, refl}
+pub mod Slice
+use Rattle.std.specs.Prelude.{◌≡◌, ◌≢◌, ℕ, zero, suc, ◌+◌, ◌-◌, ◌*◌, ◌^◌, ◌%◌, ◌<◌, ◌≤◌, ◌↔◌, Bool, IsTrue, List, Option, Some, IfSome, Result, MatchResult, OnOk, IfErr, IsErrOf, length, drop, nat_lt, if◌then◌else◌, slice_index, refl}
 use Rattle.qcow2_base.specs.declared.fault.Fault.{Fault}
 use Rattle.qcow2_base.specs.declared.fault.Fault.TheVariants.{Storage as StorageFailed}
 
@@ -14,6 +15,10 @@ Image = ℕ → ℕ
 -- the image that a list of bytes is
 abbrev pub image_of : List ℕ → Image
 image_of bytes offset = slice_index bytes offset
+
+-- the image that has these bytes from an offset on, and zeros before and after them
+abbrev pub image_from : ℕ → List ℕ → Image
+image_from start bytes offset = if nat_lt offset start then 0 else slice_index bytes (offset - start)
 
 -- the image has these bytes from the offset on
 pub record Holds (image : Image) (offset : ℕ) (bytes : List ℕ) : Type 0 where

@@ -8,10 +8,12 @@ ghost use Rattle.qcow2_base.specs.declared.fault.Fault.TheVariants.{Storage as s
 
 mod file;
 mod memory;
+mod slice;
 
 use crate::Fault;
 pub use file::FileStorage;
 pub use memory::MemStorage;
+pub use slice::SliceStorage;
 use thiserror::Error;
 
 /// A storage's call failed, whatever the cause.

@@ -3,6 +3,7 @@
 mod buffered;
 mod files;
 mod large_files;
+mod slices;
 
 use qcow2_base::{MemStorage, Storage, StorageFault};
 use qcow2_testing::{FailingStorage, each, holds, printed, rows, same, same_bytes};

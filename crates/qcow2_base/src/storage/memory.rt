@@ -107,8 +107,8 @@ impl Storage for MemStorage {
     ghost ends = { λ m. (length m.bytes.items, λ o past. get_or_past m.bytes.items o 0 past) };
 }
 
-// Fills the buffer with the bytes from `offset` on, and with zeros past the last one.
-fn copy_bytes(bytes: &[u8], buf: &mut [u8], offset: usize)
+/// Fills the buffer with the bytes from `offset` on, and with zeros past the last one.
+pub(super) fn copy_bytes(bytes: &[u8], buf: &mut [u8], offset: usize)
     ensures { Holds (image_of bytes.now) offset buf.new }
 {
     let start = offset.min(bytes.len());
