@@ -16,6 +16,20 @@ pub fn load_block<S: Storage>(
     RefBlock::load(alloc, image, header, cluster)
 }
 
+/// `RefBlock::reload`.
+pub fn reload_block<S: Storage>(
+    block: &mut RefBlock,
+    image: &mut S,
+    header: &Header,
+    cluster: HostCluster,
+) -> Result<(), Fault> {
+    let sizes = (header.cluster_bits(), header.refcount_order());
+    if (block.cluster_bits(), block.refcount_order()) != sizes {
+        return Err(NOT_MADE);
+    }
+    block.reload(image, header, cluster)
+}
+
 /// `RefBlock::new_cleared`.
 pub fn new_block(alloc: Global, header: &Header) -> Result<RefBlock, Fault> {
     RefBlock::new_cleared(alloc, &MemStorage::new(Vec::new(alloc)), header)

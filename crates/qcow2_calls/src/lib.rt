@@ -10,8 +10,8 @@ mod sessions;
 mod tables;
 
 pub use blocks::{
-    decrement, increment, load_block, new_block, set_block_cluster, set_counter, write_block,
-    write_block_if_modified,
+    decrement, increment, load_block, new_block, reload_block, set_block_cluster, set_counter,
+    write_block, write_block_if_modified,
 };
 pub use headers::{
     header_of, into_writable, load_header, new_header, update_header, write_header,
@@ -25,9 +25,9 @@ pub use sessions::{
 };
 pub use tables::{
     LoadedTable, copy_l2_table, discard_cluster, enter_l2_table, enter_refblock, grow_l1_table,
-    grow_reftable, least_spare, load_table, map_cluster, new_l2_table, set_cluster, set_l1_copied,
-    set_l1_table, set_l2_copied, set_reftable, write_entry, write_l2_table_if_modified,
-    write_table, zero_cluster,
+    grow_reftable, least_spare, load_table, map_cluster, new_l2_table, reload_l2_table, set_cluster,
+    set_l1_copied, set_l1_table, set_l2_copied, set_reftable, write_entry,
+    write_l2_table_if_modified, write_table, zero_cluster,
 };
 
 /// The fault of a call that is not made. No call here returns it otherwise.

@@ -53,6 +53,20 @@ pub fn load_table<T: LoadedTable, S: Storage>(
     T::load(alloc, image, header, cluster, entries)
 }
 
+/// `L2Table::reload`.
+pub fn reload_l2_table<S: Storage>(
+    table: &mut L2Table,
+    image: &mut S,
+    header: &Header,
+    cluster: HostCluster,
+) -> Result<(), Fault> {
+    let disk = (header.cluster_bits(), header.external_data_file());
+    if (table.cluster_bits(), table.external_data_file()) != disk {
+        return Err(NOT_MADE);
+    }
+    table.reload(image, header, cluster)
+}
+
 /// `L2Table::new_cleared`.
 pub fn new_l2_table(alloc: Global, header: &Header) -> Result<L2Table, Fault> {
     L2Table::new_cleared(alloc, header)

@@ -155,7 +155,7 @@ pub zeros-lawful : (g : Geometry) (v : ℕ) → has_host_cluster g v ≡ true
     → l2_fault g.cluster_bits v ≡ None → l2_fault g.cluster_bits (with_zero_flag v) ≡ None
 zeros-lawful g v has lawful = grind (arith, nat_tests, standard_if_host_cluster)
 
-run_of-length : (g : Geometry) (edits : List TableEdit) (numbers : List ℕ) → length (run_of g edits numbers).numbers ≡ length numbers
+pub run_of-length : (g : Geometry) (edits : List TableEdit) (numbers : List ℕ) → length (run_of g edits numbers).numbers ≡ length numbers
 run_of-length g [] numbers = refl
 run_of-length g (e ∷ edits) numbers = run_of-length g edits (after_edit g e numbers) ∙ after_edit-length g e numbers
 
@@ -168,7 +168,7 @@ run_of_others g (e ∷ edits) numbers index others =
     ∙ get_or-set_other numbers e.index index (entry_after g e.edit (slice_index numbers e.index)) 0 (λ same. differs (sym same))
 
 -- the numbers that edits leave after others
-run_of-numbers : (g : Geometry) (before later : List TableEdit) (numbers : List ℕ) → (run_of g (before ++ later) numbers).numbers ≡ (run_of g later (run_of g before numbers).numbers).numbers
+pub run_of-numbers : (g : Geometry) (before later : List TableEdit) (numbers : List ℕ) → (run_of g (before ++ later) numbers).numbers ≡ (run_of g later (run_of g before numbers).numbers).numbers
 run_of-numbers g [] later numbers = refl
 run_of-numbers g (e ∷ before) later numbers = run_of-numbers g before later (after_edit g e numbers)
 

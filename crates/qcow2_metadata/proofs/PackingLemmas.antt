@@ -1,9 +1,9 @@
-use Rattle.std.proofs.Common.{◌≡◌, ℕ, zero, suc, ◌+◌, ◌-◌, ◌*◌, ◌/◌, ◌%◌, ◌^◌, ◌<◌, ◌≤◌, ◌⊎◌, List, [], ◌∷◌, ◌++◌, map, length, slice_index, take, drop, refl, sym, ◌∙◌, ap, inl, inr, add-zero, zero-add, add_assoc, append_assoc, mul-zero, mod-eq_of_lt, pow-suc, pow_pos, mul-le-mul_left, le-leb, get_or-drop, get_or-take, length-append, length-drop, length-take, arith, mul_assoc, pow_mono}
+use Rattle.std.proofs.Common.{◌≡◌, ℕ, zero, suc, ◌+◌, ◌-◌, ◌*◌, ◌/◌, ◌%◌, ◌^◌, ◌<◌, ◌≤◌, ◌⊎◌, List, [], ◌∷◌, ◌++◌, map, length, slice_index, take, drop, refl, sym, ◌∙◌, ap, inl, inr, add-zero, zero-add, add_assoc, mul-zero, mod-eq_of_lt, pow-suc, pow_pos, mul-le-mul_left, le-leb, get_or-drop, get_or-take, length-append, length-drop, length-take, arith, mul_assoc, pow_mono}
 use Rattle.std.specs.List.{All, range_with_len}
 use Rattle.std.proofs.lemmas.Bool.{cases_lt, lt-leb}
 use Rattle.std.proofs.lemmas.List.{get_or-append_right, get_or_append_left, get_or_past, take_more}
 use Rattle.std.proofs.lemmas.List.Elements.{All-drop, All-head, All-tail, All-take, All-get_or}
-use Rattle.std.proofs.lemmas.List.FromFn.{fill_by_all, get_or-map-range_with_len, length-map-range_with_len}
+use Rattle.std.proofs.lemmas.List.FromFn.{fill_by_all, get_or-map-range_with_len, length-map-range_with_len, map-range_with_len_more}
 use Rattle.std.proofs.lemmas.Nat.{div-mul-add, div_below, mul-add-lt, mod-mul-add, mod-pow-add, mod_below, shr-shr, pow-add}
 use Rattle.std.proofs.Math.Nat.{lt_of_mul-lt-mul_right, mul-add-div, mul-add-mod_self_left, add-mul-div_left, add-mul-mod_self_left, div-eq_of_lt, le-div_iff_mul-le, mod-one, zero-div, zero-mod, one-le-pow, div-one}
 use Rattle.std.proofs.Math.Arith.{mod-mul}
@@ -291,8 +291,8 @@ counters_of_byte order per byte xs narrow each len digits =
     digits i below ∙ rw (le-leb order 3 narrow, first, mod-eq_of_lt within) refl)
 
 -- the counters of one byte more
-pub narrow_counters_more : (order per i byte : ℕ) (bytes before items : List ℕ) → order ≤ 3 → per ≡ per_byte order → byte ≡ slice_index bytes i → items ≡ before ++ counters_at order (image_of bytes) 0 (per * i) → items ++ counters_at order (image_of (byte ∷ [])) 0 per ≡ before ++ counters_at order (image_of bytes) 0 (per * (i + 1))
-narrow_counters_more order per i byte bytes before items narrow each is so_far =
+pub narrow_counters_more : (order per i byte : ℕ) (bytes read : List ℕ) → order ≤ 3 → per ≡ per_byte order → byte ≡ slice_index bytes i → read ≡ counters_at order (image_of bytes) 0 (per * i) → read ++ counters_at order (image_of (byte ∷ [])) 0 per ≡ counters_at order (image_of bytes) 0 (per * (i + 1))
+narrow_counters_more order per i byte bytes read narrow each is so_far =
     let image = image_of bytes in
     let one : width order * per ≡ 8 * 1 = rw each (width-per_byte order narrow) in
     let whole : width order * (per * i) ≡ 8 * i = sym (mul_assoc (width order) per i) ∙ ap (λ (x : ℕ). x * i) one in
@@ -300,8 +300,13 @@ narrow_counters_more order per i byte bytes before items narrow each is so_far =
     counters_at-same order per 1 (image_of (byte ∷ [])) image 0 (0 + i) (omega arith) one
     (λ k below. let first : k ≡ 0 = omega arith in rw (first, add-zero (0 + i), zero-add i) is) in
     let next : per * (i + 1) ≡ per * i + per = omega arith in
-    rw (so_far, here, next, counters_at-append order (per * i) per i image 0 (omega arith) whole)
-    (append_assoc before (counters_at order image 0 (per * i)) (counters_at order image (0 + i) per))
+    rw (so_far, here, next) (sym (counters_at-append order (per * i) per i image 0 (omega arith) whole))
+
+-- one wide counter more
+pub wide_counters_more : (order size i : ℕ) (image : Image) (counter : ℕ) (read : List ℕ) → 4 ≤ order → size ≡ bytes_each order → be image (size * i) size ≡ counter → read ≡ counters_at order image 0 i → read ++ counter ∷ [] ≡ counters_at order image 0 (i + 1)
+wide_counters_more order size i image counter read wide each number so_far =
+    let last : counter_at order image 0 i ≡ counter = rw (lt-leb order 3 wide, zero-add (bytes_each order * i), ← each) number in
+    rw (so_far, ← last) (sym (map-range_with_len_more (counter_at order image 0) 0 i i (zero-add i)))
 
 from_digits_push : (w x : ℕ) (digits : List ℕ) → from_digits (2 ^ w) (digits ++ x ∷ []) ≡ from_digits (2 ^ w) digits + x * 2 ^ (w * length digits)
 from_digits_push w x [] = rw (mul-zero w, mul-zero (2 ^ w)) (omega arith)

@@ -1,15 +1,17 @@
-use Rattle.std.proofs.Common.{◌≡◌, ℕ, ◌+◌, ◌-◌, ◌*◌, ◌/◌, ◌%◌, ◌^◌, ◌<◌, ◌≤◌, List, ◌++◌, length, replicate, slice_set, Option, None, min, inl, inr, refl, ap, sym, ◌∙◌, arith, pow-add, pow_pos}
+use Rattle.std.proofs.Common.{◌≡◌, ℕ, ◌+◌, ◌-◌, ◌*◌, ◌/◌, ◌%◌, ◌^◌, ◌<◌, ◌≤◌, List, ◌++◌, length, replicate, slice_set, drop, take, append_assoc, length-append, length-take, Option, None, min, inl, inr, refl, ap, sym, ◌∙◌, arith, pow-add, pow_pos}
 use mathlib.Core.Path.{fun_ext}
 use Rattle.std.proofs.Math.Nat.{mul-add, mul-div_cancel_left, mul_assoc, pow-le-pow_right}
 use Rattle.std.proofs.lemmas.Bool.{cases_lt}
 use Rattle.std.proofs.lemmas.Grind.{common_steps}
+use Rattle.std.proofs.lemmas.List.{take_at}
+use Rattle.std.proofs.lemmas.List.Elements.{All-append, All-drop, All-take}
 use Rattle.std.proofs.lemmas.List.FromFn.{fill_by_all}
 use Rattle.qcow2_base.specs.Storage.{Holds, Image, IsBytes, SameOutside, image_of}
 use Rattle.qcow2_metadata.proofs.PackingLemmas.{counter_at-packed, counters_at-append, counters_at-held, counters_at-same, narrow_cases, packed-counters_at}
 use Rattle.qcow2_metadata.specs.Pieces.{Stand}
 use Rattle.qcow2_base.specs.Types.{IsClusterBits}
 use Rattle.qcow2_base.specs.declared.types.HostCluster.{HostCluster}
-use Rattle.qcow2_metadata.specs.Refblock.Counters.{AreCounters, CanHold, IsOfOrder, kept_counters}
+use Rattle.qcow2_metadata.specs.Refblock.Counters.{AreCounters, CanHold, IsOfOrder, kept_counters, with_numbers_from}
 use Rattle.qcow2_metadata.specs.Placed.{ReadsBack}
 use Rattle.qcow2_metadata.specs.Refblock.{BlockGeometry, IsValidBlock, block_entries, block_geometry, block_layout, greatest_counter}
 use Rattle.qcow2_metadata.specs.Refblock.Packing.{counter_at, counters_at, counter_bytes, per_byte, width}
@@ -84,21 +86,41 @@ whole_counters order len orders eights =
     ap (λ n. width order * (n / width order)) times ∙ ap (λ n. width order * n) (mul-div_cancel_left (2 ^ (6 - order) * (len / 8)) (pow_pos order)) ∙ sym times
 
 -- the counters of a block's first bytes, and then those of the bytes after them
-pub counters-more : (order done : ℕ) (image : Image) (offset : ℕ) (list buffer : List ℕ) → order ≤ 6 → length buffer % 8 ≡ 0 → Holds image (offset + done) buffer → width order * length list ≡ 8 * done → list ≡ counters_at order image offset (length list) → list ++ counters_at order (image_of buffer) 0 (8 * length buffer / width order) ≡ counters_at order image offset (length list + 8 * length buffer / width order)
-counters-more order done image offset list buffer orders eights held whole counters =
+pub counters-more : (order count done : ℕ) (image : Image) (offset : ℕ) (read buffer : List ℕ) → order ≤ 6 → length buffer % 8 ≡ 0 → Holds image (offset + done) buffer → width order * count ≡ 8 * done → read ≡ counters_at order image offset count → read ++ counters_at order (image_of buffer) 0 (8 * length buffer / width order) ≡ counters_at order image offset (count + 8 * length buffer / width order)
+counters-more order count done image offset read buffer orders eights held whole so_far =
     let m = 8 * length buffer / width order in
     let same = counters_at-held order m (length buffer) image (offset + done) buffer orders (whole_counters order (length buffer) orders eights) (omega arith) held in
-    ap (λ (xs : List ℕ). xs ++ counters_at order (image_of buffer) 0 m) counters
-    ∙ ap (λ (xs : List ℕ). counters_at order image offset (length list) ++ xs) (sym same)
-    ∙ sym (counters_at-append order (length list) m done image offset orders whole)
+    rw (so_far, ← same) (sym (counters_at-append order count m done image offset orders whole))
 
 -- as many bits are as many counters
 pub same_count : (order a b len : ℕ) → width order * a ≡ 8 * len → width order * b ≡ 8 * len → a ≡ b
 same_count order a b len left right = grind (arith, nat_tests, mul-div_cancel_left, pow_pos)
 
 -- and that many bytes more are that many counters more
-pub count-more : (order done len count : ℕ) → order ≤ 6 → len % 8 ≡ 0 → width order * count ≡ 8 * done → width order * (count + 8 * len / width order) ≡ 8 * (done + len)
-count-more order done len count orders eights whole = grind (arith, nat_tests, mul-add, whole_counters)
+pub count-more : (order done len : ℕ) → order ≤ 6 → done % 8 ≡ 0 → len % 8 ≡ 0 → 8 * (done + len) / width order ≡ 8 * done / width order + 8 * len / width order
+count-more order done len orders before eights =
+    let counts = 8 * done / width order + 8 * len / width order in
+    let whole : width order * counts ≡ 8 * (done + len) =
+    omega (arith, mul-add (width order) (8 * done / width order) (8 * len / width order), whole_counters order done orders before, whole_counters order len orders eights) in
+    same_count order (8 * (done + len) / width order) counts (done + len) (whole_counters order (done + len) orders (omega arith)) whole
+
+-- numbers that are put in the places of a list's own leave it as long
+pub with_numbers_from-length : (list : List ℕ) (first : ℕ) (numbers : List ℕ) → first + length numbers ≤ length list → length (with_numbers_from list first numbers) ≡ length list
+with_numbers_from-length list first numbers within = grind (arith, nat_tests, common_steps)
+
+-- and the list's first numbers are then the first of its own, and these
+pub take-with_numbers_from : (list : List ℕ) (first : ℕ) (numbers : List ℕ) (n : ℕ) → n ≡ first + length numbers → first + length numbers ≤ length list → take n (with_numbers_from list first numbers) ≡ take first list ++ numbers
+take-with_numbers_from list first numbers n count within =
+    let before : length (take first list) ≡ first = omega (arith, length-take first list) in
+    ap (take n) (sym (append_assoc (take first list) numbers (drop (first + length numbers) list)))
+    ∙ take_at (take first list ++ numbers) (drop (first + length numbers) list) n (omega (arith, length-append (take first list) numbers, before))
+
+-- where all fit their width, those of the list still do
+pub with_numbers_from-small : (order : ℕ) (list : List ℕ) (first : ℕ) (numbers : List ℕ) → AreCounters order list → AreCounters order numbers → AreCounters order (with_numbers_from list first numbers)
+with_numbers_from-small order list first numbers old new =
+    let fits = λ (counter : ℕ). counter < 2 ^ width order in
+    All-append fits (take first list) (numbers ++ drop (first + length numbers) list) (All-take fits first list old)
+    (All-append fits numbers (drop (first + length numbers) list) new (All-drop fits (first + length numbers) list old))
 
 -- a piece of a cluster is whole numbers of eight bytes
 pub piece_in_eights : (cb piece len : ℕ) → IsClusterBits cb → len ≡ min (2 ^ cb - 4096 * piece) 4096 → len % 8 ≡ 0
@@ -111,6 +133,11 @@ piece_in_eights cb piece len bits is =
 pub narrow_length : (order len : ℕ) → order ≤ 3 → per_byte order * len ≡ 8 * len / width order
 narrow_length order len low =
     narrow_cases (λ order. per_byte order * len ≡ 8 * len / width order) (omega arith) (omega arith) (omega arith) (omega arith) order low
+
+-- a piece's counters end within a list that has room for its bytes
+pub narrow_end : (order piece len count : ℕ) → order ≤ 3 → 8 * (4096 * piece + len) ≤ width order * count → 32768 * piece / 2 ^ order + 8 * len / 2 ^ order ≤ count
+narrow_end order piece len count low within =
+    narrow_cases (λ order. 8 * (4096 * piece + len) ≤ width order * count → 32768 * piece / 2 ^ order + 8 * len / 2 ^ order ≤ count) (λ h. omega arith) (λ h. omega arith) (λ h. omega arith) (λ h. omega arith) order low within
 
 -- bytes that lie within counters have that many of them
 pub narrow_within : (order bytes count : ℕ) → order ≤ 3 → 8 * bytes ≤ width order * count → per_byte order * bytes ≤ count

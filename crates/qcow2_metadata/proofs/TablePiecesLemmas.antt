@@ -132,3 +132,9 @@ viewed_from_extend v r ran road says = fact_from_extend v r ran (λ it b. Yields
 -- each piece of eight bytes holds an entry's number, where all do
 pub lawful_chunk : (fault : ℕ → Option Fault) (chunks : List (List ℕ)) (k : ℕ) (chunk : List ℕ) → first_fault fault (chunk_numbers chunks) ≡ None → k < length chunks → chunk ≡ get_or chunks k chunk → fault (be (image_of chunk) 0 8) ≡ None
 lawful_chunk fault chunks k chunk none below is = grind (arith, nat_tests, no_fault_item)
+
+-- the first of numbers with no fault have none
+pub first_fault-take : (fault : ℕ → Option Fault) (xs : List ℕ) (k : ℕ) → first_fault fault xs ≡ None → first_fault fault (take k xs) ≡ None
+first_fault-take fault xs k none =
+    let joined = first_fault-join fault (take k xs) (drop k xs) in
+    (no_fault_at_all _ _ (sym (rw (take-append-drop k xs) at joined) ∙ none)).0

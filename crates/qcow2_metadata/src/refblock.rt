@@ -1,15 +1,15 @@
 //! Refcount blocks: how many references each cluster of a part of the image has.
 
-ghost use Rattle.std.specs.Prelude.{◌≡◌, ◌+◌, ◌-◌, ◌*◌, ◌^◌, ◌<◌, ◌≤◌, ◌==◌, IfOk, IsOk, IsOkUnless, None, Ok, Some, false, length, option_map, replicate, slice_index, true};
+ghost use Rattle.std.specs.Prelude.{◌≡◌, ◌≢◌, ◌+◌, ◌*◌, ◌^◌, ◌<◌, ◌≤◌, ◌==◌, IfErr, IfOk, IsOk, IsOkUnless, None, Ok, OnErr, OnOk, Some, false, length, option_map, replicate, slice_index, true};
 ghost use Rattle.qcow2_base.specs.Format.{max_file_length};
+ghost use Rattle.qcow2_base.specs.Storage.{OnImage, OnlyReads};
 ghost use Rattle.qcow2_base.specs.Types.{IsClusterBits};
 ghost use Rattle.qcow2_base.specs.declared.types.HostOffset.{HostOffset as Offset};
 ghost use Rattle.qcow2_metadata.specs.Placed.{FollowsWrite, IsLoaded, RefusesPlace, Writes, new_placed, offset_of, with_number};
 ghost use Rattle.qcow2_metadata.specs.Results.{Reads};
 ghost use Rattle.qcow2_metadata.specs.Refblock.Guard.{IsBlockGuard};
-ghost use Rattle.qcow2_metadata.specs.Refblock.Counters.{AreCounters, IsOfOrder, kept_counters};
+ghost use Rattle.qcow2_metadata.specs.Refblock.Counters.{IsOfOrder, kept_counters};
 ghost use Rattle.qcow2_metadata.specs.Refblock.{IsBlockFault, IsValidBlock, block_entries, block_geometry_of, block_layout, greatest_counter, loaded_block};
-ghost use Rattle.qcow2_metadata.specs.Refblock.Packing.{counters_at};
 
 mod counters;
 mod guard;
@@ -58,34 +58,33 @@ impl Model for RefBlock {
         (kept_counters b.counters) };
 }
 
-// The counters of the block that begins at an offset of the image. Reads in pieces of 4096 bytes.
+// Reads the counters of the block that begins at an offset of the image, in pieces of 4096 bytes. After a
+// fault they may be any that fit.
 fn read_counters<S: Storage>(
-    alloc: Global,
+    counters: &mut Counters,
     image: &mut S,
     header: &Header,
     offset: HostOffset,
-) -> Result<Counters, Fault>
-    requires bits { IsClusterBits header.now.v2.cluster_bits }
+) -> Result<(), Fault>
+    requires kind { IsOfOrder header.now.base.refcount_order counters.old }
+    requires valid { IsValidBlock (block_geometry_of header.now) None (kept_counters counters.old) }
     requires fits { offset.0 + 2 ^ header.now.v2.cluster_bits ≤ max_file_length }
-    ensures reads { let header = header.now in Reads kept_counters result
-        (λ bytes. Ok (counters_at header.base.refcount_order bytes offset.0
-        (block_entries header.v2.cluster_bits header.base.refcount_order)))
-        (λ _. ⊥) (S.state image.old) (S.state image.new) }
-    ensures kind { IfOk result (IsOfOrder header.now.base.refcount_order) }
-    ensures lawful { IfOk result (λ counters. let header = header.now in
-        (length (kept_counters counters) ≡ block_entries header.v2.cluster_bits header.base.refcount_order)
-        × AreCounters header.base.refcount_order (kept_counters counters)) }
+    ensures fault { IsOkUnless result Fault.Storage }
+    ensures numbers { OnOk result (OnImage (S.state image.old) (λ bytes. kept_counters counters.new
+        ≡ (block_layout (block_geometry_of header.now)).numbers_from bytes offset.0)) }
+    ensures kind { IsOfOrder header.now.base.refcount_order counters.new }
+    ensures valid { IsValidBlock (block_geometry_of header.now) None (kept_counters counters.new) }
+    ensures storage { OnlyReads result (S.state image.old) (S.state image.new) }
 {
     let (order, size) = (header.refcount_order(), header.cluster_size());
-    let mut counters = Counters::with_capacity(alloc, order, header.rb_entries())?;
     let mut array = [0u8; PIECE_BYTES];
     for piece in 0..size.div_ceil(PIECE_BYTES) {
         let first = PIECE_BYTES * piece;
         let buffer = &mut array[..(size - first).min(PIECE_BYTES)];
         read_range(image, HostOffset(offset.0 + first as u64), buffer)?;
-        counters.unpack(order, buffer)?;
+        counters.unpack(order, piece, buffer);
     }
-    Ok(counters)
+    Ok(())
 }
 
 impl RefBlock {
@@ -120,6 +119,7 @@ impl RefBlock {
     /// Reads the block that begins with a cluster of the image, in pieces of 4096 bytes. It has that
     /// cluster and doesn't count as modified. Refuses an end past 2^56. Changes no byte, whatever it
     /// returns.
+    #[tactic(auto, using(crate::proofs::RefblockLemmas::zeros_are_valid))]
     pub fn load<S: Storage>(
         alloc: Global,
         image: &mut S,
@@ -132,18 +132,51 @@ impl RefBlock {
         ensures loaded { let geometry = block_geometry_of header.now in IfOk result
             (IsLoaded (block_layout geometry) geometry cluster (S.state image.old)) }
     {
-        let size = header.cluster_size() as u64;
-        let offset = range_offset(cluster, header.cluster_bits(), size)?;
-        let counters = read_counters(alloc, image, header, offset)?;
+        let (bits, order) = (header.cluster_bits(), header.refcount_order());
+        let offset = range_offset(cluster, bits, 1 << bits)?;
+        let mut counters = Counters::zeros(alloc, order, header.rb_entries())?;
+        read_counters(&mut counters, image, header, offset)?;
         Ok(RefBlock {
             counters,
             placement: Placement {
                 cluster: Some(cluster),
                 modified: false,
             },
-            cluster_bits: header.cluster_bits(),
-            refcount_order: header.refcount_order(),
+            cluster_bits: bits,
+            refcount_order: order,
         })
+    }
+
+    /// Reads the block that begins with a cluster of the image into this one, as `load` does, but takes no
+    /// memory. Refuses an end past 2^56. After a fault the block's counters may be any, it has no cluster,
+    /// and counts as modified. Changes no byte, whatever it returns.
+    pub fn reload<S: Storage>(
+        &mut self,
+        image: &mut S,
+        header: &Header,
+        cluster: HostCluster,
+    ) -> Result<(), Fault>
+        requires geometry { self.old.geometry ≡ block_geometry_of header.now }
+        ensures refused { RefusesPlace (block_layout self.old.geometry) cluster result }
+        ensures reads { Reads (λ done. self.new.numbers) result (loaded_block header.now cluster)
+            (IsBlockFault header.now cluster) (S.state image.old) (S.state image.new) }
+        ensures loaded { OnOk result (IsLoaded (block_layout self.old.geometry) self.old.geometry cluster
+            (S.state image.old) self.new) }
+        ensures memory { IfErr result (λ fault. fault ≢ Fault.NoMemory) }
+        ensures left { OnErr result (self.new
+            ≡ record self.old { numbers = self.new.numbers; cluster = None; modified = true }) }
+    {
+        self.placement = Placement {
+            cluster: None,
+            modified: true,
+        };
+        let offset = range_offset(cluster, self.cluster_bits, 1 << self.cluster_bits)?;
+        read_counters(&mut self.counters, image, header, offset)?;
+        self.placement = Placement {
+            cluster: Some(cluster),
+            modified: false,
+        };
+        Ok(())
     }
 
     /// Writes the block to the image, from its cluster on, in pieces of 4096 bytes.

@@ -26,6 +26,7 @@ mod l2_table;
 mod one_entry;
 mod pieces;
 mod ref_table;
+mod reread;
 
 pub use entry_table::{EntryTable, TableKind};
 pub use growth::{Turns, least_spare};

@@ -34,4 +34,8 @@ mod reftable_growth;
 #[cfg(test)]
 mod refused_calls;
 #[cfg(test)]
+mod reloaded_blocks;
+#[cfg(test)]
+mod reloaded_tables;
+#[cfg(test)]
 mod table_files;

@@ -165,8 +165,8 @@ fn the_last_counter_of_the_largest_block_is_put_in_its_place(rt: HostRuntime) ->
     each(rt.alloc(), LAST, check_last)
 }
 
-// An image of `len` bytes, of which byte i is `i mod 251`.
-fn pattern(alloc: Global, len: usize) -> Result<MemStorage, Fault> {
+/// An image of `len` bytes, of which byte i is `i mod 251`.
+pub(crate) fn pattern(alloc: Global, len: usize) -> Result<MemStorage, Fault> {
     let mut bytes = Vec::new(alloc);
     for at in 0..len {
         bytes.push((at % 251) as u8)?;

@@ -1,5 +1,5 @@
 -- Which list in memory holds the counters of a refcount block?
-use Rattle.std.specs.Prelude.{◌≡◌, ℕ, ◌^◌, ◌<◌, ◌≤◌, List}
+use Rattle.std.specs.Prelude.{◌≡◌, ℕ, ◌+◌, ◌^◌, ◌<◌, ◌≤◌, List, ◌++◌, drop, length, take}
 use Rattle.std.specs.List.{All}
 use Rattle.qcow2_metadata.specs.declared.refblock.counters.Counters.{Counters}
 use Rattle.qcow2_metadata.specs.declared.refblock.counters.Counters.TheVariants.{U8, U16, U32, U64}
@@ -29,3 +29,7 @@ CanHold (U64 list) number = number < 2 ^ 64
 -- each counter fits its width
 abbrev pub AreCounters : ℕ → List ℕ → Type 0
 AreCounters order counters = All (λ counter. counter < 2 ^ width order) counters
+
+-- the list with these numbers in the places of its own from an index on
+abbrev pub with_numbers_from : List ℕ → ℕ → List ℕ → List ℕ
+with_numbers_from list first numbers = take first list ++ (numbers ++ drop (first + length numbers) list)

@@ -1,9 +1,9 @@
 //! The counters of a block in memory: one number each, in the smallest integers that hold them.
 
-ghost use Rattle.std.specs.Prelude.{◌≡◌, ℕ, ◌++◌, ◌*◌, ◌/◌, ◌%◌, ◌+◌, ◌-◌, ◌^◌, ◌<◌, ◌≤◌, IfOk, OnOk, [], length, replicate, slice_index, slice_set};
+ghost use Rattle.std.specs.Prelude.{◌≡◌, ℕ, ◌*◌, ◌/◌, ◌%◌, ◌+◌, ◌^◌, ◌<◌, ◌≤◌, IfOk, length, replicate, slice_index, slice_set};
 ghost use Rattle.qcow2_metadata.specs.Pieces.{piece_size};
 ghost use Rattle.qcow2_base.specs.Storage.{image_of};
-ghost use Rattle.qcow2_metadata.specs.Refblock.Counters.{AreCounters, CanHold, IsOfOrder, kept_counters};
+ghost use Rattle.qcow2_metadata.specs.Refblock.Counters.{AreCounters, CanHold, IsOfOrder, kept_counters, with_numbers_from};
 ghost use Rattle.qcow2_metadata.specs.Refblock.Packing.{counters_at, counter_bytes, width};
 
 use super::packing::{pack_narrow, pack_wide, unpack_narrow, unpack_wide};
@@ -30,24 +30,6 @@ impl Counters {
             5 => Ok(Counters::U32(vec![in alloc; 0; count]?)),
             6 => Ok(Counters::U64(vec![in alloc; 0; count]?)),
             _ => Ok(Counters::U8(vec![in alloc; 0; count]?)),
-        }
-    }
-
-    // No counters, with room for `count` of them.
-    pub(super) fn with_capacity(
-        alloc: Global,
-        order: u32,
-        count: usize,
-    ) -> Result<Counters, AllocError>
-        requires { order ≤ 6 }
-        ensures numbers { IfOk result (λ counters. kept_counters counters ≡ []) }
-        ensures order { IfOk result (IsOfOrder order) }
-    {
-        match order {
-            4 => Ok(Counters::U16(Vec::with_capacity(alloc, count)?)),
-            5 => Ok(Counters::U32(Vec::with_capacity(alloc, count)?)),
-            6 => Ok(Counters::U64(Vec::with_capacity(alloc, count)?)),
-            _ => Ok(Counters::U8(Vec::with_capacity(alloc, count)?)),
         }
     }
 
@@ -89,20 +71,27 @@ impl Counters {
         }
     }
 
-    // Appends the counters of some bytes of a block to those before them.
+    // Puts the counters of a piece of the block, of which these are the bytes, in their places.
     #[tactic(auto, using(crate::proofs::RefblockLemmas::narrow_length))]
-    pub(super) fn unpack(&mut self, order: u32, bytes: &[u8]) -> Result<(), AllocError>
-        requires order { order ≤ 6 }
+    pub(super) fn unpack(&mut self, order: u32, piece: usize, bytes: &[u8])
         requires kind { IsOfOrder order self.old }
-        ensures numbers { OnOk result (kept_counters self.new ≡ kept_counters self.old
-            ++ counters_at order (image_of bytes.now) 0 (8 * length bytes.now / width order)) }
+        requires piece { piece_size * piece < 2 ^ 21 }
+        requires len { length bytes.now ≤ piece_size }
+        requires within { 8 * (piece_size * piece + length bytes.now)
+            ≤ width order * length (kept_counters self.old) }
+        requires whole { length bytes.now % 8 ≡ 0 }
+        ensures numbers { kept_counters self.new ≡ with_numbers_from (kept_counters self.old)
+            (8 * (piece_size * piece) / width order)
+            (counters_at order (image_of bytes.now) 0 (8 * length bytes.now / width order)) }
         ensures kind { IsOfOrder order self.new }
     {
+        let first = 8 * PIECE_BYTES * piece >> order;
+        let end = first + (8 * bytes.len() >> order);
         match self {
-            Counters::U8(list) => unpack_narrow(list, order, bytes),
-            Counters::U16(list) => unpack_wide(list, bytes),
-            Counters::U32(list) => unpack_wide(list, bytes),
-            Counters::U64(list) => unpack_wide(list, bytes),
+            Counters::U8(list) => unpack_narrow(&mut list[first..end], order, bytes),
+            Counters::U16(list) => unpack_wide(&mut list[first..end], bytes),
+            Counters::U32(list) => unpack_wide(&mut list[first..end], bytes),
+            Counters::U64(list) => unpack_wide(&mut list[first..end], bytes),
         }
     }
 

@@ -1,14 +1,13 @@
 //! Counters as they are in an image: several in a byte, or several bytes each.
 
-ghost use Rattle.std.specs.Prelude.{◌≡◌, ℕ, ◌+◌, ◌-◌, ◌*◌, ◌/◌, ◌%◌, ◌^◌, ◌<◌, ◌≤◌, ◌++◌, OnOk, [], ◌∷◌, length, map, refl, slice_index};
+ghost use Rattle.std.specs.Prelude.{◌≡◌, ℕ, ◌+◌, ◌-◌, ◌*◌, ◌/◌, ◌%◌, ◌^◌, ◌<◌, ◌≤◌, [], ◌∷◌, length, map, refl, slice_index};
 ghost use Rattle.std.proofs.Common.{lit≤};
 ghost use Rattle.qcow2_base.specs.Storage.{image_of};
 ghost use Rattle.qcow2_base.specs.OnDiskStruct.{Big, big};
 ghost use Rattle.qcow2_metadata.specs.Refblock.Counters.{AreCounters};
-ghost use Rattle.qcow2_metadata.specs.Refblock.Packing.{counter_at, counters_at, from_digits, counter_bytes, per_byte, width};
+ghost use Rattle.qcow2_metadata.specs.Refblock.Packing.{counters_at, from_digits, counter_bytes, per_byte, width};
 
 use qcow2_base::{OnDiskStruct, read_be, write_be};
-use std::alloc::AllocError;
 
 /// An integer of whole bytes that holds a counter of just its width.
 pub(super) trait WideCounter: OnDiskStruct + Copy + Drop {
@@ -60,17 +59,14 @@ impl WideCounter for u64 {
     ghost layout_is = { λ value. refl };
 }
 
-// Appends the counters that are in the bytes to the list.
-pub(super) fn unpack_wide<T: WideCounter>(list: &mut Vec<T>, bytes: &[u8]) -> Result<(), AllocError>
-    ensures { OnOk result (map T.number list.new.items ≡ map T.number list.old.items
-        ++ counters_at T.order (image_of bytes.now) 0 (length bytes.now / T.ON_DISK_SIZE)) }
+// Puts the counters that are in the bytes into the list, which has as many.
+pub(super) fn unpack_wide<T: WideCounter>(list: &mut [T], bytes: &[u8])
+    requires { T.ON_DISK_SIZE * length list.old ≡ length bytes.now }
+    ensures { map T.number list.new ≡ counters_at T.order (image_of bytes.now) 0 (length list.old) }
 {
-    list.extend((0..bytes.len() / T::ON_DISK_SIZE).map(
-        |index: usize| -> T
-            requires { T.ON_DISK_SIZE * index + T.ON_DISK_SIZE ≤ length bytes.now }
-            ensures { T.number result ≡ counter_at T.order (image_of bytes.entry.now) 0 index }
-        { read_be(bytes, T::ON_DISK_SIZE * index) },
-    ))
+    for index in 0..list.len() {
+        list[index] = read_be(bytes, T::ON_DISK_SIZE * index);
+    }
 }
 
 // Puts the bytes of counters into the buffer, from those of counter `first` on.
@@ -86,36 +82,32 @@ pub(super) fn pack_wide<T: WideCounter>(list: &[T], first: usize, buffer: &mut [
     }
 }
 
-// Appends the counters of `2^order` bits that are in the bytes to the list.
+// Puts the counters of `2^order` bits that are in the bytes into the list, which has as many.
 #[tactic(auto, using(crate::proofs::PackingLemmas::counters_are_bytes))]
-pub(super) fn unpack_narrow(list: &mut Vec<u8>, order: u32, bytes: &[u8]) -> Result<(), AllocError>
+pub(super) fn unpack_narrow(list: &mut [u8], order: u32, bytes: &[u8])
     requires order { order ≤ 3 }
-    ensures { OnOk result (list.new.items ≡ list.old.items
-        ++ counters_at order (image_of bytes.now) 0 (per_byte order * length bytes.now)) }
+    requires count { length list.old ≡ per_byte order * length bytes.now }
+    ensures { list.new ≡ counters_at order (image_of bytes.now) 0 (length list.old) }
 {
     match order {
         0 => unpack_bytes::<0, 8>(list, bytes),
         1 => unpack_bytes::<1, 4>(list, bytes),
         2 => unpack_bytes::<2, 2>(list, bytes),
-        _ => list.extend_from_slice(bytes),
+        _ => list.copy_from_slice(bytes),
     }
 }
 
 // The same for an order and how many counters a byte has.
-#[tactic(auto, using(crate::proofs::PackingLemmas::narrow_counters_more))]
-fn unpack_bytes<const ORDER: u32, const PER: usize>(
-    list: &mut Vec<u8>,
-    bytes: &[u8],
-) -> Result<(), AllocError>
+fn unpack_bytes<const ORDER: u32, const PER: usize>(list: &mut [u8], bytes: &[u8])
     requires order { ORDER ≤ 2 }
     requires per { PER ≡ per_byte ORDER }
-    ensures { OnOk result (list.new.items ≡ list.old.items
-        ++ counters_at ORDER (image_of bytes.now) 0 (PER * length bytes.now)) }
+    requires count { length list.old ≡ PER * length bytes.now }
+    ensures { list.new ≡ counters_at ORDER (image_of bytes.now) 0 (length list.old) }
 {
-    for byte in bytes {
-        list.extend_from_slice(&unpack_byte::<ORDER, PER>(*byte))?;
+    for index in 0..bytes.len() {
+        let first = PER * index;
+        list[first..first + PER].copy_from_slice(&unpack_byte::<ORDER, PER>(bytes[index]));
     }
-    Ok(())
 }
 
 // The counters that are in a byte, the first one in the lowest bits.

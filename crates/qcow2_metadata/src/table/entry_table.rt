@@ -1,19 +1,23 @@
 //! The one struct that all tables are: a list of entries of one kind.
 
-ghost use Rattle.std.specs.Prelude.{◌≡◌, ℕ, Bool, true, false, ◌*◌, ◌^◌, ◌<◌, ◌≤◌, ◌↔◌, IfOk, IsOkUnless, IsTrue, length, map, slice_index, Some, None};
+ghost use Rattle.std.specs.Prelude.{◌≡◌, ℕ, Bool, true, false, ◌≢◌, ◌+◌, ◌*◌, ◌^◌, ◌<◌, ◌≤◌, ◌↔◌, IfErr, IfOk, IsOkUnless, IsTrue, OnOk, length, map, slice_index, Some, None};
 ghost use Rattle.std.proofs.Common.{refl};
 ghost use Rattle.std.specs.List.{All};
-ghost use Rattle.qcow2_base.specs.Format.{most_entries_in_memory};
+ghost use Rattle.qcow2_base.specs.Format.{max_file_length, most_entries_in_memory};
+ghost use Rattle.qcow2_base.specs.Storage.{OnImage};
 ghost use Rattle.qcow2_base.specs.Types.{IsClusterBits};
+ghost use Rattle.qcow2_base.specs.declared.fault.Fault.TheVariants.{NoMemory};
 ghost use Rattle.qcow2_metadata.specs.Header.{geometry_of};
 ghost use Rattle.qcow2_metadata.specs.Placed.{new_placed, with_number};
-ghost use Rattle.qcow2_metadata.specs.Table.{first_fault};
+ghost use Rattle.qcow2_metadata.specs.Table.{IsEntryFault, first_fault, table_numbers, valid_numbers};
+ghost use Rattle.qcow2_metadata.specs.Results.{Reads};
 ghost use Rattle.qcow2_metadata.specs.Table.Growth.{grown_numbers};
 
 use super::Table;
+use super::reread::read_over;
 use crate::placed::Placement;
 use crate::{Header, TableEntry};
-use qcow2_base::{Fault, HostCluster, HostOffset};
+use qcow2_base::{Fault, HostCluster, HostOffset, Storage};
 use std::alloc::{AllocError, Global};
 use std::marker::Model;
 
@@ -153,6 +157,36 @@ impl<E: TableKind> EntryTable<E> {
             cluster_bits: self.cluster_bits,
             external_data_file: self.external_data_file,
         }
+    }
+
+    // Reads the entries that are in the image from an offset on in the places of its own, as many. The table
+    // then has no cluster, and counts as modified.
+    pub(super) fn read_over<S: Storage>(
+        &mut self,
+        image: &mut S,
+        header: &Header,
+        offset: HostOffset,
+    ) -> Result<(), Fault>
+        requires end { offset.0 + 8 * length self.old.numbers ≤ max_file_length }
+        requires cluster_bits { header.now.v2.cluster_bits ≡ self.old.geometry.cluster_bits }
+        ensures reads { Reads (λ done. self.new.numbers) result
+            (λ bytes. valid_numbers (E.fault_of header.now.v2.cluster_bits)
+            (table_numbers bytes offset.0 (length self.old.numbers)))
+            IsEntryFault (S.state image.old) (S.state image.new) }
+        ensures numbers { OnOk result (OnImage (S.state image.old) (λ bytes.
+            self.new.numbers ≡ table_numbers bytes offset.0 (length self.old.numbers))) }
+        ensures memory { IfErr result (λ fault. fault ≢ NoMemory) }
+        ensures table { self.new
+            ≡ record self.old { numbers = self.new.numbers; cluster = None; modified = true } }
+        ensures count { length self.new.numbers ≡ length self.old.numbers }
+    {
+        self.placement = Placement {
+            cluster: None,
+            modified: true,
+        };
+        let read = read_over(self.entries.as_mut_slice(), image, header, offset);
+        numbers_fit(&self.entries);
+        read
     }
 
     // The entry at an index that isn't past the end, as callers get it.

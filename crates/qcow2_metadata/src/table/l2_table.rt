@@ -1,16 +1,20 @@
 //! L2 tables: what the clusters of a part of the guest's disk read as.
 
-ghost use Rattle.std.specs.Prelude.{◌≡◌, ℕ, None, ◌-◌, ◌*◌, ◌^◌, ◌==◌, ◌<◌, IfOk, IsOk, IsOkAnd, IsOkUnless, length, map, replicate, true, false};
+ghost use Rattle.std.specs.Prelude.{◌≡◌, ℕ, None, ◌-◌, ◌*◌, ◌^◌, ◌==◌, ◌<◌, ◌≢◌, IfErr, IfOk, IsOk, IsOkAnd, IsOkUnless, OnOk, length, map, replicate, true, false};
 ghost use Rattle.std.proofs.Common.{lit≤};
 ghost use Rattle.qcow2_base.specs.Format.{most_l2_entries};
+ghost use Rattle.qcow2_base.specs.declared.fault.Fault.TheVariants.{NoMemory};
 ghost use Rattle.qcow2_metadata.specs.Entries.L2Mapping.{IsPlaced, meaning};
 ghost use Rattle.qcow2_metadata.specs.Entries.L2Entry.{entry_in_copy};
 ghost use Rattle.qcow2_metadata.specs.Header.{geometry_of};
-ghost use Rattle.qcow2_metadata.specs.Placed.{FollowsWrite, Writes, new_placed};
-ghost use Rattle.qcow2_metadata.specs.Table.{l2_entries, l2_kind, layout_of_table, mapping_at};
+ghost use Rattle.qcow2_metadata.specs.Placed.{FollowsWrite, IsLoaded, RefusesPlace, Writes, new_placed};
+ghost use Rattle.qcow2_metadata.specs.Table.{IsTableFault, l2_entries, l2_kind, l2_layout, layout_of_table, loaded_l2_table, mapping_at};
+ghost use Rattle.qcow2_metadata.specs.Results.{Reads};
 
 use super::pieces::TableBytes;
-use super::{CompressedClusterReadGuard, EntryTable, L2TableWriteGuard, Table, TableKind};
+use super::{
+    CompressedClusterReadGuard, EntryTable, L2TableWriteGuard, Table, TableKind, table_offset,
+};
 use crate::entries::RunPattern;
 use crate::{AtomicL2Entry, Header, L2Entry, L2Mapping};
 use qcow2_base::{ClusterCount, Fault, GuestCluster, HostCluster, Storage};
@@ -112,6 +116,37 @@ impl EntryTable<AtomicL2Entry> {
         let pattern = RunPattern::of(self.get(index), cluster_bits, self.external_data_file());
         let (entries, end) = (self.as_slice(), self.entries());
         ClusterCount(1 + pattern.count(&entries[index + 1..end]) as u64)
+    }
+
+    /// Reads the L2 table that begins with a cluster of the image into this one, as `load` does, but takes no
+    /// memory. It then has that cluster and doesn't count as modified. The header is of the image that the
+    /// table was made or loaded for.
+    ///
+    /// Refuses an end past 2^56 (21), then the first entry with a reserved bit (18) or an unaligned offset
+    /// (19), and reads no piece after that entry's. After any fault but 21 its entries may be any valid ones,
+    /// it has no cluster, and counts as modified; after 21 it stays. Changes no byte, whatever it returns.
+    pub fn reload<S: Storage>(
+        &mut self,
+        image: &mut S,
+        header: &Header,
+        cluster: HostCluster,
+    ) -> Result<(), Fault>
+        requires geometry { self.old.geometry ≡ geometry_of header.now }
+        ensures refused { RefusesPlace (l2_layout self.old.geometry) cluster result }
+        ensures reads { Reads (λ done. self.new.numbers) result (loaded_l2_table self.old.geometry cluster)
+            (IsTableFault (l2_layout self.old.geometry) cluster) (S.state image.old) (S.state image.new) }
+        ensures loaded { OnOk result (IsLoaded (l2_layout self.old.geometry) self.old.geometry cluster
+            (S.state image.old) self.new) }
+        ensures memory { IfErr result (λ fault. fault ≢ NoMemory) }
+        ensures shape { (self.new.geometry ≡ self.old.geometry)
+            × (length self.new.numbers ≡ length self.old.numbers) }
+    {
+        let (cluster_bits, entries) = (self.cluster_bits(), self.entries());
+        let offset = table_offset(cluster, cluster_bits, entries, Self::MAX_ENTRIES)?;
+        self.read_over(image, header, offset)?;
+        self.set_cluster(cluster);
+        self.clear_modified();
+        Ok(())
     }
 
     /// Writes the table to the image, as `write` does, if it counts as modified. The table must then

@@ -72,14 +72,14 @@ fn decode<E: TableEntry + Drop>(
 
 #[inline]
 #[tactic(auto, unfolding(qcow2_base::specs::Storage::be))]
-fn number_of(chunk: &[u8; 8]) -> u64
+pub(super) fn number_of(chunk: &[u8; 8]) -> u64
     ensures { result ≡ be (image_of chunk.now) 0 8 }
 {
     u64::from_be_bytes(*chunk)
 }
 
 // Refuses numbers that aren't all entries, by the fault of the first that is none.
-fn check<E: TableEntry + Drop>(chunks: &[[u8; 8]], header: &Header) -> Result<(), Fault>
+pub(super) fn check<E: TableEntry + Drop>(chunks: &[[u8; 8]], header: &Header) -> Result<(), Fault>
     ensures valid { OnOk result
         (first_fault (E.fault_of header.now.v2.cluster_bits) (chunk_numbers chunks.now) ≡ None) }
     ensures refused { IfErr result (λ fault.
