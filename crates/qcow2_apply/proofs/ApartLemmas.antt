@@ -44,17 +44,24 @@ twice-used cb (v ∷ vs) (suc i) zero block less first second = absurd (omega (a
 twice-used cb (v ∷ vs) (suc i) (suc j) block less first second =
     omega (arith, kind-append Fixed (block_uses cb v) (flat_map (block_uses cb) vs) block.0, twice-used cb vs i j block (omega (arith, less)) first second)
 
--- where nothing is found, a cluster has one use at most that is of its header or of a block, and none beside an L2 table's
-fixed-once : (tables : ImageTables) (image : Image) (c : ℕ) → AreRight tables image 0 max_file_length → c < max_file_length
+-- no cluster of an image has uses that exclude each other
+abbrev pub AreUnshared : ImageTables → Image → Type 0
+AreUnshared tables image = (c : ℕ) → c < max_file_length → is_shared (image_uses tables image) c ≡ false
+
+-- so it is where nothing is found
+right-unshared : (tables : ImageTables) (image : Image) → AreRight tables image 0 max_file_length → AreUnshared tables image
+right-unshared tables image right = λ c below. grind (arith, nat_tests, right c (omega arith) below)
+
+-- then a cluster has one use at most that is of its header or of a block, and none beside an L2 table's
+pub fixed-once : (tables : ImageTables) (image : Image) (c : ℕ) → AreUnshared tables image → c < max_file_length
     → uses_of_kind Fixed (header_uses tables.header) c + uses_of_kind Fixed (flat_map (block_uses tables.header.v2.cluster_bits) tables.reftable) c
     + uses_of_kind L2Table (image_uses tables image) c ≤ 1
     ⊎ (uses_of_kind Fixed (header_uses tables.header) c + uses_of_kind Fixed (flat_map (block_uses tables.header.v2.cluster_bits) tables.reftable) c ≡ 0)
-fixed-once tables image c right below =
+fixed-once tables image c unshared below =
     let uses = image_uses tables image in
     let blocks = flat_map (block_uses tables.header.v2.cluster_bits) tables.reftable in
     let last = flat_map (l1_entry_uses (geometry_of tables.header) image) tables.l1 in
-    let apart : is_shared uses c ≡ false = grind (arith, nat_tests, right c (omega arith) below) in
-    grind (arith, nat_tests, excludes uses c apart, uses_by_kind uses c, kind-append Fixed (header_uses tables.header) (blocks ++ last) c, kind-append Fixed blocks last c)
+    grind (arith, nat_tests, excludes uses c (unshared c below), uses_by_kind uses c, kind-append Fixed (header_uses tables.header) (blocks ++ last) c, kind-append Fixed blocks last c)
 
 -- a block that can lie where it is named is below the greatest length
 block-below : (tables : ImageTables) (i : ℕ) (block : HostCluster) → blocks_fault tables.header tables.reftable ≡ None
@@ -67,26 +74,37 @@ block-below tables i block placed names =
     let end : block.0 * size + size ≤ max_file_length = grind (arith, nat_tests, place) in
     omega (arith, product, end, some)
 
--- where nothing is found, no cluster of the header, the L1 table or the refcount table is a block's
+-- and no cluster of the header, the L1 table or the refcount table is a block's
+pub block-unshared : (tables : ImageTables) (image : Image) (i : ℕ) (block : HostCluster) → AreUnshared tables image
+    → blocks_fault tables.header tables.reftable ≡ None → (refblocks_of tables).place i ≡ Some block
+    → uses_of_kind Fixed (header_uses tables.header) block.0 ≡ 0
+block-unshared tables image i block unshared placed names = omega (
+  arith,
+  once-used tables.header.v2.cluster_bits tables.reftable i block names,
+  fixed-once tables image block.0 unshared (block-below tables i block placed names),
+)
+
 pub block-apart : (tables : ImageTables) (image : Image) (i : ℕ) (block : HostCluster) → AreRight tables image 0 max_file_length
     → blocks_fault tables.header tables.reftable ≡ None → (refblocks_of tables).place i ≡ Some block
     → uses_of_kind Fixed (header_uses tables.header) block.0 ≡ 0
-block-apart tables image i block right placed names = omega (
-  arith,
-  once-used tables.header.v2.cluster_bits tables.reftable i block names,
-  fixed-once tables image block.0 right (block-below tables i block placed names),
-)
+block-apart tables image i block right = block-unshared tables image i block (right-unshared tables image right)
+
+-- nor is one an L2 table's
+pub table-unshared : (tables : ImageTables) (image : Image) (i : ℕ) (table : HostCluster) → AreUnshared tables image
+    → (l2_tables_of tables).place i ≡ Some table → uses_of_kind Fixed (header_uses tables.header) table.0 ≡ 0
+table-unshared tables image i table unshared names =
+    omega (arith, named-used tables image i table names, fixed-once tables image table.0 unshared (named-below _ _ table names))
 
 -- so tables and blocks are apart
-pub all-apart : (tables : ImageTables) (image : Image) → AreRight tables image 0 max_file_length → blocks_fault tables.header tables.reftable ≡ None
+pub apart-unshared : (tables : ImageTables) (image : Image) → AreUnshared tables image → blocks_fault tables.header tables.reftable ≡ None
     → ArePlacesApart (l2_tables_of tables) → AreAllApart tables
-all-apart tables image right placed apart =
+apart-unshared tables image unshared placed apart =
     let cb = tables.header.v2.cluster_bits in record {
       tables_apart = apart;
       blocks_apart = λ i j block first second. elim (cases_eq i j) [
         | inl same ↦ same
         | inr differs ↦
-            let once = fixed-once tables image block.0 right (block-below tables i block placed first) in
+            let once = fixed-once tables image block.0 unshared (block-below tables i block placed first) in
             absurd (elim (cases_lt i j) [
               | inl less ↦ let twice = twice-used cb tables.reftable i j block less first second in omega (arith, once, twice)
               | inr more ↦ let twice = twice-used cb tables.reftable j i block (omega (arith, more, differs)) second first in omega (arith, once, twice)
@@ -97,7 +115,7 @@ all-apart tables image right placed apart =
         | inr first ↦
             let zero_is : 0 ≡ table.0 = omega (arith, first) in
             let header = subst (λ c. 0 < uses_of_kind Fixed (header_uses tables.header) c) zero_is (first-used tables.header) in
-            absurd (omega (arith, header, named-used tables image i table names, fixed-once tables image table.0 right (named-below _ _ table names)))
+            absurd (omega (arith, header, named-used tables image i table names, fixed-once tables image table.0 unshared (named-below _ _ table names)))
       ];
       blocks_after = λ i block names. elim (cases_lt 0 block.0) [
         | inl after ↦ after
@@ -108,13 +126,17 @@ all-apart tables image right placed apart =
               arith,
               header,
               once-used cb tables.reftable i block names,
-              fixed-once tables image block.0 right (block-below tables i block placed names),
+              fixed-once tables image block.0 unshared (block-below tables i block placed names),
             ))
       ];
       both_apart = λ i j cluster table block. omega (
         arith,
         once-used cb tables.reftable j cluster block,
         named-used tables image i cluster table,
-        fixed-once tables image cluster.0 right (block-below tables j cluster placed block),
+        fixed-once tables image cluster.0 unshared (block-below tables j cluster placed block),
       );
     }
+
+pub all-apart : (tables : ImageTables) (image : Image) → AreRight tables image 0 max_file_length → blocks_fault tables.header tables.reftable ≡ None
+    → ArePlacesApart (l2_tables_of tables) → AreAllApart tables
+all-apart tables image right = apart-unshared tables image (right-unshared tables image right)

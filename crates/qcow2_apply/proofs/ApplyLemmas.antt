@@ -8,11 +8,11 @@ use Rattle.std.specs.List.{list_any}
 use Rattle.qcow2_base.specs.Storage.{be, Image, IsBytes, OnImage, OnImages, SameDevice, SameOutside, StorageState}
 use Rattle.qcow2_base.specs.Types.{IsClusterBits}
 use Rattle.qcow2_base.specs.declared.fault.Fault.{Fault}
-use Rattle.qcow2_base.specs.declared.fault.Fault.TheVariants.{CounterRange, Storage}
+use Rattle.qcow2_base.specs.declared.fault.Fault.TheVariants.{CounterRange, NoMemory, Storage}
 use Rattle.qcow2_base.specs.declared.types.HostCluster.{HostCluster}
 use Rattle.qcow2_metadata.specs.Header.{HeaderRecord, geometry_of}
 use Rattle.qcow2_metadata.specs.Placed.{numbers_at}
-use Rattle.qcow2_metadata.specs.Results.{IsFromOutside, and_then, unless_refused}
+use Rattle.qcow2_metadata.specs.Results.{and_then, unless_refused}
 use Rattle.qcow2_metadata.specs.Table.{l2_layout, loaded_l2_table}
 use Rattle.qcow2_check.proofs.CountersLemmas.{counter-fits}
 use Rattle.qcow2_check.specs.Counters.{counters_each, placed_reftable}
@@ -199,15 +199,16 @@ stopped-at-once tables changes fault image = (
 
 -- edits that were planned ended before the first was made
 pub cut-short : (header : HeaderRecord) (edits : List GuestEdit) (plan : Plan) (fault : Fault) (old new : Image) → SameOutside 88 8 old new
-    → (header.base.autoclear_features ≡ 0 → new ≡ old) → IsFromOutside fault → FollowsPlan header edits plan (Err fault) old new
-cut-short header edits plan fault old new clears idle outside = record {
+    → (header.base.autoclear_features ≡ 0 → new ≡ old) → fault ≡ Storage → FollowsPlan header edits plan (Err fault) old new
+cut-short header edits plan fault old new clears idle failed = record {
   cleared = new;
   clears = clears;
   idle = idle;
   wiped = λ some ok. absurd (grind (arith, ok));
   ends = λ apart. InGains (stopped-at-once (counter_tables (plan_tables header plan)) plan.gains fault new);
   others = λ o elsewhere. refl;
-  faults = λ apart. outside;
+  faults = λ apart. failed;
+  memory = λ none. grind (arith, failed, none);
 }
 
 -- edits that are planned can be made
@@ -224,23 +225,23 @@ pub breaks-in-tables : (tables : ImageTables) (edits : List GuestEdit) (gains lo
     → BreaksOffApplying tables edits gains losses fault old new
 breaks-in-tables tables edits gains losses fault old gained new first second = InTables gained first second
 
--- a fault that counters can't be the reason of comes from outside
-pub from-outside : (answer : Result (Unit {0}) Fault) (before edited : StorageState) (Stuck Can : Image → Type 0)
+-- a fault that counters can't be the reason of is the storage's
+pub storage-alone : (answer : Result (Unit {0}) Fault) (before edited : StorageState) (Stuck Can : Image → Type 0)
     → edited.tells ≡ before.tells
     → (IsTrue before.tells → Stuck edited.byte_at → (first : Image) → Can first → SameOutside 88 8 first before.byte_at → ⊥)
-    → IfErr answer (λ fault. IsFromOutside fault ⊎ ((fault ≡ CounterRange) × OnImage edited Stuck))
-    → IfErr answer (λ fault. OnImage before (λ bytes. (first : Image) → Can first → SameOutside 88 8 first bytes → IsFromOutside fault))
-from-outside (Ok done) before edited Stuck Can tells never faults = tt
-from-outside (Err fault) before edited Stuck Can tells never (inl outside) = λ told first can same. outside
-from-outside (Err fault) before edited Stuck Can tells never (inr (range, stuck)) = λ told first can same.
+    → IfErr answer (λ fault. (fault ≡ Storage) ⊎ ((fault ≡ CounterRange) × OnImage edited Stuck))
+    → IfErr answer (λ fault. OnImage before (λ bytes. (first : Image) → Can first → SameOutside 88 8 first bytes → fault ≡ Storage))
+storage-alone (Ok done) before edited Stuck Can tells never faults = tt
+storage-alone (Err fault) before edited Stuck Can tells never (inl failed) = λ told first can same. failed
+storage-alone (Err fault) before edited Stuck Can tells never (inr (range, stuck)) = λ told first can same.
     let known : IsTrue edited.tells = rw tells told in absurd (never told (stuck known) first can same)
 
 -- counters are stuck where blocks are apart
 pub stuck-where-apart : (answer : Result (Unit {0}) Fault) (edited : StorageState) (Stuck : Image → Type 0) (Apart : Type 0) → Apart
-    → IfErr answer (λ fault. IsFromOutside fault ⊎ ((fault ≡ CounterRange) × (Apart → OnImage edited Stuck)))
-    → IfErr answer (λ fault. IsFromOutside fault ⊎ ((fault ≡ CounterRange) × OnImage edited Stuck))
+    → IfErr answer (λ fault. (fault ≡ Storage) ⊎ ((fault ≡ CounterRange) × (Apart → OnImage edited Stuck)))
+    → IfErr answer (λ fault. (fault ≡ Storage) ⊎ ((fault ≡ CounterRange) × OnImage edited Stuck))
 stuck-where-apart (Ok done) edited Stuck Apart apart faults = tt
-stuck-where-apart (Err fault) edited Stuck Apart apart (inl outside) = inl outside
+stuck-where-apart (Err fault) edited Stuck Apart apart (inl failed) = inl failed
 stuck-where-apart (Err fault) edited Stuck Apart apart (inr (range, stuck)) = inr (range, stuck apart)
 
 -- edits that are planned were made
@@ -253,9 +254,9 @@ pub follows-plan : (header left : HeaderRecord) (edits : List GuestEdit) (plan :
     → (let tables = image_tables left plan.l1_table.numbers plan.reftable.numbers in
     OnImages cleared after (λ old new. (o : ℕ) → IsElsewhere tables o → new o ≡ old o))
     → (let tables = image_tables left plan.l1_table.numbers plan.reftable.numbers in AreAllApart tables → IfErr answer (λ fault. OnImage cleared (λ bytes.
-    (first : Image) → CanBeMade tables edits plan.gains plan.losses first → SameOutside 88 8 first bytes → IsFromOutside fault)))
-    → FollowsPlan header edits plan answer before.byte_at after.byte_at
-follows-plan header left edits plan answer before cleared after is told clears idle wiped planned applied others faults =
+    (first : Image) → CanBeMade tables edits plan.gains plan.losses first → SameOutside 88 8 first bytes → fault ≡ Storage)))
+    → IfErr answer (λ fault. fault ≢ NoMemory) → FollowsPlan header edits plan answer before.byte_at after.byte_at
+follows-plan header left edits plan answer before cleared after is told clears idle wiped planned applied others faults memory =
     let tables = λ (header : HeaderRecord). image_tables header plan.l1_table.numbers plan.reftable.numbers in
     record {
       cleared = cleared.byte_at;
@@ -267,11 +268,12 @@ follows-plan header left edits plan answer before cleared after is told clears i
           (λ fault. BreaksOffApplying (tables header) edits plan.gains plan.losses fault old new))) is applied apart told;
       others = subst (λ header. OnImages cleared after (λ old new. (o : ℕ) → IsElsewhere (tables header) o → new o ≡ old o)) is others told;
       faults = λ apart. by_answer answer (subst (λ header. AreAllApart (tables header) → IfErr answer (λ fault. OnImage cleared (λ bytes.
-          (first : Image) → CanBeMade (tables header) edits plan.gains plan.losses first → SameOutside 88 8 first bytes → IsFromOutside fault))) is faults apart);
+          (first : Image) → CanBeMade (tables header) edits plan.gains plan.losses first → SameOutside 88 8 first bytes → fault ≡ Storage))) is faults apart);
+      memory = memory;
     }
   where
     by_answer : (answer : Result (Unit {0}) Fault) → IfErr answer (λ fault. OnImage cleared (λ bytes. (first : Image)
-        → CanBeMade (plan_tables header plan) edits plan.gains plan.losses first → SameOutside 88 8 first bytes → IsFromOutside fault)) → IfErr answer IsFromOutside
+        → CanBeMade (plan_tables header plan) edits plan.gains plan.losses first → SameOutside 88 8 first bytes → fault ≡ Storage)) → IfErr answer (λ fault. fault ≡ Storage)
     by_answer (Ok done) fact = tt
     by_answer (Err fault) fact = fact told before.byte_at (can-be-made header edits plan before.byte_at planned) clears
 

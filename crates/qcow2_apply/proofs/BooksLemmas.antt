@@ -59,7 +59,7 @@ entries-refer g (v ∷ numbers) c own = uses-append (entry_uses g v) (flat_map (
     ∙ omega (arith, entry-meets g v c own, entries-refer g numbers c own, sum-cons (λ w. one_if (meets g w c)) v numbers)
 
 -- what a table uses
-table-refers : (g : Geometry) (table : HostCluster) (image : Image) (c : ℕ) → g.external_data_file ≡ false → uses_of (table_uses g table image) c
+pub table-refers : (g : Geometry) (table : HostCluster) (image : Image) (c : ℕ) → g.external_data_file ≡ false → uses_of (table_uses g table image) c
     ≡ one_if (is_among (used_clusters L2Table table 1).clusters c) + references g (numbers_at (l2_layout g) table image) c
 table-refers g table image c own =
     let numbers = numbers_at (l2_layout g) table image in
@@ -72,7 +72,7 @@ all-fit test [] all = refl
 all-fit test (item ∷ items) all = let first : test item ≡ true = all 0 item (omega arith) in
     rw first (all-fit test items (λ k d below. all (suc k) d (omega (arith, below))))
 
-fit-mapped : (header : HeaderRecord) (count : ℕ) (edits : List Edit) → count ≡ l2_entries header.v2.cluster_bits → AreMade header edits
+pub fit-mapped : (header : HeaderRecord) (count : ℕ) (edits : List Edit) → count ≡ l2_entries header.v2.cluster_bits → AreMade header edits
     → list_all (fits_table (geometry_of header) count) (map table_edit edits) ≡ true
 fit-mapped header count [] full made = refl
 fit-mapped header count (edit ∷ edits) full made =
@@ -87,7 +87,7 @@ table-balances header edits numbers c bits full made =
     balance-run (geometry_of header) (map table_edit edits) numbers c bits (fit-mapped header (length numbers) edits full made)
 
 -- the uses by an L1 entry, by the cluster that it names
-l1-entry-is : (g : Geometry) (image : Image) (v : ℕ) (found : Option HostCluster) → named_cluster g.cluster_bits v ≡ found
+pub l1-entry-is : (g : Geometry) (image : Image) (v : ℕ) (found : Option HostCluster) → named_cluster g.cluster_bits v ≡ found
     → l1_entry_uses g image v ≡ elim found [ None ↦ [] | Some cluster ↦ table_uses g cluster image ]
 l1-entry-is g image v found is = rw (is, l1_entry_uses) refl
 
@@ -247,11 +247,12 @@ sums-at-most : (a b d : ℕ → ℕ) (items : List ℕ) → ((i : ℕ) → a i �
 sums-at-most a b d [] each = omega arith
 sums-at-most a b d (i ∷ items) each = omega (arith, each i, sums-at-most a b d items each, sum-cons a i items, sum-cons b i items, sum-cons d i items)
 
--- an image uses a cluster at most as often as before and as edits give, whichever tables they were made of
-pub uses-at-most : (tables : ImageTables) (edits : List GuestEdit) (old new : Image) (c : ℕ) → IsClusterBits tables.header.v2.cluster_bits
-    → uses_external_data tables.header ≡ false → AllFit tables.header edits → HasOldOrNew tables edits old new
+-- an image uses a cluster at most as often as before and as edits give, where each L1 entry does
+pub uses-within : (tables : ImageTables) (edits : List GuestEdit) (old new : Image) (c : ℕ)
+    → ((i : ℕ) → uses_of (l1_entry_uses (geometry_of tables.header) new (slice_index tables.l1 i)) c
+    ≤ uses_of (l1_entry_uses (geometry_of tables.header) old (slice_index tables.l1 i)) c + gained_at tables edits old c i)
     → uses_of (image_uses tables new) c ≤ uses_of (image_uses tables old) c + gained_before tables edits old (length tables.l1) c
-uses-at-most tables edits old new c bits own fit either =
+uses-within tables edits old new c each =
     let g = geometry_of tables.header in
     let fixed = header_uses tables.header in
     let blocks = flat_map (block_uses tables.header.v2.cluster_bits) tables.reftable in
@@ -260,8 +261,14 @@ uses-at-most tables edits old new c bits own fit either =
     let before = uses-append fixed (blocks ++ flat_map (l1_entry_uses g old) tables.l1) c in
     let before' = uses-append blocks (flat_map (l1_entry_uses g old) tables.l1) c in
     let sums = sums-at-most (λ i. uses_of (l1_entry_uses g new (slice_index tables.l1 i)) c) (λ i. uses_of (l1_entry_uses g old (slice_index tables.l1 i)) c)
-    (gained_at tables edits old c) (range_with_len 0 (length tables.l1)) (λ i. entry-at-most tables edits old new c i bits own fit either) in
+    (gained_at tables edits old c) (range_with_len 0 (length tables.l1)) each in
     omega (arith, after, after', before, before', list-uses (l1_entry_uses g new) tables.l1 c, list-uses (l1_entry_uses g old) tables.l1 c, sums)
+
+-- as it does whichever tables they were made of
+pub uses-at-most : (tables : ImageTables) (edits : List GuestEdit) (old new : Image) (c : ℕ) → IsClusterBits tables.header.v2.cluster_bits
+    → uses_external_data tables.header ≡ false → AllFit tables.header edits → HasOldOrNew tables edits old new
+    → uses_of (image_uses tables new) c ≤ uses_of (image_uses tables old) c + gained_before tables edits old (length tables.l1) c
+uses-at-most tables edits old new c bits own fit either = uses-within tables edits old new c (λ i. entry-at-most tables edits old new c i bits own fit either)
 
 -- and just as often where no table changed
 pub uses-same : (tables : ImageTables) (old new : Image) (c : ℕ)

@@ -1,9 +1,11 @@
-use Rattle.std.proofs.Common.{◌≡◌, ℕ, Bool, true, false, not, ◌==◌, ◌&&◌, ◌+◌, ◌-◌, ◌*◌, ◌/◌, ◌%◌, ◌<◌, ◌≤◌, nat_lt, min, List, [], length, slice_index, None, Some, is_some, ap, subst, sym, inl, inr, ◌∙◌, mod-lt, div-add-mod', arith}
+use Rattle.std.proofs.Common.{◌≡◌, ℕ, Bool, true, false, not, ◌==◌, ◌&&◌, ◌+◌, ◌-◌, ◌*◌, ◌/◌, ◌%◌, ◌<◌, ◌≤◌, nat_lt, min, Result, Ok, Err, IsOkUnless, List, [], length, slice_index, None, Some, is_some, ap, subst, sym, inl, inr, ◌∙◌, mod-lt, div-add-mod', div-lt_iff_lt-mul, arith}
 use Rattle.std.proofs.lemmas.Bool.{cases_Bool, cases_eq, cases_lt}
 use Rattle.std.proofs.lemmas.Bool.Decides.{nat_tests}
 use Rattle.std.proofs.lemmas.Nat.{div-mul-add, pow_pos}
 use Rattle.qcow2_base.specs.Format.{max_file_length}
-use Rattle.qcow2_base.specs.Storage.{Image}
+use Rattle.qcow2_base.specs.Storage.{Image, OnlyReads, StorageState}
+use Rattle.qcow2_base.specs.declared.fault.Fault.{Fault}
+use Rattle.qcow2_base.specs.declared.fault.Fault.TheVariants.{NoMemory}
 use Rattle.qcow2_base.specs.declared.types.HostCluster.{HostCluster}
 use Rattle.qcow2_edits.specs.Edits.{cluster_numbers}
 use Rattle.qcow2_edits.specs.Settled.{is_between}
@@ -14,7 +16,7 @@ use Rattle.qcow2_check.specs.Counters.{block_of_cluster, counters_each}
 use Rattle.qcow2_check.specs.NamedTables.{named_block}
 use Rattle.qcow2_apply.proofs.BlocksLemmas.{counter-at}
 use Rattle.qcow2_apply.specs.Blocks.{BlockFollows, CounterTablesState, Follows, NamesBlock, block_numbers, counter_of_cluster}
-use Rattle.qcow2_apply.specs.ChangedClusters.{HasListed, ListsBlock, ListsChanges, ListsCounter, ListsCounters, becomes_free, counter_left, gains_some, has_counter, is_freed, is_kept_at, risen_counter, stays_at, times_kept}
+use Rattle.qcow2_apply.specs.ChangedClusters.{AreInOrder, HasListed, ListsBlock, ListsChanges, ListsCounter, ListsCounters, becomes_free, counter_left, gains_some, has_counter, is_listable, is_freed, is_kept_at, risen_counter, stays_at, times_kept}
 use Rattle.qcow2_apply.specs.Changes.{gains_of, losses_of}
 use Rattle.qcow2_apply.specs.PlannedChanges.{AreSorted}
 use Rattle.qcow2_apply.specs.declared.changed_clusters.ChangedClusters.{ChangedClusters}
@@ -167,27 +169,19 @@ listed-none tables gains losses image a freed kept gained = let n = counters_eac
   gained_is = λ c. ap (λ list. times_gained (cluster_numbers list) c) gained ∙ sym (none-before (c / n) (has_counter tables c) (gains_some tables gains image c));
 }
 
--- past the last block that is looked at no cluster below the greatest length has a counter
+-- the clusters of the blocks that are looked at are those below the greatest length that have a counter
 pub listed-all : (tables : CounterTablesState) (gains losses : Changes) (end : ℕ) (image : Image) (a : ChangedClusters)
-    → ((c : ℕ) → c < max_file_length → end ≤ c / counters_each tables.header → block_of_cluster tables.header tables.reftable c ≡ None)
-    → HasListed tables gains losses end image a → ListsChanges tables gains losses image a
-listed-all tables gains losses end image a none has = record {
-  freed_is = λ c fits. has.freed_is c ∙ ap one_if (all c fits (becomes_free tables gains losses image c));
-  kept_is = λ m c fits. has.kept_is m c ∙ ap one_if (all c fits (stays_at tables gains losses image m c));
-  gained_is = λ c fits. has.gained_is c ∙ ap one_if (all c fits (gains_some tables gains image c));
+    → ((c : ℕ) → (nat_lt (c / counters_each tables.header) end && has_counter tables c) ≡ is_listable tables c)
+    → HasListed tables gains losses end image a → AreInOrder a → ListsChanges tables gains losses image a
+listed-all tables gains losses end image a same has order = record {
+  freed_is = λ c. has.freed_is c ∙ ap (λ counted. one_if (counted && becomes_free tables gains losses image c)) (same c);
+  kept_is = λ m c. has.kept_is m c ∙ ap (λ counted. one_if (counted && stays_at tables gains losses image m c)) (same c);
+  gained_is = λ c. has.gained_is c ∙ ap (λ counted. one_if (counted && gains_some tables gains image c)) (same c);
+  order = order;
 }
-  where
-    all : (c : ℕ) → c < max_file_length → (picked : Bool)
-        → ((nat_lt (c / counters_each tables.header) end && has_counter tables c) && picked) ≡ (has_counter tables c && picked)
-    all c fits picked = elim (cases_lt (c / counters_each tables.header) end) [
-      | inl below ↦ grind (arith, nat_tests, below)
-      | inr past ↦
-          let nothing : has_counter tables c ≡ false = ap is_some (none c fits past) in
-          grind (arith, nat_tests, nothing)
-    ]
 
 -- past the refcount table's end, or past its entries for clusters below the greatest length, no such cluster has a counter
-pub none-after : (tables : CounterTablesState) (end entries blocks last c : ℕ) → tables.header.v2.cluster_bits ≤ 21 → end ≡ min entries blocks
+none-after : (tables : CounterTablesState) (end entries blocks last c : ℕ) → tables.header.v2.cluster_bits ≤ 21 → end ≡ min entries blocks
     → entries ≡ length tables.reftable → blocks ≡ max_file_length / counters_each tables.header → end ≤ last → c < max_file_length
     → last ≤ c / counters_each tables.header → block_of_cluster tables.header tables.reftable c ≡ None
 none-after tables end entries blocks last c bits is entries_is blocks_is past fits later = elim (cases_lt (c / counters_each tables.header) (length tables.reftable)) [
@@ -196,3 +190,37 @@ none-after tables end entries blocks last c bits is entries_is blocks_is past fi
       absurd (grind (arith, nat_tests, is, entries_is, blocks_is, past, later, below, within))
   | inr none ↦ ends tables.header tables.reftable c c (omega arith) none
 ]
+
+-- before that all are below it
+below-end : (tables : CounterTablesState) (end entries blocks last c : ℕ) → end ≡ min entries blocks → blocks ≡ max_file_length / counters_each tables.header
+    → last ≤ end → c / counters_each tables.header < last → c < max_file_length
+below-end tables end entries blocks last c is blocks_is within before =
+    let n = counters_each tables.header in
+    let counted : 0 < n = pow_pos _ in
+    let small : c / n < max_file_length / n = omega (arith, is, blocks_is, within, before) in
+    let below : c < max_file_length / n * n = (div-lt_iff_lt-mul counted).0 small in
+    let whole : max_file_length / n * n + max_file_length % n ≡ max_file_length = div-add-mod' max_file_length n in
+    omega (arith, below, whole)
+
+pub all-counted : (tables : CounterTablesState) (end entries blocks last c : ℕ) → tables.header.v2.cluster_bits ≤ 21 → end ≡ min entries blocks
+    → entries ≡ length tables.reftable → blocks ≡ max_file_length / counters_each tables.header → last ≡ end
+    → (nat_lt (c / counters_each tables.header) last && has_counter tables c) ≡ is_listable tables c
+all-counted tables end entries blocks last c bits is entries_is blocks_is at = elim (cases_lt (c / counters_each tables.header) last) [
+  | inl before ↦
+      let below = below-end tables end entries blocks last c is blocks_is (omega (arith, at)) before in
+      grind (arith, nat_tests, before, below)
+  | inr past ↦ elim (cases_lt c max_file_length) [
+    | inl below ↦
+        let nothing : has_counter tables c ≡ false =
+        ap is_some (none-after tables end entries blocks last c bits is entries_is blocks_is (omega (arith, at)) below past) in
+        grind (arith, nat_tests, nothing)
+    | inr late ↦ grind (arith, nat_tests, past, late)
+  ]
+]
+
+-- calls that only read, and then one that reads nothing and whose only fault is memory
+pub reads-no-more : {T U : Type 0} (x : T) (answer : Result U Fault) (old new : StorageState) → OnlyReads (Ok x) old new → IsOkUnless answer NoMemory
+    → OnlyReads answer old new
+reads-no-more x (Ok value) old new reads fine = record { told = grind (arith, nat_tests, reads.told); bytes = reads.bytes; device = reads.device }
+reads-no-more x (Err fault) old new reads fine =
+    record { told = grind (arith, nat_tests, reads.told, fine); bytes = reads.bytes; device = reads.device }

@@ -5,8 +5,17 @@ pub mod BooksLemmas
 pub mod BrokenLemmas
 pub mod ChangedClustersLemmas
 pub mod ChangesLemmas
+mod CrashesExamples
+pub mod CrashesLemmas
+pub mod CheckedLemmas
+pub mod ErrorsLemmas
+pub mod FalseFlagsLemmas
+pub mod GainsLemmas
 pub mod GuestEditsLemmas
+pub mod MadeEditsLemmas
 pub mod MappedClustersLemmas
+mod OrderExamples
+pub mod OrderLemmas
 pub mod PassesLemmas
 pub mod PlanLemmas
 pub mod PlannedChangesLemmas

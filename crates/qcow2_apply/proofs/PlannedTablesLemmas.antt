@@ -1,6 +1,8 @@
-use Rattle.std.proofs.Common.{◌≡◌, ◌⊎◌, ℕ, zero, suc, true, false, ◌+◌, ◌-◌, ◌<◌, List, [], ◌∷◌, ◌++◌, slice_index, IsSome, Option, None, Some, Result, Ok, Err, OnOk, option_map, ap, refl, subst, sym, ◌∙◌, inl, inr, arith}
+use Rattle.std.proofs.Common.{◌≡◌, ◌≢◌, ◌⊎◌, ℕ, zero, suc, true, false, ◌+◌, ◌-◌, ◌%◌, ◌<◌, List, length, [], ◌∷◌, ◌++◌, slice_index, IsSome, Option, None, Some, Result, Ok, Err, OnOk, option_map, ap, refl, subst, sym, ◌∙◌, inl, inr, arith}
 use Rattle.std.proofs.lemmas.Bool.{cases_Bool, cases_lt}
 use Rattle.std.proofs.lemmas.Bool.Decides.{nat_tests}
+use Rattle.std.proofs.lemmas.List.{length-append}
+use Rattle.std.proofs.lemmas.List.FromFn.{length-map-range_with_len}
 use Rattle.std.proofs.lemmas.List.Sums.{sum_by-append}
 use Rattle.std.specs.Option.{option_or}
 use Rattle.std.specs.List.{All, list_any, range_with_len, sum_by}
@@ -17,7 +19,7 @@ use Rattle.qcow2_metadata.specs.declared.entries.ClustersToFreeEntry.{ClustersTo
 use Rattle.qcow2_check.specs.NamedTables.{named_cluster}
 use Rattle.qcow2_check.specs.Uses.{ImageTables, image_tables}
 use Rattle.qcow2_apply.specs.Changes.{HasNone}
-use Rattle.qcow2_apply.specs.GuestEdits.{edits_by, edits_in, has_clusters_in, table_end, table_start}
+use Rattle.qcow2_apply.specs.GuestEdits.{edit_at, edits_by, edits_in, has_clusters_in, table_end, table_start}
 use Rattle.qcow2_apply.specs.PlannedChanges.{AddsOutcome, HaveCounters}
 use Rattle.qcow2_apply.specs.PlannedTables.{AddsTable, AreSources, IsPlanned, gained_at, lost_at, mapping_fault_in, planning_tables, run_at, run_gains, run_losses, table_refusal}
 use Rattle.qcow2_apply.specs.Tables.{MakesRun, run_in}
@@ -28,7 +30,7 @@ use Rattle.qcow2_base.specs.declared.fault.Fault.{Fault}
 use Rattle.qcow2_base.specs.declared.fault.Fault.TheVariants.{NoMemory, Storage}
 use Rattle.qcow2_metadata.proofs.TableLemmas.{first_fault-append, first_fault-join}
 use Rattle.qcow2_metadata.specs.Results.{unless_refused}
-use Rattle.qcow2_metadata.specs.Table.{TableState, first_fault, l2_layout}
+use Rattle.qcow2_metadata.specs.Table.{TableState, first_fault, l2_entries, l2_layout}
 use Rattle.qcow2_check.specs.Counters.{CountersState, IsSameButBlock, block_of_cluster}
 
 -- a reader of counters that keeps another block reads the same tables
@@ -134,6 +136,25 @@ no-edits-in cb index (edit ∷ edits) none = elim (cases_Bool (has_clusters_in c
   | inl has ↦ absurd (grind (arith, none, has))
   | inr has ↦ rw (no-edits-by cb index edit has, no-edits-in cb index edits (grind (arith, none, has))) refl
 ]
+
+-- an edit with clusters of a table is some of it
+some-edits-by : (cb index : ℕ) (edit : GuestEdit) → has_clusters_in cb index edit ≡ true → 0 < length (edits_by cb index edit)
+some-edits-by cb index edit has =
+    let more : table_start cb index edit < table_end cb index edit = grind (arith, nat_tests, has) in
+    omega (arith, more, length-map-range_with_len (λ guest_cluster. edit_at edit (guest_cluster % l2_entries cb)) (table_start cb index edit)
+    (table_end cb index edit - table_start cb index edit))
+
+edits-in-count : (cb index : ℕ) (edits : List GuestEdit) → list_any (has_clusters_in cb index) edits ≡ true → 0 < length (edits_in cb index edits)
+edits-in-count cb index [] has = absurd (grind (arith, has))
+edits-in-count cb index (edit ∷ edits) has =
+    let both = length-append (edits_by cb index edit) (edits_in cb index edits) in
+    elim (cases_Bool (has_clusters_in cb index edit)) [
+      | inl here ↦ omega (arith, both, some-edits-by cb index edit here)
+      | inr none ↦ omega (arith, both, edits-in-count cb index edits (grind (arith, has, none)))
+    ]
+
+pub some-edits-in : (cb index : ℕ) (edits : List GuestEdit) → list_any (has_clusters_in cb index) edits ≡ true → edits_in cb index edits ≢ []
+some-edits-in cb index edits has none = omega (arith, edits-in-count cb index edits has, ap length none)
 
 -- what edits leave of a table, by the cluster that the L1 entry names
 pub run-at : (tables : ImageTables) (edits : List GuestEdit) (image : Image) (index : ℕ) (found : Option HostCluster)

@@ -1,4 +1,4 @@
-use Rattle.std.proofs.Common.{◌≡◌, ◌+◌, ◌⊎◌, ℕ, suc, ◌*◌, ◌%◌, ◌^◌, ◌<◌, Bool, true, false, not, List, [], ◌∷◌, length, Some, None, Result, Ok, Err, IfErr, IsOk, inl, inr, refl, subst, sym, mod-lt, arith}
+use Rattle.std.proofs.Common.{◌≡◌, ◌≢◌, ◌∙◌, ◌+◌, ◌⊎◌, ℕ, suc, ◌*◌, ◌%◌, ◌^◌, ◌<◌, Bool, true, false, not, List, [], ◌∷◌, length, slice_index, Some, None, Result, Ok, Err, IfErr, OnOk, IsOk, inl, inr, refl, subst, sym, mod-lt, arith}
 use Rattle.std.proofs.lemmas.Bool.{cases_Bool, cases_eq, cases_lt}
 use Rattle.std.proofs.lemmas.Bool.Decides.{nat_tests}
 use Rattle.std.proofs.lemmas.List.{get_or_past}
@@ -8,7 +8,6 @@ use Rattle.std.specs.List.{All, position}
 use Rattle.qcow2_base.specs.declared.fault.Fault.{Fault}
 use Rattle.qcow2_base.specs.declared.fault.Fault.TheVariants.{Storage}
 use Rattle.qcow2_base.specs.Storage.{Image, OnImage, SameOutside, StorageState}
-use Rattle.qcow2_metadata.specs.Results.{IsFromOutside}
 use Rattle.qcow2_base.specs.Types.{IsClusterBits}
 use Rattle.qcow2_base.specs.declared.types.HostCluster.{HostCluster}
 use Rattle.qcow2_edits.specs.Edits.{first_unfit_edit, table_edit}
@@ -16,12 +15,13 @@ use Rattle.qcow2_edits.specs.declared.edits.Edit.{Edit}
 use Rattle.qcow2_metadata.specs.Header.{HeaderRecord, geometry_of}
 use Rattle.qcow2_metadata.proofs.TableLemmas.{full_cluster}
 use Rattle.qcow2_metadata.specs.Placed.{Writes, numbers_at, offset_of, write_fault}
-use Rattle.qcow2_metadata.specs.Table.{IsContentFault, TableState, l2_entries, l2_kind, l2_layout, layout_of_table, loaded_l2_table}
+use Rattle.qcow2_metadata.specs.Table.{TableState, l2_entries, l2_kind, l2_layout, layout_of_table, loaded_l2_table}
 use Rattle.qcow2_metadata.specs.Table.L2Guards.{fits_table}
 use Rattle.qcow2_apply.specs.GuestEdits.{edit_at, edits_by, edits_in, guest_edit_fits}
 use Rattle.qcow2_check.proofs.ClustersLemmas.{table-same}
+use Rattle.qcow2_check.specs.NamedTables.{named_cluster}
 use Rattle.qcow2_apply.proofs.PassesLemmas.{AreOfClusters}
-use Rattle.qcow2_apply.specs.Tables.{AllFit, AreMade, FailsAt, IsEdited, FirstFails, IsHeldTable, NoneFailsBefore, l2_tables}
+use Rattle.qcow2_apply.specs.Tables.{AllFit, AreMade, FailsAt, IsEdited, FirstFails, IsHeldTable, IsRereadFault, LoadsAt, NoneFailsBefore, l2_tables}
 use Rattle.qcow2_apply.specs.Passes.{PassesBefore}
 use Rattle.qcow2_apply.specs.declared.guest_edits.GuestEdit.{GuestEdit}
 use Rattle.qcow2_apply.specs.declared.guest_edits.GuestEdit.TheVariants.{Discard, Map, Zero}
@@ -43,7 +43,7 @@ index-fits : (cb guest_cluster : ℕ) → guest_cluster % l2_entries cb < l2_ent
 index-fits cb guest_cluster = mod-lt guest_cluster (pow_pos _)
 
 -- an edit of the disk that fits is edits that can be made of each table
-edit-made : (header : HeaderRecord) (edit : GuestEdit) (guest_cluster : ℕ) → guest_edit_fits header edit ≡ true
+pub edit-made : (header : HeaderRecord) (edit : GuestEdit) (guest_cluster : ℕ) → guest_edit_fits header edit ≡ true
     → fits_table (geometry_of header) (l2_entries header.v2.cluster_bits) (table_edit (edit_at edit (guest_cluster % l2_entries header.v2.cluster_bits))) ≡ true
 edit-made header (Map offset host_cluster) guest_cluster fits = grind (arith, nat_tests, index-fits header.v2.cluster_bits guest_cluster, fits)
 edit-made header (Zero offset size keep_allocation) guest_cluster fits = grind (arith, nat_tests, index-fits header.v2.cluster_bits guest_cluster)
@@ -87,17 +87,17 @@ pub no-edits : (header : HeaderRecord) (edits : List GuestEdit) (index : ℕ) (n
     → IsEdited header edits index numbers numbers
 no-edits header edits index numbers none = rw none refl
 
--- a fault from outside is no table's
-pub outside-fault : {T : Type 0} (state : StorageState) (Q : Fault → Image → Type 0) (answer : Result T Fault) → IfErr answer IsFromOutside
-    → IfErr answer (λ fault. IsContentFault fault × OnImage state (λ bytes. IsFromOutside fault ⊎ Q fault bytes))
-outside-fault state Q (Ok value) is = tt
-outside-fault state Q (Err fault) is = (inr is, λ told. inl is)
+-- a failure of the storage is no table's
+pub storage-fault : {T : Type 0} (state : StorageState) (Q : Fault → Image → Type 0) (answer : Result T Fault) → IfErr answer (λ fault. fault ≡ Storage)
+    → IfErr answer (λ fault. IsRereadFault fault × OnImage state (λ bytes. (fault ≡ Storage) ⊎ Q fault bytes))
+storage-fault state Q (Ok value) is = tt
+storage-fault state Q (Err fault) is = (inr is, λ told. inl is)
 
--- a write of a table that is one of a cluster fails only from outside
-pub write-outside : {T : Type 0} (header : HeaderRecord) (begin : HostCluster) (held : TableState) (answer : Result T Fault) (old new : StorageState)
+-- a write of a table that is one of a cluster fails only where the storage does
+pub write-fails : {T : Type 0} (header : HeaderRecord) (begin : HostCluster) (held : TableState) (answer : Result T Fault) (old new : StorageState)
     → IsHeldTable header begin held → (held.modified ≡ false → IsOk answer)
-    → (held.modified ≡ true → Writes (layout_of_table l2_kind held) held.numbers held.cluster answer old new) → IfErr answer IsFromOutside
-write-outside header begin held answer old new of idle wrote = elim (cases_Bool held.modified) [
+    → (held.modified ≡ true → Writes (layout_of_table l2_kind held) held.numbers held.cluster answer old new) → IfErr answer (λ fault. fault ≡ Storage)
+write-fails header begin held answer old new of idle wrote = elim (cases_Bool held.modified) [
   | inl is ↦
       let left : IfErr answer (λ fault. (write_fault (layout_of_table l2_kind held) held.cluster ≡ Some fault) ⊎ (fault ≡ Storage)) = (wrote is).faults in
       let layout : layout_of_table l2_kind held ≡ l2_layout (geometry_of header) = rw (of.geometry, of.count) refl in
@@ -144,3 +144,39 @@ none-fails-next header l1 edits i a b before none loads j fault below fails = el
   | inl here ↦ loads fault (fails-later header l1 edits i fault a b before (subst (λ k. FailsAt header l1 edits k fault a) here fails))
   | inr differs ↦ none j fault (omega (arith, below, differs)) fails
 ]
+
+-- how the edits of a table that is named ended says whether it could be loaded
+pub loads-named : (header : HeaderRecord) (l1 : List ℕ) (edits : List GuestEdit) (index : ℕ) (cluster : HostCluster) (answer : Result (Unit {0}) Fault)
+    (image : StorageState) → named_cluster header.v2.cluster_bits (slice_index l1 index) ≡ Some cluster → edits_in header.v2.cluster_bits index edits ≢ []
+    → OnOk answer (OnImage image (λ bytes. loaded_l2_table (geometry_of header) cluster bytes ≡ Ok (numbers_at (l2_layout (geometry_of header)) cluster bytes)))
+    → IfErr answer (λ fault. IsRereadFault fault × OnImage image (λ bytes. (fault ≡ Storage) ⊎ (loaded_l2_table (geometry_of header) cluster bytes ≡ Err fault)))
+    → LoadsAt header l1 edits index answer image
+loads-named header l1 edits index cluster (Ok done) image names some loads faults = record {
+  loads = λ told fault (other, also, has, fails).
+      let same : cluster ≡ other = grind (arith, names, also) in
+      let refused = subst (λ place. loaded_l2_table (geometry_of header) place image.byte_at ≡ Err fault) (sym same) fails in
+      absurd (let never = sym (loads told) ∙ refused in grind (arith, never));
+  fault = tt;
+}
+loads-named header l1 edits index cluster (Err fault) image names some loads faults = record {
+  loads = tt;
+  fault = (
+    faults.0,
+    λ told. elim (faults.1 told) [
+      | inl failed ↦ inl failed
+      | inr fails ↦ inr (cluster, names, some, fails)
+    ],
+  );
+}
+
+-- and where none is named, or no edit is of it, there is none to be loaded
+pub loads-none : (header : HeaderRecord) (l1 : List ℕ) (edits : List GuestEdit) (index : ℕ) (image : StorageState)
+    → (named_cluster header.v2.cluster_bits (slice_index l1 index) ≡ None) ⊎ (edits_in header.v2.cluster_bits index edits ≡ [])
+    → LoadsAt header l1 edits index (Ok tt) image
+loads-none header l1 edits index image none = record {
+  loads = λ told fault (other, names, has, fails). elim none [
+    | inl missing ↦ absurd (let never = sym missing ∙ names in grind (arith, never))
+    | inr idle ↦ has idle
+  ];
+  fault = tt;
+}

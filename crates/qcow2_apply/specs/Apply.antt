@@ -2,6 +2,7 @@
 use Rattle.std.specs.Prelude.{◌≡◌, ◌≢◌, ◌⊎◌, ◌<◌, ◌≤◌, ◌+◌, ℕ, List, Some, None, Result, IfErr, IfOk, IsErr, IsOk, MatchResult}
 use Rattle.qcow2_base.specs.Storage.{Image, SameOutside, be}
 use Rattle.qcow2_base.specs.declared.fault.Fault.{Fault}
+use Rattle.qcow2_base.specs.declared.fault.Fault.TheVariants.{NoMemory, Storage}
 use Rattle.qcow2_base.specs.declared.types.HostCluster.{HostCluster}
 use Rattle.qcow2_check.specs.Uses.{ImageTables, image_tables, image_uses, uses_of}
 use Rattle.qcow2_metadata.specs.Header.{HeaderRecord}
@@ -10,10 +11,12 @@ use Rattle.qcow2_apply.specs.Passes.{ArePlacesApart, IsOutside, PassBreaksOff, P
 use Rattle.qcow2_metadata.specs.Results.{IsFromOutside, result_map}
 use Rattle.qcow2_apply.specs.Plan.{IsPlanFor, IsPlanOf, RefusesEdits}
 use Rattle.qcow2_metadata.specs.Header.Open.{without_autoclear}
+use Rattle.qcow2_metadata.specs.Refblock.{block_geometry_of}
 use Rattle.qcow2_apply.specs.PlannedChanges.{CannotCount}
 use Rattle.qcow2_apply.specs.PlannedTables.{counter_tables, tables_refusal}
 use Rattle.qcow2_apply.specs.declared.plan.Plan.{Plan}
-use Rattle.qcow2_apply.specs.Tables.{IsEdited, l2_tables}
+use Rattle.qcow2_apply.specs.Tables.{IsEdited, IsL2TableOf, l2_tables}
+use Rattle.qcow2_apply.specs.declared.apply.Workspace.{Workspace}
 use Rattle.qcow2_apply.specs.declared.changed_clusters.ChangedClusters.{ChangedClusters}
 use Rattle.qcow2_apply.specs.declared.changes.Changes.{Changes}
 use Rattle.qcow2_apply.specs.declared.guest_edits.GuestEdit.{GuestEdit}
@@ -69,8 +72,13 @@ tables_by header plan = image_tables header plan.l1_table.numbers plan.reftable.
 abbrev pub plan_tables : HeaderRecord → Plan → ImageTables
 plan_tables header plan = tables_by (without_autoclear header) plan
 
+-- the table and the block of a workspace are of an image with this header
+pub record IsWorkspaceOf (header : HeaderRecord) (workspace : Workspace) : Type 0 where
+  pub table : IsL2TableOf header workspace.table
+  pub block : workspace.block.geometry ≡ block_geometry_of header
+
 -- edits of a disk were made by a plan, which ended in this answer: autoclear features are cleared by their field alone, then the
--- edits are made. Where tables and blocks are apart, only the storage and memory can end this before its time
+-- edits are made. Where tables and blocks are apart, only the storage can end this before its time, and memory never does
 pub record FollowsPlan (header : HeaderRecord) (edits : List GuestEdit) (plan : Plan) (answer : Result (Unit {0}) Fault) (old new : Image) : Type 0 where
   pub cleared : Image
   pub clears : SameOutside 88 8 old cleared
@@ -80,7 +88,8 @@ pub record FollowsPlan (header : HeaderRecord) (edits : List GuestEdit) (plan : 
       (λ _. Applies (plan_tables header plan) edits plan.gains plan.losses cleared new)
       (λ fault. BreaksOffApplying (plan_tables header plan) edits plan.gains plan.losses fault cleared new)
   pub others : (o : ℕ) → IsElsewhere (plan_tables header plan) o → new o ≡ cleared o
-  pub faults : AreAllApart (plan_tables header plan) → IfErr answer IsFromOutside
+  pub faults : AreAllApart (plan_tables header plan) → IfErr answer (λ fault. fault ≡ Storage)
+  pub memory : IfErr answer (λ fault. fault ≢ NoMemory)
 
 -- edits of a disk ended in this answer, and left this header: they were refused, and nothing changed, or they were planned and made,
 -- and what becomes of clusters is what the plan says

@@ -1,11 +1,13 @@
 -- What becomes of the clusters that edits of a disk give references, or take them from?
-use Rattle.std.specs.Prelude.{◌≡◌, ◌/◌, ◌<◌, nat_lt, is_some, ℕ, Bool, not, ◌&&◌, ◌==◌, ◌+◌, ◌-◌, List, length, slice_index}
-use Rattle.std.specs.List.{sum_by}
+use Rattle.std.specs.Prelude.{◌≡◌, ◌/◌, ◌<◌, nat_lt, is_some, ℕ, Bool, not, ◌&&◌, ◌==◌, ◌+◌, ◌-◌, ◌^◌, List, [], ◌∷◌, ◌++◌, length, map, slice_index}
+use Rattle.std.specs.List.{flat_map, sum_by}
+use Rattle.std.specs.List.Sorted.{IsStrictlyIncreasing}
 use Rattle.qcow2_base.specs.Format.{max_file_length}
 use Rattle.qcow2_base.specs.Storage.{Image}
 use Rattle.qcow2_edits.specs.Edits.{cluster_numbers}
 use Rattle.qcow2_edits.specs.Settled.{is_between}
 use Rattle.qcow2_metadata.specs.Table.L2Guards.{handed_back, one_if, times_gained}
+use Rattle.qcow2_metadata.specs.declared.entries.ClustersToFreeEntry.{ClustersToFreeEntry}
 use Rattle.qcow2_check.specs.Counters.{block_of_cluster, counters_each}
 use Rattle.qcow2_apply.specs.Blocks.{CounterTablesState, counter_of_cluster}
 use Rattle.qcow2_apply.specs.Changes.{gains_of, losses_of}
@@ -41,6 +43,40 @@ ListsCounters first count before risen after = ListsMore
     (λ c. is_between first (first + count) c && is_freed (slice_index risen (c - first)) (slice_index after (c - first)))
     (λ n c. is_between first (first + count) c && is_kept_at n (slice_index risen (c - first)) (slice_index after (c - first)))
     (λ c. is_between first (first + count) c && not (slice_index risen (c - first) == slice_index before (c - first)))
+
+-- the bounds of ranges of clusters: of each the first cluster, and the one after the last
+abbrev pub bounds_of : List ClustersToFreeEntry → List ℕ
+bounds_of ranges = flat_map (λ (range : ClustersToFreeEntry). (range.first.0) ∷ ((range.first.0 + range.count.0) ∷ [])) ranges
+
+-- the clusters that are kept, without their counters
+abbrev pub kept_clusters : List KeptCluster → List ℕ
+kept_clusters list = map (λ (kept : KeptCluster). kept.cluster.0) list
+
+-- lists are in order: bounds ascend, so no range is empty or could be joined with the next, and clusters ascend
+pub record AreInOrder (clusters : ChangedClusters) : Type 0 where
+  pub freed : IsStrictlyIncreasing (bounds_of clusters.freed.items)
+  pub kept : IsStrictlyIncreasing (kept_clusters clusters.kept.items)
+  pub gained : IsStrictlyIncreasing (cluster_numbers clusters.gained.items)
+
+-- numbers ascend, and n is greater than all
+abbrev pub AscendTo : ℕ → List ℕ → Type 0
+AscendTo n list = IsStrictlyIncreasing (list ++ n ∷ [])
+
+-- lists are in order, and what they list ends by cluster c
+pub record EndInOrder (c : ℕ) (clusters : ChangedClusters) : Type 0 where
+  pub freed : AscendTo (c + 1) (bounds_of clusters.freed.items)
+  pub kept : AscendTo c (kept_clusters clusters.kept.items)
+  pub gained : AscendTo c (cluster_numbers clusters.gained.items)
+
+-- where lists were in order and ended by one cluster, they are, and end by another
+abbrev pub StayInOrder : ℕ → ℕ → ChangedClusters → ChangedClusters → Type 0
+StayInOrder from to old new = EndInOrder from old → EndInOrder to new
+
+-- where ranges were in order and ended by the first cluster of one more, which isn't empty and ends before 2^64, they are in order
+-- with its clusters, and end by its end
+abbrev pub AppendsInOrder : ClustersToFreeEntry → List ClustersToFreeEntry → List ClustersToFreeEntry → Type 0
+AppendsInOrder range old new = 0 < range.count.0 → range.first.0 + range.count.0 < 2 ^ 64 → AscendTo (range.first.0 + 1) (bounds_of old)
+    → AscendTo (range.first.0 + range.count.0 + 1) (bounds_of new)
 
 -- lists of as many counters
 abbrev pub HaveSameCount : List ℕ → List ℕ → List ℕ → Type 0
@@ -83,9 +119,15 @@ pub record HasListed (tables : CounterTablesState) (gains losses : Changes) (end
   pub gained_is : (c : ℕ) → times_gained (cluster_numbers clusters.gained.items) c
       ≡ one_if ((nat_lt (c / counters_each tables.header) end && has_counter tables c) && gains_some tables gains image c)
 
--- all clusters below 2^56 are
+-- whether cluster c is one of those that may be listed: it is below 2^56, and has a counter
+abbrev pub is_listable : CounterTablesState → ℕ → Bool
+is_listable tables c = nat_lt c max_file_length && has_counter tables c
+
+-- of all clusters below 2^56 that have a counter those are listed, each once, that become free, that stay at counter n, and that
+-- gain something. No others are, and the lists are in order
 pub record ListsChanges (tables : CounterTablesState) (gains losses : Changes) (image : Image) (clusters : ChangedClusters) : Type 0 where
-  pub freed_is : (c : ℕ) → c < max_file_length → handed_back clusters.freed.items c ≡ one_if (has_counter tables c && becomes_free tables gains losses image c)
-  pub kept_is : (n c : ℕ) → c < max_file_length → times_kept clusters.kept.items n c ≡ one_if (has_counter tables c && stays_at tables gains losses image n c)
-  pub gained_is : (c : ℕ) → c < max_file_length → times_gained (cluster_numbers clusters.gained.items) c
-      ≡ one_if (has_counter tables c && gains_some tables gains image c)
+  pub freed_is : (c : ℕ) → handed_back clusters.freed.items c ≡ one_if (is_listable tables c && becomes_free tables gains losses image c)
+  pub kept_is : (n c : ℕ) → times_kept clusters.kept.items n c ≡ one_if (is_listable tables c && stays_at tables gains losses image n c)
+  pub gained_is : (c : ℕ) → times_gained (cluster_numbers clusters.gained.items) c
+      ≡ one_if (is_listable tables c && gains_some tables gains image c)
+  pub order : AreInOrder clusters

@@ -2,6 +2,8 @@ pub mod Apply
 pub mod Blocks
 pub mod ChangedClusters
 pub mod Changes
+pub mod Crashes
+pub mod Errors
 pub mod GuestEdits
 pub mod MappedClusters
 pub mod Passes

@@ -1,15 +1,16 @@
 -- What is left of an image's L2 tables, and of references, by edits of its disk?
-use Rattle.std.specs.Prelude.{◌≡◌, ◌≢◌, ℕ, List, [], length, map, slice_index, Some, None, Ok, Err, ◌<◌, true, false}
+use Rattle.std.specs.Prelude.{◌≡◌, ◌≢◌, ◌⊎◌, ℕ, List, [], length, map, slice_index, Some, None, Result, Ok, Err, IfErr, OnOk, ◌<◌, true, false}
 use Rattle.std.specs.List.{All}
-use Rattle.qcow2_base.specs.Storage.{Image}
+use Rattle.qcow2_base.specs.Storage.{Image, OnImage, StorageState}
 use Rattle.qcow2_base.specs.declared.fault.Fault.{Fault}
+use Rattle.qcow2_base.specs.declared.fault.Fault.TheVariants.{Storage}
 use Rattle.qcow2_base.specs.declared.types.HostCluster.{HostCluster}
 use Rattle.qcow2_edits.specs.Edits.{cluster_numbers, table_edit}
 use Rattle.qcow2_edits.specs.declared.edits.Edit.{Edit}
 use Rattle.qcow2_edits.specs.declared.edits.Outcome.{Outcome}
 use Rattle.qcow2_metadata.specs.Header.{HeaderRecord, geometry_of}
 use Rattle.qcow2_metadata.specs.Placed.{numbers_at, place_fault}
-use Rattle.qcow2_metadata.specs.Table.{TableState, l2_entries, l2_layout, loaded_l2_table}
+use Rattle.qcow2_metadata.specs.Table.{IsEntryFault, TableState, l2_entries, l2_layout, loaded_l2_table}
 use Rattle.qcow2_metadata.specs.Table.L2Guards.{RunEnd, fits_table, run_of}
 use Rattle.qcow2_check.specs.NamedTables.{named_cluster}
 use Rattle.qcow2_apply.specs.GuestEdits.{edits_in, first_unfit_of}
@@ -39,6 +40,17 @@ pub record MakesRun (header : HeaderRecord) (edits : List Edit) (before : List �
   pub gained : cluster_numbers outcome.gained.items ≡ (run_in header edits before).gained
   pub idle : table.modified ≡ false → table.numbers ≡ before
 
+-- a table in memory is of an image with this header
+pub record IsL2TableOf (header : HeaderRecord) (table : TableState) : Type 0 where
+  pub geometry : table.geometry ≡ geometry_of header
+  pub count : length table.numbers ≡ l2_entries header.v2.cluster_bits
+
+-- a table in memory has the numbers that edits left, and is as it was unless it counts as modified
+pub record IsLeftBy (header : HeaderRecord) (edits : List Edit) (old new : TableState) : Type 0 where
+  pub numbers : new.numbers ≡ (run_in header edits old.numbers).numbers
+  pub same : new ≡ record old { numbers = new.numbers; modified = new.modified }
+  pub flag : (new ≡ old) ⊎ (new.modified ≡ true)
+
 -- the edits of a disk were made of the L2 table of the L1 entry at an index
 abbrev pub IsEdited : HeaderRecord → List GuestEdit → ℕ → List ℕ → List ℕ → Type 0
 IsEdited header edits index old new = new ≡ (run_in header (edits_in header.v2.cluster_bits index edits) old).numbers
@@ -48,6 +60,15 @@ abbrev pub FailsAt : HeaderRecord → List ℕ → List GuestEdit → ℕ → Fa
 FailsAt header l1 edits index fault image = (cluster : HostCluster)
     × (named_cluster header.v2.cluster_bits (slice_index l1 index) ≡ Some cluster) × (edits_in header.v2.cluster_bits index edits ≢ [])
     × (loaded_l2_table (geometry_of header) cluster image ≡ Err fault)
+
+-- the faults of a table that is read over another, at a place in the image: that of an entry, or the storage failed
+abbrev pub IsRereadFault : Fault → Type 0
+IsRereadFault fault = IsEntryFault fault ⊎ (fault ≡ Storage)
+
+-- the edits of such a table ended in this answer: the table could be loaded, or it says why not
+pub record LoadsAt (header : HeaderRecord) (l1 : List ℕ) (edits : List GuestEdit) (index : ℕ) (answer : Result (Unit {0}) Fault) (image : StorageState) : Type 0 where
+  pub loads : OnOk answer (OnImage image (λ bytes. (fault : Fault) → FailsAt header l1 edits index fault bytes → ⊥))
+  pub fault : IfErr answer (λ fault. IsRereadFault fault × OnImage image (λ bytes. (fault ≡ Storage) ⊎ FailsAt header l1 edits index fault bytes))
 
 -- no such table before an index fails
 abbrev pub NoneFailsBefore : HeaderRecord → List ℕ → List GuestEdit → ℕ → Image → Type 0

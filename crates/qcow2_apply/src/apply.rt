@@ -1,11 +1,11 @@
 //! Edits of a disk, with the counters of the clusters that gain and lose references by them.
 
-ghost use Rattle.std.specs.Prelude.{◌≡◌, ◌⊎◌, ℕ, IfErr, MatchResult, OnOk};
+ghost use Rattle.std.specs.Prelude.{◌≡◌, ◌≢◌, ◌⊎◌, ℕ, IfErr, IfOk, IsOkUnless, MatchResult, OnOk};
 ghost use Rattle.qcow2_base.specs.Storage.{Image, OnImage, OnImages, SameOutside};
 ghost use Rattle.qcow2_metadata.specs.Header.Open.{without_autoclear};
-ghost use Rattle.qcow2_metadata.specs.Results.{IsFromOutside};
+ghost use Rattle.qcow2_base.specs.declared.fault.Fault.TheVariants.{NoMemory, Storage};
 ghost use Rattle.qcow2_check.specs.Failures.{ReportsFailures};
-ghost use Rattle.qcow2_apply.specs.Apply.{Applies, AreAllApart, BreaksOffApplying, CanBeMade, EditsDisk, IsElsewhere, tables_by};
+ghost use Rattle.qcow2_apply.specs.Apply.{Applies, AreAllApart, BreaksOffApplying, CanBeMade, EditsDisk, IsElsewhere, IsWorkspaceOf, tables_by};
 ghost use Rattle.qcow2_apply.specs.Plan.{IsPlanFor};
 
 use crate::blocks::{CounterTables, follow_changes};
@@ -14,20 +14,41 @@ use crate::guest_edits::GuestEdit;
 use crate::plan::Plan;
 use crate::tables::edit_tables;
 use qcow2_base::{Fault, Storage};
-use qcow2_metadata::Header;
+use qcow2_metadata::{Header, L2Table, RefBlock};
 use std::alloc::Global;
+
+// The table and the refcount block that all others are read over. They are there before the first write, so
+// memory can't run out after it.
+#[derive(Drop)]
+struct Workspace {
+    table: L2Table,
+    block: RefBlock,
+}
+
+impl Workspace {
+    fn of<S: Storage>(alloc: Global, image: &S, header: &Header) -> Result<Workspace, Fault>
+        ensures fault { IsOkUnless result Fault.NoMemory }
+        ensures workspace { IfOk result (IsWorkspaceOf header.now) }
+    {
+        Ok(Workspace {
+            table: L2Table::new_cleared(alloc, header)?,
+            block: RefBlock::new_cleared(alloc, image, header)?,
+        })
+    }
+}
 
 impl Plan {
     // Makes the edits that are planned: counts what clusters gain, edits the tables, and counts what
     // clusters lose. Each part is on the device before the next begins.
     fn make<S: Storage>(
         &self,
-        alloc: Global,
         image: &mut S,
         header: &Header,
         edits: &[GuestEdit],
+        workspace: &mut Workspace,
     ) -> Result<(), Fault>
         requires plan { IsPlanFor header.now edits.now self.now }
+        requires workspace { IsWorkspaceOf header.now workspace.old }
         ensures applied { let tables = tables_by header.now self.now in AreAllApart tables →
             OnImages (S.state image.old) (S.state image.new) (λ before after. MatchResult result
             (λ _. Applies tables edits.now self.now.gains self.now.losses before after)
@@ -37,7 +58,8 @@ impl Plan {
         ensures fault { let tables = tables_by header.now self.now in AreAllApart tables →
             IfErr result (λ fault. OnImage (S.state image.old) (λ bytes. (first : Image) →
             CanBeMade tables edits.now self.now.gains self.now.losses first → SameOutside 88 8 first bytes →
-            IsFromOutside fault)) }
+            fault ≡ Storage)) }
+        ensures memory { IfErr result (λ fault. fault ≢ NoMemory) }
         ensures storage { ReportsFailures result (S.state image.old) (S.state image.new) }
     {
         prove!(header.cluster_bits() <= 21);
@@ -46,9 +68,9 @@ impl Plan {
             header,
             reftable: &self.reftable,
         };
-        follow_changes(alloc, image, &tables, &self.gains)?;
-        edit_tables(image, header, &self.l1_table, edits)?;
-        follow_changes(alloc, image, &tables, &self.losses)
+        follow_changes(image, &tables, &mut workspace.block, &self.gains)?;
+        edit_tables(image, header, &self.l1_table, &mut workspace.table, edits)?;
+        follow_changes(image, &tables, &mut workspace.block, &self.losses)
     }
 }
 
@@ -66,9 +88,10 @@ impl Plan {
 /// Then autoclear features are cleared, in the header too. What clusters gain is counted before tables are
 /// edited, and what they lose after that, each on the device before the next begins. So where no cluster is
 /// that of two tables or blocks, or the header's, what is left by a fault has no counter that is less than
-/// its uses where it wasn't before, but for what a torn write leaves. After 34 or 35 a part of this may be
-/// done, and after 34 any bytes may be in one table or block. So the call must not be made again: check the
-/// image, and repair it. In such an image no byte has changed after any other fault.
+/// its uses where it wasn't before, but for what a torn write leaves. After 34 a part of this may be done,
+/// and any bytes may be in one table or block. So the call must not be made again: check the image, and
+/// repair it. In such an image no byte has changed after any other fault. Memory is taken before the first
+/// write, so after 35 no byte has changed in any image.
 pub fn apply_edits<S: Storage>(
     alloc: Global,
     image: &mut S,
@@ -82,8 +105,9 @@ pub fn apply_edits<S: Storage>(
     ensures storage { ReportsFailures result (S.state image.old) (S.state image.new) }
 {
     let plan = Plan::new(alloc, image, header, edits)?;
+    let mut workspace = Workspace::of(alloc, image, header)?;
     header.clear_autoclear(image)?;
     image.sync()?;
-    plan.make(alloc, image, header, edits)?;
+    plan.make(image, header, edits, &mut workspace)?;
     Ok(plan.clusters)
 }

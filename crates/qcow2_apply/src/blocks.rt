@@ -2,11 +2,10 @@
 
 ghost use Rattle.std.specs.Prelude.{◌≡◌, ◌⊎◌, ◌+◌, ◌<◌, false, IfErr, IfOk, MatchResult, None, OnOk, Some, slice_index, true};
 ghost use Rattle.qcow2_base.specs.Storage.{OnImage, OnImages, OnlyReads, OnlyWrites};
-ghost use Rattle.qcow2_base.specs.declared.fault.Fault.TheVariants.{CounterRange};
+ghost use Rattle.qcow2_base.specs.declared.fault.Fault.TheVariants.{CounterRange, Storage};
 ghost use Rattle.qcow2_metadata.specs.Header.{geometry_of, uses_external_data};
 ghost use Rattle.qcow2_metadata.specs.Placed.{offset_of, place_fault};
 ghost use Rattle.qcow2_metadata.specs.Refblock.{block_geometry_of, block_layout};
-ghost use Rattle.qcow2_metadata.specs.Results.{IsFromOutside};
 ghost use Rattle.qcow2_check.specs.Counters.{blocks_fault};
 ghost use Rattle.qcow2_check.specs.Failures.{ReportsFailures, TearsAtMost};
 ghost use Rattle.qcow2_apply.specs.Blocks.{BlockFollows, BlockIsStuck, FollowsChanges, IsBlockOf, IsByBlocks, IsStuckAt, SomeIsStuck, StopsFollowing, blocks, block_numbers};
@@ -18,7 +17,6 @@ use qcow2_base::{Fault, HostCluster, Storage};
 use qcow2_check::named_block;
 use qcow2_edits::{Outcome, settle};
 use qcow2_metadata::{Header, RefBlock, RefTable, Table};
-use std::alloc::Global;
 use std::marker::Model;
 
 /// The tables of an image that say where its counters are. Clauses see them as what they say.
@@ -89,11 +87,12 @@ pub(crate) fn follow_if_changed(
     }
 }
 
-// Lets the counters of the block that begins with a cluster follow what their clusters gained and lost.
+// Lets the counters of the block that begins with a cluster follow what their clusters gained and lost. It is
+// read over another block.
 fn follow_block<S: Storage>(
-    alloc: Global,
     image: &mut S,
     tables: &CounterTables<'_>,
+    block: &mut RefBlock,
     cluster: HostCluster,
     index: usize,
     changes: &Changes,
@@ -101,41 +100,45 @@ fn follow_block<S: Storage>(
 ) -> Result<(), Fault>
     requires data { uses_external_data tables.now.header ≡ false }
     requires place { place_fault (block_layout (block_geometry_of tables.now.header)) cluster ≡ None }
+    requires block { block.old.geometry ≡ block_geometry_of tables.now.header }
     requires bits { IsByBlocks tables.now changes.now }
     requires outcome { IsOutcomeOf changes.now index (Some outcome.now) }
     ensures followed { OnOk result (OnImages (S.state image.old) (S.state image.new) (λ before after.
         BlockFollows tables.now changes.now index (block_numbers tables.now cluster before)
         (block_numbers tables.now cluster after))) }
-    ensures fault { IfErr result (λ fault. IsFromOutside fault ⊎ ((fault ≡ CounterRange)
+    ensures fault { IfErr result (λ fault. (fault ≡ Storage) ⊎ ((fault ≡ CounterRange)
         × OnImage (S.state image.old) (λ bytes.
         BlockIsStuck tables.now changes.now index (block_numbers tables.now cluster bytes)))) }
+    ensures block { block.new.geometry ≡ block.old.geometry }
     ensures storage { let layout = block_layout (block_geometry_of tables.now.header) in
         OnlyWrites result (Some (offset_of layout cluster)) layout.byte_count
         (S.state image.old) (S.state image.new) }
 {
-    let mut block = RefBlock::load(alloc, image, tables.header, cluster)?;
-    follow(&mut block, tables, index, changes, outcome)?;
+    block.reload(image, tables.header, cluster)?;
+    follow(block, tables, index, changes, outcome)?;
     block.write_if_modified(image, cluster)
 }
 
 // The same of the block at an index of the refcount table, if its clusters gained or lost something. Where
 // there is no block, nothing is done.
 fn follow_at<S: Storage>(
-    alloc: Global,
     image: &mut S,
     tables: &CounterTables<'_>,
+    block: &mut RefBlock,
     index: usize,
     changes: &Changes,
 ) -> Result<(), Fault>
     requires data { uses_external_data tables.now.header ≡ false }
+    requires block { block.old.geometry ≡ block_geometry_of tables.now.header }
     requires bits { IsByBlocks tables.now changes.now }
     ensures followed { ArePlacesApart (blocks tables.now) →
         OnImages (S.state image.old) (S.state image.new) (λ before after. MatchResult result
         (λ _. StepsAt (blocks tables.now) (BlockFollows tables.now changes.now) index before after)
         (λ fault. TearsAtMost fault (TearsOne (blocks tables.now)) before after)) }
     ensures others { OnImages (S.state image.old) (S.state image.new) (KeepsOutside (blocks tables.now)) }
-    ensures fault { IfErr result (λ fault. IsFromOutside fault ⊎ ((fault ≡ CounterRange)
+    ensures fault { IfErr result (λ fault. (fault ≡ Storage) ⊎ ((fault ≡ CounterRange)
         × OnImage (S.state image.old) (IsStuckAt tables.now changes.now index))) }
+    ensures block { block.new.geometry ≡ block.old.geometry }
     ensures storage { ReportsFailures result (S.state image.old) (S.state image.new) }
 {
     prove!(tables.header.cluster_bits() <= 21);
@@ -146,35 +149,38 @@ fn follow_at<S: Storage>(
     let Some(cluster) = named_block(tables.reftable, index) else {
         return Ok(());
     };
-    follow_block(alloc, image, tables, cluster, index, changes, outcome)
+    follow_block(image, tables, block, cluster, index, changes, outcome)
 }
 
 /// Lets all counters of an image follow what their clusters gained and lost, and waits until they are on the
-/// device. Each refcount block is written once at most. Clusters that no block counts are passed over.
+/// device. Each refcount block is read over the given one, and written once at most, so no memory is taken.
+/// Clusters that no block counts are passed over.
 ///
 /// All that a cluster gained is counted before what it lost. Returns 30 where a counter can't count both so.
 /// After a fault some counters may have followed, so the call must not be made again; where the storage
 /// failed, any bytes may be in one block besides.
 pub fn follow_changes<S: Storage>(
-    alloc: Global,
     image: &mut S,
     tables: &CounterTables<'_>,
+    block: &mut RefBlock,
     changes: &Changes,
 ) -> Result<(), Fault>
     requires data { uses_external_data tables.now.header ≡ false }
+    requires block { block.old.geometry ≡ block_geometry_of tables.now.header }
     requires bits { IsByBlocks tables.now changes.now }
     ensures followed { ArePlacesApart (blocks tables.now) →
         OnImages (S.state image.old) (S.state image.new) (λ before after. MatchResult result
         (λ _. FollowsChanges tables.now changes.now before after)
         (λ fault. StopsFollowing tables.now changes.now fault before after)) }
     ensures others { OnImages (S.state image.old) (S.state image.new) (KeepsOutside (blocks tables.now)) }
-    ensures fault { IfErr result (λ fault. IsFromOutside fault ⊎ ((fault ≡ CounterRange)
+    ensures fault { IfErr result (λ fault. (fault ≡ Storage) ⊎ ((fault ≡ CounterRange)
         × (ArePlacesApart (blocks tables.now) →
         OnImage (S.state image.old) (SomeIsStuck tables.now changes.now)))) }
+    ensures block { block.new.geometry ≡ block.old.geometry }
     ensures storage { ReportsFailures result (S.state image.old) (S.state image.new) }
 {
     for index in 0..tables.reftable.entries() {
-        follow_at(alloc, image, tables, index, changes)?;
+        follow_at(image, tables, block, index, changes)?;
     }
     image.sync()?;
     Ok(())

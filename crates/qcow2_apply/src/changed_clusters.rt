@@ -11,7 +11,7 @@ ghost use Rattle.qcow2_metadata.specs.Results.{IsFromOutside};
 ghost use Rattle.qcow2_apply.specs.PlannedChanges.{AreSorted, CannotCount};
 ghost use Rattle.qcow2_apply.specs.Blocks.{BlockFollows, BlockIsStuck, IsBlockOf, IsByBlocks, block_numbers};
 ghost use Rattle.qcow2_base.specs.declared.fault.Fault.TheVariants.{CounterRange, NoMemory};
-ghost use Rattle.qcow2_apply.specs.ChangedClusters.{HaveSameCount, ListsBlock, ListsChanges, ListsCounter, ListsCounters};
+ghost use Rattle.qcow2_apply.specs.ChangedClusters.{HaveSameCount, ListsBlock, ListsChanges, ListsCounter, ListsCounters, StayInOrder};
 
 use crate::blocks::{CounterTables, follow_if_changed};
 use crate::changes::{Changes, push_clusters};
@@ -30,7 +30,7 @@ pub struct KeptCluster {
 /// What becomes of clusters by edits of a disk, each list in the order of clusters.
 #[derive(Debug, Drop)]
 pub struct ChangedClusters {
-    /// Those that lose a reference and have none then.
+    /// Those that lose a reference and have none then, in as few ranges as can be.
     pub freed: Vec<ClustersToFreeEntry>,
     /// Those that lose one and have others.
     pub kept: Vec<KeptCluster>,
@@ -46,7 +46,9 @@ fn list_cluster(
     risen: u64,
     after: u64,
 ) -> Result<(), Fault>
+    requires fits { cluster.0 + 1 < 2 ^ 64 }
     ensures listed { OnOk result (ListsCounter cluster.0 before risen after clusters.old clusters.new) }
+    ensures order { OnOk result (StayInOrder cluster.0 (cluster.0 + 1) clusters.old clusters.new) }
     ensures fault { IsOkUnless result NoMemory }
 {
     if risen != before {
@@ -83,6 +85,8 @@ fn list_block(
     requires fits { first + length before.now.numbers < 2 ^ 64 }
     ensures listed { OnOk result (ListsCounters first (length before.now.numbers)
         before.now.numbers risen.now.numbers after.now.numbers clusters.old clusters.new) }
+    ensures order { OnOk result
+        (StayInOrder first (first + length before.now.numbers) clusters.old clusters.new) }
     ensures fault { IsOkUnless result NoMemory }
 {
     for k in 0..before.entries() {
@@ -134,6 +138,8 @@ fn list_at<S: Storage>(
     requires index { (index + 1) * counters_each tables.now.header ≤ max_file_length }
     ensures listed { OnOk result (OnImage (S.state image.old) (λ bytes.
         ListsBlock tables.now gains.now losses.now index bytes clusters.old clusters.new)) }
+    ensures order { let each = counters_each tables.now.header in
+        OnOk result (StayInOrder (index * each) ((index + 1) * each) clusters.old clusters.new) }
     ensures fault { IfErr result (λ fault. IsFromOutside fault ⊎ ((fault ≡ CounterRange)
         × OnImage (S.state image.old) (λ bytes.
         (c : ℕ) × CannotCount tables.now gains.now losses.now bytes c))) }

@@ -1,14 +1,15 @@
 //! Edits of a guest's disk by its offsets, and the edits of the entries of L2 tables that they are.
 
-ghost use Rattle.std.specs.Prelude.{◌≡◌, ◌*◌, ◌+◌, ◌^◌, ◌<◌, ◌≤◌, ◌++◌, IfOk, OnOk, map, not};
-ghost use Rattle.std.specs.List.{flat_map, position, range_with_len};
+ghost use Rattle.std.specs.Prelude.{◌≡◌, ◌*◌, ◌+◌, ◌^◌, ◌<◌, ◌≤◌, ◌++◌, IfOk, OnOk, map, not, true};
+ghost use Rattle.std.specs.List.{flat_map, list_any, position, range_with_len};
 ghost use Rattle.qcow2_metadata.specs.Table.{l2_entries};
 ghost use Rattle.qcow2_base.specs.Types.{IsClusterBits};
 ghost use Rattle.qcow2_apply.specs.GuestEdits.{cluster_end, edit_at, edits_by, edits_in, ends_after, first_cluster, first_unfit_of, guest_edit_fits, guest_length, guest_offset, has_clusters_in, is_discard, is_mappable_by, is_zeros, table_end, table_start};
+ghost use Rattle.qcow2_apply.specs.Tables.{IsLeftBy, IsL2TableOf};
 
 use qcow2_base::{GuestCluster, GuestOffset, HostCluster, MAX_OFFSET};
 use qcow2_edits::Edit;
-use qcow2_metadata::Header;
+use qcow2_metadata::{Header, L2Table};
 use std::alloc::{AllocError, Global};
 
 /// A change of what a range of a guest's disk reads as. Offsets and lengths are in bytes, and multiples of
@@ -173,6 +174,22 @@ impl GuestEdit {
         (header.l1_table_entries() as u64) << (header.cluster_bits() - 3) < end
     }
 
+    /// Makes the edits of the L2 table of an L1 entry that this one is, which fits the disk. Takes no memory.
+    pub(crate) fn make_in(&self, table: &mut L2Table, header: &Header, l1_index: usize)
+        requires index { l1_index < 2 ^ 32 }
+        requires table { IsL2TableOf header.now table.old }
+        requires fits { guest_edit_fits header.now self.now ≡ true }
+        ensures { IsLeftBy header.now (edits_by header.now.v2.cluster_bits l1_index self.now)
+            table.old table.new }
+    {
+        let cluster_bits = header.cluster_bits();
+        let (start, end) = self.clusters_in(cluster_bits, l1_index);
+        for cluster in start..end {
+            let edit = self.at(GuestCluster(cluster).l2_index(cluster_bits));
+            let _ = edit.make(table);
+        }
+    }
+
     // Appends the edits of the L2 table of an L1 entry that this one is.
     fn push_edits(
         &self,
@@ -200,6 +217,17 @@ pub fn first_unfit(header: &Header, edits: &[GuestEdit]) -> Option<usize>
         |edit: &GuestEdit| -> bool
             ensures { result ≡ not (guest_edit_fits header.entry.now edit.now) }
         { !edit.fits(header) },
+    )
+}
+
+/// Whether an edit has clusters of the L2 table of an L1 entry.
+pub(crate) fn are_some_in(edits: &[GuestEdit], header: &Header, index: u32) -> bool
+    ensures { result ≡ list_any (has_clusters_in header.now.v2.cluster_bits index) edits.now }
+{
+    edits.iter().any(
+        |edit: &GuestEdit| -> bool
+            ensures { result ≡ has_clusters_in header.entry.now.v2.cluster_bits index edit.now }
+        { edit.has_clusters_in(header, index) },
     )
 }
 

@@ -14,24 +14,13 @@ ghost use Rattle.qcow2_apply.specs.PlannedChanges.{StaySorted, AreSorted};
 ghost use Rattle.qcow2_apply.specs.PlannedTables.{is_table_needed, are_more_needed, tables_refusal, AddsTable, IsPlanned, planning_tables, AreSources, alone_fault, mapping_fault, mapping_fault_in, mappings_fault, named_table_refusal, table_refusal, AreReadBy};
 ghost use Rattle.qcow2_apply.specs.Tables.{AllFit};
 
-use crate::guest_edits::{GuestEdit, edits_in};
+use crate::guest_edits::{GuestEdit, are_some_in, edits_in};
 use crate::mapped_clusters::MappedClusters;
 use crate::planned_changes::PlannedChanges;
 use crate::tables::load_edited;
 use qcow2_base::{Fault, HostCluster, Storage};
 use qcow2_check::{Counters, named_cluster};
 use qcow2_metadata::{Header, L1Table, Table};
-
-// Whether an edit has clusters of the table of an L1 entry.
-fn are_some_in(edits: &[GuestEdit], header: &Header, index: u32) -> bool
-    ensures { result ≡ list_any (has_clusters_in header.now.v2.cluster_bits index) edits.now }
-{
-    edits.iter().any(
-        |edit: &GuestEdit| -> bool
-            ensures { result ≡ has_clusters_in header.entry.now.v2.cluster_bits index edit.now }
-        { edit.has_clusters_in(header, index) },
-    )
-}
 
 // Whether an edit but for discards has clusters of the table of an L1 entry.
 fn is_table_needed(edits: &[GuestEdit], header: &Header, index: u32) -> bool

@@ -1,7 +1,7 @@
 //! L2 tables of an image that edits of its disk change.
 
 ghost use Rattle.std.specs.Prelude.{◌≡◌, ◌⊎◌, ◌<◌, ◌^◌, Err, IfErr, IfOk, MatchResult, Ok, OnOk, length};
-ghost use Rattle.qcow2_base.specs.declared.fault.Fault.{Fault as AnyFault};
+ghost use Rattle.qcow2_base.specs.declared.fault.Fault.TheVariants.{Storage};
 ghost use Rattle.qcow2_base.specs.Storage.{OnImage, OnImages, OnlyReads, OnlyWrites};
 ghost use Rattle.qcow2_edits.specs.Edits.{table_edit};
 ghost use Rattle.qcow2_metadata.specs.Header.{geometry_of};
@@ -12,9 +12,9 @@ ghost use Rattle.qcow2_check.specs.NamedTables.{IsInImage};
 ghost use Rattle.qcow2_check.specs.Failures.{ReportsFailures, TearsAtMost};
 ghost use Rattle.qcow2_apply.specs.GuestEdits.{edits_in};
 ghost use Rattle.qcow2_apply.specs.Passes.{ArePlacesApart, KeepsOutside, PassBreaksOff, Passes, StepsAt, TearsOne};
-ghost use Rattle.qcow2_apply.specs.Tables.{AllFit, AreMade, EditsTable, FailsAt, FirstFails, IsEdited, IsHeldTable, MakesRun, NoneFailsBefore, l2_tables};
+ghost use Rattle.qcow2_apply.specs.Tables.{AllFit, AreMade, EditsTable, FirstFails, IsEdited, IsHeldTable, IsLeftBy, IsRereadFault, IsL2TableOf, LoadsAt, MakesRun, NoneFailsBefore, l2_tables};
 
-use crate::guest_edits::{GuestEdit, edits_in};
+use crate::guest_edits::{GuestEdit, are_some_in};
 use qcow2_base::{Fault, HostCluster, Storage};
 use qcow2_check::{load_l2_table, named_cluster};
 use qcow2_edits::{Edit, Outcome, edit_table};
@@ -45,24 +45,41 @@ pub(crate) fn load_edited<S: Storage>(
     Ok((table, outcome))
 }
 
-// Makes edits of the L2 table that begins with a cluster, which fit.
-fn edit_loaded<S: Storage>(
-    alloc: Global,
+// Makes edits of the disk of the L2 table of the L1 entry at an index, which is in memory.
+fn make_edits(table: &mut L2Table, header: &Header, index: usize, edits: &[GuestEdit])
+    requires index { index < 2 ^ 32 }
+    requires table { IsL2TableOf header.now table.old }
+    requires fit { AllFit header.now edits.now }
+    ensures { IsLeftBy header.now (edits_in header.now.v2.cluster_bits index edits.now) table.old table.new }
+{
+    for edit in edits {
+        edit.make_in(table, header, index);
+    }
+}
+
+// Makes edits of the disk in the L2 table that begins with a cluster, which the L1 entry at an index names.
+// It is read over another table.
+fn edit_named<S: Storage>(
     image: &mut S,
     header: &Header,
+    table: &mut L2Table,
     cluster: HostCluster,
-    edits: &[Edit],
+    index: usize,
+    edits: &[GuestEdit],
 ) -> Result<(), Fault>
-    requires place { IsInImage header.now.v2.cluster_bits cluster }
-    requires fit { AreMade header.now edits.now }
+    requires place { (index < 2 ^ 32) × IsInImage header.now.v2.cluster_bits cluster }
+    requires table { IsL2TableOf header.now table.old }
+    requires fit { AllFit header.now edits.now }
     ensures edited { OnOk result (OnImages (S.state image.old) (S.state image.new)
-        (EditsTable header.now edits.now cluster)) }
-    ensures fault { IfErr result (λ fault. IsContentFault fault × OnImage (S.state image.old) (λ bytes.
-        IsFromOutside fault ⊎ (loaded_l2_table (geometry_of header.now) cluster bytes ≡ Err fault))) }
+        (EditsTable header.now (edits_in header.now.v2.cluster_bits index edits.now) cluster)) }
+    ensures fault { IfErr result (λ fault. IsRereadFault fault × OnImage (S.state image.old) (λ bytes.
+        (fault ≡ Storage) ⊎ (loaded_l2_table (geometry_of header.now) cluster bytes ≡ Err fault))) }
+    ensures table { IsL2TableOf header.now table.new }
     ensures storage { let layout = l2_layout (geometry_of header.now) in OnlyWrites result
         (Some (offset_of layout cluster)) layout.byte_count (S.state image.old) (S.state image.new) }
 {
-    let (mut table, _) = load_edited(alloc, image, header, cluster, edits)?;
+    table.reload(image, header, cluster)?;
+    make_edits(table, header, index, edits);
     table.write_if_modified(image, cluster)
 }
 
@@ -72,37 +89,35 @@ fn edit_at<S: Storage>(
     image: &mut S,
     header: &Header,
     l1_table: &L1Table,
+    table: &mut L2Table,
     index: usize,
     edits: &[GuestEdit],
 ) -> Result<(), Fault>
     requires index { index < 2 ^ 32 }
-    requires geometry { l1_table.now.geometry ≡ geometry_of header.now }
+    requires tables { (l1_table.now.geometry ≡ geometry_of header.now) × IsL2TableOf header.now table.old }
     requires fit { AllFit header.now edits.now }
     ensures edited { let tables = l2_tables header.now l1_table.now.numbers in ArePlacesApart tables →
         OnImages (S.state image.old) (S.state image.new) (λ before after. MatchResult result
         (λ _. StepsAt tables (IsEdited header.now edits.now) index before after)
         (λ fault. TearsAtMost fault (TearsOne tables) before after)) }
-    ensures loaded { OnOk result (OnImage (S.state image.old) (λ bytes. (fault : AnyFault) →
-        FailsAt header.now l1_table.now.numbers edits.now index fault bytes → ⊥)) }
+    ensures loaded { LoadsAt header.now l1_table.now.numbers edits.now index result (S.state image.old) }
     ensures others { OnImages (S.state image.old) (S.state image.new)
         (KeepsOutside (l2_tables header.now l1_table.now.numbers)) }
-    ensures fault { IfErr result (λ fault. IsContentFault fault × OnImage (S.state image.old) (λ bytes.
-        IsFromOutside fault ⊎ FailsAt header.now l1_table.now.numbers edits.now index fault bytes)) }
+    ensures table { IsL2TableOf header.now table.new }
     ensures storage { ReportsFailures result (S.state image.old) (S.state image.new) }
 {
-    let alloc = l1_table.allocator();
     let Some(cluster) = named_cluster(l1_table, index) else {
         return Ok(());
     };
-    let of_table = edits_in(alloc, edits, header.cluster_bits(), index)?;
-    if of_table.is_empty() {
+    if !are_some_in(edits, header, index as u32) {
         return Ok(());
     }
-    edit_loaded(alloc, image, header, cluster, of_table.as_slice())
+    edit_named(image, header, table, cluster, index, edits)
 }
 
 /// Makes edits of the disk in all L2 tables of an image, and waits until they are on the device. Each table
-/// is written once at most. Guest clusters without a table are passed over.
+/// is read over the given one, and written once at most, so no memory is taken. Guest clusters without a
+/// table are passed over.
 ///
 /// Returns the fault of the first table that can't be loaded. After a fault those before it may be edited, so
 /// the call must not be made again; where the storage failed, any bytes may be in one more. Takes time by
@@ -111,9 +126,10 @@ pub fn edit_tables<S: Storage>(
     image: &mut S,
     header: &Header,
     l1_table: &L1Table,
+    table: &mut L2Table,
     edits: &[GuestEdit],
 ) -> Result<(), Fault>
-    requires geometry { l1_table.now.geometry ≡ geometry_of header.now }
+    requires tables { (l1_table.now.geometry ≡ geometry_of header.now) × IsL2TableOf header.now table.old }
     requires count { length l1_table.now.numbers ≡ header.now.v2.l1_size }
     requires fit { AllFit header.now edits.now }
     ensures edited { let tables = l2_tables header.now l1_table.now.numbers in ArePlacesApart tables →
@@ -125,13 +141,13 @@ pub fn edit_tables<S: Storage>(
         header.now.v2.l1_size)) }
     ensures others { OnImages (S.state image.old) (S.state image.new)
         (KeepsOutside (l2_tables header.now l1_table.now.numbers)) }
-    ensures fault { IfErr result (λ fault. IsContentFault fault
+    ensures fault { IfErr result (λ fault. IsRereadFault fault
         × (ArePlacesApart (l2_tables header.now l1_table.now.numbers) → OnImage (S.state image.old) (λ bytes.
-        IsFromOutside fault ⊎ FirstFails header.now l1_table.now.numbers edits.now fault bytes))) }
+        (fault ≡ Storage) ⊎ FirstFails header.now l1_table.now.numbers edits.now fault bytes))) }
     ensures storage { ReportsFailures result (S.state image.old) (S.state image.new) }
 {
     for index in 0..header.l1_table_entries() {
-        edit_at(image, header, l1_table, index, edits)?;
+        edit_at(image, header, l1_table, table, index, edits)?;
     }
     image.sync()?;
     Ok(())

@@ -5,7 +5,7 @@ use qcow2_apply::{Changes, CounterTables, follow_changes};
 use qcow2_base::{ClusterCount, Fault, HostCluster, Storage};
 use qcow2_check::Counters;
 use qcow2_edits::Outcome;
-use qcow2_metadata::{ClustersToFreeEntry, Header};
+use qcow2_metadata::{ClustersToFreeEntry, Header, RefBlock};
 use qcow2_testing::{StorageCall, each, recorded, rows, same, same_image};
 use std::alloc::Global;
 use std::test::Fail;
@@ -74,7 +74,8 @@ fn follow<S: Storage>(alloc: Global, image: &mut S, outcome: &Outcome) -> Result
     let mut changes = Changes::new(alloc, &header);
     changes.add_all_gained(alloc, outcome.gained.as_slice())?;
     changes.add_all_lost(alloc, outcome.freed.as_slice())?;
-    follow_changes(alloc, image, &tables, &changes)
+    let mut block = RefBlock::new_cleared(alloc, image, &header)?;
+    follow_changes(image, &tables, &mut block, &changes)
 }
 
 fn check_followed(alloc: Global, row: Followed<'_>) -> Result<(), Fail> {

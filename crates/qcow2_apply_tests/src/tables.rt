@@ -4,7 +4,7 @@ use crate::small_image::{COPIED, L1_TABLE, L2_TABLE, Numbers, OTHER_TABLE, small
 use qcow2_apply::{GuestEdit, edit_tables, first_unfit};
 use qcow2_base::{Fault, GuestOffset, HostCluster, Storage};
 use qcow2_check::load_l1_table;
-use qcow2_metadata::Header;
+use qcow2_metadata::{Header, L2Table};
 use qcow2_testing::{StorageCall, each, recorded, rows, same, same_image};
 use std::alloc::Global;
 use std::test::Fail;
@@ -76,7 +76,8 @@ fn edit<S: Storage>(alloc: Global, image: &mut S, edits: &[GuestEdit]) -> Result
         return Err(Fault::BadEdit(position));
     }
     let l1_table = load_l1_table(alloc, image, &header)?;
-    edit_tables(image, &header, &l1_table, edits)
+    let mut table = L2Table::new_cleared(alloc, &header)?;
+    edit_tables(image, &header, &l1_table, &mut table, edits)
 }
 
 fn check_edited(alloc: Global, row: Edited<'_>) -> Result<(), Fail> {

@@ -50,11 +50,13 @@ pub struct Outcome {
     pub freed: Vec<ClustersToFreeEntry>,
 }
 
-// What one edit did to references: the host cluster that gained one, and those that lost one.
-#[derive(Clone, Copy)]
-struct Change {
-    gained: Option<HostCluster>,
-    freed: Option<ClustersToFreeEntry>,
+/// What one edit did to references.
+#[derive(Clone, Copy, Debug, PartialEq, Eq)]
+pub struct Change {
+    /// The host cluster that gained a reference.
+    pub gained: Option<HostCluster>,
+    /// The host clusters that lost one each.
+    pub freed: Option<ClustersToFreeEntry>,
 }
 
 impl Edit {
@@ -73,8 +75,9 @@ impl Edit {
         }
     }
 
-    // Makes the edit, which fits the table.
-    fn make(&self, table: &mut L2Table) -> Change
+    /// Makes the edit, which fits the table, and returns what it did to references. Takes no memory. The
+    /// table then counts as modified.
+    pub fn make(&self, table: &mut L2Table) -> Change
         requires { edit_fits table.old self.now ≡ true }
         ensures { Makes (table_edit self.now) result table.old table.new }
     {

@@ -6,6 +6,6 @@ pub mod laws;
 mod settled;
 mod steps;
 
-pub use edits::{Edit, Outcome, edit_table, edits_fit};
+pub use edits::{Change, Edit, Outcome, edit_table, edits_fit};
 pub use settled::{edit_settled, settle};
 pub use steps::{Step, StepReply, step_block};

@@ -27,7 +27,7 @@ both one other = record {
 }
 
 -- how many clusters of runs are of a kind, with a finding in front
-kind-joined : (is_kind : Finding → Bool) → ((finding : Finding) → is_kind (further finding 1) ≡ is_kind finding)
+pub kind-joined : (is_kind : Finding → Bool) → ((finding : Finding) → is_kind (further finding 1) ≡ is_kind finding)
     → (finding : Finding) (runs : List FindingRun)
     → sum_by (clusters_of is_kind) (joined_before finding runs) ≡ clusters_of is_kind (single finding) + sum_by (clusters_of is_kind) runs
 kind-joined is_kind same finding [] = sum_by-cons (clusters_of is_kind) (single finding) []

@@ -9,6 +9,7 @@ pub mod EditedEntryLemmas
 pub mod EditedImageLemmas
 pub mod EditedReadsLemmas
 pub mod EditedTableLemmas
+pub mod HarmLemmas
 pub mod HexLemmas
 pub mod ListingLemmas
 pub mod MapLemmas

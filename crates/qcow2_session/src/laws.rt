@@ -8,16 +8,18 @@ ghost use Rattle.qcow2_base.specs.Storage.{Image};
 ghost use Rattle.qcow2_metadata.specs.Entries.L2Mapping.{Mapping};
 ghost use Rattle.qcow2_metadata.specs.Header.{HeaderRecord, IsValidHeader, geometry_of};
 ghost use Rattle.qcow2_metadata.specs.Header.Grammar.{header_of};
+ghost use Rattle.qcow2_metadata.specs.Header.Open.{without_autoclear};
 ghost use Rattle.qcow2_metadata.specs.Results.{result_map};
-ghost use Rattle.qcow2_check.specs.Findings.{AreRight};
+ghost use Rattle.qcow2_check.specs.Findings.{AreRight, checked_tables};
 ghost use Rattle.qcow2_check.specs.Uses.{ImageTables};
-ghost use Rattle.qcow2_apply.specs.Apply.{AreAllApart, FollowsPlan, l2_tables_of, plan_tables, tables_by};
+ghost use Rattle.qcow2_apply.specs.Apply.{AreAllApart, EditsDisk, FollowsPlan, l2_tables_of, plan_tables, tables_by};
 ghost use Rattle.qcow2_apply.specs.Passes.{ArePlacesApart};
 ghost use Rattle.qcow2_apply.specs.Plan.{IsPlanFor, IsPlanOf};
+ghost use Rattle.qcow2_apply.specs.declared.changed_clusters.ChangedClusters.{ChangedClusters};
 ghost use Rattle.qcow2_apply.specs.declared.guest_edits.GuestEdit.{GuestEdit};
 ghost use Rattle.qcow2_apply.specs.declared.plan.Plan.{Plan};
 ghost use Rattle.qcow2_image.specs.Lookups.{guest_mapping, image_mapping, mapping_in};
-ghost use Rattle.qcow2_session.specs.Commands.Check.{report_on};
+ghost use Rattle.qcow2_session.specs.Commands.Check.{FindsNoHarm, report_on};
 ghost use Rattle.qcow2_session.specs.EditedDisk.{covers, mapping_after, mapping_left};
 ghost use Rattle.qcow2_session.specs.declared.commands.verdict.Verdict.TheVariants.{Fine};
 
@@ -33,6 +35,17 @@ pub use qcow2_image::laws::{
 pub fn all_is_right_where_the_verdict_is_fine()
     ensures { (tables : ImageTables) (image : Image) → (report_on tables image).verdict ≡ Fine →
         AreRight tables image 0 max_file_length }
+{}
+
+/// Where a check of an image ends with a verdict that isn't `Harmful`, and no two L1 entries name one L2
+/// table, it does so after edits of the disk were made, with the header that they leave. So a check can read
+/// all tables still, and what it finds then is leaked clusters and late flags at most.
+pub fn edits_of_a_disk_leave_no_harm_where_there_was_none()
+    ensures { (header left : HeaderRecord) (edits : List GuestEdit) (clusters : ChangedClusters)
+        (old new : Image) (tables : ImageTables) → IsValidHeader header →
+        EditsDisk header left edits (Ok clusters) old new →
+        checked_tables header old ≡ Ok tables → ArePlacesApart (l2_tables_of tables) →
+        FindsNoHarm header old → FindsNoHarm (without_autoclear header) new }
 {}
 
 /// Where edits of a disk were made in an image whose tables and blocks are apart, each guest offset that no

@@ -8,6 +8,7 @@ ghost use Rattle.qcow2_edits.specs.Edits.{cluster_numbers};
 ghost use Rattle.qcow2_metadata.specs.Entries.{is_among};
 ghost use Rattle.qcow2_metadata.specs.Table.L2Guards.{handed_back, one_if, times_gained};
 ghost use Rattle.qcow2_edits.specs.Settled.{is_between};
+ghost use Rattle.qcow2_apply.specs.ChangedClusters.{AppendsInOrder};
 ghost use Rattle.qcow2_apply.specs.Changes.{AddsChanges, EndsLate, HasNone, IsOutcomeOf, PutsOutcome, SomeEndsLate, TakesOutcome};
 
 use super::Changes;
@@ -24,6 +25,7 @@ pub(crate) fn push_clusters(
 ) -> Result<(), Fault>
     ensures pushed { OnOk result ((c : ℕ) → handed_back list.new.items c
         ≡ handed_back list.old.items c + one_if (is_among clusters c)) }
+    ensures order { OnOk result (AppendsInOrder clusters list.old.items list.new.items) }
     ensures fault { IsOkUnless result NoMemory }
 {
     if let Some(last) = list.last_mut() {

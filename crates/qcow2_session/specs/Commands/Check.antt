@@ -4,7 +4,7 @@ pub mod Json
 pub mod Lines
 pub mod Runs
 pub mod Totals
-use Rattle.std.specs.Prelude.{◌≡◌, ◌⊎◌, Bool, false, true, ℕ, if◌then◌else◌, List, [], ◌∷◌, ◌++◌, flat_map, Option, Some, None, Result, Ok, Err, IfErr, IfOk, IsErrOf, IsOkAnd, MatchResult, OnOk, bytes_eq, codes}
+use Rattle.std.specs.Prelude.{◌≡◌, ◌≢◌, ◌⊎◌, Bool, false, true, ℕ, if◌then◌else◌, List, [], ◌∷◌, ◌++◌, flat_map, Option, Some, None, Result, Ok, Err, IfErr, IfOk, IsErrOf, IsOkAnd, MatchResult, OnOk, bytes_eq, codes}
 use Rattle.qcow2_base.specs.Storage.{Image, OnImage, ReadsFor, StorageState}
 use Rattle.qcow2_base.specs.declared.fault.Fault.{Fault}
 use Rattle.qcow2_base.specs.declared.fault.Fault.TheVariants.{Storage}
@@ -26,6 +26,7 @@ use Rattle.qcow2_session.specs.declared.commands.Command.TheVariants as command
 use Rattle.qcow2_session.specs.declared.commands.check.CheckForm.{CheckForm}
 use Rattle.qcow2_session.specs.declared.commands.check.CheckForm.TheVariants as form
 use Rattle.qcow2_session.specs.declared.commands.verdict.Verdict.{Verdict}
+use Rattle.qcow2_session.specs.declared.commands.verdict.Verdict.TheVariants.{Harmful}
 
 -- what a check comes to: its lines, and the verdict
 pub record Report : Type 0 where
@@ -46,6 +47,10 @@ report_on tables image =
 -- the report on an image with this header, or why it can't be checked
 abbrev pub checked_report : HeaderRecord → Image → Result Report Fault
 checked_report header image = result_map (λ tables. report_on tables image) (checked_tables header image)
+
+-- an image with this header can be checked, and the verdict isn't `Harmful`
+abbrev pub FindsNoHarm : HeaderRecord → Image → Type 0
+FindsNoHarm header image = IsOkAnd (checked_report header image) (λ report. report.verdict ≢ Harmful)
 
 -- the lines of a report, none where there is no report
 abbrev pub lines_of : Result Report Fault → List ℕ

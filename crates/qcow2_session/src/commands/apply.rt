@@ -72,9 +72,9 @@ impl DiskEdit {
 /// Makes edits of the disk of an image with this header, or plans them, and prints what becomes of clusters:
 /// those that are free then, those that lost a reference and have others, and those that gained one.
 ///
-/// Returns the faults of `apply_edits`, before any line. All but 34 and 35 come before a byte changes, where
-/// no cluster is that of two tables or blocks, or the header's. A failed write to `out` is the storage fault:
-/// the edits are made by then.
+/// Returns the faults of `apply_edits`, before any line. 35 comes before a byte changes, and so do all but 34
+/// where no cluster is that of two tables or blocks, or the header's. A failed write to `out` is the storage
+/// fault: the edits are made by then.
 pub fn edit_disk<S: Storage, O: Write>(
     alloc: Global,
     image: &mut S,

@@ -166,8 +166,8 @@ fn after_flush(ran: Result<Verdict, Fault>, flushed: io::Result<()>) -> Result<V
 }
 
 /// Runs a command over an image, and prints to `out` what it finds. The image's header is loaded first,
-/// by who writes to the image for `edit` and `count`; `l2` doesn't look at it. `check IMAGE repair` loads it
-/// as one who reads, and makes it one for writing where the image can be repaired.
+/// by who writes to the image for `edit` and `count`; `l2` doesn't look at it. `apply` and `check IMAGE
+/// repair` load it as one who reads. They write to it where the edits or the repair can be made.
 ///
 /// Returns the fault of the header, or what the command's own function returns: `Fine` where that returns no
 /// verdict.

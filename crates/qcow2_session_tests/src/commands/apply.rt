@@ -47,6 +47,8 @@ const EXTERNAL: Numbers<'static> = counted! { (72, 4) };
 
 const FREED: &str = "freed 5 1\n";
 
+const STORAGE: &str = "qmeta: fault 34\n";
+
 const MADE: &[Run<'static>] = rows! {
     Run { line: "apply IMAGE discard:0x600", before: BOOKS, ended: Done(FREED), after: DISCARDED, ..RUN },
     Run { line: "apply IMAGE discard:1536:512", before: BOOKS, ended: Done(FREED), after: DISCARDED, ..RUN },
@@ -56,6 +58,10 @@ const MADE: &[Run<'static>] = rows! {
     Run { line: "apply IMAGE map:0:6", before: BOOKS, ended: Done("gained 6\n"), after: MAPPED, ..RUN },
     Run { line: "apply IMAGE map:0x0:0x6 discard:0x600", before: BOOKS, ended: Done("freed 5 1\ngained 6\n"),
         after: MAPPED_AND_DISCARDED, ..RUN },
+};
+
+// What stays, and outputs that fail.
+const KEPT_AND_FAILED: &[Run<'static>] = rows! {
     Run { line: "apply IMAGE discard:0x600", before: TWICE, ended: Done("kept 5 1\n"), after: ONCE, ..RUN },
     Run { line: "apply IMAGE discard:0", before: BOOKS, ended: Done(""), after: BOOKS, ..RUN },
     Run { line: "apply IMAGE discard:0x0000000000000600", before: AUTOCLEAR, ended: Done(FREED),
@@ -65,8 +71,6 @@ const MADE: &[Run<'static>] = rows! {
     Run { line: "apply IMAGE discard:0x600", before: BOOKS, out: Flush, ended: Failed("", STORAGE),
         after: DISCARDED, ..RUN },
 };
-
-const STORAGE: &str = "qmeta: fault 34\n";
 
 const PLANNED: &[Run<'static>] = rows! {
     Run { line: "apply IMAGE plan discard:0x600", before: BOOKS, ended: Done(FREED), after: BOOKS, ..RUN },
@@ -82,8 +86,8 @@ const BAD_EDIT: Ended<'static> = Failed("", "qmeta: fault 32\n");
 
 const NOT_PLACED: Ended<'static> = Failed("", "qmeta: fault 23\n");
 
-const REFUSED: &[Run<'static>] = rows! {
-    // edits that don't fit, and clusters that aren't free, or are past the file's end
+// Edits that don't fit, and clusters that aren't free, or are past the file's end.
+const UNFIT: &[Run<'static>] = rows! {
     Run { line: "apply IMAGE discard:0:0", before: BOOKS, ended: BAD_EDIT, after: BOOKS, ..RUN },
     Run { line: "apply IMAGE discard:1:512", before: BOOKS, ended: BAD_EDIT, after: BOOKS, ..RUN },
     Run { line: "apply IMAGE discard:0:511", before: BOOKS, ended: BAD_EDIT, after: BOOKS, ..RUN },
@@ -91,6 +95,9 @@ const REFUSED: &[Run<'static>] = rows! {
     Run { line: "apply IMAGE map:0:5", before: BOOKS, ended: BAD_EDIT, after: BOOKS, ..RUN },
     Run { line: "apply IMAGE map:0:7", before: BOOKS, ended: BAD_EDIT, after: BOOKS, ..RUN },
     Run { line: "apply IMAGE plan map:0:7", before: BOOKS, ended: BAD_EDIT, after: BOOKS, ..RUN },
+};
+
+const REFUSED: &[Run<'static>] = rows! {
     // a table that isn't there, belongs to a snapshot too, or is damaged
     Run { line: "apply IMAGE zero:0:512", before: NO_TABLE, ended: NOT_PLACED, after: NO_TABLE, ..RUN },
     Run { line: "apply IMAGE discard:0", before: NO_TABLE, ended: Done(""), after: NO_TABLE, ..RUN },
@@ -113,6 +120,13 @@ fn edits_of_a_disk_change_tables_and_counters(rt: HostRuntime) -> Result<(), Fai
 }
 
 #[test]
+fn edits_of_a_disk_print_what_is_kept_and_stay_where_the_output_fails(
+    rt: HostRuntime,
+) -> Result<(), Fail> {
+    check_runs(&rt, "kept", KEPT_AND_FAILED)
+}
+
+#[test]
 fn planned_edits_of_a_disk_change_nothing(rt: HostRuntime) -> Result<(), Fail> {
     check_runs(&rt, "planned", PLANNED)
 }
@@ -120,4 +134,9 @@ fn planned_edits_of_a_disk_change_nothing(rt: HostRuntime) -> Result<(), Fail> {
 #[test]
 fn edits_of_a_disk_that_are_refused_change_nothing(rt: HostRuntime) -> Result<(), Fail> {
     check_runs(&rt, "refused", REFUSED)
+}
+
+#[test]
+fn edits_of_a_disk_that_do_not_fit_change_nothing(rt: HostRuntime) -> Result<(), Fail> {
+    check_runs(&rt, "unfit", UNFIT)
 }

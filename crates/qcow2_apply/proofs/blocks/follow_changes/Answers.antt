@@ -1,4 +1,4 @@
-use Rattle.std.proofs.Common.{◌≡◌, ◌≤◌, IsTrue, length, refl, inl, inr, arith, rules}
+use Rattle.std.proofs.Common.{◌≡◌, ◌≤◌, IsTrue, length, refl, inl, inr, ◌∙◌, arith, rules}
 use Rattle.std.proofs.lemmas.Result.{err_from_is_err_and}
 use Rattle.qcow2_apply.proofs.BlocksLemmas.{counters-follow, counters-stop, names-below, stuck-before}
 use Rattle.qcow2_apply.proofs.PassesLemmas.{begins, breaks-later, keeps-twice, none-tears, passes-all, steps-next}
@@ -9,6 +9,7 @@ pub loop-index-init : goal.loop-index-init
 loop-index-init g c = record {
   passed = λ apart told. begins (blocks c.args.tables.now) (BlockFollows c.args.tables.now c.args.changes.now) (g.S.Storage.state c.args.image.now).byte_at;
   others = λ told o outside. refl;
+  block = c.requires.block;
   storage = search rules;
 }
 
@@ -22,6 +23,7 @@ loop-index-preserved g c = record {
       let known : IsTrue (g.S.Storage.state c.loop-index.image).tells = search rules in
       keeps-twice (blocks c.args.tables.now) (g.S.Storage.state c.args.image.now).byte_at (g.S.Storage.state c.loop-index.image).byte_at
       (g.S.Storage.state c.follow_at.new.image).byte_at (c.loop-index.invariant.others told) (c.in_ok-follow_at.ensures.others known);
+  block = c.follow_at.ensures.block ∙ c.loop-index.invariant.block;
   storage = search rules;
 }
 
@@ -37,7 +39,7 @@ pub returns-in_err-follow_at-clause-fault : goal.returns-in_err-follow_at-clause
 returns-in_err-follow_at-clause-fault g c =
     let exit = err_from_is_err_and c.from_residual.result c.from_residual.ensures.1 in
     rw (exit.1, exit.2) (elim c.in_err-follow_at.ensures.fault [
-      | inl outside ↦ inl outside
+      | inl failed ↦ inl failed
       | inr stuck ↦ inr (
         stuck.0,
         λ apart told.

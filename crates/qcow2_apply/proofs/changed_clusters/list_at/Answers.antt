@@ -1,11 +1,13 @@
-use Rattle.std.proofs.Common.{◌≡◌, ◌*◌, ap, IsTrue, length, subst, arith, inr, inl, rules}
+use Rattle.std.proofs.Common.{◌≡◌, ◌+◌, ◌*◌, ap, IsTrue, length, subst, arith, inr, inl, rules}
 use Rattle.std.proofs.lemmas.Result.{err_from_is_err_and}
 use Rattle.qcow2_apply.proofs.BlocksLemmas.{place-at}
-use Rattle.qcow2_apply.proofs.ChangedClustersLemmas.{lists-block}
+use Rattle.qcow2_apply.proofs.ChangedClustersLemmas.{lists-block, reads-no-more}
+use Rattle.qcow2_apply.proofs.OrderLemmas.{end-later, index-after, index-later}
 use Rattle.qcow2_apply.proofs.PlannedChangesLemmas.{block-fits, gains-stuck, losses-stuck}
 use Rattle.qcow2_apply.proofs.PlannedTablesLemmas.{on-ok}
+use Rattle.qcow2_check.proofs.FindingsLemmas.{reads_twice}
 use Rattle.qcow2_check.specs.Counters.{counters_each}
-use Rattle.qcow2_apply.specs.ChangedClusters.{ListsCounters}
+use Rattle.qcow2_apply.specs.ChangedClusters.{ListsCounters, StayInOrder}
 use Rattle.qcow2_apply.specs.Blocks.{BlockFollows, BlockIsStuck, block_numbers}
 use Rattle.qcow2_apply.proofs.changed_clusters.list_at.Goals as goal
 
@@ -96,3 +98,27 @@ returns-clause-listed g c = on-ok c.list_block.result _ _ (λ lists told.
     c.list_block.new.clusters c.requires.sorted (search rules) loaded risen mid (search rules) (search rules)
     (subst (λ n. ListsCounters n (length c.in_ok-before.before.numbers) c.in_ok-before.before.numbers c.in_ok-risen.risen.numbers
     c.follow_if_changed.new.block.numbers c.args.clusters.now c.list_block.new.clusters) first_is lists)) c.list_block.ensures.listed
+
+pub returns-then-is_none-2-clause-order : goal.returns-then-is_none-2-clause-order
+returns-then-is_none-2-clause-order g c = end-later _ _ c.args.clusters.now (index-later c.args.index (counters_each c.args.tables.now.header))
+
+pub returns-in_default-clause-order : goal.returns-in_default-clause-order
+returns-in_default-clause-order g c = end-later _ _ c.args.clusters.now (index-later c.args.index (counters_each c.args.tables.now.header))
+
+pub returns-clause-order : goal.returns-clause-order
+returns-clause-order g c = on-ok c.list_block.result _ _ (λ order.
+    let n = counters_each c.args.tables.now.header in
+    let first_is : c.args.index * c.rb_entries.result ≡ c.args.index * n = ap (λ n. c.args.index * n) (search rules) in
+    let count_is : length c.in_ok-before.before.numbers ≡ n = search rules in
+    let end_is : c.args.index * c.rb_entries.result + length c.in_ok-before.before.numbers ≡ (c.args.index + 1) * n = index-after c.args.index n _ _ first_is count_is in
+    subst (λ first. StayInOrder first ((c.args.index + 1) * n) c.args.clusters.now c.list_block.new.clusters) first_is
+    (subst (λ end. StayInOrder (c.args.index * c.rb_entries.result) end c.args.clusters.now c.list_block.new.clusters) end_is order)) c.list_block.ensures.order
+
+pub returns-clause-storage : goal.returns-clause-storage
+returns-clause-storage g c =
+    let first = g.S.Storage.state c.args.image.now in
+    let last = g.S.Storage.state c.load_followed-2.new.image in
+    let twice = reads_twice c.in_ok-before.before c.in_ok-risen.risen c.in_ok-risen.risen first (g.S.Storage.state c.load.new.image) (g.S.Storage.state c.load_followed.new.image)
+    (search rules) (search rules) in
+    let thrice = reads_twice c.in_ok-risen.risen c.in_ok-after.after c.in_ok-after.after first (g.S.Storage.state c.load_followed.new.image) last twice (search rules) in
+    reads-no-more c.in_ok-after.after c.list_block.result first last thrice c.list_block.ensures.fault

@@ -10,8 +10,12 @@ loop-index-init g c = record {
   passed = λ apart told. begins (l2_tables c.args.header.now c.args.l1_table.now.numbers) (IsEdited c.args.header.now c.args.edits.now) (g.S.Storage.state c.args.image.now).byte_at;
   loaded = λ apart told i fault below fails. absurd (omega (arith, below));
   others = λ told o outside. refl;
+  table = c.requires.tables.1;
   storage = search rules;
 }
+
+pub edit_at-requires-clause-tables : goal.edit_at-requires-clause-tables
+edit_at-requires-clause-tables g c = (c.requires.tables.0, c.loop-index.invariant.table)
 
 pub loop-index-preserved : goal.loop-index-preserved
 loop-index-preserved g c = record {
@@ -22,11 +26,12 @@ loop-index-preserved g c = record {
   loaded = λ apart told.
       let known : IsTrue (g.S.Storage.state c.loop-index.image).tells = search rules in
       none-fails-next c.args.header.now c.args.l1_table.now.numbers c.args.edits.now c.loop-index.index (g.S.Storage.state c.args.image.now).byte_at
-      (g.S.Storage.state c.loop-index.image).byte_at (c.loop-index.invariant.passed apart told) (c.loop-index.invariant.loaded apart told) (c.in_ok-edit_at.ensures.loaded known);
+      (g.S.Storage.state c.loop-index.image).byte_at (c.loop-index.invariant.passed apart told) (c.loop-index.invariant.loaded apart told) (c.in_ok-edit_at.ensures.loaded.loads known);
   others = λ told.
       let known : IsTrue (g.S.Storage.state c.loop-index.image).tells = search rules in
       keeps-twice (l2_tables c.args.header.now c.args.l1_table.now.numbers) (g.S.Storage.state c.args.image.now).byte_at (g.S.Storage.state c.loop-index.image).byte_at
       (g.S.Storage.state c.edit_at.new.image).byte_at (c.loop-index.invariant.others told) (c.in_ok-edit_at.ensures.others known);
+  table = c.edit_at.ensures.table;
   storage = search rules;
 }
 
@@ -42,11 +47,11 @@ pub returns-in_err-edit_at-clause-fault : goal.returns-in_err-edit_at-clause-fau
 returns-in_err-edit_at-clause-fault g c =
     let exit = err_from_is_err_and c.from_residual.result c.from_residual.ensures.1 in
     rw (exit.1, exit.2) (
-      c.in_err-edit_at.ensures.fault.0,
+      c.in_err-edit_at.ensures.loaded.fault.0,
       λ apart told.
           let known : IsTrue (g.S.Storage.state c.loop-index.image).tells = search rules in
-          elim (c.in_err-edit_at.ensures.fault.1 known) [
-            | inl outside ↦ inl outside
+          elim (c.in_err-edit_at.ensures.loaded.fault.1 known) [
+            | inl failed ↦ inl failed
             | inr fails ↦ inr (fails-first c.args.header.now c.args.l1_table.now.numbers c.args.edits.now c.loop-index.index c.in_err-edit_at.field-0.0 (g.S.Storage.state c.args.image.now).byte_at
                 (g.S.Storage.state c.loop-index.image).byte_at (c.loop-index.invariant.passed apart told) (c.loop-index.invariant.loaded apart told) fails)
           ],

@@ -2,7 +2,7 @@ use Rattle.std.proofs.Common.{◌≤◌, IsTrue, inl, inr, rules}
 use Rattle.std.proofs.lemmas.Result.{err_from_is_err_and}
 use Rattle.qcow2_base.specs.Types.{IsClusterBits}
 use Rattle.qcow2_check.specs.Uses.{image_tables}
-use Rattle.qcow2_apply.proofs.ApplyLemmas.{breaks-in-tables, count-cleared, counters-cleared, counters-stay, ends-applying, from-outside, gains-count, losses-count, stuck-where-apart, tables-load}
+use Rattle.qcow2_apply.proofs.ApplyLemmas.{breaks-in-tables, count-cleared, counters-cleared, counters-stay, ends-applying, storage-alone, gains-count, losses-count, stuck-where-apart, tables-load}
 use Rattle.qcow2_apply.specs.Apply.{CanBeMade}
 use Rattle.qcow2_apply.specs.Blocks.{SomeIsStuck, blocks}
 use Rattle.qcow2_apply.specs.Passes.{ArePlacesApart}
@@ -19,7 +19,7 @@ returns-in_err-follow_changes-clause-fault g c = λ apart.
     let bits : IsClusterBits c.args.header.now.v2.cluster_bits = search rules in
     let orders : c.args.header.now.base.refcount_order ≤ 6 = search rules in
     rw (exit.1, exit.2) (λ told first can cleared. elim c.in_err-follow_changes.ensures.fault [
-      | inl outside ↦ outside
+      | inl failed ↦ failed
       | inr stuck ↦ absurd (gains-count state plan.gains plan.losses bytes orders (g.met.S.Storage.byte_fits c.args.image.now) c.requires.plan.changes
           (count-cleared state plan.gains plan.losses first bytes (counters-cleared tables first bytes bits orders apart cleared) can.counters_count)
           (stuck.1 apart.blocks_apart told))
@@ -47,7 +47,7 @@ returns-in_err-edit_tables-clause-fault g c = λ apart.
     rw (exit.1, exit.2) (λ told first can cleared.
     let known : IsTrue counted.tells = search rules in
     elim (c.in_err-edit_tables.ensures.fault.1 apart.tables_apart known) [
-      | inl outside ↦ outside
+      | inl failed ↦ failed
       | inr fails ↦ absurd (tables-load c.args.edits.now tables plan.gains c.in_err-edit_tables.field-0.0 first bytes counted.byte_at bits apart
           can.tables_allow cleared (c.in_ok-follow_changes.ensures.followed apart.blocks_apart told) fails)
     ])
@@ -74,7 +74,7 @@ returns-clause-fault g c = λ apart.
     let edited = g.S.Storage.state c.edit_tables.new.image in
     let bits : IsClusterBits c.args.header.now.v2.cluster_bits = search rules in
     let orders : c.args.header.now.base.refcount_order ≤ 6 = search rules in
-    from-outside c.follow_changes-2.result before edited (SomeIsStuck state plan.losses) (CanBeMade tables c.args.edits.now plan.gains plan.losses) (search rules)
+    storage-alone c.follow_changes-2.result before edited (SomeIsStuck state plan.losses) (CanBeMade tables c.args.edits.now plan.gains plan.losses) (search rules)
     (λ told stuck first can cleared.
     let listed : IsTrue counted.tells = search rules in
     losses-count state plan.gains plan.losses before.byte_at counted.byte_at edited.byte_at orders (g.met.S.Storage.byte_fits c.edit_tables.new.image)
