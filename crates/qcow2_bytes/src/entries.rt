@@ -1,0 +1,177 @@
+//! What numbers in L1 and L2 tables say, by the fields of a header.
+
+ghost use Rattle.std.specs.Prelude.{◌≡◌, ℕ, ◌*◌, ◌%◌, ◌^◌, IsOkAnd, MatchResult, Err, length};
+ghost use Rattle.qcow2_base.specs.Types.{IsClusterBits};
+ghost use Rattle.qcow2_metadata.specs.Entries.{is_copied, offset_field};
+ghost use Rattle.qcow2_metadata.specs.Entries.L2Entry.{compressed_length, compressed_offset, is_zero, l2_fault};
+ghost use Rattle.qcow2_metadata.specs.Entries.L2Mapping as spec;
+ghost use Rattle.qcow2_metadata.specs.Header.{geometry};
+ghost use Rattle.qcow2_bytes.specs.Entries.{IsFirstBad, l1_entry_in, l2_entry_in, mapping_fields, table_geometry};
+
+use crate::HeaderFields;
+use qcow2_base::{Fault, HostOffset, MAX_FILE_LENGTH, field, read_be};
+
+/// Where an L2 table lies, by an L1 entry.
+#[derive(Clone, Copy, Debug, PartialEq, Eq)]
+pub struct L2Pointer {
+    /// Where the L2 table begins, in bytes of the image. 0 where there is none.
+    pub offset: u64,
+    /// Whether the refcount of the table's cluster is exactly one.
+    pub copied: bool,
+}
+
+/// What a guest cluster reads as, in plain numbers.
+#[repr(C)]
+#[derive(Clone, Copy, Debug, PartialEq, Eq)]
+pub struct EntryMapping {
+    /// 0: data of the backing file. 1: data. 2: zeros. 3: zeros that keep a cluster. 4: compressed data.
+    pub kind: u32,
+    /// 1 where the refcount of the cluster is exactly one, so that it may be written in place; else 0.
+    pub copied: u32,
+    /// Where the data, or the cluster that is kept, begins. For kind 0 in the backing file, for 4 in the
+    /// image, else in the data file. 0 for kind 2.
+    pub offset: u64,
+    /// How many bytes lie there: a cluster; for kind 4 at most how many the data takes; 0 for kind 2.
+    pub length: u64,
+}
+
+/// A number in a table that is no entry: its place in the table, and why.
+#[derive(Clone, Copy, Debug, PartialEq, Eq)]
+pub struct BadEntry {
+    pub index: usize,
+    pub fault: Fault,
+}
+
+/// What a number in an L1 table says.
+///
+/// Refuses fields that no header has (3, 17), and what `L1Entry::try_from_plain` refuses (18, 19). Takes no
+/// memory.
+#[inline]
+pub fn l1_entry(entry: u64, fields: &HeaderFields) -> Result<L2Pointer, Fault>
+    ensures { result ≡ l1_entry_in fields.now entry }
+{
+    let (cluster_bits, _) = fields.geometry()?;
+    if field(entry, 0, 9) + (field(entry, 56, 7) << 56) != 0 {
+        return Err(Fault::EntryReserved);
+    }
+    let offset = field(entry, 9, 47) * 512;
+    if HostOffset(offset).in_cluster_offset(cluster_bits) != 0 {
+        return Err(Fault::EntryUnaligned);
+    }
+    Ok(L2Pointer {
+        offset,
+        copied: field(entry, 63, 1) == 1,
+    })
+}
+
+/// What the cluster of a guest offset reads as, by its number in an L2 table.
+///
+/// Refuses fields that no header has (3, 17), and what `L2Entry::try_from_plain` refuses (18, 19). Takes no
+/// memory.
+#[inline]
+pub fn l2_entry(entry: u64, fields: &HeaderFields, guest_offset: u64) -> Result<EntryMapping, Fault>
+    ensures { result ≡ l2_entry_in fields.now entry guest_offset }
+{
+    let (cluster_bits, external) = fields.geometry()?;
+    if let Some(fault) = l2_fault_of(entry, cluster_bits) {
+        return Err(fault);
+    }
+    if field(entry, 62, 1) == 1 {
+        return Ok(compressed_mapping(entry, cluster_bits));
+    }
+    let guest_begin = guest_offset >> cluster_bits << cluster_bits;
+    Ok(standard_mapping(entry, cluster_bits, external, guest_begin))
+}
+
+// Why a number is no L2 entry, if it is none.
+#[inline]
+fn l2_fault_of(entry: u64, cluster_bits: u32) -> Option<Fault>
+    requires { IsClusterBits cluster_bits }
+    ensures { result ≡ l2_fault cluster_bits entry }
+{
+    if field(entry, 62, 1) == 1 {
+        let is_lawful = field(entry, 63, 1) == 0
+            && field(entry, 0, 70 - cluster_bits) < MAX_FILE_LENGTH;
+        return (!is_lawful).then_some(Fault::EntryReserved);
+    }
+    if field(entry, 1, 8) != 0 || field(entry, 56, 6) != 0 {
+        return Some(Fault::EntryReserved);
+    }
+    let offset = HostOffset(field(entry, 9, 47) * 512);
+    (offset.in_cluster_offset(cluster_bits) != 0).then_some(Fault::EntryUnaligned)
+}
+
+// What a compressed entry says.
+#[inline]
+fn compressed_mapping(entry: u64, cluster_bits: u32) -> EntryMapping
+    requires { IsClusterBits cluster_bits }
+    ensures { result ≡ mapping_fields cluster_bits (spec.compressed (compressed_offset cluster_bits entry)
+        (compressed_length cluster_bits entry)) }
+{
+    let offset_bits = 70 - cluster_bits;
+    let offset = field(entry, 0, offset_bits) % MAX_FILE_LENGTH;
+    let sectors = field(entry, offset_bits, cluster_bits - 8) + 1;
+    EntryMapping {
+        kind: 4,
+        copied: 0,
+        offset,
+        length: sectors * 512 - offset % 512,
+    }
+}
+
+// What a standard entry says of a guest cluster that begins at an offset.
+#[inline]
+fn standard_mapping(entry: u64, cluster_bits: u32, external: bool, guest_begin: u64) -> EntryMapping
+    requires bits { IsClusterBits cluster_bits }
+    requires aligned { offset_field entry % 2 ^ cluster_bits ≡ 0 }
+    ensures { (guest_cluster : ℕ) → guest_begin ≡ guest_cluster * 2 ^ cluster_bits →
+        result ≡ mapping_fields cluster_bits (spec.standard_mapping (is_zero entry)
+        (spec.host_cluster (geometry cluster_bits external) entry) (is_copied entry) guest_begin) }
+{
+    let copied = field(entry, 63, 1) as u32;
+    let offset = field(entry, 9, 47) * 512;
+    let is_zero = field(entry, 0, 1) == 1;
+    let is_allocated = offset != 0 || external && copied == 1;
+    let (kind, copied, offset, length) = match (is_zero, is_allocated) {
+        (false, false) => (0, 0, guest_begin, 1 << cluster_bits),
+        (false, true) => (1, copied, offset, 1 << cluster_bits),
+        (true, false) => (2, 0, 0, 0),
+        (true, true) => (3, copied, offset, 1 << cluster_bits),
+    };
+    EntryMapping {
+        kind,
+        copied,
+        offset,
+        length,
+    }
+}
+
+/// The first number in the bytes of an L2 table, or of a part of one, that is no entry, if there is one.
+///
+/// Refuses fields that no header has (3, 17), and bytes that aren't whole entries of eight bytes (31).
+/// Takes no memory.
+pub fn first_bad_l2_entry(bytes: &[u8], fields: &HeaderFields) -> Result<Option<BadEntry>, Fault>
+    ensures { MatchResult result (λ found. IsOkAnd (table_geometry fields.now bytes.now) (λ g.
+        IsFirstBad g.cluster_bits bytes.now found))
+        (λ fault. table_geometry fields.now bytes.now ≡ Err fault) }
+{
+    let (cluster_bits, _) = fields.geometry()?;
+    if bytes.len() % 8 != 0 {
+        return Err(Fault::WrongLength);
+    }
+    Ok(first_bad(bytes, cluster_bits))
+}
+
+// The first number in the bytes that is no L2 entry.
+fn first_bad(bytes: &[u8], cluster_bits: u32) -> Option<BadEntry>
+    requires bits { IsClusterBits cluster_bits }
+    requires whole { length bytes.now % 8 ≡ 0 }
+    ensures { IsFirstBad cluster_bits bytes.now result }
+{
+    for index in 0..bytes.len() / 8 {
+        if let Some(fault) = l2_fault_of(read_be(bytes, 8 * index), cluster_bits) {
+            return Some(BadEntry { index, fault });
+        }
+    }
+    None
+}

@@ -1,0 +1,220 @@
+//! What the first cluster of an image says.
+
+ghost use Rattle.std.specs.Prelude.{◌≡◌, ◌≢◌, ◌⊎◌, ◌^◌, ◌≤◌, IfOk, Ok, OnOk, length};
+ghost use Rattle.qcow2_base.specs.Storage.{image_of};
+ghost use Rattle.qcow2_base.specs.Types.{IsClusterBits};
+ghost use Rattle.qcow2_base.specs.declared.fault.Fault.TheVariants.{NoMemory, Storage as StorageFailed};
+ghost use Rattle.qcow2_metadata.specs.Header.{HeaderRecord, geometry};
+ghost use Rattle.qcow2_metadata.specs.Header.Grammar.{IsBase, IsHeader, header_of, version_conditions};
+ghost use Rattle.qcow2_metadata.specs.Results.{Computes, after_conditions, result_map};
+ghost use Rattle.qcow2_bytes.specs.Header.{ReadsHeader, SaysHeader, first_cluster_size};
+
+use qcow2_base::{
+    EXTERNAL_DATA_FILE_BIT, Fault, MAGIC, SliceStorage, V2Header, V3HeaderBase, field, read_be,
+};
+use qcow2_metadata::{Header, HeaderExtensionType};
+use std::alloc::Global;
+
+mod names;
+
+use names::{backing_name, extension_name};
+
+/// How many bytes the fixed parts of a header have.
+const FIXED_BYTES: usize = 104;
+
+/// Where a name lies in the bytes of a first cluster. Both numbers are 0 where there is none.
+#[repr(C)]
+#[derive(Clone, Copy, Debug, PartialEq, Eq)]
+pub struct NameRange {
+    /// Where the name begins, in bytes.
+    pub offset: u32,
+    /// How many bytes it has.
+    pub length: u32,
+}
+
+/// What a header says, in plain numbers.
+#[repr(C)]
+#[derive(Clone, Copy, Debug, PartialEq, Eq)]
+pub struct HeaderFields {
+    /// 2 or 3.
+    pub version: u32,
+    /// A cluster has `2^cluster_bits` bytes.
+    pub cluster_bits: u32,
+    /// A refcount has `2^refcount_order` bits.
+    pub refcount_order: u32,
+    /// The kind of encryption, 0 for none.
+    pub crypt_method: u32,
+    /// The size of the guest's disk, in bytes.
+    pub size: u64,
+    /// Where the L1 table begins.
+    pub l1_offset: u64,
+    /// Where the refcount table begins.
+    pub reftable_offset: u64,
+    /// How many entries the L1 table has.
+    pub l1_entries: u32,
+    /// How many clusters the refcount table takes.
+    pub reftable_clusters: u32,
+    /// Bit 2 says that guest data lies in an external data file.
+    pub incompatible_features: u64,
+    /// Features that may be left aside.
+    pub compatible_features: u64,
+    /// Features to be cleared by who writes to the image without knowing them.
+    pub autoclear_features: u64,
+    /// Where the table of snapshots begins.
+    pub snapshots_offset: u64,
+    /// How many snapshots the image has.
+    pub snapshots: u32,
+    /// The backing file's name.
+    pub backing_name: NameRange,
+    /// The format of the backing file.
+    pub backing_format: NameRange,
+    /// The name of the external data file.
+    pub data_file: NameRange,
+}
+
+/// How many bytes the first cluster of an image has, by its first 104 bytes: as many as `read_header` needs.
+///
+/// Refuses fewer bytes (31), what is no qcow2 image (1), other versions than 2 and 3 (2), and cluster sizes
+/// that no image has (3). Takes no memory.
+#[tactic(auto, using(crate::proofs::HeaderLemmas::cluster_sizes))]
+pub fn header_bytes(first_bytes: &[u8]) -> Result<usize, Fault>
+    ensures value { result ≡ first_cluster_size first_bytes.now }
+    ensures bound { IfOk result (λ size. (512 ≤ size) × (size ≤ 2 ^ 21)) }
+{
+    if first_bytes.len() < FIXED_BYTES {
+        return Err(Fault::WrongLength);
+    }
+    let v2: V2Header = read_be(first_bytes, 0);
+    check_version(&v2)?;
+    Ok(1 << v2.cluster_bits)
+}
+
+// Refuses an image that isn't qcow2, and cluster sizes that no image has.
+fn check_version(v2: &V2Header) -> Result<(), Fault>
+    ensures exact { result ≡ after_conditions (version_conditions v2.now) (λ _. Ok tt) }
+    ensures cluster_bits { OnOk result (IsClusterBits v2.now.cluster_bits) }
+{
+    if v2.magic != MAGIC {
+        return Err(Fault::NotQcow2);
+    }
+    if v2.version != 2 && v2.version != 3 {
+        return Err(Fault::Version);
+    }
+    if !(9..=21).contains(&v2.cluster_bits) {
+        return Err(Fault::ClusterSize);
+    }
+    Ok(())
+}
+
+/// What the header of an image says, by the bytes of its first cluster; more bytes may follow. Accepts what
+/// `Header::load` accepts of an image that begins with them.
+///
+/// Refuses what `header_bytes` refuses, then fewer bytes than the cluster has (31), then a header by the
+/// fault of the first condition of the format that it fails: 1 to 17.
+pub fn read_header(alloc: Global, bytes: &[u8]) -> Result<HeaderFields, Fault>
+    ensures { ReadsHeader bytes.now result }
+{
+    let size = header_bytes(bytes)?;
+    if bytes.len() < size {
+        return Err(Fault::WrongLength);
+    }
+    load_header(alloc, bytes)?;
+    Ok(fields_of(bytes, size))
+}
+
+// The header of an image that has these bytes.
+fn load_header(alloc: Global, bytes: &[u8]) -> Result<Header, Fault>
+    ensures { Computes (λ header. header) result (header_of (image_of bytes.now)) }
+{
+    let mut image = SliceStorage::new(bytes, 0);
+    match Header::load(alloc, &mut image, false) {
+        Ok(header) => Ok(header),
+        Err(fault) => Err(without_storage_fault(fault)),
+    }
+}
+
+// The fault of a load, whose clauses don't say that no read of a slice fails.
+fn without_storage_fault(fault: Fault) -> Fault
+    ensures { (result ≡ NoMemory) ⊎ ((result ≡ fault) × (fault ≢ StorageFailed)) }
+{
+    match fault {
+        Fault::Storage => Fault::NoMemory,
+        _ => fault,
+    }
+}
+
+// The fields of the header that the bytes begin with.
+fn fields_of(bytes: &[u8], cluster_size: usize) -> HeaderFields
+    requires whole { cluster_size ≤ length bytes.now }
+    requires size { (512 ≤ cluster_size) × (cluster_size ≤ 2 ^ 21) }
+    ensures { (header : HeaderRecord) → IsHeader (image_of bytes.now) header →
+        cluster_size ≡ 2 ^ header.v2.cluster_bits → SaysHeader (image_of bytes.now) header result }
+{
+    let v2: V2Header = read_be(bytes, 0);
+    let base = read_base(bytes, v2.version);
+    HeaderFields {
+        version: v2.version,
+        cluster_bits: v2.cluster_bits,
+        refcount_order: base.refcount_order,
+        crypt_method: v2.crypt_method,
+        size: v2.size,
+        l1_offset: v2.l1_table_offset,
+        reftable_offset: v2.refcount_table_offset,
+        l1_entries: v2.l1_size,
+        reftable_clusters: v2.refcount_table_clusters,
+        incompatible_features: base.incompatible_features,
+        compatible_features: base.compatible_features,
+        autoclear_features: base.autoclear_features,
+        snapshots_offset: v2.snapshots_offset,
+        snapshots: v2.nb_snapshots,
+        backing_name: backing_name(&v2),
+        backing_format: extension_name(
+            bytes,
+            cluster_size,
+            &v2,
+            &base,
+            HeaderExtensionType::BackingFileFormat,
+        ),
+        data_file: extension_name(
+            bytes,
+            cluster_size,
+            &v2,
+            &base,
+            HeaderExtensionType::ExternalDataFileName,
+        ),
+    }
+}
+
+// The second part of a header of this version that the bytes begin with.
+fn read_base(bytes: &[u8], version: u32) -> V3HeaderBase
+    requires { 104 ≤ length bytes.now }
+    ensures { IsBase (image_of bytes.now) version result }
+{
+    if version == 3 {
+        read_be(bytes, 72)
+    } else {
+        V3HeaderBase::default()
+    }
+}
+
+impl HeaderFields {
+    ghost use Rattle.qcow2_bytes.specs.Header.{geometry_in};
+
+    // What the meaning of entries depends on: the cluster bits, and whether guest data lies in an external
+    // data file. Refuses fields that no header has.
+    #[inline]
+    pub(crate) fn geometry(&self) -> Result<(u32, bool), Fault>
+        ensures value { result_map (λ pair. geometry pair.0 pair.1) result ≡ geometry_in self.now }
+        ensures range { IfOk result (λ pair. IsClusterBits pair.0) }
+    {
+        if !(9..=21).contains(&self.cluster_bits) {
+            return Err(Fault::ClusterSize);
+        }
+        let external = field(self.incompatible_features, EXTERNAL_DATA_FILE_BIT, 1);
+        let unknown = self.incompatible_features - (external << EXTERNAL_DATA_FILE_BIT);
+        if unknown != 0 {
+            return Err(Fault::Incompatible(unknown));
+        }
+        Ok((self.cluster_bits, external == 1))
+    }
+}

@@ -1,0 +1,9 @@
+//! What bytes of an image mean, for callers that read an image by their own means: calls over bytes that the
+//! caller has, with no storage.
+#![tactic(auto)]
+
+mod entries;
+mod header;
+
+pub use entries::{BadEntry, EntryMapping, L2Pointer, first_bad_l2_entry, l1_entry, l2_entry};
+pub use header::{HeaderFields, NameRange, header_bytes, read_header};
