@@ -1,0 +1,36 @@
+-- What does a call from C return, and what does it leave in the places that it writes to?
+use Rattle.std.specs.Prelude.{◌≡◌, ℕ, List, Option, Some, None, Result, Ok, Err}
+use Rattle.qcow2_base.specs.Fault.{fault_number}
+use Rattle.qcow2_base.specs.declared.fault.Fault.{Fault}
+use Rattle.qcow2_bytes.specs.Entries.{IsFirstBad, flag_number, l1_entry_in, table_geometry}
+use Rattle.qcow2_bytes.specs.Header.{ReadsHeader}
+use Rattle.qcow2_bytes.specs.declared.entries.BadEntry.{BadEntry}
+use Rattle.qcow2_bytes.specs.declared.entries.L2Pointer.{L2Pointer}
+use Rattle.qcow2_bytes.specs.declared.header.HeaderFields.{HeaderFields}
+use Rattle.qcow2_metadata.specs.Results.{result_map}
+
+-- a call returns 0 and leaves the value, or the fault's number and what was there before
+abbrev pub HandsOver : {T : Type 0} → Result T Fault → ℕ → T → T → Type 0
+HandsOver (Ok value) status old new = (status ≡ 0) × (new ≡ value)
+HandsOver (Err fault) status old new = (status ≡ fault_number fault) × (new ≡ old)
+
+-- the same of an answer that reads the header of these bytes
+abbrev pub HandsOverHeader : List ℕ → ℕ → HeaderFields → HeaderFields → Type 0
+HandsOverHeader bytes status old new =
+    (answer : Result HeaderFields Fault) × ReadsHeader bytes answer × HandsOver answer status old new
+
+-- what a number in an L1 table says, as two numbers
+abbrev pub l1_numbers : HeaderFields → ℕ → Result (ℕ × ℕ) Fault
+l1_numbers fields entry = result_map (λ (pointer : L2Pointer). (pointer.offset, flag_number pointer.copied)) (l1_entry_in fields entry)
+
+-- a check returns 0 where all numbers are entries. Else it returns the first fault, and leaves where that is
+abbrev pub HandsOverBad : Option BadEntry → ℕ → ℕ → ℕ → Type 0
+HandsOverBad None status old new = (status ≡ 0) × (new ≡ old)
+HandsOverBad (Some bad) status old new = (status ≡ fault_number bad.fault) × (new ≡ bad.index)
+
+-- the same of the bytes of entries, which are looked at by a header's fields; or it is refused, and leaves what was there before
+abbrev pub ChecksEntries : HeaderFields → List ℕ → ℕ → ℕ → ℕ → Type 0
+ChecksEntries fields bytes status old new = elim (table_geometry fields bytes) [
+  | Ok g ↦ (found : Option BadEntry) × IsFirstBad g.cluster_bits bytes found × HandsOverBad found status old new
+  | Err fault ↦ (status ≡ fault_number fault) × (new ≡ old)
+]

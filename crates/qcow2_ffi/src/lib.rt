@@ -1,0 +1,96 @@
+//! Calls of the libraries for programs in C. `include/zaqulle.h` says what each does.
+//!
+//! A call returns 0, or the number of the fault that it refuses by.
+#![tactic(auto)]
+
+ghost use Rattle.qcow2_bytes.specs.Entries.{l2_entry_in};
+ghost use Rattle.qcow2_bytes.specs.Header.{first_cluster_size};
+ghost use Rattle.qcow2_ffi.specs.Calls.{ChecksEntries, HandsOver, HandsOverHeader, l1_numbers};
+
+use qcow2_bytes::{
+    EntryMapping, HeaderFields, first_bad_l2_entry, header_bytes, l1_entry, l2_entry, read_header,
+};
+use std::alloc::Global;
+
+/// How many bytes the first cluster of an image has, by its first 104 bytes.
+#[unsafe(no_mangle)]
+pub extern "C" fn zq_header_bytes(first_bytes: &[u8], size: &mut usize) -> u32
+    ensures { HandsOver (first_cluster_size first_bytes.now) result size.old size.new }
+{
+    match header_bytes(first_bytes) {
+        Ok(found) => {
+            *size = found;
+            0
+        }
+        Err(fault) => fault.number(),
+    }
+}
+
+/// What the header of an image says, by the bytes of its first cluster.
+#[unsafe(no_mangle)]
+pub extern "C" fn zq_header_read(alloc: Global, bytes: &[u8], header: &mut HeaderFields) -> u32
+    ensures { HandsOverHeader bytes.now result header.old header.new }
+{
+    match read_header(alloc, bytes) {
+        Ok(fields) => {
+            *header = fields;
+            0
+        }
+        Err(fault) => fault.number(),
+    }
+}
+
+/// What a number in an L1 table says.
+#[unsafe(no_mangle)]
+pub extern "C" fn zq_l1_entry(
+    entry: u64,
+    header: &HeaderFields,
+    l2_offset: &mut u64,
+    copied: &mut u32,
+) -> u32
+    ensures { HandsOver (l1_numbers header.now entry) result
+        (l2_offset.old, copied.old) (l2_offset.new, copied.new) }
+{
+    match l1_entry(entry, header) {
+        Ok(pointer) => {
+            *l2_offset = pointer.offset;
+            *copied = pointer.copied as u32;
+            0
+        }
+        Err(fault) => fault.number(),
+    }
+}
+
+/// What the cluster of a guest offset reads as, by its number in an L2 table.
+#[unsafe(no_mangle)]
+pub extern "C" fn zq_l2_entry(
+    entry: u64,
+    header: &HeaderFields,
+    guest_offset: u64,
+    mapping: &mut EntryMapping,
+) -> u32
+    ensures { HandsOver (l2_entry_in header.now entry guest_offset) result mapping.old mapping.new }
+{
+    match l2_entry(entry, header, guest_offset) {
+        Ok(found) => {
+            *mapping = found;
+            0
+        }
+        Err(fault) => fault.number(),
+    }
+}
+
+/// The first number in the bytes of an L2 table, or of a part of one, that is no entry.
+#[unsafe(no_mangle)]
+pub extern "C" fn zq_l2_check(bytes: &[u8], header: &HeaderFields, index: &mut usize) -> u32
+    ensures { ChecksEntries header.now bytes.now result index.old index.new }
+{
+    match first_bad_l2_entry(bytes, header) {
+        Ok(None) => 0,
+        Ok(Some(bad)) => {
+            *index = bad.index;
+            bad.fault.number()
+        }
+        Err(fault) => fault.number(),
+    }
+}
