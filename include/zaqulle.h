@@ -1,0 +1,192 @@
+/*
+ * zaqulle.h: what qcow2 images say, by bytes that you have read yourself.
+ *
+ * Link libzaqulle.a, and nothing else of ours. No function reads or writes a file, and none prints.
+ *
+ * Rules for all functions:
+ *
+ * - A function returns 0, or the number of the fault that it refuses by (enum zq_fault). After a fault nothing is
+ *   written to where results go, but for the index of zq_l2_check.
+ * - Whatever the bytes and the numbers are that you pass, no function reads or writes outside what its arguments
+ *   point to. That is proved, as is each sentence here on what a function returns.
+ * - A pointer to bytes points to as many as the length says. It may be NULL where the length is 0. Every other
+ *   pointer points to an object of its type. What results go to may be uninitialized. It does not overlap other
+ *   arguments.
+ * - No function keeps a pointer after it returns, and there is no global state. So several threads may call at once,
+ *   where nobody changes what another call reads. Don't call from a signal handler, nor in a child that a process
+ *   with threads forked.
+ * - Offsets and lengths are in bytes. Tables hold numbers of eight bytes, big-endian: an entry is passed as a number
+ *   of your machine.
+ *
+ * Only zq_header_read takes memory. It takes it by malloc and realloc, and gives it back by free before it returns.
+ * If you replace these: all three must be of one allocator, and align a block to each power of two up to 16 that
+ * divides its size.
+ */
+#ifndef ZAQULLE_H
+#define ZAQULLE_H
+
+#include <stddef.h>
+#include <stdint.h>
+
+#ifdef __cplusplus
+extern "C" {
+#endif
+
+/*
+ * Why a function refuses: each fault's name, number and sentence, which says what must hold. The numbers are those that
+ * the program qmeta prints, and none is ever used for another fault. No function here returns one that its comment
+ * doesn't name.
+ */
+#define ZQ_FAULTS(F) \
+    F(ZQ_NOT_QCOW2, 1, "not a qcow2 image: the magic must be 0x514649fb")                                         \
+    F(ZQ_VERSION, 2, "the version must be 2 or 3")                                                                \
+    F(ZQ_CLUSTER_SIZE, 3, "cluster_bits must be from 9 to 21")                                                    \
+    F(ZQ_HEADER_SHORT, 4, "header_length must be at least 104")                                                   \
+    F(ZQ_HEADER_BIG, 5, "the header must end within the first cluster")                                           \
+    F(ZQ_L1_UNALIGNED, 6, "l1_table_offset must be a multiple of the cluster size")                               \
+    F(ZQ_REFTABLE_UNALIGNED, 7, "refcount_table_offset must be a multiple of the cluster size")                   \
+    F(ZQ_REFCOUNT_WIDTH, 8, "refcount_order must be at most 6")                                                   \
+    F(ZQ_BACKING_NAME_LONG, 9, "backing_file_size must be at most 1023")                                          \
+    F(ZQ_BACKING_NAME_PLACE, 10, "the backing file name must end within the first cluster")                       \
+    F(ZQ_BACKING_NAME_TEXT, 11, "the backing file name must be UTF-8")                                            \
+    F(ZQ_EXTENSIONS_EXCEED, 12, "the header extensions must end within the first cluster")                        \
+    F(ZQ_EXTENSION_TEXT, 13, "a backing format or data file name in an extension must be UTF-8")                  \
+    F(ZQ_FEATURE_NAME_CUT, 14, "a feature name entry must have at least its type and its bit")                    \
+    F(ZQ_FORMAT_CONFLICT, 15, "all backing format extensions must hold the same name")                            \
+    F(ZQ_DATA_FILE_CONFLICT, 16, "all external data file extensions must hold the same name")                     \
+    F(ZQ_INCOMPATIBLE, 17, "all incompatible features but an external data file (bit 2) must be clear")           \
+    F(ZQ_ENTRY_RESERVED, 18, "the reserved bits of a table entry must be 0")                                      \
+    F(ZQ_ENTRY_UNALIGNED, 19, "the offset in a table entry must be a multiple of the cluster size")               \
+    F(ZQ_TABLE_TOO_BIG, 20, "the table must have at most as many entries as its kind allows")                     \
+    F(ZQ_TABLE_PLACE, 21, "a table or block must end at or below 2^56")                                           \
+    F(ZQ_NO_OFFSET, 22, "a table or block must have a cluster to be written")                                     \
+    F(ZQ_NOT_PLACED, 23, "a table or block must have a cluster to be referred to")                                \
+    F(ZQ_HEADER_TOO_LONG, 24, "the header with its names must fit the first cluster")                             \
+    F(ZQ_NAME_TOO_LONG, 25, "a backing file name must have at most 1023 bytes")                                   \
+    F(ZQ_FIELD_CHANGED, 26, "an image that is in use must keep what its header says")                             \
+    F(ZQ_VERSION_NEEDED, 27, "the image must have a later version for this")                                      \
+    F(ZQ_CANNOT_GROW, 28, "a grown table must have at most as many entries as its kind allows")                   \
+    F(ZQ_TOO_MANY, 29, "a count of entries or clusters must fit the 32 bits of its header field")                 \
+    F(ZQ_COUNTER_RANGE, 30, "a refcount must stay from 0 to the largest value of its width")                      \
+    F(ZQ_WRONG_LENGTH, 31, "the buffer must have the length of the structure in it")                              \
+    F(ZQ_BAD_EDIT, 32, "each edit must name an entry of the table and a cluster that it can hold")                \
+    F(ZQ_BAD_STEP, 33, "each step must name a counter of the block")                                              \
+    F(ZQ_STORAGE, 34, "the storage must answer each call, one failed")                                            \
+    F(ZQ_NO_MEMORY, 35, "memory must be left for the call, none was")                                             \
+    F(ZQ_EXTERNAL_DATA, 36, "refcounts of data clusters must stand in the image, it has an external data file")   \
+    F(ZQ_UNCOUNTED, 37, "all that refers to clusters must be read")                                               \
+    F(ZQ_OVERLAP, 38, "the uses of a cluster must not exclude each other, nobody knows which of them to believe") \
+    F(ZQ_IN_USE, 39, "an image that is written must be used by nobody else, it is in use")                        \
+    F(ZQ_SHARED, 40, "an L2 table that is edited must have no other reference")
+
+enum zq_fault {
+    ZQ_OK = 0,
+#define ZQ_FAULT_NUMBER(name, number, text) name = number,
+    ZQ_FAULTS(ZQ_FAULT_NUMBER)
+#undef ZQ_FAULT_NUMBER
+};
+
+/* The sentence of a fault. */
+static inline const char *zq_fault_text(uint32_t fault) {
+    switch (fault) {
+#define ZQ_FAULT_CASE(name, number, text) case number: return text;
+        ZQ_FAULTS(ZQ_FAULT_CASE)
+#undef ZQ_FAULT_CASE
+        case ZQ_OK: return "no fault";
+        default: return "no fault has this number";
+    }
+}
+
+/* Where a name lies in the bytes of the first cluster. offset is 0 where there is no name. Names are UTF-8, have no
+   zero byte at their end, and may have some within. */
+typedef struct zq_name {
+    uint32_t offset;
+    uint32_t length;
+} zq_name;
+
+/* What a header says. In an image of version 2 refcount_order is 4, all features are 0, and only the backing file
+   may have a name. */
+typedef struct zq_header {
+    uint32_t version;               /* 2 or 3 */
+    uint32_t cluster_bits;          /* a cluster has 1 << cluster_bits bytes; from 9 to 21 */
+    uint32_t refcount_order;        /* a refcount has 1 << refcount_order bits; from 0 to 6 */
+    uint32_t crypt_method;          /* 0 for none */
+    uint64_t size;                  /* of the guest's disk */
+    uint64_t l1_offset;             /* where the L1 table begins; a multiple of the cluster size */
+    uint64_t reftable_offset;       /* where the refcount table begins; a multiple of the cluster size */
+    uint32_t l1_entries;            /* how many entries the L1 table has */
+    uint32_t reftable_clusters;     /* how many clusters the refcount table takes */
+    uint64_t incompatible_features; /* 0, or 4: guest data lies in an external data file */
+    uint64_t compatible_features;
+    uint64_t autoclear_features;
+    uint64_t snapshots_offset;      /* where the table of snapshots begins */
+    uint32_t snapshots;             /* how many snapshots there are */
+    zq_name backing_name;
+    zq_name backing_format;
+    zq_name data_file;              /* the name of the external data file */
+} zq_header;
+
+/* What a guest cluster reads as. */
+enum zq_kind {
+    ZQ_BACKING = 0,        /* data of the backing file, or zeros where there is none */
+    ZQ_DATA = 1,           /* data of the data file: the image, or its external data file */
+    ZQ_ZERO = 2,           /* zeros */
+    ZQ_ZERO_ALLOCATED = 3, /* zeros; a cluster of the data file is kept all the same */
+    ZQ_COMPRESSED = 4      /* compressed data of the image */
+};
+
+typedef struct zq_mapping {
+    uint32_t kind;   /* an enum zq_kind */
+    uint32_t copied; /* 1 where the refcount of the cluster is exactly one, so that it may be written in place */
+    uint64_t offset; /* where that lies: the begin of the cluster, or of the compressed data. 0 for ZQ_ZERO */
+    uint64_t length; /* how many bytes: a cluster; at most how many for ZQ_COMPRESSED; 0 for ZQ_ZERO */
+} zq_mapping;
+
+/*
+ * How many bytes the first cluster of an image has, by its first 104 bytes (more may follow): as many as
+ * zq_header_read needs. They are 512 to 2 MiB.
+ * Faults: ZQ_WRONG_LENGTH for fewer than 104 bytes, ZQ_NOT_QCOW2, ZQ_VERSION, ZQ_CLUSTER_SIZE.
+ */
+uint32_t zq_header_bytes(const uint8_t *bytes, size_t length, size_t *cluster_size);
+
+/*
+ * What the header of an image says, by the bytes of its first cluster (more may follow). If the image is shorter
+ * than that, add zeros. A header that is accepted has all that the comments at zq_header say, and its names end
+ * within the cluster.
+ * Faults: those of zq_header_bytes, then ZQ_WRONG_LENGTH for fewer bytes than the cluster has, then 1 to 17 by the
+ * first condition of the format that the header fails; ZQ_NO_MEMORY.
+ */
+uint32_t zq_header_read(const uint8_t *bytes, size_t length, zq_header *header);
+
+/*
+ * The next three take the header as zq_header_read left it. Of one that you made up they look at cluster_bits
+ * (ZQ_CLUSTER_SIZE) and incompatible_features (ZQ_INCOMPATIBLE) alone. They take no memory.
+ */
+
+/*
+ * What a number in an L1 table says: where the L2 table begins, 0 where there is none, and whether its refcount is
+ * exactly one (1, else 0). The L2 table has one cluster.
+ * Faults: ZQ_CLUSTER_SIZE, ZQ_INCOMPATIBLE, ZQ_ENTRY_RESERVED, ZQ_ENTRY_UNALIGNED.
+ */
+uint32_t zq_l1_entry(uint64_t entry, const zq_header *header, uint64_t *l2_offset, uint32_t *copied);
+
+/*
+ * What the guest cluster with this offset in it reads as, by its number in an L2 table. The mapping is that of the
+ * whole cluster. For ZQ_DATA the byte at guest_offset is at mapping->offset + guest_offset % (1 << cluster_bits).
+ * Faults: ZQ_CLUSTER_SIZE, ZQ_INCOMPATIBLE, ZQ_ENTRY_RESERVED, ZQ_ENTRY_UNALIGNED.
+ */
+uint32_t zq_l2_entry(uint64_t entry, const zq_header *header, uint64_t guest_offset, zq_mapping *mapping);
+
+/*
+ * Whether all numbers in the bytes of an L2 table, or of a part of one, are entries. Where one isn't, returns the
+ * fault of the first, ZQ_ENTRY_RESERVED or ZQ_ENTRY_UNALIGNED, and sets *index: 0 is the first number.
+ * Other faults, which leave *index: ZQ_CLUSTER_SIZE, ZQ_INCOMPATIBLE, then ZQ_WRONG_LENGTH where the length is no
+ * multiple of 8.
+ */
+uint32_t zq_l2_check(const uint8_t *bytes, size_t length, const zq_header *header, size_t *index);
+
+#ifdef __cplusplus
+}
+#endif
+
+#endif

@@ -1,0 +1,313 @@
+/* Calls each function of zaqulle.h with input that no caller should pass, and checks the fault and that results stay as they
+ * were. Compares what 200,000 numbers in an L2 table say with a reading by hand. Bytes that are passed end where a page ends that may not be read, so that reading past them ends the program.
+ * Prints a line for each call that isn't as it must be. The status is 1 if one wasn't. */
+#define _DEFAULT_SOURCE
+#include <stdio.h>
+#include <stdlib.h>
+#include <string.h>
+#include <sys/mman.h>
+
+#include "zaqulle.h"
+
+static int failures;
+
+static void expect(const char *what, uint64_t number, uint64_t found, uint64_t expected) {
+    if (found != expected) {
+        printf("%s %llu: found %llu, expected %llu\n", what, (unsigned long long)number, (unsigned long long)found,
+               (unsigned long long)expected);
+        failures++;
+    }
+}
+
+/* Whether all bytes of a result are still those that it was filled with. */
+static int is_untouched(const void *result, size_t size) {
+    for (size_t i = 0; i < size; i++) {
+        if (((const unsigned char *)result)[i] != 0xa5) {
+            return 0;
+        }
+    }
+    return 1;
+}
+
+#define FILL(result) memset(&(result), 0xa5, sizeof(result))
+#define EXPECT_UNTOUCHED(what, number, result) expect(what, number, (uint64_t)is_untouched(&(result), sizeof(result)), 1)
+
+enum { ROOM = 1 << 17 };
+
+/* Where that many bytes of a copy of these begin, after which nothing may be read. */
+static const uint8_t *guarded(const uint8_t *bytes, size_t length) {
+    static uint8_t *room;
+    if (room == NULL) {
+        room = (uint8_t *)mmap(NULL, 2 * ROOM, PROT_READ | PROT_WRITE, MAP_PRIVATE | MAP_ANONYMOUS, -1, 0);
+        if (room == (uint8_t *)MAP_FAILED || mprotect(room + ROOM, ROOM, PROT_NONE) != 0) {
+            perror("guarded");
+            exit(2);
+        }
+    }
+    memcpy(room + ROOM - length, bytes, length);
+    return room + ROOM - length;
+}
+
+static void put(uint8_t *bytes, size_t place, int size, uint64_t value) {
+    for (int i = size - 1; i >= 0; i--, value >>= 8) {
+        bytes[place + (size_t)i] = (uint8_t)value;
+    }
+}
+
+/* The first cluster of an image with clusters of 64 KiB and a backing file called "base". */
+static void make_cluster(uint8_t *bytes) {
+    memset(bytes, 0, 65536);
+    put(bytes, 0, 4, 0x514649fb);
+    put(bytes, 4, 4, 3);
+    put(bytes, 8, 8, 65532);
+    put(bytes, 16, 4, 4);
+    put(bytes, 20, 4, 16);
+    put(bytes, 24, 8, 1 << 20);
+    put(bytes, 36, 4, 1);
+    put(bytes, 40, 8, 0x30000);
+    put(bytes, 48, 8, 0x10000);
+    put(bytes, 56, 4, 1);
+    put(bytes, 96, 4, 4);
+    put(bytes, 100, 4, 104);
+    memcpy(bytes + 65532, "base", 4);
+}
+
+/* A header of 104 bytes or more with one field changed, and the faults of zq_header_bytes and zq_header_read. */
+static const struct {
+    size_t place;
+    int size;
+    uint64_t value;
+    uint32_t bytes_fault, read_fault;
+} fields[] = {
+    {4, 4, 3, ZQ_OK, ZQ_OK}, {0, 4, 0, ZQ_NOT_QCOW2, ZQ_NOT_QCOW2}, {4, 4, 1, ZQ_VERSION, ZQ_VERSION},
+    {4, 4, 4, ZQ_VERSION, ZQ_VERSION}, {20, 4, 0, ZQ_CLUSTER_SIZE, ZQ_CLUSTER_SIZE},
+    {20, 4, 8, ZQ_CLUSTER_SIZE, ZQ_CLUSTER_SIZE}, {20, 4, 22, ZQ_CLUSTER_SIZE, ZQ_CLUSTER_SIZE},
+    {20, 4, 63, ZQ_CLUSTER_SIZE, ZQ_CLUSTER_SIZE}, {20, 4, UINT32_MAX, ZQ_CLUSTER_SIZE, ZQ_CLUSTER_SIZE},
+    {20, 4, 21, ZQ_OK, ZQ_WRONG_LENGTH}, {100, 4, 103, ZQ_OK, ZQ_HEADER_SHORT}, {100, 4, 65537, ZQ_OK, ZQ_HEADER_BIG},
+    {100, 4, 65536, ZQ_OK, ZQ_EXTENSIONS_EXCEED}, {100, 4, 65528, ZQ_OK, ZQ_EXTENSIONS_EXCEED},
+    {40, 8, 1, ZQ_OK, ZQ_L1_UNALIGNED}, {48, 8, UINT64_MAX, ZQ_OK, ZQ_REFTABLE_UNALIGNED},
+    {96, 4, 7, ZQ_OK, ZQ_REFCOUNT_WIDTH}, {16, 4, UINT32_MAX, ZQ_OK, ZQ_BACKING_NAME_LONG},
+    {16, 4, 5, ZQ_OK, ZQ_BACKING_NAME_PLACE}, {8, 8, UINT64_MAX, ZQ_OK, ZQ_BACKING_NAME_PLACE},
+    {65532, 1, 0xff, ZQ_OK, ZQ_BACKING_NAME_TEXT}, {108, 4, UINT32_MAX, ZQ_OK, ZQ_EXTENSIONS_EXCEED},
+    {72, 8, UINT64_MAX, ZQ_OK, ZQ_INCOMPATIBLE}, {72, 8, 4, ZQ_OK, ZQ_OK},
+};
+
+static void check_lengths(void) {
+    static const size_t lengths[] = {0, 1, 7, 103, 104, 65535};
+    uint8_t bytes[65536];
+    make_cluster(bytes);
+    for (size_t i = 0; i < sizeof lengths / sizeof *lengths; i++) {
+        size_t length = lengths[i], size;
+        zq_header header;
+        FILL(size);
+        FILL(header);
+        uint32_t expected = length < 104 ? ZQ_WRONG_LENGTH : ZQ_OK;
+        expect("zq_header_bytes of length", length, zq_header_bytes(guarded(bytes, length), length, &size), expected);
+        expect("zq_header_read of length", length, zq_header_read(guarded(bytes, length), length, &header), ZQ_WRONG_LENGTH);
+        EXPECT_UNTOUCHED("header after length", length, header);
+        if (expected != ZQ_OK) {
+            EXPECT_UNTOUCHED("size after length", length, size);
+        }
+    }
+    size_t size;
+    zq_header header;
+    expect("zq_header_bytes of NULL", 0, zq_header_bytes(NULL, 0, &size), ZQ_WRONG_LENGTH);
+    expect("zq_header_read of NULL", 0, zq_header_read(NULL, 0, &header), ZQ_WRONG_LENGTH);
+}
+
+static void check_fields(void) {
+    uint8_t bytes[65536];
+    for (size_t i = 0; i < sizeof fields / sizeof *fields; i++) {
+        size_t size;
+        zq_header header;
+        FILL(size);
+        FILL(header);
+        make_cluster(bytes);
+        put(bytes, fields[i].place, fields[i].size, fields[i].value);
+        expect("zq_header_bytes of row", i, zq_header_bytes(guarded(bytes, 104), 104, &size), fields[i].bytes_fault);
+        expect("zq_header_read of row", i, zq_header_read(guarded(bytes, 65536), 65536, &header), fields[i].read_fault);
+        if (fields[i].bytes_fault != ZQ_OK) {
+            EXPECT_UNTOUCHED("size after row", i, size);
+        }
+        if (fields[i].read_fault != ZQ_OK) {
+            EXPECT_UNTOUCHED("header after row", i, header);
+        } else {
+            expect("size of row", i, size, 65536);
+            expect("backing_name.offset of row", i, header.backing_name.offset, 65532);
+            expect("backing_name.length of row", i, header.backing_name.length, 4);
+        }
+    }
+}
+
+/* Each field of a header has a number of its own, and is found where the header file has it. */
+static void check_all_fields(void) {
+    static const zq_header expected = {3, 16, 6, 11, UINT64_C(0x102030405060708), 0x10000, 0x20000, 12, 13, 4,
+                                       UINT64_C(1) << 63, 15, 0x30000, 14, {65532, 4}, {112, 3}, {128, 2}};
+    uint8_t bytes[65536];
+    zq_header header;
+    FILL(header);
+    make_cluster(bytes);
+    put(bytes, 24, 8, expected.size);
+    put(bytes, 32, 4, expected.crypt_method);
+    put(bytes, 36, 4, expected.l1_entries);
+    put(bytes, 40, 8, expected.l1_offset);
+    put(bytes, 48, 8, expected.reftable_offset);
+    put(bytes, 56, 4, expected.reftable_clusters);
+    put(bytes, 60, 4, expected.snapshots);
+    put(bytes, 64, 8, expected.snapshots_offset);
+    put(bytes, 72, 8, expected.incompatible_features);
+    put(bytes, 80, 8, expected.compatible_features);
+    put(bytes, 88, 8, expected.autoclear_features);
+    put(bytes, 96, 4, expected.refcount_order);
+    memcpy(bytes + 104, "\xe2\x79\x2a\xca\0\0\0\003raw\0\0\0\0\0DATA\0\0\0\002ab", 26);
+    expect("zq_header_read of version", 3, zq_header_read(guarded(bytes, 65536), 65536, &header), ZQ_OK);
+    size_t size = offsetof(zq_header, data_file) + sizeof header.data_file;
+    expect("all fields of version", 3, (uint64_t)memcmp(&header, &expected, size), 0);
+}
+
+/* Fields that no header has, and the fault of the calls that look at them. */
+static const struct {
+    uint32_t cluster_bits;
+    uint64_t incompatible_features;
+    uint32_t fault;
+} made_up[] = {
+    {0, 0, ZQ_CLUSTER_SIZE}, {8, 0, ZQ_CLUSTER_SIZE}, {22, 0, ZQ_CLUSTER_SIZE}, {63, 0, ZQ_CLUSTER_SIZE},
+    {64, 0, ZQ_CLUSTER_SIZE}, {UINT32_MAX, UINT64_MAX, ZQ_CLUSTER_SIZE}, {16, 1, ZQ_INCOMPATIBLE},
+    {16, 16, ZQ_INCOMPATIBLE}, {21, UINT64_MAX, ZQ_INCOMPATIBLE}, {9, 0, ZQ_OK}, {21, 4, ZQ_OK},
+};
+
+static void check_made_up(void) {
+    static const uint8_t zeros[16] = {0};
+    for (size_t i = 0; i < sizeof made_up / sizeof *made_up; i++) {
+        zq_header header;
+        zq_mapping mapping;
+        uint64_t offset;
+        uint32_t copied;
+        size_t index;
+        FILL(header);
+        FILL(mapping);
+        FILL(offset);
+        FILL(copied);
+        FILL(index);
+        header.cluster_bits = made_up[i].cluster_bits;
+        header.incompatible_features = made_up[i].incompatible_features;
+        uint32_t fault = made_up[i].fault;
+        expect("zq_l1_entry of header", i, zq_l1_entry(0, &header, &offset, &copied), fault);
+        expect("zq_l2_entry of header", i, zq_l2_entry(0, &header, UINT64_MAX, &mapping), fault);
+        expect("zq_l2_check of header", i, zq_l2_check(guarded(zeros, 16), 16, &header, &index), fault);
+        expect("zq_l2_check of NULL by header", i, zq_l2_check(NULL, 0, &header, &index), fault);
+        EXPECT_UNTOUCHED("index after header", i, index);
+        if (fault != ZQ_OK) {
+            EXPECT_UNTOUCHED("offset after header", i, offset);
+            EXPECT_UNTOUCHED("copied after header", i, copied);
+            EXPECT_UNTOUCHED("mapping after header", i, mapping);
+        }
+    }
+}
+
+/* Numbers under clusters of 64 KiB, why they are no entries, and what they say of guest offset 0x20001. */
+static const struct {
+    uint64_t number;
+    uint32_t l1_fault, l2_fault;
+    zq_mapping mapping;
+} numbers[] = {
+    {0, ZQ_OK, ZQ_OK, {ZQ_BACKING, 0, 0x20000, 65536}},
+    {UINT64_C(1) << 63 | 0x50000, ZQ_OK, ZQ_OK, {ZQ_DATA, 1, 0x50000, 65536}},
+    {0x50000, ZQ_OK, ZQ_OK, {ZQ_DATA, 0, 0x50000, 65536}},
+    {1, ZQ_ENTRY_RESERVED, ZQ_OK, {ZQ_ZERO, 0, 0, 0}},
+    {UINT64_C(1) << 63 | 0x50001, ZQ_ENTRY_RESERVED, ZQ_OK, {ZQ_ZERO_ALLOCATED, 1, 0x50000, 65536}},
+    {UINT64_C(1) << 62 | 0x50010, ZQ_ENTRY_RESERVED, ZQ_OK, {ZQ_COMPRESSED, 0, 0x50010, 496}},
+    {0x200, ZQ_ENTRY_UNALIGNED, ZQ_ENTRY_UNALIGNED, {0, 0, 0, 0}},
+    {2, ZQ_ENTRY_RESERVED, ZQ_ENTRY_RESERVED, {0, 0, 0, 0}},
+    {UINT64_MAX, ZQ_ENTRY_RESERVED, ZQ_ENTRY_RESERVED, {0, 0, 0, 0}},
+};
+
+static void check_numbers(void) {
+    zq_header header;
+    FILL(header);
+    header.cluster_bits = 16;
+    header.incompatible_features = 0;
+    for (size_t i = 0; i < sizeof numbers / sizeof *numbers; i++) {
+        uint64_t offset;
+        uint32_t copied;
+        size_t index;
+        zq_mapping mapping;
+        uint8_t bytes[16] = {0};
+        FILL(offset);
+        FILL(copied);
+        FILL(index);
+        FILL(mapping);
+        put(bytes, 8, 8, numbers[i].number);
+        expect("zq_l1_entry of number", i, zq_l1_entry(numbers[i].number, &header, &offset, &copied), numbers[i].l1_fault);
+        expect("zq_l2_entry of number", i, zq_l2_entry(numbers[i].number, &header, 0x20001, &mapping), numbers[i].l2_fault);
+        expect("zq_l2_check of number", i, zq_l2_check(guarded(bytes, 16), 16, &header, &index), numbers[i].l2_fault);
+        expect("zq_l2_check of 15 bytes", i, zq_l2_check(guarded(bytes, 15), 15, &header, &index), ZQ_WRONG_LENGTH);
+        if (numbers[i].l1_fault != ZQ_OK) {
+            EXPECT_UNTOUCHED("offset after number", i, offset);
+            EXPECT_UNTOUCHED("copied after number", i, copied);
+        } else {
+            expect("offset of number", i, offset, numbers[i].number & 0x7fffffffffffffff);
+            expect("copied of number", i, copied, numbers[i].number >> 63);
+        }
+        if (numbers[i].l2_fault != ZQ_OK) {
+            expect("index of number", i, index, 1);
+            EXPECT_UNTOUCHED("mapping after number", i, mapping);
+        } else {
+            EXPECT_UNTOUCHED("index after number", i, index);
+            expect("mapping of number", i, (uint64_t)memcmp(&mapping, &numbers[i].mapping, sizeof mapping), 0);
+        }
+    }
+}
+
+/* What a number in an L2 table says of guest cluster 0, read by hand. */
+static uint32_t read_by_hand(uint64_t number, const zq_header *header, zq_mapping *mapping) {
+    uint32_t bits = header->cluster_bits;
+    uint64_t size = UINT64_C(1) << bits, offset = number & UINT64_C(0xfffffffffffe00), copied = number >> 63;
+    if (number >> 62 & 1) {
+        offset = number % (UINT64_C(1) << (70 - bits));
+        uint64_t sectors = (number >> (70 - bits)) % (UINT64_C(1) << (bits - 8)) + 1;
+        *mapping = (zq_mapping){ZQ_COMPRESSED, 0, offset, sectors * 512 - offset % 512};
+        return copied || offset >> 56 ? ZQ_ENTRY_RESERVED : ZQ_OK;
+    }
+    int has_cluster = offset != 0 || (copied && header->incompatible_features == 4);
+    uint32_t kind = has_cluster ? (number & 1 ? ZQ_ZERO_ALLOCATED : ZQ_DATA) : (number & 1 ? ZQ_ZERO : ZQ_BACKING);
+    *mapping = (zq_mapping){kind, has_cluster ? (uint32_t)copied : 0, offset, kind == ZQ_ZERO ? 0 : size};
+    return number & UINT64_C(0x3f000000000001fe) ? ZQ_ENTRY_RESERVED : offset % size ? ZQ_ENTRY_UNALIGNED : ZQ_OK;
+}
+
+/* The next of a series of numbers that look random. */
+static uint64_t next_random(uint64_t *state) {
+    *state = *state * UINT64_C(6364136223846793005) + UINT64_C(1442695040888963407);
+    return *state ^ *state >> 29;
+}
+
+/* Numbers of which most bits are drawn, and some are left out so that many are entries. */
+static void check_random_numbers(void) {
+    uint64_t state = 1;
+    for (uint64_t i = 0; i < 200000; i++) {
+        zq_header header;
+        zq_mapping found, expected;
+        FILL(header);
+        header.cluster_bits = 9 + (uint32_t)(next_random(&state) >> 32) % 13;
+        header.incompatible_features = i % 2 * 4;
+        uint64_t number = next_random(&state), mask = next_random(&state);
+        number &= i % 3 ? ~UINT64_C(0x3f000000000001fe) | (i % 64 ? 0 : mask) : mask;
+        number &= i % 5 ? ~(((UINT64_C(1) << header.cluster_bits) - 1) & ~UINT64_C(0x1ff)) : UINT64_MAX;
+        number &= i % 7 ? UINT64_MAX : ~UINT64_C(0xfffffffffffe00);
+        uint32_t fault = read_by_hand(number, &header, &expected);
+        expect("zq_l2_entry of random number", i, zq_l2_entry(number, &header, 0, &found), fault);
+        if (fault == ZQ_OK) {
+            expect("mapping of random number", i, (uint64_t)memcmp(&found, &expected, sizeof found), 0);
+        }
+    }
+}
+
+int main(void) {
+    check_lengths();
+    check_fields();
+    check_all_fields();
+    check_made_up();
+    check_numbers();
+    check_random_numbers();
+    return failures != 0;
+}
