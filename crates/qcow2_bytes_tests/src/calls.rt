@@ -1,0 +1,32 @@
+//! The calls without their clauses, so that no proof about a test has to read what a call ensures.
+
+use qcow2_base::Fault;
+use qcow2_bytes::{BadEntry, EntryMapping, HeaderFields, L2Pointer};
+use std::alloc::Global;
+
+pub(crate) fn header_bytes(first_bytes: &[u8]) -> Result<usize, Fault> {
+    qcow2_bytes::header_bytes(first_bytes)
+}
+
+pub(crate) fn read_header(alloc: Global, bytes: &[u8]) -> Result<HeaderFields, Fault> {
+    qcow2_bytes::read_header(alloc, bytes)
+}
+
+pub(crate) fn l1_entry(entry: u64, fields: &HeaderFields) -> Result<L2Pointer, Fault> {
+    qcow2_bytes::l1_entry(entry, fields)
+}
+
+pub(crate) fn l2_entry(
+    entry: u64,
+    fields: &HeaderFields,
+    guest_offset: u64,
+) -> Result<EntryMapping, Fault> {
+    qcow2_bytes::l2_entry(entry, fields, guest_offset)
+}
+
+pub(crate) fn first_bad_l2_entry(
+    bytes: &[u8],
+    fields: &HeaderFields,
+) -> Result<Option<BadEntry>, Fault> {
+    qcow2_bytes::first_bad_l2_entry(bytes, fields)
+}

@@ -1,0 +1,9 @@
+//! Tests of what bytes mean that a caller has read.
+#![tactic(auto)]
+
+#[cfg(test)]
+mod calls;
+#[cfg(test)]
+mod entries;
+#[cfg(test)]
+mod header;
