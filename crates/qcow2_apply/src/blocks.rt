@@ -116,7 +116,7 @@ fn follow_block<S: Storage>(
 {
     block.reload(image, tables.header, cluster)?;
     follow(block, tables, index, changes, outcome)?;
-    block.write_if_modified(image, cluster)
+    block.write_changes(image, cluster)
 }
 
 // The same of the block at an index of the refcount table, if its clusters gained or lost something. Where
@@ -153,8 +153,8 @@ fn follow_at<S: Storage>(
 }
 
 /// Lets all counters of an image follow what their clusters gained and lost, and waits until they are on the
-/// device. Each refcount block is read over the given one, and written once at most, so no memory is taken.
-/// Clusters that no block counts are passed over.
+/// device. Each refcount block is read over the given one, and its changed pieces are written once at most,
+/// so no memory is taken. Clusters that no block counts are passed over.
 ///
 /// All that a cluster gained is counted before what it lost. Returns 30 where a counter can't count both so.
 /// After a fault some counters may have followed, so the call must not be made again; where the storage

@@ -52,6 +52,18 @@ pub fn write_block_if_modified<S: Storage>(
     block.write_if_modified(image, cluster)
 }
 
+/// `RefBlock::write_changes`.
+pub fn write_block_changes<S: Storage>(
+    block: &mut RefBlock,
+    image: &mut S,
+    cluster: HostCluster,
+) -> Result<(), Fault> {
+    if block.is_modified() && block.get_cluster() != Some(cluster) {
+        return Err(NOT_MADE);
+    }
+    block.write_changes(image, cluster)
+}
+
 /// `RefBlock::set_cluster`.
 pub fn set_block_cluster(block: &mut RefBlock, cluster: HostCluster) -> Result<(), Fault> {
     if !fits(cluster.0, 0, block.cluster_bits()) {

@@ -2,6 +2,7 @@
 
 ghost use Rattle.std.specs.Prelude.{◌≡◌, ℕ, ◌+◌, ◌-◌, ◌*◌, ◌<◌, ◌≤◌, length, List, min, slice_index, ◌≢◌, IfErr, IfOk, MatchResult};
 ghost use Rattle.qcow2_base.specs.Format.{max_file_length};
+ghost use Rattle.qcow2_base.specs.Storage.{WritesBytes};
 ghost use Rattle.qcow2_metadata.specs.Pieces.{WritesInPieces, piece_size};
 ghost use Rattle.qcow2_metadata.specs.Placed.{Layout, ReadsBack, offset_of, place_fault};
 
@@ -45,10 +46,54 @@ pub(crate) trait Packed {
         ensures len { length buffer.new ≡ length buffer.old };
 }
 
+/// Which pieces are written: all, or those alone that the image doesn't have already.
+#[derive(Clone, Copy, Debug)]
+pub(crate) enum Pieces {
+    All,
+    Changed,
+}
+
+// Writes the bytes of a piece to the image, from an offset on.
+fn write_piece<S: Storage>(
+    image: &mut S,
+    pieces: Pieces,
+    buffer: &[u8],
+    offset: u64,
+) -> Result<(), StorageFault>
+    requires end { offset + length buffer.now ≤ max_file_length }
+    requires short { length buffer.now ≤ piece_size }
+    ensures { WritesBytes result offset buffer.now (S.state image.old) (S.state image.new) }
+{
+    match pieces {
+        Pieces::All => image.write(buffer, offset),
+        Pieces::Changed => write_changed(image, buffer, offset),
+    }
+}
+
+// The same where the image doesn't have them there already.
+fn write_changed<S: Storage>(
+    image: &mut S,
+    buffer: &[u8],
+    offset: u64,
+) -> Result<(), StorageFault>
+    requires end { offset + length buffer.now ≤ max_file_length }
+    requires short { length buffer.now ≤ piece_size }
+    ensures { WritesBytes result offset buffer.now (S.state image.old) (S.state image.new) }
+{
+    let mut array = [0u8; PIECE_BYTES];
+    let there = &mut array[..buffer.len()];
+    image.read(there, offset)?;
+    if *there == *buffer {
+        return Ok(());
+    }
+    image.write(buffer, offset)
+}
+
 /// Writes the bytes to the image from an offset on, in pieces of 4096 bytes.
 pub(crate) fn write_in_pieces<P: Packed, S: Storage>(
     packed: &P,
     image: &mut S,
+    pieces: Pieces,
     offset: HostOffset,
 ) -> Result<(), StorageFault>
     requires { offset.0 + (P.layout packed.now).byte_count ≤ max_file_length }
@@ -61,7 +106,7 @@ pub(crate) fn write_in_pieces<P: Packed, S: Storage>(
         let first = PIECE_BYTES * piece;
         let buffer = &mut array[..(byte_count - first).min(PIECE_BYTES)];
         packed.pack(piece, buffer);
-        image.write(buffer, offset.0 + first as u64)?;
+        write_piece(image, pieces, buffer, offset.0 + first as u64)?;
     }
     Ok(())
 }

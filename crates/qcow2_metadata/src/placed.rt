@@ -3,7 +3,7 @@
 ghost use Rattle.std.specs.Prelude.{◌≡◌, false, true, IsOk};
 ghost use Rattle.qcow2_metadata.specs.Placed.{FlagAfterWrite, Writes};
 
-use crate::pieces::{Packed, write_in_pieces};
+use crate::pieces::{Packed, Pieces, write_in_pieces};
 use qcow2_base::{Fault, HostCluster, Storage};
 
 /// Where a table or a refcount block begins in the image, if it has a place there, and whether it was
@@ -20,6 +20,7 @@ impl Placement {
     pub(crate) fn write<P: Packed, S: Storage>(
         &mut self,
         packed: &P,
+        pieces: Pieces,
         image: &mut S,
     ) -> Result<(), Fault>
         ensures written { Writes (P.layout packed.now) (P.numbers packed.now) self.old.cluster result
@@ -31,7 +32,7 @@ impl Placement {
             return Err(Fault::NoOffset);
         };
         let offset = packed.offset_at(cluster)?;
-        match write_in_pieces(packed, image, offset) {
+        match write_in_pieces(packed, image, pieces, offset) {
             Ok(()) => {
                 self.modified = false;
                 Ok(())
@@ -47,6 +48,7 @@ impl Placement {
     pub(crate) fn write_if_modified<P: Packed, S: Storage>(
         &mut self,
         packed: &P,
+        pieces: Pieces,
         image: &mut S,
     ) -> Result<(), Fault>
         ensures idle { self.old.modified ≡ false →
@@ -59,6 +61,6 @@ impl Placement {
         if !self.modified {
             return Ok(());
         }
-        self.write(packed, image)
+        self.write(packed, pieces, image)
     }
 }

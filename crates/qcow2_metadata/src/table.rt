@@ -12,6 +12,7 @@ ghost use Rattle.qcow2_metadata.specs.Results.{Reads};
 ghost use Rattle.qcow2_metadata.specs.Table.{IsTableFault, IsValidTable, Kind, TableState, entries_fault, first_fault, layout_of_table, table_layout};
 ghost use Rattle.qcow2_metadata.specs.Table.OneEntry.{WritesEntry};
 
+use crate::pieces::Pieces;
 use crate::placed::Placement;
 use crate::range::range_offset;
 use crate::{Header, TableEntry};
@@ -191,7 +192,7 @@ pub trait Table: Sized {
             cluster: self.get_cluster(),
             modified: self.is_modified(),
         };
-        let written = placement.write(&TableBytes { table: self }, image);
+        let written = placement.write(&TableBytes { table: self }, Pieces::All, image);
         if placement.modified {
             self.set_modified();
         } else {

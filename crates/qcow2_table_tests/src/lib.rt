@@ -6,6 +6,8 @@ mod block_numbers;
 #[cfg(test)]
 mod blocks;
 #[cfg(test)]
+mod changed_pieces;
+#[cfg(test)]
 mod entries;
 #[cfg(test)]
 mod every_table;

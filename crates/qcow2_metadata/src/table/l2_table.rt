@@ -16,6 +16,7 @@ use super::{
     CompressedClusterReadGuard, EntryTable, L2TableWriteGuard, Table, TableKind, table_offset,
 };
 use crate::entries::RunPattern;
+use crate::pieces::Pieces;
 use crate::{AtomicL2Entry, Header, L2Entry, L2Mapping};
 use qcow2_base::{ClusterCount, Fault, GuestCluster, HostCluster, Storage};
 use std::alloc::{AllocError, Global};
@@ -167,7 +168,7 @@ impl EntryTable<AtomicL2Entry> {
         // The caller's word for the cluster is in the contract alone.
         let _ = cluster;
         let mut placement = self.placement;
-        let written = placement.write_if_modified(&TableBytes { table: &*self }, image);
+        let written = placement.write_if_modified(&TableBytes { table: &*self }, Pieces::All, image);
         self.placement = placement;
         written
     }

@@ -3,8 +3,8 @@ use Rattle.std.proofs.lemmas.Result.{err_from_is_err_and}
 use Rattle.qcow2_metadata.proofs.PiecesLemmas.{IsTornAtPiece-at, IsWrittenUpTo-more, others_kept}
 use Rattle.qcow2_metadata.proofs.pieces.write_in_pieces.Goals as goal
 
-pub returns-in_err-write : goal.returns-in_err-write
-returns-in_err-write g c =
+pub returns-in_err-write_piece : goal.returns-in_err-write_piece
+returns-in_err-write_piece g c =
     let bytes = (g.P.Packed.layout c.args.packed.now).bytes_of (g.P.Packed.numbers c.args.packed.now) in
     let len = (g.P.Packed.layout c.args.packed.now).byte_count in
     let piece = c.loop-piece.piece in
@@ -14,9 +14,9 @@ returns-in_err-write g c =
     rw left.1 (record {
       written = tt;
       torn = λ told. IsTornAtPiece-at piece bytes len c.args.offset.0 (length c.pack.new.buffer) _ _ _ (omega arith) (omega arith)
-          (before.told told) (c.write.ensures.others (before.device.tells ∙ told));
+          (before.told told) (c.write_piece.ensures.others (before.device.tells ∙ told));
       others = λ told. others_kept piece bytes len c.args.offset.0 (length c.pack.new.buffer) _ _ _ (omega arith)
-          (before.told told) (c.write.ensures.others (before.device.tells ∙ told));
+          (before.told told) (c.write_piece.ensures.others (before.device.tells ∙ told));
       failures = search rules;
       device = search rules;
     })
@@ -28,7 +28,7 @@ loop-piece-preserved g c =
       told = λ told.
           IsWrittenUpTo-more c.loop-piece.piece _ _ c.args.offset.0 _ _ _ c.pack.new.buffer (omega arith) (search rules)
           (λ i h. c.pack.ensures.packed i h) (before.told told)
-          (c.in_ok-write.ensures.written (before.device.tells ∙ told)) (c.write.ensures.others (before.device.tells ∙ told));
+          (c.in_ok-write_piece.ensures.written (before.device.tells ∙ told)) (c.write_piece.ensures.others (before.device.tells ∙ told));
       failures = search rules;
       device = search rules;
     }
