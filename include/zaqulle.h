@@ -18,8 +18,8 @@
  * - Offsets and lengths are in bytes. Tables hold numbers of eight bytes, big-endian: an entry is passed as a number
  *   of your machine.
  *
- * Only zq_header_read takes memory. It takes it by malloc and realloc, and gives it back by free before it returns.
- * If you replace these: all three must be of one allocator, and align a block to each power of two up to 16 that
+ * Only zq_header_read and zq_image_lookup take memory. They take it by malloc and realloc, and give it back by free
+ * before they return. If you replace these three: they must be of one allocator, and align a block to each power of two up to 16 that
  * divides its size.
  */
 #ifndef ZAQULLE_H
@@ -184,6 +184,14 @@ uint32_t zq_l2_entry(uint64_t entry, const zq_header *header, uint64_t guest_off
  * multiple of 8.
  */
 uint32_t zq_l2_check(const uint8_t *bytes, size_t length, const zq_header *header, size_t *index);
+
+/*
+ * What the cluster of a guest offset reads as, by the bytes of a whole image, which may be mapped memory. After its last
+ * byte an image has zeros. The size of the guest's disk isn't looked at. Takes memory for the header's names, and for
+ * the L1 table and the L2 table that it reads.
+ * Faults: 1 to 21, of the header, the L1 table and the L2 table, the first that is refused; ZQ_NO_MEMORY.
+ */
+uint32_t zq_image_lookup(const uint8_t *bytes, size_t length, uint64_t guest_offset, zq_mapping *mapping);
 
 #ifdef __cplusplus
 }

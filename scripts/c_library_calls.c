@@ -259,6 +259,33 @@ static void check_numbers(void) {
     }
 }
 
+/* Lookups in an image of five clusters, which is damaged more and more. */
+static void check_lookups(void) {
+    static uint8_t image[0x50000];
+    zq_mapping found, data = {ZQ_DATA, 1, 0x40000, 65536}, backing = {ZQ_BACKING, 0, 0x10000, 65536};
+    make_cluster(image);
+    put(image, 40, 8, 0x10000);
+    put(image, 48, 8, 0x20000);
+    put(image, 0x10000, 8, UINT64_C(1) << 63 | 0x30000);
+    put(image, 0x30000, 8, UINT64_C(1) << 63 | 0x40000);
+    FILL(found);
+    expect("zq_image_lookup of data", 0, zq_image_lookup(image, sizeof image, 65535, &found), ZQ_OK);
+    expect("mapping of data", 0, (uint64_t)memcmp(&found, &data, sizeof found), 0);
+    expect("zq_image_lookup of backing", 0, zq_image_lookup(image, sizeof image, 65536, &found), ZQ_OK);
+    expect("mapping of backing", 0, (uint64_t)memcmp(&found, &backing, sizeof found), 0);
+    FILL(found);
+    expect("zq_image_lookup of NULL", 0, zq_image_lookup(NULL, 0, 0, &found), ZQ_NOT_QCOW2);
+    expect("zq_image_lookup of one byte", 0, zq_image_lookup(guarded(image, 1), 1, UINT64_MAX, &found), ZQ_NOT_QCOW2);
+    image[0x30007] = 2;
+    expect("zq_image_lookup of a bad entry", 0, zq_image_lookup(image, sizeof image, 65536, &found), ZQ_ENTRY_RESERVED);
+    put(image, 0x10000, 8, UINT64_C(0xffffffffff0000));
+    expect("zq_image_lookup of a place", 0, zq_image_lookup(image, sizeof image, 0, &found), ZQ_OK);
+    put(image, 36, 4, UINT32_MAX);
+    FILL(found);
+    expect("zq_image_lookup of a large L1 table", 0, zq_image_lookup(image, sizeof image, 0, &found), ZQ_TABLE_TOO_BIG);
+    EXPECT_UNTOUCHED("mapping of a large L1 table", 0, found);
+}
+
 /* What a number in an L2 table says of guest cluster 0, read by hand. */
 static uint32_t read_by_hand(uint64_t number, const zq_header *header, zq_mapping *mapping) {
     uint32_t bits = header->cluster_bits;
@@ -308,6 +335,7 @@ int main(void) {
     check_all_fields();
     check_made_up();
     check_numbers();
+    check_lookups();
     check_random_numbers();
     return failures != 0;
 }

@@ -14,32 +14,34 @@ use Rattle.qcow2_metadata.specs.Header.Extensions.{name_in}
 use Rattle.qcow2_metadata.specs.declared.header.extensions.HeaderExtensionType.TheVariants as types
 use Rattle.qcow2_metadata.specs.Header.Open.{header_after_load}
 use Rattle.qcow2_metadata.proofs.GrammarLemmas.{IsBase-base_at, header_of-is, holds-v2_at}
-use Rattle.qcow2_metadata.proofs.LawsLemmas.{header_of-same}
 use Rattle.qcow2_bytes.specs.Header.{IsNameAt, SaysHeader, first_cluster_size, header_in, no_name}
 use Rattle.qcow2_bytes.specs.declared.header.HeaderFields.{HeaderFields}
 use Rattle.qcow2_bytes.specs.declared.header.NameRange.{NameRange}
 
--- bytes that begin an image have its header
-header_of-begin : (bytes : List ℕ) → header_of (image_from 0 bytes) ≡ header_of (image_of bytes)
-header_of-begin bytes = header_of-same (image_of bytes) (image_from 0 bytes) (λ o below. grind (arith, nat_tests))
+-- an image that begins with bytes has them
+pub image-begin : (bytes : List ℕ) → image_from 0 bytes ≡ image_of bytes
+image-begin bytes = λ i o. same o i
+  where
+    same : (o : ℕ) → image_from 0 bytes o ≡ image_of bytes o
+    same o = grind (arith, nat_tests)
 
 -- who only reads a header gets what was read
-read_only : (read : Result HeaderRecord Fault) → header_after_load false read ≡ read
+pub read_only : (read : Result HeaderRecord Fault) → header_after_load false read ≡ read
 read_only (Ok header) = refl
 read_only (Err fault) = refl
 
 pub loaded-begin : (bytes : List ℕ) → header_after_load false (header_of (image_from 0 bytes)) ≡ header_of (image_of bytes)
-loaded-begin bytes = read_only (header_of (image_from 0 bytes)) ∙ header_of-begin bytes
+loaded-begin bytes = read_only (header_of (image_from 0 bytes)) ∙ ap header_of (image-begin bytes)
 
 -- a refusal that no storage makes
-pub kept-fault : (bytes : List ℕ) (fault result : Fault)
-    → (fault ≡ Storage) ⊎ (fault ≡ NoMemory) ⊎ (header_of (image_of bytes) ≡ Err fault)
+pub kept-fault : {V : Type 0} (expected : Result V Fault) (fault result : Fault)
+    → (fault ≡ Storage) ⊎ (fault ≡ NoMemory) ⊎ (expected ≡ Err fault)
     → (result ≡ NoMemory) ⊎ ((result ≡ fault) × (fault ≢ Storage))
-    → (result ≡ NoMemory) ⊎ (header_of (image_of bytes) ≡ Err result)
-kept-fault bytes fault result answers (inl memory) = inl memory
-kept-fault bytes fault result (inl storage) (inr same) = absurd (same.1 storage)
-kept-fault bytes fault result (inr (inl memory)) (inr same) = inl (same.0 ∙ memory)
-kept-fault bytes fault result (inr (inr refused)) (inr same) = inr (rw same.0 refused)
+    → (result ≡ NoMemory) ⊎ (expected ≡ Err result)
+kept-fault expected fault result why (inl memory) = inl memory
+kept-fault expected fault result (inl storage) (inr same) = absurd (same.1 storage)
+kept-fault expected fault result (inr (inl memory)) (inr same) = inl (same.0 ∙ memory)
+kept-fault expected fault result (inr (inr refused)) (inr same) = inr (rw same.0 refused)
 
 -- the sizes of clusters
 pub cluster_sizes : (cb : ℕ) → IsClusterBits cb → (512 ≤ 2 ^ cb) × (2 ^ cb ≤ 2 ^ 21)

@@ -1,2 +1,3 @@
 pub mod HeaderLemmas
+pub mod ImagesLemmas
 pub mod NamesLemmas

@@ -133,8 +133,8 @@ fn load_header(alloc: Global, bytes: &[u8]) -> Result<Header, Fault>
     }
 }
 
-// The fault of a load, whose clauses don't say that no read of a slice fails.
-fn without_storage_fault(fault: Fault) -> Fault
+// The fault of a call over a slice, whose clauses don't say that no read of one fails.
+pub(crate) fn without_storage_fault(fault: Fault) -> Fault
     ensures { (result ≡ NoMemory) ⊎ ((result ≡ fault) × (fault ≢ StorageFailed)) }
 {
     match fault {

@@ -4,6 +4,8 @@
 
 mod entries;
 mod header;
+mod images;
 
 pub use entries::{BadEntry, EntryMapping, L2Pointer, first_bad_l2_entry, l1_entry, l2_entry};
 pub use header::{HeaderFields, NameRange, header_bytes, read_header};
+pub use images::image_lookup;

@@ -30,3 +30,11 @@ pub(crate) fn first_bad_l2_entry(
 ) -> Result<Option<BadEntry>, Fault> {
     qcow2_bytes::first_bad_l2_entry(bytes, fields)
 }
+
+pub(crate) fn image_lookup(
+    alloc: Global,
+    bytes: &[u8],
+    guest_offset: u64,
+) -> Result<EntryMapping, Fault> {
+    qcow2_bytes::image_lookup(alloc, bytes, guest_offset)
+}

@@ -7,3 +7,5 @@ mod calls;
 mod entries;
 #[cfg(test)]
 mod header;
+#[cfg(test)]
+mod images;

@@ -7,7 +7,7 @@ use Rattle.qcow2_bytes.specs.Header.{ReadsHeader}
 use Rattle.qcow2_bytes.specs.declared.entries.BadEntry.{BadEntry}
 use Rattle.qcow2_bytes.specs.declared.entries.L2Pointer.{L2Pointer}
 use Rattle.qcow2_bytes.specs.declared.header.HeaderFields.{HeaderFields}
-use Rattle.qcow2_metadata.specs.Results.{result_map}
+use Rattle.qcow2_metadata.specs.Results.{Computes, result_map}
 
 -- a call returns 0 and leaves the value, or the fault's number and what was there before
 abbrev pub HandsOver : {T : Type 0} → Result T Fault → ℕ → T → T → Type 0
@@ -18,6 +18,11 @@ HandsOver (Err fault) status old new = (status ≡ fault_number fault) × (new �
 abbrev pub HandsOverHeader : List ℕ → ℕ → HeaderFields → HeaderFields → Type 0
 HandsOverHeader bytes status old new =
     (answer : Result HeaderFields Fault) × ReadsHeader bytes answer × HandsOver answer status old new
+
+-- the same of an answer that is the expected one, unless memory ran out
+abbrev pub HandsOverComputed : {T : Type 0} → Result T Fault → ℕ → T → T → Type 0
+HandsOverComputed {T} expected status old new =
+    (answer : Result T Fault) × Computes (λ value. value) answer expected × HandsOver answer status old new
 
 -- what a number in an L1 table says, as two numbers
 abbrev pub l1_numbers : HeaderFields → ℕ → Result (ℕ × ℕ) Fault

@@ -3,12 +3,15 @@
 //! A call returns 0, or the number of the fault that it refuses by.
 #![tactic(auto)]
 
+ghost use Rattle.qcow2_base.specs.Storage.{image_of};
 ghost use Rattle.qcow2_bytes.specs.Entries.{l2_entry_in};
 ghost use Rattle.qcow2_bytes.specs.Header.{first_cluster_size};
-ghost use Rattle.qcow2_ffi.specs.Calls.{ChecksEntries, HandsOver, HandsOverHeader, l1_numbers};
+ghost use Rattle.qcow2_bytes.specs.Images.{fields_at};
+ghost use Rattle.qcow2_ffi.specs.Calls.{ChecksEntries, HandsOver, HandsOverComputed, HandsOverHeader, l1_numbers};
 
 use qcow2_bytes::{
-    EntryMapping, HeaderFields, first_bad_l2_entry, header_bytes, l1_entry, l2_entry, read_header,
+    EntryMapping, HeaderFields, first_bad_l2_entry, header_bytes, image_lookup, l1_entry, l2_entry,
+    read_header,
 };
 use std::alloc::Global;
 
@@ -90,6 +93,25 @@ pub extern "C" fn zq_l2_check(bytes: &[u8], header: &HeaderFields, index: &mut u
         Ok(Some(bad)) => {
             *index = bad.index;
             bad.fault.number()
+        }
+        Err(fault) => fault.number(),
+    }
+}
+
+/// What the cluster of a guest offset reads as, by the bytes of a whole image.
+#[unsafe(no_mangle)]
+pub extern "C" fn zq_image_lookup(
+    alloc: Global,
+    bytes: &[u8],
+    guest_offset: u64,
+    mapping: &mut EntryMapping,
+) -> u32
+    ensures { HandsOverComputed (fields_at guest_offset (image_of bytes.now)) result mapping.old mapping.new }
+{
+    match image_lookup(alloc, bytes, guest_offset) {
+        Ok(found) => {
+            *mapping = found;
+            0
         }
         Err(fault) => fault.number(),
     }

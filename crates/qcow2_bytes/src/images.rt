@@ -1,0 +1,93 @@
+//! What a whole image in memory says.
+
+ghost use Rattle.std.specs.Prelude.{◌≡◌};
+ghost use Rattle.qcow2_base.specs.Storage.{image_of};
+ghost use Rattle.qcow2_image.specs.Lookups.{IsImageFault};
+ghost use Rattle.qcow2_metadata.specs.Entries.L2Mapping.{IsPlaced, meaning};
+ghost use Rattle.qcow2_metadata.specs.Results.{Computes, Reads};
+ghost use Rattle.qcow2_bytes.specs.Entries.{mapping_fields};
+ghost use Rattle.qcow2_bytes.specs.Images.{fields_at, fields_in};
+
+use crate::EntryMapping;
+use crate::header::without_storage_fault;
+use qcow2_base::{Fault, GuestOffset, SliceStorage, Storage};
+use qcow2_image::lookup_with_header;
+use qcow2_metadata::{Header, L2Mapping};
+use std::alloc::Global;
+
+/// What the cluster of a guest offset reads as, by the bytes of a whole image. After its last byte an image
+/// has zeros. The size of the guest's disk isn't looked at.
+///
+/// Reads the header, the L1 table and at most one L2 table, and returns the fault of the first of them that
+/// is refused: one of 1 to 21.
+pub fn image_lookup(alloc: Global, bytes: &[u8], guest_offset: u64) -> Result<EntryMapping, Fault>
+    ensures { Computes (λ mapping. mapping) result (fields_at guest_offset (image_of bytes.now)) }
+{
+    let mut image = SliceStorage::new(bytes, 0);
+    match lookup_fields(alloc, &mut image, guest_offset) {
+        Ok(mapping) => Ok(mapping),
+        Err(fault) => Err(without_storage_fault(fault)),
+    }
+}
+
+// What the cluster of a guest offset reads as, in plain numbers.
+fn lookup_fields<S: Storage>(
+    alloc: Global,
+    image: &mut S,
+    guest_offset: u64,
+) -> Result<EntryMapping, Fault>
+    ensures { Reads (λ mapping. mapping) result (fields_at guest_offset) IsImageFault
+        (S.state image.old) (S.state image.new) }
+{
+    let header = Header::load(alloc, image, false)?;
+    fields_with_header(alloc, image, &header, guest_offset)
+}
+
+// The same in an image with this header.
+fn fields_with_header<S: Storage>(
+    alloc: Global,
+    image: &mut S,
+    header: &Header,
+    guest_offset: u64,
+) -> Result<EntryMapping, Fault>
+    ensures { Reads (λ mapping. mapping) result (fields_in header.now guest_offset) IsImageFault
+        (S.state image.old) (S.state image.new) }
+{
+    match lookup_with_header(alloc, image, header, GuestOffset(guest_offset)) {
+        Ok(found) => Ok(fields_of(found, header.cluster_bits())),
+        Err(fault) => Err(fault),
+    }
+}
+
+// A mapping in plain numbers.
+fn fields_of(mapping: L2Mapping, cluster_bits: u32) -> EntryMapping
+    requires { IsPlaced cluster_bits mapping }
+    ensures { result ≡ mapping_fields cluster_bits (meaning mapping) }
+{
+    let cluster_size = 1 << cluster_bits;
+    let (kind, copied, offset, length) = match mapping {
+        L2Mapping::Backing { backing_offset } => (0, false, backing_offset, cluster_size),
+        L2Mapping::DataFile {
+            host_cluster,
+            copied,
+        } => (1, copied, host_cluster.offset(cluster_bits).0, cluster_size),
+        L2Mapping::Zero {
+            host_cluster: None,
+            copied,
+        } => (2, copied, 0, 0),
+        L2Mapping::Zero {
+            host_cluster: Some(cluster),
+            copied,
+        } => (3, copied, cluster.offset(cluster_bits).0, cluster_size),
+        L2Mapping::Compressed {
+            host_offset,
+            length,
+        } => (4, false, host_offset.0, length.get()),
+    };
+    EntryMapping {
+        kind,
+        copied: copied as u32,
+        offset,
+        length,
+    }
+}
