@@ -181,8 +181,7 @@ pub reread-fault : (g of : Geometry) (cluster : HostCluster) (image : StorageSta
     → OnImage image (λ bytes. (fault ≡ Storage) ⊎ (fault ≡ NoMemory) ⊎ (loaded_l2_table g cluster bytes ≡ Err fault))
     → IsRereadFault fault × OnImage image (λ bytes. (fault ≡ Storage) ⊎ (loaded_l2_table of cluster bytes ≡ Err fault))
 reread-fault g of cluster image fault is within faults memory exact =
-    let placed : place_fault (l2_layout g) cluster ≡ None = rw is (l2_table_fits of cluster within) in
-    (
+    let placed : place_fault (l2_layout g) cluster ≡ None = rw is (l2_table_fits of cluster within) in (
       elim faults [
         | inl (inl place) ↦ absurd (let never = sym placed ∙ place in grind (arith, never))
         | inl (inr entry) ↦ inl entry

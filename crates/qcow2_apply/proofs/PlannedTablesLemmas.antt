@@ -141,8 +141,12 @@ no-edits-in cb index (edit ∷ edits) none = elim (cases_Bool (has_clusters_in c
 some-edits-by : (cb index : ℕ) (edit : GuestEdit) → has_clusters_in cb index edit ≡ true → 0 < length (edits_by cb index edit)
 some-edits-by cb index edit has =
     let more : table_start cb index edit < table_end cb index edit = grind (arith, nat_tests, has) in
-    omega (arith, more, length-map-range_with_len (λ guest_cluster. edit_at edit (guest_cluster % l2_entries cb)) (table_start cb index edit)
-    (table_end cb index edit - table_start cb index edit))
+    omega (
+      arith,
+      more,
+      length-map-range_with_len (λ guest_cluster. edit_at edit (guest_cluster % l2_entries cb)) (table_start cb index edit)
+          (table_end cb index edit - table_start cb index edit),
+    )
 
 edits-in-count : (cb index : ℕ) (edits : List GuestEdit) → list_any (has_clusters_in cb index) edits ≡ true → 0 < length (edits_in cb index edits)
 edits-in-count cb index [] has = absurd (grind (arith, has))

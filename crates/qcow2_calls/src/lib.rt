@@ -25,8 +25,8 @@ pub use sessions::{
 };
 pub use tables::{
     LoadedTable, copy_l2_table, discard_cluster, enter_l2_table, enter_refblock, grow_l1_table,
-    grow_reftable, least_spare, load_table, map_cluster, new_l2_table, reload_l2_table, set_cluster,
-    set_l1_copied, set_l1_table, set_l2_copied, set_reftable, write_entry,
+    grow_reftable, least_spare, load_table, map_cluster, new_l2_table, reload_l2_table,
+    set_cluster, set_l1_copied, set_l1_table, set_l2_copied, set_reftable, write_entry,
     write_l2_table_if_modified, write_table, zero_cluster,
 };
 

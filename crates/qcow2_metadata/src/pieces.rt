@@ -71,11 +71,7 @@ fn write_piece<S: Storage>(
 }
 
 // The same where the image doesn't have them there already.
-fn write_changed<S: Storage>(
-    image: &mut S,
-    buffer: &[u8],
-    offset: u64,
-) -> Result<(), StorageFault>
+fn write_changed<S: Storage>(image: &mut S, buffer: &[u8], offset: u64) -> Result<(), StorageFault>
     requires end { offset + length buffer.now ≤ max_file_length }
     requires short { length buffer.now ≤ piece_size }
     ensures { WritesBytes result offset buffer.now (S.state image.old) (S.state image.new) }

@@ -12,8 +12,8 @@ use std::test::Fail;
 
 const PIECE: usize = 4096;
 
-// A block of cluster 1, of 64 KiB: its refcount order, a counter's index, a number that it doesn't have in the
-// pattern, and the piece that has it.
+// A block of cluster 1, of 64 KiB: its refcount order, a counter's index, a number that it doesn't have in
+// the pattern, and the piece that has it.
 #[derive(Clone, Copy, Debug)]
 struct Changed {
     order: u32,
@@ -51,13 +51,21 @@ fn call_at(place: usize, row: Changed) -> StorageCall {
     let piece = if place > row.piece { place - 1 } else { place };
     let offset = (piece as u64).wrapping_mul(4096).wrapping_add(65536);
     let len = PIECE;
-    if is_write { Write { offset, len } } else { Read { offset, len } }
+    if is_write {
+        Write { offset, len }
+    } else {
+        Read { offset, len }
+    }
 }
 
 fn check_calls(calls: &[StorageCall], row: Changed) -> Result<(), Fail> {
     same(calls.len(), 17, row)?;
     for place in 0..17 {
-        same(calls.get(place).copied(), Some(call_at(place, row)), (row, place))?;
+        same(
+            calls.get(place).copied(),
+            Some(call_at(place, row)),
+            (row, place),
+        )?;
     }
     Ok(())
 }

@@ -12,7 +12,11 @@ use std::test::Fail;
 // The entry at an index of the table at a cluster: data in another cluster each, or zeros.
 fn number(cluster: u64, index: usize, cluster_bits: u32) -> u64 {
     let place = (index as u64).wrapping_mul(5).wrapping_add(cluster) % 8191;
-    if place == 0 { 1 } else { place << cluster_bits.min(21) }
+    if place == 0 {
+        1
+    } else {
+        place << cluster_bits.min(21)
+    }
 }
 
 // An image with such tables at clusters 0 and 1.
@@ -21,7 +25,11 @@ fn two_tables(alloc: Global, cluster_bits: u32) -> Result<MemStorage, Fail> {
     let mut bytes = Vec::new(alloc);
     for place in 0..entries.saturating_mul(2) {
         let cluster = u64::from(place >= entries);
-        let index = if place >= entries { place - entries } else { place };
+        let index = if place >= entries {
+            place - entries
+        } else {
+            place
+        };
         bytes.extend_from_slice(&number(cluster, index, cluster_bits).to_be_bytes())?;
     }
     Ok(MemStorage::new(bytes))

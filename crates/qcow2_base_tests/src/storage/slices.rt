@@ -8,10 +8,7 @@ use std::test::Fail;
 
 #[test]
 fn a_slice_reads_as_the_image_of_its_bytes(rt: HostRuntime) -> Result<(), Fail> {
-    check_read(
-        rt.alloc(),
-        &mut SliceStorage::new(&[1, 2, 3, 4, 5], 0),
-    )
+    check_read(rt.alloc(), &mut SliceStorage::new(&[1, 2, 3, 4, 5], 0))
 }
 
 // Where the bytes 1 to 4 begin, an offset, and the six bytes that are read there.

@@ -168,7 +168,11 @@ impl EntryTable<AtomicL2Entry> {
         // The caller's word for the cluster is in the contract alone.
         let _ = cluster;
         let mut placement = self.placement;
-        let written = placement.write_if_modified(&TableBytes { table: &*self }, Pieces::All, image);
+        let written = placement.write_if_modified(
+            &TableBytes { table: &*self },
+            Pieces::All,
+            image,
+        );
         self.placement = placement;
         written
     }
