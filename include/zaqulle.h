@@ -1,7 +1,7 @@
 /*
  * zaqulle.h: what qcow2 images say, by bytes that you have read yourself.
  *
- * Link libzaqulle.a, and nothing else of ours. No function reads or writes a file, and none prints.
+ * Link libzaqulle.a, which scripts/check-c-library builds, and nothing else of ours. No function reads or writes a file, and none prints.
  *
  * Rules for all functions:
  *
@@ -19,8 +19,8 @@
  *   of your machine.
  *
  * Only zq_header_read and zq_image_lookup take memory. They take it by malloc and realloc, and give it back by free
- * before they return. If you replace these three: they must be of one allocator, and align a block to each power of two up to 16 that
- * divides its size.
+ * before they return. If you replace these three: they must be of one allocator, and align a block to each power of two
+ * up to 16 that divides its size.
  */
 #ifndef ZAQULLE_H
 #define ZAQULLE_H
@@ -97,8 +97,8 @@ static inline const char *zq_fault_text(uint32_t fault) {
     }
 }
 
-/* Where a name lies in the bytes of the first cluster. offset is 0 where there is no name. Names are UTF-8, have no
-   zero byte at their end, and may have some within. */
+/* Where a name lies in the bytes of the first cluster. offset is 0 where there is no name. Names are UTF-8.
+   They aren't ended by a zero byte, and may contain zero bytes. */
 typedef struct zq_name {
     uint32_t offset;
     uint32_t length;
@@ -137,8 +137,8 @@ enum zq_kind {
 
 typedef struct zq_mapping {
     uint32_t kind;   /* an enum zq_kind */
-    uint32_t copied; /* 1 where the refcount of the cluster is exactly one, so that it may be written in place */
-    uint64_t offset; /* where that lies: the begin of the cluster, or of the compressed data. 0 for ZQ_ZERO */
+    uint32_t copied; /* 1 where the entry says that the refcount of the cluster is exactly one; else 0 */
+    uint64_t offset; /* where that begins, in the file that kind names: the cluster, or the compressed data. 0 for ZQ_ZERO */
     uint64_t length; /* how many bytes: a cluster; at most how many for ZQ_COMPRESSED; 0 for ZQ_ZERO */
 } zq_mapping;
 

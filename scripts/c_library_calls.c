@@ -1,5 +1,6 @@
-/* Calls each function of zaqulle.h with input that no caller should pass, and checks the fault and that results stay as they
- * were. Compares what 200,000 numbers in an L2 table say with a reading by hand. Bytes that are passed end where a page ends that may not be read, so that reading past them ends the program.
+/* Calls each function of zaqulle.h with input that no caller should pass, and checks the fault and that results stay as
+ * they were. Compares what 200,000 numbers in an L2 table say with a reading by hand. Bytes that are passed end where a page
+ * begins that may not be read, so that reading past them ends the program.
  * Prints a line for each call that isn't as it must be. The status is 1 if one wasn't. */
 #define _DEFAULT_SOURCE
 #include <stdio.h>

@@ -1,5 +1,6 @@
 /* Prints what the header of a qcow2 image says, as qmeta info does, and then what each mapped guest cluster reads as, as
- * qmeta list does. Usage: entries IMAGE. The status is 1 after a fault. Build it by
+ * qmeta list does, but that a table past the file's end is fault 21. Usage: entries IMAGE. The status is 1 after a fault.
+ * Build it by
  * cc -I include examples/c/entries.c crates/qcow2_ffi/out/libzaqulle.a */
 #define _POSIX_C_SOURCE 200809L
 #include <fcntl.h>
