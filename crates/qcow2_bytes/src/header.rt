@@ -1,11 +1,11 @@
 //! What the first cluster of an image says.
 
-ghost use Rattle.std.specs.Prelude.{◌≡◌, ◌≢◌, ◌⊎◌, ◌^◌, ◌≤◌, IfOk, Ok, OnOk, length};
+ghost use Rattle.std.specs.Prelude.{◌≡◌, ◌≢◌, ◌⊎◌, ◌^◌, ◌≤◌, IfErr, IfOk, Ok, OnOk, length};
 ghost use Rattle.qcow2_base.specs.Storage.{image_of};
 ghost use Rattle.qcow2_base.specs.Types.{IsClusterBits};
-ghost use Rattle.qcow2_base.specs.declared.fault.Fault.TheVariants.{NoMemory, Storage as StorageFailed};
+ghost use Rattle.qcow2_base.specs.declared.fault.Fault.TheVariants.{NoMemory, Storage as StorageFailed, WrongLength};
 ghost use Rattle.qcow2_metadata.specs.Header.{HeaderRecord, geometry};
-ghost use Rattle.qcow2_metadata.specs.Header.Grammar.{IsBase, IsHeader, header_of, version_conditions};
+ghost use Rattle.qcow2_metadata.specs.Header.Grammar.{IsBase, IsHeader, IsHeaderFault, header_of, version_conditions};
 ghost use Rattle.qcow2_metadata.specs.Results.{Computes, after_conditions, result_map};
 ghost use Rattle.qcow2_bytes.specs.Header.{ReadsHeader, SaysHeader, first_cluster_size};
 
@@ -80,6 +80,7 @@ pub struct HeaderFields {
 pub fn header_bytes(first_bytes: &[u8]) -> Result<usize, Fault>
     ensures value { result ≡ first_cluster_size first_bytes.now }
     ensures bound { IfOk result (λ size. (512 ≤ size) × (size ≤ 2 ^ 21)) }
+    ensures faults { IfErr result (λ fault. (fault ≡ WrongLength) ⊎ IsHeaderFault fault) }
 {
     if first_bytes.len() < FIXED_BYTES {
         return Err(Fault::WrongLength);
@@ -93,6 +94,7 @@ pub fn header_bytes(first_bytes: &[u8]) -> Result<usize, Fault>
 fn check_version(v2: &V2Header) -> Result<(), Fault>
     ensures exact { result ≡ after_conditions (version_conditions v2.now) (λ _. Ok tt) }
     ensures cluster_bits { OnOk result (IsClusterBits v2.now.cluster_bits) }
+    ensures faults { IfErr result IsHeaderFault }
 {
     if v2.magic != MAGIC {
         return Err(Fault::NotQcow2);
@@ -112,7 +114,9 @@ fn check_version(v2: &V2Header) -> Result<(), Fault>
 /// Refuses what `header_bytes` refuses, then fewer bytes than the cluster has (31), then a header by the
 /// fault of the first condition of the format that it fails: 1 to 17.
 pub fn read_header(alloc: Global, bytes: &[u8]) -> Result<HeaderFields, Fault>
-    ensures { ReadsHeader bytes.now result }
+    ensures read { ReadsHeader bytes.now result }
+    ensures faults { IfErr result (λ fault.
+        (fault ≡ NoMemory) ⊎ (fault ≡ WrongLength) ⊎ IsHeaderFault fault) }
 {
     let size = header_bytes(bytes)?;
     if bytes.len() < size {
@@ -124,7 +128,8 @@ pub fn read_header(alloc: Global, bytes: &[u8]) -> Result<HeaderFields, Fault>
 
 // The header of an image that has these bytes.
 fn load_header(alloc: Global, bytes: &[u8]) -> Result<Header, Fault>
-    ensures { Computes (λ header. header) result (header_of (image_of bytes.now)) }
+    ensures exact { Computes (λ header. header) result (header_of (image_of bytes.now)) }
+    ensures faults { IfErr result (λ fault. (fault ≡ NoMemory) ⊎ IsHeaderFault fault) }
 {
     let mut image = SliceStorage::new(bytes, 0);
     match Header::load(alloc, &mut image, false) {

@@ -1,7 +1,8 @@
 //! What a whole image in memory says.
 
-ghost use Rattle.std.specs.Prelude.{◌≡◌};
+ghost use Rattle.std.specs.Prelude.{◌≡◌, ◌⊎◌, IfErr};
 ghost use Rattle.qcow2_base.specs.Storage.{image_of};
+ghost use Rattle.qcow2_base.specs.declared.fault.Fault.TheVariants.{NoMemory};
 ghost use Rattle.qcow2_image.specs.Lookups.{IsImageFault};
 ghost use Rattle.qcow2_metadata.specs.Entries.L2Mapping.{IsPlaced, meaning};
 ghost use Rattle.qcow2_metadata.specs.Results.{Computes, Reads};
@@ -21,7 +22,8 @@ use std::alloc::Global;
 /// Reads the header, the L1 table and at most one L2 table, and returns the fault of the first of them that
 /// is refused: one of 1 to 21.
 pub fn image_lookup(alloc: Global, bytes: &[u8], guest_offset: u64) -> Result<EntryMapping, Fault>
-    ensures { Computes (λ mapping. mapping) result (fields_at guest_offset (image_of bytes.now)) }
+    ensures exact { Computes (λ mapping. mapping) result (fields_at guest_offset (image_of bytes.now)) }
+    ensures faults { IfErr result (λ fault. (fault ≡ NoMemory) ⊎ IsImageFault fault) }
 {
     let mut image = SliceStorage::new(bytes, 0);
     match lookup_fields(alloc, &mut image, guest_offset) {
