@@ -164,8 +164,8 @@ uint32_t zq_header_read(const uint8_t *bytes, size_t length, zq_header *header);
  */
 
 /*
- * What a number in an L1 table says: where the L2 table begins, 0 where there is none, and whether its refcount is
- * exactly one (1, else 0). The L2 table has one cluster.
+ * What a number in an L1 table says: where the L2 table begins, 0 where there is none, and whether it says that the
+ * refcount of that table is exactly one (1, else 0). The L2 table has one cluster.
  * Faults: ZQ_CLUSTER_SIZE, ZQ_INCOMPATIBLE, ZQ_ENTRY_RESERVED, ZQ_ENTRY_UNALIGNED.
  */
 uint32_t zq_l1_entry(uint64_t entry, const zq_header *header, uint64_t *l2_offset, uint32_t *copied);

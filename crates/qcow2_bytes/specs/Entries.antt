@@ -20,7 +20,7 @@ abbrev pub flag_number : Bool → ℕ
 flag_number true = 1
 flag_number false = 0
 
--- what a valid number in an L1 table says: where the L2 table lies, 0 for none, and whether its refcount is one
+-- what a valid number in an L1 table says: where the L2 table lies, 0 for none, and that its refcount is one, if it says so
 abbrev pub l2_pointer : ℕ → L2Pointer
 l2_pointer entry = record { offset = offset_field entry; copied = is_copied entry }
 

@@ -16,7 +16,7 @@ use qcow2_base::{Fault, HostOffset, MAX_FILE_LENGTH, field, read_be};
 pub struct L2Pointer {
     /// Where the L2 table begins, in bytes of the image. 0 where there is none.
     pub offset: u64,
-    /// Whether the refcount of the table's cluster is exactly one.
+    /// Whether the entry says that the refcount of the table's cluster is exactly one.
     pub copied: bool,
 }
 
@@ -26,7 +26,7 @@ pub struct L2Pointer {
 pub struct EntryMapping {
     /// 0: data of the backing file. 1: data. 2: zeros. 3: zeros that keep a cluster. 4: compressed data.
     pub kind: u32,
-    /// 1 where the refcount of the cluster is exactly one, so that it may be written in place; else 0.
+    /// 1 where the entry says that the refcount of the cluster is exactly one; else 0.
     pub copied: u32,
     /// Where the data, or the cluster that is kept, begins. For kind 0 in the backing file, for 4 in the
     /// image, else in the data file. 0 for kind 2.

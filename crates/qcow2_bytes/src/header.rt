@@ -138,7 +138,7 @@ fn load_header(alloc: Global, bytes: &[u8]) -> Result<Header, Fault>
     }
 }
 
-// The fault of a call over a slice, whose clauses don't say that no read of one fails.
+// No read of a slice fails, but the clauses of calls over any storage don't say so: 34 becomes 35.
 pub(crate) fn without_storage_fault(fault: Fault) -> Fault
     ensures { (result ≡ NoMemory) ⊎ ((result ≡ fault) × (fault ≢ StorageFailed)) }
 {
