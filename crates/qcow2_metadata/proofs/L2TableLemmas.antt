@@ -1,11 +1,13 @@
-use Rattle.std.proofs.Common.{map-id, ◌≡◌, ℕ, Bool, ◌≤◌, List, [], ◌∷◌, map, Option, None, refl, ap, arith}
+use Rattle.std.proofs.Common.{map-id, ◌≡◌, ℕ, Bool, ◌-◌, ◌^◌, ◌≤◌, List, [], ◌∷◌, map, Option, None, Some, refl, ap, arith, pow_mono}
 use Rattle.std.proofs.lemmas.Bool.Decides.{nat_tests}
 use Rattle.std.proofs.lemmas.List.Sums.{sum_by-cons}
+use Rattle.qcow2_base.specs.Format.{most_l2_entries}
 use Rattle.qcow2_base.specs.declared.fault.Fault.{Fault}
+use Rattle.qcow2_base.specs.declared.fault.Fault.TheVariants.{TablePlace}
 use Rattle.qcow2_metadata.specs.Table.L2Guards.{one_if, references}
 use Rattle.qcow2_metadata.specs.Entries.L2Entry.{byte_range, l2_fault, meets, entry_in_copy}
 use Rattle.qcow2_metadata.specs.Header.{Geometry}
-use Rattle.qcow2_metadata.specs.Table.{first_fault}
+use Rattle.qcow2_metadata.specs.Table.{entries_fault, first_fault, l2_entries}
 use Rattle.qcow2_metadata.proofs.CopiedLemmas.{lawful_without_copied, low_bits, low_field}
 use Rattle.qcow2_metadata.proofs.TableLemmas.{no_fault_at_all}
 
@@ -41,3 +43,10 @@ shared-lawful external cb numbers none =
 
 -- what a copy of a table is
 pub ruleset clones = (map-id, shared-lawful, references-shared)
+
+-- an L2 table never has too many entries, so only its end can refuse its place
+pub refused-by_end : (cb n offset : ℕ) (fault : Fault) → cb ≤ 21 → n ≡ l2_entries cb → entries_fault most_l2_entries offset n ≡ Some fault → fault ≡ TablePlace
+refused-by_end cb n offset fault high count refused =
+    let bits : cb - 3 ≤ 18 = omega arith in
+    let few : 2 ^ (cb - 3) ≤ 2 ^ 18 = pow_mono bits in
+    grind (arith, nat_tests)

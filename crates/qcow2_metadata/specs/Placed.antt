@@ -1,5 +1,5 @@
 -- What do tables and refcount blocks share: how do they lie in an image, and what do a load and a write of one do?
-use Rattle.std.specs.Prelude.{◌≡◌, ◌≢◌, ◌⊎◌, Err, ◌*◌, ◌^◌, ◌<◌, ℕ, Bool, false, true, IfErr, IfSome, IsErrOf, List, None, OnOk, Option, Result, Ok, Some, length, option_map, slice_set}
+use Rattle.std.specs.Prelude.{◌≡◌, ◌≢◌, ◌⊎◌, Err, ◌*◌, ◌^◌, ◌<◌, ℕ, Bool, false, true, IfErr, IfSome, IsErrOf, IsOk, List, None, OnOk, Option, Result, Ok, Some, length, option_map, slice_set}
 use Rattle.std.specs.List.{All}
 use Rattle.qcow2_base.specs.Storage.{Image, IsBytes, OnImage, OnImages, OnlyWrites, SameOutside, StorageState}
 use Rattle.qcow2_base.specs.Types.{IsClusterBits}
@@ -124,3 +124,10 @@ pub record FlagAfterWrite {T : Type 0} (answer : Result T Fault) (old new : Bool
 pub record FollowsWrite {G T : Type 0} (answer : Result T Fault) (old new : Placed G) : Type 0 where
   pub same : new ≡ record old { modified = new.modified }
   pub flag : FlagAfterWrite answer old.modified new.modified
+
+-- a write of a table or a block that ended in this answer: if it isn't modified, it and the storage stay, and else its numbers
+-- are written
+pub record WritesIfModified {G T S : Type 0} (state : S → StorageState) (layout : Layout) (answer : Result T Fault) (old new : Placed G) (before after : S) : Type 0 where
+  pub idle : old.modified ≡ false → IsOk answer × (new ≡ old) × (after ≡ before)
+  pub written : old.modified ≡ true → Writes layout old.numbers old.cluster answer (state before) (state after)
+  pub flag : FollowsWrite answer old new

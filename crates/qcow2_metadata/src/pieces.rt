@@ -85,7 +85,8 @@ fn write_changed<S: Storage>(image: &mut S, buffer: &[u8], offset: u64) -> Resul
     image.write(buffer, offset)
 }
 
-/// Writes the bytes to the image from an offset on, in pieces of 4096 bytes.
+/// Writes the bytes to the image from an offset on, in pieces of 4096 bytes: all of them, or those that the
+/// image doesn't have.
 pub(crate) fn write_in_pieces<P: Packed, S: Storage>(
     packed: &P,
     image: &mut S,

@@ -1,11 +1,11 @@
 //! Refcount blocks: how many references each cluster of a part of the image has.
 
-ghost use Rattle.std.specs.Prelude.{◌≡◌, ◌≢◌, ◌+◌, ◌*◌, ◌^◌, ◌<◌, ◌≤◌, ◌==◌, IfErr, IfOk, IsOk, IsOkUnless, None, Ok, OnErr, OnOk, Some, false, length, option_map, replicate, slice_index, true};
+ghost use Rattle.std.specs.Prelude.{◌≡◌, ◌≢◌, ◌+◌, ◌*◌, ◌^◌, ◌<◌, ◌≤◌, ◌==◌, IfErr, IfOk, IsOkUnless, None, Ok, OnErr, OnOk, Some, false, length, option_map, replicate, slice_index, true};
 ghost use Rattle.qcow2_base.specs.Format.{max_file_length};
 ghost use Rattle.qcow2_base.specs.Storage.{OnImage, OnlyReads};
 ghost use Rattle.qcow2_base.specs.Types.{IsClusterBits};
 ghost use Rattle.qcow2_base.specs.declared.types.HostOffset.{HostOffset as Offset};
-ghost use Rattle.qcow2_metadata.specs.Placed.{FollowsWrite, IsLoaded, RefusesPlace, Writes, new_placed, offset_of, with_number};
+ghost use Rattle.qcow2_metadata.specs.Placed.{FollowsWrite, IsLoaded, RefusesPlace, Writes, WritesIfModified, new_placed, offset_of, with_number};
 ghost use Rattle.qcow2_metadata.specs.Results.{Reads};
 ghost use Rattle.qcow2_metadata.specs.Refblock.Guard.{IsBlockGuard};
 ghost use Rattle.qcow2_metadata.specs.Refblock.Counters.{IsOfOrder, kept_counters};
@@ -204,12 +204,8 @@ impl RefBlock {
         cluster: HostCluster,
     ) -> Result<(), Fault>
         requires { self.old.modified ≡ true → self.old.cluster ≡ Some cluster }
-        ensures idle { self.old.modified ≡ false →
-            IsOk result × (self.new ≡ self.old) × (image.new ≡ image.old) }
-        ensures written { self.old.modified ≡ true →
-            Writes (block_layout self.old.geometry) self.old.numbers self.old.cluster result
-            (S.state image.old) (S.state image.new) }
-        ensures flag { FollowsWrite result self.old self.new }
+        ensures { WritesIfModified S.state (block_layout self.old.geometry) result self.old self.new
+            image.old image.new }
     {
         // The caller's word for the cluster is in the contract alone.
         let _ = cluster;
@@ -220,19 +216,16 @@ impl RefBlock {
     }
 
     /// Writes those pieces of the block to the image that this doesn't have already, if the block counts as
-    /// modified. It does what `write_if_modified` does by fewer bytes written, and reads each piece first.
+    /// modified. The block must then begin with the given cluster. It does what `write_if_modified` does by
+    /// fewer bytes written, and reads each piece first.
     pub fn write_changes<S: Storage>(
         &mut self,
         image: &mut S,
         cluster: HostCluster,
     ) -> Result<(), Fault>
         requires { self.old.modified ≡ true → self.old.cluster ≡ Some cluster }
-        ensures idle { self.old.modified ≡ false →
-            IsOk result × (self.new ≡ self.old) × (image.new ≡ image.old) }
-        ensures written { self.old.modified ≡ true →
-            Writes (block_layout self.old.geometry) self.old.numbers self.old.cluster result
-            (S.state image.old) (S.state image.new) }
-        ensures flag { FollowsWrite result self.old self.new }
+        ensures { WritesIfModified S.state (block_layout self.old.geometry) result self.old self.new
+            image.old image.new }
     {
         // The caller's word for the cluster is in the contract alone.
         let _ = cluster;

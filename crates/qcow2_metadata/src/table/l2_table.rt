@@ -1,13 +1,13 @@
 //! L2 tables: what the clusters of a part of the guest's disk read as.
 
-ghost use Rattle.std.specs.Prelude.{◌≡◌, ℕ, None, ◌-◌, ◌*◌, ◌^◌, ◌==◌, ◌<◌, ◌≢◌, IfErr, IfOk, IsOk, IsOkAnd, IsOkUnless, OnOk, length, map, replicate, true, false};
+ghost use Rattle.std.specs.Prelude.{◌≡◌, ℕ, None, ◌-◌, ◌*◌, ◌^◌, ◌==◌, ◌<◌, ◌≢◌, IfErr, IfOk, IsOkAnd, IsOkUnless, OnOk, length, map, replicate, true};
 ghost use Rattle.std.proofs.Common.{lit≤};
 ghost use Rattle.qcow2_base.specs.Format.{most_l2_entries};
 ghost use Rattle.qcow2_base.specs.declared.fault.Fault.TheVariants.{NoMemory};
 ghost use Rattle.qcow2_metadata.specs.Entries.L2Mapping.{IsPlaced, meaning};
 ghost use Rattle.qcow2_metadata.specs.Entries.L2Entry.{entry_in_copy};
 ghost use Rattle.qcow2_metadata.specs.Header.{geometry_of};
-ghost use Rattle.qcow2_metadata.specs.Placed.{FollowsWrite, IsLoaded, RefusesPlace, Writes, new_placed};
+ghost use Rattle.qcow2_metadata.specs.Placed.{IsLoaded, RefusesPlace, WritesIfModified, new_placed};
 ghost use Rattle.qcow2_metadata.specs.Table.{IsTableFault, l2_entries, l2_kind, l2_layout, layout_of_table, loaded_l2_table, mapping_at};
 ghost use Rattle.qcow2_metadata.specs.Results.{Reads};
 
@@ -68,7 +68,7 @@ fn shared_entries(
 impl EntryTable<AtomicL2Entry> {
     ghost use Rattle.std.specs.Prelude.{option_map};
     ghost use Rattle.qcow2_metadata.specs.Table.L2Guards.{IsTableGuard, guarded_range, references};
-    ghost use Rattle.qcow2_metadata.specs.Table.L2Table.{IsMappedRun, compressed_range};
+    ghost use Rattle.qcow2_metadata.specs.Table.L2Table.{IsMappedRun, LeavesTable, compressed_range};
 
     /// A table of an image with this header in which no cluster has data. It has no cluster, and
     /// counts as modified. Fails only where memory runs out.
@@ -139,8 +139,7 @@ impl EntryTable<AtomicL2Entry> {
         ensures loaded { OnOk result (IsLoaded (l2_layout self.old.geometry) self.old.geometry cluster
             (S.state image.old) self.new) }
         ensures memory { IfErr result (λ fault. fault ≢ NoMemory) }
-        ensures shape { (self.new.geometry ≡ self.old.geometry)
-            × (length self.new.numbers ≡ length self.old.numbers) }
+        ensures left { LeavesTable result self.old self.new }
     {
         let (cluster_bits, entries) = (self.cluster_bits(), self.entries());
         let offset = table_offset(cluster, cluster_bits, entries, Self::MAX_ENTRIES)?;
@@ -158,12 +157,8 @@ impl EntryTable<AtomicL2Entry> {
         cluster: HostCluster,
     ) -> Result<(), Fault>
         requires { self.old.modified ≡ true → self.old.cluster ≡ Some cluster }
-        ensures idle { self.old.modified ≡ false →
-            IsOk result × (self.new ≡ self.old) × (image.new ≡ image.old) }
-        ensures written { self.old.modified ≡ true →
-            Writes (layout_of_table l2_kind self.old) self.old.numbers self.old.cluster result
-            (S.state image.old) (S.state image.new) }
-        ensures flag { FollowsWrite result self.old self.new }
+        ensures { WritesIfModified S.state (layout_of_table l2_kind self.old) result self.old self.new
+            image.old image.new }
     {
         // The caller's word for the cluster is in the contract alone.
         let _ = cluster;

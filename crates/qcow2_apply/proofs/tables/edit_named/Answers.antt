@@ -18,8 +18,8 @@ returns-in_err-reload-clause-fault g c =
 
 pub returns-in_err-reload-clause-table : goal.returns-in_err-reload-clause-table
 returns-in_err-reload-clause-table g c = record {
-  geometry = c.in_err-reload.ensures.shape.0 ∙ c.requires.table.geometry;
-  count = c.in_err-reload.ensures.shape.1 ∙ c.requires.table.count;
+  geometry = c.in_err-reload.ensures.left.geometry ∙ c.requires.table.geometry;
+  count = c.in_err-reload.ensures.left.count ∙ c.requires.table.count;
 }
 
 pub returns-clause-edited : goal.returns-clause-edited
