@@ -1,6 +1,7 @@
 mod GrowthExamples
 mod OneEntryExamples
 pub mod ChainLemmas
+pub mod ClearedLemmas
 pub mod CopiedLemmas
 pub mod EntriesLemmas
 pub mod ExtensionsLemmas

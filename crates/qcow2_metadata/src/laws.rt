@@ -2,13 +2,14 @@
 //! that does nothing. Its contract is the law, and its name says it.
 
 ghost use Rattle.std.specs.Prelude.{◌≡◌, ℕ, Bool, true, false, ◌≤◌, ◌↔◌, Ok, ◌∷◌, if◌then◌else◌, Some, ◌^◌, ◌<◌, max, List, Err, ◌≢◌, ◌++◌, length, slice_index};
-ghost use Rattle.qcow2_base.specs.Storage.{Image, be};
+ghost use Rattle.qcow2_base.specs.Storage.{Image, SameOutside, be};
 ghost use Rattle.std.specs.List.{All};
 ghost use Rattle.qcow2_base.specs.Types.{IsClusterBits};
 ghost use Rattle.qcow2_metadata.specs.Entries.L2Entry.{IsAllocation, allocation, refers_by_flag};
 ghost use Rattle.qcow2_metadata.specs.Entries.{offset_field, with_copied};
 ghost use Rattle.qcow2_metadata.specs.Entries.L1Entry.{l1_fault};
-ghost use Rattle.qcow2_metadata.specs.Header.Open.{SaysSame, header_after_load};
+ghost use Rattle.qcow2_metadata.specs.Header.Open.{SaysSame, header_after_load, without_autoclear};
+ghost use Rattle.qcow2_metadata.specs.Header.Pointers.{HasNameElsewhere};
 ghost use Rattle.qcow2_metadata.specs.Header.{Geometry, HeaderRecord, IsValidHeader};
 ghost use Rattle.qcow2_metadata.specs.Header.Grammar.{IsHeader, header_of};
 ghost use Rattle.std.specs.Ordering.{is_eq};
@@ -75,6 +76,15 @@ pub fn a_written_header_reads_back()
 pub fn a_header_made_writable_says_the_same()
     ensures { (header written : HeaderRecord) → header_after_load true (Ok header) ≡ Ok written →
         SaysSame header written × SaysSame header (header_read_back written) }
+{}
+
+/// Where the eight bytes of autoclear features become 0 in an image of version 3, and no other byte changes,
+/// the image has the header that it had, without these features. This asks that no byte of the backing
+/// file's name is one of them: by the grammar a name may lie anywhere in the first cluster, also over fields.
+pub fn a_cleared_field_leaves_the_other_parts_of_a_header()
+    ensures { (header : HeaderRecord) (image other : Image) → header_of image ≡ Ok header →
+        header.v2.version ≡ 3 → SameOutside 88 8 image other → be other 88 8 ≡ 0 → HasNameElsewhere header →
+        header_of other ≡ Ok (without_autoclear header) }
 {}
 
 /// The number of spare entries by division is the least that is enough, and one at least.

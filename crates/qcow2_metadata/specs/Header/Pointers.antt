@@ -1,5 +1,5 @@
 -- What does a header say once one of its fields is another, and which of its bytes are written then?
-use Rattle.std.specs.Prelude.{◌≡◌, ℕ, ◌+◌, ◌-◌, ◌*◌, ◌^◌, ◌≤◌, List, [], ◌∷◌, length, nat_lt, ◌==◌, if◌then◌else◌, OnOk, IsOkUnless, Option, Some, None, Result}
+use Rattle.std.specs.Prelude.{◌≡◌, ◌⊎◌, ℕ, ◌+◌, ◌-◌, ◌*◌, ◌^◌, ◌≤◌, List, [], ◌∷◌, length, nat_lt, ◌==◌, if◌then◌else◌, OnOk, IsOkUnless, Option, Some, None, Result}
 use Rattle.std.specs.Int.{div_ceil}
 use Rattle.qcow2_base.specs.OnDiskStruct.{LayoutField, big, number_in}
 use Rattle.qcow2_base.specs.Storage.{Image, OnImages, OnlyWrites, StorageState}
@@ -29,6 +29,11 @@ HoldsBetween image first end (f ∷ fields) =
 -- what is written of a header whose autoclear features are cleared: their field, where it names any
 abbrev pub cleared_fields : HeaderRecord → List LayoutField
 cleared_fields header = if header.base.autoclear_features == 0 then [] else (big 88 8 0 ∷ [])
+
+-- no byte of the backing file's name is in that field
+abbrev pub HasNameElsewhere : HeaderRecord → Type 0
+HasNameElsewhere header = (header.v2.backing_file_offset ≡ 0)
+    ⊎ (header.v2.backing_file_offset + header.v2.backing_file_size ≤ 88) ⊎ (88 + 8 ≤ header.v2.backing_file_offset)
 
 -- a write of a header between two places, which ended in this answer. After an Ok those of the fields that are between
 -- them are there, and no byte outside the range changes

@@ -124,6 +124,7 @@ impl Header {
     ///
     /// A header without any stays as it is, and the storage isn't called. Takes no memory. Returns fault 34
     /// alone, and then the header is as before and any bytes may be in that range; no other byte changes.
+    /// A backing file's name that has some of these bytes, which the grammar allows, is another then.
     pub fn clear_autoclear<S: Storage>(&mut self, image: &mut S) -> Result<(), Fault>
         ensures header { MatchResult result (λ _. self.new ≡ without_autoclear self.old)
             (λ _. self.new ≡ self.old) }
