@@ -14,7 +14,7 @@ use Rattle.qcow2_metadata.specs.Table.{IsEntryFault, TableState, l2_entries, l2_
 use Rattle.qcow2_metadata.specs.Table.L2Guards.{RunEnd, fits_table, run_of}
 use Rattle.qcow2_check.specs.NamedTables.{named_cluster}
 use Rattle.qcow2_apply.specs.GuestEdits.{edits_in, first_unfit_of}
-use Rattle.qcow2_apply.specs.Passes.{Places}
+use Rattle.qcow2_apply.specs.Passes.{ArePlacesApart, Places}
 use Rattle.qcow2_apply.specs.declared.guest_edits.GuestEdit.{GuestEdit}
 
 -- the L2 tables that an L1 table names
@@ -77,6 +77,13 @@ NoneFailsBefore header l1 edits index image = (i : ℕ) (fault : Fault) → i < 
 -- the first such table that can't be loaded fails by this fault
 abbrev pub FirstFails : HeaderRecord → List ℕ → List GuestEdit → Fault → Image → Type 0
 FirstFails header l1 edits fault image = (index : ℕ) × FailsAt header l1 edits index fault image × NoneFailsBefore header l1 edits index image
+
+-- the edits of all tables ended in this answer: each that edits change could be loaded, or it says why the first of these
+-- couldn't, where no two L1 entries name one
+pub record LoadAll (header : HeaderRecord) (l1 : List ℕ) (edits : List GuestEdit) (answer : Result (Unit {0}) Fault) (image : StorageState) : Type 0 where
+  pub loads : OnOk answer (ArePlacesApart (l2_tables header l1) → OnImage image (NoneFailsBefore header l1 edits (length l1)))
+  pub fault : IfErr answer (λ fault. IsRereadFault fault × (ArePlacesApart (l2_tables header l1) → OnImage image (λ bytes.
+      (fault ≡ Storage) ⊎ FirstFails header l1 edits fault bytes)))
 
 -- all edits can be made of an L2 table of an image with this header
 abbrev pub AreMade : HeaderRecord → List Edit → Type 0

@@ -12,7 +12,7 @@ ghost use Rattle.qcow2_check.specs.NamedTables.{IsInImage};
 ghost use Rattle.qcow2_check.specs.Failures.{ReportsFailures, TearsAtMost};
 ghost use Rattle.qcow2_apply.specs.GuestEdits.{edits_in};
 ghost use Rattle.qcow2_apply.specs.Passes.{ArePlacesApart, KeepsOutside, PassBreaksOff, Passes, StepsAt, TearsOne};
-ghost use Rattle.qcow2_apply.specs.Tables.{AllFit, AreMade, EditsTable, FirstFails, IsEdited, IsHeldTable, IsLeftBy, IsRereadFault, IsL2TableOf, LoadsAt, MakesRun, NoneFailsBefore, l2_tables};
+ghost use Rattle.qcow2_apply.specs.Tables.{AllFit, AreMade, EditsTable, IsEdited, IsHeldTable, IsLeftBy, IsRereadFault, IsL2TableOf, LoadAll, LoadsAt, MakesRun, l2_tables};
 
 use crate::guest_edits::{GuestEdit, are_some_in};
 use qcow2_base::{Fault, HostCluster, Storage};
@@ -116,8 +116,8 @@ fn edit_at<S: Storage>(
 }
 
 /// Makes edits of the disk in all L2 tables of an image, and waits until they are on the device. Each table
-/// is read over the given one, and written once at most, so no memory is taken. Guest clusters without a
-/// table are passed over.
+/// is read over the given one, which is one of the image still, and written once at most, so no memory is
+/// taken. Guest clusters without a table are passed over.
 ///
 /// Returns the fault of the first table that can't be loaded. After a fault those before it may be edited, so
 /// the call must not be made again; where the storage failed, any bytes may be in one more. Takes time by
@@ -136,14 +136,10 @@ pub fn edit_tables<S: Storage>(
         OnImages (S.state image.old) (S.state image.new) (λ before after. MatchResult result
         (λ _. Passes tables (IsEdited header.now edits.now) before after)
         (λ fault. PassBreaksOff tables (IsEdited header.now edits.now) fault before after)) }
-    ensures loaded { OnOk result (ArePlacesApart (l2_tables header.now l1_table.now.numbers) →
-        OnImage (S.state image.old) (NoneFailsBefore header.now l1_table.now.numbers edits.now
-        header.now.v2.l1_size)) }
+    ensures loaded { LoadAll header.now l1_table.now.numbers edits.now result (S.state image.old) }
     ensures others { OnImages (S.state image.old) (S.state image.new)
         (KeepsOutside (l2_tables header.now l1_table.now.numbers)) }
-    ensures fault { IfErr result (λ fault. IsRereadFault fault
-        × (ArePlacesApart (l2_tables header.now l1_table.now.numbers) → OnImage (S.state image.old) (λ bytes.
-        (fault ≡ Storage) ⊎ FirstFails header.now l1_table.now.numbers edits.now fault bytes))) }
+    ensures table { IsL2TableOf header.now table.new }
     ensures storage { ReportsFailures result (S.state image.old) (S.state image.new) }
 {
     for index in 0..header.l1_table_entries() {

@@ -43,19 +43,22 @@ returns-in_err-edit_at-clause-edited g c = λ apart told.
     (g.S.Storage.state c.args.image.now).byte_at (g.S.Storage.state c.loop-index.image).byte_at (g.S.Storage.state c.edit_at.new.image).byte_at
     (c.loop-index.invariant.passed apart told) (c.in_err-edit_at.ensures.edited apart known))
 
-pub returns-in_err-edit_at-clause-fault : goal.returns-in_err-edit_at-clause-fault
-returns-in_err-edit_at-clause-fault g c =
+pub returns-in_err-edit_at-clause-loaded : goal.returns-in_err-edit_at-clause-loaded
+returns-in_err-edit_at-clause-loaded g c =
     let exit = err_from_is_err_and c.from_residual.result c.from_residual.ensures.1 in
-    rw (exit.1, exit.2) (
-      c.in_err-edit_at.ensures.loaded.fault.0,
-      λ apart told.
-          let known : IsTrue (g.S.Storage.state c.loop-index.image).tells = search rules in
-          elim (c.in_err-edit_at.ensures.loaded.fault.1 known) [
-            | inl failed ↦ inl failed
-            | inr fails ↦ inr (fails-first c.args.header.now c.args.l1_table.now.numbers c.args.edits.now c.loop-index.index c.in_err-edit_at.field-0.0 (g.S.Storage.state c.args.image.now).byte_at
-                (g.S.Storage.state c.loop-index.image).byte_at (c.loop-index.invariant.passed apart told) (c.loop-index.invariant.loaded apart told) fails)
-          ],
-    )
+    rw (exit.1, exit.2) (record {
+      loads = tt;
+      fault = (
+        c.in_err-edit_at.ensures.loaded.fault.0,
+        λ apart told.
+            let known : IsTrue (g.S.Storage.state c.loop-index.image).tells = search rules in
+            elim (c.in_err-edit_at.ensures.loaded.fault.1 known) [
+              | inl failed ↦ inl failed
+              | inr fails ↦ inr (fails-first c.args.header.now c.args.l1_table.now.numbers c.args.edits.now c.loop-index.index c.in_err-edit_at.field-0.0 (g.S.Storage.state c.args.image.now).byte_at
+                  (g.S.Storage.state c.loop-index.image).byte_at (c.loop-index.invariant.passed apart told) (c.loop-index.invariant.loaded apart told) fails)
+            ],
+      );
+    })
 
 pub returns-in_err-edit_at-clause-storage : goal.returns-in_err-edit_at-clause-storage
 returns-in_err-edit_at-clause-storage g c = grind (arith)
@@ -92,4 +95,7 @@ returns-clause-others g c = λ told. let same : (g.S.Storage.state c.sync.new.se
     rw same (c.loop-index.invariant.others told)
 
 pub returns-clause-loaded : goal.returns-clause-loaded
-returns-clause-loaded g c = λ apart told i fault below fails. c.loop-index.invariant.loaded apart told i fault (omega (arith, below, c.loop-index-test.false)) fails
+returns-clause-loaded g c = record {
+  loads = λ apart told i fault below fails. c.loop-index.invariant.loaded apart told i fault (omega (arith, below, c.requires.count, c.loop-index-test.false)) fails;
+  fault = tt;
+}

@@ -46,7 +46,7 @@ returns-in_err-edit_tables-clause-fault g c = λ apart.
     let bits : IsClusterBits c.args.header.now.v2.cluster_bits = search rules in
     rw (exit.1, exit.2) (λ told first can cleared.
     let known : IsTrue counted.tells = search rules in
-    elim (c.in_err-edit_tables.ensures.fault.1 apart.tables_apart known) [
+    elim (c.in_err-edit_tables.ensures.loaded.fault.1 apart.tables_apart known) [
       | inl failed ↦ failed
       | inr fails ↦ absurd (tables-load c.args.edits.now tables plan.gains c.in_err-edit_tables.field-0.0 first bytes counted.byte_at bits apart
           can.tables_allow cleared (c.in_ok-follow_changes.ensures.followed apart.blocks_apart told) fails)
