@@ -10,6 +10,7 @@ pub mod EditedImageLemmas
 pub mod EditedReadsLemmas
 pub mod EditedTableLemmas
 pub mod HarmLemmas
+pub mod HelpLemmas
 pub mod HexLemmas
 pub mod ListingLemmas
 pub mod MapLemmas

@@ -7,6 +7,7 @@ pub mod Count
 pub mod Edit
 pub mod Entries
 pub mod Facts
+pub mod Help
 pub mod Info
 pub mod L2
 pub mod List
@@ -16,13 +17,14 @@ pub mod Report
 pub mod Running
 pub mod Verdict
 pub mod Words
-use Rattle.std.specs.Prelude.{if◌then◌else◌, ◌∷◌, Option, None, bytes_eq, codes}
+use Rattle.std.specs.Prelude.{◌≡◌, if◌then◌else◌, ◌∷◌, Option, None, bytes_eq, codes}
 use Rattle.qcow2_session.specs.Commands.Apply.{apply_command, apply_facts}
 use Rattle.qcow2_session.specs.Commands.At.{at_command, at_facts}
 use Rattle.qcow2_session.specs.Commands.Check.{check_command, check_facts}
 use Rattle.qcow2_session.specs.Commands.Count.{count_command, count_facts}
 use Rattle.qcow2_session.specs.Commands.Edit.{edit_command, edit_facts}
 use Rattle.qcow2_session.specs.Commands.Facts.{CommandFacts}
+use Rattle.qcow2_session.specs.Commands.Help.{asked_text}
 use Rattle.qcow2_session.specs.Commands.Info.{info_facts}
 use Rattle.qcow2_session.specs.Commands.L2.{l2_command, l2_facts}
 use Rattle.qcow2_session.specs.Commands.List.{list_facts}
@@ -49,6 +51,10 @@ command_by_name name image arguments =
 abbrev pub command_of : WordList → Option Command
 command_of (name ∷ image ∷ arguments) = command_by_name name image arguments
 command_of _ = None
+
+-- words that ask for no command and for no text
+abbrev pub AskForNothing : WordList → Type 0
+AskForNothing words = (command_of words ≡ None) × (asked_text words ≡ None)
 
 -- the facts of a command
 abbrev pub facts_of : Command → CommandFacts

@@ -14,6 +14,7 @@ mod check;
 mod count;
 mod edit;
 mod entries;
+mod help;
 mod info;
 mod l2;
 mod list;

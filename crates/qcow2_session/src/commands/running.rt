@@ -3,7 +3,8 @@
 ghost use Rattle.std.specs.Prelude.{◌≡◌, ◌≢◌, ◌≤◌, ◌↔◌, None, Ok, Err, false, map, string_bytes, IsErr, IfErr, IfOk, IfSome, OnErr, OnOk, MatchResult};
 ghost use Rattle.std.specs.Io.KnownBytes.{Keeps};
 ghost use Rattle.qcow2_base.specs.declared.fault.Fault.TheVariants.{Storage as StorageFailed};
-ghost use Rattle.qcow2_session.specs.Commands.{command_of, facts_of};
+ghost use Rattle.qcow2_session.specs.Commands.{AskForNothing, command_of, facts_of};
+ghost use Rattle.qcow2_session.specs.Commands.Help.{PrintsAsked, asked_text, text_of};
 ghost use Rattle.qcow2_session.specs.Commands.Printing.{AppendsPart, PrintsLast, run_over};
 ghost use Rattle.qcow2_session.specs.Commands.Report.{Reports, fault_line};
 ghost use Rattle.qcow2_session.specs.Commands.Running.{FindsHeader, Runs, RunsAndFlushes};
@@ -16,6 +17,7 @@ use super::at::print_mapping_at;
 use super::check::check_in_form;
 use super::count::count_references;
 use super::edit::edit_entries;
+use super::help::HelpText;
 use super::info::print_info;
 use super::l2::{new_header, print_l2_table};
 use super::list::list_tables;
@@ -31,12 +33,14 @@ use std::rt::Files;
 use std::{fs, io};
 
 /// Runs a command line, the words after the program's name, and returns the program's status: 0 for
-/// success, 1 for a fault and 2 for words that are no command. 3 and 4 are those of `Verdict::status`, for
+/// success, 1 for a fault and 2 for words that ask for nothing. 3 and 4 are those of `Verdict::status`, for
 /// what a command found that is wrong with its image.
 ///
-/// What the command finds goes to `out`, where lines before a fault stay. A fault is the line
-/// `qmeta: fault N` on `err`, wrong words are the usage line there. `out` is flushed after a command,
-/// `err` after a line on it. A failed write to `out` is the storage fault; one to `err` changes nothing.
+/// What the command finds goes to `out`, where lines before a fault stay. `help`, `explain` and `version`
+/// print a text there, and open no image. A fault is the line `qmeta: fault N` on `err`, wrong words are the
+/// usage line there. `out` is flushed after a command, `err` after a line on it. A failed write to `out` is
+/// the storage fault; one to `err` changes nothing.
+#[tactic(auto, using(crate::proofs::HelpLemmas::asked_is_no_command))]
 pub fn run_words<R: Files + AllocGlobal, O: Write, E: Write>(
     rt: &R,
     words: &[String],
@@ -47,11 +51,44 @@ pub fn run_words<R: Files + AllocGlobal, O: Write, E: Write>(
     ensures status { (result ≤ 4) × IfSome (command_of (map string_bytes words.now)) (λ command.
         (facts_of command).has_verdict ≡ false → result ≤ 1) }
 
-    ensures wrong_words { (result ≡ 2) ↔ (command_of (map string_bytes words.now) ≡ None) }
-    ensures no_lines { result ≡ 2 → out.new ≡ out.old }
+    ensures wrong_words { ((result ≡ 2) ↔ AskForNothing (map string_bytes words.now))
+        × (result ≡ 2 → out.new ≡ out.old) }
+    ensures text { IfSome (asked_text (map string_bytes words.now)) (λ text.
+        PrintsAsked result text (O.contents out.old) (O.contents out.new)) }
     ensures reports { Reports result E.contents err.old err.new }
 
     // A table at a place that no image has is a fault whatever the image, and no line is printed.
+    ensures place { IfSome (command_of (map string_bytes words.now)) (λ command.
+        IfSome (facts_of command).place_fault (λ fault.
+        (result ≡ 1) × Keeps (O.contents out.old) (O.contents out.new))) }
+{
+    match HelpText::parse(words) {
+        Some(text) => print_asked(text, out, err),
+        None => run_command(rt, words, out, err),
+    }
+}
+
+// Prints a text that words ask for, and returns the status.
+fn print_asked<O: Write, E: Write>(text: HelpText, out: &mut O, err: &mut E) -> u8
+    ensures text { PrintsAsked result (text_of text) (O.contents out.old) (O.contents out.new) }
+    ensures reports { Reports result E.contents err.old err.new }
+{
+    let printed = text.print(out);
+    status_of(after_flush(fine(printed), out.flush()), err)
+}
+
+// Runs the command that words ask for, and returns the status: 2 where they ask for none.
+fn run_command<R: Files + AllocGlobal, O: Write, E: Write>(
+    rt: &R,
+    words: &[String],
+    out: &mut O,
+    err: &mut E,
+) -> u8
+    ensures status { (result ≤ 4) × IfSome (command_of (map string_bytes words.now)) (λ command.
+        (facts_of command).has_verdict ≡ false → result ≤ 1) }
+    ensures wrong_words { (result ≡ 2) ↔ (command_of (map string_bytes words.now) ≡ None) }
+    ensures no_lines { result ≡ 2 → out.new ≡ out.old }
+    ensures reports { Reports result E.contents err.old err.new }
     ensures place { IfSome (command_of (map string_bytes words.now)) (λ command.
         IfSome (facts_of command).place_fault (λ fault.
         (result ≡ 1) × Keeps (O.contents out.old) (O.contents out.new))) }

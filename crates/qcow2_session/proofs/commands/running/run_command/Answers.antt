@@ -2,7 +2,7 @@ use Rattle.std.proofs.Common.{arith}
 use Rattle.std.proofs.lemmas.List.{length-map}
 use Rattle.qcow2_session.proofs.CommandsLemmas.{too_few_words}
 use Rattle.qcow2_session.proofs.RunningLemmas.{reports-run}
-use Rattle.qcow2_session.proofs.commands.running.run_words.Goals as goal
+use Rattle.qcow2_session.proofs.commands.running.run_command.Goals as goal
 
 pub returns-in-Some-Ok-clause-reports : goal.returns-in-Some-Ok-clause-reports
 returns-in-Some-Ok-clause-reports g c = reports-run _ _ _ _ _ c.status_of.ensures.status c.status_of.ensures.line

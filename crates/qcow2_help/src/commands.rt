@@ -1,0 +1,205 @@
+//! The texts of `help` and `version`.
+
+ghost use Rattle.std.specs.Prelude.{◌≡◌, option_map};
+ghost use Rattle.qcow2_help.specs.CommandTexts.{command_text, commands_text, version_text};
+
+const COMMANDS: &str = "\
+qmeta prints what a qcow2 disk image says about itself, and edits it.
+
+  info IMAGE                      what the header says
+  list IMAGE                      what each mapped guest cluster reads as
+  map IMAGE [json]                what the whole disk reads as, extent by extent
+  at IMAGE OFFSET                 what one guest offset reads as
+  check IMAGE [json]              whether counters and flags are what the tables say
+  check IMAGE repair              make them so, and check what is left
+  apply IMAGE [plan] EDIT..       change what ranges of the disk read as, with all counters
+  edit IMAGE L1INDEX EDIT..       change mappings of one L2 table, and no counter
+  count IMAGE CLUSTER STEP..      change counters of one refcount block
+  l2 IMAGE CLUSTER_BITS CLUSTER   list one L2 table, whatever the header says
+  help [COMMAND]                  this text, or what a command prints, with its statuses and faults
+  explain [N]                     what fault N means and what helps, or all faults
+  version                         the version of this program
+
+Begin with `qmeta info disk.qcow2` and `qmeta check disk.qcow2`: both only read.
+The status is 0 for success, 1 for a fault, 2 for words that are no command. `check` also has 3 and 4.
+";
+
+const VERSION: &str = "\
+qmeta 0.1.0
+proved with rattle-kit-13f logic dac8208d650f15bf
+";
+
+const INFO: &str = "\
+qmeta info IMAGE
+
+Prints what the header says, in ten lines: version, cluster-bits, size, refcount-order, l1, refcount-table,
+backing, format, external, data-file. A cluster has 2^cluster-bits bytes. Only reads.
+
+Status 0: printed. 1: a fault. Faults: 34 where the file can't be opened or read, 1 to 17 of the header.
+
+  $ qmeta info disk.qcow2
+";
+
+const LIST: &str = "\
+qmeta list IMAGE
+
+Prints a line for each guest cluster that isn't left to the backing file: its guest offset, and one of
+`data OFFSET`, `zero`, `zero OFFSET`, `compressed OFFSET LENGTH`. ` copied` says that the cluster has one
+reference. Only reads.
+
+Status 0: printed. 1: a fault; lines before it stay. Faults: those of `info`, and 18 to 21 of the L1 table or
+of an L2 table.
+
+  $ qmeta list disk.qcow2 | head
+";
+
+const MAP: &str = "\
+qmeta map IMAGE
+qmeta map IMAGE json
+
+Prints what the whole disk reads as, in extents: guest offset, length, and one of `data OFFSET`, `zero`,
+`zero OFFSET`, `compressed`, `backing`. Numbers are hexadecimal. With `json` it prints a list of objects as
+`qemu-img map --output=json` does. Only reads.
+
+Status 0: printed. 1: a fault; extents before it stay. Faults: those of `list`.
+
+  $ qmeta map disk.qcow2
+";
+
+const AT: &str = "\
+qmeta at IMAGE OFFSET
+
+Prints what the guest cluster with the guest offset OFFSET reads as, as `list` does. OFFSET is decimal; a
+shell turns hexadecimal into it by $((0x20100000)). Only reads.
+
+Status 0: printed. 1: a fault. Faults: those of `info`, and 18 to 21 of the L1 table or of the L2 table.
+
+  $ qmeta at disk.qcow2 $((0x20100000))
+";
+
+const CHECK: &str = "\
+qmeta check IMAGE
+qmeta check IMAGE json
+qmeta check IMAGE repair
+
+Compares the counter of each host cluster with its uses, and each copied flag with the counter. Prints
+`leaked`, `missing` and `shared` with FIRST COUNT COUNTER USES, and `false` and `late` flags. The last line
+is `consistent`, or how many there are of each. With `json` it prints numbers, as `qemu-img check
+--output=json` does. With `repair` it makes counters and flags right first; without it only reads.
+
+Status 0: consistent. 1: a fault. 3: only leaks and late flags, which harm nobody. 4: anything worse.
+Faults: those of `info`; 37 with snapshots, bitmaps or an encryption header; 18 to 21 of the tables. With
+`repair` also 39 where somebody else has the image open, and 38, 30 or 24 where it can't be repaired.
+
+  $ qmeta check disk.qcow2
+";
+
+const APPLY: &str = "\
+qmeta apply IMAGE EDIT..
+qmeta apply IMAGE plan EDIT..
+
+Changes what ranges of the disk read as, with all counters, so that a crash leaves leaks at most. With
+`plan` it prints the same and writes nothing. An EDIT is one of
+
+  discard:OFFSET:LENGTH    the range is left to the backing file; discard:OFFSET is one cluster
+  zero:OFFSET:LENGTH       it reads as zeros
+  keep:OFFSET:LENGTH       it reads as zeros, and keeps its clusters
+  map:OFFSET:CLUSTER       a guest cluster is the data in a host cluster that is free
+
+OFFSET and LENGTH are multiples of the cluster size, decimal or with 0x. It prints `freed FIRST COUNT` for
+clusters that are free now, `kept CLUSTER COUNTER` for those that others use, and `gained CLUSTER`.
+
+Status 0: made. 1: a fault. Faults: those of `info`; 39, 36, 32, 27, 23, 40, 30, and 18 to 21 of the tables.
+All but 34 come before a byte changes. `qmeta explain N` says more.
+
+  $ qmeta apply disk.qcow2 plan discard:0x20100000
+";
+
+const EDIT: &str = "\
+qmeta edit IMAGE L1INDEX EDIT..
+
+Changes entries of the L2 table of an L1 entry, and no counter: `apply` is safer. An EDIT is one of
+map:INDEX:CLUSTER, zero:INDEX, keep:INDEX, discard:INDEX. It prints `freed FIRST COUNT` and `gained
+CLUSTER`, whose counters are yours to change by `count`. Copy the image first.
+
+Status 0: all edits are made. 1: a fault; none is made. Faults: those of `info`; 39, 24, 23, 32, and 18 to 21
+of the tables.
+
+  $ qmeta edit disk.qcow2 1 discard:16
+";
+
+const COUNT: &str = "\
+qmeta count IMAGE CLUSTER STEP..
+
+Changes counters of the refcount block that begins with a host cluster. A STEP is inc:INDEX or dec:INDEX. It
+prints `ok` and the counter before each step, or `refused` where it would pass 0 or the greatest number.
+CLUSTER is your word: whatever lies there is changed. Copy the image first.
+
+Status 0: the steps are made, but for those refused. 1: a fault; none is made. Faults: those of `info`; 39,
+24, 21, 33.
+
+  $ qmeta count disk.qcow2 2 dec:9
+";
+
+const L2: &str = "\
+qmeta l2 IMAGE CLUSTER_BITS CLUSTER
+
+Lists the L2 table that begins with a host cluster, and doesn't look at the image's header. A line has the
+index of an entry and what `list` prints. Only reads.
+
+Status 0: printed. 1: a fault. Faults: 34 where the file can't be opened or read, 18, 19 and 21 of the table.
+
+  $ qmeta l2 disk.qcow2 16 8
+";
+
+const HELP: &str = "\
+qmeta help
+qmeta help COMMAND
+qmeta explain
+qmeta explain N
+qmeta version
+
+`help` prints all commands, or one command's words, lines, statuses and faults. `explain` prints all faults,
+or of fault N what must hold, what mostly breaks it, and what helps. `--help`, `-h` and `--version` do the
+same. None opens an image.
+
+Status 0: printed. 1: fault 34, where the output failed.
+
+  $ qmeta explain 17
+";
+
+/// All commands, a line each, and where to read on.
+#[tactic(auto, unfolding(crate::specs::CommandTexts::commands_text))]
+pub fn commands_help() -> &'static str
+    ensures { result.now ≡ commands_text }
+{
+    COMMANDS
+}
+
+/// The version of the program, and the toolchain that it is proved with.
+#[tactic(auto, unfolding(crate::specs::CommandTexts::version_text))]
+pub fn version() -> &'static str
+    ensures { result.now ≡ version_text }
+{
+    VERSION
+}
+
+/// What a command prints, with its words, its statuses and its faults, if there is a command of this name.
+#[tactic(auto, unfolding(crate::specs::CommandTexts::command_text))]
+pub fn command_help(name: &str) -> Option<&'static str>
+    ensures { option_map (λ text. text.now) result ≡ command_text name.now }
+{
+    match name {
+        "info" => Some(INFO),
+        "list" => Some(LIST),
+        "map" => Some(MAP),
+        "at" => Some(AT),
+        "check" => Some(CHECK),
+        "apply" => Some(APPLY),
+        "edit" => Some(EDIT),
+        "count" => Some(COUNT),
+        "l2" => Some(L2),
+        "help" | "explain" | "version" => Some(HELP),
+        _ => None,
+    }
+}

@@ -1,0 +1,314 @@
+//! The texts of `explain`: for each fault what must hold, what mostly breaks it, and what helps.
+
+ghost use Rattle.std.specs.Prelude.{◌≡◌, option_map};
+ghost use Rattle.qcow2_help.specs.FaultTexts.{fault_text};
+
+/// How many faults there are. Their numbers are 1 to this.
+pub const FAULT_COUNT: u64 = 40;
+
+const NOT_QCOW2: &str = "\
+fault 1, NotQcow2: A qcow2 image begins with the four bytes 51 46 49 fb.
+The file is of another format, or its first bytes are damaged.
+`qemu-img info` prints the format; if that was qcow2 once, restore the first cluster from a copy.
+";
+
+const VERSION: &str = "\
+fault 2, Version: The version in bytes 4 to 7 of the header must be 2 or 3.
+The image has version 1, or its first bytes are damaged.
+`qemu-img info` prints the format; convert an old image by `qemu-img convert -O qcow2`, else restore
+the first cluster from a copy.
+";
+
+const CLUSTER_SIZE: &str = "\
+fault 3, ClusterSize: The field cluster_bits of the header must be 9 to 21.
+The header is damaged, or no qcow2 program wrote it.
+Restore the first cluster from a copy of the same state.
+";
+
+const HEADER_SHORT: &str = "\
+fault 4, HeaderShort: The field header_length must be at least 104.
+The header is damaged, or no qcow2 program wrote it.
+Restore the first cluster from a copy of the same state.
+";
+
+const HEADER_BIG: &str = "\
+fault 5, HeaderBig: The header must end within the first cluster.
+The field header_length is damaged.
+Restore the first cluster from a copy of the same state.
+";
+
+const L1_UNALIGNED: &str = "\
+fault 6, L1Unaligned: The offset of the L1 table must be a multiple of the cluster size.
+The header is damaged: it names the place of another table, or its cluster size is wrong.
+Restore the first cluster from a copy of the same state.
+";
+
+const REFTABLE_UNALIGNED: &str = "\
+fault 7, ReftableUnaligned: The offset of the refcount table must be a multiple of the cluster size.
+The header is damaged: it names the place of another table, or its cluster size is wrong.
+Restore the first cluster from a copy of the same state.
+";
+
+const REFCOUNT_WIDTH: &str = "\
+fault 8, RefcountWidth: The field refcount_order must be at most 6.
+The header is damaged, or no qcow2 program wrote it.
+Restore the first cluster from a copy of the same state.
+";
+
+const BACKING_NAME_LONG: &str = "\
+fault 9, BackingNameLong: The name of the backing file must have at most 1023 bytes.
+The fields of the backing file in the header are damaged.
+Restore the first cluster from a copy of the same state.
+";
+
+const BACKING_NAME_PLACE: &str = "\
+fault 10, BackingNamePlace: The name of the backing file must end within the first cluster.
+The fields of the backing file in the header are damaged.
+Restore the first cluster from a copy of the same state.
+";
+
+const BACKING_NAME_TEXT: &str = "\
+fault 11, BackingNameText: The name of the backing file must be UTF-8.
+The name is damaged, or was written in another encoding, as Latin-1.
+Give the image a name in UTF-8 by `qemu-img rebase -u -b NAME -F FORMAT IMAGE`.
+";
+
+const EXTENSIONS_EXCEED: &str = "\
+fault 12, ExtensionsExceed: The header extensions must end within the first cluster.
+The length of an extension is damaged.
+Restore the first cluster from a copy of the same state.
+";
+
+const EXTENSION_TEXT: &str = "\
+fault 13, ExtensionText: The backing format and the data file's name in header extensions must be UTF-8.
+An extension is damaged, or a name was written in another encoding.
+Restore the first cluster from a copy of the same state.
+";
+
+const FEATURE_NAME_CUT: &str = "\
+fault 14, FeatureNameCut: An entry of the feature name table must have at least its type and its bit.
+The extension that names features is damaged, or its length is.
+Restore the first cluster from a copy of the same state.
+";
+
+const FORMAT_CONFLICT: &str = "\
+fault 15, FormatConflict: All header extensions of the backing format must hold the same name.
+A program added an extension and left the old one.
+Write the format anew by `qemu-img rebase -u -b NAME -F FORMAT IMAGE`.
+";
+
+const DATA_FILE_CONFLICT: &str = "\
+fault 16, DataFileConflict: All header extensions of the external data file must hold the same name.
+A program added an extension and left the old one.
+Restore the first cluster from a copy of the same state.
+";
+
+const INCOMPATIBLE: &str = "\
+fault 17, Incompatible: No incompatible feature may be set but that of an external data file.
+The image was left dirty or corrupt, or has a feature that isn't read here, as subclusters or zstd
+compression.
+Run `qemu-img check -r all` on a dirty or corrupt image; copy any other by `qemu-img convert -O
+qcow2 IMAGE NEW`.
+";
+
+const ENTRY_RESERVED: &str = "\
+fault 18, EntryReserved: The reserved bits of a table entry must be 0.
+The table is damaged, or something else was written over it.
+Restore the table from a copy, or give that entry up: write 0 there, and then run `qemu-img check -r
+leaks`.
+";
+
+const ENTRY_UNALIGNED: &str = "\
+fault 19, EntryUnaligned: The offset in a table entry must be a multiple of the cluster size.
+The table is damaged, or something else was written over it.
+Restore the table from a copy, or give that entry up: write 0 there, and then run `qemu-img check -r
+leaks`.
+";
+
+const TABLE_TOO_BIG: &str = "\
+fault 20, TableTooBig: A table must have at most as many entries as its kind allows.
+The header is damaged: its count of L1 entries, or of the refcount table's clusters.
+Restore the first cluster from a copy of the same state.
+";
+
+const TABLE_PLACE: &str = "\
+fault 21, TablePlace: A table or a refcount block must end at or below offset 2^56.
+An offset in the header or in a table is damaged, or a CLUSTER on the command line is too large.
+Look at the number that was given, or restore the header or the table from a copy.
+";
+
+const NO_OFFSET: &str = "\
+fault 22, NoOffset: A table or a refcount block that is written must have a cluster.
+A program that calls the library didn't give it one; `qmeta` always does.
+Tell whoever wrote that program.
+";
+
+const NOT_PLACED: &str = "\
+fault 23, NotPlaced: A table or a refcount block that is referred to must have a cluster.
+`edit` or `apply` was asked to change a range without an L2 table, or `apply` to map a cluster that
+no refcount block counts.
+Let the guest write there first, or map another cluster.
+";
+
+const HEADER_TOO_LONG: &str = "\
+fault 24, HeaderTooLong: The header with its names must fit the first cluster.
+It has autoclear features, must be written anew without them, and grows by that.
+Shorten the backing file's name by `qemu-img rebase -u -b NAME -F FORMAT IMAGE`.
+";
+
+const NAME_TOO_LONG: &str = "\
+fault 25, NameTooLong: A name that is set for the backing file must have at most 1023 bytes.
+A program that calls the library set a longer one; `qmeta` sets none.
+Tell whoever wrote that program.
+";
+
+const FIELD_CHANGED: &str = "\
+fault 26, FieldChanged: An image that is in use must keep what its header says.
+Another program changed the header while a program that calls the library had it open; `qmeta`
+doesn't look.
+Let one program alone write to the image.
+";
+
+const VERSION_NEEDED: &str = "\
+fault 27, VersionNeeded: Zero clusters need an image of version 3.
+`apply` was asked for `zero` or `keep` in an image of version 2.
+Use `discard` where there is no backing file, or first run `qemu-img amend -o compat=1.1 IMAGE`.
+";
+
+const CANNOT_GROW: &str = "\
+fault 28, CannotGrow: A table that grows must have at most as many entries as its kind allows.
+A program that calls the library asked for more; `qmeta` makes no table longer.
+Tell whoever wrote that program.
+";
+
+const TOO_MANY: &str = "\
+fault 29, TooMany: A count of entries or clusters must fit the 32 bits of its header field.
+A program that calls the library set a greater one; `qmeta` sets none.
+Tell whoever wrote that program.
+";
+
+const COUNTER_RANGE: &str = "\
+fault 30, CounterRange: A refcount must stay from 0 to the greatest number of its width.
+A counter is wrong already, or more entries refer to a cluster than its counter can say.
+Run `qmeta check IMAGE`; where a repair ends in this fault, copy the image by `qemu-img convert -O
+qcow2 IMAGE NEW`.
+";
+
+const WRONG_LENGTH: &str = "\
+fault 31, WrongLength: A buffer must have the length of the structure in it.
+A program that calls the library gave another one; `qmeta` always gives the right one.
+Tell whoever wrote that program.
+";
+
+const BAD_EDIT: &str = "\
+fault 32, BadEdit: Each edit must name entries that are there, and a cluster that an entry can hold.
+An INDEX or a range is past the end, an OFFSET or LENGTH is no multiple of the cluster size, or a
+mapped cluster isn't free.
+Look at the edits again by `qmeta info` and `qmeta at`; none was made.
+";
+
+const BAD_STEP: &str = "\
+fault 33, BadStep: Each step must name a counter of the refcount block.
+An INDEX is past the end of the block.
+A block has 2^(cluster-bits + 3 - refcount-order) counters, by the numbers of `qmeta info`; no step
+was made.
+";
+
+const STORAGE: &str = "\
+fault 34, Storage: Each call of the file and of the output must succeed.
+The file is missing, is a directory or may not be opened; or a read, a write or the output failed,
+as where the disk is full or a pipe was closed.
+Look at the path, its permissions, the disk's space and the output; after a failed write run `qmeta
+check IMAGE`.
+";
+
+const NO_MEMORY: &str = "\
+fault 35, NoMemory: Memory must be left.
+The machine or its limits have too little for the tables of this image.
+Try again with more; nothing was changed, but that a repair may have made some of its steps.
+";
+
+const EXTERNAL_DATA: &str = "\
+fault 36, ExternalData: Clusters must have counters in the image, and those of an external data file \
+have none.
+`apply` was asked to edit an image with an external data file.
+Use `qmeta edit`, which changes no counter.
+";
+
+const UNCOUNTED: &str = "\
+fault 37, Uncounted: All that refers to clusters must be read, and snapshots, bitmaps and encryption \
+headers aren't.
+`check` was asked of an image that has one of these.
+Run `qemu-img check`, which counts them.
+";
+
+const OVERLAP: &str = "\
+fault 38, Overlap: The header, a table or a refcount block must not share its cluster.
+Something was written over it, and a repair can't know which of the two is right.
+Restore the image from a copy, or save what can be read by `qemu-img convert -O qcow2 IMAGE NEW`.
+";
+
+const IN_USE: &str = "\
+fault 39, InUse: An image that is changed must be used by nobody else.
+A virtual machine, a program of QEMU's or another `qmeta` has it open; nothing of it was read or
+written.
+End that program first; `fuser -v IMAGE` names it.
+";
+
+const SHARED: &str = "\
+fault 40, Shared: An L2 table that `apply` edits must have one reference, and its L1 entry must say so.
+A snapshot shares the table, or its counter or copied flag is wrong.
+With snapshots let the guest write there first, or delete them; without any run `qmeta check IMAGE
+repair`.
+";
+
+/// What the fault of a number means, if there is one: its number and name, the rule of the format or of a
+/// call that is broken, what mostly breaks it, and what helps.
+#[tactic(auto, unfolding(crate::specs::FaultTexts::fault_text))]
+pub fn fault_help(number: u64) -> Option<&'static str>
+    ensures { option_map (λ text. text.now) result ≡ fault_text number }
+{
+    match number {
+        1 => Some(NOT_QCOW2),
+        2 => Some(VERSION),
+        3 => Some(CLUSTER_SIZE),
+        4 => Some(HEADER_SHORT),
+        5 => Some(HEADER_BIG),
+        6 => Some(L1_UNALIGNED),
+        7 => Some(REFTABLE_UNALIGNED),
+        8 => Some(REFCOUNT_WIDTH),
+        9 => Some(BACKING_NAME_LONG),
+        10 => Some(BACKING_NAME_PLACE),
+        11 => Some(BACKING_NAME_TEXT),
+        12 => Some(EXTENSIONS_EXCEED),
+        13 => Some(EXTENSION_TEXT),
+        14 => Some(FEATURE_NAME_CUT),
+        15 => Some(FORMAT_CONFLICT),
+        16 => Some(DATA_FILE_CONFLICT),
+        17 => Some(INCOMPATIBLE),
+        18 => Some(ENTRY_RESERVED),
+        19 => Some(ENTRY_UNALIGNED),
+        20 => Some(TABLE_TOO_BIG),
+        21 => Some(TABLE_PLACE),
+        22 => Some(NO_OFFSET),
+        23 => Some(NOT_PLACED),
+        24 => Some(HEADER_TOO_LONG),
+        25 => Some(NAME_TOO_LONG),
+        26 => Some(FIELD_CHANGED),
+        27 => Some(VERSION_NEEDED),
+        28 => Some(CANNOT_GROW),
+        29 => Some(TOO_MANY),
+        30 => Some(COUNTER_RANGE),
+        31 => Some(WRONG_LENGTH),
+        32 => Some(BAD_EDIT),
+        33 => Some(BAD_STEP),
+        34 => Some(STORAGE),
+        35 => Some(NO_MEMORY),
+        36 => Some(EXTERNAL_DATA),
+        37 => Some(UNCOUNTED),
+        38 => Some(OVERLAP),
+        39 => Some(IN_USE),
+        40 => Some(SHARED),
+        _ => None,
+    }
+}

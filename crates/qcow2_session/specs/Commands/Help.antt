@@ -1,0 +1,68 @@
+-- Which words ask for a text and for no image, and what is it?
+use Rattle.std.specs.Prelude.{◌≡◌, ◌⊎◌, ℕ, ◌==◌, ◌++◌, ◌||◌, if◌then◌else◌, List, [], ◌∷◌, Option, Some, None, bytes_eq, codes, flat_map}
+use Rattle.std.specs.Io.KnownBytes.{Appends}
+use Rattle.std.specs.List.{before_first, range_with_len}
+use Rattle.qcow2_help.specs.CommandTexts.{command_text, commands_text, version_text}
+use Rattle.qcow2_help.specs.FaultTexts.{fault_text}
+use Rattle.qcow2_help.specs.declared.faults.TheConstants.{FAULT_COUNT}
+use Rattle.qcow2_session.specs.Commands.Printing.{AppendsPart, OutputBytes}
+use Rattle.qcow2_session.specs.Commands.Words.{WordList, word_number}
+use Rattle.qcow2_session.specs.declared.commands.help.HelpText.{HelpText}
+use Rattle.qcow2_session.specs.declared.commands.help.HelpText.TheVariants as help
+
+-- a text up to its first newline
+abbrev pub first_line_of : List ℕ → List ℕ
+first_line_of text = before_first (λ b. b == 10) text
+
+-- the first line of a text, where there is one
+abbrev pub rule_in : Option (List ℕ) → List ℕ
+rule_in None = []
+rule_in (Some text) = first_line_of text ++ codes "\n"
+
+-- the first line of the text on a fault
+abbrev pub rule_of : ℕ → List ℕ
+rule_of fault = rule_in (fault_text fault)
+
+-- the first lines of the texts on all faults
+abbrev pub all_rules : List ℕ
+all_rules = flat_map rule_of (range_with_len 1 FAULT_COUNT)
+
+-- a text that words ask for
+abbrev pub text_of : HelpText → List ℕ
+text_of (help.Whole text) = text.now
+text_of help.Rules = all_rules
+
+-- what the words after `help` ask for
+abbrev pub help_text : WordList → Option (List ℕ)
+help_text [] = Some commands_text
+help_text (name ∷ []) = command_text name
+help_text _ = None
+
+-- the text on the fault that a word may name by its number
+abbrev pub text_by_number : Option ℕ → Option (List ℕ)
+text_by_number None = None
+text_by_number (Some number) = fault_text number
+
+-- what the words after `explain` ask for
+abbrev pub explain_text : WordList → Option (List ℕ)
+explain_text [] = Some all_rules
+explain_text (word ∷ []) = text_by_number (word_number word)
+explain_text _ = None
+
+-- this text, where there are no words more
+abbrev pub text_alone : List ℕ → WordList → Option (List ℕ)
+text_alone text [] = Some text
+text_alone text _ = None
+
+-- the text that a line of words asks for, if it asks for one
+abbrev pub asked_text : WordList → Option (List ℕ)
+asked_text [] = None
+asked_text (name ∷ arguments) =
+    if bytes_eq name (codes "help") || bytes_eq name (codes "--help") || bytes_eq name (codes "-h") then help_text arguments
+    else if bytes_eq name (codes "explain") then explain_text arguments
+    else if bytes_eq name (codes "version") || bytes_eq name (codes "--version") then text_alone version_text arguments
+    else None
+
+-- a text was asked for: it was printed, and the status is 0, or the output failed and has a beginning of it, and it is 1
+abbrev pub PrintsAsked : ℕ → List ℕ → OutputBytes → OutputBytes → Type 0
+PrintsAsked status text old new = ((status ≡ 0) × Appends old new text) ⊎ ((status ≡ 1) × AppendsPart old new text)
