@@ -186,6 +186,17 @@ uint32_t zq_l2_entry(uint64_t entry, const zq_header *header, uint64_t guest_off
 uint32_t zq_l2_check(const uint8_t *bytes, size_t length, const zq_header *header, size_t *index);
 
 /*
+ * The counters from index first on of a refcount block, as many as count says, by the bytes of the whole block. A counter
+ * has 1 << refcount_order bits, so a block with 1 << cluster_bits bytes has 1 << (cluster_bits + 3 - refcount_order)
+ * of them. Where e is that number, counter i of the block with index b in the refcount table is that of the image's
+ * cluster b * e + i. If count is 0, counters may be NULL. Takes no memory.
+ * Faults: ZQ_REFCOUNT_WIDTH, then ZQ_WRONG_LENGTH where no cluster has that length (it must be a power of two from 512
+ * to 2 MiB), then ZQ_BAD_STEP where first + count is more than the block has counters.
+ */
+uint32_t zq_refcounts_read(const uint8_t *bytes, size_t length, uint32_t refcount_order, size_t first,
+                           uint64_t *counters, size_t count);
+
+/*
  * What the cluster of a guest offset reads as, by the bytes of a whole image, which may be mapped memory. After its last
  * byte an image has zeros. The size of the guest's disk isn't looked at. Takes memory for the header's names, and for
  * the L1 table and the L2 table that it reads.

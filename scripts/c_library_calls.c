@@ -1,6 +1,6 @@
 /* Calls each function of zaqulle.h with input that no caller should pass, and checks the fault and that results stay as
- * they were. Compares what 200,000 numbers in an L2 table say with a reading by hand. Bytes that are passed end where a page
- * begins that may not be read, so that reading past them ends the program.
+ * they were. Compares what 200,000 numbers in an L2 table say, and counters of refcount blocks, with a reading by hand.
+ * Bytes that are passed end where a page begins that may not be read, so that reading past them ends the program.
  * Prints a line for each call that isn't as it must be. The status is 1 if one wasn't. */
 #define _DEFAULT_SOURCE
 #include <stdio.h>
@@ -330,6 +330,64 @@ static void check_random_numbers(void) {
     }
 }
 
+/* Counter i of a block, read bit by bit: in a byte the first is the lowest, and a wider one begins with its highest byte. */
+static uint64_t counter_by_hand(const uint8_t *block, uint32_t order, size_t i) {
+    uint64_t counter = 0;
+    for (size_t bit = 0; bit < (size_t)1 << order; bit++) {
+        size_t place = order < 3 ? (i << order) + bit : 8 * (((i + 1) << (order - 3)) - 1 - bit / 8) + bit % 8;
+        counter |= (uint64_t)(block[place / 8] >> place % 8 & 1) << bit;
+    }
+    return counter;
+}
+
+/* Blocks of drawn bytes: those with clusters of 512 bytes, 64 KiB and 2 MiB, and counters of each width. */
+static void check_refcounts(void) {
+    static const size_t sizes[] = {512, 1 << 16, 1 << 21};
+    uint8_t *block = (uint8_t *)malloc(1 << 21);
+    uint64_t state = 2, found[64];
+    for (size_t i = 0; block != NULL && i < 1 << 21; i++) {
+        block[i] = (uint8_t)(next_random(&state) >> 40);
+    }
+    for (size_t row = 0; block != NULL && row < 21; row++) {
+        uint32_t order = (uint32_t)(row / 3);
+        size_t size = sizes[row % 3], entries = (size * 8) >> order, first = row % 2 ? entries - 64 : 0;
+        expect("zq_refcounts_read of row", row, zq_refcounts_read(block, size, order, first, found, 64), ZQ_OK);
+        for (size_t i = 0; i < 64; i++) {
+            expect("counter", first + i, found[i], counter_by_hand(block, order, first + i));
+        }
+    }
+    free(block);
+}
+
+/* How many bytes of a block are passed, its refcount order, the counters that are asked for, and the fault. */
+static const struct {
+    size_t length;
+    uint32_t order;
+    size_t first, count;
+    uint32_t fault;
+} refcounts[] = {
+    {512, 7, 0, 1, ZQ_REFCOUNT_WIDTH}, {0, UINT32_MAX, SIZE_MAX, 4, ZQ_REFCOUNT_WIDTH}, {0, 4, 0, 0, ZQ_WRONG_LENGTH},
+    {256, 4, 0, 1, ZQ_WRONG_LENGTH}, {511, 0, 0, 1, ZQ_WRONG_LENGTH}, {513, 0, 0, 1, ZQ_WRONG_LENGTH},
+    {1536, 4, 0, 1, ZQ_WRONG_LENGTH}, {512, 4, 255, 1, ZQ_OK}, {512, 4, 255, 2, ZQ_BAD_STEP}, {512, 4, 256, 0, ZQ_OK},
+    {512, 4, 256, 1, ZQ_BAD_STEP}, {512, 6, 60, 4, ZQ_OK}, {512, 0, 4092, 4, ZQ_OK}, {512, 0, 4093, 4, ZQ_BAD_STEP},
+    {512, 4, 257, 0, ZQ_BAD_STEP}, {512, 4, SIZE_MAX, 4, ZQ_BAD_STEP}, {1 << 16, 6, 8191, 2, ZQ_BAD_STEP},
+};
+
+static void check_refused_refcounts(void) {
+    static const uint8_t block[1 << 16] = {0};
+    for (size_t i = 0; i < sizeof refcounts / sizeof *refcounts; i++) {
+        size_t length = refcounts[i].length, first = refcounts[i].first, count = refcounts[i].count;
+        uint64_t found[4];
+        FILL(found);
+        uint32_t fault = zq_refcounts_read(guarded(block, length), length, refcounts[i].order, first, found, count);
+        expect("zq_refcounts_read of refused row", i, fault, refcounts[i].fault);
+        size_t kept = refcounts[i].fault == ZQ_OK ? count : 0;
+        expect("counters after row", i, (uint64_t)is_untouched(found + kept, sizeof found - 8 * kept), 1);
+    }
+    expect("zq_refcounts_read of NULL", 0, zq_refcounts_read(NULL, 0, 4, 0, NULL, 0), ZQ_WRONG_LENGTH);
+    expect("zq_refcounts_read of no counter", 0, zq_refcounts_read(block, 512, 4, 0, NULL, 0), ZQ_OK);
+}
+
 int main(void) {
     check_lengths();
     check_fields();
@@ -338,5 +396,7 @@ int main(void) {
     check_numbers();
     check_lookups();
     check_random_numbers();
+    check_refcounts();
+    check_refused_refcounts();
     return failures != 0;
 }

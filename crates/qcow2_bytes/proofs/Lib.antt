@@ -1,3 +1,4 @@
 pub mod HeaderLemmas
 pub mod ImagesLemmas
 pub mod NamesLemmas
+pub mod RefcountsLemmas

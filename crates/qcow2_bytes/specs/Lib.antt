@@ -1,3 +1,4 @@
 pub mod Entries
 pub mod Header
 pub mod Images
+pub mod Refcounts

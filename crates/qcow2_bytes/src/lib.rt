@@ -5,7 +5,9 @@
 mod entries;
 mod header;
 mod images;
+mod refcounts;
 
 pub use entries::{BadEntry, EntryMapping, L2Pointer, first_bad_l2_entry, l1_entry, l2_entry};
 pub use header::{HeaderFields, NameRange, header_bytes, read_header};
 pub use images::image_lookup;
+pub use refcounts::read_refcounts;

@@ -38,3 +38,12 @@ pub(crate) fn image_lookup(
 ) -> Result<EntryMapping, Fault> {
     qcow2_bytes::image_lookup(alloc, bytes, guest_offset)
 }
+
+pub(crate) fn read_refcounts(
+    bytes: &[u8],
+    refcount_order: u32,
+    first: usize,
+    counters: &mut [u64],
+) -> Result<(), Fault> {
+    qcow2_bytes::read_refcounts(bytes, refcount_order, first, counters)
+}

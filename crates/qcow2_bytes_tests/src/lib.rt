@@ -9,3 +9,5 @@ mod entries;
 mod header;
 #[cfg(test)]
 mod images;
+#[cfg(test)]
+mod refcounts;

@@ -3,15 +3,17 @@
 //! A call returns 0, or the number of the fault that it refuses by.
 #![tactic(auto)]
 
+ghost use Rattle.std.specs.Prelude.{length};
 ghost use Rattle.qcow2_base.specs.Storage.{image_of};
 ghost use Rattle.qcow2_bytes.specs.Entries.{l2_entry_in};
 ghost use Rattle.qcow2_bytes.specs.Header.{first_cluster_size};
 ghost use Rattle.qcow2_bytes.specs.Images.{fields_at};
+ghost use Rattle.qcow2_bytes.specs.Refcounts.{refcounts_in};
 ghost use Rattle.qcow2_ffi.specs.Calls.{ChecksEntries, HandsOver, HandsOverComputed, HandsOverHeader, l1_numbers};
 
 use qcow2_bytes::{
     EntryMapping, HeaderFields, first_bad_l2_entry, header_bytes, image_lookup, l1_entry, l2_entry,
-    read_header,
+    read_header, read_refcounts,
 };
 use std::alloc::Global;
 
@@ -113,6 +115,23 @@ pub extern "C" fn zq_image_lookup(
             *mapping = found;
             0
         }
+        Err(fault) => fault.number(),
+    }
+}
+
+/// The counters of a refcount block from an index on, by the block's bytes.
+#[unsafe(no_mangle)]
+pub extern "C" fn zq_refcounts_read(
+    bytes: &[u8],
+    refcount_order: u32,
+    first: usize,
+    counters: &mut [u64],
+) -> u32
+    ensures { HandsOver (refcounts_in bytes.now refcount_order first (length counters.old)) result
+        counters.old counters.new }
+{
+    match read_refcounts(bytes, refcount_order, first, counters) {
+        Ok(()) => 0,
         Err(fault) => fault.number(),
     }
 }
