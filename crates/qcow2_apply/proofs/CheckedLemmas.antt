@@ -280,7 +280,7 @@ checked-after header edits plan old new done checked none =
     })
 
 -- what is found of an image is so whatever autoclear features its header has
-left-no-errors : (header : HeaderRecord) (plan : Plan) (image : Image) → HasNoErrors (tables_by header plan) image → HasNoErrors (plan_tables header plan) image
+pub left-no-errors : (header : HeaderRecord) (plan : Plan) (image : Image) → HasNoErrors (tables_by header plan) image → HasNoErrors (plan_tables header plan) image
 left-no-errors header plan image none = record {
   findings = findings-all IsNoError (plan_tables header plan) image 0 max_file_length
       (λ c after before. no-error-at (tables_by header plan) image none c (omega (arith, before)));
@@ -296,7 +296,7 @@ planned-reftable : (header : HeaderRecord) (edits : List GuestEdit) (image : Ima
     → placed_reftable header image ≡ Ok tables.reftable
 planned-reftable header edits image tables is = grind (arith, nat_tests, is)
 
-checked-planned : (header : HeaderRecord) (edits : List GuestEdit) (plan : Plan) (image : Image) (tables : ImageTables) → IsPlanOf header edits image plan
+pub checked-planned : (header : HeaderRecord) (edits : List GuestEdit) (plan : Plan) (image : Image) (tables : ImageTables) → IsPlanOf header edits image plan
     → checked_tables header image ≡ Ok tables → tables_by header plan ≡ tables
 checked-planned header edits plan image tables of checked =
     let l1 : loaded_l1_table header image ≡ Ok plan.l1_table.numbers = (are-planned header edits image (tables_by header plan) of.tables).0 in

@@ -12,6 +12,7 @@ pub mod ErrorsLemmas
 pub mod FalseFlagsLemmas
 pub mod GainsLemmas
 pub mod GuestEditsLemmas
+pub mod HeaderLeftLemmas
 pub mod MadeEditsLemmas
 pub mod MappedClustersLemmas
 mod OrderExamples

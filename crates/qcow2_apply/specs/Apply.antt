@@ -11,6 +11,7 @@ use Rattle.qcow2_apply.specs.Passes.{ArePlacesApart, IsOutside, PassBreaksOff, P
 use Rattle.qcow2_metadata.specs.Results.{IsFromOutside, result_map}
 use Rattle.qcow2_apply.specs.Plan.{IsPlanFor, IsPlanOf, RefusesEdits}
 use Rattle.qcow2_metadata.specs.Header.Open.{without_autoclear}
+use Rattle.qcow2_metadata.specs.Header.Pointers.{HasNameElsewhere}
 use Rattle.qcow2_metadata.specs.Refblock.{block_geometry_of}
 use Rattle.qcow2_apply.specs.PlannedChanges.{CannotCount}
 use Rattle.qcow2_apply.specs.PlannedTables.{counter_tables, tables_refusal}
@@ -91,6 +92,15 @@ pub record FollowsPlan (header : HeaderRecord) (edits : List GuestEdit) (plan : 
   pub faults : AreAllApart (plan_tables header plan) → IfErr answer (λ fault. fault ≡ Storage)
   pub memory : IfErr answer (λ fault. fault ≢ NoMemory)
 
+-- clearing the autoclear features of a header, if it has any, changes no byte of the backing file's name
+abbrev pub LosesNoName : HeaderRecord → Type 0
+LosesNoName header = (header.base.autoclear_features ≡ 0) ⊎ HasNameElsewhere header
+
+-- edits of a disk that ended in this answer left this header: one without autoclear features, or after a fault the one that was
+abbrev pub LeavesHeader : {T : Type 0} → HeaderRecord → Result T Fault → HeaderRecord → Type 0
+LeavesHeader header answer left =
+    MatchResult answer (λ _. left ≡ without_autoclear header) (λ _. (left ≡ header) ⊎ (left ≡ without_autoclear header))
+
 -- edits of a disk ended in this answer, and left this header: they were refused, and nothing changed, or they were planned and made,
 -- and what becomes of clusters is what the plan says
 pub data EditsDisk (header left : HeaderRecord) (edits : List GuestEdit) (answer : Result ChangedClusters Fault) (old new : Image) : Type 0 where
@@ -98,7 +108,7 @@ pub data EditsDisk (header left : HeaderRecord) (edits : List GuestEdit) (answer
       → EditsDisk header left edits answer old new
   Makes : (plan : Plan) → IsPlanFor header edits plan → IsPlanOf header edits old plan
       → FollowsPlan header edits plan (result_map (λ _. tt) answer) old new → IfOk answer (λ clusters. clusters ≡ plan.clusters)
-      → EditsDisk header left edits answer old new
+      → LeavesHeader header answer left → EditsDisk header left edits answer old new
 
 -- one write was torn, of a table or of a block
 abbrev pub TearsTableOrBlock : ImageTables → Image → Image → Type 0

@@ -1,11 +1,10 @@
 //! Edits of a disk, with the counters of the clusters that gain and lose references by them.
 
-ghost use Rattle.std.specs.Prelude.{◌≡◌, ◌≢◌, ◌⊎◌, ℕ, IfErr, IfOk, IsOkUnless, MatchResult, OnOk};
+ghost use Rattle.std.specs.Prelude.{◌≡◌, ◌≢◌, ℕ, IfErr, IfOk, IsOkUnless, MatchResult, OnOk};
 ghost use Rattle.qcow2_base.specs.Storage.{Image, OnImage, OnImages, SameOutside};
-ghost use Rattle.qcow2_metadata.specs.Header.Open.{without_autoclear};
 ghost use Rattle.qcow2_base.specs.declared.fault.Fault.TheVariants.{NoMemory, Storage};
 ghost use Rattle.qcow2_check.specs.Failures.{ReportsFailures};
-ghost use Rattle.qcow2_apply.specs.Apply.{Applies, AreAllApart, BreaksOffApplying, CanBeMade, EditsDisk, IsElsewhere, IsWorkspaceOf, tables_by};
+ghost use Rattle.qcow2_apply.specs.Apply.{Applies, AreAllApart, BreaksOffApplying, CanBeMade, EditsDisk, IsElsewhere, IsWorkspaceOf, LeavesHeader, tables_by};
 ghost use Rattle.qcow2_apply.specs.Plan.{IsPlanFor};
 
 use crate::blocks::{CounterTables, follow_changes};
@@ -98,8 +97,7 @@ pub fn apply_edits<S: Storage>(
     header: &mut Header,
     edits: &[GuestEdit],
 ) -> Result<ChangedClusters, Fault>
-    ensures header { (header.new ≡ without_autoclear header.old)
-        ⊎ IfErr result (λ _. header.new ≡ header.old) }
+    ensures header { LeavesHeader header.old result header.new }
     ensures edited { OnImages (S.state image.old) (S.state image.new)
         (EditsDisk header.old header.new edits.now result) }
     ensures storage { ReportsFailures result (S.state image.old) (S.state image.new) }

@@ -6,12 +6,13 @@ ghost use Rattle.qcow2_base.specs.Format.{max_file_length};
 ghost use Rattle.qcow2_base.specs.Storage.{Image};
 ghost use Rattle.qcow2_base.specs.declared.fault.Fault.{Fault};
 ghost use Rattle.qcow2_metadata.specs.Header.{HeaderRecord, IsValidHeader};
+ghost use Rattle.qcow2_metadata.specs.Header.Grammar.{header_of};
 ghost use Rattle.qcow2_metadata.specs.Header.Open.{without_autoclear};
 ghost use Rattle.qcow2_check.specs.Counters.{blocks_fault};
 ghost use Rattle.qcow2_check.specs.Failures.{TearsAtMost};
 ghost use Rattle.qcow2_check.specs.Findings.{AreRight, checked_tables};
 ghost use Rattle.qcow2_check.specs.Uses.{ImageTables, image_uses, uses_of};
-ghost use Rattle.qcow2_apply.specs.Apply.{AreAllApart, FollowsPlan, KeepDistance, TearsTableOrBlock, l2_tables_of, plan_tables};
+ghost use Rattle.qcow2_apply.specs.Apply.{AreAllApart, FollowsPlan, KeepDistance, LosesNoName, TearsTableOrBlock, l2_tables_of, plan_tables};
 ghost use Rattle.qcow2_apply.specs.Blocks.{HasCounter, counter_of_cluster};
 ghost use Rattle.qcow2_apply.specs.Crashes.{CrashesInPlan};
 ghost use Rattle.qcow2_apply.specs.Errors.{HasNoErrors, HasNoLeaks};
@@ -68,6 +69,15 @@ pub fn tables_and_blocks_are_apart_where_nothing_is_found()
     ensures { (tables : ImageTables) (image : Image) → AreRight tables image 0 max_file_length →
         blocks_fault tables.header tables.reftable ≡ None → ArePlacesApart (l2_tables_of tables) →
         AreAllApart tables }
+{}
+
+/// Where edits of a disk were made in an image that begins with the header, and whose tables and blocks are
+/// apart, the image begins then with the header that they leave, which is the same without autoclear
+/// features. This asks that no byte of the backing file's name is one of those that are cleared.
+pub fn an_image_has_the_header_that_edits_leave()
+    ensures { (header : HeaderRecord) (edits : List GuestEdit) (plan : Plan) (old new : Image) →
+        header_of old ≡ Ok header → LosesNoName header → FollowsPlan header edits plan (Ok tt) old new →
+        AreAllApart (plan_tables header plan) → header_of new ≡ Ok (without_autoclear header) }
 {}
 
 /// Where edits of a disk were made in an image without errors, of which no two L1 entries name one L2 table,

@@ -1,14 +1,12 @@
 use Rattle.std.proofs.lemmas.Bool.Decides.{nat_tests}
-use Rattle.std.proofs.Common.{◌≡◌, ◌≢◌, ℕ, zero, suc, ◌+◌, ◌-◌, ◌*◌, ◌/◌, ◌^◌, ◌<◌, ◌≤◌, List, [], ◌∷◌, slice_get, Option, Some, None, Result, Ok, Err, ap, lit<, refl, sym, ◌∙◌, inl, inr, arith}
-use Rattle.std.proofs.Math.Nat.{pow-le-pow_right}
+use Rattle.std.proofs.Common.{◌≡◌, ◌≢◌, ℕ, zero, suc, ◌+◌, ◌-◌, ◌*◌, ◌/◌, ◌^◌, ◌<◌, ◌≤◌, List, [], ◌∷◌, slice_get, Option, Some, None, Result, Ok, Err, ap, refl, sym, ◌∙◌, inl, inr, arith}
 use Rattle.std.proofs.lemmas.Bool.{cases_eq}
 use Rattle.std.proofs.lemmas.List.Sums.{sum_by-cons}
 use Rattle.std.proofs.lemmas.Nat.{div-mul-add}
 use Rattle.std.proofs.lemmas.Option.{none-some, slice_get-map}
 use Rattle.std.specs.List.{sum_by}
-use Rattle.qcow2_base.specs.Storage.{Image, SameOutside, be}
+use Rattle.qcow2_base.specs.Storage.{Image, SameOutside}
 use Rattle.qcow2_base.specs.declared.fault.Fault.{Fault}
-use Rattle.qcow2_base.specs.declared.on_disk_struct.v2_header.V2Header.{V2Header}
 use Rattle.qcow2_base.specs.declared.types.HostCluster.{HostCluster}
 use Rattle.qcow2_edits.specs.Edits.{cluster_numbers}
 use Rattle.qcow2_edits.specs.declared.edits.Outcome.{Outcome}
@@ -22,8 +20,8 @@ use Rattle.qcow2_check.specs.NamedTables.{l1_cluster, loaded_l1_table}
 use Rattle.qcow2_image.specs.Lookups.{image_mapping, l2_cluster, mapping_by}
 use Rattle.qcow2_metadata.specs.Table.{Kind, l1_kind, l2_entries, l2_kind, l2_layout, loaded_l2_table, table_layout, table_numbers}
 use Rattle.qcow2_metadata.specs.Placed.{numbers_at, offset_of}
-use Rattle.qcow2_metadata.proofs.LawsLemmas.{header_of-same}
-use Rattle.qcow2_metadata.proofs.GrammarLemmas.{header_of-is, holds-v2_at}
+use Rattle.qcow2_metadata.proofs.LawsLemmas.{first-cluster-kept}
+use Rattle.qcow2_metadata.proofs.GrammarLemmas.{header_of-is}
 use Rattle.qcow2_metadata.proofs.TableLemmas.{full_cluster, table_numbers_same}
 
 -- two images agree but in the L2 table at a cluster
@@ -48,12 +46,7 @@ numbers-kept kind cb n cluster old new kept = table_numbers_same new old (cluste
 -- and the same header
 pub header-kept : (header : HeaderRecord) (old new : Image) → header_of old ≡ Ok header
     → Keeps (first_cluster_bytes header) old new → header_of new ≡ header_of old
-header-kept header old new is kept =
-    let lawful = header_of-is old header is in
-    let size : 2 ^ be old 20 4 ≡ 2 ^ header.v2.cluster_bits =
-    ap (λ (v2 : V2Header). 2 ^ v2.cluster_bits) (holds-v2_at old header.v2 lawful.v2) in
-    let least : 2 ^ 9 ≤ 2 ^ header.v2.cluster_bits = pow-le-pow_right (lit< tt) lawful.cluster_bits.0 in
-    header_of-same old new (λ o below. kept o (omega arith, omega (arith, below, size, least)))
+header-kept header old new is kept = first-cluster-kept header old new is (λ o below. kept o (omega arith, below)) ∙ sym is
 
 -- what shares no byte with the table that is changed is kept
 kept : (header : HeaderRecord) (cluster : HostCluster) (old new : Image) → ChangesL2Table header cluster old new

@@ -17,11 +17,11 @@ use Rattle.qcow2_check.specs.Findings.{AreRight, uses_of_kind}
 use Rattle.qcow2_check.specs.NamedTables.{l1_cluster, l1_layout, loaded_l1_table}
 use Rattle.qcow2_check.specs.Uses.{ImageTables, header_uses}
 use Rattle.qcow2_check.specs.declared.tally.UseKind.TheVariants.{Fixed}
-use Rattle.qcow2_image.proofs.WholeImageLemmas.{header-kept}
 use Rattle.qcow2_image.specs.Lookups.{guest_mapping, image_mapping, mapping_in}
 use Rattle.qcow2_apply.proofs.ApartLemmas.{all-apart, block-apart}
 use Rattle.qcow2_apply.proofs.ApplyLemmas.{after-field, are-planned}
-use Rattle.qcow2_apply.specs.Apply.{AreAllApart, FollowsPlan, IsElsewhere, l2_tables_of, plan_tables, tables_by}
+use Rattle.qcow2_apply.proofs.HeaderLeftLemmas.{header-left}
+use Rattle.qcow2_apply.specs.Apply.{FollowsPlan, IsElsewhere, LosesNoName, l2_tables_of, plan_tables, tables_by}
 use Rattle.qcow2_apply.specs.Passes.{ArePlacesApart}
 use Rattle.qcow2_apply.specs.Plan.{IsPlanFor, IsPlanOf}
 use Rattle.qcow2_apply.specs.declared.guest_edits.GuestEdit.{GuestEdit}
@@ -103,30 +103,14 @@ image-reads-as-left header edits plan old new valid for of follows right apart o
     ∙ reads-as-left header edits plan old new valid for of follows all o
     ∙ ap (λ loaded. result_map (mapping_left header.v2.cluster_bits o edits) (and_then loaded (λ l1. guest_mapping g l1 o old))) (sym before)
 
--- no byte of the first cluster is in a table or a block
-first-elsewhere : (tables : ImageTables) (o : ℕ) → AreAllApart tables → o < 2 ^ tables.header.v2.cluster_bits → IsElsewhere tables o
-first-elsewhere tables o apart below =
-    let first : o / 2 ^ tables.header.v2.cluster_bits < 1 = (div-lt_iff_lt-mul (pow_pos tables.header.v2.cluster_bits)).1 (omega (arith, below)) in (
-      λ i table names here. absurd (omega (arith, first, here, apart.tables_after i table names)),
-      λ i block names here. absurd (omega (arith, first, here, apart.blocks_after i block names)),
-    )
-
--- so edits leave the header where it has no autoclear features
-header-stays : (header : HeaderRecord) (edits : List GuestEdit) (plan : Plan) (old new : Image) → header_of old ≡ Ok header
-    → header.base.autoclear_features ≡ 0 → FollowsPlan header edits plan (Ok tt) old new → AreAllApart (plan_tables header plan)
-    → header_of new ≡ Ok header
-header-stays header edits plan old new is none follows apart =
-    header-kept header old new is (λ o within. follows.others o (first-elsewhere (plan_tables header plan) o apart within.1) ∙ ap (λ (image : Image). image o) (follows.idle none))
-    ∙ is
-
--- and then all of it holds by the bytes alone
+-- and then all of it holds by the bytes alone, since the image has the header that is left
 pub bytes-read-as-left : (header : HeaderRecord) (edits : List GuestEdit) (plan : Plan) (old new : Image) → header_of old ≡ Ok header
-    → header.base.autoclear_features ≡ 0 → IsValidHeader header → IsPlanFor header edits plan → IsPlanOf header edits old plan
+    → LosesNoName header → IsValidHeader header → IsPlanFor header edits plan → IsPlanOf header edits old plan
     → FollowsPlan header edits plan (Ok tt) old new → AreRight (tables_by header plan) old 0 max_file_length
     → ArePlacesApart (l2_tables_of (tables_by header plan)) → (o : ℕ)
     → image_mapping o new ≡ result_map (mapping_left header.v2.cluster_bits o edits) (image_mapping o old)
-bytes-read-as-left header edits plan old new is none valid for of follows right apart o =
+bytes-read-as-left header edits plan old new is keeps valid for of follows right apart o =
     let all = all-apart (plan_tables header plan) old right for.blocks apart in
-    ap (λ found. and_then found (λ header. mapping_in header o new)) (header-stays header edits plan old new is none follows all)
+    ap (λ found. and_then found (λ header. mapping_in header o new)) (header-left header edits plan old new is keeps follows all)
     ∙ image-reads-as-left header edits plan old new valid for of follows right apart o
     ∙ ap (λ found. result_map (mapping_left header.v2.cluster_bits o edits) (and_then found (λ header. mapping_in header o old))) (sym is)

@@ -1,10 +1,11 @@
-use Rattle.std.proofs.Common.{◌≡◌, ◌≢◌, ℕ, Bool, true, false, ◌+◌, List, [], ◌∷◌, Ok, cond, refl, sym, ◌∙◌, arith}
+use Rattle.std.proofs.Common.{◌≡◌, ◌≢◌, ℕ, Bool, true, false, ◌+◌, List, [], ◌∷◌, Ok, cond, refl, subst, sym, ◌∙◌, arith}
 use Rattle.std.proofs.lemmas.Bool.Decides.{nat_tests}
 use Rattle.std.proofs.lemmas.List.Elements.{All-cons, All-head, All-nil, All-tail}
 use Rattle.std.proofs.lemmas.List.Sums.{sum_by-cons}
 use Rattle.std.specs.List.{All, sum_by}
 use Rattle.qcow2_base.specs.Storage.{Image}
 use Rattle.qcow2_metadata.specs.Header.{HeaderRecord, IsValidHeader}
+use Rattle.qcow2_metadata.specs.Header.Grammar.{header_of}
 use Rattle.qcow2_metadata.specs.Header.Open.{without_autoclear}
 use Rattle.qcow2_metadata.specs.Table.L2Guards.{one_if}
 use Rattle.qcow2_check.specs.Findings.{checked_tables, image_findings}
@@ -13,7 +14,8 @@ use Rattle.qcow2_check.specs.Uses.{ImageTables}
 use Rattle.qcow2_check.specs.declared.findings.Finding.{Finding}
 use Rattle.qcow2_check.specs.declared.flags.WrongFlag.{WrongFlag}
 use Rattle.qcow2_apply.proofs.CheckedLemmas.{finds-none}
-use Rattle.qcow2_apply.specs.Apply.{EditsDisk, FollowsPlan, l2_tables_of}
+use Rattle.qcow2_apply.proofs.HeaderLeftLemmas.{header-left-by-check}
+use Rattle.qcow2_apply.specs.Apply.{EditsDisk, FollowsPlan, LosesNoName, l2_tables_of}
 use Rattle.qcow2_apply.specs.Errors.{HasNoErrors, IsLate}
 use Rattle.qcow2_apply.specs.Passes.{ArePlacesApart}
 use Rattle.qcow2_apply.specs.Plan.{IsPlanFor, IsPlanOf}
@@ -109,10 +111,16 @@ no-harm-by-plan header edits plan old new tables valid for of follows checked ap
     let left : ImageTables = record tables { header = without_autoclear header } in
     rw after.0 (verdict-of-no-errors left new after.1)
 
--- and so do all that were made
+-- and so do all that were made, with the header that they leave, which the image has then
 pub no-harm-left : (header left : HeaderRecord) (edits : List GuestEdit) (clusters : ChangedClusters) (old new : Image) (tables : ImageTables)
     → IsValidHeader header → EditsDisk header left edits (Ok clusters) old new → checked_tables header old ≡ Ok tables
-    → ArePlacesApart (l2_tables_of tables) → FindsNoHarm header old → FindsNoHarm (without_autoclear header) new
-no-harm-left header left edits clusters old new tables valid (EditsDisk.Makes plan for of follows listed) checked apart safe =
-    no-harm-by-plan header edits plan old new tables valid for of follows checked apart safe
+    → ArePlacesApart (l2_tables_of tables) → FindsNoHarm header old
+    → FindsNoHarm left new × (header_of old ≡ Ok header → LosesNoName header → header_of new ≡ Ok left)
+no-harm-left header left edits clusters old new tables valid (EditsDisk.Makes plan for of follows listed leaves) checked apart safe =
+    let before : (report_on tables old).verdict ≢ Harmful = rw checked at safe in
+    let none = no-errors-of-verdict tables old before in
+    subst (λ left. FindsNoHarm left new × (header_of old ≡ Ok header → LosesNoName header → header_of new ≡ Ok left)) (sym leaves) (
+      no-harm-by-plan header edits plan old new tables valid for of follows checked apart safe,
+      header-left-by-check header edits plan old new tables valid for of follows checked apart none,
+    )
 no-harm-left header left edits clusters old new tables valid (EditsDisk.Refuses why refused same unchanged) checked apart safe = absurd (grind (arith, refused))

@@ -8,11 +8,10 @@ ghost use Rattle.qcow2_base.specs.Storage.{Image};
 ghost use Rattle.qcow2_metadata.specs.Entries.L2Mapping.{Mapping};
 ghost use Rattle.qcow2_metadata.specs.Header.{HeaderRecord, IsValidHeader, geometry_of};
 ghost use Rattle.qcow2_metadata.specs.Header.Grammar.{header_of};
-ghost use Rattle.qcow2_metadata.specs.Header.Open.{without_autoclear};
 ghost use Rattle.qcow2_metadata.specs.Results.{result_map};
 ghost use Rattle.qcow2_check.specs.Findings.{AreRight, checked_tables};
 ghost use Rattle.qcow2_check.specs.Uses.{ImageTables};
-ghost use Rattle.qcow2_apply.specs.Apply.{AreAllApart, EditsDisk, FollowsPlan, l2_tables_of, plan_tables, tables_by};
+ghost use Rattle.qcow2_apply.specs.Apply.{AreAllApart, EditsDisk, FollowsPlan, LosesNoName, l2_tables_of, plan_tables, tables_by};
 ghost use Rattle.qcow2_apply.specs.Passes.{ArePlacesApart};
 ghost use Rattle.qcow2_apply.specs.Plan.{IsPlanFor, IsPlanOf};
 ghost use Rattle.qcow2_apply.specs.declared.changed_clusters.ChangedClusters.{ChangedClusters};
@@ -39,13 +38,16 @@ pub fn all_is_right_where_the_verdict_is_fine()
 
 /// Where a check of an image ends with a verdict that isn't `Harmful`, and no two L1 entries name one L2
 /// table, it does so after edits of the disk were made, with the header that they leave. So a check can read
-/// all tables still, and what it finds then is leaked clusters and late flags at most.
+/// all tables still, and what it finds then is leaked clusters and late flags at most. An image that began
+/// with the header begins with the one that is left, so that a check of its bytes finds this by itself. That
+/// asks that no byte of the backing file's name is one of those that are cleared.
 pub fn edits_of_a_disk_leave_no_harm_where_there_was_none()
     ensures { (header left : HeaderRecord) (edits : List GuestEdit) (clusters : ChangedClusters)
         (old new : Image) (tables : ImageTables) → IsValidHeader header →
         EditsDisk header left edits (Ok clusters) old new →
         checked_tables header old ≡ Ok tables → ArePlacesApart (l2_tables_of tables) →
-        FindsNoHarm header old → FindsNoHarm (without_autoclear header) new }
+        FindsNoHarm header old → FindsNoHarm left new
+        × (header_of old ≡ Ok header → LosesNoName header → header_of new ≡ Ok left) }
 {}
 
 /// Where edits of a disk were made in an image whose tables and blocks are apart, each guest offset that no
@@ -85,10 +87,11 @@ pub fn a_consistent_disk_reads_as_edits_leave_it()
         ≡ result_map (mapping_left header.v2.cluster_bits offset edits) (mapping_in header offset old) }
 {}
 
-/// And where the header has no autoclear features, all of that holds by the image's bytes alone.
+/// And all of that holds by the image's bytes alone, if no byte of the backing file's name is one of the
+/// header's autoclear features, or it has none of these.
 pub fn a_consistent_image_reads_as_edits_leave_it()
     ensures { (header : HeaderRecord) (edits : List GuestEdit) (plan : Plan) (old new : Image) →
-        header_of old ≡ Ok header → header.base.autoclear_features ≡ 0 → IsValidHeader header →
+        header_of old ≡ Ok header → LosesNoName header → IsValidHeader header →
         IsPlanFor header edits plan → IsPlanOf header edits old plan →
         FollowsPlan header edits plan (Ok tt) old new →
         AreRight (tables_by header plan) old 0 max_file_length →

@@ -1,4 +1,4 @@
-use Rattle.std.proofs.Common.{◌≡◌, ◌∙◌, IsTrue, Ok, Err, ap, refl, subst, sym, arith, rules}
+use Rattle.std.proofs.Common.{◌≡◌, ◌∙◌, IsTrue, Ok, Err, ap, inl, inr, refl, subst, sym, arith, rules}
 use Rattle.std.proofs.lemmas.Bool.Decides.{nat_tests}
 use Rattle.std.proofs.lemmas.Result.{err_from_is_err_and}
 use Rattle.qcow2_base.specs.Storage.{SameDevice, SameOutside}
@@ -38,7 +38,8 @@ returns-in_err-clear_autoclear-clause-edited g c =
     let clears = subst (λ bytes. SameOutside 88 8 bytes cleared.byte_at) same (c.clear_autoclear.ensures.written.storage.others known) in
     Makes c.in_ok-plan.plan c.in_ok-plan.ensures.plan (c.in_ok-plan.ensures.planned told)
     (cut-short c.args.header.now c.args.edits.now c.in_ok-plan.plan c.in_err-clear_autoclear.field-0.0 before.byte_at cleared.byte_at clears
-    (λ none. ap (λ s. (g.S.Storage.state s).byte_at) (c.clear_autoclear.ensures.idle none).1 ∙ same) c.in_err-clear_autoclear.ensures.written.faults) tt)
+    (λ none. ap (λ s. (g.S.Storage.state s).byte_at) (c.clear_autoclear.ensures.idle none).1 ∙ same) c.in_err-clear_autoclear.ensures.written.faults) tt
+    (inl c.in_err-clear_autoclear.ensures.header))
 
 pub returns-in_err-sync-clause-edited : goal.returns-in_err-sync-clause-edited
 returns-in_err-sync-clause-edited g c =
@@ -54,7 +55,7 @@ returns-in_err-sync-clause-edited g c =
     let clears = subst (λ bytes. SameOutside 88 8 bytes cleared.byte_at) same (c.clear_autoclear.ensures.written.storage.others known) in
     Makes c.in_ok-plan.plan c.in_ok-plan.ensures.plan (c.in_ok-plan.ensures.planned told)
     (cut-short c.args.header.now c.args.edits.now c.in_ok-plan.plan exit.0 before.byte_at synced.byte_at (rw last clears)
-    (λ none. last ∙ ap (λ s. (g.S.Storage.state s).byte_at) (c.clear_autoclear.ensures.idle none).1 ∙ same) exit.2) tt)
+    (λ none. last ∙ ap (λ s. (g.S.Storage.state s).byte_at) (c.clear_autoclear.ensures.idle none).1 ∙ same) exit.2) tt (inr c.in_ok-clear_autoclear.ensures.header))
 
 pub returns-in_err-make-clause-edited : goal.returns-in_err-make-clause-edited
 returns-in_err-make-clause-edited g c =
@@ -74,7 +75,8 @@ returns-in_err-make-clause-edited g c =
     c.in_ok-clear_autoclear.ensures.header at_end (rw last clears)
     (λ none. last ∙ ap (λ s. (g.S.Storage.state s).byte_at) (c.clear_autoclear.ensures.idle none).1 ∙ same)
     (λ some. rw last (field-wiped c.args.header.now cleared.byte_at (c.in_ok-clear_autoclear.ensures.written.written known) some)) (c.in_ok-plan.ensures.planned told)
-    c.in_err-make.ensures.applied c.in_err-make.ensures.others c.in_err-make.ensures.fault c.in_err-make.ensures.memory) tt)
+    c.in_err-make.ensures.applied c.in_err-make.ensures.others c.in_err-make.ensures.fault c.in_err-make.ensures.memory) tt
+    (inr c.in_ok-clear_autoclear.ensures.header))
 
 pub returns-clause-edited : goal.returns-clause-edited
 returns-clause-edited g c = λ told.
@@ -92,7 +94,7 @@ returns-clause-edited g c = λ told.
     c.in_ok-clear_autoclear.ensures.header at_end (rw last clears)
     (λ none. last ∙ ap (λ s. (g.S.Storage.state s).byte_at) (c.clear_autoclear.ensures.idle none).1 ∙ same)
     (λ some. rw last (field-wiped c.args.header.now cleared.byte_at (c.in_ok-clear_autoclear.ensures.written.written known) some)) (c.in_ok-plan.ensures.planned told)
-    c.in_ok-make.ensures.applied c.in_ok-make.ensures.others c.in_ok-make.ensures.fault tt) refl
+    c.in_ok-make.ensures.applied c.in_ok-make.ensures.others c.in_ok-make.ensures.fault tt) refl c.in_ok-clear_autoclear.ensures.header
 
 pub returns-in_err-make-clause-storage : goal.returns-in_err-make-clause-storage
 returns-in_err-make-clause-storage g c =
