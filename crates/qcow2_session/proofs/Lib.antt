@@ -1,3 +1,4 @@
+mod ApplyExamples
 mod EditedDiskExamples
 pub mod AccountLemmas
 pub mod ChangingLemmas
