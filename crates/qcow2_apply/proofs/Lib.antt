@@ -8,6 +8,7 @@ pub mod ChangesLemmas
 mod CrashesExamples
 pub mod CrashesLemmas
 pub mod CheckedLemmas
+pub mod EditsByTableLemmas
 pub mod ErrorsLemmas
 pub mod FalseFlagsLemmas
 pub mod GainsLemmas
@@ -15,6 +16,7 @@ pub mod GuestEditsLemmas
 pub mod HeaderLeftLemmas
 pub mod MadeEditsLemmas
 pub mod MappedClustersLemmas
+pub mod MissingLemmas
 mod OrderExamples
 pub mod OrderLemmas
 pub mod PassesLemmas

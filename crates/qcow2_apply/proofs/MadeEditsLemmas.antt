@@ -1,5 +1,5 @@
 use Rattle.std.proofs.Common.{◌≡◌, ◌≢◌, ◌⊎◌, ◌+◌, ◌-◌, ◌%◌, ◌≤◌, ◌<◌, ℕ, zero, suc, List, [], ◌∷◌, ◌++◌, length, map, flat_map, get_or, take, true, false, Option, Some, None, IfSome, option_map, Result, Ok, Err, IsOk, OnOk, IsTrue, ap, inl, inr, refl, sym, subst, ◌∙◌, arith}
-use Rattle.std.proofs.lemmas.List.{flat_map_more, map-append, take_more}
+use Rattle.std.proofs.lemmas.List.{map-append}
 use Rattle.std.proofs.lemmas.Bool.{cases_Bool}
 use Rattle.std.proofs.lemmas.Bool.Decides.{nat_tests}
 use Rattle.std.specs.List.{range_with_len}
@@ -18,9 +18,11 @@ use Rattle.qcow2_metadata.specs.Results.{IsFromOutside, unless_refused}
 use Rattle.qcow2_metadata.specs.Table.{IsTableFault, TableState, l2_entries, l2_kind, l2_layout, layout_of_table, loaded_l2_table}
 use Rattle.qcow2_metadata.proofs.L2GuardsLemmas.{run_of-length, run_of-numbers}
 use Rattle.qcow2_metadata.specs.Table.L2Guards.{run_of}
+use Rattle.qcow2_apply.proofs.EditsByTableLemmas.{edits_by_at, taken-next}
 use Rattle.qcow2_apply.proofs.GuestEditsLemmas.{edits-all, edits-next}
 use Rattle.qcow2_apply.proofs.TablesLemmas.{edit-made, unfit-none}
-use Rattle.qcow2_apply.specs.GuestEdits.{edit_at, edits_by, edits_in, guest_edit_fits}
+use Rattle.qcow2_apply.specs.EditsByTable.{positions_in}
+use Rattle.qcow2_apply.specs.GuestEdits.{edit_at, edits_by, guest_edit_fits}
 use Rattle.qcow2_apply.specs.declared.guest_edits.GuestEdit.{GuestEdit}
 use Rattle.qcow2_apply.specs.Tables.{AllFit, EditsTable, IsHeldTable, IsLeftBy, IsRereadFault, IsL2TableOf, run_in}
 
@@ -98,14 +100,15 @@ all-fit-at header (edit ∷ edits) zero d fit below = (unfit-none (guest_edit_fi
 all-fit-at header (edit ∷ edits) (suc i) d fit below = all-fit-at header edits i d (unfit-none (guest_edit_fits header) edit edits fit).1 (omega (arith, below))
 
 -- one edit of the disk more
-pub left-more : (header : HeaderRecord) (index : ℕ) (edits : List GuestEdit) (i : ℕ) (d : GuestEdit) (old mid new : TableState) → i < length edits
-    → IsLeftBy header (edits_in header.v2.cluster_bits index (take i edits)) old mid → IsLeftBy header (edits_by header.v2.cluster_bits index (get_or edits i d)) mid new
-    → IsLeftBy header (edits_in header.v2.cluster_bits index (take (i + 1) edits)) old new
-left-more header index edits i d old mid new below before made =
-    let of_edit = edits_by header.v2.cluster_bits index in
-    let list = flat_map_more of_edit [] (take i edits) (get_or edits i d) ∙ ap (flat_map of_edit) (sym (take_more edits i d below)) in
-    subst (λ all. IsLeftBy header all old new) list
-    (left-join header (flat_map of_edit (take i edits)) (of_edit (get_or edits i d)) old mid new before made)
+pub left-more : (header : HeaderRecord) (index : ℕ) (edits : List GuestEdit) (ps : List ℕ) (k at : ℕ) (d : GuestEdit) (old mid new : TableState)
+    → ps ≡ positions_in header.v2.cluster_bits index edits → k < length ps
+    → IsLeftBy header (flat_map (edits_by_at header.v2.cluster_bits index edits) (take k ps)) old mid
+    → IsLeftBy header (edits_by header.v2.cluster_bits index (get_or edits (get_or ps k at) d)) mid new
+    → IsLeftBy header (flat_map (edits_by_at header.v2.cluster_bits index edits) (take (k + 1) ps)) old new
+left-more header index edits ps k at d old mid new is below before made =
+    subst (λ all. IsLeftBy header all old new) (sym (taken-next header.v2.cluster_bits index edits ps k at d is below))
+    (left-join header (flat_map (edits_by_at header.v2.cluster_bits index edits) (take k ps)) (edits_by header.v2.cluster_bits index (get_or edits (get_or ps k at) d))
+    old mid new before made)
 
 -- numbers that are read are those that are there
 numbers-read : (layout : Layout) (cluster : HostCluster) (image : Image) (numbers : List ℕ) → valid_numbers_at layout cluster image ≡ Ok numbers

@@ -14,6 +14,7 @@ use Rattle.qcow2_apply.specs.Plan.{ByCounters, ByTables, Counter, IsPlanOf, NoCo
 use Rattle.qcow2_apply.specs.PlannedChanges.{CannotCount, SomeIsUncounted}
 use Rattle.qcow2_apply.specs.PlannedTables.{ComesTo, IsPlanned, lost_before, tables_refusal}
 use Rattle.qcow2_apply.specs.declared.changed_clusters.ChangedClusters.{ChangedClusters}
+use Rattle.qcow2_apply.specs.declared.edits_by_table.EditsByTable.{EditsByTable}
 use Rattle.qcow2_apply.specs.declared.guest_edits.GuestEdit.{GuestEdit}
 use Rattle.qcow2_apply.specs.declared.planned_changes.PlannedChanges.{PlannedChanges}
 
@@ -71,13 +72,14 @@ counters-refuse header edits image l1 reftable end planned fault is count plans 
     (subst (λ n. ComesTo tables edits image n planned.gains planned.losses) (sym count) (plans.counted counted)) c cannot))
 
 -- all is planned
-pub is-plan : (header : HeaderRecord) (edits : List GuestEdit) (image : Image) (l1_table table : TableState) (reftable : List ℕ) (end : ℕ) (planned : PlannedChanges)
+pub is-plan : (header : HeaderRecord) (edits : List GuestEdit) (image : Image) (l1_table : TableState) (by_table : EditsByTable) (table : TableState) (reftable : List ℕ) (end : ℕ)
+    (planned : PlannedChanges)
     → table.numbers ≡ reftable → planned_tables header edits image ≡ Ok (image_tables header l1_table.numbers reftable) → length l1_table.numbers ≡ end
     → IsPlanned (image_tables header l1_table.numbers reftable) edits image end planned → planned.are_counted ≡ true
     → ((c : ℕ) → CannotCount (record { header = header; reftable = table.numbers }) planned.gains planned.losses image c → ⊥)
     → (clusters : ChangedClusters) → ListsChanges (record { header = header; reftable = table.numbers }) planned.gains planned.losses image clusters
-    → IsPlanOf header edits image (record { l1_table = l1_table; reftable = table; gains = planned.gains; losses = planned.losses; clusters = clusters })
-is-plan header edits image l1_table table reftable end planned same is count plans counted counts clusters lists =
+    → IsPlanOf header edits image (record { l1_table = l1_table; by_table = by_table; reftable = table; gains = planned.gains; losses = planned.losses; clusters = clusters })
+is-plan header edits image l1_table by_table table reftable end planned same is count plans counted counts clusters lists =
     let numbers = sym same in
     let tables = image_tables header l1_table.numbers reftable in
     let comes : ComesTo tables edits image (length l1_table.numbers) planned.gains planned.losses =

@@ -49,6 +49,7 @@ same-sources sources image old new same of = record {
   };
   no_data_file = of.no_data_file;
   fit = of.fit;
+  by_table = of.by_table;
   mapped = of.mapped;
 }
 
@@ -84,7 +85,7 @@ range-from a (suc n) m =
     let same : a + 1 + n ≡ a + suc n = omega arith in
     ap (range_with_len a) whole ∙ ap (λ rest. a ∷ rest) (range-from (a + 1) n m ∙ ap (λ b. range_with_len (a + 1) n ++ range_with_len b m) same)
 
-range-split : (n m : ℕ) → range_with_len 0 (n + m) ≡ range_with_len 0 n ++ range_with_len n m
+pub range-split : (n m : ℕ) → range_with_len 0 (n + m) ≡ range_with_len 0 n ++ range_with_len n m
 range-split n m = let same : 0 + n ≡ n = omega arith in range-from 0 n m ∙ ap (λ b. range_with_len 0 n ++ range_with_len b m) same
 
 pub unless-none : (fault : Option Fault) → unless_refused fault (Ok (tt {0})) ≡ Ok tt → fault ≡ None
@@ -124,7 +125,7 @@ pub none-refused-all : (refusal : ℕ → Option Fault) (n end : ℕ) → n ≡ 
 none-refused-all refusal n end all none = rw (← all, none) refl
 
 -- an edit without clusters of a table is none of it
-no-edits-by : (cb index : ℕ) (edit : GuestEdit) → has_clusters_in cb index edit ≡ false → edits_by cb index edit ≡ []
+pub no-edits-by : (cb index : ℕ) (edit : GuestEdit) → has_clusters_in cb index edit ≡ false → edits_by cb index edit ≡ []
 no-edits-by cb index edit none =
     let zero : table_end cb index edit - table_start cb index edit ≡ 0 = grind (arith, nat_tests, none) in
     rw zero refl
@@ -218,7 +219,7 @@ counted-in header reftable (clusters ∷ list) c all some = elim (cases_Bool (is
 pub adds-run : (tables : ImageTables) (edits : List GuestEdit) (image : Image) (index : ℕ) (table : HostCluster) (outcome : Outcome) (old new : PlannedChanges)
     → named_cluster tables.header.v2.cluster_bits (slice_index tables.l1 index) ≡ Some table
     → (let run = run_in tables.header (edits_in tables.header.v2.cluster_bits index edits) (numbers_at (l2_layout (geometry_of tables.header)) table image) in
-    (outcome.freed.items ≡ run.freed) × (cluster_numbers outcome.gained.items ≡ run.gained))
+    ((c : ℕ) → handed_back outcome.freed.items c ≡ handed_back run.freed c) × (cluster_numbers outcome.gained.items ≡ run.gained))
     → AddsOutcome tables.header tables.reftable outcome old new → AddsTable tables edits image index old new
 adds-run tables edits image index table outcome old new named is added = record {
   counted = added.counted;
@@ -243,7 +244,7 @@ adds-run tables edits image index table outcome old new named is added = record 
     gained c = ap (λ end. run_gains end c) (run-at tables edits image index (Some table) named) ∙ ap (λ list. times_gained list c) (sym is.1)
 
     lost : (c : ℕ) → lost_at tables edits image c index ≡ handed_back outcome.freed.items c
-    lost c = ap (λ end. run_losses end c) (run-at tables edits image index (Some table) named) ∙ ap (λ list. handed_back list c) (sym is.0)
+    lost c = ap (λ end. run_losses end c) (run-at tables edits image index (Some table) named) ∙ sym (is.0 c)
 
 -- what is summed over numbers from 0 on goes on by the next
 sum-next : (f : ℕ → ℕ) (n : ℕ) → sum_by f (range_with_len 0 (n + 1)) ≡ sum_by f (range_with_len 0 n) + f n
@@ -324,15 +325,18 @@ adds-by-sources sources first next a b d outcome old new of same more added =
     ∙ ap (λ (counters : CountersState). counters.reftable) same.same in
     subst (λ h. AddsOutcome h a.reftable outcome old new) header (subst (λ r. AddsOutcome d.header r outcome old new) reftable added)
 
--- what edits of a loaded table did is what those of the table do
-pub run-of-edits : (header : HeaderRecord) (table : HostCluster) (list other : List Edit) (loaded bytes : Image) (left : TableState) (outcome : Outcome)
+-- what edits of a loaded table did is what those of the table do, also where it is said in fewer ranges
+pub run-of-edits : (header : HeaderRecord) (table : HostCluster) (list other : List Edit) (loaded bytes : Image) (left : TableState) (outcome joined : Outcome)
     → list ≡ other → loaded ≡ bytes → MakesRun header list (numbers_at (l2_layout (geometry_of header)) table loaded) left outcome
-    → (outcome.freed.items ≡ (run_in header other (numbers_at (l2_layout (geometry_of header)) table bytes)).freed)
-    × (cluster_numbers outcome.gained.items ≡ (run_in header other (numbers_at (l2_layout (geometry_of header)) table bytes)).gained)
-run-of-edits header table list other loaded bytes left outcome same same_bytes made =
+    → joined.gained.items ≡ outcome.gained.items → ((c : ℕ) → handed_back joined.freed.items c ≡ handed_back outcome.freed.items c)
+    → ((c : ℕ) → handed_back joined.freed.items c ≡ handed_back (run_in header other (numbers_at (l2_layout (geometry_of header)) table bytes)).freed c)
+    × (cluster_numbers joined.gained.items ≡ (run_in header other (numbers_at (l2_layout (geometry_of header)) table bytes)).gained)
+run-of-edits header table list other loaded bytes left outcome joined same same_bytes made gained freed =
     let run = ap (λ edits. run_in header edits (numbers_at (l2_layout (geometry_of header)) table loaded)) same
-    ∙ ap (λ there. run_in header other (numbers_at (l2_layout (geometry_of header)) table there)) same_bytes in
-    (made.freed ∙ ap (λ (end : RunEnd). end.freed) run, made.gained ∙ ap (λ (end : RunEnd). end.gained) run)
+    ∙ ap (λ there. run_in header other (numbers_at (l2_layout (geometry_of header)) table there)) same_bytes in (
+      λ c. freed c ∙ ap (λ ranges. handed_back ranges c) (made.freed ∙ ap (λ (end : RunEnd). end.freed) run),
+      ap cluster_numbers gained ∙ made.gained ∙ ap (λ (end : RunEnd). end.gained) run,
+    )
 
 -- a read that fails after another
 pub reads-then : {T U V : Type 0} (x : T) (fault : Fault) (a b d : StorageState) → OnlyReads (Ok x) a b → OnlyReads {T = U} (Err fault) b d

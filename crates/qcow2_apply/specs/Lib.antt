@@ -3,6 +3,7 @@ pub mod Blocks
 pub mod ChangedClusters
 pub mod Changes
 pub mod Crashes
+pub mod EditsByTable
 pub mod Errors
 pub mod GuestEdits
 pub mod MappedClusters

@@ -14,6 +14,7 @@ use Rattle.qcow2_check.specs.NamedTables.{loaded_l1_table}
 use Rattle.qcow2_check.specs.Uses.{ImageTables, image_tables}
 use Rattle.qcow2_apply.specs.ChangedClusters.{ListsChanges}
 use Rattle.qcow2_apply.specs.Changes.{losses_of}
+use Rattle.qcow2_apply.specs.EditsByTable.{IsByTable}
 use Rattle.qcow2_apply.specs.GuestEdits.{first_unfit_of, is_zeros}
 use Rattle.qcow2_apply.specs.Tables.{AllFit}
 use Rattle.qcow2_apply.specs.declared.changes.Changes.{Changes}
@@ -62,6 +63,7 @@ pub record IsPlanFor (header : HeaderRecord) (edits : List GuestEdit) (plan : Pl
   pub fit : AllFit header edits
   pub l1_table : plan.l1_table.geometry ≡ geometry_of header
   pub l1_count : length plan.l1_table.numbers ≡ header.v2.l1_size
+  pub by_table : IsByTable header plan.l1_table.numbers edits plan.by_table
   pub reftable : plan.reftable.geometry ≡ geometry_of header
   pub blocks : blocks_fault header plan.reftable.numbers ≡ None
   pub changes : AreSorted (counters_each header) plan.gains plan.losses

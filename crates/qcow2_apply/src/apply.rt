@@ -68,7 +68,14 @@ impl Plan {
             reftable: &self.reftable,
         };
         follow_changes(image, &tables, &mut workspace.block, &self.gains)?;
-        edit_tables(image, header, &self.l1_table, &mut workspace.table, edits)?;
+        edit_tables(
+            image,
+            header,
+            &self.l1_table,
+            &mut workspace.table,
+            edits,
+            &self.by_table,
+        )?;
         follow_changes(image, &tables, &mut workspace.block, &self.losses)
     }
 }

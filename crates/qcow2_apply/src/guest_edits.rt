@@ -1,9 +1,10 @@
 //! Edits of a guest's disk by its offsets, and the edits of the entries of L2 tables that they are.
 
-ghost use Rattle.std.specs.Prelude.{◌≡◌, ◌*◌, ◌+◌, ◌^◌, ◌<◌, ◌≤◌, ◌++◌, IfOk, OnOk, map, not, true};
-ghost use Rattle.std.specs.List.{flat_map, list_any, position, range_with_len};
+ghost use Rattle.std.specs.Prelude.{◌≡◌, ℕ, ◌*◌, ◌+◌, ◌^◌, ◌<◌, ◌≤◌, ◌++◌, ◌&&◌, IfOk, OnOk, map, nat_le, nat_lt, not, true};
+ghost use Rattle.std.specs.List.{flat_map, position, range_with_len};
 ghost use Rattle.qcow2_metadata.specs.Table.{l2_entries};
 ghost use Rattle.qcow2_base.specs.Types.{IsClusterBits};
+ghost use Rattle.qcow2_apply.specs.EditsByTable.{positions_in};
 ghost use Rattle.qcow2_apply.specs.GuestEdits.{cluster_end, edit_at, edits_by, edits_in, ends_after, first_cluster, first_unfit_of, guest_edit_fits, guest_length, guest_offset, has_clusters_in, is_discard, is_mappable_by, is_zeros, table_end, table_start};
 ghost use Rattle.qcow2_apply.specs.Tables.{IsLeftBy, IsL2TableOf};
 
@@ -166,6 +167,22 @@ impl GuestEdit {
         start < end
     }
 
+    /// The L1 entries of the L2 tables that it has guest clusters of, where it fits the disk: the first, and the
+    /// one after the last.
+    pub(crate) fn tables(&self, header: &Header) -> (usize, usize)
+        requires fits { guest_edit_fits header.now self.now ≡ true }
+        ensures { (i : ℕ) → has_clusters_in header.now.v2.cluster_bits i self.now
+            ≡ (nat_le result.0 i && nat_lt i result.1) }
+    {
+        let cluster_bits = header.cluster_bits();
+        let (first, end) = self.clusters(cluster_bits);
+        let entries = 1u64 << (cluster_bits - 3);
+        (
+            GuestCluster(first).l1_index(cluster_bits),
+            end.div_ceil(entries) as usize,
+        )
+    }
+
     /// Whether it has guest clusters after those of all L1 entries of a disk of this header.
     pub(crate) fn ends_after(&self, header: &Header) -> bool
         ensures { result ≡ ends_after header.now.v2.cluster_bits header.now.v2.l1_size self.now }
@@ -220,17 +237,6 @@ pub fn first_unfit(header: &Header, edits: &[GuestEdit]) -> Option<usize>
     )
 }
 
-/// Whether an edit has clusters of the L2 table of an L1 entry.
-pub(crate) fn are_some_in(edits: &[GuestEdit], header: &Header, index: u32) -> bool
-    ensures { result ≡ list_any (has_clusters_in header.now.v2.cluster_bits index) edits.now }
-{
-    edits.iter().any(
-        |edit: &GuestEdit| -> bool
-            ensures { result ≡ has_clusters_in header.entry.now.v2.cluster_bits index edit.now }
-        { edit.has_clusters_in(header, index) },
-    )
-}
-
 /// The edits of the L2 table of an L1 entry that edits of a disk are, in their order.
 pub fn edits_in(
     alloc: Global,
@@ -245,6 +251,26 @@ pub fn edits_in(
     let mut list = Vec::new(alloc);
     for edit in edits {
         edit.push_edits(&mut list, cluster_bits, l1_index)?;
+    }
+    Ok(list)
+}
+
+/// The same by the positions of the edits that are of the table.
+pub(crate) fn edits_at(
+    alloc: Global,
+    edits: &[GuestEdit],
+    positions: &[usize],
+    cluster_bits: u32,
+    l1_index: usize,
+) -> Result<Vec<Edit>, AllocError>
+    requires bits { IsClusterBits cluster_bits }
+    requires index { l1_index < 2 ^ 32 }
+    requires positions { positions.now ≡ positions_in cluster_bits l1_index edits.now }
+    ensures { IfOk result (λ list. list.items ≡ edits_in cluster_bits l1_index edits.now) }
+{
+    let mut list = Vec::new(alloc);
+    for position in positions {
+        edits[*position].push_edits(&mut list, cluster_bits, l1_index)?;
     }
     Ok(list)
 }

@@ -10,6 +10,7 @@ ghost use Rattle.qcow2_apply.specs.Plan.{edits_refusal, RefusesEdits, IsPlanOf, 
 use crate::blocks::CounterTables;
 use crate::changed_clusters::ChangedClusters;
 use crate::changes::Changes;
+use crate::edits_by_table::EditsByTable;
 use crate::guest_edits::{GuestEdit, first_unfit};
 use crate::planned_tables::plan_by_tables;
 use qcow2_base::{Fault, Storage};
@@ -49,6 +50,7 @@ fn has_zeros(edits: &[GuestEdit]) -> bool
 #[derive(Drop)]
 pub struct Plan {
     pub l1_table: L1Table,
+    pub by_table: EditsByTable,
     pub reftable: RefTable,
     pub gains: Changes,
     pub losses: Changes,
@@ -74,7 +76,8 @@ impl Plan {
         check_edits(header, edits)?;
         let l1_table = load_l1_table(alloc, image, header)?;
         let mut counters = Counters::new(alloc, image, header)?;
-        let planned = plan_by_tables(image, header, &l1_table, &mut counters, edits)?;
+        let by_table = EditsByTable::of(alloc, header, &l1_table, edits)?;
+        let planned = plan_by_tables(image, header, &l1_table, &mut counters, edits, &by_table)?;
         let reftable = counters.into_reftable();
         let tables = CounterTables {
             header,
@@ -83,6 +86,7 @@ impl Plan {
         let clusters = planned.changed_clusters(alloc, image, &tables)?;
         Ok(Plan {
             l1_table,
+            by_table,
             reftable,
             gains: planned.gains,
             losses: planned.losses,

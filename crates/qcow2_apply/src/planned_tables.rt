@@ -1,37 +1,66 @@
 //! Edits of the L2 tables of an image, looked at table by table before anything is written.
 
-ghost use Rattle.std.specs.Prelude.{◌≡◌, ◌<◌, ◌&&◌, Err, IfOk, Ok, OnOk, false, length, not, ◌/◌, Some, slice_index, true};
+ghost use Rattle.std.specs.Prelude.{◌≡◌, ℕ, ◌<◌, ◌&&◌, Err, IfOk, IsOkUnless, None, Ok, OnOk, false, length, not, ◌/◌, Some, slice_index, true};
 ghost use Rattle.std.specs.List.{list_any, position};
 ghost use Rattle.qcow2_base.specs.Storage.{OnImage, OnlyReads};
-ghost use Rattle.qcow2_metadata.specs.Header.{uses_external_data};
+ghost use Rattle.qcow2_base.specs.declared.fault.Fault.TheVariants.{NoMemory};
+ghost use Rattle.qcow2_metadata.specs.Header.{geometry_of, uses_external_data};
 ghost use Rattle.qcow2_metadata.specs.Results.{Answers, unless_refused};
+ghost use Rattle.qcow2_metadata.specs.Table.L2Guards.{handed_back};
 ghost use Rattle.qcow2_check.specs.Counters.{counters_each, IsKeptBlockOf, IsSameButBlock};
 ghost use Rattle.qcow2_check.specs.NamedTables.{IsInImage, named_cluster};
 ghost use Rattle.qcow2_check.specs.Uses.{image_tables};
 ghost use Rattle.qcow2_apply.specs.Changes.{HasNone};
-ghost use Rattle.qcow2_apply.specs.GuestEdits.{ends_after, has_clusters_in, is_discard};
+ghost use Rattle.qcow2_apply.specs.EditsByTable.{IsByTable, positions_in};
+ghost use Rattle.qcow2_apply.specs.GuestEdits.{ends_after, guest_edit_fits, has_clusters_in, is_discard};
 ghost use Rattle.qcow2_apply.specs.PlannedChanges.{StaySorted, AreSorted};
-ghost use Rattle.qcow2_apply.specs.PlannedTables.{is_table_needed, are_more_needed, tables_refusal, AddsTable, IsPlanned, planning_tables, AreSources, alone_fault, mapping_fault, mapping_fault_in, mappings_fault, named_table_refusal, table_refusal, AreReadBy};
+ghost use Rattle.qcow2_apply.specs.PlannedTables.{is_table_needed, are_more_needed, tables_refusal, AddsTable, IsPlanned, planning_tables, AreSources, IsFirstMissing, alone_fault, mapping_fault, mapping_fault_in, mappings_fault, named_table_refusal, table_refusal, AreReadBy};
 ghost use Rattle.qcow2_apply.specs.Tables.{AllFit};
 
-use crate::guest_edits::{GuestEdit, are_some_in, edits_in};
+use crate::changes::push_clusters;
+use crate::edits_by_table::EditsByTable;
+use crate::guest_edits::{GuestEdit, edits_at};
 use crate::mapped_clusters::MappedClusters;
 use crate::planned_changes::PlannedChanges;
 use crate::tables::load_edited;
 use qcow2_base::{Fault, HostCluster, Storage};
 use qcow2_check::{Counters, named_cluster};
+use qcow2_edits::Outcome;
 use qcow2_metadata::{Header, L1Table, Table};
+use std::alloc::Global;
 
-// Whether an edit but for discards has clusters of the table of an L1 entry.
-fn is_table_needed(edits: &[GuestEdit], header: &Header, index: u32) -> bool
-    ensures { result ≡ is_table_needed header.now.v2.cluster_bits edits.now index }
+// The index of the first L1 entry before an end that an edit has clusters of and that names no table; the end,
+// where there is none.
+fn first_missing_of(edit: &GuestEdit, header: &Header, l1_table: &L1Table, end: usize) -> usize
+    requires geometry { l1_table.now.geometry ≡ geometry_of header.now }
+    requires fits { guest_edit_fits header.now edit.now ≡ true }
+    ensures { IsFirstMissing header.now l1_table.now.numbers
+        (λ i. has_clusters_in header.now.v2.cluster_bits i edit.now) end result }
 {
-    edits.iter().any(
-        |edit: &GuestEdit| -> bool
-            ensures { result ≡ (has_clusters_in header.entry.now.v2.cluster_bits index edit.now
-                && not (is_discard edit.now)) }
-        { edit.has_clusters_in(header, index) && !edit.is_discard() },
-    )
+    let (start, after) = edit.tables(header);
+    for index in start..after.min(end) {
+        if named_cluster(l1_table, index).is_none() {
+            return index;
+        }
+    }
+    end
+}
+
+// The index of the first L1 entry that edits but for discards have clusters of and that names no table; the
+// number of entries, where there is none.
+fn first_missing(header: &Header, l1_table: &L1Table, edits: &[GuestEdit]) -> usize
+    requires geometry { l1_table.now.geometry ≡ geometry_of header.now }
+    requires fit { AllFit header.now edits.now }
+    ensures { IsFirstMissing header.now l1_table.now.numbers
+        (is_table_needed header.now.v2.cluster_bits edits.now) (length l1_table.now.numbers) result }
+{
+    let mut first = l1_table.entries();
+    for edit in edits {
+        if !edit.is_discard() {
+            first = first_missing_of(edit, header, l1_table, first);
+        }
+    }
+    first
 }
 
 // Whether an edit but for discards has clusters past those of the last L1 entry.
@@ -65,6 +94,7 @@ struct Sources<'a> {
     header: &'a Header,
     l1_table: &'a L1Table,
     edits: &'a [GuestEdit],
+    by_table: &'a EditsByTable,
     mapped: MappedClusters,
 }
 
@@ -123,14 +153,18 @@ fn check_mapping_in<S: Storage>(
     check_mapping(image, sources, counters, position, edit)
 }
 
-// Refuses the first edit of the table of the L1 entry at an index that maps what it can't.
+// Refuses the first edit of the table of the L1 entry at an index that maps what it can't, of those at some
+// positions, which are the table's.
 fn check_mappings<S: Storage>(
     image: &mut S,
     sources: &Sources<'_>,
     counters: &mut Counters<'_>,
     index: u32,
+    positions: &[usize],
 ) -> Result<(), Fault>
     requires sources { AreSources sources.now counters.old }
+    requires positions { let cb = sources.now.header.now.v2.cluster_bits in
+        positions.now ≡ positions_in cb index sources.now.edits.now }
     requires kept { OnImage (S.state image.old) (λ bytes.
         IsKeptBlockOf counters.old.header bytes counters.old.block) }
     ensures exact { OnImage (S.state image.old) (λ bytes. Answers (λ done. done) result (unless_refused
@@ -139,8 +173,8 @@ fn check_mappings<S: Storage>(
     ensures reader { IsSameButBlock (S.state image.old) counters.old counters.new }
     ensures storage { OnlyReads result (S.state image.old) (S.state image.new) }
 {
-    for position in 0..sources.edits.len() {
-        check_mapping_in(image, sources, counters, index, position)?;
+    for position in positions {
+        check_mapping_in(image, sources, counters, index, *position)?;
     }
     Ok(())
 }
@@ -172,6 +206,24 @@ fn check_alone<S: Storage>(
     }
 }
 
+// The same outcome with the clusters that lost a reference in fewer ranges: what follows the range before is
+// one with it.
+fn joined(alloc: Global, outcome: Outcome) -> Result<Outcome, Fault>
+    ensures gained { IfOk result (λ joined. joined.gained.items ≡ outcome.gained.items) }
+    ensures freed { IfOk result (λ joined.
+        (c : ℕ) → handed_back joined.freed.items c ≡ handed_back outcome.freed.items c) }
+    ensures fault { IsOkUnless result NoMemory }
+{
+    let mut freed = Vec::new(alloc);
+    for clusters in outcome.freed.as_slice() {
+        push_clusters(&mut freed, *clusters)?;
+    }
+    Ok(Outcome {
+        gained: outcome.gained,
+        freed,
+    })
+}
+
 // Adds what edits of the table that begins with a cluster do, which the L1 entry at an index names. Refuses
 // them where something else refers to the table, where it can't be loaded, and where they map what they
 // can't.
@@ -182,8 +234,11 @@ fn plan_named_table<S: Storage>(
     planned: &mut PlannedChanges,
     index: u32,
     table: HostCluster,
+    positions: &[usize],
 ) -> Result<(), Fault>
     requires sources { AreSources sources.now counters.old }
+    requires positions { let cb = sources.now.header.now.v2.cluster_bits in
+        positions.now ≡ positions_in cb index sources.now.edits.now }
     requires table { named_cluster sources.now.header.now.v2.cluster_bits
         (slice_index sources.now.l1_table.now.numbers index) ≡ Some table }
     requires place { IsInImage sources.now.header.now.v2.cluster_bits table }
@@ -202,13 +257,21 @@ fn plan_named_table<S: Storage>(
     let alloc = sources.l1_table.allocator();
     let header = sources.header;
     check_alone(image, sources, counters, index, table)?;
-    let edits = edits_in(alloc, sources.edits, header.cluster_bits(), index as usize)?;
+    let cluster_bits = header.cluster_bits();
+    let edits = edits_at(
+        alloc,
+        sources.edits,
+        positions,
+        cluster_bits,
+        index as usize,
+    )?;
     let (_, outcome) = load_edited(alloc, image, header, table, edits.as_slice())?;
-    check_mappings(image, sources, counters, index)?;
+    check_mappings(image, sources, counters, index, positions)?;
+    let outcome = joined(alloc, outcome)?;
     planned.add(alloc, counters, &outcome)
 }
 
-// Adds what edits of the table of the L1 entry at an index do.
+// Adds what edits of the table of the L1 entry at an index do. Where there is none, only discards are of it.
 fn plan_table<S: Storage>(
     image: &mut S,
     sources: &Sources<'_>,
@@ -217,6 +280,9 @@ fn plan_table<S: Storage>(
     index: u32,
 ) -> Result<(), Fault>
     requires sources { AreSources sources.now counters.old }
+    requires there { let cb = sources.now.header.now.v2.cluster_bits in
+        named_cluster cb (slice_index sources.now.l1_table.now.numbers index) ≡ None →
+        is_table_needed cb sources.now.edits.now index ≡ false }
     requires kept { OnImage (S.state image.old) (λ bytes.
         IsKeptBlockOf counters.old.header bytes counters.old.block) }
     ensures exact { OnImage (S.state image.old) (λ bytes. Answers (λ done. done) result (unless_refused
@@ -229,17 +295,17 @@ fn plan_table<S: Storage>(
     ensures reader { IsSameButBlock (S.state image.old) counters.old counters.new }
     ensures storage { OnlyReads result (S.state image.old) (S.state image.new) }
 {
-    if !are_some_in(sources.edits, sources.header, index) {
+    let Some(table) = named_cluster(sources.l1_table, index as usize) else {
+        return Ok(());
+    };
+    let positions = sources.by_table.positions_in(index as usize);
+    if positions.is_empty() {
         return Ok(());
     }
-    match named_cluster(sources.l1_table, index as usize) {
-        Some(table) => plan_named_table(image, sources, counters, planned, index, table),
-        None if is_table_needed(sources.edits, sources.header, index) => Err(Fault::NotPlaced),
-        None => Ok(()),
-    }
+    plan_named_table(image, sources, counters, planned, index, table, positions)
 }
 
-// Adds what edits of all tables do, and refuses those past the last L1 entry.
+// Adds what edits of all tables do, and refuses those that need a table which isn't there.
 fn plan_tables<S: Storage>(
     image: &mut S,
     sources: &Sources<'_>,
@@ -261,8 +327,13 @@ fn plan_tables<S: Storage>(
     ensures storage { OnlyReads result (S.state image.old) (S.state image.new) }
 {
     let header = sources.header;
-    for index in 0..header.l1_table_entries() as u32 {
+    let entries = header.l1_table_entries();
+    let end = first_missing(header, sources.l1_table, sources.edits);
+    for index in 0..end as u32 {
         plan_table(image, sources, counters, planned, index)?;
+    }
+    if end < entries {
+        return Err(Fault::NotPlaced);
     }
     if are_more_needed(sources.edits, header) {
         return Err(Fault::NotPlaced);
@@ -278,10 +349,12 @@ pub(crate) fn plan_by_tables<S: Storage>(
     l1_table: &L1Table,
     counters: &mut Counters<'_>,
     edits: &[GuestEdit],
+    by_table: &EditsByTable,
 ) -> Result<PlannedChanges, Fault>
     requires tables { AreReadBy header.now l1_table.now counters.old }
     requires data { uses_external_data header.now ≡ false }
     requires fit { AllFit header.now edits.now }
+    requires by_table { IsByTable header.now l1_table.now.numbers edits.now by_table.now }
     requires kept { OnImage (S.state image.old) (λ bytes.
         IsKeptBlockOf counters.old.header bytes counters.old.block) }
     ensures exact { OnImage (S.state image.old) (λ bytes. Answers (λ planned. tt {0}) result (unless_refused
@@ -300,6 +373,7 @@ pub(crate) fn plan_by_tables<S: Storage>(
         header,
         l1_table,
         edits,
+        by_table,
         mapped: MappedClusters::of(alloc, edits)?,
     };
     let mut planned = PlannedChanges::new(alloc, header);

@@ -10,11 +10,13 @@ ghost use Rattle.qcow2_metadata.specs.Results.{IsFromOutside};
 ghost use Rattle.qcow2_metadata.specs.Table.{IsContentFault, l2_layout, loaded_l2_table};
 ghost use Rattle.qcow2_check.specs.NamedTables.{IsInImage};
 ghost use Rattle.qcow2_check.specs.Failures.{ReportsFailures, TearsAtMost};
+ghost use Rattle.qcow2_apply.specs.EditsByTable.{IsByTable, positions_in};
 ghost use Rattle.qcow2_apply.specs.GuestEdits.{edits_in};
 ghost use Rattle.qcow2_apply.specs.Passes.{ArePlacesApart, KeepsOutside, PassBreaksOff, Passes, StepsAt, TearsOne};
 ghost use Rattle.qcow2_apply.specs.Tables.{AllFit, AreMade, EditsTable, IsEdited, IsHeldTable, IsLeftBy, IsRereadFault, IsL2TableOf, LoadAll, LoadsAt, MakesRun, l2_tables};
 
-use crate::guest_edits::{GuestEdit, are_some_in};
+use crate::edits_by_table::EditsByTable;
+use crate::guest_edits::GuestEdit;
 use qcow2_base::{Fault, HostCluster, Storage};
 use qcow2_check::{load_l2_table, named_cluster};
 use qcow2_edits::{Edit, Outcome, edit_table};
@@ -45,20 +47,28 @@ pub(crate) fn load_edited<S: Storage>(
     Ok((table, outcome))
 }
 
-// Makes edits of the disk of the L2 table of the L1 entry at an index, which is in memory.
-fn make_edits(table: &mut L2Table, header: &Header, index: usize, edits: &[GuestEdit])
+// Makes the edits of the disk at some positions, which are those of the L2 table of the L1 entry at an index.
+// It is in memory.
+fn make_edits(
+    table: &mut L2Table,
+    header: &Header,
+    index: usize,
+    edits: &[GuestEdit],
+    positions: &[usize],
+)
     requires index { index < 2 ^ 32 }
     requires table { IsL2TableOf header.now table.old }
     requires fit { AllFit header.now edits.now }
+    requires positions { positions.now ≡ positions_in header.now.v2.cluster_bits index edits.now }
     ensures { IsLeftBy header.now (edits_in header.now.v2.cluster_bits index edits.now) table.old table.new }
 {
-    for edit in edits {
-        edit.make_in(table, header, index);
+    for position in positions {
+        edits[*position].make_in(table, header, index);
     }
 }
 
-// Makes edits of the disk in the L2 table that begins with a cluster, which the L1 entry at an index names.
-// It is read over another table.
+// Makes the edits of the disk at some positions in the L2 table that begins with a cluster, which the L1 entry
+// at an index names. It is read over another table.
 fn edit_named<S: Storage>(
     image: &mut S,
     header: &Header,
@@ -66,10 +76,12 @@ fn edit_named<S: Storage>(
     cluster: HostCluster,
     index: usize,
     edits: &[GuestEdit],
+    positions: &[usize],
 ) -> Result<(), Fault>
     requires place { (index < 2 ^ 32) × IsInImage header.now.v2.cluster_bits cluster }
     requires table { IsL2TableOf header.now table.old }
     requires fit { AllFit header.now edits.now }
+    requires positions { positions.now ≡ positions_in header.now.v2.cluster_bits index edits.now }
     ensures edited { OnOk result (OnImages (S.state image.old) (S.state image.new)
         (EditsTable header.now (edits_in header.now.v2.cluster_bits index edits.now) cluster)) }
     ensures fault { IfErr result (λ fault. IsRereadFault fault × OnImage (S.state image.old) (λ bytes.
@@ -79,7 +91,7 @@ fn edit_named<S: Storage>(
         (Some (offset_of layout cluster)) layout.byte_count (S.state image.old) (S.state image.new) }
 {
     table.reload(image, header, cluster)?;
-    make_edits(table, header, index, edits);
+    make_edits(table, header, index, edits, positions);
     table.write_if_modified(image, cluster)
 }
 
@@ -92,10 +104,12 @@ fn edit_at<S: Storage>(
     table: &mut L2Table,
     index: usize,
     edits: &[GuestEdit],
+    by_table: &EditsByTable,
 ) -> Result<(), Fault>
     requires index { index < 2 ^ 32 }
     requires tables { (l1_table.now.geometry ≡ geometry_of header.now) × IsL2TableOf header.now table.old }
     requires fit { AllFit header.now edits.now }
+    requires by_table { IsByTable header.now l1_table.now.numbers edits.now by_table.now }
     ensures edited { let tables = l2_tables header.now l1_table.now.numbers in ArePlacesApart tables →
         OnImages (S.state image.old) (S.state image.new) (λ before after. MatchResult result
         (λ _. StepsAt tables (IsEdited header.now edits.now) index before after)
@@ -109,10 +123,11 @@ fn edit_at<S: Storage>(
     let Some(cluster) = named_cluster(l1_table, index) else {
         return Ok(());
     };
-    if !are_some_in(edits, header, index as u32) {
+    let positions = by_table.positions_in(index);
+    if positions.is_empty() {
         return Ok(());
     }
-    edit_named(image, header, table, cluster, index, edits)
+    edit_named(image, header, table, cluster, index, edits, positions)
 }
 
 /// Makes edits of the disk in all L2 tables of an image, and waits until they are on the device. Each table
@@ -121,17 +136,19 @@ fn edit_at<S: Storage>(
 ///
 /// Returns the fault of the first table that can't be loaded. After a fault those before it may be edited, so
 /// the call must not be made again; where the storage failed, any bytes may be in one more. Takes time by
-/// the number of tables times that of edits.
+/// the number of L1 entries, of tables that are read, and of clusters that are edited.
 pub fn edit_tables<S: Storage>(
     image: &mut S,
     header: &Header,
     l1_table: &L1Table,
     table: &mut L2Table,
     edits: &[GuestEdit],
+    by_table: &EditsByTable,
 ) -> Result<(), Fault>
     requires tables { (l1_table.now.geometry ≡ geometry_of header.now) × IsL2TableOf header.now table.old }
     requires count { length l1_table.now.numbers ≡ header.now.v2.l1_size }
     requires fit { AllFit header.now edits.now }
+    requires by_table { IsByTable header.now l1_table.now.numbers edits.now by_table.now }
     ensures edited { let tables = l2_tables header.now l1_table.now.numbers in ArePlacesApart tables →
         OnImages (S.state image.old) (S.state image.new) (λ before after. MatchResult result
         (λ _. Passes tables (IsEdited header.now edits.now) before after)
@@ -143,7 +160,7 @@ pub fn edit_tables<S: Storage>(
     ensures storage { ReportsFailures result (S.state image.old) (S.state image.new) }
 {
     for index in 0..header.l1_table_entries() {
-        edit_at(image, header, l1_table, table, index, edits)?;
+        edit_at(image, header, l1_table, table, index, edits, by_table)?;
     }
     image.sync()?;
     Ok(())

@@ -1,7 +1,7 @@
 //! L2 tables of an image that edits of its disk change.
 
 use crate::small_image::{COPIED, L1_TABLE, L2_TABLE, Numbers, OTHER_TABLE, small_image};
-use qcow2_apply::{GuestEdit, edit_tables, first_unfit};
+use qcow2_apply::{EditsByTable, GuestEdit, edit_tables, first_unfit};
 use qcow2_base::{Fault, GuestOffset, HostCluster, Storage};
 use qcow2_check::load_l1_table;
 use qcow2_metadata::{Header, L2Table};
@@ -69,15 +69,20 @@ const EDITED: &[Edited<'static>] = rows! { Edited:
         changes: &[(L2_TABLE, 2), (OTHER_TABLE, 0)], fault: None },
 };
 
-// Makes edits in the tables of an image.
-fn edit<S: Storage>(alloc: Global, image: &mut S, edits: &[GuestEdit]) -> Result<(), Fault> {
+/// Makes edits in the tables of an image.
+pub(crate) fn edit<S: Storage>(
+    alloc: Global,
+    image: &mut S,
+    edits: &[GuestEdit],
+) -> Result<(), Fault> {
     let header = Header::load(alloc, image, false)?;
     if let Some(position) = first_unfit(&header, edits) {
         return Err(Fault::BadEdit(position));
     }
     let l1_table = load_l1_table(alloc, image, &header)?;
     let mut table = L2Table::new_cleared(alloc, &header)?;
-    edit_tables(image, &header, &l1_table, &mut table, edits)
+    let by_table = EditsByTable::of(alloc, &header, &l1_table, edits)?;
+    edit_tables(image, &header, &l1_table, &mut table, edits, &by_table)
 }
 
 fn check_edited(alloc: Global, row: Edited<'_>) -> Result<(), Fail> {

@@ -15,6 +15,7 @@ make-requires-clause-plan g c =
       fit = plan.fit;
       l1_table = plan.l1_table;
       l1_count = plan.l1_count;
+      by_table = plan.by_table;
       reftable = plan.reftable;
       blocks = plan.blocks;
       changes = plan.changes;

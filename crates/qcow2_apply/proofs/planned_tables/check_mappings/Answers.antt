@@ -1,13 +1,18 @@
-use Rattle.std.proofs.Common.{◌≡◌, IsTrue, length, refl, arith, rules}
+use Rattle.std.proofs.Common.{◌≡◌, ◌⊎◌, IsTrue, Ok, Err, get_or, ap, refl, subst, sym, ◌∙◌, arith, rules}
+use Rattle.std.proofs.lemmas.List.{take_all}
 use Rattle.std.proofs.lemmas.Result.{err_from_is_err_and}
-use Rattle.qcow2_apply.proofs.PlannedTablesLemmas.{first-refused, none-refused-all, none-refused-next, same-mapping, same-sources}
+use Rattle.qcow2_base.specs.declared.fault.Fault.TheVariants.{NoMemory, Storage}
+use Rattle.qcow2_metadata.specs.Results.{unless_refused}
+use Rattle.qcow2_metadata.specs.Table.{first_fault}
+use Rattle.qcow2_apply.proofs.EditsByTableLemmas.{listed-below}
+use Rattle.qcow2_apply.proofs.MissingLemmas.{mappings-kept, taken-none-next, taken-refused}
+use Rattle.qcow2_apply.proofs.PlannedTablesLemmas.{same-mapping, same-sources}
 use Rattle.qcow2_apply.specs.PlannedTables.{mapping_fault_in, planning_tables}
 use Rattle.qcow2_apply.proofs.planned_tables.check_mappings.Goals as goal
 
 pub loop-position-init : goal.loop-position-init
 loop-position-init g c = record {
   none = λ told. refl;
-  within = omega arith;
   reader = record { same = refl; kept = c.requires.kept };
   storage = search rules;
 }
@@ -22,6 +27,10 @@ check_mapping_in-requires-clause-kept g c = λ told.
     let bytes : (g.S.Storage.state c.loop-position.image).byte_at ≡ (g.S.Storage.state c.args.image.now).byte_at = c.loop-position.invariant.storage.bytes in
     rw bytes (c.loop-position.invariant.reader.kept known)
 
+pub check_mapping_in-requires-clause-position : goal.check_mapping_in-requires-clause-position
+check_mapping_in-requires-clause-position g c = listed-below c.args.sources.now.header.now.v2.cluster_bits c.args.index c.args.sources.now.edits.now c.args.positions.now
+    c.loop-position.position-index _ c.requires.positions c.loop-position-test.true
+
 pub loop-position-preserved : goal.loop-position-preserved
 loop-position-preserved g c =
     let so_far = c.loop-position.invariant in
@@ -29,12 +38,12 @@ loop-position-preserved g c =
       none = λ told.
           let known : IsTrue (g.S.Storage.state c.loop-position.image).tells = search rules in
           let bytes : (g.S.Storage.state c.loop-position.image).byte_at ≡ (g.S.Storage.state c.args.image.now).byte_at = so_far.storage.bytes in
-          none-refused-next (mapping_fault_in (planning_tables c.args.sources.now c.args.counters.now) c.args.sources.now.edits.now
-          (g.S.Storage.state c.args.image.now).byte_at c.args.index) c.loop-position.position _ (so_far.none told)
+          taken-none-next (mapping_fault_in (planning_tables c.args.sources.now c.args.counters.now) c.args.sources.now.edits.now
+          (g.S.Storage.state c.args.image.now).byte_at c.args.index) c.args.positions.now c.loop-position.position-index 0 _ c.loop-position-test.true (so_far.none told)
           (same-mapping c.args.sources.now (g.S.Storage.state c.args.image.now) c.args.counters.now c.loop-position.counters
-          (g.S.Storage.state c.args.image.now).byte_at (g.S.Storage.state c.loop-position.image).byte_at c.args.index c.loop-position.position so_far.reader bytes)
+          (g.S.Storage.state c.args.image.now).byte_at (g.S.Storage.state c.loop-position.image).byte_at c.args.index
+          (get_or c.args.positions.now c.loop-position.position-index 0) so_far.reader bytes)
           (c.in_ok-check_mapping_in.ensures.exact known);
-      within = omega (arith, c.loop-position-test.true);
       reader = search rules;
       storage = search rules;
     }
@@ -45,12 +54,16 @@ returns-in_err-check_mapping_in-clause-exact g c = λ told.
     let so_far = c.loop-position.invariant in
     let known : IsTrue (g.S.Storage.state c.loop-position.image).tells = search rules in
     let bytes : (g.S.Storage.state c.loop-position.image).byte_at ≡ (g.S.Storage.state c.args.image.now).byte_at = so_far.storage.bytes in
-    let refusal = mapping_fault_in (planning_tables c.args.sources.now c.args.counters.now) c.args.sources.now.edits.now
-    (g.S.Storage.state c.args.image.now).byte_at c.args.index in
-    rw (exit.1, exit.2) (first-refused refusal c.loop-position.position (length c.args.sources.now.edits.now) _ c.in_err-check_mapping_in.field-0.0 c.loop-position-test.true
+    let tables = planning_tables c.args.sources.now c.args.counters.now in
+    let edits = c.args.sources.now.edits.now in
+    let image = (g.S.Storage.state c.args.image.now).byte_at in
+    let fault = c.in_err-check_mapping_in.field-0.0 in
+    rw (exit.1, exit.2) (subst (λ found. (fault ≡ Storage) ⊎ (fault ≡ NoMemory) ⊎ (unless_refused found (Ok (tt {0})) ≡ Err fault))
+    (mappings-kept tables edits image c.args.index c.args.positions.now c.requires.positions)
+    (taken-refused (mapping_fault_in tables edits image c.args.index) c.args.positions.now c.loop-position.position-index 0 _ fault c.loop-position-test.true
     (so_far.none told) (same-mapping c.args.sources.now (g.S.Storage.state c.args.image.now) c.args.counters.now c.loop-position.counters
-    (g.S.Storage.state c.args.image.now).byte_at (g.S.Storage.state c.loop-position.image).byte_at c.args.index c.loop-position.position so_far.reader bytes)
-    (c.in_err-check_mapping_in.ensures.exact known))
+    image (g.S.Storage.state c.loop-position.image).byte_at c.args.index (get_or c.args.positions.now c.loop-position.position-index 0) so_far.reader bytes)
+    (c.in_err-check_mapping_in.ensures.exact known)))
 
 pub returns-in_err-check_mapping_in-clause-reader : goal.returns-in_err-check_mapping_in-clause-reader
 returns-in_err-check_mapping_in-clause-reader g c = search rules
@@ -59,9 +72,14 @@ pub returns-in_err-check_mapping_in-clause-storage : goal.returns-in_err-check_m
 returns-in_err-check_mapping_in-clause-storage g c = search rules
 
 pub returns-clause-exact : goal.returns-clause-exact
-returns-clause-exact g c = λ told. none-refused-all (mapping_fault_in (planning_tables c.args.sources.now c.args.counters.now) c.args.sources.now.edits.now
-    (g.S.Storage.state c.args.image.now).byte_at c.args.index) c.loop-position.position (length c.args.sources.now.edits.now)
-    (omega (arith, c.loop-position.invariant.within, c.loop-position-test.false)) (c.loop-position.invariant.none told)
+returns-clause-exact g c = λ told.
+    let tables = planning_tables c.args.sources.now c.args.counters.now in
+    let edits = c.args.sources.now.edits.now in
+    let image = (g.S.Storage.state c.args.image.now).byte_at in
+    ap (λ found. unless_refused found (Ok (tt {0}))) (sym (mappings-kept tables edits image c.args.index c.args.positions.now c.requires.positions)
+    ∙ ap (first_fault (mapping_fault_in tables edits image c.args.index))
+    (sym (take_all c.loop-position.position-index c.args.positions.now (omega (arith, c.loop-position-test.false))))
+    ∙ c.loop-position.invariant.none told)
 
 pub returns-clause-reader : goal.returns-clause-reader
 returns-clause-reader g c = c.loop-position.invariant.reader

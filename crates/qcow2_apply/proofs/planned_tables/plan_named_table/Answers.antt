@@ -41,9 +41,10 @@ returns-clause-planned g c =
     let known : IsTrue loaded.tells = search rules in
     let bytes : loaded.byte_at ≡ before.byte_at = search rules in
     let made = (c.in_ok-outcome.ensures.edited known).1 in
-    adds-run tables sources.edits.now before.byte_at c.args.index c.args.table c.in_ok-outcome.outcome c.args.planned.now c.add.new.self c.requires.table
+    adds-run tables sources.edits.now before.byte_at c.args.index c.args.table c.in_ok-outcome-2.outcome c.args.planned.now c.add.new.self c.requires.table
     (run-of-edits sources.header.now c.args.table c.as_slice.result.now (edits_in sources.header.now.v2.cluster_bits c.args.index sources.edits.now)
-    loaded.byte_at before.byte_at c.in_ok-outcome.field-0-0 c.in_ok-outcome.outcome (search rules) bytes made)
+    loaded.byte_at before.byte_at c.in_ok-outcome.field-0-0 c.in_ok-outcome.outcome c.in_ok-outcome-2.outcome (search rules) bytes made
+    c.in_ok-outcome-2.ensures.gained c.in_ok-outcome-2.ensures.freed)
     (adds-by-sources sources before (g.S.Storage.state c.load_edited.new.image) c.args.counters.now c.check_alone.new.counters c.check_mappings.new.counters
-    c.in_ok-outcome.outcome c.args.planned.now c.add.new.self c.requires.sources c.in_ok-check_alone.ensures.reader c.in_ok-check_mappings.ensures.reader added))
+    c.in_ok-outcome-2.outcome c.args.planned.now c.add.new.self c.requires.sources c.in_ok-check_alone.ensures.reader c.in_ok-check_mappings.ensures.reader added))
     c.add.ensures.added

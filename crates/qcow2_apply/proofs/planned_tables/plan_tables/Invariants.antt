@@ -16,7 +16,7 @@ invariant-loop-index g l =
       none : OnImage old (λ bytes. first_fault (table_refusal tables l.sources.edits.now bytes) (range_with_len 0 l.index) ≡ None);
       planned : OnImage old (λ bytes. IsPlanned tables l.sources.edits.now bytes l.index l.planned);
       sorted : StaySorted l.fn.planned l.planned;
-      within : l.index ≤ l.sources.header.now.v2.l1_size;
+      within : l.index ≤ l.end;
       reader : IsSameButBlock old l.fn.counters l.counters;
       storage : OnlyReads (Ok l.index) old (g.S.Storage.state l.image);
     }

@@ -112,5 +112,5 @@ returns-clause-planned g c = λ told.
     (c.in_ok-clusters.ensures.counts.1 at_end) in
     let lists = subst (λ bytes. ListsChanges known_tables c.in_ok-planned.planned.gains c.in_ok-planned.planned.losses bytes c.in_ok-clusters.clusters) third
     (c.in_ok-clusters.ensures.listed at_end) in
-    is-plan header edits before.byte_at l1 c.into_reftable-reftable.result reftable header.v2.l1_size c.in_ok-planned.planned (search rules) is count plans
+    is-plan header edits before.byte_at l1 c.in_ok-by_table.by_table c.into_reftable-reftable.result reftable header.v2.l1_size c.in_ok-planned.planned (search rules) is count plans
     c.in_ok-clusters.ensures.counts.0 counts c.in_ok-clusters.clusters lists
