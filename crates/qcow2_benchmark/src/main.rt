@@ -44,6 +44,12 @@ fn lap(rt: &HostRuntime, start: Duration, least: &mut Duration) -> Result<Durati
     Ok(now)
 }
 
+// Prints the least time of a work over that many entries.
+fn tell(rt: &HostRuntime, work: &str, entries: &str, count: usize, least: Duration) -> Result<()> {
+    eprintln!(rt; "{work}{entries} {count} {}", least.as_nanos())?;
+    Ok(())
+}
+
 // The least time of a load and of a write of an L2 table that fills a cluster.
 fn measure(
     rt: &HostRuntime,
@@ -56,40 +62,92 @@ fn measure(
     let mut image = image_with(rt.alloc(), &header, entries)?;
     let (mut loaded, mut written) = (Duration::MAX, Duration::MAX);
     for _ in 0..rounds {
-        let start = rt.thread_cpu_time()?;
-        let mut table = load_table(rt.alloc(), &mut image, &header)?;
-        let after_load = lap(rt, start, &mut loaded)?;
-        write_table(&mut table, &mut image)?;
-        lap(rt, after_load, &mut written)?;
+        time_table(rt, &mut image, &header, &mut loaded, &mut written)?;
     }
     let count = header.l2_entries();
-    eprintln!(rt; "load-{name} {count} {}", loaded.as_nanos())?;
-    eprintln!(rt; "write-{name} {count} {}", written.as_nanos())?;
+    tell(rt, "load-", name, count, loaded)?;
+    tell(rt, "write-", name, count, written)
+}
+
+// Loads and writes a table once.
+fn time_table(
+    rt: &HostRuntime,
+    image: &mut MemStorage,
+    header: &Header,
+    loaded: &mut Duration,
+    written: &mut Duration,
+) -> Result<()> {
+    let start = rt.thread_cpu_time()?;
+    let mut table = load_table(rt.alloc(), image, header)?;
+    let after_load = lap(rt, start, loaded)?;
+    write_table(&mut table, image)?;
+    lap(rt, after_load, written)?;
     Ok(())
 }
 
-// The least time of 8192 edits of an L2 table of 262144 entries, and of a copy of the table. Also that of the
-// same edits together with their counters. Clusters have 2 MiB.
+// Images of an L2 table of 262144 entries and of a block, and 8192 edits of the table. Clusters have 2 MiB.
+#[derive(Drop)]
+struct Edited {
+    header: Header,
+    image: MemStorage,
+    counters: MemStorage,
+    edits: Vec<Edit>,
+}
+
+// The least times of a copy of a table, of edits of it, and of the same together with their counters.
+#[derive(Clone, Copy)]
+struct EditTimes {
+    copied: Duration,
+    edited: Duration,
+    settled: Duration,
+}
+
+fn begin_edits(alloc: Global) -> Result<Edited, Fault> {
+    let header = header_with(alloc, 21)?;
+    Ok(Edited {
+        image: image_with(alloc, &header, Entries::Data)?,
+        counters: image_of_ones(alloc)?,
+        edits: edits_of_every_32nd_entry(alloc)?,
+        header,
+    })
+}
+
 fn measure_edits(rt: &HostRuntime, rounds: u32) -> Result<()> {
-    let header = header_with(rt.alloc(), 21)?;
-    let mut image = image_with(rt.alloc(), &header, Entries::Data)?;
-    let mut counters = image_of_ones(rt.alloc())?;
-    let edits = edits_of_every_32nd_entry(rt.alloc())?;
-    let (mut edited, mut copied, mut settled) = (Duration::MAX, Duration::MAX, Duration::MAX);
+    let mut edited = begin_edits(rt.alloc())?;
+    let mut times = EditTimes {
+        copied: Duration::MAX,
+        edited: Duration::MAX,
+        settled: Duration::MAX,
+    };
     for _ in 0..rounds {
-        let mut table = load_table(rt.alloc(), &mut image, &header)?;
-        let mut block = load_block(rt.alloc(), &mut counters, &header)?;
-        let start = rt.thread_cpu_time()?;
-        let mut copy = copy_of(&table)?;
-        let after_copy = lap(rt, start, &mut copied)?;
-        edit(&mut copy, &edits)?;
-        let after_edits = lap(rt, after_copy, &mut edited)?;
-        settle(&mut table, &mut block, &header, 0, &edits)?;
-        lap(rt, after_edits, &mut settled)?;
+        measure_round(rt, &mut edited, &mut times)?;
     }
-    eprintln!(rt; "copied 262144 {}", copied.as_nanos())?;
-    eprintln!(rt; "edited 8192 {}", edited.as_nanos())?;
-    eprintln!(rt; "settled 8192 {}", settled.as_nanos())?;
+    tell(rt, "copied", "", 262144, times.copied)?;
+    tell(rt, "edited", "", 8192, times.edited)?;
+    tell(rt, "settled", "", 8192, times.settled)
+}
+
+// Makes the edits of a table and a block that are loaded anew.
+fn measure_round(rt: &HostRuntime, edited: &mut Edited, times: &mut EditTimes) -> Result<()> {
+    let mut table = load_table(rt.alloc(), &mut edited.image, &edited.header)?;
+    let mut block = load_block(rt.alloc(), &mut edited.counters, &edited.header)?;
+    time_edits(rt, edited, &mut table, &mut block, times)
+}
+
+fn time_edits(
+    rt: &HostRuntime,
+    edited: &Edited,
+    table: &mut L2Table,
+    block: &mut RefBlock,
+    times: &mut EditTimes,
+) -> Result<()> {
+    let start = rt.thread_cpu_time()?;
+    let mut copy = copy_of(table)?;
+    let after_copy = lap(rt, start, &mut times.copied)?;
+    edit(&mut copy, &edited.edits)?;
+    let after_edits = lap(rt, after_copy, &mut times.edited)?;
+    settle(table, block, &edited.header, 0, &edited.edits)?;
+    lap(rt, after_edits, &mut times.settled)?;
     Ok(())
 }
 
