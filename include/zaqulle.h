@@ -6,7 +6,7 @@
  * Rules for all functions:
  *
  * - A function returns 0, or the number of the fault that it refuses by (enum zq_fault). After a fault nothing is
- *   written to where results go, but for the index of zq_l2_check.
+ *   written to where results go, but for the index of zq_l2_check, nor to bytes that a function changes.
  * - Whatever the bytes and the numbers are that you pass, no function reads or writes outside what its arguments
  *   point to. That is proved, as is each sentence here on what a function returns.
  * - A pointer to bytes points to as many as the length says. It may be NULL where the length is 0. Every other
@@ -18,9 +18,9 @@
  * - Offsets and lengths are in bytes. Tables hold numbers of eight bytes, big-endian: an entry is passed as a number
  *   of your machine.
  *
- * Only zq_header_read and zq_image_lookup take memory. They take it by malloc and realloc, and give it back by free
- * before they return. If you replace these three: they must be of one allocator, and align a block to each power of two
- * up to 16 that divides its size.
+ * Only zq_header_read, zq_image_lookup and zq_refcounts_settle take memory. They take it by malloc and realloc, and
+ * give it back by free before they return. If you replace malloc, realloc and free: they must be of one allocator, and
+ * align a block to each power of two up to 16 that divides its size.
  */
 #ifndef ZAQULLE_H
 #define ZAQULLE_H
@@ -195,6 +195,27 @@ uint32_t zq_l2_check(const uint8_t *bytes, size_t length, const zq_header *heade
  */
 uint32_t zq_refcounts_read(const uint8_t *bytes, size_t length, uint32_t refcount_order, size_t first,
                            uint64_t *counters, size_t count);
+
+/* Clusters of the image, one after another. The number of a cluster is its offset over the cluster size. */
+typedef struct zq_clusters {
+    uint64_t first;
+    uint64_t count; /* may be 0 */
+} zq_clusters;
+
+/*
+ * Counts in the bytes of a whole refcount block what an edit of an L2 table did to references: the counter of a cluster
+ * goes up by one for each time that gained names it, and down by one for each item of freed that it is in. Both lists
+ * may name other clusters too, which are passed over: pass the same lists with each block that counts one of theirs.
+ * block_index is the block's index in the refcount table; zq_refcounts_read says which clusters the block counts then.
+ * Either list may be NULL where it has no items. The bytes are changed in place, by the whole edit or not at all. Takes
+ * memory for a copy of the counters and of both lists.
+ * Where guest data lies in an external data file (incompatible_features is 4), its clusters have no counters: don't
+ * pass them.
+ * Faults: ZQ_REFCOUNT_WIDTH, then ZQ_WRONG_LENGTH, both as in zq_refcounts_read; then ZQ_COUNTER_RANGE where a counter
+ * with all its gains passes the greatest number that it can hold, or is less than its losses; ZQ_NO_MEMORY.
+ */
+uint32_t zq_refcounts_settle(uint8_t *bytes, size_t length, uint32_t refcount_order, uint64_t block_index,
+                             const zq_clusters *freed, size_t freed_count, const uint64_t *gained, size_t gained_count);
 
 /*
  * What the cluster of a guest offset reads as, by the bytes of a whole image, which may be mapped memory. After its last

@@ -1,7 +1,8 @@
 /* Calls each function of zaqulle.h with input that no caller should pass, and checks the fault and that results stay as
  * they were. Compares what 200,000 numbers in an L2 table say, and counters of refcount blocks, with a reading by hand.
  * Bytes that are passed end where a page begins that may not be read, so that reading past them ends the program.
- * Prints a line for each call that isn't as it must be. The status is 1 if one wasn't. */
+ * Prints a line for each call that isn't as it must be. The status is 1 if one wasn't. With the word settle it settles one
+ * refcount block and does no more, for runs in which memory is refused. */
 #define _DEFAULT_SOURCE
 #include <stdio.h>
 #include <stdlib.h>
@@ -330,14 +331,28 @@ static void check_random_numbers(void) {
     }
 }
 
-/* Counter i of a block, read bit by bit: in a byte the first is the lowest, and a wider one begins with its highest byte. */
+/* Where a bit of counter i of a block is: in a byte the first counter is the lowest, and a wider one begins with its
+ * highest byte. */
+static size_t place_of_bit(uint32_t order, size_t i, size_t bit) {
+    return order < 3 ? (i << order) + bit : 8 * (((i + 1) << (order - 3)) - 1 - bit / 8) + bit % 8;
+}
+
+/* Counter i of a block, read bit by bit. */
 static uint64_t counter_by_hand(const uint8_t *block, uint32_t order, size_t i) {
     uint64_t counter = 0;
     for (size_t bit = 0; bit < (size_t)1 << order; bit++) {
-        size_t place = order < 3 ? (i << order) + bit : 8 * (((i + 1) << (order - 3)) - 1 - bit / 8) + bit % 8;
+        size_t place = place_of_bit(order, i, bit);
         counter |= (uint64_t)(block[place / 8] >> place % 8 & 1) << bit;
     }
     return counter;
+}
+
+/* Puts a number in the place of counter i of a block, bit by bit. */
+static void put_counter_by_hand(uint8_t *block, uint32_t order, size_t i, uint64_t counter) {
+    for (size_t bit = 0; bit < (size_t)1 << order; bit++) {
+        size_t place = place_of_bit(order, i, bit);
+        block[place / 8] = (uint8_t)((block[place / 8] & ~(1 << place % 8)) | (counter >> bit & 1) << place % 8);
+    }
 }
 
 /* Blocks of drawn bytes: those with clusters of 512 bytes, 64 KiB and 2 MiB, and counters of each width. */
@@ -388,7 +403,131 @@ static void check_refused_refcounts(void) {
     expect("zq_refcounts_read of no counter", 0, zq_refcounts_read(block, 512, 4, 0, NULL, 0), ZQ_OK);
 }
 
-int main(void) {
+/* An edit that frees ranges of clusters and gains clusters. */
+typedef struct {
+    zq_clusters freed[3];
+    uint64_t gained[5];
+} drawn_edit;
+
+/* Counts an edit in a block by hand: all gains, then all losses. Whether no counter left its range. */
+static int settle_by_hand(uint8_t *block, size_t size, uint32_t order, uint64_t index, const drawn_edit *edit) {
+    uint64_t entries = (size * 8) >> order, greatest = UINT64_MAX >> (64 - (1 << order));
+    for (size_t i = 0; i < 5; i++) {
+        uint64_t at = edit->gained[i] - index * entries;
+        if (at < entries) {
+            uint64_t counter = counter_by_hand(block, order, at);
+            if (counter == greatest) {
+                return 0;
+            }
+            put_counter_by_hand(block, order, at, counter + 1);
+        }
+    }
+    for (size_t i = 0; i < 3; i++) {
+        for (uint64_t k = 0; k < edit->freed[i].count; k++) {
+            uint64_t at = edit->freed[i].first + k - index * entries;
+            uint64_t counter = at < entries ? counter_by_hand(block, order, at) : 1;
+            if (counter == 0) {
+                return 0;
+            }
+            if (at < entries) {
+                put_counter_by_hand(block, order, at, counter - 1);
+            }
+        }
+    }
+    return 1;
+}
+
+/* Compares what an edit near a border of a block leaves of it with the same by hand. Whether it was made. */
+static int check_drawn_edit(const uint8_t *before, size_t size, uint32_t order, uint64_t *state) {
+    static uint8_t found[1 << 21], expected[1 << 21];
+    uint64_t entries = (size * 8) >> order, index = 1 + (next_random(state) >> 40) % 9;
+    uint64_t border = (index + (next_random(state) >> 40) % 2) * entries;
+    drawn_edit edit;
+    for (size_t i = 0; i < 5; i++) {
+        edit.gained[i] = border - 16 + (next_random(state) >> 40) % 32;
+        edit.freed[i % 3].first = border - 16 + (next_random(state) >> 40) % 32;
+        edit.freed[i % 3].count = (next_random(state) >> 40) % 4;
+    }
+    memcpy(found, before, size);
+    memcpy(expected, before, size);
+    int is_made = settle_by_hand(expected, size, order, index, &edit);
+    if (!is_made) {
+        memcpy(expected, before, size);
+    }
+    uint32_t fault = zq_refcounts_settle(found, size, order, index, edit.freed, 3, edit.gained, 5);
+    expect("zq_refcounts_settle of order", order, fault, is_made ? ZQ_OK : ZQ_COUNTER_RANGE);
+    expect("block settled with order", order, (uint64_t)memcmp(found, expected, size), 0);
+    return is_made;
+}
+
+/* Blocks whose bytes are drawn, or 0, or 0xff. */
+static void check_settled_refcounts(void) {
+    static const size_t sizes[] = {512, 1 << 16, 1 << 21};
+    static uint8_t block[1 << 21];
+    uint64_t state = 3, made = 0, refused = 0;
+    for (size_t i = 0; i < sizeof block; i++) {
+        uint64_t drawn = next_random(&state) >> 40;
+        block[i] = (uint8_t)(drawn & 0x300 ? drawn : drawn & 0x400 ? 0xff : 0);
+    }
+    for (uint32_t order = 0; order <= 6; order++) {
+        for (int i = 0; i < 120; i++) {
+            size_t size = sizes[i < 100 ? 0 : i < 119 || order < 4 ? 1 : 2];
+            int is_made = check_drawn_edit(block, size, order, &state);
+            made += (uint64_t)is_made;
+            refused += (uint64_t)!is_made;
+        }
+    }
+    expect("edits of both kinds", 0, made > 100 && refused > 100, 1);
+}
+
+/* How many bytes of a block are passed, its refcount order, its index, a range that is freed, and the fault. */
+static const struct {
+    size_t length;
+    uint32_t order;
+    uint64_t index;
+    zq_clusters freed;
+    uint32_t fault;
+} settled[] = {
+    {512, 7, 0, {0, 1}, ZQ_REFCOUNT_WIDTH}, {0, UINT32_MAX, 0, {0, 0}, ZQ_REFCOUNT_WIDTH},
+    {0, 4, 0, {0, 0}, ZQ_WRONG_LENGTH}, {511, 4, 0, {0, 1}, ZQ_WRONG_LENGTH}, {1536, 4, 0, {0, 1}, ZQ_WRONG_LENGTH},
+    {512, 4, 0, {0, 1}, ZQ_COUNTER_RANGE}, {512, 4, 0, {0, 0}, ZQ_OK}, {512, 4, 0, {256, UINT64_MAX}, ZQ_OK},
+    {512, 4, 0, {255, 1}, ZQ_COUNTER_RANGE}, {512, 4, 1, {0, UINT64_MAX}, ZQ_COUNTER_RANGE}, {512, 4, 1, {0, 256}, ZQ_OK},
+    {512, 4, UINT64_MAX, {0, UINT64_MAX}, ZQ_OK}, {512, 0, UINT64_MAX, {UINT64_MAX, UINT64_MAX}, ZQ_OK},
+    {1 << 16, 6, UINT64_MAX / 8192, {UINT64_MAX, 1}, ZQ_COUNTER_RANGE},
+};
+
+/* Counters that are 0 stay so, whatever the fault. */
+static void check_refused_settles(void) {
+    static const uint8_t zeros[1 << 16] = {0};
+    for (size_t i = 0; i < sizeof settled / sizeof *settled; i++) {
+        size_t length = settled[i].length;
+        uint8_t *block = (uint8_t *)(uintptr_t)guarded(zeros, length);
+        expect("zq_refcounts_settle of row", i,
+               zq_refcounts_settle(block, length, settled[i].order, settled[i].index, &settled[i].freed, 1, NULL, 0),
+               settled[i].fault);
+        expect("block of row", i, (uint64_t)memcmp(block, zeros, length), 0);
+    }
+    expect("zq_refcounts_settle of NULL", 0, zq_refcounts_settle(NULL, 0, 4, 0, NULL, 0, NULL, 0), ZQ_WRONG_LENGTH);
+}
+
+/* Settles one block. After a fault prints its number, and that bytes have changed if they have. */
+static int settle_once(void) {
+    static const zq_clusters freed = {3, 1};
+    static const uint64_t gained = 4;
+    uint8_t block[512] = {0, 0, 0, 0, 0, 0, 0, 1}, before[512];
+    memcpy(before, block, sizeof block);
+    uint32_t fault = zq_refcounts_settle(block, sizeof block, 4, 0, &freed, 1, &gained, 1);
+    if (fault != ZQ_OK) {
+        fprintf(stderr, "settle: fault %u\n", (unsigned)fault);
+        expect("changed bytes after fault", fault, memcmp(block, before, sizeof block) != 0, 0);
+    }
+    return fault != ZQ_OK;
+}
+
+int main(int argc, char **argv) {
+    if (argc > 1 && strcmp(argv[1], "settle") == 0) {
+        return settle_once();
+    }
     check_lengths();
     check_fields();
     check_all_fields();
@@ -398,5 +537,7 @@ int main(void) {
     check_random_numbers();
     check_refcounts();
     check_refused_refcounts();
+    check_settled_refcounts();
+    check_refused_settles();
     return failures != 0;
 }

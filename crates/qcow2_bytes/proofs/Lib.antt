@@ -2,3 +2,4 @@ pub mod HeaderLemmas
 pub mod ImagesLemmas
 pub mod NamesLemmas
 pub mod RefcountsLemmas
+pub mod SettledRefcountsLemmas

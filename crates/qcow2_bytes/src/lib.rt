@@ -10,4 +10,4 @@ mod refcounts;
 pub use entries::{BadEntry, EntryMapping, L2Pointer, first_bad_l2_entry, l1_entry, l2_entry};
 pub use header::{HeaderFields, NameRange, header_bytes, read_header};
 pub use images::image_lookup;
-pub use refcounts::read_refcounts;
+pub use refcounts::{HostClusters, read_refcounts, settle_refcounts};

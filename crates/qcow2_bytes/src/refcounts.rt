@@ -10,7 +10,10 @@ ghost use Rattle.qcow2_metadata.specs.Results.{result_map};
 ghost use Rattle.qcow2_bytes.specs.Refcounts as spec;
 ghost use Rattle.qcow2_bytes.specs.Refcounts.{block_bits_in, refcounts_in};
 
+mod settled;
+
 use qcow2_base::{Fault, field, read_be};
+pub use settled::{HostClusters, settle_refcounts};
 
 /// The counters of a refcount block from an index on, by the block's bytes. As many are read as there are
 /// places for them. A refcount has `2^refcount_order` bits.

@@ -1,7 +1,7 @@
 //! The calls without their clauses, so that no proof about a test has to read what a call ensures.
 
 use qcow2_base::Fault;
-use qcow2_bytes::{BadEntry, EntryMapping, HeaderFields, L2Pointer};
+use qcow2_bytes::{BadEntry, EntryMapping, HeaderFields, HostClusters, L2Pointer};
 use std::alloc::Global;
 
 pub(crate) fn header_bytes(first_bytes: &[u8]) -> Result<usize, Fault> {
@@ -46,4 +46,15 @@ pub(crate) fn read_refcounts(
     counters: &mut [u64],
 ) -> Result<(), Fault> {
     qcow2_bytes::read_refcounts(bytes, refcount_order, first, counters)
+}
+
+pub(crate) fn settle_refcounts(
+    alloc: Global,
+    bytes: &mut [u8],
+    refcount_order: u32,
+    block_index: u64,
+    freed: &[HostClusters],
+    gained: &[u64],
+) -> Result<(), Fault> {
+    qcow2_bytes::settle_refcounts(alloc, bytes, refcount_order, block_index, freed, gained)
 }

@@ -1,8 +1,9 @@
-//! What the bytes of a refcount block say.
+//! What the bytes of a refcount block say, and what they say once its counters followed an edit.
 
-use crate::calls::read_refcounts;
-use qcow2_base::Fault;
-use qcow2_testing::{each, image_with, rows, same};
+use crate::calls::{read_refcounts, settle_refcounts};
+use qcow2_base::{Fault, MemStorage};
+use qcow2_bytes::HostClusters;
+use qcow2_testing::{each, image_with, rows, same, same_bytes};
 use std::alloc::Global;
 use std::test::Fail;
 
@@ -101,4 +102,138 @@ fn check_refused(alloc: Global, row: Refused) -> Result<(), Fail> {
 #[test]
 fn what_is_no_part_of_a_block_is_refused(rt: HostRuntime) -> Result<(), Fail> {
     each(rt.alloc(), REFUSED, check_refused)
+}
+
+// The bytes of a block as numbers of eight bytes at places, its size, its refcount order and its index in the
+// refcount table. Then a range of clusters that lose a reference, its first and how many, and clusters that
+// gain one.
+#[derive(Clone, Copy, Debug)]
+struct Settled {
+    size: usize,
+    order: u32,
+    index: u64,
+    before: &'static [(u64, u64)],
+    freed: (u64, u64),
+    gained: &'static [u64],
+    after: &'static [(u64, u64)],
+}
+
+// In blocks of 512 bytes.
+const EACH_WIDTH: &[Settled] = rows! { Settled:
+    { size: 512, order: 0, index: 1, before: &[(0, 1 << 56)],
+      freed: (0, 4097), gained: &[4097, 8191, 8192], after: &[(0, 2 << 56), (504, 0x80)] },
+    { size: 512, order: 1, index: 0, before: &[(0, 0xe4 << 56)],
+      freed: (1, 3), gained: &[0, 0], after: &[(0, 0x92 << 56)] },
+    { size: 512, order: 2, index: 3, before: &[(0, 0x2143 << 48)],
+      freed: (3073, 2), gained: &[3075], after: &[(0, 0x1152 << 48)] },
+    { size: 512, order: 3, index: 2, before: &[(0, 0xff01 << 48)],
+      freed: (1024, 2), gained: &[1535], after: &[(0, 0xfe00 << 48), (504, 1)] },
+    { size: 512, order: 4, index: 0, before: &[(0, 0x0001_ffff_0000_0002)],
+      freed: (0, 2), gained: &[2, 3, 3], after: &[(0, 0x0000_fffe_0001_0004)] },
+    { size: 512, order: 5, index: 0, before: &[(0, 0xffff_ffff_0000_0001)],
+      freed: (0, 1), gained: &[1], after: &[(0, 0xffff_fffe_0000_0002)] },
+    { size: 512, order: 6, index: 0, before: &[(0, u64::MAX)],
+      freed: (0, 1), gained: &[1, 63], after: &[(0, u64::MAX - 1), (8, 1), (504, 1)] },
+    // a gain is counted before a loss
+    { size: 512, order: 4, index: 0, before: &[], freed: (5, 1), gained: &[5], after: &[] },
+};
+
+// In blocks of other sizes.
+const EACH_SIZE: &[Settled] = rows! { Settled:
+    { size: 1 << 16, order: 4, index: 5, before: &[(65528, 1)],
+      freed: (196_607, 1000), gained: &[163_840], after: &[(0, 1 << 48)] },
+    { size: 1 << 16, order: 0, index: 0, before: &[(65528, 0x80)],
+      freed: (524_287, u64::MAX), gained: &[], after: &[] },
+    { size: 1 << 21, order: 6, index: 1, before: &[(8, 7)],
+      freed: (262_145, 1), gained: &[524_287, 524_287], after: &[(8, 6), (2_097_144, 2)] },
+    { size: 1 << 21, order: 0, index: u64::MAX, before: &[(0, 9)],
+      freed: (0, u64::MAX), gained: &[u64::MAX], after: &[(0, 9)] },
+};
+
+// What settling leaves of the bytes that an image has, and what it returns.
+fn settle_in(
+    alloc: Global,
+    row: Settled,
+    image: &MemStorage,
+) -> Result<(Result<(), Fault>, Vec<u8>), Fail> {
+    let mut bytes = Vec::with_capacity(alloc, image.bytes().len())?;
+    bytes.extend_from_slice(image.bytes())?;
+    let freed = [HostClusters {
+        first: row.freed.0,
+        count: row.freed.1,
+    }];
+    let settled = settle_refcounts(
+        alloc,
+        bytes.as_mut_slice(),
+        row.order,
+        row.index,
+        &freed,
+        row.gained,
+    );
+    Ok((settled, bytes))
+}
+
+fn check_settled(alloc: Global, row: Settled) -> Result<(), Fail> {
+    let before = image_with(alloc, row.size, row.before)?;
+    let (settled, bytes) = settle_in(alloc, row, &before)?;
+    let after = image_with(alloc, row.size, row.after)?;
+    same(settled, Ok(()), row)?;
+    same_bytes(bytes.as_slice(), after.bytes(), row)
+}
+
+#[test]
+fn counters_of_each_width_follow_an_edit(rt: HostRuntime) -> Result<(), Fail> {
+    each(rt.alloc(), EACH_WIDTH, check_settled)
+}
+
+#[test]
+fn counters_of_blocks_of_each_size_follow_an_edit(rt: HostRuntime) -> Result<(), Fail> {
+    each(rt.alloc(), EACH_SIZE, check_settled)
+}
+
+// The same, with a fault in place of what is left.
+#[derive(Clone, Copy, Debug)]
+struct RefusedEdit {
+    size: usize,
+    order: u32,
+    before: &'static [(u64, u64)],
+    freed: (u64, u64),
+    gained: &'static [u64],
+    fault: Fault,
+}
+
+const REFUSED_EDITS: &[RefusedEdit] = rows! { RefusedEdit:
+    { size: 512, order: 7, before: &[], freed: (0, 0), gained: &[], fault: Fault::RefcountWidth },
+    { size: 1000, order: 4, before: &[], freed: (0, 0), gained: &[], fault: Fault::WrongLength },
+    { size: 512, order: 4, before: &[], freed: (0, 1), gained: &[], fault: Fault::CounterRange },
+    { size: 512, order: 4, before: &[(0, 0x0001_0001_0000_0001)],
+      freed: (0, 4), gained: &[], fault: Fault::CounterRange },
+    { size: 512, order: 0, before: &[(0, 1 << 56)], freed: (0, 1), gained: &[0], fault: Fault::CounterRange },
+    { size: 512, order: 3, before: &[(504, 0xff)],
+      freed: (0, 0), gained: &[0, 511], fault: Fault::CounterRange },
+    { size: 512, order: 6, before: &[(0, u64::MAX)],
+      freed: (9, 0), gained: &[0], fault: Fault::CounterRange },
+    { size: 1 << 16, order: 4, before: &[(65528, 1)],
+      freed: (32766, 2), gained: &[7], fault: Fault::CounterRange },
+};
+
+fn check_refused_edit(alloc: Global, row: RefusedEdit) -> Result<(), Fail> {
+    let before = image_with(alloc, row.size, row.before)?;
+    let edit = Settled {
+        size: row.size,
+        order: row.order,
+        index: 0,
+        before: row.before,
+        freed: row.freed,
+        gained: row.gained,
+        after: row.before,
+    };
+    let (settled, bytes) = settle_in(alloc, edit, &before)?;
+    same(settled, Err(row.fault), row)?;
+    same_bytes(bytes.as_slice(), before.bytes(), row)
+}
+
+#[test]
+fn an_edit_that_a_counter_cannot_hold_changes_no_byte(rt: HostRuntime) -> Result<(), Fail> {
+    each(rt.alloc(), REFUSED_EDITS, check_refused_edit)
 }

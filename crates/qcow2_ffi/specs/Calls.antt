@@ -1,9 +1,10 @@
 -- What does a call from C return, and what does it leave in the places that it writes to?
-use Rattle.std.specs.Prelude.{◌≡◌, ℕ, List, Option, Some, None, Result, Ok, Err}
+use Rattle.std.specs.Prelude.{◌≡◌, ℕ, List, length, Option, Some, None, Result, Ok, Err, MatchResult}
 use Rattle.qcow2_base.specs.Fault.{fault_number}
 use Rattle.qcow2_base.specs.declared.fault.Fault.{Fault}
 use Rattle.qcow2_bytes.specs.Entries.{IsFirstBad, flag_number, l1_entry_in, table_geometry}
 use Rattle.qcow2_bytes.specs.Header.{ReadsHeader}
+use Rattle.qcow2_bytes.specs.Refcounts.{refcounts_of}
 use Rattle.qcow2_bytes.specs.declared.entries.BadEntry.{BadEntry}
 use Rattle.qcow2_bytes.specs.declared.entries.L2Pointer.{L2Pointer}
 use Rattle.qcow2_bytes.specs.declared.header.HeaderFields.{HeaderFields}
@@ -39,3 +40,10 @@ ChecksEntries fields bytes status old new = elim (table_geometry fields bytes) [
   | Ok g ↦ (found : Option BadEntry) × IsFirstBad g.cluster_bits bytes found × HandsOverBad found status old new
   | Err fault ↦ (status ≡ fault_number fault) × (new ≡ old)
 ]
+
+-- a call returns 0 and leaves the expected counters in the bytes of a block, unless memory ran out. Or it returns the fault's
+-- number, and leaves the bytes that were there before
+abbrev pub SettlesCounters : ℕ → Result (List ℕ) Fault → ℕ → List ℕ → List ℕ → Type 0
+SettlesCounters order expected status old new =
+    (answer : Result (Unit {0}) Fault) × Computes (λ done. refcounts_of new order) answer expected × (length new ≡ length old)
+    × MatchResult answer (λ done. status ≡ 0) (λ fault. (status ≡ fault_number fault) × (new ≡ old))

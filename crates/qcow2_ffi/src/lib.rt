@@ -8,12 +8,12 @@ ghost use Rattle.qcow2_base.specs.Storage.{image_of};
 ghost use Rattle.qcow2_bytes.specs.Entries.{l2_entry_in};
 ghost use Rattle.qcow2_bytes.specs.Header.{first_cluster_size};
 ghost use Rattle.qcow2_bytes.specs.Images.{fields_at};
-ghost use Rattle.qcow2_bytes.specs.Refcounts.{refcounts_in};
-ghost use Rattle.qcow2_ffi.specs.Calls.{ChecksEntries, HandsOver, HandsOverComputed, HandsOverHeader, l1_numbers};
+ghost use Rattle.qcow2_bytes.specs.Refcounts.{refcounts_in, settled_refcounts};
+ghost use Rattle.qcow2_ffi.specs.Calls.{ChecksEntries, HandsOver, HandsOverComputed, HandsOverHeader, SettlesCounters, l1_numbers};
 
 use qcow2_bytes::{
-    EntryMapping, HeaderFields, first_bad_l2_entry, header_bytes, image_lookup, l1_entry, l2_entry,
-    read_header, read_refcounts,
+    EntryMapping, HeaderFields, HostClusters, first_bad_l2_entry, header_bytes, image_lookup,
+    l1_entry, l2_entry, read_header, read_refcounts, settle_refcounts,
 };
 use std::alloc::Global;
 
@@ -131,6 +131,26 @@ pub extern "C" fn zq_refcounts_read(
         counters.old counters.new }
 {
     match read_refcounts(bytes, refcount_order, first, counters) {
+        Ok(()) => 0,
+        Err(fault) => fault.number(),
+    }
+}
+
+/// Counts in the bytes of a refcount block what an edit did to references.
+#[unsafe(no_mangle)]
+pub extern "C" fn zq_refcounts_settle(
+    alloc: Global,
+    bytes: &mut [u8],
+    refcount_order: u32,
+    block_index: u64,
+    freed: &[HostClusters],
+    gained: &[u64],
+) -> u32
+    ensures { SettlesCounters refcount_order
+        (settled_refcounts bytes.old refcount_order block_index freed.now gained.now)
+        result bytes.old bytes.new }
+{
+    match settle_refcounts(alloc, bytes, refcount_order, block_index, freed, gained) {
         Ok(()) => 0,
         Err(fault) => fault.number(),
     }

@@ -11,6 +11,7 @@ ghost use Rattle.qcow2_metadata.specs.Refblock.Guard.{IsBlockGuard};
 ghost use Rattle.qcow2_metadata.specs.Refblock.Counters.{IsOfOrder, kept_counters};
 ghost use Rattle.qcow2_metadata.specs.Refblock.{IsBlockFault, IsValidBlock, block_entries, block_geometry_of, block_layout, greatest_counter, loaded_block};
 
+mod bytes;
 mod counters;
 mod guard;
 mod packing;
