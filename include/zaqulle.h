@@ -159,7 +159,7 @@ uint32_t zq_header_bytes(const uint8_t *bytes, size_t length, size_t *cluster_si
 uint32_t zq_header_read(const uint8_t *bytes, size_t length, zq_header *header);
 
 /*
- * The next three take the header as zq_header_read left it. Of one that you made up they look at cluster_bits
+ * The next four take the header as zq_header_read left it. Of one that you made up they look at cluster_bits
  * (ZQ_CLUSTER_SIZE) and incompatible_features (ZQ_INCOMPATIBLE) alone. They take no memory.
  */
 
@@ -184,6 +184,38 @@ uint32_t zq_l2_entry(uint64_t entry, const zq_header *header, uint64_t guest_off
  * multiple of 8.
  */
 uint32_t zq_l2_check(const uint8_t *bytes, size_t length, const zq_header *header, size_t *index);
+
+/* A part of the guest's disk that reads as one, by entries of an L2 table. */
+typedef struct zq_extent {
+    uint32_t kind;         /* an enum zq_kind */
+    uint32_t reserved;     /* 0 */
+    uint64_t guest_offset; /* where it begins on the guest's disk; a multiple of the cluster size */
+    uint64_t length;       /* how many bytes of the guest's disk it has: whole clusters, one at least */
+    uint64_t offset;       /* the offset of the zq_mapping of its first cluster; so guest_offset for ZQ_BACKING */
+} zq_extent;
+
+/*
+ * Joins the entries in the bytes of an L2 table, or of a part of one, to extents. The first entry is for the guest
+ * cluster that begins at first_guest_offset, each next one for the cluster after. Writes the extents one after another,
+ * all or as many as capacity says, and sets *count to how many were written. Writes nothing behind them. extents may be
+ * NULL where capacity is 0. length / 8 is always room enough.
+ *
+ * An extent is as long as its clusters read as one. ZQ_DATA and ZQ_ZERO_ALLOCATED go on in the next cluster of the data
+ * file, whatever the copied flags are: the byte at guest_offset + n is at offset + n. ZQ_BACKING, ZQ_ZERO and
+ * ZQ_COMPRESSED go on as the same kind. Compressed clusters are compressed each by itself: ask zq_l2_entry where each
+ * but the first lies.
+ *
+ * To go on where there wasn't room enough, take the last extent's guest_offset + length as first_guest_offset, and the
+ * bytes of the entries from there on: after eight for each cluster of the extents. No sum of these passes 2^64. A call
+ * looks at all entries that it is given, so ask for many extents at once, or give few entries.
+ *
+ * Takes no memory. Faults: ZQ_CLUSTER_SIZE, ZQ_INCOMPATIBLE. Then ZQ_WRONG_LENGTH, where length is no multiple of 8 or
+ * more than a cluster, first_guest_offset is no multiple of the cluster size, or a guest cluster of an entry ends at 2^64
+ * or past it. Then that of the first of all numbers that is no entry, ZQ_ENTRY_RESERVED or ZQ_ENTRY_UNALIGNED.
+ * zq_l2_check says where that is.
+ */
+uint32_t zq_l2_extents(const uint8_t *bytes, size_t length, const zq_header *header, uint64_t first_guest_offset,
+                       zq_extent *extents, size_t capacity, size_t *count);
 
 /*
  * The counters from index first on of a refcount block, as many as count says, by the bytes of the whole block. A counter

@@ -1,8 +1,8 @@
 /* Calls each function of zaqulle.h with input that no caller should pass, and checks the fault and that results stay as
- * they were. Compares what 200,000 numbers in an L2 table say, and counters of refcount blocks, with a reading by hand.
- * Bytes that are passed end where a page begins that may not be read, so that reading past them ends the program.
- * Prints a line for each call that isn't as it must be. The status is 1 if one wasn't. With the word settle it settles one
- * refcount block and does no more, for runs in which memory is refused. */
+ * they were. Compares what 200,000 numbers in an L2 table say, what 400 tables join to, and counters of refcount blocks with
+ * a reading by hand. Bytes that are passed end where a page begins that may not be read, so that reading past them ends the
+ * program. Prints a line for each call that isn't as it must be. The status is 1 if one wasn't. With the word settle it
+ * settles one refcount block and does no more, for runs in which memory is refused. */
 #define _DEFAULT_SOURCE
 #include <stdio.h>
 #include <stdlib.h>
@@ -199,7 +199,9 @@ static void check_made_up(void) {
         expect("zq_l2_check of header", i, zq_l2_check(guarded(zeros, 16), 16, &header, &index), fault);
         expect("zq_l2_check of NULL by header", i, zq_l2_check(NULL, 0, &header, &index), fault);
         EXPECT_UNTOUCHED("index after header", i, index);
+        expect("zq_l2_extents of header", i, zq_l2_extents(NULL, 0, &header, 0, NULL, 0, &index), fault);
         if (fault != ZQ_OK) {
+            EXPECT_UNTOUCHED("index of extents after header", i, index);
             EXPECT_UNTOUCHED("offset after header", i, offset);
             EXPECT_UNTOUCHED("copied after header", i, copied);
             EXPECT_UNTOUCHED("mapping after header", i, mapping);
@@ -524,6 +526,129 @@ static int settle_once(void) {
     return fault != ZQ_OK;
 }
 
+/* The extents that numbers in an L2 table join to, read by hand, and how many there are. */
+static size_t join_by_hand(const uint64_t *numbers, size_t entries, const zq_header *header, uint64_t first, zq_extent *extents) {
+    uint64_t size = UINT64_C(1) << header->cluster_bits;
+    size_t count = 0;
+    for (size_t i = 0; i < entries; i++) {
+        zq_mapping mapping;
+        read_by_hand(numbers[i], header, &mapping);
+        uint64_t guest_offset = first + i * size, offset = mapping.kind == ZQ_BACKING ? guest_offset : mapping.offset;
+        int has_cluster = mapping.kind == ZQ_DATA || mapping.kind == ZQ_ZERO_ALLOCATED;
+        zq_extent *last = extents + (count ? count - 1 : 0);
+        if (count && last->kind == mapping.kind && (!has_cluster || offset == last->offset + last->length)) {
+            last->length += size;
+        } else {
+            extents[count++] = (zq_extent){mapping.kind, 0, guest_offset, size, offset};
+        }
+    }
+    return count;
+}
+
+/* A number of an L2 table that often reads on from the one before. */
+static uint64_t next_entry(uint64_t before, uint32_t bits, uint64_t *state) {
+    uint64_t drawn = next_random(state) >> 32, cluster = (next_random(state) >> 40) << bits, flag = drawn >> 8 << 63;
+    switch (drawn % 32) {
+        case 0: return 0;
+        case 1: return flag | 1;
+        case 2: return flag;
+        case 3: return UINT64_C(1) << 62 | cluster >> 3;
+        case 4: return flag | cluster;
+        case 5: return flag | cluster | 1;
+        case 6: return before;
+        default: break;
+    }
+    int has_offset = !(before >> 62 & 1) && (before & UINT64_C(0xfffffffffffe00)) != 0;
+    return has_offset ? (flag | (before & ~(UINT64_C(1) << 63))) + (UINT64_C(1) << bits) : before;
+}
+
+enum { MOST_ENTRIES = ROOM / 8 };
+
+/* All extents of the bytes, by calls that have room for a few each. */
+static void check_going_on(const uint8_t *bytes, size_t length, const zq_header *header, uint64_t first,
+                           const zq_extent *expected, size_t extents, size_t capacity) {
+    zq_extent found[7];
+    for (size_t done = 0, count = 0; done < extents; done += count) {
+        expect("zq_l2_extents that goes on", done, zq_l2_extents(bytes, length, header, first, found, capacity, &count), ZQ_OK);
+        expect("extents that go on", done, count, extents - done < capacity ? extents - done : capacity);
+        expect("extents", done, (uint64_t)memcmp(found, expected + done, count * sizeof *found), 0);
+        uint64_t next = found[count - 1].guest_offset + found[count - 1].length;
+        size_t passed = (size_t)((next - first) >> header->cluster_bits) * 8;
+        bytes += passed;
+        length -= passed;
+        first = next;
+    }
+    expect("bytes that are left", extents, length, 0);
+}
+
+/* Tables of all cluster sizes, and parts of them. */
+static void check_extents(void) {
+    static uint64_t numbers[MOST_ENTRIES];
+    static uint8_t bytes[ROOM];
+    static zq_extent expected[MOST_ENTRIES], found[MOST_ENTRIES];
+    uint64_t state = 7;
+    for (uint64_t i = 0; i < 400; i++) {
+        zq_header header;
+        FILL(header);
+        header.cluster_bits = 9 + (uint32_t)(i % 13);
+        header.incompatible_features = i % 2 * 4;
+        size_t whole = (size_t)1 << (header.cluster_bits - 3), most = whole < MOST_ENTRIES ? whole : (size_t)MOST_ENTRIES;
+        size_t entries = i % 3 ? (size_t)(next_random(&state) >> 32) % (most + 1) : most, count = 0;
+        uint64_t first = (next_random(&state) >> 34) << header.cluster_bits, number = 0;
+        for (size_t k = 0; k < entries; k++) {
+            number = next_entry(number, header.cluster_bits, &state);
+            numbers[k] = number;
+            put(bytes, 8 * k, 8, number);
+        }
+        size_t extents = join_by_hand(numbers, entries, &header, first, expected);
+        size_t capacity = i % 5 ? extents : (size_t)(next_random(&state) >> 32) % (extents + 1);
+        const uint8_t *given = guarded(bytes, 8 * entries);
+        memset(found, 0xa5, sizeof found);
+        expect("zq_l2_extents of table", i, zq_l2_extents(given, 8 * entries, &header, first, found, capacity, &count), ZQ_OK);
+        expect("extents of table", i, count, capacity);
+        expect("extents of table", i, (uint64_t)memcmp(found, expected, capacity * sizeof *found), 0);
+        expect("places after extents of table", i, (uint64_t)is_untouched(found + capacity, (MOST_ENTRIES - capacity) * sizeof *found), 1);
+        check_going_on(given, 8 * entries, &header, first, expected, extents, 1 + (size_t)i % 7);
+    }
+}
+
+/* What no part of a table is: a length, an offset, an entry's number, and the fault. Clusters have 64 KiB. */
+static const struct {
+    size_t length;
+    uint64_t first, number;
+    uint32_t fault;
+} no_parts[] = {
+    {7, 0, 0, ZQ_WRONG_LENGTH}, {65543, 0, 0, ZQ_WRONG_LENGTH}, {65544, 0, 2, ZQ_WRONG_LENGTH},
+    {65536, 1, 2, ZQ_WRONG_LENGTH}, {65536, UINT64_MAX, 2, ZQ_WRONG_LENGTH}, {0, UINT64_MAX, 0, ZQ_WRONG_LENGTH},
+    {8, UINT64_MAX - 65535, 2, ZQ_WRONG_LENGTH}, {65536, UINT64_MAX - 536870911, 2, ZQ_WRONG_LENGTH},
+    {65536, UINT64_MAX - 536936447, 2, ZQ_ENTRY_RESERVED}, {65536, 0, 0x200, ZQ_ENTRY_UNALIGNED},
+};
+
+static void check_no_parts(void) {
+    static uint8_t bytes[65544];
+    zq_header header;
+    zq_extent found[2];
+    size_t count = 1;
+    FILL(header);
+    header.cluster_bits = 16;
+    header.incompatible_features = 0;
+    for (size_t i = 0; i < sizeof no_parts / sizeof *no_parts; i++) {
+        FILL(found);
+        FILL(count);
+        memset(bytes, 0, sizeof bytes);
+        put(bytes, 65528, 8, no_parts[i].number);
+        const uint8_t *given = guarded(bytes, no_parts[i].length);
+        expect("zq_l2_extents of no part", i,
+               zq_l2_extents(given, no_parts[i].length, &header, no_parts[i].first, found, 2, &count), no_parts[i].fault);
+        EXPECT_UNTOUCHED("extents of no part", i, found);
+        EXPECT_UNTOUCHED("count of no part", i, count);
+    }
+    expect("zq_l2_extents of NULL", 0, zq_l2_extents(NULL, 0, &header, 0, NULL, 0, &count), ZQ_OK);
+    expect("count of NULL", 0, count, 0);
+    expect("zq_l2_extents without room", 0, zq_l2_extents(guarded(bytes, 8), 8, &header, 0, NULL, 0, &count), ZQ_OK);
+    expect("count without room", 0, count, 0);
+}
+
 int main(int argc, char **argv) {
     if (argc > 1 && strcmp(argv[1], "settle") == 0) {
         return settle_once();
@@ -539,5 +664,7 @@ int main(int argc, char **argv) {
     check_refused_refcounts();
     check_settled_refcounts();
     check_refused_settles();
+    check_extents();
+    check_no_parts();
     return failures != 0;
 }

@@ -3,3 +3,4 @@ pub mod ImagesLemmas
 pub mod NamesLemmas
 pub mod RefcountsLemmas
 pub mod SettledRefcountsLemmas
+pub mod TablesLemmas

@@ -1,12 +1,12 @@
 //! What numbers in L1 and L2 tables say, by the fields of a header.
 
-ghost use Rattle.std.specs.Prelude.{◌≡◌, ℕ, ◌*◌, ◌%◌, ◌^◌, IsOkAnd, MatchResult, Err, length};
+ghost use Rattle.std.specs.Prelude.{◌≡◌, ◌↔◌, ℕ, ◌+◌, ◌*◌, ◌%◌, ◌^◌, ◌≤◌, IsTrue, IsOkAnd, MatchResult, None, Err, length};
 ghost use Rattle.qcow2_base.specs.Types.{IsClusterBits};
 ghost use Rattle.qcow2_metadata.specs.Entries.{is_copied, offset_field};
 ghost use Rattle.qcow2_metadata.specs.Entries.L2Entry.{compressed_length, compressed_offset, is_zero, l2_fault};
 ghost use Rattle.qcow2_metadata.specs.Entries.L2Mapping as spec;
 ghost use Rattle.qcow2_metadata.specs.Header.{geometry};
-ghost use Rattle.qcow2_bytes.specs.Entries.{IsFirstBad, l1_entry_in, l2_entry_in, mapping_fields, table_geometry};
+ghost use Rattle.qcow2_bytes.specs.Entries.{IsFirstBad, l1_entry_in, l2_entry_in, mapping_fields, number_at, table_geometry};
 
 use crate::HeaderFields;
 use qcow2_base::{Fault, HostOffset, MAX_FILE_LENGTH, field, read_be};
@@ -76,11 +76,28 @@ pub fn l2_entry(entry: u64, fields: &HeaderFields, guest_offset: u64) -> Result<
     if let Some(fault) = l2_fault_of(entry, cluster_bits) {
         return Err(fault);
     }
-    if field(entry, 62, 1) == 1 {
-        return Ok(compressed_mapping(entry, cluster_bits));
-    }
     let guest_begin = guest_offset >> cluster_bits << cluster_bits;
-    Ok(standard_mapping(entry, cluster_bits, external, guest_begin))
+    Ok(mapping_of(entry, cluster_bits, external, guest_begin))
+}
+
+// What a guest cluster that begins at an offset reads as, by its number in an L2 table, which is an entry.
+#[inline]
+pub(crate) fn mapping_of(
+    entry: u64,
+    cluster_bits: u32,
+    external: bool,
+    guest_begin: u64,
+) -> EntryMapping
+    requires bits { IsClusterBits cluster_bits }
+    requires lawful { l2_fault cluster_bits entry ≡ None }
+    ensures { (guest_cluster : ℕ) → guest_begin ≡ guest_cluster * 2 ^ cluster_bits →
+        result ≡ mapping_fields cluster_bits
+        (spec.mapping (geometry cluster_bits external) guest_cluster entry) }
+{
+    if field(entry, 62, 1) == 1 {
+        return compressed_mapping(entry, cluster_bits);
+    }
+    standard_mapping(entry, cluster_bits, external, guest_begin)
 }
 
 // Why a number is no L2 entry, if it is none.
@@ -162,16 +179,53 @@ pub fn first_bad_l2_entry(bytes: &[u8], fields: &HeaderFields) -> Result<Option<
     Ok(first_bad(bytes, cluster_bits))
 }
 
+// The number of eight bytes at an index.
+#[inline]
+pub(crate) fn number_at(bytes: &[u8], index: usize) -> u64
+    requires { 8 * index + 8 ≤ length bytes.now }
+    ensures { result ≡ number_at bytes.now index }
+{
+    read_be(bytes, 8 * index)
+}
+
 // The first number in the bytes that is no L2 entry.
-fn first_bad(bytes: &[u8], cluster_bits: u32) -> Option<BadEntry>
+pub(crate) fn first_bad(bytes: &[u8], cluster_bits: u32) -> Option<BadEntry>
     requires bits { IsClusterBits cluster_bits }
     requires whole { length bytes.now % 8 ≡ 0 }
     ensures { IsFirstBad cluster_bits bytes.now result }
 {
+    if are_entries(bytes, cluster_bits) {
+        return None;
+    }
     for index in 0..bytes.len() / 8 {
-        if let Some(fault) = l2_fault_of(read_be(bytes, 8 * index), cluster_bits) {
+        if let Some(fault) = l2_fault_of(number_at(bytes, index), cluster_bits) {
             return Some(BadEntry { index, fault });
         }
     }
     None
+}
+
+// Whether all numbers in the bytes are L2 entries. Looks at each, so that a compiler tests several at once.
+fn are_entries(bytes: &[u8], cluster_bits: u32) -> bool
+    requires bits { IsClusterBits cluster_bits }
+    requires whole { length bytes.now % 8 ≡ 0 }
+    ensures { IsTrue result ↔ IsFirstBad cluster_bits bytes.now None }
+{
+    let mut all = true;
+    for index in 0..bytes.len() / 8 {
+        all &= is_entry(number_at(bytes, index), cluster_bits);
+    }
+    all
+}
+
+// Whether a number is an L2 entry: one that is compressed and has neither bit 63 nor bits of its offset from
+// 56 on, or a standard one that has no bits but 0 and 63 and those of its cluster's offset.
+#[inline]
+fn is_entry(entry: u64, cluster_bits: u32) -> bool
+    requires { IsClusterBits cluster_bits }
+    ensures { IsTrue result ↔ (l2_fault cluster_bits entry ≡ None) }
+{
+    let standard = (127 << 56) + ((1 << cluster_bits) - 2);
+    let compressed = (3 << 62) + (((1 << (70 - cluster_bits)) - 1) >> 56 << 56);
+    (entry & compressed == 1 << 62) | (entry & standard == 0)
 }

@@ -6,8 +6,10 @@ mod entries;
 mod header;
 mod images;
 mod refcounts;
+mod tables;
 
 pub use entries::{BadEntry, EntryMapping, L2Pointer, first_bad_l2_entry, l1_entry, l2_entry};
 pub use header::{HeaderFields, NameRange, header_bytes, read_header};
 pub use images::image_lookup;
 pub use refcounts::{HostClusters, read_refcounts, settle_refcounts};
+pub use tables::{TableExtent, l2_extents};

@@ -1,7 +1,7 @@
 //! The calls without their clauses, so that no proof about a test has to read what a call ensures.
 
 use qcow2_base::Fault;
-use qcow2_bytes::{BadEntry, EntryMapping, HeaderFields, HostClusters, L2Pointer};
+use qcow2_bytes::{BadEntry, EntryMapping, HeaderFields, HostClusters, L2Pointer, TableExtent};
 use std::alloc::Global;
 
 pub(crate) fn header_bytes(first_bytes: &[u8]) -> Result<usize, Fault> {
@@ -57,4 +57,13 @@ pub(crate) fn settle_refcounts(
     gained: &[u64],
 ) -> Result<(), Fault> {
     qcow2_bytes::settle_refcounts(alloc, bytes, refcount_order, block_index, freed, gained)
+}
+
+pub(crate) fn l2_extents(
+    bytes: &[u8],
+    fields: &HeaderFields,
+    first_guest_offset: u64,
+    extents: &mut [TableExtent],
+) -> Result<usize, Fault> {
+    qcow2_bytes::l2_extents(bytes, fields, first_guest_offset, extents)
 }

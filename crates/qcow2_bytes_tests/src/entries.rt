@@ -12,8 +12,8 @@ const NONE: NameRange = NameRange {
     length: 0,
 };
 
-// The fields of a header of which only these say something.
-fn fields(cluster_bits: u32, incompatible_features: u64) -> HeaderFields {
+/// The fields of a header of which only these say something.
+pub(crate) fn fields(cluster_bits: u32, incompatible_features: u64) -> HeaderFields {
     HeaderFields {
         version: 3,
         cluster_bits,
@@ -35,9 +35,9 @@ fn fields(cluster_bits: u32, incompatible_features: u64) -> HeaderFields {
     }
 }
 
-const COPIED: u64 = 1 << 63;
+pub(crate) const COPIED: u64 = 1 << 63;
 
-const COMPRESSED: u64 = 1 << 62;
+pub(crate) const COMPRESSED: u64 = 1 << 62;
 
 // A number in an L1 table, and what it says as the offset and the flag, or why it is refused.
 #[derive(Clone, Copy, Debug)]

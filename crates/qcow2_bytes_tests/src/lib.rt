@@ -11,3 +11,5 @@ mod header;
 mod images;
 #[cfg(test)]
 mod refcounts;
+#[cfg(test)]
+mod tables;

@@ -17,6 +17,8 @@ use qcow2_bytes::{
 };
 use std::alloc::Global;
 
+mod tables;
+
 /// How many bytes the first cluster of an image has, by its first 104 bytes.
 #[unsafe(no_mangle)]
 pub extern "C" fn zq_header_bytes(first_bytes: &[u8], size: &mut usize) -> u32
