@@ -6,21 +6,22 @@
  * Rules for all functions:
  *
  * - A function returns 0, or the number of the fault that it refuses by (enum zq_fault). After a fault nothing is
- *   written to where results go, but for the index of zq_l2_check, nor to bytes that a function changes.
+ *   written to where results go, but for the index of zq_l2_check, and what zq_image_extents and zq_image_check say. Nor is
+ *   anything written to bytes that a function changes.
  * - Whatever the bytes and the numbers are that you pass, no function reads or writes outside what its arguments
  *   point to. That is proved, as is each sentence here on what a function returns.
- * - A pointer to bytes points to as many as the length says. It may be NULL where the length is 0. Every other
- *   pointer points to an object of its type. What results go to may be uninitialized. It does not overlap other
- *   arguments.
+ * - A pointer to bytes points to as many as the length says, and one to a list to as many elements as the capacity says.
+ *   It may be NULL where that is 0. Every other pointer points to an object of its type. What results go to may be
+ *   uninitialized. It does not overlap other arguments.
  * - No function keeps a pointer after it returns, and there is no global state. So several threads may call at once,
  *   where nobody changes what another call reads. Don't call from a signal handler, nor in a child that a process
  *   with threads forked.
  * - Offsets and lengths are in bytes. Tables hold numbers of eight bytes, big-endian: an entry is passed as a number
  *   of your machine.
  *
- * Only zq_header_read, zq_image_lookup and zq_refcounts_settle take memory. They take it by malloc and realloc, and
- * give it back by free before they return. If you replace malloc, realloc and free: they must be of one allocator, and
- * align a block to each power of two up to 16 that divides its size.
+ * Only zq_header_read, zq_refcounts_settle and the functions of a whole image, zq_image_.., take memory. They take it by
+ * malloc and realloc, and give it back by free before they return. If you replace these three: they must be of one
+ * allocator, and align a block to each power of two up to 16 that divides its size.
  */
 #ifndef ZAQULLE_H
 #define ZAQULLE_H
@@ -185,13 +186,14 @@ uint32_t zq_l2_entry(uint64_t entry, const zq_header *header, uint64_t guest_off
  */
 uint32_t zq_l2_check(const uint8_t *bytes, size_t length, const zq_header *header, size_t *index);
 
-/* A part of the guest's disk that reads as one, by entries of an L2 table. */
+/* A part of the guest's disk that reads as one. */
 typedef struct zq_extent {
     uint32_t kind;         /* an enum zq_kind */
     uint32_t reserved;     /* 0 */
-    uint64_t guest_offset; /* where it begins on the guest's disk; a multiple of the cluster size */
-    uint64_t length;       /* how many bytes of the guest's disk it has: whole clusters, one at least */
-    uint64_t offset;       /* the offset of the zq_mapping of its first cluster; so guest_offset for ZQ_BACKING */
+    uint64_t guest_offset; /* where it begins on the guest's disk */
+    uint64_t length;       /* how many bytes of the guest's disk it has; never 0 */
+    uint64_t offset;       /* where its first byte is in the file that kind names; 0 for ZQ_ZERO. For ZQ_COMPRESSED each
+                              function says it */
 } zq_extent;
 
 /*
@@ -202,8 +204,8 @@ typedef struct zq_extent {
  *
  * An extent is as long as its clusters read as one. ZQ_DATA and ZQ_ZERO_ALLOCATED go on in the next cluster of the data
  * file, whatever the copied flags are: the byte at guest_offset + n is at offset + n. ZQ_BACKING, ZQ_ZERO and
- * ZQ_COMPRESSED go on as the same kind. Compressed clusters are compressed each by itself: ask zq_l2_entry where each
- * but the first lies.
+ * ZQ_COMPRESSED go on as the same kind. Compressed clusters are compressed each by itself: offset is where the data of the
+ * first begins, and zq_l2_entry says it of the others.
  *
  * To go on where there wasn't room enough, take the last extent's guest_offset + length as first_guest_offset, and the
  * bytes of the entries from there on: after eight for each cluster of the extents. No sum of these passes 2^64. A call
@@ -256,6 +258,65 @@ uint32_t zq_refcounts_settle(uint8_t *bytes, size_t length, uint32_t refcount_or
  * Faults: 1 to 21, of the header, the L1 table and the L2 table, the first that is refused; ZQ_NO_MEMORY.
  */
 uint32_t zq_image_lookup(const uint8_t *bytes, size_t length, uint64_t guest_offset, zq_mapping *mapping);
+
+/*
+ * What the guest's disk reads as from an offset on, by the bytes of a whole image, which may be mapped memory. Sets
+ * *count, and puts that many extents: all up to the disk's end, or as many as the capacity says. So fewer than that
+ * after ZQ_OK means that the disk ends there. To go on, pass where the last one ends; all other elements stay as they were.
+ *
+ * The first extent begins at from_offset, which may lie anywhere in a cluster, and each other one where the one before
+ * it ends. Each is as long as its bytes read as one: data, and zeros that keep clusters, in one host cluster after
+ * another, and other content of one kind. The last ends with the disk, or where other content begins. Compressed clusters
+ * read as one wherever their data lies, so offset is 0 for them. From the disk's end on there are no extents. After its
+ * last byte an image has zeros.
+ *
+ * Reads the header, the L1 table, and the L2 tables of these extents and of where the last one ends. No other table of the
+ * disk is looked at. Takes memory for the header's names, the L1 table, and one L2 table at a time.
+ * Faults: 1 to 21, of the header and the L1 table, the first that is refused: then *count is 0. ZQ_ENTRY_RESERVED and
+ * ZQ_ENTRY_UNALIGNED of an L2 table that has to be read to know an extent, and ZQ_NO_MEMORY: then *count extents come
+ * before that one.
+ */
+uint32_t zq_image_extents(const uint8_t *bytes, size_t length, uint64_t from_offset, zq_extent *extents, size_t capacity,
+                          size_t *count);
+
+/* What is wrong with a cluster. A finding has one of these or the sum of several. */
+enum zq_finding_kind {
+    ZQ_FOUND_LEAKED = 1,  /* its counter is greater than its number of uses: it is lost, and nothing else */
+    ZQ_FOUND_MISSING = 2, /* its counter is smaller: a write may destroy data */
+    ZQ_FOUND_SHARED = 4   /* its uses exclude each other, as those of guest data and of a table */
+};
+
+typedef struct zq_finding {
+    uint32_t kinds;    /* the sum of its enum zq_finding_kind */
+    uint32_t reserved; /* 0 */
+    uint64_t cluster;  /* its number: it begins at cluster << cluster_bits */
+    uint64_t counter;  /* what its refcount says; 0 where it has none */
+    uint64_t uses;     /* how often tables and entries refer to it */
+} zq_finding;
+
+/* How much is wrong with an image: with nothing all are 0. */
+typedef struct zq_check_totals {
+    uint64_t findings;    /* how many clusters something is wrong with */
+    uint64_t leaked;      /* how many of them are ZQ_FOUND_LEAKED */
+    uint64_t missing;     /* ZQ_FOUND_MISSING */
+    uint64_t shared;      /* ZQ_FOUND_SHARED */
+    uint64_t false_flags; /* how many entries say that a refcount is exactly one which isn't */
+    uint64_t late_flags;  /* how many don't say it of one that is: that only costs a copy */
+} zq_check_totals;
+
+/*
+ * Checks an image, by the bytes of all of it, which may be mapped memory: whether each cluster's refcount is its number of
+ * uses, whether uses of a cluster exclude each other, and whether flags are right. Sets *totals. Puts the findings in the
+ * order of clusters, all or as many as the capacity says, and sets *count to how many: more are left where
+ * totals->findings is greater. All other elements stay as they were. After its last byte an image has zeros.
+ * Takes memory for the header's names, the L1 table, the refcount table, a refcount block, an L2 table at a time, and the
+ * uses of a part of the clusters.
+ * Faults: 1 to 21, of the header, and then of the L1 table, the refcount table, the places of its blocks and the L2 tables,
+ * the first that is refused; after the header's, ZQ_UNCOUNTED for an image with snapshots, bitmaps or an encryption
+ * header, whose uses aren't read; ZQ_NO_MEMORY. After ZQ_NO_MEMORY elements may have changed.
+ */
+uint32_t zq_image_check(const uint8_t *bytes, size_t length, zq_finding *findings, size_t capacity, size_t *count,
+                        zq_check_totals *totals);
 
 #ifdef __cplusplus
 }

@@ -1,13 +1,17 @@
 /* Calls each function of zaqulle.h with input that no caller should pass, and checks the fault and that results stay as
  * they were. Compares what 200,000 numbers in an L2 table say, what 400 tables join to, and counters of refcount blocks with
  * a reading by hand. Bytes that are passed end where a page begins that may not be read, so that reading past them ends the
- * program. Prints a line for each call that isn't as it must be. The status is 1 if one wasn't. With the word settle it
- * settles one refcount block and does no more, for runs in which memory is refused. */
+ * program. Prints a line for each call that isn't as it must be. The status is 1 if one wasn't.
+ * With the words map IMAGE or check IMAGE it prints instead what qmeta prints by that command, and with lookups IMAGE what
+ * clusters of the guest's disk read as. Then the status is 1 after a fault. Of a check it doesn't print flags, and a line
+ * for each cluster. With the word settle it settles one refcount block and does no more. */
 #define _DEFAULT_SOURCE
+#include <fcntl.h>
 #include <stdio.h>
 #include <stdlib.h>
 #include <string.h>
 #include <sys/mman.h>
+#include <sys/stat.h>
 
 #include "zaqulle.h"
 
@@ -263,15 +267,23 @@ static void check_numbers(void) {
     }
 }
 
-/* Lookups in an image of five clusters, which is damaged more and more. */
-static void check_lookups(void) {
-    static uint8_t image[0x50000];
-    zq_mapping found, data = {ZQ_DATA, 1, 0x40000, 65536}, backing = {ZQ_BACKING, 0, 0x10000, 65536};
+/* An image of five clusters: the header, the L1 table, an empty refcount table, an L2 table, and data of the first of 16
+ * guest clusters. */
+static uint8_t image[0x50000];
+
+static void make_image(void) {
+    memset(image, 0, sizeof image);
     make_cluster(image);
     put(image, 40, 8, 0x10000);
     put(image, 48, 8, 0x20000);
     put(image, 0x10000, 8, UINT64_C(1) << 63 | 0x30000);
     put(image, 0x30000, 8, UINT64_C(1) << 63 | 0x40000);
+}
+
+/* Lookups in the image, which is damaged more and more. */
+static void check_lookups(void) {
+    zq_mapping found, data = {ZQ_DATA, 1, 0x40000, 65536}, backing = {ZQ_BACKING, 0, 0x10000, 65536};
+    make_image();
     FILL(found);
     expect("zq_image_lookup of data", 0, zq_image_lookup(image, sizeof image, 65535, &found), ZQ_OK);
     expect("mapping of data", 0, (uint64_t)memcmp(&found, &data, sizeof found), 0);
@@ -288,6 +300,129 @@ static void check_lookups(void) {
     FILL(found);
     expect("zq_image_lookup of a large L1 table", 0, zq_image_lookup(image, sizeof image, 0, &found), ZQ_TABLE_TOO_BIG);
     EXPECT_UNTOUCHED("mapping of a large L1 table", 0, found);
+}
+
+/* Changes of the image, from where on how many extents are asked for, the fault, and the extents that come. */
+static const struct {
+    size_t place;
+    int size;
+    uint64_t value, from;
+    size_t capacity;
+    uint32_t fault;
+    size_t count;
+    zq_extent extents[2];
+} extent_rows[] = {
+    {0, 0, 0, 0, 4, ZQ_OK, 2, {{ZQ_DATA, 0, 0, 65536, 0x40000}, {ZQ_BACKING, 0, 65536, 0xf0000, 65536}}},
+    {0, 0, 0, 0, 2, ZQ_OK, 2, {{ZQ_DATA, 0, 0, 65536, 0x40000}, {ZQ_BACKING, 0, 65536, 0xf0000, 65536}}},
+    {0, 0, 0, 0, 1, ZQ_OK, 1, {{ZQ_DATA, 0, 0, 65536, 0x40000}}},
+    {0, 0, 0, 0, 0, ZQ_OK, 0, {{0, 0, 0, 0, 0}}},
+    {0, 0, 0, 65535, 4, ZQ_OK, 2, {{ZQ_DATA, 0, 65535, 1, 0x4ffff}, {ZQ_BACKING, 0, 65536, 0xf0000, 65536}}},
+    {0, 0, 0, 0xfffff, 4, ZQ_OK, 1, {{ZQ_BACKING, 0, 0xfffff, 1, 0xfffff}}},
+    {0, 0, 0, 0x100000, 4, ZQ_OK, 0, {{0, 0, 0, 0, 0}}},
+    {0, 0, 0, UINT64_MAX, 4, ZQ_OK, 0, {{0, 0, 0, 0, 0}}},
+    {0x30000, 8, 1, 0, 4, ZQ_OK, 2, {{ZQ_ZERO, 0, 0, 65536, 0}, {ZQ_BACKING, 0, 65536, 0xf0000, 65536}}},
+    {0x30000, 8, 0x40001, 1, 1, ZQ_OK, 1, {{ZQ_ZERO_ALLOCATED, 0, 1, 65535, 0x40001}}},
+    {0x30000, 8, UINT64_C(1) << 62 | 0x40010, 1, 1, ZQ_OK, 1, {{ZQ_COMPRESSED, 0, 1, 65535, 0}}},
+    {0x30008, 8, 0x50000, 1, 1, ZQ_OK, 1, {{ZQ_DATA, 0, 1, 0x1ffff, 0x40001}}},
+    {24, 8, 1, 0, 4, ZQ_OK, 1, {{ZQ_DATA, 0, 0, 1, 0x40000}}},
+    {24, 8, 0, 0, 4, ZQ_OK, 0, {{0, 0, 0, 0, 0}}},
+    {24, 8, UINT64_MAX, UINT64_MAX - 1, 4, ZQ_OK, 1, {{ZQ_BACKING, 0, UINT64_MAX - 1, 1, UINT64_MAX - 1}}},
+    {0x30007, 1, 2, 0, 4, ZQ_ENTRY_RESERVED, 0, {{0, 0, 0, 0, 0}}},
+    {0x30006, 1, 2, 0, 4, ZQ_ENTRY_UNALIGNED, 0, {{0, 0, 0, 0, 0}}},
+    {0x10007, 1, 1, 0, 0, ZQ_ENTRY_RESERVED, 0, {{0, 0, 0, 0, 0}}},
+    {36, 4, UINT32_MAX, UINT64_MAX, 4, ZQ_TABLE_TOO_BIG, 0, {{0, 0, 0, 0, 0}}},
+    {40, 8, UINT64_C(0xffffffffffff0000), 0, 4, ZQ_TABLE_PLACE, 0, {{0, 0, 0, 0, 0}}},
+    {100, 4, 65537, 0, 4, ZQ_HEADER_BIG, 0, {{0, 0, 0, 0, 0}}},
+};
+
+static void check_image_extents(void) {
+    size_t count;
+    for (size_t i = 0; i < sizeof extent_rows / sizeof *extent_rows; i++) {
+        zq_extent found[4];
+        size_t expected = extent_rows[i].count;
+        FILL(found);
+        FILL(count);
+        make_image();
+        put(image, extent_rows[i].place, extent_rows[i].size, extent_rows[i].value);
+        expect("zq_image_extents of row", i,
+               zq_image_extents(image, sizeof image, extent_rows[i].from, found, extent_rows[i].capacity, &count),
+               extent_rows[i].fault);
+        expect("count of row", i, count, expected);
+        expect("extents of row", i, (uint64_t)memcmp(found, extent_rows[i].extents, expected * sizeof *found), 0);
+        expect("rest of row", i, (uint64_t)is_untouched(found + expected, (4 - expected) * sizeof *found), 1);
+    }
+    FILL(count);
+    make_image();
+    expect("zq_image_extents into NULL", 0, zq_image_extents(image, sizeof image, 0, NULL, 0, &count), ZQ_OK);
+    expect("count into NULL", 0, count, 0);
+    FILL(count);
+    expect("zq_image_extents of NULL", 0, zq_image_extents(NULL, 0, 0, NULL, 0, &count), ZQ_NOT_QCOW2);
+    expect("count of NULL", 0, count, 0);
+    /* A table in the second half of the disk is damaged: what comes before it is told. */
+    put(image, 24, 8, UINT64_C(1) << 30);
+    put(image, 36, 4, 2);
+    put(image, 0x10008, 8, 0x20000);
+    put(image, 0x20000, 8, 2);
+    zq_extent found[4], data = {ZQ_DATA, 0, 0, 65536, 0x40000};
+    expect("zq_image_extents before a fault", 0, zq_image_extents(image, sizeof image, 0, found, 4, &count), ZQ_ENTRY_RESERVED);
+    expect("count before a fault", 0, count, 1);
+    expect("extent before a fault", 0, (uint64_t)memcmp(found, &data, sizeof data), 0);
+}
+
+/* Changes of the image, how many findings there is room for, the fault, the findings and the totals. The image has no
+ * refcount block, so that its five clusters are missing, and two flags are false. */
+static const struct {
+    size_t place;
+    int size;
+    uint64_t value;
+    size_t capacity;
+    uint32_t fault;
+    size_t count;
+    zq_finding findings[2];
+    zq_check_totals totals;
+} check_rows[] = {
+    {0, 0, 0, 2, ZQ_OK, 2, {{ZQ_FOUND_MISSING, 0, 0, 0, 1}, {ZQ_FOUND_MISSING, 0, 1, 0, 1}}, {5, 0, 5, 0, 2, 0}},
+    {0, 0, 0, 1, ZQ_OK, 1, {{ZQ_FOUND_MISSING, 0, 0, 0, 1}}, {5, 0, 5, 0, 2, 0}},
+    {0, 0, 0, 0, ZQ_OK, 0, {{0, 0, 0, 0, 0}}, {5, 0, 5, 0, 2, 0}},
+    {0x30000, 1, 0, 2, ZQ_OK, 2, {{ZQ_FOUND_MISSING, 0, 0, 0, 1}, {ZQ_FOUND_MISSING, 0, 1, 0, 1}}, {5, 0, 5, 0, 1, 0}},
+    {0x30005, 1, 0, 1, ZQ_OK, 1, {{ZQ_FOUND_MISSING, 0, 0, 0, 1}}, {4, 0, 4, 0, 1, 0}},
+    {0x30005, 1, 1, 2, ZQ_OK, 2, {{ZQ_FOUND_MISSING, 0, 0, 0, 1}, {ZQ_FOUND_MISSING | ZQ_FOUND_SHARED, 0, 1, 0, 2}},
+     {4, 0, 4, 1, 2, 0}},
+    {60, 4, 1, 2, ZQ_UNCOUNTED, 0, {{0, 0, 0, 0, 0}}, {0, 0, 0, 0, 0, 0}},
+    {0x10007, 1, 1, 2, ZQ_ENTRY_RESERVED, 0, {{0, 0, 0, 0, 0}}, {0, 0, 0, 0, 0, 0}},
+    {0x20007, 1, 1, 2, ZQ_ENTRY_RESERVED, 0, {{0, 0, 0, 0, 0}}, {0, 0, 0, 0, 0, 0}},
+    {0x20000, 8, UINT64_C(0xffffffffffff0000), 2, ZQ_TABLE_PLACE, 0, {{0, 0, 0, 0, 0}}, {0, 0, 0, 0, 0, 0}},
+    {0x30006, 1, 2, 2, ZQ_ENTRY_UNALIGNED, 0, {{0, 0, 0, 0, 0}}, {0, 0, 0, 0, 0, 0}},
+    {36, 4, UINT32_MAX, 2, ZQ_TABLE_TOO_BIG, 0, {{0, 0, 0, 0, 0}}, {0, 0, 0, 0, 0, 0}},
+    {0, 4, 0, 2, ZQ_NOT_QCOW2, 0, {{0, 0, 0, 0, 0}}, {0, 0, 0, 0, 0, 0}},
+};
+
+static void check_checks(void) {
+    zq_check_totals totals;
+    size_t count;
+    for (size_t i = 0; i < sizeof check_rows / sizeof *check_rows; i++) {
+        zq_finding found[3];
+        size_t expected = check_rows[i].count;
+        FILL(found);
+        FILL(count);
+        FILL(totals);
+        make_image();
+        put(image, check_rows[i].place, check_rows[i].size, check_rows[i].value);
+        expect("zq_image_check of row", i,
+               zq_image_check(image, sizeof image, found, check_rows[i].capacity, &count, &totals), check_rows[i].fault);
+        expect("findings of row", i, (uint64_t)memcmp(found, check_rows[i].findings, expected * sizeof *found), 0);
+        expect("rest of findings of row", i, (uint64_t)is_untouched(found + expected, (3 - expected) * sizeof *found), 1);
+        if (check_rows[i].fault != ZQ_OK) {
+            EXPECT_UNTOUCHED("count after row", i, count);
+            EXPECT_UNTOUCHED("totals after row", i, totals);
+        } else {
+            expect("count of findings of row", i, count, expected);
+            expect("totals of row", i, (uint64_t)memcmp(&totals, &check_rows[i].totals, sizeof totals), 0);
+        }
+    }
+    FILL(totals);
+    expect("zq_image_check of NULL", 0, zq_image_check(NULL, 0, NULL, 0, &count, &totals), ZQ_NOT_QCOW2);
+    EXPECT_UNTOUCHED("totals of NULL", 0, totals);
 }
 
 /* What a number in an L2 table says of guest cluster 0, read by hand. */
@@ -526,6 +661,98 @@ static int settle_once(void) {
     return fault != ZQ_OK;
 }
 
+enum { TOGETHER = 3 };
+
+static void print_extent(const zq_extent *extent) {
+    static const char *const kinds[] = {"backing", "data", "zero", "zero", "compressed"};
+    unsigned long long start = extent->guest_offset, length = extent->length, offset = extent->offset;
+    printf("0x%llx 0x%llx %s", start, length, kinds[extent->kind]);
+    if (extent->kind == ZQ_DATA || extent->kind == ZQ_ZERO_ALLOCATED) {
+        printf(" 0x%llx", offset);
+    }
+    printf("\n");
+}
+
+/* Prints the extents of a whole disk, a few by each call, as qmeta map does. */
+static uint32_t print_map(const uint8_t *bytes, size_t length) {
+    zq_extent extents[TOGETHER];
+    uint64_t from = 0;
+    size_t count = TOGETHER;
+    uint32_t fault = ZQ_OK;
+    while (fault == ZQ_OK && count == TOGETHER) {
+        fault = zq_image_extents(bytes, length, from, extents, TOGETHER, &count);
+        for (size_t i = 0; i < count; i++) {
+            print_extent(&extents[i]);
+            from = extents[i].guest_offset + extents[i].length;
+        }
+    }
+    return fault;
+}
+
+/* Prints what the first clusters of a disk read as. */
+static uint32_t print_lookups(const uint8_t *bytes, size_t length) {
+    uint32_t fault = ZQ_OK;
+    for (uint64_t offset = 0; fault == ZQ_OK && offset < 1 << 18; offset += 1 << 16) {
+        zq_mapping mapping;
+        fault = zq_image_lookup(bytes, length, offset, &mapping);
+        if (fault == ZQ_OK) {
+            printf("%u %u 0x%llx %llu\n", (unsigned)mapping.kind, (unsigned)mapping.copied, (unsigned long long)mapping.offset,
+                   (unsigned long long)mapping.length);
+        }
+    }
+    return fault;
+}
+
+static void print_finding(const char *kind, const zq_finding *finding) {
+    unsigned long long cluster = finding->cluster, counter = finding->counter, uses = finding->uses;
+    printf("%s %llu 1 %llu %llu\n", kind, cluster, counter, uses);
+}
+
+/* Prints the findings of an image and how many there are, as qmeta check does, but for the lines of flags. */
+static uint32_t print_check(const uint8_t *bytes, size_t length) {
+    static zq_finding findings[4096];
+    zq_check_totals totals;
+    size_t count;
+    uint32_t fault = zq_image_check(bytes, length, findings, sizeof findings / sizeof *findings, &count, &totals);
+    if (fault != ZQ_OK) {
+        return fault;
+    }
+    for (size_t i = 0; i < count; i++) {
+        static const char *const kinds[] = {"leaked", "missing", "shared"};
+        for (uint32_t kind = 0; kind < 3; kind++) {
+            if (findings[i].kinds >> kind & 1) {
+                print_finding(kinds[kind], &findings[i]);
+            }
+        }
+    }
+    unsigned long long leaked = totals.leaked, missing = totals.missing, shared = totals.shared;
+    unsigned long long false_flags = totals.false_flags, late_flags = totals.late_flags;
+    if (totals.findings + false_flags + late_flags == 0) {
+        printf("consistent\n");
+    } else {
+        printf("leaked %llu missing %llu shared %llu false %llu late %llu\n", leaked, missing, shared, false_flags, late_flags);
+    }
+    return ZQ_OK;
+}
+
+/* Prints what a function does of the bytes of a file, and its fault. Returns the status of the program. */
+static int print_file(const char *name, uint32_t (*print)(const uint8_t *, size_t)) {
+    struct stat status;
+    int file = open(name, O_RDONLY);
+    size_t length = file >= 0 && fstat(file, &status) == 0 ? (size_t)status.st_size : 0;
+    void *bytes = length > 0 ? mmap(NULL, length, PROT_READ, MAP_PRIVATE, file, 0) : MAP_FAILED;
+    if (bytes == MAP_FAILED) {
+        fprintf(stderr, "can't read the image\n");
+        return 2;
+    }
+    setvbuf(stdout, NULL, _IONBF, 0); /* takes no memory */
+    uint32_t fault = print((const uint8_t *)bytes, length);
+    if (fault != ZQ_OK) {
+        fprintf(stderr, "fault %u\n", (unsigned)fault);
+    }
+    return fault != ZQ_OK;
+}
+
 /* The extents that numbers in an L2 table join to, read by hand, and how many there are. */
 static size_t join_by_hand(const uint64_t *numbers, size_t entries, const zq_header *header, uint64_t first, zq_extent *extents) {
     uint64_t size = UINT64_C(1) << header->cluster_bits;
@@ -649,9 +876,13 @@ static void check_no_parts(void) {
     expect("count without room", 0, count, 0);
 }
 
-int main(int argc, char **argv) {
-    if (argc > 1 && strcmp(argv[1], "settle") == 0) {
+int main(int count, char **words) {
+    if (count == 2 && strcmp(words[1], "settle") == 0) {
         return settle_once();
+    }
+    if (count == 3) {
+        int is_map = strcmp(words[1], "map") == 0, is_check = strcmp(words[1], "check") == 0;
+        return print_file(words[2], is_map ? print_map : is_check ? print_check : print_lookups);
     }
     check_lengths();
     check_fields();
@@ -659,6 +890,8 @@ int main(int argc, char **argv) {
     check_made_up();
     check_numbers();
     check_lookups();
+    check_image_extents();
+    check_checks();
     check_random_numbers();
     check_refcounts();
     check_refused_refcounts();

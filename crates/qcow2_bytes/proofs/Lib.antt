@@ -1,3 +1,5 @@
+pub mod CheckLemmas
+pub mod ExtentsLemmas
 pub mod HeaderLemmas
 pub mod ImagesLemmas
 pub mod NamesLemmas

@@ -16,7 +16,7 @@ use Rattle.qcow2_bytes.specs.Entries.{IsFirstBad, mapping_fields, number_at}
 use Rattle.qcow2_bytes.specs.declared.entries.EntryMapping.{EntryMapping}
 use Rattle.qcow2_bytes.specs.Tables.{AreTableExtents, IsEntryPattern, IsTableExtent, KeepPattern, are_in_table, entry_mapping, has_pattern}
 use Rattle.qcow2_bytes.specs.declared.tables.EntryPattern.{EntryPattern}
-use Rattle.qcow2_bytes.specs.declared.tables.TableExtent.{TableExtent}
+use Rattle.qcow2_bytes.specs.declared.images.extents.ExtentFields.{ExtentFields}
 
 -- the bits of a number below a cluster's, but for bit 0, are clear just where bits 1 to 8 are, and the offset is a cluster's
 low_bits : (cb v : ℕ) → 9 ≤ cb → cb ≤ 21 → nat_eq (v / 2 * 2 % 2 ^ cb) 0 ≡ (nat_eq (v / 2 ^ 1 % 2 ^ 8) 0 && nat_eq (offset_field v % 2 ^ cb) 0)
@@ -249,7 +249,7 @@ guest_place cb bytes offset index high are within =
     rw (guest_size cb bytes offset index high are within) (omega (arith, (in_table cb bytes offset high are).place))
 
 -- one more extent after others
-extents_more : (g : Geometry) (offset : ℕ) (bytes : List ℕ) (from mid count : ℕ) (extents : List TableExtent) (extent : TableExtent)
+extents_more : (g : Geometry) (offset : ℕ) (bytes : List ℕ) (from mid count : ℕ) (extents : List ExtentFields) (extent : ExtentFields)
     → AreTableExtents g offset bytes from extents mid → IsTableExtent g offset bytes mid count extent
     → AreTableExtents g offset bytes from (extents ++ extent ∷ []) (mid + count)
 extents_more g offset bytes from mid count [] extent same is = (count, rw (sym same) at is, ap (λ n. n + count) same)
@@ -257,19 +257,19 @@ extents_more g offset bytes from mid count (first ∷ extents) extent are is =
     (are.0, are.1, extents_more g offset bytes (from + are.0) mid count extents extent are.2 is)
 
 -- what a loop over entries keeps: the first places have the extents of the entries before an index
-pub record JoinsSoFar (g : Geometry) (offset : ℕ) (bytes : List ℕ) (old new : List TableExtent) (count index : ℕ) : Type 0 where
+pub record JoinsSoFar (g : Geometry) (offset : ℕ) (bytes : List ℕ) (old new : List ExtentFields) (count index : ℕ) : Type 0 where
   pub places : length new ≡ length old
   pub within : count ≤ length new
   pub entries : 8 * index ≤ length bytes
   pub extents : AreTableExtents g offset bytes 0 (take count new) index
   pub others : drop count new ≡ drop count old
 
-pub joins_more : (g : Geometry) (offset : ℕ) (bytes : List ℕ) (old new : List TableExtent) (count index : ℕ) (extent : TableExtent)
+pub joins_more : (g : Geometry) (offset : ℕ) (bytes : List ℕ) (old new : List ExtentFields) (count index : ℕ) (extent : ExtentFields)
     → JoinsSoFar g offset bytes old new count index → count < length new → (more : ℕ) × IsTableExtent g offset bytes index more extent
     → JoinsSoFar g offset bytes old (set new count extent) (count + 1) (index + extent.length / 2 ^ g.cluster_bits)
 joins_more g offset bytes old new count index extent before room is =
     let more = is.0 in
-    let size : extent.length / 2 ^ g.cluster_bits ≡ more = ap (λ (e : TableExtent). e.length / 2 ^ g.cluster_bits) is.1.fields ∙ mul-div_cancel more (pow_pos g.cluster_bits) in
+    let size : extent.length / 2 ^ g.cluster_bits ≡ more = ap (λ (e : ExtentFields). e.length / 2 ^ g.cluster_bits) is.1.fields ∙ mul-div_cancel more (pow_pos g.cluster_bits) in
     record {
       places = length-set new count extent ∙ before.places;
       within = rw length-set (omega (arith, room));
@@ -278,12 +278,12 @@ joins_more g offset bytes old new count index extent before room is =
       others = drop-set-lt (count + 1) new count extent (omega arith) ∙ drop_one_more new old count before.others;
     }
   where
-    drop_one_more : (xs ys : List TableExtent) (n : ℕ) → drop n xs ≡ drop n ys → drop (n + 1) xs ≡ drop (n + 1) ys
+    drop_one_more : (xs ys : List ExtentFields) (n : ℕ) → drop n xs ≡ drop n ys → drop (n + 1) xs ≡ drop (n + 1) ys
     drop_one_more xs ys n same = sym (drop-drop 1 n xs) ∙ ap (drop 1) same ∙ drop-drop 1 n ys
 
 -- an extent goes forward
-pub goes_forward : (g : Geometry) (offset : ℕ) (bytes : List ℕ) (index : ℕ) (extent : TableExtent) → (more : ℕ) × IsTableExtent g offset bytes index more extent
+pub goes_forward : (g : Geometry) (offset : ℕ) (bytes : List ℕ) (index : ℕ) (extent : ExtentFields) → (more : ℕ) × IsTableExtent g offset bytes index more extent
     → (1 ≤ extent.length / 2 ^ g.cluster_bits) × (8 * (index + extent.length / 2 ^ g.cluster_bits) ≤ length bytes)
 goes_forward g offset bytes index extent is =
-    let size : extent.length / 2 ^ g.cluster_bits ≡ is.0 = ap (λ (e : TableExtent). e.length / 2 ^ g.cluster_bits) is.1.fields ∙ mul-div_cancel is.0 (pow_pos g.cluster_bits) in
+    let size : extent.length / 2 ^ g.cluster_bits ≡ is.0 = ap (λ (e : ExtentFields). e.length / 2 ^ g.cluster_bits) is.1.fields ∙ mul-div_cancel is.0 (pow_pos g.cluster_bits) in
     rw size (is.1.some, is.1.within)

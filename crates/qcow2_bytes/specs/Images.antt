@@ -1,4 +1,6 @@
 -- What does a whole image in memory say?
+pub mod Check
+pub mod Extents
 use Rattle.std.specs.Prelude.{ℕ, Result}
 use Rattle.qcow2_base.specs.Storage.{Image}
 use Rattle.qcow2_base.specs.declared.fault.Fault.{Fault}

@@ -13,7 +13,7 @@ use Rattle.qcow2_bytes.specs.Header.{geometry_in}
 use Rattle.qcow2_bytes.specs.declared.entries.BadEntry.{BadEntry}
 use Rattle.qcow2_bytes.specs.declared.header.HeaderFields.{HeaderFields}
 use Rattle.qcow2_bytes.specs.declared.tables.EntryPattern.{EntryPattern}
-use Rattle.qcow2_bytes.specs.declared.tables.TableExtent.{TableExtent}
+use Rattle.qcow2_bytes.specs.declared.images.extents.ExtentFields.{ExtentFields}
 
 -- whether the bytes are whole entries of one table, whose guest clusters begin with one that has this offset, and end below 2 ^ 64
 abbrev pub are_in_table : ℕ → List ℕ → ℕ → Bool
@@ -30,7 +30,7 @@ abbrev pub entry_mapping : Geometry → ℕ → List ℕ → ℕ → Mapping
 entry_mapping g offset bytes index = mapping g (offset / 2 ^ g.cluster_bits + index) (number_at bytes index)
 
 -- an extent of that many guest clusters: its kind and its place are those of the first one's mapping
-abbrev pub extent_fields : ℕ → ℕ → ℕ → Mapping → TableExtent
+abbrev pub extent_fields : ℕ → ℕ → ℕ → Mapping → ExtentFields
 extent_fields cb guest_offset count mapping = record {
   kind = (mapping_fields cb mapping).kind;
   reserved = 0;
@@ -40,7 +40,7 @@ extent_fields cb guest_offset count mapping = record {
 }
 
 -- that many entries from an index on read as one, one at least, and are an extent. The next one, if there is one, doesn't read on
-pub record IsTableExtent (g : Geometry) (offset : ℕ) (bytes : List ℕ) (index count : ℕ) (extent : TableExtent) : Type 0 where
+pub record IsTableExtent (g : Geometry) (offset : ℕ) (bytes : List ℕ) (index count : ℕ) (extent : ExtentFields) : Type 0 where
   pub some : 1 ≤ count
   pub within : 8 * (index + count) ≤ length bytes
   pub fields : extent ≡ extent_fields g.cluster_bits (offset + index * 2 ^ g.cluster_bits) count (entry_mapping g offset bytes index)
@@ -50,14 +50,14 @@ pub record IsTableExtent (g : Geometry) (offset : ℕ) (bytes : List ℕ) (index
       reads_on count (entry_mapping g offset bytes index) (entry_mapping g offset bytes (index + count)) ≡ false
 
 -- extents one after another, of the entries from an index on up to another
-abbrev pub AreTableExtents : Geometry → ℕ → List ℕ → ℕ → List TableExtent → ℕ → Type 0
+abbrev pub AreTableExtents : Geometry → ℕ → List ℕ → ℕ → List ExtentFields → ℕ → Type 0
 AreTableExtents g offset bytes from [] to = from ≡ to
 AreTableExtents g offset bytes from (extent ∷ extents) to =
     (count : ℕ) × IsTableExtent g offset bytes from count extent × AreTableExtents g offset bytes (from + count) extents to
 
 -- that many of the new places have the extents of entries from the first on, up to one. The others are the old ones. All
 -- entries are in extents, or all places are used
-pub record HoldsExtents (g : Geometry) (offset : ℕ) (bytes : List ℕ) (old new : List TableExtent) (count end : ℕ) : Type 0 where
+pub record HoldsExtents (g : Geometry) (offset : ℕ) (bytes : List ℕ) (old new : List ExtentFields) (count end : ℕ) : Type 0 where
   pub places : length new ≡ length old
   pub within : count ≤ length new
   pub extents : AreTableExtents g offset bytes 0 (take count new) end
@@ -66,13 +66,13 @@ pub record HoldsExtents (g : Geometry) (offset : ℕ) (bytes : List ℕ) (old ne
 
 -- bytes of which this is the first number that is no entry are joined, and the answer is how many extents there are; or it is
 -- the first number's fault, and the places are the old ones
-abbrev pub JoinsUnlessBad : Option BadEntry → Geometry → ℕ → List ℕ → List TableExtent → List TableExtent → Result ℕ Fault → Type 0
+abbrev pub JoinsUnlessBad : Option BadEntry → Geometry → ℕ → List ℕ → List ExtentFields → List ExtentFields → Result ℕ Fault → Type 0
 JoinsUnlessBad None g offset bytes old new answer =
     IsOkAnd answer (λ count. (end : ℕ) × HoldsExtents g offset bytes old new count end)
 JoinsUnlessBad (Some bad) g offset bytes old new answer = (answer ≡ Err bad.fault) × (new ≡ old)
 
 -- bytes of an L2 table are joined by the fields of a header; or they are refused, and the places are the old ones
-abbrev pub JoinsEntries : HeaderFields → List ℕ → ℕ → List TableExtent → List TableExtent → Result ℕ Fault → Type 0
+abbrev pub JoinsEntries : HeaderFields → List ℕ → ℕ → List ExtentFields → List ExtentFields → Result ℕ Fault → Type 0
 JoinsEntries fields bytes offset old new answer = elim (part_geometry fields bytes offset) [
   | Ok g ↦ (found : Option BadEntry) × IsFirstBad g.cluster_bits bytes found
       × JoinsUnlessBad found g offset bytes old new answer

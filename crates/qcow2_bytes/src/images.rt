@@ -16,6 +16,12 @@ use qcow2_image::lookup_with_header;
 use qcow2_metadata::{Header, L2Mapping};
 use std::alloc::Global;
 
+mod check;
+mod extents;
+
+pub use check::{CheckTotals, FindingFields, image_check};
+pub use extents::{CutShort, ExtentFields, image_extents};
+
 /// What the cluster of a guest offset reads as, by the bytes of a whole image. After its last byte an image
 /// has zeros. The size of the guest's disk isn't looked at.
 ///

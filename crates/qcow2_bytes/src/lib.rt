@@ -10,6 +10,8 @@ mod tables;
 
 pub use entries::{BadEntry, EntryMapping, L2Pointer, first_bad_l2_entry, l1_entry, l2_entry};
 pub use header::{HeaderFields, NameRange, header_bytes, read_header};
-pub use images::image_lookup;
+pub use images::{
+    CheckTotals, CutShort, ExtentFields, FindingFields, image_check, image_extents, image_lookup,
+};
 pub use refcounts::{HostClusters, read_refcounts, settle_refcounts};
-pub use tables::{TableExtent, l2_extents};
+pub use tables::l2_extents;

@@ -9,7 +9,7 @@ ghost use Rattle.qcow2_bytes.specs.Entries.{IsFirstBad};
 ghost use Rattle.qcow2_bytes.specs.Entries as spec;
 ghost use Rattle.qcow2_bytes.specs.Tables.{HoldsExtents, IsEntryPattern, IsTableExtent, JoinsEntries, KeepPattern, are_in_table, has_pattern};
 
-use crate::HeaderFields;
+use crate::{ExtentFields, HeaderFields};
 use crate::entries::{first_bad, mapping_of, number_at};
 use qcow2_base::{Fault, field};
 
@@ -18,22 +18,6 @@ const FEW: usize = 16;
 
 // How many entries are tested together.
 const BLOCK: usize = 64;
-
-/// A part of the guest's disk that reads as one, by entries of an L2 table.
-#[repr(C)]
-#[derive(Clone, Copy, Debug, PartialEq, Eq)]
-pub struct TableExtent {
-    /// What it reads as: the kind of `EntryMapping`.
-    pub kind: u32,
-    /// Always 0.
-    pub reserved: u32,
-    /// Where it begins on the guest's disk, in bytes.
-    pub guest_offset: u64,
-    /// How many bytes of the guest's disk it has: whole clusters, one at least.
-    pub length: u64,
-    /// Where what its first cluster reads as begins: the offset of `EntryMapping`.
-    pub offset: u64,
-}
 
 /// Joins the entries in the bytes of an L2 table, or of a part of one, to extents, and returns how many there
 /// are: all, or as many as there is room for. The first entry is for the guest cluster with this offset.
@@ -51,7 +35,7 @@ pub fn l2_extents(
     bytes: &[u8],
     fields: &HeaderFields,
     first_guest_offset: u64,
-    extents: &mut [TableExtent],
+    extents: &mut [ExtentFields],
 ) -> Result<usize, Fault>
     ensures { JoinsEntries fields.now bytes.now first_guest_offset extents.old extents.new result }
 {
@@ -86,7 +70,7 @@ fn join(
     cluster_bits: u32,
     external: bool,
     first_guest_offset: u64,
-    extents: &mut [TableExtent],
+    extents: &mut [ExtentFields],
 ) -> usize
     requires bits { IsClusterBits cluster_bits }
     requires part { are_in_table cluster_bits bytes.now first_guest_offset ≡ true }
@@ -113,7 +97,7 @@ fn extent_at(
     cluster_bits: u32,
     external: bool,
     first_guest_offset: u64,
-) -> TableExtent
+) -> ExtentFields
     requires bits { IsClusterBits cluster_bits }
     requires within { 8 * index + 8 ≤ length bytes.now }
     requires part { are_in_table cluster_bits bytes.now first_guest_offset ≡ true }
@@ -125,7 +109,7 @@ fn extent_at(
     let entry = number_at(bytes, index);
     let mapping = mapping_of(entry, cluster_bits, external, guest_offset);
     let end = EntryPattern::of(entry, cluster_bits, external).end(bytes, index);
-    TableExtent {
+    ExtentFields {
         kind: mapping.kind,
         reserved: 0,
         guest_offset,

@@ -1,7 +1,10 @@
 //! The calls without their clauses, so that no proof about a test has to read what a call ensures.
 
 use qcow2_base::Fault;
-use qcow2_bytes::{BadEntry, EntryMapping, HeaderFields, HostClusters, L2Pointer, TableExtent};
+use qcow2_bytes::{
+    BadEntry, CheckTotals, CutShort, EntryMapping, ExtentFields, FindingFields, HeaderFields,
+    HostClusters, L2Pointer,
+};
 use std::alloc::Global;
 
 pub(crate) fn header_bytes(first_bytes: &[u8]) -> Result<usize, Fault> {
@@ -63,7 +66,24 @@ pub(crate) fn l2_extents(
     bytes: &[u8],
     fields: &HeaderFields,
     first_guest_offset: u64,
-    extents: &mut [TableExtent],
+    extents: &mut [ExtentFields],
 ) -> Result<usize, Fault> {
     qcow2_bytes::l2_extents(bytes, fields, first_guest_offset, extents)
+}
+
+pub(crate) fn image_extents(
+    alloc: Global,
+    bytes: &[u8],
+    from_offset: u64,
+    extents: &mut [ExtentFields],
+) -> Result<usize, CutShort> {
+    qcow2_bytes::image_extents(alloc, bytes, from_offset, extents)
+}
+
+pub(crate) fn image_check(
+    alloc: Global,
+    bytes: &[u8],
+    findings: &mut [FindingFields],
+) -> Result<CheckTotals, Fault> {
+    qcow2_bytes::image_check(alloc, bytes, findings)
 }

@@ -4,7 +4,11 @@
 #[cfg(test)]
 mod calls;
 #[cfg(test)]
+mod check;
+#[cfg(test)]
 mod entries;
+#[cfg(test)]
+mod extents;
 #[cfg(test)]
 mod header;
 #[cfg(test)]

@@ -3,7 +3,7 @@
 use crate::calls::l2_extents;
 use crate::entries::{COMPRESSED, COPIED, fields};
 use qcow2_base::Fault;
-use qcow2_bytes::TableExtent;
+use qcow2_bytes::ExtentFields;
 use qcow2_testing::{each, part_of, rows, same};
 use std::alloc::{AllocError, Global};
 use std::fmt::Debug;
@@ -15,8 +15,8 @@ type Part = (u32, u64, u64, u64);
 // What a place has that nothing was written to.
 const OLD: Part = (9, 8, 7, 6);
 
-fn extent((kind, guest_offset, length, offset): Part) -> TableExtent {
-    TableExtent {
+fn extent((kind, guest_offset, length, offset): Part) -> ExtentFields {
+    ExtentFields {
         kind,
         reserved: 0,
         guest_offset,
@@ -35,7 +35,7 @@ fn table_bytes(alloc: Global, numbers: &[u64]) -> Result<Vec<u8>, AllocError> {
 
 // Fails unless the places have these extents, and all after them are as before.
 fn check_places<R: Debug + Copy + Drop>(
-    places: &[TableExtent],
+    places: &[ExtentFields],
     expected: &[Part],
     row: R,
 ) -> Result<(), Fail> {

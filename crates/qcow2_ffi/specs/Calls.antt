@@ -1,13 +1,20 @@
 -- What does a call from C return, and what does it leave in the places that it writes to?
-use Rattle.std.specs.Prelude.{◌≡◌, ℕ, List, length, Option, Some, None, Result, Ok, Err, MatchResult}
+use Rattle.std.specs.Prelude.{◌≡◌, ℕ, List, length, min, Option, Some, None, Result, Ok, Err, MatchResult}
 use Rattle.qcow2_base.specs.Fault.{fault_number}
+use Rattle.qcow2_base.specs.Storage.{Image}
 use Rattle.qcow2_base.specs.declared.fault.Fault.{Fault}
 use Rattle.qcow2_bytes.specs.Entries.{IsFirstBad, flag_number, l1_entry_in, table_geometry}
 use Rattle.qcow2_bytes.specs.Header.{ReadsHeader}
 use Rattle.qcow2_bytes.specs.Refcounts.{refcounts_of}
+use Rattle.qcow2_bytes.specs.Images.Check.{PutsFindings, tables_at}
+use Rattle.qcow2_bytes.specs.Images.Extents.{GuestDisk, PutsDiskExtents}
 use Rattle.qcow2_bytes.specs.declared.entries.BadEntry.{BadEntry}
 use Rattle.qcow2_bytes.specs.declared.entries.L2Pointer.{L2Pointer}
 use Rattle.qcow2_bytes.specs.declared.header.HeaderFields.{HeaderFields}
+use Rattle.qcow2_bytes.specs.declared.images.check.CheckTotals.{CheckTotals}
+use Rattle.qcow2_bytes.specs.declared.images.check.FindingFields.{FindingFields}
+use Rattle.qcow2_bytes.specs.declared.images.extents.CutShort.{CutShort}
+use Rattle.qcow2_bytes.specs.declared.images.extents.ExtentFields.{ExtentFields}
 use Rattle.qcow2_metadata.specs.Results.{Computes, result_map}
 
 -- a call returns 0 and leaves the value, or the fault's number and what was there before
@@ -47,3 +54,20 @@ abbrev pub SettlesCounters : ℕ → Result (List ℕ) Fault → ℕ → List �
 SettlesCounters order expected status old new =
     (answer : Result (Unit {0}) Fault) × Computes (λ done. refcounts_of new order) answer expected × (length new ≡ length old)
     × MatchResult answer (λ done. status ≡ 0) (λ fault. (status ≡ fault_number fault) × (new ≡ old))
+
+-- a call returns 0 where a list wasn't cut short by a fault, else the fault's number, and leaves how many items were put
+abbrev pub HandsOverCount : Result ℕ CutShort → ℕ → ℕ → Type 0
+HandsOverCount (Ok put) status count = (status ≡ 0) × (count ≡ put)
+HandsOverCount (Err cut) status count = (status ≡ fault_number cut.fault) × (count ≡ cut.count)
+
+-- the same of the extents of a disk from an offset on, which a list gets
+abbrev pub HandsOverDiskExtents : Result GuestDisk Fault → ℕ → List ExtentFields → List ExtentFields → ℕ → ℕ → Type 0
+HandsOverDiskExtents disk from old new status count =
+    (answer : Result ℕ CutShort) × PutsDiskExtents disk from old new answer × HandsOverCount answer status count
+
+-- a check of an image returns 0 and leaves how many findings it put into a list, and the totals; or the fault's number and what
+-- was there before
+abbrev pub HandsOverCheck : Image → List FindingFields → List FindingFields → ℕ → ℕ × CheckTotals → ℕ × CheckTotals → Type 0
+HandsOverCheck image before after status old new =
+    (answer : Result CheckTotals Fault) × PutsFindings (tables_at image) image before after answer
+    × HandsOver (result_map (λ (totals : CheckTotals). (min totals.findings (length before), totals)) answer) status old new

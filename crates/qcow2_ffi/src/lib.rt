@@ -8,12 +8,14 @@ ghost use Rattle.qcow2_base.specs.Storage.{image_of};
 ghost use Rattle.qcow2_bytes.specs.Entries.{l2_entry_in};
 ghost use Rattle.qcow2_bytes.specs.Header.{first_cluster_size};
 ghost use Rattle.qcow2_bytes.specs.Images.{fields_at};
+ghost use Rattle.qcow2_bytes.specs.Images.Extents.{guest_disk};
 ghost use Rattle.qcow2_bytes.specs.Refcounts.{refcounts_in, settled_refcounts};
-ghost use Rattle.qcow2_ffi.specs.Calls.{ChecksEntries, HandsOver, HandsOverComputed, HandsOverHeader, SettlesCounters, l1_numbers};
+ghost use Rattle.qcow2_ffi.specs.Calls.{ChecksEntries, HandsOver, HandsOverCheck, HandsOverComputed, HandsOverDiskExtents, HandsOverHeader, SettlesCounters, l1_numbers};
 
 use qcow2_bytes::{
-    EntryMapping, HeaderFields, HostClusters, first_bad_l2_entry, header_bytes, image_lookup,
-    l1_entry, l2_entry, read_header, read_refcounts, settle_refcounts,
+    CheckTotals, EntryMapping, ExtentFields, FindingFields, HeaderFields, HostClusters,
+    first_bad_l2_entry, header_bytes, image_check, image_extents, image_lookup, l1_entry, l2_entry,
+    read_header, read_refcounts, settle_refcounts,
 };
 use std::alloc::Global;
 
@@ -154,6 +156,52 @@ pub extern "C" fn zq_refcounts_settle(
 {
     match settle_refcounts(alloc, bytes, refcount_order, block_index, freed, gained) {
         Ok(()) => 0,
+        Err(fault) => fault.number(),
+    }
+}
+
+/// What the guest's disk reads as from an offset on, by the bytes of a whole image.
+#[unsafe(no_mangle)]
+pub extern "C" fn zq_image_extents(
+    alloc: Global,
+    bytes: &[u8],
+    from_offset: u64,
+    extents: &mut [ExtentFields],
+    count: &mut usize,
+) -> u32
+    ensures { HandsOverDiskExtents (guest_disk (image_of bytes.now)) from_offset extents.old extents.new
+        result count.new }
+{
+    match image_extents(alloc, bytes, from_offset, extents) {
+        Ok(found) => {
+            *count = found;
+            0
+        }
+        Err(cut) => {
+            *count = cut.count;
+            cut.fault.number()
+        }
+    }
+}
+
+/// What a check finds of a whole image, by its bytes.
+#[unsafe(no_mangle)]
+pub extern "C" fn zq_image_check(
+    alloc: Global,
+    bytes: &[u8],
+    findings: &mut [FindingFields],
+    count: &mut usize,
+    totals: &mut CheckTotals,
+) -> u32
+    ensures { HandsOverCheck (image_of bytes.now) findings.old findings.new result
+        (count.old, totals.old) (count.new, totals.new) }
+{
+    match image_check(alloc, bytes, findings) {
+        Ok(found) => {
+            *count = found.findings.min(findings.len() as u64) as usize;
+            *totals = found;
+            0
+        }
         Err(fault) => fault.number(),
     }
 }

@@ -2,7 +2,7 @@
 
 ghost use Rattle.qcow2_ffi.specs.Tables.{HandsOverExtents};
 
-use qcow2_bytes::{HeaderFields, TableExtent, l2_extents};
+use qcow2_bytes::{HeaderFields, ExtentFields, l2_extents};
 
 /// Joins the entries in the bytes of an L2 table, or of a part of one, to extents.
 #[unsafe(no_mangle)]
@@ -10,7 +10,7 @@ pub extern "C" fn zq_l2_extents(
     bytes: &[u8],
     header: &HeaderFields,
     first_guest_offset: u64,
-    extents: &mut [TableExtent],
+    extents: &mut [ExtentFields],
     count: &mut usize,
 ) -> u32
     ensures { HandsOverExtents header.now bytes.now first_guest_offset extents.old extents.new

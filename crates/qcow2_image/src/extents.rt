@@ -1,6 +1,6 @@
 //! What a whole disk reads as, in extents: parts of it that read as one, as long as they go.
 
-ghost use Rattle.std.specs.Prelude.{◌≡◌, ◌⊎◌, ◌+◌, ◌-◌, ◌*◌, ◌/◌, ◌^◌, ◌<◌, ◌≤◌, ◌↔◌, None, Some, Ok, Err, IfErr, IfOk, IfSome, IsOkAnd, IsSome, IsSomeAnd, IsTrue, MatchResult};
+ghost use Rattle.std.specs.Prelude.{◌≡◌, ◌⊎◌, ◌+◌, ◌-◌, ◌*◌, ◌/◌, ◌^◌, ◌<◌, ◌≤◌, ◌↔◌, None, Some, Ok, Err, IfErr, IfOk, IfSome, IsOkAnd, IsSome, IsSomeAnd, IsTrue, MatchResult, min};
 ghost use Rattle.qcow2_base.specs.Storage.{OnImage, OnlyReads};
 ghost use Rattle.qcow2_base.specs.declared.fault.Fault.TheVariants.{NoMemory, Storage as StorageFailed};
 ghost use Rattle.qcow2_metadata.specs.Results.{Reads, result_map};
@@ -224,6 +224,18 @@ impl<'a> Extents<'a> {
             table: None,
             ahead: None,
         })
+    }
+
+    /// Goes to an offset, or to the disk's end where that comes before it. The next extent begins there, even
+    /// where its bytes go on from those before. The L2 table that is held stays. Reads nothing.
+    pub fn seek(&mut self, offset: GuestOffset)
+        ensures { self.new ≡ record self.old {
+          position = min offset.0 self.old.header.v2.size;
+          ahead = None;
+        } }
+    {
+        self.position = offset.0.min(self.header.size());
+        self.ahead = None;
     }
 
     // What the byte at an offset reads as, and up to where it surely goes on, at most the disk's size.

@@ -1,0 +1,95 @@
+-- What does a check of a whole image in memory put into a list, and which totals does it return?
+use Rattle.std.specs.Prelude.{◌≡◌, ◌⊎◌, ◌+◌, ◌*◌, ◌≤◌, nat_lt, not, Bool, List, length, map, take, Result, Ok, Err, IsErrAnd}
+use Rattle.std.specs.List.{sum_by}
+use Rattle.qcow2_base.specs.Fault.{fault_number}
+use Rattle.qcow2_base.specs.Storage.{Image}
+use Rattle.qcow2_base.specs.declared.fault.Fault.{Fault}
+use Rattle.qcow2_check.specs.Findings.{checked_tables, image_findings}
+use Rattle.qcow2_check.specs.Flags.{image_flags}
+use Rattle.qcow2_check.specs.Uses.{ImageTables}
+use Rattle.qcow2_check.specs.declared.findings.Finding.{Finding}
+use Rattle.qcow2_check.specs.declared.flags.WrongFlag.{WrongFlag}
+use Rattle.qcow2_metadata.specs.Header.Grammar.{header_of}
+use Rattle.qcow2_metadata.specs.Results.{IsFromOutside, and_then}
+use Rattle.qcow2_metadata.specs.Table.L2Guards.{one_if}
+use Rattle.qcow2_bytes.specs.Images.Extents.{IsPutOver}
+use Rattle.qcow2_bytes.specs.declared.images.check.CheckTotals.{CheckTotals}
+use Rattle.qcow2_bytes.specs.declared.images.check.FindingFields.{FindingFields}
+
+-- whether the counter of a cluster is greater than its number of uses
+abbrev pub counts_too_many : Finding → Bool
+counts_too_many finding = nat_lt finding.uses finding.counter
+
+-- whether it is smaller
+abbrev pub counts_too_few : Finding → Bool
+counts_too_few finding = nat_lt finding.counter finding.uses
+
+-- a finding in fields
+abbrev pub finding_fields : Finding → FindingFields
+finding_fields finding = record {
+  kinds = one_if (counts_too_many finding) + 2 * one_if (counts_too_few finding) + 4 * one_if finding.shared;
+  reserved = 0;
+  cluster = finding.cluster.0;
+  counter = finding.counter;
+  uses = finding.uses;
+}
+
+-- how many findings there are, and how many of each kind
+abbrev pub finding_totals : List Finding → CheckTotals
+finding_totals findings = record {
+  findings = length findings;
+  leaked = sum_by (λ f. one_if (counts_too_many f)) findings;
+  missing = sum_by (λ f. one_if (counts_too_few f)) findings;
+  shared = sum_by (λ (f : Finding). one_if f.shared) findings;
+  false_flags = 0;
+  late_flags = 0;
+}
+
+-- totals with one finding more
+abbrev pub with_finding : CheckTotals → Finding → CheckTotals
+with_finding totals finding = record totals {
+  findings = totals.findings + 1;
+  leaked = totals.leaked + one_if (counts_too_many finding);
+  missing = totals.missing + one_if (counts_too_few finding);
+  shared = totals.shared + one_if finding.shared;
+}
+
+-- totals with those of flags: how many are set, and how many aren't
+abbrev pub with_wrong_flags : CheckTotals → List WrongFlag → CheckTotals
+with_wrong_flags totals flags = record totals {
+  false_flags = totals.false_flags + sum_by (λ (flag : WrongFlag). one_if flag.is_set) flags;
+  late_flags = totals.late_flags + sum_by (λ (flag : WrongFlag). one_if (not flag.is_set)) flags;
+}
+
+-- totals with one flag more
+abbrev pub with_wrong_flag : CheckTotals → WrongFlag → CheckTotals
+with_wrong_flag totals flag = record totals {
+  false_flags = totals.false_flags + one_if flag.is_set;
+  late_flags = totals.late_flags + one_if (not flag.is_set);
+}
+
+-- the totals of an image with these tables
+abbrev pub check_totals : ImageTables → Image → CheckTotals
+check_totals tables image = with_wrong_flags (finding_totals (image_findings tables image)) (image_flags tables image)
+
+-- the tables of an image that can be checked, or the first fault, of its header or of its tables
+abbrev pub tables_at : Image → Result ImageTables Fault
+tables_at image = and_then (header_of image) (λ header. checked_tables header image)
+
+-- a list begins with the first of these items, as many as it has room for, and goes on as it was
+abbrev pub AreFirstPut : {T : Type 0} → List T → List T → List T → Type 0
+AreFirstPut items old new = IsPutOver (take (length old) items) old new
+
+-- what a check of an image with these tables returns and puts: totals, and findings, as many as there is room for; unless a
+-- fault comes from outside. Where it can't be checked the list stays, and the fault says why, or comes from outside
+abbrev pub PutsFindings : Result ImageTables Fault → Image → List FindingFields → List FindingFields → Result CheckTotals Fault → Type 0
+PutsFindings (Ok tables) image old new (Ok totals) = (totals ≡ check_totals tables image)
+    × AreFirstPut (map finding_fields (image_findings tables image)) old new
+PutsFindings (Ok tables) image old new (Err fault) = IsFromOutside fault
+PutsFindings (Err refusal) image old new answer = (new ≡ old)
+    × IsErrAnd answer (λ fault. IsFromOutside fault ⊎ (fault ≡ refusal))
+
+-- the refusals of a check: those of a header, of a place and of an entry, which have the numbers 1 to 21, and that of a part
+-- of the image that isn't read, 37
+abbrev pub IsCheckRefusal : Fault → Type 0
+IsCheckRefusal fault = (fault_number fault ≤ 21) ⊎ (fault_number fault ≡ 37)
