@@ -205,7 +205,8 @@ typedef struct zq_extent {
  * An extent is as long as its clusters read as one. ZQ_DATA and ZQ_ZERO_ALLOCATED go on in the next cluster of the data
  * file, whatever the copied flags are: the byte at guest_offset + n is at offset + n. ZQ_BACKING, ZQ_ZERO and
  * ZQ_COMPRESSED go on as the same kind. Compressed clusters are compressed each by itself: offset is where the data of the
- * first begins, and zq_l2_entry says it of the others.
+ * first begins, and zq_l2_entry says it of the others. Extents have whole clusters: guest_offset and length are multiples
+ * of the cluster size.
  *
  * To go on where there wasn't room enough, take the last extent's guest_offset + length as first_guest_offset, and the
  * bytes of the entries from there on: after eight for each cluster of the extents. No sum of these passes 2^64. A call
