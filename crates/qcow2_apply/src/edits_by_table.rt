@@ -54,7 +54,8 @@ impl EditsByTable {
     ) -> Result<(), Fault>
         requires geometry { l1_table.now.geometry ≡ geometry_of header.now }
         requires fits { guest_edit_fits header.now edit ≡ true }
-        ensures kept { OnOk result (AddsEdit header.now l1_table.now.numbers position edit self.old self.new) }
+        ensures kept { OnOk result
+            (AddsEdit header.now l1_table.now.numbers position edit self.old self.new) }
         ensures fault { IsOkUnless result NoMemory }
     {
         let (first, end) = edit.tables(header);

@@ -167,8 +167,8 @@ impl GuestEdit {
         start < end
     }
 
-    /// The L1 entries of the L2 tables that it has guest clusters of, where it fits the disk: the first, and the
-    /// one after the last.
+    /// The L1 entries of the L2 tables that it has guest clusters of, where it fits the disk: the first, and
+    /// the one after the last.
     pub(crate) fn tables(&self, header: &Header) -> (usize, usize)
         requires fits { guest_edit_fits header.now self.now ≡ true }
         ensures { (i : ℕ) → has_clusters_in header.now.v2.cluster_bits i self.now

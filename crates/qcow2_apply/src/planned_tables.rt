@@ -29,8 +29,8 @@ use qcow2_edits::Outcome;
 use qcow2_metadata::{Header, L1Table, Table};
 use std::alloc::Global;
 
-// The index of the first L1 entry before an end that an edit has clusters of and that names no table; the end,
-// where there is none.
+// The index of the first L1 entry before an end that an edit has clusters of and that names no table; the
+// end, where there is none.
 fn first_missing_of(edit: &GuestEdit, header: &Header, l1_table: &L1Table, end: usize) -> usize
     requires geometry { l1_table.now.geometry ≡ geometry_of header.now }
     requires fits { guest_edit_fits header.now edit.now ≡ true }

@@ -67,8 +67,8 @@ fn make_edits(
     }
 }
 
-// Makes the edits of the disk at some positions in the L2 table that begins with a cluster, which the L1 entry
-// at an index names. It is read over another table.
+// Makes the edits of the disk at some positions in the L2 table that begins with a cluster, which the L1
+// entry at an index names. It is read over another table.
 fn edit_named<S: Storage>(
     image: &mut S,
     header: &Header,

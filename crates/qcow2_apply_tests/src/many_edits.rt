@@ -1,4 +1,4 @@
-//! Many edits over many L2 tables, which take time by their sum, and minutes if they took it by their product.
+//! Many edits over many L2 tables, which take time by their sum. By their product it would be minutes.
 
 use crate::small_image::COPIED;
 use crate::tables::edit;
@@ -38,8 +38,8 @@ fn many_tables(alloc: Global) -> Result<MemStorage, Fault> {
     Ok(image)
 }
 
-// The table and the entry that an edit takes away. As the factor is odd, the edits pass all tables, in no order,
-// before they come to one again.
+// The table and the entry that an edit takes away. As the factor is odd, the edits pass all tables, in no
+// order, before they come to one again.
 fn discarded(edit: u64) -> (u64, u64) {
     (edit % TABLES * 40503 % TABLES, edit / TABLES)
 }
