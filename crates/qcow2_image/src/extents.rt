@@ -115,6 +115,7 @@ fn gap_end(l1_table: &L1Table, from: u64, size: u64) -> u64
 
 // What the byte at an offset reads as by the table that has its entry, and up to where it goes on in that
 // table, or the disk's size. Always `Ok`.
+#[inline(always)]
 #[tactic(auto, using(crate::proofs::ExtentsLemmas::distance_below))]
 fn piece_of_table(table: &L2Table, from: u64, size: u64) -> Result<(Content, u64), Fault>
     requires { from < size }
