@@ -1,6 +1,6 @@
 //! What an image's own counters say of its clusters.
 
-ghost use Rattle.std.specs.Prelude.{◌≡◌, ◌↔◌, ℕ, ◌+◌, ◌<◌, ◌≤◌, Ok, Some, None, IfOk, IfSome, IsOkUnless, IsSomeAnd, IsTrue, MatchResult, length, slice_index};
+ghost use Rattle.std.specs.Prelude.{◌≡◌, ◌↔◌, ℕ, ◌+◌, ◌<◌, ◌≤◌, Ok, Some, None, IfOk, IfSome, IsOkUnless, IsSomeAnd, IsTrue, MatchResult, OnOk, length, slice_index};
 ghost use Rattle.qcow2_base.specs.Storage.{OnImage};
 ghost use Rattle.qcow2_base.specs.declared.fault.Fault.TheVariants.{TablePlace};
 ghost use Rattle.qcow2_metadata.specs.Header.{geometry_of};
@@ -81,8 +81,34 @@ fn check_places(header: &Header, reftable: &RefTable) -> Result<(), Fault>
     Ok(())
 }
 
+// Reads the refcount block that begins with a cluster over the one that is kept, or loads it where none is.
+// After a fault what is kept may be no block of the image.
+fn read_block<S: Storage>(
+    kept: &mut Option<RefBlock>,
+    image: &mut S,
+    header: &Header,
+    alloc: Global,
+    cluster: HostCluster,
+) -> Result<(), Fault>
+    requires geometry { IfSome kept.old (λ block. block.geometry ≡ block_geometry_of header.now) }
+    requires place { place_fault (block_layout (block_geometry_of header.now)) cluster ≡ None }
+    ensures kept { OnOk result (IsSomeAnd kept.new (λ block. (block.cluster ≡ Some cluster)
+        × (block.geometry ≡ block_geometry_of header.now))) }
+    ensures reads { Reads (λ done. numbers_of_kept kept.new) result
+        (λ bytes. Ok (numbers_at (block_layout (block_geometry_of header.now)) cluster bytes))
+        (λ _. ⊥) (S.state image.old) (S.state image.new) }
+{
+    match kept {
+        Some(block) => block.reload(image, header, cluster),
+        None => {
+            *kept = Some(RefBlock::load(alloc, image, header, cluster)?);
+            Ok(())
+        }
+    }
+}
+
 // Keeps the refcount block that begins with a cluster: the one that is kept, where that is it, or else the
-// one that `RefBlock::load` loads. After a fault none is kept.
+// one that `read_block` reads. After a fault none is kept.
 fn keep_block<S: Storage>(
     kept: &mut Option<RefBlock>,
     image: &mut S,
@@ -105,12 +131,16 @@ fn keep_block<S: Storage>(
         Some(block) => block.get_cluster() == Some(cluster),
         None => false,
     };
-    if !is_kept {
-        // Its memory is given back before the next block takes as much.
-        *kept = None;
-        *kept = Some(RefBlock::load(alloc, image, header, cluster)?);
+    if is_kept {
+        return Ok(());
     }
-    Ok(())
+    match read_block(kept, image, header, alloc, cluster) {
+        Ok(()) => Ok(()),
+        Err(fault) => {
+            *kept = None;
+            Err(fault)
+        }
+    }
 }
 
 // Whether that many counters of a block from an index on are all 1. Looks at each, so that several are
