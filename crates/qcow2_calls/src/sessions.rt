@@ -5,7 +5,9 @@ ghost use Rattle.std.specs.Prelude.{◌≡◌, IsTrue};
 use crate::NOT_MADE;
 use qcow2_base::{Fault, GuestOffset, HostCluster, Storage};
 use qcow2_metadata::{Header, L1Table, L2Mapping, L2Table, RefBlock, Table};
-use qcow2_session::{Command, Edit, Outcome, Step, StepReply, Verdict};
+use qcow2_session::{
+    ChangedClusters, Command, Edit, GuestEdit, Outcome, Plan, Step, StepReply, Verdict,
+};
 use qcow2_testing::is_cluster_bits;
 use std::alloc::{AllocError, Global};
 use std::io::Write;
@@ -49,6 +51,26 @@ pub fn step_image<S: Storage>(
     steps: &[Step],
 ) -> Result<Vec<StepReply>, Fault> {
     qcow2_session::step_image(alloc, image, header, cluster, steps)
+}
+
+/// `qcow2_session::Plan::new`.
+pub fn plan_edits<S: Storage>(
+    alloc: Global,
+    image: &mut S,
+    header: &Header,
+    edits: &[GuestEdit],
+) -> Result<Plan, Fault> {
+    Plan::new(alloc, image, header, edits)
+}
+
+/// `qcow2_session::apply_edits`.
+pub fn apply_edits<S: Storage>(
+    alloc: Global,
+    image: &mut S,
+    header: &mut Header,
+    edits: &[GuestEdit],
+) -> Result<ChangedClusters, Fault> {
+    qcow2_session::apply_edits(alloc, image, header, edits)
 }
 
 /// `qcow2_session::settle`.

@@ -54,6 +54,8 @@ fn make_call<S: Storage>(call: Call, held: &mut Held, image: &mut S) -> Result<(
         Call::EditUnsettled => sessions::settle_in_vain(held),
         Call::EditImage => sessions::edit_in(held, image),
         Call::StepImage => sessions::step_in(held, image),
+        Call::PlanEdits => sessions::plan(held, image),
+        Call::ApplyEdits => sessions::apply(held, image),
         Call::LookUp => sessions::look_up(held, image),
         Call::LookUpImage => sessions::look_up_image(held, image),
         Call::Command(line) => commands::make(line, held, image),

@@ -46,7 +46,7 @@ pub(crate) struct Held {
 /// What a run's call begins with.
 pub(crate) fn hold(alloc: Global, run: &Run) -> Result<Held, Fault> {
     let mut image = image_of(alloc, run.source)?;
-    let header = described_header(alloc, run.header)?;
+    let header = described_header(alloc, run)?;
     let mut held = hold_over(alloc, &mut image, header)?;
     if run.modified {
         held.l1_table.set_modified();
@@ -75,11 +75,15 @@ pub(crate) fn hold_over(
     })
 }
 
-fn described_header(alloc: Global, header: HeaderOf) -> Result<Header, Fault> {
-    match header {
+fn described_header(alloc: Global, run: &Run) -> Result<Header, Fault> {
+    match run.header {
         HeaderOf::New(cluster_bits, order) => header_of(alloc, cluster_bits, order, false),
         HeaderOf::Named => new_header(alloc, 9, 4, Some("backing.1"), None, None),
         HeaderOf::Disk(size) => disk_header(alloc, size),
+        HeaderOf::OfImage => {
+            let mut image = run.before(alloc)?;
+            load_header(alloc, &mut image, false)
+        }
     }
 }
 

@@ -27,6 +27,8 @@ pub(crate) enum Call {
     EditUnsettled,
     EditImage,
     StepImage,
+    PlanEdits,
+    ApplyEdits,
     LookUp,
     LookUpImage,
     /// The command of a line, which names no image.
@@ -60,6 +62,8 @@ pub(crate) enum HeaderOf {
     Named,
     /// That of the disk, where its size is this.
     Disk(u64),
+    /// That of the run's image.
+    OfImage,
 }
 
 /// Numbers of eight bytes, and where each stands in an image.

@@ -4,9 +4,10 @@ use super::tell;
 use crate::held::{BLOCK, Held, TABLES};
 use qcow2_base::{Fault, GuestOffset, HostCluster, Storage};
 use qcow2_calls::{
-    edit_image, edit_settled, edit_table, lookup, lookup_image, step_block, step_image,
+    apply_edits, edit_image, edit_settled, edit_table, lookup, lookup_image, plan_edits,
+    step_block, step_image,
 };
-use qcow2_session::{Edit, Step};
+use qcow2_session::{Edit, GuestEdit, Step};
 use qcow2_testing::rows;
 
 // Edits of a table in memory, and of the first and the last entry of one of 65536 bytes.
@@ -26,6 +27,12 @@ const BLOCK_STEPS: &[Step] =
 
 const IMAGE_STEPS: &[Step] =
     rows! { Step::Inc { index: 0 }, Step::Dec { index: 1 }, Step::Inc { index: 2047 } };
+
+// Edits of guest clusters 0 and 3 of the disk, of which 3 has data.
+const DISK_EDITS: &[GuestEdit] = rows! {
+    GuestEdit::Map { offset: GuestOffset(0), host_cluster: HostCluster(6) },
+    GuestEdit::Discard { offset: GuestOffset(1536), length: 512 },
+};
 
 // An offset in guest cluster 3 of the disk.
 const GUEST_OFFSET: GuestOffset = GuestOffset(1543);
@@ -63,6 +70,16 @@ pub(super) fn edit_in<S: Storage>(held: &mut Held, image: &mut S) -> Result<(), 
 pub(super) fn step_in<S: Storage>(held: &mut Held, image: &mut S) -> Result<(), Fault> {
     let replies = step_image(held.alloc, image, &held.header, BLOCK, IMAGE_STEPS)?;
     tell(&mut held.out, &replies)
+}
+
+pub(super) fn plan<S: Storage>(held: &mut Held, image: &mut S) -> Result<(), Fault> {
+    let plan = plan_edits(held.alloc, image, &held.header, DISK_EDITS)?;
+    tell(&mut held.out, &plan.clusters)
+}
+
+pub(super) fn apply<S: Storage>(held: &mut Held, image: &mut S) -> Result<(), Fault> {
+    let clusters = apply_edits(held.alloc, image, &mut held.header, DISK_EDITS)?;
+    tell(&mut held.out, &clusters)
 }
 
 pub(super) fn look_up<S: Storage>(held: &mut Held, image: &mut S) -> Result<(), Fault> {

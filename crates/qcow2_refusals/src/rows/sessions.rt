@@ -2,8 +2,10 @@
 
 use crate::held::DISK;
 use crate::rows::RUN;
-use crate::runs::Call::{Command, EditImage, LookUp, LookUpImage, StepImage};
-use crate::runs::HeaderOf::{Disk, New};
+use crate::runs::Call::{
+    ApplyEdits, Command, EditImage, LookUp, LookUpImage, PlanEdits, StepImage,
+};
+use crate::runs::HeaderOf::{Disk, New, OfImage};
 use crate::runs::{EMPTY, Image, Numbers, Run};
 use qcow2_testing::rows;
 
@@ -15,6 +17,9 @@ pub(crate) const RUNS: &[Run] = rows! {
     Run { call: StepImage, header: New(12, 4),
         image: Some(Image { len: 12288, zeros: (8192, 12288), ..EMPTY }), before: &[(8192, 7 << 48)],
         after: &[(8192, 8 << 48), (12280, 1)], reports: "[Done(7), Refused, Done(0)]", ..RUN },
+    Run { call: PlanEdits, after: UNCLEARED, ..OF_EDITS },
+    // it asks for all memory before it clears the autoclear features
+    Run { call: ApplyEdits, after: APPLIED, ..OF_EDITS },
     Run { call: LookUp, reports: DATA, ..OF_A_DISK },
     Run { call: LookUpImage, reports: DATA, ..OF_A_DISK },
     Run { call: Command("info"), reports: INFO, ..OF_A_DISK },
@@ -46,6 +51,14 @@ const OF_A_DISK: Run = Run {
     ..RUN
 };
 
+const OF_EDITS: Run = Run {
+    header: OfImage,
+    before: UNCLEARED,
+    reports: "ChangedClusters { freed: [ClustersToFreeEntry { first: HostCluster(5), \
+        count: ClusterCount(1) }], kept: [], gained: [HostCluster(6)] }",
+    ..OF_A_DISK
+};
+
 // A refcount table in cluster 3, and its block in cluster 4. There the counters of clusters 0 to 5 are 1, but
 // that of cluster 5 is 2, and that of cluster 7 is 1.
 const COUNTED: Numbers = &[
@@ -64,6 +77,30 @@ const REPAIRED: Numbers = &[
     (0x600, 0x800),
     (0x800, 0x0001_0001_0001_0001),
     (0x808, 0x0001_0001_0000_0000),
+    (0x9f8, 0),
+];
+
+// The same with an autoclear feature.
+const UNCLEARED: Numbers = &[
+    (48, 0x600),
+    (56, 1 << 32),
+    (88, 1),
+    (0x600, 0x800),
+    (0x800, 0x0001_0001_0001_0001),
+    (0x808, 0x0001_0001_0000_0000),
+    (0x9f8, 0),
+];
+
+// The same without it, where guest cluster 0 is the data in cluster 6, and guest cluster 3 has none.
+const APPLIED: Numbers = &[
+    (48, 0x600),
+    (56, 1 << 32),
+    (88, 0),
+    (1024, 0x8000_0000_0000_0c00),
+    (1048, 0),
+    (0x600, 0x800),
+    (0x800, 0x0001_0001_0001_0001),
+    (0x808, 0x0001_0000_0001_0000),
     (0x9f8, 0),
 ];
 
