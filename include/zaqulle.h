@@ -1,7 +1,7 @@
 /*
  * zaqulle.h: what qcow2 images say, by bytes that you have read yourself.
  *
- * Link libzaqulle.a, which scripts/check-c-library builds, and nothing else of ours. No function reads or writes a file, and none prints.
+ * Link libzaqulle.a, which scripts/build-c-library builds, and nothing else of ours. No function reads or writes a file, and none prints.
  *
  * Rules for all functions:
  *

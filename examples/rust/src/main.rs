@@ -1,0 +1,171 @@
+//! Prints what the whole disk of a qcow2 image reads as, extent by extent, as `qmeta map` does. It reads the header and the
+//! tables alone, so an image may be of any size.
+//!
+//! Usage: `map IMAGE`. The status is 1 after a fault, and what is known before it is printed.
+
+use std::env;
+use std::error::Error;
+use std::fs::File;
+use std::io::{self, BufWriter, Write};
+use std::os::unix::fs::FileExt;
+use std::process::ExitCode;
+
+use zaqulle::{Content, Extent, Fault, Header, header_bytes, l1_entry, l2_extents, read_header};
+
+/// How many entries an L1 table may have.
+const MOST_L1_ENTRIES: u32 = 4_194_304;
+
+/// Where a table ends at most.
+const GREATEST_END: u64 = 1 << 56;
+
+/// The bytes of a part of a file. After its end there are zeros.
+fn read_part(file: &File, offset: u64, length: usize) -> io::Result<Vec<u8>> {
+    let mut bytes = vec![0; length];
+    let mut filled = 0;
+    while filled < length {
+        match file.read_at(&mut bytes[filled..], offset + filled as u64)? {
+            0 => break,
+            count => filled += count,
+        }
+    }
+    Ok(bytes)
+}
+
+/// The header of an image.
+fn header_of(file: &File) -> Result<Header, Box<dyn Error>> {
+    let size = header_bytes(&read_part(file, 0, 104)?)?;
+    Ok(read_header(&read_part(file, 0, size)?)?)
+}
+
+/// Where the L2 tables lie, by the L1 table. There is none where an entry is `None`.
+fn l2_offsets(file: &File, header: &Header) -> Result<Vec<Option<u64>>, Box<dyn Error>> {
+    let length = 8 * u64::from(header.l1_entries());
+    if header.l1_entries() > MOST_L1_ENTRIES {
+        return Err(Fault::TableTooBig.into());
+    }
+    if header
+        .l1_offset()
+        .checked_add(length)
+        .is_none_or(|end| end > GREATEST_END)
+    {
+        return Err(Fault::TablePlace.into());
+    }
+    let bytes = read_part(file, header.l1_offset(), length as usize)?;
+    let (entries, _) = bytes.as_chunks();
+    let offsets: Result<_, Fault> = entries
+        .iter()
+        .map(|entry| Ok(l1_entry(u64::from_be_bytes(*entry), header)?.map(|table| table.offset)))
+        .collect();
+    Ok(offsets?)
+}
+
+/// Whether an extent goes on where another one ends.
+fn goes_on(next: &Extent, last: &Extent) -> bool {
+    match (last.content, next.content) {
+        (Content::Data(offset), Content::Data(next)) => next == offset + last.length,
+        (Content::AllocatedZeros(offset), Content::AllocatedZeros(next)) => {
+            next == offset + last.length
+        }
+        (last, next) => last == next,
+    }
+}
+
+fn print(extent: &Extent, out: &mut impl Write) -> io::Result<()> {
+    write!(out, "{:#x} {:#x} ", extent.start, extent.length)?;
+    match extent.content {
+        Content::Backing => writeln!(out, "backing"),
+        Content::Data(offset) => writeln!(out, "data {offset:#x}"),
+        Content::Zeros => writeln!(out, "zero"),
+        Content::AllocatedZeros(offset) => writeln!(out, "zero {offset:#x}"),
+        Content::Compressed => writeln!(out, "compressed"),
+        _ => writeln!(out, "unknown"),
+    }
+}
+
+/// Prints extents that follow one another, joined where they read as one.
+struct Printer<W> {
+    out: W,
+    last: Option<Extent>,
+}
+
+impl<W: Write> Printer<W> {
+    /// Prints what is surely whole now that this extent comes.
+    fn push(&mut self, extent: Extent) -> io::Result<()> {
+        match &mut self.last {
+            Some(last) if goes_on(&extent, last) => last.length += extent.length,
+            _ => {
+                self.print_last()?;
+                self.last = Some(extent);
+            }
+        }
+        Ok(())
+    }
+
+    /// Prints the last extent, to which nothing comes.
+    fn print_last(&mut self) -> io::Result<()> {
+        self.last
+            .take()
+            .map_or(Ok(()), |last| print(&last, &mut self.out))
+    }
+}
+
+/// Prints the extents of an image. Tables past the end of the disk aren't read.
+fn print_map(file: &File, out: &mut impl Write) -> Result<(), Box<dyn Error>> {
+    let header = header_of(file)?;
+    let size = header.size();
+    let table_range = (header.cluster_size() * header.l2_entries()) as u64;
+    let mut printer = Printer { out, last: None };
+    let mut start = 0;
+    for table in l2_offsets(file, &header)? {
+        if start >= size {
+            break;
+        }
+        let end = size.min(start.saturating_add(table_range));
+        let extents = match table {
+            Some(offset) => l2_extents(
+                &read_part(file, offset, header.cluster_size())?,
+                &header,
+                start,
+            )?,
+            None => vec![Extent {
+                start,
+                length: end - start,
+                content: Content::Backing,
+            }],
+        };
+        for extent in extents.into_iter().filter(|extent| extent.start < end) {
+            printer.push(Extent {
+                length: extent.length.min(end - extent.start),
+                ..extent
+            })?;
+        }
+        start = end;
+    }
+    if start < size {
+        printer.push(Extent {
+            start,
+            length: size - start,
+            content: Content::Backing,
+        })?;
+    }
+    Ok(printer.print_last()?)
+}
+
+fn main() -> ExitCode {
+    let words: Vec<_> = env::args_os().skip(1).collect();
+    let [path] = words.as_slice() else {
+        eprintln!("usage: map IMAGE");
+        return ExitCode::from(2);
+    };
+    let mut out = BufWriter::new(io::stdout().lock());
+    let printed = File::open(path)
+        .map_err(Into::into)
+        .and_then(|file| print_map(&file, &mut out));
+    match printed.and_then(|()| Ok(out.flush()?)) {
+        Ok(()) => ExitCode::SUCCESS,
+        Err(error) => {
+            eprintln!("map: {error}");
+            ExitCode::FAILURE
+        }
+    }
+}
