@@ -30,8 +30,8 @@ abbrev pub entry_mapping : Geometry → ℕ → List ℕ → ℕ → Mapping
 entry_mapping g offset bytes index = mapping g (offset / 2 ^ g.cluster_bits + index) (number_at bytes index)
 
 -- an extent of that many guest clusters: its kind and its place are those of the first one's mapping
-abbrev pub extent_fields : ℕ → ℕ → ℕ → Mapping → ExtentFields
-extent_fields cb guest_offset count mapping = record {
+abbrev pub table_extent_fields : ℕ → ℕ → ℕ → Mapping → ExtentFields
+table_extent_fields cb guest_offset count mapping = record {
   kind = (mapping_fields cb mapping).kind;
   reserved = 0;
   guest_offset = guest_offset;
@@ -43,7 +43,7 @@ extent_fields cb guest_offset count mapping = record {
 pub record IsTableExtent (g : Geometry) (offset : ℕ) (bytes : List ℕ) (index count : ℕ) (extent : ExtentFields) : Type 0 where
   pub some : 1 ≤ count
   pub within : 8 * (index + count) ≤ length bytes
-  pub fields : extent ≡ extent_fields g.cluster_bits (offset + index * 2 ^ g.cluster_bits) count (entry_mapping g offset bytes index)
+  pub fields : extent ≡ table_extent_fields g.cluster_bits (offset + index * 2 ^ g.cluster_bits) count (entry_mapping g offset bytes index)
   pub each : (k : ℕ) → 1 ≤ k → k < count →
       reads_on k (entry_mapping g offset bytes index) (entry_mapping g offset bytes (index + k)) ≡ true
   pub ends : 8 * (index + count) < length bytes →

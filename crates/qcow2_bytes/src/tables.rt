@@ -9,8 +9,8 @@ ghost use Rattle.qcow2_bytes.specs.Entries.{IsFirstBad};
 ghost use Rattle.qcow2_bytes.specs.Entries as spec;
 ghost use Rattle.qcow2_bytes.specs.Tables.{HoldsExtents, IsEntryPattern, IsTableExtent, JoinsEntries, KeepPattern, are_in_table, has_pattern};
 
-use crate::{ExtentFields, HeaderFields};
 use crate::entries::{first_bad, mapping_of, number_at};
+use crate::{ExtentFields, HeaderFields};
 use qcow2_base::{Fault, field};
 
 // How many entries are tested one after another, before blocks of them are.

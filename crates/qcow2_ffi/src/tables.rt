@@ -2,7 +2,7 @@
 
 ghost use Rattle.qcow2_ffi.specs.Tables.{HandsOverExtents};
 
-use qcow2_bytes::{HeaderFields, ExtentFields, l2_extents};
+use qcow2_bytes::{ExtentFields, HeaderFields, l2_extents};
 
 /// Joins the entries in the bytes of an L2 table, or of a part of one, to extents.
 #[unsafe(no_mangle)]

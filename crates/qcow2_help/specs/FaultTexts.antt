@@ -1,10 +1,10 @@
 -- What does `explain` print of each fault?
-use Rattle.std.specs.Prelude.{ℕ, List, Option, Some, None, if◌then◌else◌, ◌==◌}
+use Rattle.std.specs.Prelude.{ℕ, List, Option, Some, None, if◌then◌else◌, ◌==◌, nat_le}
 use Rattle.qcow2_help.specs.declared.faults.TheConstants.{BACKING_NAME_LONG, BACKING_NAME_PLACE, BACKING_NAME_TEXT, BAD_EDIT, BAD_STEP, CANNOT_GROW, CLUSTER_SIZE, COUNTER_RANGE, DATA_FILE_CONFLICT, ENTRY_RESERVED, ENTRY_UNALIGNED, EXTENSIONS_EXCEED, EXTENSION_TEXT, EXTERNAL_DATA, FEATURE_NAME_CUT, FIELD_CHANGED, FORMAT_CONFLICT, HEADER_BIG, HEADER_SHORT, HEADER_TOO_LONG, INCOMPATIBLE, IN_USE, L1_UNALIGNED, NAME_TOO_LONG, NOT_PLACED, NOT_QCOW2, NO_MEMORY, NO_OFFSET, OVERLAP, REFCOUNT_WIDTH, REFTABLE_UNALIGNED, SHARED, STORAGE, TABLE_PLACE, TABLE_TOO_BIG, TOO_MANY, UNCOUNTED, VERSION, VERSION_NEEDED, WRONG_LENGTH}
 
--- the text on the fault of a number, if there is such a fault
-unfoldable pub fault_text : ℕ → Option (List ℕ)
-fault_text number =
+-- the text on the fault of a number, if it is one of headers
+unfoldable pub header_fault_text : ℕ → Option (List ℕ)
+header_fault_text number =
     if number == 1 then Some NOT_QCOW2.now
     else if number == 2 then Some VERSION.now
     else if number == 3 then Some CLUSTER_SIZE.now
@@ -22,7 +22,12 @@ fault_text number =
     else if number == 15 then Some FORMAT_CONFLICT.now
     else if number == 16 then Some DATA_FILE_CONFLICT.now
     else if number == 17 then Some INCOMPATIBLE.now
-    else if number == 18 then Some ENTRY_RESERVED.now
+    else None
+
+-- the same of all other faults
+unfoldable pub later_fault_text : ℕ → Option (List ℕ)
+later_fault_text number =
+    if number == 18 then Some ENTRY_RESERVED.now
     else if number == 19 then Some ENTRY_UNALIGNED.now
     else if number == 20 then Some TABLE_TOO_BIG.now
     else if number == 21 then Some TABLE_PLACE.now
@@ -46,3 +51,7 @@ fault_text number =
     else if number == 39 then Some IN_USE.now
     else if number == 40 then Some SHARED.now
     else None
+
+-- the text on the fault of a number, if there is such a fault
+unfoldable pub fault_text : ℕ → Option (List ℕ)
+fault_text number = if nat_le number 17 then header_fault_text number else later_fault_text number

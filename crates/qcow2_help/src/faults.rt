@@ -1,7 +1,7 @@
 //! The texts of `explain`: for each fault what must hold, what mostly breaks it, and what helps.
 
 ghost use Rattle.std.specs.Prelude.{◌≡◌, option_map};
-ghost use Rattle.qcow2_help.specs.FaultTexts.{fault_text};
+ghost use Rattle.qcow2_help.specs.FaultTexts.{fault_text, header_fault_text, later_fault_text};
 
 /// How many faults there are. Their numbers are 1 to this.
 pub const FAULT_COUNT: u64 = 40;
@@ -268,6 +268,18 @@ repair`.
 pub fn fault_help(number: u64) -> Option<&'static str>
     ensures { option_map (λ text. text.now) result ≡ fault_text number }
 {
+    if number <= 17 {
+        header_fault_help(number)
+    } else {
+        later_fault_help(number)
+    }
+}
+
+// The same of faults of headers.
+#[tactic(auto, unfolding(crate::specs::FaultTexts::header_fault_text))]
+fn header_fault_help(number: u64) -> Option<&'static str>
+    ensures { option_map (λ text. text.now) result ≡ header_fault_text number }
+{
     match number {
         1 => Some(NOT_QCOW2),
         2 => Some(VERSION),
@@ -286,6 +298,16 @@ pub fn fault_help(number: u64) -> Option<&'static str>
         15 => Some(FORMAT_CONFLICT),
         16 => Some(DATA_FILE_CONFLICT),
         17 => Some(INCOMPATIBLE),
+        _ => None,
+    }
+}
+
+// The same of all other faults.
+#[tactic(auto, unfolding(crate::specs::FaultTexts::later_fault_text))]
+fn later_fault_help(number: u64) -> Option<&'static str>
+    ensures { option_map (λ text. text.now) result ≡ later_fault_text number }
+{
+    match number {
         18 => Some(ENTRY_RESERVED),
         19 => Some(ENTRY_UNALIGNED),
         20 => Some(TABLE_TOO_BIG),

@@ -27,8 +27,8 @@ pub struct ExtentFields {
     /// How many bytes of the disk it has. Never 0.
     pub length: u64,
     /// Where its first byte lies: for kind 0 in the backing file, for 1 and 3 in the data file. 0 for kind 2.
-    /// For kind 4, whose clusters are compressed each by itself, that of `l2_extents` is where the data of the
-    /// first begins, and that of `image_extents` 0.
+    /// For kind 4, whose clusters are compressed each by itself, `l2_extents` says where the data of the
+    /// first begins, and `image_extents` 0.
     pub offset: u64,
 }
 
