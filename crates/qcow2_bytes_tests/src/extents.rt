@@ -136,7 +136,7 @@ fn expected(alloc: Global, row: &Row) -> Result<Vec<ExtentFields>, Fail> {
     for part in PARTS.iter().take(row.first).chain(row.others) {
         list.push(fields(*part))?;
     }
-    while list.len() < row.room {
+    for _ in list.len()..row.room {
         list.push(OLD)?;
     }
     Ok(list)
@@ -153,7 +153,7 @@ fn check_row(alloc: Global, row: Row) -> Result<(), Fail> {
     let mut list = vec![in alloc; OLD; row.room]?;
     let bytes = part_of(image.bytes(), 0, row.len)?;
     let found = image_extents(alloc, bytes, row.from, &mut list);
-    let count = row.first + row.others.len();
+    let count = row.first.saturating_add(row.others.len());
     let end = match row.fault {
         Some(fault) => Err(CutShort { count, fault }),
         None => Ok(count),
