@@ -11,6 +11,8 @@ mod counters;
 #[cfg(test)]
 mod guest_edits;
 #[cfg(test)]
+mod many_edits;
+#[cfg(test)]
 mod plan;
 #[cfg(test)]
 mod refusals;

@@ -1,0 +1,82 @@
+//! Many edits over many L2 tables. Each is looked at for its own table alone: for all tables that would be
+//! 6553600000 times.
+
+use crate::small_image::COPIED;
+use crate::tables::edit;
+use qcow2_apply::GuestEdit;
+use qcow2_base::{Fault, GuestOffset, MemStorage};
+use qcow2_testing::{image_with, put, same, same_image};
+use std::alloc::{AllocError, Global};
+use std::test::Fail;
+
+// Clusters of 512 bytes: an L1 table of 65536 entries from cluster 1 on, and the L2 tables of 64 entries that
+// they name from cluster 1025 on. Nothing else is read.
+const TABLES: u64 = 65536;
+
+const FIRST_TABLE: u64 = 1025 * 512;
+
+const EDITS: u64 = 100000;
+
+// The image, in which the first two entries of each table are data.
+fn many_tables(alloc: Global) -> Result<MemStorage, Fault> {
+    let header = [
+        (0, 0x5146_49fb_0000_0003),
+        (16, 9),
+        (24, TABLES * 64 * 512),
+        (32, TABLES),
+        (40, 512),
+        (48, FIRST_TABLE + TABLES * 512),
+        (56, 1 << 32),
+        (96, 0x0000_0004_0000_0068),
+    ];
+    let mut image = image_with(alloc, (1025 + 65536 + 1) * 512, &header)?;
+    for table in 0..TABLES {
+        let place = FIRST_TABLE + table * 512;
+        put(&mut image, 512 + table * 8, COPIED | place)?;
+        put(&mut image, place, COPIED | 1 << 30)?;
+        put(&mut image, place + 8, COPIED | 1 << 31)?;
+    }
+    Ok(image)
+}
+
+// The table and the entry that an edit takes away. As the factor is odd, the edits pass all tables, in no
+// order, before they come to one again.
+fn discarded(edit: u64) -> (u64, u64) {
+    (edit % TABLES * 40503 % TABLES, edit / TABLES)
+}
+
+// The discards of a cluster each.
+fn discards(alloc: Global) -> Result<Vec<GuestEdit>, AllocError> {
+    let mut edits = Vec::new(alloc);
+    for number in 0..EDITS {
+        let (table, entry) = discarded(number);
+        edits.push(GuestEdit::Discard {
+            offset: GuestOffset((table % TABLES * 64 + entry % 64) * 512),
+            length: 512,
+        })?;
+    }
+    Ok(edits)
+}
+
+// The image without these entries.
+fn without_discarded(alloc: Global) -> Result<MemStorage, Fault> {
+    let mut image = many_tables(alloc)?;
+    for number in 0..EDITS {
+        let (table, entry) = discarded(number);
+        put(
+            &mut image,
+            FIRST_TABLE + table % TABLES * 512 + entry % 64 * 8,
+            0,
+        )?;
+    }
+    Ok(image)
+}
+
+#[test]
+fn many_edits_of_many_tables_are_made(rt: HostRuntime) -> Result<(), Fail> {
+    let alloc = rt.alloc();
+    let mut image = many_tables(alloc)?;
+    let edits = discards(alloc)?;
+    same(edit(alloc, &mut image, edits.as_slice()), Ok(()), EDITS)?;
+    same_image(&image, without_discarded(alloc), EDITS)
+}
