@@ -1,4 +1,4 @@
-/* Times zq_l2_extents beside a loop in plain C that does the same, on tables in memory. scripts/check-c-library builds the
+/* Times zq_l2_extents beside a loop in plain C that does the same, on tables in memory. scripts/build-c-library builds the
  * library. Then: cc -O2 -I include benchmarks/extents.c crates/qcow2_ffi/out/libzaqulle.a -o extents, and ./extents.
  * A line is the table, the number of its entries, the least time of 60 rounds in microseconds here and in plain C, and
  * their ratio. The status is 1 if the extents differ. */

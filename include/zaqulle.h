@@ -1,7 +1,8 @@
 /*
  * zaqulle.h: what qcow2 images say, by bytes that you have read yourself.
  *
- * Link libzaqulle.a, which scripts/build-c-library builds, and nothing else of ours. No function reads or writes a file, and none prints.
+ * Link libzaqulle.a, which scripts/build-c-library builds, and nothing else of ours. No function reads or writes a file,
+ * and none prints.
  *
  * Rules for all functions:
  *
@@ -302,7 +303,8 @@ typedef struct zq_check_totals {
     uint64_t missing;     /* ZQ_FOUND_MISSING */
     uint64_t shared;      /* ZQ_FOUND_SHARED */
     uint64_t false_flags; /* how many entries say that a refcount is exactly one which isn't */
-    uint64_t late_flags;  /* how many don't say it of one that is: that only costs a copy */
+    uint64_t late_flags;  /* how many don't say it where the refcount is one, or the cluster lies in an external data file:
+                             that only costs a copy */
 } zq_check_totals;
 
 /*

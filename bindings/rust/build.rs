@@ -12,7 +12,13 @@ const ARCHIVE: &str = "libzaqulle.a";
 const USUAL: [&str; 2] = ["/usr/local/lib", "/usr/lib"];
 
 fn main() {
-    for name in ["ZAQULLE_LIB_DIR", "PKG_CONFIG", "PKG_CONFIG_PATH"] {
+    for name in [
+        "ZAQULLE_LIB_DIR",
+        "PKG_CONFIG",
+        "PKG_CONFIG_PATH",
+        "PKG_CONFIG_LIBDIR",
+        "PKG_CONFIG_SYSROOT_DIR",
+    ] {
         println!("cargo::rerun-if-env-changed={name}");
     }
     let folder = named_folder()
@@ -39,9 +45,9 @@ fn with_library(folder: PathBuf) -> Option<PathBuf> {
 /// The folder that the environment names. Where it has no library, nothing else is tried.
 fn named_folder() -> Option<PathBuf> {
     let folder = PathBuf::from(env::var_os("ZAQULLE_LIB_DIR")?);
-    if !folder.join(ARCHIVE).is_file() {
+    if folder.is_relative() || !folder.join(ARCHIVE).is_file() {
         println!(
-            "cargo::error=ZAQULLE_LIB_DIR names {}, which has no {ARCHIVE}",
+            "cargo::error=ZAQULLE_LIB_DIR must be the whole path of a folder with {ARCHIVE}: {}",
             folder.display()
         );
     }
@@ -65,8 +71,10 @@ fn installed_folder() -> Option<PathBuf> {
         .args(["--variable=libdir", "zaqulle"])
         .output()
         .ok()?;
-    let folder = String::from_utf8(output.stdout).ok()?;
-    with_library(PathBuf::from(folder.trim_end_matches('\n')))
+    let text = String::from_utf8(output.stdout).ok()?;
+    let folder = PathBuf::from(text.trim_end_matches('\n'));
+    let is_found = output.status.success() && folder.is_absolute();
+    is_found.then_some(folder).and_then(with_library)
 }
 
 /// A usual folder, if the library is in one.

@@ -12,7 +12,7 @@
 
 #include <zaqulle.h>
 
-enum { PAGE = 4096, ROOM = 4 * PAGE, SECONDS = 60, MOST_SHOWN = 20 };
+enum { PAGE = 65536, ROOM = 4 * PAGE, SECONDS = 60, MOST_SHOWN = 20 };
 
 static uint64_t seed = 1, random_state, buffers, failures;
 

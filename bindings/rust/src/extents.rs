@@ -75,7 +75,9 @@ pub fn l2_extents(
     header: &Header,
     first_guest_offset: u64,
 ) -> Result<Vec<Extent>, Fault> {
-    let mut found = vec![raw::Extent::default(); bytes.len() / 8];
+    // More than a cluster is refused, and needs no room.
+    let room = bytes.len().min(header.cluster_size()) / 8;
+    let mut found = vec![raw::Extent::default(); room];
     let count = raw::l2_extents(bytes, &header.0, first_guest_offset, &mut found)?;
     Ok(found[..count].iter().map(Extent::new).collect())
 }

@@ -170,7 +170,7 @@ impl Header {
     }
 }
 
-/// The text of a name. There is none where these aren't the bytes that the header was read from.
+/// The text of a name. Of other bytes it may be any text, or none that the header was read from.
 fn text(name: raw::Name, bytes: &[u8]) -> Option<&str> {
     let begin = usize::try_from(name.offset)
         .ok()

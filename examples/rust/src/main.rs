@@ -51,12 +51,12 @@ fn l2_offsets(file: &File, header: &Header) -> Result<Vec<Option<u64>>, Box<dyn 
         return Err(Fault::TablePlace.into());
     }
     let bytes = read_part(file, header.l1_offset(), length as usize)?;
-    let (entries, _) = bytes.as_chunks();
-    let offsets: Result<_, Fault> = entries
-        .iter()
-        .map(|entry| Ok(l1_entry(u64::from_be_bytes(*entry), header)?.map(|table| table.offset)))
-        .collect();
-    Ok(offsets?)
+    let mut offsets = Vec::with_capacity(bytes.len() / 8);
+    for entry in bytes.chunks_exact(8) {
+        let number = u64::from_be_bytes(entry.try_into()?);
+        offsets.push(l1_entry(number, header)?.map(|table| table.offset));
+    }
+    Ok(offsets)
 }
 
 /// Whether an extent goes on where another one ends.
