@@ -49,5 +49,5 @@ pub kept-cut : (disk : Result GuestDisk Fault) (from : ℕ) (old new : List Exte
     → (fault ≡ NoMemory) ⊎ ((fault ≡ cut.fault) × (cut.fault ≢ Storage)) → PutsDiskExtents disk from old new (Err cut)
     → PutsDiskExtents disk from old new (Err (record { count = cut.count; fault = fault }))
 kept-cut disk from old new cut fault (inr same) put = rw same.0 put
-kept-cut (Ok disk) from old new cut fault (inl memory) put = (put.0, put.1, put.2, put.3, inr (inl memory))
+kept-cut (Ok disk) from old new cut fault (inl memory) put = (put.0, put.1, put.2, put.3, inl (inl memory), inr (inl memory))
 kept-cut (Err refusal) from old new cut fault (inl memory) put = (put.0, (put.1.0, inl (inl memory)))

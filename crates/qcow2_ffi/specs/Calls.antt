@@ -1,12 +1,13 @@
 -- What does a call from C return, and what does it leave in the places that it writes to?
-use Rattle.std.specs.Prelude.{◌≡◌, ℕ, List, length, min, Option, Some, None, Result, Ok, Err, MatchResult}
+use Rattle.std.specs.Prelude.{◌≡◌, ◌⊎◌, ℕ, List, length, min, Option, Some, None, Result, Ok, Err, IfErr, MatchResult}
 use Rattle.qcow2_base.specs.Fault.{fault_number}
 use Rattle.qcow2_base.specs.Storage.{Image}
 use Rattle.qcow2_base.specs.declared.fault.Fault.{Fault}
+use Rattle.qcow2_base.specs.declared.fault.Fault.TheVariants.{NoMemory}
 use Rattle.qcow2_bytes.specs.Entries.{IsFirstBad, flag_number, l1_entry_in, table_geometry}
 use Rattle.qcow2_bytes.specs.Header.{ReadsHeader}
 use Rattle.qcow2_bytes.specs.Refcounts.{refcounts_of}
-use Rattle.qcow2_bytes.specs.Images.Check.{PutsFindings, tables_at}
+use Rattle.qcow2_bytes.specs.Images.Check.{IsCheckRefusal, PutsFindings, tables_at}
 use Rattle.qcow2_bytes.specs.Images.Extents.{GuestDisk, PutsDiskExtents}
 use Rattle.qcow2_bytes.specs.declared.entries.BadEntry.{BadEntry}
 use Rattle.qcow2_bytes.specs.declared.entries.L2Pointer.{L2Pointer}
@@ -15,6 +16,7 @@ use Rattle.qcow2_bytes.specs.declared.images.check.CheckTotals.{CheckTotals}
 use Rattle.qcow2_bytes.specs.declared.images.check.FindingFields.{FindingFields}
 use Rattle.qcow2_bytes.specs.declared.images.extents.CutShort.{CutShort}
 use Rattle.qcow2_bytes.specs.declared.images.extents.ExtentFields.{ExtentFields}
+use Rattle.qcow2_image.specs.Lookups.{IsImageFault}
 use Rattle.qcow2_metadata.specs.Results.{Computes, result_map}
 
 -- a call returns 0 and leaves the value, or the fault's number and what was there before
@@ -63,11 +65,13 @@ HandsOverCount (Err cut) status count = (status ≡ fault_number cut.fault) × (
 -- the same of the extents of a disk from an offset on, which a list gets
 abbrev pub HandsOverDiskExtents : Result GuestDisk Fault → ℕ → List ExtentFields → List ExtentFields → ℕ → ℕ → Type 0
 HandsOverDiskExtents disk from old new status count =
-    (answer : Result ℕ CutShort) × PutsDiskExtents disk from old new answer × HandsOverCount answer status count
+    (answer : Result ℕ CutShort) × PutsDiskExtents disk from old new answer
+    × IfErr answer (λ cut. (cut.fault ≡ NoMemory) ⊎ IsImageFault cut.fault) × HandsOverCount answer status count
 
 -- a check of an image returns 0 and leaves how many findings it put into a list, and the totals; or the fault's number and what
 -- was there before
 abbrev pub HandsOverCheck : Image → List FindingFields → List FindingFields → ℕ → ℕ × CheckTotals → ℕ × CheckTotals → Type 0
 HandsOverCheck image before after status old new =
     (answer : Result CheckTotals Fault) × PutsFindings (tables_at image) image before after answer
+    × IfErr answer (λ fault. (fault ≡ NoMemory) ⊎ IsCheckRefusal fault)
     × HandsOver (result_map (λ (totals : CheckTotals). (min totals.findings (length before), totals)) answer) status old new

@@ -1,5 +1,5 @@
 -- Which extents does a call put into a list, by a whole image in memory?
-use Rattle.std.specs.Prelude.{◌≡◌, ◌⊎◌, ◌≤◌, ℕ, ◌++◌, List, drop, length, map, min, Result, Ok, Err, IsErrAnd}
+use Rattle.std.specs.Prelude.{◌≡◌, ◌⊎◌, ◌<◌, ◌≤◌, ℕ, ◌++◌, List, drop, length, map, min, Result, Ok, Err, IsErrAnd}
 use Rattle.qcow2_base.specs.Storage.{Image}
 use Rattle.qcow2_base.specs.declared.fault.Fault.{Fault}
 use Rattle.qcow2_check.specs.NamedTables.{loaded_l1_table}
@@ -69,12 +69,13 @@ pub record AreListed (disk : GuestDisk) (from to : ℕ) (extents : List Extent) 
   pub put : IsPutOver (map extent_fields extents) old new
 
 -- what is put of a disk's extents from an offset on: after `Ok` as many as there is room for, or all up to the disk's end; after
--- a fault those before one that can't be found
+-- a fault those before one that can't be found, for which there was room where it is a fault of the image
 abbrev pub PutsExtents : GuestDisk → ℕ → List ExtentFields → List ExtentFields → Result ℕ CutShort → Type 0
 PutsExtents disk from old new (Ok count) = (extents : List Extent) × (to : ℕ) × AreListed disk from to extents old new
     × (count ≡ length extents) × ((count ≡ length old) ⊎ (to ≡ disk.size))
 PutsExtents disk from old new (Err cut) = (extents : List Extent) × (to : ℕ) × AreListed disk from to extents old new
-    × (cut.count ≡ length extents) × RefusesExtent disk.contents disk.size to cut.fault
+    × (cut.count ≡ length extents) × (IsFromOutside cut.fault ⊎ (cut.count < length old))
+    × RefusesExtent disk.contents disk.size to cut.fault
 
 -- the same of the disk that an image has, if it has one: from the offset, or from the disk's end on where that comes before.
 -- Else nothing is put, and its fault is returned, unless memory ran out or the storage failed

@@ -110,7 +110,7 @@ fn check_with_header<S: Storage>(
     put_all(reader, image, findings)
 }
 
-// The same of the image that a reader is at the begin of.
+// The same of the image that a reader is at the start of.
 fn put_all<S: Storage>(
     mut reader: Findings<'_>,
     image: &mut S,
@@ -127,7 +127,7 @@ fn put_all<S: Storage>(
     count_wrong_flags(&mut flags, image, totals)
 }
 
-// Puts the findings of the image that a reader is at the begin of, and returns how many they are.
+// Puts the findings of the image that a reader is at the start of, and returns how many they are.
 fn put_findings<S: Storage>(
     reader: &mut Findings<'_>,
     image: &mut S,

@@ -1,4 +1,4 @@
-use Rattle.std.proofs.Common.{ap, arith, rules, subst, ◌∙◌}
+use Rattle.std.proofs.Common.{ap, arith, inr, rules, subst, ◌∙◌}
 use Rattle.qcow2_image.specs.Extents.{ExtentsState, IsExtent, RefusesExtent, contents_for}
 use Rattle.qcow2_bytes.specs.Images.Extents.{disk_for}
 use Rattle.qcow2_bytes.proofs.ExtentsLemmas.{listed-next}
@@ -13,7 +13,7 @@ returns-in-Err-clause-put g c =
     let listed = before.listed told in
     let here = rw before.storage.bytes at (c.in-Err.ensures.extent.2 (before.storage.device.tells ∙ told)) in
     let why = subst (λ (reader : ExtentsState). RefusesExtent (contents_for reader image) reader.header.v2.size at c.in-Err.fault) before.same here in
-    (listed.0, at, listed.1, listed.2, why)
+    (listed.0, at, listed.1, listed.2, inr (omega (arith, c.loop-count-test.true, before.length)), why)
 
 pub loop-count-preserved : goal.loop-count-preserved
 loop-count-preserved g c =
