@@ -136,8 +136,8 @@ qmeta count IMAGE CLUSTER STEP..
 
 Changes counters of the refcount block that begins with a host cluster. A STEP is inc:INDEX or dec:INDEX. It
 prints `ok` and the counter before each step, or `refused` where it would pass 0 or the greatest number.
-CLUSTER is your word: whatever lies there is changed. Autoclear features are cleared, so persistent bitmaps are
-lost. Copy the image first.
+CLUSTER is your word: whatever lies there is changed. Autoclear features are cleared, so persistent bitmaps
+are lost. Copy the image first.
 
 Status 0: the steps are made, but for those refused. 1: a fault; none is made, but that 34 may leave a part,
 or all where the output failed. Faults: those of `info`; 39, 24, 21, 33.
