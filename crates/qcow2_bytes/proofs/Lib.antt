@@ -1,4 +1,5 @@
 pub mod CheckLemmas
+pub mod EditLemmas
 pub mod ExtentsLemmas
 pub mod HeaderLemmas
 pub mod ImagesLemmas

@@ -14,4 +14,4 @@ pub use images::{
     CheckTotals, CutShort, ExtentFields, FindingFields, image_check, image_extents, image_lookup,
 };
 pub use refcounts::{HostClusters, read_refcounts, settle_refcounts};
-pub use tables::l2_extents;
+pub use tables::{EditCounts, EditFields, EditRefusal, edit_l2_table, l2_extents};

@@ -13,6 +13,10 @@ use crate::entries::{first_bad, mapping_of, number_at};
 use crate::{ExtentFields, HeaderFields};
 use qcow2_base::{Fault, field};
 
+mod edit;
+
+pub use edit::{EditCounts, EditFields, EditRefusal, edit_l2_table};
+
 // How many entries are tested one after another, before blocks of them are.
 const FEW: usize = 16;
 
